@@ -1,0 +1,45 @@
+-- What a record of a log says, what a format allows of it, and what it does to its key.
+use Rattle.std.specs.Prelude.{◌≡◌, ℕ, ◌≤◌, ◌<◌, ◌^◌, List, [], ◌∷◌, length, Contains, Option, Some, None, IfSome}
+use Rattle.mt_words.specs.declared.record.Change.{Change}
+use Rattle.mt_words.specs.declared.update.Kind.{Kind}
+use Rattle.mt_words.specs.declared.update.Kind.TheVariants.{Put}
+use Rattle.mt_words.specs.Limits.{Limits}
+use Rattle.mt_words.specs.Words.{IsKey, AreColumns}
+
+-- a record, lawful or not: a timestamp and, but for a mark, a change
+pub record Logged : Type 0 where
+  pub timestamp : ℕ
+  pub change : Option Change
+
+abbrev pub mark_of : ℕ → Logged
+mark_of timestamp = record { timestamp = timestamp; change = None }
+
+abbrev pub changed : ℕ → Change → Logged
+changed timestamp change = record { timestamp = timestamp; change = Some change }
+
+abbrev pub put_of : ℕ → ℕ → List ℕ → List (ℕ × List ℕ) → Logged
+put_of timestamp version key columns = changed timestamp (record { version = version; key = key; kind = Put columns })
+
+-- a put has at least one column
+abbrev pub AllowsKind : Limits → Kind → Type 0
+AllowsKind limits (Put columns) = AreColumns limits columns × (0 < length columns)
+
+-- a lawful change: a version above 0, a key, and what its kind allows
+pub record IsLawfulChange (limits : Limits) (change : Change) : Type 0 where
+  pub version : 0 < change.version
+  pub version_fits : change.version < 2 ^ 64
+  pub key : IsKey limits change.key
+  pub kind : AllowsKind limits change.kind
+
+-- a lawful record: any timestamp, and a lawful change if there is one
+abbrev pub IsLawful : Limits → Logged → Type 0
+IsLawful limits r = (r.timestamp < 2 ^ 64) × IfSome r.change (IsLawfulChange limits)
+
+-- a change of this kind writes the column: it sets it to bytes, or to none
+abbrev pub Writes : Kind → ℕ → Option (List ℕ) → Type 0
+Writes (Put columns) number (Some bytes) = Contains columns (number, bytes)
+Writes (Put columns) number None = ⊥
+
+-- a change of this kind clears all columns of its key
+abbrev pub IsReset : Kind → Type 0
+IsReset (Put columns) = ⊥

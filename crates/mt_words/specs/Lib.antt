@@ -1,0 +1,5 @@
+pub mod Limits
+pub mod Words
+pub mod Changes
+pub mod Stamps
+pub mod Walks

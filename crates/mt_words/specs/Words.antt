@@ -1,0 +1,36 @@
+-- Which bytes are keys, and which pairs of a number and bytes are columns.
+use Rattle.std.specs.Prelude.{◌≡◌, ℕ, suc, ◌≤◌, ◌<◌, List, [], ◌∷◌, length, IsTrue}
+use Rattle.std.specs.List.{AllByRecursion}
+use Rattle.std.specs.Ordering.{nat_cmp, is_lt}
+use Rattle.std.specs.Cmp.Lexicographic.{slice_cmp}
+use Rattle.mt_words.specs.declared.limits.TheConstants.{LONGEST_VALUE}
+use Rattle.mt_words.specs.Limits.{Limits}
+
+-- a key is so many bytes at the most
+abbrev pub IsKey : Limits → List ℕ → Type 0
+IsKey limits bytes = length bytes ≤ limits.key
+
+-- keys as lists of bytes: the first byte that differs decides, and a beginning stands before its continuation
+abbrev pub IsBelow : List ℕ → List ℕ → Type 0
+IsBelow a b = IsTrue (is_lt (slice_cmp nat_cmp a b))
+
+-- a column is a number and a value
+abbrev pub IsColumn : Limits → ℕ × List ℕ → Type 0
+IsColumn limits column = (column.0 ≤ limits.column) × (length column.1 ≤ LONGEST_VALUE)
+
+-- each number is below this one
+abbrev pub NumbersBelow : List (ℕ × List ℕ) → ℕ → Type 0
+NumbersBelow columns number = AllByRecursion (λ column. column.0 < number) columns
+
+-- from low on, the numbers strictly rise
+abbrev pub NumbersRise : ℕ → List (ℕ × List ℕ) → Type 0
+NumbersRise low [] = Unit {0}
+NumbersRise low (column ∷ columns) = (low ≤ column.0) × NumbersRise (suc column.0) columns
+
+-- columns of one key, by strictly rising numbers
+abbrev pub AreColumns : Limits → List (ℕ × List ℕ) → Type 0
+AreColumns limits columns = AllByRecursion (IsColumn limits) columns × NumbersRise 0 columns
+
+-- a column that may be added behind these
+abbrev pub CanFollow : Limits → List (ℕ × List ℕ) → ℕ × List ℕ → Type 0
+CanFollow limits columns column = IsColumn limits column × NumbersBelow columns column.0

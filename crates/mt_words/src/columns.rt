@@ -1,0 +1,169 @@
+//! Columns.
+ghost use Rattle.std.specs.Prelude.{◌≡◌, ◌≤◌, ◌<◌, ◌↔◌, [], ◌∷◌, ◌++◌, List, ℕ, length, IsOk, OnOk, IfErr, IfOk, OnErr, IfSome, IfNone, IsTrue, MatchOption, Contains};
+ghost use Rattle.mt_words.specs.declared.limits.TheConstants.{GREATEST_COLUMN};
+ghost use Rattle.mt_words.specs.Limits.{widest};
+ghost use Rattle.mt_words.specs.Words.{AreColumns, CanFollow, NumbersRise, NumbersBelow};
+
+use crate::fault::Memory;
+use crate::limits::{GREATEST_COLUMN, LONGEST_VALUE, MOST_COLUMNS};
+use arrayvec::ArrayVec;
+use std::alloc::Global;
+use std::default::MadeWith;
+use std::marker::Model;
+
+/// One column: its number and its bytes.
+#[derive(Debug, Drop)]
+pub struct Column {
+    pub number: u8,
+    pub bytes: Vec<u8>,
+}
+
+impl Model for Column {
+    ghost use Rattle.std.specs.Prelude.{List, ℕ};
+
+    ghost Value = { ℕ × List ℕ };
+
+    ghost view = { λ c. (c.number, c.bytes.items) };
+}
+
+impl MadeWith<Global> for Column {
+    fn made_with(alloc: Global) -> Column {
+        Column {
+            number: 0,
+            bytes: Vec::new(alloc),
+        }
+    }
+}
+
+/// The columns of one key, by strictly rising numbers. At most one for each number, in place: adding one takes no
+/// memory.
+#[derive(Debug, Drop)]
+pub struct Columns {
+    columns: ArrayVec<Column, MOST_COLUMNS, Global>,
+}
+
+impl Model for Columns {
+    ghost use Rattle.std.specs.Prelude.{List, ℕ};
+    ghost use Rattle.mt_words.specs.Limits.{widest};
+    ghost use Rattle.mt_words.specs.Words.{AreColumns};
+
+    ghost Value = { List (ℕ × List ℕ) };
+
+    ghost view = { λ c. c.columns.items };
+
+    ghost invariant = { λ c. AreColumns widest c.columns.items };
+}
+
+impl Columns {
+    /// No column.
+    pub fn new(alloc: Global) -> Columns
+        ensures { result ≡ [] }
+    {
+        Columns {
+            columns: ArrayVec::new_in(alloc),
+        }
+    }
+
+    /// How many columns there are.
+    pub fn len(&self) -> usize
+        ensures value { result ≡ length self.now }
+        ensures lawful { AreColumns widest self.now }
+    {
+        self.columns.len()
+    }
+
+    /// Whether there is no column.
+    pub fn is_empty(&self) -> bool
+        ensures { IsTrue result ↔ (self.now ≡ []) }
+    {
+        self.columns.is_empty()
+    }
+
+    /// Adds a column behind the others. A number above `GREATEST_COLUMN` or not above the last, and more than
+    /// `LONGEST_VALUE` bytes, are refused: the bytes are handed back, and nothing has changed.
+    pub fn push(&mut self, number: u8, bytes: Vec<u8>) -> Result<(), Vec<u8>>
+        ensures accepted { IsOk result ↔ CanFollow widest self.old (number, bytes.items) }
+        ensures ok { OnOk result (self.new ≡ self.old ++ (number, bytes.items) ∷ []) }
+        ensures err { OnErr result (self.new ≡ self.old) }
+        ensures handed_back { IfErr result (λ back. back ≡ bytes) }
+    {
+        if !may_follow(self.columns.as_slice(), number) || bytes.len() > LONGEST_VALUE {
+            return Err(bytes);
+        }
+        self.columns.push(Column { number, bytes });
+        Ok(())
+    }
+
+    /// The bytes of the column with this number, if there is one.
+    pub fn get(&self, number: u8) -> Option<&[u8]>
+        ensures { MatchOption result
+            ((bytes : List ℕ) → Contains self.now (number, bytes) → ⊥)
+            (λ bytes. Contains self.now (number, bytes.now)) }
+    {
+        value_of(self.columns.as_slice(), number)
+    }
+
+    /// The columns.
+    pub fn as_slice(&self) -> &[Column]
+        ensures value { result.now ≡ self.now }
+        ensures lawful { AreColumns widest self.now }
+    {
+        self.columns.as_slice()
+    }
+
+    /// Takes the last column off.
+    pub fn pop(&mut self) -> Option<Column>
+        ensures last { IfSome result (λ column. self.old ≡ self.new ++ column ∷ []) }
+        ensures none { IfNone result ((self.old ≡ []) × (self.new ≡ [])) }
+        ensures lawful { AreColumns widest self.old }
+    {
+        self.columns.pop()
+    }
+
+    /// Equal columns. Refuses only where memory was refused.
+    pub fn try_copy(&self) -> Result<Columns, Memory>
+        ensures { IfOk result (λ columns. columns ≡ self.now) }
+    {
+        let alloc = *self.columns.allocator();
+        let mut copy = ArrayVec::new_in(alloc);
+        for column in self.columns.as_slice() {
+            copy.push(copy_of(alloc, column)?);
+        }
+        Ok(Columns { columns: copy })
+    }
+}
+
+/// An equal column.
+fn copy_of(alloc: Global, column: &Column) -> Result<Column, Memory>
+    ensures { IfOk result (λ copy. copy ≡ column.now) }
+{
+    Ok(Column {
+        number: column.number,
+        bytes: Vec::from_slice(alloc, &column.bytes)?,
+    })
+}
+
+/// The bytes of the column with this number, if there is one.
+fn value_of(columns: &[Column], number: u8) -> Option<&[u8]>
+    ensures { MatchOption result
+        ((bytes : List ℕ) → Contains columns.now (number, bytes) → ⊥)
+        (λ bytes. Contains columns.now (number, bytes.now)) }
+{
+    for column in columns {
+        if column.number == number {
+            return Some(&column.bytes);
+        }
+    }
+    None
+}
+
+/// Whether a column of this number may stand behind these.
+fn may_follow(columns: &[Column], number: u8) -> bool
+    requires { NumbersRise 0 columns.now }
+    ensures { IsTrue result ↔ ((number ≤ GREATEST_COLUMN) × NumbersBelow columns.now number) }
+{
+    match columns.last() {
+        None => number <= GREATEST_COLUMN,
+        Some(last) => number <= GREATEST_COLUMN && last.number < number,
+    }
+}

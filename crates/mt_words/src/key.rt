@@ -1,0 +1,102 @@
+//! Keys.
+ghost use Rattle.std.specs.Prelude.{◌≡◌, ◌↔◌, IsSome, IfSome, IfOk, nat_eq};
+ghost use Rattle.std.specs.Ordering.{nat_cmp, as_partial_cmp};
+ghost use Rattle.std.specs.Cmp.{partial_equiv_from_equiv};
+ghost use Rattle.std.specs.Cmp.Lexicographic.{slice_cmp, pointwise, lists_ties, nat_list_cmp_total, nat_list_eq_equiv};
+ghost use Rattle.std.proofs.Common.{rules};
+ghost use Rattle.std.specs.Cmp.Rules.{comparing};
+ghost use Rattle.mt_words.specs.Limits.{widest};
+ghost use Rattle.mt_words.specs.Words.{IsKey};
+
+use crate::fault::Memory;
+use crate::limits::LONGEST_KEY;
+use std::cmp::Ordering;
+use std::marker::Model;
+
+/// A key of the store: at most `LONGEST_KEY` bytes. Keys are ordered as lists of bytes, a beginning before its
+/// continuation.
+#[derive(Debug, Drop)]
+pub struct Key {
+    bytes: Vec<u8>,
+}
+
+impl Model for Key {
+    ghost use Rattle.std.specs.Prelude.{List, ℕ};
+    ghost use Rattle.mt_words.specs.Limits.{widest};
+    ghost use Rattle.mt_words.specs.Words.{IsKey};
+
+    ghost Value = { List ℕ };
+
+    ghost view = { λ k. k.bytes.items };
+
+    ghost invariant = { λ k. IsKey widest k.bytes.items };
+}
+
+impl Key {
+    /// The key of these bytes. None where there are more than `LONGEST_KEY`.
+    pub fn new(bytes: Vec<u8>) -> Option<Key>
+        ensures accepted { IsSome result ↔ IsKey widest bytes.items }
+        ensures value { IfSome result (λ key. key ≡ bytes.items) }
+    {
+        if bytes.len() > LONGEST_KEY {
+            return None;
+        }
+        Some(Key { bytes })
+    }
+
+    /// The bytes of the key.
+    pub fn as_bytes(&self) -> &[u8]
+        ensures value { result.now ≡ self.now }
+        ensures lawful { IsKey widest self.now }
+    {
+        &self.bytes
+    }
+
+    /// An equal key. Refuses only where memory was refused.
+    pub fn try_copy(&self) -> Result<Key, Memory>
+        ensures { IfOk result (λ key. key ≡ self.now) }
+    {
+        let alloc = *self.bytes.allocator();
+        Ok(Key {
+            bytes: Vec::from_slice(alloc, &self.bytes)?,
+        })
+    }
+}
+
+impl PartialEq for Key {
+    ghost eq = { pointwise nat_eq };
+
+    ghost laws = { partial_equiv_from_equiv nat_list_eq_equiv };
+
+    fn eq(&self, other: &Key) -> bool {
+        self.bytes == other.bytes
+    }
+}
+
+impl Eq for Key {
+    ghost laws = { nat_list_eq_equiv };
+}
+
+impl PartialOrd for Key {
+    ghost partial_cmp = { as_partial_cmp (slice_cmp nat_cmp) };
+
+    ghost laws = { Prim.search (comparing, rules) };
+
+    fn partial_cmp(&self, other: &Key) -> Option<Ordering> {
+        Some(self.cmp(other))
+    }
+}
+
+impl Ord for Key {
+    ghost cmp = { slice_cmp nat_cmp };
+
+    ghost total = { nat_list_cmp_total };
+
+    ghost matches_partial_cmp = { Prim.search (comparing, rules) };
+
+    ghost matches_eq = { λ x y. lists_ties nat_cmp (λ a b. Prim.search (comparing, rules)) x y };
+
+    fn cmp(&self, other: &Key) -> Ordering {
+        self.bytes.cmp(&other.bytes)
+    }
+}

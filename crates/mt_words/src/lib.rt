@@ -1,0 +1,16 @@
+//! The words of the store: keys, columns, log records, updates with their stamps, and faults.
+#![tactic(auto)]
+
+mod columns;
+mod fault;
+mod key;
+mod limits;
+mod record;
+mod update;
+
+pub use columns::{Column, Columns};
+pub use fault::{Fault, Memory, What};
+pub use key::Key;
+pub use limits::{Format, GREATEST_COLUMN, LONGEST_KEY, LONGEST_VALUE, MOST_COLUMNS};
+pub use record::{Change, Record};
+pub use update::{Kind, Origin, Stamp, Update};

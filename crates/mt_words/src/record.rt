@@ -1,0 +1,81 @@
+//! Records of a log.
+ghost use Rattle.std.specs.Prelude.{◌≡◌, ◌<◌, ◌↔◌, length, Some, None, IsSome, IfSome};
+ghost use Rattle.mt_words.specs.Limits.{widest};
+ghost use Rattle.mt_words.specs.Changes.{IsLawful, mark_of, put_of};
+
+use crate::{Columns, Key, Kind};
+use std::marker::Model;
+
+/// A change of one key.
+#[derive(Debug, Drop)]
+pub struct Change {
+    /// The version of the key's value, from 1 on.
+    pub version: u64,
+    pub key: Key,
+    pub kind: Kind,
+}
+
+/// A lawful record of a log: a timestamp and, but for a mark, a change.
+#[derive(Debug, Drop)]
+pub struct Record {
+    timestamp: u64,
+    change: Option<Change>,
+}
+
+impl Model for Record {
+    ghost use Rattle.mt_words.specs.Limits.{widest};
+    ghost use Rattle.mt_words.specs.Changes.{Logged, IsLawful};
+
+    ghost Value = { Logged };
+
+    ghost view = { λ r. record { timestamp = r.timestamp; change = r.change } };
+
+    ghost invariant = { λ r. IsLawful widest (record { timestamp = r.timestamp; change = r.change }) };
+}
+
+impl Record {
+    /// A mark: it carries its timestamp alone.
+    pub fn mark(timestamp: u64) -> Record
+        ensures { result ≡ mark_of timestamp }
+    {
+        Record {
+            timestamp,
+            change: None,
+        }
+    }
+
+    /// A put of these columns. None where the version is 0 or there is no column.
+    pub fn put(timestamp: u64, version: u64, key: Key, columns: Columns) -> Option<Record>
+        ensures accepted { IsSome result ↔ ((0 < version) × (0 < length columns)) }
+        ensures value { IfSome result (λ made. made ≡ put_of timestamp version key columns) }
+    {
+        let _ = key.as_bytes();
+        if version == 0 || columns.len() == 0 {
+            return None;
+        }
+        Some(Record {
+            timestamp,
+            change: Some(Change {
+                version,
+                key,
+                kind: Kind::Put(columns),
+            }),
+        })
+    }
+
+    /// Its timestamp.
+    pub fn timestamp(&self) -> u64
+        ensures value { result ≡ self.now.timestamp }
+        ensures lawful { IsLawful widest self.now }
+    {
+        self.timestamp
+    }
+
+    /// What it changes, moved out; None for a mark.
+    pub fn into_change(self) -> Option<Change>
+        ensures value { result ≡ self.change }
+        ensures lawful { IsLawful widest self }
+    {
+        self.change
+    }
+}

@@ -1,0 +1,50 @@
+//! Updates and their order.
+ghost use Rattle.std.specs.Prelude.{◌↔◌, IsTrue};
+ghost use Rattle.mt_words.specs.Stamps.{IsOlder};
+
+use crate::{Columns, Key};
+
+/// What an update does to its key.
+#[derive(Debug, Drop)]
+pub enum Kind {
+    /// Sets these columns alone.
+    Put(Columns),
+}
+
+/// Where an update comes from. At one version log updates are ordered by the position of their log, then by
+/// record; the entry of a checkpoint comes after them all. Logs and records count from 0.
+#[derive(Clone, Copy, Debug, PartialEq, Eq, PartialOrd, Ord)]
+pub enum Origin {
+    /// The record of a log.
+    Log { log: usize, record: u64 },
+    /// The chosen checkpoint.
+    Checkpoint,
+}
+
+/// The place of an update among those of its key: by version, then by origin.
+#[derive(Clone, Copy, Debug, PartialEq, Eq, PartialOrd, Ord)]
+pub struct Stamp {
+    /// The version of the key's value, from 1 on.
+    pub version: u64,
+    /// Where the update comes from.
+    pub origin: Origin,
+}
+
+impl Stamp {
+    /// Whether this stamp comes before the other one.
+    pub fn is_older(&self, other: &Stamp) -> bool
+        ensures { IsTrue result ↔ IsOlder self.now other.now }
+    {
+        self < other
+    }
+}
+
+/// An update of one key.
+#[derive(Debug, Drop)]
+pub struct Update {
+    pub key: Key,
+    pub stamp: Stamp,
+    /// The timestamp of its record; 0 for the entry of a checkpoint, where it is never looked at.
+    pub timestamp: u64,
+    pub kind: Kind,
+}
