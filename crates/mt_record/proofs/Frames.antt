@@ -1,0 +1,52 @@
+-- A body between its two lengths, and its faults.
+use Rattle.std.proofs.Common.{◌≡◌, ◌≢◌, ℕ, ◌^◌, ◌<◌, List, ◌++◌, length, take, drop, sym, ap, ◌∙◌, append_assoc}
+use Rattle.std.proofs.lemmas.List.{take-append-drop}
+use Rattle.byteorder.specs.Endian.{big_bytes}
+use Rattle.mt_words.specs.declared.fault.What.TheVariants.{Length, Trailer, Kind, Frame, Version, Key, Columns, Clock}
+use Rattle.mt_words.specs.Limits.{Limits}
+use Rattle.mt_record.specs.declared.frame.RecordFault.{RecordFault}
+use Rattle.mt_record.specs.declared.frame.RecordFault.TheVariants as faults
+use Rattle.mt_record.specs.Spelling.{framed, IsRecordLength}
+use Rattle.mt_record.specs.LogFaults.{RestFault}
+use Rattle.mt_record.specs.Bodies.{IsBodyFault, IsRestFault}
+
+-- a list in two parts
+pub parts : (n : ℕ) (bytes front back : List ℕ) → front ≡ take n bytes → back ≡ drop n bytes → bytes ≡ front ++ back
+parts n bytes front back f b = sym (take-append-drop n bytes) ∙ λ i. sym f i ++ sym b i
+
+-- a body between its lengths
+pub whole_record : (bytes a b c text : List ℕ) (n : ℕ) → bytes ≡ big_bytes 4 n ++ a → a ≡ text ++ b → b ≡ big_bytes 4 n ++ c → length text ≡ n
+    → bytes ≡ framed text ++ c
+whole_record bytes a b c text n ea eb ec number =
+    ea ∙ ap (λ (x : List ℕ). big_bytes 4 n ++ x) (eb ∙ ap (λ (x : List ℕ). text ++ x) ec)
+    ∙ ap (λ (k : ℕ). big_bytes 4 k ++ (text ++ (big_bytes 4 k ++ c))) (sym number)
+    ∙ ap (λ (x : List ℕ). big_bytes 4 (length text) ++ x) (sym (append_assoc text (big_bytes 4 (length text)) c))
+    ∙ sym (append_assoc (big_bytes 4 (length text)) (text ++ big_bytes 4 (length text)) c)
+
+-- a body's fault is that of the rest that it begins
+pub body_fault : (limits : Limits) (low : ℕ) (rest bytes more : List ℕ) (fault : RecordFault) → IsRecordLength limits (length bytes)
+    → rest ≡ framed bytes ++ more → IsBodyFault limits low bytes fault → IsRestFault limits low rest fault
+body_fault limits low rest bytes more faults.Memory is e h = tt
+body_fault limits low rest bytes more (faults.Wrong Length) is e h = absurd h
+body_fault limits low rest bytes more (faults.Wrong Trailer) is e h = absurd h
+body_fault limits low rest bytes more (faults.Wrong Kind) is e h = (bytes, more, is, e, h)
+body_fault limits low rest bytes more (faults.Wrong Frame) is e h = (bytes, more, is, e, h)
+body_fault limits low rest bytes more (faults.Wrong Version) is e h = (bytes, more, is, e, h)
+body_fault limits low rest bytes more (faults.Wrong Key) is e h = (bytes, more, is, e, h)
+body_fault limits low rest bytes more (faults.Wrong Columns) is e h = (bytes, more, is, e, h)
+body_fault limits low rest bytes more (faults.Wrong Clock) is e h = (bytes, more, is, e, h)
+
+-- another number behind the body is the rest's fault
+pub trailer_fault : (limits : Limits) (low : ℕ) (rest a b c text : List ℕ) (n trailer : ℕ) → IsRecordLength limits n → rest ≡ big_bytes 4 n ++ a
+    → a ≡ text ++ b → b ≡ big_bytes 4 trailer ++ c → length text ≡ n → trailer < 2 ^ 32 → (trailer ≢ n) → RestFault Trailer limits low rest
+trailer_fault limits low rest a b c text n trailer is ea eb ec number small differ = (
+  text,
+  trailer,
+  c,
+  rw number is,
+  small,
+  rw number differ,
+  ea
+  ∙ ap (λ (x : List ℕ). big_bytes 4 n ++ x) (eb ∙ ap (λ (x : List ℕ). text ++ x) ec)
+  ∙ ap (λ (k : ℕ). big_bytes 4 k ++ (text ++ (big_bytes 4 trailer ++ c))) (sym number),
+)

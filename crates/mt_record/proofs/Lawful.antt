@@ -1,0 +1,91 @@
+-- What a format allows fits the fields of a record.
+use Rattle.std.proofs.Common.{ℕ, suc, ◌+◌, ◌*◌, ◌^◌, ◌<◌, ◌≤◌, List, [], ◌∷◌, length, Option, Some, None, arith}
+use Rattle.std.proofs.lemmas.List.{length-append}
+use Rattle.std.specs.Prelude.{IfSome}
+use Rattle.std.specs.List.{flat_map, AllByRecursion}
+use Rattle.mt_words.specs.declared.limits.Format.{Format}
+use Rattle.mt_words.specs.declared.limits.Format.TheVariants.{One}
+use Rattle.mt_words.specs.declared.record.Change.{Change}
+use Rattle.mt_words.specs.declared.update.Kind.{Kind}
+use Rattle.mt_words.specs.declared.update.Kind.TheVariants.{Put}
+use Rattle.mt_words.specs.Limits.{Limits, limits_of}
+use Rattle.mt_words.specs.Words.{IsColumn, NumbersRise}
+use Rattle.mt_words.specs.Changes.{Logged, IsLawful, IsLawfulChange, AllowsKind}
+use Rattle.mt_record.specs.Spelling.{column_bytes, kind_bytes, body_of, body, IsRecordLength, FitsColumn, FitsKind, FitsChange, Fits}
+
+-- ---- the limits of each format
+
+-- keys are short enough for their length
+key_room : (format : Format) → (limits_of format).key < 2 ^ 16
+key_room One = omega arith
+
+-- column numbers are bytes, and so is how many there are
+column_room : (format : Format) → suc (limits_of format).column < 2 ^ 8
+column_room One = omega arith
+
+-- bodies are short enough for their length
+pub length_fits : (format : Format) (n : ℕ) → IsRecordLength (limits_of format) n → n < 2 ^ 32
+length_fits One n is = omega arith
+
+-- ---- columns
+
+-- rising numbers leave so many columns at the most
+columns_room : (limits : Limits) (low : ℕ) (cs : List (ℕ × List ℕ)) → low ≤ suc limits.column → AllByRecursion (IsColumn limits) cs → NumbersRise low cs
+    → low + length cs ≤ suc limits.column
+columns_room limits low [] least all rise = omega arith
+columns_room limits low (c ∷ cs) least all rise =
+    let rest = columns_room limits (suc c.0) cs (omega (arith, all.0.0)) all.1 rise.1 in
+    omega (arith, rest, rise.0)
+
+-- columns fit their fields
+columns_fit : (format : Format) (cs : List (ℕ × List ℕ)) → AllByRecursion (IsColumn (limits_of format)) cs → AllByRecursion FitsColumn cs
+columns_fit format [] all = tt
+columns_fit format (c ∷ cs) all =
+    let room = column_room format in
+    ((omega (arith, all.0.0), omega (arith, all.0.1)), columns_fit format cs all.1)
+
+-- how long columns are at the most
+columns_length : (limits : Limits) (cs : List (ℕ × List ℕ)) → AllByRecursion (IsColumn limits) cs → length (flat_map column_bytes cs) ≤ 65538 * length cs
+columns_length limits [] all = omega arith
+columns_length limits (c ∷ cs) all =
+    let rest = columns_length limits cs all.1 in
+    omega (arith, rest, all.0.1, length-append c.1 (flat_map column_bytes cs))
+
+-- ---- records
+
+-- what a kind carries fits its fields
+kind_fits : (format : Format) (kind : Kind) → AllowsKind (limits_of format) kind → FitsKind kind
+kind_fits format (Put columns) allowed =
+    let room = columns_room (limits_of format) 0 columns (omega arith) allowed.0.0 allowed.0.1 in
+    let most = column_room format in
+    (omega (arith, room, most), columns_fit format columns allowed.0.0)
+
+-- a change fits its fields
+change_fits : (format : Format) (change : Option Change) → IfSome change (IsLawfulChange (limits_of format)) → IfSome change FitsChange
+change_fits format None lawful = tt
+change_fits format (Some change) lawful =
+    let key = key_room format in
+    (lawful.version_fits, omega (arith, lawful.key, key), kind_fits format change.kind lawful.kind)
+
+-- a lawful record fits its fields
+pub lawful_fits : (format : Format) (r : Logged) → IsLawful (limits_of format) r → Fits r
+lawful_fits format r lawful = (lawful.0, change_fits format r.change lawful.1)
+
+-- how long what a kind carries is at the most
+kind_length : (limits : Limits) (kind : Kind) → AllowsKind limits kind → length (kind_bytes kind) ≤ 1 + suc limits.column * 65538
+kind_length limits (Put columns) allowed =
+    let room = columns_room limits 0 columns (omega arith) allowed.0.0 allowed.0.1 in
+    let texts = columns_length limits columns allowed.0.0 in
+    omega (arith, texts, room)
+
+-- a body is no shorter and no longer than it may be
+body_length : (limits : Limits) (t : ℕ) (change : Option Change) → IfSome change (IsLawfulChange limits) → IsRecordLength limits (length (body_of t change))
+body_length limits t None lawful = (omega arith, omega arith)
+body_length limits t (Some change) lawful =
+    let carried = kind_length limits change.kind lawful.kind in
+    let all = length-append change.key (kind_bytes change.kind) in
+    (omega (arith, all), omega (arith, all, carried, lawful.key))
+
+-- the body of a lawful record has a lawful length
+pub lawful_length : (limits : Limits) (r : Logged) → IsLawful limits r → IsRecordLength limits (length (body r))
+lawful_length limits r lawful = body_length limits r.timestamp r.change lawful.1

@@ -1,0 +1,10 @@
+pub mod Unique
+pub mod Lawful
+pub mod Columns
+pub mod Puts
+pub mod Frames
+pub mod Records
+pub mod OneFault
+pub mod OneLog
+pub mod OneReading
+pub mod Vectors

@@ -1,0 +1,60 @@
+-- Bytes are one header, one list of records and one rest.
+use Rattle.std.proofs.Common.{◌≡◌, ℕ, ◌<◌, ◌^◌, List, [], ◌∷◌, ◌++◌, length, drop, refl, sym, ap, ◌∙◌, subst, append_assoc}
+use Rattle.std.specs.List.{flat_map}
+use Rattle.byteorder.specs.Endian.{big_bytes}
+use Rattle.mt_words.specs.declared.limits.Format.{Format}
+use Rattle.mt_words.specs.declared.limits.Format.TheVariants.{One}
+use Rattle.mt_words.specs.Limits.{limits_of}
+use Rattle.mt_words.specs.Changes.{Logged}
+use Rattle.mt_record.specs.Spelling.{body, spelling}
+use Rattle.mt_record.specs.Heads.{Head, IsHead, magic_of, head_bytes}
+use Rattle.mt_record.specs.Logs.{AreRecords, latest}
+use Rattle.mt_record.proofs.Unique.{same_number, same_body, same_framed}
+use Rattle.mt_record.proofs.Lawful.{length_fits, lawful_fits, lawful_length}
+use Rattle.mt_record.proofs.OneFault.{Stops}
+
+-- one magic number and one `from` begin the bytes
+same_start : (f g : Format) (a b : ℕ) (x y : List ℕ) → a < 2 ^ 64 → b < 2 ^ 64 → (magic_of f ++ big_bytes 8 a) ++ x ≡ (magic_of g ++ big_bytes 8 b) ++ y
+    → (f ≡ g) × (a ≡ b) × (x ≡ y)
+same_start One One a b x y fits_a fits_b e =
+    let tails : big_bytes 8 a ++ x ≡ big_bytes 8 b ++ y = ap (drop 4) e in
+    let same = same_number 8 a b x y fits_a fits_b tails in
+    (refl, same.0, same.1)
+
+-- one header begins the bytes
+same_head : (a b : Head) (x y : List ℕ) → IsHead a → IsHead b → head_bytes a ++ x ≡ head_bytes b ++ y → (a ≡ b) × (x ≡ y)
+same_head a b x y is_a is_b e =
+    let same = same_start a.format b.format a.from b.from x y is_a is_b e in
+    (λ i. record { format = same.0 i; from = same.1 i }, same.2)
+
+-- one list of records, up to a rest that begins with none, begins the bytes
+same_records : (format : Format) (low : ℕ) (rs ss : List Logged) (x y : List ℕ) → AreRecords (limits_of format) low rs → AreRecords (limits_of format) low ss
+    → flat_map spelling rs ++ x ≡ flat_map spelling ss ++ y → Stops (limits_of format) (latest low rs) x → Stops (limits_of format) (latest low ss) y
+    → (rs ≡ ss) × (x ≡ y)
+same_records format low [] [] x y are_r are_s e stop_x stop_y = (refl, e)
+same_records format low [] (s ∷ ss) x y are_r are_s e stop_x stop_y =
+    absurd (stop_x s (flat_map spelling ss ++ y) are_s.0 are_s.1 (e ∙ append_assoc (spelling s) (flat_map spelling ss) y))
+same_records format low (r ∷ rs) [] x y are_r are_s e stop_x stop_y =
+    absurd (stop_y r (flat_map spelling rs ++ x) are_r.0 are_r.1 (sym e ∙ append_assoc (spelling r) (flat_map spelling rs) x))
+same_records format low (r ∷ rs) (s ∷ ss) x y are_r are_s e stop_x stop_y =
+    let apart = sym (append_assoc (spelling r) (flat_map spelling rs) x) ∙ e ∙ append_assoc (spelling s) (flat_map spelling ss) y in
+    let short_r = length_fits format (length (body r)) (lawful_length (limits_of format) r are_r.0) in
+    let short_s = length_fits format (length (body s)) (lawful_length (limits_of format) s are_s.0) in
+    let same = same_framed (body r) (body s) (flat_map spelling rs ++ x) (flat_map spelling ss ++ y) short_r short_s apart in
+    let first = same_body r s (lawful_fits format r are_r.0) (lawful_fits format s are_s.0) same.0 in
+    let time : s.timestamp ≡ r.timestamp = ap (λ (l : Logged). l.timestamp) (sym first) in
+    let are = subst (λ (t : ℕ). AreRecords (limits_of format) t ss) time are_s.2 in
+    let stop = subst (λ (t : ℕ). Stops (limits_of format) (latest t ss) y) time stop_y in
+    let rest = same_records format r.timestamp rs ss x y are_r.2 are same.1 stop_x stop in
+    (λ i. first i ∷ rest.0 i, rest.1)
+
+-- one header and one list of records, up to a rest that begins with none, begin the bytes
+pub same_log : (a b : Head) (rs ss : List Logged) (x y : List ℕ) → IsHead a → IsHead b → AreRecords (limits_of a.format) 0 rs → AreRecords (limits_of b.format) 0 ss
+    → head_bytes a ++ (flat_map spelling rs ++ x) ≡ head_bytes b ++ (flat_map spelling ss ++ y) → Stops (limits_of a.format) (latest 0 rs) x
+    → Stops (limits_of b.format) (latest 0 ss) y → (a ≡ b) × (rs ≡ ss) × (x ≡ y)
+same_log a b rs ss x y is_a is_b are_r are_s e stop_x stop_y =
+    let front = same_head a b (flat_map spelling rs ++ x) (flat_map spelling ss ++ y) is_a is_b e in
+    let are = subst (λ (head : Head). AreRecords (limits_of head.format) 0 rs) front.0 are_r in
+    let stop = subst (λ (head : Head). Stops (limits_of head.format) (latest 0 rs) x) front.0 stop_x in
+    let rest = same_records b.format 0 rs ss x y are are_s front.1 stop stop_y in
+    (front.0, rest.0, rest.1)

@@ -1,0 +1,95 @@
+-- Records one after the other, and the greatest of their timestamps.
+use Rattle.std.proofs.Common.{◌≡◌, ◌⊎◌, inl, inr, ℕ, zero, suc, ◌<◌, ◌≤◌, List, [], ◌∷◌, ◌++◌, length, max, map, refl, sym, ap, ◌∙◌, append_assoc, rules, arith}
+use Rattle.std.proofs.lemmas.Bool.{cases_lt, false≢true}
+use Rattle.std.proofs.lemmas.List.{append-nil}
+use Rattle.std.proofs.lemmas.List.Concat.{flat_map-cons, flat_map-append}
+use Rattle.std.proofs.lemmas.List.Elements.{All-nil, All-cons, All-weaker, Contains-append_right}
+use Rattle.std.specs.Prelude.{◌↔◌, ◌==◌, Bool, not, IsTrue, Contains, All}
+use Rattle.std.specs.List.{flat_map}
+use Rattle.mt_words.specs.Limits.{Limits}
+use Rattle.mt_words.specs.Changes.{Logged, IsLawful}
+use Rattle.mt_record.specs.Spelling.{spelling}
+use Rattle.mt_record.specs.Logs.{AreRecords, latest, LogReading, IsLast, IsTorn}
+
+-- ---- one record more
+
+-- a lawful record that does not fall may follow records
+pub records_push : (limits : Limits) (low : ℕ) (rs : List Logged) (r : Logged) → AreRecords limits low rs → IsLawful limits r → latest low rs ≤ r.timestamp
+    → AreRecords limits low (rs ++ r ∷ [])
+records_push limits low [] r are lawful rises = (lawful, rises, tt)
+records_push limits low (s ∷ rs) r are lawful rises = (are.0, are.1, records_push limits s.timestamp rs r are.2 lawful rises)
+
+-- the timestamp of the last record is that of the one added
+pub latest_push : (low : ℕ) (rs : List Logged) (r : Logged) → latest low (rs ++ r ∷ []) ≡ r.timestamp
+latest_push low [] r = refl
+latest_push low (s ∷ rs) r = latest_push s.timestamp rs r
+
+-- the record that begins the rest goes to the records
+pub spelled_push : (front : List ℕ) (rs : List Logged) (r : Logged) (bytes rest after : List ℕ) → bytes ≡ front ++ (flat_map spelling rs ++ rest)
+    → rest ≡ spelling r ++ after → bytes ≡ front ++ (flat_map spelling (rs ++ r ∷ []) ++ after)
+spelled_push front rs r bytes rest after whole next =
+    let one : flat_map spelling (r ∷ []) ≡ spelling r = flat_map-cons spelling r [] ∙ append-nil (spelling r) in
+    let all : flat_map spelling (rs ++ r ∷ []) ++ after ≡ flat_map spelling rs ++ (spelling r ++ after) =
+    ap (λ (x : List ℕ). x ++ after) (flat_map-append spelling rs (r ∷ []) ∙ ap (λ (x : List ℕ). flat_map spelling rs ++ x) one)
+    ∙ append_assoc (flat_map spelling rs) (spelling r) after in
+    whole ∙ ap (λ (x : List ℕ). front ++ (flat_map spelling rs ++ x)) next ∙ ap (λ (x : List ℕ). front ++ x) (sym all)
+
+-- ---- the greatest timestamp
+
+-- the timestamps
+abbrev times : List Logged → List ℕ
+times rs = map (λ r. r.timestamp) rs
+
+-- the last timestamp is not below the first bound
+latest_least : (limits : Limits) (low : ℕ) (rs : List Logged) → AreRecords limits low rs → low ≤ latest low rs
+latest_least limits low [] are = omega arith
+latest_least limits low (r ∷ rs) are = omega (arith, are.1, latest_least limits r.timestamp rs are.2)
+
+-- no timestamp is above the last
+latest_most : (limits : Limits) (low : ℕ) (rs : List Logged) → AreRecords limits low rs → All (λ time. time ≤ latest low rs) (times rs)
+latest_most limits low [] are = All-nil (λ time. time ≤ low)
+latest_most limits low (r ∷ rs) are =
+    All-cons (λ time. time ≤ latest r.timestamp rs) r.timestamp (times rs) (latest_least limits r.timestamp rs are.2) (latest_most limits r.timestamp rs are.2)
+
+-- a first element is one of the elements
+first_in : (x : ℕ) (xs : List ℕ) → Contains (x ∷ xs) x
+first_in x xs = (0, omega arith, refl)
+
+-- an element of a list is one behind another too
+behind : (y : ℕ) (xs : List ℕ) (x : ℕ) → Contains xs x → Contains (y ∷ xs) x
+behind y xs x is = Contains-append_right (y ∷ []) xs x is
+
+-- the last timestamp is the bound or one of the timestamps
+latest_in : (low : ℕ) (rs : List Logged) → Contains (low ∷ times rs) (latest low rs)
+latest_in low [] = first_in low []
+latest_in low (r ∷ rs) = behind low (times (r ∷ rs)) (latest r.timestamp rs) (latest_in r.timestamp rs)
+
+-- `from` takes the place of 0 where it is not below
+raised : (from n : ℕ) (xs : List ℕ) → Contains (0 ∷ xs) n → (from < n) ⊎ (n ≤ from) → Contains (from ∷ xs) (max from n)
+raised from n xs is (inr most) = let same : max from n ≡ from = omega arith in rw same (first_in from xs)
+raised from n xs (zero, lt, e) (inl above) = absurd (omega (arith, e, above))
+raised from n xs (suc k, lt, e) (inl above) = let same : max from n ≡ n = omega arith in rw same (suc k, lt, e)
+
+-- the greater of `from` and the last record's timestamp is the last timestamp of the log
+pub last_is : (limits : Limits) (log : LogReading) → AreRecords limits 0 log.records → IsLast log (max log.head.from (latest 0 log.records))
+last_is limits log are =
+    let from = log.head.from in
+    let n = latest 0 log.records in (
+      raised from n (times log.records) (latest_in 0 log.records) (cases_lt from n),
+      All-cons (λ time. time ≤ max from n) from (times log.records) (omega arith)
+      (All-weaker (λ time. time ≤ n) (λ time. time ≤ max from n) (λ time least. omega arith) (times log.records) (latest_most limits 0 log.records are)),
+    )
+
+-- ---- the tail
+
+-- a torn tail is not empty
+torn_some : (limits : Limits) (rest : List ℕ) → IsTorn limits rest → 0 < length rest
+torn_some limits rest (inl few) = few.0
+torn_some limits rest (inr cut) = let all = ap length cut.3 in omega (arith, all)
+
+-- where a tail is empty or torn, it is torn where it is not empty
+pub tells_torn : (limits : Limits) (rest : List ℕ) (empty : Bool) → empty ≡ (length rest == 0) → (rest ≡ []) ⊎ IsTorn limits rest
+    → IsTrue (not empty) ↔ IsTorn limits rest
+tells_torn limits [] empty is ends = (λ some. absurd (false≢true (rw is at some)), λ torn. absurd (omega (arith, torn_some limits [] torn)))
+tells_torn limits (byte ∷ bytes) empty is (inl none) = absurd (let number : suc (length bytes) ≡ 0 = ap length none in omega arith)
+tells_torn limits (byte ∷ bytes) empty is (inr torn) = (λ some. torn, λ cut. rw is (search rules))

@@ -1,0 +1,122 @@
+-- What stands at the front of bytes is the only thing of its kind that does.
+use Rattle.std.proofs.Common.{◌≡◌, ℕ, ◌^◌, ◌<◌, List, [], ◌∷◌, ◌++◌, length, drop, Option, Some, None, refl, sym, ap, ◌∙◌, append_assoc, arith}
+use Rattle.std.specs.Prelude.{slice_index, IfSome}
+use Rattle.std.specs.List.{flat_map, AllByRecursion}
+use Rattle.byteorder.specs.Endian.{big_bytes, big_from}
+use Rattle.byteorder.specs.Numbers.{big_number-reads_back, length-bytes_high_first}
+use Rattle.mt_words.specs.declared.record.Change.{Change}
+use Rattle.mt_words.specs.declared.update.Kind.{Kind}
+use Rattle.mt_words.specs.declared.update.Kind.TheVariants.{Put}
+use Rattle.mt_words.specs.Changes.{Logged}
+use Rattle.mt_record.specs.Spelling.{counted, column_bytes, code_of, kind_bytes, change_bytes, body_of, body, framed, FitsColumn, FitsKind, FitsChange, Fits}
+
+-- ---- fields
+
+-- fronts of one length are equal, and so is what follows them
+pub same_split : {A : Type 0} (a b x y : List A) → length a ≡ length b → a ++ x ≡ b ++ y → (a ≡ b) × (x ≡ y)
+same_split [] [] x y same e = (refl, e)
+same_split [] (q ∷ b) x y same e = absurd (omega arith)
+same_split (p ∷ a) [] x y same e = absurd (omega arith)
+same_split (p ∷ a) (q ∷ b) x y same e =
+    let tails : a ++ x ≡ b ++ y = cc in
+    let rest = same_split a b x y (omega arith) tails in
+    let fronts : a ≡ b = rest.0 in
+    (cc, rest.1)
+
+-- one number begins the bytes
+pub same_number : (n a b : ℕ) (x y : List ℕ) → a < 256 ^ n → b < 256 ^ n → big_bytes n a ++ x ≡ big_bytes n b ++ y → (a ≡ b) × (x ≡ y)
+same_number n a b x y fits_a fits_b e = (
+  sym (big_number-reads_back n a x fits_a) ∙ ap (big_from 0 n) e ∙ big_number-reads_back n b y fits_b,
+  (same_split (big_bytes n a) (big_bytes n b) x y (length-bytes_high_first n a ∙ sym (length-bytes_high_first n b)) e).1,
+)
+
+-- one list of counted bytes begins the bytes
+pub same_counted : (a b x y : List ℕ) → length a < 2 ^ 16 → length b < 2 ^ 16 → counted a ++ x ≡ counted b ++ y → (a ≡ b) × (x ≡ y)
+same_counted a b x y fits_a fits_b e =
+    let apart : big_bytes 2 (length a) ++ (a ++ x) ≡ big_bytes 2 (length b) ++ (b ++ y) =
+    sym (append_assoc (big_bytes 2 (length a)) a x) ∙ e ∙ append_assoc (big_bytes 2 (length b)) b y in
+    let number = same_number 2 (length a) (length b) (a ++ x) (b ++ y) fits_a fits_b apart in
+    same_split a b x y number.0 number.1
+
+-- one column begins the bytes
+pub same_column : (c d : ℕ × List ℕ) (x y : List ℕ) → FitsColumn c → FitsColumn d → column_bytes c ++ x ≡ column_bytes d ++ y → (c ≡ d) × (x ≡ y)
+same_column c d x y fits_c fits_d e =
+    let first : c.0 ≡ d.0 = cc in
+    let rest : counted c.1 ++ x ≡ counted d.1 ++ y = cc in
+    let text = same_counted c.1 d.1 x y fits_c.1 fits_d.1 rest in
+    (λ i. (first i, text.0 i), text.1)
+
+-- the bytes are so many columns in one way
+same_columns : (cs ds : List (ℕ × List ℕ)) → AllByRecursion FitsColumn cs → AllByRecursion FitsColumn ds → length cs ≡ length ds
+    → flat_map column_bytes cs ≡ flat_map column_bytes ds → cs ≡ ds
+same_columns [] [] fits_c fits_d number e = refl
+same_columns [] (d ∷ ds) fits_c fits_d number e = absurd (omega arith)
+same_columns (c ∷ cs) [] fits_c fits_d number e = absurd (omega arith)
+same_columns (c ∷ cs) (d ∷ ds) fits_c fits_d number e =
+    let first = same_column c d (flat_map column_bytes cs) (flat_map column_bytes ds) fits_c.0 fits_d.0 e in
+    let rest = same_columns cs ds fits_c.1 fits_d.1 (omega arith) first.1 in
+    λ i. first.0 i ∷ rest i
+
+-- ---- bodies
+
+-- what a kind carries is that of one kind of this byte
+same_kind : (a b : Kind) → FitsKind a → FitsKind b → code_of a ≡ code_of b → kind_bytes a ≡ kind_bytes b → a ≡ b
+same_kind (Put cs) (Put ds) fits_a fits_b code e =
+    let number : length cs ≡ length ds = ap (λ (x : List ℕ). slice_index x 0) e in
+    let texts : flat_map column_bytes cs ≡ flat_map column_bytes ds = ap (drop 1) e in
+    ap Put (same_columns cs ds fits_a.1 fits_b.1 number texts)
+
+-- the fields of a change are those of one change
+same_change : (a b : Change) → FitsChange a → FitsChange b → code_of a.kind ≡ code_of b.kind → change_bytes a ≡ change_bytes b → a ≡ b
+same_change a b fits_a fits_b code e =
+    let left = counted a.key ++ kind_bytes a.kind in
+    let right = counted b.key ++ kind_bytes b.kind in
+    let version = same_number 8 a.version b.version left right fits_a.0 fits_b.0 e in
+    let key = same_counted a.key b.key (kind_bytes a.kind) (kind_bytes b.kind) fits_a.1 fits_b.1 version.1 in
+    let kind = same_kind a.kind b.kind fits_a.2 fits_b.2 code key.1 in
+    λ i. record { version = version.0 i; key = key.0 i; kind = kind i }
+
+-- 3 is not 1
+three_and_one : (a b : ℕ) → a ≡ 3 → b ≡ 1 → a ≡ b → ⊥
+three_and_one a b is_mark is_put same = omega arith
+
+-- no kind has the byte of a mark
+no_mark : (kind : Kind) → 3 ≡ code_of kind → ⊥
+no_mark (Put columns) same = three_and_one 3 1 refl refl same
+
+-- the bytes are the body of one record
+same_body_of : (t u : ℕ) (a b : Option Change) → t < 2 ^ 64 → u < 2 ^ 64 → IfSome a FitsChange → IfSome b FitsChange
+    → body_of t a ≡ body_of u b → (t ≡ u) × (a ≡ b)
+same_body_of t u None None fits_t fits_u fits_a fits_b e =
+    let tails : big_bytes 8 t ++ [] ≡ big_bytes 8 u ++ [] = ap (drop 1) e in
+    ((same_number 8 t u [] [] fits_t fits_u tails).0, refl)
+same_body_of t u None (Some b) fits_t fits_u fits_a fits_b e = absurd (no_mark b.kind (ap (λ (x : List ℕ). slice_index x 0) e))
+same_body_of t u (Some a) None fits_t fits_u fits_a fits_b e = absurd (no_mark a.kind (sym (ap (λ (x : List ℕ). slice_index x 0) e)))
+same_body_of t u (Some a) (Some b) fits_t fits_u fits_a fits_b e =
+    let code : code_of a.kind ≡ code_of b.kind = ap (λ (x : List ℕ). slice_index x 0) e in
+    let tails : big_bytes 8 t ++ change_bytes a ≡ big_bytes 8 u ++ change_bytes b = ap (drop 1) e in
+    let time = same_number 8 t u (change_bytes a) (change_bytes b) fits_t fits_u tails in
+    (time.0, ap Some (same_change a b fits_a fits_b code time.1))
+
+-- the bytes are the body of one record
+pub same_body : (r s : Logged) → Fits r → Fits s → body r ≡ body s → r ≡ s
+same_body r s fits_r fits_s e =
+    let same = same_body_of r.timestamp s.timestamp r.change s.change fits_r.0 fits_s.0 fits_r.1 fits_s.1 e in
+    λ i. record { timestamp = same.0 i; change = same.1 i }
+
+-- ---- frames
+
+-- the parts of what is framed, one after the other
+pub framed_apart : (text more : List ℕ) → framed text ++ more ≡ big_bytes 4 (length text) ++ (text ++ (big_bytes 4 (length text) ++ more))
+framed_apart text more =
+    append_assoc (big_bytes 4 (length text)) (text ++ big_bytes 4 (length text)) more
+    ∙ ap (λ (x : List ℕ). big_bytes 4 (length text) ++ x) (append_assoc text (big_bytes 4 (length text)) more)
+
+-- one list of framed bytes begins the bytes
+pub same_framed : (a b x y : List ℕ) → length a < 2 ^ 32 → length b < 2 ^ 32 → framed a ++ x ≡ framed b ++ y → (a ≡ b) × (x ≡ y)
+same_framed a b x y fits_a fits_b e =
+    let apart = sym (framed_apart a x) ∙ e ∙ framed_apart b y in
+    let number = same_number 4 (length a) (length b) (a ++ (big_bytes 4 (length a) ++ x)) (b ++ (big_bytes 4 (length b) ++ y)) fits_a fits_b apart in
+    let text = same_split a b (big_bytes 4 (length a) ++ x) (big_bytes 4 (length b) ++ y) number.0 number.1 in
+    let after = same_number 4 (length a) (length b) x y fits_a fits_b text.1 in
+    (text.0, after.1)

@@ -1,0 +1,40 @@
+-- Byte strings worked out by hand, against the definitions.
+use Rattle.std.proofs.Common.{◌≡◌, [], ◌∷◌, ◌++◌, refl}
+use Rattle.std.specs.List.{flat_map}
+use Rattle.mt_words.specs.declared.limits.Format.TheVariants.{One}
+use Rattle.mt_words.specs.Limits.{limits_of}
+use Rattle.mt_words.specs.Changes.{mark_of, put_of}
+use Rattle.mt_record.specs.declared.frame.TheConstants.{LONGEST_RECORD}
+use Rattle.mt_record.specs.Spelling.{spelling, longest_record}
+use Rattle.mt_record.specs.Heads.{head_of, head_bytes}
+
+-- the greatest body of the format is the one that the code reads
+longest_is_constant : longest_record (limits_of One) ≡ LONGEST_RECORD
+longest_is_constant = refl
+
+-- the greatest body of the format has so many bytes
+longest_is_number : longest_record (limits_of One) ≡ 1049652
+longest_is_number = refl
+
+-- a log of no record, from 4 on
+header_alone : head_bytes (head_of 4) ≡ 77 ∷ 84 ∷ 76 ∷ 49 ∷ 0 ∷ 0 ∷ 0 ∷ 0 ∷ 0 ∷ 0 ∷ 0 ∷ 4 ∷ []
+header_alone = refl
+
+-- a log that puts column 0 of "a" to "x" at 3, and has a mark at 5
+put_and_mark : head_bytes (head_of 0) ++ (flat_map spelling (put_of 3 1 (97 ∷ []) ((0, 120 ∷ []) ∷ []) ∷ mark_of 5 ∷ []) ++ [])
+    ≡ 77 ∷ 84 ∷ 76 ∷ 49 ∷ 0 ∷ 0 ∷ 0 ∷ 0 ∷ 0 ∷ 0 ∷ 0 ∷ 0
+    ∷ 0 ∷ 0 ∷ 0 ∷ 25 ∷ 1 ∷ 0 ∷ 0 ∷ 0 ∷ 0 ∷ 0 ∷ 0 ∷ 0 ∷ 3 ∷ 0 ∷ 0 ∷ 0 ∷ 0 ∷ 0 ∷ 0 ∷ 0 ∷ 1 ∷ 0 ∷ 1 ∷ 97 ∷ 1 ∷ 0 ∷ 0 ∷ 1 ∷ 120 ∷ 0 ∷ 0 ∷ 0 ∷ 25
+    ∷ 0 ∷ 0 ∷ 0 ∷ 9 ∷ 3 ∷ 0 ∷ 0 ∷ 0 ∷ 0 ∷ 0 ∷ 0 ∷ 0 ∷ 5 ∷ 0 ∷ 0 ∷ 0 ∷ 9 ∷ []
+put_and_mark = refl
+
+-- a log that puts column 0 of "b" to "y" at 4, and has a mark at 6
+other_put_and_mark : head_bytes (head_of 0) ++ (flat_map spelling (put_of 4 1 (98 ∷ []) ((0, 121 ∷ []) ∷ []) ∷ mark_of 6 ∷ []) ++ [])
+    ≡ 77 ∷ 84 ∷ 76 ∷ 49 ∷ 0 ∷ 0 ∷ 0 ∷ 0 ∷ 0 ∷ 0 ∷ 0 ∷ 0
+    ∷ 0 ∷ 0 ∷ 0 ∷ 25 ∷ 1 ∷ 0 ∷ 0 ∷ 0 ∷ 0 ∷ 0 ∷ 0 ∷ 0 ∷ 4 ∷ 0 ∷ 0 ∷ 0 ∷ 0 ∷ 0 ∷ 0 ∷ 0 ∷ 1 ∷ 0 ∷ 1 ∷ 98 ∷ 1 ∷ 0 ∷ 0 ∷ 1 ∷ 121 ∷ 0 ∷ 0 ∷ 0 ∷ 25
+    ∷ 0 ∷ 0 ∷ 0 ∷ 9 ∷ 3 ∷ 0 ∷ 0 ∷ 0 ∷ 0 ∷ 0 ∷ 0 ∷ 0 ∷ 6 ∷ 0 ∷ 0 ∷ 0 ∷ 9 ∷ []
+other_put_and_mark = refl
+
+-- a put of the columns 0 and 1
+put_of_two_columns : spelling (put_of 1 1 (107 ∷ []) ((0, 65 ∷ []) ∷ (1, 66 ∷ []) ∷ []))
+    ≡ 0 ∷ 0 ∷ 0 ∷ 29 ∷ 1 ∷ 0 ∷ 0 ∷ 0 ∷ 0 ∷ 0 ∷ 0 ∷ 0 ∷ 1 ∷ 0 ∷ 0 ∷ 0 ∷ 0 ∷ 0 ∷ 0 ∷ 0 ∷ 1 ∷ 0 ∷ 1 ∷ 107 ∷ 2 ∷ 0 ∷ 0 ∷ 1 ∷ 65 ∷ 1 ∷ 0 ∷ 1 ∷ 66 ∷ 0 ∷ 0 ∷ 0 ∷ 29 ∷ []
+put_of_two_columns = refl

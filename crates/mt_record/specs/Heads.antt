@@ -1,0 +1,26 @@
+-- Headers of logs.
+use Rattle.std.specs.Prelude.{◌≢◌, ℕ, ◌<◌, ◌^◌, List, ◌++◌, codes}
+use Rattle.byteorder.specs.Endian.{big_bytes}
+use Rattle.mt_words.specs.declared.limits.Format.{Format}
+use Rattle.mt_words.specs.declared.limits.Format.TheVariants.{One}
+
+-- the format of a log; updates below `from` may be missing from it
+pub record Head : Type 0 where
+  pub format : Format
+  pub from : ℕ
+
+abbrev pub head_of : ℕ → Head
+head_of from = record { format = One; from = from }
+
+abbrev pub magic_of : Format → List ℕ
+magic_of One = codes "MTL1"
+
+abbrev pub head_bytes : Head → List ℕ
+head_bytes head = magic_of head.format ++ big_bytes 8 head.from
+
+abbrev pub IsHead : Head → Type 0
+IsHead head = head.from < 2 ^ 64
+
+-- no header begins the bytes
+abbrev pub HasNoHeader : List ℕ → Type 0
+HasNoHeader bytes = (head : Head) (more : List ℕ) → IsHead head → bytes ≢ head_bytes head ++ more

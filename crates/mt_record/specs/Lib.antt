@@ -1,0 +1,5 @@
+pub mod Spelling
+pub mod Heads
+pub mod Logs
+pub mod LogFaults
+pub mod Bodies

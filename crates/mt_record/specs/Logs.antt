@@ -1,0 +1,72 @@
+-- Which bytes are a log, what it says, and its last timestamp.
+use Rattle.std.specs.Prelude.{◌≡◌, ℕ, ◌+◌, ◌-◌, ◌≤◌, ◌<◌, ◌^◌, ◌↔◌, ◌⊎◌, min, Bool, IsTrue, List, [], ◌∷◌, ◌++◌, length, map, Contains, All}
+use Rattle.std.specs.List.{flat_map}
+use Rattle.byteorder.specs.Endian.{big_bytes}
+use Rattle.mt_words.specs.Limits.{Limits, limits_of}
+use Rattle.mt_words.specs.Changes.{Logged, IsLawful}
+use Rattle.mt_record.specs.declared.read.LogText.{LogText}
+use Rattle.mt_record.specs.Spelling.{spelling, IsRecordLength}
+use Rattle.mt_record.specs.Heads.{Head, IsHead, head_bytes}
+
+-- lawful records whose timestamps never fall, from low on
+abbrev pub AreRecords : Limits → ℕ → List Logged → Type 0
+AreRecords limits low [] = Unit {0}
+AreRecords limits low (r ∷ rs) = IsLawful limits r × (low ≤ r.timestamp) × AreRecords limits r.timestamp rs
+
+-- the timestamp of the last record, or low where there is none
+abbrev pub latest : ℕ → List Logged → ℕ
+latest low [] = low
+latest low (r ∷ rs) = latest r.timestamp rs
+
+-- the beginning of something framed: one to three bytes, or a lawful length and fewer bytes than it asks for
+abbrev pub IsCut : (ℕ → Type 0) → List ℕ → Type 0
+IsCut IsLength rest = ((0 < length rest) × (length rest < 4))
+    ⊎ ((n : ℕ) × (more : List ℕ) × IsLength n × (rest ≡ big_bytes 4 n ++ more) × (length more < n + 4))
+
+-- a torn tail: the beginning of a record, of which no more than the length is looked at
+abbrev pub IsTorn : Limits → List ℕ → Type 0
+IsTorn limits rest = IsCut (IsRecordLength limits) rest
+
+-- a log: its header, its records, and a tail that is empty or torn
+pub record IsLog (bytes : List ℕ) (head : Head) (records : List Logged) (tail : List ℕ) : Type 0 where
+  pub spelled : bytes ≡ head_bytes head ++ (flat_map spelling records ++ tail)
+  pub is_head : IsHead head
+  pub lawful : AreRecords (limits_of head.format) 0 records
+  pub ends : (tail ≡ []) ⊎ IsTorn (limits_of head.format) tail
+
+-- what a log says
+pub record LogReading : Type 0 where
+  pub head : Head
+  pub records : List Logged
+  pub torn : Bool
+
+pub record IsReading (bytes : List ℕ) (log : LogReading) : Type 0 where
+  pub tail : List ℕ
+  pub is_log : IsLog bytes log.head log.records tail
+  pub torn : IsTrue log.torn ↔ IsTorn (limits_of log.head.format) tail
+
+-- `from`, and the timestamps of the records, marks included
+abbrev pub times_of : LogReading → List ℕ
+times_of log = log.head.from ∷ map (λ r. r.timestamp) log.records
+
+-- the last timestamp of a log: the greatest of its times
+abbrev pub IsLast : LogReading → ℕ → Type 0
+IsLast log n = Contains (times_of log) n × All (λ time. time ≤ n) (times_of log)
+
+-- how many records there are, as far as a u64 counts
+abbrev pub count_of : List Logged → ℕ
+count_of records = min (length records) (2 ^ 64 - 1)
+
+-- the text shows what the log says
+pub record Shows (text : LogText) (log : LogReading) : Type 0 where
+  pub from : text.from ≡ log.head.from
+  pub last : IsLast log text.last
+  pub records : text.records.items ≡ log.records
+  pub whole : text.whole ≡ count_of log.records
+  pub torn : text.torn ≡ log.torn
+
+-- the text of the log that the bytes are
+pub record IsTextOf (bytes : List ℕ) (text : LogText) : Type 0 where
+  pub log : LogReading
+  pub is_reading : IsReading bytes log
+  pub shows : Shows text log

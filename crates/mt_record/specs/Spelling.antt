@@ -1,0 +1,68 @@
+-- How records are spelled.
+use Rattle.std.specs.Prelude.{ℕ, suc, ◌+◌, ◌*◌, ◌≤◌, ◌<◌, ◌^◌, List, ◌∷◌, ◌++◌, length, Option, Some, None, IfSome}
+use Rattle.std.specs.List.{flat_map, AllByRecursion}
+use Rattle.byteorder.specs.Endian.{big_bytes}
+use Rattle.mt_words.specs.declared.limits.TheConstants.{LONGEST_VALUE}
+use Rattle.mt_words.specs.declared.record.Change.{Change}
+use Rattle.mt_words.specs.declared.update.Kind.{Kind}
+use Rattle.mt_words.specs.declared.update.Kind.TheVariants.{Put}
+use Rattle.mt_words.specs.Limits.{Limits}
+use Rattle.mt_words.specs.Changes.{Logged}
+
+-- bytes behind their length
+abbrev pub counted : List ℕ → List ℕ
+counted bytes = big_bytes 2 (length bytes) ++ bytes
+
+-- a column's number, and its counted bytes
+abbrev pub column_bytes : ℕ × List ℕ → List ℕ
+column_bytes column = column.0 ∷ counted column.1
+
+-- the byte of a kind; that of a mark is 3
+abbrev pub code_of : Kind → ℕ
+code_of (Put columns) = 1
+
+-- what a kind carries: a put its columns behind their number
+abbrev pub kind_bytes : Kind → List ℕ
+kind_bytes (Put columns) = length columns ∷ flat_map column_bytes columns
+
+-- the version, the counted key, and what the kind carries
+abbrev pub change_bytes : Change → List ℕ
+change_bytes change = big_bytes 8 change.version ++ (counted change.key ++ kind_bytes change.kind)
+
+-- the byte of the kind, the timestamp, and the change, if there is one
+abbrev pub body_of : ℕ → Option Change → List ℕ
+body_of timestamp None = 3 ∷ big_bytes 8 timestamp
+body_of timestamp (Some change) = code_of change.kind ∷ (big_bytes 8 timestamp ++ change_bytes change)
+
+abbrev pub body : Logged → List ℕ
+body r = body_of r.timestamp r.change
+
+-- bytes between two copies of their length
+abbrev pub framed : List ℕ → List ℕ
+framed bytes = big_bytes 4 (length bytes) ++ (bytes ++ big_bytes 4 (length bytes))
+
+-- the spelling of a record
+abbrev pub spelling : Logged → List ℕ
+spelling r = framed (body r)
+
+-- the length of the greatest body: a put of the longest key and of all columns, each as long as can be
+abbrev pub longest_record : Limits → ℕ
+longest_record limits = 20 + limits.key + suc limits.column * (3 + LONGEST_VALUE)
+
+-- the length that a body may have: from that of a mark on
+abbrev pub IsRecordLength : Limits → ℕ → Type 0
+IsRecordLength limits n = (9 ≤ n) × (n ≤ longest_record limits)
+
+-- ---- what the fields of a record can hold, lawful or not
+
+abbrev pub FitsColumn : ℕ × List ℕ → Type 0
+FitsColumn column = (column.0 < 2 ^ 8) × (length column.1 < 2 ^ 16)
+
+abbrev pub FitsKind : Kind → Type 0
+FitsKind (Put columns) = (length columns < 2 ^ 8) × AllByRecursion FitsColumn columns
+
+abbrev pub FitsChange : Change → Type 0
+FitsChange change = (change.version < 2 ^ 64) × (length change.key < 2 ^ 16) × FitsKind change.kind
+
+abbrev pub Fits : Logged → Type 0
+Fits r = (r.timestamp < 2 ^ 64) × IfSome r.change FitsChange

@@ -1,0 +1,58 @@
+//! Fields from the front of bytes. Each gives the bytes behind it too; none is copied.
+ghost use Rattle.std.specs.Prelude.{◌≡◌, ◌≤◌, ◌<◌, ◌^◌, ◌++◌, List, ℕ, length, IfSome, IfNone};
+ghost use Rattle.byteorder.specs.Endian.{big_bytes};
+ghost use Rattle.mt_record.specs.Spelling.{counted, column_bytes, FitsColumn};
+
+use byteorder::{BigEndian, ByteOrder};
+
+/// A number of four bytes.
+pub fn u32_at(bytes: &[u8]) -> Option<(u32, &[u8])>
+    ensures found { IfSome result (λ x. (x.0 < 2 ^ 32) × (bytes.now ≡ big_bytes 4 x.0 ++ x.1.now)) }
+    ensures none { IfNone result (length bytes.now < 4) }
+{
+    if bytes.len() < 4 {
+        return None;
+    }
+    Some((BigEndian::read_u32(bytes), &bytes[4..]))
+}
+
+/// A number of eight bytes.
+pub fn u64_at(bytes: &[u8]) -> Option<(u64, &[u8])>
+    ensures found { IfSome result (λ x. (x.0 < 2 ^ 64) × (bytes.now ≡ big_bytes 8 x.0 ++ x.1.now)) }
+    ensures none { IfNone result (length bytes.now < 8) }
+{
+    if bytes.len() < 8 {
+        return None;
+    }
+    Some((BigEndian::read_u64(bytes), &bytes[8..]))
+}
+
+/// Bytes behind their length.
+pub fn counted_at(bytes: &[u8]) -> Option<(&[u8], &[u8])>
+    ensures found { IfSome result
+        (λ x. (length x.0.now < 2 ^ 16) × (bytes.now ≡ counted x.0.now ++ x.1.now)) }
+    ensures none { IfNone result
+        ((text more : List ℕ) → length text < 2 ^ 16 → bytes.now ≡ counted text ++ more → ⊥) }
+{
+    if bytes.len() < 2 {
+        return None;
+    }
+    let length = BigEndian::read_u16(bytes) as usize;
+    let rest = &bytes[2..];
+    if rest.len() < length {
+        return None;
+    }
+    Some(rest.split_at(length))
+}
+
+/// A column: its number and its bytes.
+pub fn column_at(bytes: &[u8]) -> Option<(u8, &[u8], &[u8])>
+    ensures found { IfSome result (λ x.
+        FitsColumn (x.0, x.1.now) × (bytes.now ≡ column_bytes (x.0, x.1.now) ++ x.2.now)) }
+    ensures none { IfNone result ((column : ℕ × List ℕ) (more : List ℕ) →
+        FitsColumn column → bytes.now ≡ column_bytes column ++ more → ⊥) }
+{
+    let (number, rest) = bytes.split_first()?;
+    let (text, rest) = counted_at(rest)?;
+    Some((*number, text, rest))
+}

@@ -1,0 +1,18 @@
+//! What holds of all bytes.
+ghost use Rattle.std.specs.Prelude.{◌≡◌, ℕ, List};
+ghost use Rattle.mt_words.specs.Changes.{Logged};
+ghost use Rattle.mt_record.specs.declared.read.FeedFault.{FeedFault};
+ghost use Rattle.mt_record.specs.Heads.{Head};
+ghost use Rattle.mt_record.specs.Logs.{IsLog};
+ghost use Rattle.mt_record.specs.LogFaults.{IsLogFault};
+
+/// Bytes are one log in one way, or have one fault, and never both. A law: it has nothing to run.
+pub fn one_reading()
+    ensures one_log { (bytes : List ℕ) (head other : Head) (records others : List Logged) (tail rest : List ℕ) →
+        IsLog bytes head records tail → IsLog bytes other others rest →
+        (head ≡ other) × (records ≡ others) × (tail ≡ rest) }
+    ensures one_fault { (bytes : List ℕ) (fault other : FeedFault) →
+        IsLogFault bytes fault → IsLogFault bytes other → fault ≡ other }
+    ensures not_both { (bytes : List ℕ) (head : Head) (records : List Logged) (tail : List ℕ) (fault : FeedFault) →
+        IsLog bytes head records tail → IsLogFault bytes fault → ⊥ }
+{}

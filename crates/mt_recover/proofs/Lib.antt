@@ -1,0 +1,12 @@
+pub mod StampLemmas
+pub mod CellLemmas
+pub mod KeyWritesLemmas
+pub mod ColumnsLemmas
+pub mod StoreLemmas
+pub mod WalkLemmas
+pub mod Apart
+pub mod ReplayLemmas
+pub mod ReadingLemmas
+pub mod FactLemmas
+pub mod FindLemmas
+pub mod DumpLemmas

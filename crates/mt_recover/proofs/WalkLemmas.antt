@@ -1,0 +1,119 @@
+-- The rows are the walk of the updates.
+use Rattle.std.proofs.Common.{◌≡◌, inl, inr, ℕ, suc, ◌<◌, ◌≤◌, false, List, [], ◌∷◌, length, Option, Some, None, Contains, refl, sym, ap, ◌∙◌, subst, arith}
+use Rattle.std.specs.Cmp.Lexicographic.{slice_cmp}
+use Rattle.std.specs.Ordering.{nat_cmp, is_gt, ordering_then, ordering_reverse}
+use Rattle.std.specs.declared.cmp.Ordering.{Ordering}
+use Rattle.std.specs.declared.cmp.Ordering.TheVariants.{Less, Equal, Greater}
+use Rattle.std.specs.BTreeMap.{BTreeMap, get, IsOrdered}
+use Rattle.std.proofs.lemmas.Cmp.{nat_list_cmp_total}
+use Rattle.std.proofs.lemmas.Map.Views.{btree_map_get_iff}
+use Rattle.std.proofs.lemmas.Map.Lookups.{exact_bytes, exact_unsigned}
+use Rattle.std.proofs.lemmas.List.Elements.{All-contains, All-from_recursion}
+use Rattle.mt_words.specs.declared.update.Stamp.{Stamp}
+use Rattle.mt_words.specs.declared.update.Kind.{Kind}
+use Rattle.mt_words.specs.declared.update.Kind.TheVariants.{Put}
+use Rattle.mt_words.specs.declared.update.Update.{Update}
+use Rattle.mt_words.specs.Limits.{widest}
+use Rattle.mt_words.specs.Words.{NumbersRise}
+use Rattle.mt_words.specs.Changes.{AllowsKind, Writes, IsReset}
+use Rattle.mt_words.specs.Stamps.{IsAtMost}
+use Rattle.mt_words.specs.Walks.{Pair, Holds}
+use Rattle.mt_recover.specs.KeyColumns.{HasColumn}
+use Rattle.mt_recover.specs.Walk.{IsWalk, AreApart, AreLawful}
+use Rattle.mt_recover.specs.Cells.{Written, IsGreatest}
+use Rattle.mt_recover.specs.KeyWrites.{IsWriteOf, AreWritesOf}
+use Rattle.mt_recover.proofs.StampLemmas.{same_stamp}
+use Rattle.mt_recover.proofs.CellLemmas.{some_is}
+use Rattle.mt_recover.proofs.KeyWritesLemmas.{no_element, head_or_tail}
+use Rattle.mt_recover.proofs.StoreLemmas.{AreRowsOf}
+
+-- ---- a number stands once among columns
+
+from_low : (low : ℕ) (columns : List (ℕ × List ℕ)) (c : ℕ × List ℕ) → NumbersRise low columns → Contains columns c → low ≤ c.0
+from_low low [] c rise at = absurd (no_element c at)
+from_low low (d ∷ ds) c rise at = elim (head_or_tail d c ds at) as (λ _. low ≤ c.0) [
+  | inl e ↦ subst (λ (x : ℕ × List ℕ). low ≤ x.0) e rise.0
+  | inr later ↦ let above = from_low (suc d.0) ds c rise.1 later in omega (arith, above, rise.0)
+]
+
+one_column : (low : ℕ) (columns : List (ℕ × List ℕ)) (c d : ℕ × List ℕ) → NumbersRise low columns → Contains columns c → Contains columns d → c.0 ≡ d.0 → c ≡ d
+one_column low [] c d rise at here same = absurd (no_element c at)
+one_column low (x ∷ xs) c d rise at here same = elim (head_or_tail x c xs at) as (λ _. c ≡ d) [
+  | inl e ↦ elim (head_or_tail x d xs here) as (λ _. c ≡ d) [
+    | inl f ↦ sym e ∙ f
+    | inr later ↦ let above = from_low (suc x.0) xs d rise.1 later in let number : x.0 ≡ c.0 = ap (λ (p : ℕ × List ℕ). p.0) e in absurd (omega (arith, above, number, same))
+  ]
+  | inr first ↦ elim (head_or_tail x d xs here) as (λ _. c ≡ d) [
+    | inl f ↦ let above = from_low (suc x.0) xs c rise.1 first in let number : x.0 ≡ d.0 = ap (λ (p : ℕ × List ℕ). p.0) f in absurd (omega (arith, above, number, same))
+    | inr later ↦ one_column (suc x.0) xs c d rise.1 first later same
+  ]
+]
+
+-- a lawful change writes a column once
+same_bytes : (kind : Kind) (number : ℕ) (a b : List ℕ) → AllowsKind widest kind → Writes kind number (Some a) → Writes kind number (Some b) → a ≡ b
+same_bytes (Put columns) number a b allows x y = ap (λ (p : ℕ × List ℕ). p.1) (one_column 0 columns (number, a) (number, b) allows.0.1 x y refl)
+
+-- what is written has bytes
+writes_some : (kind : Kind) (number : ℕ) (other : Option (List ℕ)) → Writes kind number other → (bytes : List ℕ) × (other ≡ Some bytes)
+writes_some (Put columns) number (Some bytes) writes = (bytes, refl)
+writes_some (Put columns) number None writes = absurd writes
+
+no_reset : (kind : Kind) → IsReset kind → ⊥
+no_reset (Put columns) h = h
+
+-- ---- the rows hold what the updates leave
+
+some_column : (columns : List (ℕ × List ℕ)) (c : ℕ × List ℕ) → Contains columns c → 0 < length columns
+some_column columns c at = omega (arith, at.1)
+
+as_write : (updates : List Update) (key : List ℕ) (u : Update) (number : ℕ) (bytes : List ℕ) → Contains updates u → u.key ≡ key → Writes u.kind number (Some bytes) → IsWriteOf updates key (u.stamp, (number, bytes))
+as_write updates key u number bytes at of_key writes = record { update = u; stands = at; of_key = of_key; stamp = refl; writes = writes }
+
+held : (updates : List Update) (keys : BTreeMap (List ℕ) (List Written)) (key : List ℕ) (writes : List Written) (number : ℕ) (bytes : List ℕ) (stamp : Stamp)
+    → AreWritesOf updates keys → get (slice_cmp nat_cmp) keys key ≡ Some writes → IsGreatest writes number (stamp, (number, bytes)) → HasColumn updates key number bytes
+held updates keys key writes number bytes stamp are at is =
+    let from = (are key (stamp, (number, bytes))).0 (writes, at, is.stands) in
+    record {
+      write = from.update;
+      stands = from.stands;
+      of_key = from.of_key;
+      writes = from.writes;
+      greatest = λ v other stands of_key ws.
+          let some = writes_some v.kind number other ws in
+          let value = some.0 in
+          let h = (are key (v.stamp, (number, value))).1 (as_write updates key v number value stands of_key (subst (Writes v.kind number) some.1 ws)) in
+          let same : h.0 ≡ writes = some_is h.0 writes (sym h.1 ∙ at) in
+          let low : IsAtMost v.stamp stamp = is.greatest (v.stamp, (number, value)) (subst (λ (x : List Written). Contains x (v.stamp, (number, value))) same h.2) refl in
+          subst (IsAtMost v.stamp) (sym from.stamp) low;
+      kept = λ v stands of_key reset. absurd (no_reset v.kind reset);
+    }
+
+holds : (updates : List Update) (keys : BTreeMap (List ℕ) (List Written)) (rows : List Pair) (key : List ℕ) (number : ℕ) (bytes : List ℕ)
+    → IsOrdered (slice_cmp nat_cmp) keys → AreRowsOf keys.entries rows → AreWritesOf updates keys → AreApart updates → AreLawful updates → HasColumn updates key number bytes → Holds rows key number bytes
+holds updates keys rows key number bytes ordered are_rows are apart are_lawful has =
+    let u = has.write in
+    let lawful = are_lawful u has.stands in
+    let h = (are key (u.stamp, (number, bytes))).1 (as_write updates key u number bytes has.stands has.of_key has.writes) in
+    let entry = (btree_map_get_iff nat_list_cmp_total exact_bytes keys ordered key h.0).0 h.1 in
+    let row = are_rows.complete (key, h.0) entry in
+    let some = row.1.complete (u.stamp, (number, bytes)) h.2 in
+    let top = row.1.greatest (number, some.0) some.1 in
+    let other = (are key (top.0, (number, some.0))).0 (h.0, h.1, top.1.stands) in
+    let up : IsAtMost other.update.stamp u.stamp = has.greatest other.update (Some some.0) other.stands other.of_key other.writes in
+    let down : IsAtMost u.stamp other.update.stamp = subst (IsAtMost u.stamp) (sym other.stamp) (top.1.greatest (u.stamp, (number, bytes)) h.2 refl) in
+    let one : other.update ≡ u = apart other.update u other.stands has.stands (same_stamp other.update.stamp u.stamp up down) in
+    let same : some.0 ≡ bytes = same_bytes u.kind number some.0 bytes lawful (subst (λ (x : Update). Writes x.kind number (Some some.0)) one other.writes) has.writes in
+    (row.0, row.2 (some_column row.0 (number, some.0) some.1), subst (λ (b : List ℕ). Contains row.0 (number, b)) same some.1)
+
+pub walk_of : (updates : List Update) (keys : BTreeMap (List ℕ) (List Written)) (rows : List Pair) → IsOrdered (slice_cmp nat_cmp) keys → AreRowsOf keys.entries rows → AreWritesOf updates keys → AreApart updates → AreLawful updates → IsWalk updates rows
+walk_of updates keys rows ordered are_rows are apart are_lawful = record {
+  map = are_rows.map;
+  exact = λ key number bytes. (
+    λ h.
+        let from = are_rows.sound (key, h.0) h.1 in
+        let at = (btree_map_get_iff nat_list_cmp_total exact_bytes keys ordered key from.0).1 from.1 in
+        let top = from.2.greatest (number, bytes) h.2 in
+        held updates keys key from.0 number bytes top.0 are at top.1,
+    holds updates keys rows key number bytes ordered are_rows are apart are_lawful,
+  );
+}

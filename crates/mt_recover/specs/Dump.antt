@@ -1,0 +1,36 @@
+-- The text of a store.
+use Rattle.std.specs.Prelude.{◌≡◌, ℕ, Option, List, [], ◌++◌, length, codes, decimal}
+use Rattle.std.specs.List.{flat_map}
+use Rattle.hex.specs.Hex.{encode_lower}
+use Rattle.std.specs.Io.KnownBytes.{Appends}
+use Rattle.mt_words.specs.Walks.{Pair}
+use Rattle.mt_recover.specs.Recovery.{IsStoreOf}
+use Rattle.mt_recover.specs.declared.program.Failure.{Failure}
+use Rattle.mt_recover.specs.declared.program.Failure.TheVariants.{NoFiles, TooManyFiles, Open, Recovery, Output}
+
+-- a space, the number, an equals sign, and the bytes in lower hexadecimal
+abbrev pub column_text : ℕ × List ℕ → List ℕ
+column_text column = codes " " ++ (decimal column.0 ++ (codes "=" ++ encode_lower column.1))
+
+-- the key in lower hexadecimal, a colon, the columns, and a line feed
+abbrev pub pair_text : Pair → List ℕ
+pair_text pair = encode_lower pair.0 ++ (codes ":" ++ (flat_map column_text pair.1 ++ codes "\n"))
+
+abbrev pub dump_text : List Pair → List ℕ
+dump_text pairs = flat_map pair_text pairs
+
+-- the text of the store of so many logs was appended
+pub record IsPrinted (count : ℕ) (old new : Option (List ℕ)) : Type 0 where
+  pub logs : List (List ℕ)
+  pub number : length logs ≡ count
+  pub pairs : List Pair
+  pub is_store : IsStoreOf logs [] pairs
+  pub appended : Appends old new (dump_text pairs)
+
+-- the exit status of a failure
+abbrev pub status_of : Failure → ℕ
+status_of NoFiles = 2
+status_of TooManyFiles = 3
+status_of (Open name) = 3
+status_of (Recovery fault) = 1
+status_of Output = 3

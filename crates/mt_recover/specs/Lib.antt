@@ -1,0 +1,10 @@
+pub mod Cutoff
+pub mod Survivors
+pub mod KeyColumns
+pub mod Walk
+pub mod Recovery
+pub mod Verdict
+pub mod Dump
+pub mod Cells
+pub mod KeyWrites
+pub mod LogTexts

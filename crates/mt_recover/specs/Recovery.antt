@@ -1,0 +1,47 @@
+-- What recovery makes of logs and checkpoint parts.
+use Rattle.std.specs.Prelude.{◌≡◌, ℕ, ◌<◌, Option, None, IsSomeAnd, List, [], ◌∷◌, map, slice_get}
+use Rattle.mt_words.specs.declared.update.Update.{Update}
+use Rattle.mt_words.specs.Changes.{Logged}
+use Rattle.mt_words.specs.Walks.{Pair}
+use Rattle.mt_record.specs.Logs.{LogReading, IsReading}
+use Rattle.mt_recover.specs.Cutoff.{IsCutoff}
+use Rattle.mt_recover.specs.Survivors.{Checkpoint, begin_of, survivors}
+use Rattle.mt_recover.specs.Walk.{IsWalk}
+
+-- each log says this
+abbrev pub AreReadings : List (List ℕ) → List LogReading → Type 0
+AreReadings [] [] = Unit {0}
+AreReadings (bytes ∷ logs) (log ∷ readings) = IsReading bytes log × AreReadings logs readings
+AreReadings [] (log ∷ readings) = ⊥
+AreReadings (bytes ∷ logs) [] = ⊥
+
+-- The checkpoint to begin from. Where there is no part there is none. Parts are not read yet: nothing is said of them.
+abbrev pub IsChosen : List (List ℕ) → ℕ → Option Checkpoint → Type 0
+IsChosen [] cutoff chosen = chosen ≡ None
+IsChosen (part ∷ parts) cutoff chosen = ⊥
+
+-- what recovery finds: what the logs say, their cutoff, and the chosen checkpoint
+pub record Facts (logs parts : List (List ℕ)) : Type 0 where
+  pub readings : List LogReading
+  pub read : AreReadings logs readings
+  pub cutoff : ℕ
+  pub is_cutoff : IsCutoff readings cutoff
+  pub chosen : Option Checkpoint
+  pub is_chosen : IsChosen parts cutoff chosen
+
+-- updates that recovery needs may be missing from log i
+abbrev pub IsGap : ℕ → List LogReading → ℕ → Type 0
+IsGap begin readings i = IsSomeAnd (slice_get readings i) (λ log. begin < log.head.from)
+
+abbrev pub records_of : List LogReading → List (List Logged)
+records_of readings = map (λ log. log.records) readings
+
+-- the store of logs and parts: no log has a gap, and the pairs are the walk of the survivors
+pub record IsStoreOf (logs parts : List (List ℕ)) (pairs : List Pair) : Type 0 where
+  pub facts : Facts logs parts
+  pub no_gap : (i : ℕ) → IsGap (begin_of facts.chosen) facts.readings i → ⊥
+  pub walk : IsWalk (survivors facts.cutoff facts.chosen (records_of facts.readings)) pairs
+
+-- what recovery answers where it names no fault
+pub record Outcome : Type 0 where
+  pub store : List Pair

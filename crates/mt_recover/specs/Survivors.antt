@@ -1,0 +1,61 @@
+-- The updates of logs and of a checkpoint, and which of them survive.
+use Rattle.std.specs.Prelude.{ℕ, suc, ◌≤◌, ◌&&◌, Bool, nat_lt, nat_le, Option, Some, None, List, [], ◌∷◌, ◌++◌, map, filter}
+use Rattle.mt_words.specs.declared.record.Change.{Change}
+use Rattle.mt_words.specs.declared.update.Origin.{Origin}
+use Rattle.mt_words.specs.declared.update.Origin.TheVariants as origins
+use Rattle.mt_words.specs.declared.update.Update.{Update}
+use Rattle.mt_words.specs.Changes.{Logged}
+use Rattle.mt_recover.specs.declared.window.Window.{Window}
+
+-- the update that makes a change
+abbrev pub update_at : Origin → ℕ → Change → Update
+update_at origin timestamp change =
+    record { key = change.key; stamp = record { version = change.version; origin = origin }; timestamp = timestamp; kind = change.kind }
+
+-- the update of a record, which a mark has not
+abbrev pub update_by : Origin → ℕ → Option Change → List Update
+update_by origin timestamp None = []
+update_by origin timestamp (Some change) = update_at origin timestamp change ∷ []
+
+abbrev pub update_of : ℕ → ℕ → Logged → List Update
+update_of log nth r = update_by (origins.Log log nth) r.timestamp r.change
+
+-- the updates of a log's records, which are numbered from nth on
+abbrev pub updates_from : ℕ → ℕ → List Logged → List Update
+updates_from log nth [] = []
+updates_from log nth (r ∷ rs) = update_of log nth r ++ updates_from log (suc nth) rs
+
+-- the updates of logs, which are numbered from log on
+abbrev pub all_updates : ℕ → List (List Logged) → List Update
+all_updates log [] = []
+all_updates log (rs ∷ rss) = updates_from log 0 rs ++ all_updates (suc log) rss
+
+-- the updates of the logs that have these records
+abbrev pub log_updates : List (List Logged) → List Update
+log_updates logs = all_updates 0 logs
+
+-- a checkpoint: where it begins, and the changes that its entries make
+pub record Checkpoint : Type 0 where
+  pub begin : ℕ
+  pub entries : List Change
+
+-- the updates of the chosen checkpoint, if there is one
+abbrev pub entry_updates : Option Checkpoint → List Update
+entry_updates None = []
+entry_updates (Some checkpoint) = map (update_at origins.Checkpoint 0) checkpoint.entries
+
+abbrev pub begin_of : Option Checkpoint → ℕ
+begin_of None = 0
+begin_of (Some checkpoint) = checkpoint.begin
+
+-- from begin on, until below the cutoff
+abbrev pub in_window : Window → Update → Bool
+in_window window update = nat_le window.begin update.timestamp && nat_lt update.timestamp window.cutoff
+
+-- the log updates in the window
+abbrev pub log_survivors : Window → List (List Logged) → List Update
+log_survivors window logs = filter (in_window window) (log_updates logs)
+
+-- what survives: the log updates in the window, and all that the chosen checkpoint has
+abbrev pub survivors : ℕ → Option Checkpoint → List (List Logged) → List Update
+survivors cutoff chosen logs = log_survivors (record { begin = begin_of chosen; cutoff = cutoff }) logs ++ entry_updates chosen

@@ -1,0 +1,66 @@
+//! The text of a store.
+ghost use Rattle.std.specs.Prelude.{◌≡◌, ◌++◌, [], ◌∷◌, OnOk};
+ghost use Rattle.std.specs.Io.KnownBytes.{Appends};
+ghost use Rattle.hex.specs.Hex.{encode_lower};
+ghost use Rattle.mt_recover.specs.Dump.{dump_text, pair_text, column_text};
+
+use crate::store::Store;
+use itoa::Buffer;
+use mt_words::{Column, Columns, Key};
+use std::io::{self, Write};
+
+/// Prints all pairs in order, a line each: the key in lower hexadecimal, a colon, and for each column a space, its
+/// number, `=` and its bytes in lower hexadecimal. After an Err nothing is said of how much was written.
+pub fn write_dump<W: Write>(store: &Store, out: &mut W) -> Result<(), io::Error>
+    ensures { OnOk result
+        (Appends (W.contents out.old) (W.contents out.new) (dump_text store.now)) }
+{
+    for pair in store.pairs() {
+        write_pair(pair, out)?;
+    }
+    Ok(())
+}
+
+fn write_pair<W: Write>(pair: &(Key, Columns), out: &mut W) -> Result<(), io::Error>
+    ensures { OnOk result
+        (Appends (W.contents out.old) (W.contents out.new) (pair_text pair.now)) }
+{
+    write_hex(pair.0.as_bytes(), out)?;
+    out.write_all(b":")?;
+    for column in pair.1.as_slice() {
+        write_column(column, out)?;
+    }
+    out.write_all(b"\n")
+}
+
+fn write_column<W: Write>(column: &Column, out: &mut W) -> Result<(), io::Error>
+    ensures { OnOk result
+        (Appends (W.contents out.old) (W.contents out.new) (column_text column.now)) }
+{
+    out.write_all(b" ")?;
+    let mut buffer = Buffer::new();
+    out.write_all(buffer.format(column.number).as_bytes())?;
+    out.write_all(b"=")?;
+    write_hex(&column.bytes, out)
+}
+
+fn write_hex<W: Write>(bytes: &[u8], out: &mut W) -> Result<(), io::Error>
+    ensures { OnOk result
+        (Appends (W.contents out.old) (W.contents out.new) (encode_lower bytes.now)) }
+{
+    for byte in bytes {
+        write_byte(*byte, out)?;
+    }
+    Ok(())
+}
+
+fn write_byte<W: Write>(byte: u8, out: &mut W) -> Result<(), io::Error>
+    ensures { OnOk result
+        (Appends (W.contents out.old) (W.contents out.new) (encode_lower (byte ∷ []))) }
+{
+    let mut digits = [0; 2];
+    let Ok(()) = hex::encode_to_slice([byte].as_slice(), &mut digits) else {
+        unreachable!();
+    };
+    out.write_all(&digits)
+}

@@ -1,0 +1,18 @@
+//! The timestamps whose log updates survive.
+ghost use Rattle.std.specs.Prelude.{◌≤◌, ◌<◌, ◌↔◌, IsTrue};
+
+/// From `begin` on, until below `cutoff`.
+#[derive(Clone, Copy, Debug)]
+pub struct Window {
+    pub begin: u64,
+    pub cutoff: u64,
+}
+
+impl Window {
+    /// Whether an update of this timestamp survives.
+    pub fn contains(self, timestamp: u64) -> bool
+        ensures { IsTrue result ↔ ((self.begin ≤ timestamp) × (timestamp < self.cutoff)) }
+    {
+        self.begin <= timestamp && timestamp < self.cutoff
+    }
+}
