@@ -10,3 +10,5 @@ pub mod ReadingLemmas
 pub mod FactLemmas
 pub mod FindLemmas
 pub mod DumpLemmas
+pub mod OneWalk
+pub mod OneVerdict

@@ -1,0 +1,226 @@
+-- Logs have one store or one fault: what recovery finds in them is one, and no log is also faulty.
+use Rattle.std.proofs.Common.{◌≡◌, ◌⊎◌, inl, inr, ℕ, zero, suc, ◌<◌, ◌≤◌, List, [], ◌∷◌, take, Option, Some, None, Contains}
+use Rattle.std.proofs.Common.{refl, sym, ap, ◌∙◌, subst, arith}
+use Rattle.std.specs.Prelude.{slice_get}
+use Rattle.std.proofs.lemmas.Bool.{cases_order}
+use Rattle.std.proofs.Math.Nat.{le_antisymm}
+use Rattle.mt_words.specs.declared.fault.Fault.{Fault}
+use Rattle.mt_words.specs.declared.fault.Fault.TheVariants as faults
+use Rattle.mt_words.specs.declared.update.Update.{Update}
+use Rattle.mt_words.specs.Walks.{Pair}
+use Rattle.mt_record.specs.declared.read.FeedFault.{FeedFault}
+use Rattle.mt_record.specs.declared.read.FeedFault.TheVariants as of_log
+use Rattle.mt_record.specs.Logs.{LogReading, IsReading}
+use Rattle.mt_record.specs.LogFaults.{IsLogFault}
+use Rattle.mt_record.proofs.OneReading.{one_reading_of, one_fault, not_both}
+use Rattle.mt_recover.specs.Cutoff.{IsCutoff}
+use Rattle.mt_recover.specs.Survivors.{Checkpoint, begin_of, survivors}
+use Rattle.mt_recover.specs.Walk.{IsWalk}
+use Rattle.mt_recover.specs.Recovery.{AreReadings, IsChosen, Facts, IsGap, records_of, IsStoreOf}
+use Rattle.mt_recover.specs.LogTexts.{fault_at}
+use Rattle.mt_recover.specs.Verdict.{IsFirst, IsFirstFault, IsVerdict}
+use Rattle.mt_recover.proofs.KeyWritesLemmas.{no_element}
+use Rattle.mt_recover.proofs.OneWalk.{one_walk}
+
+-- ---- readings
+
+-- logs have one list of readings
+pub same_readings : (logs : List (List ℕ)) (readings others : List LogReading) → AreReadings logs readings → AreReadings logs others
+    → readings ≡ others
+same_readings [] [] [] are too = refl
+same_readings [] [] (o ∷ os) are too = absurd too
+same_readings [] (r ∷ rs) others are too = absurd are
+same_readings (l ∷ ls) [] others are too = absurd are
+same_readings (l ∷ ls) (r ∷ rs) [] are too = absurd too
+same_readings (l ∷ ls) (r ∷ rs) (o ∷ os) are too =
+    let first = one_reading_of l r o are.0 too.0 in
+    let rest = same_readings ls rs os are.1 too.1 in
+    λ i. first i ∷ rest i
+
+-- among readings, each log has one
+reading_at : (logs : List (List ℕ)) (readings : List LogReading) (i : ℕ) (bytes : List ℕ) → AreReadings logs readings
+    → slice_get logs i ≡ Some bytes → (log : LogReading) × IsReading bytes log
+reading_at [] readings i bytes are at = absurd cc
+reading_at (l ∷ ls) [] i bytes are at = absurd are
+reading_at (l ∷ ls) (r ∷ rs) zero bytes are at = let same : l ≡ bytes = cc in (r, subst (λ (x : List ℕ). IsReading x r) same are.0)
+reading_at (l ∷ ls) (r ∷ rs) (suc i) bytes are at = reading_at ls rs i bytes are.1 at
+
+-- a log before j is among the first j
+among_first : (logs : List (List ℕ)) (j i : ℕ) → i < j → slice_get (take j logs) i ≡ slice_get logs i
+among_first logs zero i lt = absurd (omega arith)
+among_first [] (suc j) i lt = refl
+among_first (l ∷ ls) (suc j) zero lt = refl
+among_first (l ∷ ls) (suc j) (suc i) lt = among_first ls j i (omega arith)
+
+-- a log that is read has no fault
+no_fault_at : (logs : List (List ℕ)) (readings : List LogReading) (i : ℕ) (bytes : List ℕ) (fault : FeedFault) → AreReadings logs readings
+    → slice_get logs i ≡ Some bytes → IsLogFault bytes fault → ⊥
+no_fault_at logs readings i bytes fault are at is_fault =
+    let found = reading_at logs readings i bytes are at in
+    not_both bytes found.0.head found.0.records found.1.tail fault found.1.is_log is_fault
+
+-- ---- facts
+
+-- no cutoff is above another one
+cutoff_at_most : (readings : List LogReading) (cutoff other : ℕ) → IsCutoff readings cutoff → IsCutoff readings other → cutoff ≤ other
+cutoff_at_most readings cutoff other is too = is.least too.log other too.stands too.is_last
+
+-- where there is no part, no checkpoint is chosen
+same_chosen : (parts : List (List ℕ)) (cutoff last : ℕ) (chosen other : Option Checkpoint) → IsChosen parts cutoff chosen
+    → IsChosen parts last other → chosen ≡ other
+same_chosen [] cutoff last chosen other is too = is ∙ sym too
+same_chosen (p ∷ ps) cutoff last chosen other is too = absurd is
+
+-- recovery finds one thing in logs and parts
+pub same_facts : (logs parts : List (List ℕ)) (a b : Facts logs parts)
+    → (a.readings ≡ b.readings) × (a.cutoff ≡ b.cutoff) × (a.chosen ≡ b.chosen)
+same_facts logs parts a b =
+    let readings : a.readings ≡ b.readings = same_readings logs a.readings b.readings a.read b.read in
+    let is : IsCutoff b.readings a.cutoff = subst (λ (x : List LogReading). IsCutoff x a.cutoff) readings a.is_cutoff in
+    let low = cutoff_at_most b.readings a.cutoff b.cutoff is b.is_cutoff in
+    let high = cutoff_at_most b.readings b.cutoff a.cutoff b.is_cutoff is in
+    (readings, le_antisymm low high, same_chosen parts a.cutoff b.cutoff a.chosen b.chosen a.is_chosen b.is_chosen)
+
+-- no list of readings of no logs has an element
+no_log : (readings : List LogReading) (log : LogReading) → AreReadings [] readings → Contains readings log → ⊥
+no_log [] log are at = no_element log at
+no_log (r ∷ rs) log are at = absurd are
+
+-- where something is found, there is a log
+no_log_no_facts : (logs parts : List (List ℕ)) (facts : Facts logs parts) → logs ≡ [] → ⊥
+no_log_no_facts logs parts facts none =
+    let read : AreReadings [] facts.readings = subst (λ (x : List (List ℕ)). AreReadings x facts.readings) none facts.read in
+    no_log facts.readings facts.is_cutoff.log read facts.is_cutoff.stands
+
+-- ---- stores
+
+-- the updates that survive
+abbrev updates_in : (logs parts : List (List ℕ)) → Facts logs parts → List Update
+updates_in logs parts facts = survivors facts.cutoff facts.chosen (records_of facts.readings)
+
+-- logs and parts have one store
+pub one_store : (logs parts : List (List ℕ)) (pairs others : List Pair) → IsStoreOf logs parts pairs → IsStoreOf logs parts others
+    → pairs ≡ others
+one_store logs parts pairs others is too =
+    let same = same_facts logs parts is.facts too.facts in
+    let walk : IsWalk (updates_in logs parts too.facts) pairs =
+        subst (λ (x : List Update). IsWalk x pairs) (λ i. survivors (same.1 i) (same.2 i) (records_of (same.0 i))) is.walk in
+    one_walk (updates_in logs parts too.facts) pairs others walk too.walk
+
+-- ---- faults
+
+-- before the first fault there is none
+none_before : (logs : List (List ℕ)) (i j : ℕ) (fault other : FeedFault) → i < j → IsFirstFault logs i fault → IsFirstFault logs j other → ⊥
+none_before logs i j fault other lt is too =
+    no_fault_at (take j logs) too.readings i is.bytes fault too.before (among_first logs j i lt ∙ is.stands) is.is_fault
+
+-- logs have one first fault
+one_first_fault : (logs : List (List ℕ)) (i j : ℕ) (fault other : FeedFault) → IsFirstFault logs i fault → IsFirstFault logs j other
+    → fault_at i fault ≡ fault_at j other
+one_first_fault logs i j fault other is too = elim (cases_order i j) as (λ _. fault_at i fault ≡ fault_at j other) [
+  | inl same ↦
+      let found : Some is.bytes ≡ Some too.bytes = sym is.stands ∙ ap (slice_get logs) same ∙ too.stands in
+      let bytes : is.bytes ≡ too.bytes = cc in
+      let is_fault : IsLogFault too.bytes fault = subst (λ (x : List ℕ). IsLogFault x fault) bytes is.is_fault in
+      let one : fault ≡ other = one_fault too.bytes fault other is_fault too.is_fault in
+      λ k. fault_at (same k) (one k)
+  | inr apart ↦ elim apart as (λ _. fault_at i fault ≡ fault_at j other) [
+    | inl lt ↦ absurd (none_before logs i j fault other lt is too)
+    | inr gt ↦ absurd (none_before logs j i other fault gt too is)
+  ]
+]
+
+-- the first of what is true is one
+one_first : (P : ℕ → Type 0) (i j : ℕ) → IsFirst P i → IsFirst P j → i ≡ j
+one_first P i j is too = elim (cases_order i j) as (λ _. i ≡ j) [
+  | inl same ↦ same
+  | inr apart ↦ elim apart as (λ _. i ≡ j) [ inl lt ↦ absurd (too.1 i lt is.0) | inr gt ↦ absurd (is.1 j gt too.0) ]
+]
+
+-- logs and parts have one first gap
+one_first_gap : (logs parts : List (List ℕ)) (i j : ℕ) (a b : Facts logs parts) → IsFirst (IsGap (begin_of a.chosen) a.readings) i
+    → IsFirst (IsGap (begin_of b.chosen) b.readings) j → i ≡ j
+one_first_gap logs parts i j a b is too =
+    let same = same_facts logs parts a b in
+    let gap : IsFirst (IsGap (begin_of b.chosen) b.readings) i =
+        subst (λ (x : Option Checkpoint × List LogReading). IsFirst (IsGap (begin_of x.0) x.1) i) (λ k. (same.2 k, same.0 k)) is in
+    one_first (IsGap (begin_of b.chosen) b.readings) i j gap too
+
+-- it says that there is no log
+abbrev NamesNone : List (List ℕ) → Fault → Type 0
+NamesNone logs fault = (fault ≡ faults.NoLogs) × (logs ≡ [])
+
+-- it names the first fault of a log
+abbrev NamesFault : List (List ℕ) → Fault → Type 0
+NamesFault logs fault = (i : ℕ) × (of : FeedFault) × (fault ≡ fault_at i of) × IsFirstFault logs i of
+
+-- it names the first gap
+abbrev NamesGap : List (List ℕ) → List (List ℕ) → Fault → Type 0
+NamesGap logs parts fault = (i : ℕ) × (facts : Facts logs parts) × (fault ≡ faults.Gap i)
+    × IsFirst (IsGap (begin_of facts.chosen) facts.readings) i
+
+-- a verdict names one of the three
+named : (logs parts : List (List ℕ)) (fault : Fault) → IsVerdict logs parts fault
+    → NamesNone logs fault ⊎ (NamesFault logs fault ⊎ NamesGap logs parts fault)
+named logs parts faults.NoLogs is = inl (refl, is)
+named logs parts (faults.Header i) is = inr (inl (i, of_log.Header, refl, is))
+named logs parts (faults.Record i nth what) is = inr (inl (i, of_log.Record nth what, refl, is))
+named logs parts (faults.Gap i) is = inr (inr (i, is.0, refl, is.1))
+named logs parts (faults.Source i) is = absurd is
+named logs parts (faults.PartSource i) is = absurd is
+named logs parts (faults.Missing i) is = absurd is
+named logs parts faults.Memory is = absurd is
+
+-- where there is no log, none has a fault
+none_not_fault : (logs : List (List ℕ)) (i : ℕ) (fault : FeedFault) → logs ≡ [] → IsFirstFault logs i fault → ⊥
+none_not_fault logs i fault none is =
+    let at : None ≡ Some is.bytes = ap (λ (x : List (List ℕ)). slice_get x i) (sym none) ∙ is.stands in
+    absurd cc
+
+-- where all logs are read, none has a fault
+facts_not_fault : (logs parts : List (List ℕ)) (i : ℕ) (fault : FeedFault) → Facts logs parts → IsFirstFault logs i fault → ⊥
+facts_not_fault logs parts i fault facts is = no_fault_at logs facts.readings i is.bytes fault facts.read is.stands is.is_fault
+
+-- logs and parts have one verdict
+pub one_verdict : (logs parts : List (List ℕ)) (fault other : Fault) → IsVerdict logs parts fault → IsVerdict logs parts other
+    → fault ≡ other
+one_verdict logs parts fault other is too = elim (named logs parts fault is) as (λ _. fault ≡ other) [
+  | inl none ↦ elim (named logs parts other too) as (λ _. fault ≡ other) [
+    | inl none_too ↦ none.0 ∙ sym none_too.0
+    | inr some ↦ elim some as (λ _. fault ≡ other) [
+      | inl first ↦ absurd (none_not_fault logs first.0 first.1 none.1 first.3)
+      | inr gap ↦ absurd (no_log_no_facts logs parts gap.1 none.1)
+    ]
+  ]
+  | inr some ↦ elim some as (λ _. fault ≡ other) [
+    | inl first ↦ elim (named logs parts other too) as (λ _. fault ≡ other) [
+      | inl none ↦ absurd (none_not_fault logs first.0 first.1 none.1 first.3)
+      | inr some_too ↦ elim some_too as (λ _. fault ≡ other) [
+        | inl first_too ↦ first.2 ∙ one_first_fault logs first.0 first_too.0 first.1 first_too.1 first.3 first_too.3 ∙ sym first_too.2
+        | inr gap ↦ absurd (facts_not_fault logs parts first.0 first.1 gap.1 first.3)
+      ]
+    ]
+    | inr gap ↦ elim (named logs parts other too) as (λ _. fault ≡ other) [
+      | inl none ↦ absurd (no_log_no_facts logs parts gap.1 none.1)
+      | inr some_too ↦ elim some_too as (λ _. fault ≡ other) [
+        | inl first ↦ absurd (facts_not_fault logs parts first.0 first.1 gap.1 first.3)
+        | inr gap_too ↦ gap.2 ∙ ap faults.Gap (one_first_gap logs parts gap.0 gap_too.0 gap.1 gap_too.1 gap.3 gap_too.3) ∙ sym gap_too.2
+      ]
+    ]
+  ]
+]
+
+-- logs and parts that have a store have no verdict
+pub no_verdict : (logs parts : List (List ℕ)) (pairs : List Pair) (fault : Fault) → IsStoreOf logs parts pairs
+    → IsVerdict logs parts fault → ⊥
+no_verdict logs parts pairs fault is too = elim (named logs parts fault too) as (λ _. ⊥) [
+  | inl none ↦ no_log_no_facts logs parts is.facts none.1
+  | inr some ↦ elim some as (λ _. ⊥) [
+    | inl first ↦ facts_not_fault logs parts first.0 first.1 is.facts first.3
+    | inr gap ↦
+        let same = same_facts logs parts gap.1 is.facts in
+        let stands : IsGap (begin_of is.facts.chosen) is.facts.readings gap.0 =
+            subst (λ (x : Option Checkpoint × List LogReading). IsGap (begin_of x.0) x.1 gap.0) (λ k. (same.2 k, same.0 k)) gap.3.0 in
+        is.no_gap gap.0 stands
+  ]
+]

@@ -1,0 +1,143 @@
+//! Worked logs.
+use crate::logs::{HEADER, LATE_HEADER, LOG_A, LOG_B, bytes_of, dump_of, log_of, mark, put};
+use mt_record::{FeedFault, read_log};
+use mt_recover::recover_logs;
+use mt_words::{Fault, What};
+use std::test::Fail;
+
+const PAIR_A: &[u8] = b"61: 0=78\n";
+
+#[test]
+fn a_mark_keeps_the_updates_before_it(rt: HostRuntime) -> Result<(), Fail> {
+    let alloc = rt.alloc();
+    let log = bytes_of(alloc, LOG_A)?;
+    assert_eq!(rt; dump_of(alloc, [log.as_slice()].as_slice())?.as_slice(), PAIR_A);
+
+    // Without the mark the log's last timestamp is that of its put, which is at the cutoff.
+    assert_eq!(rt; log.len(), 62);
+    let unmarked = dump_of(alloc, [&log[..45]].as_slice())?;
+    assert_eq!(rt; unmarked.len(), 0);
+    Ok(())
+}
+
+#[test]
+fn two_logs_make_one_store(rt: HostRuntime) -> Result<(), Fail> {
+    let alloc = rt.alloc();
+    let a = bytes_of(alloc, LOG_A)?;
+    let b = bytes_of(alloc, LOG_B)?;
+    let logs = [a.as_slice(), b.as_slice()];
+    let dump = dump_of(alloc, logs.as_slice())?;
+    assert_eq!(rt; dump.as_slice(), b"61: 0=78\n62: 0=79\n".as_slice());
+
+    let recovered = recover_logs(alloc, logs.as_slice())?;
+    let columns = recovered.store().get(b"b").ok_or("key b")?;
+    assert_eq!(rt; columns.get(0), Some(b"y".as_slice()));
+    assert!(rt; recovered.store().get(b"c").is_none());
+    Ok(())
+}
+
+#[test]
+fn no_logs_make_no_store(rt: HostRuntime) {
+    let logs: [&[u8]; 0] = [];
+    let fault = recover_logs(rt.alloc(), logs.as_slice()).err();
+    assert_eq!(rt; fault, Some(Fault::NoLogs));
+}
+
+#[test]
+fn a_log_of_a_header_alone_counts(rt: HostRuntime) -> Result<(), Fail> {
+    let alloc = rt.alloc();
+    let a = bytes_of(alloc, LOG_A)?;
+    let empty = bytes_of(alloc, HEADER)?;
+    let dump = dump_of(alloc, [a.as_slice(), empty.as_slice()].as_slice())?;
+    assert_eq!(rt; dump.len(), 0);
+
+    let late = bytes_of(alloc, LATE_HEADER)?;
+    let fault = recover_logs(alloc, [a.as_slice(), late.as_slice()].as_slice()).err();
+    assert_eq!(rt; fault, Some(Fault::Gap { log: 1 }));
+    Ok(())
+}
+
+#[test]
+fn a_cut_record_is_left_out(rt: HostRuntime) -> Result<(), Fail> {
+    let alloc = rt.alloc();
+    let mut whole = bytes_of(alloc, LOG_A)?;
+    let last = bytes_of(alloc, put(alloc, "62", 1, 6, "79")?.as_str())?;
+    whole.extend_from_slice(&last)?;
+    assert_eq!(rt; whole.len(), 95);
+    assert_eq!(rt; dump_of(alloc, [whole.as_slice()].as_slice())?.as_slice(), PAIR_A);
+    for kept in 0..33usize {
+        let cut = &whole[..62 + kept];
+        let text = read_log(alloc, cut)?;
+        assert_eq!(rt; (text.last, text.whole, text.torn), (5, 2, kept > 0));
+        assert_eq!(rt; dump_of(alloc, [cut].as_slice())?.as_slice(), PAIR_A);
+    }
+    Ok(())
+}
+
+#[test]
+fn names_the_least_faulty_log(rt: HostRuntime) -> Result<(), Fail> {
+    let alloc = rt.alloc();
+    let a = bytes_of(alloc, LOG_A)?;
+    let damaged = log_of(
+        alloc,
+        [
+            mark(alloc, 1)?.as_str(),
+            "00000019 01 0000000000000003 0000000000000001 0001 61 01 00 0001 78 00000018",
+            mark(alloc, 5)?.as_str(),
+        ]
+        .as_slice(),
+    )?;
+    let logs = [a.as_slice(), damaged.as_slice(), damaged.as_slice()];
+    let fault = recover_logs(alloc, logs.as_slice()).err();
+    let expected = Fault::Record {
+        log: 1,
+        nth: 1,
+        what: What::Trailer,
+    };
+    assert_eq!(rt; fault, Some(expected));
+    Ok(())
+}
+
+#[test]
+fn at_one_version_the_later_log_wins(rt: HostRuntime) -> Result<(), Fail> {
+    let alloc = rt.alloc();
+    let end = mark(alloc, 5)?;
+    let first = log_of(alloc, [put(alloc, "6b", 9, 1, "41")?.as_str(), end.as_str()].as_slice())?;
+    let second = log_of(alloc, [put(alloc, "6b", 9, 2, "42")?.as_str(), end.as_str()].as_slice())?;
+    let dump = dump_of(alloc, [first.as_slice(), second.as_slice()].as_slice())?;
+    assert_eq!(rt; dump.as_slice(), b"6b: 0=42\n".as_slice());
+    let exchanged = dump_of(alloc, [second.as_slice(), first.as_slice()].as_slice())?;
+    assert_eq!(rt; exchanged.as_slice(), b"6b: 0=41\n".as_slice());
+    Ok(())
+}
+
+#[test]
+fn the_greater_version_wins_whatever_the_order_of_logs(rt: HostRuntime) -> Result<(), Fail> {
+    let alloc = rt.alloc();
+    let end = mark(alloc, 9)?;
+    let newer = log_of(alloc, [put(alloc, "6b", 2, 1, "42")?.as_str(), end.as_str()].as_slice())?;
+    let older = log_of(alloc, [put(alloc, "6b", 1, 2, "41")?.as_str(), end.as_str()].as_slice())?;
+    let dump = dump_of(alloc, [newer.as_slice(), older.as_slice()].as_slice())?;
+    assert_eq!(rt; dump.as_slice(), b"6b: 0=42\n".as_slice());
+    Ok(())
+}
+
+#[test]
+fn timestamps_may_stay_and_not_fall(rt: HostRuntime) -> Result<(), Fail> {
+    let alloc = rt.alloc();
+    let five = mark(alloc, 5)?;
+    let even = log_of(alloc, [five.as_str(), five.as_str()].as_slice())?;
+    assert!(rt; recover_logs(alloc, [even.as_slice()].as_slice()).is_ok());
+
+    let falling = log_of(alloc, [five.as_str(), mark(alloc, 4)?.as_str()].as_slice())?;
+    let fault = read_log(alloc, &falling).err();
+    let what = What::Clock;
+    assert_eq!(rt; fault, Some(FeedFault::Record { nth: 1, what }));
+    let fault = recover_logs(alloc, [falling.as_slice()].as_slice()).err();
+    assert_eq!(rt; fault, Some(Fault::Record { log: 0, nth: 1, what }));
+
+    let short = bytes_of(alloc, "4d544c31 00")?;
+    let fault = recover_logs(alloc, [short.as_slice()].as_slice()).err();
+    assert_eq!(rt; fault, Some(Fault::Header { log: 0 }));
+    Ok(())
+}
