@@ -8,6 +8,7 @@ use std::io::{self, ErrorKind, Write};
 use std::test::Fail;
 
 /// A full device: it takes no byte.
+#[derive(Drop)]
 struct Full;
 
 impl Write for Full {
@@ -21,6 +22,7 @@ impl Write for Full {
 }
 
 /// A device that is full once its buffer is written.
+#[derive(Drop)]
 struct Unflushed;
 
 impl Write for Unflushed {

@@ -1,5 +1,5 @@
-//! Want of memory. As it stands this test sees the store; run by `rt try mt_tests --test --fail-alloc 1..`, which
-//! refuses each growth in turn, it sees that a refused growth of `recover_logs` gives `Memory` and nothing else.
+//! Want of memory. As it stands this test sees the store. `.ci/refuse_growths` runs it with one growth after the other
+//! refused: it then sees that a refused growth of `recover_logs` gives `Memory` and nothing else.
 use mt_recover::recover_logs;
 use mt_words::Fault;
 

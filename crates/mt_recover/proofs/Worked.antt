@@ -1,0 +1,32 @@
+-- Worked logs: which updates survive, by computing the definitions.
+use Rattle.std.proofs.Common.{◌≡◌, [], ◌∷◌, None, refl}
+use Rattle.mt_words.specs.declared.update.Origin.TheVariants.{Log}
+use Rattle.mt_words.specs.declared.update.Update.{Update}
+use Rattle.mt_words.specs.declared.update.Kind.TheVariants.{Put}
+use Rattle.mt_words.specs.Changes.{Logged, mark_of, put_of}
+use Rattle.mt_recover.specs.Survivors.{survivors}
+
+-- a put of key a at timestamp 3, and a put of key b at timestamp 4
+abbrev put_a : Logged
+put_a = put_of 3 1 (97 ∷ []) ((0, 120 ∷ []) ∷ [])
+
+abbrev put_b : Logged
+put_b = put_of 4 1 (98 ∷ []) ((0, 121 ∷ []) ∷ [])
+
+abbrev update_a : Update
+update_a = record { key = 97 ∷ []; stamp = record { version = 1; origin = Log 0 0 }; timestamp = 3; kind = Put ((0, 120 ∷ []) ∷ []) }
+
+abbrev update_b : Update
+update_b = record { key = 98 ∷ []; stamp = record { version = 1; origin = Log 1 0 }; timestamp = 4; kind = Put ((0, 121 ∷ []) ∷ []) }
+
+-- below the cutoff 5 both puts survive; the marks make no update
+both_survive : survivors 5 None ((put_a ∷ mark_of 5 ∷ []) ∷ (put_b ∷ mark_of 6 ∷ []) ∷ []) ≡ update_a ∷ update_b ∷ []
+both_survive = refl
+
+-- without its mark a log loses the put at its last timestamp
+lost_at_the_cutoff : survivors 3 None ((put_a ∷ []) ∷ []) ≡ []
+lost_at_the_cutoff = refl
+
+-- beside a log of a header alone nothing survives
+lost_beside_a_header : survivors 0 None ((put_a ∷ mark_of 5 ∷ []) ∷ [] ∷ []) ≡ []
+lost_beside_a_header = refl
