@@ -47,6 +47,6 @@ trailer_fault limits low rest a b c text n trailer is ea eb ec number small diff
   small,
   rw number differ,
   ea
-  ∙ ap (λ (x : List ℕ). big_bytes 4 n ++ x) (eb ∙ ap (λ (x : List ℕ). text ++ x) ec)
-  ∙ ap (λ (k : ℕ). big_bytes 4 k ++ (text ++ (big_bytes 4 trailer ++ c))) (sym number),
+      ∙ ap (λ (x : List ℕ). big_bytes 4 n ++ x) (eb ∙ ap (λ (x : List ℕ). text ++ x) ec)
+      ∙ ap (λ (k : ℕ). big_bytes 4 k ++ (text ++ (big_bytes 4 trailer ++ c))) (sym number),
 )

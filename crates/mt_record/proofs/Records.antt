@@ -77,7 +77,7 @@ last_is limits log are =
     let n = latest 0 log.records in (
       raised from n (times log.records) (latest_in 0 log.records) (cases_lt from n),
       All-cons (λ time. time ≤ max from n) from (times log.records) (omega arith)
-      (All-weaker (λ time. time ≤ n) (λ time. time ≤ max from n) (λ time least. omega arith) (times log.records) (latest_most limits 0 log.records are)),
+          (All-weaker (λ time. time ≤ n) (λ time. time ≤ max from n) (λ time least. omega arith) (times log.records) (latest_most limits 0 log.records are)),
     )
 
 -- ---- the tail

@@ -8,8 +8,7 @@ ghost use Rattle.mt_record.specs.Bodies.{IsNext, IsRestFault};
 use crate::body::read_body;
 use crate::fields::u32_at;
 use mt_words::{LONGEST_KEY, LONGEST_VALUE, MOST_COLUMNS, Record, What};
-use std::alloc::AllocError;
-use std::alloc::Global;
+use std::alloc::{AllocError, Global};
 
 /// Why there is no record.
 #[derive(Debug, Drop)]

@@ -1,9 +1,8 @@
 -- From the texts of the logs to what recovery finds.
-use Rattle.std.proofs.Common.{◌≡◌, ℕ, zero, suc, ◌<◌, ◌≤◌, inl, inr, Bool, true, false, List, [], ◌∷◌, ◌++◌, length, map, get_or, All, Contains, Option, Some, None, refl, sym, ap, ◌∙◌, subst, arith}
+use Rattle.std.proofs.Common.{◌≡◌, ℕ, zero, suc, ◌<◌, ◌≤◌, inl, inr, Bool, true, false, List, [], ◌∷◌, length, map, get_or, All, Contains, Some, None, refl, sym, subst, arith}
 use Rattle.std.specs.Prelude.{nat_lt, not, cond}
 use Rattle.std.specs.List.{position, position_or_len}
 use Rattle.std.proofs.lemmas.Bool.Decides.{nat_tests}
-use Rattle.std.proofs.lemmas.Bool.{false≢true}
 use Rattle.std.proofs.lemmas.List.{append-nil}
 use Rattle.std.proofs.lemmas.List.Sums.{prefix_len_passes}
 use Rattle.std.proofs.lemmas.List.Quantifiers.{position-Some}
@@ -141,6 +140,7 @@ no_logs logs texts are e = empty logs are.readings are.read (none are.readings (
     none : (readings : List LogReading) → ShowAll [] readings → readings ≡ []
     none [] show = refl
     none (l ∷ ls) show = absurd show
+
     empty : (bytes : List (List ℕ)) (readings : List LogReading) → AreReadings bytes readings → readings ≡ [] → bytes ≡ []
     empty [] readings read same = refl
     empty (b ∷ bs) [] read same = absurd read

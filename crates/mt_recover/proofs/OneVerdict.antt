@@ -104,7 +104,7 @@ pub one_store : (logs parts : List (List ℕ)) (pairs others : List Pair) → Is
 one_store logs parts pairs others is too =
     let same = same_facts logs parts is.facts too.facts in
     let walk : IsWalk (updates_in logs parts too.facts) pairs =
-        subst (λ (x : List Update). IsWalk x pairs) (λ i. survivors (same.1 i) (same.2 i) (records_of (same.0 i))) is.walk in
+    subst (λ (x : List Update). IsWalk x pairs) (λ i. survivors (same.1 i) (same.2 i) (records_of (same.0 i))) is.walk in
     one_walk (updates_in logs parts too.facts) pairs others walk too.walk
 
 -- ---- faults
@@ -143,7 +143,7 @@ one_first_gap : (logs parts : List (List ℕ)) (i j : ℕ) (a b : Facts logs par
 one_first_gap logs parts i j a b is too =
     let same = same_facts logs parts a b in
     let gap : IsFirst (IsGap (begin_of b.chosen) b.readings) i =
-        subst (λ (x : Option Checkpoint × List LogReading). IsFirst (IsGap (begin_of x.0) x.1) i) (λ k. (same.2 k, same.0 k)) is in
+    subst (λ (x : Option Checkpoint × List LogReading). IsFirst (IsGap (begin_of x.0) x.1) i) (λ k. (same.2 k, same.0 k)) is in
     one_first (IsGap (begin_of b.chosen) b.readings) i j gap too
 
 -- it says that there is no log
@@ -220,7 +220,7 @@ no_verdict logs parts pairs fault is too = elim (named logs parts fault too) as 
     | inr gap ↦
         let same = same_facts logs parts gap.1 is.facts in
         let stands : IsGap (begin_of is.facts.chosen) is.facts.readings gap.0 =
-            subst (λ (x : Option Checkpoint × List LogReading). IsGap (begin_of x.0) x.1 gap.0) (λ k. (same.2 k, same.0 k)) gap.3.0 in
+        subst (λ (x : Option Checkpoint × List LogReading). IsGap (begin_of x.0) x.1 gap.0) (λ k. (same.2 k, same.0 k)) gap.3.0 in
         is.no_gap gap.0 stands
   ]
 ]

@@ -60,8 +60,8 @@ same_lists Before one_way (x ∷ xs) [] rise_x rise_y into from = absurd (no_ele
 same_lists Before one_way (x ∷ xs) (y ∷ ys) rise_x rise_y into from =
     let first : x ≡ y = same_head Before one_way x y xs ys rise_x.0 rise_y.0 (into x (head_in x xs)) (from y (head_in y ys)) in
     let rest = same_lists Before one_way xs ys rise_x.1 rise_y.1
-        (λ a at. in_tail Before one_way x y a xs ys first rise_x.0 (into a (Contains-append_right (x ∷ []) xs a at)) at)
-        (λ a at. in_tail Before one_way y x a ys xs (sym first) rise_y.0 (from a (Contains-append_right (y ∷ []) ys a at)) at) in
+    (λ a at. in_tail Before one_way x y a xs ys first rise_x.0 (into a (Contains-append_right (x ∷ []) xs a at)) at)
+    (λ a at. in_tail Before one_way y x a ys xs (sym first) rise_y.0 (from a (Contains-append_right (y ∷ []) ys a at)) at) in
     λ i. first i ∷ rest i
 
 -- ---- columns
@@ -163,14 +163,14 @@ pair_too pairs others p is_map is_other into from at =
     let q : Pair = (p.0, holds.0) in
     let is_pair_too : IsPair q = of_each IsPair others q is_other.1 holds.1 in
     let columns : q.1 ≡ p.1 = same_columns q.1 p.1 is_pair_too.1 is_pair.1
-        (column_too others pairs q p is_map.0 from holds.1 at refl) (column_too pairs others p q is_other.0 into at holds.1 refl) in
+    (column_too others pairs q p is_map.0 from holds.1 at refl) (column_too pairs others p q is_other.0 into at holds.1 refl) in
     subst (λ (x : List (ℕ × List ℕ)). Contains others (p.0, x)) columns holds.1
 
 -- maps that hold the same are equal
 same_maps : (pairs others : List Pair) → IsMap pairs → IsMap others → Covers others pairs → Covers pairs others → pairs ≡ others
 same_maps pairs others is_map is_other into from =
     same_lists (λ (p q : Pair). IsBelow p.0 q.0) one_key_below pairs others (pairs_rise pairs is_map.0) (pairs_rise others is_other.0)
-        (λ p at. pair_too pairs others p is_map is_other into from at) (λ p at. pair_too others pairs p is_other is_map from into at)
+    (λ p at. pair_too pairs others p is_map is_other into from at) (λ p at. pair_too others pairs p is_other is_map from into at)
 
 -- updates have one walk
 pub one_walk : (updates : List Update) (pairs others : List Pair) → IsWalk updates pairs → IsWalk updates others → pairs ≡ others

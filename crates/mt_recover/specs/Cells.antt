@@ -1,7 +1,7 @@
 -- What a cell keeps of the writes of one key.
-use Rattle.std.specs.Prelude.{◌≡◌, ◌≢◌, ℕ, ◌≤◌, Option, Some, None, MatchOption, slice_get, slice_set, List, [], ◌∷◌, length, Contains}
+use Rattle.std.specs.Prelude.{◌≡◌, ◌≢◌, ℕ, Option, Some, None, MatchOption, slice_get, List, [], ◌∷◌, length, Contains}
 use Rattle.mt_words.specs.declared.update.Stamp.{Stamp}
-use Rattle.mt_words.specs.Limits.{Limits, widest}
+use Rattle.mt_words.specs.Limits.{widest}
 use Rattle.mt_words.specs.Words.{IsColumn, AreColumns}
 use Rattle.mt_words.specs.Stamps.{IsOlder, IsAtMost}
 

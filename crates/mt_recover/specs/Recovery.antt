@@ -1,6 +1,5 @@
 -- What recovery makes of logs and checkpoint parts.
 use Rattle.std.specs.Prelude.{◌≡◌, ℕ, ◌<◌, Option, None, IsSomeAnd, List, [], ◌∷◌, map, slice_get}
-use Rattle.mt_words.specs.declared.update.Update.{Update}
 use Rattle.mt_words.specs.Changes.{Logged}
 use Rattle.mt_words.specs.Walks.{Pair}
 use Rattle.mt_record.specs.Logs.{LogReading, IsReading}

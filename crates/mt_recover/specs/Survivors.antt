@@ -1,5 +1,5 @@
 -- The updates of logs and of a checkpoint, and which of them survive.
-use Rattle.std.specs.Prelude.{ℕ, suc, ◌≤◌, ◌&&◌, Bool, nat_lt, nat_le, Option, Some, None, List, [], ◌∷◌, ◌++◌, map, filter}
+use Rattle.std.specs.Prelude.{ℕ, suc, ◌&&◌, Bool, nat_lt, nat_le, Option, Some, None, List, [], ◌∷◌, ◌++◌, map, filter}
 use Rattle.mt_words.specs.declared.record.Change.{Change}
 use Rattle.mt_words.specs.declared.update.Origin.{Origin}
 use Rattle.mt_words.specs.declared.update.Origin.TheVariants as origins

@@ -3,9 +3,9 @@
 
 mod cell;
 mod dump;
-mod program;
 mod key_writes;
 mod laws;
+mod program;
 mod read_logs;
 mod recover;
 mod replay;
@@ -13,7 +13,7 @@ mod store;
 mod window;
 
 pub use dump::write_dump;
-pub use program::dump_files;
 pub use laws::{one_verdict, one_walk};
+pub use program::dump_files;
 pub use recover::{Recovered, recover_logs};
 pub use store::Store;

@@ -7,10 +7,10 @@ use crate::dump::write_dump;
 use crate::recover::recover_logs;
 use crate::store::Store;
 use mt_words::{Fault, Memory};
+use std::alloc::Global;
 use std::fs::{File, OpenFile};
 use std::io::{self, Read, Write};
 use std::rt::Files;
-use std::alloc::Global;
 
 /// The most files.
 const MOST_FILES: usize = 512;

@@ -44,7 +44,16 @@ fn take_log(
 {
     let mut number = 0;
     for record in records {
-        take_record(alloc, keys, window, Origin::Log { log, record: number }, record)?;
+        take_record(
+            alloc,
+            keys,
+            window,
+            Origin::Log {
+                log,
+                record: number,
+            },
+            record,
+        )?;
         number += 1;
     }
     Ok(())

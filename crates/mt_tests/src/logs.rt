@@ -49,7 +49,8 @@ pub fn put(
     value: &str,
 ) -> Result<String, Fail> {
     Ok(format!(in alloc;
-        "00000019 01 {timestamp:016x} {version:016x} 0001 {key} 01 00 0001 {value} 00000019")?)
+        "00000019 01 {timestamp:016x} {version:016x} 0001 {key} 01 00 0001 {value} 00000019"
+    )?)
 }
 
 /// A mark.

@@ -121,7 +121,10 @@ fn a_folder_is_no_file(rt: HostRuntime) -> Result<(), Fail> {
     let names = vec![in alloc; a, folder]?;
     let (status, _, err) = run(&rt, &names);
     assert_eq!(rt; status, 1);
-    assert_eq!(rt; err.as_slice(), b"mtdump: log 1: source failed\n".as_slice());
+    assert_eq!(rt;
+        err.as_slice(),
+        b"mtdump: log 1: source failed\n".as_slice()
+    );
     for name in names.iter().take(1) {
         fs::remove_file(&rt, name.as_str())?;
     }
@@ -138,7 +141,10 @@ fn a_file_past_the_limit_is_not_read(rt: HostRuntime) -> Result<(), Fail> {
     let names = vec![in rt.alloc(); name]?;
     let (status, _, err) = run(&rt, &names);
     assert_eq!(rt; status, 1);
-    assert_eq!(rt; err.as_slice(), b"mtdump: log 0: source failed\n".as_slice());
+    assert_eq!(rt;
+        err.as_slice(),
+        b"mtdump: log 0: source failed\n".as_slice()
+    );
     for name in &names {
         fs::remove_file(&rt, name.as_str())?;
     }
@@ -154,7 +160,10 @@ fn takes_512_files_and_no_more(rt: HostRuntime) -> Result<(), Fail> {
     }
     let (status, _, err) = run(&rt, &names);
     assert_eq!(rt; status, 3);
-    assert_eq!(rt; err.as_slice(), b"mtdump: cannot open no-such-file.mtl\n".as_slice());
+    assert_eq!(rt;
+        err.as_slice(),
+        b"mtdump: cannot open no-such-file.mtl\n".as_slice()
+    );
 
     names.push(String::from_str(alloc, "no-such-file.mtl")?)?;
     let (status, _, err) = run(&rt, &names);

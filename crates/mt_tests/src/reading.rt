@@ -10,7 +10,10 @@ fn reads_a_log(rt: HostRuntime) -> Result<(), Fail> {
     let bytes = bytes_of(alloc, LOG_A)?;
     assert_eq!(rt; bytes.len(), 62);
     let text = read_log(alloc, &bytes)?;
-    assert_eq!(rt; (text.from, text.last, text.whole, text.torn), (0, 5, 2, false));
+    assert_eq!(rt;
+        (text.from, text.last, text.whole, text.torn),
+        (0, 5, 2, false)
+    );
     assert_eq!(rt; text.records.len(), 2);
     Ok(())
 }
@@ -18,7 +21,12 @@ fn reads_a_log(rt: HostRuntime) -> Result<(), Fail> {
 #[test]
 fn a_header_is_whole_and_begins_with_the_magic(rt: HostRuntime) -> Result<(), Fail> {
     let alloc = rt.alloc();
-    for text in ["", "4d544c31 00", "4d544c31 00000000000000", "4d544c32 0000000000000000"] {
+    for text in [
+        "",
+        "4d544c31 00",
+        "4d544c31 00000000000000",
+        "4d544c32 0000000000000000",
+    ] {
         let fault = read_log(alloc, &bytes_of(alloc, text)?).err();
         assert_eq!(rt; fault, Some(FeedFault::Header), "{text}");
     }
@@ -30,7 +38,13 @@ fn a_header_is_whole_and_begins_with_the_magic(rt: HostRuntime) -> Result<(), Fa
 #[test]
 fn a_torn_rest_is_cut_and_nothing_else(rt: HostRuntime) -> Result<(), Fail> {
     let alloc = rt.alloc();
-    for rest in ["00", "000000", "00100434", "00000009 04", "00000009 03 0000000000000005 000000"] {
+    for rest in [
+        "00",
+        "000000",
+        "00100434",
+        "00000009 04",
+        "00000009 03 0000000000000005 000000",
+    ] {
         let text = read_log(alloc, &log_of(alloc, [rest].as_slice())?)?;
         assert_eq!(rt; (text.whole, text.torn), (0, true), "{rest}");
     }

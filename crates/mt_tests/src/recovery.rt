@@ -11,7 +11,10 @@ const PAIR_A: &[u8] = b"61: 0=78\n";
 fn a_mark_keeps_the_updates_before_it(rt: HostRuntime) -> Result<(), Fail> {
     let alloc = rt.alloc();
     let mut log = bytes_of(alloc, LOG_A)?;
-    assert_eq!(rt; dump_of(alloc, [log.as_slice()].as_slice())?.as_slice(), PAIR_A);
+    assert_eq!(rt;
+        dump_of(alloc, [log.as_slice()].as_slice())?.as_slice(),
+        PAIR_A
+    );
 
     // Without the mark the log's last timestamp is that of its put, which is at the cutoff.
     log.truncate(45);
@@ -64,7 +67,10 @@ fn a_cut_record_is_left_out(rt: HostRuntime) -> Result<(), Fail> {
     let last = bytes_of(alloc, put(alloc, "62", 1, 6, "79")?.as_str())?;
     whole.extend_from_slice(&last)?;
     assert_eq!(rt; whole.len(), 95);
-    assert_eq!(rt; dump_of(alloc, [whole.as_slice()].as_slice())?.as_slice(), PAIR_A);
+    assert_eq!(rt;
+        dump_of(alloc, [whole.as_slice()].as_slice())?.as_slice(),
+        PAIR_A
+    );
     for kept in 0..33usize {
         let cut = &whole[..62 + kept];
         let text = read_log(alloc, cut)?;
@@ -102,8 +108,14 @@ fn names_the_least_faulty_log(rt: HostRuntime) -> Result<(), Fail> {
 fn at_one_version_the_later_log_wins(rt: HostRuntime) -> Result<(), Fail> {
     let alloc = rt.alloc();
     let end = mark(alloc, 5)?;
-    let first = log_of(alloc, [put(alloc, "6b", 9, 1, "41")?.as_str(), end.as_str()].as_slice())?;
-    let second = log_of(alloc, [put(alloc, "6b", 9, 2, "42")?.as_str(), end.as_str()].as_slice())?;
+    let first = log_of(
+        alloc,
+        [put(alloc, "6b", 9, 1, "41")?.as_str(), end.as_str()].as_slice(),
+    )?;
+    let second = log_of(
+        alloc,
+        [put(alloc, "6b", 9, 2, "42")?.as_str(), end.as_str()].as_slice(),
+    )?;
     let dump = dump_of(alloc, [first.as_slice(), second.as_slice()].as_slice())?;
     assert_eq!(rt; dump.as_slice(), b"6b: 0=42\n".as_slice());
     let exchanged = dump_of(alloc, [second.as_slice(), first.as_slice()].as_slice())?;
@@ -115,8 +127,14 @@ fn at_one_version_the_later_log_wins(rt: HostRuntime) -> Result<(), Fail> {
 fn the_greater_version_wins_whatever_the_order_of_logs(rt: HostRuntime) -> Result<(), Fail> {
     let alloc = rt.alloc();
     let end = mark(alloc, 9)?;
-    let newer = log_of(alloc, [put(alloc, "6b", 2, 1, "42")?.as_str(), end.as_str()].as_slice())?;
-    let older = log_of(alloc, [put(alloc, "6b", 1, 2, "41")?.as_str(), end.as_str()].as_slice())?;
+    let newer = log_of(
+        alloc,
+        [put(alloc, "6b", 2, 1, "42")?.as_str(), end.as_str()].as_slice(),
+    )?;
+    let older = log_of(
+        alloc,
+        [put(alloc, "6b", 1, 2, "41")?.as_str(), end.as_str()].as_slice(),
+    )?;
     let dump = dump_of(alloc, [newer.as_slice(), older.as_slice()].as_slice())?;
     assert_eq!(rt; dump.as_slice(), b"6b: 0=42\n".as_slice());
     Ok(())
@@ -134,7 +152,14 @@ fn timestamps_may_stay_and_not_fall(rt: HostRuntime) -> Result<(), Fail> {
     let what = What::Clock;
     assert_eq!(rt; fault, Some(FeedFault::Record { nth: 1, what }));
     let fault = recover_logs(alloc, [falling.as_slice()].as_slice()).err();
-    assert_eq!(rt; fault, Some(Fault::Record { log: 0, nth: 1, what }));
+    assert_eq!(rt;
+        fault,
+        Some(Fault::Record {
+            log: 0,
+            nth: 1,
+            what
+        })
+    );
 
     let short = bytes_of(alloc, "4d544c31 00")?;
     let fault = recover_logs(alloc, [short.as_slice()].as_slice()).err();

@@ -17,7 +17,10 @@ const LOGS: [&[u8]; 2] = [
 fn a_refused_growth_is_memory(rt: HostRuntime) {
     match recover_logs(rt.alloc(), LOGS.as_slice()) {
         Ok(recovered) => {
-            let value = recovered.store().get(b"b").and_then(|columns| columns.get(0));
+            let value = recovered
+                .store()
+                .get(b"b")
+                .and_then(|columns| columns.get(0));
             assert_eq!(rt; value, Some(b"y".as_slice()));
         }
         Err(fault) => assert_eq!(rt; fault, Fault::Memory),

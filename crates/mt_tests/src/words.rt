@@ -84,7 +84,11 @@ fn faults_have_their_texts(rt: HostRuntime) -> Result<(), Fail> {
         (What::Columns, "log 1: record 1: columns"),
         (What::Clock, "log 1: record 1: clock"),
     ] {
-        let fault = Fault::Record { log: 1, nth: 1, what };
+        let fault = Fault::Record {
+            log: 1,
+            nth: 1,
+            what,
+        };
         assert_eq!(rt; fault.to_string(alloc)?.as_str(), text);
     }
     Ok(())

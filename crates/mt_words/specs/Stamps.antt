@@ -1,5 +1,5 @@
 -- The order of the updates of one key.
-use Rattle.std.specs.Prelude.{◌≡◌, ℕ, ◌<◌, ◌⊎◌}
+use Rattle.std.specs.Prelude.{◌≡◌, ◌<◌, ◌⊎◌}
 use Rattle.mt_words.specs.declared.update.Origin.{Origin}
 use Rattle.mt_words.specs.declared.update.Origin.TheVariants.{Log, Checkpoint}
 use Rattle.mt_words.specs.declared.update.Stamp.{Stamp}

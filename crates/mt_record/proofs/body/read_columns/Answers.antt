@@ -30,5 +30,5 @@ loop-preserved c =
     record {
       left = step_left c.args.count c.loop.counter c.loop.rest.now c.in-Some.after.now column c.loop-test.true found.0 found.1 c.loop.invariant.left;
       joins = step_joins c.args.count c.loop.counter c.args.count c.args.bytes.now c.loop.rest.now c.in-Some.after.now so_far c.push.new.self column
-      c.loop-test.true found.0 found.1 c.loop.invariant.joins pushed;
+          c.loop-test.true found.0 found.1 c.loop.invariant.joins pushed;
     }

@@ -1,4 +1,4 @@
-use Rattle.std.proofs.Common.{◌≡◌, ◌<◌, ◌≤◌, ◌∙◌, ◌++◌, Option, Some, None, List, sym, ap, subst, arith}
+use Rattle.std.proofs.Common.{◌∙◌, ◌++◌, Option, List, sym, ap, subst}
 use Rattle.std.proofs.lemmas.List.{append-nil}
 use Rattle.std.proofs.lemmas.Bool.{false≢true}
 use Rattle.std.specs.List.{filter}
@@ -14,7 +14,7 @@ pub returns-then-not-contains : goal.returns-then-not-contains
 returns-then-not-contains c =
     let timestamp = c.timestamp-timestamp.ensures.value in
     let none = none_survives c.args.window c.args.origin c.args.logged.timestamp c.args.logged.change
-        (λ inside. false≢true (sym c.if-not-contains.true ∙ c.contains.ensures.1 (rw timestamp inside))) in
+    (λ inside. false≢true (sym c.if-not-contains.true ∙ c.contains.ensures.1 (rw timestamp inside))) in
     λ us are. rw (none, append-nil us) are
 
 pub returns-in-None : goal.returns-in-None
@@ -25,7 +25,7 @@ returns-in-Some c =
     let change = c.in-Some.change in
     let inside = c.contains.ensures.0 c.if-not-contains.false in
     let kept = ap (λ (made : Option Change). filter (in_window c.args.window) (update_by c.args.origin c.args.logged.timestamp made)) (sym c.in-Some.ensures.value)
-        ∙ one_survives c.args.window c.args.origin c.args.logged.timestamp change (rw (← c.timestamp-timestamp.ensures.value) inside) in
+    ∙ one_survives c.args.window c.args.origin c.args.logged.timestamp change (rw (← c.timestamp-timestamp.ensures.value) inside) in
     on_ok c.add_change.result
-        (λ adds us are. subst (λ (x : List Update). AreWritesOf (us ++ x) c.add_change.new.keys) (sym kept) (rw c.timestamp-timestamp.ensures.value at (adds us are)))
-        c.add_change.ensures
+    (λ adds us are. subst (λ (x : List Update). AreWritesOf (us ++ x) c.add_change.new.keys) (sym kept) (rw c.timestamp-timestamp.ensures.value at (adds us are)))
+    c.add_change.ensures

@@ -1,5 +1,3 @@
-use Rattle.std.proofs.Common.{◌≡◌, subst, sym}
-use Rattle.mt_recover.specs.Cells.{Slots, IsCellOf}
 use Rattle.mt_recover.proofs.CellLemmas.{cell_push}
 use Rattle.mt_recover.proofs.cell.Cell.keep.Goals as goal
 

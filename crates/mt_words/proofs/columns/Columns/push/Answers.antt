@@ -1,6 +1,5 @@
-use Rattle.std.proofs.Common.{◌≡◌, ◌<◌, ◌≤◌, length, arith}
+use Rattle.std.proofs.Common.{arith}
 use Rattle.mt_words.specs.Limits.{widest}
-use Rattle.mt_words.specs.Words.{CanFollow, NumbersBelow}
 use Rattle.mt_words.proofs.Rising.{columns_push, rise_room}
 use Rattle.mt_words.proofs.columns.Columns.push.Goals as goal
 
