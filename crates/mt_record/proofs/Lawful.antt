@@ -7,9 +7,9 @@ use Rattle.mt_words.specs.declared.limits.Format.{Format}
 use Rattle.mt_words.specs.declared.limits.Format.TheVariants.{One}
 use Rattle.mt_words.specs.declared.record.Change.{Change}
 use Rattle.mt_words.specs.declared.update.Kind.{Kind}
-use Rattle.mt_words.specs.declared.update.Kind.TheVariants.{Put}
+use Rattle.mt_words.specs.declared.update.Kind.TheVariants.{Put, Remove}
 use Rattle.mt_words.specs.Limits.{Limits, limits_of}
-use Rattle.mt_words.specs.Words.{IsColumn, NumbersRise}
+use Rattle.mt_words.specs.Words.{IsColumn, AreColumns, NumbersRise}
 use Rattle.mt_words.specs.Changes.{Logged, IsLawful, IsLawfulChange, AllowsKind}
 use Rattle.mt_record.specs.Spelling.{column_bytes, kind_bytes, body_of, body, IsRecordLength, FitsColumn, FitsKind, FitsChange, Fits}
 
@@ -45,7 +45,7 @@ columns_fit format (c ∷ cs) all =
     ((omega (arith, all.0.0), omega (arith, all.0.1)), columns_fit format cs all.1)
 
 -- how long columns are at the most
-columns_length : (limits : Limits) (cs : List (ℕ × List ℕ)) → AllByRecursion (IsColumn limits) cs → length (flat_map column_bytes cs) ≤ 65538 * length cs
+pub columns_length : (limits : Limits) (cs : List (ℕ × List ℕ)) → AllByRecursion (IsColumn limits) cs → length (flat_map column_bytes cs) ≤ 65538 * length cs
 columns_length limits [] all = omega arith
 columns_length limits (c ∷ cs) all =
     let rest = columns_length limits cs all.1 in
@@ -53,12 +53,17 @@ columns_length limits (c ∷ cs) all =
 
 -- ---- records
 
+-- columns fit the fields of a put
+pub put_fits : (format : Format) (cs : List (ℕ × List ℕ)) → AreColumns (limits_of format) cs → FitsKind (Put cs)
+put_fits format cs are =
+    let room = columns_room (limits_of format) 0 cs (omega arith) are.0 are.1 in
+    let most = column_room format in
+    (omega (arith, room, most), columns_fit format cs are.0)
+
 -- what a kind carries fits its fields
 kind_fits : (format : Format) (kind : Kind) → AllowsKind (limits_of format) kind → FitsKind kind
-kind_fits format (Put columns) allowed =
-    let room = columns_room (limits_of format) 0 columns (omega arith) allowed.0.0 allowed.0.1 in
-    let most = column_room format in
-    (omega (arith, room, most), columns_fit format columns allowed.0.0)
+kind_fits format (Put columns) allowed = put_fits format columns allowed.0
+kind_fits format Remove allowed = tt
 
 -- a change fits its fields
 change_fits : (format : Format) (change : Option Change) → IfSome change (IsLawfulChange (limits_of format)) → IfSome change FitsChange
@@ -77,6 +82,7 @@ kind_length limits (Put columns) allowed =
     let room = columns_room limits 0 columns (omega arith) allowed.0.0 allowed.0.1 in
     let texts = columns_length limits columns allowed.0.0 in
     omega (arith, texts, room)
+kind_length limits Remove allowed = omega arith
 
 -- a body is no shorter and no longer than it may be
 body_length : (limits : Limits) (t : ℕ) (change : Option Change) → IfSome change (IsLawfulChange limits) → IsRecordLength limits (length (body_of t change))

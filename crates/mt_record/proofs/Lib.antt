@@ -1,9 +1,10 @@
 pub mod Unique
 pub mod Lawful
 pub mod Columns
-pub mod Puts
+pub mod Changes
 pub mod Frames
 pub mod Records
+pub mod Encoding
 pub mod OneFault
 pub mod OneLog
 pub mod OneReading

@@ -6,7 +6,7 @@ use Rattle.byteorder.specs.Endian.{big_bytes}
 use Rattle.mt_words.specs.declared.limits.Format.{Format}
 use Rattle.mt_words.specs.declared.record.Change.{Change}
 use Rattle.mt_words.specs.declared.update.Kind.{Kind as AnyKind}
-use Rattle.mt_words.specs.declared.update.Kind.TheVariants.{Put}
+use Rattle.mt_words.specs.declared.update.Kind.TheVariants.{Put, Remove}
 use Rattle.mt_words.specs.declared.fault.What.{What}
 use Rattle.mt_words.specs.declared.fault.What.TheVariants.{Length, Trailer, Kind, Frame, Version, Key, Columns, Clock}
 use Rattle.mt_words.specs.Limits.{Limits, limits_of}
@@ -108,17 +108,18 @@ split_body Columns format low text h = inr (inr (changed h.0 h.1, h.2, h.3, inr 
 split_body Clock format low text h = inr (inr (h.0, lawful_fits format h.0 h.1, h.2, clock_fault (limits_of format) low h.0.timestamp h.0.change h.1.1 h.3))
 
 -- each kind has its byte
-kind_byte : (kind : AnyKind) → IsKindByte (code_of kind)
-kind_byte (Put columns) = inl refl
+kind_byte : (limits : Limits) (kind : AnyKind) → IsKindByte limits (code_of kind)
+kind_byte limits (Put columns) = inl refl
+kind_byte limits Remove = inr (inl refl)
 
 -- a body begins with the byte of a kind
-body_byte : (t : ℕ) (change : Option Change) → IsKindByte (slice_index (body_of t change) 0)
-body_byte t None = inr refl
-body_byte t (Some change) = kind_byte change.kind
+body_byte : (limits : Limits) (t : ℕ) (change : Option Change) → IsKindByte limits (slice_index (body_of t change) 0)
+body_byte limits t None = inr (inr refl)
+body_byte limits t (Some change) = kind_byte limits change.kind
 
 -- the body of a record has no fault of its kind
 no_kind : (limits : Limits) (low : ℕ) (text : List ℕ) (r : Logged) → text ≡ body r → BodyFault Kind limits low text → ⊥
-no_kind limits low text r e h = h (subst (λ (x : List ℕ). IsKindByte (slice_index x 0)) (sym e) (body_byte r.timestamp r.change))
+no_kind limits low text r e h = h (subst (λ (x : List ℕ). IsKindByte limits (slice_index x 0)) (sym e) (body_byte limits r.timestamp r.change))
 
 -- the body of a record has no fault of its frame
 no_frame : (limits : Limits) (low : ℕ) (text : List ℕ) (r : Logged) → Fits r → text ≡ body r → BodyFault Frame limits low text → ⊥

@@ -1,17 +1,21 @@
--- Bytes are one log or have one fault, and never both.
-use Rattle.std.proofs.Common.{◌≡◌, ◌↔◌, ℕ, Bool, true, false, List, ◌++◌, refl, sym, ap, ◌∙◌, subst}
+-- Bytes are one log or have one fault, and never both, and one record at the most.
+use Rattle.std.proofs.Common.{◌≡◌, ◌↔◌, ℕ, Bool, true, false, List, [], ◌++◌, length, refl, sym, ap, ◌∙◌, subst}
 use Rattle.std.proofs.lemmas.Bool.{false≢true}
+use Rattle.std.proofs.lemmas.List.{append-nil}
 use Rattle.std.specs.Prelude.{IsTrue}
 use Rattle.std.specs.List.{flat_map}
 use Rattle.mt_words.specs.declared.fault.What.{What}
+use Rattle.mt_words.specs.declared.limits.Format.{Format}
 use Rattle.mt_words.specs.Limits.{limits_of}
-use Rattle.mt_words.specs.Changes.{Logged}
+use Rattle.mt_words.specs.Changes.{Logged, IsLawful}
 use Rattle.mt_record.specs.declared.read.FeedFault.{FeedFault}
 use Rattle.mt_record.specs.declared.read.FeedFault.TheVariants.{Header, Record, Memory}
-use Rattle.mt_record.specs.Spelling.{spelling}
+use Rattle.mt_record.specs.Spelling.{body, spelling}
 use Rattle.mt_record.specs.Heads.{Head, HasNoHeader}
 use Rattle.mt_record.specs.Logs.{latest, IsTorn, IsLog, LogReading, IsReading, count_of}
 use Rattle.mt_record.specs.LogFaults.{RestFault, HasFault, IsLogFault}
+use Rattle.mt_record.proofs.Unique.{same_body, same_framed}
+use Rattle.mt_record.proofs.Lawful.{length_fits, lawful_fits, lawful_length}
 use Rattle.mt_record.proofs.OneFault.{one_rest, end_stops, fault_stops, fault_no_end}
 use Rattle.mt_record.proofs.OneLog.{same_log}
 
@@ -83,3 +87,14 @@ pub not_both : (bytes : List ℕ) (head : Head) (records : List Logged) (tail : 
 not_both bytes head records tail Memory log k = k
 not_both bytes head records tail Header log k = k head (flat_map spelling records ++ tail) log.is_head log.spelled
 not_both bytes head records tail (Record n a) log k = no_record_fault bytes head records k.0 tail a log k.1
+
+-- ---- one record
+
+-- no spelling of a record begins that of another one
+pub prefix_free : (format : Format) (r s : Logged) (more : List ℕ) → IsLawful (limits_of format) r → IsLawful (limits_of format) s
+    → spelling s ≡ spelling r ++ more → (r ≡ s) × (more ≡ [])
+prefix_free format r s more is_r is_s e =
+    let short_r = length_fits format (length (body r)) (lawful_length (limits_of format) r is_r) in
+    let short_s = length_fits format (length (body s)) (lawful_length (limits_of format) s is_s) in
+    let same = same_framed (body r) (body s) more [] short_r short_s (sym e ∙ sym (append-nil (spelling s))) in
+    (same_body r s (lawful_fits format r is_r) (lawful_fits format s is_s) same.0, same.1)

@@ -6,7 +6,7 @@ use Rattle.byteorder.specs.Endian.{big_bytes, big_from}
 use Rattle.byteorder.specs.Numbers.{big_number-reads_back, length-bytes_high_first}
 use Rattle.mt_words.specs.declared.record.Change.{Change}
 use Rattle.mt_words.specs.declared.update.Kind.{Kind}
-use Rattle.mt_words.specs.declared.update.Kind.TheVariants.{Put}
+use Rattle.mt_words.specs.declared.update.Kind.TheVariants.{Put, Remove}
 use Rattle.mt_words.specs.Changes.{Logged}
 use Rattle.mt_record.specs.Spelling.{counted, column_bytes, code_of, kind_bytes, change_bytes, body_of, body, framed, FitsColumn, FitsKind, FitsChange, Fits}
 
@@ -59,12 +59,19 @@ same_columns (c ∷ cs) (d ∷ ds) fits_c fits_d number e =
 
 -- ---- bodies
 
+-- a number is no greater one
+pub apart : (a b : ℕ) → a < b → a ≡ b → ⊥
+apart a b below same = omega arith
+
 -- what a kind carries is that of one kind of this byte
 same_kind : (a b : Kind) → FitsKind a → FitsKind b → code_of a ≡ code_of b → kind_bytes a ≡ kind_bytes b → a ≡ b
 same_kind (Put cs) (Put ds) fits_a fits_b code e =
     let number : length cs ≡ length ds = ap (λ (x : List ℕ). slice_index x 0) e in
     let texts : flat_map column_bytes cs ≡ flat_map column_bytes ds = ap (drop 1) e in
     ap Put (same_columns cs ds fits_a.1 fits_b.1 number texts)
+same_kind (Put cs) Remove fits_a fits_b code e = absurd (apart 1 2 (omega arith) code)
+same_kind Remove (Put ds) fits_a fits_b code e = absurd (apart 1 2 (omega arith) (sym code))
+same_kind Remove Remove fits_a fits_b code e = refl
 
 -- the fields of a change are those of one change
 same_change : (a b : Change) → FitsChange a → FitsChange b → code_of a.kind ≡ code_of b.kind → change_bytes a ≡ change_bytes b → a ≡ b
@@ -76,13 +83,10 @@ same_change a b fits_a fits_b code e =
     let kind = same_kind a.kind b.kind fits_a.2 fits_b.2 code key.1 in
     λ i. record { version = version.0 i; key = key.0 i; kind = kind i }
 
--- 3 is not 1
-three_and_one : (a b : ℕ) → a ≡ 3 → b ≡ 1 → a ≡ b → ⊥
-three_and_one a b is_mark is_put same = omega arith
-
 -- no kind has the byte of a mark
 no_mark : (kind : Kind) → 3 ≡ code_of kind → ⊥
-no_mark (Put columns) same = three_and_one 3 1 refl refl same
+no_mark (Put columns) same = apart 1 3 (omega arith) (sym same)
+no_mark Remove same = apart 2 3 (omega arith) (sym same)
 
 -- the bytes are the body of one record
 same_body_of : (t u : ℕ) (a b : Option Change) → t < 2 ^ 64 → u < 2 ^ 64 → IfSome a FitsChange → IfSome b FitsChange

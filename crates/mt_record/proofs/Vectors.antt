@@ -3,7 +3,7 @@ use Rattle.std.proofs.Common.{◌≡◌, [], ◌∷◌, ◌++◌, refl}
 use Rattle.std.specs.List.{flat_map}
 use Rattle.mt_words.specs.declared.limits.Format.TheVariants.{One}
 use Rattle.mt_words.specs.Limits.{limits_of}
-use Rattle.mt_words.specs.Changes.{mark_of, put_of}
+use Rattle.mt_words.specs.Changes.{mark_of, put_of, remove_of}
 use Rattle.mt_record.specs.declared.frame.TheConstants.{LONGEST_RECORD}
 use Rattle.mt_record.specs.Spelling.{spelling, longest_record}
 use Rattle.mt_record.specs.Heads.{head_of, head_bytes}
@@ -38,3 +38,7 @@ other_put_and_mark = refl
 put_of_two_columns : spelling (put_of 1 1 (107 ∷ []) ((0, 65 ∷ []) ∷ (1, 66 ∷ []) ∷ []))
     ≡ 0 ∷ 0 ∷ 0 ∷ 29 ∷ 1 ∷ 0 ∷ 0 ∷ 0 ∷ 0 ∷ 0 ∷ 0 ∷ 0 ∷ 1 ∷ 0 ∷ 0 ∷ 0 ∷ 0 ∷ 0 ∷ 0 ∷ 0 ∷ 1 ∷ 0 ∷ 1 ∷ 107 ∷ 2 ∷ 0 ∷ 0 ∷ 1 ∷ 65 ∷ 1 ∷ 0 ∷ 1 ∷ 66 ∷ 0 ∷ 0 ∷ 0 ∷ 29 ∷ []
 put_of_two_columns = refl
+
+-- a remove
+remove : spelling (remove_of 11 6 (107 ∷ [])) ≡ 0 ∷ 0 ∷ 0 ∷ 20 ∷ 2 ∷ 0 ∷ 0 ∷ 0 ∷ 0 ∷ 0 ∷ 0 ∷ 0 ∷ 11 ∷ 0 ∷ 0 ∷ 0 ∷ 0 ∷ 0 ∷ 0 ∷ 0 ∷ 6 ∷ 0 ∷ 1 ∷ 107 ∷ 0 ∷ 0 ∷ 0 ∷ 20 ∷ []
+remove = refl

@@ -3,3 +3,5 @@ pub mod Heads
 pub mod Logs
 pub mod LogFaults
 pub mod Bodies
+pub mod Adding
+pub mod Feeding

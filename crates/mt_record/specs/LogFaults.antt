@@ -14,9 +14,9 @@ use Rattle.mt_record.specs.Spelling.{body, framed, spelling, Fits, IsRecordLengt
 use Rattle.mt_record.specs.Heads.{Head, IsHead, head_bytes, HasNoHeader}
 use Rattle.mt_record.specs.Logs.{AreRecords, latest, count_of}
 
--- the byte of some kind of record
-abbrev pub IsKindByte : ℕ → Type 0
-IsKindByte byte = (byte ≡ 1) ⊎ (byte ≡ 3)
+-- the byte of a kind of record that a format has
+abbrev pub IsKindByte : Limits → ℕ → Type 0
+IsKindByte limits byte = (byte ≡ 1) ⊎ ((byte ≡ 2) ⊎ (byte ≡ 3))
 
 -- The first of version, key and columns that a format does not allow.
 abbrev pub HasVersionFault : Change → Type 0
@@ -36,8 +36,8 @@ IsBodyOfChange bytes P = (timestamp : ℕ) × (change : Change) × Fits (changed
 abbrev pub BodyFault : What → Limits → ℕ → List ℕ → Type 0
 BodyFault Length limits low bytes = ⊥
 BodyFault Trailer limits low bytes = ⊥
-BodyFault Kind limits low bytes = IsKindByte (slice_index bytes 0) → ⊥
-BodyFault Frame limits low bytes = IsKindByte (slice_index bytes 0) × ((r : Logged) → Fits r → bytes ≢ body r)
+BodyFault Kind limits low bytes = IsKindByte limits (slice_index bytes 0) → ⊥
+BodyFault Frame limits low bytes = IsKindByte limits (slice_index bytes 0) × ((r : Logged) → Fits r → bytes ≢ body r)
 BodyFault Version limits low bytes = IsBodyOfChange bytes HasVersionFault
 BodyFault Key limits low bytes = IsBodyOfChange bytes (HasKeyFault limits)
 BodyFault Columns limits low bytes = IsBodyOfChange bytes (HasColumnsFault limits)

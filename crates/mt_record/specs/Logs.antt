@@ -57,16 +57,23 @@ IsLast log n = Contains (times_of log) n × All (λ time. time ≤ n) (times_of 
 abbrev pub count_of : List Logged → ℕ
 count_of records = min (length records) (2 ^ 64 - 1)
 
--- the text shows what the log says
-pub record Shows (text : LogText) (log : LogReading) : Type 0 where
+-- the text shows what the log says, of which these records were taken before
+pub record ShowsAfter (taken : List Logged) (text : LogText) (log : LogReading) : Type 0 where
   pub from : text.from ≡ log.head.from
   pub last : IsLast log text.last
-  pub records : text.records.items ≡ log.records
+  pub records : taken ++ text.records.items ≡ log.records
   pub whole : text.whole ≡ count_of log.records
   pub torn : text.torn ≡ log.torn
 
--- the text of the log that the bytes are
-pub record IsTextOf (bytes : List ℕ) (text : LogText) : Type 0 where
+-- the text of the log that the bytes are, of which these records were taken before
+pub record IsTextAfter (taken : List Logged) (bytes : List ℕ) (text : LogText) : Type 0 where
   pub log : LogReading
   pub is_reading : IsReading bytes log
-  pub shows : Shows text log
+  pub shows : ShowsAfter taken text log
+
+abbrev pub Shows : LogText → LogReading → Type 0
+Shows text log = ShowsAfter [] text log
+
+-- the text of the log that the bytes are
+abbrev pub IsTextOf : List ℕ → LogText → Type 0
+IsTextOf bytes text = IsTextAfter [] bytes text

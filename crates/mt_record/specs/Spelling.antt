@@ -1,11 +1,11 @@
 -- How records are spelled.
-use Rattle.std.specs.Prelude.{ℕ, suc, ◌+◌, ◌*◌, ◌≤◌, ◌<◌, ◌^◌, List, ◌∷◌, ◌++◌, length, Option, Some, None, IfSome}
+use Rattle.std.specs.Prelude.{ℕ, suc, ◌+◌, ◌*◌, ◌≤◌, ◌<◌, ◌^◌, List, [], ◌∷◌, ◌++◌, length, Option, Some, None, IfSome}
 use Rattle.std.specs.List.{flat_map, AllByRecursion}
 use Rattle.byteorder.specs.Endian.{big_bytes}
 use Rattle.mt_words.specs.declared.limits.TheConstants.{LONGEST_VALUE}
 use Rattle.mt_words.specs.declared.record.Change.{Change}
 use Rattle.mt_words.specs.declared.update.Kind.{Kind}
-use Rattle.mt_words.specs.declared.update.Kind.TheVariants.{Put}
+use Rattle.mt_words.specs.declared.update.Kind.TheVariants.{Put, Remove}
 use Rattle.mt_words.specs.Limits.{Limits}
 use Rattle.mt_words.specs.Changes.{Logged}
 
@@ -20,10 +20,12 @@ column_bytes column = column.0 ∷ counted column.1
 -- the byte of a kind; that of a mark is 3
 abbrev pub code_of : Kind → ℕ
 code_of (Put columns) = 1
+code_of Remove = 2
 
--- what a kind carries: a put its columns behind their number
+-- what a kind carries: a put its columns behind their number, a remove nothing
 abbrev pub kind_bytes : Kind → List ℕ
 kind_bytes (Put columns) = length columns ∷ flat_map column_bytes columns
+kind_bytes Remove = []
 
 -- the version, the counted key, and what the kind carries
 abbrev pub change_bytes : Change → List ℕ
@@ -60,6 +62,7 @@ FitsColumn column = (column.0 < 2 ^ 8) × (length column.1 < 2 ^ 16)
 
 abbrev pub FitsKind : Kind → Type 0
 FitsKind (Put columns) = (length columns < 2 ^ 8) × AllByRecursion FitsColumn columns
+FitsKind Remove = Unit {0}
 
 abbrev pub FitsChange : Change → Type 0
 FitsChange change = (change.version < 2 ^ 64) × (length change.key < 2 ^ 16) × FitsKind change.kind

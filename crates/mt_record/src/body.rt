@@ -1,28 +1,31 @@
 //! The body of a record: what stands between its two lengths.
-ghost use Rattle.std.specs.Prelude.{◌≡◌, ◌≤◌, ◌<◌, ◌↔◌, ◌++◌, ◌∷◌, length, IfOk, IfErr, IfSome, IfNone, IsTrue};
+ghost use Rattle.std.specs.Prelude.{◌≡◌, ◌≤◌, ◌<◌, ◌↔◌, ◌++◌, ◌∷◌, ℕ, length, Some, IfOk, IfErr, IfSome, IfNone, IsTrue};
 ghost use Rattle.mt_words.specs.Limits.{limits_of};
 ghost use Rattle.mt_words.specs.declared.limits.Format.TheVariants.{One};
-ghost use Rattle.mt_record.specs.Bodies.{IsBodyOf, IsBodyFault, HasColumns, AreSpelled, ArePutFields, IsNoPut, IsColumnsFault};
+ghost use Rattle.mt_words.specs.Changes.{IsLawfulChange, changed};
+ghost use Rattle.mt_record.specs.Bodies.{IsBodyOf, IsBodyFault, IsChangeOf, IsChangeFault, AreChangeFields, IsNoChange, HasKind, IsAllowedKind, IsKindFault, HasColumns, AreSpelled, IsColumnsFault};
 
 use crate::fields::{column_at, counted_at, u64_at};
 use crate::frame::RecordFault;
-use mt_words::{Columns, Key, Record, What};
+use mt_words::{Change, Columns, Key, Kind, Record, What};
 use std::alloc::Global;
 
 /// The byte of a put.
-const PUT: u8 = 1;
+pub const PUT: u8 = 1;
+
+/// The byte of a remove.
+pub const REMOVE: u8 = 2;
 
 /// The byte of a mark.
-const MARK: u8 = 3;
+pub const MARK: u8 = 3;
 
-/// The fields of a put as they stand among its bytes.
+/// The fields of a change as they stand among its bytes.
 #[derive(Clone, Copy)]
-pub struct PutFields<'a> {
-    pub timestamp: u64,
+pub struct ChangeFields<'a> {
     pub version: u64,
     pub key: &'a [u8],
-    pub count: u8,
-    pub columns: &'a [u8],
+    /// What its kind carries.
+    pub carried: &'a [u8],
 }
 
 /// The record of this body, behind one of timestamp `latest`.
@@ -30,33 +33,54 @@ pub fn read_body(alloc: Global, latest: u64, bytes: &[u8]) -> Result<Record, Rec
     ensures found { IfOk result (IsBodyOf (limits_of One) latest bytes.now) }
     ensures fault { IfErr result (IsBodyFault (limits_of One) latest bytes.now) }
 {
-    match bytes {
-        [PUT, fields @ ..] => read_put(alloc, latest, fields),
-        [MARK, fields @ ..] => read_mark(latest, fields),
-        _ => Err(RecordFault::Wrong(What::Kind)),
-    }
-}
-
-/// The mark of these fields.
-fn read_mark(latest: u64, bytes: &[u8]) -> Result<Record, RecordFault>
-    ensures found { IfOk result (IsBodyOf (limits_of One) latest (MARK ∷ bytes.now)) }
-    ensures fault { IfErr result (IsBodyFault (limits_of One) latest (MARK ∷ bytes.now)) }
-{
-    let Some((timestamp, [])) = u64_at(bytes) else {
-        return Err(RecordFault::Wrong(What::Frame));
-    };
-    if timestamp < latest {
+    let record = read_record(alloc, bytes)?;
+    if record.timestamp() < latest {
         return Err(RecordFault::Wrong(What::Clock));
     }
-    Ok(Record::mark(timestamp))
+    Ok(record)
 }
 
-/// The put of these fields. All faults are tested in their order, and the key and the values are copied here, once.
-fn read_put(alloc: Global, latest: u64, bytes: &[u8]) -> Result<Record, RecordFault>
-    ensures found { IfOk result (IsBodyOf (limits_of One) latest (PUT ∷ bytes.now)) }
-    ensures fault { IfErr result (IsBodyFault (limits_of One) latest (PUT ∷ bytes.now)) }
+/// The record of this body, whatever stands before it.
+fn read_record(alloc: Global, bytes: &[u8]) -> Result<Record, RecordFault>
+    ensures found { IfOk result (IsBodyOf (limits_of One) 0 bytes.now) }
+    ensures fault { IfErr result (λ fault. (low : ℕ) → IsBodyFault (limits_of One) low bytes.now fault) }
 {
-    let Some(fields) = put_fields(bytes) else {
+    let [code @ (PUT | REMOVE | MARK), fields @ ..] = bytes else {
+        return Err(RecordFault::Wrong(What::Kind));
+    };
+    let Some((timestamp, rest)) = u64_at(fields) else {
+        return Err(RecordFault::Wrong(What::Frame));
+    };
+    match (*code, rest) {
+        (MARK, []) => Ok(Record::mark(timestamp)),
+        (MARK, _) => Err(RecordFault::Wrong(What::Frame)),
+        (code, _) => Ok(record_of(timestamp, read_change(alloc, code, rest)?)),
+    }
+}
+
+/// The record of a lawful change.
+fn record_of(timestamp: u64, change: Change) -> Record
+    requires { IsLawfulChange (limits_of One) change }
+    ensures { result ≡ changed timestamp change }
+{
+    let Change { version, key, kind } = change;
+    let record = match kind {
+        Kind::Put(columns) => Record::put(timestamp, version, key, columns),
+        Kind::Remove => Record::remove(timestamp, version, key),
+    };
+    let Some(record) = record else {
+        unreachable!();
+    };
+    record
+}
+
+/// The change that the bytes are, of the kind of this byte. All faults are tested in their order, and the key and the
+/// values are copied here, once.
+fn read_change(alloc: Global, code: u8, bytes: &[u8]) -> Result<Change, RecordFault>
+    ensures found { IfOk result (IsChangeOf (limits_of One) code bytes.now) }
+    ensures fault { IfErr result (IsChangeFault (limits_of One) code bytes.now) }
+{
+    let Some(fields) = change_fields(code, bytes) else {
         return Err(RecordFault::Wrong(What::Frame));
     };
     if fields.version == 0 {
@@ -65,35 +89,66 @@ fn read_put(alloc: Global, latest: u64, bytes: &[u8]) -> Result<Record, RecordFa
     let Some(key) = Key::new(Vec::from_slice(alloc, fields.key)?) else {
         return Err(RecordFault::Wrong(What::Key));
     };
-    let columns = read_columns(alloc, fields.count, fields.columns)?;
-    let Some(record) = Record::put(fields.timestamp, fields.version, key, columns) else {
-        return Err(RecordFault::Wrong(What::Columns));
-    };
-    if fields.timestamp < latest {
-        return Err(RecordFault::Wrong(What::Clock));
-    }
-    Ok(record)
+    let kind = read_kind(alloc, code, fields.carried)?;
+    Ok(Change {
+        version: fields.version,
+        key,
+        kind,
+    })
 }
 
-/// The fields of a put, where the bytes are just those.
-fn put_fields(bytes: &[u8]) -> Option<PutFields<'_>>
-    ensures found { IfSome result (ArePutFields (PUT ∷ bytes.now)) }
-    ensures none { IfNone result (IsNoPut (PUT ∷ bytes.now)) }
+/// The fields of a change of the kind of this byte, where the bytes are just those.
+fn change_fields(code: u8, bytes: &[u8]) -> Option<ChangeFields<'_>>
+    ensures found { IfSome result (AreChangeFields code bytes.now) }
+    ensures none { IfNone result (IsNoChange code bytes.now) }
 {
-    let (timestamp, rest) = u64_at(bytes)?;
-    let (version, rest) = u64_at(rest)?;
-    let (key, rest) = counted_at(rest)?;
-    let (count, columns) = rest.split_first()?;
-    if !has_columns(*count, columns) {
+    let (version, rest) = u64_at(bytes)?;
+    let (key, carried) = counted_at(rest)?;
+    if !has_kind(code, carried) {
         return None;
     }
-    Some(PutFields {
-        timestamp,
+    Some(ChangeFields {
         version,
         key,
-        count: *count,
-        columns,
+        carried,
     })
+}
+
+/// Whether the bytes are just what a kind of this byte carries.
+fn has_kind(code: u8, bytes: &[u8]) -> bool
+    ensures { IsTrue result ↔ HasKind code bytes.now }
+{
+    match (code, bytes) {
+        (PUT, [count, columns @ ..]) => has_columns(*count, columns),
+        (REMOVE, []) => true,
+        _ => false,
+    }
+}
+
+/// The kind of this byte that carries the bytes.
+fn read_kind(alloc: Global, code: u8, bytes: &[u8]) -> Result<Kind, RecordFault>
+    requires { HasKind code bytes.now }
+    ensures found { IfOk result (IsAllowedKind (limits_of One) code bytes.now) }
+    ensures fault { IfErr result (IsKindFault (limits_of One) code bytes.now) }
+{
+    match (code, bytes) {
+        (PUT, [count, columns @ ..]) => read_put(alloc, *count, columns),
+        (REMOVE, []) => Ok(Kind::Remove),
+        _ => unreachable!(),
+    }
+}
+
+/// The put of the columns that the bytes are.
+fn read_put(alloc: Global, count: u8, bytes: &[u8]) -> Result<Kind, RecordFault>
+    requires { HasColumns count bytes.now }
+    ensures found { IfOk result (IsAllowedKind (limits_of One) PUT (count ∷ bytes.now)) }
+    ensures fault { IfErr result (IsKindFault (limits_of One) PUT (count ∷ bytes.now)) }
+{
+    let columns = read_columns(alloc, count, bytes)?;
+    if columns.is_empty() {
+        return Err(RecordFault::Wrong(What::Columns));
+    }
+    Ok(Kind::Put(columns))
 }
 
 /// Whether the bytes are just so many columns.

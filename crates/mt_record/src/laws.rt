@@ -1,12 +1,16 @@
 //! What holds of all bytes.
-ghost use Rattle.std.specs.Prelude.{◌≡◌, ℕ, List};
-ghost use Rattle.mt_words.specs.Changes.{Logged};
+ghost use Rattle.std.specs.Prelude.{◌≡◌, ◌++◌, ℕ, List, []};
+ghost use Rattle.mt_words.specs.declared.limits.Format.{Format};
+ghost use Rattle.mt_words.specs.Limits.{limits_of};
+ghost use Rattle.mt_words.specs.Changes.{Logged, IsLawful};
 ghost use Rattle.mt_record.specs.declared.read.FeedFault.{FeedFault};
+ghost use Rattle.mt_record.specs.Spelling.{spelling};
 ghost use Rattle.mt_record.specs.Heads.{Head};
 ghost use Rattle.mt_record.specs.Logs.{IsLog};
 ghost use Rattle.mt_record.specs.LogFaults.{IsLogFault};
 
-/// Bytes are one log in one way, or have one fault, and never both. A law: it has nothing to run.
+/// Bytes are one log in one way, or have one fault, and never both; and no spelling of a record begins that of another
+/// one. A law: it has nothing to run.
 pub fn one_reading()
     ensures one_log { (bytes : List ℕ) (head other : Head) (records others : List Logged) (tail rest : List ℕ) →
         IsLog bytes head records tail → IsLog bytes other others rest →
@@ -15,4 +19,7 @@ pub fn one_reading()
         IsLogFault bytes fault → IsLogFault bytes other → fault ≡ other }
     ensures not_both { (bytes : List ℕ) (head : Head) (records : List Logged) (tail : List ℕ) (fault : FeedFault) →
         IsLog bytes head records tail → IsLogFault bytes fault → ⊥ }
+    ensures prefix_free { (format : Format) (r s : Logged) (more : List ℕ) →
+        IsLawful (limits_of format) r → IsLawful (limits_of format) s → spelling s ≡ spelling r ++ more →
+        (r ≡ s) × (more ≡ []) }
 {}

@@ -1,12 +1,15 @@
-//! Logs as bytes: the format, and reading it.
+//! Logs as bytes: the format, reading and writing it.
 #![tactic(auto)]
 
 mod body;
+mod encode;
 mod fields;
 mod frame;
 mod head;
 mod laws;
+mod put;
 mod read;
 
+pub use encode::{encode_log_header, encode_record};
 pub use laws::one_reading;
 pub use read::{FeedFault, LogText, read_log};

@@ -122,12 +122,10 @@ pub cutoff_is : (texts : List LogText) (readings : List LogReading) (n : ℕ) �
 cutoff_is texts readings n show at least =
     let found = last_stands texts readings n show at in
     record {
-      log = found.0;
-      stands = found.1;
-      is_last = found.2;
-      least = λ other last stands is.
-          let shown = last_shown texts readings other show stands in
-          let same = same_last other shown.0 last shown.2 is in
+      has = record { log = found.0; stands = found.1; is_last = found.2 };
+      least = λ last other.
+          let shown = last_shown texts readings other.log show other.stands in
+          let same = same_last other.log shown.0 last shown.2 other.is_last in
           let low : n ≤ shown.0 = All-contains (λ (m : ℕ). n ≤ m) (map last_in texts) shown.0 least shown.1 in
           omega (arith, low, same);
     }

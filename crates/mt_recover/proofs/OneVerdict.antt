@@ -63,7 +63,7 @@ no_fault_at logs readings i bytes fault are at is_fault =
 
 -- no cutoff is above another one
 cutoff_at_most : (readings : List LogReading) (cutoff other : ℕ) → IsCutoff readings cutoff → IsCutoff readings other → cutoff ≤ other
-cutoff_at_most readings cutoff other is too = is.least too.log other too.stands too.is_last
+cutoff_at_most readings cutoff other is too = is.least other too.has
 
 -- where there is no part, no checkpoint is chosen
 same_chosen : (parts : List (List ℕ)) (cutoff last : ℕ) (chosen other : Option Checkpoint) → IsChosen parts cutoff chosen
@@ -90,7 +90,7 @@ no_log (r ∷ rs) log are at = absurd are
 no_log_no_facts : (logs parts : List (List ℕ)) (facts : Facts logs parts) → logs ≡ [] → ⊥
 no_log_no_facts logs parts facts none =
     let read : AreReadings [] facts.readings = subst (λ (x : List (List ℕ)). AreReadings x facts.readings) none facts.read in
-    no_log facts.readings facts.is_cutoff.log read facts.is_cutoff.stands
+    no_log facts.readings facts.is_cutoff.has.log read facts.is_cutoff.has.stands
 
 -- ---- stores
 

@@ -122,7 +122,7 @@ was_there test (y ∷ ys) x at = elim (kept_head test (test y) y x ys at) as (λ
 
 -- no two survivors have one stamp
 pub survivors_apart : (window : Window) (logs : List (List Logged)) → AreApart (log_survivors window logs)
-survivors_apart window logs = λ u w at here same. logs_apart 0 logs u w (was_there (in_window window) (log_updates logs) u at) (was_there (in_window window) (log_updates logs) w here) same
+survivors_apart window logs = λ u w at here _ same. logs_apart 0 logs u w (was_there (in_window window) (log_updates logs) u at) (was_there (in_window window) (log_updates logs) w here) same
 
 -- what survives of logs is lawful
 pub survivors_lawful : (window : Window) (logs : List (List ℕ)) (readings : List LogReading) → AreReadings logs readings → AreLawful (log_survivors window (records_of readings))

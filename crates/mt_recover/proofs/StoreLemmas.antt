@@ -10,17 +10,18 @@ use Rattle.std.proofs.lemmas.List.Elements.{Contains-push, Contains-push_cases, 
 use Rattle.mt_words.specs.Limits.{widest}
 use Rattle.mt_words.specs.Words.{IsKey, IsBelow}
 use Rattle.mt_words.specs.Walks.{Pair, KeysRise, IsPair, IsMap}
-use Rattle.mt_recover.specs.Cells.{Written, IsColumnsOf}
+use Rattle.mt_recover.specs.Cells.{IsColumnsOf}
+use Rattle.mt_recover.specs.KeyWrites.{History}
 use Rattle.mt_recover.proofs.KeyWritesLemmas.{no_element}
 
 abbrev pub Entry : Type 0
-Entry = List ℕ × List Written
+Entry = List ℕ × History
 
 -- the rows of the keys that have a column
 pub record AreRowsOf (entries : List Entry) (rows : List Pair) : Type 0 where
   pub map : IsMap rows
-  pub sound : (row : Pair) → Contains rows row → (writes : List Written) × Contains entries (row.0, writes) × IsColumnsOf writes row.1
-  pub complete : (entry : Entry) → Contains entries entry → (columns : List (ℕ × List ℕ)) × IsColumnsOf entry.1 columns × (0 < length columns → Contains rows (entry.0, columns))
+  pub sound : (row : Pair) → Contains rows row → (writes : History) × Contains entries (row.0, writes) × IsColumnsOf writes.reset writes.writes row.1
+  pub complete : (entry : Entry) → Contains entries entry → (columns : List (ℕ × List ℕ)) × IsColumnsOf entry.1.reset entry.1.writes columns × (0 < length columns → Contains rows (entry.0, columns))
 
 pub rows_none : AreRowsOf [] []
 rows_none = record { map = (tt, tt); sound = λ row at. absurd (no_element row at); complete = λ entry at. absurd (no_element entry at) }
@@ -44,30 +45,30 @@ AreBelow entries key = (e : Entry) → Contains entries e → slice_cmp nat_cmp 
 less_is_below : (a b : List ℕ) → slice_cmp nat_cmp a b ≡ Less → IsBelow a b
 less_is_below a b e = ap is_lt e
 
-pub rows_more : (entries : List Entry) (rows : List Pair) (key : List ℕ) (writes : List Written) (columns : List (ℕ × List ℕ)) → AreRowsOf entries rows → IsKey widest key → IsColumnsOf writes columns → 0 < length columns → AreBelow entries key
+pub rows_more : (entries : List Entry) (rows : List Pair) (key : List ℕ) (writes : History) (columns : List (ℕ × List ℕ)) → AreRowsOf entries rows → IsKey widest key → IsColumnsOf writes.reset writes.writes columns → 0 < length columns → AreBelow entries key
     → AreRowsOf (entries ++ (key, writes) ∷ []) (rows ++ (key, columns) ∷ [])
 rows_more entries rows key writes columns are is_key is some below = record {
   map = (
     rise_push rows (key, columns) are.map.0 (all_from (λ (r : Pair). IsBelow r.0 key) rows (λ row at. let from = are.sound row at in less_is_below row.0 key (below (row.0, from.0) from.1))),
     all_push IsPair rows (key, columns) are.map.1 (is_key, is.lawful, some),
   );
-  sound = λ row at. elim (Contains-push_cases rows (key, columns) row at) as (λ _. (ws : List Written) × Contains (entries ++ (key, writes) ∷ []) (row.0, ws) × IsColumnsOf ws row.1) [
+  sound = λ row at. elim (Contains-push_cases rows (key, columns) row at) as (λ _. (ws : History) × Contains (entries ++ (key, writes) ∷ []) (row.0, ws) × IsColumnsOf ws.reset ws.writes row.1) [
     | inl old ↦ let from = are.sound row old in (from.0, Contains-append_left entries ((key, writes) ∷ []) (row.0, from.0) from.1, from.2)
-    | inr e ↦ subst (λ (r : Pair). (ws : List Written) × Contains (entries ++ (key, writes) ∷ []) (r.0, ws) × IsColumnsOf ws r.1) e (writes, Contains-push entries (key, writes), is)
+    | inr e ↦ subst (λ (r : Pair). (ws : History) × Contains (entries ++ (key, writes) ∷ []) (r.0, ws) × IsColumnsOf ws.reset ws.writes r.1) e (writes, Contains-push entries (key, writes), is)
   ];
-  complete = λ entry at. elim (Contains-push_cases entries (key, writes) entry at) as (λ _. (cs : List (ℕ × List ℕ)) × IsColumnsOf entry.1 cs × (0 < length cs → Contains (rows ++ (key, columns) ∷ []) (entry.0, cs))) [
+  complete = λ entry at. elim (Contains-push_cases entries (key, writes) entry at) as (λ _. (cs : List (ℕ × List ℕ)) × IsColumnsOf entry.1.reset entry.1.writes cs × (0 < length cs → Contains (rows ++ (key, columns) ∷ []) (entry.0, cs))) [
     | inl old ↦ let from = are.complete entry old in (from.0, from.1, λ lt. Contains-append_left rows ((key, columns) ∷ []) (entry.0, from.0) (from.2 lt))
-    | inr e ↦ subst (λ (x : Entry). (cs : List (ℕ × List ℕ)) × IsColumnsOf x.1 cs × (0 < length cs → Contains (rows ++ (key, columns) ∷ []) (x.0, cs))) e (columns, is, λ lt. Contains-push rows (key, columns))
+    | inr e ↦ subst (λ (x : Entry). (cs : List (ℕ × List ℕ)) × IsColumnsOf x.1.reset x.1.writes cs × (0 < length cs → Contains (rows ++ (key, columns) ∷ []) (x.0, cs))) e (columns, is, λ lt. Contains-push rows (key, columns))
   ];
 }
 
-pub rows_same : (entries : List Entry) (rows : List Pair) (key : List ℕ) (writes : List Written) (columns : List (ℕ × List ℕ)) → AreRowsOf entries rows → IsColumnsOf writes columns → length columns ≤ 0 → AreRowsOf (entries ++ (key, writes) ∷ []) rows
+pub rows_same : (entries : List Entry) (rows : List Pair) (key : List ℕ) (writes : History) (columns : List (ℕ × List ℕ)) → AreRowsOf entries rows → IsColumnsOf writes.reset writes.writes columns → length columns ≤ 0 → AreRowsOf (entries ++ (key, writes) ∷ []) rows
 rows_same entries rows key writes columns are is none = record {
   map = are.map;
   sound = λ row at. let from = are.sound row at in (from.0, Contains-append_left entries ((key, writes) ∷ []) (row.0, from.0) from.1, from.2);
-  complete = λ entry at. elim (Contains-push_cases entries (key, writes) entry at) as (λ _. (cs : List (ℕ × List ℕ)) × IsColumnsOf entry.1 cs × (0 < length cs → Contains rows (entry.0, cs))) [
+  complete = λ entry at. elim (Contains-push_cases entries (key, writes) entry at) as (λ _. (cs : List (ℕ × List ℕ)) × IsColumnsOf entry.1.reset entry.1.writes cs × (0 < length cs → Contains rows (entry.0, cs))) [
     | inl old ↦ are.complete entry old
-    | inr e ↦ subst (λ (x : Entry). (cs : List (ℕ × List ℕ)) × IsColumnsOf x.1 cs × (0 < length cs → Contains rows (x.0, cs))) e (columns, is, λ lt. absurd (omega arith))
+    | inr e ↦ subst (λ (x : Entry). (cs : List (ℕ × List ℕ)) × IsColumnsOf x.1.reset x.1.writes cs × (0 < length cs → Contains rows (x.0, cs))) e (columns, is, λ lt. absurd (omega arith))
   ];
 }
 
@@ -75,14 +76,14 @@ rows_same entries rows key writes columns are is none = record {
 all_of : {A : Type 0} (P : A → Type 0) (xs : List A) (x : A) → AllByRecursion P xs → Contains xs x → P x
 all_of P xs x all at = All-contains P xs x (All-from_recursion P xs all) at
 
-first_below : (e : Entry) (es : List Entry) (key : List ℕ) (writes : List Written) (rest : List Entry) → AllByRecursion (λ (y : List ℕ). slice_cmp nat_cmp e.0 y ≡ Less) (keys_of (es ++ (key, writes) ∷ rest)) → slice_cmp nat_cmp e.0 key ≡ Less
+first_below : (e : Entry) (es : List Entry) (key : List ℕ) (writes : History) (rest : List Entry) → AllByRecursion (λ (y : List ℕ). slice_cmp nat_cmp e.0 y ≡ Less) (keys_of (es ++ (key, writes) ∷ rest)) → slice_cmp nat_cmp e.0 key ≡ Less
 first_below e [] key writes rest all = all.0
 first_below e (f ∷ fs) key writes rest all = first_below e fs key writes rest all.1
 
-pub entries_below : (entries : List Entry) (key : List ℕ) (writes : List Written) (rest : List Entry) → IsStrictlySortedBy (slice_cmp nat_cmp) (keys_of (entries ++ (key, writes) ∷ rest)) → AllByRecursion (λ (e : Entry). slice_cmp nat_cmp e.0 key ≡ Less) entries
+pub entries_below : (entries : List Entry) (key : List ℕ) (writes : History) (rest : List Entry) → IsStrictlySortedBy (slice_cmp nat_cmp) (keys_of (entries ++ (key, writes) ∷ rest)) → AllByRecursion (λ (e : Entry). slice_cmp nat_cmp e.0 key ≡ Less) entries
 unfolding IsStrictlySortedBy
 entries_below [] key writes rest sorted = tt
 entries_below (e ∷ es) key writes rest sorted = (first_below e es key writes rest sorted.0, entries_below es key writes rest sorted.1)
 
-pub are_below : (all entries : List Entry) (key : List ℕ) (writes : List Written) (rest : List Entry) → IsStrictlySortedBy (slice_cmp nat_cmp) (keys_of all) → all ≡ entries ++ (key, writes) ∷ rest → AreBelow entries key
+pub are_below : (all entries : List Entry) (key : List ℕ) (writes : History) (rest : List Entry) → IsStrictlySortedBy (slice_cmp nat_cmp) (keys_of all) → all ≡ entries ++ (key, writes) ∷ rest → AreBelow entries key
 are_below all entries key writes rest sorted e = λ x at. all_of (λ (y : Entry). slice_cmp nat_cmp y.0 key ≡ Less) entries x (entries_below entries key writes rest (subst (λ (es : List Entry). IsStrictlySortedBy (slice_cmp nat_cmp) (keys_of es)) e sorted)) at

@@ -19,12 +19,16 @@ pair_text pair = encode_lower pair.0 ++ (codes ":" ++ (flat_map column_text pair
 abbrev pub dump_text : List Pair → List ℕ
 dump_text pairs = flat_map pair_text pairs
 
--- the text of the store of so many logs was appended
-pub record IsPrinted (count : ℕ) (old new : Option (List ℕ)) : Type 0 where
+-- the store of so many logs
+pub record IsStoreOfSome (count : ℕ) (pairs : List Pair) : Type 0 where
   pub logs : List (List ℕ)
   pub number : length logs ≡ count
-  pub pairs : List Pair
   pub is_store : IsStoreOf logs [] pairs
+
+-- the text of the store of so many logs was appended: which logs, no contract can say of files
+pub record IsPrinted (count : ℕ) (old new : Option (List ℕ)) : Type 0 where
+  pub pairs : List Pair
+  pub is_store : IsStoreOfSome count pairs
   pub appended : Appends old new (dump_text pairs)
 
 -- the exit status of a failure

@@ -14,7 +14,8 @@ AreReadings (bytes ∷ logs) (log ∷ readings) = IsReading bytes log × AreRead
 AreReadings [] (log ∷ readings) = ⊥
 AreReadings (bytes ∷ logs) [] = ⊥
 
--- The checkpoint to begin from. Where there is no part there is none. Parts are not read yet: nothing is said of them.
+-- The checkpoint to begin from. Where there is no part there is none. Parts are not read yet: over them there is none to begin
+-- from and none is left out, so that there is neither a store nor a gap.
 abbrev pub IsChosen : List (List ℕ) → ℕ → Option Checkpoint → Type 0
 IsChosen [] cutoff chosen = chosen ≡ None
 IsChosen (part ∷ parts) cutoff chosen = ⊥

@@ -12,9 +12,9 @@ pub record IsWalk (updates : List Update) (pairs : List Pair) : Type 0 where
   pub map : IsMap pairs
   pub exact : (key : List ℕ) (number : ℕ) (bytes : List ℕ) → Holds pairs key number bytes ↔ HasColumn updates key number bytes
 
--- two updates with one stamp are one update
+-- two updates of a key with one stamp are one update
 abbrev pub AreApart : List Update → Type 0
-AreApart updates = (a b : Update) → Contains updates a → Contains updates b → a.stamp ≡ b.stamp → a ≡ b
+AreApart updates = (a b : Update) → Contains updates a → Contains updates b → a.key ≡ b.key → a.stamp ≡ b.stamp → a ≡ b
 
 -- what each update does is lawful
 abbrev pub AreLawful : List Update → Type 0

@@ -1,9 +1,9 @@
 //! The greatest writes of one key.
 ghost use Rattle.std.specs.Prelude.{◌≡◌, ◌≤◌, ◌<◌, ◌↔◌, ◌++◌, [], ◌∷◌, List, None, Some, IsTrue, length, slice_index_or, slice_set};
-ghost use Rattle.mt_words.specs.declared.limits.TheConstants.{GREATEST_COLUMN};
+ghost use Rattle.mt_words.specs.declared.limits.TheConstants.{GREATEST_COLUMN, MOST_COLUMNS};
 ghost use Rattle.mt_words.specs.Limits.{widest};
 ghost use Rattle.mt_words.specs.Words.{IsColumn, NumbersBelow};
-ghost use Rattle.mt_recover.specs.Cells.{Written, IsNewer, column_in, IsCellOf, IsColumnsOf};
+ghost use Rattle.mt_recover.specs.Cells.{Written, IsNewer, IsCleared, column_in, IsCellOf, IsColumnsOf};
 
 use mt_words::{Column, Columns, MOST_COLUMNS, Stamp};
 use std::alloc::Global;
@@ -72,14 +72,16 @@ impl Cell {
         keep_greater(&mut self.writes, write);
     }
 
-    /// The columns that the writes leave.
-    pub fn into_columns(self, alloc: Global) -> Columns
-        ensures { (writes : List Written) → IsCellOf writes self → IsColumnsOf writes result }
+    /// The columns that the writes leave which are no older than the reset.
+    pub fn into_columns(self, alloc: Global, reset: Option<Stamp>) -> Columns
+        ensures { (writes : List Written) →
+            IsCellOf writes self → IsColumnsOf reset writes result }
     {
         let mut columns = Columns::new(alloc);
         let mut writes = self.writes;
-        for number in 0..16u8 {
-            push_write(&mut columns, number, take_write(&mut writes, number));
+        for number in 0..MOST_COLUMNS as u8 {
+            let kept = unless_cleared(reset, take_write(&mut writes, number));
+            push_write(&mut columns, number, kept);
         }
         // It tells the proof that the columns are lawful.
         let _ = columns.as_slice();
@@ -99,12 +101,33 @@ fn push_write(columns: &mut Columns, number: u8, write: Option<Write>)
     }
 }
 
+/// The write, unless it is older than the reset.
+fn unless_cleared(reset: Option<Stamp>, write: Option<Write>) -> Option<Write>
+    ensures cleared { IsCleared reset write → result ≡ None }
+    ensures kept { (IsCleared reset write → ⊥) → result ≡ write }
+{
+    if is_cleared(reset, &write) {
+        return None;
+    }
+    write
+}
+
+/// Whether the write is older than the reset.
+fn is_cleared(reset: Option<Stamp>, write: &Option<Write>) -> bool
+    ensures { IsTrue result ↔ IsCleared reset write.now }
+{
+    match (reset, write) {
+        (Some(reset), Some(write)) => write.stamp.is_older(&reset),
+        _ => false,
+    }
+}
+
 /// Takes the write of a column out.
 fn take_write(writes: &mut [Option<Write>; MOST_COLUMNS], number: u8) -> Option<Write>
     requires { number ≤ GREATEST_COLUMN }
     ensures value { result ≡ slice_index_or writes.old number None }
     ensures after { writes.new ≡ slice_set writes.old number None }
-    ensures places { length writes.old ≡ 16 }
+    ensures places { length writes.old ≡ MOST_COLUMNS }
 {
     writes[usize::from(number)].take()
 }

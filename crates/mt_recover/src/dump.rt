@@ -1,5 +1,5 @@
 //! The text of a store.
-ghost use Rattle.std.specs.Prelude.{◌≡◌, ◌++◌, [], ◌∷◌, OnOk};
+ghost use Rattle.std.specs.Prelude.{◌≤◌, length, OnOk};
 ghost use Rattle.std.specs.Io.KnownBytes.{Appends};
 ghost use Rattle.hex.specs.Hex.{encode_lower};
 ghost use Rattle.mt_recover.specs.Dump.{dump_text, pair_text, column_text};
@@ -21,6 +21,7 @@ pub fn write_dump<W: Write>(store: &Store, out: &mut W) -> Result<(), io::Error>
     Ok(())
 }
 
+/// Prints the line of a key.
 fn write_pair<W: Write>(pair: &(Key, Columns), out: &mut W) -> Result<(), io::Error>
     ensures { OnOk result
         (Appends (W.contents out.old) (W.contents out.new) (pair_text pair.now)) }
@@ -33,6 +34,7 @@ fn write_pair<W: Write>(pair: &(Key, Columns), out: &mut W) -> Result<(), io::Er
     out.write_all(b"\n")
 }
 
+/// Prints a column of a key.
 fn write_column<W: Write>(column: &Column, out: &mut W) -> Result<(), io::Error>
     ensures { OnOk result
         (Appends (W.contents out.old) (W.contents out.new) (column_text column.now)) }
@@ -44,23 +46,33 @@ fn write_column<W: Write>(column: &Column, out: &mut W) -> Result<(), io::Error>
     write_hex(&column.bytes, out)
 }
 
+/// How many bytes are printed at once.
+const CHUNK: usize = 64;
+
+/// Prints bytes in lower hexadecimal.
 fn write_hex<W: Write>(bytes: &[u8], out: &mut W) -> Result<(), io::Error>
     ensures { OnOk result
         (Appends (W.contents out.old) (W.contents out.new) (encode_lower bytes.now)) }
 {
-    for byte in bytes {
-        write_byte(*byte, out)?;
+    let mut rest = bytes;
+    while !rest.is_empty() {
+        let (chunk, after) = rest.split_at(rest.len().min(CHUNK));
+        write_chunk(chunk, out)?;
+        rest = after;
     }
     Ok(())
 }
 
-fn write_byte<W: Write>(byte: u8, out: &mut W) -> Result<(), io::Error>
+/// Prints a few bytes in lower hexadecimal.
+fn write_chunk<W: Write>(chunk: &[u8], out: &mut W) -> Result<(), io::Error>
+    requires { length chunk.now ≤ CHUNK }
     ensures { OnOk result
-        (Appends (W.contents out.old) (W.contents out.new) (encode_lower (byte ∷ []))) }
+        (Appends (W.contents out.old) (W.contents out.new) (encode_lower chunk.now)) }
 {
-    let mut digits = [0; 2];
-    let Ok(()) = hex::encode_to_slice([byte].as_slice(), &mut digits) else {
+    let mut digits = [0; 2 * CHUNK];
+    let text = &mut digits[..2 * chunk.len()];
+    let Ok(()) = hex::encode_to_slice(chunk, text) else {
         unreachable!();
     };
-    out.write_all(&digits)
+    out.write_all(text)
 }

@@ -1,15 +1,15 @@
 //! The program that prints the store of log files.
-ghost use Rattle.std.specs.Prelude.{◌≡◌, ◌<◌, [], length, IfOk, IfErr, OnOk, vec_len};
+ghost use Rattle.std.specs.Prelude.{◌≡◌, ◌≢◌, ◌≤◌, ◌<◌, ◌↔◌, [], length, IfOk, OnOk, vec_len};
 ghost use Rattle.std.specs.Io.KnownBytes.{Appends};
-ghost use Rattle.mt_recover.specs.Dump.{dump_text, IsPrinted, status_of};
+ghost use Rattle.mt_recover.specs.Dump.{dump_text, IsStoreOfSome, IsPrinted, status_of};
 
 use crate::dump::write_dump;
-use crate::recover::recover_logs;
+use crate::recover::{Recovered, recover_logs};
 use crate::store::Store;
 use mt_words::{Fault, Memory};
 use std::alloc::Global;
 use std::fs::{File, OpenFile};
-use std::io::{self, Read, Write};
+use std::io::{self, ErrorKind, Read, Write};
 use std::rt::Files;
 
 /// The most files.
@@ -35,16 +35,19 @@ enum Failure<'a> {
 
 /// Prints the store of the log files of these names, or a line that says why there is none, and answers the exit
 /// status: 0 where it is printed, 1 for a fault of the logs, 2 where no name is given, 3 for a file that cannot be
-/// opened, for too many names and where the output fails. All files are read before any is recovered.
+/// opened, for too many names and where the output fails. All files are read before any is recovered. Where nothing
+/// is printed, `out` may still have been written to.
 pub fn dump_files<R: Files + AllocGlobal, O: Write, E: Write>(
     rt: &R,
     names: &[String],
     out: &mut O,
     err: &mut E,
 ) -> u8
-    ensures printed { result ≡ 0 → IsPrinted (length names.now) (O.contents out.old) (O.contents out.new) }
-    ensures no_files { names.now ≡ [] → result ≡ 2 }
+    ensures printed { result ≡ 0 →
+        IsPrinted (length names.now) (O.contents out.old) (O.contents out.new) }
+    ensures no_files { result ≡ 2 ↔ (names.now ≡ []) }
     ensures too_many { 512 < length names.now → result ≡ 3 }
+    ensures range { result ≤ 3 }
 {
     match dump(rt, names, out) {
         Ok(()) => 0,
@@ -56,13 +59,15 @@ pub fn dump_files<R: Files + AllocGlobal, O: Write, E: Write>(
     }
 }
 
+/// Recovers the files, whose bytes are let go before the store is printed.
 fn dump<'a, R: Files + AllocGlobal, O: Write>(
     rt: &R,
     names: &'a [String],
     out: &mut O,
 ) -> Result<(), Failure<'a>>
-    ensures printed { OnOk result (IsPrinted (length names.now) (O.contents out.old) (O.contents out.new)) }
-    ensures no_files { names.now ≡ [] → result ≡ Err Failure.NoFiles }
+    ensures printed { OnOk result
+        (IsPrinted (length names.now) (O.contents out.old) (O.contents out.new)) }
+    ensures no_files { (result ≡ Err Failure.NoFiles) ↔ (names.now ≡ []) }
     ensures too_many { 512 < length names.now → result ≡ Err Failure.TooManyFiles }
 {
     if names.is_empty() {
@@ -71,30 +76,33 @@ fn dump<'a, R: Files + AllocGlobal, O: Write>(
     if names.len() > MOST_FILES {
         return Err(Failure::TooManyFiles);
     }
+    let recovered = recover_files(rt, names)?;
+    print(recovered.store(), out)
+}
+
+/// The store of the files.
+fn recover_files<'a, R: Files + AllocGlobal>(
+    rt: &R,
+    names: &'a [String],
+) -> Result<Recovered, Failure<'a>>
+    ensures store { IfOk result (λ recovered. IsStoreOfSome (length names.now) recovered.store) }
+    ensures files { result ≢ Err Failure.NoFiles }
+{
     let files = read_files(rt, names)?;
     let Ok(logs) = slices_of(rt.alloc(), &files) else {
         return Err(Failure::Recovery(Fault::Memory));
     };
     match recover_logs(rt.alloc(), &logs) {
         Err(fault) => Err(Failure::Recovery(fault)),
-        Ok(recovered) => print(recovered.store(), out),
+        Ok(recovered) => Ok(recovered),
     }
-}
-
-/// The bytes of each file.
-fn slices_of(alloc: Global, files: &[Vec<u8>]) -> Result<Vec<&[u8]>, Memory>
-    ensures { IfOk result (λ slices. vec_len slices ≡ length files.now) }
-{
-    let mut slices = Vec::with_capacity(alloc, files.len())?;
-    for file in files {
-        slices.push(file.as_slice())?;
-    }
-    Ok(slices)
 }
 
 /// Prints the store, and hands on what a buffer still holds, so that its fault has a status.
 fn print<'a, O: Write>(store: &Store, out: &mut O) -> Result<(), Failure<'a>>
-    ensures { OnOk result (Appends (O.contents out.old) (O.contents out.new) (dump_text store.now)) }
+    ensures printed { OnOk result
+        (Appends (O.contents out.old) (O.contents out.new) (dump_text store.now)) }
+    ensures files { result ≢ Err Failure.NoFiles }
 {
     let Ok(()) = write_dump(store, out) else {
         return Err(Failure::Output);
@@ -110,7 +118,8 @@ fn read_files<'a, R: Files + AllocGlobal>(
     rt: &R,
     names: &'a [String],
 ) -> Result<Vec<Vec<u8>>, Failure<'a>>
-    ensures { IfOk result (λ files. vec_len files ≡ length names.now) }
+    ensures read { IfOk result (λ files. vec_len files ≡ length names.now) }
+    ensures files { result ≢ Err Failure.NoFiles }
 {
     let Ok(mut files) = Vec::with_capacity(rt.alloc(), names.len()) else {
         return Err(Failure::Recovery(Fault::Memory));
@@ -119,28 +128,65 @@ fn read_files<'a, R: Files + AllocGlobal>(
         let Ok(file) = File::open(rt, name.as_str()) else {
             return Err(Failure::Open(name.as_str()));
         };
-        let Some(bytes) = read_file(rt, file) else {
-            return Err(Failure::Recovery(Fault::Source { log }));
-        };
-        let Ok(()) = files.push(bytes) else {
-            return Err(Failure::Recovery(Fault::Memory));
-        };
+        match read_file(rt, file) {
+            Ok(bytes) => {
+                let Ok(()) = files.push(bytes) else {
+                    return Err(Failure::Recovery(Fault::Memory));
+                };
+            }
+            Err(Unread::Memory) => return Err(Failure::Recovery(Fault::Memory)),
+            Err(Unread::Source) => return Err(Failure::Recovery(Fault::Source { log })),
+        }
     }
     Ok(files)
 }
 
-/// The bytes of a file. None where it cannot be read whole, or has more than `MOST_BYTES`.
-fn read_file<R: Files + AllocGlobal>(rt: &R, file: R::File) -> Option<Vec<u8>> {
-    let size = file.metadata().ok()?.len();
+/// Why the bytes of a file are not there.
+#[derive(Debug, Drop)]
+enum Unread {
+    /// A growth was refused.
+    Memory,
+    /// The file cannot be read whole, or has more than `MOST_BYTES`.
+    Source,
+}
+
+impl From<io::Error> for Unread {
+    fn from(error: io::Error) -> Unread {
+        if error.kind() == ErrorKind::OutOfMemory {
+            Unread::Memory
+        } else {
+            Unread::Source
+        }
+    }
+}
+
+/// The bytes of a file. Its size is looked at first, so that a file that is too large is refused at once; no more
+/// than a byte past the limit is read, so that one that grows is refused too.
+fn read_file<R: Files + AllocGlobal>(rt: &R, file: R::File) -> Result<Vec<u8>, Unread> {
+    let size = file.metadata()?.len();
     if size > MOST_BYTES {
-        return None;
+        return Err(Unread::Source);
     }
-    let mut bytes = Vec::with_capacity(rt.alloc(), size as usize).ok()?;
-    let count = file.take(MOST_BYTES + 1).read_to_end(&mut bytes).ok()?;
+    // A byte more than the file has, so that its end is found without a growth.
+    let Ok(mut bytes) = Vec::with_capacity(rt.alloc(), size as usize + 1) else {
+        return Err(Unread::Memory);
+    };
+    let count = file.take(MOST_BYTES + 1).read_to_end(&mut bytes)?;
     if count as u64 > MOST_BYTES {
-        return None;
+        return Err(Unread::Source);
     }
-    Some(bytes)
+    Ok(bytes)
+}
+
+/// The bytes of each file.
+fn slices_of(alloc: Global, files: &[Vec<u8>]) -> Result<Vec<&[u8]>, Memory>
+    ensures { IfOk result (λ slices. vec_len slices ≡ length files.now) }
+{
+    let mut slices = Vec::with_capacity(alloc, files.len())?;
+    for file in files {
+        slices.push(file.as_slice())?;
+    }
+    Ok(slices)
 }
 
 /// The exit status of a failure.

@@ -1,5 +1,5 @@
 //! Reading of all logs.
-ghost use Rattle.std.specs.Prelude.{◌≡◌, ◌<◌, ◌≤◌, [], map, length, position, nat_lt, IfOk, IfErr, IfSome, IfNone, All, Contains};
+ghost use Rattle.std.specs.Prelude.{◌≡◌, ◌<◌, ◌≤◌, [], map, position, nat_lt, IfOk, IfErr, IfSome, IfNone, All, Contains};
 ghost use Rattle.mt_recover.specs.Verdict.{IsAnswered};
 ghost use Rattle.mt_recover.specs.LogTexts.{AreTextsOf, fault_at};
 

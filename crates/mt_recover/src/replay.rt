@@ -1,15 +1,11 @@
 //! The store that the surviving updates make.
-ghost use Rattle.std.specs.Prelude.{◌≡◌, ◌≤◌, ◌<◌, [], ◌∷◌, ◌++◌, List, map, length, filter, OnOk, IfOk};
-ghost use Rattle.std.specs.List.{AllByRecursion};
-ghost use Rattle.mt_words.specs.declared.limits.Format.TheVariants.{One};
-ghost use Rattle.mt_words.specs.declared.record.Change.{Change as ChangeValue};
+ghost use Rattle.std.specs.Prelude.{◌<◌, [], ◌∷◌, ◌++◌, List, map, filter, OnOk, IfOk};
 ghost use Rattle.mt_words.specs.declared.update.Update.{Update};
-ghost use Rattle.mt_words.specs.Limits.{limits_of};
 ghost use Rattle.mt_recover.specs.Survivors.{in_window, log_survivors, updates_from, update_by, update_at};
 ghost use Rattle.mt_recover.specs.Walk.{IsWalk, AreApart, AreLawful};
-ghost use Rattle.mt_recover.specs.KeyWrites.{AreWritesOf, put_update};
+ghost use Rattle.mt_recover.specs.KeyWrites.{AreHistoriesOf};
 
-use crate::key_writes::{KeyWrites, add_put};
+use crate::key_writes::{KeyWrites, add_put, add_remove};
 use crate::store::Store;
 use crate::window::Window;
 use mt_record::LogText;
@@ -31,7 +27,7 @@ pub fn replay(alloc: Global, window: Window, texts: Vec<LogText>) -> Result<Stor
     store_of(alloc, keys)
 }
 
-/// Adds the surviving writes of a log to those of their keys.
+/// Adds the surviving updates of a log to those of their keys.
 fn take_log(
     alloc: Global,
     keys: &mut BTreeMap<Key, KeyWrites>,
@@ -39,8 +35,8 @@ fn take_log(
     log: usize,
     records: Vec<Record>,
 ) -> Result<(), Memory>
-    ensures { OnOk result ((updates : List Update) → AreWritesOf updates keys.old →
-        AreWritesOf (updates ++ filter (in_window window) (updates_from log 0 records.items)) keys.new) }
+    ensures { OnOk result ((updates : List Update) → AreHistoriesOf updates keys.old →
+        AreHistoriesOf (updates ++ filter (in_window window) (updates_from log 0 records.items)) keys.new) }
 {
     let mut number = 0;
     for record in records {
@@ -59,7 +55,7 @@ fn take_log(
     Ok(())
 }
 
-/// Adds the writes of a record to those of its key, if it survives.
+/// Adds the update of a record to those of its key, if it survives.
 fn take_record(
     alloc: Global,
     keys: &mut BTreeMap<Key, KeyWrites>,
@@ -67,8 +63,8 @@ fn take_record(
     origin: Origin,
     logged: Record,
 ) -> Result<(), Memory>
-    ensures { OnOk result ((updates : List Update) → AreWritesOf updates keys.old →
-        AreWritesOf (updates ++ filter (in_window window) (update_by origin logged.timestamp logged.change)) keys.new) }
+    ensures { OnOk result ((updates : List Update) → AreHistoriesOf updates keys.old →
+        AreHistoriesOf (updates ++ filter (in_window window) (update_by origin logged.timestamp logged.change)) keys.new) }
 {
     let timestamp = logged.timestamp();
     if !window.contains(timestamp) {
@@ -80,7 +76,7 @@ fn take_record(
     }
 }
 
-/// Adds the writes of a change to those of its key.
+/// Adds a change to those of its key.
 fn add_change(
     alloc: Global,
     keys: &mut BTreeMap<Key, KeyWrites>,
@@ -88,20 +84,21 @@ fn add_change(
     timestamp: u64,
     change: Change,
 ) -> Result<(), Memory>
-    ensures { OnOk result ((updates : List Update) → AreWritesOf updates keys.old →
-        AreWritesOf (updates ++ update_at origin timestamp change ∷ []) keys.new) }
+    ensures { OnOk result ((updates : List Update) → AreHistoriesOf updates keys.old →
+        AreHistoriesOf (updates ++ update_at origin timestamp change ∷ []) keys.new) }
 {
     let Change { version, key, kind } = change;
     let stamp = Stamp { version, origin };
     match kind {
         Kind::Put(columns) => add_put(alloc, keys, stamp, timestamp, key, columns),
+        Kind::Remove => add_remove(alloc, keys, stamp, timestamp, key),
     }
 }
 
 /// The keys that have a column, with their columns.
 fn store_of(alloc: Global, keys: BTreeMap<Key, KeyWrites>) -> Result<Store, Memory>
     ensures { IfOk result (λ store. (updates : List Update) →
-        AreWritesOf updates keys → AreApart updates → AreLawful updates → IsWalk updates store) }
+        AreHistoriesOf updates keys → AreApart updates → AreLawful updates → IsWalk updates store) }
 {
     let mut pairs = Vec::with_capacity(alloc, keys.len())?;
     for (key, writes) in keys {

@@ -1,5 +1,5 @@
 //! The recovered store.
-ghost use Rattle.std.specs.Prelude.{◌≡◌, [], ◌∷◌, List, ℕ, MatchOption, Contains};
+ghost use Rattle.std.specs.Prelude.{◌≡◌, List, ℕ, MatchOption, Contains};
 ghost use Rattle.std.specs.Ordering.{nat_cmp};
 ghost use Rattle.std.specs.Cmp.Lexicographic.{slice_cmp};
 ghost use Rattle.mt_words.specs.Walks.{IsMap, KeysRise};
@@ -60,11 +60,11 @@ fn find(pairs: &[(Key, Columns)], key: &[u8]) -> Result<usize, usize>
     requires { KeysRise pairs.now }
     ensures { IsFound pairs.now key.now result }
 {
-    pairs.binary_search_by(|pair| beside(pair, key))
+    pairs.binary_search_by(|pair| compare_key(pair, key))
 }
 
 /// How the key of a pair stands to this one.
-fn beside(pair: &(Key, Columns), key: &[u8]) -> Ordering
+fn compare_key(pair: &(Key, Columns), key: &[u8]) -> Ordering
     ensures { result ≡ slice_cmp nat_cmp pair.now.0 key.now }
 {
     pair.0.as_bytes().cmp(key)

@@ -4,7 +4,9 @@ ghost use Rattle.std.specs.Prelude.{◌≤◌, ◌<◌, ◌↔◌, IsTrue};
 /// From `begin` on, until below `cutoff`.
 #[derive(Clone, Copy, Debug)]
 pub struct Window {
+    /// The first timestamp.
     pub begin: u64,
+    /// The first timestamp that is too late.
     pub cutoff: u64,
 }
 

@@ -1,7 +1,9 @@
 //! The tests that cross crates: outside vectors, worked logs, printed texts, exit statuses, and the happy path of each
-//! call that takes memory. What a contract says is not tested again.
+//! call that takes memory.
 #![tactic(auto)]
 
+#[cfg(test)]
+mod encoding;
 #[cfg(test)]
 mod logs;
 #[cfg(test)]

@@ -48,9 +48,26 @@ pub fn put(
     timestamp: u64,
     value: &str,
 ) -> Result<String, Fail> {
+    put_column(alloc, key, version, timestamp, 0, value)
+}
+
+/// A put of this column.
+pub fn put_column(
+    alloc: Global,
+    key: &str,
+    version: u64,
+    timestamp: u64,
+    number: u8,
+    value: &str,
+) -> Result<String, Fail> {
     Ok(format!(in alloc;
-        "00000019 01 {timestamp:016x} {version:016x} 0001 {key} 01 00 0001 {value} 00000019"
+        "00000019 01 {timestamp:016x} {version:016x} 0001 {key} 01 {number:02x} 0001 {value} 00000019"
     )?)
+}
+
+/// A remove of a key of one byte.
+pub fn remove(alloc: Global, key: &str, version: u64, timestamp: u64) -> Result<String, Fail> {
+    Ok(format!(in alloc; "00000014 02 {timestamp:016x} {version:016x} 0001 {key} 00000014")?)
 }
 
 /// A mark.

@@ -1,7 +1,7 @@
 //! Whole logs, and what follows the header alone.
 use crate::logs::{HEADER, LOG_A, bytes_of, log_of};
 use mt_record::{FeedFault, read_log};
-use mt_words::What;
+use mt_words::{Change, Kind, What};
 use std::test::Fail;
 
 #[test]
@@ -73,11 +73,28 @@ fn names_the_first_fault_of_a_record(rt: HostRuntime) -> Result<(), Fail> {
             "00000018 01 0000000000000001 0000000000000001 0001 6b 01 10 0000 00000018",
             What::Columns,
         ),
-        // Removes are not read yet: their byte is no kind.
-        ("00000009 02 0000000000000005 00000009", What::Kind),
+        ("00000009 02 0000000000000005 00000009", What::Frame),
+        (
+            "00000014 02 0000000000000001 0000000000000000 0001 6b 00000014",
+            What::Version,
+        ),
     ] {
         let fault = read_log(alloc, &log_of(alloc, [rest].as_slice())?).err();
         assert_eq!(rt; fault, Some(FeedFault::Record { nth: 0, what }), "{rest}");
+    }
+    Ok(())
+}
+
+#[test]
+fn takes_a_remove_of_the_empty_key(rt: HostRuntime) -> Result<(), Fail> {
+    let alloc = rt.alloc();
+    let rest = "00000013 02 0000000000000001 0000000000000001 0000 00000013";
+    let text = read_log(alloc, &log_of(alloc, [rest].as_slice())?)?;
+    assert_eq!(rt; (text.whole, text.torn), (1, false));
+    for record in text.records {
+        let change = record.into_change().ok_or("a change")?;
+        assert!(rt; change.key.as_bytes().is_empty());
+        assert!(rt; matches!(change.kind, Kind::Remove));
     }
     Ok(())
 }
@@ -88,5 +105,17 @@ fn takes_an_empty_value_of_the_greatest_column(rt: HostRuntime) -> Result<(), Fa
     let rest = "00000018 01 0000000000000001 0000000000000001 0001 6b 01 0f 0000 00000018";
     let text = read_log(alloc, &log_of(alloc, [rest].as_slice())?)?;
     assert_eq!(rt; (text.whole, text.torn), (1, false));
+    for record in text.records {
+        let change = record.into_change().ok_or("a change")?;
+        let Change {
+            version: _,
+            key: _,
+            kind,
+        } = change;
+        let Kind::Put(columns) = kind else {
+            return Err(Fail::from("a put"));
+        };
+        assert_eq!(rt; columns.get(15).map(|value| value.len()), Some(0));
+    }
     Ok(())
 }

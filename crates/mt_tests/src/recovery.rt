@@ -1,5 +1,7 @@
 //! Worked logs.
-use crate::logs::{HEADER, LATE_HEADER, LOG_A, LOG_B, bytes_of, dump_of, log_of, mark, put};
+use crate::logs::{
+    HEADER, LATE_HEADER, LOG_A, LOG_B, bytes_of, dump_of, log_of, mark, put, put_column, remove,
+};
 use mt_record::{FeedFault, read_log};
 use mt_recover::recover_logs;
 use mt_words::{Fault, What};
@@ -18,6 +20,7 @@ fn a_mark_keeps_the_updates_before_it(rt: HostRuntime) -> Result<(), Fail> {
 
     // Without the mark the log's last timestamp is that of its put, which is at the cutoff.
     log.truncate(45);
+    assert_eq!(rt; read_log(alloc, &log)?.last, 3);
     let unmarked = dump_of(alloc, [log.as_slice()].as_slice())?;
     assert_eq!(rt; unmarked.len(), 0);
     Ok(())
@@ -51,6 +54,7 @@ fn a_log_of_a_header_alone_counts(rt: HostRuntime) -> Result<(), Fail> {
     let alloc = rt.alloc();
     let a = bytes_of(alloc, LOG_A)?;
     let empty = bytes_of(alloc, HEADER)?;
+    assert_eq!(rt; read_log(alloc, &empty)?.last, 0);
     let dump = dump_of(alloc, [a.as_slice(), empty.as_slice()].as_slice())?;
     assert_eq!(rt; dump.len(), 0);
 
@@ -67,6 +71,7 @@ fn a_cut_record_is_left_out(rt: HostRuntime) -> Result<(), Fail> {
     let last = bytes_of(alloc, put(alloc, "62", 1, 6, "79")?.as_str())?;
     whole.extend_from_slice(&last)?;
     assert_eq!(rt; whole.len(), 95);
+    assert_eq!(rt; read_log(alloc, &whole)?.last, 6);
     assert_eq!(rt;
         dump_of(alloc, [whole.as_slice()].as_slice())?.as_slice(),
         PAIR_A
@@ -164,5 +169,42 @@ fn timestamps_may_stay_and_not_fall(rt: HostRuntime) -> Result<(), Fail> {
     let short = bytes_of(alloc, "4d544c31 00")?;
     let fault = recover_logs(alloc, [short.as_slice()].as_slice()).err();
     assert_eq!(rt; fault, Some(Fault::Header { log: 0 }));
+    Ok(())
+}
+
+#[test]
+fn a_remove_clears_older_puts_of_other_logs(rt: HostRuntime) -> Result<(), Fail> {
+    let alloc = rt.alloc();
+    let end = mark(alloc, 20)?;
+    let last = remove(alloc, "6b", 6, 11)?;
+    let removes = log_of(alloc, [last.as_str(), end.as_str()].as_slice())?;
+    let first = put_column(alloc, "6b", 4, 9, 1, "42")?;
+    let second = put(alloc, "6b", 5, 10, "41")?;
+    let puts = log_of(
+        alloc,
+        [first.as_str(), second.as_str(), end.as_str()].as_slice(),
+    )?;
+    let dump = dump_of(alloc, [removes.as_slice(), puts.as_slice()].as_slice())?;
+    assert_eq!(rt; dump.len(), 0);
+    let exchanged = dump_of(alloc, [puts.as_slice(), removes.as_slice()].as_slice())?;
+    assert_eq!(rt; exchanged.len(), 0);
+    Ok(())
+}
+
+#[test]
+fn a_put_behind_a_remove_sets_its_columns_alone(rt: HostRuntime) -> Result<(), Fail> {
+    let alloc = rt.alloc();
+    let both = String::from_str(
+        alloc,
+        "0000001d 01 0000000000000001 0000000000000001 0001 6b
+            02 00 0001 41 01 0001 42 0000001d",
+    )?;
+    let clear = remove(alloc, "6b", 2, 2)?;
+    let second = put_column(alloc, "6b", 3, 3, 1, "43")?;
+    let end = mark(alloc, 9)?;
+    let records = [both.as_str(), clear.as_str(), second.as_str(), end.as_str()];
+    let log = log_of(alloc, records.as_slice())?;
+    let dump = dump_of(alloc, [log.as_slice()].as_slice())?;
+    assert_eq!(rt; dump.as_slice(), b"6b: 1=43\n".as_slice());
     Ok(())
 }

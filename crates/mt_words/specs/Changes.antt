@@ -2,7 +2,7 @@
 use Rattle.std.specs.Prelude.{ℕ, ◌<◌, ◌^◌, List, length, Contains, Option, Some, None, IfSome}
 use Rattle.mt_words.specs.declared.record.Change.{Change}
 use Rattle.mt_words.specs.declared.update.Kind.{Kind}
-use Rattle.mt_words.specs.declared.update.Kind.TheVariants.{Put}
+use Rattle.mt_words.specs.declared.update.Kind.TheVariants.{Put, Remove}
 use Rattle.mt_words.specs.Limits.{Limits}
 use Rattle.mt_words.specs.Words.{IsKey, AreColumns}
 
@@ -20,9 +20,13 @@ changed timestamp change = record { timestamp = timestamp; change = Some change 
 abbrev pub put_of : ℕ → ℕ → List ℕ → List (ℕ × List ℕ) → Logged
 put_of timestamp version key columns = changed timestamp (record { version = version; key = key; kind = Put columns })
 
+abbrev pub remove_of : ℕ → ℕ → List ℕ → Logged
+remove_of timestamp version key = changed timestamp (record { version = version; key = key; kind = Remove })
+
 -- a put has at least one column
 abbrev pub AllowsKind : Limits → Kind → Type 0
 AllowsKind limits (Put columns) = AreColumns limits columns × (0 < length columns)
+AllowsKind limits Remove = Unit {0}
 
 -- a lawful change: a version above 0, a key, and what its kind allows
 pub record IsLawfulChange (limits : Limits) (change : Change) : Type 0 where
@@ -39,7 +43,9 @@ IsLawful limits r = (r.timestamp < 2 ^ 64) × IfSome r.change (IsLawfulChange li
 abbrev pub Writes : Kind → ℕ → Option (List ℕ) → Type 0
 Writes (Put columns) number (Some bytes) = Contains columns (number, bytes)
 Writes (Put columns) number None = ⊥
+Writes Remove number bytes = ⊥
 
 -- a change of this kind clears all columns of its key
 abbrev pub IsReset : Kind → Type 0
 IsReset (Put columns) = ⊥
+IsReset Remove = Unit {0}

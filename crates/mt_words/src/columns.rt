@@ -14,7 +14,9 @@ use std::marker::Model;
 /// One column: its number and its bytes.
 #[derive(Debug, Drop)]
 pub struct Column {
+    /// 0 to `GREATEST_COLUMN`.
     pub number: u8,
+    /// At most `LONGEST_VALUE`.
     pub bytes: Vec<u8>,
 }
 

@@ -1,7 +1,7 @@
 //! Records of a log.
-ghost use Rattle.std.specs.Prelude.{◌≡◌, ◌<◌, ◌↔◌, length, Some, None, IsSome, IfSome};
+ghost use Rattle.std.specs.Prelude.{◌≡◌, ◌<◌, ◌↔◌, length, Some, None, IsSome, IfSome, MatchOption};
 ghost use Rattle.mt_words.specs.Limits.{widest};
-ghost use Rattle.mt_words.specs.Changes.{IsLawful, mark_of, put_of};
+ghost use Rattle.mt_words.specs.Changes.{IsLawful, mark_of, put_of, remove_of};
 
 use crate::{Columns, Key, Kind};
 use std::marker::Model;
@@ -11,7 +11,9 @@ use std::marker::Model;
 pub struct Change {
     /// The version of the key's value, from 1 on.
     pub version: u64,
+    /// The key that it changes.
     pub key: Key,
+    /// What it does to the key.
     pub kind: Kind,
 }
 
@@ -49,6 +51,7 @@ impl Record {
         ensures accepted { IsSome result ↔ ((0 < version) × (0 < length columns)) }
         ensures value { IfSome result (λ made. made ≡ put_of timestamp version key columns) }
     {
+        // It tells the proof that the key is lawful.
         let _ = key.as_bytes();
         if version == 0 || columns.len() == 0 {
             return None;
@@ -63,12 +66,42 @@ impl Record {
         })
     }
 
+    /// A remove of the key. None where the version is 0.
+    pub fn remove(timestamp: u64, version: u64, key: Key) -> Option<Record>
+        ensures accepted { IsSome result ↔ (0 < version) }
+        ensures value { IfSome result (λ made. made ≡ remove_of timestamp version key) }
+    {
+        // It tells the proof that the key is lawful.
+        let _ = key.as_bytes();
+        if version == 0 {
+            return None;
+        }
+        Some(Record {
+            timestamp,
+            change: Some(Change {
+                version,
+                key,
+                kind: Kind::Remove,
+            }),
+        })
+    }
+
     /// Its timestamp.
     pub fn timestamp(&self) -> u64
         ensures value { result ≡ self.now.timestamp }
         ensures lawful { IsLawful widest self.now }
     {
         self.timestamp
+    }
+
+    /// What it changes; None for a mark.
+    pub fn change(&self) -> Option<&Change>
+        ensures value { MatchOption result
+            (self.now.change ≡ None)
+            (λ change. self.now.change ≡ Some change.now) }
+        ensures lawful { IsLawful widest self.now }
+    {
+        Option::as_ref(&self.change)
     }
 
     /// What it changes, moved out; None for a mark.

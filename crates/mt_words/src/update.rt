@@ -9,6 +9,8 @@ use crate::{Columns, Key};
 pub enum Kind {
     /// Sets these columns alone.
     Put(Columns),
+    /// Clears all columns.
+    Remove,
 }
 
 /// Where an update comes from. At one version log updates are ordered by the position of their log, then by
@@ -42,9 +44,12 @@ impl Stamp {
 /// An update of one key.
 #[derive(Debug, Drop)]
 pub struct Update {
+    /// The key that it changes.
     pub key: Key,
+    /// Its place among the updates of the key.
     pub stamp: Stamp,
     /// The timestamp of its record; 0 for the entry of a checkpoint, where it is never looked at.
     pub timestamp: u64,
+    /// What it does to the key.
     pub kind: Kind,
 }

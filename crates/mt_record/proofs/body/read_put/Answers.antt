@@ -1,36 +1,17 @@
-use Rattle.std.proofs.Common.{◌<◌, List, ℕ, refl, subst, arith}
-use Rattle.std.proofs.lemmas.Bool.{false≢true}
+use Rattle.std.proofs.Common.{◌≡◌, length, refl, ap, arith}
 use Rattle.std.proofs.lemmas.Result.{err_from_is_err_and}
+use Rattle.mt_words.specs.declared.update.Kind.TheVariants.{Put}
 use Rattle.mt_words.specs.Limits.{widest}
-use Rattle.mt_words.specs.Words.{IsKey}
-use Rattle.mt_record.specs.LogFaults.{HasVersionFault, HasKeyFault, HasColumnsFault}
-use Rattle.mt_record.proofs.Puts.{of_change, put_columns_fault}
+use Rattle.mt_record.proofs.Changes.{put_of_columns, columns_fault}
 use Rattle.mt_record.proofs.body.read_put.Goals as goal
-
-pub returns-then-fields-eq0-clause-fault : goal.returns-then-fields-eq0-clause-fault
-returns-then-fields-eq0-clause-fault c =
-    let are = c.in-Some.ensures.found in
-    of_change _ c.in-Some.fields HasVersionFault are are.columns.0 are.columns.1 c.if-fields-eq0.true
-
-pub returns-in_default-new-clause-fault : goal.returns-in_default-new-clause-fault
-returns-in_default-new-clause-fault c =
-    let are = c.in-Some.ensures.found in
-    let accepted = rw c.in_ok-from_slice.ensures.items at c.in_default-new.ensures.accepted in
-    of_change _ c.in-Some.fields (HasKeyFault widest) are are.columns.0 are.columns.1 (omega arith, λ key. false≢true (accepted.1 key))
 
 pub returns-in_err-columns-clause-fault : goal.returns-in_err-columns-clause-fault
 returns-in_err-columns-clause-fault c =
-    let f = c.in-Some.fields in
-    let p = err_from_is_err_and c.from_residual-in_err-columns.result c.from_residual-in_err-columns.ensures.1 in
-    let key : IsKey widest f.key.now =
-    subst (λ (bytes : List ℕ). IsKey widest bytes) c.in_ok-from_slice.ensures.items (c.in-Some-new.ensures.accepted.0 refl) in
-    rw (p.1, p.2) (put_columns_fault widest c.args.latest _ f c.in-Some.ensures.found (omega arith) key c.in_err-columns.field-0.0 c.in_err-columns.ensures.fault)
+    let p = err_from_is_err_and c.from_residual.result c.from_residual.ensures.1 in
+    rw (p.1, p.2) (columns_fault widest c.args.count c.args.bytes.now (omega arith) c.in_err-columns.field-0.0 c.in_err-columns.ensures.fault)
 
-pub returns-in_default-put-clause-fault : goal.returns-in_default-put-clause-fault
-returns-in_default-put-clause-fault c =
-    let f = c.in-Some.fields in
-    let key : IsKey widest f.key.now =
-    subst (λ (bytes : List ℕ). IsKey widest bytes) c.in_ok-from_slice.ensures.items (c.in-Some-new.ensures.accepted.0 refl) in
-    let version : 0 < f.version = omega arith in
-    of_change _ f (HasColumnsFault widest) c.in-Some.ensures.found c.in_ok-columns.columns c.in_ok-columns.ensures.found
-    (version, key, λ allowed. false≢true (c.in_default-put.ensures.accepted.1 (version, allowed.1)))
+pub returns-then-is_empty-clause-fault : goal.returns-then-is_empty-clause-fault
+returns-then-is_empty-clause-fault c =
+    let columns = c.in_ok-columns.columns in
+    let none : length columns ≡ 0 = ap length (c.is_empty.ensures.0 c.if-is_empty.true) in
+    (refl, Put columns, put_of_columns c.args.count c.args.bytes.now columns (omega arith) c.in_ok-columns.ensures.found, λ allowed. omega (arith, none, allowed.1))

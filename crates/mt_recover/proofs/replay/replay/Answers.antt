@@ -7,7 +7,7 @@ use Rattle.mt_words.specs.declared.update.Update.{Update}
 use Rattle.mt_record.specs.declared.read.LogText.{LogText}
 use Rattle.mt_recover.specs.Survivors.{log_survivors}
 use Rattle.mt_recover.specs.Walk.{IsWalk}
-use Rattle.mt_recover.specs.KeyWrites.{AreWritesOf}
+use Rattle.mt_recover.specs.KeyWrites.{AreHistoriesOf}
 use Rattle.mt_recover.proofs.ReplayLemmas.{logs_more, survivors_apart}
 use Rattle.mt_recover.proofs.replay.replay.Goals as goal
 
@@ -19,7 +19,7 @@ loop-text-preserved c =
     let number = so_far.log_is ∙ sym (length-map texts records) in
     record {
       log_is = omega (arith, length-append texts (c.in-Some.text ∷ []), so_far.log_is);
-      taken = subst (λ (x : List Update). AreWritesOf x c.take_log.new.keys)
+      taken = subst (λ (x : List Update). AreHistoriesOf x c.take_log.new.keys)
           (sym (ap (log_survivors c.args.window) (map_push records texts c.in-Some.text) ∙ logs_more c.args.window (map records texts) c.in-Some.text.records.items c.loop-text.log number))
           (c.in_ok-take_log.ensures (log_survivors c.args.window (map records texts)) so_far.taken);
     }
@@ -30,5 +30,5 @@ returns c =
     let g = c.into_iter-text-iterator.ensures.into_iter_gives in
     let seen = YieldsList-end (YieldsList-from_vec {s = c.into_iter-text-iterator.result} c.args.texts.items g.0 (g.1 ∙ c.args.texts.ok.0)) c.loop-text.yielded c.loop-text.text-iterator c.loop-text.yielded_by c.next.result c.next.new.self c.in-None.is c.next.ensures.steps in
     let all : c.loop-text.yielded ≡ c.args.texts.items = sym (map-id c.loop-text.yielded) ∙ seen.0 in
-    let taken = subst (λ (x : List LogText). AreWritesOf (log_survivors c.args.window (map records x)) c.loop-text.keys) all c.loop-text.invariant.taken in
+    let taken = subst (λ (x : List LogText). AreHistoriesOf (log_survivors c.args.window (map records x)) c.loop-text.keys) all c.loop-text.invariant.taken in
     IfOk-weaker c.store_of.result _ (IsWalk (log_survivors c.args.window (map records c.args.texts.items))) (λ store says. says (log_survivors c.args.window (map records c.args.texts.items)) taken (survivors_apart c.args.window (map records c.args.texts.items)) c.requires) c.store_of.ensures

@@ -5,7 +5,7 @@ use Rattle.std.specs.List.{filter}
 use Rattle.mt_words.specs.declared.record.Change.{Change}
 use Rattle.mt_words.specs.declared.update.Update.{Update}
 use Rattle.mt_recover.specs.Survivors.{update_by, in_window}
-use Rattle.mt_recover.specs.KeyWrites.{AreWritesOf}
+use Rattle.mt_recover.specs.KeyWrites.{AreHistoriesOf}
 use Rattle.mt_recover.proofs.KeyWritesLemmas.{on_ok}
 use Rattle.mt_recover.proofs.ReplayLemmas.{none_survives, one_survives}
 use Rattle.mt_recover.proofs.replay.take_record.Goals as goal
@@ -27,5 +27,5 @@ returns-in-Some c =
     let kept = ap (λ (made : Option Change). filter (in_window c.args.window) (update_by c.args.origin c.args.logged.timestamp made)) (sym c.in-Some.ensures.value)
     ∙ one_survives c.args.window c.args.origin c.args.logged.timestamp change (rw (← c.timestamp-timestamp.ensures.value) inside) in
     on_ok c.add_change.result
-    (λ adds us are. subst (λ (x : List Update). AreWritesOf (us ++ x) c.add_change.new.keys) (sym kept) (rw c.timestamp-timestamp.ensures.value at (adds us are)))
+    (λ adds us are. subst (λ (x : List Update). AreHistoriesOf (us ++ x) c.add_change.new.keys) (sym kept) (rw c.timestamp-timestamp.ensures.value at (adds us are)))
     c.add_change.ensures

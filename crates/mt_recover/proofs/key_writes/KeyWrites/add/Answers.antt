@@ -1,7 +1,7 @@
 use Rattle.std.proofs.Common.{◌++◌, ◌∷◌, [], ℕ, List, sym, ap, subst, ◌∙◌, append_assoc}
 use Rattle.std.proofs.lemmas.List.{append-nil}
 use Rattle.mt_recover.specs.Cells.{Written}
-use Rattle.mt_recover.specs.KeyWrites.{AddsColumns}
+use Rattle.mt_recover.specs.KeyWrites.{History, AddsColumns}
 use Rattle.mt_recover.proofs.KeyWritesLemmas.{none_added, column_added, last_column}
 use Rattle.mt_recover.proofs.key_writes.KeyWrites.add.Goals as goal
 
@@ -9,7 +9,8 @@ pub loop-column-init : goal.loop-column-init
 loop-column-init c = record {
   taken = [];
   were = sym (append-nil c.args.columns);
-  added = subst (λ (x : List Written). AddsColumns x c.args.stamp [] c.self.inside.writes.items) c.self.view_is (none_added c.self.inside.writes.items c.args.stamp);
+  added = subst (λ (x : History). AddsColumns x.writes c.args.stamp [] c.self.inside.writes.items) c.self.view_is (none_added c.self.inside.writes.items c.args.stamp);
+  same = ap (λ (x : History). x.reset) c.self.view_is;
 }
 
 pub new-requires : goal.new-requires
@@ -22,11 +23,15 @@ loop-column-preserved c =
     record {
       taken = column ∷ so_far.taken;
       were = so_far.were ∙ ap (λ (x : List (ℕ × List ℕ)). x ++ so_far.taken) c.in-Some.ensures.last ∙ append_assoc c.pop.new.self (column ∷ []) so_far.taken;
-      added = rw (c.in_ok-push.ensures.items, c.new.ensures) (column_added c.args.self.now c.loop-column.self-inside.writes.items c.args.stamp column so_far.taken so_far.added);
+      added = rw (c.in_ok-push.ensures.items, c.new.ensures) (column_added c.args.self.now.writes c.loop-column.self-inside.writes.items c.args.stamp column so_far.taken so_far.added);
+      same = so_far.same;
     }
 
-pub returns : goal.returns
-returns c =
+pub returns-clause-writes : goal.returns-clause-writes
+returns-clause-writes c =
     let so_far = c.loop-column.invariant in
     let all = so_far.were ∙ ap (λ (x : List (ℕ × List ℕ)). x ++ so_far.taken) c.in_default.ensures.none.0 in
-    subst (λ (x : List (ℕ × List ℕ)). AddsColumns c.args.self.now c.args.stamp x c.loop-column.self-inside.writes.items) (sym all) so_far.added
+    subst (λ (x : List (ℕ × List ℕ)). AddsColumns c.args.self.now.writes c.args.stamp x c.loop-column.self-inside.writes.items) (sym all) so_far.added
+
+pub returns-clause-reset : goal.returns-clause-reset
+returns-clause-reset c = c.loop-column.invariant.same

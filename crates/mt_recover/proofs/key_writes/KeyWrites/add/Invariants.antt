@@ -7,7 +7,8 @@ abbrev pub invariant-loop-column : goal.invariant-loop-column
 invariant-loop-column l = record {
   taken : List (ℕ × List ℕ);
   were : l.fn.columns ≡ l.columns ++ taken;
-  added : AddsColumns l.fn.self l.stamp taken l.self-inside.writes.items;
+  added : AddsColumns l.fn.self.writes l.stamp taken l.self-inside.writes.items;
+  same : l.self-inside.reset ≡ l.fn.self.reset;
 }
 
 abbrev pub decreases-loop-column : goal.decreases-loop-column

@@ -1,0 +1,87 @@
+-- Records written one field after the other.
+use Rattle.std.proofs.Common.{◌≡◌, ℕ, suc, ◌+◌, ◌*◌, ◌^◌, ◌<◌, ◌≤◌, List, [], ◌∷◌, ◌++◌, length, take, get_or, Option, Some, sym, ap, ◌∙◌, subst, append_assoc, arith}
+use Rattle.std.proofs.Math.Seq.{take-suc}
+use Rattle.std.proofs.lemmas.List.{append-nil, length-append}
+use Rattle.std.proofs.lemmas.List.Concat.{flat_map-cons, flat_map-append}
+use Rattle.std.proofs.lemmas.List.Folds.{length-flat_map-take}
+use Rattle.std.specs.Prelude.{Vec}
+use Rattle.std.specs.List.{flat_map}
+use Rattle.byteorder.specs.Endian.{big_bytes}
+use Rattle.mt_words.specs.declared.limits.Format.TheVariants.{One}
+use Rattle.mt_words.specs.Limits.{widest}
+use Rattle.mt_words.specs.Words.{AreColumns}
+use Rattle.mt_words.specs.declared.record.Change.{Change}
+use Rattle.mt_words.specs.Changes.{Logged, IsLawful}
+use Rattle.mt_record.specs.Spelling.{column_bytes, code_of, change_bytes, body_of, body, IsRecordLength}
+use Rattle.mt_record.specs.Adding.{HasRoom, Adds}
+use Rattle.mt_record.proofs.Lawful.{put_fits, columns_length, lawful_length}
+
+-- ---- columns
+
+-- there are few columns
+pub few_columns : (cs : List (ℕ × List ℕ)) → AreColumns widest cs → length cs < 2 ^ 8
+few_columns cs are = (put_fits One cs are).0
+
+-- ---- the first columns
+
+-- the bytes of the first columns
+abbrev pub first_bytes : ℕ → List (ℕ × List ℕ) → List ℕ
+first_bytes i cs = flat_map column_bytes (take i cs)
+
+-- the bytes of the first columns and of one more
+one_more : (cs : List (ℕ × List ℕ)) (i : ℕ) (c : ℕ × List ℕ) → i < length cs → c ≡ get_or cs i c → first_bytes (i + 1) cs ≡ first_bytes i cs ++ column_bytes c
+one_more cs i c below is =
+    let next : i + 1 ≡ suc i = omega arith in
+    let front : take (i + 1) cs ≡ take i cs ++ c ∷ [] =
+    ap (λ (n : ℕ). take n cs) next ∙ take-suc cs i c below ∙ ap (λ (d : ℕ × List ℕ). take i cs ++ d ∷ []) (sym is) in
+    ap (flat_map column_bytes) front ∙ flat_map-append column_bytes (take i cs) (c ∷ [])
+    ∙ ap (λ (x : List ℕ). first_bytes i cs ++ x) (flat_map-cons column_bytes c [] ∙ append-nil (column_bytes c))
+
+-- how many bytes the first columns and one more take
+pub one_more_length : (cs : List (ℕ × List ℕ)) (i : ℕ) (c : ℕ × List ℕ) → i < length cs → c ≡ get_or cs i c
+    → length (first_bytes (i + 1) cs) ≡ length (first_bytes i cs) + length (column_bytes c)
+one_more_length cs i c below is = ap length (one_more cs i c below is) ∙ length-append (first_bytes i cs) (column_bytes c)
+
+-- the first columns and one more take no more bytes than all
+pub part_length : (cs : List (ℕ × List ℕ)) (i : ℕ) (c : ℕ × List ℕ) → i < length cs → c ≡ get_or cs i c
+    → length (first_bytes i cs) + length (column_bytes c) ≤ length (flat_map column_bytes cs)
+part_length cs i c below is =
+    subst (λ (d : ℕ × List ℕ). length (first_bytes i cs) + length (column_bytes d) ≤ length (flat_map column_bytes cs)) (sym is)
+    (length-flat_map-take column_bytes cs i c below)
+
+-- columns take few bytes
+pub few_bytes : (cs : List (ℕ × List ℕ)) → AreColumns widest cs → length (flat_map column_bytes cs) ≤ 65538 * 255
+few_bytes cs are = omega (arith, columns_length widest cs are.0, few_columns cs are)
+
+-- ---- adding
+
+-- bytes added one after the other
+adds_both : {Z : Type 0} (a b c : Vec ℕ Z) (xs ys : List ℕ) → Adds xs a b → Adds ys b c → Adds (xs ++ ys) a c
+adds_both a b c xs ys first then = record {
+  items = then.items ∙ ap (λ (x : List ℕ). x ++ ys) first.items ∙ append_assoc a.items xs ys;
+  len = omega (arith, first.len, then.len, length-append xs ys);
+  room = omega (arith, first.room, then.room);
+}
+
+-- there is room for one column behind the first ones
+pub column_room : {Z : Type 0} (cs : List (ℕ × List ℕ)) (i n : ℕ) (c : ℕ × List ℕ) (old out : Vec ℕ Z) → i < length cs → c ≡ get_or cs i c
+    → Adds (n ∷ first_bytes i cs) old out → HasRoom (length (n ∷ flat_map column_bytes cs)) old → HasRoom (length (column_bytes c)) out
+column_room cs i n c old out below is so_far room = omega (arith, so_far.len, so_far.room, room, part_length cs i c below is)
+
+-- ---- records
+
+-- how long the body of a lawful record is, by its change
+pub changed_length : (r : Logged) (change : Change) → IsLawful widest r → r.change ≡ Some change → IsRecordLength widest (9 + length (change_bytes change))
+changed_length r change lawful is =
+    let here : IsRecordLength widest (length (body_of r.timestamp (Some change))) =
+    subst (λ (o : Option Change). IsRecordLength widest (length (body_of r.timestamp o))) is (lawful_length widest r lawful) in
+    (omega arith, omega (arith, here.1))
+
+-- the byte of the kind, the timestamp and the change, one behind the other, are the body
+pub adds_changed : {Z : Type 0} (r : Logged) (change : Change) (code t : ℕ) (a b c d : Vec ℕ Z) → r.change ≡ Some change → code ≡ code_of change.kind
+    → t ≡ r.timestamp → Adds (code ∷ []) a b → Adds (big_bytes 8 t) b c → Adds (change_bytes change) c d → Adds (body r) a d
+adds_changed r change code t a b c d is is_code is_time first second third =
+    let all = adds_both a c d ((code ∷ []) ++ big_bytes 8 t) (change_bytes change) (adds_both a b c (code ∷ []) (big_bytes 8 t) first second) third in
+    let spelled : ((code ∷ []) ++ big_bytes 8 t) ++ change_bytes change ≡ body r =
+    (λ i. is_code i ∷ (big_bytes 8 (is_time i) ++ change_bytes change)) ∙ ap (body_of r.timestamp) (sym is) in
+    subst (λ (x : List ℕ). Adds x a d) spelled all

@@ -1,0 +1,8 @@
+use Rattle.mt_record.proofs.Encoding.{adds_changed}
+use Rattle.mt_record.proofs.encode.put_body.Goals as goal
+
+pub returns-in-Some : goal.returns-in-Some
+returns-in-Some c =
+    adds_changed c.args.record.now c.in-Some.change.now c.code_of.result c.timestamp-in-Some.result c.args.out.now c.put_bytes-in-Some.new.out
+    c.put_u64-in-Some.new.out c.put_change.new.out c.in-Some.ensures.value c.code_of.ensures c.timestamp-in-Some.ensures.value c.put_bytes-in-Some.ensures
+    c.put_u64-in-Some.ensures c.put_change.ensures

@@ -1,0 +1,134 @@
+//! Logs written as bytes. The room for all bytes is made first: where it is refused, nothing was written.
+ghost use Rattle.std.specs.Prelude.{◌≡◌, ◌<◌, ◌++◌, length, OnOk, OnErr};
+ghost use Rattle.mt_words.specs.Limits.{widest};
+ghost use Rattle.mt_words.specs.Words.{AreColumns};
+ghost use Rattle.mt_words.specs.Changes.{IsLawfulChange};
+ghost use Rattle.mt_words.specs.declared.update.Kind.TheVariants.{Put};
+ghost use Rattle.mt_record.specs.Heads.{head_of, head_bytes};
+ghost use Rattle.mt_record.specs.Spelling.{code_of as code_of_kind, column_bytes, kind_bytes, change_bytes, body, spelling, IsRecordLength};
+ghost use Rattle.mt_record.specs.Adding.{HasRoom, Adds};
+
+use crate::body::{MARK, PUT, REMOVE};
+use crate::put::{put_bytes, put_column, put_counted, put_u32, put_u64};
+use byteorder::{BigEndian, ByteOrder};
+use mt_words::{Change, Column, Kind, Memory, Record};
+
+/// Appends the header of a log from which updates below `from` may be missing. On an Err nothing is appended.
+pub fn encode_log_header(from: u64, out: &mut Vec<u8>) -> Result<(), Memory>
+    ensures ok { OnOk result (out.new.items ≡ out.old.items ++ head_bytes (head_of from)) }
+    ensures err { OnErr result (out.new.items ≡ out.old.items) }
+{
+    let mut header = *b"MTL1........";
+    BigEndian::write_u64(&mut header[4..], from);
+    out.extend_from_slice(&header)?;
+    Ok(())
+}
+
+/// Appends the record. On an Err nothing is appended.
+pub fn encode_record(record: &Record, out: &mut Vec<u8>) -> Result<(), Memory>
+    ensures ok { OnOk result (out.new.items ≡ out.old.items ++ spelling «record».now) }
+    ensures err { OnErr result (out.new.items ≡ out.old.items) }
+{
+    let length = body_length(record);
+    out.reserve(4 + length + 4)?;
+    put_u32(length as u32, out);
+    put_body(record, out);
+    put_u32(length as u32, out);
+    Ok(())
+}
+
+/// How many bytes the body of the record takes.
+fn body_length(record: &Record) -> usize
+    ensures value { result ≡ length (body «record».now) }
+    ensures lawful { IsRecordLength widest result }
+{
+    match record.change() {
+        None => 9,
+        Some(change) => 9 + change_length(change),
+    }
+}
+
+/// How many bytes the version, the key and the columns take.
+fn change_length(change: &Change) -> usize
+    requires { IsLawfulChange widest change.now }
+    ensures { result ≡ length (change_bytes change.now) }
+{
+    let key = change.key.as_bytes();
+    match &change.kind {
+        Kind::Put(columns) => 10 + key.len() + columns_length(columns.as_slice()),
+        Kind::Remove => 10 + key.len(),
+    }
+}
+
+/// How many bytes the columns take, with their number.
+fn columns_length(columns: &[Column]) -> usize
+    requires { AreColumns widest columns.now }
+    ensures { result ≡ length (kind_bytes (Put columns.now)) }
+{
+    let mut length = 1;
+    for column in columns {
+        length += column_length(column);
+    }
+    length
+}
+
+/// How many bytes the column takes.
+fn column_length(column: &Column) -> usize
+    ensures { result ≡ length (column_bytes column.now) }
+{
+    3 + column.bytes.len()
+}
+
+/// Appends the body of the record.
+fn put_body(record: &Record, out: &mut Vec<u8>)
+    requires { HasRoom (length (body «record».now)) out.old }
+    ensures { Adds (body «record».now) out.old out.new }
+{
+    match record.change() {
+        None => {
+            put_bytes(&[MARK], out);
+            put_u64(record.timestamp(), out);
+        }
+        Some(change) => {
+            put_bytes(&[code_of(&change.kind)], out);
+            put_u64(record.timestamp(), out);
+            put_change(change, out);
+        }
+    }
+}
+
+/// The byte of the kind.
+fn code_of(kind: &Kind) -> u8
+    ensures { result ≡ code_of_kind kind.now }
+{
+    match kind {
+        Kind::Put(_) => PUT,
+        Kind::Remove => REMOVE,
+    }
+}
+
+/// Appends the version, the key and what the kind carries.
+fn put_change(change: &Change, out: &mut Vec<u8>)
+    requires lawful { IsLawfulChange widest change.now }
+    requires room { HasRoom (length (change_bytes change.now)) out.old }
+    ensures { Adds (change_bytes change.now) out.old out.new }
+{
+    put_u64(change.version, out);
+    put_counted(change.key.as_bytes(), out);
+    match &change.kind {
+        Kind::Put(columns) => put_columns(columns.as_slice(), out),
+        Kind::Remove => {}
+    }
+}
+
+/// Appends the columns behind their number.
+fn put_columns(columns: &[Column], out: &mut Vec<u8>)
+    requires lawful { AreColumns widest columns.now }
+    requires room { HasRoom (length (kind_bytes (Put columns.now))) out.old }
+    ensures { Adds (kind_bytes (Put columns.now)) out.old out.new }
+{
+    put_bytes(&[columns.len() as u8], out);
+    for column in columns {
+        put_column(column, out);
+    }
+}

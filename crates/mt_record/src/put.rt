@@ -1,0 +1,68 @@
+//! Fields at the end of bytes, in room that was made before. Each is copied once.
+ghost use Rattle.std.specs.Prelude.{◌≡◌, ◌<◌, ◌^◌, length};
+ghost use Rattle.byteorder.specs.Endian.{big_bytes};
+ghost use Rattle.mt_record.specs.Spelling.{counted, column_bytes, FitsColumn};
+ghost use Rattle.mt_record.specs.Adding.{HasRoom, Adds};
+
+use byteorder::{BigEndian, ByteOrder};
+use mt_words::Column;
+
+/// Bytes.
+pub fn put_bytes(bytes: &[u8], out: &mut Vec<u8>)
+    requires { HasRoom (length bytes.now) out.old }
+    ensures { Adds bytes.now out.old out.new }
+{
+    let Ok(()) = out.extend_from_slice(bytes) else {
+        unreachable!();
+    };
+}
+
+/// A number of two bytes.
+pub fn put_u16(number: u16, out: &mut Vec<u8>)
+    requires { HasRoom 2 out.old }
+    ensures { Adds (big_bytes 2 number) out.old out.new }
+{
+    let mut bytes = [0; 2];
+    BigEndian::write_u16(&mut bytes, number);
+    put_bytes(&bytes, out);
+}
+
+/// A number of four bytes.
+pub fn put_u32(number: u32, out: &mut Vec<u8>)
+    requires { HasRoom 4 out.old }
+    ensures { Adds (big_bytes 4 number) out.old out.new }
+{
+    let mut bytes = [0; 4];
+    BigEndian::write_u32(&mut bytes, number);
+    put_bytes(&bytes, out);
+}
+
+/// A number of eight bytes.
+pub fn put_u64(number: u64, out: &mut Vec<u8>)
+    requires { HasRoom 8 out.old }
+    ensures { Adds (big_bytes 8 number) out.old out.new }
+{
+    let mut bytes = [0; 8];
+    BigEndian::write_u64(&mut bytes, number);
+    put_bytes(&bytes, out);
+}
+
+/// Bytes behind their length.
+pub fn put_counted(bytes: &[u8], out: &mut Vec<u8>)
+    requires short { length bytes.now < 2 ^ 16 }
+    requires room { HasRoom (length (counted bytes.now)) out.old }
+    ensures { Adds (counted bytes.now) out.old out.new }
+{
+    put_u16(bytes.len() as u16, out);
+    put_bytes(bytes, out);
+}
+
+/// A column: its number and its bytes.
+pub fn put_column(column: &Column, out: &mut Vec<u8>)
+    requires fits { FitsColumn column.now }
+    requires room { HasRoom (length (column_bytes column.now)) out.old }
+    ensures { Adds (column_bytes column.now) out.old out.new }
+{
+    put_bytes(&[column.number], out);
+    put_counted(&column.bytes, out);
+}
