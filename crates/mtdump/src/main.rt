@@ -3,17 +3,32 @@
 
 use mt_recover::dump_files;
 use std::env;
-use std::io::{self, BufWriter};
+use std::io::{self, BufWriter, ErrorKind, Write};
 use std::process::ExitCode;
 
-fn main(rt: HostRuntime) -> io::Result<ExitCode> {
+fn main(rt: HostRuntime) -> ExitCode {
+    match run(&rt) {
+        Ok(status) => ExitCode::from(status),
+        Err(error) => {
+            let (text, status) = match error.kind() {
+                ErrorKind::OutOfMemory => ("no memory", 1),
+                _ => ("cannot read the words", 3),
+            };
+            // A line that cannot be written changes no status.
+            let _ = eprintln!(rt; "mtdump: {text}");
+            ExitCode::from(status)
+        }
+    }
+}
+
+/// The status of the program, or the fault of the words themselves, as one that is not UTF-8.
+fn run(rt: &HostRuntime) -> io::Result<u8> {
     let alloc = rt.alloc();
-    let mut names: Vec<String> = env::args(&rt)?.collect(alloc)?;
+    let mut names: Vec<String> = env::args(rt)?.collect(alloc)?;
     if !names.is_empty() {
         names.remove(0);
     }
     let mut out = BufWriter::new(alloc, rt.stdout())?;
     let mut err = rt.stderr();
-    let status = dump_files(&rt, names.as_slice(), &mut out, &mut err);
-    Ok(ExitCode::from(status))
+    Ok(dump_files(rt, names.as_slice(), &mut out, &mut err))
 }
