@@ -9,3 +9,7 @@ pub mod OneFault
 pub mod OneLog
 pub mod OneReading
 pub mod Vectors
+pub mod Beginnings
+pub mod Feeds
+pub mod Held
+pub mod MoreBytes

@@ -1,7 +1,7 @@
 -- A log in pieces: what a feed has read, and which faults the bytes so far show.
 use Rattle.std.specs.Prelude.{◌≡◌, ◌≢◌, ℕ, ◌<◌, ◌⊎◌, Option, Some, None, List, [], ◌∷◌, ◌++◌, length}
 use Rattle.std.specs.List.{flat_map}
-use Rattle.mt_words.specs.Limits.{limits_of}
+use Rattle.mt_words.specs.Limits.{Limits, limits_of}
 use Rattle.mt_words.specs.Changes.{Logged}
 use Rattle.mt_record.specs.declared.read.FeedFault.{FeedFault}
 use Rattle.mt_record.specs.declared.read.FeedFault.TheVariants as faults
@@ -19,6 +19,11 @@ abbrev pub ShowsFault : List ℕ → FeedFault → Type 0
 ShowsFault bytes faults.Header = ShowsNoHeader bytes
 ShowsFault bytes (faults.Record nth what) = IsLogFault bytes (faults.Record nth what)
 ShowsFault bytes faults.Memory = ⊥
+
+-- a fault that a feed answered is shown; nothing is said where memory was refused
+abbrev pub IsShown : List ℕ → FeedFault → Type 0
+IsShown bytes faults.Memory = Unit {0}
+IsShown bytes fault = ShowsFault bytes fault
 
 abbrev pub ShowsNoFault : List ℕ → Type 0
 ShowsNoFault bytes = (fault : FeedFault) → ShowsFault bytes fault → ⊥
@@ -38,22 +43,32 @@ pub record BeginsHeader (feed : Feed) (bytes : List ℕ) (taken : List Logged) :
   pub no_head : feed.head ≡ None
   pub held : feed.held ≡ bytes
   pub none : taken ++ feed.ready ≡ []
+  pub latest : feed.latest ≡ 0
+  pub whole : feed.whole ≡ 0
   pub head : Head
   pub is_head : IsHead head
   pub more : List ℕ
   pub rest : head_bytes head ≡ bytes ++ more
   pub some : 0 < length more
 
--- the bytes are a header, the records taken and ready, and what is held back: nothing, or the beginning of a record
+-- a header and these records, of which the last has this timestamp and which are so many, begin the bytes, and the rest follows
+pub record AreRead (head : Head) (records : List Logged) (time count : ℕ) (bytes rest : List ℕ) : Type 0 where
+  pub is_head : IsHead head
+  pub spelled : bytes ≡ head_bytes head ++ (flat_map spelling records ++ rest)
+  pub lawful : AreRecords (limits_of head.format) 0 records
+  pub latest : time ≡ latest 0 records
+  pub whole : count ≡ count_of records
+
+-- a rest that is no record nor a fault: nothing, or the beginning of a record
+abbrev pub IsLeft : Limits → List ℕ → Type 0
+IsLeft limits rest = (rest ≡ []) ⊎ IsTorn limits rest
+
+-- the bytes are a header, the records taken and ready, and what is held back
 pub record HasRead (feed : Feed) (bytes : List ℕ) (taken : List Logged) : Type 0 where
   pub head : Head
   pub has_head : feed.head ≡ Some head
-  pub is_head : IsHead head
-  pub spelled : bytes ≡ head_bytes head ++ (flat_map spelling (taken ++ feed.ready) ++ feed.held)
-  pub lawful : AreRecords (limits_of head.format) 0 (taken ++ feed.ready)
-  pub ends : (feed.held ≡ []) ⊎ IsTorn (limits_of head.format) feed.held
-  pub latest : feed.latest ≡ latest 0 (taken ++ feed.ready)
-  pub whole : feed.whole ≡ count_of (taken ++ feed.ready)
+  pub read : AreRead head (taken ++ feed.ready) feed.latest feed.whole bytes feed.held
+  pub ends : IsLeft (limits_of head.format) feed.held
 
 -- the records begin the log behind its header
 abbrev pub BeginLog : List ℕ → List Logged → Type 0

@@ -5,3 +5,4 @@ pub mod LogFaults
 pub mod Bodies
 pub mod Adding
 pub mod Feeding
+pub mod Pieces

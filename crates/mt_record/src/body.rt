@@ -1,5 +1,5 @@
 //! The body of a record: what stands between its two lengths.
-ghost use Rattle.std.specs.Prelude.{◌≡◌, ◌≤◌, ◌<◌, ◌↔◌, ◌++◌, ◌∷◌, ℕ, length, Some, IfOk, IfErr, IfSome, IfNone, IsTrue};
+ghost use Rattle.std.specs.Prelude.{◌≡◌, ◌<◌, ◌↔◌, ◌∷◌, ℕ, Some, IfOk, IfErr, IfSome, IfNone, IsTrue};
 ghost use Rattle.mt_words.specs.Limits.{limits_of};
 ghost use Rattle.mt_words.specs.declared.limits.Format.TheVariants.{One};
 ghost use Rattle.mt_words.specs.Changes.{IsLawfulChange, changed};

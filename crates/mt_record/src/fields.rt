@@ -1,5 +1,5 @@
 //! Fields from the front of bytes. Each gives the bytes behind it too; none is copied.
-ghost use Rattle.std.specs.Prelude.{◌≡◌, ◌≤◌, ◌<◌, ◌^◌, ◌++◌, List, ℕ, length, IfSome, IfNone};
+ghost use Rattle.std.specs.Prelude.{◌≡◌, ◌<◌, ◌^◌, ◌++◌, List, ℕ, length, IfSome, IfNone};
 ghost use Rattle.byteorder.specs.Endian.{big_bytes};
 ghost use Rattle.mt_record.specs.Spelling.{counted, column_bytes, FitsColumn};
 

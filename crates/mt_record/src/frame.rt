@@ -1,5 +1,5 @@
 //! One record among the bytes of a log, in its frame of two lengths.
-ghost use Rattle.std.specs.Prelude.{◌≡◌, ◌≤◌, ◌<◌, ◌++◌, ◌⊎◌, [], ◌∷◌, length, IfOk, IfErr, MatchOption};
+ghost use Rattle.std.specs.Prelude.{◌≡◌, ◌<◌, ◌⊎◌, [], length, IfOk, IfErr, MatchOption};
 ghost use Rattle.mt_words.specs.Limits.{limits_of};
 ghost use Rattle.mt_words.specs.declared.limits.Format.TheVariants.{One};
 ghost use Rattle.mt_record.specs.Logs.{IsTorn};

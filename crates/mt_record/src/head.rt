@@ -1,8 +1,13 @@
 //! Headers of logs.
-ghost use Rattle.std.specs.Prelude.{◌≡◌, ◌++◌, IfSome, IfNone};
+ghost use Rattle.std.specs.Prelude.{◌≡◌, ◌++◌, IfSome, IfNone, MatchBool};
 ghost use Rattle.mt_record.specs.Heads.{IsHead, head_bytes, head_of, HasNoHeader};
+ghost use Rattle.mt_record.specs.Feeding.{ShowsNoHeader};
+ghost use Rattle.mt_record.specs.Pieces.{BeginsAlike};
 
 use crate::fields::u64_at;
+
+/// What a header begins with.
+const MAGIC: &[u8] = b"MTL1";
 
 /// The `from` of the header at the front, and the bytes behind the header.
 pub fn header_at(bytes: &[u8]) -> Option<(u64, &[u8])>
@@ -10,6 +15,13 @@ pub fn header_at(bytes: &[u8]) -> Option<(u64, &[u8])>
         IsHead (head_of x.0) × (bytes.now ≡ head_bytes (head_of x.0) ++ x.1.now)) }
     ensures none { IfNone result (HasNoHeader bytes.now) }
 {
-    let rest = bytes.strip_prefix(b"MTL1")?;
+    let rest = bytes.strip_prefix(MAGIC)?;
     u64_at(rest)
+}
+
+/// Whether the bytes begin a header or a header begins them.
+pub fn begins_header(bytes: &[u8]) -> bool
+    ensures { MatchBool result (BeginsAlike bytes.now) (ShowsNoHeader bytes.now) }
+{
+    bytes.starts_with(MAGIC) || MAGIC.starts_with(bytes)
 }

@@ -7,9 +7,13 @@ mod fields;
 mod frame;
 mod head;
 mod laws;
+mod log_feed;
+mod piece_reader;
 mod put;
 mod read;
+mod record_reader;
 
 pub use encode::{encode_log_header, encode_record};
 pub use laws::one_reading;
+pub use log_feed::LogFeed;
 pub use read::{FeedFault, LogText, read_log};

@@ -1,5 +1,5 @@
 //! Fields at the end of bytes, in room that was made before. Each is copied once.
-ghost use Rattle.std.specs.Prelude.{◌≡◌, ◌<◌, ◌^◌, length};
+ghost use Rattle.std.specs.Prelude.{◌<◌, ◌^◌, length};
 ghost use Rattle.byteorder.specs.Endian.{big_bytes};
 ghost use Rattle.mt_record.specs.Spelling.{counted, column_bytes, FitsColumn};
 ghost use Rattle.mt_record.specs.Adding.{HasRoom, Adds};

@@ -1,13 +1,12 @@
 //! Whole logs.
-ghost use Rattle.std.specs.Prelude.{◌≡◌, ◌≤◌, ◌<◌, ◌^◌, ◌++◌, length, IfOk, IfErr, IfSome, IfNone};
+ghost use Rattle.std.specs.Prelude.{◌≡◌, IfOk, IfErr};
 ghost use Rattle.mt_record.specs.declared.read.FeedFault.TheVariants.{Memory};
 ghost use Rattle.mt_record.specs.Logs.{IsTextOf};
 ghost use Rattle.mt_record.specs.LogFaults.{IsAnswered};
 
-use crate::frame::{RecordFault, next_record};
-use crate::head::header_at;
+use crate::log_feed::LogFeed;
 use mt_words::{Record, What};
-use std::alloc::{AllocFailed, Global};
+use std::alloc::{AllocError, AllocFailed, Global};
 use thiserror::Error;
 
 /// A log that was read.
@@ -47,37 +46,21 @@ impl<T: Drop> From<AllocFailed<T>> for FeedFault {
     }
 }
 
+impl From<AllocError> for FeedFault {
+    ghost from_gives = { λ _ fault. fault ≡ Memory };
+
+    fn from(_refused: AllocError) -> FeedFault {
+        FeedFault::Memory
+    }
+}
+
 /// Reads a whole log, in one pass over its bytes. An Err is the one fault of the bytes, or `Memory` where a growth
 /// was refused.
 pub fn read_log(alloc: Global, bytes: &[u8]) -> Result<LogText, FeedFault>
     ensures log { IfOk result (IsTextOf bytes.now) }
     ensures fault { IfErr result (IsAnswered bytes.now) }
 {
-    let Some((from, mut rest)) = header_at(bytes) else {
-        return Err(FeedFault::Header);
-    };
-    let mut records = Vec::new(alloc);
-    let mut latest = 0;
-    'records: loop {
-        match next_record(alloc, latest, rest) {
-            Ok(Some((record, after))) => {
-                latest = record.timestamp();
-                records.push(record)?;
-                rest = after;
-            }
-            Ok(None) => break,
-            Err(RecordFault::Wrong(what)) => {
-                let nth = records.len() as u64;
-                return Err(FeedFault::Record { nth, what });
-            }
-            Err(RecordFault::Memory) => return Err(FeedFault::Memory),
-        }
-    }
-    Ok(LogText {
-        from,
-        last: from.max(latest),
-        whole: records.len() as u64,
-        records,
-        torn: !rest.is_empty(),
-    })
+    let mut feed = LogFeed::new(alloc);
+    feed.feed(bytes)?;
+    feed.finish()
 }

@@ -5,7 +5,7 @@ use Rattle.std.specs.Ordering.{nat_cmp, is_eq}
 use Rattle.std.specs.declared.cmp.Ordering.{Ordering}
 use Rattle.std.specs.declared.cmp.Ordering.TheVariants.{Less, Equal, Greater}
 use Rattle.std.specs.List.{AllByRecursion}
-use Rattle.std.specs.BTreeMap.{BTreeMap, get}
+use Rattle.std.specs.BTreeMap.{get}
 use Rattle.std.proofs.lemmas.Map.Lookups.{exact_bytes}
 use Rattle.std.proofs.lemmas.Cmp.{nat_list_cmp_total, tied_itself}
 use Rattle.std.proofs.lemmas.Bool.{false≢true}
@@ -15,7 +15,7 @@ use Rattle.mt_words.specs.declared.update.Update.{Update}
 use Rattle.mt_words.specs.Limits.{widest}
 use Rattle.mt_words.specs.Words.{IsColumn, AreColumns}
 use Rattle.mt_words.specs.Changes.{Writes, IsReset}
-use Rattle.mt_words.specs.Stamps.{IsOlder, IsAtMost}
+use Rattle.mt_words.specs.Stamps.{IsAtMost}
 use Rattle.mt_recover.specs.Cells.{Written}
 use Rattle.mt_recover.specs.KeyWrites.{History, Histories, AddsColumns, IsLater, IsWriteOf, IsGreatestReset, IsResetOf, AreHistoriesOf, writes_in, reset_in, put_update, remove_update}
 use Rattle.mt_recover.proofs.StampLemmas.{at_most_itself, at_most_trans, older_or_not, not_newer}

@@ -5,6 +5,8 @@
 #[cfg(test)]
 mod encoding;
 #[cfg(test)]
+mod feeding;
+#[cfg(test)]
 mod logs;
 #[cfg(test)]
 mod printing;

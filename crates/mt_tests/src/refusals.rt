@@ -1,7 +1,9 @@
-//! Want of memory. As it stands this test sees the store. `.ci/refuse_growths` runs it with one growth after the other
-//! refused: it then sees that a refused growth of `recover_logs` gives `Memory` and nothing else.
+//! Want of memory. As they stand these tests see no refusal. `.ci/refuse_growths` runs them with one growth after the other
+//! refused: it then sees that a refused growth gives `Memory` and nothing else.
+use mt_record::{FeedFault, LogFeed, encode_log_header, encode_record};
 use mt_recover::recover_logs;
-use mt_words::Fault;
+use mt_words::{Columns, Fault, Key, Memory, Record};
+use std::alloc::Global;
 
 /// Two logs, each of a put and a mark.
 const LOGS: [&[u8]; 2] = [
@@ -24,5 +26,48 @@ fn a_refused_growth_is_memory(rt: HostRuntime) {
             assert_eq!(rt; value, Some(b"y".as_slice()));
         }
         Err(fault) => assert_eq!(rt; fault, Fault::Memory),
+    }
+}
+
+#[test]
+fn a_refused_growth_of_a_feed_is_memory(rt: HostRuntime) {
+    let mut feed = LogFeed::new(rt.alloc());
+    let mut first = None;
+    for piece in LOGS[0].chunks(7) {
+        let fault = feed.feed(piece).err();
+        assert!(rt; first.is_none() || fault == first);
+        first = fault;
+    }
+    match feed.finish() {
+        Ok(text) => {
+            assert_eq!(rt; (text.last, text.whole, text.records.len()), (5, 2, 2));
+            assert!(rt; first.is_none());
+        }
+        Err(fault) => assert_eq!(rt; fault, FeedFault::Memory),
+    }
+}
+
+/// A put of key a, unless memory is refused.
+fn put(alloc: Global) -> Option<Record> {
+    let key = Key::new(Vec::from_slice(alloc, b"a").ok()?)?;
+    let mut columns = Columns::new(alloc);
+    columns.push(0, Vec::from_slice(alloc, b"x").ok()?).ok()?;
+    Record::put(3, 1, key, columns)
+}
+
+#[test]
+fn a_refused_growth_of_an_encoder_leaves_the_bytes(rt: HostRuntime) {
+    let Some(record) = put(rt.alloc()) else {
+        return;
+    };
+    let mut out = Vec::new(rt.alloc());
+    match encode_log_header(0, &mut out) {
+        Ok(()) => assert_eq!(rt; out.len(), 12),
+        Err(Memory) => assert_eq!(rt; out.len(), 0),
+    }
+    let before = out.len();
+    match encode_record(&record, &mut out) {
+        Ok(()) => assert!(rt; out.len() == before.saturating_add(33)),
+        Err(Memory) => assert_eq!(rt; out.len(), before),
     }
 }

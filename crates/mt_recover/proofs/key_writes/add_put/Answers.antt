@@ -1,8 +1,7 @@
-use Rattle.std.proofs.Common.{◌≡◌, ◌∙◌, ℕ, List, Some, sym, refl, ap, subst, nat_cmp}
+use Rattle.std.proofs.Common.{◌≡◌, ◌∙◌, sym, refl, ap, subst, nat_cmp}
 use Rattle.std.specs.Option.{IsSome}
 use Rattle.std.specs.Cmp.Lexicographic.{slice_cmp}
 use Rattle.std.specs.BTreeMap.{get}
-use Rattle.mt_recover.specs.Cells.{Written}
 use Rattle.mt_recover.specs.KeyWrites.{History, Histories, AddsColumns, put_update}
 use Rattle.mt_recover.proofs.KeyWritesLemmas.{histories_more, on_ok_two, after_put}
 use Rattle.mt_recover.proofs.key_writes.add_put.Goals as goal

@@ -1,4 +1,4 @@
-use Rattle.std.proofs.Common.{◌≡◌, ◌∙◌, ℕ, List, Some, None, sym, refl, ap, subst, nat_cmp}
+use Rattle.std.proofs.Common.{◌≡◌, ◌∙◌, None, sym, refl, ap, subst, nat_cmp}
 use Rattle.std.specs.Option.{IsSome}
 use Rattle.std.specs.Cmp.Lexicographic.{slice_cmp}
 use Rattle.std.specs.BTreeMap.{get}

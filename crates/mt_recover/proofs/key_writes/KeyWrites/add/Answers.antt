@@ -1,6 +1,5 @@
 use Rattle.std.proofs.Common.{◌++◌, ◌∷◌, [], ℕ, List, sym, ap, subst, ◌∙◌, append_assoc}
 use Rattle.std.proofs.lemmas.List.{append-nil}
-use Rattle.mt_recover.specs.Cells.{Written}
 use Rattle.mt_recover.specs.KeyWrites.{History, AddsColumns}
 use Rattle.mt_recover.proofs.KeyWritesLemmas.{none_added, column_added, last_column}
 use Rattle.mt_recover.proofs.key_writes.KeyWrites.add.Goals as goal
