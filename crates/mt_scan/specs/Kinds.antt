@@ -1,0 +1,74 @@
+-- What the kinds of source say of themselves beyond what every source does.
+use Rattle.std.specs.Prelude.{◌≡◌, ◌≤◌, ◌<◌, ℕ, ◌+◌, min, List, [], length, Option, Some, Bool, true, false, nat_eq, Result, Ok, IfSome}
+use Rattle.mt_scan.specs.Buffers.{Buffered}
+use Rattle.mt_scan.specs.Sources.{Seen}
+use Rattle.mt_scan.specs.declared.source.SourceFault.{SourceFault}
+use Rattle.mt_scan.specs.declared.mem_source.MemSource.{MemSource}
+use Rattle.mt_scan.specs.declared.fault_source.FaultSource.{FaultSource}
+use Rattle.mt_scan.specs.declared.reader_source.ReaderSource.{ReaderSource}
+use Rattle.mt_scan.specs.declared.reader_source.Progress.{Progress}
+use Rattle.mt_scan.specs.declared.reader_source.Progress.TheVariants.{Open, Ended, Failed}
+
+-- bytes in memory
+abbrev pub seen_of_memory : MemSource Buffered → Seen
+seen_of_memory source = record {
+  told = Some source.rest.now;
+  bound = length source.rest.now;
+  failures = 0;
+  steady = true;
+  shown = source.buffer.shown;
+  spent = false;
+}
+
+-- how many bytes a piece has, but for the last
+abbrev pub piece_size : MemSource Buffered → ℕ
+piece_size source = source.buffer.size
+
+-- bytes in memory behind a device that fails
+abbrev pub seen_of_fault : FaultSource Buffered → Seen
+seen_of_fault source = record {
+  told = Some source.rest.now;
+  bound = length source.rest.now;
+  failures = source.failures.count;
+  steady = false;
+  shown = source.buffer.shown;
+  spent = nat_eq source.left 0;
+}
+
+abbrev pub fault_piece_size : FaultSource Buffered → ℕ
+fault_piece_size source = source.buffer.size
+
+-- how many calls do not fail
+abbrev pub calls_left : FaultSource Buffered → ℕ
+calls_left source = source.left
+
+-- a piece of this size was handed out, or all that is told, if that is less
+abbrev pub GivesPiece : Seen → ℕ → Result ℕ SourceFault → Type 0
+GivesPiece seen size result = IfSome seen.told (λ told. result ≡ Ok (min (length told) size))
+
+-- what a reader that came this far still tells
+abbrev pub left_to_tell : Progress → Option (List ℕ) → Option (List ℕ)
+left_to_tell Open remaining = remaining
+left_to_tell Ended remaining = Some []
+left_to_tell (Failed fault) remaining = remaining
+
+abbrev pub has_ended : Progress → Bool
+has_ended Open = false
+has_ended Ended = true
+has_ended (Failed fault) = false
+
+abbrev pub has_failed : Progress → Bool
+has_failed Open = false
+has_failed Ended = false
+has_failed (Failed fault) = true
+
+-- the bytes of a reader, of which these remain
+abbrev pub seen_of_reader : {R : Type 0} → (R → Option (List ℕ)) → ReaderSource R Buffered → Seen
+seen_of_reader remaining source = record {
+  told = left_to_tell source.progress (remaining source.reader);
+  bound = source.left;
+  failures = source.failures.count;
+  steady = false;
+  shown = source.buffer.shown;
+  spent = has_failed source.progress;
+}

@@ -1,0 +1,4 @@
+pub mod Sources
+pub mod Buffers
+pub mod Lending
+pub mod Kinds

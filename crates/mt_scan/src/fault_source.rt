@@ -1,0 +1,88 @@
+//! Bytes in memory behind a device that fails.
+ghost use Rattle.std.specs.Prelude.{◌≡◌, ◌+◌, ◌-◌, ◌≤◌, ◌<◌, ◌↔◌, IfSome, IsSome, Some, Err, false};
+ghost use Rattle.mt_scan.specs.declared.source.SourceFault.TheVariants.{Device};
+ghost use Rattle.mt_scan.specs.Sources.{Advances};
+ghost use Rattle.mt_scan.specs.Buffers.{HoldsBufferOf};
+ghost use Rattle.mt_scan.specs.Kinds.{seen_of_fault, calls_left, fault_piece_size, GivesPiece};
+
+use crate::buffer::Buffer;
+use crate::slot::Slot;
+use crate::source::{Source, SourceFault};
+use crate::tally::Tally;
+
+/// Bytes in memory, as a `MemSource` hands them out, until an `advance` that fails with `Device`, as all later ones
+/// do. It tells its bytes and is not steady. When it is dropped the buffer is back in its slot.
+pub struct FaultSource<'a, B = Buffer> {
+    rest: &'a [u8],
+    slot: &'a mut Slot<B>,
+    buffer: B,
+    /// How many calls do not fail.
+    left: u64,
+    failures: Tally,
+}
+
+impl<'a> FaultSource<'a> {
+    /// The source of these bytes, with the buffer of the slot, whose k-th `advance` and all later ones fail. None,
+    /// and nothing has changed, where the slot is empty.
+    pub fn new(bytes: &'a [u8], slot: &'a mut Slot, k: u64) -> Option<FaultSource<'a>>
+        requires { 1 ≤ k }
+        ensures variant { IsSome result ↔ IsSome slot.old }
+        ensures told { IfSome result (λ s. (seen_of_fault s).told ≡ Some bytes.now) }
+        ensures steady { IfSome result (λ s. (seen_of_fault s).steady ≡ false) }
+        ensures calls { IfSome result (λ s. calls_left s + 1 ≡ k) }
+        ensures size { IfSome result (λ s. HoldsBufferOf (fault_piece_size s) slot.old) }
+        ensures slot { IfSome result (λ s. s.slot.ghost_name ≡ slot.entry.ghost_name) }
+    {
+        let mut buffer = slot.buffer.take()?;
+        buffer.clear();
+        Some(FaultSource {
+            rest: bytes,
+            slot,
+            buffer,
+            left: k - 1,
+            failures: Tally::new(),
+        })
+    }
+}
+
+impl<B: Drop> Drop for FaultSource<'_, B> {
+    fn drop(self)
+        ensures { IsSome self.exit.1.0.now }
+    {
+        let FaultSource {
+            rest: _,
+            slot,
+            buffer,
+            left: _,
+            failures: _,
+        } = self;
+        slot.buffer = Some(buffer);
+    }
+}
+
+impl Source for FaultSource<'_> {
+    ghost seen = { seen_of_fault };
+
+    fn advance(&mut self) -> Result<usize, SourceFault>
+        ensures advances { Advances (seen_of_fault self.old) (seen_of_fault self.new) result }
+        ensures fails { calls_left self.old ≡ 0 → result ≡ Err Device }
+        ensures piece { 0 < calls_left self.old → GivesPiece (seen_of_fault self.old) (fault_piece_size self.old) result }
+        ensures calls { calls_left self.new ≡ calls_left self.old - 1 }
+        ensures size { fault_piece_size self.new ≡ fault_piece_size self.old }
+        ensures slot { self.new.slot.ghost_name ≡ self.old.slot.ghost_name }
+    {
+        if self.left == 0 {
+            self.buffer.clear();
+            self.failures = self.failures.and_one();
+            return Err(SourceFault::Device);
+        }
+        self.left -= 1;
+        let count = self.buffer.fill(self.rest);
+        self.rest = &self.rest[count..];
+        Ok(count)
+    }
+
+    fn piece(&self) -> &[u8] {
+        self.buffer.piece()
+    }
+}

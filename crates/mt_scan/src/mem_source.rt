@@ -1,0 +1,68 @@
+//! Bytes in memory.
+ghost use Rattle.std.specs.Prelude.{◌≡◌, ◌↔◌, IfSome, IsSome, IsTrue, Some};
+ghost use Rattle.mt_scan.specs.Sources.{Advances};
+ghost use Rattle.mt_scan.specs.Buffers.{HoldsBufferOf};
+ghost use Rattle.mt_scan.specs.Kinds.{seen_of_memory, piece_size, GivesPiece};
+
+use crate::buffer::Buffer;
+use crate::slot::Slot;
+use crate::source::{Source, SourceFault};
+
+/// Bytes in memory, handed out in pieces as long as the buffer, the last one shorter. It tells its bytes and never
+/// fails. When it is dropped the buffer is back in its slot.
+pub struct MemSource<'a, B = Buffer> {
+    rest: &'a [u8],
+    slot: &'a mut Slot<B>,
+    buffer: B,
+}
+
+impl<'a> MemSource<'a> {
+    /// The source of these bytes, with the buffer of the slot. None, and nothing has changed, where the slot is empty.
+    pub fn new(bytes: &'a [u8], slot: &'a mut Slot) -> Option<MemSource<'a>>
+        ensures variant { IsSome result ↔ IsSome slot.old }
+        ensures told { IfSome result (λ s. (seen_of_memory s).told ≡ Some bytes.now) }
+        ensures steady { IfSome result (λ s. IsTrue (seen_of_memory s).steady) }
+        ensures size { IfSome result (λ s. HoldsBufferOf (piece_size s) slot.old) }
+        ensures slot { IfSome result (λ s. s.slot.ghost_name ≡ slot.entry.ghost_name) }
+    {
+        let mut buffer = slot.buffer.take()?;
+        buffer.clear();
+        Some(MemSource {
+            rest: bytes,
+            slot,
+            buffer,
+        })
+    }
+}
+
+impl<B: Drop> Drop for MemSource<'_, B> {
+    fn drop(self)
+        ensures { IsSome self.exit.1.0.now }
+    {
+        let MemSource {
+            rest: _,
+            slot,
+            buffer,
+        } = self;
+        slot.buffer = Some(buffer);
+    }
+}
+
+impl Source for MemSource<'_> {
+    ghost seen = { seen_of_memory };
+
+    fn advance(&mut self) -> Result<usize, SourceFault>
+        ensures advances { Advances (seen_of_memory self.old) (seen_of_memory self.new) result }
+        ensures piece { GivesPiece (seen_of_memory self.old) (piece_size self.old) result }
+        ensures size { piece_size self.new ≡ piece_size self.old }
+        ensures slot { self.new.slot.ghost_name ≡ self.old.slot.ghost_name }
+    {
+        let count = self.buffer.fill(self.rest);
+        self.rest = &self.rest[count..];
+        Ok(count)
+    }
+
+    fn piece(&self) -> &[u8] {
+        self.buffer.piece()
+    }
+}

@@ -1,0 +1,129 @@
+//! The bytes of a reader.
+ghost use Rattle.std.specs.Prelude.{◌≡◌, ◌+◌, ◌↔◌, ◌⊎◌, [], IfSome, IfOk, IfErr, IsSome, IsTrue, Ok, Err, false};
+ghost use Rattle.mt_scan.specs.declared.source.SourceFault.TheVariants.{TooLong};
+ghost use Rattle.mt_scan.specs.Sources.{Advances};
+ghost use Rattle.mt_scan.specs.Kinds.{seen_of_reader, has_ended, has_failed};
+
+use crate::buffer::Buffer;
+use crate::slot::Slot;
+use crate::source::{Source, SourceFault};
+use crate::tally::Tally;
+use std::io::Read;
+
+/// How far the reader came.
+#[derive(Clone, Copy, Debug, PartialEq, Eq)]
+pub enum Progress {
+    /// It may have more bytes.
+    Open,
+    /// It had no more.
+    Ended,
+    /// It failed, or had too many.
+    Failed(SourceFault),
+}
+
+/// The bytes of a reader, at most `limit` of them. Each fault of the reader is `Device`; it is read no further then.
+/// Where `limit` bytes were handed out and the reader gives one more, the answer is `TooLong`, and that byte is not
+/// handed out. After its end it stays at its end, whatever the reader has later. It tells what the reader tells, and
+/// is not steady. When it is dropped the buffer is back in its slot.
+pub struct ReaderSource<'a, R, B = Buffer> {
+    reader: R,
+    slot: &'a mut Slot<B>,
+    buffer: B,
+    /// How many bytes may still be handed out.
+    left: u64,
+    progress: Progress,
+    failures: Tally,
+}
+
+impl<'a, R: Read + Drop> ReaderSource<'a, R> {
+    /// The source of the reader's bytes, with the buffer of the slot. None where the slot is empty.
+    pub fn new(reader: R, limit: u64, slot: &'a mut Slot) -> Option<ReaderSource<'a, R>>
+        ensures variant { IsSome result ↔ IsSome slot.old }
+        ensures told { IfSome result (λ s. (seen_of_reader R.remaining s).told ≡ R.remaining reader) }
+        ensures bound { IfSome result (λ s. (seen_of_reader R.remaining s).bound ≡ limit) }
+        ensures steady { IfSome result (λ s. (seen_of_reader R.remaining s).steady ≡ false) }
+        ensures fresh { IfSome result (λ s. (seen_of_reader R.remaining s).spent ≡ false) }
+        ensures slot { IfSome result (λ s. s.slot.ghost_name ≡ slot.entry.ghost_name) }
+    {
+        let mut buffer = slot.buffer.take()?;
+        buffer.clear();
+        Some(ReaderSource {
+            reader,
+            slot,
+            buffer,
+            left: limit,
+            progress: Progress::Open,
+            failures: Tally::new(),
+        })
+    }
+}
+
+impl<R: Drop, B: Drop> Drop for ReaderSource<'_, R, B> {
+    fn drop(self)
+        ensures { IsSome self.exit.1.0.now }
+    {
+        let ReaderSource {
+            reader: _,
+            slot,
+            buffer,
+            left: _,
+            progress: _,
+            failures: _,
+        } = self;
+        slot.buffer = Some(buffer);
+    }
+}
+
+impl<R: Read + Drop> Source for ReaderSource<'_, R> {
+    ghost seen = { seen_of_reader R.remaining };
+
+    fn advance(&mut self) -> Result<usize, SourceFault>
+        ensures advances { Advances (seen_of_reader R.remaining self.old) (seen_of_reader R.remaining self.new) result }
+        ensures too_long { result ≡ Err TooLong → ((seen_of_reader R.remaining self.old).bound ≡ 0) ⊎ IsTrue (seen_of_reader R.remaining self.old).spent }
+        ensures ended { result ≡ Ok 0 → IsTrue (has_ended self.new.progress) }
+        ensures stays { IsTrue (has_ended self.old.progress) → result ≡ Ok 0 }
+        ensures slot { self.new.slot.ghost_name ≡ self.old.slot.ghost_name }
+    {
+        let left = self.left;
+        match self.progress {
+            Progress::Ended => {
+                self.buffer.clear();
+                return Ok(0);
+            }
+            Progress::Failed(fault) => return self.fail(fault),
+            Progress::Open => {}
+        }
+        let Ok(count) = self.buffer.read_from(&mut self.reader, left.max(1)) else {
+            return self.fail(SourceFault::Device);
+        };
+        if count == 0 {
+            self.progress = Progress::Ended;
+            return Ok(0);
+        }
+        if left == 0 {
+            return self.fail(SourceFault::TooLong);
+        }
+        self.left = left - count as u64;
+        Ok(count)
+    }
+
+    fn piece(&self) -> &[u8] {
+        self.buffer.piece()
+    }
+}
+
+impl<R> ReaderSource<'_, R> {
+    /// Fails from here on.
+    fn fail(&mut self, fault: SourceFault) -> Result<usize, SourceFault>
+        ensures fault { result ≡ Err fault }
+        ensures counted { self.new.failures.count ≡ self.old.failures.count + 1 }
+        ensures shown { self.new.buffer.shown ≡ [] }
+        ensures failed { IsTrue (has_failed self.new.progress) }
+        ensures slot { self.new.slot.ghost_name ≡ self.old.slot.ghost_name }
+    {
+        self.buffer.clear();
+        self.progress = Progress::Failed(fault);
+        self.failures = self.failures.and_one();
+        Err(fault)
+    }
+}

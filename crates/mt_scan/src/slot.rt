@@ -1,0 +1,85 @@
+//! Buffers that sources borrow, each in a place of its own.
+ghost use Rattle.std.specs.Prelude.{◌≡◌, ◌≤◌, ◌↔◌, All, IfOk, IsTrue, IsSome, length};
+ghost use Rattle.std.specs.Borrow.{sem};
+ghost use Rattle.mt_scan.specs.declared.slot.TheConstants.{LONGEST_BUFFER};
+ghost use Rattle.mt_scan.specs.Buffers.{HoldsBufferOf};
+ghost use Rattle.mt_scan.specs.Lending.{LendsSlots};
+
+use crate::buffer::Buffer;
+use mt_words::Memory;
+use std::alloc::Global;
+use std::marker::Model;
+
+/// The most bytes of a buffer.
+pub const LONGEST_BUFFER: usize = 65_536;
+
+/// A place for one buffer. A source takes the buffer out and puts it back when it is dropped. A contract sees the
+/// buffer, if it is there.
+#[derive(Debug, Drop)]
+pub struct Slot<B = Buffer> {
+    pub(crate) buffer: Option<B>,
+}
+
+impl<B> Model for Slot<B> {
+    ghost use Rattle.std.specs.Prelude.{Option};
+
+    ghost Value = { Option B };
+
+    ghost view = { λ s. s.buffer };
+}
+
+impl<B> Slot<B> {
+    /// Whether the buffer is in its place.
+    pub fn is_full(&self) -> bool
+        ensures { IsTrue result ↔ IsSome self.now }
+    {
+        self.buffer.is_some()
+    }
+}
+
+/// Slots that were made full, to be lent to sources.
+#[derive(Debug, Drop)]
+pub struct Rack {
+    slots: Vec<Slot>,
+}
+
+impl Model for Rack {
+    ghost use Rattle.std.specs.Prelude.{List, Option};
+    ghost use Rattle.mt_scan.specs.Buffers.{Buffered};
+
+    ghost Value = { List (Option Buffered) };
+
+    ghost view = { λ r. r.slots.items };
+}
+
+impl Rack {
+    /// So many full slots, whose buffers have this size: 1 to `LONGEST_BUFFER` bytes.
+    pub fn new(alloc: Global, count: usize, size: usize) -> Result<Rack, Memory>
+        requires least { 1 ≤ size }
+        requires most { size ≤ LONGEST_BUFFER }
+        ensures count { IfOk result (λ rack. length rack ≡ count) }
+        ensures full { IfOk result (All (HoldsBufferOf size)) }
+    {
+        let mut slots = Vec::with_capacity(alloc, count)?;
+        for _place in 0..count {
+            let buffer = Some(Buffer::new(alloc, size)?);
+            slots.push(Slot { buffer })?;
+        }
+        Ok(Rack { slots })
+    }
+
+    /// The slots, to be lent.
+    pub fn slots(&mut self) -> &mut [Slot]
+        ensures* lent { sem 𝓛 (LendsSlots self.entry result) }
+        ensures same { result.now ≡ self.old }
+    {
+        self.slots.as_mut_slice()
+    }
+
+    /// Whether each buffer is in its place.
+    pub fn all_full(&self) -> bool
+        ensures { IsTrue result ↔ All IsSome self.now }
+    {
+        self.slots.iter().all(|slot| slot.is_full())
+    }
+}

@@ -1,0 +1,36 @@
+//! A count that only proofs read.
+ghost use Rattle.std.specs.Prelude.{◌≡◌, ℕ, ◌+◌};
+ghost use Rattle.std.specs.Borrow.{ftrue};
+
+use std::marker::{Model, PhantomData};
+
+/// A count without a greatest value, for contracts alone: it takes no memory, and its methods do nothing at run time.
+#[derive(Drop)]
+pub struct Tally {
+    of: PhantomData<u8>,
+    /// How many were counted.
+    pub ghost count: { ℕ },
+}
+
+impl Model for Tally {
+    ghost also_owns = { λ _. ftrue };
+}
+
+// It owns nothing.
+unsafe impl Send for Tally {}
+
+impl Tally {
+    /// Nothing was counted.
+    pub fn new() -> Tally
+        ensures { result.count ≡ 0 }
+    {
+        Tally { of: PhantomData }
+    }
+
+    /// One more was counted.
+    pub fn and_one(&self) -> Tally
+        ensures { result.count ≡ self.now.count + 1 }
+    {
+        Tally { of: PhantomData }
+    }
+}
