@@ -3,6 +3,8 @@ use Rattle.std.specs.Prelude.{◌≡◌, ◌≢◌, ℕ, ◌<◌, ◌^◌, ◌�
 use Rattle.std.specs.List.{flat_map}
 use Rattle.byteorder.specs.Endian.{big_bytes}
 use Rattle.mt_words.specs.declared.record.Change.{Change}
+use Rattle.mt_words.specs.declared.fault.Fault.{Fault}
+use Rattle.mt_words.specs.declared.fault.Fault.TheVariants as of_all
 use Rattle.mt_words.specs.declared.fault.What.{What}
 use Rattle.mt_words.specs.declared.fault.What.TheVariants.{Length, Trailer, Kind, Frame, Version, Key, Columns, Clock}
 use Rattle.mt_words.specs.Limits.{Limits, limits_of}
@@ -69,3 +71,9 @@ IsLogFault bytes faults.Memory = ⊥
 abbrev pub IsAnswered : List ℕ → FeedFault → Type 0
 IsAnswered bytes faults.Memory = Unit {0}
 IsAnswered bytes fault = IsLogFault bytes fault
+
+-- the fault of recovery that the fault of a log is
+abbrev pub fault_at : ℕ → FeedFault → Fault
+fault_at log faults.Header = of_all.Header log
+fault_at log (faults.Record nth what) = of_all.Record log nth what
+fault_at log faults.Memory = of_all.Memory

@@ -2,10 +2,10 @@
 ghost use Rattle.std.specs.Prelude.{◌≡◌, IfOk, IfErr};
 ghost use Rattle.mt_record.specs.declared.read.FeedFault.TheVariants.{Memory};
 ghost use Rattle.mt_record.specs.Logs.{IsTextOf};
-ghost use Rattle.mt_record.specs.LogFaults.{IsAnswered};
+ghost use Rattle.mt_record.specs.LogFaults.{IsAnswered, fault_at};
 
 use crate::log_feed::LogFeed;
-use mt_words::{Record, What};
+use mt_words::{Fault, Record, What};
 use std::alloc::{AllocError, AllocFailed, Global};
 use thiserror::Error;
 
@@ -36,6 +36,19 @@ pub enum FeedFault {
     /// A growth was refused.
     #[error("no memory")]
     Memory,
+}
+
+impl FeedFault {
+    /// The fault of recovery that it is, as that of this log.
+    pub fn of_log(self, log: usize) -> Fault
+        ensures { result ≡ fault_at log self }
+    {
+        match self {
+            FeedFault::Header => Fault::Header { log },
+            FeedFault::Record { nth, what } => Fault::Record { log, nth, what },
+            FeedFault::Memory => Fault::Memory,
+        }
+    }
 }
 
 impl<T: Drop> From<AllocFailed<T>> for FeedFault {

@@ -3,14 +3,19 @@
 
 mod buffer;
 mod fault_source;
+mod log_scan;
 mod mem_source;
 mod reader_source;
+mod scan;
 mod slot;
 mod source;
 mod tally;
+mod updates;
 
 pub use fault_source::FaultSource;
+pub use log_scan::{LogScan, cutoff};
 pub use mem_source::MemSource;
 pub use reader_source::ReaderSource;
+pub use scan::scan_log;
 pub use slot::{LONGEST_BUFFER, Rack, Slot};
 pub use source::{Source, SourceFault};

@@ -2,4 +2,5 @@ pub mod Limits
 pub mod Words
 pub mod Changes
 pub mod Stamps
+pub mod Updates
 pub mod Walks

@@ -1,0 +1,23 @@
+-- The cutoff of logs.
+use Rattle.std.specs.Prelude.{ℕ, ◌≤◌, List, [], ◌∷◌, Contains}
+use Rattle.mt_record.specs.Logs.{LogReading, IsLast}
+use Rattle.mt_scan.specs.declared.log_scan.LogScan.{LogScan}
+use Rattle.mt_scan.specs.Scans.{HasNumbersOf}
+
+-- one of the logs has this last timestamp
+pub record HasLast (logs : List LogReading) (last : ℕ) : Type 0 where
+  pub log : LogReading
+  pub stands : Contains logs log
+  pub is_last : IsLast log last
+
+-- some log's last timestamp, and at most every log's
+pub record IsCutoff (logs : List LogReading) (cutoff : ℕ) : Type 0 where
+  pub has : HasLast logs cutoff
+  pub least : (last : ℕ) → HasLast logs last → cutoff ≤ last
+
+-- the numbers of each scan are those of its log
+abbrev pub HaveNumbersOf : List LogScan → List LogReading → Type 0
+HaveNumbersOf [] [] = Unit {0}
+HaveNumbersOf (scan ∷ scans) (log ∷ logs) = HasNumbersOf scan log × HaveNumbersOf scans logs
+HaveNumbersOf [] (log ∷ logs) = ⊥
+HaveNumbersOf (scan ∷ scans) [] = ⊥

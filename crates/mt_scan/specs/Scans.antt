@@ -1,0 +1,62 @@
+-- What a scan gives: a function of the bytes of its log.
+use Rattle.std.specs.Prelude.{◌≡◌, ℕ, suc, List, [], ◌∷◌, Option, Some, None, Bool, true, false, Result, Ok, Err}
+use Rattle.std.specs.List.{filter}
+use Rattle.mt_words.specs.declared.fault.Fault.{Fault}
+use Rattle.mt_words.specs.declared.fault.Fault.TheVariants as faults
+use Rattle.mt_words.specs.declared.record.Change.{Change}
+use Rattle.mt_words.specs.Changes.{Logged}
+use Rattle.mt_words.specs.Updates.{updates_from}
+use Rattle.mt_record.specs.declared.read.FeedFault.TheVariants as of_log
+use Rattle.mt_record.specs.Logs.{LogReading, IsReading, IsLast, count_of}
+use Rattle.mt_record.specs.LogFaults.{IsLogFault}
+use Rattle.mt_scan.specs.declared.log_scan.LogScan.{LogScan}
+use Rattle.mt_scan.specs.Sources.{Agrees}
+
+-- a record that changes nothing
+abbrev pub is_mark : Logged → Bool
+is_mark r = by r.change
+  where
+    by : Option Change → Bool
+    by None = true
+    by (Some change) = false
+
+-- the numbers of a scan are those of the log
+pub record HasNumbersOf (scan : LogScan) (log : LogReading) : Type 0 where
+  pub from : scan.from ≡ log.head.from
+  pub last : IsLast log scan.last
+  pub whole : scan.whole ≡ count_of log.records
+  pub marks : scan.marks ≡ count_of (filter is_mark log.records)
+  pub torn : scan.torn ≡ log.torn
+
+-- the scan shows what the log of this number says: its numbers, and all its updates
+pub record ShowsLog (number : ℕ) (scan : LogScan) (log : LogReading) : Type 0 where
+  pub numbers : HasNumbersOf scan log
+  pub updates : scan.updates.items ≡ updates_from number 0 log.records
+  pub dropped : scan.dropped ≡ 0
+
+-- the scan of the log of this number that the bytes are
+pub record IsScanOf (number : ℕ) (bytes : List ℕ) (scan : LogScan) : Type 0 where
+  pub log : LogReading
+  pub is_reading : IsReading bytes log
+  pub shows : ShowsLog number scan log
+
+-- the fault of a scan is that of the log of this number: its bytes have it, or its source, or memory was refused
+abbrev pub IsScanFault : ℕ → List ℕ → Fault → Type 0
+IsScanFault number bytes (faults.Header log) = (log ≡ number) × IsLogFault bytes of_log.Header
+IsScanFault number bytes (faults.Record log nth what) = (log ≡ number) × IsLogFault bytes (of_log.Record nth what)
+IsScanFault number bytes (faults.Source log) = log ≡ number
+IsScanFault number bytes faults.Memory = Unit {0}
+IsScanFault number bytes faults.NoLogs = ⊥
+IsScanFault number bytes (faults.PartSource part) = ⊥
+IsScanFault number bytes (faults.Gap log) = ⊥
+IsScanFault number bytes (faults.Missing piece) = ⊥
+
+-- This holds of some bytes that a source which tells these may have: of just those told, or of any where it tells none.
+abbrev pub OfTold : Option (List ℕ) → (List ℕ → Type 0) → Type 0
+OfTold told P = (bytes : List ℕ) × Agrees told bytes × P bytes
+
+-- how often the source failed in a scan that answers this: once where its fault is answered
+abbrev pub failures_of : {X : Type 0} → Result X Fault → ℕ
+failures_of (Ok x) = 0
+failures_of (Err (faults.Source log)) = 1
+failures_of (Err fault) = 0
