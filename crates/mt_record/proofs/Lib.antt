@@ -13,3 +13,4 @@ pub mod Beginnings
 pub mod Feeds
 pub mod Held
 pub mod MoreBytes
+pub mod Counting

@@ -1,6 +1,7 @@
 //! The updates of a log, as its records come.
 ghost use Rattle.std.specs.Prelude.{◌≡◌, ◌+◌, ◌<◌, ◌^◌, ◌++◌, [], ◌∷◌, List, ℕ, IfOk, OnOk, vec_len};
 ghost use Rattle.mt_words.specs.Changes.{Logged};
+ghost use Rattle.mt_words.specs.Updates.{update_by};
 ghost use Rattle.mt_record.specs.Logs.{IsTextAfter};
 ghost use Rattle.mt_scan.specs.Scans.{IsScanOf};
 ghost use Rattle.mt_scan.specs.Keeping.{HasTaken};
@@ -47,27 +48,18 @@ impl LogUpdates {
     }
 
     /// Takes the next record in.
-    fn add_record(&mut self, record: Record) -> Result<(), Memory>
+    fn add_record(&mut self, logged: Record) -> Result<(), Memory>
         requires { self.old.next + 1 < 2 ^ 64 }
         ensures taken { (before : List Logged) → HasTaken self.old before →
-            OnOk result (HasTaken self.new (before ++ record ∷ [])) }
+            OnOk result (HasTaken self.new (before ++ logged ∷ [])) }
         ensures log { self.new.log ≡ self.old.log }
         ensures next { OnOk result (self.new.next ≡ self.old.next + 1) }
     {
-        let timestamp = record.timestamp();
         let origin = Origin::Log {
             log: self.log,
             record: self.next,
         };
-        if let Some(Change { version, key, kind }) = record.into_change() {
-            let stamp = Stamp { version, origin };
-            self.updates.push(Update {
-                key,
-                stamp,
-                timestamp,
-                kind,
-            })?;
-        }
+        push_update(&mut self.updates, origin, logged)?;
         self.next += 1;
         Ok(())
     }
@@ -98,4 +90,24 @@ impl LogUpdates {
             torn,
         })
     }
+}
+
+/// Adds the update of a record, which a mark has not.
+fn push_update(updates: &mut Vec<Update>, origin: Origin, logged: Record) -> Result<(), Memory>
+    ensures { OnOk result (updates.new.items ≡
+        updates.old.items ++ update_by origin logged.timestamp logged.change) }
+{
+    let timestamp = logged.timestamp();
+    let Some(change) = logged.into_change() else {
+        return Ok(());
+    };
+    let Change { version, key, kind } = change;
+    let stamp = Stamp { version, origin };
+    updates.push(Update {
+        key,
+        stamp,
+        timestamp,
+        kind,
+    })?;
+    Ok(())
 }
