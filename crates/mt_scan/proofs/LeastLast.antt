@@ -1,5 +1,5 @@
 -- The least of the last timestamps is the cutoff.
-use Rattle.std.proofs.Common.{◌≡◌, ◌⊎◌, inl, inr, ℕ, ◌≤◌, List, [], ◌∷◌, map, All, Contains, Option, Some, None, IfSome, sym, subst, arith}
+use Rattle.std.proofs.Common.{◌≡◌, ◌⊎◌, inl, inr, ℕ, ◌≤◌, List, [], ◌∷◌, map, All, Contains, Option, Some, None, IfSome, subst, arith}
 use Rattle.std.proofs.lemmas.List.Elements.{All-contains, Contains-push, Contains-push_cases, Contains-append_cases, Contains-append_left, Contains-append_right}
 use Rattle.mt_record.specs.Logs.{LogReading, IsLast, times_of}
 use Rattle.mt_scan.specs.declared.log_scan.LogScan.{LogScan}
@@ -37,8 +37,8 @@ last_stands (s ∷ ss) [] n have at = absurd have
 last_stands (s ∷ ss) (l ∷ ls) n have at = elim (head_or_tail s.last n (map last_in ss) at) as (λ _. HasLast (l ∷ ls) n) [
   | inl e ↦ record { log = l; stands = first l ls; is_last = subst (IsLast l) e have.0.last }
   | inr rest ↦
-    let found = last_stands ss ls n have.1 rest in
-    record { log = found.log; stands = later l found.log ls found.stands; is_last = found.is_last }
+      let found = last_stands ss ls n have.1 rest in
+      record { log = found.log; stands = later l found.log ls found.stands; is_last = found.is_last }
 ]
 
 -- the last timestamp of a log is in a scan

@@ -3,3 +3,4 @@ pub mod Shown
 pub mod Counting
 pub mod Steps
 pub mod LeastLast
+pub mod OneField

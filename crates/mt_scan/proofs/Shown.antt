@@ -1,5 +1,5 @@
 -- Faults of logs, as those of scans.
-use Rattle.std.proofs.Common.{◌≡◌, List, ℕ, ◌++◌, refl}
+use Rattle.std.proofs.Common.{List, ℕ, ◌++◌, refl}
 use Rattle.mt_record.specs.declared.read.FeedFault.{FeedFault}
 use Rattle.mt_record.specs.declared.read.FeedFault.TheVariants as of_log
 use Rattle.mt_record.specs.LogFaults.{IsAnswered, fault_at}

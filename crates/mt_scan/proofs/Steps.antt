@@ -1,5 +1,5 @@
 -- How the steps of a scan go together.
-use Rattle.std.proofs.Common.{◌≡◌, ◌∙◌, ℕ, zero, ◌+◌, ◌≤◌, ◌<◌, ◌^◌, List, [], ◌++◌, length, suc, Bool, true, None, refl, sym, ap, subst, append_assoc, arith}
+use Rattle.std.proofs.Common.{◌≡◌, ℕ, zero, ◌+◌, ◌≤◌, ◌<◌, ◌^◌, List, ◌++◌, length, suc, Bool, None, sym, ap, subst, arith}
 use Rattle.std.specs.Io.KnownBytes.{Consumes, IsAtEnd}
 use Rattle.std.proofs.lemmas.List.{length-append}
 use Rattle.mt_words.specs.declared.fault.Fault.{Fault}

@@ -1,5 +1,5 @@
 -- What a source tells, and the bytes that it may have.
-use Rattle.std.proofs.Common.{◌≡◌, ◌∙◌, List, ℕ, [], ◌++◌, Option, Some, None, refl, sym, ap, append_assoc}
+use Rattle.std.proofs.Common.{◌∙◌, List, ℕ, [], ◌++◌, Option, Some, None, refl, sym, ap, append_assoc}
 use Rattle.std.proofs.lemmas.List.{append-nil}
 use Rattle.std.specs.Io.KnownBytes.{Consumes, IsAtEnd}
 use Rattle.mt_scan.specs.Sources.{Agrees}

@@ -1,5 +1,5 @@
 -- What the kinds of source say of themselves beyond what every source does.
-use Rattle.std.specs.Prelude.{◌≡◌, ◌≤◌, ◌<◌, ℕ, ◌+◌, min, List, [], length, Option, Some, Bool, true, false, nat_eq, Result, Ok, IfSome}
+use Rattle.std.specs.Prelude.{◌≡◌, ℕ, min, List, [], length, Option, Some, Bool, true, false, nat_eq, Result, Ok, IfSome}
 use Rattle.mt_scan.specs.Buffers.{Buffered}
 use Rattle.mt_scan.specs.Sources.{Seen}
 use Rattle.mt_scan.specs.declared.source.SourceFault.{SourceFault}

@@ -47,7 +47,7 @@ impl<'a> FaultSource<'a> {
 
 impl<B: Drop> Drop for FaultSource<'_, B> {
     fn drop(self)
-        ensures { IsSome self.exit.1.0.now }
+        ensures { self.exit.1.0.now ≡ Some self.entry.buffer }
     {
         let FaultSource {
             rest: _,

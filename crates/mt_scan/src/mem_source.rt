@@ -37,7 +37,7 @@ impl<'a> MemSource<'a> {
 
 impl<B: Drop> Drop for MemSource<'_, B> {
     fn drop(self)
-        ensures { IsSome self.exit.1.0.now }
+        ensures { self.exit.1.0.now ≡ Some self.entry.buffer }
     {
         let MemSource {
             rest: _,

@@ -1,5 +1,5 @@
 //! The bytes of a reader.
-ghost use Rattle.std.specs.Prelude.{◌≡◌, ◌+◌, ◌↔◌, ◌⊎◌, [], IfSome, IfOk, IfErr, IsSome, IsTrue, Ok, Err, false};
+ghost use Rattle.std.specs.Prelude.{◌≡◌, ◌+◌, ◌↔◌, ◌⊎◌, [], IfSome, IfOk, IfErr, IsSome, IsTrue, Some, Ok, Err, false};
 ghost use Rattle.mt_scan.specs.declared.source.SourceFault.TheVariants.{TooLong};
 ghost use Rattle.mt_scan.specs.Sources.{Advances};
 ghost use Rattle.mt_scan.specs.Kinds.{seen_of_reader, has_ended, has_failed};
@@ -60,7 +60,7 @@ impl<'a, R: Read + Drop> ReaderSource<'a, R> {
 
 impl<R: Drop, B: Drop> Drop for ReaderSource<'_, R, B> {
     fn drop(self)
-        ensures { IsSome self.exit.1.0.now }
+        ensures { self.exit.1.0.now ≡ Some self.entry.buffer }
     {
         let ReaderSource {
             reader: _,

@@ -1,4 +1,4 @@
-use Rattle.std.proofs.Common.{◌≡◌, ◌∙◌, ◌+◌, ◌≤◌, List, ℕ, ◌++◌, length, refl, sym, ap, subst, append_assoc, arith}
+use Rattle.std.proofs.Common.{List, ℕ, ◌++◌, length, refl, sym, ap, subst, append_assoc, arith}
 use Rattle.std.specs.Io.KnownBytes.{Consumes}
 use Rattle.mt_words.specs.declared.fault.Fault.{Fault}
 use Rattle.mt_record.specs.LogFaults.{fault_at}
@@ -25,14 +25,13 @@ pub returns-in-Err-feed-clause-fault : goal.returns-in-Err-feed-clause-fault
 returns-in-Err-feed-clause-fault g c = λ bytes taken fed.
     let piece = c.piece.result.now in
     let consumed : Consumes (g.S.Source.seen c.args.source.now).told (g.S.Source.seen c.advance.new.self).told piece =
-        rw c.piece.ensures c.in-Ok.ensures.hands_out.next in
+    rw c.piece.ensures c.in-Ok.ensures.hands_out.next in
     let rest = handed_out (g.S.Source.seen c.args.source.now).told (g.S.Source.seen c.advance.new.self).told piece consumed in
-    let shown = shown_on c.args.log (bytes ++ piece) rest.0 c.in-Err-feed.fault (c.in-Err-feed.ensures.fault bytes taken fed) in
-    (
+    let shown = shown_on c.args.log (bytes ++ piece) rest.0 c.in-Err-feed.fault (c.in-Err-feed.ensures.fault bytes taken fed) in (
       piece ++ rest.0,
       rest.1,
       subst (λ (fault : Fault). IsScanFault c.args.log (bytes ++ (piece ++ rest.0)) fault) (sym c.of_log.ensures)
-      (subst (λ (all : List ℕ). IsScanFault c.args.log all (fault_at c.args.log c.in-Err-feed.fault)) (append_assoc bytes piece rest.0) shown)
+          (subst (λ (all : List ℕ). IsScanFault c.args.log all (fault_at c.args.log c.in-Err-feed.fault)) (append_assoc bytes piece rest.0) shown),
     )
 
 pub returns-in-Err-clause-fault : goal.returns-in-Err-clause-fault

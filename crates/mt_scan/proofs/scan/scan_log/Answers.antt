@@ -1,7 +1,7 @@
-use Rattle.std.proofs.Common.{◌≡◌, ◌∙◌, ◌+◌, ◌<◌, ◌^◌, ◌++◌, [], List, ℕ, Bool, false, length, refl, sym, ap, subst, arith, rules}
+use Rattle.std.proofs.Common.{◌∙◌, ◌++◌, ℕ, sym, ap, subst, arith, rules}
 use Rattle.std.proofs.lemmas.Result.{err_from_is_err_and}
 use Rattle.mt_words.specs.declared.fault.Fault.{Fault}
-use Rattle.mt_scan.specs.Scans.{IsScanOf, IsScanFault, OfTold}
+use Rattle.mt_scan.specs.Scans.{IsScanOf, IsScanFault}
 use Rattle.mt_scan.proofs.Telling.{some_bytes}
 use Rattle.mt_scan.proofs.Shown.{answered}
 use Rattle.mt_scan.proofs.Steps.{fed_on, numbers_fit, rest_fits, fault_after, at_the_end}

@@ -1,9 +1,8 @@
--- `and` makes the empty struct, with the items that its clause names. Assumes `Logic`.
+-- `and_one` makes the empty struct, with the count that its clause names. Assumes `Logic`.
 use Rattle.std.proofs.Common.{◌+◌, List, [], ◌∷◌, ◌++◌, refl}
 use seplogic.Ra.Ura.{Ura}
-use mir.Syntax.{Fn, Args, a_type}
+use mir.Syntax.{Fn}
 use mir.Val.{Val, vptr}
-use mir.MapTy.{inst_fn}
 use base.Logic.{SProp, ent}
 use prog.Memory.{Memory}
 use prog.Routine.{Routine}
@@ -17,22 +16,20 @@ use types.Part.{agg}
 use types.Run.{enter, returns, and_then, no_more}
 use types.ByLocal.{alloc_all, pass_all, free_all, look_at, get, sets}
 use denote.Exit.{yes}
-use denote.RattleType.{RattleType, owns}
+use denote.RattleType.{owns}
 use denote.Builtin.{RefOf, u8}
 use denote.Laws.{Is}
-use denote.Param.{param, layouts}
 use denote.Signature.{plain, types_at}
 use denote.Steps.{nothing, owned}
 use denote.Struct.Laws.{makes}
-use denote.Struct.Tuple.{Tuple}
 use denote.Triple.Clauses.{Clauses, Ended, closing}
 use denote.Triple.Entry.{alive}
 use denote.Triple.Spec.{Meets, triple_of}
 use denote.Triple.Table.{entered}
 use denote.Triple.Walked.{says, Stays, stay_dropped, walk_of, ends_at, walk_Meets, Goes-dropped}
 use Rattle.std.specs.contracts.marker.PhantomData as Mark
-use Rattle.bytes.proofs.Walks.{none, one, one_made}
-use Rattle.mt_scan.specs.contracts.tally.Tally as Log
+use Rattle.mt_scan.proofs.OneField.{none, one, one_made}
+use Rattle.mt_scan.specs.contracts.tally.Tally as The
 use Rattle.mt_scan.specs.contracts.tally.Tally.and_one as F
 use Rattle.mt_scan.specs.contracts.tally.Tally.and_one.Key.{name as #self}
 use Rattle.mt_scan.proofs.tally.Tally.and_one.Statement as stated
@@ -46,7 +43,7 @@ ended = F.ended
 
 module _ where
   abbrev stayed : Stays ended.signature.params ended.kept
-  stayed = (stay_dropped (RefOf (0 ∷ []) tt (plain (λ _. Log.the_row)) (λ _. tt)) yes, tt)
+  stayed = (stay_dropped (RefOf (0 ∷ []) tt (plain (λ _. The.the_row)) (λ _. tt)) yes, tt)
 
   module _ {M : Type 1} {𝓤 : Ura M} (𝓛 : Logic 𝓤) (at_mem : Memory → SProp 𝓤) (run : Routine → Fun 𝓤) where
     open 𝓛 use {H}
@@ -65,7 +62,7 @@ module _ where
       walks =
           let a = z.0.3 in
           let vss = z.0.4 in
-          let made : Log.the_row.Denot =
+          let made : The.the_row.Denot =
           record { of = record {}; count = a.0.now.count + 1 } in
           qed 𝓛 ((raw toks ⊛ ‵ (owns (types_at ended.signature.params z.0.0) a vss)) ∷ raw ((held z.0.0 a).requires z.1) ∷ []) ∵
           keep ! (0 ∷ []) $ split ! $ move ! (1 ∷ []) $
@@ -83,7 +80,7 @@ module _ where
 
     meets : (𝓣 : Tables 𝓤 H) → Meets 𝓛 ended.signature (WpFn 𝓤 H 𝓣.C 𝓣.Λ function) (closing 𝓛 ended held)
     meets 𝓣 =
-        walk_Meets 𝓛 ended stayed (Goes-dropped 𝓛 1 (RefOf (0 ∷ []) tt (plain (λ _. Log.the_row)) (λ _. tt)) yes (λ κs x f. refl), tt) held
+        walk_Meets 𝓛 ended stayed (Goes-dropped 𝓛 1 (RefOf (0 ∷ []) tt (plain (λ _. The.the_row)) (λ _. tt)) yes (λ κs x f. refl), tt) held
         (WpFn 𝓤 H 𝓣.C 𝓣.Λ function) (WpFn-mono 𝓤 H 𝓛.laws 𝓣 function) (walks 𝓣.C 𝓣.Λ)
 
 pub and_one_spec : {M : Type 1} → stated.statement M

@@ -1,9 +1,8 @@
 -- `new` makes the empty struct, with the count that its clause names. Assumes `Logic`.
 use Rattle.std.proofs.Common.{[], ◌∷◌, refl}
 use seplogic.Ra.Ura.{Ura}
-use mir.Syntax.{Fn, Args, a_type}
+use mir.Syntax.{Fn}
 use mir.Val.{Val}
-use mir.MapTy.{inst_fn}
 use base.Logic.{SProp, ent}
 use prog.Memory.{Memory}
 use prog.Routine.{Routine}
@@ -16,22 +15,20 @@ use types.Kit.{‵, raw, ◌⊛◌, ◌$◌, ◌∵◌, !, qed, move, keep, spli
 use types.Part.{agg}
 use types.Run.{enter, returns, and_then, no_more}
 use types.ByLocal.{alloc_all, pass_all, free_all, look_at, get, sets}
-use denote.RattleType.{RattleType, owns}
+use denote.RattleType.{owns}
 use denote.Builtin.{u8}
 use denote.Laws.{Is}
-use denote.Param.{param, layouts}
 use denote.Signature.{types_at}
 use denote.Steps.{nothing, owned}
 use denote.Struct.Laws.{makes}
-use denote.Struct.Tuple.{Tuple}
 use denote.Triple.Clauses.{Clauses, Ended, closing}
 use denote.Triple.Entry.{alive}
 use denote.Triple.Spec.{Meets, triple_of}
 use denote.Triple.Table.{entered}
 use denote.Triple.Walked.{says, Stays, walk_of, ends_at, walk_Meets}
 use Rattle.std.specs.contracts.marker.PhantomData as Mark
-use Rattle.bytes.proofs.Walks.{none, one, one_made}
-use Rattle.mt_scan.specs.contracts.tally.Tally as Log
+use Rattle.mt_scan.proofs.OneField.{none, one, one_made}
+use Rattle.mt_scan.specs.contracts.tally.Tally as The
 use Rattle.mt_scan.specs.contracts.tally.Tally.new as F
 use Rattle.mt_scan.specs.contracts.tally.Tally.new.Key.{name as #self}
 use Rattle.mt_scan.proofs.tally.Tally.new.Statement as stated
@@ -64,7 +61,7 @@ module _ where
       walks =
           let a = z.0.3 in
           let vss = z.0.4 in
-          let made : Log.the_row.Denot =
+          let made : The.the_row.Denot =
           record { of = record {}; count = 0 } in
           qed 𝓛 ((raw toks ⊛ ‵ (owns (types_at ended.signature.params z.0.0) a vss)) ∷ raw ((held z.0.0 a).requires z.1) ∷ []) ∵
           keep ! (0 ∷ []) $ split ! $ keep ! (0 ∷ []) $

@@ -1,7 +1,5 @@
-use Rattle.std.proofs.Common.{◌≡◌, ◌∙◌, ◌++◌, List, ℕ, length, refl, sym, ap, subst, arith}
-use Rattle.std.specs.List.{filter}
+use Rattle.std.proofs.Common.{◌∙◌, ℕ, length, refl, ap, subst, arith}
 use Rattle.std.proofs.lemmas.List.{length-append}
-use Rattle.mt_words.specs.Changes.{Logged}
 use Rattle.mt_words.specs.Updates.{updates_from}
 use Rattle.mt_scan.specs.Keeping.{HasTaken}
 use Rattle.mt_scan.proofs.Counting.{marks_and_updates}
@@ -22,18 +20,18 @@ returns c = λ bytes before taken is.
           last = is.shows.last;
           whole = is.shows.whole;
           marks = omega (
-              arith,
-              c.requires,
-              c.saturating_sub.ensures,
-              c.len.ensures,
-              added.updates.ok.0,
-              c.args.text.records.ok.0,
-              taken.next,
-              is.shows.whole,
-              ap length is.shows.records,
-              length-append before c.args.text.records.items,
-              ap length kept,
-              marks_and_updates c.args.self.log 0 records
+            arith,
+            c.requires,
+            c.saturating_sub.ensures,
+            c.len.ensures,
+            added.updates.ok.0,
+            c.args.text.records.ok.0,
+            taken.next,
+            is.shows.whole,
+            ap length is.shows.records,
+            length-append before c.args.text.records.items,
+            ap length kept,
+            marks_and_updates c.args.self.log 0 records,
           );
           torn = is.shows.torn;
         };
