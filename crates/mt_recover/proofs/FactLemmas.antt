@@ -1,31 +1,29 @@
--- From the texts of the logs to what recovery finds.
-use Rattle.std.proofs.Common.{◌≡◌, ℕ, zero, suc, ◌<◌, ◌≤◌, inl, inr, Bool, true, false, List, [], ◌∷◌, length, map, get_or, All, Contains, Some, None, refl, sym, subst, arith}
-use Rattle.std.specs.Prelude.{nat_lt, not, cond}
+-- From the scans of the logs to what recovery finds.
+use Rattle.std.proofs.Common.{◌≡◌, ℕ, zero, suc, ◌<◌, ◌≤◌, Bool, true, false, List, [], ◌∷◌, ◌++◌, length, get_or, Some, None, refl, sym, ap, subst, arith}
+use Rattle.std.specs.Prelude.{nat_lt, not, cond, filter}
 use Rattle.std.specs.List.{position, position_or_len}
 use Rattle.std.proofs.lemmas.Bool.Decides.{nat_tests}
 use Rattle.std.proofs.lemmas.List.{append-nil}
 use Rattle.std.proofs.lemmas.List.Sums.{prefix_len_passes}
 use Rattle.std.proofs.lemmas.List.Quantifiers.{position-Some}
-use Rattle.std.proofs.lemmas.List.Elements.{All-contains, Contains-push, Contains-append_left, Contains-append_right}
 use Rattle.mt_words.specs.declared.fault.Fault.TheVariants.{Gap}
 use Rattle.mt_words.specs.declared.update.Update.{Update}
-use Rattle.mt_words.specs.Changes.{Logged}
 use Rattle.mt_words.specs.Walks.{Pair}
-use Rattle.mt_record.specs.declared.read.LogText.{LogText}
-use Rattle.mt_record.specs.Logs.{LogReading, IsLast, times_of}
-use Rattle.mt_recover.specs.Cutoff.{IsCutoff}
+use Rattle.mt_record.specs.Logs.{LogReading}
+use Rattle.mt_scan.specs.declared.log_scan.LogScan.{LogScan}
+use Rattle.mt_scan.specs.Cutoff.{IsCutoff, HaveNumbersOf}
 use Rattle.mt_recover.specs.declared.window.Window.{Window}
-use Rattle.mt_recover.specs.Survivors.{log_survivors}
-use Rattle.mt_recover.specs.Walk.{IsWalk}
+use Rattle.mt_recover.specs.Survivors.{in_window, all_updates, log_survivors}
+use Rattle.mt_recover.specs.Walk.{AreApart, AreLawful, IsWalk}
 use Rattle.mt_recover.specs.Recovery.{AreReadings, Facts, IsGap, records_of, IsStoreOf}
 use Rattle.mt_recover.specs.Verdict.{IsFirst, IsVerdict}
-use Rattle.mt_recover.specs.LogTexts.{ShowAll, AreTextsOf}
-use Rattle.mt_recover.proofs.KeyWritesLemmas.{no_element, head_or_tail}
+use Rattle.mt_recover.specs.LogScans.{ShowAll, AreScansOf, kept, kept_in}
+use Rattle.mt_recover.proofs.ReplayLemmas.{survivors_apart, survivors_lawful}
 
 -- ---- gaps
 
-abbrev pub has_gap : ℕ → LogText → Bool
-has_gap begin text = nat_lt begin text.from
+abbrev pub has_gap : ℕ → LogScan → Bool
+has_gap begin scan = nat_lt begin scan.from
 
 at_none : (b : Bool) (n : ℕ) → cond b (Some n) None ≡ None → b ≡ false
 at_none true n e = absurd cc
@@ -41,101 +39,69 @@ at_least a b e = grind (arith, nat_tests)
 less : (a b : ℕ) → nat_lt a b ≡ true → a < b
 less a b e = grind (arith, nat_tests)
 
--- a gap is seen in the text
-gap_seen : (begin : ℕ) (texts : List LogText) (readings : List LogReading) (i : ℕ) (d : LogText) → ShowAll texts readings → IsGap begin readings i → (i < length texts) × (begin < (get_or texts i d).from)
-gap_seen begin [] [] i d show gap = absurd gap
-gap_seen begin [] (l ∷ ls) i d show gap = absurd show
-gap_seen begin (t ∷ ts) [] i d show gap = absurd show
-gap_seen begin (t ∷ ts) (l ∷ ls) zero d show gap = (omega arith, subst (λ (n : ℕ). begin < n) (sym show.0.from) gap)
-gap_seen begin (t ∷ ts) (l ∷ ls) (suc i) d show gap = let rest = gap_seen begin ts ls i d show.1 gap in (omega (arith, rest.0), rest.1)
+-- a gap is seen in the scan
+gap_seen : (begin : ℕ) (scans : List LogScan) (readings : List LogReading) (i : ℕ) (d : LogScan) → HaveNumbersOf scans readings → IsGap begin readings i → (i < length scans) × (begin < (get_or scans i d).from)
+gap_seen begin [] [] i d are gap = absurd gap
+gap_seen begin [] (l ∷ ls) i d are gap = absurd are
+gap_seen begin (s ∷ ss) [] i d are gap = absurd are
+gap_seen begin (s ∷ ss) (l ∷ ls) zero d are gap = (omega arith, subst (λ (n : ℕ). begin < n) (sym are.0.from) gap)
+gap_seen begin (s ∷ ss) (l ∷ ls) (suc i) d are gap = let rest = gap_seen begin ss ls i d are.1 gap in (omega (arith, rest.0), rest.1)
 
--- a gap in the text is one
-gap_shown : (begin : ℕ) (texts : List LogText) (readings : List LogReading) (i : ℕ) (d : LogText) → ShowAll texts readings → i < length texts → begin < (get_or texts i d).from → IsGap begin readings i
-gap_shown begin [] readings i d show lt above = absurd (omega arith)
-gap_shown begin (t ∷ ts) [] i d show lt above = absurd show
-gap_shown begin (t ∷ ts) (l ∷ ls) zero d show lt above = subst (λ (n : ℕ). begin < n) show.0.from above
-gap_shown begin (t ∷ ts) (l ∷ ls) (suc i) d show lt above = gap_shown begin ts ls i d show.1 (omega arith) above
+-- a gap in the scan is one
+gap_shown : (begin : ℕ) (scans : List LogScan) (readings : List LogReading) (i : ℕ) (d : LogScan) → HaveNumbersOf scans readings → i < length scans → begin < (get_or scans i d).from → IsGap begin readings i
+gap_shown begin [] readings i d are lt above = absurd (omega arith)
+gap_shown begin (s ∷ ss) [] i d are lt above = absurd are
+gap_shown begin (s ∷ ss) (l ∷ ls) zero d are lt above = subst (λ (n : ℕ). begin < n) are.0.from above
+gap_shown begin (s ∷ ss) (l ∷ ls) (suc i) d are lt above = gap_shown begin ss ls i d are.1 (omega arith) above
 
--- no text has a gap, so no log has one
-pub no_gap : (begin : ℕ) (texts : List LogText) (readings : List LogReading) → ShowAll texts readings → position (has_gap begin) texts ≡ None → (i : ℕ) → IsGap begin readings i → ⊥
-no_gap begin [] readings show e i gap = elim readings as (λ (ls : List LogReading). ShowAll [] ls → IsGap begin ls i → ⊥) [ [] ↦ λ s g. g | l ∷ ls ↦ λ s g. s ] show gap
-no_gap begin (t ∷ ts) readings show e i gap =
-    let texts : List LogText = t ∷ ts in
-    let long = at_least (position_or_len (has_gap begin) texts) (length texts) (at_none (nat_lt (position_or_len (has_gap begin) texts) (length texts)) (position_or_len (has_gap begin) texts) e) in
-    let seen = gap_seen begin texts readings i t show gap in
-    let none : has_gap begin (get_or texts i t) ≡ false = not_true _ (prefix_len_passes (λ (x : LogText). not (has_gap begin x)) texts i t (omega (arith, seen.0))) in
-    let at = at_least begin (get_or texts i t).from none in
+-- no scan has a gap, so no log has one
+pub no_gap : (begin : ℕ) (scans : List LogScan) (readings : List LogReading) → HaveNumbersOf scans readings → position (has_gap begin) scans ≡ None → (i : ℕ) → IsGap begin readings i → ⊥
+no_gap begin [] readings are e i gap = elim readings as (λ (ls : List LogReading). HaveNumbersOf [] ls → IsGap begin ls i → ⊥) [ [] ↦ λ h g. g | l ∷ ls ↦ λ h g. h ] are gap
+no_gap begin (s ∷ ss) readings are e i gap =
+    let scans : List LogScan = s ∷ ss in
+    let long = at_least (position_or_len (has_gap begin) scans) (length scans) (at_none (nat_lt (position_or_len (has_gap begin) scans) (length scans)) (position_or_len (has_gap begin) scans) e) in
+    let seen = gap_seen begin scans readings i s are gap in
+    let none : has_gap begin (get_or scans i s) ≡ false = not_true _ (prefix_len_passes (λ (x : LogScan). not (has_gap begin x)) scans i s (omega (arith, seen.0))) in
+    let at = at_least begin (get_or scans i s).from none in
     omega (arith, seen.1, at)
 
--- the first text with a gap is that of the first log with one
-pub first_gap : (begin : ℕ) (texts : List LogText) (readings : List LogReading) (i : ℕ) → ShowAll texts readings → position (has_gap begin) texts ≡ Some i → IsFirst (IsGap begin readings) i
-first_gap begin [] readings i show e = absurd cc
-first_gap begin (t ∷ ts) readings i show e =
-    let texts : List LogText = t ∷ ts in
-    let at = position-Some (has_gap begin) texts i t e in (
-      gap_shown begin texts readings i t show at.0 (less begin (get_or texts i t).from at.1),
+-- the first scan with a gap is that of the first log with one
+pub first_gap : (begin : ℕ) (scans : List LogScan) (readings : List LogReading) (i : ℕ) → HaveNumbersOf scans readings → position (has_gap begin) scans ≡ Some i → IsFirst (IsGap begin readings) i
+first_gap begin [] readings i are e = absurd cc
+first_gap begin (s ∷ ss) readings i are e =
+    let scans : List LogScan = s ∷ ss in
+    let at = position-Some (has_gap begin) scans i s e in (
+      gap_shown begin scans readings i s are at.0 (less begin (get_or scans i s).from at.1),
       λ j lt gap.
-          let seen = gap_seen begin texts readings j t show gap in
-          let none = at_least begin (get_or texts j t).from (at.2 j lt) in
+          let seen = gap_seen begin scans readings j s are gap in
+          let none = at_least begin (get_or scans j s).from (at.2 j lt) in
           omega (arith, seen.1, none),
     )
 
--- ---- the cutoff
+-- ---- the scans of logs
 
-abbrev pub last_in : LogText → ℕ
-last_in text = text.last
+-- the numbers of scans that show all are those of the logs
+numbers_of : (number : ℕ) (scans : List LogScan) (readings : List LogReading) → ShowAll number scans readings → HaveNumbersOf scans readings
+numbers_of number [] [] show = tt
+numbers_of number [] (l ∷ ls) show = absurd show
+numbers_of number (s ∷ ss) [] show = absurd show
+numbers_of number (s ∷ ss) (l ∷ ls) show = (show.0.numbers, numbers_of (suc number) ss ls show.1)
 
--- a log has one last timestamp
-pub same_last : (log : LogReading) (a b : ℕ) → IsLast log a → IsLast log b → a ≡ b
-same_last log a b x y =
-    let low : a ≤ b = All-contains (λ (time : ℕ). time ≤ b) (times_of log) a y.1 x.0 in
-    let high : b ≤ a = All-contains (λ (time : ℕ). time ≤ a) (times_of log) b x.1 y.0 in
-    omega (arith, low, high)
+-- their updates are those of the logs
+same_updates : (number : ℕ) (scans : List LogScan) (readings : List LogReading) → ShowAll number scans readings → kept scans ≡ all_updates number (records_of readings)
+same_updates number [] [] show = refl
+same_updates number [] (l ∷ ls) show = absurd show
+same_updates number (s ∷ ss) [] show = absurd show
+same_updates number (s ∷ ss) (l ∷ ls) show = let rest = same_updates (suc number) ss ls show.1 in λ i. show.0.updates i ++ rest i
 
-first : {A : Type 0} (x : A) (xs : List A) → Contains (x ∷ xs) x
-first x xs = Contains-append_left (x ∷ []) xs x (Contains-push [] x)
+-- those in the window are what survives of the logs
+same_survivors : (window : Window) (scans : List LogScan) (readings : List LogReading) → ShowAll 0 scans readings → kept_in window scans ≡ log_survivors window (records_of readings)
+same_survivors window scans readings show = ap (filter (in_window window)) (same_updates 0 scans readings show)
 
-later : {A : Type 0} (x y : A) (xs : List A) → Contains xs y → Contains (x ∷ xs) y
-later x y xs at = Contains-append_right (x ∷ []) xs y at
-
--- the last timestamp in a text is that of a log
-last_stands : (texts : List LogText) (readings : List LogReading) (n : ℕ) → ShowAll texts readings → Contains (map last_in texts) n → (log : LogReading) × Contains readings log × IsLast log n
-last_stands [] readings n show at = absurd (no_element n at)
-last_stands (t ∷ ts) [] n show at = absurd show
-last_stands (t ∷ ts) (l ∷ ls) n show at = elim (head_or_tail t.last n (map last_in ts) at) as (λ _. (log : LogReading) × Contains (l ∷ ls) log × IsLast log n) [
-  | inl e ↦ (l, first l ls, subst (IsLast l) e show.0.last)
-  | inr rest ↦ let found = last_stands ts ls n show.1 rest in (found.0, later l found.0 ls found.1, found.2)
-]
-
--- the last timestamp of a log is in a text
-last_shown : (texts : List LogText) (readings : List LogReading) (log : LogReading) → ShowAll texts readings → Contains readings log → (n : ℕ) × Contains (map last_in texts) n × IsLast log n
-last_shown [] [] log show at = absurd (no_element log at)
-last_shown [] (l ∷ ls) log show at = absurd show
-last_shown (t ∷ ts) [] log show at = absurd show
-last_shown (t ∷ ts) (l ∷ ls) log show at = elim (head_or_tail l log ls at) as (λ _. (n : ℕ) × Contains (map last_in (t ∷ ts)) n × IsLast log n) [
-  | inl e ↦ (t.last, first t.last (map last_in ts), subst (λ (x : LogReading). IsLast x t.last) e show.0.last)
-  | inr rest ↦ let found = last_shown ts ls log show.1 rest in (found.0, later t.last found.0 (map last_in ts) found.1, found.2)
-]
-
--- the least last timestamp is the cutoff
-pub cutoff_is : (texts : List LogText) (readings : List LogReading) (n : ℕ) → ShowAll texts readings → Contains (map last_in texts) n → All (λ last. n ≤ last) (map last_in texts) → IsCutoff readings n
-cutoff_is texts readings n show at least =
-    let found = last_stands texts readings n show at in
-    record {
-      has = record { log = found.0; stands = found.1; is_last = found.2 };
-      least = λ last other.
-          let shown = last_shown texts readings other.log show other.stands in
-          let same = same_last other.log shown.0 last shown.2 other.is_last in
-          let low : n ≤ shown.0 = All-contains (λ (m : ℕ). n ≤ m) (map last_in texts) shown.0 least shown.1 in
-          omega (arith, low, same);
-    }
-
--- ---- the store
-
-pub no_logs : (logs : List (List ℕ)) (texts : List LogText) → AreTextsOf logs texts → texts ≡ [] → logs ≡ []
-no_logs logs texts are e = empty logs are.readings are.read (none are.readings (subst (λ (ts : List LogText). ShowAll ts are.readings) e are.show))
+pub no_logs : (logs : List (List ℕ)) (scans : List LogScan) → AreScansOf logs scans → scans ≡ [] → logs ≡ []
+no_logs logs scans are e = empty logs are.readings are.read (none are.readings (subst (λ (x : List LogScan). ShowAll 0 x are.readings) e are.show))
   where
-    none : (readings : List LogReading) → ShowAll [] readings → readings ≡ []
+    none : (readings : List LogReading) → ShowAll 0 [] readings → readings ≡ []
     none [] show = refl
     none (l ∷ ls) show = absurd show
 
@@ -144,35 +110,41 @@ no_logs logs texts are e = empty logs are.readings are.read (none are.readings (
     empty (b ∷ bs) [] read same = absurd read
     empty (b ∷ bs) (l ∷ ls) read same = absurd cc
 
-pub same_records : (texts : List LogText) (readings : List LogReading) → ShowAll texts readings → map (λ (t : LogText). t.records.items) texts ≡ records_of readings
-same_records [] [] show = refl
-same_records [] (l ∷ ls) show = absurd show
-same_records (t ∷ ts) [] show = absurd show
-same_records (t ∷ ts) (l ∷ ls) show = let rest = same_records ts ls show.1 in λ i. show.0.records i ∷ rest i
+-- ---- what recovery finds
 
--- what recovery finds in the texts of logs without parts
-abbrev pub facts_of : (logs : List (List ℕ)) (texts : List LogText) (cutoff : ℕ) → AreTextsOf logs texts → Contains (map last_in texts) cutoff → All (λ last. cutoff ≤ last) (map last_in texts) → Facts logs []
-facts_of logs texts cutoff are at least = record {
+-- the cutoff of all logs that have the numbers of these scans
+abbrev pub IsCutoffOf : List LogScan → ℕ → Type 0
+IsCutoffOf scans cutoff = (readings : List LogReading) → HaveNumbersOf scans readings → IsCutoff readings cutoff
+
+-- what recovery finds in the scans of logs without parts
+abbrev facts_of : (logs : List (List ℕ)) (scans : List LogScan) (cutoff : ℕ) → AreScansOf logs scans → IsCutoffOf scans cutoff → Facts logs []
+facts_of logs scans cutoff are is = record {
   readings = are.readings;
   read = are.read;
   cutoff = cutoff;
-  is_cutoff = cutoff_is texts are.readings cutoff are.show at least;
+  is_cutoff = is are.readings (numbers_of 0 scans are.readings are.show);
   chosen = None;
   is_chosen = refl;
 }
 
 -- the least log with a gap
-pub gap_of : (logs : List (List ℕ)) (texts : List LogText) (cutoff i : ℕ) → AreTextsOf logs texts → Contains (map last_in texts) cutoff → All (λ last. cutoff ≤ last) (map last_in texts) → position (has_gap 0) texts ≡ Some i → IsVerdict logs [] (Gap i)
-gap_of logs texts cutoff i are at least e = (facts_of logs texts cutoff are at least, first_gap 0 texts are.readings i are.show e)
+pub gap_of : (logs : List (List ℕ)) (scans : List LogScan) (cutoff i : ℕ) → AreScansOf logs scans → IsCutoffOf scans cutoff → position (has_gap 0) scans ≡ Some i → IsVerdict logs [] (Gap i)
+gap_of logs scans cutoff i are is e = (facts_of logs scans cutoff are is, first_gap 0 scans are.readings i (numbers_of 0 scans are.readings are.show) e)
+
+-- the walk of updates, where they are apart and lawful
+abbrev pub IsWalkOfLawful : List Update → List Pair → Type 0
+IsWalkOfLawful updates pairs = AreApart updates → AreLawful updates → IsWalk updates pairs
 
 -- the store of logs without parts
-pub store_is : (logs : List (List ℕ)) (texts : List LogText) (cutoff : ℕ) (pairs : List Pair) → AreTextsOf logs texts → Contains (map last_in texts) cutoff → All (λ last. cutoff ≤ last) (map last_in texts) → position (has_gap 0) texts ≡ None
-    → IsWalk (log_survivors (record { begin = 0; cutoff = cutoff }) (map (λ (t : LogText). t.records.items) texts)) pairs → IsStoreOf logs [] pairs
-store_is logs texts cutoff pairs are at least e walk = record {
-  facts = facts_of logs texts cutoff are at least;
-  no_gap = no_gap 0 texts are.readings are.show e;
+pub store_is : (logs : List (List ℕ)) (scans : List LogScan) (cutoff : ℕ) (pairs : List Pair) → AreScansOf logs scans → IsCutoffOf scans cutoff → position (has_gap 0) scans ≡ None
+    → IsWalkOfLawful (kept_in (record { begin = 0; cutoff = cutoff }) scans) pairs → IsStoreOf logs [] pairs
+store_is logs scans cutoff pairs are is e walk_of = record {
+  facts = facts_of logs scans cutoff are is;
+  no_gap = no_gap 0 scans are.readings (numbers_of 0 scans are.readings are.show) e;
   walk =
       let window : Window = record { begin = 0; cutoff = cutoff } in
-      subst (λ (us : List Update). IsWalk us pairs) (sym (append-nil (log_survivors window (records_of are.readings))))
-      (subst (λ (logged : List (List Logged)). IsWalk (log_survivors window logged) pairs) (same_records texts are.readings are.show) walk);
+      let records = records_of are.readings in
+      let walk = subst (λ (x : List Update). IsWalkOfLawful x pairs) (same_survivors window scans are.readings are.show) walk_of in
+      subst (λ (x : List Update). IsWalk x pairs) (sym (append-nil (log_survivors window records)))
+      (walk (survivors_apart window records) (survivors_lawful window logs are.readings are.read));
 }

@@ -206,10 +206,6 @@ histories_more updates old new u before after is are = record {
       (same_reset updates old new u before after is are) (λ k apart other. other_reset updates old new u before after is are k apart other) q (slice_cmp nat_cmp u.key q) refl;
 }
 
-pub on_ok : {T E P Q : Type 0} → (r : Result T E) → (P → Q) → OnOk r P → OnOk r Q
-on_ok (Ok x) f p = f p
-on_ok (Err e) f p = tt
-
 pub on_ok_two : {T E P Q R : Type 0} → (r : Result T E) → (P → Q → R) → OnOk r P → OnOk r Q → OnOk r R
 on_ok_two (Ok x) f p q = f p q
 on_ok_two (Err e) f p q = tt

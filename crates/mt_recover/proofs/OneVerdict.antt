@@ -11,13 +11,12 @@ use Rattle.mt_words.specs.Walks.{Pair}
 use Rattle.mt_record.specs.declared.read.FeedFault.{FeedFault}
 use Rattle.mt_record.specs.declared.read.FeedFault.TheVariants as of_log
 use Rattle.mt_record.specs.Logs.{LogReading, IsReading}
-use Rattle.mt_record.specs.LogFaults.{IsLogFault}
+use Rattle.mt_record.specs.LogFaults.{IsLogFault, fault_at}
 use Rattle.mt_record.proofs.OneReading.{one_reading_of, one_fault, not_both}
-use Rattle.mt_recover.specs.Cutoff.{IsCutoff}
+use Rattle.mt_scan.specs.Cutoff.{IsCutoff}
 use Rattle.mt_recover.specs.Survivors.{Checkpoint, begin_of, survivors}
 use Rattle.mt_recover.specs.Walk.{IsWalk}
 use Rattle.mt_recover.specs.Recovery.{AreReadings, IsChosen, Facts, IsGap, records_of, IsStoreOf}
-use Rattle.mt_recover.specs.LogTexts.{fault_at}
 use Rattle.mt_recover.specs.Verdict.{IsFirst, IsFirstFault, IsVerdict}
 use Rattle.mt_recover.proofs.KeyWritesLemmas.{no_element}
 use Rattle.mt_recover.proofs.OneWalk.{one_walk}

@@ -1,9 +1,8 @@
--- The surviving updates, record by record and log by log.
-use Rattle.std.proofs.Common.{◌≡◌, ◌⊎◌, inl, inr, ℕ, suc, ◌+◌, ◌<◌, ◌≤◌, Bool, true, false, List, [], ◌∷◌, ◌++◌, length, Option, Some, None, Contains, refl, sym, ap, ◌∙◌, subst, append_assoc, arith}
-use Rattle.std.specs.Prelude.{cond, ◌&&◌, nat_le, nat_lt}
+-- The surviving updates, one by one and scan by scan.
+use Rattle.std.proofs.Common.{◌≡◌, ◌⊎◌, inl, inr, ℕ, suc, Bool, true, false, List, [], ◌∷◌, ◌++◌, Option, Some, None, Contains, refl, sym, ap, ◌∙◌, subst, append_assoc}
+use Rattle.std.specs.Prelude.{cond}
 use Rattle.std.specs.List.{filter}
-use Rattle.std.proofs.lemmas.Bool.Decides.{nat_tests}
-use Rattle.std.proofs.lemmas.List.{append-nil}
+use Rattle.std.proofs.lemmas.List.{flat_map_more}
 use Rattle.std.proofs.lemmas.List.Elements.{filter-append, Contains-push, Contains-append_left, Contains-append_right, Contains-append_cases, Contains-push_cases}
 use Rattle.mt_words.specs.declared.record.Change.{Change}
 use Rattle.mt_words.specs.declared.update.Origin.{Origin}
@@ -13,70 +12,31 @@ use Rattle.mt_words.specs.declared.limits.Format.TheVariants.{One}
 use Rattle.mt_words.specs.declared.update.Kind.{Kind}
 use Rattle.mt_words.specs.Limits.{limits_of, widest}
 use Rattle.mt_words.specs.Changes.{Logged, AllowsKind, IsLawful}
+use Rattle.mt_words.specs.Updates.{update_at, update_by, update_of, updates_from}
 use Rattle.mt_record.specs.Logs.{AreRecords, LogReading}
+use Rattle.mt_scan.specs.declared.log_scan.LogScan.{LogScan}
 use Rattle.mt_recover.specs.declared.window.Window.{Window}
-use Rattle.mt_recover.specs.Survivors.{update_at, update_by, update_of, updates_from, all_updates, log_updates, in_window, log_survivors}
+use Rattle.mt_recover.specs.Survivors.{all_updates, log_updates, in_window, log_survivors}
+use Rattle.mt_recover.specs.LogScans.{kept, kept_in}
 use Rattle.mt_recover.specs.Recovery.{AreReadings, records_of}
 use Rattle.mt_recover.specs.Walk.{AreApart, AreLawful}
 use Rattle.mt_recover.proofs.Apart.{logs_apart}
 use Rattle.mt_recover.proofs.KeyWritesLemmas.{no_element, head_or_tail}
 
--- ---- one record
+-- ---- one more
 
-both_hold : (a b c d : ℕ) → (nat_le a b && nat_lt c d) ≡ true → (a ≤ b) × (c < d)
-both_hold a b c d e = (grind (arith, nat_tests), grind (arith, nat_tests))
+-- the survivors of one more update
+pub update_more : (window : Window) (before updates : List Update) (u : Update)
+    → before ++ filter (in_window window) (updates ++ u ∷ []) ≡ (before ++ filter (in_window window) updates) ++ filter (in_window window) (u ∷ [])
+update_more window before updates u =
+    ap (λ (x : List Update). before ++ x) (filter-append (in_window window) updates (u ∷ []))
+    ∙ sym (append_assoc before (filter (in_window window) updates) (filter (in_window window) (u ∷ [])))
 
-both_true : (a b c d : ℕ) → a ≤ b → c < d → (nat_le a b && nat_lt c d) ≡ true
-both_true a b c d le lt = grind (arith, nat_tests)
-
-outside_by : (window : Window) (u : Update) (b : Bool) → in_window window u ≡ b → ((window.begin ≤ u.timestamp) × (u.timestamp < window.cutoff) → ⊥) → in_window window u ≡ false
-outside_by window u true e beyond = absurd (beyond (both_hold window.begin u.timestamp u.timestamp window.cutoff e))
-outside_by window u false e beyond = e
-
-outside : (window : Window) (u : Update) → ((window.begin ≤ u.timestamp) × (u.timestamp < window.cutoff) → ⊥) → in_window window u ≡ false
-outside window u beyond = outside_by window u (in_window window u) refl beyond
-
--- outside the window no update is left
-pub none_survives : (window : Window) (origin : Origin) (timestamp : ℕ) (change : Option Change) → ((window.begin ≤ timestamp) × (timestamp < window.cutoff) → ⊥) → filter (in_window window) (update_by origin timestamp change) ≡ []
-none_survives window origin timestamp None beyond = refl
-none_survives window origin timestamp (Some change) beyond = let e = outside window (update_at origin timestamp change) beyond in rw e refl
-
--- inside the window a change is left
-pub one_survives : (window : Window) (origin : Origin) (timestamp : ℕ) (change : Change) → (window.begin ≤ timestamp) × (timestamp < window.cutoff)
-    → filter (in_window window) (update_by origin timestamp (Some change)) ≡ update_at origin timestamp change ∷ []
-one_survives window origin timestamp change inside = let e = both_true window.begin timestamp timestamp window.cutoff inside.0 inside.1 in rw e refl
-
--- ---- one more record
-
-from_push : (log nth : ℕ) (rs : List Logged) (r : Logged) → updates_from log nth (rs ++ r ∷ []) ≡ updates_from log nth rs ++ update_of log (nth + length rs) r
-from_push log nth [] r = let e : nth + 0 ≡ nth = omega arith in rw e (append-nil (update_of log nth r))
-from_push log nth (s ∷ ss) r =
-    let e : nth + suc (length ss) ≡ suc nth + length ss = omega arith in
-    rw e (ap (λ (x : List Update). update_of log nth s ++ x) (from_push log (suc nth) ss r) ∙ sym (append_assoc (update_of log nth s) (updates_from log (suc nth) ss) (update_of log (suc nth + length ss) r)))
-
--- the survivors of a log with one more record
-pub log_more : (log : ℕ) (window : Window) (updates : List Update) (rs : List Logged) (r : Logged) (number : ℕ) → number ≡ length rs
-    → updates ++ filter (in_window window) (updates_from log 0 (rs ++ r ∷ [])) ≡ (updates ++ filter (in_window window) (updates_from log 0 rs)) ++ filter (in_window window) (update_of log number r)
-log_more log window updates rs r number e =
-    let zero_more : 0 + length rs ≡ number = omega (arith, e) in
-    let one : updates_from log 0 (rs ++ r ∷ []) ≡ updates_from log 0 rs ++ update_of log number r = subst (λ (n : ℕ). updates_from log 0 (rs ++ r ∷ []) ≡ updates_from log 0 rs ++ update_of log n r) zero_more (from_push log 0 rs r) in
-    ap (λ (x : List Update). updates ++ x) (ap (filter (in_window window)) one ∙ filter-append (in_window window) (updates_from log 0 rs) (update_of log number r))
-    ∙ sym (append_assoc updates (filter (in_window window) (updates_from log 0 rs)) (filter (in_window window) (update_of log number r)))
-
--- ---- one more log
-
-all_push : (log : ℕ) (logs : List (List Logged)) (rs : List Logged) → all_updates log (logs ++ rs ∷ []) ≡ all_updates log logs ++ updates_from (log + length logs) 0 rs
-all_push log [] rs = let e : log + 0 ≡ log = omega arith in rw e (append-nil (updates_from log 0 rs))
-all_push log (l ∷ ls) rs =
-    let e : log + suc (length ls) ≡ suc log + length ls = omega arith in
-    rw e (ap (λ (x : List Update). updates_from log 0 l ++ x) (all_push (suc log) ls rs) ∙ sym (append_assoc (updates_from log 0 l) (all_updates (suc log) ls) (updates_from (suc log + length ls) 0 rs)))
-
--- the survivors of one more log
-pub logs_more : (window : Window) (logs : List (List Logged)) (rs : List Logged) (log : ℕ) → log ≡ length logs → log_survivors window (logs ++ rs ∷ []) ≡ log_survivors window logs ++ filter (in_window window) (updates_from log 0 rs)
-logs_more window logs rs log e =
-    let zero_more : 0 + length logs ≡ log = omega (arith, e) in
-    let one : log_updates (logs ++ rs ∷ []) ≡ log_updates logs ++ updates_from log 0 rs = subst (λ (n : ℕ). log_updates (logs ++ rs ∷ []) ≡ log_updates logs ++ updates_from n 0 rs) zero_more (all_push 0 logs rs) in
-    ap (filter (in_window window)) one ∙ filter-append (in_window window) (log_updates logs) (updates_from log 0 rs)
+-- the survivors of one more scan
+pub scan_more : (window : Window) (scans : List LogScan) (scan : LogScan) → kept_in window (scans ++ scan ∷ []) ≡ kept_in window scans ++ filter (in_window window) scan.updates.items
+scan_more window scans scan =
+    ap (filter (in_window window)) (sym (flat_map_more (λ (s : LogScan). s.updates.items) [] scans scan))
+    ∙ filter-append (in_window window) (kept scans) scan.updates.items
 
 -- ---- lawful records make lawful updates
 

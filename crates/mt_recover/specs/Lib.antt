@@ -1,4 +1,3 @@
-pub mod Cutoff
 pub mod Survivors
 pub mod KeyColumns
 pub mod Walk
@@ -7,4 +6,4 @@ pub mod Verdict
 pub mod Dump
 pub mod Cells
 pub mod KeyWrites
-pub mod LogTexts
+pub mod LogScans

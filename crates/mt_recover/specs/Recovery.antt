@@ -3,7 +3,7 @@ use Rattle.std.specs.Prelude.{◌≡◌, ℕ, ◌<◌, Option, None, IsSomeAnd, 
 use Rattle.mt_words.specs.Changes.{Logged}
 use Rattle.mt_words.specs.Walks.{Pair}
 use Rattle.mt_record.specs.Logs.{LogReading, IsReading}
-use Rattle.mt_recover.specs.Cutoff.{IsCutoff}
+use Rattle.mt_scan.specs.Cutoff.{IsCutoff}
 use Rattle.mt_recover.specs.Survivors.{Checkpoint, begin_of, survivors}
 use Rattle.mt_recover.specs.Walk.{IsWalk}
 

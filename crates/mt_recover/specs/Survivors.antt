@@ -1,29 +1,11 @@
 -- The updates of logs and of a checkpoint, and which of them survive.
 use Rattle.std.specs.Prelude.{ℕ, suc, ◌&&◌, Bool, nat_lt, nat_le, Option, Some, None, List, [], ◌∷◌, ◌++◌, map, filter}
 use Rattle.mt_words.specs.declared.record.Change.{Change}
-use Rattle.mt_words.specs.declared.update.Origin.{Origin}
 use Rattle.mt_words.specs.declared.update.Origin.TheVariants as origins
 use Rattle.mt_words.specs.declared.update.Update.{Update}
 use Rattle.mt_words.specs.Changes.{Logged}
+use Rattle.mt_words.specs.Updates.{update_at, updates_from}
 use Rattle.mt_recover.specs.declared.window.Window.{Window}
-
--- the update that makes a change
-abbrev pub update_at : Origin → ℕ → Change → Update
-update_at origin timestamp change =
-    record { key = change.key; stamp = record { version = change.version; origin = origin }; timestamp = timestamp; kind = change.kind }
-
--- the update of a record, which a mark has not
-abbrev pub update_by : Origin → ℕ → Option Change → List Update
-update_by origin timestamp None = []
-update_by origin timestamp (Some change) = update_at origin timestamp change ∷ []
-
-abbrev pub update_of : ℕ → ℕ → Logged → List Update
-update_of log nth r = update_by (origins.Log log nth) r.timestamp r.change
-
--- the updates of a log's records, which are numbered from nth on
-abbrev pub updates_from : ℕ → ℕ → List Logged → List Update
-updates_from log nth [] = []
-updates_from log nth (r ∷ rs) = update_of log nth r ++ updates_from log (suc nth) rs
 
 -- the updates of logs, which are numbered from log on
 abbrev pub all_updates : ℕ → List (List Logged) → List Update

@@ -1,5 +1,5 @@
 //! The writes and the reset of the keys.
-ghost use Rattle.std.specs.Prelude.{◌≡◌, ◌↔◌, ◌++◌, [], ◌∷◌, List, None, Some, IsTrue, IfOk, OnOk};
+ghost use Rattle.std.specs.Prelude.{◌≡◌, ◌↔◌, ◌++◌, [], ◌∷◌, List, ℕ, None, Some, IsTrue, IfOk, OnOk};
 ghost use Rattle.mt_words.specs.declared.update.Update.{Update};
 ghost use Rattle.mt_recover.specs.Cells.{IsColumnsOf};
 ghost use Rattle.mt_recover.specs.KeyWrites.{AddsColumns, IsLater, AreHistoriesOf, put_update, remove_update};
@@ -97,11 +97,10 @@ pub fn add_put(
     alloc: Global,
     keys: &mut BTreeMap<Key, KeyWrites>,
     stamp: Stamp,
-    timestamp: u64,
     key: Key,
     columns: Columns,
 ) -> Result<(), Memory>
-    ensures { OnOk result ((updates : List Update) → AreHistoriesOf updates keys.old →
+    ensures { OnOk result ((updates : List Update) (timestamp : ℕ) → AreHistoriesOf updates keys.old →
         AreHistoriesOf (updates ++ put_update stamp timestamp key columns ∷ []) keys.new) }
 {
     if let Some(writes) = keys.get_mut(&key) {
@@ -118,10 +117,9 @@ pub fn add_remove(
     alloc: Global,
     keys: &mut BTreeMap<Key, KeyWrites>,
     stamp: Stamp,
-    timestamp: u64,
     key: Key,
 ) -> Result<(), Memory>
-    ensures { OnOk result ((updates : List Update) → AreHistoriesOf updates keys.old →
+    ensures { OnOk result ((updates : List Update) (timestamp : ℕ) → AreHistoriesOf updates keys.old →
         AreHistoriesOf (updates ++ remove_update stamp timestamp key ∷ []) keys.new) }
 {
     if let Some(writes) = keys.get_mut(&key) {

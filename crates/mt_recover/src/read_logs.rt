@@ -1,55 +1,37 @@
 //! Reading of all logs.
-ghost use Rattle.std.specs.Prelude.{◌≡◌, ◌<◌, ◌≤◌, [], map, position, nat_lt, IfOk, IfErr, IfSome, IfNone, All, Contains};
+ghost use Rattle.std.specs.Prelude.{◌≡◌, [], map, position, nat_lt, IfOk, IfErr};
 ghost use Rattle.mt_recover.specs.Verdict.{IsAnswered};
-ghost use Rattle.mt_recover.specs.LogTexts.{AreTextsOf, fault_at};
+ghost use Rattle.mt_recover.specs.LogScans.{AreScansOf};
 
-use mt_record::{FeedFault, LogText, read_log};
+use mt_record::read_log;
+use mt_scan::LogScan;
 use mt_words::Fault;
 use std::alloc::Global;
 
-/// What the logs say. An Err is the fault of the first that has one.
-pub fn read_logs(alloc: Global, logs: &[&[u8]]) -> Result<Vec<LogText>, Fault>
-    ensures read { IfOk result (λ texts. AreTextsOf (map (λ log. log.now) logs.now) texts.items) }
+/// The scans of the logs: each log is scanned as soon as it is read, so that the records of one log alone are held.
+/// An Err is the fault of the first that has one.
+pub fn read_logs(alloc: Global, logs: &[&[u8]]) -> Result<Vec<LogScan>, Fault>
+    ensures read { IfOk result (λ scans. AreScansOf (map (λ log. log.now) logs.now) scans.items) }
     ensures fault { IfErr result (IsAnswered (map (λ log. log.now) logs.now) []) }
 {
-    let mut texts = Vec::new(alloc);
+    let mut scans = Vec::new(alloc);
     for (log, bytes) in logs.iter().enumerate() {
         match read_log(alloc, bytes) {
             Ok(text) => {
-                let Ok(()) = texts.push(text) else {
+                let scan = LogScan::of(alloc, log, text)?;
+                let Ok(()) = scans.push(scan) else {
                     return Err(Fault::Memory);
                 };
             }
-            Err(fault) => return Err(fault_of(log, fault)),
+            Err(fault) => return Err(fault.of_log(log)),
         }
     }
-    Ok(texts)
-}
-
-/// The fault of this log.
-fn fault_of(log: usize, fault: FeedFault) -> Fault
-    ensures { result ≡ fault_at log fault }
-{
-    match fault {
-        FeedFault::Header => Fault::Header { log },
-        FeedFault::Record { nth, what } => Fault::Record { log, nth, what },
-        FeedFault::Memory => Fault::Memory,
-    }
+    Ok(scans)
 }
 
 /// The first log from which updates at or past `begin` may be missing.
-pub fn first_gap(texts: &[LogText], begin: u64) -> Option<usize>
-    ensures { result ≡ position (λ text. nat_lt begin text.from) texts.now }
+pub fn first_gap(scans: &[LogScan], begin: u64) -> Option<usize>
+    ensures { result ≡ position (λ scan. nat_lt begin scan.from) scans.now }
 {
-    texts.iter().position(|text| begin < text.from)
-}
-
-/// The least of the last timestamps; None where there is no log.
-pub fn least_last(texts: &[LogText]) -> Option<u64>
-    ensures found { IfSome result (λ least.
-        Contains (map (λ text. text.last) texts.now) least ×
-        All (λ last. least ≤ last) (map (λ text. text.last) texts.now)) }
-    ensures none { IfNone result (texts.now ≡ []) }
-{
-    texts.iter().map(|text| text.last).min()
+    scans.iter().position(|scan| begin < scan.from)
 }

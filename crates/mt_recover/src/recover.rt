@@ -1,12 +1,14 @@
 //! Recovery.
-ghost use Rattle.std.specs.Prelude.{◌≡◌, [], map, IfOk, IfErr};
+ghost use Rattle.std.specs.Prelude.{◌≡◌, [], List, ℕ, map, IfOk, IfErr};
+ghost use Rattle.mt_recover.specs.LogScans.{AreScansOf};
 ghost use Rattle.mt_recover.specs.Recovery.{IsStoreOf};
 ghost use Rattle.mt_recover.specs.Verdict.{IsAnswered};
 
-use crate::read_logs::{first_gap, least_last, read_logs};
+use crate::read_logs::{first_gap, read_logs};
 use crate::replay::replay;
 use crate::store::Store;
 use crate::window::Window;
+use mt_scan::{LogScan, cutoff};
 use mt_words::Fault;
 use std::alloc::Global;
 use std::marker::Model;
@@ -40,16 +42,24 @@ pub fn recover_logs(alloc: Global, logs: &[&[u8]]) -> Result<Recovered, Fault>
     ensures store { IfOk result (λ recovered. IsStoreOf (map (λ log. log.now) logs.now) [] recovered.store) }
     ensures fault { IfErr result (IsAnswered (map (λ log. log.now) logs.now) []) }
 {
-    let texts = read_logs(alloc, logs)?;
-    let Some(cutoff) = least_last(&texts) else {
+    let scans = read_logs(alloc, logs)?;
+    recover_scans(alloc, scans)
+}
+
+/// The store of the logs whose scans are these, in the order of their numbers. An Err is `NoLogs`, the least log with a
+/// gap, or `Memory`.
+pub(crate) fn recover_scans(alloc: Global, scans: Vec<LogScan>) -> Result<Recovered, Fault>
+    ensures store { (logs : List (List ℕ)) → AreScansOf logs scans.items →
+        IfOk result (λ recovered. IsStoreOf logs [] recovered.store) }
+    ensures fault { (logs : List (List ℕ)) → AreScansOf logs scans.items → IfErr result (IsAnswered logs []) }
+{
+    let Some(cutoff) = cutoff(&scans) else {
         return Err(Fault::NoLogs);
     };
     let window = Window { begin: 0, cutoff };
-    if let Some(log) = first_gap(&texts, window.begin) {
+    if let Some(log) = first_gap(&scans, window.begin) {
         return Err(Fault::Gap { log });
     }
-    let Ok(store) = replay(alloc, window, texts) else {
-        return Err(Fault::Memory);
-    };
+    let store = replay(alloc, window, scans)?;
     Ok(Recovered { store })
 }

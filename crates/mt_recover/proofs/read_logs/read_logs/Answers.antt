@@ -1,16 +1,23 @@
-use Rattle.std.proofs.Common.{[], List, ℕ, Bor, map}
-use Rattle.mt_recover.proofs.ReadingLemmas.{texts_none, texts_more, log_at, fault_behind}
+use Rattle.std.proofs.Common.{[], ◌∷◌, List, ℕ, Bor, map, refl, arith}
+use Rattle.std.proofs.lemmas.List.{length-append}
+use Rattle.mt_recover.proofs.ReadingLemmas.{scans_none, scans_more, log_at, fault_behind}
 use Rattle.mt_recover.proofs.read_logs.read_logs.Goals as goal
 
 pub loop-log-init : goal.loop-log-init
-loop-log-init c = rw c.new-texts.ensures.items (texts_none (map (λ log. log.now) c.args.logs.now))
+loop-log-init c = rw c.new-scans.ensures.items (record { number_is = refl; are = scans_none (map (λ log. log.now) c.args.logs.now) })
 
 pub returns-in-Err-clause-fault : goal.returns-in-Err-clause-fault
 returns-in-Err-clause-fault c =
-    rw c.fault_of.ensures (fault_behind c.args.logs.now c.loop-log.texts.items c.loop-log.log (record { ref_ptr = (0, 0); now = [] }) c.in-Err.fault [] c.loop-log-test.true c.loop-log.invariant c.in-Err.ensures.fault)
+    rw c.of_log.ensures (fault_behind c.args.logs.now c.loop-log.scans.items c.loop-log.log (record { ref_ptr = (0, 0); now = [] }) c.in-Err.fault [] c.loop-log-test.true c.loop-log.invariant.are c.in-Err.ensures.fault)
 
 pub loop-log-preserved : goal.loop-log-preserved
 loop-log-preserved c =
-    let d : Bor (List ℕ) = record { ref_ptr = (0, 0); now = [] } in
+    let so_far = c.loop-log.invariant in
+    let scans = c.loop-log.scans.items in
+    let scan = c.in_ok-scan-in-Ok.scan in
     let logs = map (λ (log : Bor (List ℕ)). log.now) c.args.logs.now in
-    rw c.in-Ok-push.ensures.items (texts_more logs c.loop-log.texts.items c.loop-log.log _ c.in-Ok.text (log_at c.args.logs.now c.loop-log.log d c.loop-log-test.true) c.loop-log.invariant c.in-Ok.ensures.log)
+    let at = log_at c.args.logs.now c.loop-log.log (record { ref_ptr = (0, 0); now = [] }) c.loop-log-test.true in
+    rw c.in-Ok-push.ensures.items (record {
+      number_is = omega (arith, length-append scans (scan ∷ []), so_far.number_is);
+      are = scans_more logs scans c.loop-log.log _ scan at so_far.number_is so_far.are (c.in_ok-scan-in-Ok.ensures _ c.in-Ok.ensures.log);
+    })

@@ -1,0 +1,31 @@
+-- The scans of logs, and the updates that they kept.
+use Rattle.std.specs.Prelude.{ℕ, suc, List, [], ◌∷◌, filter}
+use Rattle.std.specs.List.{flat_map}
+use Rattle.mt_words.specs.declared.update.Update.{Update}
+use Rattle.mt_record.specs.Logs.{LogReading}
+use Rattle.mt_scan.specs.declared.log_scan.LogScan.{LogScan}
+use Rattle.mt_scan.specs.Scans.{ShowsLog}
+use Rattle.mt_recover.specs.declared.window.Window.{Window}
+use Rattle.mt_recover.specs.Survivors.{in_window}
+use Rattle.mt_recover.specs.Recovery.{AreReadings}
+
+-- each scan shows what its log says; the logs are numbered from this number on
+abbrev pub ShowAll : ℕ → List LogScan → List LogReading → Type 0
+ShowAll number [] [] = Unit {0}
+ShowAll number (scan ∷ scans) (log ∷ readings) = ShowsLog number scan log × ShowAll (suc number) scans readings
+ShowAll number [] (log ∷ readings) = ⊥
+ShowAll number (scan ∷ scans) [] = ⊥
+
+-- the scans of these logs
+pub record AreScansOf (logs : List (List ℕ)) (scans : List LogScan) : Type 0 where
+  pub readings : List LogReading
+  pub read : AreReadings logs readings
+  pub show : ShowAll 0 scans readings
+
+-- all updates of the scans
+abbrev pub kept : List LogScan → List Update
+kept scans = flat_map (λ scan. scan.updates.items) scans
+
+-- those in the window
+abbrev pub kept_in : Window → List LogScan → List Update
+kept_in window scans = filter (in_window window) (kept scans)
