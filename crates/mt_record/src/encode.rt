@@ -9,8 +9,8 @@ ghost use Rattle.mt_record.specs.Spelling.{code_of as code_of_kind, column_bytes
 ghost use Rattle.mt_record.specs.Adding.{HasRoom, Adds};
 
 use crate::body::{MARK, PUT, REMOVE};
+use crate::head::{HEADER_BYTES, MAGIC};
 use crate::put::{put_bytes, put_column, put_counted, put_u32, put_u64};
-use byteorder::{BigEndian, ByteOrder};
 use mt_words::{Change, Column, Kind, Memory, Record};
 
 /// Appends the header of a log from which updates below `from` may be missing. On an Err nothing is appended.
@@ -18,9 +18,9 @@ pub fn encode_log_header(from: u64, out: &mut Vec<u8>) -> Result<(), Memory>
     ensures ok { OnOk result (out.new.items ≡ out.old.items ++ head_bytes (head_of from)) }
     ensures err { OnErr result (out.new.items ≡ out.old.items) }
 {
-    let mut header = *b"MTL1........";
-    BigEndian::write_u64(&mut header[4..], from);
-    out.extend_from_slice(&header)?;
+    out.reserve(HEADER_BYTES)?;
+    put_bytes(MAGIC, out);
+    put_u64(from, out);
     Ok(())
 }
 

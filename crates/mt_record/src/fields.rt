@@ -38,11 +38,7 @@ pub fn counted_at(bytes: &[u8]) -> Option<(&[u8], &[u8])>
         return None;
     }
     let length = BigEndian::read_u16(bytes) as usize;
-    let rest = &bytes[2..];
-    if rest.len() < length {
-        return None;
-    }
-    Some(rest.split_at(length))
+    bytes[2..].split_at_checked(length)
 }
 
 /// A column: its number and its bytes.

@@ -7,7 +7,10 @@ ghost use Rattle.mt_record.specs.Pieces.{BeginsAlike};
 use crate::fields::u64_at;
 
 /// What a header begins with.
-const MAGIC: &[u8] = b"MTL1";
+pub const MAGIC: &[u8] = b"MTL1";
+
+/// The number of bytes of a header.
+pub const HEADER_BYTES: usize = 12;
 
 /// The `from` of the header at the front, and the bytes behind the header.
 pub fn header_at(bytes: &[u8]) -> Option<(u64, &[u8])>

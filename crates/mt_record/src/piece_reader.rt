@@ -7,13 +7,10 @@ ghost use Rattle.mt_record.specs.Feeding.{BeginsHeader, HasRead, HasFailed, IsFe
 ghost use Rattle.mt_record.specs.Pieces.{feed_of, HasReadUpTo, Asks, Tops, left_over};
 
 use crate::fields::u32_at;
-use crate::head::{begins_header, header_at};
+use crate::head::{HEADER_BYTES, begins_header, header_at};
 use crate::read::FeedFault;
 use crate::record_reader::RecordReader;
 use std::alloc::Global;
-
-/// The number of bytes of a header.
-const HEADER_BYTES: usize = 12;
 
 /// What the pieces so far said, and what they leave over.
 #[derive(Debug, Drop)]

@@ -33,6 +33,17 @@ enum Failure<'a> {
     Output,
 }
 
+impl<'a> From<Fault> for Failure<'a> {
+    ghost use Rattle.std.specs.Prelude.{◌≡◌};
+    ghost use Rattle.mt_recover.specs.declared.program.Failure.TheVariants.{Recovery};
+
+    ghost from_gives = { λ fault failure. failure ≡ Recovery fault };
+
+    fn from(fault: Fault) -> Failure<'a> {
+        Failure::Recovery(fault)
+    }
+}
+
 /// Prints the store of the log files of these names, or a line that says why there is none, and answers the exit
 /// status: 0 where it is printed, 1 for a fault of the logs, 2 where no name is given, 3 for a file that cannot be
 /// opened, for too many names and where the output fails. All files are read before any is recovered. Where nothing
@@ -89,13 +100,8 @@ fn recover_files<'a, R: Files + AllocGlobal>(
     ensures files { result ≢ Err Failure.NoFiles }
 {
     let files = read_files(rt, names)?;
-    let Ok(logs) = slices_of(rt.alloc(), &files) else {
-        return Err(Failure::Recovery(Fault::Memory));
-    };
-    match recover_logs(rt.alloc(), &logs) {
-        Err(fault) => Err(Failure::Recovery(fault)),
-        Ok(recovered) => Ok(recovered),
-    }
+    let logs = slices_of(rt.alloc(), &files).map_err(Fault::from)?;
+    Ok(recover_logs(rt.alloc(), &logs)?)
 }
 
 /// Prints the store, and hands on what a buffer still holds, so that its fault has a status.

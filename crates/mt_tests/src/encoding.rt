@@ -1,13 +1,9 @@
 //! Vectors by the encoders.
-use crate::logs::{LOG_A, LOG_B, bytes_of};
+use crate::logs::{LOG_A, LOG_B, bytes_of, key_of};
 use mt_record::{encode_log_header, encode_record};
-use mt_words::{Columns, Key, Record};
+use mt_words::{Columns, Record};
 use std::alloc::Global;
 use std::test::Fail;
-
-fn key_of(alloc: Global, bytes: &[u8]) -> Result<Key, Fail> {
-    Ok(Key::new(Vec::from_slice(alloc, bytes)?).ok_or("a short key")?)
-}
 
 fn columns_of(alloc: Global, values: &[&[u8]]) -> Result<Columns, Fail> {
     let mut columns = Columns::new(alloc);

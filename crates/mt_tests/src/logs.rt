@@ -1,6 +1,6 @@
-//! How the tests spell logs.
+//! How the tests spell keys and logs.
 use mt_recover::{recover_logs, write_dump};
-use mt_words::Fault;
+use mt_words::{Fault, Key};
 use std::alloc::Global;
 use std::test::Fail;
 
@@ -19,6 +19,11 @@ pub const LOG_B: &str = "4d544c31 0000000000000000
 
 /// A log of a header alone, with `from` 4.
 pub const LATE_HEADER: &str = "4d544c31 0000000000000004";
+
+/// The key of these bytes.
+pub fn key_of(alloc: Global, bytes: &[u8]) -> Result<Key, Fail> {
+    Ok(Key::new(Vec::from_slice(alloc, bytes)?).ok_or("a short key")?)
+}
 
 /// The bytes of hexadecimal text. White space has no meaning.
 pub fn bytes_of(alloc: Global, text: &str) -> Result<Vec<u8>, Fail> {

@@ -44,6 +44,14 @@ fn file_of(rt: &HostRuntime, name: &str, text: &str) -> Result<String, Fail> {
     Ok(path)
 }
 
+/// Removes the files of these names.
+fn remove_files(rt: &HostRuntime, names: &[String]) -> Result<(), Fail> {
+    for name in names {
+        fs::remove_file(rt, name.as_str())?;
+    }
+    Ok(())
+}
+
 /// Runs the program on these files: its status, its output and its error output.
 fn run(rt: &HostRuntime, names: &[String]) -> (u8, Vec<u8>, Vec<u8>) {
     let mut out = Vec::new(rt.alloc());
@@ -61,9 +69,7 @@ fn prints_the_store_of_two_files(rt: HostRuntime) -> Result<(), Fail> {
     assert_eq!(rt; status, 0);
     assert_eq!(rt; out.as_slice(), b"61: 0=78\n62: 0=79\n".as_slice());
     assert_eq!(rt; err.len(), 0);
-    for name in &names {
-        fs::remove_file(&rt, name.as_str())?;
-    }
+    remove_files(&rt, &names)?;
     Ok(())
 }
 
@@ -90,9 +96,7 @@ fn prints_the_fault_of_the_logs(rt: HostRuntime) -> Result<(), Fail> {
     // A line that cannot be written changes no status.
     let mut out = Vec::new(rt.alloc());
     assert_eq!(rt; dump_files(&rt, &names, &mut out, &mut Full), 1);
-    for name in &names {
-        fs::remove_file(&rt, name.as_str())?;
-    }
+    remove_files(&rt, &names)?;
     Ok(())
 }
 
@@ -125,9 +129,7 @@ fn a_folder_is_no_file(rt: HostRuntime) -> Result<(), Fail> {
         err.as_slice(),
         b"mtdump: log 1: source failed\n".as_slice()
     );
-    for name in names.iter().take(1) {
-        fs::remove_file(&rt, name.as_str())?;
-    }
+    remove_files(&rt, &names[..1])?;
     Ok(())
 }
 
@@ -145,9 +147,7 @@ fn a_file_past_the_limit_is_not_read(rt: HostRuntime) -> Result<(), Fail> {
         err.as_slice(),
         b"mtdump: log 0: source failed\n".as_slice()
     );
-    for name in &names {
-        fs::remove_file(&rt, name.as_str())?;
-    }
+    remove_files(&rt, &names)?;
     Ok(())
 }
 
@@ -182,18 +182,14 @@ fn a_failing_output_has_a_status(rt: HostRuntime) -> Result<(), Fail> {
     let mut err = Vec::new(rt.alloc());
     assert_eq!(rt; dump_files(&rt, &names, &mut Unflushed, &mut err), 3);
     assert_eq!(rt; err.as_slice(), b"mtdump: output failed\n".as_slice());
-    for name in &names {
-        fs::remove_file(&rt, name.as_str())?;
-    }
+    remove_files(&rt, &names)?;
 
     // No write of no bytes is made.
     let empty = file_of(&rt, "output-empty", HEADER)?;
     let names = vec![in rt.alloc(); empty]?;
     let mut err = Vec::new(rt.alloc());
     assert_eq!(rt; dump_files(&rt, &names, &mut Full, &mut err), 0);
-    for name in &names {
-        fs::remove_file(&rt, name.as_str())?;
-    }
+    remove_files(&rt, &names)?;
     Ok(())
 }
 

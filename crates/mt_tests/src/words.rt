@@ -1,11 +1,12 @@
 //! Keys, columns, records and faults.
+use crate::logs::key_of;
 use mt_words::{Columns, Fault, GREATEST_COLUMN, Key, LONGEST_KEY, LONGEST_VALUE, Record, What};
 use std::test::Fail;
 
 #[test]
 fn copies_keys_and_columns(rt: HostRuntime) -> Result<(), Fail> {
     let alloc = rt.alloc();
-    let key = Key::new(Vec::from_slice(alloc, b"key")?).ok_or("a short key")?;
+    let key = key_of(alloc, b"key")?;
     assert_eq!(rt; key.try_copy()?.as_bytes(), b"key".as_slice());
 
     let mut columns = Columns::new(alloc);
@@ -38,9 +39,9 @@ fn takes_the_longest_and_no_longer(rt: HostRuntime) -> Result<(), Fail> {
 #[test]
 fn orders_keys_as_lists_of_bytes(rt: HostRuntime) -> Result<(), Fail> {
     let alloc = rt.alloc();
-    let mut last = Key::new(Vec::new(alloc)).ok_or("the empty key")?;
+    let mut last = key_of(alloc, b"")?;
     for bytes in [b"\0".as_slice(), b"a", b"aa", b"ab", b"b", b"\xff"] {
-        let key = Key::new(Vec::from_slice(alloc, bytes)?).ok_or("a short key")?;
+        let key = key_of(alloc, bytes)?;
         assert!(rt; last < key);
         last = key;
     }
@@ -51,7 +52,7 @@ fn orders_keys_as_lists_of_bytes(rt: HostRuntime) -> Result<(), Fail> {
 fn makes_puts_and_marks(rt: HostRuntime) -> Result<(), Fail> {
     let alloc = rt.alloc();
     assert!(rt; Record::mark(5).into_change().is_none());
-    let key = Key::new(Vec::from_slice(alloc, b"k")?).ok_or("a short key")?;
+    let key = key_of(alloc, b"k")?;
     let mut columns = Columns::new(alloc);
     assert!(rt; columns.push(0, Vec::from_slice(alloc, b"v")?).is_ok());
     let put = Record::put(7, 1, key, columns).ok_or("a lawful put")?;

@@ -24,10 +24,7 @@ fn main(rt: HostRuntime) -> ExitCode {
 /// The status of the program, or the fault of the words themselves, as one that is not UTF-8.
 fn run(rt: &HostRuntime) -> io::Result<u8> {
     let alloc = rt.alloc();
-    let mut names: Vec<String> = env::args(rt)?.collect(alloc)?;
-    if !names.is_empty() {
-        names.remove(0);
-    }
+    let names: Vec<String> = env::args(rt)?.skip(1).collect(alloc)?;
     let mut out = BufWriter::new(alloc, rt.stdout())?;
     let mut err = rt.stderr();
     Ok(dump_files(rt, names.as_slice(), &mut out, &mut err))
