@@ -7,6 +7,7 @@ pub mod WalkLemmas
 pub mod Apart
 pub mod ReplayLemmas
 pub mod ReadingLemmas
+pub mod SourceLemmas
 pub mod FactLemmas
 pub mod FindLemmas
 pub mod DumpLemmas

@@ -25,7 +25,7 @@ readings_push (l ∷ ls) [] (suc i) bytes log at are is = absurd are
 readings_push (l ∷ ls) (r ∷ rs) (suc i) bytes log at are is = (are.0, readings_push ls rs i bytes log at are.1 is)
 
 -- one more scan
-show_push : (number : ℕ) (scans : List LogScan) (readings : List LogReading) (i : ℕ) (scan : LogScan) (log : LogReading) → i ≡ number + length scans → ShowAll number scans readings → ShowsLog i scan log → ShowAll number (scans ++ scan ∷ []) (readings ++ log ∷ [])
+pub show_push : (number : ℕ) (scans : List LogScan) (readings : List LogReading) (i : ℕ) (scan : LogScan) (log : LogReading) → i ≡ number + length scans → ShowAll number scans readings → ShowsLog i scan log → ShowAll number (scans ++ scan ∷ []) (readings ++ log ∷ [])
 show_push number [] [] i scan log at show one = let first : i ≡ number = omega arith in (subst (λ (n : ℕ). ShowsLog n scan log) first one, tt)
 show_push number [] (r ∷ rs) i scan log at show one = absurd show
 show_push number (s ∷ ss) [] i scan log at show one = absurd show

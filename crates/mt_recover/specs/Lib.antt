@@ -7,3 +7,4 @@ pub mod Dump
 pub mod Cells
 pub mod KeyWrites
 pub mod LogScans
+pub mod Inputs

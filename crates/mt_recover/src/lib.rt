@@ -1,19 +1,22 @@
-//! Recovery of a store from the bytes of update logs, and its text.
+//! Recovery of a store from update logs, and its text.
 #![tactic(auto)]
 
 mod cell;
 mod dump;
+mod inputs;
 mod key_writes;
 mod laws;
 mod program;
 mod read_logs;
 mod recover;
 mod replay;
+mod scan_logs;
 mod store;
 mod window;
 
 pub use dump::write_dump;
+pub use inputs::Inputs;
 pub use laws::{one_verdict, one_walk};
 pub use program::dump_files;
-pub use recover::{Recovered, recover_logs};
+pub use recover::{Recovered, recover_logs, recover_one};
 pub use store::Store;

@@ -3,12 +3,15 @@ ghost use Rattle.std.specs.Prelude.{◌≡◌, [], List, ℕ, map, IfOk, IfErr};
 ghost use Rattle.mt_recover.specs.LogScans.{AreScansOf};
 ghost use Rattle.mt_recover.specs.Recovery.{IsStoreOf};
 ghost use Rattle.mt_recover.specs.Verdict.{IsAnswered};
+ghost use Rattle.mt_recover.specs.Inputs.{OfSources, IsAnsweredFrom, BlamesUnsteady};
 
+use crate::inputs::Inputs;
 use crate::read_logs::{first_gap, read_logs};
 use crate::replay::replay;
+use crate::scan_logs::scan_logs;
 use crate::store::Store;
 use crate::window::Window;
-use mt_scan::{LogScan, cutoff};
+use mt_scan::{LogScan, Source, cutoff};
 use mt_words::Fault;
 use std::alloc::Global;
 use std::marker::Model;
@@ -34,6 +37,23 @@ impl Recovered {
     {
         &self.store
     }
+}
+
+/// The store of the logs that the sources have, on one thread, without a checkpoint: there is no part yet. Each log is
+/// scanned once, in the order of the list, and no source outlives the call. An Err is the one fault of the logs;
+/// `Source` where a source that is not steady failed and no log before it has a fault; or `Memory` where a growth was
+/// refused. Of a source that does not tell its bytes no more is said than that it had some.
+pub fn recover_one<S: Source>(alloc: Global, inputs: Inputs<S>) -> Result<Recovered, Fault>
+    requires { inputs.parts.items ≡ [] }
+    ensures store { IfOk result (λ recovered. OfSources S.seen inputs.logs.items inputs.parts.items
+        (λ logs parts. IsStoreOf logs parts recovered.store)) }
+    ensures fault { IfErr result (λ fault. OfSources S.seen inputs.logs.items inputs.parts.items
+        (λ logs parts. IsAnsweredFrom logs parts fault)) }
+    ensures steady { IfErr result (BlamesUnsteady S.seen inputs.logs.items inputs.parts.items) }
+{
+    let Inputs { logs, parts: _ } = inputs;
+    let scans = scan_logs(alloc, logs)?;
+    recover_scans(alloc, scans)
 }
 
 /// The store of the logs whose bytes are these, without a checkpoint, on one thread. The position of a log in the

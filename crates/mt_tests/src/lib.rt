@@ -13,8 +13,12 @@ mod printing;
 #[cfg(test)]
 mod reading;
 #[cfg(test)]
+mod recovering;
+#[cfg(test)]
 mod recovery;
 #[cfg(test)]
 mod refusals;
+#[cfg(test)]
+mod scanning;
 #[cfg(test)]
 mod words;

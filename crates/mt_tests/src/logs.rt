@@ -1,6 +1,5 @@
 //! How the tests spell keys and logs.
-use mt_recover::{recover_logs, write_dump};
-use mt_words::{Fault, Key};
+use mt_words::Key;
 use std::alloc::Global;
 use std::test::Fail;
 
@@ -78,14 +77,4 @@ pub fn remove(alloc: Global, key: &str, version: u64, timestamp: u64) -> Result<
 /// A mark.
 pub fn mark(alloc: Global, timestamp: u64) -> Result<String, Fail> {
     Ok(format!(in alloc; "00000009 03 {timestamp:016x} 00000009")?)
-}
-
-/// The text of the store of these logs.
-pub fn dump_of(alloc: Global, logs: &[&[u8]]) -> Result<Vec<u8>, Fault> {
-    let recovered = recover_logs(alloc, logs)?;
-    let mut text = Vec::new(alloc);
-    let Ok(()) = write_dump(recovered.store(), &mut text) else {
-        return Err(Fault::Memory);
-    };
-    Ok(text)
 }

@@ -1,7 +1,8 @@
 //! Worked logs.
 use crate::logs::{
-    HEADER, LATE_HEADER, LOG_A, LOG_B, bytes_of, dump_of, log_of, mark, put, put_column, remove,
+    HEADER, LATE_HEADER, LOG_A, LOG_B, bytes_of, log_of, mark, put, put_column, remove,
 };
+use crate::recovering::{assert_fault, assert_store};
 use mt_record::{FeedFault, read_log};
 use mt_recover::recover_logs;
 use mt_words::{Fault, What};
@@ -13,17 +14,12 @@ const PAIR_A: &[u8] = b"61: 0=78\n";
 fn a_mark_keeps_the_updates_before_it(rt: HostRuntime) -> Result<(), Fail> {
     let alloc = rt.alloc();
     let mut log = bytes_of(alloc, LOG_A)?;
-    assert_eq!(rt;
-        dump_of(alloc, [log.as_slice()].as_slice())?.as_slice(),
-        PAIR_A
-    );
+    assert_store(&rt, [log.as_slice()].as_slice(), PAIR_A)?;
 
     // Without the mark the log's last timestamp is that of its put, which is at the cutoff.
     log.truncate(45);
     assert_eq!(rt; read_log(alloc, &log)?.last, 3);
-    let unmarked = dump_of(alloc, [log.as_slice()].as_slice())?;
-    assert_eq!(rt; unmarked.len(), 0);
-    Ok(())
+    assert_store(&rt, [log.as_slice()].as_slice(), b"")
 }
 
 #[test]
@@ -32,8 +28,7 @@ fn two_logs_make_one_store(rt: HostRuntime) -> Result<(), Fail> {
     let a = bytes_of(alloc, LOG_A)?;
     let b = bytes_of(alloc, LOG_B)?;
     let logs = [a.as_slice(), b.as_slice()];
-    let dump = dump_of(alloc, logs.as_slice())?;
-    assert_eq!(rt; dump.as_slice(), b"61: 0=78\n62: 0=79\n".as_slice());
+    assert_store(&rt, logs.as_slice(), b"61: 0=78\n62: 0=79\n")?;
 
     let recovered = recover_logs(alloc, logs.as_slice())?;
     let columns = recovered.store().get(b"b").ok_or("key b")?;
@@ -43,10 +38,9 @@ fn two_logs_make_one_store(rt: HostRuntime) -> Result<(), Fail> {
 }
 
 #[test]
-fn no_logs_make_no_store(rt: HostRuntime) {
+fn no_logs_make_no_store(rt: HostRuntime) -> Result<(), Fail> {
     let logs: [&[u8]; 0] = [];
-    let fault = recover_logs(rt.alloc(), logs.as_slice()).err();
-    assert_eq!(rt; fault, Some(Fault::NoLogs));
+    assert_fault(&rt, logs.as_slice(), Fault::NoLogs)
 }
 
 #[test]
@@ -55,13 +49,11 @@ fn a_log_of_a_header_alone_counts(rt: HostRuntime) -> Result<(), Fail> {
     let a = bytes_of(alloc, LOG_A)?;
     let empty = bytes_of(alloc, HEADER)?;
     assert_eq!(rt; read_log(alloc, &empty)?.last, 0);
-    let dump = dump_of(alloc, [a.as_slice(), empty.as_slice()].as_slice())?;
-    assert_eq!(rt; dump.len(), 0);
+    assert_store(&rt, [a.as_slice(), empty.as_slice()].as_slice(), b"")?;
 
     let late = bytes_of(alloc, LATE_HEADER)?;
-    let fault = recover_logs(alloc, [a.as_slice(), late.as_slice()].as_slice()).err();
-    assert_eq!(rt; fault, Some(Fault::Gap { log: 1 }));
-    Ok(())
+    let logs = [a.as_slice(), late.as_slice()];
+    assert_fault(&rt, logs.as_slice(), Fault::Gap { log: 1 })
 }
 
 #[test]
@@ -72,15 +64,12 @@ fn a_cut_record_is_left_out(rt: HostRuntime) -> Result<(), Fail> {
     whole.extend_from_slice(&last)?;
     assert_eq!(rt; whole.len(), 95);
     assert_eq!(rt; read_log(alloc, &whole)?.last, 6);
-    assert_eq!(rt;
-        dump_of(alloc, [whole.as_slice()].as_slice())?.as_slice(),
-        PAIR_A
-    );
+    assert_store(&rt, [whole.as_slice()].as_slice(), PAIR_A)?;
     for kept in 0..33usize {
         let cut = &whole[..62 + kept];
         let text = read_log(alloc, cut)?;
         assert_eq!(rt; (text.last, text.whole, text.torn), (5, 2, kept > 0));
-        assert_eq!(rt; dump_of(alloc, [cut].as_slice())?.as_slice(), PAIR_A);
+        assert_store(&rt, [cut].as_slice(), PAIR_A)?;
     }
     Ok(())
 }
@@ -99,14 +88,12 @@ fn names_the_least_faulty_log(rt: HostRuntime) -> Result<(), Fail> {
         .as_slice(),
     )?;
     let logs = [a.as_slice(), damaged.as_slice(), damaged.as_slice()];
-    let fault = recover_logs(alloc, logs.as_slice()).err();
     let expected = Fault::Record {
         log: 1,
         nth: 1,
         what: What::Trailer,
     };
-    assert_eq!(rt; fault, Some(expected));
-    Ok(())
+    assert_fault(&rt, logs.as_slice(), expected)
 }
 
 #[test]
@@ -121,11 +108,10 @@ fn at_one_version_the_later_log_wins(rt: HostRuntime) -> Result<(), Fail> {
         alloc,
         [put(alloc, "6b", 9, 2, "42")?.as_str(), end.as_str()].as_slice(),
     )?;
-    let dump = dump_of(alloc, [first.as_slice(), second.as_slice()].as_slice())?;
-    assert_eq!(rt; dump.as_slice(), b"6b: 0=42\n".as_slice());
-    let exchanged = dump_of(alloc, [second.as_slice(), first.as_slice()].as_slice())?;
-    assert_eq!(rt; exchanged.as_slice(), b"6b: 0=41\n".as_slice());
-    Ok(())
+    let logs = [first.as_slice(), second.as_slice()];
+    assert_store(&rt, logs.as_slice(), b"6b: 0=42\n")?;
+    let exchanged = [second.as_slice(), first.as_slice()];
+    assert_store(&rt, exchanged.as_slice(), b"6b: 0=41\n")
 }
 
 #[test]
@@ -140,9 +126,8 @@ fn the_greater_version_wins_whatever_the_order_of_logs(rt: HostRuntime) -> Resul
         alloc,
         [put(alloc, "6b", 1, 2, "41")?.as_str(), end.as_str()].as_slice(),
     )?;
-    let dump = dump_of(alloc, [newer.as_slice(), older.as_slice()].as_slice())?;
-    assert_eq!(rt; dump.as_slice(), b"6b: 0=42\n".as_slice());
-    Ok(())
+    let logs = [newer.as_slice(), older.as_slice()];
+    assert_store(&rt, logs.as_slice(), b"6b: 0=42\n")
 }
 
 #[test]
@@ -150,26 +135,21 @@ fn timestamps_may_stay_and_not_fall(rt: HostRuntime) -> Result<(), Fail> {
     let alloc = rt.alloc();
     let five = mark(alloc, 5)?;
     let even = log_of(alloc, [five.as_str(), five.as_str()].as_slice())?;
-    assert!(rt; recover_logs(alloc, [even.as_slice()].as_slice()).is_ok());
+    assert_store(&rt, [even.as_slice()].as_slice(), b"")?;
 
     let falling = log_of(alloc, [five.as_str(), mark(alloc, 4)?.as_str()].as_slice())?;
     let fault = read_log(alloc, &falling).err();
     let what = What::Clock;
     assert_eq!(rt; fault, Some(FeedFault::Record { nth: 1, what }));
-    let fault = recover_logs(alloc, [falling.as_slice()].as_slice()).err();
-    assert_eq!(rt;
-        fault,
-        Some(Fault::Record {
-            log: 0,
-            nth: 1,
-            what
-        })
-    );
+    let fault = Fault::Record {
+        log: 0,
+        nth: 1,
+        what,
+    };
+    assert_fault(&rt, [falling.as_slice()].as_slice(), fault)?;
 
     let short = bytes_of(alloc, "4d544c31 00")?;
-    let fault = recover_logs(alloc, [short.as_slice()].as_slice()).err();
-    assert_eq!(rt; fault, Some(Fault::Header { log: 0 }));
-    Ok(())
+    assert_fault(&rt, [short.as_slice()].as_slice(), Fault::Header { log: 0 })
 }
 
 #[test]
@@ -184,11 +164,10 @@ fn a_remove_clears_older_puts_of_other_logs(rt: HostRuntime) -> Result<(), Fail>
         alloc,
         [first.as_str(), second.as_str(), end.as_str()].as_slice(),
     )?;
-    let dump = dump_of(alloc, [removes.as_slice(), puts.as_slice()].as_slice())?;
-    assert_eq!(rt; dump.len(), 0);
-    let exchanged = dump_of(alloc, [puts.as_slice(), removes.as_slice()].as_slice())?;
-    assert_eq!(rt; exchanged.len(), 0);
-    Ok(())
+    let logs = [removes.as_slice(), puts.as_slice()];
+    assert_store(&rt, logs.as_slice(), b"")?;
+    let exchanged = [puts.as_slice(), removes.as_slice()];
+    assert_store(&rt, exchanged.as_slice(), b"")
 }
 
 #[test]
@@ -204,7 +183,5 @@ fn a_put_behind_a_remove_sets_its_columns_alone(rt: HostRuntime) -> Result<(), F
     let end = mark(alloc, 9)?;
     let records = [both.as_str(), clear.as_str(), second.as_str(), end.as_str()];
     let log = log_of(alloc, records.as_slice())?;
-    let dump = dump_of(alloc, [log.as_slice()].as_slice())?;
-    assert_eq!(rt; dump.as_slice(), b"6b: 1=43\n".as_slice());
-    Ok(())
+    assert_store(&rt, [log.as_slice()].as_slice(), b"6b: 1=43\n")
 }

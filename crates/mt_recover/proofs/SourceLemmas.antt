@@ -1,0 +1,158 @@
+-- Sources that were scanned one after the other.
+use Rattle.std.proofs.Common.{◌≡◌, ◌∙◌, ℕ, zero, suc, ◌<◌, Bool, true, false, IsTrue, List, [], ◌∷◌, ◌++◌, length, take, Some, None, Result, Ok, Err, IfErr, refl, sym, ap, subst, arith}
+use Rattle.std.specs.Prelude.{slice_get, IsSomeAnd}
+use Rattle.mt_words.specs.declared.fault.Fault.{Fault}
+use Rattle.mt_words.specs.declared.fault.Fault.TheVariants as faults
+use Rattle.mt_record.specs.Logs.{LogReading, IsReading}
+use Rattle.mt_scan.specs.declared.log_scan.LogScan.{LogScan}
+use Rattle.mt_scan.specs.Sources.{Seen, Agrees}
+use Rattle.mt_scan.specs.Scans.{IsScanOf, IsScanFault, failures_of}
+use Rattle.mt_scan.proofs.Telling.{some_bytes}
+use Rattle.mt_recover.specs.Recovery.{AreReadings}
+use Rattle.mt_recover.specs.Verdict.{IsAnswered}
+use Rattle.mt_recover.specs.LogScans.{ShowAll, AreScansOf}
+use Rattle.mt_recover.specs.Inputs.{MayHave, IsAnsweredFrom, BlamesUnsteady}
+use Rattle.mt_recover.proofs.ReadingLemmas.{show_push}
+
+-- ---- what sources may have
+
+-- all sources may have some bytes
+pub some_logs : {S : Type 0} (seen : S → Seen) (sources : List S) → (logs : List (List ℕ)) × MayHave seen sources logs
+some_logs seen [] = ([], tt)
+some_logs seen (s ∷ ss) =
+    let here = some_bytes (seen s).told in
+    let rest = some_logs seen ss in
+    (here.0 ∷ rest.0, (here.1, rest.1))
+
+-- what sources may have, behind what others may have
+pub may_append : {S : Type 0} (seen : S → Seen) (sources others : List S) (logs more : List (List ℕ)) → MayHave seen sources logs → MayHave seen others more
+    → MayHave seen (sources ++ others) (logs ++ more)
+may_append seen [] others [] more may too = too
+may_append seen [] others (l ∷ ls) more may too = absurd may
+may_append seen (s ∷ ss) others [] more may too = absurd may
+may_append seen (s ∷ ss) others (l ∷ ls) more may too = (may.0, may_append seen ss others ls more may.1 too)
+
+-- ---- one more log
+
+readings_append : (logs : List (List ℕ)) (readings : List LogReading) (bytes : List ℕ) (log : LogReading) → AreReadings logs readings → IsReading bytes log
+    → AreReadings (logs ++ bytes ∷ []) (readings ++ log ∷ [])
+readings_append [] [] bytes log are is = (is, tt)
+readings_append [] (r ∷ rs) bytes log are is = absurd are
+readings_append (l ∷ ls) [] bytes log are is = absurd are
+readings_append (l ∷ ls) (r ∷ rs) bytes log are is = (are.0, readings_append ls rs bytes log are.1 is)
+
+pub scans_append : (logs : List (List ℕ)) (scans : List LogScan) (bytes : List ℕ) (scan : LogScan) (number : ℕ) → number ≡ length scans → AreScansOf logs scans
+    → IsScanOf number bytes scan → AreScansOf (logs ++ bytes ∷ []) (scans ++ scan ∷ [])
+scans_append logs scans bytes scan number at are is = record {
+  readings = are.readings ++ is.log ∷ [];
+  read = readings_append logs are.readings bytes is.log are.read is.is_reading;
+  show = show_push 0 scans are.readings number scan is.log (omega (arith, at)) are.show is.shows;
+}
+
+-- ---- the fault of a log behind whole logs
+
+as_many_readings : (logs : List (List ℕ)) (readings : List LogReading) → AreReadings logs readings → length logs ≡ length readings
+as_many_readings [] [] are = refl
+as_many_readings [] (r ∷ rs) are = absurd are
+as_many_readings (l ∷ ls) [] are = absurd are
+as_many_readings (l ∷ ls) (r ∷ rs) are = ap suc (as_many_readings ls rs are.1)
+
+as_many_scans : (number : ℕ) (scans : List LogScan) (readings : List LogReading) → ShowAll number scans readings → length scans ≡ length readings
+as_many_scans number [] [] show = refl
+as_many_scans number [] (r ∷ rs) show = absurd show
+as_many_scans number (s ∷ ss) [] show = absurd show
+as_many_scans number (s ∷ ss) (r ∷ rs) show = ap suc (as_many_scans (suc number) ss rs show.1)
+
+front_of : {A : Type 0} (front rest : List A) → take (length front) (front ++ rest) ≡ front
+front_of [] [] = refl
+front_of [] (x ∷ xs) = refl
+front_of (x ∷ xs) rest = ap (λ ys. x ∷ ys) (front_of xs rest)
+
+pub behind_front : {A : Type 0} (front : List A) (x : A) (rest : List A) → slice_get (front ++ x ∷ rest) (length front) ≡ Some x
+behind_front [] x rest = refl
+behind_front (y ∷ ys) x rest = behind_front ys x rest
+
+pub fault_among : (logs rest : List (List ℕ)) (scans : List LogScan) (bytes : List ℕ) (number : ℕ) (fault : Fault) → number ≡ length scans → AreScansOf logs scans
+    → IsScanFault number bytes fault → IsAnsweredFrom (logs ++ bytes ∷ rest) [] fault
+fault_among logs rest scans bytes number fault at are is = by fault (subst (λ (n : ℕ). IsScanFault n bytes fault) here is)
+  where
+    here : number ≡ length logs
+    here = at ∙ as_many_scans 0 scans are.readings are.show ∙ sym (as_many_readings logs are.readings are.read)
+
+    all : List (List ℕ)
+    all = logs ++ bytes ∷ rest
+
+    before : AreReadings (take (length logs) all) are.readings
+    before = subst (λ (x : List (List ℕ)). AreReadings x are.readings) (sym (front_of logs (bytes ∷ rest))) are.read
+
+    by : (fault : Fault) → IsScanFault (length logs) bytes fault → IsAnsweredFrom all [] fault
+    by (faults.Header log) is =
+        subst (λ (n : ℕ). IsAnsweredFrom all [] (faults.Header n)) (sym is.0)
+        (record { readings = are.readings; before = before; bytes = bytes; stands = behind_front logs bytes rest; is_fault = is.1 })
+    by (faults.Record log nth what) is =
+        subst (λ (n : ℕ). IsAnsweredFrom all [] (faults.Record n nth what)) (sym is.0)
+        (record { readings = are.readings; before = before; bytes = bytes; stands = behind_front logs bytes rest; is_fault = is.1 })
+    by (faults.Source log) is = subst (λ (n : ℕ). IsAnsweredFrom all [] (faults.Source n)) (sym is) (are.readings, before)
+    by faults.Memory is = tt
+    by faults.NoLogs is = absurd is
+    by (faults.PartSource part) is = absurd is
+    by (faults.Gap log) is = absurd is
+    by (faults.Missing piece) is = absurd is
+
+-- ---- the source that is blamed
+
+not_steady : (steady : Bool) → (IsTrue steady → suc zero ≡ zero) → steady ≡ false
+not_steady true h = absurd (omega (arith, h refl))
+not_steady false h = refl
+
+pub blames : {S : Type 0} (seen : S → Seen) (front rest : List S) (source : S) (bytes : List ℕ) (number : ℕ) (fault : Fault) → number ≡ length front
+    → IsScanFault number bytes fault → (IsTrue (seen source).steady → failures_of {X = LogScan} (Err fault) ≡ 0) → BlamesUnsteady seen (front ++ source ∷ rest) [] fault
+blames {S} seen front rest source bytes number fault at is steady = by fault is steady
+  where
+    all : List S
+    all = front ++ source ∷ rest
+
+    by : (fault : Fault) → IsScanFault number bytes fault → (IsTrue (seen source).steady → failures_of {X = LogScan} (Err fault) ≡ 0) → BlamesUnsteady seen all [] fault
+    by (faults.Source log) is steady =
+        rw (is ∙ at, behind_front front source rest) (not_steady (seen source).steady steady)
+    by (faults.Header log) is steady = tt
+    by (faults.Record log nth what) is steady = tt
+    by faults.Memory is steady = tt
+    by faults.NoLogs is steady = tt
+    by (faults.PartSource part) is steady = absurd is
+    by (faults.Gap log) is steady = tt
+    by (faults.Missing piece) is steady = tt
+
+-- ---- after the scans
+
+-- where there are no parts, there are none to read
+pub no_parts : {S : Type 0} (seen : S → Seen) (parts : List S) → parts ≡ [] → MayHave seen parts []
+no_parts seen [] none = tt
+no_parts seen (p ∷ ps) none = absurd cc
+
+-- the verdict on logs is what recovery from their sources answers
+pub answered_from : (logs parts : List (List ℕ)) (fault : Fault) → IsAnswered logs parts fault → IsAnsweredFrom logs parts fault
+answered_from logs parts (faults.Source log) is = absurd is
+answered_from logs parts (faults.PartSource part) is = absurd is
+answered_from logs parts faults.NoLogs is = is
+answered_from logs parts (faults.Header log) is = is
+answered_from logs parts (faults.Record log nth what) is = is
+answered_from logs parts (faults.Gap log) is = is
+answered_from logs parts (faults.Missing piece) is = is
+answered_from logs parts faults.Memory is = is
+
+-- and it blames no source
+pub blames_none : {S : Type 0} (seen : S → Seen) (log_sources part_sources : List S) (logs parts : List (List ℕ)) (fault : Fault) → IsAnswered logs parts fault
+    → BlamesUnsteady seen log_sources part_sources fault
+blames_none seen ls ps logs parts (faults.Source log) is = absurd is
+blames_none seen ls ps logs parts (faults.PartSource part) is = absurd is
+blames_none seen ls ps logs parts faults.NoLogs is = tt
+blames_none seen ls ps logs parts (faults.Header log) is = tt
+blames_none seen ls ps logs parts (faults.Record log nth what) is = tt
+blames_none seen ls ps logs parts (faults.Gap log) is = tt
+blames_none seen ls ps logs parts (faults.Missing piece) is = tt
+blames_none seen ls ps logs parts faults.Memory is = tt
+
+pub on_err : {A E : Type 0} (r : Result A E) (P Q : E → Type 0) → ((e : E) → P e → Q e) → IfErr r P → IfErr r Q
+on_err (Ok x) P Q f h = tt
+on_err (Err e) P Q f h = f e h

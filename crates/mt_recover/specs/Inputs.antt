@@ -1,0 +1,37 @@
+-- Sources of logs and parts, and what recovery from them answers.
+use Rattle.std.specs.Prelude.{◌≡◌, Bool, false, ℕ, IsSomeAnd, List, [], ◌∷◌, slice_get, take}
+use Rattle.mt_words.specs.declared.fault.Fault.{Fault}
+use Rattle.mt_words.specs.declared.fault.Fault.TheVariants as faults
+use Rattle.mt_record.specs.Logs.{LogReading}
+use Rattle.mt_scan.specs.Sources.{Seen, Agrees}
+use Rattle.mt_recover.specs.Recovery.{AreReadings}
+use Rattle.mt_recover.specs.Verdict.{IsAnswered}
+
+-- the sources may have these bytes: just those that they tell, or any where they tell none
+abbrev pub MayHave : {S : Type 0} → (S → Seen) → List S → List (List ℕ) → Type 0
+MayHave seen [] [] = Unit {0}
+MayHave seen (source ∷ sources) (bytes ∷ more) = Agrees (seen source).told bytes × MayHave seen sources more
+MayHave seen [] (bytes ∷ more) = ⊥
+MayHave seen (source ∷ sources) [] = ⊥
+
+-- this holds of some logs and parts that the sources may have
+abbrev pub OfSources : {S : Type 0} → (S → Seen) → List S → List S → (List (List ℕ) → List (List ℕ) → Type 0) → Type 0
+OfSources seen log_sources part_sources P =
+    (logs : List (List ℕ)) × (parts : List (List ℕ)) × MayHave seen log_sources logs × MayHave seen part_sources parts × P logs parts
+
+-- each of the logs says something, so that none of them has a fault
+abbrev pub AreLogs : List (List ℕ) → Type 0
+AreLogs logs = (readings : List LogReading) × AreReadings logs readings
+
+-- The fault that recovery from sources answers: a source's where no log before it has a fault, or that of a part's where no
+-- log has one; else that of recovery.
+abbrev pub IsAnsweredFrom : List (List ℕ) → List (List ℕ) → Fault → Type 0
+IsAnsweredFrom logs parts (faults.Source i) = AreLogs (take i logs)
+IsAnsweredFrom logs parts (faults.PartSource i) = AreLogs logs
+IsAnsweredFrom logs parts fault = IsAnswered logs parts fault
+
+-- a source that is blamed is not steady
+abbrev pub BlamesUnsteady : {S : Type 0} → (S → Seen) → List S → List S → Fault → Type 0
+BlamesUnsteady seen logs parts (faults.Source i) = IsSomeAnd (slice_get logs i) (λ source. (seen source).steady ≡ false)
+BlamesUnsteady seen logs parts (faults.PartSource i) = IsSomeAnd (slice_get parts i) (λ source. (seen source).steady ≡ false)
+BlamesUnsteady seen logs parts fault = Unit {0}
