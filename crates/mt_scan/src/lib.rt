@@ -1,6 +1,7 @@
 //! Sources of bytes, the buffers that they borrow, and scans of logs over them.
 #![tactic(auto)]
 
+mod boxed;
 mod buffer;
 mod fault_source;
 mod log_scan;

@@ -3,13 +3,14 @@ use mt_recover::{Inputs, Recovered, recover_logs, recover_one, write_dump};
 use mt_scan::{MemSource, Rack, Slot, Source};
 use mt_words::Fault;
 use std::alloc::Global;
+use std::process::Abort;
 use std::test::Fail;
 
 /// The sizes of the buffers.
 const SIZES: [usize; 3] = [1, 16, 65_536];
 
 /// Sources of these logs, each with the buffer of a slot.
-pub fn sources_of<'a>(
+fn sources_of<'a>(
     alloc: Global,
     logs: &[&'a [u8]],
     slots: &'a mut [Slot],
@@ -27,16 +28,24 @@ pub fn recover_sources<S: Source>(alloc: Global, logs: Vec<S>) -> Result<Recover
     recover_one(alloc, Inputs { logs, parts })
 }
 
+/// What recovery of these logs answers from sources with the buffers of these slots.
+fn recover_through(
+    alloc: Global,
+    logs: &[&[u8]],
+    slots: &mut [Slot],
+) -> Result<Result<Recovered, Fault>, Fail> {
+    let sources = sources_of(alloc, logs, slots)?;
+    Ok(recover_sources(alloc, sources))
+}
+
 /// What recovery of these logs answers from sources with buffers of this size. All buffers are back then.
-fn recover_by(
-    rt: &HostRuntime,
+fn recover_by<R: Abort + AllocGlobal>(
+    rt: &R,
     logs: &[&[u8]],
     size: usize,
 ) -> Result<Result<Recovered, Fault>, Fail> {
-    let alloc = rt.alloc();
-    let mut rack = Rack::new(alloc, logs.len(), size)?;
-    let sources = sources_of(alloc, logs, rack.slots())?;
-    let answer = recover_sources(alloc, sources);
+    let mut rack = Rack::new(rt.alloc(), logs.len(), size)?;
+    let answer = recover_through(rt.alloc(), logs, rack.slots())?;
     assert!(rt; rack.all_full(), "buffers of {size}");
     Ok(answer)
 }
@@ -49,7 +58,7 @@ pub fn text_of(alloc: Global, recovered: &Recovered) -> Result<Vec<u8>, Fail> {
 }
 
 /// Each way recovers the store of this text.
-pub fn assert_store(rt: &HostRuntime, logs: &[&[u8]], text: &[u8]) -> Result<(), Fail> {
+pub fn assert_store<R: Abort + AllocGlobal>(rt: &R, logs: &[&[u8]], text: &[u8]) -> Result<(), Fail> {
     let alloc = rt.alloc();
     let recovered = recover_logs(alloc, logs)?;
     assert_eq!(rt; text_of(alloc, &recovered)?.as_slice(), text);
@@ -61,7 +70,7 @@ pub fn assert_store(rt: &HostRuntime, logs: &[&[u8]], text: &[u8]) -> Result<(),
 }
 
 /// Each way names this fault.
-pub fn assert_fault(rt: &HostRuntime, logs: &[&[u8]], fault: Fault) -> Result<(), Fail> {
+pub fn assert_fault<R: Abort + AllocGlobal>(rt: &R, logs: &[&[u8]], fault: Fault) -> Result<(), Fail> {
     assert_eq!(rt; recover_logs(rt.alloc(), logs).err(), Some(fault));
     for size in SIZES {
         let answer = recover_by(rt, logs, size)?.err();

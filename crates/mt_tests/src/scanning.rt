@@ -11,6 +11,7 @@ use std::fs::{self, File, OpenFile};
 use std::io::{self, ErrorKind, Read};
 use std::test::Fail;
 
+ghost use Rattle.std.specs.Prelude.{[], Some, true, false};
 ghost use Rattle.mt_scan.specs.Kinds.{seen_of_memory, seen_of_fault};
 ghost use Rattle.mt_tests.specs.declared.scanning.Mixed.TheVariants.{Memory, Failing};
 
@@ -88,10 +89,46 @@ fn a_failed_source_is_named_and_all_buffers_are_back(rt: HostRuntime) -> Result<
     let second = rest.first_mut().ok_or("a second slot")?;
     let memory = MemSource::new(&bytes, first).ok_or("a full slot")?;
     let failing = FaultSource::new(&bytes, second, 2).ok_or("a full slot")?;
-    let sources = vec![in alloc; Mixed::Memory(memory), Mixed::Failing(failing)]?;
+    let mut sources = Vec::new(alloc);
+    sources.push(Mixed::Memory(memory))?;
+    sources.push(Mixed::Failing(failing))?;
     let answer = recover_sources(alloc, sources);
     assert_eq!(rt; answer.err(), Some(Fault::Source { log: 1 }));
     assert!(rt; rack.all_full());
+    Ok(())
+}
+
+/// A source without bytes, which borrows nothing.
+#[derive(Drop)]
+struct Nothing;
+
+impl Source for Nothing {
+    ghost seen = { λ _. record {
+        told = Some [];
+        bound = 0;
+        failures = 0;
+        steady = true;
+        shown = [];
+        spent = false;
+    } };
+
+    fn advance(&mut self) -> Result<usize, SourceFault> {
+        Ok(0)
+    }
+
+    fn piece(&self) -> &[u8] {
+        &[]
+    }
+}
+
+#[test]
+fn a_boxed_source_is_a_source(rt: HostRuntime) -> Result<(), Fail> {
+    let alloc = rt.alloc();
+    let boxed: Box<dyn Source + Send> = Box::new(alloc, Nothing)?;
+    let mut sources = Vec::new(alloc);
+    sources.push(boxed)?;
+    let answer = recover_sources(alloc, sources);
+    assert_eq!(rt; answer.err(), Some(Fault::Header { log: 0 }));
     Ok(())
 }
 
@@ -245,7 +282,9 @@ fn recovers_from_files(rt: HostRuntime) -> Result<(), Fail> {
     let file = File::open(&rt, path.as_str())?;
     let slot = rack.slots().first_mut().ok_or("a slot")?;
     let source = ReaderSource::new(file, 62, slot).ok_or("a full slot")?;
-    let recovered = recover_sources(alloc, vec![in alloc; source]?)?;
+    let mut sources = Vec::new(alloc);
+    sources.push(source)?;
+    let recovered = recover_sources(alloc, sources)?;
     assert_eq!(rt; text_of(alloc, &recovered)?.as_slice(), b"61: 0=78\n".as_slice());
     assert!(rt; rack.all_full());
     fs::remove_file(&rt, path.as_str())?;
@@ -264,8 +303,10 @@ fn scan_of(alloc: Global, log: &str, number: usize) -> Result<LogScan, Fail> {
 #[test]
 fn the_cutoff_is_the_least_last(rt: HostRuntime) -> Result<(), Fail> {
     let alloc = rt.alloc();
-    let scans = vec![in alloc; scan_of(alloc, LOG_A, 0)?, scan_of(alloc, LATE_HEADER, 1)?]?;
+    let mut scans = Vec::new(alloc);
+    assert_eq!(rt; cutoff(&scans), None);
+    scans.push(scan_of(alloc, LOG_A, 0)?)?;
+    scans.push(scan_of(alloc, LATE_HEADER, 1)?)?;
     assert_eq!(rt; cutoff(&scans), Some(4));
-    assert_eq!(rt; cutoff([].as_slice()), None);
     Ok(())
 }
