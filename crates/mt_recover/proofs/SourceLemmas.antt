@@ -1,5 +1,6 @@
 -- Sources that were scanned one after the other.
 use Rattle.std.proofs.Common.{◌≡◌, ◌∙◌, ℕ, zero, suc, ◌<◌, Bool, true, false, IsTrue, List, [], ◌∷◌, ◌++◌, length, take, Some, None, Result, Ok, Err, IfErr, refl, sym, ap, subst, arith}
+use Rattle.std.proofs.lemmas.List.{length-append}
 use Rattle.std.specs.Prelude.{slice_get, IsSomeAnd}
 use Rattle.mt_words.specs.declared.fault.Fault.{Fault}
 use Rattle.mt_words.specs.declared.fault.Fault.TheVariants as faults
@@ -33,6 +34,10 @@ may_append seen (s ∷ ss) others [] more may too = absurd may
 may_append seen (s ∷ ss) others (l ∷ ls) more may too = (may.0, may_append seen ss others ls more may.1 too)
 
 -- ---- one more log
+
+pub as_many_more : {A B : Type 0} (xs : List A) (ys more : List B) (x : A) (y : B) → more ≡ ys ++ y ∷ [] → length ys ≡ length xs
+    → length more ≡ length (xs ++ x ∷ [])
+as_many_more xs ys more x y e same = omega (arith, ap length e, same, length-append ys (y ∷ []), length-append xs (x ∷ []))
 
 readings_append : (logs : List (List ℕ)) (readings : List LogReading) (bytes : List ℕ) (log : LogReading) → AreReadings logs readings → IsReading bytes log
     → AreReadings (logs ++ bytes ∷ []) (readings ++ log ∷ [])

@@ -1,10 +1,9 @@
 use Rattle.std.proofs.Common.{◌≡◌, ◌∙◌, ◌++◌, ◌∷◌, [], ℕ, List, length, sym, ap, subst, append_assoc, arith}
 use Rattle.std.specs.Vec.Iter.{into_iter_items}
-use Rattle.std.proofs.lemmas.List.{length-append}
 use Rattle.std.proofs.lemmas.Result.{err_from_is_err_and}
 use Rattle.mt_recover.specs.LogScans.{AreScansOf}
 use Rattle.mt_recover.specs.Inputs.{MayHave, BlamesUnsteady}
-use Rattle.mt_recover.proofs.SourceLemmas.{some_logs, may_append, scans_append, fault_among, blames}
+use Rattle.mt_recover.proofs.SourceLemmas.{some_logs, may_append, as_many_more, scans_append, fault_among, blames}
 use Rattle.mt_recover.proofs.scan_logs.scan_logs.Goals as goal
 
 pub returns-in_default-clause-fault : goal.returns-in_default-clause-fault
@@ -51,7 +50,7 @@ loop-source-preserved g c =
     let number : c.len-in-loop-source.result ≡ length c.loop-source.scans.items = omega (arith, c.len-in-loop-source.ensures, c.loop-source.scans.ok.0) in
     record {
       rest = rw append_assoc (rw c.in-Some.ensures.steps.0 at c.loop-source.invariant.rest);
-      number = omega (arith, c.loop-source.invariant.number, ap length c.in-Ok-push.ensures.items, length-append c.loop-source.scans.items (c.in_ok-scan.scan ∷ []), length-append c.loop-source.yielded (c.in-Some.source ∷ []));
+      number = as_many_more c.loop-source.yielded c.loop-source.scans.items c.push.new.self.items c.in-Some.source c.in_ok-scan.scan c.in-Ok-push.ensures.items c.loop-source.invariant.number;
       so_far = (
         so_far.0 ++ scan.0 ∷ [],
         may_append g.S.Source.seen c.loop-source.yielded (c.in-Some.source ∷ []) so_far.0 (scan.0 ∷ []) so_far.1 (scan.1, tt),

@@ -31,7 +31,7 @@ pieces-preserved g c =
     let s = c.pieces.invariant.scanned in
     let next = fed_on _ _ _ _ _ _ _ s (c.in_ok-feed_piece.ensures.fed s.bytes s.records s.fed) in
     record {
-      sound = ap (λ f. f.fault) c.take.ensures.rest ∙ c.in_ok-feed_piece.ensures.sound c.pieces.invariant.sound;
+      sound = rw c.take.ensures.rest (c.in_ok-feed_piece.ensures.sound c.pieces.invariant.sound);
       log = c.in_ok-add.ensures.log ∙ c.pieces.invariant.log;
       failed = search rules;
       steady = λ is. (c.in_ok-feed_piece.ensures.steady (c.pieces.invariant.steady is)).1;
