@@ -23,9 +23,6 @@ pub record AreRowsOf (entries : List Entry) (rows : List Pair) : Type 0 where
   pub sound : (row : Pair) → Contains rows row → (writes : History) × Contains entries (row.0, writes) × IsColumnsOf writes.reset writes.writes row.1
   pub complete : (entry : Entry) → Contains entries entry → (columns : List (ℕ × List ℕ)) × IsColumnsOf entry.1.reset entry.1.writes columns × (0 < length columns → Contains rows (entry.0, columns))
 
-pub rows_none : AreRowsOf [] []
-rows_none = record { map = (tt, tt); sound = λ row at. absurd (no_element row at); complete = λ entry at. absurd (no_element entry at) }
-
 all_push : {A : Type 0} (P : A → Type 0) (xs : List A) (x : A) → AllByRecursion P xs → P x → AllByRecursion P (xs ++ x ∷ [])
 all_push P [] x all one = (one, tt)
 all_push P (y ∷ ys) x all one = (all.0, all_push P ys x all.1 one)
