@@ -25,13 +25,13 @@ few_fed feed bytes taken none fed =
     elim (subst (λ (f : Option FeedFault). IsFed (record feed { fault = f }) bytes taken) none fed) as (λ _. length (taken ++ feed.ready) ≤ length bytes) [
       | inl begins ↦ omega (arith, ap length begins.none)
       | inr read ↦
-        omega (
-          arith,
-          ap length read.read.spelled,
-          length-append (head_bytes read.head) (flat_map spelling (taken ++ feed.ready) ++ feed.held),
-          length-append (flat_map spelling (taken ++ feed.ready)) feed.held,
-          fewer (taken ++ feed.ready)
-        )
+          omega (
+            arith,
+            ap length read.read.spelled,
+            length-append (head_bytes read.head) (flat_map spelling (taken ++ feed.ready) ++ feed.held),
+            length-append (flat_map spelling (taken ++ feed.ready)) feed.held,
+            fewer (taken ++ feed.ready),
+          )
     ]
 
 -- the records of a log are no more than its bytes
@@ -42,5 +42,5 @@ few_read bytes log is =
       ap length is.is_log.spelled,
       length-append (head_bytes log.head) (flat_map spelling log.records ++ is.tail),
       length-append (flat_map spelling log.records) is.tail,
-      fewer log.records
+      fewer log.records,
     )

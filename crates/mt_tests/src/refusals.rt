@@ -1,7 +1,8 @@
 //! Want of memory. As they stand these tests see no refusal. `.ci/refuse_growths` runs them with one growth after the other
 //! refused: it then sees that a refused growth gives `Memory` and nothing else.
 use mt_record::{FeedFault, LogFeed, encode_log_header, encode_record};
-use mt_recover::recover_logs;
+use mt_recover::{Inputs, recover_logs, recover_one};
+use mt_scan::{MemSource, Rack};
 use mt_words::{Columns, Fault, Key, Memory, Record};
 use std::alloc::Global;
 
@@ -27,6 +28,28 @@ fn a_refused_growth_is_memory(rt: HostRuntime) {
         }
         Err(fault) => assert_eq!(rt; fault, Fault::Memory),
     }
+}
+
+#[test]
+fn a_refused_growth_of_recovery_from_a_source_is_memory(rt: HostRuntime) {
+    let Ok(mut rack) = Rack::new(rt.alloc(), 1, 16) else {
+        return;
+    };
+    let Some(slot) = rack.slots().first_mut() else {
+        return;
+    };
+    let Some(source) = MemSource::new(LOGS[0], slot) else {
+        return;
+    };
+    let mut logs = Vec::new(rt.alloc());
+    if logs.push(source).is_ok() {
+        let parts = Vec::new(rt.alloc());
+        match recover_one(rt.alloc(), Inputs { logs, parts }) {
+            Ok(recovered) => assert!(rt; recovered.store().get(b"a").is_some()),
+            Err(fault) => assert_eq!(rt; fault, Fault::Memory),
+        }
+    }
+    assert!(rt; rack.all_full());
 }
 
 #[test]

@@ -1,4 +1,8 @@
 //! Sources, and scans of logs over them.
+ghost use Rattle.std.specs.Prelude.{[], Some, true, false};
+ghost use Rattle.mt_scan.specs.Kinds.{seen_of_memory, seen_of_fault};
+ghost use Rattle.mt_tests.specs.declared.scanning.Mixed.TheVariants.{Memory, Failing};
+
 use crate::logs::{LATE_HEADER, LOG_A, bytes_of};
 use crate::recovering::{recover_sources, text_of};
 use mt_scan::{
@@ -10,10 +14,6 @@ use std::env::temp_dir;
 use std::fs::{self, File, OpenFile};
 use std::io::{self, ErrorKind, Read};
 use std::test::Fail;
-
-ghost use Rattle.std.specs.Prelude.{[], Some, true, false};
-ghost use Rattle.mt_scan.specs.Kinds.{seen_of_memory, seen_of_fault};
-ghost use Rattle.mt_tests.specs.declared.scanning.Mixed.TheVariants.{Memory, Failing};
 
 /// A source that counts the calls of `advance`.
 #[derive(Drop)]
@@ -104,12 +104,12 @@ struct Nothing;
 
 impl Source for Nothing {
     ghost seen = { λ _. record {
-        told = Some [];
-        bound = 0;
-        failures = 0;
-        steady = true;
-        shown = [];
-        spent = false;
+      told = Some [];
+      bound = 0;
+      failures = 0;
+      steady = true;
+      shown = [];
+      spent = false;
     } };
 
     fn advance(&mut self) -> Result<usize, SourceFault> {
@@ -139,7 +139,12 @@ fn a_failing_source_fails_from_its_call_on(rt: HostRuntime) -> Result<(), Fail> 
     let mut rack = Rack::new(alloc, 1, 16)?;
     let slot = rack.slots().first_mut().ok_or("a slot")?;
     let mut source = FaultSource::new(&bytes, slot, 3).ok_or("a full slot")?;
-    for answer in [Ok(16), Ok(16), Err(SourceFault::Device), Err(SourceFault::Device)] {
+    for answer in [
+        Ok(16),
+        Ok(16),
+        Err(SourceFault::Device),
+        Err(SourceFault::Device),
+    ] {
         assert_eq!(rt; source.advance(), answer);
         assert_eq!(rt; source.piece().len(), answer.unwrap_or(0));
     }
@@ -165,8 +170,14 @@ fn asks_for_no_piece_after_the_end(rt: HostRuntime) -> Result<(), Fail> {
     let source = MemSource::new(&bytes, slot).ok_or("a full slot")?;
     let (answer, calls) = count_calls(alloc, source);
     let scan = answer?;
-    assert_eq!(rt; (scan.from, scan.last, scan.whole, scan.marks), (0, 5, 2, 1));
-    assert_eq!(rt; (scan.updates.len(), scan.dropped, scan.torn), (1, 0, false));
+    assert_eq!(rt;
+        (scan.from, scan.last, scan.whole, scan.marks),
+        (0, 5, 2, 1)
+    );
+    assert_eq!(rt;
+        (scan.updates.len(), scan.dropped, scan.torn),
+        (1, 0, false)
+    );
     assert_eq!(rt; calls, 5);
     Ok(())
 }
@@ -214,7 +225,10 @@ fn a_reader_may_have_as_many_bytes_as_its_limit(rt: HostRuntime) -> Result<(), F
         let slot = rack.slots().first_mut().ok_or("a slot")?;
         let mut source = ReaderSource::new(bytes.as_slice(), 62, slot).ok_or("a full slot")?;
         let scan = scan_log(alloc, &mut source, 0)?;
-        assert_eq!(rt; (scan.last, scan.whole, scan.marks, scan.torn), (5, 2, 1, false));
+        assert_eq!(rt;
+            (scan.last, scan.whole, scan.marks, scan.torn),
+            (5, 2, 1, false)
+        );
         assert_eq!(rt; source.advance(), Ok(0));
         drop(source);
         assert!(rt; rack.all_full());
@@ -285,7 +299,10 @@ fn recovers_from_files(rt: HostRuntime) -> Result<(), Fail> {
     let mut sources = Vec::new(alloc);
     sources.push(source)?;
     let recovered = recover_sources(alloc, sources)?;
-    assert_eq!(rt; text_of(alloc, &recovered)?.as_slice(), b"61: 0=78\n".as_slice());
+    assert_eq!(rt;
+        text_of(alloc, &recovered)?.as_slice(),
+        b"61: 0=78\n".as_slice()
+    );
     assert!(rt; rack.all_full());
     fs::remove_file(&rt, path.as_str())?;
     Ok(())

@@ -24,12 +24,12 @@ returns-in_err-scan-clause-fault g c =
     let rest = some_logs g.S.Source.seen (into_iter_items c.next.new.self) in
     let number : c.len-in-loop-source.result ≡ length c.loop-source.scans.items = omega (arith, c.len-in-loop-source.ensures, c.loop-source.scans.ok.0) in
     let all : c.loop-source.yielded ++ (c.in-Some.source ∷ into_iter_items c.next.new.self) ≡ c.args.sources.items =
-        rw c.in-Some.ensures.steps.0 at c.loop-source.invariant.rest in
+    rw c.in-Some.ensures.steps.0 at c.loop-source.invariant.rest in
     rw (p.1, p.2) (
       so_far.0 ++ (fault.0 ∷ rest.0),
       subst (λ (sources : List _). MayHave g.S.Source.seen sources (so_far.0 ++ (fault.0 ∷ rest.0))) all
-      (may_append g.S.Source.seen c.loop-source.yielded (c.in-Some.source ∷ into_iter_items c.next.new.self) so_far.0 (fault.0 ∷ rest.0) so_far.1 (fault.1, rest.1)),
-      fault_among so_far.0 rest.0 c.loop-source.scans.items fault.0 c.len-in-loop-source.result _ number so_far.2 fault.2
+          (may_append g.S.Source.seen c.loop-source.yielded (c.in-Some.source ∷ into_iter_items c.next.new.self) so_far.0 (fault.0 ∷ rest.0) so_far.1 (fault.1, rest.1)),
+      fault_among so_far.0 rest.0 c.loop-source.scans.items fault.0 c.len-in-loop-source.result _ number so_far.2 fault.2,
     )
 
 pub returns-in_err-scan-clause-steady : goal.returns-in_err-scan-clause-steady
@@ -38,7 +38,7 @@ returns-in_err-scan-clause-steady g c =
     let fault = c.in_err-scan.ensures.fault in
     let number : c.len-in-loop-source.result ≡ length c.loop-source.yielded = omega (arith, c.len-in-loop-source.ensures, c.loop-source.scans.ok.0, c.loop-source.invariant.number) in
     let all : c.loop-source.yielded ++ (c.in-Some.source ∷ into_iter_items c.next.new.self) ≡ c.args.sources.items =
-        rw c.in-Some.ensures.steps.0 at c.loop-source.invariant.rest in
+    rw c.in-Some.ensures.steps.0 at c.loop-source.invariant.rest in
     rw (p.1, p.2)
     (subst (λ (sources : List _). BlamesUnsteady g.S.Source.seen sources [] c.in_err-scan.field-0.0) all
     (blames g.S.Source.seen c.loop-source.yielded (into_iter_items c.next.new.self) c.in-Some.source fault.0 c.len-in-loop-source.result _ number fault.2 c.in_err-scan.ensures.steady))
@@ -54,6 +54,6 @@ loop-source-preserved g c =
       so_far = (
         so_far.0 ++ scan.0 ∷ [],
         may_append g.S.Source.seen c.loop-source.yielded (c.in-Some.source ∷ []) so_far.0 (scan.0 ∷ []) so_far.1 (scan.1, tt),
-        rw c.in-Ok-push.ensures.items (scans_append so_far.0 c.loop-source.scans.items scan.0 c.in_ok-scan.scan c.len-in-loop-source.result number so_far.2 scan.2)
+        rw c.in-Ok-push.ensures.items (scans_append so_far.0 c.loop-source.scans.items scan.0 c.in_ok-scan.scan c.len-in-loop-source.result number so_far.2 scan.2),
       );
     }
