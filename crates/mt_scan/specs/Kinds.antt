@@ -72,3 +72,7 @@ seen_of_reader remaining source = record {
   shown = source.buffer.shown;
   spent = has_failed source.progress;
 }
+
+-- the reader had no more
+abbrev pub at_its_end : {R : Type 0} → ReaderSource R Buffered → Bool
+at_its_end source = has_ended source.progress

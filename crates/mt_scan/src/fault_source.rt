@@ -1,5 +1,5 @@
 //! Bytes in memory behind a device that fails.
-ghost use Rattle.std.specs.Prelude.{◌≡◌, ◌+◌, ◌-◌, ◌≤◌, ◌<◌, ◌↔◌, IfSome, IsSome, Some, Err, false};
+ghost use Rattle.std.specs.Prelude.{◌≡◌, ◌+◌, ◌-◌, ◌≤◌, ◌<◌, ◌↔◌, [], IfSome, IsSome, Some, Err, false};
 ghost use Rattle.mt_scan.specs.declared.source.SourceFault.TheVariants.{Device};
 ghost use Rattle.mt_scan.specs.Sources.{Advances};
 ghost use Rattle.mt_scan.specs.Buffers.{HoldsBufferOf};
@@ -29,6 +29,7 @@ impl<'a> FaultSource<'a> {
         ensures variant { IsSome result ↔ IsSome slot.old }
         ensures told { IfSome result (λ s. (seen_of_fault s).told ≡ Some bytes.now) }
         ensures steady { IfSome result (λ s. (seen_of_fault s).steady ≡ false) }
+        ensures shown { IfSome result (λ s. (seen_of_fault s).shown ≡ []) }
         ensures calls { IfSome result (λ s. calls_left s + 1 ≡ k) }
         ensures size { IfSome result (λ s. HoldsBufferOf (fault_piece_size s) slot.old) }
         ensures slot { IfSome result (λ s. s.slot.ghost_name ≡ slot.entry.ghost_name) }

@@ -1,5 +1,5 @@
 //! Bytes in memory.
-ghost use Rattle.std.specs.Prelude.{◌≡◌, ◌↔◌, IfSome, IsSome, IsTrue, Some};
+ghost use Rattle.std.specs.Prelude.{◌≡◌, ◌↔◌, [], IfSome, IsSome, IsTrue, Some};
 ghost use Rattle.mt_scan.specs.Sources.{Advances};
 ghost use Rattle.mt_scan.specs.Buffers.{HoldsBufferOf};
 ghost use Rattle.mt_scan.specs.Kinds.{seen_of_memory, piece_size, GivesPiece};
@@ -22,6 +22,7 @@ impl<'a> MemSource<'a> {
         ensures variant { IsSome result ↔ IsSome slot.old }
         ensures told { IfSome result (λ s. (seen_of_memory s).told ≡ Some bytes.now) }
         ensures steady { IfSome result (λ s. IsTrue (seen_of_memory s).steady) }
+        ensures shown { IfSome result (λ s. (seen_of_memory s).shown ≡ []) }
         ensures size { IfSome result (λ s. HoldsBufferOf (piece_size s) slot.old) }
         ensures slot { IfSome result (λ s. s.slot.ghost_name ≡ slot.entry.ghost_name) }
     {

@@ -2,7 +2,7 @@
 ghost use Rattle.std.specs.Prelude.{◌≡◌, ◌+◌, ◌↔◌, ◌⊎◌, [], IfSome, IfOk, IfErr, IsSome, IsTrue, Some, Ok, Err, false};
 ghost use Rattle.mt_scan.specs.declared.source.SourceFault.TheVariants.{TooLong};
 ghost use Rattle.mt_scan.specs.Sources.{Advances};
-ghost use Rattle.mt_scan.specs.Kinds.{seen_of_reader, has_ended, has_failed};
+ghost use Rattle.mt_scan.specs.Kinds.{seen_of_reader, at_its_end, has_failed};
 
 use crate::buffer::Buffer;
 use crate::slot::Slot;
@@ -43,6 +43,7 @@ impl<'a, R: Read + Drop> ReaderSource<'a, R> {
         ensures bound { IfSome result (λ s. (seen_of_reader R.remaining s).bound ≡ limit) }
         ensures steady { IfSome result (λ s. (seen_of_reader R.remaining s).steady ≡ false) }
         ensures fresh { IfSome result (λ s. (seen_of_reader R.remaining s).spent ≡ false) }
+        ensures shown { IfSome result (λ s. (seen_of_reader R.remaining s).shown ≡ []) }
         ensures slot { IfSome result (λ s. s.slot.ghost_name ≡ slot.entry.ghost_name) }
     {
         let mut buffer = slot.buffer.take()?;
@@ -80,8 +81,8 @@ impl<R: Read + Drop> Source for ReaderSource<'_, R> {
     fn advance(&mut self) -> Result<usize, SourceFault>
         ensures advances { Advances (seen_of_reader R.remaining self.old) (seen_of_reader R.remaining self.new) result }
         ensures too_long { result ≡ Err TooLong → ((seen_of_reader R.remaining self.old).bound ≡ 0) ⊎ IsTrue (seen_of_reader R.remaining self.old).spent }
-        ensures ended { result ≡ Ok 0 → IsTrue (has_ended self.new.progress) }
-        ensures stays { IsTrue (has_ended self.old.progress) → result ≡ Ok 0 }
+        ensures ended { result ≡ Ok 0 → IsTrue (at_its_end self.new) }
+        ensures stays { IsTrue (at_its_end self.old) → result ≡ Ok 0 }
         ensures slot { self.new.slot.ghost_name ≡ self.old.slot.ghost_name }
     {
         let left = self.left;
