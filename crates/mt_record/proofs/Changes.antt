@@ -6,7 +6,7 @@ use Rattle.std.specs.List.{flat_map}
 use Rattle.byteorder.specs.Endian.{big_bytes}
 use Rattle.mt_words.specs.declared.record.Change.{Change}
 use Rattle.mt_words.specs.declared.update.Kind.{Kind as AnyKind}
-use Rattle.mt_words.specs.declared.update.Kind.TheVariants.{Put, Remove}
+use Rattle.mt_words.specs.declared.update.Kind.TheVariants.{Put, Remove, Whole}
 use Rattle.mt_words.specs.Limits.{Limits}
 use Rattle.mt_words.specs.Words.{IsKey}
 use Rattle.mt_record.specs.declared.body.ChangeFields.{ChangeFields}
@@ -22,6 +22,7 @@ use Rattle.mt_record.proofs.Unique.{apart, same_number, same_counted}
 -- spelled columns are what a put of them carries
 pub put_of_columns : (count : ℕ) (bytes : List ℕ) (cs : List (ℕ × List ℕ)) → count < 2 ^ 8 → AreSpelled count bytes cs → IsKindOf 1 (count ∷ bytes) (Put cs)
 put_of_columns count bytes cs fits s = record {
+  logged = tt;
   code = refl;
   spelled = λ i. sym s.number i ∷ s.spelled i;
   fits = (omega (arith, s.number), s.fits);
@@ -34,6 +35,7 @@ columns_of_put count bytes (Put cs, is) =
     let texts : bytes ≡ flat_map column_bytes cs = ap (drop 1) is.spelled in
     (cs, record { number = number; spelled = texts; fits = is.fits.1 })
 columns_of_put count bytes (Remove, is) = absurd (apart 1 2 (omega arith) (sym is.code))
+columns_of_put count bytes (Whole cs, is) = absurd is.logged
 
 -- bytes are columns behind their number where they are what a kind with the byte of a put carries
 pub columns_are_put : (byte : ℕ) (bytes : List ℕ) → byte ≡ 1 → 0 < length bytes → slice_index bytes 0 < 2 ^ 8
@@ -60,7 +62,7 @@ pub of_change : (code : ℕ) (bytes : List ℕ) (f : ChangeFields) (P : Change �
     → P (change_of f kind) → IsChangeWith code bytes P
 of_change code bytes f P are kind is holds = (
   change_of f kind,
-  (are.version_fits, are.key_fits, is.fits),
+  ((are.version_fits, are.key_fits, is.fits), is.logged),
   is.code,
   are.spelled ∙ ap (λ (x : List ℕ). big_bytes 8 f.version ++ (counted f.key.now ++ x)) is.spelled,
   holds,
@@ -77,6 +79,6 @@ kind_fault limits code bytes f are version key (faults.Wrong what) h =
 pub no_change : (code version : ℕ) (bytes a b key : List ℕ) → version < 2 ^ 64 → length key < 2 ^ 16 → bytes ≡ big_bytes 8 version ++ a → a ≡ counted key ++ b
     → (HasKind code b → ⊥) → IsNoChange code bytes
 no_change code version bytes a b key fits_version fits_key ea eb none change fits same e =
-    let s1 = same_number 8 version change.version a (counted change.key ++ kind_bytes change.kind) fits_version fits.0 (sym ea ∙ e) in
-    let s2 = same_counted key change.key b (kind_bytes change.kind) fits_key fits.1 (sym eb ∙ s1.1) in
-    none (change.kind, record { code = same; spelled = s2.1; fits = fits.2 })
+    let s1 = same_number 8 version change.version a (counted change.key ++ kind_bytes change.kind) fits_version fits.0.0 (sym ea ∙ e) in
+    let s2 = same_counted key change.key b (kind_bytes change.kind) fits_key fits.0.1 (sym eb ∙ s1.1) in
+    none (change.kind, record { logged = fits.1; code = same; spelled = s2.1; fits = fits.0.2 })

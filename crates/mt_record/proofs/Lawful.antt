@@ -7,11 +7,11 @@ use Rattle.mt_words.specs.declared.limits.Format.{Format}
 use Rattle.mt_words.specs.declared.limits.Format.TheVariants.{One}
 use Rattle.mt_words.specs.declared.record.Change.{Change}
 use Rattle.mt_words.specs.declared.update.Kind.{Kind}
-use Rattle.mt_words.specs.declared.update.Kind.TheVariants.{Put, Remove}
+use Rattle.mt_words.specs.declared.update.Kind.TheVariants.{Put, Remove, Whole}
 use Rattle.mt_words.specs.Limits.{Limits, limits_of}
 use Rattle.mt_words.specs.Words.{IsColumn, AreColumns, NumbersRise}
-use Rattle.mt_words.specs.Changes.{Logged, IsLawful, IsLawfulChange, AllowsKind}
-use Rattle.mt_record.specs.Spelling.{column_bytes, kind_bytes, body_of, body, IsRecordLength, FitsColumn, FitsKind, FitsChange, Fits}
+use Rattle.mt_words.specs.Changes.{Logged, IsLawful, IsLoggedChange, AllowsKind}
+use Rattle.mt_record.specs.Spelling.{column_bytes, kind_bytes, body_of, body, IsRecordLength, FitsColumn, FitsKind, FitsLogged, Fits}
 
 -- ---- the limits of each format
 
@@ -64,33 +64,39 @@ put_fits format cs are =
 kind_fits : (format : Format) (kind : Kind) → AllowsKind (limits_of format) kind → FitsKind kind
 kind_fits format (Put columns) allowed = put_fits format columns allowed.0
 kind_fits format Remove allowed = tt
+kind_fits format (Whole columns) allowed = put_fits format columns allowed.0
 
 -- a change fits its fields
-change_fits : (format : Format) (change : Option Change) → IfSome change (IsLawfulChange (limits_of format)) → IfSome change FitsChange
+change_fits : (format : Format) (change : Option Change) → IfSome change (IsLoggedChange (limits_of format)) → IfSome change FitsLogged
 change_fits format None lawful = tt
 change_fits format (Some change) lawful =
     let key = key_room format in
-    (lawful.version_fits, omega (arith, lawful.key, key), kind_fits format change.kind lawful.kind)
+    ((lawful.0.version_fits, omega (arith, lawful.0.key, key), kind_fits format change.kind lawful.0.kind), lawful.1)
 
 -- a lawful record fits its fields
 pub lawful_fits : (format : Format) (r : Logged) → IsLawful (limits_of format) r → Fits r
 lawful_fits format r lawful = (lawful.0, change_fits format r.change lawful.1)
 
+-- how long columns behind their number are at the most
+carried_length : (limits : Limits) (cs : List (ℕ × List ℕ)) → AreColumns limits cs → suc (length (flat_map column_bytes cs)) ≤ 1 + suc limits.column * 65538
+carried_length limits cs are =
+    let room = columns_room limits 0 cs (omega arith) are.0 are.1 in
+    let texts = columns_length limits cs are.0 in
+    omega (arith, texts, room)
+
 -- how long what a kind carries is at the most
 kind_length : (limits : Limits) (kind : Kind) → AllowsKind limits kind → length (kind_bytes kind) ≤ 1 + suc limits.column * 65538
-kind_length limits (Put columns) allowed =
-    let room = columns_room limits 0 columns (omega arith) allowed.0.0 allowed.0.1 in
-    let texts = columns_length limits columns allowed.0.0 in
-    omega (arith, texts, room)
+kind_length limits (Put columns) allowed = carried_length limits columns allowed.0
 kind_length limits Remove allowed = omega arith
+kind_length limits (Whole columns) allowed = carried_length limits columns allowed.0
 
 -- a body is no shorter and no longer than it may be
-body_length : (limits : Limits) (t : ℕ) (change : Option Change) → IfSome change (IsLawfulChange limits) → IsRecordLength limits (length (body_of t change))
+body_length : (limits : Limits) (t : ℕ) (change : Option Change) → IfSome change (IsLoggedChange limits) → IsRecordLength limits (length (body_of t change))
 body_length limits t None lawful = (omega arith, omega arith)
 body_length limits t (Some change) lawful =
-    let carried = kind_length limits change.kind lawful.kind in
+    let carried = kind_length limits change.kind lawful.0.kind in
     let all = length-append change.key (kind_bytes change.kind) in
-    (omega (arith, all), omega (arith, all, carried, lawful.key))
+    (omega (arith, all), omega (arith, all, carried, lawful.0.key))
 
 -- the body of a lawful record has a lawful length
 pub lawful_length : (limits : Limits) (r : Logged) → IsLawful limits r → IsRecordLength limits (length (body r))

@@ -6,12 +6,12 @@ use Rattle.byteorder.specs.Endian.{big_bytes}
 use Rattle.mt_words.specs.declared.limits.Format.{Format}
 use Rattle.mt_words.specs.declared.record.Change.{Change}
 use Rattle.mt_words.specs.declared.update.Kind.{Kind as AnyKind}
-use Rattle.mt_words.specs.declared.update.Kind.TheVariants.{Put, Remove}
+use Rattle.mt_words.specs.declared.update.Kind.TheVariants.{Put, Remove, Whole}
 use Rattle.mt_words.specs.declared.fault.What.{What}
 use Rattle.mt_words.specs.declared.fault.What.TheVariants.{Length, Trailer, Kind, Frame, Version, Key, Columns, Clock}
 use Rattle.mt_words.specs.Limits.{Limits, limits_of}
-use Rattle.mt_words.specs.Changes.{Logged, changed, IsLawful, IsLawfulChange}
-use Rattle.mt_record.specs.Spelling.{code_of, body_of, body, framed, spelling, Fits, IsRecordLength}
+use Rattle.mt_words.specs.Changes.{Logged, changed, IsLawful, IsLogged, IsLawfulChange, IsLoggedChange}
+use Rattle.mt_record.specs.Spelling.{code_of, body_of, body, framed, spelling, FitsLogged, Fits, IsRecordLength}
 use Rattle.mt_record.specs.Logs.{IsTorn}
 use Rattle.mt_record.specs.LogFaults.{IsKindByte, HasVersionFault, HasKeyFault, HasColumnsFault, BodyFault, RestFault}
 use Rattle.mt_record.proofs.Unique.{same_split, same_number, same_body, framed_apart, same_framed}
@@ -91,9 +91,9 @@ abbrev ReadFault : What → Limits → ℕ → List ℕ → Type 0
 ReadFault what limits low text = (r : Logged) × Fits r × (text ≡ body r) × FieldFault what limits low r.timestamp r.change
 
 -- a lawful record before its time has the fault of the clock
-clock_fault : (limits : Limits) (low t : ℕ) (change : Option Change) → IfSome change (IsLawfulChange limits) → t < low → FieldFault Clock limits low t change
+clock_fault : (limits : Limits) (low t : ℕ) (change : Option Change) → IfSome change (IsLoggedChange limits) → t < low → FieldFault Clock limits low t change
 clock_fault limits low t None lawful early = (refl, early)
-clock_fault limits low t (Some change) lawful early = inr (inr (inr (refl, lawful, early)))
+clock_fault limits low t (Some change) lawful early = inr (inr (inr (refl, lawful.0, early)))
 
 -- a fault of a body is that of its kind, of its frame, or of fields that are read
 split_body : (what : What) (format : Format) (low : ℕ) (text : List ℕ) → BodyFault what (limits_of format) low text
@@ -107,19 +107,20 @@ split_body Key format low text h = inr (inr (changed h.0 h.1, h.2, h.3, inr (inl
 split_body Columns format low text h = inr (inr (changed h.0 h.1, h.2, h.3, inr (inr (inl (refl, h.4)))))
 split_body Clock format low text h = inr (inr (h.0, lawful_fits format h.0 h.1, h.2, clock_fault (limits_of format) low h.0.timestamp h.0.change h.1.1 h.3))
 
--- each kind has its byte
-kind_byte : (limits : Limits) (kind : AnyKind) → IsKindByte limits (code_of kind)
-kind_byte limits (Put columns) = inl refl
-kind_byte limits Remove = inr (inl refl)
+-- each kind of record has its byte
+kind_byte : (limits : Limits) (kind : AnyKind) → IsLogged kind → IsKindByte limits (code_of kind)
+kind_byte limits (Put columns) logged = inl refl
+kind_byte limits Remove logged = inr (inl refl)
+kind_byte limits (Whole columns) logged = absurd logged
 
 -- a body begins with the byte of a kind
-body_byte : (limits : Limits) (t : ℕ) (change : Option Change) → IsKindByte limits (slice_index (body_of t change) 0)
-body_byte limits t None = inr (inr refl)
-body_byte limits t (Some change) = kind_byte limits change.kind
+body_byte : (limits : Limits) (t : ℕ) (change : Option Change) → IfSome change FitsLogged → IsKindByte limits (slice_index (body_of t change) 0)
+body_byte limits t None fits = inr (inr refl)
+body_byte limits t (Some change) fits = kind_byte limits change.kind fits.1
 
 -- the body of a record has no fault of its kind
-no_kind : (limits : Limits) (low : ℕ) (text : List ℕ) (r : Logged) → text ≡ body r → BodyFault Kind limits low text → ⊥
-no_kind limits low text r e h = h (subst (λ (x : List ℕ). IsKindByte limits (slice_index x 0)) (sym e) (body_byte limits r.timestamp r.change))
+no_kind : (limits : Limits) (low : ℕ) (text : List ℕ) (r : Logged) → Fits r → text ≡ body r → BodyFault Kind limits low text → ⊥
+no_kind limits low text r fits e h = h (subst (λ (x : List ℕ). IsKindByte limits (slice_index x 0)) (sym e) (body_byte limits r.timestamp r.change fits.1))
 
 -- the body of a record has no fault of its frame
 no_frame : (limits : Limits) (low : ℕ) (text : List ℕ) (r : Logged) → Fits r → text ≡ body r → BodyFault Frame limits low text → ⊥
@@ -157,10 +158,10 @@ no_change_fault limits low t change a is le (inr (inr (inl x))) = x.1.2 is.kind
 no_change_fault limits low t change a is le (inr (inr (inr x))) = omega (arith, x.2)
 
 -- the fields of a lawful record in time have no fault
-no_field : (limits : Limits) (low t : ℕ) (change : Option Change) (a : What) → IfSome change (IsLawfulChange limits) → low ≤ t
+no_field : (limits : Limits) (low t : ℕ) (change : Option Change) (a : What) → IfSome change (IsLoggedChange limits) → low ≤ t
     → FieldFault a limits low t change → ⊥
 no_field limits low t None a is le h = omega (arith, h.1)
-no_field limits low t (Some change) a is le h = no_change_fault limits low t change a is le h
+no_field limits low t (Some change) a is le h = no_change_fault limits low t change a is.0 le h
 
 -- fields that are read have one fault
 one_read : (limits : Limits) (low : ℕ) (text : List ℕ) (a b : What) → ReadFault a limits low text → ReadFault b limits low text → a ≡ b
@@ -175,13 +176,13 @@ both_bodies : (limits : Limits) (low : ℕ) (text : List ℕ) (a b : What) → B
 both_bodies limits low text a b h k (inl p) (inl q) = p ∙ sym q
 both_bodies limits low text a b h k (inl p) (inr (inl q)) =
     absurd ((subst (λ (w : What). BodyFault w limits low text) p h) (subst (λ (w : What). BodyFault w limits low text) q k).0)
-both_bodies limits low text a b h k (inl p) (inr (inr y)) = absurd (no_kind limits low text y.0 y.2 (subst (λ (w : What). BodyFault w limits low text) p h))
+both_bodies limits low text a b h k (inl p) (inr (inr y)) = absurd (no_kind limits low text y.0 y.1 y.2 (subst (λ (w : What). BodyFault w limits low text) p h))
 both_bodies limits low text a b h k (inr (inl p)) (inl q) =
     absurd ((subst (λ (w : What). BodyFault w limits low text) q k) (subst (λ (w : What). BodyFault w limits low text) p h).0)
 both_bodies limits low text a b h k (inr (inl p)) (inr (inl q)) = p ∙ sym q
 both_bodies limits low text a b h k (inr (inl p)) (inr (inr y)) =
     absurd (no_frame limits low text y.0 y.1 y.2 (subst (λ (w : What). BodyFault w limits low text) p h))
-both_bodies limits low text a b h k (inr (inr x)) (inl q) = absurd (no_kind limits low text x.0 x.2 (subst (λ (w : What). BodyFault w limits low text) q k))
+both_bodies limits low text a b h k (inr (inr x)) (inl q) = absurd (no_kind limits low text x.0 x.1 x.2 (subst (λ (w : What). BodyFault w limits low text) q k))
 both_bodies limits low text a b h k (inr (inr x)) (inr (inl q)) =
     absurd (no_frame limits low text x.0 x.1 x.2 (subst (λ (w : What). BodyFault w limits low text) q k))
 both_bodies limits low text a b h k (inr (inr x)) (inr (inr y)) = one_read limits low text a b x y
@@ -190,7 +191,7 @@ both_bodies limits low text a b h k (inr (inr x)) (inr (inr y)) = one_read limit
 no_body : (format : Format) (low : ℕ) (text : List ℕ) (a : What) (r : Logged) → IsLawful (limits_of format) r → low ≤ r.timestamp → text ≡ body r
     → BodyFault a (limits_of format) low text → (a ≡ Kind) ⊎ ((a ≡ Frame) ⊎ ReadFault a (limits_of format) low text) → ⊥
 no_body format low text a r is le e h (inl p) =
-    no_kind (limits_of format) low text r e (subst (λ (w : What). BodyFault w (limits_of format) low text) p h)
+    no_kind (limits_of format) low text r (lawful_fits format r is) e (subst (λ (w : What). BodyFault w (limits_of format) low text) p h)
 no_body format low text a r is le e h (inr (inl p)) =
     no_frame (limits_of format) low text r (lawful_fits format r is) e (subst (λ (w : What). BodyFault w (limits_of format) low text) p h)
 no_body format low text a r is le e h (inr (inr x)) =

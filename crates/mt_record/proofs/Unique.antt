@@ -6,9 +6,9 @@ use Rattle.byteorder.specs.Endian.{big_bytes, big_from}
 use Rattle.byteorder.specs.Numbers.{big_number-reads_back, length-bytes_high_first}
 use Rattle.mt_words.specs.declared.record.Change.{Change}
 use Rattle.mt_words.specs.declared.update.Kind.{Kind}
-use Rattle.mt_words.specs.declared.update.Kind.TheVariants.{Put, Remove}
+use Rattle.mt_words.specs.declared.update.Kind.TheVariants.{Put, Remove, Whole}
 use Rattle.mt_words.specs.Changes.{Logged}
-use Rattle.mt_record.specs.Spelling.{counted, column_bytes, code_of, kind_bytes, change_bytes, body_of, body, framed, FitsColumn, FitsKind, FitsChange, Fits}
+use Rattle.mt_record.specs.Spelling.{counted, column_bytes, code_of, kind_bytes, change_bytes, body_of, body, framed, FitsColumn, FitsKind, FitsChange, FitsLogged, Fits}
 
 -- ---- fields
 
@@ -57,6 +57,14 @@ same_columns (c ∷ cs) (d ∷ ds) fits_c fits_d number e =
     let rest = same_columns cs ds fits_c.1 fits_d.1 (omega arith) first.1 in
     λ i. first.0 i ∷ rest i
 
+-- the bytes are columns behind their number in one way
+same_carried : (cs ds : List (ℕ × List ℕ)) → AllByRecursion FitsColumn cs → AllByRecursion FitsColumn ds
+    → length cs ∷ flat_map column_bytes cs ≡ length ds ∷ flat_map column_bytes ds → cs ≡ ds
+same_carried cs ds fits_c fits_d e =
+    let number : length cs ≡ length ds = ap (λ (x : List ℕ). slice_index x 0) e in
+    let texts : flat_map column_bytes cs ≡ flat_map column_bytes ds = ap (drop 1) e in
+    same_columns cs ds fits_c fits_d number texts
+
 -- ---- bodies
 
 -- a number is no greater one
@@ -65,13 +73,15 @@ apart a b below same = omega arith
 
 -- what a kind carries is that of one kind of this byte
 same_kind : (a b : Kind) → FitsKind a → FitsKind b → code_of a ≡ code_of b → kind_bytes a ≡ kind_bytes b → a ≡ b
-same_kind (Put cs) (Put ds) fits_a fits_b code e =
-    let number : length cs ≡ length ds = ap (λ (x : List ℕ). slice_index x 0) e in
-    let texts : flat_map column_bytes cs ≡ flat_map column_bytes ds = ap (drop 1) e in
-    ap Put (same_columns cs ds fits_a.1 fits_b.1 number texts)
+same_kind (Put cs) (Put ds) fits_a fits_b code e = ap Put (same_carried cs ds fits_a.1 fits_b.1 e)
 same_kind (Put cs) Remove fits_a fits_b code e = absurd (apart 1 2 (omega arith) code)
+same_kind (Put cs) (Whole ds) fits_a fits_b code e = absurd (apart 0 1 (omega arith) (sym code))
 same_kind Remove (Put ds) fits_a fits_b code e = absurd (apart 1 2 (omega arith) (sym code))
 same_kind Remove Remove fits_a fits_b code e = refl
+same_kind Remove (Whole ds) fits_a fits_b code e = absurd (apart 0 2 (omega arith) (sym code))
+same_kind (Whole cs) (Put ds) fits_a fits_b code e = absurd (apart 0 1 (omega arith) code)
+same_kind (Whole cs) Remove fits_a fits_b code e = absurd (apart 0 2 (omega arith) code)
+same_kind (Whole cs) (Whole ds) fits_a fits_b code e = ap Whole (same_carried cs ds fits_a.1 fits_b.1 e)
 
 -- the fields of a change are those of one change
 same_change : (a b : Change) → FitsChange a → FitsChange b → code_of a.kind ≡ code_of b.kind → change_bytes a ≡ change_bytes b → a ≡ b
@@ -87,9 +97,10 @@ same_change a b fits_a fits_b code e =
 no_mark : (kind : Kind) → 3 ≡ code_of kind → ⊥
 no_mark (Put columns) same = apart 1 3 (omega arith) (sym same)
 no_mark Remove same = apart 2 3 (omega arith) (sym same)
+no_mark (Whole columns) same = apart 0 3 (omega arith) (sym same)
 
 -- the bytes are the body of one record
-same_body_of : (t u : ℕ) (a b : Option Change) → t < 2 ^ 64 → u < 2 ^ 64 → IfSome a FitsChange → IfSome b FitsChange
+same_body_of : (t u : ℕ) (a b : Option Change) → t < 2 ^ 64 → u < 2 ^ 64 → IfSome a FitsLogged → IfSome b FitsLogged
     → body_of t a ≡ body_of u b → (t ≡ u) × (a ≡ b)
 same_body_of t u None None fits_t fits_u fits_a fits_b e =
     let tails : big_bytes 8 t ++ [] ≡ big_bytes 8 u ++ [] = ap (drop 1) e in
@@ -100,7 +111,7 @@ same_body_of t u (Some a) (Some b) fits_t fits_u fits_a fits_b e =
     let code : code_of a.kind ≡ code_of b.kind = ap (λ (x : List ℕ). slice_index x 0) e in
     let tails : big_bytes 8 t ++ change_bytes a ≡ big_bytes 8 u ++ change_bytes b = ap (drop 1) e in
     let time = same_number 8 t u (change_bytes a) (change_bytes b) fits_t fits_u tails in
-    (time.0, ap Some (same_change a b fits_a fits_b code time.1))
+    (time.0, ap Some (same_change a b fits_a.0 fits_b.0 code time.1))
 
 -- the bytes are the body of one record
 pub same_body : (r s : Logged) → Fits r → Fits s → body r ≡ body s → r ≡ s

@@ -7,11 +7,11 @@ use Rattle.mt_words.specs.declared.record.Change.{Change}
 use Rattle.mt_words.specs.declared.update.Kind.{Kind}
 use Rattle.mt_words.specs.Limits.{Limits}
 use Rattle.mt_words.specs.Words.{AreColumns}
-use Rattle.mt_words.specs.Changes.{Logged, IsLawful, IsLawfulChange, AllowsKind}
+use Rattle.mt_words.specs.Changes.{Logged, IsLawful, IsLogged, IsLoggedChange, AllowsKind}
 use Rattle.mt_record.specs.declared.body.ChangeFields.{ChangeFields}
 use Rattle.mt_record.specs.declared.frame.RecordFault.{RecordFault}
 use Rattle.mt_record.specs.declared.frame.RecordFault.TheVariants as faults
-use Rattle.mt_record.specs.Spelling.{counted, column_bytes, code_of, kind_bytes, change_bytes, body, spelling, FitsColumn, FitsKind, FitsChange}
+use Rattle.mt_record.specs.Spelling.{counted, column_bytes, code_of, kind_bytes, change_bytes, body, spelling, FitsColumn, FitsKind, FitsLogged}
 use Rattle.mt_record.specs.LogFaults.{HasVersionFault, HasKeyFault, HasColumnsFault, BodyFault, RestFault}
 
 -- the next record of a log, and what follows it
@@ -38,17 +38,17 @@ IsBodyFault limits low bytes faults.Memory = Unit {0}
 
 -- the bytes are a change of the kind of this byte
 pub record IsChangeOf (limits : Limits) (byte : ℕ) (bytes : List ℕ) (change : Change) : Type 0 where
-  pub lawful : IsLawfulChange limits change
+  pub lawful : IsLoggedChange limits change
   pub code : code_of change.kind ≡ byte
   pub spelled : bytes ≡ change_bytes change
 
 -- the bytes are no change of the kind of this byte
 abbrev pub IsNoChange : ℕ → List ℕ → Type 0
-IsNoChange code bytes = (change : Change) → FitsChange change → code_of change.kind ≡ code → bytes ≢ change_bytes change
+IsNoChange code bytes = (change : Change) → FitsLogged change → code_of change.kind ≡ code → bytes ≢ change_bytes change
 
 -- the fields are those of a change, of the kind of this byte, of which this holds
 abbrev pub IsChangeWith : ℕ → List ℕ → (Change → Type 0) → Type 0
-IsChangeWith code bytes P = (change : Change) × FitsChange change × (code_of change.kind ≡ code) × (bytes ≡ change_bytes change) × P change
+IsChangeWith code bytes P = (change : Change) × FitsLogged change × (code_of change.kind ≡ code) × (bytes ≡ change_bytes change) × P change
 
 -- the first fault of a change of the kind of this byte
 abbrev pub IsChangeFault : Limits → ℕ → List ℕ → RecordFault → Type 0
@@ -61,13 +61,14 @@ IsChangeFault limits code bytes (faults.Wrong what) = ⊥
 
 -- ---- kinds
 
--- the bytes are what the kind, which has this byte, carries
+-- the bytes are what the kind, which is that of a record and has this byte, carries
 pub record IsKindOf (byte : ℕ) (bytes : List ℕ) (kind : Kind) : Type 0 where
+  pub logged : IsLogged kind
   pub code : code_of kind ≡ byte
   pub spelled : bytes ≡ kind_bytes kind
   pub fits : FitsKind kind
 
--- some kind of this byte carries the bytes
+-- some kind of record of this byte carries the bytes
 abbrev pub HasKind : ℕ → List ℕ → Type 0
 HasKind code bytes = (kind : Kind) × IsKindOf code bytes kind
 

@@ -5,9 +5,9 @@ use Rattle.byteorder.specs.Endian.{big_bytes}
 use Rattle.mt_words.specs.declared.limits.TheConstants.{LONGEST_VALUE}
 use Rattle.mt_words.specs.declared.record.Change.{Change}
 use Rattle.mt_words.specs.declared.update.Kind.{Kind}
-use Rattle.mt_words.specs.declared.update.Kind.TheVariants.{Put, Remove}
+use Rattle.mt_words.specs.declared.update.Kind.TheVariants.{Put, Remove, Whole}
 use Rattle.mt_words.specs.Limits.{Limits}
-use Rattle.mt_words.specs.Changes.{Logged}
+use Rattle.mt_words.specs.Changes.{Logged, IsLogged}
 
 -- bytes behind their length
 abbrev pub counted : List ℕ → List ℕ
@@ -17,15 +17,17 @@ counted bytes = big_bytes 2 (length bytes) ++ bytes
 abbrev pub column_bytes : ℕ × List ℕ → List ℕ
 column_bytes column = column.0 ∷ counted column.1
 
--- the byte of a kind; that of a mark is 3
+-- the byte of a kind; that of a mark is 3, and that of a whole, which no record has, is 0
 abbrev pub code_of : Kind → ℕ
 code_of (Put columns) = 1
 code_of Remove = 2
+code_of (Whole columns) = 0
 
--- what a kind carries: a put its columns behind their number, a remove nothing
+-- what a kind carries: a put and a whole their columns behind their number, a remove nothing
 abbrev pub kind_bytes : Kind → List ℕ
 kind_bytes (Put columns) = length columns ∷ flat_map column_bytes columns
 kind_bytes Remove = []
+kind_bytes (Whole columns) = length columns ∷ flat_map column_bytes columns
 
 -- the version, the counted key, and what the kind carries
 abbrev pub change_bytes : Change → List ℕ
@@ -55,7 +57,7 @@ longest_record limits = 20 + limits.key + suc limits.column * (3 + LONGEST_VALUE
 abbrev pub IsRecordLength : Limits → ℕ → Type 0
 IsRecordLength limits n = (9 ≤ n) × (n ≤ longest_record limits)
 
--- ---- what the fields of a record can hold, lawful or not
+-- ---- what the fields of a change and of a record can hold, lawful or not
 
 abbrev pub FitsColumn : ℕ × List ℕ → Type 0
 FitsColumn column = (column.0 < 2 ^ 8) × (length column.1 < 2 ^ 16)
@@ -63,9 +65,14 @@ FitsColumn column = (column.0 < 2 ^ 8) × (length column.1 < 2 ^ 16)
 abbrev pub FitsKind : Kind → Type 0
 FitsKind (Put columns) = (length columns < 2 ^ 8) × AllByRecursion FitsColumn columns
 FitsKind Remove = Unit {0}
+FitsKind (Whole columns) = (length columns < 2 ^ 8) × AllByRecursion FitsColumn columns
 
 abbrev pub FitsChange : Change → Type 0
 FitsChange change = (change.version < 2 ^ 64) × (length change.key < 2 ^ 16) × FitsKind change.kind
 
+-- a change of a kind that log records have
+abbrev pub FitsLogged : Change → Type 0
+FitsLogged change = FitsChange change × IsLogged change.kind
+
 abbrev pub Fits : Logged → Type 0
-Fits r = (r.timestamp < 2 ^ 64) × IfSome r.change FitsChange
+Fits r = (r.timestamp < 2 ^ 64) × IfSome r.change FitsLogged

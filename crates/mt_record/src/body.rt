@@ -2,7 +2,7 @@
 ghost use Rattle.std.specs.Prelude.{◌≡◌, ◌<◌, ◌↔◌, ◌∷◌, ℕ, Some, IfOk, IfErr, IfSome, IfNone, IsTrue};
 ghost use Rattle.mt_words.specs.Limits.{limits_of};
 ghost use Rattle.mt_words.specs.declared.limits.Format.TheVariants.{One};
-ghost use Rattle.mt_words.specs.Changes.{IsLawfulChange, changed};
+ghost use Rattle.mt_words.specs.Changes.{IsLoggedChange, changed};
 ghost use Rattle.mt_record.specs.Bodies.{IsBodyOf, IsBodyFault, IsChangeOf, IsChangeFault, AreChangeFields, IsNoChange, HasKind, IsAllowedKind, IsKindFault, HasColumns, AreSpelled, IsColumnsFault};
 
 use crate::fields::{column_at, counted_at, u64_at};
@@ -18,6 +18,9 @@ pub const REMOVE: u8 = 2;
 
 /// The byte of a mark.
 pub const MARK: u8 = 3;
+
+/// The byte of a whole, which no record has.
+pub const WHOLE: u8 = 0;
 
 /// The fields of a change as they stand among its bytes.
 #[derive(Clone, Copy)]
@@ -58,15 +61,16 @@ fn read_record(alloc: Global, bytes: &[u8]) -> Result<Record, RecordFault>
     }
 }
 
-/// The record of a lawful change.
+/// The record of a lawful change, of a kind that records have.
 fn record_of(timestamp: u64, change: Change) -> Record
-    requires { IsLawfulChange (limits_of One) change }
+    requires { IsLoggedChange (limits_of One) change }
     ensures { result ≡ changed timestamp change }
 {
     let Change { version, key, kind } = change;
     let record = match kind {
         Kind::Put(columns) => Record::put(timestamp, version, key, columns),
         Kind::Remove => Record::remove(timestamp, version, key),
+        Kind::Whole(_) => unreachable!(),
     };
     let Some(record) = record else {
         unreachable!();

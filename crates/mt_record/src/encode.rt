@@ -8,7 +8,7 @@ ghost use Rattle.mt_record.specs.Heads.{head_of, head_bytes};
 ghost use Rattle.mt_record.specs.Spelling.{code_of as code_of_kind, column_bytes, kind_bytes, change_bytes, body, spelling, IsRecordLength};
 ghost use Rattle.mt_record.specs.Adding.{HasRoom, Adds};
 
-use crate::body::{MARK, PUT, REMOVE};
+use crate::body::{MARK, PUT, REMOVE, WHOLE};
 use crate::head::{HEADER_BYTES, MAGIC};
 use crate::put::{put_bytes, put_column, put_counted, put_u32, put_u64};
 use mt_words::{Change, Column, Kind, Memory, Record};
@@ -55,7 +55,9 @@ fn change_length(change: &Change) -> usize
 {
     let key = change.key.as_bytes();
     match &change.kind {
-        Kind::Put(columns) => 10 + key.len() + columns_length(columns.as_slice()),
+        Kind::Put(columns) | Kind::Whole(columns) => {
+            10 + key.len() + columns_length(columns.as_slice())
+        }
         Kind::Remove => 10 + key.len(),
     }
 }
@@ -104,6 +106,7 @@ fn code_of(kind: &Kind) -> u8
     match kind {
         Kind::Put(_) => PUT,
         Kind::Remove => REMOVE,
+        Kind::Whole(_) => WHOLE,
     }
 }
 
@@ -116,7 +119,7 @@ fn put_change(change: &Change, out: &mut Vec<u8>)
     put_u64(change.version, out);
     put_counted(change.key.as_bytes(), out);
     match &change.kind {
-        Kind::Put(columns) => put_columns(columns.as_slice(), out),
+        Kind::Put(columns) | Kind::Whole(columns) => put_columns(columns.as_slice(), out),
         Kind::Remove => {}
     }
 }

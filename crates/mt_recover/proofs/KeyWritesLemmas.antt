@@ -17,7 +17,7 @@ use Rattle.mt_words.specs.Words.{IsColumn, AreColumns}
 use Rattle.mt_words.specs.Changes.{Writes, IsReset}
 use Rattle.mt_words.specs.Stamps.{IsAtMost}
 use Rattle.mt_recover.specs.Cells.{Written}
-use Rattle.mt_recover.specs.KeyWrites.{History, Histories, AddsColumns, IsLater, IsWriteOf, IsGreatestReset, IsResetOf, AreHistoriesOf, writes_in, reset_in, put_update, remove_update}
+use Rattle.mt_recover.specs.KeyWrites.{History, Histories, AddsColumns, IsLater, IsWriteOf, IsGreatestReset, IsResetOf, AreHistoriesOf, writes_in, reset_in, put_update, remove_update, whole_update}
 use Rattle.mt_recover.proofs.StampLemmas.{at_most_itself, at_most_trans, older_or_not, not_newer}
 use Rattle.std.specs.Result.{OnOk}
 use Rattle.std.specs.declared.result.Result.{Result}
@@ -214,6 +214,14 @@ on_ok_two (Err e) f p q = tt
 abbrev pub AreOthers : Histories → Histories → List ℕ → Type 0
 AreOthers old new key = (q : List ℕ) → is_eq (slice_cmp nat_cmp key q) ≡ false → get (slice_cmp nat_cmp) new q ≡ get (slice_cmp nat_cmp) old q
 
+-- an update that sets these columns adds their writes
+set_writes : (u : Update) (columns : List (ℕ × List ℕ)) (old new : List Written) → ((c : ℕ × List ℕ) → Writes u.kind c.0 (Some c.1) ↔ Contains columns c) → AddsColumns old u.stamp columns new
+    → (w : Written) → Contains new w ↔ (Contains old w ⊎ IsWriteOf (u ∷ []) u.key w)
+set_writes u columns old new sets adds w = (
+  λ h. elim ((adds w).0 h) as (λ _. Contains old w ⊎ IsWriteOf (u ∷ []) u.key w) [ inl o ↦ inl o | inr t ↦ inr (one_write u u.key w refl (sym t.0) ((sets w.1).1 t.1)) ],
+  λ s. elim s as (λ _. Contains new w) [ inl o ↦ (adds w).1 (inl o) | inr t ↦ let from = from_write u u.key w t in (adds w).1 (inr (sym from.1, (sets w.1).0 from.2)) ],
+)
+
 -- the map after a put
 pub after_put : (old new : Histories) (stamp : Stamp) (timestamp : ℕ) (key : List ℕ) (columns : List (ℕ × List ℕ)) (before : Option History) (after : History)
     → get (slice_cmp nat_cmp) old key ≡ before → get (slice_cmp nat_cmp) new key ≡ Some after → AreOthers old new key
@@ -223,10 +231,7 @@ after_put old new stamp timestamp key columns before after was are others adds r
     record {
       was = was;
       are = are;
-      writes = λ w. (
-        λ h. elim ((adds w).0 h) as (λ _. Contains (writes_in before) w ⊎ IsWriteOf (u ∷ []) key w) [ inl o ↦ inl o | inr t ↦ inr (one_write u key w refl (sym t.0) t.1) ],
-        λ s. elim s as (λ _. Contains after.writes w) [ inl o ↦ (adds w).1 (inl o) | inr t ↦ let from = from_write u key w t in (adds w).1 (inr (sym from.1, from.2)) ],
-      );
+      writes = set_writes u columns (writes_in before) after.writes (λ c. (λ x. x, λ x. x)) adds;
       reset = λ updates is. subst (IsResetOf (updates ++ u ∷ []) key) (sym reset) (reset_stays updates u key (reset_in before) (λ same resets. resets) is);
       others = others;
     }
@@ -244,6 +249,20 @@ after_remove old new stamp timestamp key before after was are others writes late
         λ h. inl (subst (λ (x : List Written). Contains x w) writes h),
         λ s. elim s as (λ _. Contains after.writes w) [ inl o ↦ subst (λ (x : List Written). Contains x w) (sym writes) o | inr t ↦ absurd (from_write u key w t).2 ],
       );
+      reset = λ updates is. reset_more updates u (reset_in before) after.reset tt later is;
+      others = others;
+    }
+
+-- the map after a whole
+pub after_whole : (old new : Histories) (stamp : Stamp) (timestamp : ℕ) (key : List ℕ) (columns : List (ℕ × List ℕ)) (before : Option History) (after : History)
+    → get (slice_cmp nat_cmp) old key ≡ before → get (slice_cmp nat_cmp) new key ≡ Some after → AreOthers old new key
+    → AddsColumns (writes_in before) stamp columns after.writes → IsLaterOf (reset_in before) stamp after.reset → IsAfter old new (whole_update stamp timestamp key columns) before after
+after_whole old new stamp timestamp key columns before after was are others adds later =
+    let u : Update = whole_update stamp timestamp key columns in
+    record {
+      was = was;
+      are = are;
+      writes = set_writes u columns (writes_in before) after.writes (λ c. (λ x. x, λ x. x)) adds;
       reset = λ updates is. reset_more updates u (reset_in before) after.reset tt later is;
       others = others;
     }

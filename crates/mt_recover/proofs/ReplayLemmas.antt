@@ -1,8 +1,9 @@
 -- The surviving updates, one by one and scan by scan.
-use Rattle.std.proofs.Common.{◌≡◌, ◌⊎◌, inl, inr, ℕ, suc, Bool, true, false, List, [], ◌∷◌, ◌++◌, Option, Some, None, Contains, refl, sym, ap, ◌∙◌, subst, append_assoc}
+use Rattle.std.proofs.Common.{◌≡◌, ◌⊎◌, inl, inr, ℕ, suc, ◌<◌, ◌≤◌, Bool, true, false, List, [], ◌∷◌, ◌++◌, Option, Some, None, Contains, refl, sym, ap, ◌∙◌, subst, append_assoc, arith}
 use Rattle.std.specs.Prelude.{cond}
 use Rattle.std.specs.List.{filter}
-use Rattle.std.proofs.lemmas.List.{flat_map_more}
+use Rattle.std.proofs.lemmas.List.{append-nil, flat_map_more}
+use Rattle.std.proofs.lemmas.Bool.Decides.{nat_tests}
 use Rattle.std.proofs.lemmas.List.Elements.{filter-append, Contains-push, Contains-append_left, Contains-append_right, Contains-append_cases, Contains-push_cases}
 use Rattle.mt_words.specs.declared.record.Change.{Change}
 use Rattle.mt_words.specs.declared.update.Origin.{Origin}
@@ -32,6 +33,15 @@ update_more window before updates u =
     ap (λ (x : List Update). before ++ x) (filter-append (in_window window) updates (u ∷ []))
     ∙ sym (append_assoc before (filter (in_window window) updates) (filter (in_window window) (u ∷ [])))
 
+-- outside the window
+not_within : (window : Window) (u : Update) → ((window.begin ≤ u.timestamp) × (u.timestamp < window.cutoff) → ⊥) → in_window window u ≡ false
+not_within window u out = grind (arith, nat_tests)
+
+-- one more update outside the window is no survivor
+pub update_passed : (window : Window) (before : List Update) (u : Update) → ((window.begin ≤ u.timestamp) × (u.timestamp < window.cutoff) → ⊥)
+    → before ++ filter (in_window window) (u ∷ []) ≡ before
+update_passed window before u out = ap (λ (b : Bool). before ++ cond b (u ∷ []) []) (not_within window u out) ∙ append-nil before
+
 -- the survivors of one more scan
 pub scan_more : (window : Window) (scans : List LogScan) (scan : LogScan) → kept_in window (scans ++ scan ∷ []) ≡ kept_in window scans ++ filter (in_window window) scan.updates.items
 scan_more window scans scan =
@@ -49,7 +59,7 @@ lawful_one format origin r (Some change) u e lawful at =
     let whole : IsLawful (limits_of format) (record { timestamp = r.timestamp; change = Some change }) = subst (λ (c : Option Change). IsLawful (limits_of format) (record { timestamp = r.timestamp; change = c })) e lawful in
     elim (Contains-push_cases [] (update_at origin r.timestamp change) u at) as (λ _. AllowsKind widest u.kind) [
       | inl none ↦ absurd (no_element u none)
-      | inr same ↦ subst (λ (x : Update). AllowsKind widest x.kind) same (of_format format change.kind whole.1.kind)
+      | inr same ↦ subst (λ (x : Update). AllowsKind widest x.kind) same (of_format format change.kind whole.1.0.kind)
     ]
 
 lawful_log : (format : Format) (low log nth : ℕ) (rs : List Logged) (u : Update) → AreRecords (limits_of format) low rs → Contains (updates_from log nth rs) u → AllowsKind widest u.kind

@@ -8,10 +8,10 @@ use Rattle.std.proofs.lemmas.Map.Views.{btree_map_get_iff}
 use Rattle.std.proofs.lemmas.Map.Lookups.{exact_bytes}
 use Rattle.mt_words.specs.declared.update.Stamp.{Stamp}
 use Rattle.mt_words.specs.declared.update.Kind.{Kind}
-use Rattle.mt_words.specs.declared.update.Kind.TheVariants.{Put, Remove}
+use Rattle.mt_words.specs.declared.update.Kind.TheVariants.{Put, Remove, Whole}
 use Rattle.mt_words.specs.declared.update.Update.{Update}
 use Rattle.mt_words.specs.Limits.{widest}
-use Rattle.mt_words.specs.Words.{NumbersRise}
+use Rattle.mt_words.specs.Words.{NumbersRise, AreColumns}
 use Rattle.mt_words.specs.Changes.{AllowsKind, Writes, IsReset}
 use Rattle.mt_words.specs.Stamps.{IsAtMost}
 use Rattle.mt_words.specs.Walks.{Pair, Holds}
@@ -45,16 +45,22 @@ one_column low (x ∷ xs) c d rise at here same = elim (head_or_tail x c xs at) 
   ]
 ]
 
+same_value : (columns : List (ℕ × List ℕ)) (number : ℕ) (a b : List ℕ) → AreColumns widest columns → Contains columns (number, a) → Contains columns (number, b) → a ≡ b
+same_value columns number a b are at here = ap (λ (p : ℕ × List ℕ). p.1) (one_column 0 columns (number, a) (number, b) are.1 at here refl)
+
 -- a lawful change writes a column once
 same_bytes : (kind : Kind) (number : ℕ) (a b : List ℕ) → AllowsKind widest kind → Writes kind number (Some a) → Writes kind number (Some b) → a ≡ b
-same_bytes (Put columns) number a b allows x y = ap (λ (p : ℕ × List ℕ). p.1) (one_column 0 columns (number, a) (number, b) allows.0.1 x y refl)
+same_bytes (Put columns) number a b allows x y = same_value columns number a b allows.0 x y
 same_bytes Remove number a b allows x y = absurd x
+same_bytes (Whole columns) number a b allows x y = same_value columns number a b allows.0 x y
 
 -- what is written has bytes
 writes_some : (kind : Kind) (number : ℕ) (other : Option (List ℕ)) → Writes kind number other → (bytes : List ℕ) × (other ≡ Some bytes)
 writes_some (Put columns) number (Some bytes) writes = (bytes, refl)
 writes_some (Put columns) number None writes = absurd writes
 writes_some Remove number other writes = absurd writes
+writes_some (Whole columns) number (Some bytes) writes = (bytes, refl)
+writes_some (Whole columns) number None writes = absurd writes
 
 -- ---- the rows hold what the updates leave
 

@@ -4,7 +4,7 @@ use Rattle.std.specs.Ordering.{nat_cmp}
 use Rattle.std.specs.Cmp.Lexicographic.{slice_cmp}
 use Rattle.std.specs.BTreeMap.{BTreeMap, get}
 use Rattle.mt_words.specs.declared.update.Stamp.{Stamp}
-use Rattle.mt_words.specs.declared.update.Kind.TheVariants.{Put, Remove}
+use Rattle.mt_words.specs.declared.update.Kind.TheVariants.{Put, Remove, Whole}
 use Rattle.mt_words.specs.declared.update.Update.{Update}
 use Rattle.mt_words.specs.Changes.{Writes, IsReset}
 use Rattle.mt_words.specs.Stamps.{IsOlder, IsAtMost}
@@ -21,7 +21,10 @@ put_update stamp timestamp key columns = record { key = key; stamp = stamp; time
 abbrev pub remove_update : Stamp → ℕ → List ℕ → Update
 remove_update stamp timestamp key = record { key = key; stamp = stamp; timestamp = timestamp; kind = Remove }
 
--- the writes of a put are added to these
+abbrev pub whole_update : Stamp → ℕ → List ℕ → List (ℕ × List ℕ) → Update
+whole_update stamp timestamp key columns = record { key = key; stamp = stamp; timestamp = timestamp; kind = Whole columns }
+
+-- a write of each column is added to these
 abbrev pub AddsColumns : List Written → Stamp → List (ℕ × List ℕ) → List Written → Type 0
 AddsColumns old stamp columns new = (write : Written) → Contains new write ↔ (Contains old write ⊎ ((write.0 ≡ stamp) × Contains columns write.1))
 

@@ -2,7 +2,7 @@
 ghost use Rattle.std.specs.Prelude.{◌≡◌, ◌↔◌, ◌++◌, [], ◌∷◌, List, ℕ, None, Some, IsTrue, IfOk, OnOk};
 ghost use Rattle.mt_words.specs.declared.update.Update.{Update};
 ghost use Rattle.mt_recover.specs.Cells.{IsColumnsOf};
-ghost use Rattle.mt_recover.specs.KeyWrites.{AddsColumns, IsLater, AreHistoriesOf, put_update, remove_update};
+ghost use Rattle.mt_recover.specs.KeyWrites.{AddsColumns, IsLater, AreHistoriesOf, put_update, remove_update, whole_update};
 
 use crate::cell::{Cell, Write};
 use mt_words::{Columns, Key, Memory, Stamp};
@@ -127,5 +127,28 @@ pub fn add_remove(
         return Ok(());
     }
     keys.insert(key, KeyWrites::cleared(alloc, stamp))?;
+    Ok(())
+}
+
+/// Notes the reset of a whole at its key, and adds its writes to those of the key. After an Err some of these may be
+/// missing.
+pub fn add_whole(
+    alloc: Global,
+    keys: &mut BTreeMap<Key, KeyWrites>,
+    stamp: Stamp,
+    key: Key,
+    columns: Columns,
+) -> Result<(), Memory>
+    ensures { OnOk result ((updates : List Update) (timestamp : ℕ) → AreHistoriesOf updates keys.old →
+        AreHistoriesOf (updates ++ whole_update stamp timestamp key columns ∷ []) keys.new) }
+{
+    if let Some(writes) = keys.get_mut(&key) {
+        writes.clear(stamp);
+        return writes.add(stamp, columns);
+    }
+    let mut writes = KeyWrites::with_capacity(alloc, columns.len())?;
+    writes.clear(stamp);
+    writes.add(stamp, columns)?;
+    keys.insert(key, writes)?;
     Ok(())
 }

@@ -6,7 +6,7 @@ ghost use Rattle.mt_recover.specs.Walk.{IsWalk, AreApart, AreLawful};
 ghost use Rattle.mt_recover.specs.KeyWrites.{AreHistoriesOf};
 ghost use Rattle.mt_recover.specs.LogScans.{kept_in};
 
-use crate::key_writes::{KeyWrites, add_put, add_remove};
+use crate::key_writes::{KeyWrites, add_put, add_remove, add_whole};
 use crate::store::Store;
 use crate::window::Window;
 use mt_scan::LogScan;
@@ -64,6 +64,7 @@ fn take_update(
     match kind {
         Kind::Put(columns) => add_put(alloc, keys, stamp, key, columns),
         Kind::Remove => add_remove(alloc, keys, stamp, key),
+        Kind::Whole(columns) => add_whole(alloc, keys, stamp, key, columns),
     }
 }
 

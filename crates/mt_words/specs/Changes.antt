@@ -1,8 +1,8 @@
--- What a record of a log says, what a format allows of it, and what it does to its key.
+-- What a record of a log and the entry of a checkpoint say, what a format allows of them, and what they do to their key.
 use Rattle.std.specs.Prelude.{ℕ, ◌<◌, ◌^◌, List, length, Contains, Option, Some, None, IfSome}
 use Rattle.mt_words.specs.declared.record.Change.{Change}
 use Rattle.mt_words.specs.declared.update.Kind.{Kind}
-use Rattle.mt_words.specs.declared.update.Kind.TheVariants.{Put, Remove}
+use Rattle.mt_words.specs.declared.update.Kind.TheVariants.{Put, Remove, Whole}
 use Rattle.mt_words.specs.Limits.{Limits}
 use Rattle.mt_words.specs.Words.{IsKey, AreColumns}
 
@@ -23,10 +23,15 @@ put_of timestamp version key columns = changed timestamp (record { version = ver
 abbrev pub remove_of : ℕ → ℕ → List ℕ → Logged
 remove_of timestamp version key = changed timestamp (record { version = version; key = key; kind = Remove })
 
--- a put has at least one column
+-- the entry of a checkpoint
+abbrev pub entry_of : ℕ → List ℕ → List (ℕ × List ℕ) → Change
+entry_of version key columns = record { version = version; key = key; kind = Whole columns }
+
+-- a put and a whole have at least one column
 abbrev pub AllowsKind : Limits → Kind → Type 0
 AllowsKind limits (Put columns) = AreColumns limits columns × (0 < length columns)
 AllowsKind limits Remove = Unit {0}
+AllowsKind limits (Whole columns) = AreColumns limits columns × (0 < length columns)
 
 -- a lawful change: a version above 0, a key, and what its kind allows
 pub record IsLawfulChange (limits : Limits) (change : Change) : Type 0 where
@@ -35,17 +40,40 @@ pub record IsLawfulChange (limits : Limits) (change : Change) : Type 0 where
   pub key : IsKey limits change.key
   pub kind : AllowsKind limits change.kind
 
+-- a kind that log records have
+abbrev pub IsLogged : Kind → Type 0
+IsLogged (Put columns) = Unit {0}
+IsLogged Remove = Unit {0}
+IsLogged (Whole columns) = ⊥
+
+-- a lawful change that a log record may carry
+abbrev pub IsLoggedChange : Limits → Change → Type 0
+IsLoggedChange limits change = IsLawfulChange limits change × IsLogged change.kind
+
 -- a lawful record: any timestamp, and a lawful change if there is one
 abbrev pub IsLawful : Limits → Logged → Type 0
-IsLawful limits r = (r.timestamp < 2 ^ 64) × IfSome r.change (IsLawfulChange limits)
+IsLawful limits r = (r.timestamp < 2 ^ 64) × IfSome r.change (IsLoggedChange limits)
+
+-- the kind that entries of a checkpoint have
+abbrev pub IsWhole : Kind → Type 0
+IsWhole (Put columns) = ⊥
+IsWhole Remove = ⊥
+IsWhole (Whole columns) = Unit {0}
+
+-- a lawful entry of a checkpoint
+abbrev pub IsEntry : Limits → Change → Type 0
+IsEntry limits change = IsLawfulChange limits change × IsWhole change.kind
 
 -- a change of this kind writes the column: it sets it to bytes, or to none
 abbrev pub Writes : Kind → ℕ → Option (List ℕ) → Type 0
 Writes (Put columns) number (Some bytes) = Contains columns (number, bytes)
 Writes (Put columns) number None = ⊥
 Writes Remove number bytes = ⊥
+Writes (Whole columns) number (Some bytes) = Contains columns (number, bytes)
+Writes (Whole columns) number None = ⊥
 
 -- a change of this kind clears all columns of its key
 abbrev pub IsReset : Kind → Type 0
 IsReset (Put columns) = ⊥
 IsReset Remove = Unit {0}
+IsReset (Whole columns) = Unit {0}

@@ -1,7 +1,8 @@
-//! The words of the store: keys, columns, log records, updates with their stamps, and faults.
+//! The words of the store: keys, columns, log records, entries of checkpoints, updates with their stamps, and faults.
 #![tactic(auto)]
 
 mod columns;
+mod entry;
 mod fault;
 mod key;
 mod limits;
@@ -9,6 +10,7 @@ mod record;
 mod update;
 
 pub use columns::{Column, Columns};
+pub use entry::Entry;
 pub use fault::{Fault, Memory, What};
 pub use key::Key;
 pub use limits::{Format, GREATEST_COLUMN, LONGEST_KEY, LONGEST_VALUE, MOST_COLUMNS};

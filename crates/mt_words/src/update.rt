@@ -11,6 +11,8 @@ pub enum Kind {
     Put(Columns),
     /// Clears all columns.
     Remove,
+    /// Clears all columns, and then sets these: the entry of a checkpoint.
+    Whole(Columns),
 }
 
 /// Where an update comes from. At one version log updates are ordered by the position of their log, then by
