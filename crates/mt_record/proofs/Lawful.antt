@@ -16,7 +16,7 @@ use Rattle.mt_record.specs.Spelling.{column_bytes, kind_bytes, body_of, body, Is
 -- ---- the limits of each format
 
 -- keys are short enough for their length
-key_room : (format : Format) → (limits_of format).key < 2 ^ 16
+pub key_room : (format : Format) → (limits_of format).key < 2 ^ 16
 key_room One = omega arith
 
 -- column numbers are bytes, and so is how many there are
@@ -61,7 +61,7 @@ put_fits format cs are =
     (omega (arith, room, most), columns_fit format cs are.0)
 
 -- what a kind carries fits its fields
-kind_fits : (format : Format) (kind : Kind) → AllowsKind (limits_of format) kind → FitsKind kind
+pub kind_fits : (format : Format) (kind : Kind) → AllowsKind (limits_of format) kind → FitsKind kind
 kind_fits format (Put columns) allowed = put_fits format columns allowed.0
 kind_fits format Remove allowed = tt
 kind_fits format (Whole columns) allowed = put_fits format columns allowed.0
@@ -85,7 +85,7 @@ carried_length limits cs are =
     omega (arith, texts, room)
 
 -- how long what a kind carries is at the most
-kind_length : (limits : Limits) (kind : Kind) → AllowsKind limits kind → length (kind_bytes kind) ≤ 1 + suc limits.column * 65538
+pub kind_length : (limits : Limits) (kind : Kind) → AllowsKind limits kind → length (kind_bytes kind) ≤ 1 + suc limits.column * 65538
 kind_length limits (Put columns) allowed = carried_length limits columns allowed.0
 kind_length limits Remove allowed = omega arith
 kind_length limits (Whole columns) allowed = carried_length limits columns allowed.0

@@ -5,9 +5,11 @@ pub mod Changes
 pub mod Frames
 pub mod Records
 pub mod Encoding
+pub mod Entries
 pub mod OneFault
 pub mod OneLog
 pub mod OneReading
+pub mod OnePart
 pub mod Vectors
 pub mod Beginnings
 pub mod Feeds

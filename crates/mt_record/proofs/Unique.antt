@@ -84,7 +84,7 @@ same_kind (Whole cs) Remove fits_a fits_b code e = absurd (apart 0 2 (omega arit
 same_kind (Whole cs) (Whole ds) fits_a fits_b code e = ap Whole (same_carried cs ds fits_a.1 fits_b.1 e)
 
 -- the fields of a change are those of one change
-same_change : (a b : Change) → FitsChange a → FitsChange b → code_of a.kind ≡ code_of b.kind → change_bytes a ≡ change_bytes b → a ≡ b
+pub same_change : (a b : Change) → FitsChange a → FitsChange b → code_of a.kind ≡ code_of b.kind → change_bytes a ≡ change_bytes b → a ≡ b
 same_change a b fits_a fits_b code e =
     let left = counted a.key ++ kind_bytes a.kind in
     let right = counted b.key ++ kind_bytes b.kind in

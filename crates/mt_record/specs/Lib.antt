@@ -2,6 +2,7 @@ pub mod Spelling
 pub mod Heads
 pub mod Logs
 pub mod LogFaults
+pub mod Parts
 pub mod Bodies
 pub mod Adding
 pub mod Feeding

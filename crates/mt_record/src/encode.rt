@@ -49,7 +49,7 @@ fn body_length(record: &Record) -> usize
 }
 
 /// How many bytes the version, the key and the columns take.
-fn change_length(change: &Change) -> usize
+pub fn change_length(change: &Change) -> usize
     requires { IsLawfulChange widest change.now }
     ensures { result ≡ length (change_bytes change.now) }
 {
@@ -111,7 +111,7 @@ fn code_of(kind: &Kind) -> u8
 }
 
 /// Appends the version, the key and what the kind carries.
-fn put_change(change: &Change, out: &mut Vec<u8>)
+pub fn put_change(change: &Change, out: &mut Vec<u8>)
     requires lawful { IsLawfulChange widest change.now }
     requires room { HasRoom (length (change_bytes change.now)) out.old }
     ensures { Adds (change_bytes change.now) out.old out.new }

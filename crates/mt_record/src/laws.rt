@@ -2,12 +2,14 @@
 ghost use Rattle.std.specs.Prelude.{◌≡◌, ◌++◌, ℕ, List, []};
 ghost use Rattle.mt_words.specs.declared.limits.Format.{Format};
 ghost use Rattle.mt_words.specs.Limits.{limits_of};
-ghost use Rattle.mt_words.specs.Changes.{Logged, IsLawful};
+ghost use Rattle.mt_words.specs.declared.record.Change.{Change};
+ghost use Rattle.mt_words.specs.Changes.{Logged, IsLawful, IsEntry};
 ghost use Rattle.mt_record.specs.declared.read.FeedFault.{FeedFault};
 ghost use Rattle.mt_record.specs.Spelling.{spelling};
 ghost use Rattle.mt_record.specs.Heads.{Head};
 ghost use Rattle.mt_record.specs.Logs.{IsLog};
 ghost use Rattle.mt_record.specs.LogFaults.{IsLogFault};
+ghost use Rattle.mt_record.specs.Parts.{PartHead, IsPart, entry_spelling};
 
 /// Bytes are one log in one way, or have one fault, and never both; and no spelling of a record begins that of another
 /// one. A law: it has nothing to run.
@@ -22,4 +24,15 @@ pub fn one_reading()
     ensures prefix_free { (format : Format) (r s : Logged) (more : List ℕ) →
         IsLawful (limits_of format) r → IsLawful (limits_of format) s → spelling s ≡ spelling r ++ more →
         (r ≡ s) × (more ≡ []) }
+{}
+
+/// Bytes are one part of a checkpoint in one way; and no spelling of an entry begins that of another one. A law: it has
+/// nothing to run.
+pub fn one_part()
+    ensures one_part { (bytes : List ℕ) (head other : PartHead) (entries others : List Change) (end fin : ℕ) →
+        IsPart bytes head entries end → IsPart bytes other others fin →
+        (head ≡ other) × (entries ≡ others) × (end ≡ fin) }
+    ensures prefix_free { (format : Format) (entry other : Change) (more : List ℕ) →
+        IsEntry (limits_of format) entry → IsEntry (limits_of format) other →
+        entry_spelling other ≡ entry_spelling entry ++ more → (entry ≡ other) × (more ≡ []) }
 {}

@@ -3,6 +3,7 @@
 
 mod body;
 mod encode;
+mod encode_parts;
 mod fields;
 mod frame;
 mod head;
@@ -14,6 +15,7 @@ mod read;
 mod record_reader;
 
 pub use encode::{encode_log_header, encode_record};
-pub use laws::one_reading;
+pub use encode_parts::encode_part;
+pub use laws::{one_part, one_reading};
 pub use log_feed::LogFeed;
 pub use read::{FeedFault, LogText, read_log};

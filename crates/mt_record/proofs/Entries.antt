@@ -1,0 +1,42 @@
+-- Entries of checkpoints, and the parts that they stand in.
+use Rattle.std.proofs.Common.{◌≡◌, ◌∙◌, ℕ, suc, ◌+◌, ◌<◌, ◌≤◌, List, [], ◌∷◌, ◌++◌, length, take, get_or, sym, ap, arith}
+use Rattle.std.proofs.Math.Seq.{take-suc}
+use Rattle.std.specs.List.{flat_map}
+use Rattle.std.proofs.lemmas.List.{length-append, flat_map_more}
+use Rattle.mt_words.specs.declared.record.Change.{Change}
+use Rattle.mt_words.specs.declared.update.Kind.{Kind}
+use Rattle.mt_words.specs.declared.update.Kind.TheVariants.{Put, Remove, Whole}
+use Rattle.mt_words.specs.Limits.{Limits}
+use Rattle.mt_words.specs.Changes.{AllowsKind, IsWhole, IsEntry}
+use Rattle.mt_record.specs.Spelling.{column_bytes, kind_bytes, change_bytes}
+use Rattle.mt_record.specs.Parts.{entry_spelling, IsEntryLength}
+use Rattle.mt_record.proofs.Lawful.{kind_length}
+
+-- a column takes at least three bytes
+some_columns : (cs : List (ℕ × List ℕ)) → 0 < length cs → 3 ≤ length (flat_map column_bytes cs)
+some_columns [] some = omega (arith, some)
+some_columns (c ∷ cs) some = omega (arith, length-append c.1 (flat_map column_bytes cs))
+
+kind_least : (limits : Limits) (kind : Kind) → AllowsKind limits kind → IsWhole kind → 4 ≤ length (kind_bytes kind)
+kind_least limits (Put cs) allowed whole = absurd whole
+kind_least limits Remove allowed whole = absurd whole
+kind_least limits (Whole cs) allowed whole = omega (arith, some_columns cs allowed.1)
+
+-- the fields of an entry have a lawful length
+pub entry_length : (limits : Limits) (change : Change) → IsEntry limits change → IsEntryLength limits (length (change_bytes change))
+entry_length limits change entry =
+    let least = kind_least limits change.kind entry.0.kind entry.1 in
+    let most = kind_length limits change.kind entry.0.kind in
+    let fields = length-append change.key (kind_bytes change.kind) in
+    (omega (arith, least, fields), omega (arith, most, fields, entry.0.key))
+
+-- ---- parts
+
+-- the first entries and one more
+pub one_more_entry : (out new : List ℕ) (entries : List Change) (i : ℕ) (entry : Change) → i < length entries → entry ≡ get_or entries i entry
+    → new ≡ (out ++ flat_map entry_spelling (take i entries)) ++ entry_spelling entry → new ≡ out ++ flat_map entry_spelling (take (i + 1) entries)
+one_more_entry out new entries i entry below is e =
+    let next : i + 1 ≡ suc i = omega arith in
+    let front : take (i + 1) entries ≡ take i entries ++ entry ∷ [] =
+    ap (λ (n : ℕ). take n entries) next ∙ take-suc entries i entry below ∙ ap (λ (d : Change). take i entries ++ d ∷ []) (sym is) in
+    e ∙ flat_map_more entry_spelling out (take i entries) entry ∙ ap (λ (x : List Change). out ++ flat_map entry_spelling x) (sym front)

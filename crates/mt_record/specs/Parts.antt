@@ -1,0 +1,57 @@
+-- Parts of checkpoints: how they are spelled, and which bytes are a part.
+use Rattle.std.specs.Prelude.{◌≡◌, ℕ, suc, ◌+◌, ◌*◌, ◌≤◌, ◌<◌, ◌^◌, List, ◌++◌, length, codes}
+use Rattle.std.specs.List.{flat_map, AllByRecursion}
+use Rattle.byteorder.specs.Endian.{big_bytes}
+use Rattle.mt_words.specs.declared.limits.TheConstants.{LONGEST_VALUE}
+use Rattle.mt_words.specs.declared.record.Change.{Change}
+use Rattle.mt_words.specs.Limits.{Limits, limits_of}
+use Rattle.mt_words.specs.declared.limits.Format.TheVariants.{One}
+use Rattle.mt_words.specs.Changes.{IsEntry}
+use Rattle.mt_record.specs.Spelling.{change_bytes, framed}
+
+-- the header of a part: the number of its checkpoint, where that begins, the part's own number, and how many parts there are
+pub record PartHead : Type 0 where
+  pub number : ℕ
+  pub begin : ℕ
+  pub part : ℕ
+  pub parts : ℕ
+
+abbrev pub part_head : ℕ → ℕ → ℕ → ℕ → PartHead
+part_head number begin part parts = record { number = number; begin = begin; part = part; parts = parts }
+
+abbrev pub part_head_bytes : PartHead → List ℕ
+part_head_bytes head = codes "MTC1" ++ (big_bytes 4 head.number ++ (big_bytes 8 head.begin ++ (big_bytes 2 head.part ++ big_bytes 2 head.parts)))
+
+pub record IsPartHead (head : PartHead) : Type 0 where
+  pub number : head.number < 2 ^ 32
+  pub begin : head.begin < 2 ^ 64
+  pub part : head.part < 2 ^ 16
+  pub parts : head.parts < 2 ^ 16
+
+-- the spelling of an entry: its change between two copies of its length
+abbrev pub entry_spelling : Change → List ℕ
+entry_spelling change = framed (change_bytes change)
+
+-- the length of the greatest entry: the longest key and all columns, each as long as can be
+abbrev pub longest_entry : Limits → ℕ
+longest_entry limits = 11 + limits.key + suc limits.column * (3 + LONGEST_VALUE)
+
+-- the length that an entry may have: from that of the empty key with an empty column on
+abbrev pub IsEntryLength : Limits → ℕ → Type 0
+IsEntryLength limits n = (14 ≤ n) × (n ≤ longest_entry limits)
+
+-- what ends a part: a length of zero, where its checkpoint ends, and how many entries the part has
+abbrev pub footer_bytes : ℕ → ℕ → List ℕ
+footer_bytes end count = big_bytes 4 0 ++ (big_bytes 8 end ++ big_bytes 4 count)
+
+-- a header, lawful entries, and a footer with their number
+abbrev pub part_bytes : PartHead → List Change → ℕ → List ℕ
+part_bytes head entries end = part_head_bytes head ++ (flat_map entry_spelling entries ++ footer_bytes end (length entries))
+
+-- a part: just such bytes, and no more
+pub record IsPart (bytes : List ℕ) (head : PartHead) (entries : List Change) (end : ℕ) : Type 0 where
+  pub spelled : bytes ≡ part_bytes head entries end
+  pub is_head : IsPartHead head
+  pub lawful : AllByRecursion (IsEntry (limits_of One)) entries
+  pub fits : end < 2 ^ 64
+  pub count : length entries < 2 ^ 32

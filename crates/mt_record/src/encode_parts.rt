@@ -1,0 +1,114 @@
+//! Parts of checkpoints written as bytes.
+ghost use Rattle.std.specs.Prelude.{◌≡◌, ◌<◌, ◌^◌, ◌++◌, length, OnOk, OnErr};
+ghost use Rattle.std.specs.List.{flat_map};
+ghost use Rattle.std.specs.Io.{StartsWith};
+ghost use Rattle.mt_words.specs.Limits.{widest};
+ghost use Rattle.mt_record.specs.Spelling.{change_bytes};
+ghost use Rattle.mt_record.specs.Parts.{part_head, part_head_bytes, part_bytes, entry_spelling, footer_bytes, IsEntryLength};
+
+use crate::encode::{change_length, put_change};
+use crate::put::{put_bytes, put_u16, put_u32, put_u64};
+use mt_words::{Entry, Memory};
+
+/// What the header of a part begins with.
+const PART_MAGIC: &[u8] = b"MTC1";
+
+/// The number of bytes of a part's header.
+const PART_HEADER_BYTES: usize = 20;
+
+/// The number of bytes of a part's footer.
+const FOOTER_BYTES: usize = 16;
+
+/// Appends a part of the checkpoint of this number, from its timestamp `begin` to its timestamp `end`: the part of
+/// number `part`, of `parts`, with these entries, of which there are fewer than 2^32. On an Err nothing is appended.
+/// Whether the parts make a valid checkpoint is not looked at.
+pub fn encode_part(
+    number: u32,
+    begin: u64,
+    part: u16,
+    parts: u16,
+    end: u64,
+    entries: &[Entry],
+    out: &mut Vec<u8>,
+) -> Result<(), Memory>
+    requires { length entries.now < 2 ^ 32 }
+    ensures ok { OnOk result (out.new.items ≡
+        out.old.items ++ part_bytes (part_head number begin part parts) entries.now end) }
+    ensures err { OnErr result (out.new.items ≡ out.old.items) }
+{
+    let start = out.len();
+    append_header(number, begin, part, parts, out)?;
+    let outcome = append_rest(end, entries, out);
+    if outcome.is_err() {
+        out.truncate(start);
+    }
+    outcome
+}
+
+/// Appends the header. On an Err nothing is appended.
+fn append_header(
+    number: u32,
+    begin: u64,
+    part: u16,
+    parts: u16,
+    out: &mut Vec<u8>,
+) -> Result<(), Memory>
+    ensures ok { OnOk result (out.new.items ≡
+        out.old.items ++ part_head_bytes (part_head number begin part parts)) }
+    ensures err { OnErr result (out.new.items ≡ out.old.items) }
+{
+    out.reserve(PART_HEADER_BYTES)?;
+    put_bytes(PART_MAGIC, out);
+    put_u32(number, out);
+    put_u64(begin, out);
+    put_u16(part, out);
+    put_u16(parts, out);
+    Ok(())
+}
+
+/// Appends what stands behind the header. On an Err some of it may be appended.
+fn append_rest(end: u64, entries: &[Entry], out: &mut Vec<u8>) -> Result<(), Memory>
+    requires { length entries.now < 2 ^ 32 }
+    ensures ok { OnOk result (out.new.items ≡
+        out.old.items ++ (flat_map entry_spelling entries.now ++ footer_bytes end (length entries.now))) }
+    ensures front { StartsWith out.new.items out.old.items }
+{
+    for entry in entries {
+        append_entry(entry, out)?;
+    }
+    append_footer(end, entries.len() as u32, out)
+}
+
+/// Appends the entry. On an Err nothing is appended.
+fn append_entry(entry: &Entry, out: &mut Vec<u8>) -> Result<(), Memory>
+    ensures ok { OnOk result (out.new.items ≡ out.old.items ++ entry_spelling entry.now) }
+    ensures err { OnErr result (out.new.items ≡ out.old.items) }
+{
+    let change = entry.change();
+    let length = entry_length(entry);
+    out.reserve(4 + length + 4)?;
+    put_u32(length as u32, out);
+    put_change(change, out);
+    put_u32(length as u32, out);
+    Ok(())
+}
+
+/// How many bytes the fields of the entry take.
+fn entry_length(entry: &Entry) -> usize
+    ensures value { result ≡ length (change_bytes entry.now) }
+    ensures lawful { IsEntryLength widest result }
+{
+    change_length(entry.change())
+}
+
+/// Appends the footer. On an Err nothing is appended.
+fn append_footer(end: u64, count: u32, out: &mut Vec<u8>) -> Result<(), Memory>
+    ensures ok { OnOk result (out.new.items ≡ out.old.items ++ footer_bytes end count) }
+    ensures err { OnErr result (out.new.items ≡ out.old.items) }
+{
+    out.reserve(FOOTER_BYTES)?;
+    put_u32(0, out);
+    put_u64(end, out);
+    put_u32(count, out);
+    Ok(())
+}
