@@ -33,7 +33,7 @@ update_more window before updates u =
     ap (λ (x : List Update). before ++ x) (filter-append (in_window window) updates (u ∷ []))
     ∙ sym (append_assoc before (filter (in_window window) updates) (filter (in_window window) (u ∷ [])))
 
--- outside the window
+-- a timestamp outside the window fails its test
 not_within : (window : Window) (u : Update) → ((window.begin ≤ u.timestamp) × (u.timestamp < window.cutoff) → ⊥) → in_window window u ≡ false
 not_within window u out = grind (arith, nat_tests)
 

@@ -45,6 +45,7 @@ one_column low (x ∷ xs) c d rise at here same = elim (head_or_tail x c xs at) 
   ]
 ]
 
+-- one number has one value among columns
 same_value : (columns : List (ℕ × List ℕ)) (number : ℕ) (a b : List ℕ) → AreColumns widest columns → Contains columns (number, a) → Contains columns (number, b) → a ≡ b
 same_value columns number a b are at here = ap (λ (p : ℕ × List ℕ). p.1) (one_column 0 columns (number, a) (number, b) are.1 at here refl)
 

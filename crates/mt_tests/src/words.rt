@@ -1,6 +1,8 @@
 //! Keys, columns, records and faults.
 use crate::logs::key_of;
-use mt_words::{Columns, Fault, GREATEST_COLUMN, Key, LONGEST_KEY, LONGEST_VALUE, Record, What};
+use mt_words::{
+    Columns, Entry, Fault, GREATEST_COLUMN, Key, Kind, LONGEST_KEY, LONGEST_VALUE, Record, What,
+};
 use std::test::Fail;
 
 #[test]
@@ -58,6 +60,20 @@ fn makes_puts_and_marks(rt: HostRuntime) -> Result<(), Fail> {
     let put = Record::put(7, 1, key, columns).ok_or("a lawful put")?;
     assert_eq!(rt; put.timestamp(), 7);
     assert_eq!(rt; put.into_change().map(|change| change.version), Some(1));
+    Ok(())
+}
+
+#[test]
+fn makes_entries(rt: HostRuntime) -> Result<(), Fail> {
+    let alloc = rt.alloc();
+    let key = key_of(alloc, b"k")?;
+    let mut columns = Columns::new(alloc);
+    assert!(rt; columns.push(0, Vec::from_slice(alloc, b"v")?).is_ok());
+    let entry = Entry::new(3, key, columns).ok_or("a lawful entry")?;
+    assert_eq!(rt; entry.change().version, 3);
+    let change = entry.into_change();
+    assert_eq!(rt; change.key.as_bytes(), b"k".as_slice());
+    assert!(rt; matches!(change.kind, Kind::Whole(_)));
     Ok(())
 }
 
