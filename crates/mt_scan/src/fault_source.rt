@@ -67,7 +67,8 @@ impl Source for FaultSource<'_> {
     fn advance(&mut self) -> Result<usize, SourceFault>
         ensures advances { Advances (seen_of_fault self.old) (seen_of_fault self.new) result }
         ensures fails { calls_left self.old ≡ 0 → result ≡ Err Device }
-        ensures piece { 0 < calls_left self.old → GivesPiece (seen_of_fault self.old) (fault_piece_size self.old) result }
+        ensures piece { 0 < calls_left self.old →
+            GivesPiece (seen_of_fault self.old) (fault_piece_size self.old) result }
         ensures calls { calls_left self.new ≡ calls_left self.old - 1 }
         ensures size { fault_piece_size self.new ≡ fault_piece_size self.old }
         ensures slot { self.new.slot.ghost_name ≡ self.old.slot.ghost_name }

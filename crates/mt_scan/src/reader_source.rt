@@ -80,7 +80,8 @@ impl<R: Read + Drop> Source for ReaderSource<'_, R> {
 
     fn advance(&mut self) -> Result<usize, SourceFault>
         ensures advances { Advances (seen_of_reader R.remaining self.old) (seen_of_reader R.remaining self.new) result }
-        ensures too_long { result ≡ Err TooLong → ((seen_of_reader R.remaining self.old).bound ≡ 0) ⊎ IsTrue (seen_of_reader R.remaining self.old).spent }
+        ensures too_long { result ≡ Err TooLong →
+            ((seen_of_reader R.remaining self.old).bound ≡ 0) ⊎ IsTrue (seen_of_reader R.remaining self.old).spent }
         ensures ended { result ≡ Ok 0 → IsTrue (at_its_end self.new) }
         ensures stays { IsTrue (at_its_end self.old) → result ≡ Ok 0 }
         ensures slot { self.new.slot.ghost_name ≡ self.old.slot.ghost_name }

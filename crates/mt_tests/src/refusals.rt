@@ -42,12 +42,13 @@ fn a_refused_growth_of_recovery_from_a_source_is_memory(rt: HostRuntime) {
         return;
     };
     let mut logs = Vec::new(rt.alloc());
-    if logs.push(source).is_ok() {
-        let parts = Vec::new(rt.alloc());
-        match recover_one(rt.alloc(), Inputs { logs, parts }) {
-            Ok(recovered) => assert!(rt; recovered.store().get(b"a").is_some()),
-            Err(fault) => assert_eq!(rt; fault, Fault::Memory),
-        }
+    if logs.push(source).is_err() {
+        return;
+    }
+    let parts = Vec::new(rt.alloc());
+    match recover_one(rt.alloc(), Inputs { logs, parts }) {
+        Ok(recovered) => assert!(rt; recovered.store().get(b"a").is_some()),
+        Err(fault) => assert_eq!(rt; fault, Fault::Memory),
     }
     assert!(rt; rack.all_full());
 }
