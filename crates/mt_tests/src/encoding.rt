@@ -1,7 +1,7 @@
 //! Vectors by the encoders.
 use crate::logs::{LOG_A, LOG_B, bytes_of, key_of};
-use mt_record::{encode_log_header, encode_record};
-use mt_words::{Columns, Record};
+use mt_record::{encode_log_header, encode_part, encode_record};
+use mt_words::{Columns, Entry, Record};
 use std::alloc::Global;
 use std::test::Fail;
 
@@ -56,6 +56,21 @@ fn spells_a_remove_and_two_columns(rt: HostRuntime) -> Result<(), Fail> {
     encode_record(&put_of(alloc, b"k", 1, 1, values.as_slice())?, &mut out)?;
     let expected = "0000001d 01 0000000000000001 0000000000000001 0001 6b
         02 00 0001 41 01 0001 42 0000001d";
+    assert_eq!(rt; out.as_slice(), bytes_of(alloc, expected)?.as_slice());
+    Ok(())
+}
+
+#[test]
+fn spells_a_part(rt: HostRuntime) -> Result<(), Fail> {
+    let alloc = rt.alloc();
+    let columns = columns_of(alloc, [b"o".as_slice(), b"p"].as_slice())?;
+    let mut entries = Vec::new(alloc);
+    entries.push(Entry::new(1, key_of(alloc, b"a")?, columns).ok_or("a lawful entry")?)?;
+    let mut out = Vec::new(alloc);
+    encode_part(1, 2, 0, 1, 4, &entries, &mut out)?;
+    let expected = "4d544331 00000001 0000000000000002 0000 0001
+        00000014 0000000000000001 0001 61 02 00 0001 6f 01 0001 70 00000014
+        00000000 0000000000000004 00000001";
     assert_eq!(rt; out.as_slice(), bytes_of(alloc, expected)?.as_slice());
     Ok(())
 }

@@ -1,6 +1,6 @@
 //! Want of memory. As they stand these tests see no refusal. `.ci/refuse_growths` runs them with one growth after the other
 //! refused: it then sees that a refused growth gives `Memory` and nothing else.
-use mt_record::{FeedFault, LogFeed, encode_log_header, encode_record};
+use mt_record::{FeedFault, LogFeed, encode_log_header, encode_part, encode_record};
 use mt_recover::{Inputs, recover_logs, recover_one};
 use mt_scan::{MemSource, Rack};
 use mt_words::{Columns, Fault, Key, Memory, Record};
@@ -92,6 +92,11 @@ fn a_refused_growth_of_an_encoder_leaves_the_bytes(rt: HostRuntime) {
     let before = out.len();
     match encode_record(&record, &mut out) {
         Ok(()) => assert!(rt; out.len() == before.saturating_add(33)),
+        Err(Memory) => assert_eq!(rt; out.len(), before),
+    }
+    let before = out.len();
+    match encode_part(1, 2, 0, 1, 4, [].as_slice(), &mut out) {
+        Ok(()) => assert!(rt; out.len() == before.saturating_add(36)),
         Err(Memory) => assert_eq!(rt; out.len(), before),
     }
 }
