@@ -95,7 +95,8 @@ fn a_refused_growth_of_an_encoder_leaves_the_bytes(rt: HostRuntime) {
         Err(Memory) => assert_eq!(rt; out.len(), before),
     }
     let before = out.len();
-    match encode_part(1, 2, 0, 1, 4, [].as_slice(), &mut out) {
+    let entries = Vec::new(rt.alloc());
+    match encode_part(1, 2, 0, 1, 4, &entries, &mut out) {
         Ok(()) => assert!(rt; out.len() == before.saturating_add(36)),
         Err(Memory) => assert_eq!(rt; out.len(), before),
     }
