@@ -20,22 +20,22 @@ use Rattle.mt_record.proofs.Held.{tops_length}
 -- ---- eight bytes are a number
 
 -- each number is a byte, and so is what is read past the end
-abbrev AreBytes : List ℕ → Type 0
+abbrev pub AreBytes : List ℕ → Type 0
 AreBytes xs = (i : ℕ) → get_or xs i 0 < 256
 
 -- the first part of bytes is bytes
-bytes_front : (a b : List ℕ) → AreBytes (a ++ b) → AreBytes a
+pub bytes_front : (a b : List ℕ) → AreBytes (a ++ b) → AreBytes a
 bytes_front [] b h i = omega arith
 bytes_front (x ∷ a) b h zero = h zero
 bytes_front (x ∷ a) b h (suc i) = bytes_front a b (λ j. h (suc j)) i
 
 -- the last part of bytes is bytes
-bytes_back : (a b : List ℕ) → AreBytes (a ++ b) → AreBytes b
+pub bytes_back : (a b : List ℕ) → AreBytes (a ++ b) → AreBytes b
 bytes_back [] b h = h
 bytes_back (x ∷ a) b h = bytes_back a b (λ j. h (suc j))
 
 -- zeros behind bytes are bytes too
-bytes_padded : (a : List ℕ) (k : ℕ) → AreBytes a → AreBytes (a ++ replicate k 0)
+pub bytes_padded : (a : List ℕ) (k : ℕ) → AreBytes a → AreBytes (a ++ replicate k 0)
 bytes_padded [] zero h i = omega arith
 bytes_padded [] (suc k) h zero = omega arith
 bytes_padded [] (suc k) h (suc i) = bytes_padded [] k h i
@@ -43,7 +43,7 @@ bytes_padded (x ∷ a) k h zero = h zero
 bytes_padded (x ∷ a) k h (suc i) = bytes_padded a k (λ j. h (suc j)) i
 
 -- eight bytes are those of a number
-eight : (xs : List ℕ) → length xs ≡ 8 → AreBytes xs → (n : ℕ) × (n < 2 ^ 64) × (big_bytes 8 n ≡ xs)
+pub eight : (xs : List ℕ) → length xs ≡ 8 → AreBytes xs → (n : ℕ) × (n < 2 ^ 64) × (big_bytes 8 n ≡ xs)
 eight xs long small = (big_from 0 8 xs, big_from-lt 0 8 xs small, be_bytes_8 xs (big_from 0 8 xs) long small (omega arith))
 
 -- ---- bytes that begin as a header does

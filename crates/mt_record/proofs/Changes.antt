@@ -1,8 +1,8 @@
 -- The fields of a change, and what its kind carries.
-use Rattle.std.proofs.Common.{◌≡◌, ◌↔◌, ℕ, suc, ◌-◌, ◌<◌, ◌^◌, List, [], ◌∷◌, ◌++◌, length, take, drop, refl, sym, ap, ◌∙◌, arith}
+use Rattle.std.proofs.Common.{◌≡◌, ◌↔◌, ◌⊎◌, inl, inr, ℕ, suc, ◌-◌, ◌<◌, ◌^◌, List, [], ◌∷◌, ◌++◌, length, take, drop, refl, sym, ap, ◌∙◌, arith}
 use Rattle.std.proofs.lemmas.List.{take_all}
 use Rattle.std.specs.Prelude.{slice_index}
-use Rattle.std.specs.List.{flat_map}
+use Rattle.std.specs.List.{flat_map, AllByRecursion}
 use Rattle.byteorder.specs.Endian.{big_bytes}
 use Rattle.mt_words.specs.declared.record.Change.{Change}
 use Rattle.mt_words.specs.declared.update.Kind.{Kind as AnyKind}
@@ -12,44 +12,78 @@ use Rattle.mt_words.specs.Words.{IsKey}
 use Rattle.mt_record.specs.declared.body.ChangeFields.{ChangeFields}
 use Rattle.mt_record.specs.declared.frame.RecordFault.{RecordFault}
 use Rattle.mt_record.specs.declared.frame.RecordFault.TheVariants as faults
-use Rattle.mt_record.specs.Spelling.{counted, column_bytes, kind_bytes}
+use Rattle.mt_record.specs.Spelling.{counted, column_bytes, kind_bytes, FitsColumn}
 use Rattle.mt_record.specs.LogFaults.{HasColumnsFault}
-use Rattle.mt_record.specs.Bodies.{IsNoChange, IsChangeWith, IsChangeFault, IsKindOf, HasKind, IsKindFault, AreChangeFields, HasColumns, AreSpelled, IsColumnsFault}
+use Rattle.mt_record.specs.Bodies.{IsNoChange, IsChangeWith, IsChangeFault, IsKindOf, HasKind, IsKindFault, AreChangeFields, HasColumns, AreSpelled, IsColumnsFault, IsSomeFault}
 use Rattle.mt_record.proofs.Unique.{apart, same_number, same_counted}
 
 -- ---- kinds
 
 -- spelled columns are what a put of them carries
 pub put_of_columns : (count : ℕ) (bytes : List ℕ) (cs : List (ℕ × List ℕ)) → count < 2 ^ 8 → AreSpelled count bytes cs → IsKindOf 1 (count ∷ bytes) (Put cs)
-put_of_columns count bytes cs fits s = record {
-  logged = tt;
-  code = refl;
-  spelled = λ i. sym s.number i ∷ s.spelled i;
-  fits = (omega (arith, s.number), s.fits);
-}
+put_of_columns count bytes cs fits s = record { code = refl; spelled = λ i. sym s.number i ∷ s.spelled i; fits = (omega (arith, s.number), s.fits) }
 
--- what a kind with the byte of a put carries is its columns
-pub columns_of_put : (count : ℕ) (bytes : List ℕ) → HasKind 1 (count ∷ bytes) → HasColumns count bytes
-columns_of_put count bytes (Put cs, is) =
-    let number : length cs ≡ count = ap (λ (x : List ℕ). slice_index x 0) (sym is.spelled) in
-    let texts : bytes ≡ flat_map column_bytes cs = ap (drop 1) is.spelled in
-    (cs, record { number = number; spelled = texts; fits = is.fits.1 })
-columns_of_put count bytes (Remove, is) = absurd (apart 1 2 (omega arith) (sym is.code))
-columns_of_put count bytes (Whole cs, is) = absurd is.logged
+-- and what a whole of them carries
+pub whole_of_columns : (count : ℕ) (bytes : List ℕ) (cs : List (ℕ × List ℕ)) → count < 2 ^ 8 → AreSpelled count bytes cs → IsKindOf 0 (count ∷ bytes) (Whole cs)
+whole_of_columns count bytes cs fits s = record { code = refl; spelled = λ i. sym s.number i ∷ s.spelled i; fits = (omega (arith, s.number), s.fits) }
 
--- bytes are columns behind their number where they are what a kind with the byte of a put carries
-pub columns_are_put : (byte : ℕ) (bytes : List ℕ) → byte ≡ 1 → 0 < length bytes → slice_index bytes 0 < 2 ^ 8
+-- columns behind their number
+carried_columns : (count : ℕ) (bytes : List ℕ) (cs : List (ℕ × List ℕ)) → count ∷ bytes ≡ length cs ∷ flat_map column_bytes cs → AllByRecursion FitsColumn cs → HasColumns count bytes
+carried_columns count bytes cs e fits =
+    (cs, record { number = ap (λ (x : List ℕ). slice_index x 0) (sym e); spelled = ap (drop 1) e; fits = fits })
+
+-- the byte of kinds that carry columns
+abbrev pub HasColumnsByte : ℕ → Type 0
+HasColumnsByte byte = (byte ≡ 1) ⊎ (byte ≡ 0)
+
+-- what a kind with such a byte carries is its columns
+pub columns_of_kind : (byte count : ℕ) (bytes : List ℕ) → HasColumnsByte byte → HasKind byte (count ∷ bytes) → HasColumns count bytes
+columns_of_kind byte count bytes is (Put cs, of) = carried_columns count bytes cs of.spelled of.fits.1
+columns_of_kind byte count bytes (inl one) (Remove, of) = absurd (apart 1 2 (omega arith) (sym (of.code ∙ one)))
+columns_of_kind byte count bytes (inr none) (Remove, of) = absurd (apart 0 2 (omega arith) (sym (of.code ∙ none)))
+columns_of_kind byte count bytes is (Whole cs, of) = carried_columns count bytes cs of.spelled of.fits.1
+
+-- columns behind their number are what a kind with such a byte carries
+kind_of_columns : (byte count : ℕ) (bytes : List ℕ) → HasColumnsByte byte → count < 2 ^ 8 → HasColumns count bytes → HasKind byte (count ∷ bytes)
+kind_of_columns byte count bytes (inl one) fits h = rw one (Put h.0, put_of_columns count bytes h.0 fits h.1)
+kind_of_columns byte count bytes (inr none) fits h = rw none (Whole h.0, whole_of_columns count bytes h.0 fits h.1)
+
+-- bytes are columns behind their number where they are what a kind with such a byte carries
+pub columns_are_kind : (byte : ℕ) (bytes : List ℕ) → HasColumnsByte byte → 0 < length bytes → slice_index bytes 0 < 2 ^ 8
     → HasColumns (slice_index bytes 0) (take (length bytes - 1) (drop 1 bytes)) ↔ HasKind byte bytes
-columns_are_put byte [] is some fits = absurd (omega (arith, some))
-columns_are_put byte (count ∷ bytes) is some fits =
+columns_are_kind byte [] is some fits = absurd (omega (arith, some))
+columns_are_kind byte (count ∷ bytes) is some fits =
     let whole : take (suc (length bytes) - 1) bytes ≡ bytes = take_all (suc (length bytes) - 1) bytes (omega arith) in
-    rw (whole, is) (λ h. (Put h.0, put_of_columns count bytes h.0 fits h.1), columns_of_put count bytes)
+    rw whole (kind_of_columns byte count bytes is fits, columns_of_kind byte count bytes is)
+
+-- columns that may not stand together may not stand together as some
+pub some_fault : (limits : Limits) (count : ℕ) (bytes : List ℕ) (e : RecordFault) → IsColumnsFault limits count bytes e → IsSomeFault limits count bytes e
+some_fault limits count bytes faults.Memory h = tt
+some_fault limits count bytes (faults.Wrong what) h = (h.0, h.1, h.2, λ are some. h.3 are)
 
 -- columns that are refused make the put refused
-pub columns_fault : (limits : Limits) (count : ℕ) (bytes : List ℕ) → count < 2 ^ 8 → (e : RecordFault) → IsColumnsFault limits count bytes e
+put_fault : (limits : Limits) (count : ℕ) (bytes : List ℕ) → count < 2 ^ 8 → (e : RecordFault) → IsSomeFault limits count bytes e
     → IsKindFault limits 1 (count ∷ bytes) e
-columns_fault limits count bytes fits faults.Memory h = tt
-columns_fault limits count bytes fits (faults.Wrong what) h = (h.0, Put h.1, put_of_columns count bytes h.1 fits h.2, λ allowed. h.3 allowed.0)
+put_fault limits count bytes fits faults.Memory h = tt
+put_fault limits count bytes fits (faults.Wrong what) h = (h.0, Put h.1, put_of_columns count bytes h.1 fits h.2, λ allowed. h.3 allowed.0 allowed.1)
+
+-- and the whole
+whole_fault : (limits : Limits) (count : ℕ) (bytes : List ℕ) → count < 2 ^ 8 → (e : RecordFault) → IsSomeFault limits count bytes e
+    → IsKindFault limits 0 (count ∷ bytes) e
+whole_fault limits count bytes fits faults.Memory h = tt
+whole_fault limits count bytes fits (faults.Wrong what) h = (h.0, Whole h.1, whole_of_columns count bytes h.1 fits h.2, λ allowed. h.3 allowed.0 allowed.1)
+
+-- columns that are refused behind their number make the kind of such a byte refused
+pub columns_fault : (limits : Limits) (byte : ℕ) (bytes : List ℕ) → HasColumnsByte byte → 0 < length bytes → slice_index bytes 0 < 2 ^ 8 → (e : RecordFault)
+    → IsSomeFault limits (slice_index bytes 0) (take (length bytes - 1) (drop 1 bytes)) e → IsKindFault limits byte bytes e
+columns_fault limits byte [] is some fits e h = absurd (omega (arith, some))
+columns_fault limits byte (count ∷ bytes) is some fits e h =
+    let whole : take (suc (length bytes) - 1) bytes ≡ bytes = take_all (suc (length bytes) - 1) bytes (omega arith) in
+    let all = rw whole at h in
+    elim is as (λ _. IsKindFault limits byte (count ∷ bytes) e) [
+      | inl one ↦ rw one (put_fault limits count bytes fits e all)
+      | inr none ↦ rw none (whole_fault limits count bytes fits e all)
+    ]
 
 -- ---- fields
 
@@ -62,7 +96,7 @@ pub of_change : (code : ℕ) (bytes : List ℕ) (f : ChangeFields) (P : Change �
     → P (change_of f kind) → IsChangeWith code bytes P
 of_change code bytes f P are kind is holds = (
   change_of f kind,
-  ((are.version_fits, are.key_fits, is.fits), is.logged),
+  (are.version_fits, are.key_fits, is.fits),
   is.code,
   are.spelled ∙ ap (λ (x : List ℕ). big_bytes 8 f.version ++ (counted f.key.now ++ x)) is.spelled,
   holds,
@@ -79,6 +113,6 @@ kind_fault limits code bytes f are version key (faults.Wrong what) h =
 pub no_change : (code version : ℕ) (bytes a b key : List ℕ) → version < 2 ^ 64 → length key < 2 ^ 16 → bytes ≡ big_bytes 8 version ++ a → a ≡ counted key ++ b
     → (HasKind code b → ⊥) → IsNoChange code bytes
 no_change code version bytes a b key fits_version fits_key ea eb none change fits same e =
-    let s1 = same_number 8 version change.version a (counted change.key ++ kind_bytes change.kind) fits_version fits.0.0 (sym ea ∙ e) in
-    let s2 = same_counted key change.key b (kind_bytes change.kind) fits_key fits.0.1 (sym eb ∙ s1.1) in
-    none (change.kind, record { logged = fits.1; code = same; spelled = s2.1; fits = fits.0.2 })
+    let s1 = same_number 8 version change.version a (counted change.key ++ kind_bytes change.kind) fits_version fits.0 (sym ea ∙ e) in
+    let s2 = same_counted key change.key b (kind_bytes change.kind) fits_key fits.1 (sym eb ∙ s1.1) in
+    none (change.kind, record { code = same; spelled = s2.1; fits = fits.2 })

@@ -1,12 +1,14 @@
 -- Entries of checkpoints, and the parts that they stand in.
-use Rattle.std.proofs.Common.{◌≡◌, ◌∙◌, ℕ, suc, ◌+◌, ◌<◌, ◌≤◌, List, [], ◌∷◌, ◌++◌, length, take, get_or, sym, ap, arith}
+use Rattle.std.proofs.Common.{◌≡◌, ◌∙◌, ℕ, suc, ◌+◌, ◌^◌, ◌<◌, ◌≤◌, List, [], ◌∷◌, ◌++◌, length, take, get_or, sym, ap, arith}
 use Rattle.std.proofs.Math.Seq.{take-suc}
 use Rattle.std.specs.List.{flat_map}
 use Rattle.std.proofs.lemmas.List.{length-append, flat_map_more}
 use Rattle.mt_words.specs.declared.record.Change.{Change}
 use Rattle.mt_words.specs.declared.update.Kind.{Kind}
 use Rattle.mt_words.specs.declared.update.Kind.TheVariants.{Put, Remove, Whole}
-use Rattle.mt_words.specs.Limits.{Limits}
+use Rattle.mt_words.specs.declared.limits.Format.{Format}
+use Rattle.mt_words.specs.declared.limits.Format.TheVariants.{One}
+use Rattle.mt_words.specs.Limits.{Limits, limits_of}
 use Rattle.mt_words.specs.Changes.{AllowsKind, IsWhole, IsEntry}
 use Rattle.mt_record.specs.Spelling.{column_bytes, kind_bytes, change_bytes}
 use Rattle.mt_record.specs.Parts.{entry_spelling, IsEntryLength}
@@ -29,6 +31,10 @@ entry_length limits change entry =
     let most = kind_length limits change.kind entry.0.kind in
     let fields = length-append change.key (kind_bytes change.kind) in
     (omega (arith, least, fields), omega (arith, most, fields, entry.0.key))
+
+-- the length of an entry is short enough for its four bytes
+pub short_entry : (format : Format) (n : ℕ) → IsEntryLength (limits_of format) n → n < 2 ^ 32
+short_entry One n is = omega arith
 
 -- ---- parts
 

@@ -2,13 +2,14 @@
 use Rattle.std.proofs.Common.{◌≡◌, ◌≢◌, ℕ, ◌^◌, ◌<◌, List, ◌++◌, length, take, drop, sym, ap, ◌∙◌, append_assoc}
 use Rattle.std.proofs.lemmas.List.{take-append-drop}
 use Rattle.byteorder.specs.Endian.{big_bytes}
+use Rattle.mt_words.specs.declared.fault.What.{What}
 use Rattle.mt_words.specs.declared.fault.What.TheVariants.{Length, Trailer, Kind, Frame, Version, Key, Columns, Clock}
 use Rattle.mt_words.specs.Limits.{Limits}
 use Rattle.mt_record.specs.declared.frame.RecordFault.{RecordFault}
 use Rattle.mt_record.specs.declared.frame.RecordFault.TheVariants as faults
 use Rattle.mt_record.specs.Spelling.{framed, IsRecordLength}
-use Rattle.mt_record.specs.LogFaults.{RestFault}
-use Rattle.mt_record.specs.Bodies.{IsBodyFault, IsRestFault}
+use Rattle.mt_record.specs.LogFaults.{HasTrailerFault}
+use Rattle.mt_record.specs.Bodies.{IsBodyFault, IsRestFault, IsFrameFault}
 
 -- a list in two parts
 pub parts : (n : ℕ) (bytes front back : List ℕ) → front ≡ take n bytes → back ≡ drop n bytes → bytes ≡ front ++ back
@@ -36,10 +37,10 @@ body_fault limits low rest bytes more (faults.Wrong Key) is e h = (bytes, more, 
 body_fault limits low rest bytes more (faults.Wrong Columns) is e h = (bytes, more, is, e, h)
 body_fault limits low rest bytes more (faults.Wrong Clock) is e h = (bytes, more, is, e, h)
 
--- another number behind the body is the rest's fault
-pub trailer_fault : (limits : Limits) (low : ℕ) (rest a b c text : List ℕ) (n trailer : ℕ) → IsRecordLength limits n → rest ≡ big_bytes 4 n ++ a
-    → a ≡ text ++ b → b ≡ big_bytes 4 trailer ++ c → length text ≡ n → trailer < 2 ^ 32 → (trailer ≢ n) → RestFault Trailer limits low rest
-trailer_fault limits low rest a b c text n trailer is ea eb ec number small differ = (
+-- another number behind the text is the frame's fault
+pub trailer_fault : (IsLength : ℕ → Type 0) (rest a b c text : List ℕ) (n trailer : ℕ) → IsLength n → rest ≡ big_bytes 4 n ++ a
+    → a ≡ text ++ b → b ≡ big_bytes 4 trailer ++ c → length text ≡ n → trailer < 2 ^ 32 → (trailer ≢ n) → HasTrailerFault IsLength rest
+trailer_fault IsLength rest a b c text n trailer is ea eb ec number small differ = (
   text,
   trailer,
   c,
@@ -50,3 +51,14 @@ trailer_fault limits low rest a b c text n trailer is ea eb ec number small diff
       ∙ ap (λ (x : List ℕ). big_bytes 4 n ++ x) (eb ∙ ap (λ (x : List ℕ). text ++ x) ec)
       ∙ ap (λ (k : ℕ). big_bytes 4 k ++ (text ++ (big_bytes 4 trailer ++ c))) (sym number),
 )
+
+-- a frame's fault is that of the rest that it begins
+pub frame_fault : (limits : Limits) (low : ℕ) (rest : List ℕ) (what : What) → IsFrameFault (IsRecordLength limits) rest what → IsRestFault limits low rest (faults.Wrong what)
+frame_fault limits low rest Length h = h
+frame_fault limits low rest Trailer h = h
+frame_fault limits low rest Kind h = absurd h
+frame_fault limits low rest Frame h = absurd h
+frame_fault limits low rest Version h = absurd h
+frame_fault limits low rest Key h = absurd h
+frame_fault limits low rest Columns h = absurd h
+frame_fault limits low rest Clock h = absurd h

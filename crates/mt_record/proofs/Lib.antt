@@ -6,12 +6,17 @@ pub mod Frames
 pub mod Records
 pub mod Encoding
 pub mod Entries
+pub mod EntryTexts
 pub mod OneFault
 pub mod OneLog
 pub mod OneReading
 pub mod OnePart
+pub mod OnePartFault
 pub mod Vectors
 pub mod Beginnings
+pub mod PartBeginnings
+pub mod PartItems
+pub mod PartFeeds
 pub mod Feeds
 pub mod Held
 pub mod MoreBytes

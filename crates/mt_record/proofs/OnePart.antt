@@ -12,30 +12,16 @@ use Rattle.mt_words.specs.declared.update.Kind.TheVariants.{Put, Remove, Whole}
 use Rattle.mt_words.specs.Limits.{limits_of}
 use Rattle.mt_words.specs.Changes.{IsWhole, IsEntry}
 use Rattle.mt_record.specs.Spelling.{code_of, change_bytes, FitsChange}
-use Rattle.mt_record.specs.Parts.{PartHead, part_head_bytes, IsPartHead, entry_spelling, footer_bytes, part_bytes, IsPart, IsEntryLength}
+use Rattle.mt_record.specs.declared.part_text.PartHead.{PartHead}
+use Rattle.mt_record.specs.Parts.{part_head_bytes, IsPartHead, entry_spelling, footer_bytes, part_bytes, IsPart, IsEntryLength}
 use Rattle.mt_record.proofs.Unique.{same_split, same_number, same_change, same_framed, framed_apart}
-use Rattle.mt_record.proofs.Lawful.{key_room, kind_fits}
-use Rattle.mt_record.proofs.Entries.{entry_length}
+use Rattle.mt_record.proofs.Entries.{entry_length, short_entry}
+use Rattle.mt_record.proofs.EntryTexts.{entry_fits, whole_code}
 
 -- ---- entries
 
--- an entry fits its fields
-entry_fits : (format : Format) (change : Change) → IsEntry (limits_of format) change → FitsChange change
-entry_fits format change entry =
-    let key = key_room format in
-    (entry.0.version_fits, omega (arith, entry.0.key, key), kind_fits format change.kind entry.0.kind)
-
--- wholes have one byte
-whole_code : (kind : Kind) → IsWhole kind → code_of kind ≡ 0
-whole_code (Put columns) whole = absurd whole
-whole_code Remove whole = absurd whole
-whole_code (Whole columns) whole = refl
-
-short_entry : (format : Format) (n : ℕ) → IsEntryLength (limits_of format) n → n < 2 ^ 32
-short_entry One n is = omega arith
-
 -- one entry begins the bytes
-same_entry : (format : Format) (a b : Change) (x y : List ℕ) → IsEntry (limits_of format) a → IsEntry (limits_of format) b
+pub same_entry : (format : Format) (a b : Change) (x y : List ℕ) → IsEntry (limits_of format) a → IsEntry (limits_of format) b
     → entry_spelling a ++ x ≡ entry_spelling b ++ y → (a ≡ b) × (x ≡ y)
 same_entry format a b x y is_a is_b e =
     let short_a = short_entry format (length (change_bytes a)) (entry_length (limits_of format) a is_a) in
@@ -76,7 +62,7 @@ same_rest (x ∷ xs) (o ∷ os) end fin m n are too fits_end fits_fin e =
     (λ i. first.0 i ∷ rest.0 i, rest.1)
 
 -- one header begins the bytes
-same_head : (a b : PartHead) (x y : List ℕ) → IsPartHead a → IsPartHead b → part_head_bytes a ++ x ≡ part_head_bytes b ++ y → (a ≡ b) × (x ≡ y)
+pub same_head : (a b : PartHead) (x y : List ℕ) → IsPartHead a → IsPartHead b → part_head_bytes a ++ x ≡ part_head_bytes b ++ y → (a ≡ b) × (x ≡ y)
 same_head a b x y is_a is_b e =
     let split = same_split (part_head_bytes a) (part_head_bytes b) x y refl e in
     let fields_a = big_bytes 8 a.begin ++ (big_bytes 2 a.part ++ big_bytes 2 a.parts) in

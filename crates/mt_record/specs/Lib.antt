@@ -3,7 +3,10 @@ pub mod Heads
 pub mod Logs
 pub mod LogFaults
 pub mod Parts
+pub mod PartFaults
 pub mod Bodies
 pub mod Adding
 pub mod Feeding
+pub mod PartFeeding
 pub mod Pieces
+pub mod PartPieces

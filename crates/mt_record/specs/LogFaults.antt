@@ -45,11 +45,19 @@ BodyFault Key limits low bytes = IsBodyOfChange bytes (HasKeyFault limits)
 BodyFault Columns limits low bytes = IsBodyOfChange bytes (HasColumnsFault limits)
 BodyFault Clock limits low bytes = (r : Logged) × IsLawful limits r × (bytes ≡ body r) × (r.timestamp < low)
 
+-- a length stands at the front that nothing framed has
+abbrev pub HasLengthFault : (ℕ → Type 0) → List ℕ → Type 0
+HasLengthFault IsLength rest = (n : ℕ) × (more : List ℕ) × (n < 2 ^ 32) × (rest ≡ big_bytes 4 n ++ more) × (IsLength n → ⊥)
+
+-- another length follows the bytes that are framed
+abbrev pub HasTrailerFault : (ℕ → Type 0) → List ℕ → Type 0
+HasTrailerFault IsLength rest = (bytes : List ℕ) × (n : ℕ) × (more : List ℕ) × IsLength (length bytes) × (n < 2 ^ 32) × (n ≢ length bytes)
+    × (rest ≡ big_bytes 4 (length bytes) ++ (bytes ++ (big_bytes 4 n ++ more)))
+
 -- the first fault of what follows the records
 abbrev pub RestFault : What → Limits → ℕ → List ℕ → Type 0
-RestFault Length limits low rest = (n : ℕ) × (more : List ℕ) × (n < 2 ^ 32) × (rest ≡ big_bytes 4 n ++ more) × (IsRecordLength limits n → ⊥)
-RestFault Trailer limits low rest = (bytes : List ℕ) × (n : ℕ) × (more : List ℕ) × IsRecordLength limits (length bytes) × (n < 2 ^ 32) × (n ≢ length bytes)
-    × (rest ≡ big_bytes 4 (length bytes) ++ (bytes ++ (big_bytes 4 n ++ more)))
+RestFault Length limits low rest = HasLengthFault (IsRecordLength limits) rest
+RestFault Trailer limits low rest = HasTrailerFault (IsRecordLength limits) rest
 RestFault what limits low rest = (bytes : List ℕ) × (more : List ℕ) × IsRecordLength limits (length bytes) × (rest ≡ framed bytes ++ more) × BodyFault what limits low bytes
 
 -- a header and these records begin the bytes, and then a fault follows

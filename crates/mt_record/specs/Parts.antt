@@ -7,15 +7,11 @@ use Rattle.mt_words.specs.declared.record.Change.{Change}
 use Rattle.mt_words.specs.Limits.{Limits, limits_of}
 use Rattle.mt_words.specs.declared.limits.Format.TheVariants.{One}
 use Rattle.mt_words.specs.Changes.{IsEntry}
+use Rattle.mt_record.specs.declared.part_text.PartHead.{PartHead}
+use Rattle.mt_record.specs.declared.part_text.PartText.{PartText}
 use Rattle.mt_record.specs.Spelling.{change_bytes, framed}
 
 -- the header of a part: the number of its checkpoint, where that begins, the part's own number, and how many parts there are
-pub record PartHead : Type 0 where
-  pub number : ℕ
-  pub begin : ℕ
-  pub part : ℕ
-  pub parts : ℕ
-
 abbrev pub part_head : ℕ → ℕ → ℕ → ℕ → PartHead
 part_head number begin part parts = record { number = number; begin = begin; part = part; parts = parts }
 
@@ -55,3 +51,20 @@ pub record IsPart (bytes : List ℕ) (head : PartHead) (entries : List Change) (
   pub lawful : AllByRecursion (IsEntry (limits_of One)) entries
   pub fits : end < 2 ^ 64
   pub count : length entries < 2 ^ 32
+
+-- what a part says
+pub record PartReading : Type 0 where
+  pub head : PartHead
+  pub entries : List Change
+  pub end : ℕ
+
+abbrev pub IsPartReading : List ℕ → PartReading → Type 0
+IsPartReading bytes part = IsPart bytes part.head part.entries part.end
+
+-- what the text of a part shows
+abbrev pub shown_by : PartText → PartReading
+shown_by text = record { head = part_head text.number text.begin text.part text.parts; entries = text.entries.items; end = text.end }
+
+-- the text of the part that the bytes are
+abbrev pub IsPartText : List ℕ → PartText → Type 0
+IsPartText bytes text = IsPartReading bytes (shown_by text)

@@ -1,13 +1,14 @@
-//! The body of a record: what stands between its two lengths.
-ghost use Rattle.std.specs.Prelude.{◌≡◌, ◌<◌, ◌↔◌, ◌∷◌, ℕ, Some, IfOk, IfErr, IfSome, IfNone, IsTrue};
+//! The body of a record and that of an entry: what stands between the two lengths.
+ghost use Rattle.std.specs.Prelude.{◌≡◌, ◌<◌, ◌↔◌, ◌∷◌, ℕ, Some, IfOk, IfErr, IfSome, IfNone, IsTrue, length};
 ghost use Rattle.mt_words.specs.Limits.{limits_of};
 ghost use Rattle.mt_words.specs.declared.limits.Format.TheVariants.{One};
 ghost use Rattle.mt_words.specs.Changes.{IsLoggedChange, changed};
-ghost use Rattle.mt_record.specs.Bodies.{IsBodyOf, IsBodyFault, IsChangeOf, IsChangeFault, AreChangeFields, IsNoChange, HasKind, IsAllowedKind, IsKindFault, HasColumns, AreSpelled, IsColumnsFault};
+ghost use Rattle.mt_record.specs.PartPieces.{IsEntryText, IsNoEntryText};
+ghost use Rattle.mt_record.specs.Bodies.{IsBodyOf, IsBodyFault, IsChangeOf, IsChangeFault, AreChangeFields, IsNoChange, HasKind, IsAllowedKind, IsKindFault, HasColumns, AreSpelled, IsColumnsFault, IsSomeFault};
 
 use crate::fields::{column_at, counted_at, u64_at};
 use crate::frame::RecordFault;
-use mt_words::{Change, Columns, Key, Kind, Record, What};
+use mt_words::{Change, Columns, Entry, Key, Kind, Record, What};
 use std::alloc::Global;
 
 /// The byte of a put.
@@ -78,6 +79,21 @@ fn record_of(timestamp: u64, change: Change) -> Record
     record
 }
 
+/// The entry whose fields the bytes are.
+pub fn read_entry(alloc: Global, bytes: &[u8]) -> Result<Entry, RecordFault>
+    ensures found { IfOk result (IsEntryText bytes.now) }
+    ensures fault { IfErr result (IsNoEntryText bytes.now) }
+{
+    let Change { version, key, kind } = read_change(alloc, WHOLE, bytes)?;
+    let Kind::Whole(columns) = kind else {
+        unreachable!();
+    };
+    let Some(entry) = Entry::new(version, key, columns) else {
+        unreachable!();
+    };
+    Ok(entry)
+}
+
 /// The change that the bytes are, of the kind of this byte. All faults are tested in their order, and the key and the
 /// values are copied here, once.
 fn read_change(alloc: Global, code: u8, bytes: &[u8]) -> Result<Change, RecordFault>
@@ -124,6 +140,7 @@ fn has_kind(code: u8, bytes: &[u8]) -> bool
 {
     match (code, bytes) {
         (PUT, [count, columns @ ..]) => has_columns(*count, columns),
+        (WHOLE, [count, columns @ ..]) => has_columns(*count, columns),
         (REMOVE, []) => true,
         _ => false,
     }
@@ -136,23 +153,24 @@ fn read_kind(alloc: Global, code: u8, bytes: &[u8]) -> Result<Kind, RecordFault>
     ensures fault { IfErr result (IsKindFault (limits_of One) code bytes.now) }
 {
     match (code, bytes) {
-        (PUT, [count, columns @ ..]) => read_put(alloc, *count, columns),
+        (PUT, [count, columns @ ..]) => Ok(Kind::Put(read_some(alloc, *count, columns)?)),
+        (WHOLE, [count, columns @ ..]) => Ok(Kind::Whole(read_some(alloc, *count, columns)?)),
         (REMOVE, []) => Ok(Kind::Remove),
         _ => unreachable!(),
     }
 }
 
-/// The put of the columns that the bytes are.
-fn read_put(alloc: Global, count: u8, bytes: &[u8]) -> Result<Kind, RecordFault>
+/// The columns that the bytes are, of which there is at least one.
+fn read_some(alloc: Global, count: u8, bytes: &[u8]) -> Result<Columns, RecordFault>
     requires { HasColumns count bytes.now }
-    ensures found { IfOk result (IsAllowedKind (limits_of One) PUT (count ∷ bytes.now)) }
-    ensures fault { IfErr result (IsKindFault (limits_of One) PUT (count ∷ bytes.now)) }
+    ensures found { IfOk result (λ columns. AreSpelled count bytes.now columns × (0 < length columns)) }
+    ensures fault { IfErr result (IsSomeFault (limits_of One) count bytes.now) }
 {
     let columns = read_columns(alloc, count, bytes)?;
     if columns.is_empty() {
         return Err(RecordFault::Wrong(What::Columns));
     }
-    Ok(Kind::Put(columns))
+    Ok(columns)
 }
 
 /// Whether the bytes are just so many columns.

@@ -7,17 +7,9 @@ ghost use Rattle.mt_record.specs.Spelling.{change_bytes};
 ghost use Rattle.mt_record.specs.Parts.{part_head, part_head_bytes, part_bytes, entry_spelling, footer_bytes, IsEntryLength};
 
 use crate::encode::{change_length, put_change};
+use crate::part_head::{FOOTER_BYTES, PART_HEADER_BYTES, PART_MAGIC};
 use crate::put::{put_bytes, put_u16, put_u32, put_u64};
 use mt_words::{Entry, Memory};
-
-/// What the header of a part begins with.
-const PART_MAGIC: &[u8] = b"MTC1";
-
-/// The number of bytes of a part's header.
-const PART_HEADER_BYTES: usize = 20;
-
-/// The number of bytes of a part's footer.
-const FOOTER_BYTES: usize = 16;
 
 /// Appends a part of the checkpoint of this number, from its timestamp `begin` to its timestamp `end`: the part of
 /// number `part`, of `parts`, with these entries, of which there are fewer than 2^32. On an Err nothing is appended.

@@ -5,6 +5,17 @@ ghost use Rattle.mt_record.specs.Spelling.{counted, column_bytes, FitsColumn};
 
 use byteorder::{BigEndian, ByteOrder};
 
+/// A number of two bytes.
+pub fn u16_at(bytes: &[u8]) -> Option<(u16, &[u8])>
+    ensures found { IfSome result (λ x. (x.0 < 2 ^ 16) × (bytes.now ≡ big_bytes 2 x.0 ++ x.1.now)) }
+    ensures none { IfNone result (length bytes.now < 2) }
+{
+    if bytes.len() < 2 {
+        return None;
+    }
+    Some((BigEndian::read_u16(bytes), &bytes[2..]))
+}
+
 /// A number of four bytes.
 pub fn u32_at(bytes: &[u8]) -> Option<(u32, &[u8])>
     ensures found { IfSome result (λ x. (x.0 < 2 ^ 32) × (bytes.now ≡ big_bytes 4 x.0 ++ x.1.now)) }

@@ -9,7 +9,10 @@ ghost use Rattle.mt_record.specs.Spelling.{spelling};
 ghost use Rattle.mt_record.specs.Heads.{Head};
 ghost use Rattle.mt_record.specs.Logs.{IsLog};
 ghost use Rattle.mt_record.specs.LogFaults.{IsLogFault};
-ghost use Rattle.mt_record.specs.Parts.{PartHead, IsPart, entry_spelling};
+ghost use Rattle.mt_record.specs.declared.part_text.PartHead.{PartHead};
+ghost use Rattle.mt_record.specs.declared.part_text.PartFault.{PartFault};
+ghost use Rattle.mt_record.specs.Parts.{IsPart, entry_spelling};
+ghost use Rattle.mt_record.specs.PartFaults.{IsPartFault};
 
 /// Bytes are one log in one way, or have one fault, and never both; and no spelling of a record begins that of another
 /// one. A law: it has nothing to run.
@@ -26,12 +29,16 @@ pub fn one_reading()
         (r ≡ s) × (more ≡ []) }
 {}
 
-/// Bytes are one part of a checkpoint in one way; and no spelling of an entry begins that of another one. A law: it has
-/// nothing to run.
+/// Bytes are one part of a checkpoint in one way, or have one fault, and never both; and no spelling of an entry begins
+/// that of another one. A law: it has nothing to run.
 pub fn one_part()
     ensures one_part { (bytes : List ℕ) (head other : PartHead) (entries others : List Change) (end fin : ℕ) →
         IsPart bytes head entries end → IsPart bytes other others fin →
         (head ≡ other) × (entries ≡ others) × (end ≡ fin) }
+    ensures one_fault { (bytes : List ℕ) (fault other : PartFault) →
+        IsPartFault bytes fault → IsPartFault bytes other → fault ≡ other }
+    ensures not_both { (bytes : List ℕ) (head : PartHead) (entries : List Change) (end : ℕ) (fault : PartFault) →
+        IsPart bytes head entries end → IsPartFault bytes fault → ⊥ }
     ensures prefix_free { (format : Format) (entry other : Change) (more : List ℕ) →
         IsEntry (limits_of format) entry → IsEntry (limits_of format) other →
         entry_spelling other ≡ entry_spelling entry ++ more → (entry ≡ other) × (more ≡ []) }

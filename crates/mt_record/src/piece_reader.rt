@@ -2,12 +2,12 @@
 ghost use Rattle.std.specs.Prelude.{◌≡◌, ◌<◌, ◌++◌, [], ℕ, List, None, length, IfOk, IfErr, MatchOption};
 ghost use Rattle.std.specs.Result.{result_err};
 ghost use Rattle.mt_words.specs.Changes.{Logged};
-ghost use Rattle.mt_record.specs.declared.read.FeedFault.TheVariants.{Memory};
 ghost use Rattle.mt_record.specs.Feeding.{BeginsHeader, HasRead, HasFailed, IsFed};
-ghost use Rattle.mt_record.specs.Pieces.{feed_of, HasReadUpTo, Asks, Tops, left_over};
+ghost use Rattle.mt_record.specs.Pieces.{feed_of, HasReadUpTo, Asks, left_over};
 
 use crate::fields::u32_at;
 use crate::head::{HEADER_BYTES, begins_header, header_at};
+use crate::pieces::top_up;
 use crate::read::FeedFault;
 use crate::record_reader::RecordReader;
 use std::alloc::Global;
@@ -115,16 +115,4 @@ fn bytes_wanted(held: &[u8]) -> usize
         Some((length, _)) => length as usize + 8,
         None => 4,
     }
-}
-
-/// Moves bytes from the front of the piece to those held, until these are so many or the piece is empty; the rest of
-/// the piece.
-fn top_up<'a>(held: &mut Vec<u8>, wanted: usize, piece: &'a [u8]) -> Result<&'a [u8], FeedFault>
-    ensures tops { IfOk result (λ rest. Tops held.old.items piece.now held.new.items rest.now wanted) }
-    ensures fault { IfErr result (λ fault. fault ≡ Memory) }
-{
-    let missing = wanted.saturating_sub(held.len()).min(piece.len());
-    let (front, rest) = piece.split_at(missing);
-    held.extend_from_slice(front)?;
-    Ok(rest)
 }

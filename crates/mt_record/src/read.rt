@@ -1,11 +1,11 @@
 //! Whole logs.
 ghost use Rattle.std.specs.Prelude.{◌≡◌, IfOk, IfErr};
-ghost use Rattle.mt_record.specs.declared.read.FeedFault.TheVariants.{Memory};
+ghost use Rattle.mt_record.specs.declared.read.FeedFault.TheVariants as faults;
 ghost use Rattle.mt_record.specs.Logs.{IsTextOf};
 ghost use Rattle.mt_record.specs.LogFaults.{IsAnswered, fault_at};
 
 use crate::log_feed::LogFeed;
-use mt_words::{Fault, Record, What};
+use mt_words::{Fault, Memory, Record, What};
 use std::alloc::{AllocError, AllocFailed, Global};
 use thiserror::Error;
 
@@ -52,7 +52,7 @@ impl FeedFault {
 }
 
 impl<T: Drop> From<AllocFailed<T>> for FeedFault {
-    ghost from_gives = { λ _ fault. fault ≡ Memory };
+    ghost from_gives = { λ _ fault. fault ≡ faults.Memory };
 
     fn from(_refused: AllocFailed<T>) -> FeedFault {
         FeedFault::Memory
@@ -60,9 +60,17 @@ impl<T: Drop> From<AllocFailed<T>> for FeedFault {
 }
 
 impl From<AllocError> for FeedFault {
-    ghost from_gives = { λ _ fault. fault ≡ Memory };
+    ghost from_gives = { λ _ fault. fault ≡ faults.Memory };
 
     fn from(_refused: AllocError) -> FeedFault {
+        FeedFault::Memory
+    }
+}
+
+impl From<Memory> for FeedFault {
+    ghost from_gives = { λ _ fault. fault ≡ faults.Memory };
+
+    fn from(_refused: Memory) -> FeedFault {
         FeedFault::Memory
     }
 }

@@ -1,0 +1,123 @@
+-- The beginning of a part: a header, or bytes that begin one.
+use Rattle.std.proofs.Common.{◌≡◌, ◌⊎◌, inl, inr, ℕ, ◌+◌, ◌-◌, ◌^◌, ◌<◌, ◌≤◌, List, [], ◌∷◌, ◌++◌, length, take, drop, replicate, refl, sym, ap, ◌∙◌, subst, append_assoc, arith}
+use Rattle.std.proofs.lemmas.Bool.{cases_lt}
+use Rattle.std.proofs.lemmas.List.{length-append, append-nil, take-append-drop, length-take-le, length-drop, length-replicate}
+use Rattle.std.proofs.lemmas.Nat.{be_bytes_2, be_bytes_4}
+use Rattle.std.specs.Prelude.{codes}
+use Rattle.byteorder.specs.Endian.{big_bytes, big_from}
+use Rattle.byteorder.specs.Numbers.{big_from-lt}
+use Rattle.mt_record.specs.declared.part_text.PartHead.{PartHead}
+use Rattle.mt_record.specs.Parts.{part_head, part_head_bytes, IsPartHead}
+use Rattle.mt_record.specs.PartFaults.{HasNoPartHeader}
+use Rattle.mt_record.specs.PartFeeding.{ShowsNoPartHeader, IsCutHeader}
+use Rattle.mt_record.specs.PartPieces.{BeginsAlikePart}
+use Rattle.mt_record.proofs.Beginnings.{AreBytes, bytes_front, bytes_back, bytes_padded, eight}
+use Rattle.mt_record.proofs.MoreBytes.{apart}
+
+-- ---- sixteen bytes are the numbers of a header
+
+two : (xs : List ℕ) → length xs ≡ 2 → AreBytes xs → (n : ℕ) × (n < 2 ^ 16) × (big_bytes 2 n ≡ xs)
+two xs long small = (big_from 0 2 xs, big_from-lt 0 2 xs small, be_bytes_2 xs (big_from 0 2 xs) long small (omega arith))
+
+four : (xs : List ℕ) → length xs ≡ 4 → AreBytes xs → (n : ℕ) × (n < 2 ^ 32) × (big_bytes 4 n ≡ xs)
+four xs long small = (big_from 0 4 xs, big_from-lt 0 4 xs small, be_bytes_4 xs (big_from 0 4 xs) long small (omega arith))
+
+-- bytes in two parts
+cut : (n : ℕ) (xs : List ℕ) → n ≤ length xs → AreBytes xs
+    → (length (take n xs) ≡ n) × (length (drop n xs) ≡ length xs - n) × AreBytes (take n xs) × AreBytes (drop n xs) × (xs ≡ take n xs ++ drop n xs)
+cut n xs fits small =
+    let whole = take-append-drop n xs in
+    let both = subst AreBytes (sym whole) small in
+    (length-take-le n xs fits, length-drop n xs, bytes_front (take n xs) (drop n xs) both, bytes_back (take n xs) (drop n xs) both, sym whole)
+
+-- numbers that are the parts of bytes are those of a header
+joined : (xs a b c d e : List ℕ) (number begin part parts : ℕ) → xs ≡ a ++ b → b ≡ c ++ d → d ≡ e ++ drop 2 d → big_bytes 4 number ≡ a → big_bytes 8 begin ≡ c
+    → big_bytes 2 part ≡ e → big_bytes 2 parts ≡ drop 2 d → part_head_bytes (part_head number begin part parts) ≡ codes "MTC1" ++ xs
+joined xs a b c d e number begin part parts whole tail last is_number is_begin is_part is_parts =
+    let behind : big_bytes 2 part ++ big_bytes 2 parts ≡ d = (λ i. is_part i ++ is_parts i) ∙ sym last in
+    let middle : big_bytes 8 begin ++ (big_bytes 2 part ++ big_bytes 2 parts) ≡ b = (λ i. is_begin i ++ behind i) ∙ sym tail in
+    let all : big_bytes 4 number ++ (big_bytes 8 begin ++ (big_bytes 2 part ++ big_bytes 2 parts)) ≡ xs = (λ i. is_number i ++ middle i) ∙ sym whole in
+    λ i. codes "MTC1" ++ all i
+
+-- the bytes behind the magic number are those of a header
+sixteen : (xs : List ℕ) → length xs ≡ 16 → AreBytes xs → (head : PartHead) × IsPartHead head × (part_head_bytes head ≡ codes "MTC1" ++ xs)
+sixteen xs long small =
+    let a = cut 4 xs (omega (arith, long)) small in
+    let b = cut 8 (drop 4 xs) (omega (arith, long, a.1)) a.3 in
+    let c = cut 2 (drop 8 (drop 4 xs)) (omega (arith, long, a.1, b.1)) b.3 in
+    let number = four (take 4 xs) a.0 a.2 in
+    let begin = eight (take 8 (drop 4 xs)) b.0 b.2 in
+    let part = two (take 2 (drop 8 (drop 4 xs))) c.0 c.2 in
+    let parts = two (drop 2 (drop 8 (drop 4 xs))) (omega (arith, long, a.1, b.1, c.1)) c.3 in (
+      part_head number.0 begin.0 part.0 parts.0,
+      record { number = number.1; begin = begin.1; part = part.1; parts = parts.1 },
+      joined xs (take 4 xs) (drop 4 xs) (take 8 (drop 4 xs)) (drop 8 (drop 4 xs)) (take 2 (drop 8 (drop 4 xs))) number.0 begin.0 part.0 parts.0 a.4 b.4 c.4 number.2 begin.2 part.2 parts.2,
+    )
+
+-- ---- bytes that begin as a header does
+
+-- bytes behind the magic number begin the numbers of a header, or these begin them
+tail_alike : (bytes tail : List ℕ) → bytes ≡ codes "MTC1" ++ tail → AreBytes tail → (16 ≤ length tail) ⊎ (length tail < 16) → BeginsAlikePart bytes
+tail_alike bytes tail e small (inl long) =
+    let split = cut 16 tail long small in
+    let head = sixteen (take 16 tail) split.0 split.2 in
+    record {
+      head = head.0;
+      is_head = head.1;
+      alike = inr (drop 16 tail, e ∙ ap (λ (x : List ℕ). codes "MTC1" ++ x) split.4 ∙ ap (λ (x : List ℕ). x ++ drop 16 tail) (sym head.2));
+    }
+tail_alike bytes tail e small (inr short) =
+    let zeros = replicate (16 - length tail) 0 in
+    let long : length (tail ++ zeros) ≡ 16 = omega (arith, short, length-append tail zeros, length-replicate {A = ℕ} (16 - length tail) 0) in
+    let head = sixteen (tail ++ zeros) long (bytes_padded tail (16 - length tail) small) in
+    record {
+      head = head.0;
+      is_head = head.1;
+      alike = inl (zeros, head.2 ∙ ap (λ (x : List ℕ). x ++ zeros) (sym e));
+    }
+
+-- bytes that begin with the magic number begin as a header does
+pub magic_alike : (bytes : List ℕ) → bytes ≡ codes "MTC1" ++ drop 4 bytes → AreBytes bytes → BeginsAlikePart bytes
+magic_alike bytes e small =
+    let tail = bytes_back (codes "MTC1") (drop 4 bytes) (subst AreBytes e small) in
+    elim (cases_lt (length (drop 4 bytes)) 16) as (λ _. BeginsAlikePart bytes) [
+      | inl short ↦ tail_alike bytes (drop 4 bytes) e tail (inr short)
+      | inr long ↦ tail_alike bytes (drop 4 bytes) e tail (inl long)
+    ]
+
+-- the numbers of a header
+abbrev numbers : PartHead → List ℕ
+numbers head = big_bytes 4 head.number ++ (big_bytes 8 head.begin ++ (big_bytes 2 head.part ++ big_bytes 2 head.parts))
+
+-- bytes that begin the magic number begin as a header does
+pub part_alike : (bytes more : List ℕ) → codes "MTC1" ≡ bytes ++ more → BeginsAlikePart bytes
+part_alike bytes more e = record {
+  head = part_head 0 0 0 0;
+  is_head = record { number = omega arith; begin = omega arith; part = omega arith; parts = omega arith };
+  alike = inl (more ++ numbers (part_head 0 0 0 0), ap (λ (x : List ℕ). x ++ numbers (part_head 0 0 0 0)) e ∙ append_assoc bytes more (numbers (part_head 0 0 0 0)));
+}
+
+-- bytes that neither begin with the magic number nor begin it show that there is no header
+pub none_alike : (bytes : List ℕ) → ((more : List ℕ) → bytes ≡ codes "MTC1" ++ more → ⊥) → ((more : List ℕ) → codes "MTC1" ≡ bytes ++ more → ⊥)
+    → ShowsNoPartHeader bytes
+none_alike bytes not_magic not_part = (
+  λ head more is e. not_magic (numbers head ++ more) (e ∙ append_assoc (codes "MTC1") (numbers head) more),
+  λ head more is e. elim (apart (codes "MTC1") bytes (numbers head ++ []) more (ap (λ (x : List ℕ). codes "MTC1" ++ x) (append-nil (numbers head)) ∙ e)) as (λ _. ⊥) [
+    | inl u ↦ not_part u.0 u.1
+    | inr u ↦ not_magic u.0 u.1
+  ],
+)
+
+-- ---- the header
+
+-- a header that does not begin the bytes lacks some
+lacks : (head : PartHead) (bytes more : List ℕ) → IsPartHead head → HasNoPartHeader bytes → part_head_bytes head ≡ bytes ++ more → 0 < length more
+lacks head bytes [] is none e = absurd (none head [] is (sym (append-nil bytes) ∙ sym e ∙ sym (append-nil (part_head_bytes head))))
+lacks head bytes (x ∷ more) is none e = omega arith
+
+-- bytes that begin as a header does, and hold none, begin one
+pub cut_header : (bytes : List ℕ) → BeginsAlikePart bytes → HasNoPartHeader bytes → IsCutHeader bytes
+cut_header bytes alike none = elim alike.alike as (λ _. IsCutHeader bytes) [
+  | inl u ↦ (alike.head, u.0, alike.is_head, lacks alike.head bytes u.0 alike.is_head none u.1, u.1)
+  | inr u ↦ absurd (none alike.head u.0 alike.is_head u.1)
+]

@@ -1,0 +1,235 @@
+-- The header, the entries and the footer of a part, one after the other.
+use Rattle.std.proofs.Common.{◌≡◌, ◌≢◌, ◌⊎◌, inl, inr, ℕ, zero, suc, ◌+◌, ◌^◌, ◌<◌, ◌≤◌, Option, Some, None, List, [], ◌∷◌, ◌++◌, length, refl, sym, ap, ◌∙◌, subst, append_assoc, true, false, arith}
+use Rattle.std.proofs.lemmas.List.{length-append, append-nil}
+use Rattle.std.specs.List.{flat_map, AllByRecursion}
+use Rattle.std.specs.Option.{is_some}
+use Rattle.std.specs.Prelude.{◌==◌, codes}
+use Rattle.std.proofs.lemmas.Bool.{false≢true}
+use Rattle.std.proofs.lemmas.List.{flat_map_more}
+use Rattle.byteorder.specs.Endian.{big_bytes}
+use Rattle.mt_words.specs.declared.fault.What.{What}
+use Rattle.mt_words.specs.declared.fault.What.TheVariants.{Length, Trailer, Kind, Frame, Version, Key, Columns, Clock}
+use Rattle.mt_words.specs.declared.limits.Format.TheVariants.{One}
+use Rattle.mt_words.specs.declared.record.Change.{Change}
+use Rattle.mt_words.specs.Limits.{limits_of}
+use Rattle.mt_words.specs.Changes.{IsEntry}
+use Rattle.mt_words.proofs.Rising.{all_push}
+use Rattle.mt_record.specs.declared.part_text.PartHead.{PartHead}
+use Rattle.mt_record.specs.declared.part_text.PartFault.{PartFault}
+use Rattle.mt_record.specs.declared.part_text.PartFault.TheVariants as of_part
+use Rattle.mt_record.specs.declared.entry_reader.EntryReader.{EntryReader}
+use Rattle.mt_record.specs.Spelling.{framed, change_bytes}
+use Rattle.mt_record.specs.LogFaults.{HasTrailerFault}
+use Rattle.mt_record.specs.Bodies.{IsFrame, IsFrameFault}
+use Rattle.mt_record.specs.Parts.{part_head_bytes, IsPartHead, entry_spelling, footer_bytes, part_bytes, IsPart, IsEntryLength}
+use Rattle.mt_record.specs.PartFaults.{BeginsPart, HasNoPartHeader}
+use Rattle.mt_record.specs.PartFeeding.{ShowsNoPartHeader, HasWrongEntry, HasWrongCount, HasMore, ShowsNoPart, ShowsBroken, IsCutHeader, IsPartShown, PartSoFar, ReadsNothing, ReadsPart, ReadsUpTo, IsPartLeft}
+use Rattle.mt_record.specs.PartPieces.{BeginsAlikePart, IsTextFault, so_far}
+use Rattle.mt_record.proofs.Unique.{same_split, same_number}
+use Rattle.mt_record.proofs.Entries.{entry_length, short_entry}
+use Rattle.mt_record.proofs.PartBeginnings.{cut_header, part_alike}
+
+-- ---- what was read, by how far it came
+
+pub reads_nothing : (s : PartSoFar) (part rest : List ℕ) → s.head ≡ None → ReadsUpTo s part rest → ReadsNothing s.entries s.end part rest
+reads_nothing s part rest none reads = subst (λ (o : Option PartHead). ReadsUpTo (record s { head = o }) part rest) none reads
+
+pub reads_entries : (s : PartSoFar) (part rest : List ℕ) (head : PartHead) → s.head ≡ Some head → s.end ≡ None → ReadsUpTo s part rest → BeginsPart part head s.entries rest
+reads_entries s part rest head some none reads =
+    subst (λ (p : Option PartHead × Option ℕ). ReadsUpTo (record s { head = p.0; end = p.1 }) part rest) (λ i. (some i, none i)) reads
+
+pub reads_part : (s : PartSoFar) (part rest : List ℕ) (head : PartHead) (end : ℕ) → s.head ≡ Some head → s.end ≡ Some end → ReadsUpTo s part rest
+    → ReadsPart head s.entries end part rest
+reads_part s part rest head end some ends reads =
+    subst (λ (p : Option PartHead × Option ℕ). ReadsUpTo (record s { head = p.0; end = p.1 }) part rest) (λ i. (some i, ends i)) reads
+
+-- ---- the header
+
+-- bytes that are no beginning of a header are the fault of the header
+pub header_failed : (s : PartSoFar) (part bytes : List ℕ) → s.head ≡ None → ReadsUpTo s part bytes → ShowsNoPartHeader bytes → ShowsNoPartHeader part
+header_failed s part bytes none reads shows = subst ShowsNoPartHeader (sym (reads_nothing s part bytes none reads).all) shows
+
+-- bytes that begin as a header does, and hold none, begin one
+pub header_cut : (s : PartSoFar) (bytes : List ℕ) → s.head ≡ None → BeginsAlikePart bytes → HasNoPartHeader bytes → IsPartLeft s bytes
+header_cut s bytes none alike no_head =
+    subst (λ (o : Option PartHead). IsPartLeft (record s { head = o }) bytes) (sym none) (cut_header bytes alike no_head)
+
+-- a whole header is read
+pub header_read : (s : PartSoFar) (part bytes after : List ℕ) (head : PartHead) → s.head ≡ None → ReadsUpTo s part bytes → IsPartHead head
+    → bytes ≡ part_head_bytes head ++ after → ReadsUpTo (record s { head = Some head }) part after
+header_read s part bytes after head none reads is e =
+    let nothing = reads_nothing s part bytes none reads in
+    subst (λ (p : List Change × Option ℕ). ReadsUpTo (record { head = Some head; entries = p.0; end = p.1 }) part after)
+    (λ i. (sym nothing.none i, sym nothing.no_end i)) (record { spelled = nothing.all ∙ e; is_head = is; lawful = tt })
+
+-- ---- entries
+
+-- a fault behind the entries breaks the part
+pub broken_at : (part rest : List ℕ) (head : PartHead) (entries : List Change) → BeginsPart part head entries rest → ShowsNoPart (length entries) rest
+    → ShowsBroken part head.number (length entries)
+broken_at part rest head entries begins shown =
+    record { head = head; entries = entries; rest = rest; begins = begins; named = refl; counted = refl; shown = shown }
+
+-- one entry more is read
+pub entry_read : (part bytes after : List ℕ) (head : PartHead) (entries : List Change) (entry : Change) → BeginsPart part head entries bytes
+    → IsEntry (limits_of One) entry → bytes ≡ entry_spelling entry ++ after → BeginsPart part head (entries ++ entry ∷ []) after
+entry_read part bytes after head entries entry begins is e =
+    let joined : flat_map entry_spelling entries ++ bytes ≡ flat_map entry_spelling (entries ++ entry ∷ []) ++ after =
+    ap (λ (x : List ℕ). flat_map entry_spelling entries ++ x) e
+    ∙ sym (append_assoc (flat_map entry_spelling entries) (entry_spelling entry) after)
+    ∙ ap (λ (x : List ℕ). x ++ after) (flat_map_more entry_spelling [] entries entry) in
+    record {
+      spelled = begins.spelled ∙ ap (λ (x : List ℕ). part_head_bytes head ++ x) joined;
+      is_head = begins.is_head;
+      lawful = all_push (IsEntry (limits_of One)) entries entry begins.lawful is;
+    }
+
+-- the parts of what is framed as an entry is
+same_text : (text fields : List ℕ) (n : ℕ) → length text < 2 ^ 32 → length fields < 2 ^ 32 → n < 2 ^ 32
+    → big_bytes 4 (length text) ++ (text ++ big_bytes 4 n) ≡ framed fields → (text ≡ fields) × (n ≡ length fields)
+same_text text fields n fits_text fits_fields fits_n e =
+    let number = same_number 4 (length text) (length fields) (text ++ big_bytes 4 n) (fields ++ big_bytes 4 (length fields)) fits_text fits_fields e in
+    let split = same_split text fields (big_bytes 4 n) (big_bytes 4 (length fields)) number.0 number.1 in
+    (split.0, (same_number 4 n (length fields) [] [] fits_n fits_fields split.1).0)
+
+-- the fields of an entry are short enough for their length
+short_fields : (entry : Change) → IsEntry (limits_of One) entry → length (change_bytes entry) < 2 ^ 32
+short_fields entry is = short_entry One (length (change_bytes entry)) (entry_length (limits_of One) entry is)
+
+-- framed bytes that are the fields of no entry are a wrong entry
+pub wrong_entry : (bytes text after : List ℕ) → IsFrame (IsEntryLength (limits_of One)) bytes text after
+    → ((entry : Change) → IsEntry (limits_of One) entry → text ≢ change_bytes entry) → HasWrongEntry bytes
+wrong_entry bytes text after frame none = (
+  text,
+  length text,
+  after,
+  frame.fits,
+  omega (arith, frame.fits.1),
+  λ entry is e. none entry is (same_text text (change_bytes entry) (length text) (omega (arith, frame.fits.1)) (short_fields entry is) (omega (arith, frame.fits.1)) e).0,
+  frame.spelled,
+)
+
+-- another number behind the framed bytes makes a wrong entry too
+other_length : (bytes : List ℕ) → HasTrailerFault (IsEntryLength (limits_of One)) bytes → HasWrongEntry bytes
+other_length bytes (text, n, more, fits, small, differ, e) = (
+  text,
+  n,
+  more,
+  fits,
+  small,
+  λ entry is same.
+      let parts = same_text text (change_bytes entry) n (omega (arith, fits.1)) (short_fields entry is) small same in
+      differ (parts.1 ∙ ap length (sym parts.0)),
+  e ∙ ap (λ (x : List ℕ). big_bytes 4 (length text) ++ x) (sym (append_assoc text (big_bytes 4 n) more))
+      ∙ sym (append_assoc (big_bytes 4 (length text)) (text ++ big_bytes 4 n) more),
+)
+
+-- a length that no entry has is a wrong one, if it is not that of a footer
+other_than_zero : (bytes : List ℕ) (n : ℕ) (more : List ℕ) → bytes ≡ big_bytes 4 n ++ more → ((rest : List ℕ) → bytes ≢ big_bytes 4 0 ++ rest) → 0 < n
+other_than_zero bytes zero more e some = absurd (some more e)
+other_than_zero bytes (suc n) more e some = omega arith
+
+-- a fault of the frame is shown
+pub frame_shown : (count : ℕ) (bytes : List ℕ) (what : What) → IsFrameFault (IsEntryLength (limits_of One)) bytes what → ((rest : List ℕ) → bytes ≢ big_bytes 4 0 ++ rest)
+    → ShowsNoPart count bytes
+frame_shown count bytes Length h some = inl (h.0, h.1, h.2, other_than_zero bytes h.0 h.1 h.3 some, h.4, h.3)
+frame_shown count bytes Trailer h some = inr (inl (other_length bytes h))
+frame_shown count bytes Kind h some = absurd h
+frame_shown count bytes Frame h some = absurd h
+frame_shown count bytes Version h some = absurd h
+frame_shown count bytes Key h some = absurd h
+frame_shown count bytes Columns h some = absurd h
+frame_shown count bytes Clock h some = absurd h
+
+-- ---- the footer
+
+-- a footer that is whole ends the part
+pub footer_read : (part a b after : List ℕ) (head : PartHead) (entries : List Change) (end count : ℕ) → BeginsPart part head entries (big_bytes 4 0 ++ a)
+    → end < 2 ^ 64 → a ≡ big_bytes 8 end ++ b → count < 2 ^ 32 → b ≡ big_bytes 4 count ++ after → count ≡ length entries → ReadsPart head entries end part after
+footer_read part a b after head entries end count begins fits_end ea fits_count eb same = record {
+  part = part_bytes head entries end;
+  is_part = record { spelled = refl; is_head = begins.is_head; lawful = begins.lawful; fits = fits_end; count = omega (arith, fits_count, same) };
+  joins =
+      begins.spelled
+      ∙ ap (λ (x : List ℕ). part_head_bytes head ++ (flat_map entry_spelling entries ++ (big_bytes 4 0 ++ x))) (ea ∙ ap (λ (x : List ℕ). big_bytes 8 end ++ x) eb)
+      ∙ ap (λ (n : ℕ). part_head_bytes head ++ (flat_map entry_spelling entries ++ (footer_bytes end n ++ after))) same
+      ∙ ap (λ (x : List ℕ). part_head_bytes head ++ x) (sym (append_assoc (flat_map entry_spelling entries) (footer_bytes end (length entries)) after))
+      ∙ sym (append_assoc (part_head_bytes head) (flat_map entry_spelling entries ++ footer_bytes end (length entries)) after);
+}
+
+-- a footer with another number is a wrong one
+pub footer_shown : (a b after : List ℕ) (end count entries : ℕ) → a ≡ big_bytes 8 end ++ b → count < 2 ^ 32 → b ≡ big_bytes 4 count ++ after → count ≢ entries
+    → ShowsNoPart entries (big_bytes 4 0 ++ a)
+footer_shown a b after end count entries ea fits eb differ =
+    inr (inr (inl (end, count, after, fits, differ, ap (λ (x : List ℕ). big_bytes 4 0 ++ x) (ea ∙ ap (λ (x : List ℕ). big_bytes 8 end ++ x) eb))))
+
+-- what stands behind a part breaks it
+pub more_shown : (part rest : List ℕ) (head : PartHead) (entries : List Change) (end : ℕ) → ReadsPart head entries end part rest → 0 < length rest
+    → ShowsBroken part head.number (length entries)
+more_shown part [] head entries end reads some = absurd (omega (arith, some))
+more_shown part (byte ∷ more) head entries end reads some =
+    let is = reads.is_part in
+    let spelled : part ≡ part_head_bytes head ++ (flat_map entry_spelling entries ++ (footer_bytes end (length entries) ++ byte ∷ more)) =
+    reads.joins ∙ ap (λ (x : List ℕ). x ++ byte ∷ more) is.spelled
+    ∙ append_assoc (part_head_bytes head) (flat_map entry_spelling entries ++ footer_bytes end (length entries)) (byte ∷ more)
+    ∙ ap (λ (x : List ℕ). part_head_bytes head ++ x) (append_assoc (flat_map entry_spelling entries) (footer_bytes end (length entries)) (byte ∷ more)) in
+    broken_at part (footer_bytes end (length entries) ++ byte ∷ more) head entries (record { spelled = spelled; is_head = is.is_head; lawful = is.lawful })
+    (inr (inr (inr (end, byte, more, refl))))
+
+-- bytes that begin a footer are cut
+pub footer_cut : (s : PartSoFar) (a : List ℕ) (head : PartHead) → s.head ≡ Some head → s.end ≡ None → length a < 12 → IsPartLeft s (big_bytes 4 0 ++ a)
+footer_cut s a head some none few =
+    subst (λ (p : Option PartHead × Option ℕ). IsPartLeft (record s { head = p.0; end = p.1 }) (big_bytes 4 0 ++ a)) (λ i. (sym some i, sym none i)) (inr (inr (a, few, refl)))
+
+-- a part that was read
+pub ended : (s : PartSoFar) (part rest : List ℕ) (head : PartHead) (end : ℕ) → s.head ≡ Some head → ReadsPart head s.entries end part rest
+    → ReadsUpTo (record s { end = Some end }) part rest
+ended s part rest head end some reads = subst (λ (o : Option PartHead). ReadsUpTo (record s { head = o; end = Some end }) part rest) (sym some) reads
+
+-- the end is there where a test finds it
+the_end : (o : Option ℕ) → is_some o ≡ true → (end : ℕ) × (o ≡ Some end)
+the_end None there = absurd (false≢true there)
+the_end (Some end) there = (end, refl)
+
+-- bytes that a test does not call empty are some
+some_bytes : (bytes : List ℕ) → false ≡ (length bytes == 0) → 0 < length bytes
+some_bytes [] test = absurd (false≢true test)
+some_bytes (x ∷ xs) test = omega arith
+
+-- bytes behind the end break the part
+pub behind_end : (s : PartSoFar) (part bytes : List ℕ) (head : PartHead) → s.head ≡ Some head → is_some s.end ≡ true → false ≡ (length bytes == 0) → ReadsUpTo s part bytes
+    → ShowsBroken part head.number (length s.entries)
+behind_end s part bytes head some ends test reads =
+    let end = the_end s.end ends in
+    more_shown part bytes head s.entries end.0 (reads_part s part bytes head end.0 some end.1 reads) (some_bytes bytes test)
+
+-- a part whose entry is read goes on behind it
+pub entry_goes_on : (s new : PartSoFar) (part bytes text after : List ℕ) (head : PartHead) (entry : Change) → s.head ≡ Some head → s.end ≡ None → new.head ≡ s.head → new.end ≡ s.end
+    → new.entries ≡ s.entries ++ entry ∷ [] → IsEntry (limits_of One) entry → text ≡ change_bytes entry → bytes ≡ framed text ++ after → ReadsUpTo s part bytes
+    → ReadsUpTo new part after
+entry_goes_on s new part bytes text after head entry some not_ended same_head same_end added is fields spelled reads =
+    let begins = reads_entries s part bytes head some not_ended reads in
+    let one_more = entry_read part bytes after head s.entries entry begins is (spelled ∙ ap (λ (x : List ℕ). framed x ++ after) fields) in
+    let to : (record { head = Some head; entries = s.entries ++ entry ∷ []; end = None }) ≡ new =
+    λ i. record { head = sym (same_head ∙ some) i; entries = sym added i; end = sym (same_end ∙ not_ended) i } in
+    subst (λ (x : PartSoFar). ReadsUpTo x part after) to one_more
+
+-- a text that is no entry's fields breaks the part
+pub text_shown : (fault : PartFault) (s : PartSoFar) (part bytes text after : List ℕ) (head : PartHead) (reader : EntryReader) → s ≡ so_far reader → s.head ≡ Some head → s.end ≡ None
+    → IsFrame (IsEntryLength (limits_of One)) bytes text after → IsTextFault head.number reader text fault → ReadsUpTo s part bytes → IsPartShown part fault
+text_shown of_part.Header s part bytes text after head reader same some not_ended frame h reads = absurd h
+text_shown (of_part.Broken number entries) s part bytes text after head reader same some not_ended frame h reads =
+    let begins = reads_entries s part bytes head some not_ended reads in
+    let count : entries ≡ length s.entries = h.1 ∙ ap (λ (x : PartSoFar). length x.entries) (sym same) in
+    rw (h.0, count) (broken_at part bytes head s.entries begins (inr (inl (wrong_entry bytes text after frame h.2))))
+text_shown of_part.Memory s part bytes text after head reader same some not_ended frame h reads = tt
+
+-- nothing was read of nothing
+pub nothing_read : (reader : EntryReader) (held : List ℕ) → reader.head ≡ None → reader.entries.items ≡ [] → reader.end ≡ None → held ≡ []
+    → ReadsUpTo (so_far reader) [] held × IsPartLeft (so_far reader) held
+nothing_read reader held head entries end none =
+    let start : (record { head = None; entries = []; end = None }) ≡ so_far reader = λ i. record { head = sym head i; entries = sym entries i; end = sym end i } in
+    subst (λ (p : PartSoFar × List ℕ). ReadsUpTo p.0 [] p.1 × IsPartLeft p.0 p.1) (λ i. (start i, sym none i)) (
+      record { none = refl; no_end = refl; all = refl },
+      cut_header [] (part_alike [] (codes "MTC1") refl) (λ other more is e. let whole = ap length e in omega (arith, whole)),
+    )

@@ -1,0 +1,47 @@
+-- The one fault of bytes that are no part of a checkpoint.
+use Rattle.std.specs.Prelude.{◌≡◌, ◌≢◌, ℕ, List, ◌++◌, length}
+use Rattle.std.specs.List.{flat_map, AllByRecursion}
+use Rattle.mt_words.specs.declared.limits.Format.TheVariants.{One}
+use Rattle.mt_words.specs.declared.record.Change.{Change}
+use Rattle.mt_words.specs.Limits.{limits_of}
+use Rattle.mt_words.specs.Changes.{IsEntry}
+use Rattle.mt_record.specs.declared.part_text.PartHead.{PartHead}
+use Rattle.mt_record.specs.declared.part_text.PartFault.{PartFault}
+use Rattle.mt_record.specs.declared.part_text.PartFault.TheVariants as faults
+use Rattle.mt_record.specs.Parts.{part_head_bytes, IsPartHead, entry_spelling, PartReading, IsPartReading}
+
+-- no header of a part begins the bytes
+abbrev pub HasNoPartHeader : List ℕ → Type 0
+HasNoPartHeader bytes = (head : PartHead) (more : List ℕ) → IsPartHead head → bytes ≢ part_head_bytes head ++ more
+
+-- no entry begins the bytes
+abbrev pub HasNoEntry : List ℕ → Type 0
+HasNoEntry bytes = (entry : Change) (more : List ℕ) → IsEntry (limits_of One) entry → bytes ≢ entry_spelling entry ++ more
+
+-- the bytes begin with a header and these whole entries, and the rest follows
+pub record BeginsPart (bytes : List ℕ) (head : PartHead) (entries : List Change) (rest : List ℕ) : Type 0 where
+  pub spelled : bytes ≡ part_head_bytes head ++ (flat_map entry_spelling entries ++ rest)
+  pub is_head : IsPartHead head
+  pub lawful : AllByRecursion (IsEntry (limits_of One)) entries
+
+-- the bytes are no part, but begin with the header of one of the checkpoint of this number, and with just so many whole entries
+pub record IsBroken (bytes : List ℕ) (number count : ℕ) : Type 0 where
+  pub head : PartHead
+  pub entries : List Change
+  pub rest : List ℕ
+  pub begins : BeginsPart bytes head entries rest
+  pub named : number ≡ head.number
+  pub counted : count ≡ length entries
+  pub last : HasNoEntry rest
+  pub no_part : (part : PartReading) → IsPartReading bytes part → ⊥
+
+-- the fault of the bytes, which are no part: want of memory is none
+abbrev pub IsPartFault : List ℕ → PartFault → Type 0
+IsPartFault bytes faults.Header = HasNoPartHeader bytes
+IsPartFault bytes (faults.Broken number entries) = IsBroken bytes number entries
+IsPartFault bytes faults.Memory = ⊥
+
+-- a fault that was answered is that of the bytes; nothing is said where memory was refused
+abbrev pub IsPartAnswered : List ℕ → PartFault → Type 0
+IsPartAnswered bytes faults.Memory = Unit {0}
+IsPartAnswered bytes fault = IsPartFault bytes fault

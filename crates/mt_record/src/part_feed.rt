@@ -1,0 +1,76 @@
+//! A part in pieces.
+ghost use Rattle.std.specs.Prelude.{◌≡◌, ◌++◌, [], List, ℕ, Some, None, IsSome, IfOk, IfErr, OnOk};
+ghost use Rattle.mt_record.specs.declared.part_text.PartFault.{PartFault as FaultValue};
+ghost use Rattle.mt_record.specs.Parts.{IsPartText};
+ghost use Rattle.mt_record.specs.PartFaults.{IsPartAnswered};
+ghost use Rattle.mt_record.specs.PartFeeding.{IsPartFed, ShowsNoPartFault, IsPartShown};
+
+use crate::part_reader::PartReader;
+use crate::part_text::{PartFault, PartText};
+use std::alloc::Global;
+use std::marker::Model;
+
+/// Reads a part of a checkpoint that comes in pieces of any size. It holds back no more than the beginning of the
+/// header, of one entry or of the footer, and copies each byte of a key or value once where its entry lies whole in a
+/// piece. Its work is linear in the bytes, however they are cut.
+#[derive(Debug, Drop)]
+pub struct PartFeed {
+    reader: PartReader,
+    fault: Option<PartFault>,
+}
+
+impl Model for PartFeed {
+    ghost use Rattle.mt_record.specs.PartFeeding.{FedPart};
+    ghost use Rattle.mt_record.specs.PartPieces.{fed_part};
+
+    ghost Value = { FedPart };
+
+    ghost view = { λ f. fed_part f.reader f.fault };
+}
+
+impl PartFeed {
+    /// A feed that was fed nothing.
+    pub fn new(alloc: Global) -> PartFeed
+        ensures fed { IsPartFed result [] }
+        ensures sound { result.fault ≡ None }
+    {
+        PartFeed {
+            reader: PartReader::new(alloc),
+            fault: None,
+        }
+    }
+
+    /// Reads the next piece. An Err is the fault that the bytes so far show, in the first call after which they show
+    /// it, or `Memory` where a growth was refused; each later call, and `finish`, answers it again.
+    pub fn feed(&mut self, piece: &[u8]) -> Result<(), PartFault>
+        ensures fed { (bytes : List ℕ) → IsPartFed self.old bytes → IsPartFed self.new (bytes ++ piece.now) }
+        ensures ok { (bytes : List ℕ) → IsPartFed self.old bytes →
+            OnOk result (ShowsNoPartFault (bytes ++ piece.now)) }
+        ensures fault { (bytes : List ℕ) → IsPartFed self.old bytes →
+            IfErr result (IsPartShown (bytes ++ piece.now)) }
+        ensures sound { OnOk result (self.new.fault ≡ None) }
+        ensures kept { IfErr result (λ fault. self.new.fault ≡ Some fault) }
+        ensures again { (fault : FaultValue) → self.old.fault ≡ Some fault → result ≡ Err fault }
+        ensures stays { IsSome self.old.fault → self.new ≡ self.old }
+    {
+        if let Some(fault) = self.fault {
+            return Err(fault);
+        }
+        let outcome = self.reader.read(piece);
+        self.fault = outcome.err();
+        outcome
+    }
+
+    /// What the bytes say as a part. An Err is the one fault of the bytes, a part that is cut short among them, or
+    /// `Memory` where a growth was refused.
+    pub fn finish(self) -> Result<PartText, PartFault>
+        ensures part { (bytes : List ℕ) → IsPartFed self bytes → IfOk result (IsPartText bytes) }
+        ensures fault { (bytes : List ℕ) → IsPartFed self bytes → IfErr result (IsPartAnswered bytes) }
+        ensures again { (fault : FaultValue) → self.fault ≡ Some fault → result ≡ Err fault }
+    {
+        if let Some(fault) = self.fault {
+            return Err(fault);
+        }
+        self.reader.items.finish()
+    }
+}

@@ -1,0 +1,44 @@
+//! Headers of parts, and how long a footer is.
+ghost use Rattle.std.specs.Prelude.{◌≡◌, ◌++◌, IfSome, IfNone, MatchBool};
+ghost use Rattle.mt_record.specs.Parts.{IsPartHead, part_head_bytes};
+ghost use Rattle.mt_record.specs.PartFaults.{HasNoPartHeader};
+ghost use Rattle.mt_record.specs.PartFeeding.{ShowsNoPartHeader};
+ghost use Rattle.mt_record.specs.PartPieces.{BeginsAlikePart};
+
+use crate::fields::{u16_at, u32_at, u64_at};
+use crate::part_text::PartHead;
+
+/// What the header of a part begins with.
+pub const PART_MAGIC: &[u8] = b"MTC1";
+
+/// The number of bytes of a part's header.
+pub const PART_HEADER_BYTES: usize = 20;
+
+/// The number of bytes of a part's footer.
+pub const FOOTER_BYTES: usize = 16;
+
+/// The header at the front, and the bytes behind it.
+pub fn part_header_at(bytes: &[u8]) -> Option<(PartHead, &[u8])>
+    ensures found { IfSome result (λ x. IsPartHead x.0 × (bytes.now ≡ part_head_bytes x.0 ++ x.1.now)) }
+    ensures none { IfNone result (HasNoPartHeader bytes.now) }
+{
+    let rest = bytes.strip_prefix(PART_MAGIC)?;
+    let (number, rest) = u32_at(rest)?;
+    let (begin, rest) = u64_at(rest)?;
+    let (part, rest) = u16_at(rest)?;
+    let (parts, rest) = u16_at(rest)?;
+    let head = PartHead {
+        number,
+        begin,
+        part,
+        parts,
+    };
+    Some((head, rest))
+}
+
+/// Whether the bytes begin a header or a header begins them.
+pub fn begins_part_header(bytes: &[u8]) -> bool
+    ensures { MatchBool result (BeginsAlikePart bytes.now) (ShowsNoPartHeader bytes.now) }
+{
+    bytes.starts_with(PART_MAGIC) || PART_MAGIC.starts_with(bytes)
+}
