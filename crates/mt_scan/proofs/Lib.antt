@@ -2,5 +2,14 @@ pub mod Telling
 pub mod Shown
 pub mod Counting
 pub mod Steps
+pub mod PartSteps
 pub mod LeastLast
 pub mod OneField
+pub mod OneKnown
+pub mod OneChoice
+pub mod GroupLemmas
+pub mod RisingLemmas
+pub mod CandidateLemmas
+pub mod SelectionLemmas
+pub mod ChoiceLemmas
+pub mod NamelessLemmas

@@ -1,9 +1,10 @@
 -- The steps of a scan.
-use Rattle.std.specs.Prelude.{◌≡◌, ℕ, ◌+◌, ◌≤◌, ◌<◌, ◌^◌, List, [], ◌++◌, length, Bool, true, false}
+use Rattle.std.specs.Prelude.{◌≡◌, ◌⊎◌, ℕ, ◌+◌, ◌≤◌, ◌<◌, ◌^◌, IsSome, List, [], ◌++◌, length, Bool, true, false}
 use Rattle.std.specs.Io.KnownBytes.{Consumes, IsAtEnd}
 use Rattle.mt_words.specs.Changes.{Logged}
 use Rattle.mt_words.specs.Updates.{updates_from}
 use Rattle.mt_record.specs.Feeding.{Feed, IsFed}
+use Rattle.mt_record.specs.PartFeeding.{FedPart, IsPartFed}
 use Rattle.mt_scan.specs.declared.updates.LogUpdates.{LogUpdates}
 use Rattle.mt_scan.specs.Sources.{Seen}
 
@@ -21,3 +22,12 @@ pub record FeedsPiece (before after : Seen) (new : Feed) (bytes : List ℕ) (tak
   pub bounded : before.bound < 2 ^ 64
   pub some : more ≡ true → 0 < length piece
   pub at_end : more ≡ false → (piece ≡ []) × IsAtEnd after.told
+
+-- The next piece of the source was fed, if there is one. None is to follow at the end, and where the feed has a fault.
+pub record FeedsPartPiece (before after : Seen) (new : FedPart) (bytes : List ℕ) (more : Bool) : Type 0 where
+  pub piece : List ℕ
+  pub next : Consumes before.told after.told piece
+  pub fed : IsPartFed new (bytes ++ piece)
+  pub falls : after.bound + length piece ≤ before.bound
+  pub some : more ≡ true → 0 < length piece
+  pub stops : more ≡ false → IsAtEnd after.told ⊎ IsSome new.fault

@@ -3,5 +3,11 @@ pub mod Buffers
 pub mod Lending
 pub mod Kinds
 pub mod Scans
+pub mod PartScans
 pub mod Cutoff
+pub mod Choice
+pub mod Candidates
+pub mod Rising
+pub mod Groups
+pub mod Selections
 pub mod Keeping

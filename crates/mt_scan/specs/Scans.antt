@@ -59,4 +59,5 @@ OfTold told P = (bytes : List ℕ) × Agrees told bytes × P bytes
 abbrev pub failures_of : {X : Type 0} → Result X Fault → ℕ
 failures_of (Ok x) = 0
 failures_of (Err (faults.Source log)) = 1
+failures_of (Err (faults.PartSource part)) = 1
 failures_of (Err fault) = 0

@@ -3,19 +3,27 @@
 
 mod boxed;
 mod buffer;
+mod candidate;
+mod choice;
 mod fault_source;
+mod group;
 mod log_scan;
 mod mem_source;
+mod part_scan;
 mod reader_source;
+mod rising;
 mod scan;
+mod selection;
 mod slot;
 mod source;
 mod tally;
 mod updates;
 
+pub use choice::{Checkpoint, Choice, choose};
 pub use fault_source::FaultSource;
 pub use log_scan::{LogScan, cutoff};
 pub use mem_source::MemSource;
+pub use part_scan::{PartScan, scan_part};
 pub use reader_source::ReaderSource;
 pub use scan::scan_log;
 pub use slot::{LONGEST_BUFFER, Rack, Slot};

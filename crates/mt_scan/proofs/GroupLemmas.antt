@@ -1,0 +1,82 @@
+-- The groups of parts, part by part.
+use Rattle.std.proofs.Common.{◌≡◌, ◌≢◌, ◌∙◌, inl, inr, ℕ, Bool, true, false, cond, List, [], ◌∷◌, ◌++◌, Some, None, refl, sym, ap, subst}
+use Rattle.std.specs.Ordering.{nat_cmp, is_eq}
+use Rattle.std.specs.BTreeMap.{BTreeMap, get}
+use Rattle.std.proofs.lemmas.Bool.{cases_eq, eq-eqb, ne_eqb, false_from_ne_true}
+use Rattle.std.proofs.lemmas.List.{append-nil}
+use Rattle.std.proofs.lemmas.List.Elements.{filter-append, Contains-push, Contains-append_left}
+use Rattle.std.proofs.lemmas.Map.Lookups.{exact_unsigned}
+use Rattle.std.proofs.lemmas.Map.Views.{tells_apart}
+use Rattle.mt_record.specs.Parts.{PartReading}
+use Rattle.mt_scan.specs.PartScans.{KnownPart, whole, broken, nameless}
+use Rattle.mt_scan.specs.Choice.{belongs_to, parts_of}
+use Rattle.mt_scan.specs.Groups.{IsGroupOf, IsGroupAt, AreGroupsOf}
+use Rattle.mt_scan.specs.declared.group.Group.{Group}
+use Rattle.mt_scan.specs.declared.group.Group.TheVariants as groups
+
+-- elsewhere the groups are what they were
+abbrev pub AreOthers : BTreeMap ℕ Group → BTreeMap ℕ Group → ℕ → Type 0
+AreOthers old new number = (q : ℕ) → is_eq (nat_cmp number q) ≡ false → get nat_cmp new q ≡ get nat_cmp old q
+
+differ : (n q : ℕ) → n ≢ q → is_eq (nat_cmp n q) ≡ false
+differ n q other = false_from_ne_true (is_eq (nat_cmp n q)) (λ e. other (tells_apart exact_unsigned n q e))
+
+parts_with : (q : ℕ) (parts : List KnownPart) (part : KnownPart) → belongs_to q part ≡ true → parts_of q (parts ++ part ∷ []) ≡ parts_of q parts ++ part ∷ []
+parts_with q parts part belongs = filter-append (belongs_to q) parts (part ∷ []) ∙ ap (λ (b : Bool). parts_of q parts ++ cond b (part ∷ []) []) belongs
+
+parts_without : (q : ℕ) (parts : List KnownPart) (part : KnownPart) → belongs_to q part ≡ false → parts_of q (parts ++ part ∷ []) ≡ parts_of q parts
+parts_without q parts part other = filter-append (belongs_to q) parts (part ∷ []) ∙ ap (λ (b : Bool). parts_of q parts ++ cond b (part ∷ []) []) other ∙ append-nil (parts_of q parts)
+
+-- a part is one of the checkpoint of this number alone
+pub record IsOf (number : ℕ) (part : KnownPart) : Type 0 where
+  pub own : belongs_to number part ≡ true
+  pub alone : (q : ℕ) → number ≢ q → belongs_to q part ≡ false
+
+pub whole_is_of : (part : PartReading) → IsOf part.head.number (whole part)
+whole_is_of part = record { own = eq-eqb part.head.number part.head.number refl; alone = λ q other. ne_eqb part.head.number q other }
+
+pub broken_is_of : (number : ℕ) → IsOf number (broken number)
+broken_is_of number = record { own = eq-eqb number number refl; alone = λ q other. ne_eqb number q other }
+
+-- one more part of a checkpoint: its group is another, and the others stay
+pub groups_more : (parts : List KnownPart) (part : KnownPart) (number : ℕ) (old new : BTreeMap ℕ Group) → IsOf number part → IsGroupAt (parts_of number parts ++ part ∷ []) (get nat_cmp new number)
+    → AreOthers old new number → AreGroupsOf parts old → AreGroupsOf (parts ++ part ∷ []) new
+groups_more parts part number old new is own others are q = elim (cases_eq number q) as (λ _. IsGroupAt (parts_of q (parts ++ part ∷ [])) (get nat_cmp new q)) [
+  | inl e ↦ subst (λ (n : ℕ). IsGroupAt (parts_of n (parts ++ part ∷ [])) (get nat_cmp new n)) e
+      (subst (λ (x : List KnownPart). IsGroupAt x (get nat_cmp new number)) (sym (parts_with number parts part is.own)) own)
+  | inr other ↦
+      let there = subst (λ (x : List KnownPart). IsGroupAt x (get nat_cmp old q)) (sym (parts_without q parts part (is.alone q other))) (are q) in
+      subst (IsGroupAt (parts_of q (parts ++ part ∷ []))) (sym (others q (differ number q other))) there
+]
+
+-- one more part that belongs to no checkpoint
+pub groups_same : (parts : List KnownPart) (all : BTreeMap ℕ Group) → AreGroupsOf parts all → AreGroupsOf (parts ++ nameless ∷ []) all
+groups_same parts all are q = subst (λ (x : List KnownPart). IsGroupAt x (get nat_cmp all q)) (sym (parts_without q parts nameless refl)) (are q)
+
+-- a broken part makes its group a broken one
+pub broken_more : (parts : List KnownPart) (number : ℕ) (old new : BTreeMap ℕ Group) → get nat_cmp new number ≡ Some groups.Broken → AreOthers old new number → AreGroupsOf parts old
+    → AreGroupsOf (parts ++ broken number ∷ []) new
+broken_more parts number old new is others are =
+    groups_more parts (broken number) number old new (broken_is_of number)
+    (subst (IsGroupAt (parts_of number parts ++ broken number ∷ [])) (sym is) (number, Contains-push (parts_of number parts) (broken number))) others are
+
+-- a group that is there gets one more whole part
+pub whole_more : (parts : List KnownPart) (part : PartReading) (old new : BTreeMap ℕ Group) (before after : Group) → get nat_cmp old part.head.number ≡ Some before → get nat_cmp new part.head.number ≡ Some after
+    → AreOthers old new part.head.number → ((own : List KnownPart) → IsGroupOf own before → IsGroupOf (own ++ whole part ∷ []) after) → AreGroupsOf parts old → AreGroupsOf (parts ++ whole part ∷ []) new
+whole_more parts part old new before after was is others adds are =
+    let number : ℕ = part.head.number in
+    let there = subst (IsGroupAt (parts_of number parts)) was (are number) in
+    groups_more parts (whole part) number old new (whole_is_of part) (subst (IsGroupAt (parts_of number parts ++ whole part ∷ [])) (sym is) (adds (parts_of number parts) there)) others are
+
+-- the first whole part of a group
+pub whole_first : (parts : List KnownPart) (part : PartReading) (old new : BTreeMap ℕ Group) (after : Group) → get nat_cmp old part.head.number ≡ None → get nat_cmp new part.head.number ≡ Some after
+    → AreOthers old new part.head.number → IsGroupOf (whole part ∷ []) after → AreGroupsOf parts old → AreGroupsOf (parts ++ whole part ∷ []) new
+whole_first parts part old new after was is others alone are =
+    let number : ℕ = part.head.number in
+    let none : parts_of number parts ≡ [] = subst (IsGroupAt (parts_of number parts)) was (are number) in
+    groups_more parts (whole part) number old new (whole_is_of part)
+    (subst (IsGroupAt (parts_of number parts ++ whole part ∷ [])) (sym is) (subst (λ (x : List KnownPart). IsGroupOf (x ++ whole part ∷ []) after) (sym none) alone)) others are
+
+-- a broken group stays broken
+pub stays_broken : (parts : List KnownPart) (part : KnownPart) → IsGroupOf parts groups.Broken → IsGroupOf (parts ++ part ∷ []) groups.Broken
+stays_broken parts part is = (is.0, Contains-append_left parts (part ∷ []) (broken is.0) is.1)

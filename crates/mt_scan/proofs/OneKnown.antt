@@ -1,0 +1,31 @@
+-- What is known of a part is one thing.
+use Rattle.std.proofs.Common.{◌≡◌, ℕ, List, refl, sym, ap, ◌∙◌}
+use Rattle.mt_record.specs.declared.part_text.PartFault.{PartFault}
+use Rattle.mt_record.specs.declared.part_text.PartFault.TheVariants as of_part
+use Rattle.mt_record.specs.Parts.{PartReading}
+use Rattle.mt_record.proofs.OnePart.{one_part}
+use Rattle.mt_record.proofs.OnePartFault.{one_part_fault, part_or_fault}
+use Rattle.mt_scan.specs.PartScans.{KnownPart, whole, broken, nameless, IsKnown}
+
+-- the number that a fault names
+abbrev named_by : PartFault → ℕ
+named_by (of_part.Broken number entries) = number
+named_by of_part.Header = 0
+named_by of_part.Memory = 0
+
+-- no fault is of two kinds
+no_header_broken : (number entries : ℕ) → of_part.Header ≡ of_part.Broken number entries → ⊥
+no_header_broken number entries e = cc
+
+pub one_known : (bytes : List ℕ) (a b : KnownPart) → IsKnown bytes a → IsKnown bytes b → a ≡ b
+one_known bytes (whole p) (whole q) x y =
+    let same = one_part bytes p.head q.head p.entries q.entries p.end q.end x y in
+    λ i. whole (record { head = same.0 i; entries = same.1 i; end = same.2 i })
+one_known bytes (whole p) (broken n) x y = absurd (part_or_fault bytes p.head p.entries p.end (of_part.Broken n y.0) x y.1)
+one_known bytes (whole p) nameless x y = absurd (part_or_fault bytes p.head p.entries p.end of_part.Header x y)
+one_known bytes (broken n) (whole q) x y = absurd (part_or_fault bytes q.head q.entries q.end (of_part.Broken n x.0) y x.1)
+one_known bytes (broken n) (broken m) x y = ap broken (ap named_by (one_part_fault bytes (of_part.Broken n x.0) (of_part.Broken m y.0) x.1 y.1))
+one_known bytes (broken n) nameless x y = absurd (no_header_broken n x.0 (one_part_fault bytes of_part.Header (of_part.Broken n x.0) y x.1))
+one_known bytes nameless (whole q) x y = absurd (part_or_fault bytes q.head q.entries q.end of_part.Header y x)
+one_known bytes nameless (broken m) x y = absurd (no_header_broken m y.0 (one_part_fault bytes of_part.Header (of_part.Broken m y.0) x y.1))
+one_known bytes nameless nameless x y = refl

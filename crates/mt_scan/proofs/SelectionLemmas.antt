@@ -1,0 +1,262 @@
+-- The best of the checkpoints, group by group.
+use Rattle.std.proofs.Common.{◌≡◌, ◌↔◌, ◌⊎◌, inl, inr, ℕ, ◌+◌, ◌<◌, List, [], ◌∷◌, ◌++◌, length, get_or, map, Contains, Option, Some, None, refl, sym, ap, subst, nat_cmp, arith}
+use Rattle.std.specs.List.{AllByRecursion}
+use Rattle.std.specs.List.Sorted.{IsStrictlyIncreasing, IsStrictlySortedBy}
+use Rattle.std.specs.Ordering.{MatchOrdering}
+use Rattle.std.specs.declared.cmp.Ordering.{Ordering}
+use Rattle.std.specs.declared.cmp.Ordering.TheVariants.{Less}
+use Rattle.std.specs.Map.{keys_of}
+use Rattle.std.proofs.lemmas.Bool.{cases_lt}
+use Rattle.std.proofs.lemmas.Cmp.{ranked}
+use Rattle.std.proofs.lemmas.List.{length_push, get_or_push, get_or_append_left}
+use Rattle.std.proofs.lemmas.List.Elements.{Contains-push, Contains-push_cases, Contains-append_left, Contains-get_or, All-contains, All-from_recursion}
+use Rattle.std.proofs.lemmas.List.Sorted.{IsPermutation-sym, IsPermutation-trans}
+use Rattle.mt_record.specs.Parts.{PartReading}
+use Rattle.mt_scan.specs.PartScans.{whole}
+use Rattle.mt_scan.specs.Choice.{Checkpoint, AreInPlace, MakeUp, IsNoBetter}
+use Rattle.mt_scan.specs.Candidates.{shown_by_all, AreSameTexts, candidate_in}
+use Rattle.mt_scan.specs.Groups.{HasCheckpoint, HasNone, IsCandidateOf}
+use Rattle.mt_scan.specs.Selections.{AreBelow, IsOffered, IsPassed, IsBestOf, IsSelectionOf, IsNoWorse}
+use Rattle.mt_scan.specs.declared.candidate.Candidate.{Candidate}
+use Rattle.mt_scan.specs.declared.selection.Selection.{Selection}
+use Rattle.mt_scan.specs.declared.group.Group.{Group}
+use Rattle.mt_scan.specs.declared.group.Group.TheVariants as groups
+use Rattle.mt_scan.proofs.OneChoice.{are_numbered, same_texts, same_times}
+
+-- ---- one group
+
+abbrev pub Entry : Type 0
+Entry = ℕ × Group
+
+-- two checkpoints of the same texts begin and end at the same time
+same_times_of : (a b : Checkpoint) (xs ys : List PartReading) → MakeUp xs a → MakeUp ys b → AreSameTexts xs ys → (a.begin ≡ b.begin) × (a.end ≡ b.end)
+same_times_of a b xs ys of_a of_b same =
+    let texts : xs ≡ ys = same_texts xs ys (are_numbered a (length xs) xs of_a.in_place) (are_numbered b (length ys) ys of_b.in_place) same in
+    same_times a b (length xs) (length ys) xs of_a.in_place (subst (λ (zs : List PartReading). AreInPlace b (length ys) 0 zs) (sym texts) of_b.in_place) of_a.some
+
+-- the checkpoints of a group end where its candidate does
+one_end : (number : ℕ) (group : Group) (candidate : Candidate) (other : Checkpoint) → IsCandidateOf number group candidate → HasCheckpoint group other → other.end ≡ candidate.end
+one_end number (groups.Whole texts) candidate other is has =
+    let made : List PartReading = shown_by_all candidate.texts.items in
+    let same : AreSameTexts has.ordered made =
+    IsPermutation-trans (map whole has.ordered) (map whole (shown_by_all texts.items)) (map whole made) (IsPermutation-sym (map whole (shown_by_all texts.items)) (map whole has.ordered) has.same) is.same in
+    (same_times_of other (candidate_in candidate) has.ordered made has.make_up is.make_up same).1
+one_end number groups.Broken candidate other is has = absurd is
+
+candidate_number : (number : ℕ) (group : Group) (candidate : Candidate) → IsCandidateOf number group candidate → candidate.number ≡ number
+candidate_number number (groups.Whole texts) candidate is = is.number_is
+candidate_number number groups.Broken candidate is = absurd is
+
+candidate_has : (number : ℕ) (group : Group) (candidate : Candidate) → IsCandidateOf number group candidate → HasCheckpoint group (candidate_in candidate)
+candidate_has number (groups.Whole texts) candidate is = record { ordered = shown_by_all candidate.texts.items; same = is.same; make_up = is.make_up }
+candidate_has number groups.Broken candidate is = absurd is
+
+-- ---- one more group
+
+-- one of the groups, or the last
+last_or_before : (all : List Entry) (number : ℕ) (group : Group) (entry : Entry) → Contains (all ++ (number, group) ∷ []) entry → Contains all entry ⊎ ((number ≡ entry.0) × (group ≡ entry.1))
+last_or_before all number group entry at = elim (Contains-push_cases all (number, group) entry at) as (λ _. Contains all entry ⊎ ((number ≡ entry.0) × (group ≡ entry.1))) [
+  | inl before ↦ inl before
+  | inr e ↦ inr (ap (λ (x : Entry). x.0) e, ap (λ (x : Entry). x.1) e)
+]
+
+offered_more : (all : List Entry) (number : ℕ) (group : Group) (cutoff : ℕ) (checkpoint : Checkpoint) → IsOffered all cutoff checkpoint → IsOffered (all ++ (number, group) ∷ []) cutoff checkpoint
+offered_more all number group cutoff checkpoint is =
+    record { group = is.group; stands = Contains-append_left all ((number, group) ∷ []) (checkpoint.number, is.group) is.stands; has = is.has; ends_below = is.ends_below }
+
+-- what is offered was offered before, or is of the last group
+pub record IsLast (number : ℕ) (group : Group) (cutoff : ℕ) (checkpoint : Checkpoint) : Type 0 where
+  pub number_is : checkpoint.number ≡ number
+  pub has : HasCheckpoint group checkpoint
+  pub ends_below : checkpoint.end < cutoff
+
+offered_cases : (all : List Entry) (number : ℕ) (group : Group) (cutoff : ℕ) (checkpoint : Checkpoint) → IsOffered (all ++ (number, group) ∷ []) cutoff checkpoint
+    → IsOffered all cutoff checkpoint ⊎ IsLast number group cutoff checkpoint
+offered_cases all number group cutoff checkpoint is =
+    elim (last_or_before all number group (checkpoint.number, is.group) is.stands) as (λ _. IsOffered all cutoff checkpoint ⊎ IsLast number group cutoff checkpoint) [
+      | inl before ↦ inl (record { group = is.group; stands = before; has = is.has; ends_below = is.ends_below })
+      | inr e ↦ inr (record { number_is = sym e.0; has = subst (λ (g : Group). HasCheckpoint g checkpoint) (sym e.1) is.has; ends_below = is.ends_below })
+    ]
+
+-- the numbers that are passed by stay, if the last group has a checkpoint
+passed_same : (all : List Entry) (number : ℕ) (group : Group) (checkpoint : Checkpoint) (n : ℕ) → HasCheckpoint group checkpoint → IsPassed (all ++ (number, group) ∷ []) n ↔ IsPassed all n
+passed_same all number group checkpoint n has = (
+  λ is. elim (last_or_before all number group (n, is.group) is.stands) as (λ _. IsPassed all n) [
+    | inl before ↦ record { group = is.group; stands = before; none = is.none }
+    | inr e ↦ absurd (is.none checkpoint (subst (λ (g : Group). HasCheckpoint g checkpoint) e.1 has))
+  ],
+  λ is. record { group = is.group; stands = Contains-append_left all ((number, group) ∷ []) (n, is.group) is.stands; none = is.none },
+)
+
+-- the last number is passed by, if its group has no checkpoint
+passed_more : (all : List Entry) (number : ℕ) (group : Group) (n : ℕ) → HasNone group → IsPassed (all ++ (number, group) ∷ []) n ↔ (IsPassed all n ⊎ (number ≡ n))
+passed_more all number group n none = (
+  λ is. elim (last_or_before all number group (n, is.group) is.stands) as (λ _. IsPassed all n ⊎ (number ≡ n)) [
+    | inl before ↦ inl (record { group = is.group; stands = before; none = is.none })
+    | inr e ↦ inr e.0
+  ],
+  λ s. elim s as (λ _. IsPassed (all ++ (number, group) ∷ []) n) [
+    | inl is ↦ record { group = is.group; stands = Contains-append_left all ((number, group) ∷ []) (n, is.group) is.stands; none = is.none }
+    | inr e ↦ record { group = group; stands = subst (λ (m : ℕ). Contains (all ++ (number, group) ∷ []) (m, group)) e (Contains-push all (number, group)); none = none }
+  ],
+)
+
+-- the best of the groups, if the last one has no checkpoint
+best_same : (all : List Entry) (number : ℕ) (group : Group) (cutoff : ℕ) (best : Option Candidate) → HasNone group → IsBestOf all cutoff best → IsBestOf (all ++ (number, group) ∷ []) cutoff best
+best_same all number group cutoff None none is = λ other offered. elim (offered_cases all number group cutoff other offered) as (λ _. ⊥) [ inl before ↦ is other before | inr last ↦ none other last.has ]
+best_same all number group cutoff (Some best) none is = (
+  offered_more all number group cutoff (candidate_in best) is.0,
+  λ other offered. elim (offered_cases all number group cutoff other offered) as (λ _. IsNoBetter other (candidate_in best)) [ inl before ↦ is.1 other before | inr last ↦ absurd (none other last.has) ],
+)
+
+module _ (all : List Entry) (number : ℕ) (group : Group) (cutoff : ℕ) (candidate : Candidate) (is_of : IsCandidateOf number group candidate) (below : AreBelow all number) where
+  offered : candidate.end < cutoff → IsOffered (all ++ (number, group) ∷ []) cutoff (candidate_in candidate)
+  offered ends = record {
+    group = group;
+    stands = subst (λ (n : ℕ). Contains (all ++ (number, group) ∷ []) (n, group)) (sym (candidate_number number group candidate is_of)) (Contains-push all (number, group));
+    has = candidate_has number group candidate is_of;
+    ends_below = ends;
+  }
+
+  -- no other checkpoint of the group is better
+  no_other : (other : Checkpoint) → IsLast number group cutoff other → IsNoBetter other (candidate_in candidate)
+  no_other other last =
+      let e = one_end number group candidate other is_of last.has in
+      inr (e, omega (arith, last.number_is, candidate_number number group candidate is_of))
+
+  -- the candidate is the best now
+  best_taken : (best : Option Candidate) → IsBestOf all cutoff best → IsNoWorse cutoff best candidate → IsBestOf (all ++ (number, group) ∷ []) cutoff (Some candidate)
+  best_taken None is no_worse = (
+    offered no_worse,
+    λ other now. elim (offered_cases all number group cutoff other now) as (λ _. IsNoBetter other (candidate_in candidate)) [ inl before ↦ absurd (is other before) | inr last ↦ no_other other last ],
+  )
+  best_taken (Some best) is no_worse = (
+    offered no_worse.0,
+    λ other now. elim (offered_cases all number group cutoff other now) as (λ _. IsNoBetter other (candidate_in candidate)) [
+      | inl before ↦
+          let lesser : other.number < number = below (other.number, before.group) before.stands in
+          let own = candidate_number number group candidate is_of in
+          elim (is.1 other before) as (λ _. IsNoBetter other (candidate_in candidate)) [
+            | inl less ↦ inl (omega (arith, less, no_worse.1))
+            | inr same ↦ elim (cases_lt other.end candidate.end) as (λ _. IsNoBetter other (candidate_in candidate)) [
+              | inl less ↦ inl less
+              | inr above ↦ inr (omega (arith, above, same.0, no_worse.1), omega (arith, lesser, own))
+            ]
+          ]
+      | inr last ↦ no_other other last
+    ],
+  )
+
+  -- the best so far stays it
+  best_left : (best : Option Candidate) → IsBestOf all cutoff best → (IsNoWorse cutoff best candidate → ⊥) → IsBestOf (all ++ (number, group) ∷ []) cutoff best
+  best_left None is worse = λ other now. elim (offered_cases all number group cutoff other now) as (λ _. ⊥) [
+    | inl before ↦ is other before
+    | inr last ↦ let e = one_end number group candidate other is_of last.has in worse (omega (arith, e, last.ends_below))
+  ]
+  best_left (Some best) is worse = (
+    offered_more all number group cutoff (candidate_in best) is.0,
+    λ other now. elim (offered_cases all number group cutoff other now) as (λ _. IsNoBetter other (candidate_in best)) [
+      | inl before ↦ is.1 other before
+      | inr last ↦
+          let e = one_end number group candidate other is_of last.has in
+          let ends : candidate.end < cutoff = omega (arith, e, last.ends_below) in
+          elim (cases_lt candidate.end best.end) as (λ _. IsNoBetter other (candidate_in best)) [ inl less ↦ inl (omega (arith, e, less)) | inr above ↦ absurd (worse (ends, above)) ]
+    ],
+  )
+
+no_worse_or_not : (cutoff : ℕ) (best : Option Candidate) (candidate : Candidate) → IsNoWorse cutoff best candidate ⊎ (IsNoWorse cutoff best candidate → ⊥)
+no_worse_or_not cutoff None candidate = elim (cases_lt candidate.end cutoff) as (λ _. IsNoWorse cutoff None candidate ⊎ (IsNoWorse cutoff None candidate → ⊥)) [ inl less ↦ inl less | inr above ↦ inr (λ h. omega (arith, above, h)) ]
+no_worse_or_not cutoff (Some best) candidate =
+    elim (cases_lt candidate.end cutoff) as (λ _. IsNoWorse cutoff (Some best) candidate ⊎ (IsNoWorse cutoff (Some best) candidate → ⊥)) [
+      | inl ends ↦ elim (cases_lt candidate.end best.end) as (λ _. IsNoWorse cutoff (Some best) candidate ⊎ (IsNoWorse cutoff (Some best) candidate → ⊥)) [ inl less ↦ inr (λ h. omega (arith, less, h.1)) | inr above ↦ inl (ends, above) ]
+      | inr above ↦ inr (λ h. omega (arith, above, h.0))
+    ]
+
+-- a candidate was offered
+pub record IsOfferedTo (cutoff : ℕ) (candidate : Candidate) (old new : Selection) : Type 0 where
+  pub taken : IsNoWorse cutoff old.best candidate → new.best ≡ Some candidate
+  pub left : (IsNoWorse cutoff old.best candidate → ⊥) → new.best ≡ old.best
+  pub skipped : new.skipped ≡ old.skipped
+
+pub selection_offered : (all : List Entry) (number : ℕ) (group : Group) (cutoff : ℕ) (candidate : Candidate) (old new : Selection) → IsCandidateOf number group candidate → AreBelow all number
+    → IsOfferedTo cutoff candidate old new → IsSelectionOf all cutoff old → IsSelectionOf (all ++ (number, group) ∷ []) cutoff new
+selection_offered all number group cutoff candidate old new is_of below offer is =
+    let more : List Entry = all ++ (number, group) ∷ [] in
+    let same : old.skipped.items ≡ new.skipped.items = sym (ap (λ skipped. skipped.items) offer.skipped) in
+    record {
+      best = elim (no_worse_or_not cutoff old.best candidate) as (λ _. IsBestOf more cutoff new.best) [
+        | inl h ↦ subst (IsBestOf more cutoff) (sym (offer.taken h)) (best_taken all number group cutoff candidate is_of below old.best is.best h)
+        | inr h ↦ subst (IsBestOf more cutoff) (sym (offer.left h)) (best_left all number group cutoff candidate is_of below old.best is.best h)
+      ];
+      rise = subst IsStrictlyIncreasing same is.rise;
+      exact = λ n.
+          let passed = passed_same all number group (candidate_in candidate) n (candidate_has number group candidate is_of) in
+          let both : Contains old.skipped.items n ↔ IsPassed more n = (λ h. passed.1 ((is.exact n).0 h), λ h. (is.exact n).1 (passed.0 h)) in
+          subst (λ (ns : List ℕ). Contains ns n ↔ IsPassed more n) same both;
+    }
+
+pub increasing_push : (xs : List ℕ) (n : ℕ) → IsStrictlyIncreasing xs → ((m : ℕ) → Contains xs m → m < n) → IsStrictlyIncreasing (xs ++ n ∷ [])
+increasing_push xs n rise below = λ k fits.
+    let more = length_push xs n in
+    let inside : k < length xs = omega (arith, fits, more) in
+    let at : get_or (xs ++ n ∷ []) k 0 ≡ get_or xs k 0 = get_or_append_left xs (n ∷ []) 0 k inside in
+    elim (cases_lt (k + 1) (length xs)) as (λ _. get_or (xs ++ n ∷ []) k 0 < get_or (xs ++ n ∷ []) (k + 1) 0) [
+      | inl within ↦
+          let next : get_or (xs ++ n ∷ []) (k + 1) 0 ≡ get_or xs (k + 1) 0 = get_or_append_left xs (n ∷ []) 0 (k + 1) within in
+          let up : get_or xs k 0 < get_or xs (k + 1) 0 = rise k within in
+          omega (arith, at, next, up)
+      | inr past ↦
+          let last : length xs ≡ k + 1 = omega (arith, inside, past) in
+          let next : get_or (xs ++ n ∷ []) (k + 1) 0 ≡ n = get_or_push xs n 0 (k + 1) last in
+          let up : get_or xs k 0 < n = below (get_or xs k 0) (Contains-get_or xs k 0 inside) in
+          omega (arith, at, next, up)
+    ]
+
+-- a number was passed by
+pub selection_passed : (all : List Entry) (number : ℕ) (group : Group) (cutoff : ℕ) (old new : Selection) → HasNone group → AreBelow all number
+    → new.best ≡ old.best → new.skipped.items ≡ old.skipped.items ++ number ∷ [] → IsSelectionOf all cutoff old → IsSelectionOf (all ++ (number, group) ∷ []) cutoff new
+selection_passed all number group cutoff old new none below best skipped is =
+    let more : List Entry = all ++ (number, group) ∷ [] in
+    record {
+      best = subst (IsBestOf more cutoff) (sym best) (best_same all number group cutoff old.best none is.best);
+      rise = subst IsStrictlyIncreasing (sym skipped)
+          (increasing_push old.skipped.items number is.rise (λ m at. let passed = (is.exact m).0 at in below (m, passed.group) passed.stands));
+      exact = λ n.
+          let passed = passed_more all number group n none in
+          let both : Contains (old.skipped.items ++ number ∷ []) n ↔ IsPassed more n = (
+            λ h. passed.1 (elim (Contains-push_cases old.skipped.items number n h) as (λ _. IsPassed all n ⊎ (number ≡ n)) [ inl before ↦ inl ((is.exact n).0 before) | inr e ↦ inr e ]),
+            λ h. elim (passed.0 h) as (λ _. Contains (old.skipped.items ++ number ∷ []) n) [
+              | inl before ↦ Contains-append_left old.skipped.items (number ∷ []) n ((is.exact n).1 before)
+              | inr e ↦ subst (λ (m : ℕ). Contains (old.skipped.items ++ number ∷ []) m) e (Contains-push old.skipped.items number)
+            ],
+          ) in
+          subst (λ (ns : List ℕ). Contains ns n ↔ IsPassed more n) (sym skipped) both;
+    }
+
+-- nothing yet
+pub selection_none : (cutoff : ℕ) (selection : Selection) → selection.best ≡ None → selection.skipped.items ≡ [] → IsSelectionOf [] cutoff selection
+selection_none cutoff selection best skipped = record {
+  best = subst (IsBestOf [] cutoff) (sym best) (λ other offered. omega (arith, offered.stands.1));
+  rise = subst IsStrictlyIncreasing (sym skipped) (λ k fits. absurd (omega (arith, fits)));
+  exact = λ n. subst (λ (ns : List ℕ). Contains ns n ↔ IsPassed [] n) (sym skipped) (λ h. absurd (omega (arith, h.1)), λ h. absurd (omega (arith, h.stands.1)));
+}
+
+-- ---- in order, each number is above those before it
+
+less_is_below : (a b : ℕ) → nat_cmp a b ≡ Less → a < b
+less_is_below a b e = subst (λ (o : Ordering). MatchOrdering o (a < b) (a ≡ b) (b < a)) e (ranked a b (nat_cmp a b) refl)
+
+first_below : (e : Entry) (es : List Entry) (number : ℕ) (group : Group) (rest : List Entry) → AllByRecursion (λ (n : ℕ). nat_cmp e.0 n ≡ Less) (keys_of (es ++ (number, group) ∷ rest)) → nat_cmp e.0 number ≡ Less
+first_below e [] number group rest all = all.0
+first_below e (f ∷ fs) number group rest all = first_below e fs number group rest all.1
+
+entries_below : (entries : List Entry) (number : ℕ) (group : Group) (rest : List Entry) → IsStrictlySortedBy nat_cmp (keys_of (entries ++ (number, group) ∷ rest)) → AllByRecursion (λ (e : Entry). nat_cmp e.0 number ≡ Less) entries
+unfolding IsStrictlySortedBy
+entries_below [] number group rest sorted = tt
+entries_below (e ∷ es) number group rest sorted = (first_below e es number group rest sorted.0, entries_below es number group rest sorted.1)
+
+pub are_below : (all entries : List Entry) (number : ℕ) (group : Group) (rest : List Entry) → IsStrictlySortedBy nat_cmp (keys_of all) → all ≡ entries ++ (number, group) ∷ rest → AreBelow entries number
+are_below all entries number group rest sorted e = λ x at.
+    let every = entries_below entries number group rest (subst (λ (es : List Entry). IsStrictlySortedBy nat_cmp (keys_of es)) e sorted) in
+    let less : nat_cmp x.0 number ≡ Less = All-contains (λ (y : Entry). nat_cmp y.0 number ≡ Less) entries x (All-from_recursion (λ (y : Entry). nat_cmp y.0 number ≡ Less) entries every) at in
+    less_is_below x.0 number less

@@ -1,0 +1,7 @@
+use Rattle.mt_scan.proofs.group.add_scan.Goals as goal
+
+pub returns-in-Whole : goal.returns-in-Whole
+returns-in-Whole c = rw c.in-Whole.is c.add_whole.ensures
+
+pub returns-in-Broken : goal.returns-in-Broken
+returns-in-Broken c = rw c.in-Broken.is c.add_broken.ensures

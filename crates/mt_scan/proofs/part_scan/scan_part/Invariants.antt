@@ -1,0 +1,14 @@
+use Rattle.std.proofs.Common.{◌≡◌, IsTrue}
+use Rattle.mt_scan.proofs.PartSteps.{HasFed}
+use Rattle.mt_scan.proofs.part_scan.scan_part.Given as goal
+
+-- what was handed out is fed, and nothing failed
+abbrev pub invariant-pieces : goal.invariant-pieces
+invariant-pieces g l = record {
+  failed : (g.S.Source.seen l.source).failures ≡ (g.S.Source.seen l.fn.source).failures;
+  steady : IsTrue (g.S.Source.seen l.fn.source).steady → IsTrue (g.S.Source.seen l.source).steady;
+  fed : HasFed (g.S.Source.seen l.fn.source) (g.S.Source.seen l.source) l.feed;
+}
+
+abbrev pub decreases-pieces : goal.decreases-pieces
+decreases-pieces g l = (g.S.Source.seen l.source).bound

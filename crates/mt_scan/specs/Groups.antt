@@ -1,0 +1,38 @@
+-- Parts by the numbers of their checkpoints.
+use Rattle.std.specs.Prelude.{◌≡◌, ℕ, ◌<◌, List, [], length, map, Option, Some, None, Contains}
+use Rattle.std.specs.Ordering.{nat_cmp}
+use Rattle.std.specs.BTreeMap.{BTreeMap, get}
+use Rattle.mt_scan.specs.PartScans.{KnownPart, whole, broken}
+use Rattle.mt_scan.specs.Choice.{Checkpoint, parts_of}
+use Rattle.mt_scan.specs.Candidates.{shown_by_all, CanMakeUp, IsMadeOf}
+use Rattle.mt_scan.specs.declared.group.Group.{Group}
+use Rattle.mt_scan.specs.declared.group.Group.TheVariants as groups
+use Rattle.mt_scan.specs.declared.candidate.Candidate.{Candidate}
+
+-- the parts of a checkpoint, in any order: they are all whole, or one of them is broken
+abbrev pub IsGroupOf : List KnownPart → Group → Type 0
+IsGroupOf parts (groups.Whole texts) = (0 < length parts) × (parts ≡ map whole (shown_by_all texts.items))
+IsGroupOf parts groups.Broken = (number : ℕ) × Contains parts (broken number)
+
+-- there are no parts, or this is their group
+abbrev pub IsGroupAt : List KnownPart → Option Group → Type 0
+IsGroupAt parts None = parts ≡ []
+IsGroupAt parts (Some group) = IsGroupOf parts group
+
+-- the groups of the checkpoints by their numbers
+abbrev pub AreGroupsOf : List KnownPart → BTreeMap ℕ Group → Type 0
+AreGroupsOf parts all = (number : ℕ) → IsGroupAt (parts_of number parts) (get nat_cmp all number)
+
+-- the group has just the parts of the checkpoint
+abbrev pub HasCheckpoint : Group → Checkpoint → Type 0
+HasCheckpoint (groups.Whole texts) checkpoint = CanMakeUp (shown_by_all texts.items) checkpoint
+HasCheckpoint groups.Broken checkpoint = ⊥
+
+-- the parts of the group make up no checkpoint
+abbrev pub HasNone : Group → Type 0
+HasNone group = (checkpoint : Checkpoint) → HasCheckpoint group checkpoint → ⊥
+
+-- the candidate of this number that is made of the group
+abbrev pub IsCandidateOf : ℕ → Group → Candidate → Type 0
+IsCandidateOf number (groups.Whole texts) candidate = IsMadeOf number (shown_by_all texts.items) candidate
+IsCandidateOf number groups.Broken candidate = ⊥

@@ -1,0 +1,38 @@
+-- What a scan of a checkpoint part gives: a function of the part's bytes.
+use Rattle.std.specs.Prelude.{◌≡◌, ℕ, List}
+use Rattle.mt_words.specs.declared.fault.Fault.{Fault}
+use Rattle.mt_words.specs.declared.fault.Fault.TheVariants as faults
+use Rattle.mt_record.specs.declared.part_text.PartFault.TheVariants as of_part
+use Rattle.mt_record.specs.Parts.{PartReading, IsPartReading, shown_by}
+use Rattle.mt_record.specs.PartFaults.{IsPartFault}
+use Rattle.mt_scan.specs.declared.part_scan.PartScan.{PartScan}
+use Rattle.mt_scan.specs.declared.part_scan.PartScan.TheVariants as scans
+
+-- what is known of a part: what it says; or, where it is broken, the number of its checkpoint; or, where it has no header, nothing
+pub data KnownPart : Type 0 where
+  whole : PartReading → KnownPart
+  broken : ℕ → KnownPart
+  nameless : KnownPart
+
+-- this is known of the bytes
+abbrev pub IsKnown : List ℕ → KnownPart → Type 0
+IsKnown bytes (whole part) = IsPartReading bytes part
+IsKnown bytes (broken number) = (entries : ℕ) × IsPartFault bytes (of_part.Broken number entries)
+IsKnown bytes nameless = IsPartFault bytes of_part.Header
+
+-- what a scan shows of its part
+abbrev pub known_by : PartScan → KnownPart
+known_by (scans.Whole text) = whole (shown_by text)
+known_by (scans.Broken number) = broken number
+known_by scans.Nameless = nameless
+
+-- the fault of a scan is that of the part of this number: its source failed, or memory was refused
+abbrev pub IsPartScanFault : ℕ → Fault → Type 0
+IsPartScanFault number (faults.PartSource part) = part ≡ number
+IsPartScanFault number faults.Memory = Unit {0}
+IsPartScanFault number faults.NoLogs = ⊥
+IsPartScanFault number (faults.Header log) = ⊥
+IsPartScanFault number (faults.Record log nth what) = ⊥
+IsPartScanFault number (faults.Source log) = ⊥
+IsPartScanFault number (faults.Gap log) = ⊥
+IsPartScanFault number (faults.Missing piece) = ⊥

@@ -1,0 +1,49 @@
+-- The best of the checkpoints, by the groups of their parts.
+use Rattle.std.specs.Prelude.{ℕ, ◌<◌, ◌≤◌, ◌↔◌, List, Option, Some, None, Contains}
+use Rattle.std.specs.Option.{option_map}
+use Rattle.std.specs.List.Sorted.{IsStrictlyIncreasing}
+use Rattle.mt_scan.specs.PartScans.{KnownPart}
+use Rattle.mt_scan.specs.Choice.{Checkpoint, IsNoBetter, IsChosenOf, AreSkipped}
+use Rattle.mt_scan.specs.Candidates.{candidate_in}
+use Rattle.mt_scan.specs.Groups.{HasCheckpoint, HasNone}
+use Rattle.mt_scan.specs.declared.candidate.Candidate.{Candidate}
+use Rattle.mt_scan.specs.declared.group.Group.{Group}
+use Rattle.mt_scan.specs.declared.selection.Selection.{Selection}
+
+-- each of these numbers is below this one
+abbrev pub AreBelow : List (ℕ × Group) → ℕ → Type 0
+AreBelow all number = (entry : ℕ × Group) → Contains all entry → entry.0 < number
+
+-- a checkpoint of one of these groups that ends below the cutoff
+pub record IsOffered (all : List (ℕ × Group)) (cutoff : ℕ) (checkpoint : Checkpoint) : Type 0 where
+  pub group : Group
+  pub stands : Contains all (checkpoint.number, group)
+  pub has : HasCheckpoint group checkpoint
+  pub ends_below : checkpoint.end < cutoff
+
+-- the number of one of these groups, which is of no checkpoint
+pub record IsPassed (all : List (ℕ × Group)) (number : ℕ) : Type 0 where
+  pub group : Group
+  pub stands : Contains all (number, group)
+  pub none : HasNone group
+
+-- the best of the checkpoints that are offered
+abbrev pub IsBestOf : List (ℕ × Group) → ℕ → Option Candidate → Type 0
+IsBestOf all cutoff None = (other : Checkpoint) → IsOffered all cutoff other → ⊥
+IsBestOf all cutoff (Some best) = IsOffered all cutoff (candidate_in best) × ((other : Checkpoint) → IsOffered all cutoff other → IsNoBetter other (candidate_in best))
+
+-- the best of these groups, and the numbers of those that are of no checkpoint
+pub record IsSelectionOf (all : List (ℕ × Group)) (cutoff : ℕ) (selection : Selection) : Type 0 where
+  pub best : IsBestOf all cutoff selection.best
+  pub rise : IsStrictlyIncreasing selection.skipped.items
+  pub exact : (number : ℕ) → Contains selection.skipped.items number ↔ IsPassed all number
+
+-- a candidate that is to stand in the place of the best one so far
+abbrev pub IsNoWorse : ℕ → Option Candidate → Candidate → Type 0
+IsNoWorse cutoff None candidate = candidate.end < cutoff
+IsNoWorse cutoff (Some best) candidate = (candidate.end < cutoff) × (best.end ≤ candidate.end)
+
+-- what of these parts is to be chosen, and what to be skipped
+pub record IsSelectionFor (parts : List KnownPart) (cutoff : ℕ) (selection : Selection) : Type 0 where
+  pub chosen : IsChosenOf parts cutoff (option_map candidate_in selection.best)
+  pub skipped : AreSkipped parts selection.skipped.items

@@ -1,0 +1,61 @@
+//! Scans of checkpoint parts.
+ghost use Rattle.std.specs.Prelude.{◌≡◌, ◌+◌, List, ℕ, IfOk, IfErr, IsTrue};
+ghost use Rattle.mt_scan.specs.Scans.{OfTold, failures_of};
+ghost use Rattle.mt_scan.specs.PartScans.{IsKnown, known_by, IsPartScanFault};
+ghost use Rattle.mt_scan.specs.Keeping.{FeedsPartPiece};
+ghost use Rattle.mt_record.specs.PartFeeding.{IsPartFed};
+
+use crate::source::Source;
+use mt_record::{PartFault, PartFeed, PartText};
+use mt_words::Fault;
+use std::alloc::Global;
+
+/// What a scan found in a part of a checkpoint.
+#[derive(Debug, Drop)]
+pub enum PartScan {
+    /// The part is whole.
+    Whole(PartText),
+    /// It has a header, and is broken.
+    Broken {
+        /// The number of its checkpoint.
+        number: u32,
+    },
+    /// It has no header: it belongs to no checkpoint.
+    Nameless,
+}
+
+/// Reads the part of this number from its source, to the end or to the first fault of its bytes; no piece is asked for
+/// after that. A broken part is no fault: its checkpoint is invalid. An Err is `PartSource` where the source failed, or
+/// `Memory` where a growth was refused.
+pub fn scan_part<S: Source>(alloc: Global, source: &mut S, part: usize) -> Result<PartScan, Fault>
+    ensures scan { IfOk result (λ scan. OfTold (S.seen source.old).told (λ bytes. IsKnown bytes (known_by scan))) }
+    ensures fault { IfErr result (IsPartScanFault part) }
+    ensures failed { (S.seen source.new).failures ≡ (S.seen source.old).failures + failures_of result }
+    ensures steady { IsTrue (S.seen source.old).steady → failures_of result ≡ 0 }
+{
+    let mut feed = PartFeed::new(alloc);
+    'pieces: while feed_piece(source, &mut feed, part)? {}
+    match feed.finish() {
+        Ok(text) => Ok(PartScan::Whole(text)),
+        Err(PartFault::Broken { number, entries: _ }) => Ok(PartScan::Broken { number }),
+        Err(PartFault::Header) => Ok(PartScan::Nameless),
+        Err(PartFault::Memory) => Err(Fault::Memory),
+    }
+}
+
+/// Feeds the next piece of the part, if there is one; false at the end, and after a fault of the bytes, which the feed
+/// keeps.
+fn feed_piece<S: Source>(source: &mut S, feed: &mut PartFeed, part: usize) -> Result<bool, Fault>
+    ensures fed { (bytes : List ℕ) → IsPartFed feed.old bytes →
+        IfOk result (FeedsPartPiece (S.seen source.old) (S.seen source.new) feed.new bytes) }
+    ensures fault { IfErr result (IsPartScanFault part) }
+    ensures failed { (S.seen source.new).failures ≡ (S.seen source.old).failures + failures_of result }
+    ensures steady { IsTrue (S.seen source.old).steady →
+        (failures_of result ≡ 0) × IsTrue (S.seen source.new).steady }
+{
+    match source.advance() {
+        Ok(0) => Ok(false),
+        Ok(_) => Ok(feed.feed(source.piece()).is_ok()),
+        Err(_) => Err(Fault::PartSource { part }),
+    }
+}

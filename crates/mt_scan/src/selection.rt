@@ -1,0 +1,70 @@
+//! The best of the checkpoints.
+ghost use Rattle.std.specs.Prelude.{◌≡◌, ◌↔◌, ℕ, List, [], ◌∷◌, ◌++◌, Some, IsTrue, IfOk, OnOk};
+ghost use Rattle.mt_scan.specs.PartScans.{KnownPart};
+ghost use Rattle.mt_scan.specs.Groups.{AreGroupsOf};
+ghost use Rattle.mt_scan.specs.Selections.{AreBelow, IsSelectionOf, IsNoWorse, IsSelectionFor};
+
+use crate::candidate::Candidate;
+use crate::group::Group;
+use mt_words::Memory;
+use std::alloc::Global;
+use std::collections::BTreeMap;
+
+/// What was found among the checkpoints so far, which come by rising numbers.
+#[derive(Debug, Drop)]
+pub struct Selection {
+    /// Of the valid ones that end below the cutoff the one with the greatest end, and then the greatest number.
+    pub best: Option<Candidate>,
+    /// The numbers of the invalid ones, rising.
+    pub skipped: Vec<u32>,
+}
+
+impl Selection {
+    /// Takes in the next checkpoint, by its parts.
+    fn add(&mut self, number: u32, group: Group, cutoff: u64) -> Result<(), Memory>
+        ensures { OnOk result ((all : List (ℕ × Group)) → AreBelow all number → IsSelectionOf all cutoff self.old →
+            IsSelectionOf (all ++ (number, group) ∷ []) cutoff self.new) }
+    {
+        match group.into_candidate(number) {
+            Some(candidate) => self.offer(candidate, cutoff),
+            None => self.skipped.push(number)?,
+        }
+        Ok(())
+    }
+
+    /// Keeps the valid checkpoint, if it is no worse than the best so far.
+    fn offer(&mut self, candidate: Candidate, cutoff: u64)
+        ensures taken { IsNoWorse cutoff self.old.best candidate → self.new.best ≡ Some candidate }
+        ensures left { (IsNoWorse cutoff self.old.best candidate → ⊥) → self.new.best ≡ self.old.best }
+        ensures skipped { self.new.skipped ≡ self.old.skipped }
+    {
+        if self.is_no_worse(&candidate, cutoff) {
+            self.best = Some(candidate);
+        }
+    }
+
+    /// Whether the valid checkpoint is to stand in the place of the best so far.
+    fn is_no_worse(&self, candidate: &Candidate, cutoff: u64) -> bool
+        ensures { IsTrue result ↔ IsNoWorse cutoff self.now.best candidate.now }
+    {
+        match &self.best {
+            Some(best) => candidate.end < cutoff && best.end <= candidate.end,
+            None => candidate.end < cutoff,
+        }
+    }
+}
+
+/// Selects among the checkpoints, whose parts are these.
+pub fn select(alloc: Global, groups: BTreeMap<u32, Group>, cutoff: u64) -> Result<Selection, Memory>
+    ensures { IfOk result (λ selection. (parts : List KnownPart) → AreGroupsOf parts groups →
+        IsSelectionFor parts cutoff selection) }
+{
+    let mut selection = Selection {
+        best: None,
+        skipped: Vec::new(alloc),
+    };
+    for (number, group) in groups {
+        selection.add(number, group, cutoff)?;
+    }
+    Ok(selection)
+}
