@@ -83,7 +83,7 @@ log_apart log nth (r ∷ rs) u w at here same =
 -- ---- all logs
 
 -- the updates of logs numbered from log on
-of_logs : (log : ℕ) (logs : List (List Logged)) (u : Update) → Contains (all_updates log logs) u
+pub of_logs : (log : ℕ) (logs : List (List Logged)) (u : Update) → Contains (all_updates log logs) u
     → (k n : ℕ) × (u.stamp.origin ≡ origins.Log k n) × (log ≤ k)
 of_logs log [] u at = absurd (no_element u at)
 of_logs log (l ∷ ls) u at =

@@ -1,24 +1,25 @@
 -- From the scans of the logs to what recovery finds.
-use Rattle.std.proofs.Common.{◌≡◌, ℕ, zero, suc, ◌<◌, ◌≤◌, Bool, true, false, List, [], ◌∷◌, ◌++◌, length, get_or, Some, None, refl, sym, ap, subst, arith}
+use Rattle.std.proofs.Common.{◌≡◌, ℕ, zero, suc, ◌<◌, ◌≤◌, Bool, true, false, List, [], ◌∷◌, ◌++◌, length, get_or, Option, Some, None, refl, sym, subst, arith}
 use Rattle.std.specs.Prelude.{nat_lt, not, cond, filter}
 use Rattle.std.specs.List.{position, position_or_len}
 use Rattle.std.proofs.lemmas.Bool.Decides.{nat_tests}
-use Rattle.std.proofs.lemmas.List.{append-nil}
 use Rattle.std.proofs.lemmas.List.Sums.{prefix_len_passes}
 use Rattle.std.proofs.lemmas.List.Quantifiers.{position-Some}
 use Rattle.mt_words.specs.declared.fault.Fault.TheVariants.{Gap}
+use Rattle.mt_words.specs.declared.record.Change.{Change}
 use Rattle.mt_words.specs.declared.update.Update.{Update}
 use Rattle.mt_words.specs.Walks.{Pair}
 use Rattle.mt_record.specs.Logs.{LogReading}
 use Rattle.mt_scan.specs.declared.log_scan.LogScan.{LogScan}
 use Rattle.mt_scan.specs.Cutoff.{IsCutoff, HaveNumbersOf}
-use Rattle.mt_recover.specs.declared.window.Window.{Window}
-use Rattle.mt_recover.specs.Survivors.{in_window, all_updates, log_survivors}
+use Rattle.mt_scan.specs.PartScans.{KnownPart}
+use Rattle.mt_scan.specs.Choice.{Checkpoint, IsChosenOf}
+use Rattle.mt_recover.specs.Survivors.{in_window, all_updates, wholes, entry_updates, begin_of, survivors}
 use Rattle.mt_recover.specs.Walk.{AreApart, AreLawful, IsWalk}
-use Rattle.mt_recover.specs.Recovery.{AreReadings, Facts, IsGap, records_of, IsStoreOf}
+use Rattle.mt_recover.specs.Recovery.{AreReadings, AreKnown, Facts, IsGap, records_of, IsStoreOf}
 use Rattle.mt_recover.specs.Verdict.{IsFirst, IsVerdict}
-use Rattle.mt_recover.specs.LogScans.{ShowAll, AreScansOf, kept, kept_in}
-use Rattle.mt_recover.proofs.ReplayLemmas.{survivors_apart, survivors_lawful}
+use Rattle.mt_recover.specs.LogScans.{ShowAll, AreScansOf, kept, surviving}
+use Rattle.mt_recover.proofs.SurvivorLemmas.{survivors_apart, survivors_lawful}
 
 -- ---- gaps
 
@@ -94,10 +95,6 @@ same_updates number [] (l ∷ ls) show = absurd show
 same_updates number (s ∷ ss) [] show = absurd show
 same_updates number (s ∷ ss) (l ∷ ls) show = let rest = same_updates (suc number) ss ls show.1 in λ i. show.0.updates i ++ rest i
 
--- those in the window are what survives of the logs
-same_survivors : (window : Window) (scans : List LogScan) (readings : List LogReading) → ShowAll 0 scans readings → kept_in window scans ≡ log_survivors window (records_of readings)
-same_survivors window scans readings show = ap (filter (in_window window)) (same_updates 0 scans readings show)
-
 pub no_logs : (logs : List (List ℕ)) (scans : List LogScan) → AreScansOf logs scans → scans ≡ [] → logs ≡ []
 no_logs logs scans are e = empty logs are.readings are.read (none are.readings (subst (λ (x : List LogScan). ShowAll 0 x are.readings) e are.show))
   where
@@ -116,35 +113,50 @@ no_logs logs scans are e = empty logs are.readings are.read (none are.readings (
 abbrev pub IsCutoffOf : List LogScan → ℕ → Type 0
 IsCutoffOf scans cutoff = (readings : List LogReading) → HaveNumbersOf scans readings → IsCutoff readings cutoff
 
--- what recovery finds in the scans of logs without parts
-abbrev facts_of : (logs : List (List ℕ)) (scans : List LogScan) (cutoff : ℕ) → AreScansOf logs scans → IsCutoffOf scans cutoff → Facts logs []
-facts_of logs scans cutoff are is = record {
+-- what recovery finds in the scans of logs and in what is known of parts
+abbrev facts_of : (logs parts : List (List ℕ)) (scans : List LogScan) (known : List KnownPart) (cutoff : ℕ) (chosen : Option Checkpoint)
+    → AreScansOf logs scans → AreKnown parts known → IsCutoffOf scans cutoff → IsChosenOf known cutoff chosen → Facts logs parts
+facts_of logs parts scans known cutoff chosen are know is of = record {
   readings = are.readings;
   read = are.read;
   cutoff = cutoff;
   is_cutoff = is are.readings (numbers_of 0 scans are.readings are.show);
-  chosen = None;
-  is_chosen = refl;
+  chosen = chosen;
+  is_chosen = (known, know, of);
 }
 
 -- the least log with a gap
-pub gap_of : (logs : List (List ℕ)) (scans : List LogScan) (cutoff i : ℕ) → AreScansOf logs scans → IsCutoffOf scans cutoff → position (has_gap 0) scans ≡ Some i → IsVerdict logs [] (Gap i)
-gap_of logs scans cutoff i are is e = (facts_of logs scans cutoff are is, first_gap 0 scans are.readings i (numbers_of 0 scans are.readings are.show) e)
+pub gap_of : (logs parts : List (List ℕ)) (scans : List LogScan) (known : List KnownPart) (cutoff begin : ℕ) (chosen : Option Checkpoint) (i : ℕ)
+    → AreScansOf logs scans → AreKnown parts known → IsCutoffOf scans cutoff → IsChosenOf known cutoff chosen → begin ≡ begin_of chosen
+    → position (has_gap begin) scans ≡ Some i → IsVerdict logs parts (Gap i)
+gap_of logs parts scans known cutoff begin chosen i are know is of from e = (
+  facts_of logs parts scans known cutoff chosen are know is of,
+  subst (λ (n : ℕ). IsFirst (IsGap n are.readings) i) from (first_gap begin scans are.readings i (numbers_of 0 scans are.readings are.show) e),
+)
 
 -- the walk of updates, where they are apart and lawful
 abbrev pub IsWalkOfLawful : List Update → List Pair → Type 0
 IsWalkOfLawful updates pairs = AreApart updates → AreLawful updates → IsWalk updates pairs
 
--- the store of logs without parts
-pub store_is : (logs : List (List ℕ)) (scans : List LogScan) (cutoff : ℕ) (pairs : List Pair) → AreScansOf logs scans → IsCutoffOf scans cutoff → position (has_gap 0) scans ≡ None
-    → IsWalkOfLawful (kept_in (record { begin = 0; cutoff = cutoff }) scans) pairs → IsStoreOf logs [] pairs
-store_is logs scans cutoff pairs are is e walk_of = record {
-  facts = facts_of logs scans cutoff are is;
-  no_gap = no_gap 0 scans are.readings (numbers_of 0 scans are.readings are.show) e;
+-- what survives of the scans and of entries is what survives of the logs and of the chosen checkpoint
+same_survivors : (scans : List LogScan) (readings : List LogReading) (entries : List Change) (cutoff begin : ℕ) (chosen : Option Checkpoint)
+    → ShowAll 0 scans readings → begin ≡ begin_of chosen → wholes entries ≡ entry_updates chosen
+    → surviving (record { begin = begin; cutoff = cutoff }) scans entries ≡ survivors cutoff chosen (records_of readings)
+same_survivors scans readings entries cutoff begin chosen show from all =
+    let updates = same_updates 0 scans readings show in
+    λ i. filter (in_window (record { begin = from i; cutoff = cutoff })) (updates i) ++ all i
+
+-- the store of logs and parts
+pub store_is : (logs parts : List (List ℕ)) (scans : List LogScan) (known : List KnownPart) (entries : List Change) (cutoff begin : ℕ) (chosen : Option Checkpoint)
+    (pairs : List Pair) → AreScansOf logs scans → AreKnown parts known → IsCutoffOf scans cutoff → IsChosenOf known cutoff chosen → begin ≡ begin_of chosen
+    → wholes entries ≡ entry_updates chosen → position (has_gap begin) scans ≡ None
+    → IsWalkOfLawful (surviving (record { begin = begin; cutoff = cutoff }) scans entries) pairs → IsStoreOf logs parts pairs
+store_is logs parts scans known entries cutoff begin chosen pairs are know is of from all e walk_of = record {
+  facts = facts_of logs parts scans known cutoff chosen are know is of;
+  no_gap = subst (λ (n : ℕ). (i : ℕ) → IsGap n are.readings i → ⊥) from (no_gap begin scans are.readings (numbers_of 0 scans are.readings are.show) e);
   walk =
-      let window : Window = record { begin = 0; cutoff = cutoff } in
-      let records = records_of are.readings in
-      let walk = subst (λ (x : List Update). IsWalkOfLawful x pairs) (same_survivors window scans are.readings are.show) walk_of in
-      subst (λ (x : List Update). IsWalk x pairs) (sym (append-nil (log_survivors window records)))
-      (walk (survivors_apart window records) (survivors_lawful window logs are.readings are.read));
+      let same = same_survivors scans are.readings entries cutoff begin chosen are.show from all in
+      let walk = subst (λ (x : List Update). IsWalkOfLawful x pairs) same walk_of in
+      walk (survivors_apart known cutoff chosen (records_of are.readings) of)
+      (survivors_lawful parts known cutoff chosen logs are.readings know of are.read);
 }

@@ -6,11 +6,12 @@ pub mod StoreLemmas
 pub mod WalkLemmas
 pub mod Apart
 pub mod ReplayLemmas
+pub mod OneWalk
+pub mod SurvivorLemmas
 pub mod ReadingLemmas
 pub mod SourceLemmas
 pub mod FactLemmas
 pub mod FindLemmas
 pub mod DumpLemmas
-pub mod OneWalk
 pub mod OneVerdict
 pub mod Worked

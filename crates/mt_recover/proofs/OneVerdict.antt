@@ -14,9 +14,13 @@ use Rattle.mt_record.specs.Logs.{LogReading, IsReading}
 use Rattle.mt_record.specs.LogFaults.{IsLogFault, fault_at}
 use Rattle.mt_record.proofs.OneReading.{one_reading_of, one_fault, not_both}
 use Rattle.mt_scan.specs.Cutoff.{IsCutoff}
-use Rattle.mt_recover.specs.Survivors.{Checkpoint, begin_of, survivors}
+use Rattle.mt_scan.specs.PartScans.{KnownPart}
+use Rattle.mt_scan.specs.Choice.{Checkpoint, IsChosenOf}
+use Rattle.mt_scan.proofs.OneChoice.{one_chosen}
+use Rattle.mt_scan.proofs.OneKnown.{one_known}
+use Rattle.mt_recover.specs.Survivors.{begin_of, survivors}
 use Rattle.mt_recover.specs.Walk.{IsWalk}
-use Rattle.mt_recover.specs.Recovery.{AreReadings, IsChosen, Facts, IsGap, records_of, IsStoreOf}
+use Rattle.mt_recover.specs.Recovery.{AreReadings, AreKnown, IsChosen, Facts, IsGap, records_of, IsStoreOf}
 use Rattle.mt_recover.specs.Verdict.{IsFirst, IsFirstFault, IsVerdict}
 use Rattle.mt_recover.proofs.KeyWritesLemmas.{no_element}
 use Rattle.mt_recover.proofs.OneWalk.{one_walk}
@@ -64,11 +68,26 @@ no_fault_at logs readings i bytes fault are at is_fault =
 cutoff_at_most : (readings : List LogReading) (cutoff other : ℕ) → IsCutoff readings cutoff → IsCutoff readings other → cutoff ≤ other
 cutoff_at_most readings cutoff other is too = is.least other too.has
 
--- where there is no part, no checkpoint is chosen
-same_chosen : (parts : List (List ℕ)) (cutoff last : ℕ) (chosen other : Option Checkpoint) → IsChosen parts cutoff chosen
+-- of parts one thing is known
+same_known : (parts : List (List ℕ)) (known others : List KnownPart) → AreKnown parts known → AreKnown parts others → known ≡ others
+same_known [] [] [] are too = refl
+same_known [] [] (o ∷ os) are too = absurd too
+same_known [] (k ∷ ks) others are too = absurd are
+same_known (p ∷ ps) [] others are too = absurd are
+same_known (p ∷ ps) (k ∷ ks) [] are too = absurd too
+same_known (p ∷ ps) (k ∷ ks) (o ∷ os) are too =
+    let first = one_known p k o are.0 too.0 in
+    let rest = same_known ps ks os are.1 too.1 in
+    λ i. first i ∷ rest i
+
+-- below a cutoff one checkpoint is chosen
+same_chosen : (parts : List (List ℕ)) (cutoff last : ℕ) (chosen other : Option Checkpoint) → cutoff ≡ last → IsChosen parts cutoff chosen
     → IsChosen parts last other → chosen ≡ other
-same_chosen [] cutoff last chosen other is too = is ∙ sym too
-same_chosen (p ∷ ps) cutoff last chosen other is too = absurd is
+same_chosen parts cutoff last chosen other same is too =
+    let known = same_known parts is.0 too.0 is.1 too.1 in
+    let chosen_too : IsChosenOf too.0 last chosen =
+    subst (λ (x : List KnownPart × ℕ). IsChosenOf x.0 x.1 chosen) (λ i. (known i, same i)) is.2 in
+    one_chosen too.0 last chosen other chosen_too too.2
 
 -- recovery finds one thing in logs and parts
 pub same_facts : (logs parts : List (List ℕ)) (a b : Facts logs parts)
@@ -78,7 +97,8 @@ same_facts logs parts a b =
     let is : IsCutoff b.readings a.cutoff = subst (λ (x : List LogReading). IsCutoff x a.cutoff) readings a.is_cutoff in
     let low = cutoff_at_most b.readings a.cutoff b.cutoff is b.is_cutoff in
     let high = cutoff_at_most b.readings b.cutoff a.cutoff b.is_cutoff is in
-    (readings, le_antisymm low high, same_chosen parts a.cutoff b.cutoff a.chosen b.chosen a.is_chosen b.is_chosen)
+    let cutoff : a.cutoff ≡ b.cutoff = le_antisymm low high in
+    (readings, cutoff, same_chosen parts a.cutoff b.cutoff a.chosen b.chosen cutoff a.is_chosen b.is_chosen)
 
 -- no list of readings of no logs has an element
 no_log : (readings : List LogReading) (log : LogReading) → AreReadings [] readings → Contains readings log → ⊥

@@ -22,11 +22,11 @@ Rises Before [] = Unit {0}
 Rises Before (x ∷ xs) = AllByRecursion (Before x) xs × Rises Before xs
 
 -- the head is in the list
-head_in : {A : Type 0} (x : A) (xs : List A) → Contains (x ∷ xs) x
+pub head_in : {A : Type 0} (x : A) (xs : List A) → Contains (x ∷ xs) x
 head_in x xs = Contains-append_left (x ∷ []) xs x (Contains-push [] x)
 
 -- what holds of all holds of each
-of_each : {A : Type 0} (P : A → Type 0) (xs : List A) (x : A) → AllByRecursion P xs → Contains xs x → P x
+pub of_each : {A : Type 0} (P : A → Type 0) (xs : List A) (x : A) → AllByRecursion P xs → Contains xs x → P x
 of_each P xs x all at = All-contains P xs x (All-from_recursion P xs all) at
 
 -- rising lists with the same elements have the same head
@@ -111,7 +111,7 @@ one_key_below : (p q : Pair) → IsBelow p.0 q.0 → IsBelow q.0 p.0 → ⊥
 one_key_below p q lt gt = one_less (slice_cmp nat_cmp p.0 q.0) (slice_cmp nat_cmp q.0 p.0) (nat_list_cmp_total.antisymm p.0 q.0) lt gt
 
 -- no key is below itself
-not_below_itself : (a b : List ℕ) → a ≡ b → IsBelow a b → ⊥
+pub not_below_itself : (a b : List ℕ) → a ≡ b → IsBelow a b → ⊥
 not_below_itself a b e lt =
     let itself : IsBelow a a = subst (IsBelow a) (sym e) lt in
     one_less (slice_cmp nat_cmp a a) (slice_cmp nat_cmp a a) (nat_list_cmp_total.antisymm a a) itself itself

@@ -17,11 +17,9 @@ use Rattle.mt_words.specs.Updates.{update_at, update_by, update_of, updates_from
 use Rattle.mt_record.specs.Logs.{AreRecords, LogReading}
 use Rattle.mt_scan.specs.declared.log_scan.LogScan.{LogScan}
 use Rattle.mt_recover.specs.declared.window.Window.{Window}
-use Rattle.mt_recover.specs.Survivors.{all_updates, log_updates, in_window, log_survivors}
+use Rattle.mt_recover.specs.Survivors.{all_updates, in_window}
 use Rattle.mt_recover.specs.LogScans.{kept, kept_in}
 use Rattle.mt_recover.specs.Recovery.{AreReadings, records_of}
-use Rattle.mt_recover.specs.Walk.{AreApart, AreLawful}
-use Rattle.mt_recover.proofs.Apart.{logs_apart}
 use Rattle.mt_recover.proofs.KeyWritesLemmas.{no_element, head_or_tail}
 
 -- ---- one more
@@ -50,7 +48,7 @@ scan_more window scans scan =
 
 -- ---- lawful records make lawful updates
 
-of_format : (format : Format) (kind : Kind) → AllowsKind (limits_of format) kind → AllowsKind widest kind
+pub of_format : (format : Format) (kind : Kind) → AllowsKind (limits_of format) kind → AllowsKind widest kind
 of_format One kind allows = allows
 
 lawful_one : (format : Format) (origin : Origin) (r : Logged) (change : Option Change) (u : Update) → r.change ≡ change → IsLawful (limits_of format) r → Contains (update_by origin r.timestamp change) u → AllowsKind widest u.kind
@@ -69,7 +67,7 @@ lawful_log format low log nth (r ∷ rs) u are at = elim (Contains-append_cases 
   | inr later ↦ lawful_log format r.timestamp log (suc nth) rs u are.2 later
 ]
 
-lawful_logs : (log : ℕ) (logs : List (List ℕ)) (readings : List LogReading) (u : Update) → AreReadings logs readings → Contains (all_updates log (records_of readings)) u → AllowsKind widest u.kind
+pub lawful_logs : (log : ℕ) (logs : List (List ℕ)) (readings : List LogReading) (u : Update) → AreReadings logs readings → Contains (all_updates log (records_of readings)) u → AllowsKind widest u.kind
 lawful_logs log [] [] u are at = absurd (no_element u at)
 lawful_logs log [] (l ∷ ls) u are at = absurd are
 lawful_logs log (b ∷ bs) [] u are at = absurd are
@@ -83,17 +81,9 @@ kept_head : {A : Type 0} (test : A → Bool) (b : Bool) (y x : A) (ys : List A) 
 kept_head test true y x ys at = head_or_tail y x (filter test ys) at
 kept_head test false y x ys at = inr at
 
-was_there : {A : Type 0} (test : A → Bool) (xs : List A) (x : A) → Contains (filter test xs) x → Contains xs x
+pub was_there : {A : Type 0} (test : A → Bool) (xs : List A) (x : A) → Contains (filter test xs) x → Contains xs x
 was_there test [] x at = absurd (no_element x at)
 was_there test (y ∷ ys) x at = elim (kept_head test (test y) y x ys at) as (λ _. Contains (y ∷ ys) x) [
   | inl e ↦ subst (Contains (y ∷ ys)) e (Contains-append_left (y ∷ []) ys y (Contains-push [] y))
   | inr later ↦ Contains-append_right (y ∷ []) ys x (was_there test ys x later)
 ]
-
--- no two survivors have one stamp
-pub survivors_apart : (window : Window) (logs : List (List Logged)) → AreApart (log_survivors window logs)
-survivors_apart window logs = λ u w at here _ same. logs_apart 0 logs u w (was_there (in_window window) (log_updates logs) u at) (was_there (in_window window) (log_updates logs) w here) same
-
--- what survives of logs is lawful
-pub survivors_lawful : (window : Window) (logs : List (List ℕ)) (readings : List LogReading) → AreReadings logs readings → AreLawful (log_survivors window (records_of readings))
-survivors_lawful window logs readings are = λ u at. lawful_logs 0 logs readings u are (was_there (in_window window) (log_updates (records_of readings)) u at)

@@ -1,18 +1,21 @@
 -- Sources that were scanned one after the other.
-use Rattle.std.proofs.Common.{◌≡◌, ◌∙◌, ℕ, zero, suc, ◌<◌, Bool, true, false, IsTrue, List, [], ◌∷◌, ◌++◌, length, take, Some, None, Result, Ok, Err, IfErr, refl, sym, ap, subst, arith}
-use Rattle.std.proofs.lemmas.List.{length-append}
-use Rattle.std.specs.Prelude.{slice_get, IsSomeAnd}
+use Rattle.std.proofs.Common.{◌≡◌, ◌∙◌, ℕ, zero, suc, ◌<◌, Bool, true, false, IsTrue, List, [], ◌∷◌, ◌++◌, length, map, take, Some, Result, Ok, Err, IfErr, refl, sym, ap, subst, arith}
+use Rattle.std.proofs.lemmas.List.{length-append, nil_from_length}
+use Rattle.std.proofs.lemmas.Bool.Decides.{nat_tests}
+use Rattle.std.specs.Prelude.{◌==◌, slice_get}
 use Rattle.mt_words.specs.declared.fault.Fault.{Fault}
 use Rattle.mt_words.specs.declared.fault.Fault.TheVariants as faults
 use Rattle.mt_record.specs.Logs.{LogReading, IsReading}
 use Rattle.mt_scan.specs.declared.log_scan.LogScan.{LogScan}
-use Rattle.mt_scan.specs.Sources.{Seen, Agrees}
+use Rattle.mt_scan.specs.declared.part_scan.PartScan.{PartScan}
+use Rattle.mt_scan.specs.Sources.{Seen}
 use Rattle.mt_scan.specs.Scans.{IsScanOf, IsScanFault, failures_of}
+use Rattle.mt_scan.specs.PartScans.{IsKnown, known_by, IsPartScanFault}
 use Rattle.mt_scan.proofs.Telling.{some_bytes}
-use Rattle.mt_recover.specs.Recovery.{AreReadings}
+use Rattle.mt_recover.specs.Recovery.{AreReadings, AreKnown}
 use Rattle.mt_recover.specs.Verdict.{IsAnswered}
 use Rattle.mt_recover.specs.LogScans.{ShowAll, AreScansOf}
-use Rattle.mt_recover.specs.Inputs.{MayHave, IsAnsweredFrom, BlamesUnsteady}
+use Rattle.mt_recover.specs.Inputs.{MayHave, AreLogs, IsAnsweredFrom, BlamesUnsteady}
 use Rattle.mt_recover.proofs.ReadingLemmas.{show_push}
 
 -- ---- what sources may have
@@ -77,9 +80,9 @@ pub behind_front : {A : Type 0} (front : List A) (x : A) (rest : List A) → sli
 behind_front [] x rest = refl
 behind_front (y ∷ ys) x rest = behind_front ys x rest
 
-pub fault_among : (logs rest : List (List ℕ)) (scans : List LogScan) (bytes : List ℕ) (number : ℕ) (fault : Fault) → number ≡ length scans → AreScansOf logs scans
-    → IsScanFault number bytes fault → IsAnsweredFrom (logs ++ bytes ∷ rest) [] fault
-fault_among logs rest scans bytes number fault at are is = by fault (subst (λ (n : ℕ). IsScanFault n bytes fault) here is)
+pub fault_among : (logs rest parts : List (List ℕ)) (scans : List LogScan) (bytes : List ℕ) (number : ℕ) (fault : Fault) → number ≡ length scans → AreScansOf logs scans
+    → IsScanFault number bytes fault → IsAnsweredFrom (logs ++ bytes ∷ rest) parts fault
+fault_among logs rest parts scans bytes number fault at are is = by fault (subst (λ (n : ℕ). IsScanFault n bytes fault) here is)
   where
     here : number ≡ length logs
     here = at ∙ as_many_scans 0 scans are.readings are.show ∙ sym (as_many_readings logs are.readings are.read)
@@ -90,14 +93,14 @@ fault_among logs rest scans bytes number fault at are is = by fault (subst (λ (
     before : AreReadings (take (length logs) all) are.readings
     before = subst (λ (x : List (List ℕ)). AreReadings x are.readings) (sym (front_of logs (bytes ∷ rest))) are.read
 
-    by : (fault : Fault) → IsScanFault (length logs) bytes fault → IsAnsweredFrom all [] fault
+    by : (fault : Fault) → IsScanFault (length logs) bytes fault → IsAnsweredFrom all parts fault
     by (faults.Header log) is =
-        subst (λ (n : ℕ). IsAnsweredFrom all [] (faults.Header n)) (sym is.0)
+        subst (λ (n : ℕ). IsAnsweredFrom all parts (faults.Header n)) (sym is.0)
         (record { readings = are.readings; before = before; bytes = bytes; stands = behind_front logs bytes rest; is_fault = is.1 })
     by (faults.Record log nth what) is =
-        subst (λ (n : ℕ). IsAnsweredFrom all [] (faults.Record n nth what)) (sym is.0)
+        subst (λ (n : ℕ). IsAnsweredFrom all parts (faults.Record n nth what)) (sym is.0)
         (record { readings = are.readings; before = before; bytes = bytes; stands = behind_front logs bytes rest; is_fault = is.1 })
-    by (faults.Source log) is = subst (λ (n : ℕ). IsAnsweredFrom all [] (faults.Source n)) (sym is) (are.readings, before)
+    by (faults.Source log) is = subst (λ (n : ℕ). IsAnsweredFrom all parts (faults.Source n)) (sym is) (are.readings, before)
     by faults.Memory is = tt
     by faults.NoLogs is = absurd is
     by (faults.PartSource part) is = absurd is
@@ -128,12 +131,88 @@ blames {S} seen front rest source bytes number fault at is steady = by fault is 
     by (faults.Gap log) is steady = tt
     by (faults.Missing piece) is steady = tt
 
--- ---- after the scans
+-- ---- parts
 
--- where there are no parts, there are none to read
-pub no_parts : {S : Type 0} (seen : S → Seen) (parts : List S) → parts ≡ [] → MayHave seen parts []
-no_parts seen [] none = tt
-no_parts seen (p ∷ ps) none = absurd cc
+-- one more part
+pub known_append : (parts : List (List ℕ)) (scans : List PartScan) (bytes : List ℕ) (scan : PartScan) → AreKnown parts (map known_by scans) → IsKnown bytes (known_by scan)
+    → AreKnown (parts ++ bytes ∷ []) (map known_by (scans ++ scan ∷ []))
+known_append [] [] bytes scan are is = (is, tt)
+known_append [] (s ∷ ss) bytes scan are is = absurd are
+known_append (p ∷ ps) [] bytes scan are is = absurd are
+known_append (p ∷ ps) (s ∷ ss) bytes scan are is = (are.0, known_append ps ss bytes scan are.1 is)
+
+-- the source of a part that is blamed
+pub blames_part : {S : Type 0} (seen : S → Seen) (front rest : List S) (source : S) (number : ℕ) (fault : Fault) → number ≡ length front
+    → IsPartScanFault number fault → (IsTrue (seen source).steady → failures_of {X = PartScan} (Err fault) ≡ 0) → BlamesUnsteady seen [] (front ++ source ∷ rest) fault
+blames_part seen front rest source number (faults.PartSource part) at is steady =
+    rw (is ∙ at, behind_front front source rest) (not_steady (seen source).steady steady)
+blames_part seen front rest source number faults.Memory at is steady = tt
+blames_part seen front rest source number faults.NoLogs at is steady = absurd is
+blames_part seen front rest source number (faults.Header log) at is steady = absurd is
+blames_part seen front rest source number (faults.Record log nth what) at is steady = absurd is
+blames_part seen front rest source number (faults.Source log) at is steady = absurd is
+blames_part seen front rest source number (faults.Gap log) at is steady = absurd is
+blames_part seen front rest source number (faults.Missing piece) at is steady = absurd is
+
+-- the fault of a part, where there are logs and none has a fault
+pub part_fault : (logs parts : List (List ℕ)) (part : ℕ) (fault : Fault) → 0 < length logs → AreLogs logs → IsPartScanFault part fault → IsAnsweredFrom logs parts fault
+part_fault logs parts part (faults.PartSource i) some are is = (some, are)
+part_fault logs parts part faults.Memory some are is = tt
+part_fault logs parts part faults.NoLogs some are is = absurd is
+part_fault logs parts part (faults.Header log) some are is = absurd is
+part_fault logs parts part (faults.Record log nth what) some are is = absurd is
+part_fault logs parts part (faults.Source log) some are is = absurd is
+part_fault logs parts part (faults.Gap log) some are is = absurd is
+part_fault logs parts part (faults.Missing piece) some are is = absurd is
+
+-- ---- logs and parts
+
+-- a source is blamed whatever the parts
+pub blames_log : {S : Type 0} (seen : S → Seen) (log_sources part_sources : List S) (fault : Fault) → BlamesUnsteady seen log_sources [] fault
+    → BlamesUnsteady seen log_sources part_sources fault
+blames_log seen ls ps (faults.Source log) is = is
+blames_log seen ls ps (faults.PartSource part) is = absurd is
+blames_log seen ls ps faults.NoLogs is = is
+blames_log seen ls ps (faults.Header log) is = is
+blames_log seen ls ps (faults.Record log nth what) is = is
+blames_log seen ls ps (faults.Gap log) is = is
+blames_log seen ls ps (faults.Missing piece) is = is
+blames_log seen ls ps faults.Memory is = is
+
+-- and a part's whatever the logs
+pub blames_beside : {S : Type 0} (seen : S → Seen) (log_sources part_sources : List S) (fault : Fault) → BlamesUnsteady seen [] part_sources fault
+    → BlamesUnsteady seen log_sources part_sources fault
+blames_beside seen ls ps (faults.Source log) is = absurd is
+blames_beside seen ls ps (faults.PartSource part) is = is
+blames_beside seen ls ps faults.NoLogs is = is
+blames_beside seen ls ps (faults.Header log) is = is
+blames_beside seen ls ps (faults.Record log nth what) is = is
+blames_beside seen ls ps (faults.Gap log) is = is
+blames_beside seen ls ps (faults.Missing piece) is = is
+blames_beside seen ls ps faults.Memory is = is
+
+-- where the test says that there are no sources, there are none
+pub no_sources : {S : Type 0} (sources : List S) (n : ℕ) (empty : Bool) → empty ≡ (n == 0) → n ≡ length sources → empty ≡ true → sources ≡ []
+no_sources sources n empty test same is =
+    let zero : (n == 0) ≡ true = sym test ∙ is in
+    nil_from_length sources (grind (arith, nat_tests))
+
+pub some_sources : {S : Type 0} (sources : List S) (n : ℕ) (empty : Bool) → empty ≡ (n == 0) → n ≡ length sources → empty ≡ false → 0 < length sources
+some_sources sources n empty test same is =
+    let some : (n == 0) ≡ false = sym test ∙ is in
+    grind (arith, nat_tests)
+
+-- no sources have no logs
+pub none_to_have : {S : Type 0} (seen : S → Seen) (sources : List S) → sources ≡ [] → MayHave seen sources []
+none_to_have seen [] none = tt
+none_to_have seen (s ∷ ss) none = absurd cc
+
+-- there are as many logs as sources
+pub as_many_have : {S : Type 0} (seen : S → Seen) (sources : List S) (logs : List (List ℕ)) → MayHave seen sources logs → length sources ≡ length logs
+as_many_have seen [] [] may = refl
+as_many_have seen [] (l ∷ ls) may = absurd may
+as_many_have seen (s ∷ ss) [] may = absurd may
+as_many_have seen (s ∷ ss) (l ∷ ls) may = ap suc (as_many_have seen ss ls may.1)
 
 -- the verdict on logs is what recovery from their sources answers
 pub answered_from : (logs parts : List (List ℕ)) (fault : Fault) → IsAnswered logs parts fault → IsAnsweredFrom logs parts fault

@@ -12,7 +12,6 @@ use Rattle.mt_words.specs.Words.{IsKey, IsBelow}
 use Rattle.mt_words.specs.Walks.{Pair, KeysRise, IsPair, IsMap}
 use Rattle.mt_recover.specs.Cells.{IsColumnsOf}
 use Rattle.mt_recover.specs.KeyWrites.{History}
-use Rattle.mt_recover.proofs.KeyWritesLemmas.{no_element}
 
 abbrev pub Entry : Type 0
 Entry = List ℕ × History

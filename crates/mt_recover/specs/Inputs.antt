@@ -1,5 +1,5 @@
 -- Sources of logs and parts, and what recovery from them answers.
-use Rattle.std.specs.Prelude.{◌≡◌, Bool, false, ℕ, IsSomeAnd, List, [], ◌∷◌, slice_get, take}
+use Rattle.std.specs.Prelude.{◌≡◌, false, ℕ, ◌<◌, IsSomeAnd, List, [], ◌∷◌, length, slice_get, take}
 use Rattle.mt_words.specs.declared.fault.Fault.{Fault}
 use Rattle.mt_words.specs.declared.fault.Fault.TheVariants as faults
 use Rattle.mt_record.specs.Logs.{LogReading}
@@ -23,11 +23,11 @@ OfSources seen log_sources part_sources P =
 abbrev pub AreLogs : List (List ℕ) → Type 0
 AreLogs logs = (readings : List LogReading) × AreReadings logs readings
 
--- The fault that recovery from sources answers: a source's where no log before it has a fault, or that of a part's where no
--- log has one; else that of recovery.
+-- The fault that recovery from sources answers: a source's where no log before it has a fault, or that of a part's where there
+-- are logs and none of them has one; else that of recovery.
 abbrev pub IsAnsweredFrom : List (List ℕ) → List (List ℕ) → Fault → Type 0
 IsAnsweredFrom logs parts (faults.Source i) = AreLogs (take i logs)
-IsAnsweredFrom logs parts (faults.PartSource i) = AreLogs logs
+IsAnsweredFrom logs parts (faults.PartSource i) = (0 < length logs) × AreLogs logs
 IsAnsweredFrom logs parts fault = IsAnswered logs parts fault
 
 -- a source that is blamed is not steady

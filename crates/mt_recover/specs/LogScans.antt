@@ -1,12 +1,13 @@
 -- The scans of logs, and the updates that they kept.
-use Rattle.std.specs.Prelude.{ℕ, suc, List, [], ◌∷◌, filter}
+use Rattle.std.specs.Prelude.{ℕ, suc, List, [], ◌∷◌, ◌++◌, filter}
 use Rattle.std.specs.List.{flat_map}
+use Rattle.mt_words.specs.declared.record.Change.{Change}
 use Rattle.mt_words.specs.declared.update.Update.{Update}
 use Rattle.mt_record.specs.Logs.{LogReading}
 use Rattle.mt_scan.specs.declared.log_scan.LogScan.{LogScan}
 use Rattle.mt_scan.specs.Scans.{ShowsLog}
 use Rattle.mt_recover.specs.declared.window.Window.{Window}
-use Rattle.mt_recover.specs.Survivors.{in_window}
+use Rattle.mt_recover.specs.Survivors.{in_window, wholes}
 use Rattle.mt_recover.specs.Recovery.{AreReadings}
 
 -- each scan shows what its log says; the logs are numbered from this number on
@@ -29,3 +30,7 @@ kept scans = flat_map (λ scan. scan.updates.items) scans
 -- those in the window
 abbrev pub kept_in : Window → List LogScan → List Update
 kept_in window scans = filter (in_window window) (kept scans)
+
+-- what survives of the scans, and all that these entries of a checkpoint make
+abbrev pub surviving : Window → List LogScan → List Change → List Update
+surviving window scans entries = kept_in window scans ++ wholes entries

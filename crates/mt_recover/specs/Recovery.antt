@@ -1,10 +1,12 @@
 -- What recovery makes of logs and checkpoint parts.
-use Rattle.std.specs.Prelude.{◌≡◌, ℕ, ◌<◌, Option, None, IsSomeAnd, List, [], ◌∷◌, map, slice_get}
+use Rattle.std.specs.Prelude.{ℕ, ◌<◌, Option, IsSomeAnd, List, [], ◌∷◌, map, slice_get}
 use Rattle.mt_words.specs.Changes.{Logged}
 use Rattle.mt_words.specs.Walks.{Pair}
 use Rattle.mt_record.specs.Logs.{LogReading, IsReading}
 use Rattle.mt_scan.specs.Cutoff.{IsCutoff}
-use Rattle.mt_recover.specs.Survivors.{Checkpoint, begin_of, survivors}
+use Rattle.mt_scan.specs.PartScans.{KnownPart, IsKnown}
+use Rattle.mt_scan.specs.Choice.{Checkpoint, IsChosenOf}
+use Rattle.mt_recover.specs.Survivors.{begin_of, survivors}
 use Rattle.mt_recover.specs.Walk.{IsWalk}
 
 -- each log says this
@@ -14,11 +16,16 @@ AreReadings (bytes ∷ logs) (log ∷ readings) = IsReading bytes log × AreRead
 AreReadings [] (log ∷ readings) = ⊥
 AreReadings (bytes ∷ logs) [] = ⊥
 
--- The checkpoint to begin from. Where there is no part there is none. Parts are not read yet: over them there is none to begin
--- from and none is left out, so that there is neither a store nor a gap.
+-- this is known of each part
+abbrev pub AreKnown : List (List ℕ) → List KnownPart → Type 0
+AreKnown [] [] = Unit {0}
+AreKnown (bytes ∷ parts) (part ∷ known) = IsKnown bytes part × AreKnown parts known
+AreKnown [] (part ∷ known) = ⊥
+AreKnown (bytes ∷ parts) [] = ⊥
+
+-- the checkpoint to begin from: that which is chosen among what is known of the parts
 abbrev pub IsChosen : List (List ℕ) → ℕ → Option Checkpoint → Type 0
-IsChosen [] cutoff chosen = chosen ≡ None
-IsChosen (part ∷ parts) cutoff chosen = ⊥
+IsChosen parts cutoff chosen = (known : List KnownPart) × AreKnown parts known × IsChosenOf known cutoff chosen
 
 -- what recovery finds: what the logs say, their cutoff, and the chosen checkpoint
 pub record Facts (logs parts : List (List ℕ)) : Type 0 where

@@ -5,6 +5,7 @@ use Rattle.mt_words.specs.declared.update.Origin.TheVariants as origins
 use Rattle.mt_words.specs.declared.update.Update.{Update}
 use Rattle.mt_words.specs.Changes.{Logged}
 use Rattle.mt_words.specs.Updates.{update_at, updates_from}
+use Rattle.mt_scan.specs.Choice.{Checkpoint}
 use Rattle.mt_recover.specs.declared.window.Window.{Window}
 
 -- the updates of logs, which are numbered from log on
@@ -16,16 +17,16 @@ all_updates log (rs ∷ rss) = updates_from log 0 rs ++ all_updates (suc log) rs
 abbrev pub log_updates : List (List Logged) → List Update
 log_updates logs = all_updates 0 logs
 
--- a checkpoint: where it begins, and the changes that its entries make
-pub record Checkpoint : Type 0 where
-  pub begin : ℕ
-  pub entries : List Change
+-- the updates that entries make, each of its key as a whole
+abbrev pub wholes : List Change → List Update
+wholes entries = map (update_at origins.Checkpoint 0) entries
 
 -- the updates of the chosen checkpoint, if there is one
 abbrev pub entry_updates : Option Checkpoint → List Update
 entry_updates None = []
-entry_updates (Some checkpoint) = map (update_at origins.Checkpoint 0) checkpoint.entries
+entry_updates (Some checkpoint) = wholes checkpoint.entries
 
+-- the timestamp from which on logs are replayed: that of the chosen checkpoint, or 0 where there is none
 abbrev pub begin_of : Option Checkpoint → ℕ
 begin_of None = 0
 begin_of (Some checkpoint) = checkpoint.begin

@@ -1,23 +1,28 @@
-//! What holds of all logs.
-ghost use Rattle.std.specs.Prelude.{◌≡◌, List, ℕ, Contains};
+//! What holds of all logs and parts.
+ghost use Rattle.std.specs.Prelude.{◌≡◌, List, Option, ℕ, Contains};
 ghost use Rattle.mt_words.specs.declared.fault.Fault.{Fault};
 ghost use Rattle.mt_words.specs.declared.update.Update.{Update};
 ghost use Rattle.mt_words.specs.Changes.{Logged};
 ghost use Rattle.mt_words.specs.Walks.{Pair};
-ghost use Rattle.mt_recover.specs.Survivors.{log_updates};
-ghost use Rattle.mt_recover.specs.Walk.{IsWalk};
+ghost use Rattle.mt_scan.specs.PartScans.{KnownPart};
+ghost use Rattle.mt_scan.specs.Choice.{Checkpoint, IsChosenOf};
+ghost use Rattle.mt_recover.specs.Survivors.{log_updates, survivors};
+ghost use Rattle.mt_recover.specs.Walk.{IsWalk, AreApart};
 ghost use Rattle.mt_recover.specs.Recovery.{IsStoreOf};
 ghost use Rattle.mt_recover.specs.Verdict.{IsVerdict};
 
-/// The stamps of any logs' updates are apart, and the walk of given updates is one list. A law: it has nothing to run.
+/// The stamps of any logs' updates are apart, and so are those of what survives of a key, whatever checkpoint is chosen;
+/// the walk of given updates is one list. A law: it has nothing to run.
 pub fn one_walk()
     ensures apart { (logs : List (List Logged)) (a b : Update) →
         Contains (log_updates logs) a → Contains (log_updates logs) b → a.stamp ≡ b.stamp → a ≡ b }
+    ensures survivors { (parts : List KnownPart) (cutoff : ℕ) (chosen : Option Checkpoint) (logs : List (List Logged)) →
+        IsChosenOf parts cutoff chosen → AreApart (survivors cutoff chosen logs) }
     ensures one { (updates : List Update) (pairs others : List Pair) →
         IsWalk updates pairs → IsWalk updates others → pairs ≡ others }
 {}
 
-/// Logs have one store or one fault, and never both. A law: it has nothing to run.
+/// Logs and parts have one store or one fault, and never both. A law: it has nothing to run.
 pub fn one_verdict()
     ensures one_store { (logs parts : List (List ℕ)) (pairs others : List Pair) →
         IsStoreOf logs parts pairs → IsStoreOf logs parts others → pairs ≡ others }

@@ -1,4 +1,4 @@
-//! Recovery of a store from update logs, and its text.
+//! Recovery of a store from update logs and checkpoint parts, and its text.
 #![tactic(auto)]
 
 mod cell;
@@ -11,6 +11,7 @@ mod read_logs;
 mod recover;
 mod replay;
 mod scan_logs;
+mod scan_parts;
 mod store;
 mod window;
 

@@ -1,7 +1,11 @@
 //! Recovery.
 ghost use Rattle.std.specs.Prelude.{◌≡◌, [], List, ℕ, map, IfOk, IfErr};
+ghost use Rattle.std.specs.Option.{option_map};
+ghost use Rattle.mt_scan.specs.PartScans.{known_by};
+ghost use Rattle.mt_scan.specs.Choice.{checkpoint_in};
+ghost use Rattle.mt_recover.specs.Survivors.{begin_of, wholes, entry_updates};
 ghost use Rattle.mt_recover.specs.LogScans.{AreScansOf};
-ghost use Rattle.mt_recover.specs.Recovery.{IsStoreOf};
+ghost use Rattle.mt_recover.specs.Recovery.{AreKnown, IsStoreOf};
 ghost use Rattle.mt_recover.specs.Verdict.{IsAnswered};
 ghost use Rattle.mt_recover.specs.Inputs.{OfSources, IsAnsweredFrom, BlamesUnsteady};
 
@@ -9,10 +13,11 @@ use crate::inputs::Inputs;
 use crate::read_logs::{first_gap, read_logs};
 use crate::replay::replay;
 use crate::scan_logs::scan_logs;
+use crate::scan_parts::scan_parts;
 use crate::store::Store;
 use crate::window::Window;
-use mt_scan::{LogScan, Source, cutoff};
-use mt_words::Fault;
+use mt_scan::{Checkpoint, LogScan, PartScan, Source, choose, cutoff};
+use mt_words::{Entry, Fault};
 use std::alloc::Global;
 use std::marker::Model;
 
@@ -39,21 +44,29 @@ impl Recovered {
     }
 }
 
-/// The store of the logs that the sources have, on one thread, without a checkpoint: there is no part yet. Each log is
-/// scanned once, in the order of the list, and no source outlives the call. An Err is the one fault of the logs;
-/// `Source` where a source that is not steady failed and no log before it has a fault; or `Memory` where a growth was
-/// refused. Of a source that does not tell its bytes no more is said than that it had some.
+/// The store of the logs and checkpoint parts that the sources have, on one thread. Where there is a valid checkpoint
+/// that ends below the cutoff, the logs are replayed over the last such one, from where it begins; a broken part is no
+/// fault. Each log is scanned once, in the order of the list, and then each part; no source outlives the call. Without
+/// a log nothing is read.
+///
+/// An Err is `NoLogs`; the fault of the first log that has one, or `Source` in its place where a source that is not
+/// steady failed; where no log has a fault, `PartSource` of the first part whose source, not a steady one, failed; then
+/// `Gap`; or `Memory` where a growth was refused. Of a source that does not tell its bytes no more is said than that it
+/// had some.
 pub fn recover_one<S: Source>(alloc: Global, inputs: Inputs<S>) -> Result<Recovered, Fault>
-    requires { inputs.parts.items ≡ [] }
     ensures store { IfOk result (λ recovered. OfSources S.seen inputs.logs.items inputs.parts.items
         (λ logs parts. IsStoreOf logs parts recovered.store)) }
     ensures fault { IfErr result (λ fault. OfSources S.seen inputs.logs.items inputs.parts.items
         (λ logs parts. IsAnsweredFrom logs parts fault)) }
     ensures steady { IfErr result (BlamesUnsteady S.seen inputs.logs.items inputs.parts.items) }
 {
-    let Inputs { logs, parts: _ } = inputs;
+    let Inputs { logs, parts } = inputs;
+    if logs.is_empty() {
+        return Err(Fault::NoLogs);
+    }
     let scans = scan_logs(alloc, logs)?;
-    recover_scans(alloc, scans)
+    let parts = scan_parts(alloc, parts)?;
+    recover_scans(alloc, scans, parts)
 }
 
 /// The store of the logs whose bytes are these, without a checkpoint, on one thread. The position of a log in the
@@ -63,23 +76,40 @@ pub fn recover_logs(alloc: Global, logs: &[&[u8]]) -> Result<Recovered, Fault>
     ensures fault { IfErr result (IsAnswered (map (λ log. log.now) logs.now) []) }
 {
     let scans = read_logs(alloc, logs)?;
-    recover_scans(alloc, scans)
+    recover_scans(alloc, scans, Vec::new(alloc))
 }
 
-/// The store of the logs whose scans are these, in the order of their numbers. An Err is `NoLogs`, the least log with a
-/// gap, or `Memory`.
-pub(crate) fn recover_scans(alloc: Global, scans: Vec<LogScan>) -> Result<Recovered, Fault>
-    ensures store { (logs : List (List ℕ)) → AreScansOf logs scans.items →
-        IfOk result (λ recovered. IsStoreOf logs [] recovered.store) }
-    ensures fault { (logs : List (List ℕ)) → AreScansOf logs scans.items → IfErr result (IsAnswered logs []) }
+/// The store of the logs and parts whose scans are these, each in the order of their numbers. An Err is `NoLogs`, the
+/// least log with a gap, or `Memory`.
+pub(crate) fn recover_scans(
+    alloc: Global,
+    scans: Vec<LogScan>,
+    parts: Vec<PartScan>,
+) -> Result<Recovered, Fault>
+    ensures store { (logs part_bytes : List (List ℕ)) → AreScansOf logs scans.items →
+        AreKnown part_bytes (map known_by parts.items) → IfOk result (λ recovered. IsStoreOf logs part_bytes recovered.store) }
+    ensures fault { (logs part_bytes : List (List ℕ)) → AreScansOf logs scans.items →
+        AreKnown part_bytes (map known_by parts.items) → IfErr result (IsAnswered logs part_bytes) }
 {
     let Some(cutoff) = cutoff(&scans) else {
         return Err(Fault::NoLogs);
     };
-    let window = Window { begin: 0, cutoff };
-    if let Some(log) = first_gap(&scans, window.begin) {
+    let choice = choose(alloc, parts, cutoff)?;
+    let (begin, entries) = start_from(alloc, choice.chosen);
+    if let Some(log) = first_gap(&scans, begin) {
         return Err(Fault::Gap { log });
     }
-    let store = replay(alloc, window, scans)?;
+    let store = replay(alloc, Window { begin, cutoff }, scans, entries)?;
     Ok(Recovered { store })
+}
+
+/// From where on logs are replayed, and over which entries.
+fn start_from(alloc: Global, chosen: Option<Checkpoint>) -> (u64, Vec<Entry>)
+    ensures begin { result.0 ≡ begin_of (option_map checkpoint_in chosen) }
+    ensures entries { wholes result.1.items ≡ entry_updates (option_map checkpoint_in chosen) }
+{
+    match chosen {
+        Some(checkpoint) => (checkpoint.begin, checkpoint.entries),
+        None => (0, Vec::new(alloc)),
+    }
 }

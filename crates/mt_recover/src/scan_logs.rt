@@ -13,7 +13,7 @@ pub fn scan_logs<S: Source>(alloc: Global, sources: Vec<S>) -> Result<Vec<LogSca
     ensures scans { IfOk result (λ scans. (logs : List (List ℕ)) ×
         MayHave S.seen sources.items logs × AreScansOf logs scans.items) }
     ensures fault { IfErr result (λ fault. (logs : List (List ℕ)) ×
-        MayHave S.seen sources.items logs × IsAnsweredFrom logs [] fault) }
+        MayHave S.seen sources.items logs × ((parts : List (List ℕ)) → IsAnsweredFrom logs parts fault)) }
     ensures steady { IfErr result (BlamesUnsteady S.seen sources.items []) }
 {
     let Ok(mut scans) = Vec::with_capacity(alloc, sources.len()) else {

@@ -1,30 +1,66 @@
-use Rattle.std.proofs.Common.{◌≡◌, [], List, ℕ, IfOk, IfErr, sym, subst}
-use Rattle.std.proofs.lemmas.Result.{IfOk-weaker}
-use Rattle.mt_words.specs.Walks.{Pair}
+use Rattle.std.proofs.Common.{[], ◌<◌, length, refl, arith}
+use Rattle.std.proofs.lemmas.Result.{IfOk-weaker, err_from_is_err_and}
 use Rattle.mt_recover.specs.Recovery.{IsStoreOf}
-use Rattle.mt_recover.specs.Inputs.{MayHave, OfSources, IsAnsweredFrom, BlamesUnsteady}
-use Rattle.mt_recover.proofs.SourceLemmas.{no_parts, answered_from, blames_none, on_err}
+use Rattle.mt_recover.specs.Inputs.{OfSources, IsAnsweredFrom, BlamesUnsteady}
+use Rattle.mt_recover.proofs.SourceLemmas.{some_logs, no_sources, some_sources, none_to_have, as_many_have, part_fault, blames_log, blames_beside, answered_from, blames_none, on_err}
 use Rattle.mt_recover.proofs.recover.recover_one.Goals as goal
+
+pub returns-then-is_empty-clause-fault : goal.returns-then-is_empty-clause-fault
+returns-then-is_empty-clause-fault g c =
+    let seen = g.S.Source.seen in
+    let logs = c.args.inputs.logs in
+    let some = some_logs seen c.args.inputs.parts.items in
+    ([], some.0, none_to_have seen logs.items (no_sources logs.items _ c.is_empty.result c.is_empty.ensures logs.ok.0 c.if-is_empty.true), some.1, refl)
+
+pub returns-in_err-scans-clause-fault : goal.returns-in_err-scans-clause-fault
+returns-in_err-scans-clause-fault g c =
+    let p = err_from_is_err_and c.from_residual.result c.from_residual.ensures.1 in
+    let fault = c.in_err-scans.ensures.fault in
+    let some = some_logs g.S.Source.seen c.args.inputs.parts.items in
+    rw (p.1, p.2) (fault.0, some.0, fault.1, some.1, fault.2 some.0)
+
+pub returns-in_err-scans-clause-steady : goal.returns-in_err-scans-clause-steady
+returns-in_err-scans-clause-steady g c =
+    let p = err_from_is_err_and c.from_residual.result c.from_residual.ensures.1 in
+    rw (p.1, p.2) (blames_log g.S.Source.seen c.args.inputs.logs.items c.args.inputs.parts.items _ c.in_err-scans.ensures.steady)
+
+pub returns-in_err-parts-clause-fault : goal.returns-in_err-parts-clause-fault
+returns-in_err-parts-clause-fault g c =
+    let p = err_from_is_err_and c.from_residual-in_err-parts.result c.from_residual-in_err-parts.ensures.1 in
+    let seen = g.S.Source.seen in
+    let sources = c.args.inputs.logs in
+    let logs = c.in_ok-scans.ensures.scans in
+    let parts = some_logs seen c.args.inputs.parts.items in
+    let fault = c.in_err-parts.ensures.fault in
+    let lt = some_sources sources.items _ c.is_empty.result c.is_empty.ensures sources.ok.0 c.if-is_empty.false in
+    let some : 0 < length logs.0 = omega (arith, lt, as_many_have seen sources.items logs.0 logs.1) in
+    rw (p.1, p.2) (logs.0, parts.0, logs.1, parts.1, part_fault logs.0 parts.0 fault.0 _ some (logs.2.readings, logs.2.read) fault.1)
+
+pub returns-in_err-parts-clause-steady : goal.returns-in_err-parts-clause-steady
+returns-in_err-parts-clause-steady g c =
+    let p = err_from_is_err_and c.from_residual-in_err-parts.result c.from_residual-in_err-parts.ensures.1 in
+    rw (p.1, p.2) (blames_beside g.S.Source.seen c.args.inputs.logs.items c.args.inputs.parts.items _ c.in_err-parts.ensures.steady)
 
 pub returns-clause-store : goal.returns-clause-store
 returns-clause-store g c =
     let seen = g.S.Source.seen in
-    let scanned = c.in_ok-scans.ensures.scans in
-    let parts = no_parts seen c.args.inputs.parts.items c.requires in
+    let logs = c.in_ok-scans.ensures.scans in
+    let parts = c.in_ok-parts.ensures.scans in
     IfOk-weaker c.recover_scans.result _ (λ recovered. OfSources seen c.args.inputs.logs.items c.args.inputs.parts.items (λ logs parts. IsStoreOf logs parts recovered.store))
-    (λ recovered is. (scanned.0, [], scanned.1, parts, is)) (c.recover_scans.ensures.store scanned.0 scanned.2)
+    (λ recovered is. (logs.0, parts.0, logs.1, parts.1, is)) (c.recover_scans.ensures.store logs.0 parts.0 logs.2 parts.2)
 
 pub returns-clause-fault : goal.returns-clause-fault
 returns-clause-fault g c =
     let seen = g.S.Source.seen in
-    let scanned = c.in_ok-scans.ensures.scans in
-    let parts = no_parts seen c.args.inputs.parts.items c.requires in
+    let logs = c.in_ok-scans.ensures.scans in
+    let parts = c.in_ok-parts.ensures.scans in
     on_err c.recover_scans.result _ (λ fault. OfSources seen c.args.inputs.logs.items c.args.inputs.parts.items (λ logs parts. IsAnsweredFrom logs parts fault))
-    (λ fault is. (scanned.0, [], scanned.1, parts, answered_from scanned.0 [] fault is)) (c.recover_scans.ensures.fault scanned.0 scanned.2)
+    (λ fault is. (logs.0, parts.0, logs.1, parts.1, answered_from logs.0 parts.0 fault is)) (c.recover_scans.ensures.fault logs.0 parts.0 logs.2 parts.2)
 
 pub returns-clause-steady : goal.returns-clause-steady
 returns-clause-steady g c =
     let seen = g.S.Source.seen in
-    let scanned = c.in_ok-scans.ensures.scans in
+    let logs = c.in_ok-scans.ensures.scans in
+    let parts = c.in_ok-parts.ensures.scans in
     on_err c.recover_scans.result _ (BlamesUnsteady seen c.args.inputs.logs.items c.args.inputs.parts.items)
-    (λ fault is. blames_none seen c.args.inputs.logs.items c.args.inputs.parts.items scanned.0 [] fault is) (c.recover_scans.ensures.fault scanned.0 scanned.2)
+    (λ fault is. blames_none seen c.args.inputs.logs.items c.args.inputs.parts.items logs.0 parts.0 fault is) (c.recover_scans.ensures.fault logs.0 parts.0 logs.2 parts.2)

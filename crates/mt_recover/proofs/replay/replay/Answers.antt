@@ -6,7 +6,7 @@ use Rattle.std.proofs.lemmas.Iterator.Adapters.{YieldsList-from_vec}
 use Rattle.mt_words.specs.declared.update.Update.{Update}
 use Rattle.mt_scan.specs.declared.log_scan.LogScan.{LogScan}
 use Rattle.mt_recover.specs.KeyWrites.{AreHistoriesOf}
-use Rattle.mt_recover.specs.LogScans.{kept_in}
+use Rattle.mt_recover.specs.LogScans.{kept_in, surviving}
 use Rattle.mt_recover.proofs.ReplayLemmas.{scan_more}
 use Rattle.mt_recover.proofs.FactLemmas.{IsWalkOfLawful}
 use Rattle.mt_recover.proofs.replay.replay.Goals as goal
@@ -23,5 +23,6 @@ returns c =
     let seen = YieldsList-end (YieldsList-from_vec {s = c.into_iter-scan-iterator.result} c.args.scans.items g.0 (g.1 ∙ c.args.scans.ok.0)) c.loop-scan.yielded c.loop-scan.scan-iterator c.loop-scan.yielded_by c.next.result c.next.new.self c.in-None.is c.next.ensures.steps in
     let all : c.loop-scan.yielded ≡ c.args.scans.items = sym (map-id c.loop-scan.yielded) ∙ seen.0 in
     let taken = subst (λ (x : List LogScan). AreHistoriesOf (kept_in c.args.window x) c.loop-scan.keys) all c.loop-scan.invariant in
-    let updates = kept_in c.args.window c.args.scans.items in
-    IfOk-weaker c.store_of.result _ (IsWalkOfLawful updates) (λ store says. says updates taken) c.store_of.ensures
+    let updates = surviving c.args.window c.args.scans.items c.args.entries.items in
+    let all_taken = c.in_ok-take_entries.ensures (kept_in c.args.window c.args.scans.items) taken in
+    IfOk-weaker c.store_of.result _ (IsWalkOfLawful updates) (λ store says. says updates all_taken) c.store_of.ensures

@@ -1,7 +1,6 @@
-use Rattle.std.proofs.Common.{◌≡◌, ◌∙◌, ◌++◌, ◌∷◌, [], ℕ, List, length, sym, ap, subst, append_assoc, arith}
+use Rattle.std.proofs.Common.{◌≡◌, ◌++◌, ◌∷◌, [], List, length, subst, append_assoc, arith}
 use Rattle.std.specs.Vec.Iter.{into_iter_items}
 use Rattle.std.proofs.lemmas.Result.{err_from_is_err_and}
-use Rattle.mt_recover.specs.LogScans.{AreScansOf}
 use Rattle.mt_recover.specs.Inputs.{MayHave, BlamesUnsteady}
 use Rattle.mt_recover.proofs.SourceLemmas.{some_logs, may_append, as_many_more, scans_append, fault_among, blames}
 use Rattle.mt_recover.proofs.scan_logs.scan_logs.Goals as goal
@@ -9,12 +8,12 @@ use Rattle.mt_recover.proofs.scan_logs.scan_logs.Goals as goal
 pub returns-in_default-clause-fault : goal.returns-in_default-clause-fault
 returns-in_default-clause-fault g c =
     let some = some_logs g.S.Source.seen c.args.sources.items in
-    (some.0, some.1, tt)
+    (some.0, some.1, λ parts. tt)
 
 pub returns-in_default-push-clause-fault : goal.returns-in_default-push-clause-fault
 returns-in_default-push-clause-fault g c =
     let some = some_logs g.S.Source.seen c.args.sources.items in
-    (some.0, some.1, tt)
+    (some.0, some.1, λ parts. tt)
 
 pub returns-in_err-scan-clause-fault : goal.returns-in_err-scan-clause-fault
 returns-in_err-scan-clause-fault g c =
@@ -29,7 +28,7 @@ returns-in_err-scan-clause-fault g c =
       so_far.0 ++ (fault.0 ∷ rest.0),
       subst (λ (sources : List _). MayHave g.S.Source.seen sources (so_far.0 ++ (fault.0 ∷ rest.0))) all
           (may_append g.S.Source.seen c.loop-source.yielded (c.in-Some.source ∷ into_iter_items c.next.new.self) so_far.0 (fault.0 ∷ rest.0) so_far.1 (fault.1, rest.1)),
-      fault_among so_far.0 rest.0 c.loop-source.scans.items fault.0 c.len-in-loop-source.result _ number so_far.2 fault.2,
+      λ parts. fault_among so_far.0 rest.0 parts c.loop-source.scans.items fault.0 c.len-in-loop-source.result _ number so_far.2 fault.2,
     )
 
 pub returns-in_err-scan-clause-steady : goal.returns-in_err-scan-clause-steady
