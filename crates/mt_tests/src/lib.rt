@@ -3,11 +3,17 @@
 #![tactic(auto)]
 
 #[cfg(test)]
+mod asserting;
+#[cfg(test)]
+mod checkpoints;
+#[cfg(test)]
 mod encoding;
 #[cfg(test)]
 mod feeding;
 #[cfg(test)]
 mod logs;
+#[cfg(test)]
+mod parts;
 #[cfg(test)]
 mod printing;
 #[cfg(test)]

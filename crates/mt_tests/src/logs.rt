@@ -1,7 +1,6 @@
 //! How the tests spell keys and logs.
 use mt_words::Key;
-use std::alloc::Global;
-use std::test::Fail;
+use std::process::Abort;
 
 /// A log header with `from` 0.
 pub const HEADER: &str = "4d544c31 0000000000000000";
@@ -20,61 +19,68 @@ pub const LOG_B: &str = "4d544c31 0000000000000000
 pub const LATE_HEADER: &str = "4d544c31 0000000000000004";
 
 /// The key of these bytes.
-pub fn key_of(alloc: Global, bytes: &[u8]) -> Result<Key, Fail> {
-    Ok(Key::new(Vec::from_slice(alloc, bytes)?).ok_or("a short key")?)
+pub fn key_of<R: Abort + AllocGlobal>(rt: &R, bytes: &[u8]) -> Key {
+    Key::new(copy_of(rt, bytes)).expect(rt, "a short key")
+}
+
+/// A copy of these bytes.
+pub fn copy_of<R: Abort + AllocGlobal>(rt: &R, bytes: &[u8]) -> Vec<u8> {
+    Vec::from_slice(rt.alloc(), bytes).expect(rt, "memory")
 }
 
 /// The bytes of hexadecimal text. White space has no meaning.
-pub fn bytes_of(alloc: Global, text: &str) -> Result<Vec<u8>, Fail> {
-    let mut digits = Vec::new(alloc);
+pub fn bytes_of<R: Abort + AllocGlobal>(rt: &R, text: &str) -> Vec<u8> {
+    let mut digits = Vec::new(rt.alloc());
     for digit in text.bytes() {
         if !digit.is_ascii_whitespace() {
-            digits.push(digit)?;
+            digits.push(digit).expect(rt, "memory");
         }
     }
-    Ok(hex::decode(alloc, digits)?)
+    hex::decode(rt.alloc(), digits).expect(rt, "hexadecimal digits")
 }
 
 /// The log with `from` 0 and these records.
-pub fn log_of(alloc: Global, records: &[&str]) -> Result<Vec<u8>, Fail> {
-    let mut text = String::from_str(alloc, HEADER)?;
+pub fn log_of<R: Abort + AllocGlobal>(rt: &R, records: &[&str]) -> Vec<u8> {
+    let mut text = String::from_str(rt.alloc(), HEADER).expect(rt, "memory");
     for record in records {
-        text.push_str(record)?;
+        text.push_str(record).expect(rt, "memory");
     }
-    bytes_of(alloc, text.as_str())
+    bytes_of(rt, text.as_str())
 }
 
 /// A put of column 0 of a key of one byte. Key and value are bytes in hexadecimal.
-pub fn put(
-    alloc: Global,
+pub fn put<R: Abort + AllocGlobal>(
+    rt: &R,
     key: &str,
     version: u64,
     timestamp: u64,
     value: &str,
-) -> Result<String, Fail> {
-    put_column(alloc, key, version, timestamp, 0, value)
+) -> String {
+    put_column(rt, key, version, timestamp, 0, value)
 }
 
 /// A put of this column.
-pub fn put_column(
-    alloc: Global,
+pub fn put_column<R: Abort + AllocGlobal>(
+    rt: &R,
     key: &str,
     version: u64,
     timestamp: u64,
     number: u8,
     value: &str,
-) -> Result<String, Fail> {
-    Ok(format!(in alloc;
+) -> String {
+    format!(in rt.alloc();
         "00000019 01 {timestamp:016x} {version:016x} 0001 {key} 01 {number:02x} 0001 {value} 00000019"
-    )?)
+    ).expect(rt, "memory")
 }
 
 /// A remove of a key of one byte.
-pub fn remove(alloc: Global, key: &str, version: u64, timestamp: u64) -> Result<String, Fail> {
-    Ok(format!(in alloc; "00000014 02 {timestamp:016x} {version:016x} 0001 {key} 00000014")?)
+pub fn remove<R: Abort + AllocGlobal>(rt: &R, key: &str, version: u64, timestamp: u64) -> String {
+    format!(in rt.alloc();
+        "00000014 02 {timestamp:016x} {version:016x} 0001 {key} 00000014"
+    ).expect(rt, "memory")
 }
 
 /// A mark.
-pub fn mark(alloc: Global, timestamp: u64) -> Result<String, Fail> {
-    Ok(format!(in alloc; "00000009 03 {timestamp:016x} 00000009")?)
+pub fn mark<R: Abort + AllocGlobal>(rt: &R, timestamp: u64) -> String {
+    format!(in rt.alloc(); "00000009 03 {timestamp:016x} 00000009").expect(rt, "memory")
 }

@@ -1,11 +1,12 @@
 //! The program: texts and exit statuses.
+use crate::asserting::{assert_bytes, assert_same};
 use crate::logs::{HEADER, LATE_HEADER, LOG_A, LOG_B, bytes_of};
-use mt_recover::{dump_files, recover_logs, write_dump};
-use std::alloc::Global;
-use std::env::temp_dir;
-use std::fs::{self, File, OpenFile};
+use crate::recovering::text_of;
+use mt_recover::{dump_files, recover_logs};
+use std::env::{Env, temp_dir};
+use std::fs::{self, Files, OpenFile};
 use std::io::{self, ErrorKind, Write};
-use std::test::Fail;
+use std::process::Abort;
 
 /// A full device: it takes no byte.
 #[derive(Drop)]
@@ -35,177 +36,206 @@ impl Write for Unflushed {
     }
 }
 
+/// A name for a file of this process, in the folder for such files.
+fn path_of<R: Abort + AllocGlobal + Env>(rt: &R, id: u32, name: &str) -> String {
+    let folder = temp_dir(rt).expect(rt, "a folder");
+    format!(in rt.alloc(); "{}/mtdump-{id}-{name}", folder.as_path().to_string_lossy()).expect(
+        rt, "memory",
+    )
+}
+
 /// Writes a file of these bytes, and gives its name.
-fn file_of(rt: &HostRuntime, name: &str, text: &str) -> Result<String, Fail> {
-    let folder = temp_dir(rt)?;
-    let id = std::process::id(rt.process());
-    let path = format!(in rt.alloc(); "{}/mtdump-{id}-{name}", folder.as_path().to_string_lossy())?;
-    fs::write(rt, path.as_str(), bytes_of(rt.alloc(), text)?)?;
-    Ok(path)
+pub fn file_of<R: Abort + AllocGlobal + Env + Files>(
+    rt: &R,
+    id: u32,
+    name: &str,
+    text: &str,
+) -> String {
+    let path = path_of(rt, id, name);
+    fs::write(rt, path.as_str(), bytes_of(rt, text)).expect(rt, "a file");
+    path
+}
+
+/// Removes the file of this name.
+pub fn remove_file<R: Abort + Files>(rt: &R, name: &str) {
+    fs::remove_file(rt, name).expect(rt, "the file");
 }
 
 /// Removes the files of these names.
-fn remove_files(rt: &HostRuntime, names: &[String]) -> Result<(), Fail> {
+fn remove_files<R: Abort + Files>(rt: &R, names: &[String]) {
     for name in names {
-        fs::remove_file(rt, name.as_str())?;
+        remove_file(rt, name.as_str());
     }
-    Ok(())
 }
 
-/// Runs the program on these files: its status, its output and its error output.
-fn run(rt: &HostRuntime, names: &[String]) -> (u8, Vec<u8>, Vec<u8>) {
+/// Runs the program on these files, which ends with this status, this output and this error output.
+fn assert_run<R: Abort + AllocGlobal + Files>(
+    rt: &R,
+    names: &[String],
+    status: u8,
+    output: &[u8],
+    errors: &[u8],
+) {
     let mut out = Vec::new(rt.alloc());
     let mut err = Vec::new(rt.alloc());
-    let status = dump_files(rt, names, &mut out, &mut err);
-    (status, out, err)
+    assert_same(rt, &dump_files(rt, names, &mut out, &mut err), &status);
+    assert_bytes(rt, &out, output);
+    assert_bytes(rt, &err, errors);
+}
+
+/// Runs the program on these files, with this device for its output: it ends with this status and this error output.
+fn assert_run_on<R: Abort + AllocGlobal + Files, O: Write>(
+    rt: &R,
+    names: &[String],
+    output: &mut O,
+    status: u8,
+    errors: &[u8],
+) {
+    let mut err = Vec::new(rt.alloc());
+    assert_same(rt, &dump_files(rt, names, output, &mut err), &status);
+    assert_bytes(rt, &err, errors);
+}
+
+/// The list of this name.
+fn one<R: Abort + AllocGlobal>(rt: &R, name: String) -> Vec<String> {
+    vec![in rt.alloc(); name].expect(rt, "memory")
+}
+
+/// The list of these names.
+fn two<R: Abort + AllocGlobal>(rt: &R, first: String, second: String) -> Vec<String> {
+    vec![in rt.alloc(); first, second].expect(rt, "memory")
+}
+
+/// The text as a name.
+fn name_of<R: Abort + AllocGlobal>(rt: &R, text: &str) -> String {
+    String::from_str(rt.alloc(), text).expect(rt, "memory")
 }
 
 #[test]
-fn prints_the_store_of_two_files(rt: HostRuntime) -> Result<(), Fail> {
-    let a = file_of(&rt, "two-a", LOG_A)?;
-    let b = file_of(&rt, "two-b", LOG_B)?;
-    let names = vec![in rt.alloc(); a, b]?;
-    let (status, out, err) = run(&rt, &names);
-    assert_eq!(rt; status, 0);
-    assert_eq!(rt; out.as_slice(), b"61: 0=78\n62: 0=79\n".as_slice());
-    assert_eq!(rt; err.len(), 0);
-    remove_files(&rt, &names)?;
-    Ok(())
+fn prints_the_store_of_two_files(rt: HostRuntime) {
+    let id = std::process::id(rt.process());
+    let a = file_of(&rt, id, "two-a", LOG_A);
+    let b = file_of(&rt, id, "two-b", LOG_B);
+    let names = two(&rt, a, b);
+    assert_run(&rt, &names, 0, b"61: 0=78\n62: 0=79\n", b"");
+    remove_files(&rt, &names);
 }
 
 #[test]
-fn wants_a_file(rt: HostRuntime) -> Result<(), Fail> {
-    let names = Vec::new(rt.alloc());
-    let (status, out, err) = run(&rt, &names);
-    assert_eq!(rt; status, 2);
-    assert_eq!(rt; out.len(), 0);
-    assert_eq!(rt; err.as_slice(), b"mtdump: no files\n".as_slice());
-    Ok(())
+fn wants_a_file(rt: HostRuntime) {
+    assert_run(&rt, &[], 2, b"", b"mtdump: no files\n");
 }
 
 #[test]
-fn prints_the_fault_of_the_logs(rt: HostRuntime) -> Result<(), Fail> {
-    let a = file_of(&rt, "fault-a", LOG_A)?;
-    let late = file_of(&rt, "fault-late", LATE_HEADER)?;
-    let names = vec![in rt.alloc(); a, late]?;
-    let (status, out, err) = run(&rt, &names);
-    assert_eq!(rt; status, 1);
-    assert_eq!(rt; out.len(), 0);
-    assert_eq!(rt; err.as_slice(), b"mtdump: log 1: gap\n".as_slice());
+fn prints_the_fault_of_the_logs(rt: HostRuntime) {
+    let id = std::process::id(rt.process());
+    let a = file_of(&rt, id, "fault-a", LOG_A);
+    let late = file_of(&rt, id, "fault-late", LATE_HEADER);
+    let names = two(&rt, a, late);
+    assert_run(&rt, &names, 1, b"", b"mtdump: log 1: gap\n");
 
     // A line that cannot be written changes no status.
     let mut out = Vec::new(rt.alloc());
-    assert_eq!(rt; dump_files(&rt, &names, &mut out, &mut Full), 1);
-    remove_files(&rt, &names)?;
-    Ok(())
+    let status = dump_files(&rt, &names, &mut out, &mut Full);
+    assert_same(&rt, &status, &1);
+    remove_files(&rt, &names);
 }
 
 #[test]
-fn names_the_file_that_cannot_be_opened(rt: HostRuntime) -> Result<(), Fail> {
-    let alloc = rt.alloc();
+fn names_the_file_that_cannot_be_opened(rt: HostRuntime) {
+    let id = std::process::id(rt.process());
     // A file with a fault of its own: all files are read before any is recovered.
-    let short = file_of(&rt, "open-short", "00")?;
+    let short = file_of(&rt, id, "open-short", "00");
     for word in ["no-such-file.mtl", "--help", ""] {
-        let name = String::from_str(alloc, word)?;
-        let names = vec![in alloc; short.clone()?, name]?;
-        let (status, _, err) = run(&rt, &names);
-        assert_eq!(rt; status, 3);
-        let expected = format!(in alloc; "mtdump: cannot open {word}\n")?;
-        assert_eq!(rt; err.as_slice(), expected.as_bytes());
+        assert_unopened(&rt, short.as_str(), word);
     }
-    fs::remove_file(&rt, short.as_str())?;
-    Ok(())
+    remove_file(&rt, short.as_str());
+}
+
+/// Run on these two files, the program names the second as one that it cannot open.
+fn assert_unopened<R: Abort + AllocGlobal + Files>(rt: &R, first: &str, word: &str) {
+    let names = two(rt, name_of(rt, first), name_of(rt, word));
+    let expected = format!(in rt.alloc(); "mtdump: cannot open {word}\n").expect(rt, "memory");
+    let mut out = Vec::new(rt.alloc());
+    assert_run_on(rt, &names, &mut out, 3, expected.as_bytes());
 }
 
 #[test]
-fn a_folder_is_no_file(rt: HostRuntime) -> Result<(), Fail> {
-    let alloc = rt.alloc();
-    let a = file_of(&rt, "folder-a", LOG_A)?;
-    let folder = String::from_str(alloc, temp_dir(&rt)?.as_path().to_string_lossy())?;
-    let names = vec![in alloc; a, folder]?;
-    let (status, _, err) = run(&rt, &names);
-    assert_eq!(rt; status, 1);
-    assert_eq!(rt;
-        err.as_slice(),
-        b"mtdump: log 1: source failed\n".as_slice()
-    );
-    remove_files(&rt, &names[..1])?;
-    Ok(())
+fn a_folder_is_no_file(rt: HostRuntime) {
+    let id = std::process::id(rt.process());
+    let a = file_of(&rt, id, "folder-a", LOG_A);
+    let folder = temp_dir(&rt).expect(&rt, "a folder");
+    let folder = name_of(&rt, folder.as_path().to_string_lossy());
+    let names = two(&rt, a, folder);
+    let mut out = Vec::new(rt.alloc());
+    let expected = b"mtdump: log 1: source failed\n";
+    assert_run_on(&rt, &names, &mut out, 1, expected);
+    remove_file(&rt, names.first().expect(&rt, "a name").as_str());
 }
 
 #[test]
-fn a_file_past_the_limit_is_not_read(rt: HostRuntime) -> Result<(), Fail> {
-    let name = file_of(&rt, "large", LOG_A)?;
-    fs::OpenOptions::new()
-        .write(true)
-        .open(&rt, name.as_str())?
-        .set_len(1_073_741_825)?;
-    let names = vec![in rt.alloc(); name]?;
-    let (status, _, err) = run(&rt, &names);
-    assert_eq!(rt; status, 1);
-    assert_eq!(rt;
-        err.as_slice(),
-        b"mtdump: log 0: source failed\n".as_slice()
-    );
-    remove_files(&rt, &names)?;
-    Ok(())
+fn a_file_past_the_limit_is_not_read(rt: HostRuntime) {
+    let id = std::process::id(rt.process());
+    let name = file_of(&rt, id, "large", LOG_A);
+    enlarge(&rt, name.as_str());
+    let names = one(&rt, name);
+    let mut out = Vec::new(rt.alloc());
+    let expected = b"mtdump: log 0: source failed\n";
+    assert_run_on(&rt, &names, &mut out, 1, expected);
+    remove_files(&rt, &names);
+}
+
+/// Makes the file one byte longer than a log may be.
+fn enlarge<R: Abort + Files>(rt: &R, name: &str) {
+    let mut options = fs::OpenOptions::new();
+    let file = options.write(true).open(rt, name).expect(rt, "the file");
+    file.set_len(1_073_741_825).expect(rt, "a long file");
 }
 
 #[test]
-fn takes_512_files_and_no_more(rt: HostRuntime) -> Result<(), Fail> {
-    let alloc = rt.alloc();
-    let mut names = Vec::new(alloc);
+fn takes_512_files_and_no_more(rt: HostRuntime) {
+    let mut names = Vec::new(rt.alloc());
     for _ in 0..512 {
-        names.push(String::from_str(alloc, "no-such-file.mtl")?)?;
+        let name = name_of(&rt, "no-such-file.mtl");
+        names.push(name).expect(&rt, "memory");
     }
-    let (status, _, err) = run(&rt, &names);
-    assert_eq!(rt; status, 3);
-    assert_eq!(rt;
-        err.as_slice(),
-        b"mtdump: cannot open no-such-file.mtl\n".as_slice()
-    );
+    let mut out = Vec::new(rt.alloc());
+    let expected = b"mtdump: cannot open no-such-file.mtl\n";
+    assert_run_on(&rt, &names, &mut out, 3, expected);
 
-    names.push(String::from_str(alloc, "no-such-file.mtl")?)?;
-    let (status, _, err) = run(&rt, &names);
-    assert_eq!(rt; status, 3);
-    assert_eq!(rt; err.as_slice(), b"mtdump: too many files\n".as_slice());
-    Ok(())
+    let name = name_of(&rt, "no-such-file.mtl");
+    names.push(name).expect(&rt, "memory");
+    assert_run_on(&rt, &names, &mut out, 3, b"mtdump: too many files\n");
 }
 
 #[test]
-fn a_failing_output_has_a_status(rt: HostRuntime) -> Result<(), Fail> {
-    let a = file_of(&rt, "output-a", LOG_A)?;
-    let names = vec![in rt.alloc(); a]?;
-    let mut err = Vec::new(rt.alloc());
-    assert_eq!(rt; dump_files(&rt, &names, &mut Full, &mut err), 3);
-    assert_eq!(rt; err.as_slice(), b"mtdump: output failed\n".as_slice());
-    let mut err = Vec::new(rt.alloc());
-    assert_eq!(rt; dump_files(&rt, &names, &mut Unflushed, &mut err), 3);
-    assert_eq!(rt; err.as_slice(), b"mtdump: output failed\n".as_slice());
-    remove_files(&rt, &names)?;
-
-    // No write of no bytes is made.
-    let empty = file_of(&rt, "output-empty", HEADER)?;
-    let names = vec![in rt.alloc(); empty]?;
-    let mut err = Vec::new(rt.alloc());
-    assert_eq!(rt; dump_files(&rt, &names, &mut Full, &mut err), 0);
-    remove_files(&rt, &names)?;
-    Ok(())
+fn a_failing_output_has_a_status(rt: HostRuntime) {
+    let id = std::process::id(rt.process());
+    let names = one(&rt, file_of(&rt, id, "output-a", LOG_A));
+    let expected = b"mtdump: output failed\n";
+    assert_run_on(&rt, &names, &mut Full, 3, expected);
+    assert_run_on(&rt, &names, &mut Unflushed, 3, expected);
+    remove_files(&rt, &names);
 }
 
 #[test]
-fn prints_the_empty_key_the_empty_value_and_two_columns(rt: HostRuntime) -> Result<(), Fail> {
-    let alloc = rt.alloc();
+fn no_write_of_no_bytes_is_made(rt: HostRuntime) {
+    let id = std::process::id(rt.process());
+    let names = one(&rt, file_of(&rt, id, "output-empty", HEADER));
+    assert_run_on(&rt, &names, &mut Full, 0, b"");
+    remove_files(&rt, &names);
+}
+
+#[test]
+fn prints_the_empty_key_the_empty_value_and_two_columns(rt: HostRuntime) {
     let log = bytes_of(
-        alloc,
+        &rt,
         "4d544c31 0000000000000000
         00000018 01 0000000000000001 0000000000000001 0000 01 0a 0001 ff 00000018
         0000001c 01 0000000000000001 0000000000000001 0001 00 02 00 0000 0f 0001 41 0000001c
         00000009 03 0000000000000002 00000009",
-    )?;
-    let recovered = recover_logs(alloc, [log.as_slice()].as_slice())?;
-    let mut text = Vec::new(alloc);
-    write_dump(recovered.store(), &mut text)?;
-    assert_eq!(rt; text.as_slice(), b": 10=ff\n00: 0= 15=41\n".as_slice());
-    Ok(())
+    );
+    let answer = recover_logs(rt.alloc(), [log.as_slice()].as_slice());
+    let text = text_of(&rt, answer);
+    assert_bytes(&rt, &text, b": 10=ff\n00: 0= 15=41\n");
 }

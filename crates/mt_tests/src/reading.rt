@@ -1,43 +1,58 @@
 //! Whole logs, and what follows the header alone.
+use crate::asserting::{assert_same, assert_same_in};
 use crate::logs::{HEADER, LOG_A, bytes_of, log_of};
-use mt_record::{FeedFault, read_log};
+use mt_record::{FeedFault, LogText, read_log};
 use mt_words::{Change, Kind, What};
-use std::test::Fail;
+use std::process::Abort;
 
-#[test]
-fn reads_a_log(rt: HostRuntime) -> Result<(), Fail> {
-    let alloc = rt.alloc();
-    let bytes = bytes_of(alloc, LOG_A)?;
-    assert_eq!(rt; bytes.len(), 62);
-    let text = read_log(alloc, &bytes)?;
-    assert_eq!(rt;
-        (text.from, text.last, text.whole, text.torn),
-        (0, 5, 2, false)
-    );
-    assert_eq!(rt; text.records.len(), 2);
-    Ok(())
+/// The log that these bytes are.
+fn read<R: Abort + AllocGlobal>(rt: &R, bytes: &[u8]) -> LogText {
+    read_log(rt.alloc(), bytes).expect(rt, "a log")
+}
+
+/// The log of one record.
+fn read_one<R: Abort + AllocGlobal>(rt: &R, record: &str) -> LogText {
+    read(rt, &log_of(rt, [record].as_slice()))
+}
+
+/// The change that is the one record of the log.
+fn change_of<R: Abort>(rt: &R, mut text: LogText) -> Change {
+    assert_same(rt, &(text.whole, text.torn), &(1, false));
+    let record = text.records.pop().expect(rt, "a record");
+    record.into_change().expect(rt, "a change")
 }
 
 #[test]
-fn a_header_is_whole_and_begins_with_the_magic(rt: HostRuntime) -> Result<(), Fail> {
-    let alloc = rt.alloc();
+fn reads_a_log(rt: HostRuntime) {
+    let bytes = bytes_of(&rt, LOG_A);
+    assert_same(&rt, &bytes.len(), &62);
+    let text = read(&rt, &bytes);
+    let shown = (text.from, text.last, text.whole, text.torn);
+    assert_same(&rt, &shown, &(0, 5, 2, false));
+    assert_same(&rt, &text.records.len(), &2);
+}
+
+#[test]
+fn a_header_is_whole_and_begins_with_the_magic(rt: HostRuntime) {
     for text in [
         "",
         "4d544c31 00",
         "4d544c31 00000000000000",
         "4d544c32 0000000000000000",
     ] {
-        let fault = read_log(alloc, &bytes_of(alloc, text)?).err();
-        assert_eq!(rt; fault, Some(FeedFault::Header), "{text}");
+        let fault = read_log(rt.alloc(), &bytes_of(&rt, text)).err();
+        assert_same_in(&rt, &text, &fault, &Some(FeedFault::Header));
     }
-    let text = read_log(alloc, &bytes_of(alloc, HEADER)?)?;
-    assert_eq!(rt; (text.last, text.whole, text.torn), (0, 0, false));
-    Ok(())
 }
 
 #[test]
-fn a_torn_rest_is_cut_and_nothing_else(rt: HostRuntime) -> Result<(), Fail> {
-    let alloc = rt.alloc();
+fn a_header_alone_is_a_log(rt: HostRuntime) {
+    let text = read(&rt, &bytes_of(&rt, HEADER));
+    assert_same(&rt, &(text.last, text.whole, text.torn), &(0, 0, false));
+}
+
+#[test]
+fn a_torn_rest_is_cut_and_nothing_else(rt: HostRuntime) {
     for rest in [
         "00",
         "000000",
@@ -45,15 +60,13 @@ fn a_torn_rest_is_cut_and_nothing_else(rt: HostRuntime) -> Result<(), Fail> {
         "00000009 04",
         "00000009 03 0000000000000005 000000",
     ] {
-        let text = read_log(alloc, &log_of(alloc, [rest].as_slice())?)?;
-        assert_eq!(rt; (text.whole, text.torn), (0, true), "{rest}");
+        let text = read_one(&rt, rest);
+        assert_same_in(&rt, &rest, &(text.whole, text.torn), &(0, true));
     }
-    Ok(())
 }
 
 #[test]
-fn names_the_first_fault_of_a_record(rt: HostRuntime) -> Result<(), Fail> {
-    let alloc = rt.alloc();
+fn names_the_first_fault_of_a_record(rt: HostRuntime) {
     for (rest, what) in [
         ("00000008", What::Length),
         ("00100435", What::Length),
@@ -79,43 +92,26 @@ fn names_the_first_fault_of_a_record(rt: HostRuntime) -> Result<(), Fail> {
             What::Version,
         ),
     ] {
-        let fault = read_log(alloc, &log_of(alloc, [rest].as_slice())?).err();
-        assert_eq!(rt; fault, Some(FeedFault::Record { nth: 0, what }), "{rest}");
+        let fault = read_log(rt.alloc(), &log_of(&rt, [rest].as_slice())).err();
+        let expected = FeedFault::Record { nth: 0, what };
+        assert_same_in(&rt, &rest, &fault, &Some(expected));
     }
-    Ok(())
 }
 
 #[test]
-fn takes_a_remove_of_the_empty_key(rt: HostRuntime) -> Result<(), Fail> {
-    let alloc = rt.alloc();
+fn takes_a_remove_of_the_empty_key(rt: HostRuntime) {
     let rest = "00000013 02 0000000000000001 0000000000000001 0000 00000013";
-    let text = read_log(alloc, &log_of(alloc, [rest].as_slice())?)?;
-    assert_eq!(rt; (text.whole, text.torn), (1, false));
-    for record in text.records {
-        let change = record.into_change().ok_or("a change")?;
-        assert!(rt; change.key.as_bytes().is_empty());
-        assert!(rt; matches!(change.kind, Kind::Remove));
-    }
-    Ok(())
+    let change = change_of(&rt, read_one(&rt, rest));
+    assert!(rt; change.key.as_bytes().is_empty());
+    assert!(rt; matches!(change.kind, Kind::Remove));
 }
 
 #[test]
-fn takes_an_empty_value_of_the_greatest_column(rt: HostRuntime) -> Result<(), Fail> {
-    let alloc = rt.alloc();
+fn takes_an_empty_value_of_the_greatest_column(rt: HostRuntime) {
     let rest = "00000018 01 0000000000000001 0000000000000001 0001 6b 01 0f 0000 00000018";
-    let text = read_log(alloc, &log_of(alloc, [rest].as_slice())?)?;
-    assert_eq!(rt; (text.whole, text.torn), (1, false));
-    for record in text.records {
-        let change = record.into_change().ok_or("a change")?;
-        let Change {
-            version: _,
-            key: _,
-            kind,
-        } = change;
-        let Kind::Put(columns) = kind else {
-            return Err(Fail::from("a put"));
-        };
-        assert_eq!(rt; columns.get(15).map(|value| value.len()), Some(0));
-    }
-    Ok(())
+    let change = change_of(&rt, read_one(&rt, rest));
+    let Kind::Put(columns) = &change.kind else {
+        panic!(rt; "a put");
+    };
+    assert_same(&rt, &columns.get(15).map(|value| value.len()), &Some(0));
 }

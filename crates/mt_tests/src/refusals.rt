@@ -1,10 +1,15 @@
 //! Want of memory. As they stand these tests see no refusal. `.ci/refuse_growths` runs them with one growth after the other
 //! refused: it then sees that a refused growth gives `Memory` and nothing else.
-use mt_record::{FeedFault, LogFeed, encode_log_header, encode_part, encode_record};
-use mt_recover::{Inputs, recover_logs, recover_one};
-use mt_scan::{MemSource, Rack};
-use mt_words::{Columns, Fault, Key, Memory, Record};
+use crate::asserting::{assert_bytes, assert_same};
+use crate::recovering::recover_sources;
+use mt_record::{
+    FeedFault, LogFeed, PartFault, PartFeed, encode_log_header, encode_part, encode_record,
+};
+use mt_recover::{Recovered, recover_logs};
+use mt_scan::{Choice, MemSource, PartScan, Rack, Slot, choose, scan_part};
+use mt_words::{Columns, Entry, Fault, Key, Memory, Record};
 use std::alloc::Global;
+use std::process::Abort;
 
 /// Two logs, each of a put and a mark.
 const LOGS: [&[u8]; 2] = [
@@ -16,18 +21,26 @@ const LOGS: [&[u8]; 2] = [
       \0\0\0\x09\x03\0\0\0\0\0\0\0\x06\0\0\0\x09",
 ];
 
+/// A part of checkpoint 1 with one entry.
+const PART: &[u8] = b"MTC1\0\0\0\x01\0\0\0\0\0\0\0\x02\0\0\0\x01\
+      \0\0\0\x10\0\0\0\0\0\0\0\x01\0\x01a\x01\0\0\x01o\0\0\0\x10\
+      \0\0\0\0\0\0\0\0\0\0\0\x04\0\0\0\x01";
+
+/// The answer has this value in column 0 of this key, or is a want of memory.
+fn assert_value<R: Abort>(rt: &R, answer: Result<Recovered, Fault>, key: &[u8], value: &[u8]) {
+    match answer {
+        Ok(recovered) => {
+            let columns = recovered.store().get(key).expect(rt, "the key");
+            assert_same(rt, &columns.get(0), &Some(value));
+        }
+        Err(fault) => assert_same(rt, &fault, &Fault::Memory),
+    }
+}
+
 #[test]
 fn a_refused_growth_is_memory(rt: HostRuntime) {
-    match recover_logs(rt.alloc(), LOGS.as_slice()) {
-        Ok(recovered) => {
-            let value = recovered
-                .store()
-                .get(b"b")
-                .and_then(|columns| columns.get(0));
-            assert_eq!(rt; value, Some(b"y".as_slice()));
-        }
-        Err(fault) => assert_eq!(rt; fault, Fault::Memory),
-    }
+    let answer = recover_logs(rt.alloc(), LOGS.as_slice());
+    assert_value(&rt, answer, b"b", b"y");
 }
 
 #[test]
@@ -35,22 +48,20 @@ fn a_refused_growth_of_recovery_from_a_source_is_memory(rt: HostRuntime) {
     let Ok(mut rack) = Rack::new(rt.alloc(), 1, 16) else {
         return;
     };
-    let Some(slot) = rack.slots().first_mut() else {
-        return;
-    };
-    let Some(source) = MemSource::new(LOGS[0], slot) else {
-        return;
-    };
-    let mut logs = Vec::new(rt.alloc());
-    if logs.push(source).is_err() {
-        return;
-    }
-    let parts = Vec::new(rt.alloc());
-    match recover_one(rt.alloc(), Inputs { logs, parts }) {
-        Ok(recovered) => assert!(rt; recovered.store().get(b"a").is_some()),
-        Err(fault) => assert_eq!(rt; fault, Fault::Memory),
+    for slot in rack.slots() {
+        if let Some(answer) = recover_first(rt.alloc(), slot) {
+            assert_value(&rt, answer, b"a", b"x");
+        }
     }
     assert!(rt; rack.all_full());
+}
+
+/// What recovery of the first log answers from a source, unless memory for the source is refused.
+fn recover_first(alloc: Global, slot: &mut Slot) -> Option<Result<Recovered, Fault>> {
+    let source = MemSource::new(LOGS[0], slot)?;
+    let mut logs = Vec::new(alloc);
+    logs.push(source).ok()?;
+    Some(recover_sources(alloc, logs))
 }
 
 #[test]
@@ -64,10 +75,11 @@ fn a_refused_growth_of_a_feed_is_memory(rt: HostRuntime) {
     }
     match feed.finish() {
         Ok(text) => {
-            assert_eq!(rt; (text.last, text.whole, text.records.len()), (5, 2, 2));
+            let shown = (text.last, text.whole, text.records.len());
+            assert_same(&rt, &shown, &(5, 2, 2));
             assert!(rt; first.is_none());
         }
-        Err(fault) => assert_eq!(rt; fault, FeedFault::Memory),
+        Err(fault) => assert_same(&rt, &fault, &FeedFault::Memory),
     }
 }
 
@@ -79,25 +91,112 @@ fn put(alloc: Global) -> Option<Record> {
     Record::put(3, 1, key, columns)
 }
 
+/// An encoder with this answer has appended so many bytes behind those before it, or none.
+fn assert_appended<R: Abort>(
+    rt: &R,
+    answer: Result<(), Memory>,
+    out: &[u8],
+    before: usize,
+    length: usize,
+) {
+    let appended = if answer.is_ok() { length } else { 0 };
+    assert_same(rt, &out.len(), &before.saturating_add(appended));
+}
+
 #[test]
 fn a_refused_growth_of_an_encoder_leaves_the_bytes(rt: HostRuntime) {
     let Some(record) = put(rt.alloc()) else {
         return;
     };
     let mut out = Vec::new(rt.alloc());
-    match encode_log_header(0, &mut out) {
-        Ok(()) => assert_eq!(rt; out.len(), 12),
-        Err(Memory) => assert_eq!(rt; out.len(), 0),
-    }
+    let answer = encode_log_header(0, &mut out);
+    assert_appended(&rt, answer, &out, 0, 12);
     let before = out.len();
-    match encode_record(&record, &mut out) {
-        Ok(()) => assert!(rt; out.len() == before.saturating_add(33)),
-        Err(Memory) => assert_eq!(rt; out.len(), before),
-    }
-    let before = out.len();
-    let entries = Vec::new(rt.alloc());
+    let answer = encode_record(&record, &mut out);
+    assert_appended(&rt, answer, &out, before, 33);
+}
+
+/// An entry of key a, unless memory is refused.
+fn entries(alloc: Global) -> Option<Vec<Entry>> {
+    let key = Key::new(Vec::from_slice(alloc, b"a").ok()?)?;
+    let mut columns = Columns::new(alloc);
+    columns.push(0, Vec::from_slice(alloc, b"o").ok()?).ok()?;
+    let mut entries = Vec::new(alloc);
+    entries.push(Entry::new(1, key, columns)?).ok()?;
+    Some(entries)
+}
+
+#[test]
+fn a_refused_growth_of_the_encoder_of_parts_leaves_the_bytes(rt: HostRuntime) {
+    let Some(entries) = entries(rt.alloc()) else {
+        return;
+    };
+    assert!(rt; entries.len() == 1);
+    let mut out = Vec::new(rt.alloc());
     match encode_part(1, 2, 0, 1, 4, &entries, &mut out) {
-        Ok(()) => assert!(rt; out.len() == before.saturating_add(36)),
-        Err(Memory) => assert_eq!(rt; out.len(), before),
+        Ok(()) => assert_bytes(&rt, &out, PART),
+        Err(Memory) => assert_bytes(&rt, &out, b""),
     }
+}
+
+/// Feeds a part in pieces of 7 bytes. A fault is answered again.
+fn feed_part<R: Abort>(rt: &R, feed: &mut PartFeed) {
+    let mut first = None;
+    for piece in PART.chunks(7) {
+        let fault = feed.feed(piece).err();
+        assert!(rt; first.is_none() || fault == first);
+        first = fault;
+    }
+}
+
+#[test]
+fn a_refused_growth_of_a_feed_of_a_part_is_memory(rt: HostRuntime) {
+    let mut feed = PartFeed::new(rt.alloc());
+    feed_part(&rt, &mut feed);
+    match feed.finish() {
+        Ok(text) => assert_same(&rt, &text.entries.len(), &1),
+        Err(fault) => assert_same(&rt, &fault, &PartFault::Memory),
+    }
+}
+
+/// The scan of a part, unless its source has no buffer.
+fn scan(alloc: Global, bytes: &[u8], slot: &mut Slot) -> Result<PartScan, Fault> {
+    match MemSource::new(bytes, slot) {
+        Some(mut source) => scan_part(alloc, &mut source, 0),
+        None => Err(Fault::Memory),
+    }
+}
+
+/// What is chosen among two parts: that of checkpoint 1, and one without a header.
+fn choose_among(alloc: Global, slot: &mut Slot) -> Result<Choice, Fault> {
+    let mut scans = Vec::new(alloc);
+    for bytes in [PART, b"MTC".as_slice()] {
+        let scan = scan(alloc, bytes, slot)?;
+        if scans.push(scan).is_err() {
+            return Err(Fault::Memory);
+        }
+    }
+    Ok(choose(alloc, scans, 5)?)
+}
+
+/// The choice is checkpoint 1 with its entry, or there is a want of memory.
+fn assert_chosen<R: Abort>(rt: &R, choice: Result<Choice, Fault>) {
+    match choice {
+        Ok(choice) => {
+            let chosen = choice.chosen.map(|checkpoint| checkpoint.entries.len());
+            assert_same(rt, &(chosen, choice.nameless.len()), &(Some(1), 1));
+        }
+        Err(fault) => assert_same(rt, &fault, &Fault::Memory),
+    }
+}
+
+#[test]
+fn a_refused_growth_of_a_choice_is_memory(rt: HostRuntime) {
+    let Ok(mut rack) = Rack::new(rt.alloc(), 1, 16) else {
+        return;
+    };
+    for slot in rack.slots() {
+        assert_chosen(&rt, choose_among(rt.alloc(), slot));
+    }
+    assert!(rt; rack.all_full());
 }

@@ -1,85 +1,99 @@
 //! Keys, columns, records and faults.
-use crate::logs::key_of;
+use crate::asserting::{assert_bytes, assert_same};
+use crate::logs::{copy_of, key_of};
 use mt_words::{
-    Columns, Entry, Fault, GREATEST_COLUMN, Key, Kind, LONGEST_KEY, LONGEST_VALUE, Record, What,
+    Change, Columns, Entry, Fault, GREATEST_COLUMN, Key, Kind, LONGEST_KEY, LONGEST_VALUE, Record,
+    What,
 };
-use std::test::Fail;
+use std::process::Abort;
+
+/// Columns with this value alone, which they take.
+fn column_of<R: Abort + AllocGlobal>(rt: &R, number: u8, value: &[u8]) -> Columns {
+    let mut columns = Columns::new(rt.alloc());
+    assert!(rt; columns.push(number, copy_of(rt, value)).is_ok());
+    columns
+}
+
+/// So many bytes.
+fn zeros<R: Abort + AllocGlobal>(rt: &R, count: usize) -> Vec<u8> {
+    vec![in rt.alloc(); 0; count].expect(rt, "memory")
+}
 
 #[test]
-fn copies_keys_and_columns(rt: HostRuntime) -> Result<(), Fail> {
-    let alloc = rt.alloc();
-    let key = key_of(alloc, b"key")?;
-    assert_eq!(rt; key.try_copy()?.as_bytes(), b"key".as_slice());
+fn copies_keys(rt: HostRuntime) {
+    let copy = key_of(&rt, b"key").try_copy().expect(&rt, "memory");
+    assert_bytes(&rt, copy.as_bytes(), b"key");
+}
 
-    let mut columns = Columns::new(alloc);
-    let refused = columns.push(3, Vec::from_slice(alloc, b"x")?).is_err();
-    assert!(rt; !refused);
-    let copy = columns.try_copy()?;
-    assert_eq!(rt; copy.get(3), Some(b"x".as_slice()));
+#[test]
+fn copies_columns(rt: HostRuntime) {
+    let columns = column_of(&rt, 3, b"x");
+    let copy = columns.try_copy().expect(&rt, "memory");
+    assert_same(&rt, &copy.get(3), &Some(b"x".as_slice()));
     assert!(rt; copy.get(2).is_none());
-    assert_eq!(rt; copy.len(), 1);
-    Ok(())
+    assert_same(&rt, &copy.len(), &1);
 }
 
 #[test]
-fn takes_the_longest_and_no_longer(rt: HostRuntime) -> Result<(), Fail> {
-    let alloc = rt.alloc();
-    assert_eq!(rt; LONGEST_KEY, 1024);
-    assert_eq!(rt; GREATEST_COLUMN, 15);
-    assert_eq!(rt; LONGEST_VALUE, 65_535);
-    assert!(rt; Key::new(vec![in alloc; 0; 1024]?).is_some());
-    assert!(rt; Key::new(vec![in alloc; 0; 1025]?).is_none());
-
-    let mut columns = Columns::new(alloc);
-    assert!(rt; columns.push(15, vec![in alloc; 0; 65_536]?).is_err());
-    assert!(rt; columns.push(16, Vec::new(alloc)).is_err());
-    assert!(rt; columns.push(15, vec![in alloc; 0; 65_535]?).is_ok());
-    assert!(rt; columns.push(15, Vec::new(alloc)).is_err());
-    Ok(())
+fn takes_the_longest_key_and_no_longer(rt: HostRuntime) {
+    assert_same(&rt, &LONGEST_KEY, &1024);
+    assert!(rt; Key::new(zeros(&rt, 1024)).is_some());
+    assert!(rt; Key::new(zeros(&rt, 1025)).is_none());
 }
 
 #[test]
-fn orders_keys_as_lists_of_bytes(rt: HostRuntime) -> Result<(), Fail> {
-    let alloc = rt.alloc();
-    let mut last = key_of(alloc, b"")?;
+fn takes_the_longest_value_and_no_longer(rt: HostRuntime) {
+    assert_same(&rt, &GREATEST_COLUMN, &15);
+    assert_same(&rt, &LONGEST_VALUE, &65_535);
+    let mut columns = Columns::new(rt.alloc());
+    assert!(rt; columns.push(15, zeros(&rt, 65_536)).is_err());
+    assert!(rt; columns.push(16, Vec::new(rt.alloc())).is_err());
+    assert!(rt; columns.push(15, zeros(&rt, 65_535)).is_ok());
+    assert!(rt; columns.push(15, Vec::new(rt.alloc())).is_err());
+}
+
+#[test]
+fn orders_keys_as_lists_of_bytes(rt: HostRuntime) {
+    let mut last = key_of(&rt, b"");
     for bytes in [b"\0".as_slice(), b"a", b"aa", b"ab", b"b", b"\xff"] {
-        let key = key_of(alloc, bytes)?;
+        let key = key_of(&rt, bytes);
         assert!(rt; last < key);
         last = key;
     }
-    Ok(())
 }
 
 #[test]
-fn makes_puts_and_marks(rt: HostRuntime) -> Result<(), Fail> {
-    let alloc = rt.alloc();
+fn makes_puts_and_marks(rt: HostRuntime) {
     assert!(rt; Record::mark(5).into_change().is_none());
-    let key = key_of(alloc, b"k")?;
-    let mut columns = Columns::new(alloc);
-    assert!(rt; columns.push(0, Vec::from_slice(alloc, b"v")?).is_ok());
-    let put = Record::put(7, 1, key, columns).ok_or("a lawful put")?;
-    assert_eq!(rt; put.timestamp(), 7);
-    assert_eq!(rt; put.into_change().map(|change| change.version), Some(1));
-    Ok(())
+    let columns = column_of(&rt, 0, b"v");
+    let put = Record::put(7, 1, key_of(&rt, b"k"), columns).expect(&rt, "a lawful put");
+    assert_same(&rt, &put.timestamp(), &7);
+    let version = put.into_change().map(|change| change.version);
+    assert_same(&rt, &version, &Some(1));
 }
 
 #[test]
-fn makes_entries(rt: HostRuntime) -> Result<(), Fail> {
-    let alloc = rt.alloc();
-    let key = key_of(alloc, b"k")?;
-    let mut columns = Columns::new(alloc);
-    assert!(rt; columns.push(0, Vec::from_slice(alloc, b"v")?).is_ok());
-    let entry = Entry::new(3, key, columns).ok_or("a lawful entry")?;
-    assert_eq!(rt; entry.change().version, 3);
-    let change = entry.into_change();
-    assert_eq!(rt; change.key.as_bytes(), b"k".as_slice());
+fn makes_entries(rt: HostRuntime) {
+    let columns = column_of(&rt, 0, b"v");
+    let entry = Entry::new(3, key_of(&rt, b"k"), columns).expect(&rt, "a lawful entry");
+    assert_same(&rt, &entry.change().version, &3);
+    assert_whole(&rt, entry.into_change());
+}
+
+/// The change sets the whole of key k.
+fn assert_whole<R: Abort>(rt: &R, change: Change) {
+    assert_bytes(rt, change.key.as_bytes(), b"k");
     assert!(rt; matches!(change.kind, Kind::Whole(_)));
-    Ok(())
+}
+
+/// The fault has this text.
+fn assert_text<R: Abort + AllocGlobal>(rt: &R, fault: Fault, text: &str) {
+    let found = fault.to_string(rt.alloc()).expect(rt, "memory");
+    assert_same(rt, &found.as_str(), &text);
 }
 
 #[test]
-fn faults_have_their_texts(rt: HostRuntime) -> Result<(), Fail> {
-    let alloc = rt.alloc();
+fn faults_have_their_texts(rt: HostRuntime) {
     for (fault, text) in [
         (Fault::NoLogs, "no logs"),
         (Fault::Header { log: 2 }, "log 2: header"),
@@ -89,8 +103,12 @@ fn faults_have_their_texts(rt: HostRuntime) -> Result<(), Fail> {
         (Fault::Missing { piece: 3 }, "piece 3: missing"),
         (Fault::Memory, "no memory"),
     ] {
-        assert_eq!(rt; fault.to_string(alloc)?.as_str(), text);
+        assert_text(&rt, fault, text);
     }
+}
+
+#[test]
+fn faults_of_records_have_their_texts(rt: HostRuntime) {
     for (what, text) in [
         (What::Length, "log 1: record 1: length"),
         (What::Trailer, "log 1: record 1: trailer"),
@@ -106,7 +124,6 @@ fn faults_have_their_texts(rt: HostRuntime) -> Result<(), Fail> {
             nth: 1,
             what,
         };
-        assert_eq!(rt; fault.to_string(alloc)?.as_str(), text);
+        assert_text(&rt, fault, text);
     }
-    Ok(())
 }
