@@ -65,7 +65,7 @@ impl PartReader {
     }
 
     /// How many bytes the beginning that is held back asks for: those of the header, or those of a length, and then
-    /// those of what it begins.
+    /// those of what it begins. It only says how far to go before the next try: no answer of it is wrong.
     fn bytes_wanted(&self) -> usize {
         if self.items.head.is_none() {
             return PART_HEADER_BYTES;

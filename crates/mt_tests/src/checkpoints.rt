@@ -1,7 +1,7 @@
 //! Worked checkpoints: which one is chosen, and what recovery makes of it.
 use crate::asserting::{assert_bytes, assert_same};
 use crate::logs::{HEADER, LOG_A, bytes_of, log_of, mark, put, put_column};
-use crate::parts::{PART, scan_of_part};
+use crate::parts::{PART, scan_of_part, shown_by};
 use crate::recovering::{sources_of, text_of};
 use mt_recover::{Inputs, Recovered, recover_one};
 use mt_scan::{Choice, FaultSource, Rack, Slot, choose};
@@ -114,6 +114,12 @@ fn parts_that_are_not_all_there_are_skipped(rt: HostRuntime) {
 }
 
 #[test]
+fn a_part_of_no_parts_is_skipped(rt: HostRuntime) {
+    let part = part_of(&rt, 7, (2, 4), (0, 0), &[]);
+    assert_skipped(&rt, [part.as_slice()].as_slice());
+}
+
+#[test]
 fn parts_that_disagree_are_skipped(rt: HostRuntime) {
     for spans in [[(2, 4), (3, 4)], [(2, 4), (2, 5)], [(5, 4), (5, 4)]] {
         let first = part_of(&rt, 7, spans[0], (0, 2), &[]);
@@ -129,6 +135,7 @@ fn keys_that_fall_in_a_part_are_skipped(rt: HostRuntime) {
     let falling = [b.as_str(), a.as_str()];
     let part = part_of(&rt, 7, (2, 4), (0, 1), falling.as_slice());
     // The part itself is whole.
+    assert_same(&rt, &shown_by(scan_of_part(&rt, &part)), &Ok(2));
     assert_skipped(&rt, [part.as_slice()].as_slice());
 }
 

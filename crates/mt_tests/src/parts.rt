@@ -164,7 +164,7 @@ fn scans_a_part(rt: HostRuntime) {
 }
 
 /// What the scan of a part shows of it: how many entries, or the number of its checkpoint, if it has a header.
-fn shown_by(scan: PartScan) -> Result<usize, Option<u32>> {
+pub fn shown_by(scan: PartScan) -> Result<usize, Option<u32>> {
     match scan {
         PartScan::Whole(text) => Ok(text.entries.len()),
         PartScan::Broken { number } => Err(Some(number)),
