@@ -1,5 +1,6 @@
 -- What the kinds of source say of themselves beyond what every source does.
 use Rattle.std.specs.Prelude.{◌≡◌, ℕ, min, List, [], length, Option, Some, Bool, true, false, nat_eq, Result, Ok, IfSome}
+use Rattle.std.specs.Io.KnownBytes.{Consumes}
 use Rattle.mt_scan.specs.Buffers.{Buffered}
 use Rattle.mt_scan.specs.Sources.{Seen}
 use Rattle.mt_scan.specs.declared.source.SourceFault.{SourceFault}
@@ -72,6 +73,17 @@ seen_of_reader remaining source = record {
   shown = source.buffer.shown;
   spent = has_failed source.progress;
 }
+
+-- how many bytes a piece has at the most
+abbrev pub reader_piece_size : {R : Type 0} → ReaderSource R Buffered → ℕ
+reader_piece_size source = source.buffer.size
+
+-- as many bytes were handed out as may be, and the reader gave one more
+pub record HasTooMany (old new : Seen) : Type 0 where
+  pub at_limit : old.bound ≡ 0
+  pub extra : List ℕ
+  pub is_one : length extra ≡ 1
+  pub given : Consumes old.told new.told extra
 
 -- the reader had no more
 abbrev pub at_its_end : {R : Type 0} → ReaderSource R Buffered → Bool

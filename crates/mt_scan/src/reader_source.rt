@@ -1,8 +1,10 @@
 //! The bytes of a reader.
 ghost use Rattle.std.specs.Prelude.{◌≡◌, ◌+◌, ◌↔◌, ◌⊎◌, [], IfSome, IfOk, IfErr, IsSome, IsTrue, Some, Ok, Err, false};
-ghost use Rattle.mt_scan.specs.declared.source.SourceFault.TheVariants.{TooLong};
+ghost use Rattle.mt_scan.specs.declared.source.SourceFault.TheVariants.{Device, TooLong};
 ghost use Rattle.mt_scan.specs.Sources.{Advances};
-ghost use Rattle.mt_scan.specs.Kinds.{seen_of_reader, at_its_end, has_failed};
+ghost use Rattle.std.specs.Io.KnownBytes.{Keeps};
+ghost use Rattle.mt_scan.specs.Buffers.{HoldsBufferOf};
+ghost use Rattle.mt_scan.specs.Kinds.{seen_of_reader, reader_piece_size, HasTooMany, at_its_end, has_failed};
 
 use crate::buffer::Buffer;
 use crate::slot::Slot;
@@ -44,6 +46,7 @@ impl<'a, R: Read + Drop> ReaderSource<'a, R> {
         ensures steady { IfSome result (λ s. (seen_of_reader R.remaining s).steady ≡ false) }
         ensures fresh { IfSome result (λ s. (seen_of_reader R.remaining s).spent ≡ false) }
         ensures shown { IfSome result (λ s. (seen_of_reader R.remaining s).shown ≡ []) }
+        ensures size { IfSome result (λ s. HoldsBufferOf (reader_piece_size s) slot.old) }
         ensures slot { IfSome result (λ s. s.slot.ghost_name ≡ slot.entry.ghost_name) }
     {
         let mut buffer = slot.buffer.take()?;
@@ -80,10 +83,16 @@ impl<R: Read + Drop> Source for ReaderSource<'_, R> {
 
     fn advance(&mut self) -> Result<usize, SourceFault>
         ensures advances { Advances (seen_of_reader R.remaining self.old) (seen_of_reader R.remaining self.new) result }
+        ensures bound { IfOk result (λ n. (seen_of_reader R.remaining self.new).bound + n ≡ (seen_of_reader R.remaining self.old).bound) }
+        // A fault of the reader costs no byte, and too many bytes are not taken for one.
+        ensures device { result ≡ Err Device →
+            Keeps (seen_of_reader R.remaining self.old).told (seen_of_reader R.remaining self.new).told }
         ensures too_long { result ≡ Err TooLong →
-            ((seen_of_reader R.remaining self.old).bound ≡ 0) ⊎ IsTrue (seen_of_reader R.remaining self.old).spent }
+            HasTooMany (seen_of_reader R.remaining self.old) (seen_of_reader R.remaining self.new)
+            ⊎ IsTrue (seen_of_reader R.remaining self.old).spent }
         ensures ended { result ≡ Ok 0 → IsTrue (at_its_end self.new) }
         ensures stays { IsTrue (at_its_end self.old) → result ≡ Ok 0 }
+        ensures size { reader_piece_size self.new ≡ reader_piece_size self.old }
         ensures slot { self.new.slot.ghost_name ≡ self.old.slot.ghost_name }
     {
         let left = self.left;
@@ -121,6 +130,9 @@ impl<R> ReaderSource<'_, R> {
         ensures counted { self.new.failures.count ≡ self.old.failures.count + 1 }
         ensures shown { self.new.buffer.shown ≡ [] }
         ensures failed { IsTrue (has_failed self.new.progress) }
+        ensures left { self.new.left ≡ self.old.left }
+        ensures reader { self.new.reader ≡ self.old.reader }
+        ensures size { self.new.buffer.size ≡ self.old.buffer.size }
         ensures slot { self.new.slot.ghost_name ≡ self.old.slot.ghost_name }
     {
         self.buffer.clear();

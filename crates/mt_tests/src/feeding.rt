@@ -1,22 +1,38 @@
-//! Logs in pieces.
+//! Logs, whole and in pieces.
 use crate::asserting::{assert_same, assert_same_in};
-use crate::logs::{LOG_A, bytes_of, put};
+use crate::logs::{HEADER, LOG_A, bytes_of};
 use mt_record::{FeedFault, LogFeed, LogText, read_log};
 use mt_words::What;
 use std::process::Abort;
 
-/// Feeds a piece, which shows no fault.
-fn feed_piece<R: Abort>(rt: &R, pieces: &mut LogFeed, piece: &[u8]) {
-    pieces.feed(piece).expect(rt, "no fault");
+/// The log that these bytes are.
+fn read<R: Abort + AllocGlobal>(rt: &R, bytes: &[u8]) -> LogText {
+    read_log(rt.alloc(), bytes).expect(rt, "a log")
 }
 
-/// The log of these bytes, fed in pieces of this size.
-fn read_pieces<R: Abort + AllocGlobal>(rt: &R, bytes: &[u8], size: usize) -> LogText {
-    let mut pieces = LogFeed::new(rt.alloc());
-    for piece in bytes.chunks(size.max(1)) {
-        feed_piece(rt, &mut pieces, piece);
+#[test]
+fn reads_a_log(rt: HostRuntime) {
+    let text = read(&rt, &bytes_of(&rt, LOG_A));
+    let shown = (text.from, text.last, text.whole, text.torn);
+    assert_same(&rt, &shown, &(0, 5, 2, false));
+    assert_same(&rt, &text.records.len(), &2);
+}
+
+#[test]
+fn a_cut_rest_is_torn(rt: HostRuntime) {
+    for rest in [
+        "00",
+        "000000",
+        "00100434",
+        "00000009 04",
+        "00000009 03 0000000000000005 000000",
+    ] {
+        let mut bytes = bytes_of(&rt, HEADER);
+        let rest_bytes = bytes_of(&rt, rest);
+        bytes.extend_from_slice(&rest_bytes).expect(&rt, "memory");
+        let text = read(&rt, &bytes);
+        assert_same_in(&rt, &rest, &(text.whole, text.torn), &(0, true));
     }
-    pieces.finish().expect(rt, "a log")
 }
 
 #[test]
@@ -41,10 +57,11 @@ fn shows_a_wrong_length_with_its_last_byte(rt: HostRuntime) {
 #[test]
 fn shows_a_wrong_header_at_once(rt: HostRuntime) {
     let mut feed = LogFeed::new(rt.alloc());
-    let fault = Some(FeedFault::Header);
-    assert_same(&rt, &feed.feed([0].as_slice()).err(), &fault);
-    assert_same(&rt, &feed.feed(b"MTL1").err(), &fault);
-    assert_same(&rt, &feed.finish().err(), &fault);
+    assert_same(
+        &rt,
+        &feed.feed([0].as_slice()).err(),
+        &Some(FeedFault::Header),
+    );
 }
 
 #[test]
@@ -54,54 +71,34 @@ fn misses_the_rest_of_a_header_at_the_end(rt: HostRuntime) {
     assert_same(&rt, &feed.finish().err(), &Some(FeedFault::Header));
 }
 
+/// Feeds a piece, which shows no fault.
+fn feed_piece<R: Abort>(rt: &R, feed: &mut LogFeed, piece: &[u8]) {
+    feed.feed(piece).expect(rt, "no fault");
+}
+
 #[test]
 fn gives_the_records_before_the_log_ends(rt: HostRuntime) {
     let bytes = bytes_of(&rt, LOG_A);
     let (front, back) = bytes.split_at_checked(45).expect(&rt, "62 bytes");
-    let mut pieces = LogFeed::new(rt.alloc());
-    feed_piece(&rt, &mut pieces, front);
-    let taken = pieces.take();
+    let mut feed = LogFeed::new(rt.alloc());
+    feed_piece(&rt, &mut feed, front);
+    let taken = feed.take();
     assert_same(&rt, &taken.len(), &1);
     for record in taken {
         assert_same(&rt, &record.timestamp(), &3);
     }
     // An empty piece changes nothing.
-    feed_piece(&rt, &mut pieces, [].as_slice());
-    feed_piece(&rt, &mut pieces, back);
-    assert_mark_alone(&rt, pieces);
+    feed_piece(&rt, &mut feed, [].as_slice());
+    feed_piece(&rt, &mut feed, back);
+    assert_mark_alone(&rt, feed);
 }
 
 /// What is left of LOG_A is its mark.
-fn assert_mark_alone<R: Abort>(rt: &R, pieces: LogFeed) {
-    let text = pieces.finish().expect(rt, "a log");
+fn assert_mark_alone<R: Abort>(rt: &R, feed: LogFeed) {
+    let text = feed.finish().expect(rt, "a log");
     assert_same(rt, &(text.last, text.whole, text.torn), &(5, 2, false));
     assert_same(rt, &text.records.len(), &1);
     for record in text.records {
         assert!(rt; record.into_change().is_none());
     }
-}
-
-#[test]
-fn reads_a_log_however_it_is_cut(rt: HostRuntime) {
-    let mut whole = bytes_of(&rt, LOG_A);
-    let last = bytes_of(&rt, put(&rt, "62", 1, 6, "79").as_str());
-    whole.extend_from_slice(&last).expect(&rt, "memory");
-    assert!(rt; whole.len() == 95);
-    for size in [1, 2, 7, 4096] {
-        let text = read_pieces(&rt, &whole, size);
-        let shown = (text.last, text.whole, text.torn);
-        assert_same_in(&rt, &size, &shown, &(6, 3, false));
-        for kept in 0..33usize {
-            assert_cut(&rt, &whole[..62 + kept], size, kept);
-        }
-    }
-}
-
-/// LOG_A and so many bytes of a torn rest, however they are fed, are read as in one piece.
-fn assert_cut<R: Abort + AllocGlobal>(rt: &R, cut: &[u8], size: usize, kept: usize) {
-    let text = read_pieces(rt, cut, size);
-    let shown = (text.last, text.whole, text.torn);
-    assert_same_in(rt, &(kept, size), &shown, &(5, 2, kept > 0));
-    let whole = read_log(rt.alloc(), cut).expect(rt, "a log");
-    assert_same(rt, &whole.records.len(), &text.records.len());
 }

@@ -1,13 +1,11 @@
-//! The tests that cross crates: outside vectors, worked logs, printed texts, exit statuses, and the happy path of each
-//! call that takes memory.
+//! What no worked case can say: tests' own sources and outputs, refused calls and growths, feeds, printed texts and exit
+//! statuses. The worked cases are those of `mt_cases`.
 #![tactic(auto)]
 
 #[cfg(test)]
 mod asserting;
 #[cfg(test)]
-mod checkpoints;
-#[cfg(test)]
-mod encoding;
+mod example;
 #[cfg(test)]
 mod feeding;
 #[cfg(test)]
@@ -16,12 +14,6 @@ mod logs;
 mod parts;
 #[cfg(test)]
 mod printing;
-#[cfg(test)]
-mod reading;
-#[cfg(test)]
-mod recovering;
-#[cfg(test)]
-mod recovery;
 #[cfg(test)]
 mod refusals;
 #[cfg(test)]

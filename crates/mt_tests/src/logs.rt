@@ -1,4 +1,4 @@
-//! How the tests spell keys and logs.
+//! How the tests spell keys, logs and parts.
 use mt_words::Key;
 use std::process::Abort;
 
@@ -17,6 +17,11 @@ pub const LOG_B: &str = "4d544c31 0000000000000000
 
 /// A log of a header alone, with `from` 4.
 pub const LATE_HEADER: &str = "4d544c31 0000000000000004";
+
+/// A part of 64 bytes: number 1, begin 2, part 0 of 1, end 4, and one entry: key a at version 1 with 0=o and 1=p.
+pub const PART: &str = "4d544331 00000001 0000000000000002 0000 0001
+    00000014 0000000000000001 0001 61 02 00 0001 6f 01 0001 70 00000014
+    00000000 0000000000000004 00000001";
 
 /// The key of these bytes.
 pub fn key_of<R: Abort + AllocGlobal>(rt: &R, bytes: &[u8]) -> Key {
@@ -37,50 +42,4 @@ pub fn bytes_of<R: Abort + AllocGlobal>(rt: &R, text: &str) -> Vec<u8> {
         }
     }
     hex::decode(rt.alloc(), digits).expect(rt, "hexadecimal digits")
-}
-
-/// The log with `from` 0 and these records.
-pub fn log_of<R: Abort + AllocGlobal>(rt: &R, records: &[&str]) -> Vec<u8> {
-    let mut text = String::from_str(rt.alloc(), HEADER).expect(rt, "memory");
-    for record in records {
-        text.push_str(record).expect(rt, "memory");
-    }
-    bytes_of(rt, text.as_str())
-}
-
-/// A put of column 0 of a key of one byte. Key and value are bytes in hexadecimal.
-pub fn put<R: Abort + AllocGlobal>(
-    rt: &R,
-    key: &str,
-    version: u64,
-    timestamp: u64,
-    value: &str,
-) -> String {
-    put_column(rt, key, version, timestamp, 0, value)
-}
-
-/// A put of this column.
-pub fn put_column<R: Abort + AllocGlobal>(
-    rt: &R,
-    key: &str,
-    version: u64,
-    timestamp: u64,
-    number: u8,
-    value: &str,
-) -> String {
-    format!(in rt.alloc();
-        "00000019 01 {timestamp:016x} {version:016x} 0001 {key} 01 {number:02x} 0001 {value} 00000019"
-    ).expect(rt, "memory")
-}
-
-/// A remove of a key of one byte.
-pub fn remove<R: Abort + AllocGlobal>(rt: &R, key: &str, version: u64, timestamp: u64) -> String {
-    format!(in rt.alloc();
-        "00000014 02 {timestamp:016x} {version:016x} 0001 {key} 00000014"
-    ).expect(rt, "memory")
-}
-
-/// A mark.
-pub fn mark<R: Abort + AllocGlobal>(rt: &R, timestamp: u64) -> String {
-    format!(in rt.alloc(); "00000009 03 {timestamp:016x} 00000009").expect(rt, "memory")
 }

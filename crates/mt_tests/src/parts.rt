@@ -1,16 +1,9 @@
-//! Parts of checkpoints, in pieces and from sources.
+//! Parts of checkpoints in pieces.
 use crate::asserting::{assert_same, assert_same_in};
-use crate::logs::bytes_of;
-use mt_record::{PartFault, PartFeed, PartText};
-use mt_scan::{FaultSource, MemSource, PartScan, Rack, scan_part};
-use mt_words::Fault;
+use crate::logs::{PART, bytes_of};
+use mt_record::{PartFault, PartFeed};
 use std::alloc::Global;
 use std::process::Abort;
-
-/// A part of 64 bytes: number 1, begin 2, part 0 of 1, end 4, and one entry: key a at version 1 with 0=o and 1=p.
-pub const PART: &str = "4d544331 00000001 0000000000000002 0000 0001
-    00000014 0000000000000001 0001 61 02 00 0001 6f 01 0001 70 00000014
-    00000000 0000000000000004 00000001";
 
 /// How the parts are cut: whole, in bytes, and in pieces of 7.
 const SIZES: [usize; 3] = [64, 1, 7];
@@ -66,22 +59,6 @@ fn changed<R: Abort + AllocGlobal>(rt: &R, place: usize, change: u8) -> Vec<u8> 
     bytes
 }
 
-/// The part with the byte at this place changed in any way has one answer, however it is cut.
-fn assert_one_answer<R: Abort + AllocGlobal>(rt: &R, place: usize) {
-    for change in 1..=255u8 {
-        let bytes = changed(rt, place, change);
-        let whole = read_part(rt.alloc(), &bytes, 64);
-        assert_read(rt, &bytes, whole);
-    }
-}
-
-#[test]
-fn a_changed_byte_has_one_answer(rt: HostRuntime) {
-    for place in 0..64usize {
-        assert_one_answer(&rt, place);
-    }
-}
-
 /// The first byte that shows a fault, and the fault.
 fn first_fault(alloc: Global, bytes: &[u8]) -> Option<(usize, PartFault)> {
     let mut feed = PartFeed::new(alloc);
@@ -115,86 +92,4 @@ fn shows_a_byte_behind_the_footer_at_once(rt: HostRuntime) {
     let found = first_fault(rt.alloc(), &bytes);
     assert_same(&rt, &found, &Some((64, BROKEN_AFTER_ONE)));
     assert_read(&rt, &bytes, Err(BROKEN_AFTER_ONE));
-}
-
-#[test]
-fn answers_a_fault_again(rt: HostRuntime) {
-    let bytes = changed(&rt, 23, 0x19);
-    let mut feed = PartFeed::new(rt.alloc());
-    for (place, byte) in bytes.iter().enumerate() {
-        let answer = feed.feed([*byte].as_slice()).err();
-        let expected = if place < 23 {
-            None
-        } else {
-            Some(BROKEN_AT_ONCE)
-        };
-        assert_same_in(&rt, &place, &answer, &expected);
-    }
-    let answer = feed.finish().err();
-    assert_same(&rt, &answer, &Some(BROKEN_AT_ONCE));
-}
-
-/// The scan of this part from memory, in pieces of 16 bytes.
-pub fn scan_of_part<R: Abort + AllocGlobal>(rt: &R, bytes: &[u8]) -> PartScan {
-    let mut rack = Rack::new(rt.alloc(), 1, 16).expect(rt, "memory");
-    let slot = rack.slots().first_mut().expect(rt, "a slot");
-    let mut source = MemSource::new(bytes, slot).expect(rt, "a full slot");
-    scan_part(rt.alloc(), &mut source, 0).expect(rt, "no fault")
-}
-
-/// The numbers of a text, and how many entries it has.
-fn numbers_of(text: &PartText) -> (u32, u64, u16, u16, u64, usize) {
-    let count = text.entries.len();
-    (
-        text.number,
-        text.begin,
-        text.part,
-        text.parts,
-        text.end,
-        count,
-    )
-}
-
-#[test]
-fn scans_a_part(rt: HostRuntime) {
-    match scan_of_part(&rt, &bytes_of(&rt, PART)) {
-        PartScan::Whole(text) => assert_same(&rt, &numbers_of(&text), &(1, 2, 0, 1, 4, 1)),
-        _ => assert!(rt; false, "a whole part"),
-    }
-}
-
-/// What the scan of a part shows of it: how many entries, or the number of its checkpoint, if it has a header.
-pub fn shown_by(scan: PartScan) -> Result<usize, Option<u32>> {
-    match scan {
-        PartScan::Whole(text) => Ok(text.entries.len()),
-        PartScan::Broken { number } => Err(Some(number)),
-        PartScan::Nameless => Err(None),
-    }
-}
-
-#[test]
-fn a_broken_part_is_no_fault(rt: HostRuntime) {
-    let bytes = bytes_of(&rt, PART);
-    for (kept, expected) in [
-        (64, Ok(1)),
-        (63, Err(Some(1))),
-        (20, Err(Some(1))),
-        (19, Err(None)),
-        (0, Err(None)),
-    ] {
-        let cut = bytes.get(..kept).expect(&rt, "64 bytes");
-        assert_same_in(&rt, &kept, &shown_by(scan_of_part(&rt, cut)), &expected);
-    }
-}
-
-#[test]
-fn a_failed_part_is_named(rt: HostRuntime) {
-    let bytes = bytes_of(&rt, PART);
-    let mut rack = Rack::new(rt.alloc(), 1, 16).expect(&rt, "memory");
-    for slot in rack.slots() {
-        let mut source = FaultSource::new(&bytes, slot, 5).expect(&rt, "a full slot");
-        let fault = scan_part(rt.alloc(), &mut source, 3).err();
-        assert_same(&rt, &fault, &Some(Fault::PartSource { part: 3 }));
-    }
-    assert!(rt; rack.all_full());
 }

@@ -1,8 +1,7 @@
 //! The program: texts and exit statuses.
 use crate::asserting::{assert_bytes, assert_same};
 use crate::logs::{HEADER, LATE_HEADER, LOG_A, LOG_B, bytes_of};
-use crate::recovering::text_of;
-use mt_recover::{dump_files, recover_logs};
+use mt_recover::dump_files;
 use std::env::{Env, temp_dir};
 use std::fs::{self, Files, OpenFile};
 use std::io::{self, ErrorKind, Write};
@@ -162,34 +161,38 @@ fn assert_unopened<R: Abort + AllocGlobal + Files>(rt: &R, first: &str, word: &s
 
 #[test]
 fn a_folder_is_no_file(rt: HostRuntime) {
-    let id = std::process::id(rt.process());
-    let a = file_of(&rt, id, "folder-a", LOG_A);
     let folder = temp_dir(&rt).expect(&rt, "a folder");
     let folder = name_of(&rt, folder.as_path().to_string_lossy());
-    let names = two(&rt, a, folder);
-    let mut out = Vec::new(rt.alloc());
-    let expected = b"mtdump: log 1: source failed\n";
-    assert_run_on(&rt, &names, &mut out, 1, expected);
-    remove_file(&rt, names.first().expect(&rt, "a name").as_str());
-}
-
-#[test]
-fn a_file_past_the_limit_is_not_read(rt: HostRuntime) {
-    let id = std::process::id(rt.process());
-    let name = file_of(&rt, id, "large", LOG_A);
-    enlarge(&rt, name.as_str());
-    let names = one(&rt, name);
+    // Each file is read before the next is opened.
+    let names = two(&rt, folder, name_of(&rt, "no-such-file.mtl"));
     let mut out = Vec::new(rt.alloc());
     let expected = b"mtdump: log 0: source failed\n";
     assert_run_on(&rt, &names, &mut out, 1, expected);
+}
+
+#[test]
+fn a_file_of_the_greatest_size_is_read_and_none_past_it(rt: HostRuntime) {
+    let id = std::process::id(rt.process());
+    let names = one(&rt, file_of(&rt, id, "large", "00"));
+    // Zeros alone: once such a file is read, its header is a fault.
+    for (size, expected) in [
+        (1_073_741_824, b"mtdump: log 0: header\n".as_slice()),
+        (1_073_741_825, b"mtdump: log 0: source failed\n"),
+    ] {
+        resize(&rt, &names, size);
+        let mut out = Vec::new(rt.alloc());
+        assert_run_on(&rt, &names, &mut out, 1, expected);
+    }
     remove_files(&rt, &names);
 }
 
-/// Makes the file one byte longer than a log may be.
-fn enlarge<R: Abort + Files>(rt: &R, name: &str) {
+/// Makes the first file as long as this.
+fn resize<R: Abort + Files>(rt: &R, names: &[String], size: u64) {
+    let name = names.first().expect(rt, "a name");
     let mut options = fs::OpenOptions::new();
-    let file = options.write(true).open(rt, name).expect(rt, "the file");
-    file.set_len(1_073_741_825).expect(rt, "a long file");
+    let file = options.write(true).open(rt, name.as_str());
+    let file = file.expect(rt, "the file");
+    file.set_len(size).expect(rt, "a long file");
 }
 
 #[test]
@@ -224,18 +227,4 @@ fn no_write_of_no_bytes_is_made(rt: HostRuntime) {
     let names = one(&rt, file_of(&rt, id, "output-empty", HEADER));
     assert_run_on(&rt, &names, &mut Full, 0, b"");
     remove_files(&rt, &names);
-}
-
-#[test]
-fn prints_the_empty_key_the_empty_value_and_two_columns(rt: HostRuntime) {
-    let log = bytes_of(
-        &rt,
-        "4d544c31 0000000000000000
-        00000018 01 0000000000000001 0000000000000001 0000 01 0a 0001 ff 00000018
-        0000001c 01 0000000000000001 0000000000000001 0001 00 02 00 0000 0f 0001 41 0000001c
-        00000009 03 0000000000000002 00000009",
-    );
-    let answer = recover_logs(rt.alloc(), [log.as_slice()].as_slice());
-    let text = text_of(&rt, answer);
-    assert_bytes(&rt, &text, b": 10=ff\n00: 0= 15=41\n");
 }

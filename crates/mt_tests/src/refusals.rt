@@ -1,11 +1,10 @@
 //! Want of memory. As they stand these tests see no refusal. `.ci/refuse_growths` runs them with one growth after the other
 //! refused: it then sees that a refused growth gives `Memory` and nothing else.
 use crate::asserting::{assert_bytes, assert_same};
-use crate::recovering::recover_sources;
 use mt_record::{
     FeedFault, LogFeed, PartFault, PartFeed, encode_log_header, encode_part, encode_record,
 };
-use mt_recover::{Recovered, recover_logs};
+use mt_recover::{Inputs, Recovered, recover_logs, recover_one};
 use mt_scan::{Choice, MemSource, PartScan, Rack, Slot, choose, scan_part};
 use mt_words::{Columns, Entry, Fault, Key, Memory, Record};
 use std::alloc::Global;
@@ -61,7 +60,8 @@ fn recover_first(alloc: Global, slot: &mut Slot) -> Option<Result<Recovered, Fau
     let source = MemSource::new(LOGS[0], slot)?;
     let mut logs = Vec::new(alloc);
     logs.push(source).ok()?;
-    Some(recover_sources(alloc, logs))
+    let parts = Vec::new(alloc);
+    Some(recover_one(alloc, Inputs { logs, parts }))
 }
 
 #[test]

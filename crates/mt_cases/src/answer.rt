@@ -1,0 +1,148 @@
+//! What recovery answers, in the words of a case.
+use crate::draft::Draft;
+use crate::mistake::Mistake;
+use crate::source::DraftSource;
+use mt_recover::{Inputs, Recovered, recover_logs, recover_one, write_dump};
+use mt_scan::{
+    Choice, LONGEST_BUFFER, LogScan, PartScan, Rack, Slot, choose, cutoff, scan_log, scan_part,
+};
+use mt_words::Fault;
+use std::alloc::Global;
+use std::fmt::Display;
+use std::io::{self, Write};
+
+/// Appends what recovery of the logs of these drafts answers from their bytes in memory.
+pub fn push_from_memory(
+    alloc: Global,
+    drafts: &[Draft],
+    text: &mut Vec<u8>,
+) -> Result<(), Mistake> {
+    let mut logs = Vec::new(alloc);
+    for draft in drafts {
+        logs.push(draft.bytes.as_slice())?;
+    }
+    Ok(write_answer(recover_logs(alloc, &logs), text)?)
+}
+
+/// Appends what recovery answers from sources with buffers of this size. All buffers are back then.
+pub fn push_from_sources(
+    alloc: Global,
+    drafts: &[Draft],
+    size: usize,
+    text: &mut Vec<u8>,
+) -> Result<(), Mistake> {
+    let mut rack = rack_for(alloc, drafts, size)?;
+    let inputs = inputs_of(alloc, drafts, rack.slots())?;
+    let answer = recover_one(alloc, inputs);
+    if !rack.all_full() {
+        return Err(Mistake::Slot);
+    }
+    Ok(write_answer(answer, text)?)
+}
+
+/// A slot with a buffer of this size for each draft.
+fn rack_for(alloc: Global, drafts: &[Draft], size: usize) -> Result<Rack, Mistake> {
+    Ok(Rack::new(alloc, drafts.len(), size.clamp(1, LONGEST_BUFFER))?)
+}
+
+/// The sources of the drafts, each with the buffer of a slot.
+fn inputs_of<'a>(
+    alloc: Global,
+    drafts: &'a [Draft],
+    slots: &'a mut [Slot],
+) -> Result<Inputs<DraftSource<'a>>, Mistake> {
+    let mut logs = Vec::new(alloc);
+    let mut parts = Vec::new(alloc);
+    for (draft, slot) in drafts.iter().zip(slots) {
+        let source = DraftSource::new(draft, slot)?;
+        if draft.is_log {
+            logs.push(source)?;
+        } else {
+            parts.push(source)?;
+        }
+    }
+    Ok(Inputs { logs, parts })
+}
+
+/// Writes an answer of recovery: `store` and its pairs, or `fault` and the fault.
+fn write_answer<W: Write>(answer: Result<Recovered, Fault>, out: &mut W) -> io::Result<()> {
+    match answer {
+        Ok(recovered) => {
+            out.write_all(b"store\n")?;
+            write_dump(recovered.store(), out)
+        }
+        Err(fault) => writeln!(out, "fault {fault}"),
+    }
+}
+
+/// Appends what is chosen from the parts, below the cutoff of the logs: `choice` and the number of the checkpoint or
+/// `none`, then `skipped` and `nameless` with their numbers, where there are any; or `choice fault` and the fault.
+pub fn push_choice(
+    alloc: Global,
+    drafts: &[Draft],
+    size: usize,
+    text: &mut Vec<u8>,
+) -> Result<(), Mistake> {
+    let mut rack = rack_for(alloc, drafts, size)?;
+    let inputs = inputs_of(alloc, drafts, rack.slots())?;
+    match choose_from(alloc, inputs) {
+        Ok(choice) => write_choice(&choice, text)?,
+        Err(fault) => writeln!(text, "choice fault {fault}")?,
+    }
+    Ok(())
+}
+
+/// What is chosen from these sources.
+fn choose_from(alloc: Global, inputs: Inputs<DraftSource<'_>>) -> Result<Choice, Fault> {
+    let Inputs { logs, parts } = inputs;
+    let Some(cutoff) = cutoff(&scan_all_logs(alloc, logs)?) else {
+        return Err(Fault::NoLogs);
+    };
+    let scans = scan_all_parts(alloc, parts)?;
+    Ok(choose(alloc, scans, cutoff)?)
+}
+
+/// The scans of the logs.
+fn scan_all_logs(alloc: Global, logs: Vec<DraftSource<'_>>) -> Result<Vec<LogScan>, Fault> {
+    let mut scans = Vec::new(alloc);
+    for (log, mut source) in logs.into_iter().enumerate() {
+        let scan = scan_log(alloc, &mut source, log)?;
+        scans.push(scan).map_err(|_| Fault::Memory)?;
+    }
+    Ok(scans)
+}
+
+/// The scans of the parts.
+fn scan_all_parts(alloc: Global, parts: Vec<DraftSource<'_>>) -> Result<Vec<PartScan>, Fault> {
+    let mut scans = Vec::new(alloc);
+    for (part, mut source) in parts.into_iter().enumerate() {
+        let scan = scan_part(alloc, &mut source, part)?;
+        scans.push(scan).map_err(|_| Fault::Memory)?;
+    }
+    Ok(scans)
+}
+
+/// Writes a choice.
+fn write_choice<W: Write>(choice: &Choice, out: &mut W) -> io::Result<()> {
+    match &choice.chosen {
+        Some(checkpoint) => {
+            let number = checkpoint.number;
+            write!(out, "choice {number}")?;
+        }
+        None => out.write_all(b"choice none")?,
+    }
+    write_numbers(" skipped", &choice.skipped, out)?;
+    write_numbers(" nameless", &choice.nameless, out)?;
+    out.write_all(b"\n")
+}
+
+/// Writes the word and the numbers behind it, where there are any.
+fn write_numbers<T: Display, W: Write>(word: &str, numbers: &[T], out: &mut W) -> io::Result<()> {
+    if !numbers.is_empty() {
+        out.write_all(word.as_bytes())?;
+    }
+    for number in numbers {
+        write!(out, " {number}")?;
+    }
+    Ok(())
+}

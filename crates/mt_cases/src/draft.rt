@@ -1,0 +1,183 @@
+//! A log or a part while its lines are read.
+use crate::mistake::Mistake;
+use crate::records::{entry_of, record_of};
+use crate::words::{number_of, push_digits, small_of};
+use mt_record::{PartHead, encode_log_header, encode_part, encode_record};
+use mt_words::Entry;
+use std::alloc::Global;
+
+/// A lawful part whose entries may still come.
+#[derive(Drop)]
+struct PartDraft {
+    head: PartHead,
+    end: u64,
+    entries: Vec<Entry>,
+}
+
+/// A log or a part, as far as its lines were read.
+#[derive(Drop)]
+pub struct Draft {
+    pub is_log: bool,
+    /// The part, until it is spelled behind the bytes: then no entry is to come.
+    part: Option<PartDraft>,
+    pub bytes: Vec<u8>,
+    /// The call of `advance` from which on its source fails, where one does.
+    pub fails: Option<u64>,
+}
+
+impl Draft {
+    /// The log or part of these bytes.
+    pub fn of_bytes(is_log: bool, bytes: Vec<u8>) -> Draft {
+        Draft {
+            is_log,
+            part: None,
+            bytes,
+            fails: None,
+        }
+    }
+
+    /// A log's header: `from FROM`, or nothing for 0.
+    pub fn begin_log(alloc: Global, words: &[&str]) -> Result<Draft, Mistake> {
+        let from = match words {
+            [] => 0,
+            ["from", from] => number_of(from)?,
+            _ => return Err(Mistake::Line),
+        };
+        let mut bytes = Vec::new(alloc);
+        encode_log_header(from, &mut bytes)?;
+        Ok(Draft::of_bytes(true, bytes))
+    }
+
+    /// A part: `PART of PARTS of checkpoint NUMBER from BEGIN to END`.
+    pub fn begin_part(alloc: Global, words: &[&str]) -> Result<Draft, Mistake> {
+        let (head, end) = head_of(words)?;
+        let entries = Vec::new(alloc);
+        let mut draft = Draft::of_bytes(false, Vec::new(alloc));
+        draft.part = Some(PartDraft { head, end, entries });
+        Ok(draft)
+    }
+
+    /// Takes a line in.
+    pub fn add(&mut self, alloc: Global, words: &[&str]) -> Result<(), Mistake> {
+        match words {
+            ["put" | "remove" | "mark", ..] => self.add_record(alloc, words),
+            ["entry", rest @ ..] => self.add_entry(alloc, rest),
+            ["fail", call] => self.fail_from(number_of(call)?),
+            _ => {
+                self.spell_part()?;
+                change(alloc, words, &mut self.bytes)
+            }
+        }
+    }
+
+    /// Adds a record to the log.
+    fn add_record(&mut self, alloc: Global, words: &[&str]) -> Result<(), Mistake> {
+        if !self.is_log {
+            return Err(Mistake::Misplaced);
+        }
+        encode_record(&record_of(alloc, words)?, &mut self.bytes)?;
+        Ok(())
+    }
+
+    /// Adds an entry to the part.
+    fn add_entry(&mut self, alloc: Global, words: &[&str]) -> Result<(), Mistake> {
+        let part = self.part.as_mut().ok_or(Mistake::Misplaced)?;
+        part.entries.push(entry_of(alloc, words)?)?;
+        Ok(())
+    }
+
+    /// Lets its source fail from this call on; they count from 1.
+    fn fail_from(&mut self, call: u64) -> Result<(), Mistake> {
+        if call == 0 {
+            return Err(Mistake::Number);
+        }
+        self.fails = Some(call);
+        Ok(())
+    }
+
+    /// Spells the part, if that is still to come.
+    pub fn spell_part(&mut self) -> Result<(), Mistake> {
+        let Some(part) = self.part.take() else {
+            return Ok(());
+        };
+        let PartDraft { head, end, entries } = part;
+        // As many as a footer can count.
+        if entries.len() > 0xffff_ffff {
+            return Err(Mistake::Number);
+        }
+        let PartHead {
+            number,
+            begin,
+            part,
+            parts,
+        } = head;
+        encode_part(number, begin, part, parts, end, &entries, &mut self.bytes)?;
+        Ok(())
+    }
+}
+
+/// The numbers of a part.
+fn head_of(words: &[&str]) -> Result<(PartHead, u64), Mistake> {
+    let [
+        part,
+        "of",
+        parts,
+        "of",
+        "checkpoint",
+        number,
+        "from",
+        begin,
+        "to",
+        end,
+    ] = words
+    else {
+        return Err(Mistake::Line);
+    };
+    let head = PartHead {
+        number: small_of::<u32>(number)?,
+        begin: number_of(begin)?,
+        part: small_of::<u16>(part)?,
+        parts: small_of::<u16>(parts)?,
+    };
+    Ok((head, number_of(end)?))
+}
+
+/// Changes the bytes: `bytes DIGITS ..` appends, `byte PLACE VALUE` puts another byte, `cut LENGTH` keeps so many.
+/// `spelled DIGITS ..` changes nothing, and asks that they are just these.
+fn change(alloc: Global, words: &[&str], bytes: &mut Vec<u8>) -> Result<(), Mistake> {
+    match words {
+        ["bytes", digits @ ..] => push_digits(alloc, digits, bytes),
+        ["byte", place, value] => put_byte(place, value, bytes),
+        ["cut", length] => cut(length, bytes),
+        ["spelled", digits @ ..] => compare(alloc, digits, bytes),
+        _ => Err(Mistake::Line),
+    }
+}
+
+/// Puts another byte in a place.
+fn put_byte(place: &str, value: &str, bytes: &mut [u8]) -> Result<(), Mistake> {
+    let place = small_of::<usize>(place)?;
+    let byte = bytes.get_mut(place).ok_or(Mistake::Place)?;
+    *byte = small_of::<u8>(value)?;
+    Ok(())
+}
+
+/// Keeps so many bytes.
+fn cut(length: &str, bytes: &mut Vec<u8>) -> Result<(), Mistake> {
+    let length = small_of::<usize>(length)?;
+    if length > bytes.len() {
+        return Err(Mistake::Place);
+    }
+    bytes.truncate(length);
+    Ok(())
+}
+
+/// Asks that the bytes are just these.
+fn compare(alloc: Global, digits: &[&str], bytes: &[u8]) -> Result<(), Mistake> {
+    let mut wanted = Vec::new(alloc);
+    push_digits(alloc, digits, &mut wanted)?;
+    if wanted.as_slice() != bytes {
+        return Err(Mistake::Spelling);
+    }
+    Ok(())
+}

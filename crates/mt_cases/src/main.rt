@@ -1,0 +1,76 @@
+//! Tries the cases of case files: those that the words after the program's name name, or without a word those of the
+//! folder that it runs in whose names end in `.case`, in the order of their names. Its status is 0 where each case is as
+//! it is to be and one holds, and else 1.
+#![tactic(auto)]
+
+mod answer;
+mod blocks;
+mod case;
+mod draft;
+mod expected;
+mod mistake;
+mod names;
+mod passes;
+mod records;
+mod source;
+mod telling;
+mod trying;
+mod words;
+
+use crate::telling::{Tally, Teller};
+use std::io::{self, BufWriter, Write};
+use std::process::ExitCode;
+use std::{env, fs};
+
+fn main(rt: HostRuntime) -> io::Result<ExitCode> {
+    let Tally { hold, wrong, .. } = try_all(&rt)?;
+    Ok(ExitCode::from(u8::from(wrong > 0 || hold == 0)))
+}
+
+/// Tries all files, and tells how many cases hold.
+fn try_all(rt: &HostRuntime) -> io::Result<Tally> {
+    let out = BufWriter::new(rt.alloc(), rt.stdout())?;
+    let mut teller = Teller::new(out, rt.stderr());
+    for name in case_files(rt)? {
+        try_file(rt, name.as_str(), &mut teller)?;
+    }
+    let Tally { hold, fail, .. } = teller.tally;
+    writeln!(teller.out, "{hold} cases hold, {fail} do not")?;
+    teller.out.flush()?;
+    Ok(teller.tally)
+}
+
+/// Tries the cases of a file.
+fn try_file<O: Write, E: Write>(
+    rt: &HostRuntime,
+    name: &str,
+    teller: &mut Teller<O, E>,
+) -> io::Result<()> {
+    match fs::read_to_string(rt, name) {
+        Ok(text) => teller.try_text(rt.alloc(), name, text.as_str()),
+        Err(_) => teller.tell_unread(name, "cannot be read"),
+    }
+}
+
+/// The names of the files: the words after the program's name, or those of the folder.
+fn case_files(rt: &HostRuntime) -> io::Result<Vec<String>> {
+    let words: Vec<String> = env::args(rt)?.skip(1).collect(rt.alloc())?;
+    if words.is_empty() {
+        return names_here(rt);
+    }
+    Ok(words)
+}
+
+/// The names of the case files of the folder, rising.
+fn names_here(rt: &HostRuntime) -> io::Result<Vec<String>> {
+    let mut names = Vec::new(rt.alloc());
+    for entry in fs::read_dir(rt, ".")? {
+        let entry = entry?;
+        let name = entry.file_name();
+        if name.ends_with(".case") {
+            names.push(String::from_str(rt.alloc(), name)?)?;
+        }
+    }
+    names.sort()?;
+    Ok(names)
+}

@@ -1,0 +1,89 @@
+//! Bytes with a name, and how a log or a part begins.
+use crate::blocks::{Block, Line, Slip, words_of};
+use crate::draft::Draft;
+use crate::mistake::Mistake;
+use crate::words::push_digits;
+use std::alloc::Global;
+
+/// Bytes with a name.
+#[derive(Drop)]
+pub struct Named<'a> {
+    name: &'a str,
+    bytes: Vec<u8>,
+}
+
+/// The bytes of this name.
+fn find<'n>(names: &'n [Named<'_>], name: &str) -> Option<&'n [u8]> {
+    for named in names {
+        if named.name == name {
+            return Some(&named.bytes);
+        }
+    }
+    None
+}
+
+/// The log or part that a line begins: `log ..` or `part ..`.
+pub fn begin_draft(alloc: Global, names: &[Named<'_>], words: &[&str]) -> Result<Draft, Mistake> {
+    let is_log = matches!(words, ["log", ..]);
+    match words {
+        [_, "is", name] => {
+            let bytes = find(names, name).ok_or(Mistake::NoName)?;
+            Ok(Draft::of_bytes(is_log, Vec::from_slice(alloc, bytes)?))
+        }
+        [_, "bytes", digits @ ..] => {
+            let mut bytes = Vec::new(alloc);
+            push_digits(alloc, digits, &mut bytes)?;
+            Ok(Draft::of_bytes(is_log, bytes))
+        }
+        ["log", rest @ ..] => Draft::begin_log(alloc, rest),
+        ["part", rest @ ..] => Draft::begin_part(alloc, rest),
+        _ => Err(Mistake::Line),
+    }
+}
+
+/// The bytes that a block names: `name NAME log ..` or `name NAME part ..`, and the lines behind it.
+pub fn read_name<'a>(
+    alloc: Global,
+    names: &[Named<'_>],
+    block: &Block<'a>,
+) -> Result<Named<'a>, Slip<'a>> {
+    let begun = begin_name(alloc, names, &block.head);
+    let (name, mut draft) = begun.map_err(|mistake| block.head.slip(mistake))?;
+    for line in &block.body {
+        add_line(alloc, line, &mut draft).map_err(|mistake| line.slip(mistake))?;
+    }
+    match draft.spell_part() {
+        Ok(()) => Ok(Named {
+            name,
+            bytes: draft.bytes,
+        }),
+        Err(mistake) => Err(block.head.slip(mistake)),
+    }
+}
+
+/// The name of a line, and the log or part that it begins.
+fn begin_name<'a>(
+    alloc: Global,
+    names: &[Named<'_>],
+    head: &Line<'a>,
+) -> Result<(&'a str, Draft), Mistake> {
+    let words = words_of(alloc, head.text)?;
+    let (name, rest) = name_and_rest(&words).ok_or(Mistake::Line)?;
+    if find(names, name).is_some() {
+        return Err(Mistake::Twice);
+    }
+    Ok((name, begin_draft(alloc, names, rest)?))
+}
+
+/// The second word, and those behind it.
+fn name_and_rest<'w, 'a>(words: &'w [&'a str]) -> Option<(&'a str, &'w [&'a str])> {
+    match words {
+        ["name", name, rest @ ..] => Some((*name, rest)),
+        _ => None,
+    }
+}
+
+/// Takes a line of a name in.
+fn add_line(alloc: Global, line: &Line<'_>, draft: &mut Draft) -> Result<(), Mistake> {
+    draft.add(alloc, &words_of(alloc, line.text)?)
+}

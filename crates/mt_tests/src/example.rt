@@ -1,0 +1,77 @@
+//! The example of the README: recovery over files.
+use crate::asserting::assert_bytes;
+use crate::logs::{LOG_A, PART};
+use crate::printing::{file_of, remove_file};
+use mt_recover::{Inputs, recover_one, write_dump};
+use mt_scan::{LONGEST_BUFFER, Rack, ReaderSource, Slot};
+use std::env::Env;
+use std::fs::{File, Files};
+use std::io::{self, ErrorKind, Write};
+use std::process::Abort;
+
+/// The files of these names as sources, each with the buffer of a slot.
+fn sources_of<'a, R: AllocGlobal + Files>(
+    rt: &R,
+    names: &[String],
+    slots: &'a mut [Slot],
+) -> io::Result<Vec<ReaderSource<'a, R::File>>> {
+    let mut sources = Vec::new(rt.alloc());
+    for (name, slot) in names.iter().zip(slots) {
+        let file = File::open(rt, name.as_str())?;
+        // None only where the slot is empty, which no slot of a new rack is.
+        let source = ReaderSource::new(file, 1_073_741_824, slot).ok_or(ErrorKind::ResourceBusy)?;
+        sources.push(source)?;
+    }
+    Ok(sources)
+}
+
+/// Prints the store of these log files and part files, or the fault.
+fn print_store<R: AllocGlobal + Files, W: Write>(
+    rt: &R,
+    logs: &[String],
+    parts: &[String],
+    out: &mut W,
+) -> io::Result<()> {
+    let count = logs.len().saturating_add(parts.len());
+    let mut rack = Rack::new(rt.alloc(), count, LONGEST_BUFFER).map_err(
+        |_| ErrorKind::OutOfMemory,
+    )?;
+    let slots = rack.slots();
+    let (first, second) = slots.split_at_mut(logs.len().min(slots.len()));
+    let logs = sources_of(rt, logs, first)?;
+    let parts = sources_of(rt, parts, second)?;
+    match recover_one(rt.alloc(), Inputs { logs, parts }) {
+        Ok(recovered) => write_dump(recovered.store(), out),
+        Err(fault) => writeln!(out, "{fault}"),
+    }
+}
+
+/// A file of these bytes, as a list of its name.
+fn listed<R: Abort + AllocGlobal + Env + Files>(
+    rt: &R,
+    id: u32,
+    name: &str,
+    text: &str,
+) -> Vec<String> {
+    let file = file_of(rt, id, name, text);
+    vec![in rt.alloc(); file].expect(rt, "memory")
+}
+
+/// Removes the files of these names.
+fn remove_all<R: Abort + Files>(rt: &R, names: &[String]) {
+    for name in names {
+        remove_file(rt, name.as_str());
+    }
+}
+
+#[test]
+fn recovers_from_files(rt: HostRuntime) {
+    let id = std::process::id(rt.process());
+    let logs = listed(&rt, id, "example-log", LOG_A);
+    let parts = listed(&rt, id, "example-part", PART);
+    let mut out = Vec::new(rt.alloc());
+    print_store(&rt, &logs, &parts, &mut out).expect(&rt, "the files");
+    assert_bytes(&rt, &out, b"61: 0=6f 1=70\n");
+    remove_all(&rt, &logs);
+    remove_all(&rt, &parts);
+}
