@@ -2,8 +2,9 @@
 use crate::asserting::assert_bytes;
 use crate::logs::{LOG_A, PART};
 use crate::printing::{file_of, remove_file};
-use mt_recover::{Inputs, recover_one, write_dump};
+use mt_recover::{Inputs, Recovered, recover_one, write_dump};
 use mt_scan::{LONGEST_BUFFER, Rack, ReaderSource, Slot};
+use mt_words::Fault;
 use std::env::Env;
 use std::fs::{File, Files};
 use std::io::{self, ErrorKind, Write};
@@ -25,7 +26,20 @@ fn sources_of<'a, R: AllocGlobal + Files>(
     Ok(sources)
 }
 
-/// Prints the store of these log files and part files, or the fault.
+/// What recovery of these log files and part files answers, through these slots.
+fn recover_files<R: AllocGlobal + Files>(
+    rt: &R,
+    logs: &[String],
+    parts: &[String],
+    slots: &mut [Slot],
+) -> io::Result<Result<Recovered, Fault>> {
+    let (first, second) = slots.split_at_mut(logs.len().min(slots.len()));
+    let logs = sources_of(rt, logs, first)?;
+    let parts = sources_of(rt, parts, second)?;
+    Ok(recover_one(rt.alloc(), Inputs { logs, parts }))
+}
+
+/// Prints the store, or the fault. One rack has the buffers of logs and parts.
 fn print_store<R: AllocGlobal + Files, W: Write>(
     rt: &R,
     logs: &[String],
@@ -33,14 +47,10 @@ fn print_store<R: AllocGlobal + Files, W: Write>(
     out: &mut W,
 ) -> io::Result<()> {
     let count = logs.len().saturating_add(parts.len());
-    let mut rack = Rack::new(rt.alloc(), count, LONGEST_BUFFER).map_err(
-        |_| ErrorKind::OutOfMemory,
-    )?;
-    let slots = rack.slots();
-    let (first, second) = slots.split_at_mut(logs.len().min(slots.len()));
-    let logs = sources_of(rt, logs, first)?;
-    let parts = sources_of(rt, parts, second)?;
-    match recover_one(rt.alloc(), Inputs { logs, parts }) {
+    let Ok(mut rack) = Rack::new(rt.alloc(), count, LONGEST_BUFFER) else {
+        return Err(ErrorKind::OutOfMemory.into());
+    };
+    match recover_files(rt, logs, parts, rack.slots())? {
         Ok(recovered) => write_dump(recovered.store(), out),
         Err(fault) => writeln!(out, "{fault}"),
     }
