@@ -33,11 +33,11 @@ pub fn push_from_sources(
 ) -> Result<(), Mistake> {
     let mut rack = rack_for(alloc, drafts, size)?;
     let inputs = inputs_of(alloc, drafts, rack.slots())?;
-    let answer = recover_one(alloc, inputs);
+    write_answer(recover_one(alloc, inputs), text)?;
     if !rack.all_full() {
-        return Err(Mistake::Slot);
+        text.extend_from_slice(b"a buffer is not back\n")?;
     }
-    Ok(write_answer(answer, text)?)
+    Ok(())
 }
 
 /// A slot with a buffer of this size for each draft.
@@ -102,7 +102,7 @@ fn choose_from(alloc: Global, inputs: Inputs<DraftSource<'_>>) -> Result<Choice,
     Ok(choose(alloc, scans, cutoff)?)
 }
 
-/// The scans of the logs.
+/// The scans of all logs, in order; the first fault ends them.
 fn scan_all_logs(alloc: Global, logs: Vec<DraftSource<'_>>) -> Result<Vec<LogScan>, Fault> {
     let mut scans = Vec::new(alloc);
     for (log, mut source) in logs.into_iter().enumerate() {
@@ -112,7 +112,7 @@ fn scan_all_logs(alloc: Global, logs: Vec<DraftSource<'_>>) -> Result<Vec<LogSca
     Ok(scans)
 }
 
-/// The scans of the parts.
+/// The scans of all parts, in order; the first fault ends them.
 fn scan_all_parts(alloc: Global, parts: Vec<DraftSource<'_>>) -> Result<Vec<PartScan>, Fault> {
     let mut scans = Vec::new(alloc);
     for (part, mut source) in parts.into_iter().enumerate() {

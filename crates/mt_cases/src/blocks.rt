@@ -36,7 +36,7 @@ pub fn words_of(alloc: Global, text: &str) -> Result<Vec<&str>, AllocError> {
     text.split_whitespace().collect(alloc)
 }
 
-/// A line that begins a case or a name, and those behind it up to the next such line.
+/// A line that begins a case, a name or the refused ones, and those behind it up to the next such line.
 #[derive(Drop)]
 pub struct Block<'a> {
     pub head: Line<'a>,
@@ -46,9 +46,8 @@ pub struct Block<'a> {
 /// The blocks of a file. Empty lines and those that begin with `#` have no meaning.
 pub fn blocks_of(alloc: Global, text: &str) -> Result<Vec<Block<'_>>, Mistake> {
     let mut blocks = Vec::new(alloc);
-    let mut number = 0usize;
-    for text in text.lines() {
-        number = number.saturating_add(1);
+    for (place, text) in text.lines().enumerate() {
+        let number = place.saturating_add(1);
         let text = text.trim();
         if !text.is_empty() && !text.starts_with('#') {
             push_line(alloc, Line { number, text }, &mut blocks)?;

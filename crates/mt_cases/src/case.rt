@@ -34,7 +34,7 @@ const WAYS: [Way; 4] = [
     Way::Memory,
     Way::Buffers(1),
     Way::Buffers(16),
-    Way::Buffers(65_536),
+    Way::Buffers(LONGEST_BUFFER),
 ];
 
 impl Case {
@@ -94,15 +94,17 @@ impl Case {
         Ok(())
     }
 
-    /// The ways in which it is to be tried: from memory only where there are logs alone, and no source that fails.
+    /// The ways in which it is to be tried: from memory only where there are logs alone, no source that fails,
+    /// and no choice expected.
     pub fn ways(&self, alloc: Global) -> Result<Vec<Way>, Mistake> {
         let mut ways = Vec::new(alloc);
         if let Some(size) = self.size {
             ways.push(Way::Buffers(size))?;
             return Ok(ways);
         }
+        let from_memory = !self.has_choice && self.drafts.iter().all(is_steady_log);
         for way in WAYS {
-            if matches!(way, Way::Buffers(_)) || self.drafts.iter().all(is_steady_log) {
+            if from_memory || matches!(way, Way::Buffers(_)) {
                 ways.push(way)?;
             }
         }

@@ -102,7 +102,7 @@ impl Draft {
         };
         let PartDraft { head, end, entries } = part;
         // As many as a footer can count.
-        if entries.len() > 0xffff_ffff {
+        if entries.len() > u32::MAX as usize {
             return Err(Mistake::Number);
         }
         let PartHead {
@@ -149,7 +149,7 @@ fn change(alloc: Global, words: &[&str], bytes: &mut Vec<u8>) -> Result<(), Mist
         ["bytes", digits @ ..] => push_digits(alloc, digits, bytes),
         ["byte", place, value] => put_byte(place, value, bytes),
         ["cut", length] => cut(length, bytes),
-        ["spelled", digits @ ..] => compare(alloc, digits, bytes),
+        ["spelled", digits @ ..] => ask_spelled(alloc, digits, bytes),
         _ => Err(Mistake::Line),
     }
 }
@@ -173,7 +173,7 @@ fn cut(length: &str, bytes: &mut Vec<u8>) -> Result<(), Mistake> {
 }
 
 /// Asks that the bytes are just these.
-fn compare(alloc: Global, digits: &[&str], bytes: &[u8]) -> Result<(), Mistake> {
+fn ask_spelled(alloc: Global, digits: &[&str], bytes: &[u8]) -> Result<(), Mistake> {
     let mut wanted = Vec::new(alloc);
     push_digits(alloc, digits, &mut wanted)?;
     if wanted.as_slice() != bytes {

@@ -22,14 +22,14 @@ pub fn push_pair(words: &[&str], text: &mut Vec<u8>) -> Result<(), Mistake> {
     push_shown(key, text)?;
     text.push(b':')?;
     for column in columns {
-        push_column(column, text)?;
+        push_shown_column(column, text)?;
     }
     text.push(b'\n')?;
     Ok(())
 }
 
 /// Appends a column of a pair.
-fn push_column(word: &str, text: &mut Vec<u8>) -> Result<(), Mistake> {
+fn push_shown_column(word: &str, text: &mut Vec<u8>) -> Result<(), Mistake> {
     let (number, digits) = word.split_once('=').ok_or(Mistake::Column)?;
     text.push(b' ')?;
     text.extend_from_slice(number.as_bytes())?;

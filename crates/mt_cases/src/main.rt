@@ -17,27 +17,27 @@ mod telling;
 mod trying;
 mod words;
 
-use crate::telling::{Tally, Teller};
+use crate::telling::{Counts, Teller};
 use std::io::{self, BufWriter, Write};
 use std::process::ExitCode;
 use std::{env, fs};
 
 fn main(rt: HostRuntime) -> io::Result<ExitCode> {
-    let Tally { hold, wrong, .. } = try_all(&rt)?;
-    Ok(ExitCode::from(u8::from(wrong > 0 || hold == 0)))
+    let Counts { held, wrong, .. } = try_all(&rt)?;
+    Ok(ExitCode::from(u8::from(wrong > 0 || held == 0)))
 }
 
 /// Tries all files, and tells how many cases hold.
-fn try_all(rt: &HostRuntime) -> io::Result<Tally> {
+fn try_all(rt: &HostRuntime) -> io::Result<Counts> {
     let out = BufWriter::new(rt.alloc(), rt.stdout())?;
     let mut teller = Teller::new(out, rt.stderr());
     for name in case_files(rt)? {
         try_file(rt, name.as_str(), &mut teller)?;
     }
-    let Tally { hold, fail, .. } = teller.tally;
-    writeln!(teller.out, "{hold} cases hold, {fail} do not")?;
+    let Counts { held, not_held, .. } = teller.counts;
+    writeln!(teller.out, "{held} cases hold, {not_held} do not")?;
     teller.out.flush()?;
-    Ok(teller.tally)
+    Ok(teller.counts)
 }
 
 /// Tries the cases of a file.

@@ -17,7 +17,7 @@ pub enum Mistake {
     Digits,
     #[error("not a column, or not above the one before it")]
     Column,
-    #[error("the key is too long: spell the record in bytes")]
+    #[error("the key is too long: spell it in bytes")]
     Key,
     #[error("no lawful record or entry: spell it in bytes")]
     Unlawful,
@@ -35,7 +35,7 @@ pub enum Mistake {
     Misplaced,
     #[error("the case expects nothing")]
     Nothing,
-    #[error("a buffer is not back in its slot")]
+    #[error("a slot has no buffer")]
     Slot,
     #[error("no memory")]
     Memory,

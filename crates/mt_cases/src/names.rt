@@ -52,13 +52,11 @@ pub fn read_name<'a>(
     for line in &block.body {
         add_line(alloc, line, &mut draft).map_err(|mistake| line.slip(mistake))?;
     }
-    match draft.spell_part() {
-        Ok(()) => Ok(Named {
-            name,
-            bytes: draft.bytes,
-        }),
-        Err(mistake) => Err(block.head.slip(mistake)),
-    }
+    draft
+        .spell_part()
+        .map_err(|mistake| block.head.slip(mistake))?;
+    let bytes = draft.bytes;
+    Ok(Named { name, bytes })
 }
 
 /// The name of a line, and the log or part that it begins.
@@ -83,7 +81,10 @@ fn name_and_rest<'w, 'a>(words: &'w [&'a str]) -> Option<(&'a str, &'w [&'a str]
     }
 }
 
-/// Takes a line of a name in.
+/// Takes a line of a name in. A name has bytes alone, so none of its lines is `fail`.
 fn add_line(alloc: Global, line: &Line<'_>, draft: &mut Draft) -> Result<(), Mistake> {
-    draft.add(alloc, &words_of(alloc, line.text)?)
+    match words_of(alloc, line.text)?.as_slice() {
+        ["fail", ..] => Err(Mistake::Line),
+        words => draft.add(alloc, words),
+    }
 }

@@ -19,10 +19,10 @@ pub fn split_passes<'b, 'a>(
     body: &'b [Line<'a>],
 ) -> Result<(Option<Passes>, &'b [Line<'a>]), Slip<'a>> {
     match body.split_first() {
-        Some((line, rest)) if line.first_word() == "each" => match passes_of(alloc, line) {
-            Ok(passes) => Ok((Some(passes), rest)),
-            Err(mistake) => Err(line.slip(mistake)),
-        },
+        Some((line, rest)) if line.first_word() == "each" => {
+            let passes = passes_of(alloc, line).map_err(|mistake| line.slip(mistake))?;
+            Ok((Some(passes), rest))
+        }
         _ => Ok((None, body)),
     }
 }

@@ -10,9 +10,9 @@ use std::io::{self, Write};
 /// What became of the cases so far. A line that is not understood, and a file that cannot be read, is a case that does
 /// not hold.
 #[derive(Clone, Copy)]
-pub struct Tally {
-    pub hold: u64,
-    pub fail: u64,
+pub struct Counts {
+    pub held: u64,
+    pub not_held: u64,
     /// How many of either kind were to be of the other.
     pub wrong: u64,
 }
@@ -23,7 +23,7 @@ pub struct Tally {
 pub struct Teller<O, E> {
     pub out: O,
     pub err: E,
-    pub tally: Tally,
+    pub counts: Counts,
 }
 
 impl<O: Write, E: Write> Teller<O, E> {
@@ -32,9 +32,9 @@ impl<O: Write, E: Write> Teller<O, E> {
         Teller {
             out,
             err,
-            tally: Tally {
-                hold: 0,
-                fail: 0,
+            counts: Counts {
+                held: 0,
+                not_held: 0,
                 wrong: 0,
             },
         }
@@ -60,7 +60,7 @@ impl<O: Write, E: Write> Teller<O, E> {
         writeln!(self.err, "mt_cases: {file}: {why}")
     }
 
-    /// Tries a block.
+    /// Adds a name, or tries a case; a head that is neither is told.
     fn try_block<'a>(
         &mut self,
         alloc: Global,
@@ -70,7 +70,10 @@ impl<O: Write, E: Write> Teller<O, E> {
         is_refused: bool,
     ) -> io::Result<()> {
         match block.head.first_word() {
-            "refused" => Ok(()),
+            "refused" => match block.body.first() {
+                None => Ok(()),
+                Some(line) => self.tell_slip(file, &line.slip(Mistake::Line), is_refused),
+            },
             "name" => match add_name(alloc, names, block) {
                 Ok(()) => Ok(()),
                 Err(slip) => self.tell_slip(file, &slip, is_refused),
@@ -86,12 +89,12 @@ impl<O: Write, E: Write> Teller<O, E> {
         }
     }
 
-    /// Counts a case.
+    /// Counts a case that holds or does not; a wrong one is of the other kind than it is to be.
     fn count(&mut self, holds: bool, is_wrong: bool) {
-        let tally = &mut self.tally;
-        tally.hold = tally.hold.saturating_add(u64::from(holds));
-        tally.fail = tally.fail.saturating_add(u64::from(!holds));
-        tally.wrong = tally.wrong.saturating_add(u64::from(is_wrong));
+        let counts = &mut self.counts;
+        counts.held = counts.held.saturating_add(u64::from(holds));
+        counts.not_held = counts.not_held.saturating_add(u64::from(!holds));
+        counts.wrong = counts.wrong.saturating_add(u64::from(is_wrong));
     }
 
     /// Tells of a case that holds, where it is not to.

@@ -57,9 +57,7 @@ fn read_case<'a>(
 ) -> Result<Case, Slip<'a>> {
     let mut case = Case::new(alloc);
     for line in lines {
-        if let Err(mistake) = read_line(alloc, names, line.text, pass, &mut case) {
-            return Err(line.slip(mistake));
-        }
+        read_line(alloc, names, line.text, pass, &mut case).map_err(|mistake| line.slip(mistake))?;
     }
     Ok(case)
 }
@@ -77,8 +75,11 @@ fn read_line(
 }
 
 /// The first difference between what comes and what is expected.
-fn compare(alloc: Global, case: Case, pass: Option<u64>) -> Result<Option<Difference>, Mistake> {
-    let mut case = case;
+fn compare(
+    alloc: Global,
+    mut case: Case,
+    pass: Option<u64>,
+) -> Result<Option<Difference>, Mistake> {
     case.finish()?;
     for way in case.ways(alloc)? {
         let came = case.come(alloc, way)?;

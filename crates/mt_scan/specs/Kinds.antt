@@ -78,7 +78,7 @@ seen_of_reader remaining source = record {
 abbrev pub reader_piece_size : {R : Type 0} → ReaderSource R Buffered → ℕ
 reader_piece_size source = source.buffer.size
 
--- as many bytes were handed out as may be, and the reader gave one more
+-- as many bytes were handed out as may be, and the reader gave one more, as far as it tells its bytes
 pub record HasTooMany (old new : Seen) : Type 0 where
   pub at_limit : old.bound ≡ 0
   pub extra : List ℕ

@@ -84,7 +84,8 @@ impl<R: Read + Drop> Source for ReaderSource<'_, R> {
     fn advance(&mut self) -> Result<usize, SourceFault>
         ensures advances { Advances (seen_of_reader R.remaining self.old) (seen_of_reader R.remaining self.new) result }
         ensures bound { IfOk result (λ n. (seen_of_reader R.remaining self.new).bound + n ≡ (seen_of_reader R.remaining self.old).bound) }
-        // A fault of the reader costs no byte, and too many bytes are not taken for one.
+        // A fault of the reader costs none of the bytes that it tells, so that `TooLong`, which costs one, is not
+        // answered as `Device`.
         ensures device { result ≡ Err Device →
             Keeps (seen_of_reader R.remaining self.old).told (seen_of_reader R.remaining self.new).told }
         ensures too_long { result ≡ Err TooLong →

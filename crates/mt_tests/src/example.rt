@@ -1,14 +1,12 @@
 //! The example of the README: recovery over files.
 use crate::asserting::assert_bytes;
 use crate::logs::{LOG_A, PART};
-use crate::printing::{file_of, remove_file};
+use crate::printing::{file_of, one, remove_files};
 use mt_recover::{Inputs, Recovered, recover_one, write_dump};
 use mt_scan::{LONGEST_BUFFER, Rack, ReaderSource, Slot};
 use mt_words::Fault;
-use std::env::Env;
 use std::fs::{File, Files};
 use std::io::{self, ErrorKind, Write};
-use std::process::Abort;
 
 /// The files of these names as sources, each with the buffer of a slot.
 fn sources_of<'a, R: AllocGlobal + Files>(
@@ -56,32 +54,14 @@ fn print_store<R: AllocGlobal + Files, W: Write>(
     }
 }
 
-/// A file of these bytes, as a list of its name.
-fn listed<R: Abort + AllocGlobal + Env + Files>(
-    rt: &R,
-    id: u32,
-    name: &str,
-    text: &str,
-) -> Vec<String> {
-    let file = file_of(rt, id, name, text);
-    vec![in rt.alloc(); file].expect(rt, "memory")
-}
-
-/// Removes the files of these names.
-fn remove_all<R: Abort + Files>(rt: &R, names: &[String]) {
-    for name in names {
-        remove_file(rt, name.as_str());
-    }
-}
-
 #[test]
 fn recovers_from_files(rt: HostRuntime) {
     let id = std::process::id(rt.process());
-    let logs = listed(&rt, id, "example-log", LOG_A);
-    let parts = listed(&rt, id, "example-part", PART);
+    let logs = one(&rt, file_of(&rt, id, "example-log", LOG_A));
+    let parts = one(&rt, file_of(&rt, id, "example-part", PART));
     let mut out = Vec::new(rt.alloc());
     print_store(&rt, &logs, &parts, &mut out).expect(&rt, "the files");
     assert_bytes(&rt, &out, b"61: 0=6f 1=70\n");
-    remove_all(&rt, &logs);
-    remove_all(&rt, &parts);
+    remove_files(&rt, &logs);
+    remove_files(&rt, &parts);
 }

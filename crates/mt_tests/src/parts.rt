@@ -93,3 +93,14 @@ fn shows_a_byte_behind_the_footer_at_once(rt: HostRuntime) {
     assert_same(&rt, &found, &Some((64, BROKEN_AFTER_ONE)));
     assert_read(&rt, &bytes, Err(BROKEN_AFTER_ONE));
 }
+
+/// A part of checkpoint 7 with two entries, whose keys fall.
+const FALLING: &str = "4d544331 00000007 0000000000000002 0000 0001
+    00000010 0000000000000001 0001 62 01 00 0001 6f 00000010
+    00000010 0000000000000001 0001 61 01 00 0001 6f 00000010
+    00000000 0000000000000004 00000002";
+
+#[test]
+fn a_part_whose_keys_fall_is_whole(rt: HostRuntime) {
+    assert_read(&rt, &bytes_of(&rt, FALLING), Ok(2));
+}

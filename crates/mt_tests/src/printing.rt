@@ -56,12 +56,12 @@ pub fn file_of<R: Abort + AllocGlobal + Env + Files>(
 }
 
 /// Removes the file of this name.
-pub fn remove_file<R: Abort + Files>(rt: &R, name: &str) {
+fn remove_file<R: Abort + Files>(rt: &R, name: &str) {
     fs::remove_file(rt, name).expect(rt, "the file");
 }
 
 /// Removes the files of these names.
-fn remove_files<R: Abort + Files>(rt: &R, names: &[String]) {
+pub fn remove_files<R: Abort + Files>(rt: &R, names: &[String]) {
     for name in names {
         remove_file(rt, name.as_str());
     }
@@ -96,7 +96,7 @@ fn assert_run_on<R: Abort + AllocGlobal + Files, O: Write>(
 }
 
 /// The list of this name.
-fn one<R: Abort + AllocGlobal>(rt: &R, name: String) -> Vec<String> {
+pub fn one<R: Abort + AllocGlobal>(rt: &R, name: String) -> Vec<String> {
     vec![in rt.alloc(); name].expect(rt, "memory")
 }
 
