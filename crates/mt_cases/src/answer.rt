@@ -24,14 +24,20 @@ pub fn push_from_memory(
     Ok(write_answer(recover_logs(alloc, &logs), text)?)
 }
 
-/// Appends what recovery answers from sources with buffers of this size. All buffers are back then.
+/// Appends what recovery answers from sources with buffers of this size, and before that, if it is asked for, what is
+/// chosen from the parts. All buffers are back then.
 pub fn push_from_sources(
     alloc: Global,
     drafts: &[Draft],
+    has_choice: bool,
     size: usize,
     text: &mut Vec<u8>,
 ) -> Result<(), Mistake> {
     let mut rack = rack_for(alloc, drafts, size)?;
+    if has_choice {
+        let inputs = inputs_of(alloc, drafts, rack.slots())?;
+        push_choice(alloc, inputs, text)?;
+    }
     let inputs = inputs_of(alloc, drafts, rack.slots())?;
     write_answer(recover_one(alloc, inputs), text)?;
     if !rack.all_full() {
@@ -77,14 +83,11 @@ fn write_answer<W: Write>(answer: Result<Recovered, Fault>, out: &mut W) -> io::
 
 /// Appends what is chosen from the parts, below the cutoff of the logs: `choice` and the number of the checkpoint or
 /// `none`, then `skipped` and `nameless` with their numbers, where there are any; or `choice fault` and the fault.
-pub fn push_choice(
+fn push_choice(
     alloc: Global,
-    drafts: &[Draft],
-    size: usize,
+    inputs: Inputs<DraftSource<'_>>,
     text: &mut Vec<u8>,
 ) -> Result<(), Mistake> {
-    let mut rack = rack_for(alloc, drafts, size)?;
-    let inputs = inputs_of(alloc, drafts, rack.slots())?;
     match choose_from(alloc, inputs) {
         Ok(choice) => write_choice(&choice, text)?,
         Err(fault) => writeln!(text, "choice fault {fault}")?,
@@ -106,8 +109,7 @@ fn choose_from(alloc: Global, inputs: Inputs<DraftSource<'_>>) -> Result<Choice,
 fn scan_all_logs(alloc: Global, logs: Vec<DraftSource<'_>>) -> Result<Vec<LogScan>, Fault> {
     let mut scans = Vec::new(alloc);
     for (log, mut source) in logs.into_iter().enumerate() {
-        let scan = scan_log(alloc, &mut source, log)?;
-        scans.push(scan).map_err(|_| Fault::Memory)?;
+        scans.push(scan_log(alloc, &mut source, log)?)?;
     }
     Ok(scans)
 }
@@ -116,8 +118,7 @@ fn scan_all_logs(alloc: Global, logs: Vec<DraftSource<'_>>) -> Result<Vec<LogSca
 fn scan_all_parts(alloc: Global, parts: Vec<DraftSource<'_>>) -> Result<Vec<PartScan>, Fault> {
     let mut scans = Vec::new(alloc);
     for (part, mut source) in parts.into_iter().enumerate() {
-        let scan = scan_part(alloc, &mut source, part)?;
-        scans.push(scan).map_err(|_| Fault::Memory)?;
+        scans.push(scan_part(alloc, &mut source, part)?)?;
     }
     Ok(scans)
 }

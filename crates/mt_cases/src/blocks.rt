@@ -9,25 +9,10 @@ pub struct Line<'a> {
     pub text: &'a str,
 }
 
-/// A line that is not understood.
-#[derive(Clone, Copy)]
-pub struct Slip<'a> {
-    pub line: Line<'a>,
-    pub mistake: Mistake,
-}
-
 impl<'a> Line<'a> {
     /// Its first word.
     pub fn first_word(&self) -> &'a str {
         self.text.split_whitespace().next().unwrap_or("")
-    }
-
-    /// This mistake in it.
-    pub fn slip(&self, mistake: Mistake) -> Slip<'a> {
-        Slip {
-            line: *self,
-            mistake,
-        }
     }
 }
 

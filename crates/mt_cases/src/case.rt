@@ -1,7 +1,7 @@
 //! A case in one pass: what is recovered, and what is expected.
-use crate::answer::{push_choice, push_from_memory, push_from_sources};
+use crate::answer::{push_from_memory, push_from_sources};
 use crate::draft::Draft;
-use crate::expected::{push_pair, push_words};
+use crate::expected::push_line;
 use crate::mistake::Mistake;
 use crate::names::{Named, begin_draft};
 use crate::words::small_of;
@@ -60,10 +60,10 @@ impl Case {
             ["buffers", size] => self.use_buffers(small_of::<usize>(size)?),
             ["choice", ..] => {
                 self.has_choice = true;
-                push_words(words, &mut self.expected)
+                push_line(words, &mut self.expected)
             }
-            ["store"] | ["fault", ..] => push_words(words, &mut self.expected),
-            [first, ..] if first.ends_with(':') => push_pair(words, &mut self.expected),
+            ["store"] | ["fault", ..] => push_line(words, &mut self.expected),
+            [first, ..] if first.ends_with(':') => push_line(words, &mut self.expected),
             _ => self.go_on(alloc, words),
         }
     }
@@ -79,8 +79,10 @@ impl Case {
 
     /// Takes in a line of the last log or part.
     fn go_on(&mut self, alloc: Global, words: &[&str]) -> Result<(), Mistake> {
-        let draft = self.drafts.last_mut().ok_or(Mistake::NoDraft)?;
-        draft.add(alloc, words)
+        match self.drafts.last_mut() {
+            Some(draft) => draft.add(alloc, words),
+            None => Err(Mistake::NoDraft),
+        }
     }
 
     /// Makes the case ready to be tried.
@@ -117,10 +119,7 @@ impl Case {
         match way {
             Way::Memory => push_from_memory(alloc, &self.drafts, &mut text)?,
             Way::Buffers(size) => {
-                if self.has_choice {
-                    push_choice(alloc, &self.drafts, size, &mut text)?;
-                }
-                push_from_sources(alloc, &self.drafts, size, &mut text)?;
+                push_from_sources(alloc, &self.drafts, self.has_choice, size, &mut text)?
             }
         }
         Ok(text)

@@ -1,7 +1,7 @@
 //! A log or a part while its lines are read.
 use crate::mistake::Mistake;
 use crate::records::{entry_of, record_of};
-use crate::words::{number_of, push_digits, small_of};
+use crate::words::{byte_of, number_of, push_digits, small_of};
 use mt_record::{PartHead, encode_log_header, encode_part, encode_record};
 use mt_words::Entry;
 use std::alloc::Global;
@@ -81,7 +81,9 @@ impl Draft {
 
     /// Adds an entry to the part.
     fn add_entry(&mut self, alloc: Global, words: &[&str]) -> Result<(), Mistake> {
-        let part = self.part.as_mut().ok_or(Mistake::Misplaced)?;
+        let Some(part) = self.part.as_mut() else {
+            return Err(Mistake::Misplaced);
+        };
         part.entries.push(entry_of(alloc, words)?)?;
         Ok(())
     }
@@ -147,7 +149,7 @@ fn head_of(words: &[&str]) -> Result<(PartHead, u64), Mistake> {
 fn change(alloc: Global, words: &[&str], bytes: &mut Vec<u8>) -> Result<(), Mistake> {
     match words {
         ["bytes", digits @ ..] => push_digits(alloc, digits, bytes),
-        ["byte", place, value] => put_byte(place, value, bytes),
+        ["byte", place, value] => put_byte(alloc, place, value, bytes),
         ["cut", length] => cut(length, bytes),
         ["spelled", digits @ ..] => ask_spelled(alloc, digits, bytes),
         _ => Err(Mistake::Line),
@@ -155,10 +157,17 @@ fn change(alloc: Global, words: &[&str], bytes: &mut Vec<u8>) -> Result<(), Mist
 }
 
 /// Puts another byte in a place.
-fn put_byte(place: &str, value: &str, bytes: &mut [u8]) -> Result<(), Mistake> {
+fn put_byte(
+    alloc: Global,
+    place: &str,
+    value: &str,
+    bytes: &mut [u8],
+) -> Result<(), Mistake> {
     let place = small_of::<usize>(place)?;
-    let byte = bytes.get_mut(place).ok_or(Mistake::Place)?;
-    *byte = small_of::<u8>(value)?;
+    let Some(byte) = bytes.get_mut(place) else {
+        return Err(Mistake::Place);
+    };
+    *byte = byte_of(alloc, value)?;
     Ok(())
 }
 

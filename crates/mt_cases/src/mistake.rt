@@ -2,43 +2,52 @@
 use mt_words::Memory;
 use std::alloc::{AllocError, AllocFailed};
 use std::io;
-use thiserror::Error;
 
 /// Why a line of a case file is not understood.
-#[derive(Clone, Copy, Debug, Error)]
+#[derive(Clone, Copy)]
 pub enum Mistake {
-    #[error("no such line")]
     Line,
-    #[error("not a number, or out of range")]
     Number,
-    #[error("$n stands for nothing, since the case does not begin with a line each n")]
     NoPass,
-    #[error("not hexadecimal digits")]
     Digits,
-    #[error("not a column, or not above the one before it")]
     Column,
-    #[error("the key is too long: spell it in bytes")]
     Key,
-    #[error("no lawful record or entry: spell it in bytes")]
     Unlawful,
-    #[error("no log and no part before it")]
     NoDraft,
-    #[error("no such name above")]
     NoName,
-    #[error("the name is there already")]
     Twice,
-    #[error("no such place in the bytes")]
     Place,
-    #[error("the bytes are others")]
     Spelling,
-    #[error("an entry in a log or behind bytes, or a record in a part")]
     Misplaced,
-    #[error("the case expects nothing")]
     Nothing,
-    #[error("a slot has no buffer")]
     Slot,
-    #[error("no memory")]
     Memory,
+}
+
+impl Mistake {
+    /// What is said of it.
+    pub fn text(self) -> &'static str {
+        match self {
+            Mistake::Line => "no such line",
+            Mistake::Number => "not a number, or out of range",
+            Mistake::NoPass => {
+                "$n stands for nothing, since the case does not begin with a line each n"
+            }
+            Mistake::Digits => "not hexadecimal digits",
+            Mistake::Column => "not a column, or not above the one before it",
+            Mistake::Key => "the key is too long: spell it in bytes",
+            Mistake::Unlawful => "no lawful record or entry: spell it in bytes",
+            Mistake::NoDraft => "no log and no part before it",
+            Mistake::NoName => "no such name above",
+            Mistake::Twice => "the name is there already",
+            Mistake::Place => "no such place in the bytes",
+            Mistake::Spelling => "the bytes are others",
+            Mistake::Misplaced => "an entry in a log or behind bytes, or a record in a part",
+            Mistake::Nothing => "the case expects nothing",
+            Mistake::Slot => "a slot has no buffer",
+            Mistake::Memory => "no memory",
+        }
+    }
 }
 
 impl From<Memory> for Mistake {

@@ -1,5 +1,5 @@
 //! Bytes with a name, and how a log or a part begins.
-use crate::blocks::{Block, Line, Slip, words_of};
+use crate::blocks::{Block, Line, words_of};
 use crate::draft::Draft;
 use crate::mistake::Mistake;
 use crate::words::push_digits;
@@ -27,7 +27,9 @@ pub fn begin_draft(alloc: Global, names: &[Named<'_>], words: &[&str]) -> Result
     let is_log = matches!(words, ["log", ..]);
     match words {
         [_, "is", name] => {
-            let bytes = find(names, name).ok_or(Mistake::NoName)?;
+            let Some(bytes) = find(names, name) else {
+                return Err(Mistake::NoName);
+            };
             Ok(Draft::of_bytes(is_log, Vec::from_slice(alloc, bytes)?))
         }
         [_, "bytes", digits @ ..] => {
@@ -41,20 +43,21 @@ pub fn begin_draft(alloc: Global, names: &[Named<'_>], words: &[&str]) -> Result
     }
 }
 
-/// The bytes that a block names: `name NAME log ..` or `name NAME part ..`, and the lines behind it.
+/// The bytes that a block names: `name NAME log ..` or `name NAME part ..`, and the lines behind it. `at` is the line
+/// that was read last.
 pub fn read_name<'a>(
     alloc: Global,
     names: &[Named<'_>],
     block: &Block<'a>,
-) -> Result<Named<'a>, Slip<'a>> {
-    let begun = begin_name(alloc, names, &block.head);
-    let (name, mut draft) = begun.map_err(|mistake| block.head.slip(mistake))?;
+    at: &mut Line<'a>,
+) -> Result<Named<'a>, Mistake> {
+    let (name, mut draft) = begin_name(alloc, names, &block.head)?;
     for line in &block.body {
-        add_line(alloc, line, &mut draft).map_err(|mistake| line.slip(mistake))?;
+        *at = *line;
+        add_line(alloc, line, &mut draft)?;
     }
-    draft
-        .spell_part()
-        .map_err(|mistake| block.head.slip(mistake))?;
+    *at = block.head;
+    draft.spell_part()?;
     let bytes = draft.bytes;
     Ok(Named { name, bytes })
 }
@@ -66,19 +69,13 @@ fn begin_name<'a>(
     head: &Line<'a>,
 ) -> Result<(&'a str, Draft), Mistake> {
     let words = words_of(alloc, head.text)?;
-    let (name, rest) = name_and_rest(&words).ok_or(Mistake::Line)?;
+    let ["name", name, rest @ ..] = words.as_slice() else {
+        return Err(Mistake::Line);
+    };
     if find(names, name).is_some() {
         return Err(Mistake::Twice);
     }
-    Ok((name, begin_draft(alloc, names, rest)?))
-}
-
-/// The second word, and those behind it.
-fn name_and_rest<'w, 'a>(words: &'w [&'a str]) -> Option<(&'a str, &'w [&'a str])> {
-    match words {
-        ["name", name, rest @ ..] => Some((*name, rest)),
-        _ => None,
-    }
+    Ok((*name, begin_draft(alloc, names, rest)?))
 }
 
 /// Takes a line of a name in. A name has bytes alone, so none of its lines is `fail`.

@@ -1,5 +1,5 @@
 //! The passes of a case.
-use crate::blocks::{Line, Slip, words_of};
+use crate::blocks::{Line, words_of};
 use crate::mistake::Mistake;
 use crate::words::number_of;
 use std::alloc::Global;
@@ -8,27 +8,13 @@ use std::alloc::Global;
 #[derive(Clone, Copy)]
 pub struct Passes {
     pub first: u64,
-    pub end: u64,
+    pub last: u64,
     /// One that is left out.
     pub but: Option<u64>,
 }
 
-/// The passes of a case, if it names them, and its lines behind the one that does.
-pub fn split_passes<'b, 'a>(
-    alloc: Global,
-    body: &'b [Line<'a>],
-) -> Result<(Option<Passes>, &'b [Line<'a>]), Slip<'a>> {
-    match body.split_first() {
-        Some((line, rest)) if line.first_word() == "each" => {
-            let passes = passes_of(alloc, line).map_err(|mistake| line.slip(mistake))?;
-            Ok((Some(passes), rest))
-        }
-        _ => Ok((None, body)),
-    }
-}
-
 /// The passes that a line names: `each n FIRST to LAST`, or `each n FIRST to LAST but ONE`.
-fn passes_of(alloc: Global, line: &Line<'_>) -> Result<Passes, Mistake> {
+pub fn passes_of(alloc: Global, line: &Line<'_>) -> Result<Passes, Mistake> {
     match words_of(alloc, line.text)?.as_slice() {
         ["each", "n", first, "to", last] => range_of(first, last, None),
         ["each", "n", first, "to", last, "but", one] => {
@@ -42,11 +28,10 @@ fn passes_of(alloc: Global, line: &Line<'_>) -> Result<Passes, Mistake> {
 fn range_of(first: &str, last: &str, but: Option<u64>) -> Result<Passes, Mistake> {
     let first = number_of(first)?;
     let last = number_of(last)?;
-    let end = last.checked_add(1).ok_or(Mistake::Number)?;
     if first > last {
         return Err(Mistake::Number);
     }
-    Ok(Passes { first, end, but })
+    Ok(Passes { first, last, but })
 }
 
 /// The text of a line with the number of the pass in the place of each `$n`.
@@ -54,7 +39,9 @@ pub fn in_pass(alloc: Global, text: &str, pass: Option<u64>) -> Result<String, M
     let mut filled = String::new(alloc);
     for (place, piece) in text.split("$n").enumerate() {
         if place > 0 {
-            let number = pass.ok_or(Mistake::NoPass)?;
+            let Some(number) = pass else {
+                return Err(Mistake::NoPass);
+            };
             filled.push_str(number.to_string(alloc)?.as_str())?;
         }
         filled.push_str(piece)?;

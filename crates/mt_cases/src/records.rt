@@ -58,8 +58,12 @@ fn columns_of(alloc: Global, words: &[&str]) -> Result<Columns, Mistake> {
 
 /// Adds the column `NUMBER=VALUE`.
 fn push_column(alloc: Global, word: &str, columns: &mut Columns) -> Result<(), Mistake> {
-    let (number, value) = word.split_once('=').ok_or(Mistake::Column)?;
+    let Some((number, value)) = word.split_once('=') else {
+        return Err(Mistake::Column);
+    };
     let number = small_of::<u8>(number)?;
-    let value = bytes_of(alloc, value)?;
-    columns.push(number, value).map_err(|_| Mistake::Column)
+    match columns.push(number, bytes_of(alloc, value)?) {
+        Ok(()) => Ok(()),
+        Err(_) => Err(Mistake::Column),
+    }
 }

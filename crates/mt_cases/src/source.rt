@@ -16,14 +16,17 @@ pub enum DraftSource<'a> {
 impl<'a> DraftSource<'a> {
     /// The source of a draft, with the buffer of the slot.
     pub fn new(draft: &'a Draft, slot: &'a mut Slot) -> Result<DraftSource<'a>, Mistake> {
-        let source = match draft.fails {
-            None => MemSource::new(&draft.bytes, slot).map(DraftSource::Steady),
-            // A draft takes no call below 1.
-            Some(call) => FaultSource::new(&draft.bytes, slot, call.max(1)).map(
-                DraftSource::Failing,
-            ),
+        let Some(call) = draft.fails else {
+            return match MemSource::new(&draft.bytes, slot) {
+                Some(source) => Ok(DraftSource::Steady(source)),
+                None => Err(Mistake::Slot),
+            };
         };
-        source.ok_or(Mistake::Slot)
+        // A draft takes no call below 1.
+        match FaultSource::new(&draft.bytes, slot, call.max(1)) {
+            Some(source) => Ok(DraftSource::Failing(source)),
+            None => Err(Mistake::Slot),
+        }
     }
 }
 

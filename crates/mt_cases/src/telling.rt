@@ -1,5 +1,5 @@
 //! The cases of files, tried and told.
-use crate::blocks::{Block, Line, Slip, blocks_of};
+use crate::blocks::{Block, Line, blocks_of};
 use crate::case::Way;
 use crate::mistake::Mistake;
 use crate::names::{Named, read_name};
@@ -24,6 +24,14 @@ pub struct Teller<O, E> {
     pub out: O,
     pub err: E,
     pub counts: Counts,
+}
+
+/// What became of a block.
+enum Trial {
+    /// It is no case: a name, or the line of the refused ones.
+    NoCase,
+    Holds,
+    Differs(Difference),
 }
 
 impl<O: Write, E: Write> Teller<O, E> {
@@ -69,23 +77,14 @@ impl<O: Write, E: Write> Teller<O, E> {
         block: &Block<'a>,
         is_refused: bool,
     ) -> io::Result<()> {
-        match block.head.first_word() {
-            "refused" => match block.body.first() {
-                None => Ok(()),
-                Some(line) => self.tell_slip(file, &line.slip(Mistake::Line), is_refused),
-            },
-            "name" => match add_name(alloc, names, block) {
-                Ok(()) => Ok(()),
-                Err(slip) => self.tell_slip(file, &slip, is_refused),
-            },
-            "case" => match try_case(alloc, names, block) {
-                Ok(None) => self.tell_holds(file, &block.head, is_refused),
-                Ok(Some(difference)) => {
-                    self.tell_difference(file, &block.head, &difference, is_refused)
-                }
-                Err(slip) => self.tell_slip(file, &slip, is_refused),
-            },
-            _ => self.tell_slip(file, &block.head.slip(Mistake::Line), is_refused),
+        let mut at = block.head;
+        match trial_of(alloc, names, block, &mut at) {
+            Ok(Trial::NoCase) => Ok(()),
+            Ok(Trial::Holds) => self.tell_holds(file, &at, is_refused),
+            Ok(Trial::Differs(difference)) => {
+                self.tell_difference(file, &at, &difference, is_refused)
+            }
+            Err(mistake) => self.tell_mistake(file, &at, mistake, is_refused),
         }
     }
 
@@ -107,15 +106,21 @@ impl<O: Write, E: Write> Teller<O, E> {
     }
 
     /// Tells of a line that is not understood.
-    fn tell_slip(&mut self, file: &str, slip: &Slip<'_>, is_refused: bool) -> io::Result<()> {
+    fn tell_mistake(
+        &mut self,
+        file: &str,
+        line: &Line<'_>,
+        mistake: Mistake,
+        is_refused: bool,
+    ) -> io::Result<()> {
         self.count(false, !is_refused);
-        let Slip { line, mistake } = *slip;
-        let Line { number, text } = line;
-        writeln!(self.out, "{file}:{number}: {mistake}: {text}")?;
+        let Line { number, text } = *line;
+        let why = mistake.text();
+        writeln!(self.out, "{file}:{number}: {why}: {text}")?;
         if is_refused {
             return Ok(());
         }
-        self.name_case(file, &line, "is not understood")
+        self.name_case(file, line, "is not understood")
     }
 
     /// Tells of a case that does not hold.
@@ -143,16 +148,35 @@ impl<O: Write, E: Write> Teller<O, E> {
     }
 }
 
-/// Adds the name of a block.
-fn add_name<'a>(
+/// Adds the name that a block gives, or tries its case. `at` is the line that was read last.
+fn trial_of<'a>(
     alloc: Global,
     names: &mut Vec<Named<'a>>,
     block: &Block<'a>,
-) -> Result<(), Slip<'a>> {
-    let named = read_name(alloc, names, block)?;
-    names
-        .push(named)
-        .map_err(|_| block.head.slip(Mistake::Memory))
+    at: &mut Line<'a>,
+) -> Result<Trial, Mistake> {
+    match block.head.first_word() {
+        "refused" => ask_empty(block, at),
+        "name" => {
+            let named = read_name(alloc, names, block, at)?;
+            names.push(named)?;
+            Ok(Trial::NoCase)
+        }
+        "case" => match try_case(alloc, names, block, at)? {
+            None => Ok(Trial::Holds),
+            Some(difference) => Ok(Trial::Differs(difference)),
+        },
+        _ => Err(Mistake::Line),
+    }
+}
+
+/// Asks that no line follows that of the refused ones, up to the next block.
+fn ask_empty<'a>(block: &Block<'a>, at: &mut Line<'a>) -> Result<Trial, Mistake> {
+    let Some(line) = block.body.first() else {
+        return Ok(Trial::NoCase);
+    };
+    *at = *line;
+    Err(Mistake::Line)
 }
 
 /// Writes what was expected, and what came.

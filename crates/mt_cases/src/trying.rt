@@ -1,9 +1,9 @@
 //! Whether a case holds.
-use crate::blocks::{Block, Line, Slip, words_of};
+use crate::blocks::{Block, Line, words_of};
 use crate::case::{Case, Way};
 use crate::mistake::Mistake;
 use crate::names::Named;
-use crate::passes::{in_pass, split_passes};
+use crate::passes::{Passes, in_pass, passes_of};
 use std::alloc::Global;
 
 /// What came where another thing was expected.
@@ -15,19 +15,36 @@ pub struct Difference {
     pub came: Vec<u8>,
 }
 
-/// The first difference in a case, if there is one, in whatever pass and way.
+/// The first difference in a case, if there is one, in whatever pass and way. `at` is the line that was read last.
 pub fn try_case<'a>(
     alloc: Global,
     names: &[Named<'_>],
     block: &Block<'a>,
-) -> Result<Option<Difference>, Slip<'a>> {
-    let (passes, lines) = split_passes(alloc, &block.body)?;
-    let Some(passes) = passes else {
-        return try_pass(alloc, names, block.head, lines, None);
-    };
-    for pass in passes.first..passes.end {
+    at: &mut Line<'a>,
+) -> Result<Option<Difference>, Mistake> {
+    let lines = block.body.as_slice();
+    match lines.split_first() {
+        Some((line, rest)) if line.first_word() == "each" => {
+            *at = *line;
+            let passes = passes_of(alloc, line)?;
+            try_passes(alloc, names, block.head, rest, passes, at)
+        }
+        _ => try_pass(alloc, names, block.head, lines, None, at),
+    }
+}
+
+/// The first difference in these passes.
+fn try_passes<'a>(
+    alloc: Global,
+    names: &[Named<'_>],
+    head: Line<'a>,
+    lines: &[Line<'a>],
+    passes: Passes,
+    at: &mut Line<'a>,
+) -> Result<Option<Difference>, Mistake> {
+    for pass in passes.first..=passes.last {
         if passes.but != Some(pass) {
-            let found = try_pass(alloc, names, block.head, lines, Some(pass))?;
+            let found = try_pass(alloc, names, head, lines, Some(pass), at)?;
             if found.is_some() {
                 return Ok(found);
             }
@@ -43,23 +60,15 @@ fn try_pass<'a>(
     head: Line<'a>,
     lines: &[Line<'a>],
     pass: Option<u64>,
-) -> Result<Option<Difference>, Slip<'a>> {
-    let case = read_case(alloc, names, lines, pass)?;
-    compare(alloc, case, pass).map_err(|mistake| head.slip(mistake))
-}
-
-/// What the lines say.
-fn read_case<'a>(
-    alloc: Global,
-    names: &[Named<'_>],
-    lines: &[Line<'a>],
-    pass: Option<u64>,
-) -> Result<Case, Slip<'a>> {
+    at: &mut Line<'a>,
+) -> Result<Option<Difference>, Mistake> {
     let mut case = Case::new(alloc);
     for line in lines {
-        read_line(alloc, names, line.text, pass, &mut case).map_err(|mistake| line.slip(mistake))?;
+        *at = *line;
+        read_line(alloc, names, line.text, pass, &mut case)?;
     }
-    Ok(case)
+    *at = head;
+    compare(alloc, case, pass)
 }
 
 /// Takes the text of a line in.

@@ -5,13 +5,12 @@ use std::alloc::Global;
 /// The most repetitions of bytes.
 const MOST_TIMES: u64 = 1_048_576;
 
-/// The number that a word spells: decimal, or hexadecimal behind `0x`.
+/// The number that a word spells.
 pub fn number_of(word: &str) -> Result<u64, Mistake> {
-    let number = match word.strip_prefix("0x") {
-        Some(digits) => u64::from_str_radix(digits, 16),
-        None => word.parse::<u64>(),
-    };
-    number.map_err(|_| Mistake::Number)
+    match word.parse::<u64>() {
+        Ok(number) => Ok(number),
+        Err(_) => Err(Mistake::Number),
+    }
 }
 
 /// A number of this type that a word spells.
@@ -19,7 +18,10 @@ pub fn small_of<T: TryFrom<u64>>(word: &str) -> Result<T, Mistake>
 where
     T::Error: Drop,
 {
-    T::try_from(number_of(word)?).map_err(|_| Mistake::Number)
+    match T::try_from(number_of(word)?) {
+        Ok(number) => Ok(number),
+        Err(_) => Err(Mistake::Number),
+    }
 }
 
 /// A word and how often it is repeated, as in `k*1024`: once where it does not say.
@@ -61,9 +63,23 @@ fn push_piece(alloc: Global, word: &str, out: &mut Vec<u8>) -> Result<(), Mistak
     }
 }
 
+/// The byte that a word spells: decimal, or two hexadecimal digits behind `0x`.
+pub fn byte_of(alloc: Global, word: &str) -> Result<u8, Mistake> {
+    let Some(digits) = word.strip_prefix("0x") else {
+        return small_of::<u8>(word);
+    };
+    match decoded(alloc, digits)?.as_slice() {
+        [byte] => Ok(*byte),
+        _ => Err(Mistake::Digits),
+    }
+}
+
 /// The bytes of hexadecimal digits.
 fn decoded(alloc: Global, digits: &str) -> Result<Vec<u8>, Mistake> {
-    hex::decode(alloc, digits.as_bytes()).map_err(|_| Mistake::Digits)
+    match hex::decode(alloc, digits.as_bytes()) {
+        Ok(bytes) => Ok(bytes),
+        Err(_) => Err(Mistake::Digits),
+    }
 }
 
 /// Appends what words of hexadecimal digits spell, each perhaps repeated.

@@ -1,21 +1,17 @@
 -- The beginning of a log: a header, or bytes that begin one.
-use Rattle.std.proofs.Common.{◌≡◌, ◌⊎◌, inl, inr, ℕ, zero, suc, ◌-◌, ◌^◌, ◌<◌, ◌≤◌, Bool, true, false, Some, None, List, [], ◌∷◌, ◌++◌, length, take, drop, get_or, replicate, refl, sym, ap, ◌∙◌, subst, append_assoc, arith}
+use Rattle.std.proofs.Common.{◌≡◌, ◌⊎◌, inl, inr, ℕ, zero, suc, ◌-◌, ◌^◌, ◌<◌, ◌≤◌, Bool, true, false, List, [], ◌∷◌, ◌++◌, length, take, drop, get_or, replicate, refl, sym, ap, ◌∙◌, subst, append_assoc, arith}
 use Rattle.std.proofs.lemmas.Bool.{cases_lt}
-use Rattle.std.proofs.lemmas.List.{length-append, append-nil, nil_from_length, take-append-drop, length-take-le, length-replicate}
+use Rattle.std.proofs.lemmas.List.{length-append, append-nil, take-append-drop, length-take-le, length-replicate}
 use Rattle.std.proofs.lemmas.Nat.{be_bytes_8}
 use Rattle.std.specs.Prelude.{codes, MatchBool}
 use Rattle.byteorder.specs.Endian.{big_bytes, big_from}
 use Rattle.byteorder.specs.Numbers.{big_from-lt}
 use Rattle.mt_words.specs.declared.limits.Format.{Format}
 use Rattle.mt_words.specs.declared.limits.Format.TheVariants.{One}
-use Rattle.mt_words.specs.Changes.{Logged}
-use Rattle.mt_record.specs.declared.piece_reader.PieceReader.{PieceReader}
-use Rattle.mt_record.specs.declared.read.FeedFault.TheVariants.{Header}
 use Rattle.mt_record.specs.Heads.{Head, IsHead, head_of, magic_of, head_bytes, HasNoHeader}
-use Rattle.mt_record.specs.Feeding.{Feed, ShowsNoHeader, BeginsHeader, AreRead, HasFailed}
-use Rattle.mt_record.specs.Pieces.{feed_of, BeginsAlike, HasReadUpTo, Tops}
-use Rattle.mt_record.proofs.MoreBytes.{apart, no_header_on}
-use Rattle.mt_record.proofs.Held.{tops_length}
+use Rattle.mt_record.specs.LogFeeding.{ShowsNoHeader, IsCutHeader}
+use Rattle.mt_record.specs.LogPieces.{BeginsAlike}
+use Rattle.mt_record.specs.MoreBytes.{apart}
 
 -- ---- eight bytes are a number
 
@@ -115,85 +111,14 @@ by_test false p q = q refl
 pub head_length : (format : Format) (from : ℕ) → length (magic_of format ++ big_bytes 8 from) ≡ 12
 head_length One from = refl
 
--- what is held is all that was fed while the header is not whole
-begun : (feed : Feed) (bytes : List ℕ) (taken : List Logged) (piece new rest : List ℕ) (wanted : ℕ) → BeginsHeader feed bytes taken
-    → Tops feed.held piece new rest wanted → new ++ rest ≡ bytes ++ piece
-begun feed bytes taken piece new rest wanted h tops = tops.joins ∙ ap (λ (x : List ℕ). x ++ piece) h.held
-
--- bytes that are no beginning of a header are the fault of the header
-pub header_failed : (feed : Feed) (bytes : List ℕ) (taken : List Logged) (piece new rest : List ℕ) (wanted : ℕ) → BeginsHeader feed bytes taken
-    → Tops feed.held piece new rest wanted → ShowsNoHeader new → HasFailed Header (bytes ++ piece) (taken ++ feed.ready)
-header_failed feed bytes taken piece new rest wanted h tops none =
-    (subst ShowsNoHeader (begun feed bytes taken piece new rest wanted h tops) (no_header_on new rest none), h.none)
-
--- a header that is not whole lacks bytes
+-- a header that does not begin the bytes lacks some
 lacks : (head : Head) (bytes more : List ℕ) → IsHead head → HasNoHeader bytes → head_bytes head ≡ bytes ++ more → 0 < length more
 lacks head bytes [] is none e = absurd (none head [] is (sym (append-nil bytes) ∙ sym e ∙ sym (append-nil (head_bytes head))))
 lacks head bytes (x ∷ more) is none e = omega arith
 
--- where fewer than twelve bytes are held, the piece is at its end
-at_end : (old piece new rest : List ℕ) → Tops old piece new rest 12 → length new < 12 → rest ≡ []
-at_end old piece new rest tops few =
-    let all = tops_length old piece new rest 12 tops in
-    nil_from_length rest (omega (arith, all, few, tops.size))
-
 -- bytes that begin as a header does, and hold none, begin one
-pub begins_on : (feed next : Feed) (bytes : List ℕ) (taken : List Logged) (piece rest : List ℕ) → BeginsHeader feed bytes taken
-    → Tops feed.held piece next.held rest 12 → next ≡ record feed { held = next.held } → BeginsAlike next.held → HasNoHeader next.held
-    → BeginsHeader next (bytes ++ piece) taken
-begins_on feed next bytes taken piece rest h tops same alike none = by alike.alike
-  where
-    by : ((more : List ℕ) × (head_bytes alike.head ≡ next.held ++ more)) ⊎ ((more : List ℕ) × (next.held ≡ head_bytes alike.head ++ more))
-        → BeginsHeader next (bytes ++ piece) taken
-    by (inr u) = absurd (none alike.head u.0 alike.is_head u.1)
-    by (inl u) =
-        let some = lacks alike.head next.held u.0 alike.is_head none u.1 in
-        let number = ap length u.1 ∙ length-append next.held u.0 in
-        let twelve = head_length alike.head.format alike.head.from in
-        let end = at_end feed.held piece next.held rest tops (omega (arith, some, number, twelve)) in
-        let all = begun feed bytes taken piece next.held rest 12 h tops in
-        let held : next.held ≡ bytes ++ piece = sym (append-nil next.held) ∙ ap (λ (x : List ℕ). next.held ++ x) (sym end) ∙ all in
-        record {
-          no_head = ap (λ (f : Feed). f.head) same ∙ h.no_head;
-          held = held;
-          none = ap (λ (f : Feed). taken ++ f.ready) same ∙ h.none;
-          latest = ap (λ (f : Feed). f.latest) same ∙ h.latest;
-          whole = ap (λ (f : Feed). f.whole) same ∙ h.whole;
-          head = alike.head;
-          is_head = alike.is_head;
-          more = u.0;
-          rest = u.1 ∙ ap (λ (x : List ℕ). x ++ u.0) held;
-          some = some;
-        }
-
--- a header alone is a header and no record
-header_alone : (head : Head) → IsHead head → AreRead head [] 0 0 (head_bytes head) []
-header_alone head is = record { is_head = is; spelled = sym (append-nil (head_bytes head)); lawful = tt; latest = refl; whole = refl }
-
--- a header that became whole is read, and the rest follows it
-pub header_read : (feed : Feed) (next : PieceReader) (bytes : List ℕ) (taken : List Logged) (piece new rest after : List ℕ) (from : ℕ) → BeginsHeader feed bytes taken
-    → Tops feed.held piece new rest 12 → feed_of next None ≡ record feed { head = Some (head_of from); held = [] } → IsHead (head_of from)
-    → new ≡ head_bytes (head_of from) ++ after → HasReadUpTo next (bytes ++ piece) taken rest
-header_read feed next bytes taken piece new rest after from h tops same is whole =
-    let head = head_of from in
-    let here = head_length h.head.format h.head.from in
-    let short = ap length h.rest ∙ length-append bytes h.more in
-    let held = ap length h.held in
-    let size = ap length whole ∙ length-append (head_bytes head) after in
-    let none : after ≡ [] = nil_from_length after (omega (arith, here, short, held, size, h.some, head_length One from, tops.size)) in
-    let exact : new ≡ head_bytes head = whole ∙ ap (λ (x : List ℕ). head_bytes head ++ x) none ∙ append-nil (head_bytes head) in
-    let no_records = ap (λ (f : Feed). taken ++ f.ready) same ∙ h.none in
-    let zero_latest = ap (λ (f : Feed). f.latest) same ∙ h.latest in
-    let zero_whole = ap (λ (f : Feed). f.whole) same ∙ h.whole in
-    let nothing = ap (λ (f : Feed). f.held) same in
-    record {
-      front = head_bytes head;
-      joins = ap (λ (x : List ℕ). x ++ rest) (sym exact) ∙ begun feed bytes taken piece new rest 12 h tops;
-      has_read = record {
-        head = head;
-        has_head = ap (λ (f : Feed). f.head) same;
-        read = subst (λ (p : List Logged × ℕ × ℕ × List ℕ). AreRead head p.0 p.1 p.2 (head_bytes head) p.3)
-            (λ i. (sym no_records i, sym zero_latest i, sym zero_whole i, sym nothing i)) (header_alone head is);
-        ends = inl nothing;
-      };
-    }
+pub cut_header : (bytes : List ℕ) → BeginsAlike bytes → HasNoHeader bytes → IsCutHeader bytes
+cut_header bytes alike none = elim alike.alike as (λ _. IsCutHeader bytes) [
+  | inl u ↦ (alike.head, u.0, alike.is_head, lacks alike.head bytes u.0 alike.is_head none u.1, u.1)
+  | inr u ↦ absurd (none alike.head u.0 alike.is_head u.1)
+]

@@ -16,8 +16,7 @@ pub mod Vectors
 pub mod Beginnings
 pub mod PartBeginnings
 pub mod PartItems
-pub mod PartFeeds
 pub mod Feeds
-pub mod Held
-pub mod MoreBytes
+pub mod LogFeeds
+pub mod PartFeeds
 pub mod Counting

@@ -11,10 +11,9 @@ use Rattle.mt_record.specs.declared.part_text.PartHead.{PartHead}
 use Rattle.mt_record.specs.declared.part_text.PartFault.{PartFault}
 use Rattle.mt_record.specs.declared.part_text.PartFault.TheVariants as faults
 use Rattle.mt_record.specs.Spelling.{change_bytes}
-use Rattle.mt_record.specs.Logs.{IsCut}
-use Rattle.mt_record.specs.Parts.{part_head_bytes, IsPartHead, entry_spelling, footer_bytes, IsEntryLength, IsPart, PartReading, IsPartReading}
+use Rattle.mt_record.specs.Parts.{part_head_bytes, entry_spelling, footer_bytes, IsEntryLength, IsPart, PartReading, IsPartReading}
 use Rattle.mt_record.specs.PartFaults.{HasNoPartHeader, HasNoEntry, BeginsPart, IsBroken, IsPartFault, IsPartAnswered}
-use Rattle.mt_record.specs.PartFeeding.{ShowsNoPart, ShowsBroken, ShowsPartFault, IsPartShown, ShowsNoPartFault, IsCutHeader, IsCutItem, PartSoFar, ReadsPart, ReadsUpTo, IsPartLeft}
+use Rattle.mt_record.specs.PartFeeding.{ShowsNoPart, IsPartShown, ShowsNoPartFault, IsCutHeader, IsCutItem, PartSoFar, ReadsPart, ReadsUpTo, IsPartLeft}
 use Rattle.mt_record.proofs.Unique.{same_split, same_number, framed_apart}
 use Rattle.mt_record.proofs.Entries.{entry_length, short_entry}
 use Rattle.mt_record.proofs.OnePart.{same_entry, same_head}

@@ -1,5 +1,5 @@
 -- The beginning of a part: a header, or bytes that begin one.
-use Rattle.std.proofs.Common.{◌≡◌, ◌⊎◌, inl, inr, ℕ, ◌+◌, ◌-◌, ◌^◌, ◌<◌, ◌≤◌, List, [], ◌∷◌, ◌++◌, length, take, drop, replicate, refl, sym, ap, ◌∙◌, subst, append_assoc, arith}
+use Rattle.std.proofs.Common.{◌≡◌, ◌⊎◌, inl, inr, ℕ, ◌-◌, ◌^◌, ◌<◌, ◌≤◌, List, [], ◌∷◌, ◌++◌, length, take, drop, replicate, sym, ap, ◌∙◌, subst, append_assoc, arith}
 use Rattle.std.proofs.lemmas.Bool.{cases_lt}
 use Rattle.std.proofs.lemmas.List.{length-append, append-nil, take-append-drop, length-take-le, length-drop, length-replicate}
 use Rattle.std.proofs.lemmas.Nat.{be_bytes_2, be_bytes_4}
@@ -12,7 +12,7 @@ use Rattle.mt_record.specs.PartFaults.{HasNoPartHeader}
 use Rattle.mt_record.specs.PartFeeding.{ShowsNoPartHeader, IsCutHeader}
 use Rattle.mt_record.specs.PartPieces.{BeginsAlikePart}
 use Rattle.mt_record.proofs.Beginnings.{AreBytes, bytes_front, bytes_back, bytes_padded, eight}
-use Rattle.mt_record.proofs.MoreBytes.{apart}
+use Rattle.mt_record.specs.MoreBytes.{apart}
 
 -- ---- sixteen bytes are the numbers of a header
 

@@ -1,7 +1,6 @@
 -- The header, the entries and the footer of a part, one after the other.
-use Rattle.std.proofs.Common.{◌≡◌, ◌≢◌, ◌⊎◌, inl, inr, ℕ, zero, suc, ◌+◌, ◌^◌, ◌<◌, ◌≤◌, Option, Some, None, List, [], ◌∷◌, ◌++◌, length, refl, sym, ap, ◌∙◌, subst, append_assoc, true, false, arith}
-use Rattle.std.proofs.lemmas.List.{length-append, append-nil}
-use Rattle.std.specs.List.{flat_map, AllByRecursion}
+use Rattle.std.proofs.Common.{◌≡◌, ◌≢◌, inl, inr, ℕ, zero, suc, ◌^◌, ◌<◌, Option, Some, None, List, [], ◌∷◌, ◌++◌, length, refl, sym, ap, ◌∙◌, subst, append_assoc, true, false, arith}
+use Rattle.std.specs.List.{flat_map}
 use Rattle.std.specs.Option.{is_some}
 use Rattle.std.specs.Prelude.{◌==◌, codes}
 use Rattle.std.proofs.lemmas.Bool.{false≢true}
@@ -17,13 +16,13 @@ use Rattle.mt_words.proofs.Rising.{all_push}
 use Rattle.mt_record.specs.declared.part_text.PartHead.{PartHead}
 use Rattle.mt_record.specs.declared.part_text.PartFault.{PartFault}
 use Rattle.mt_record.specs.declared.part_text.PartFault.TheVariants as of_part
-use Rattle.mt_record.specs.declared.entry_reader.EntryReader.{EntryReader}
+use Rattle.mt_record.specs.declared.part_items.PartItems.{PartItems}
 use Rattle.mt_record.specs.Spelling.{framed, change_bytes}
 use Rattle.mt_record.specs.LogFaults.{HasTrailerFault}
 use Rattle.mt_record.specs.Bodies.{IsFrame, IsFrameFault}
-use Rattle.mt_record.specs.Parts.{part_head_bytes, IsPartHead, entry_spelling, footer_bytes, part_bytes, IsPart, IsEntryLength}
+use Rattle.mt_record.specs.Parts.{part_head_bytes, IsPartHead, entry_spelling, footer_bytes, part_bytes, IsEntryLength}
 use Rattle.mt_record.specs.PartFaults.{BeginsPart, HasNoPartHeader}
-use Rattle.mt_record.specs.PartFeeding.{ShowsNoPartHeader, HasWrongEntry, HasWrongCount, HasMore, ShowsNoPart, ShowsBroken, IsCutHeader, IsPartShown, PartSoFar, ReadsNothing, ReadsPart, ReadsUpTo, IsPartLeft}
+use Rattle.mt_record.specs.PartFeeding.{ShowsNoPartHeader, HasWrongEntry, ShowsNoPart, ShowsBroken, IsPartShown, PartSoFar, ReadsNothing, ReadsPart, ReadsUpTo, IsPartLeft}
 use Rattle.mt_record.specs.PartPieces.{BeginsAlikePart, IsTextFault, so_far}
 use Rattle.mt_record.proofs.Unique.{same_split, same_number}
 use Rattle.mt_record.proofs.Entries.{entry_length, short_entry}
@@ -215,7 +214,7 @@ entry_goes_on s new part bytes text after head entry some not_ended same_head sa
     subst (λ (x : PartSoFar). ReadsUpTo x part after) to one_more
 
 -- a text that is no entry's fields breaks the part
-pub text_shown : (fault : PartFault) (s : PartSoFar) (part bytes text after : List ℕ) (head : PartHead) (reader : EntryReader) → s ≡ so_far reader → s.head ≡ Some head → s.end ≡ None
+pub text_shown : (fault : PartFault) (s : PartSoFar) (part bytes text after : List ℕ) (head : PartHead) (reader : PartItems) → s ≡ so_far reader → s.head ≡ Some head → s.end ≡ None
     → IsFrame (IsEntryLength (limits_of One)) bytes text after → IsTextFault head.number reader text fault → ReadsUpTo s part bytes → IsPartShown part fault
 text_shown of_part.Header s part bytes text after head reader same some not_ended frame h reads = absurd h
 text_shown (of_part.Broken number entries) s part bytes text after head reader same some not_ended frame h reads =
@@ -225,7 +224,7 @@ text_shown (of_part.Broken number entries) s part bytes text after head reader s
 text_shown of_part.Memory s part bytes text after head reader same some not_ended frame h reads = tt
 
 -- nothing was read of nothing
-pub nothing_read : (reader : EntryReader) (held : List ℕ) → reader.head ≡ None → reader.entries.items ≡ [] → reader.end ≡ None → held ≡ []
+pub nothing_read : (reader : PartItems) (held : List ℕ) → reader.head ≡ None → reader.entries.items ≡ [] → reader.end ≡ None → held ≡ []
     → ReadsUpTo (so_far reader) [] held × IsPartLeft (so_far reader) held
 nothing_read reader held head entries end none =
     let start : (record { head = None; entries = []; end = None }) ≡ so_far reader = λ i. record { head = sym head i; entries = sym entries i; end = sym end i } in

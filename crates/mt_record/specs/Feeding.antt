@@ -1,91 +1,43 @@
--- A log in pieces: what a feed has read, and which faults the bytes so far show.
-use Rattle.std.specs.Prelude.{◌≡◌, ◌≢◌, ℕ, ◌<◌, ◌⊎◌, Option, Some, None, List, [], ◌∷◌, ◌++◌, length}
-use Rattle.std.specs.List.{flat_map}
-use Rattle.mt_words.specs.Limits.{Limits, limits_of}
-use Rattle.mt_words.specs.Changes.{Logged}
-use Rattle.mt_record.specs.declared.read.FeedFault.{FeedFault}
-use Rattle.mt_record.specs.declared.read.FeedFault.TheVariants as faults
-use Rattle.mt_record.specs.Spelling.{spelling}
-use Rattle.mt_record.specs.Heads.{Head, IsHead, head_bytes, HasNoHeader}
-use Rattle.mt_record.specs.Logs.{AreRecords, latest, IsTorn, count_of}
-use Rattle.mt_record.specs.LogFaults.{HasFault, IsLogFault}
+-- A text in pieces, whatever its items are.
+use Rattle.std.specs.Prelude.{◌≡◌, ℕ, ◌+◌, ◌*◌, ◌<◌, min, max, Option, Some, None, List, ◌++◌, length}
+use Rattle.std.specs.Borrow.{Bor}
 
--- bytes that are no header's, nor the beginning of one
-abbrev pub ShowsNoHeader : List ℕ → Type 0
-ShowsNoHeader bytes = HasNoHeader bytes × ((head : Head) (more : List ℕ) → IsHead head → head_bytes head ≢ bytes ++ more)
+-- ---- items
 
--- the bytes so far show the fault, however they go on
-abbrev pub ShowsFault : List ℕ → FeedFault → Type 0
-ShowsFault bytes faults.Header = ShowsNoHeader bytes
-ShowsFault bytes (faults.Record nth what) = IsLogFault bytes (faults.Record nth what)
-ShowsFault bytes faults.Memory = ⊥
+-- items at the front of the bytes were read, and these bytes follow them
+pub record Reads {T I : Type 0} (reads : T → I → List ℕ → List ℕ → Type 0) (old new : I) (bytes after : List ℕ) : Type 0 where
+  pub items : List ℕ
+  pub joins : bytes ≡ items ++ after
+  pub on : (taken : T) (text : List ℕ) → reads taken old text bytes → reads taken new text after
 
--- a fault that a feed answered is shown; nothing is said where memory was refused
-abbrev pub IsShown : List ℕ → FeedFault → Type 0
-IsShown bytes faults.Memory = Unit {0}
-IsShown bytes fault = ShowsFault bytes fault
+-- One step: nothing more can be read, or an item was read, and fewer bytes follow it.
+abbrev pub ReadsStep : {T I : Type 0} → (T → I → List ℕ → List ℕ → Type 0) → (I → List ℕ → Type 0) → I → I → List ℕ → Option (Bor (List ℕ)) → Type 0
+ReadsStep {T} reads is_left old new bytes None = (new ≡ old) × ((taken : T) (text : List ℕ) → reads taken old text bytes → is_left old bytes)
+ReadsStep reads is_left old new bytes (Some after) = Reads reads old new bytes after.now × (length after.now < length bytes)
 
-abbrev pub ShowsNoFault : List ℕ → Type 0
-ShowsNoFault bytes = (fault : FeedFault) → ShowsFault bytes fault → ⊥
+-- ---- feeds
 
--- what a contract sees of a feed: its header, if that is whole; the bytes held back; the records not yet taken; the timestamp
--- of the last record; the number of records; the fault that it answered
-pub record Feed : Type 0 where
-  pub head : Option Head
-  pub held : List ℕ
-  pub ready : List Logged
-  pub latest : ℕ
-  pub whole : ℕ
-  pub fault : Option FeedFault
+-- the text is what was read and what is held back, from which nothing more can be read
+abbrev pub AreRead : {I : Type 0} → (I → List ℕ → List ℕ → Type 0) → (I → List ℕ → Type 0) → I → List ℕ → List ℕ → Type 0
+AreRead reads is_left items held text = reads items text held × is_left items held
 
--- the bytes begin a header and are not all of it
-pub record BeginsHeader (feed : Feed) (bytes : List ℕ) (taken : List Logged) : Type 0 where
-  pub no_head : feed.head ≡ None
-  pub held : feed.held ≡ bytes
-  pub none : taken ++ feed.ready ≡ []
-  pub latest : feed.latest ≡ 0
-  pub whole : feed.whole ≡ 0
-  pub head : Head
-  pub is_head : IsHead head
-  pub more : List ℕ
-  pub rest : head_bytes head ≡ bytes ++ more
-  pub some : 0 < length more
+-- a feed that was fed this text: all of it is read or held back, or there is a fault
+abbrev pub IsFedBy : {I F : Type 0} → (I → List ℕ → List ℕ → Type 0) → (I → List ℕ → Type 0) → (I → F → List ℕ → Type 0) → I → List ℕ → Option F → List ℕ → Type 0
+IsFedBy reads is_left fails items held None text = AreRead reads is_left items held text
+IsFedBy reads is_left fails items held (Some fault) text = fails items fault text
 
--- a header and these records, of which the last has this timestamp and which are so many, begin the bytes, and the rest follows
-pub record AreRead (head : Head) (records : List Logged) (time count : ℕ) (bytes rest : List ℕ) : Type 0 where
-  pub is_head : IsHead head
-  pub spelled : bytes ≡ head_bytes head ++ (flat_map spelling records ++ rest)
-  pub lawful : AreRecords (limits_of head.format) 0 records
-  pub latest : time ≡ latest 0 records
-  pub whole : count ≡ count_of records
+-- the text is read and held back but for a rest of the piece
+pub record HoldsUpTo {I : Type 0} (reads : I → List ℕ → List ℕ → Type 0) (is_left : I → List ℕ → Type 0) (items : I) (held text rest : List ℕ) : Type 0 where
+  pub front : List ℕ
+  pub joins : front ++ rest ≡ text
+  pub read : reads items front held
+  pub left : is_left items held
 
--- a rest that is no record nor a fault: nothing, or the beginning of a record
-abbrev pub IsLeft : Limits → List ℕ → Type 0
-IsLeft limits rest = (rest ≡ []) ⊎ IsTorn limits rest
+-- how much there is still to do with what is held and the rest of the piece
+abbrev pub still_to_do : List ℕ → List ℕ → ℕ
+still_to_do held rest = 2 * length rest + length held
 
--- the bytes are a header, the records taken and ready, and what is held back
-pub record HasRead (feed : Feed) (bytes : List ℕ) (taken : List Logged) : Type 0 where
-  pub head : Head
-  pub has_head : feed.head ≡ Some head
-  pub read : AreRead head (taken ++ feed.ready) feed.latest feed.whole bytes feed.held
-  pub ends : IsLeft (limits_of head.format) feed.held
-
--- the records begin the log behind its header
-abbrev pub BeginLog : List ℕ → List Logged → Type 0
-BeginLog bytes [] = Unit {0}
-BeginLog bytes (r ∷ rs) = (head : Head) × (rest : List ℕ) × IsHead head × AreRecords (limits_of head.format) 0 (r ∷ rs)
-    × (bytes ≡ head_bytes head ++ (flat_map spelling (r ∷ rs) ++ rest))
-
--- the records taken and ready are those before the fault; where memory was refused, they begin the log
-abbrev pub HasFailed : FeedFault → List ℕ → List Logged → Type 0
-HasFailed faults.Header bytes records = ShowsNoHeader bytes × (records ≡ [])
-HasFailed (faults.Record nth what) bytes records = HasFault bytes records what × (nth ≡ count_of records)
-HasFailed faults.Memory bytes records = BeginLog bytes records
-
--- a feed that was fed these bytes, and from which these records were taken
-abbrev pub IsFed : Feed → List ℕ → List Logged → Type 0
-IsFed feed bytes taken = by feed.fault
-  where
-    by : Option FeedFault → Type 0
-    by None = BeginsHeader feed bytes taken ⊎ HasRead feed bytes taken
-    by (Some fault) = HasFailed fault bytes (taken ++ feed.ready)
+-- bytes were moved from the front of the piece to those held, until these are so many or the piece is empty
+pub record Tops (old piece new rest : List ℕ) (wanted : ℕ) : Type 0 where
+  pub joins : new ++ rest ≡ old ++ piece
+  pub size : length new ≡ max (length old) (min wanted (length old + length piece))

@@ -7,6 +7,10 @@ pub mod PartFaults
 pub mod Bodies
 pub mod Adding
 pub mod Feeding
+pub mod LogFeeding
 pub mod PartFeeding
-pub mod Pieces
+pub mod LogPieces
 pub mod PartPieces
+pub mod MoreBytes
+pub mod LogLaws
+pub mod PartLaws

@@ -1,8 +1,8 @@
 //! Headers of logs.
 ghost use Rattle.std.specs.Prelude.{◌≡◌, ◌++◌, IfSome, IfNone, MatchBool};
 ghost use Rattle.mt_record.specs.Heads.{IsHead, head_bytes, head_of, HasNoHeader};
-ghost use Rattle.mt_record.specs.Feeding.{ShowsNoHeader};
-ghost use Rattle.mt_record.specs.Pieces.{BeginsAlike};
+ghost use Rattle.mt_record.specs.LogFeeding.{ShowsNoHeader};
+ghost use Rattle.mt_record.specs.LogPieces.{BeginsAlike};
 
 use crate::fields::u64_at;
 

@@ -1,24 +1,23 @@
-//! Logs as bytes: the format, reading and writing it.
+//! Logs and parts of checkpoints as bytes: the formats, reading and writing them.
 #![tactic(auto)]
 
 mod body;
 mod encode;
 mod encode_parts;
-mod entry_reader;
+mod feed;
 mod fields;
 mod frame;
 mod head;
+mod items;
 mod laws;
 mod log_feed;
+mod log_items;
 mod part_feed;
 mod part_head;
-mod part_reader;
+mod part_items;
 mod part_text;
-mod piece_reader;
-mod pieces;
 mod put;
 mod read;
-mod record_reader;
 
 pub use encode::{encode_log_header, encode_record};
 pub use encode_parts::encode_part;

@@ -4,9 +4,10 @@ ghost use Rattle.mt_words.specs.Changes.{Logged};
 ghost use Rattle.mt_record.specs.declared.read.FeedFault.{FeedFault as FaultValue};
 ghost use Rattle.mt_record.specs.Logs.{IsTextAfter};
 ghost use Rattle.mt_record.specs.LogFaults.{IsAnswered};
-ghost use Rattle.mt_record.specs.Feeding.{IsFed, ShowsNoFault, IsShown};
+ghost use Rattle.mt_record.specs.LogFeeding.{IsLogFed, ShowsNoFault, IsShown};
 
-use crate::piece_reader::PieceReader;
+use crate::feed::Feed;
+use crate::log_items::LogItems;
 use crate::read::{FeedFault, LogText};
 use mt_words::Record;
 use std::alloc::Global;
@@ -18,62 +19,55 @@ use std::mem;
 /// the bytes, however they are cut.
 #[derive(Debug, Drop)]
 pub struct LogFeed {
-    reader: PieceReader,
-    fault: Option<FeedFault>,
+    feed: Feed<LogItems>,
 }
 
 impl Model for LogFeed {
-    ghost use Rattle.mt_record.specs.Feeding.{Feed};
-    ghost use Rattle.mt_record.specs.Pieces.{feed_of};
+    ghost use Rattle.mt_record.specs.LogFeeding.{FedLog};
+    ghost use Rattle.mt_record.specs.LogPieces.{fed_log};
 
-    ghost Value = { Feed };
+    ghost Value = { FedLog };
 
-    ghost view = { λ f. feed_of f.reader f.fault };
+    ghost view = { λ f. fed_log f.feed };
 }
 
 impl LogFeed {
     /// A feed that was fed nothing.
     pub fn new(alloc: Global) -> LogFeed
-        ensures fed { IsFed result [] [] }
+        ensures fed { IsLogFed result [] [] }
         ensures sound { result.fault ≡ None }
     {
         LogFeed {
-            reader: PieceReader::new(alloc),
-            fault: None,
+            feed: Feed::new(alloc, LogItems::new(alloc)),
         }
     }
 
     /// Reads the next piece. An Err is the fault that the bytes so far show, in the first call after which they show
     /// it, or `Memory` where a growth was refused; each later call, and `finish`, answers it again.
     pub fn feed(&mut self, piece: &[u8]) -> Result<(), FeedFault>
-        ensures fed { (bytes : List ℕ) (taken : List Logged) → IsFed self.old bytes taken →
-            IsFed self.new (bytes ++ piece.now) taken }
-        ensures ok { (bytes : List ℕ) (taken : List Logged) → IsFed self.old bytes taken →
+        ensures fed { (bytes : List ℕ) (taken : List Logged) → IsLogFed self.old bytes taken →
+            IsLogFed self.new (bytes ++ piece.now) taken }
+        ensures ok { (bytes : List ℕ) (taken : List Logged) → IsLogFed self.old bytes taken →
             OnOk result (ShowsNoFault (bytes ++ piece.now)) }
-        ensures fault { (bytes : List ℕ) (taken : List Logged) → IsFed self.old bytes taken →
+        ensures fault { (bytes : List ℕ) (taken : List Logged) → IsLogFed self.old bytes taken →
             IfErr result (IsShown (bytes ++ piece.now)) }
         ensures sound { OnOk result (self.new.fault ≡ None) }
         ensures kept { IfErr result (λ fault. self.new.fault ≡ Some fault) }
         ensures again { (fault : FaultValue) → self.old.fault ≡ Some fault → result ≡ Err fault }
         ensures stays { IsSome self.old.fault → self.new ≡ self.old }
     {
-        if let Some(fault) = self.fault {
-            return Err(fault);
-        }
-        let outcome = self.reader.read(piece);
-        self.fault = outcome.err();
-        outcome
+        self.feed.feed(piece)
     }
 
     /// The whole records that were read and not yet taken, in order: after a fault those before it, after `Memory` a
     /// beginning of the whole ones. It takes no memory.
     pub fn take(&mut self) -> Vec<Record>
-        ensures fed { (bytes : List ℕ) (taken : List Logged) → IsFed self.old bytes taken →
-            IsFed self.new bytes (taken ++ result.items) }
+        ensures fed { (bytes : List ℕ) (taken : List Logged) → IsLogFed self.old bytes taken →
+            IsLogFed self.new bytes (taken ++ result.items) }
         ensures records { result.items ≡ self.old.ready }
         ensures rest { self.new ≡ record self.old { ready = [] } }
     {
-        let ready = &mut self.reader.records.ready;
+        let ready = &mut self.feed.items.ready;
         let alloc = *ready.allocator();
         mem::replace(ready, Vec::new(alloc))
     }
@@ -81,29 +75,16 @@ impl LogFeed {
     /// What the bytes say as a log, with the records not yet taken. An Err is the one fault of the bytes, or `Memory`
     /// where a growth was refused.
     pub fn finish(self) -> Result<LogText, FeedFault>
-        ensures log { (bytes : List ℕ) (taken : List Logged) → IsFed self bytes taken →
+        ensures log { (bytes : List ℕ) (taken : List Logged) → IsLogFed self bytes taken →
             IfOk result (IsTextAfter taken bytes) }
-        ensures fault { (bytes : List ℕ) (taken : List Logged) → IsFed self bytes taken →
+        ensures fault { (bytes : List ℕ) (taken : List Logged) → IsLogFed self bytes taken →
             IfErr result (IsAnswered bytes) }
         ensures again { (fault : FaultValue) → self.fault ≡ Some fault → result ≡ Err fault }
     {
-        if let Some(fault) = self.fault {
+        if let Some(fault) = self.feed.fault {
             return Err(fault);
         }
-        let PieceReader {
-            from,
-            held,
-            records,
-        } = self.reader;
-        let Some(from) = from else {
-            return Err(FeedFault::Header);
-        };
-        Ok(LogText {
-            from,
-            last: from.max(records.latest),
-            records: records.ready,
-            whole: records.whole,
-            torn: !held.is_empty(),
-        })
+        let torn = !self.feed.held.is_empty();
+        self.feed.items.finish(torn)
     }
 }

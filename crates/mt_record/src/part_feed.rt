@@ -5,7 +5,8 @@ ghost use Rattle.mt_record.specs.Parts.{IsPartText};
 ghost use Rattle.mt_record.specs.PartFaults.{IsPartAnswered};
 ghost use Rattle.mt_record.specs.PartFeeding.{IsPartFed, ShowsNoPartFault, IsPartShown};
 
-use crate::part_reader::PartReader;
+use crate::feed::Feed;
+use crate::part_items::PartItems;
 use crate::part_text::{PartFault, PartText};
 use std::alloc::Global;
 use std::marker::Model;
@@ -15,8 +16,7 @@ use std::marker::Model;
 /// piece. Its work is linear in the bytes, however they are cut.
 #[derive(Debug, Drop)]
 pub struct PartFeed {
-    reader: PartReader,
-    fault: Option<PartFault>,
+    feed: Feed<PartItems>,
 }
 
 impl Model for PartFeed {
@@ -25,7 +25,7 @@ impl Model for PartFeed {
 
     ghost Value = { FedPart };
 
-    ghost view = { λ f. fed_part f.reader f.fault };
+    ghost view = { λ f. fed_part f.feed };
 }
 
 impl PartFeed {
@@ -35,8 +35,7 @@ impl PartFeed {
         ensures sound { result.fault ≡ None }
     {
         PartFeed {
-            reader: PartReader::new(alloc),
-            fault: None,
+            feed: Feed::new(alloc, PartItems::new(alloc)),
         }
     }
 
@@ -53,12 +52,7 @@ impl PartFeed {
         ensures again { (fault : FaultValue) → self.old.fault ≡ Some fault → result ≡ Err fault }
         ensures stays { IsSome self.old.fault → self.new ≡ self.old }
     {
-        if let Some(fault) = self.fault {
-            return Err(fault);
-        }
-        let outcome = self.reader.read(piece);
-        self.fault = outcome.err();
-        outcome
+        self.feed.feed(piece)
     }
 
     /// What the bytes say as a part. An Err is the one fault of the bytes, a part that is cut short among them, or
@@ -68,9 +62,9 @@ impl PartFeed {
         ensures fault { (bytes : List ℕ) → IsPartFed self bytes → IfErr result (IsPartAnswered bytes) }
         ensures again { (fault : FaultValue) → self.fault ≡ Some fault → result ≡ Err fault }
     {
-        if let Some(fault) = self.fault {
+        if let Some(fault) = self.feed.fault {
             return Err(fault);
         }
-        self.reader.items.finish()
+        self.feed.items.finish()
     }
 }

@@ -10,9 +10,16 @@ use std::cmp::Ordering;
 use std::marker::Model;
 
 /// A store: keys in order, each with its columns. A contract sees it as the list of its pairs.
-#[derive(Debug, Drop)]
+#[derive(Debug)]
 pub struct Store {
     pairs: Vec<(Key, Columns)>,
+}
+
+/// In words, as that of `Columns` is.
+impl Drop for Store {
+    fn drop(self) {
+        let Store { pairs: _ } = self;
+    }
 }
 
 impl Model for Store {

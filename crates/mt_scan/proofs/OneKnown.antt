@@ -1,8 +1,7 @@
 -- What is known of a part is one thing.
-use Rattle.std.proofs.Common.{◌≡◌, ℕ, List, refl, sym, ap, ◌∙◌}
+use Rattle.std.proofs.Common.{◌≡◌, ℕ, List, refl, ap}
 use Rattle.mt_record.specs.declared.part_text.PartFault.{PartFault}
 use Rattle.mt_record.specs.declared.part_text.PartFault.TheVariants as of_part
-use Rattle.mt_record.specs.Parts.{PartReading}
 use Rattle.mt_record.proofs.OnePart.{one_part}
 use Rattle.mt_record.proofs.OnePartFault.{one_part_fault, part_or_fault}
 use Rattle.mt_scan.specs.PartScans.{KnownPart, whole, broken, nameless, IsKnown}

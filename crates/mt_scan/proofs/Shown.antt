@@ -3,8 +3,8 @@ use Rattle.std.proofs.Common.{List, ℕ, ◌++◌, refl}
 use Rattle.mt_record.specs.declared.read.FeedFault.{FeedFault}
 use Rattle.mt_record.specs.declared.read.FeedFault.TheVariants as of_log
 use Rattle.mt_record.specs.LogFaults.{IsAnswered, fault_at}
-use Rattle.mt_record.specs.Feeding.{IsShown}
-use Rattle.mt_record.proofs.MoreBytes.{no_header_on, failed_on}
+use Rattle.mt_record.specs.LogFeeding.{IsShown}
+use Rattle.mt_record.specs.LogLaws.{no_header_on, failed_on}
 use Rattle.mt_scan.specs.Scans.{IsScanFault}
 
 -- a fault that the bytes show is that of all bytes which they begin

@@ -3,7 +3,7 @@ use Rattle.std.specs.Prelude.{◌≡◌, ◌⊎◌, ℕ, ◌+◌, ◌≤◌, ◌
 use Rattle.std.specs.Io.KnownBytes.{Consumes, IsAtEnd}
 use Rattle.mt_words.specs.Changes.{Logged}
 use Rattle.mt_words.specs.Updates.{updates_from}
-use Rattle.mt_record.specs.Feeding.{Feed, IsFed}
+use Rattle.mt_record.specs.LogFeeding.{FedLog, IsLogFed}
 use Rattle.mt_record.specs.PartFeeding.{FedPart, IsPartFed}
 use Rattle.mt_scan.specs.declared.updates.LogUpdates.{LogUpdates}
 use Rattle.mt_scan.specs.Sources.{Seen}
@@ -14,10 +14,10 @@ pub record HasTaken (updates : LogUpdates) (records : List Logged) : Type 0 wher
   pub next : updates.next ≡ length records
 
 -- the next piece of the source was fed, if there is one
-pub record FeedsPiece (before after : Seen) (new : Feed) (bytes : List ℕ) (taken : List Logged) (more : Bool) : Type 0 where
+pub record FeedsPiece (before after : Seen) (new : FedLog) (bytes : List ℕ) (taken : List Logged) (more : Bool) : Type 0 where
   pub piece : List ℕ
   pub next : Consumes before.told after.told piece
-  pub fed : IsFed new (bytes ++ piece) taken
+  pub fed : IsLogFed new (bytes ++ piece) taken
   pub falls : after.bound + length piece ≤ before.bound
   pub bounded : before.bound < 2 ^ 64
   pub some : more ≡ true → 0 < length piece

@@ -1,7 +1,7 @@
 //! Scans of logs.
 ghost use Rattle.std.specs.Prelude.{◌≡◌, ◌+◌, ◌++◌, List, ℕ, None, IfOk, IfErr, OnOk, IsTrue};
 ghost use Rattle.mt_words.specs.Changes.{Logged};
-ghost use Rattle.mt_record.specs.Feeding.{IsFed};
+ghost use Rattle.mt_record.specs.LogFeeding.{IsLogFed};
 ghost use Rattle.mt_scan.specs.Scans.{IsScanOf, IsScanFault, OfTold, failures_of};
 ghost use Rattle.mt_scan.specs.Keeping.{FeedsPiece};
 
@@ -34,10 +34,10 @@ pub fn scan_log<S: Source>(alloc: Global, source: &mut S, log: usize) -> Result<
 
 /// Feeds the next piece of the log, if there is one.
 fn feed_piece<S: Source>(source: &mut S, feed: &mut LogFeed, log: usize) -> Result<bool, Fault>
-    ensures fed { (bytes : List ℕ) (taken : List Logged) → IsFed feed.old bytes taken →
+    ensures fed { (bytes : List ℕ) (taken : List Logged) → IsLogFed feed.old bytes taken →
         IfOk result (FeedsPiece (S.seen source.old) (S.seen source.new) feed.new bytes taken) }
     ensures sound { OnOk result (feed.old.fault ≡ None → feed.new.fault ≡ None) }
-    ensures fault { (bytes : List ℕ) (taken : List Logged) → IsFed feed.old bytes taken →
+    ensures fault { (bytes : List ℕ) (taken : List Logged) → IsLogFed feed.old bytes taken →
         IfErr result (λ fault. OfTold (S.seen source.old).told (λ rest. IsScanFault log (bytes ++ rest) fault)) }
     ensures failed { (S.seen source.new).failures ≡ (S.seen source.old).failures + failures_of result }
     ensures steady { IsTrue (S.seen source.old).steady →

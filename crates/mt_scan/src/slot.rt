@@ -38,9 +38,16 @@ impl<B> Slot<B> {
 }
 
 /// Slots that were made full, to be lent to sources.
-#[derive(Debug, Drop)]
+#[derive(Debug)]
 pub struct Rack {
     slots: Vec<Slot>,
+}
+
+/// In words, as that of `Columns` is.
+impl Drop for Rack {
+    fn drop(self) {
+        let Rack { slots: _ } = self;
+    }
 }
 
 impl Model for Rack {

@@ -1,39 +1,9 @@
-//! Logs, whole and in pieces.
+//! Logs in pieces.
 use crate::asserting::{assert_same, assert_same_in};
-use crate::logs::{HEADER, LOG_A, bytes_of};
-use mt_record::{FeedFault, LogFeed, LogText, read_log};
+use crate::logs::{LOG_A, bytes_of};
+use mt_record::{FeedFault, LogFeed};
 use mt_words::What;
 use std::process::Abort;
-
-/// The log that these bytes are.
-fn read<R: Abort + AllocGlobal>(rt: &R, bytes: &[u8]) -> LogText {
-    read_log(rt.alloc(), bytes).expect(rt, "a log")
-}
-
-#[test]
-fn reads_a_log(rt: HostRuntime) {
-    let text = read(&rt, &bytes_of(&rt, LOG_A));
-    let shown = (text.from, text.last, text.whole, text.torn);
-    assert_same(&rt, &shown, &(0, 5, 2, false));
-    assert_same(&rt, &text.records.len(), &2);
-}
-
-#[test]
-fn a_cut_rest_is_torn(rt: HostRuntime) {
-    for rest in [
-        "00",
-        "000000",
-        "00100434",
-        "00000009 04",
-        "00000009 03 0000000000000005 000000",
-    ] {
-        let mut bytes = bytes_of(&rt, HEADER);
-        let rest_bytes = bytes_of(&rt, rest);
-        bytes.extend_from_slice(&rest_bytes).expect(&rt, "memory");
-        let text = read(&rt, &bytes);
-        assert_same_in(&rt, &rest, &(text.whole, text.torn), &(0, true));
-    }
-}
 
 #[test]
 fn shows_a_wrong_length_with_its_last_byte(rt: HostRuntime) {
@@ -52,23 +22,6 @@ fn shows_a_wrong_length_with_its_last_byte(rt: HostRuntime) {
     }
     assert_same(&rt, &feed.take().len(), &0);
     assert_same(&rt, &feed.finish().err(), &Some(fault));
-}
-
-#[test]
-fn shows_a_wrong_header_at_once(rt: HostRuntime) {
-    let mut feed = LogFeed::new(rt.alloc());
-    assert_same(
-        &rt,
-        &feed.feed([0].as_slice()).err(),
-        &Some(FeedFault::Header),
-    );
-}
-
-#[test]
-fn misses_the_rest_of_a_header_at_the_end(rt: HostRuntime) {
-    let mut feed = LogFeed::new(rt.alloc());
-    assert_same(&rt, &feed.feed(b"MTL").err(), &None);
-    assert_same(&rt, &feed.finish().err(), &Some(FeedFault::Header));
 }
 
 /// Feeds a piece, which shows no fault.

@@ -5,9 +5,6 @@ use mt_record::{PartFault, PartFeed};
 use std::alloc::Global;
 use std::process::Abort;
 
-/// How the parts are cut: whole, in bytes, and in pieces of 7.
-const SIZES: [usize; 3] = [64, 1, 7];
-
 const BROKEN_AT_ONCE: PartFault = PartFault::Broken {
     number: 1,
     entries: 0,
@@ -17,39 +14,6 @@ const BROKEN_AFTER_ONE: PartFault = PartFault::Broken {
     number: 1,
     entries: 1,
 };
-
-/// What a feed of these bytes in pieces of this size answers: how many entries there are, or the fault.
-fn read_part(alloc: Global, bytes: &[u8], size: usize) -> Result<usize, PartFault> {
-    let mut feed = PartFeed::new(alloc);
-    for piece in bytes.chunks(size.max(1)) {
-        feed.feed(piece)?;
-    }
-    Ok(feed.finish()?.entries.len())
-}
-
-/// The part is read so, however it is cut.
-fn assert_read<R: Abort + AllocGlobal>(rt: &R, bytes: &[u8], expected: Result<usize, PartFault>) {
-    for size in SIZES {
-        let case = (bytes.len(), size);
-        let answer = read_part(rt.alloc(), bytes, size);
-        assert_same_in(rt, &case, &answer, &expected);
-    }
-}
-
-#[test]
-fn reads_a_part_however_it_is_cut(rt: HostRuntime) {
-    let bytes = bytes_of(&rt, PART);
-    for kept in 0..65usize {
-        let expected = match kept {
-            0..=19 => Err(PartFault::Header),
-            20..=47 => Err(BROKEN_AT_ONCE),
-            48..=63 => Err(BROKEN_AFTER_ONE),
-            _ => Ok(1),
-        };
-        let cut = bytes.get(..kept).expect(&rt, "64 bytes");
-        assert_read(&rt, cut, expected);
-    }
-}
 
 /// These bytes with the one at this place changed so.
 fn changed<R: Abort + AllocGlobal>(rt: &R, place: usize, change: u8) -> Vec<u8> {
@@ -91,16 +55,4 @@ fn shows_a_byte_behind_the_footer_at_once(rt: HostRuntime) {
     bytes.push(0).expect(&rt, "memory");
     let found = first_fault(rt.alloc(), &bytes);
     assert_same(&rt, &found, &Some((64, BROKEN_AFTER_ONE)));
-    assert_read(&rt, &bytes, Err(BROKEN_AFTER_ONE));
-}
-
-/// A part of checkpoint 7 with two entries, whose keys fall.
-const FALLING: &str = "4d544331 00000007 0000000000000002 0000 0001
-    00000010 0000000000000001 0001 62 01 00 0001 6f 00000010
-    00000010 0000000000000001 0001 61 01 00 0001 6f 00000010
-    00000000 0000000000000004 00000002";
-
-#[test]
-fn a_part_whose_keys_fall_is_whole(rt: HostRuntime) {
-    assert_read(&rt, &bytes_of(&rt, FALLING), Ok(2));
 }

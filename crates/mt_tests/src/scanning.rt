@@ -2,11 +2,9 @@
 ghost use Rattle.std.specs.Prelude.{[], Some, true, false};
 
 use crate::asserting::{assert_bytes, assert_same};
-use crate::logs::{LATE_HEADER, LOG_A, PART, bytes_of, copy_of};
+use crate::logs::{LOG_A, PART, bytes_of, copy_of};
 use mt_recover::{Inputs, recover_one};
-use mt_scan::{
-    LogScan, MemSource, Rack, ReaderSource, Slot, Source, SourceFault, cutoff, scan_log,
-};
+use mt_scan::{LogScan, MemSource, Rack, ReaderSource, Slot, Source, SourceFault, scan_log};
 use mt_words::Fault;
 use std::io::{self, Cursor, ErrorKind, Read};
 use std::process::Abort;
@@ -181,22 +179,4 @@ fn a_reader_stays_at_its_end(rt: HostRuntime) {
     for count in [1, 0, 0, 0] {
         assert_advance(&rt, &mut source, Ok(count));
     }
-}
-
-/// The scan of this log.
-fn scan_of<R: Abort + AllocGlobal>(rt: &R, log: &str, number: usize) -> LogScan {
-    let bytes = bytes_of(rt, log);
-    let mut rack = rack_of(rt);
-    let mut source = memory_of(rt, &bytes, slot_of(rt, &mut rack));
-    scan_log(rt.alloc(), &mut source, number).expect(rt, "a scan")
-}
-
-#[test]
-fn the_cutoff_is_the_least_last(rt: HostRuntime) {
-    let mut scans = Vec::new(rt.alloc());
-    assert_same(&rt, &cutoff(&scans), &None);
-    scans.push(scan_of(&rt, LOG_A, 0)).expect(&rt, "memory");
-    let late = scan_of(&rt, LATE_HEADER, 1);
-    scans.push(late).expect(&rt, "memory");
-    assert_same(&rt, &cutoff(&scans), &Some(4));
 }

@@ -1,10 +1,7 @@
-//! Keys, columns, records and faults.
+//! Copies of keys and columns, and the texts of faults.
 use crate::asserting::{assert_bytes, assert_same};
 use crate::logs::{copy_of, key_of};
-use mt_words::{
-    Change, Columns, Entry, Fault, GREATEST_COLUMN, Key, Kind, LONGEST_KEY, LONGEST_VALUE, Record,
-    What,
-};
+use mt_words::{Columns, Fault, What};
 use std::process::Abort;
 
 /// Columns with this value alone, which they take.
@@ -12,11 +9,6 @@ fn column_of<R: Abort + AllocGlobal>(rt: &R, number: u8, value: &[u8]) -> Column
     let mut columns = Columns::new(rt.alloc());
     assert!(rt; columns.push(number, copy_of(rt, value)).is_ok());
     columns
-}
-
-/// So many bytes.
-fn zeros<R: Abort + AllocGlobal>(rt: &R, count: usize) -> Vec<u8> {
-    vec![in rt.alloc(); 0; count].expect(rt, "memory")
 }
 
 #[test]
@@ -32,58 +24,6 @@ fn copies_columns(rt: HostRuntime) {
     assert_same(&rt, &copy.get(3), &Some(b"x".as_slice()));
     assert!(rt; copy.get(2).is_none());
     assert_same(&rt, &copy.len(), &1);
-}
-
-#[test]
-fn takes_the_longest_key_and_no_longer(rt: HostRuntime) {
-    assert_same(&rt, &LONGEST_KEY, &1024);
-    assert!(rt; Key::new(zeros(&rt, 1024)).is_some());
-    assert!(rt; Key::new(zeros(&rt, 1025)).is_none());
-}
-
-#[test]
-fn takes_the_longest_value_and_no_longer(rt: HostRuntime) {
-    assert_same(&rt, &GREATEST_COLUMN, &15);
-    assert_same(&rt, &LONGEST_VALUE, &65_535);
-    let mut columns = Columns::new(rt.alloc());
-    assert!(rt; columns.push(15, zeros(&rt, 65_536)).is_err());
-    assert!(rt; columns.push(16, Vec::new(rt.alloc())).is_err());
-    assert!(rt; columns.push(15, zeros(&rt, 65_535)).is_ok());
-    assert!(rt; columns.push(15, Vec::new(rt.alloc())).is_err());
-}
-
-#[test]
-fn orders_keys_as_lists_of_bytes(rt: HostRuntime) {
-    let mut last = key_of(&rt, b"");
-    for bytes in [b"\0".as_slice(), b"a", b"aa", b"ab", b"b", b"\xff"] {
-        let key = key_of(&rt, bytes);
-        assert!(rt; last < key);
-        last = key;
-    }
-}
-
-#[test]
-fn makes_puts_and_marks(rt: HostRuntime) {
-    assert!(rt; Record::mark(5).into_change().is_none());
-    let columns = column_of(&rt, 0, b"v");
-    let put = Record::put(7, 1, key_of(&rt, b"k"), columns).expect(&rt, "a lawful put");
-    assert_same(&rt, &put.timestamp(), &7);
-    let version = put.into_change().map(|change| change.version);
-    assert_same(&rt, &version, &Some(1));
-}
-
-#[test]
-fn makes_entries(rt: HostRuntime) {
-    let columns = column_of(&rt, 0, b"v");
-    let entry = Entry::new(3, key_of(&rt, b"k"), columns).expect(&rt, "a lawful entry");
-    assert_same(&rt, &entry.change().version, &3);
-    assert_whole(&rt, entry.into_change());
-}
-
-/// The change sets the whole of key k.
-fn assert_whole<R: Abort>(rt: &R, change: Change) {
-    assert_bytes(rt, change.key.as_bytes(), b"k");
-    assert!(rt; matches!(change.kind, Kind::Whole(_)));
 }
 
 /// The fault has this text.

@@ -15,9 +15,16 @@ use std::marker::Model;
 
 /// A key of the store: at most `LONGEST_KEY` bytes. Keys are ordered as lists of bytes, a beginning before its
 /// continuation.
-#[derive(Debug, Drop)]
+#[derive(Debug)]
 pub struct Key {
     bytes: Vec<u8>,
+}
+
+/// In words, as that of `Columns` is.
+impl Drop for Key {
+    fn drop(self) {
+        let Key { bytes: _ } = self;
+    }
 }
 
 impl Model for Key {

@@ -1,5 +1,5 @@
 use Rattle.mt_record.proofs.Entries.{one_more_entry}
-use Rattle.std.proofs.Common.{◌≡◌, ◌∙◌, ◌++◌, List, ℕ, ap}
+use Rattle.std.proofs.Common.{◌∙◌, ◌++◌, List, ℕ, ap}
 use Rattle.mt_record.specs.Parts.{entry_spelling}
 use Rattle.mt_record.proofs.encode_parts.append_rest.Goals as goal
 

@@ -1,6 +1,4 @@
-use Rattle.std.proofs.Common.{subst}
 use Rattle.mt_words.specs.Limits.{widest}
-use Rattle.mt_record.specs.Parts.{IsEntryLength}
 use Rattle.mt_record.proofs.Entries.{entry_length}
 use Rattle.mt_record.proofs.encode_parts.entry_length.Goals as goal
 

@@ -1,4 +1,4 @@
-use Rattle.std.proofs.Common.{[], ◌++◌, inl, inr, length, refl, sym, ap, ◌∙◌, subst, arith}
+use Rattle.std.proofs.Common.{[], inl, inr, length, sym, ap, ◌∙◌, subst, arith}
 use Rattle.std.proofs.lemmas.List.{append-nil, nil_from_length}
 use Rattle.mt_record.specs.PartFeeding.{IsPartFed}
 use Rattle.mt_scan.proofs.PartSteps.{has_fault}

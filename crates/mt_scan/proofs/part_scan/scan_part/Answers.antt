@@ -1,4 +1,4 @@
-use Rattle.std.proofs.Common.{sym, ap, ◌∙◌, arith, rules}
+use Rattle.std.proofs.Common.{arith, rules}
 use Rattle.mt_scan.proofs.PartSteps.{one_more, all_fed}
 use Rattle.mt_scan.proofs.part_scan.scan_part.Goals as goal
 

@@ -1,4 +1,4 @@
-use Rattle.std.proofs.Common.{◌∙◌, ◌++◌, ℕ, sym, ap, subst, arith, rules}
+use Rattle.std.proofs.Common.{◌∙◌, ◌++◌, ℕ, sym, subst, arith, rules}
 use Rattle.std.proofs.lemmas.Result.{err_from_is_err_and}
 use Rattle.mt_words.specs.declared.fault.Fault.{Fault}
 use Rattle.mt_scan.specs.Scans.{IsScanOf, IsScanFault}

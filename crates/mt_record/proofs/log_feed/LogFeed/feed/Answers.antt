@@ -1,19 +1,25 @@
-use Rattle.std.proofs.Common.{◌++◌, sym, ap, ◌∙◌}
-use Rattle.mt_record.specs.Feeding.{Feed}
-use Rattle.mt_record.proofs.Feeds.{fed_on, shown_on, fed_order, fed_ok}
+use Rattle.std.proofs.Common.{◌++◌, sym, subst}
+use Rattle.mt_record.specs.LogFeeding.{FedLog, IsLogFed}
+use Rattle.mt_record.proofs.LogFeeds.{to_items, from_items, fed_ok, fed_err}
 use Rattle.mt_record.proofs.log_feed.LogFeed.feed.Goals as goal
 
-pub returns-in-Some-clause-fed : goal.returns-in-Some-clause-fed
-returns-in-Some-clause-fed c bytes taken fed =
-    let failed = sym (ap (λ (f : Feed). f.fault) c.self.view_is) ∙ c.in-Some.is in
-    fed_on c.args.self.now c.in-Some.fault bytes c.args.piece.now taken failed fed
-
-pub returns-in-Some-clause-fault : goal.returns-in-Some-clause-fault
-returns-in-Some-clause-fault c bytes taken fed =
-    let failed = sym (ap (λ (f : Feed). f.fault) c.self.view_is) ∙ c.in-Some.is in
-    shown_on c.args.self.now c.in-Some.fault bytes c.args.piece.now taken failed fed
+pub returns-clause-fed : goal.returns-clause-fed
+returns-clause-fed c bytes taken fed =
+    let old = c.self.inside.feed in
+    let new = c.feed.new.self in
+    let before = to_items old.items old.held.items old.fault bytes taken (subst (λ (f : FedLog). IsLogFed f bytes taken) (sym c.self.view_is) fed) in
+    from_items new.items new.held.items new.fault (bytes ++ c.args.piece.now) taken (c.feed.ensures.fed taken bytes before)
 
 pub returns-clause-ok : goal.returns-clause-ok
 returns-clause-ok c bytes taken fed =
-    let order = fed_order c.args.self.now c.self.inside.reader c.self.inside.fault bytes taken c.self.view_is c.in_default.is fed in
-    fed_ok c.read-outcome.new.self c.read-outcome.result (bytes ++ c.args.piece.now) taken (c.read-outcome.ensures bytes taken order)
+    let old = c.self.inside.feed in
+    let new = c.feed.new.self in
+    let before = to_items old.items old.held.items old.fault bytes taken (subst (λ (f : FedLog). IsLogFed f bytes taken) (sym c.self.view_is) fed) in
+    fed_ok new.items new.held.items new.fault c.feed.result (bytes ++ c.args.piece.now) taken (c.feed.ensures.fed taken bytes before) c.feed.ensures.sound
+
+pub returns-clause-fault : goal.returns-clause-fault
+returns-clause-fault c bytes taken fed =
+    let old = c.self.inside.feed in
+    let new = c.feed.new.self in
+    let before = to_items old.items old.held.items old.fault bytes taken (subst (λ (f : FedLog). IsLogFed f bytes taken) (sym c.self.view_is) fed) in
+    fed_err new.items new.held.items new.fault c.feed.result (bytes ++ c.args.piece.now) taken (c.feed.ensures.fed taken bytes before) c.feed.ensures.kept

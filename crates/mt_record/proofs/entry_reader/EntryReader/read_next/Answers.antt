@@ -1,7 +1,0 @@
-use Rattle.mt_record.specs.PartPieces.{so_far}
-use Rattle.mt_record.proofs.PartItems.{behind_end}
-use Rattle.mt_record.proofs.entry_reader.EntryReader.read_next.Goals as goal
-
-pub returns-clause-fault : goal.returns-clause-fault
-returns-clause-fault c = λ part reads.
-    rw c.broken.ensures (behind_end (so_far c.args.self.now) part c.args.bytes.now c.in-Some.head c.in-Some.is c.if-is_none.ensures c.if-is_empty.ensures reads)

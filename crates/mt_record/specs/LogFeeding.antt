@@ -1,0 +1,92 @@
+-- A log in pieces: what a feed has read, and which faults the bytes so far show.
+use Rattle.std.specs.Prelude.{◌≡◌, ◌≢◌, ℕ, ◌<◌, ◌⊎◌, Option, Some, None, List, [], ◌∷◌, ◌++◌, length}
+use Rattle.std.specs.List.{flat_map}
+use Rattle.mt_words.specs.Limits.{Limits, limits_of}
+use Rattle.mt_words.specs.Changes.{Logged}
+use Rattle.mt_record.specs.declared.read.FeedFault.{FeedFault}
+use Rattle.mt_record.specs.declared.read.FeedFault.TheVariants as faults
+use Rattle.mt_record.specs.Spelling.{spelling}
+use Rattle.mt_record.specs.Heads.{Head, IsHead, head_bytes, HasNoHeader}
+use Rattle.mt_record.specs.Logs.{AreRecords, latest, IsTorn, count_of}
+use Rattle.mt_record.specs.LogFaults.{HasFault, IsLogFault}
+
+-- bytes that are no header's, nor the beginning of one
+abbrev pub ShowsNoHeader : List ℕ → Type 0
+ShowsNoHeader bytes = HasNoHeader bytes × ((head : Head) (more : List ℕ) → IsHead head → head_bytes head ≢ bytes ++ more)
+
+-- the bytes so far show the fault, however they go on
+abbrev pub ShowsFault : List ℕ → FeedFault → Type 0
+ShowsFault bytes faults.Header = ShowsNoHeader bytes
+ShowsFault bytes (faults.Record nth what) = IsLogFault bytes (faults.Record nth what)
+ShowsFault bytes faults.Memory = ⊥
+
+-- a fault that a feed answered is shown; nothing is said where memory was refused
+abbrev pub IsShown : List ℕ → FeedFault → Type 0
+IsShown bytes faults.Memory = Unit {0}
+IsShown bytes fault = ShowsFault bytes fault
+
+abbrev pub ShowsNoFault : List ℕ → Type 0
+ShowsNoFault bytes = (fault : FeedFault) → ShowsFault bytes fault → ⊥
+
+-- what a contract sees of a feed: its header, if that is whole; the bytes held back; the records not yet taken; the timestamp
+-- of the last record; the number of records; the fault that it answered
+pub record FedLog : Type 0 where
+  pub head : Option Head
+  pub held : List ℕ
+  pub ready : List Logged
+  pub latest : ℕ
+  pub whole : ℕ
+  pub fault : Option FeedFault
+
+-- no header was read and no record, and the rest is all of the bytes
+pub record ReadsNoHeader (records : List Logged) (time count : ℕ) (bytes rest : List ℕ) : Type 0 where
+  pub none : records ≡ []
+  pub latest : time ≡ 0
+  pub whole : count ≡ 0
+  pub all : bytes ≡ rest
+
+-- a header and these records, of which the last has this timestamp and which are so many, begin the bytes, and the rest follows
+pub record AreRead (head : Head) (records : List Logged) (time count : ℕ) (bytes rest : List ℕ) : Type 0 where
+  pub is_head : IsHead head
+  pub spelled : bytes ≡ head_bytes head ++ (flat_map spelling records ++ rest)
+  pub lawful : AreRecords (limits_of head.format) 0 records
+  pub latest : time ≡ latest 0 records
+  pub whole : count ≡ count_of records
+
+-- a rest that is no record nor a fault: nothing, or the beginning of a record
+abbrev pub IsLeft : Limits → List ℕ → Type 0
+IsLeft limits rest = (rest ≡ []) ⊎ IsTorn limits rest
+
+-- the bytes are what was read, and the rest
+abbrev pub HasRead : Option Head → List Logged → ℕ → ℕ → List ℕ → List ℕ → Type 0
+HasRead None records time count bytes rest = ReadsNoHeader records time count bytes rest
+HasRead (Some head) records time count bytes rest = AreRead head records time count bytes rest
+
+-- the beginning of a header
+abbrev pub IsCutHeader : List ℕ → Type 0
+IsCutHeader rest = (head : Head) × (more : List ℕ) × IsHead head × (0 < length more) × (head_bytes head ≡ rest ++ more)
+
+-- a rest from which nothing more can be read, and which shows no fault
+abbrev pub IsLogLeft : Option Head → List ℕ → Type 0
+IsLogLeft None rest = IsCutHeader rest
+IsLogLeft (Some head) rest = IsLeft (limits_of head.format) rest
+
+-- the records begin the log behind its header
+abbrev pub BeginLog : List ℕ → List Logged → Type 0
+BeginLog bytes [] = Unit {0}
+BeginLog bytes (r ∷ rs) = (head : Head) × (rest : List ℕ) × IsHead head × AreRecords (limits_of head.format) 0 (r ∷ rs)
+    × (bytes ≡ head_bytes head ++ (flat_map spelling (r ∷ rs) ++ rest))
+
+-- the records taken and ready are those before the fault; where memory was refused, they begin the log
+abbrev pub HasFailed : FeedFault → List ℕ → List Logged → Type 0
+HasFailed faults.Header bytes records = ShowsNoHeader bytes × (records ≡ [])
+HasFailed (faults.Record nth what) bytes records = HasFault bytes records what × (nth ≡ count_of records)
+HasFailed faults.Memory bytes records = BeginLog bytes records
+
+-- a feed that was fed these bytes, and from which these records were taken
+abbrev pub IsLogFed : FedLog → List ℕ → List Logged → Type 0
+IsLogFed feed bytes taken = by feed.fault
+  where
+    by : Option FeedFault → Type 0
+    by None = HasRead feed.head (taken ++ feed.ready) feed.latest feed.whole bytes feed.held × IsLogLeft feed.head feed.held
+    by (Some fault) = HasFailed fault bytes (taken ++ feed.ready)

@@ -1,0 +1,112 @@
+-- What was read of a log and which faults it shows, when more bytes follow: the laws that its items owe. No definition stands here.
+use Rattle.std.proofs.Common.{◌≡◌, inl, inr, ℕ, Option, Some, None, List, [], ◌∷◌, ◌++◌, length, refl, sym, ap, ◌∙◌, subst, append_assoc}
+use Rattle.std.specs.List.{flat_map}
+use Rattle.byteorder.specs.Endian.{big_bytes}
+use Rattle.mt_words.specs.declared.fault.What.{What}
+use Rattle.mt_words.specs.declared.fault.What.TheVariants.{Length, Trailer, Kind, Frame, Version, Key, Columns, Clock}
+use Rattle.mt_words.specs.Limits.{Limits, limits_of}
+use Rattle.mt_words.specs.Changes.{Logged}
+use Rattle.mt_record.specs.declared.read.FeedFault.{FeedFault}
+use Rattle.mt_record.specs.declared.read.FeedFault.TheVariants as faults
+use Rattle.mt_record.specs.Spelling.{framed, spelling}
+use Rattle.mt_record.specs.Heads.{Head, head_bytes}
+use Rattle.mt_record.specs.Logs.{latest}
+use Rattle.mt_record.specs.LogFaults.{RestFault, HasFault}
+use Rattle.mt_record.specs.MoreBytes.{apart, spelled_on}
+use Rattle.mt_record.specs.LogFeeding.{ShowsNoHeader, AreRead, HasRead, BeginLog, HasFailed}
+
+-- a framed body with a fault begins longer bytes too
+framed_on : (rest text after more : List ℕ) → rest ≡ framed text ++ after → rest ++ more ≡ framed text ++ (after ++ more)
+framed_on rest text after more e = ap (λ (x : List ℕ). x ++ more) e ∙ append_assoc (framed text) after more
+
+-- a fault of the rest stays its fault when more bytes follow
+rest_fault_on : (what : What) (limits : Limits) (low : ℕ) (rest more : List ℕ) → RestFault what limits low rest → RestFault what limits low (rest ++ more)
+rest_fault_on Length limits low rest more h =
+    (h.0, h.1 ++ more, h.2, ap (λ (x : List ℕ). x ++ more) h.3 ∙ append_assoc (big_bytes 4 h.0) h.1 more, h.4)
+rest_fault_on Trailer limits low rest more h =
+    let start = big_bytes 4 (length h.0) in
+    let end = big_bytes 4 h.1 in
+    let after = append_assoc h.0 (end ++ h.2) more ∙ ap (λ (x : List ℕ). h.0 ++ x) (append_assoc end h.2 more) in
+    let all = ap (λ (x : List ℕ). x ++ more) h.6 ∙ append_assoc start (h.0 ++ (end ++ h.2)) more ∙ ap (λ (x : List ℕ). start ++ x) after in
+    (h.0, h.1, h.2 ++ more, h.3, h.4, h.5, all)
+rest_fault_on Kind limits low rest more h = (h.0, h.1 ++ more, h.2, framed_on rest h.0 h.1 more h.3, h.4)
+rest_fault_on Frame limits low rest more h = (h.0, h.1 ++ more, h.2, framed_on rest h.0 h.1 more h.3, h.4)
+rest_fault_on Version limits low rest more h = (h.0, h.1 ++ more, h.2, framed_on rest h.0 h.1 more h.3, h.4)
+rest_fault_on Key limits low rest more h = (h.0, h.1 ++ more, h.2, framed_on rest h.0 h.1 more h.3, h.4)
+rest_fault_on Columns limits low rest more h = (h.0, h.1 ++ more, h.2, framed_on rest h.0 h.1 more h.3, h.4)
+rest_fault_on Clock limits low rest more h = (h.0, h.1 ++ more, h.2, framed_on rest h.0 h.1 more h.3, h.4)
+
+-- a fault behind records stays one when more bytes follow
+has_fault_on : (bytes more : List ℕ) (records : List Logged) (what : What) → HasFault bytes records what → HasFault (bytes ++ more) records what
+has_fault_on bytes more records what h = record {
+  head = h.head;
+  rest = h.rest ++ more;
+  spelled = spelled_on (head_bytes h.head) (flat_map spelling records) bytes h.rest more h.spelled;
+  is_head = h.is_head;
+  lawful = h.lawful;
+  fault = rest_fault_on what (limits_of h.head.format) (latest 0 records) h.rest more h.fault;
+}
+
+-- bytes that begin no header begin none when more bytes follow
+pub no_header_on : (bytes more : List ℕ) → ShowsNoHeader bytes → ShowsNoHeader (bytes ++ more)
+no_header_on bytes more h = (
+  λ head after is e. elim (apart bytes (head_bytes head) more after e) as (λ _. ⊥) [
+    | inl u ↦ h.0 head u.0 is u.1
+    | inr u ↦ h.1 head u.0 is u.1
+  ],
+  λ head after is e. h.1 head (more ++ after) is (e ∙ append_assoc bytes more after),
+)
+
+-- records that begin a log begin it when more bytes follow
+begin_log_on : (bytes more : List ℕ) (records : List Logged) → BeginLog bytes records → BeginLog (bytes ++ more) records
+begin_log_on bytes more [] h = tt
+begin_log_on bytes more (r ∷ rs) h =
+    (h.0, h.1 ++ more, h.2, h.3, spelled_on (head_bytes h.0) (flat_map spelling (r ∷ rs)) bytes h.1 more h.4)
+
+-- a feed that failed has failed when more bytes follow
+pub failed_on : (fault : FeedFault) (bytes more : List ℕ) (records : List Logged) → HasFailed fault bytes records → HasFailed fault (bytes ++ more) records
+failed_on faults.Header bytes more records h = (no_header_on bytes more h.0, h.1)
+failed_on (faults.Record nth what) bytes more records h = (has_fault_on bytes more records what h.0, h.1)
+failed_on faults.Memory bytes more records h = begin_log_on bytes more records h
+
+-- ---- what was read
+
+-- the records read are the same when more bytes follow
+pub read_on : (head : Head) (rs : List Logged) (t n : ℕ) (log rest more : List ℕ) → AreRead head rs t n log rest → AreRead head rs t n (log ++ more) (rest ++ more)
+read_on head rs t n log rest more h = record {
+  is_head = h.is_head;
+  spelled = spelled_on (head_bytes head) (flat_map spelling rs) log rest more h.spelled;
+  lawful = h.lawful;
+  latest = h.latest;
+  whole = h.whole;
+}
+
+-- what was read is the same when more bytes follow
+pub reads_on : (o : Option Head) (rs : List Logged) (t n : ℕ) (log rest more : List ℕ) → HasRead o rs t n log rest → HasRead o rs t n (log ++ more) (rest ++ more)
+reads_on None rs t n log rest more h = record { none = h.none; latest = h.latest; whole = h.whole; all = ap (λ (x : List ℕ). x ++ more) h.all }
+reads_on (Some head) rs t n log rest more h = read_on head rs t n log rest more h
+
+-- the bytes that end before the rest does
+pub reads_front : (o : Option Head) (rs : List Logged) (t n : ℕ) (log a b : List ℕ) → HasRead o rs t n log (a ++ b)
+    → (front : List ℕ) × (front ++ b ≡ log) × HasRead o rs t n front a
+reads_front None rs t n log a b h = (a, sym h.all, record { none = h.none; latest = h.latest; whole = h.whole; all = refl })
+reads_front (Some head) rs t n log a b h = (
+  head_bytes head ++ (flat_map spelling rs ++ a),
+  append_assoc (head_bytes head) (flat_map spelling rs ++ a) b ∙ ap (λ (x : List ℕ). head_bytes head ++ x) (append_assoc (flat_map spelling rs) a b) ∙ sym h.spelled,
+  record { is_head = h.is_head; spelled = refl; lawful = h.lawful; latest = h.latest; whole = h.whole },
+)
+
+-- records that were read begin the log
+begin_log : (head : Head) (rs : List Logged) (t n : ℕ) (log rest : List ℕ) → AreRead head rs t n log rest → BeginLog log rs
+begin_log head [] t n log rest h = tt
+begin_log head (r ∷ rs) t n log rest h = (head, rest, h.is_head, h.lawful, h.spelled)
+
+-- and so they do where there is no header yet
+pub begins_by : (o : Option Head) (rs : List Logged) (t n : ℕ) (log rest : List ℕ) → HasRead o rs t n log rest → BeginLog log rs
+begins_by None rs t n log rest h = subst (BeginLog log) (sym h.none) tt
+begins_by (Some head) rs t n log rest h = begin_log head rs t n log rest h
+
+-- a refused growth leaves records that begin the log
+pub refused_failed : (o : Option Head) (rs : List Logged) (t n : ℕ) (log rest : List ℕ) (fault : FeedFault) → fault ≡ faults.Memory → HasRead o rs t n log rest
+    → HasFailed fault log rs
+refused_failed o rs t n log rest fault is h = rw is (begins_by o rs t n log rest h)

@@ -1,0 +1,88 @@
+-- What was read of a part and which faults it shows, when more bytes follow: the laws that its items owe. No definition stands here.
+use Rattle.std.proofs.Common.{◌≡◌, inl, inr, ℕ, Option, Some, None, List, ◌∷◌, ◌++◌, length, refl, sym, ap, ◌∙◌, append_assoc}
+use Rattle.std.specs.List.{flat_map}
+use Rattle.byteorder.specs.Endian.{big_bytes}
+use Rattle.mt_words.specs.declared.record.Change.{Change}
+use Rattle.mt_record.specs.declared.part_text.PartHead.{PartHead}
+use Rattle.mt_record.specs.declared.part_text.PartFault.{PartFault}
+use Rattle.mt_record.specs.declared.part_text.PartFault.TheVariants as faults
+use Rattle.mt_record.specs.Parts.{part_head_bytes, entry_spelling, footer_bytes}
+use Rattle.mt_record.specs.PartFeeding.{ShowsNoPartHeader, ShowsNoPart, IsPartShown, PartSoFar, ReadsUpTo}
+use Rattle.mt_record.specs.MoreBytes.{apart, spelled_on, behind_on}
+
+-- ---- what was read
+
+on_by : (o : Option PartHead) (e : Option ℕ) (entries : List Change) (part rest more : List ℕ) → ReadsUpTo (record { head = o; entries = entries; end = e }) part rest
+    → ReadsUpTo (record { head = o; entries = entries; end = e }) (part ++ more) (rest ++ more)
+on_by None e entries part rest more h = record { none = h.none; no_end = h.no_end; all = ap (λ (x : List ℕ). x ++ more) h.all }
+on_by (Some head) None entries part rest more h = record {
+  spelled = spelled_on (part_head_bytes head) (flat_map entry_spelling entries) part rest more h.spelled;
+  is_head = h.is_head;
+  lawful = h.lawful;
+}
+on_by (Some head) (Some end) entries part rest more h = record {
+  part = h.part;
+  is_part = h.is_part;
+  joins = ap (λ (x : List ℕ). x ++ more) h.joins ∙ append_assoc h.part rest more;
+}
+
+-- what was read is the same when more bytes follow
+pub reads_on : (s : PartSoFar) (part rest more : List ℕ) → ReadsUpTo s part rest → ReadsUpTo s (part ++ more) (rest ++ more)
+reads_on s part rest more h = on_by s.head s.end s.entries part rest more h
+
+front_by : (o : Option PartHead) (e : Option ℕ) (entries : List Change) (part a b : List ℕ) → ReadsUpTo (record { head = o; entries = entries; end = e }) part (a ++ b)
+    → (front : List ℕ) × (front ++ b ≡ part) × ReadsUpTo (record { head = o; entries = entries; end = e }) front a
+front_by None e entries part a b h = (a, sym h.all, record { none = h.none; no_end = h.no_end; all = refl })
+front_by (Some head) None entries part a b h = (
+  part_head_bytes head ++ (flat_map entry_spelling entries ++ a),
+  append_assoc (part_head_bytes head) (flat_map entry_spelling entries ++ a) b
+      ∙ ap (λ (x : List ℕ). part_head_bytes head ++ x) (append_assoc (flat_map entry_spelling entries) a b) ∙ sym h.spelled,
+  record { spelled = refl; is_head = h.is_head; lawful = h.lawful },
+)
+front_by (Some head) (Some end) entries part a b h =
+    (h.part ++ a, append_assoc h.part a b ∙ sym h.joins, record { part = h.part; is_part = h.is_part; joins = refl })
+
+-- the bytes that end before the rest does
+pub reads_front : (s : PartSoFar) (part a b : List ℕ) → ReadsUpTo s part (a ++ b) → (front : List ℕ) × (front ++ b ≡ part) × ReadsUpTo s front a
+reads_front s part a b h = front_by s.head s.end s.entries part a b h
+
+-- ---- faults
+
+-- bytes that begin no header begin none when more bytes follow
+no_header_on : (bytes more : List ℕ) → ShowsNoPartHeader bytes → ShowsNoPartHeader (bytes ++ more)
+no_header_on bytes more h = (
+  λ head after is e. elim (apart bytes (part_head_bytes head) more after e) as (λ _. ⊥) [
+    | inl u ↦ h.0 head u.0 is u.1
+    | inr u ↦ h.1 head u.0 is u.1
+  ],
+  λ head after is e. h.1 head (more ++ after) is (e ∙ append_assoc bytes more after),
+)
+
+-- a fault behind entries stays one
+no_part_on : (count : ℕ) (rest more : List ℕ) → ShowsNoPart count rest → ShowsNoPart count (rest ++ more)
+no_part_on count rest more (inl h) = inl (h.0, h.1 ++ more, h.2, h.3, h.4, behind_on (big_bytes 4 h.0) rest h.1 more h.5)
+no_part_on count rest more (inr (inl h)) = inr (inl (h.0, h.1, h.2 ++ more, h.3, h.4, h.5, behind_on (big_bytes 4 (length h.0) ++ (h.0 ++ big_bytes 4 h.1)) rest h.2 more h.6))
+no_part_on count rest more (inr (inr (inl h))) = inr (inr (inl (h.0, h.1, h.2 ++ more, h.3, h.4, behind_on (footer_bytes h.0 h.1) rest h.2 more h.5)))
+no_part_on count rest more (inr (inr (inr h))) = inr (inr (inr (h.0, h.1, h.2 ++ more, behind_on (footer_bytes h.0 count) rest (h.1 ∷ h.2) more h.3)))
+
+-- a fault that is shown is shown when more bytes follow
+pub shown_on : (fault : PartFault) (bytes more : List ℕ) → IsPartShown bytes fault → IsPartShown (bytes ++ more) fault
+shown_on faults.Header bytes more h = no_header_on bytes more h
+shown_on (faults.Broken number entries) bytes more h = record {
+  head = h.head;
+  entries = h.entries;
+  rest = h.rest ++ more;
+  begins = record {
+    spelled = spelled_on (part_head_bytes h.head) (flat_map entry_spelling h.entries) bytes h.rest more h.begins.spelled;
+    is_head = h.begins.is_head;
+    lawful = h.begins.lawful;
+  };
+  named = h.named;
+  counted = h.counted;
+  shown = no_part_on entries h.rest more h.shown;
+}
+shown_on faults.Memory bytes more h = tt
+
+-- a refused growth is shown by any bytes
+pub refused_shown : (fault : PartFault) (bytes : List ℕ) → fault ≡ faults.Memory → IsPartShown bytes fault
+refused_shown fault bytes is = rw is tt

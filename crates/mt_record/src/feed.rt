@@ -1,0 +1,129 @@
+//! A text in pieces.
+ghost use Rattle.std.specs.Prelude.{◌≡◌, ◌<◌, ◌≤◌, ◌++◌, [], List, ℕ, Some, None, Err, length, drop, IsSome, IfOk, IfErr, OnOk};
+ghost use Rattle.mt_record.specs.Feeding.{HoldsUpTo, still_to_do, Reads, AreRead, IsFedBy, Tops};
+
+use crate::items::Items;
+use mt_words::Memory;
+use std::alloc::Global;
+
+/// What the pieces so far said, and what they leave over.
+#[derive(Debug, Drop)]
+pub struct Feed<I: Items> {
+    pub items: I,
+    /// The beginning of an item, which the next pieces complete.
+    pub held: Vec<u8>,
+    /// The fault that was answered, if there was one.
+    pub fault: Option<I::Fault>,
+}
+
+impl<I: Items> Feed<I> {
+    /// A feed that was fed nothing.
+    pub fn new(alloc: Global, items: I) -> Feed<I>
+        ensures items { result.items ≡ items }
+        ensures held { result.held.items ≡ [] }
+        ensures sound { result.fault ≡ None }
+    {
+        Feed {
+            items,
+            held: Vec::new(alloc),
+            fault: None,
+        }
+    }
+
+    /// Reads the next piece, unless there was a fault, which is answered again.
+    pub fn feed(&mut self, piece: &[u8]) -> Result<(), I::Fault>
+        ensures fed { (taken : I.Taken) (text : List ℕ) →
+            IsFedBy (I.reads taken) I.is_left (I.fails taken) self.old.items self.old.held.items self.old.fault text →
+            IsFedBy (I.reads taken) I.is_left (I.fails taken) self.new.items self.new.held.items self.new.fault (text ++ piece.now) }
+        ensures sound { OnOk result (self.new.fault ≡ None) }
+        ensures kept { IfErr result (λ fault. self.new.fault ≡ Some fault) }
+        ensures again { (fault : I.Fault) → self.old.fault ≡ Some fault → result ≡ Err fault }
+        ensures stays { IsSome self.old.fault → self.new ≡ self.old }
+    {
+        if let Some(fault) = self.fault {
+            return Err(fault);
+        }
+        let outcome = self.read(piece);
+        self.fault = outcome.err();
+        outcome
+    }
+
+    /// Reads the next piece: what it completes straight from the piece where it lies whole in it.
+    fn read(&mut self, piece: &[u8]) -> Result<(), I::Fault>
+        ensures ok { (taken : I.Taken) (text : List ℕ) → AreRead (I.reads taken) I.is_left self.old.items self.old.held.items text →
+            IfOk result (λ _. AreRead (I.reads taken) I.is_left self.new.items self.new.held.items (text ++ piece.now)) }
+        ensures fault { (taken : I.Taken) (text : List ℕ) → AreRead (I.reads taken) I.is_left self.old.items self.old.held.items text →
+            IfErr result (λ fault. I.fails taken self.new.items fault (text ++ piece.now)) }
+    {
+        let mut rest = piece;
+        'held: while !self.held.is_empty() {
+            if rest.is_empty() {
+                return Ok(());
+            }
+            rest = self.read_held(rest)?;
+        }
+        let rest = read_whole(&mut self.items, rest)?;
+        append(&mut self.held, rest)?;
+        Ok(())
+    }
+
+    /// Completes what is held back, and reads what of it is whole then; the rest of the piece.
+    fn read_held<'a>(&mut self, piece: &'a [u8]) -> Result<&'a [u8], I::Fault>
+        requires { 0 < length piece.now }
+        ensures rest { (taken : I.Taken) (text : List ℕ) → HoldsUpTo (I.reads taken) I.is_left self.old.items self.old.held.items text piece.now →
+            IfOk result (λ rest. HoldsUpTo (I.reads taken) I.is_left self.new.items self.new.held.items text rest.now) }
+        ensures less { IfOk result (λ rest. still_to_do self.new.held.items rest.now < still_to_do self.old.held.items piece.now) }
+        ensures fault { (taken : I.Taken) (text : List ℕ) → HoldsUpTo (I.reads taken) I.is_left self.old.items self.old.held.items text piece.now →
+            IfErr result (λ fault. I.fails taken self.new.items fault text) }
+    {
+        let wanted = self.items.bytes_wanted(&self.held).max(self.held.len() + 1);
+        let rest = top_up(&mut self.held, wanted, piece)?;
+        let left = read_whole(&mut self.items, &self.held)?.len();
+        let read = self.held.len() - left;
+        drop_front(&mut self.held, read);
+        Ok(rest)
+    }
+}
+
+/// Reads the whole items at the front, and gives the bytes after them, in which no more can be read.
+fn read_whole<'a, I: Items>(items: &mut I, bytes: &'a [u8]) -> Result<&'a [u8], I::Fault>
+    ensures rest { IfOk result (λ rest. Reads I.reads items.old items.new bytes.now rest.now) }
+    ensures ends { (taken : I.Taken) (text : List ℕ) → I.reads taken items.old text bytes.now →
+        IfOk result (λ rest. I.is_left items.new rest.now) }
+    ensures fault { (taken : I.Taken) (text : List ℕ) → I.reads taken items.old text bytes.now →
+        IfErr result (λ fault. I.fails taken items.new fault text) }
+{
+    let mut rest = bytes;
+    'items: loop {
+        let Some(after) = items.read_next(rest)? else {
+            return Ok(rest);
+        };
+        rest = after;
+    }
+}
+
+/// Moves bytes from the front of the piece to those held, until these are so many or the piece is empty; the rest of
+/// the piece.
+fn top_up<'a>(held: &mut Vec<u8>, wanted: usize, piece: &'a [u8]) -> Result<&'a [u8], Memory>
+    ensures { IfOk result (λ rest. Tops held.old.items piece.now held.new.items rest.now wanted) }
+{
+    let missing = wanted.saturating_sub(held.len()).min(piece.len());
+    let (front, rest) = piece.split_at(missing);
+    append(held, front)?;
+    Ok(rest)
+}
+
+/// Holds these bytes too.
+fn append(held: &mut Vec<u8>, bytes: &[u8]) -> Result<(), Memory>
+    ensures { OnOk result (held.new.items ≡ held.old.items ++ bytes.now) }
+{
+    Ok(held.extend_from_slice(bytes)?)
+}
+
+/// Lets go of so many bytes at the front.
+fn drop_front(held: &mut Vec<u8>, count: usize)
+    requires { count ≤ length held.old.items }
+    ensures { held.new.items ≡ drop count held.old.items }
+{
+    held.drain(..count);
+}

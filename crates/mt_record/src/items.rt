@@ -1,0 +1,51 @@
+//! What stands one behind the other in a text.
+ghost use Rattle.std.specs.Prelude.{◌++◌, ◌≡◌, List, ℕ, IfOk, IfErr};
+ghost use Rattle.mt_words.specs.declared.fault.Memory.{Memory};
+ghost use Rattle.mt_record.specs.Feeding.{ReadsStep};
+
+use mt_words::Memory as Refusal;
+
+/// What was read so far of a text whose items, of any kinds, stand one behind the other. That of a log are its header
+/// and its records; that of a part its header, its entries and its footer.
+pub trait Items {
+    /// Why bytes are no such text, or want of memory.
+    type Fault: Copy + From<Refusal>;
+
+    /// What was read and is no longer here.
+    ghost Taken: { Type 0 };
+
+    /// These bytes are what was taken, what is here, and the rest.
+    ghost reads: { Taken → Self → List ℕ → List ℕ → Type 0 };
+
+    /// Nothing more can be read from this rest, which shows no fault.
+    ghost is_left: { Self → List ℕ → Type 0 };
+
+    /// The bytes so far show the fault, however they go on, behind what was taken and what is here.
+    ghost fails: { Taken → Self → Self.Fault → List ℕ → Type 0 };
+
+    /// Reads the item at the front, and gives the bytes after it; None where it is not whole.
+    fn read_next<'a>(&mut self, bytes: &'a [u8]) -> Result<Option<&'a [u8]>, Self::Fault>
+        ensures next { IfOk result (ReadsStep reads is_left self.old self.new bytes.now) }
+        ensures fault { (taken : Taken) (text : List ℕ) → reads taken self.old text bytes.now →
+            IfErr result (λ fault. fails taken self.new fault text) };
+
+    /// How many bytes the beginning that is held back asks for. It only says how far to go before the next try: no
+    /// answer of it is wrong.
+    fn bytes_wanted(&self, held: &[u8]) -> usize;
+
+    /// What was read is the same when more bytes follow.
+    ghost goes_on: { (taken : Taken) (items : Self) (text rest more : List ℕ) → reads taken items text rest →
+        reads taken items (text ++ more) (rest ++ more) };
+
+    /// And in the bytes that end before the rest does.
+    ghost front: { (taken : Taken) (items : Self) (text a b : List ℕ) → reads taken items text (a ++ b) →
+        (front : List ℕ) × (front ++ b ≡ text) × reads taken items front a };
+
+    /// A fault stays one when more bytes follow.
+    ghost stays_failed: { (taken : Taken) (items : Self) (fault : Self.Fault) (text more : List ℕ) →
+        fails taken items fault text → fails taken items fault (text ++ more) };
+
+    /// A refused growth may come wherever something was read.
+    ghost refused: { (taken : Taken) (items : Self) (text rest : List ℕ) (memory : Memory) (fault : Self.Fault) →
+        Self.Fault.from_gives memory fault → reads taken items text rest → fails taken items fault text };
+}
