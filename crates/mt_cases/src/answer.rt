@@ -108,8 +108,9 @@ fn choose_from(alloc: Global, inputs: Inputs<DraftSource<'_>>) -> Result<Choice,
 /// The scans of all logs, in order; the first fault ends them.
 fn scan_all_logs(alloc: Global, logs: Vec<DraftSource<'_>>) -> Result<Vec<LogScan>, Fault> {
     let mut scans = Vec::new(alloc);
-    for (log, mut source) in logs.into_iter().enumerate() {
-        scans.push(scan_log(alloc, &mut source, log)?)?;
+    for source in logs {
+        let mut source = source;
+        scans.push(scan_log(alloc, &mut source, scans.len())?)?;
     }
     Ok(scans)
 }
@@ -117,8 +118,9 @@ fn scan_all_logs(alloc: Global, logs: Vec<DraftSource<'_>>) -> Result<Vec<LogSca
 /// The scans of all parts, in order; the first fault ends them.
 fn scan_all_parts(alloc: Global, parts: Vec<DraftSource<'_>>) -> Result<Vec<PartScan>, Fault> {
     let mut scans = Vec::new(alloc);
-    for (part, mut source) in parts.into_iter().enumerate() {
-        scans.push(scan_part(alloc, &mut source, part)?)?;
+    for source in parts {
+        let mut source = source;
+        scans.push(scan_part(alloc, &mut source, scans.len())?)?;
     }
     Ok(scans)
 }

@@ -157,12 +157,7 @@ fn change(alloc: Global, words: &[&str], bytes: &mut Vec<u8>) -> Result<(), Mist
 }
 
 /// Puts another byte in a place.
-fn put_byte(
-    alloc: Global,
-    place: &str,
-    value: &str,
-    bytes: &mut [u8],
-) -> Result<(), Mistake> {
+fn put_byte(alloc: Global, place: &str, value: &str, bytes: &mut [u8]) -> Result<(), Mistake> {
     let place = small_of::<usize>(place)?;
     let Some(byte) = bytes.get_mut(place) else {
         return Err(Mistake::Place);

@@ -183,11 +183,11 @@ no_head_read items taken text left none reads rest =
     let nothing = reads_nothing items taken text left none reads in
     let cut : IsCutHeader left = subst (λ (o : Option ℕ). IsLogLeft (option_map head_of o) left) none rest in
     λ head more is e.
-        let here = head_length cut.0.format cut.0.from in
-        let there = head_length head.format head.from in
-        let all = ap length cut.4 ∙ length-append left cut.1 in
-        let long = ap length (sym nothing.all ∙ e) ∙ length-append (head_bytes head) more in
-        omega (arith, here, there, all, long, cut.3)
+    let here = head_length cut.0.format cut.0.from in
+    let there = head_length head.format head.from in
+    let all = ap length cut.4 ∙ length-append left cut.1 in
+    let long = ap length (sym nothing.all ∙ e) ∙ length-append (head_bytes head) more in
+    omega (arith, here, there, all, long, cut.3)
 
 -- what was read with a header is a log
 pub text_read : (items : LogItems) (taken : List Logged) (text left : List ℕ) (from last : ℕ) (torn : Bool) → items.from ≡ Some from → HasReadItems taken items text left
