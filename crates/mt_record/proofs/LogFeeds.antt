@@ -19,16 +19,17 @@ use Rattle.mt_record.specs.Spelling.{spelling, body}
 use Rattle.mt_record.specs.Heads.{Head, IsHead, head_of, head_bytes, HasNoHeader}
 use Rattle.mt_record.specs.Logs.{latest, IsLog, LogReading, IsLast, IsTextAfter}
 use Rattle.mt_record.specs.LogFaults.{RestFault, HasFault, IsAnswered}
+use Rattle.mt_record.specs.Fronts.{BeginsAlike}
 use Rattle.mt_record.specs.Bodies.{IsNext}
 use Rattle.mt_record.specs.declared.feed.Feed.{Feed}
 use Rattle.mt_record.specs.Feeding.{Reads, ReadsStep, IsFedBy}
 use Rattle.mt_record.specs.LogFeeding.{FedLog, ShowsNoHeader, IsShown, ShowsNoFault, AreRead, HasRead, ReadsNoHeader, IsCutHeader, IsLeft, IsLogLeft, HasFailed, IsLogFed}
-use Rattle.mt_record.specs.LogPieces.{BeginsAlike, fed_log, head_in, HasReadItems, IsLeftOfItems, ReadsNext, IsNextFault}
+use Rattle.mt_record.specs.LogPieces.{fed_log, head_in, HasReadItems, IsLeftOfItems, ReadsNext, IsNextFault}
 use Rattle.mt_record.specs.LogLaws.{begins_by}
 use Rattle.mt_record.proofs.Records.{records_push, latest_push, spelled_push, last_is, tells_torn}
 use Rattle.mt_record.proofs.OneReading.{not_both}
 use Rattle.mt_record.proofs.Unique.{framed_apart}
-use Rattle.mt_record.proofs.Beginnings.{head_length, cut_header, part_alike}
+use Rattle.mt_record.proofs.Beginnings.{head_length, cut_front, part_alike}
 
 -- ---- what was read, by how far it came
 
@@ -57,8 +58,8 @@ header_failed items taken text bytes none reads shows =
     (subst ShowsNoHeader (sym nothing.all) shows, nothing.none)
 
 -- bytes that begin as a header does, and hold none, begin one
-pub header_cut : (items : LogItems) (bytes : List ℕ) → items.from ≡ None → BeginsAlike bytes → HasNoHeader bytes → IsLeftOfItems items bytes
-header_cut items bytes none alike no_head = subst (λ (o : Option ℕ). IsLogLeft (option_map head_of o) bytes) (sym none) (cut_header bytes alike no_head)
+pub header_cut : (items : LogItems) (bytes : List ℕ) → items.from ≡ None → BeginsAlike IsHead head_bytes bytes → HasNoHeader bytes → IsLeftOfItems items bytes
+header_cut items bytes none alike no_head = subst (λ (o : Option ℕ). IsLogLeft (option_map head_of o) bytes) (sym none) (cut_front IsHead head_bytes bytes alike no_head)
 
 -- a whole header is read
 pub header_read : (items : LogItems) (from : ℕ) (taken : List Logged) (text bytes after : List ℕ) → items.from ≡ None → HasReadItems taken items text bytes → IsHead (head_of from)
@@ -165,7 +166,7 @@ nothing_read items held from ready time count none =
     subst (λ (p : Option ℕ × List Logged × ℕ × ℕ × List ℕ). HasRead (option_map head_of p.0) p.1 p.2 p.3 [] p.4 × IsLogLeft (option_map head_of p.0) p.4)
     (λ i. (sym from i, sym ready i, sym time i, sym count i, sym none i)) (
       record { none = refl; latest = refl; whole = refl; all = refl },
-      cut_header [] (part_alike [] (codes "MTL1") refl) (λ head more is e. let whole = ap length e in omega (arith, whole, length-append (head_bytes head) more, head_length head.format head.from)),
+      cut_front IsHead head_bytes [] (part_alike [] (codes "MTL1") refl) (λ head more is e. let whole = ap length e in omega (arith, whole, length-append (head_bytes head) more, head_length head.format head.from)),
     )
 
 -- a feed that was fed nothing
@@ -267,27 +268,44 @@ abbrev pub IsFedItems : List Logged → LogItems → List ℕ → Option FeedFau
 IsFedItems taken items held fault text = IsFedBy (HasReadItems taken) IsLeftOfItems (λ items fault text. HasFailed fault text (taken ++ items.ready.items)) items held fault text
 
 -- is what is said of the feed of a log
-pub to_items : (items : LogItems) (held : List ℕ) (fault : Option FeedFault) (bytes : List ℕ) (taken : List Logged) → IsLogFed (fed_with items held fault) bytes taken
+to_items : (items : LogItems) (held : List ℕ) (fault : Option FeedFault) (bytes : List ℕ) (taken : List Logged) → IsLogFed (fed_with items held fault) bytes taken
     → IsFedItems taken items held fault bytes
 to_items items held None bytes taken fed = fed
 to_items items held (Some fault) bytes taken fed = fed
 
-pub from_items : (items : LogItems) (held : List ℕ) (fault : Option FeedFault) (bytes : List ℕ) (taken : List Logged) → IsFedItems taken items held fault bytes
+from_items : (items : LogItems) (held : List ℕ) (fault : Option FeedFault) (bytes : List ℕ) (taken : List Logged) → IsFedItems taken items held fault bytes
     → IsLogFed (fed_with items held fault) bytes taken
 from_items items held None bytes taken fed = fed
 from_items items held (Some fault) bytes taken fed = fed
 
 -- where a feed answers no fault, none is shown
-pub fed_ok : (items : LogItems) (held : List ℕ) (fault : Option FeedFault) (outcome : Result (Unit {0}) FeedFault) (bytes : List ℕ) (taken : List Logged)
+ok_shows_none : (items : LogItems) (held : List ℕ) (fault : Option FeedFault) (outcome : Result (Unit {0}) FeedFault) (bytes : List ℕ) (taken : List Logged)
     → IsFedItems taken items held fault bytes → OnOk outcome (fault ≡ None) → OnOk outcome (ShowsNoFault bytes)
-fed_ok items held fault (Ok u) bytes taken fed none =
+ok_shows_none items held fault (Ok u) bytes taken fed none =
     let read = subst (λ (o : Option FeedFault). IsFedItems taken items held o bytes) none fed in
     order_shows_none (head_in items) (taken ++ items.ready.items) items.latest items.whole bytes held read.0 read.1
-fed_ok items held fault (Err e) bytes taken fed none = tt
+ok_shows_none items held fault (Err e) bytes taken fed none = tt
 
 -- and where it answers one, that is
-pub fed_err : (items : LogItems) (held : List ℕ) (fault : Option FeedFault) (outcome : Result (Unit {0}) FeedFault) (bytes : List ℕ) (taken : List Logged)
+err_is_shown : (items : LogItems) (held : List ℕ) (fault : Option FeedFault) (outcome : Result (Unit {0}) FeedFault) (bytes : List ℕ) (taken : List Logged)
     → IsFedItems taken items held fault bytes → IfErr outcome (λ e. fault ≡ Some e) → IfErr outcome (IsShown bytes)
-fed_err items held fault (Ok u) bytes taken fed kept = tt
-fed_err items held fault (Err e) bytes taken fed kept =
+err_is_shown items held fault (Ok u) bytes taken fed kept = tt
+err_is_shown items held fault (Err e) bytes taken fed kept =
     failed_shown e bytes (taken ++ items.ready.items) (subst (λ (o : Option FeedFault). IsFedItems taken items held o bytes) kept fed)
+
+-- what a feed was fed after a piece, and what its answer says
+pub record AfterPiece (feed : FedLog) (outcome : Result (Unit {0}) FeedFault) (bytes : List ℕ) (taken : List Logged) : Type 0 where
+  pub fed : IsLogFed feed bytes taken
+  pub ok : OnOk outcome (ShowsNoFault bytes)
+  pub fault : IfErr outcome (IsShown bytes)
+
+pub after_piece : (old new : Feed LogItems FeedFault) (view : FedLog) (outcome : Result (Unit {0}) FeedFault) (bytes piece : List ℕ) (taken : List Logged) → fed_log old ≡ view
+    → IsLogFed view bytes taken → (IsFedItems taken old.items old.held.items old.fault bytes → IsFedItems taken new.items new.held.items new.fault (bytes ++ piece))
+    → OnOk outcome (new.fault ≡ None) → IfErr outcome (λ e. new.fault ≡ Some e) → AfterPiece (fed_log new) outcome (bytes ++ piece) taken
+after_piece old new view outcome bytes piece taken same fed step sound kept =
+    let after = step (to_items old.items old.held.items old.fault bytes taken (subst (λ (f : FedLog). IsLogFed f bytes taken) (sym same) fed)) in
+    record {
+      fed = from_items new.items new.held.items new.fault (bytes ++ piece) taken after;
+      ok = ok_shows_none new.items new.held.items new.fault outcome (bytes ++ piece) taken after sound;
+      fault = err_is_shown new.items new.held.items new.fault outcome (bytes ++ piece) taken after kept;
+    }

@@ -1,18 +1,15 @@
 -- The beginning of a part: a header, or bytes that begin one.
-use Rattle.std.proofs.Common.{◌≡◌, ◌⊎◌, inl, inr, ℕ, ◌-◌, ◌^◌, ◌<◌, ◌≤◌, List, [], ◌∷◌, ◌++◌, length, take, drop, replicate, sym, ap, ◌∙◌, subst, append_assoc, arith}
+use Rattle.std.proofs.Common.{◌≡◌, ◌⊎◌, inl, inr, ℕ, ◌-◌, ◌^◌, ◌<◌, ◌≤◌, List, ◌++◌, length, take, drop, replicate, refl, sym, ap, ◌∙◌, subst, append_assoc, arith}
 use Rattle.std.proofs.lemmas.Bool.{cases_lt}
-use Rattle.std.proofs.lemmas.List.{length-append, append-nil, take-append-drop, length-take-le, length-drop, length-replicate}
+use Rattle.std.proofs.lemmas.List.{length-append, take-append-drop, length-take-le, length-drop, length-replicate}
 use Rattle.std.proofs.lemmas.Nat.{be_bytes_2, be_bytes_4}
 use Rattle.std.specs.Prelude.{codes}
 use Rattle.byteorder.specs.Endian.{big_bytes, big_from}
 use Rattle.byteorder.specs.Numbers.{big_from-lt}
 use Rattle.mt_record.specs.declared.part_text.PartHead.{PartHead}
 use Rattle.mt_record.specs.Parts.{part_head, part_head_bytes, IsPartHead}
-use Rattle.mt_record.specs.PartFaults.{HasNoPartHeader}
-use Rattle.mt_record.specs.PartFeeding.{ShowsNoPartHeader, IsCutHeader}
-use Rattle.mt_record.specs.PartPieces.{BeginsAlikePart}
+use Rattle.mt_record.specs.Fronts.{GoTogether, BeginsAlike}
 use Rattle.mt_record.proofs.Beginnings.{AreBytes, bytes_front, bytes_back, bytes_padded, eight}
-use Rattle.mt_record.specs.MoreBytes.{apart}
 
 -- ---- sixteen bytes are the numbers of a header
 
@@ -57,7 +54,7 @@ sixteen xs long small =
 -- ---- bytes that begin as a header does
 
 -- bytes behind the magic number begin the numbers of a header, or these begin them
-tail_alike : (bytes tail : List ℕ) → bytes ≡ codes "MTC1" ++ tail → AreBytes tail → (16 ≤ length tail) ⊎ (length tail < 16) → BeginsAlikePart bytes
+tail_alike : (bytes tail : List ℕ) → bytes ≡ codes "MTC1" ++ tail → AreBytes tail → (16 ≤ length tail) ⊎ (length tail < 16) → BeginsAlike IsPartHead part_head_bytes bytes
 tail_alike bytes tail e small (inl long) =
     let split = cut 16 tail long small in
     let head = sixteen (take 16 tail) split.0 split.2 in
@@ -76,48 +73,28 @@ tail_alike bytes tail e small (inr short) =
       alike = inl (zeros, head.2 ∙ ap (λ (x : List ℕ). x ++ zeros) (sym e));
     }
 
--- bytes that begin with the magic number begin as a header does
-pub magic_alike : (bytes : List ℕ) → bytes ≡ codes "MTC1" ++ drop 4 bytes → AreBytes bytes → BeginsAlikePart bytes
-magic_alike bytes e small =
-    let tail = bytes_back (codes "MTC1") (drop 4 bytes) (subst AreBytes e small) in
-    elim (cases_lt (length (drop 4 bytes)) 16) as (λ _. BeginsAlikePart bytes) [
-      | inl short ↦ tail_alike bytes (drop 4 bytes) e tail (inr short)
-      | inr long ↦ tail_alike bytes (drop 4 bytes) e tail (inl long)
-    ]
-
 -- the numbers of a header
 abbrev numbers : PartHead → List ℕ
 numbers head = big_bytes 4 head.number ++ (big_bytes 8 head.begin ++ (big_bytes 2 head.part ++ big_bytes 2 head.parts))
 
 -- bytes that begin the magic number begin as a header does
-pub part_alike : (bytes more : List ℕ) → codes "MTC1" ≡ bytes ++ more → BeginsAlikePart bytes
+pub part_alike : (bytes more : List ℕ) → codes "MTC1" ≡ bytes ++ more → BeginsAlike IsPartHead part_head_bytes bytes
 part_alike bytes more e = record {
   head = part_head 0 0 0 0;
   is_head = record { number = omega arith; begin = omega arith; part = omega arith; parts = omega arith };
   alike = inl (more ++ numbers (part_head 0 0 0 0), ap (λ (x : List ℕ). x ++ numbers (part_head 0 0 0 0)) e ∙ append_assoc bytes more (numbers (part_head 0 0 0 0)));
 }
 
--- bytes that neither begin with the magic number nor begin it show that there is no header
-pub none_alike : (bytes : List ℕ) → ((more : List ℕ) → bytes ≡ codes "MTC1" ++ more → ⊥) → ((more : List ℕ) → codes "MTC1" ≡ bytes ++ more → ⊥)
-    → ShowsNoPartHeader bytes
-none_alike bytes not_magic not_part = (
-  λ head more is e. not_magic (numbers head ++ more) (e ∙ append_assoc (codes "MTC1") (numbers head) more),
-  λ head more is e. elim (apart (codes "MTC1") bytes (numbers head ++ []) more (ap (λ (x : List ℕ). codes "MTC1" ++ x) (append-nil (numbers head)) ∙ e)) as (λ _. ⊥) [
-    | inl u ↦ not_part u.0 u.1
-    | inr u ↦ not_magic u.0 u.1
-  ],
-)
+-- bytes that go with the magic number begin as a header does
+pub part_goes_alike : (bytes : List ℕ) → GoTogether (codes "MTC1") bytes → AreBytes bytes → BeginsAlike IsPartHead part_head_bytes bytes
+part_goes_alike bytes (inl u) small = part_alike bytes u.0 u.1
+part_goes_alike bytes (inr u) small =
+    let tail = bytes_back (codes "MTC1") u.0 (subst AreBytes u.1 small) in
+    elim (cases_lt (length u.0) 16) as (λ _. BeginsAlike IsPartHead part_head_bytes bytes) [
+      | inl short ↦ tail_alike bytes u.0 u.1 tail (inr short)
+      | inr long ↦ tail_alike bytes u.0 u.1 tail (inl long)
+    ]
 
--- ---- the header
-
--- a header that does not begin the bytes lacks some
-lacks : (head : PartHead) (bytes more : List ℕ) → IsPartHead head → HasNoPartHeader bytes → part_head_bytes head ≡ bytes ++ more → 0 < length more
-lacks head bytes [] is none e = absurd (none head [] is (sym (append-nil bytes) ∙ sym e ∙ sym (append-nil (part_head_bytes head))))
-lacks head bytes (x ∷ more) is none e = omega arith
-
--- bytes that begin as a header does, and hold none, begin one
-pub cut_header : (bytes : List ℕ) → BeginsAlikePart bytes → HasNoPartHeader bytes → IsCutHeader bytes
-cut_header bytes alike none = elim alike.alike as (λ _. IsCutHeader bytes) [
-  | inl u ↦ (alike.head, u.0, alike.is_head, lacks alike.head bytes u.0 alike.is_head none u.1, u.1)
-  | inr u ↦ absurd (none alike.head u.0 alike.is_head u.1)
-]
+-- a header begins with the magic number
+pub part_magic : (head : PartHead) → (rest : List ℕ) × (part_head_bytes head ≡ codes "MTC1" ++ rest)
+part_magic head = (numbers head, refl)

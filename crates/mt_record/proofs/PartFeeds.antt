@@ -16,11 +16,11 @@ abbrev pub IsFedItems : PartItems → List ℕ → Option PartFault → List ℕ
 IsFedItems items held fault text = IsFedBy (HasReadItems tt) IsLeftOfItems (λ _ fault text. IsPartShown text fault) items held fault text
 
 -- is what is said of the feed of a part
-pub to_items : (s : PartItems) (held : List ℕ) (fault : Option PartFault) (bytes : List ℕ) → IsPartFed (record { so_far = so_far s; held = held; fault = fault }) bytes → IsFedItems s held fault bytes
+to_items : (s : PartItems) (held : List ℕ) (fault : Option PartFault) (bytes : List ℕ) → IsPartFed (record { so_far = so_far s; held = held; fault = fault }) bytes → IsFedItems s held fault bytes
 to_items s held None bytes fed = fed
 to_items s held (Some fault) bytes fed = fed
 
-pub from_items : (s : PartItems) (held : List ℕ) (fault : Option PartFault) (bytes : List ℕ) → IsFedItems s held fault bytes → IsPartFed (record { so_far = so_far s; held = held; fault = fault }) bytes
+from_items : (s : PartItems) (held : List ℕ) (fault : Option PartFault) (bytes : List ℕ) → IsFedItems s held fault bytes → IsPartFed (record { so_far = so_far s; held = held; fault = fault }) bytes
 from_items s held None bytes fed = fed
 from_items s held (Some fault) bytes fed = fed
 
@@ -47,15 +47,32 @@ fed_on feed fault bytes more e fed =
     subst (λ (o : Option PartFault). IsPartFed (record feed { fault = o }) (bytes ++ more)) (sym e) (failed_on feed fault bytes more e fed)
 
 -- where a feed answers no fault, none is shown
-pub fed_ok : (s : PartItems) (held : List ℕ) (fault : Option PartFault) (outcome : Result (Unit {0}) PartFault) (bytes : List ℕ) → IsFedItems s held fault bytes
+ok_shows_none : (s : PartItems) (held : List ℕ) (fault : Option PartFault) (outcome : Result (Unit {0}) PartFault) (bytes : List ℕ) → IsFedItems s held fault bytes
     → OnOk outcome (fault ≡ None) → OnOk outcome (ShowsNoPartFault bytes)
-fed_ok s held fault (Ok u) bytes fed none =
+ok_shows_none s held fault (Ok u) bytes fed none =
     let read = subst (λ (o : Option PartFault). IsFedItems s held o bytes) none fed in
     order_shows_none (so_far s) bytes held read.0 read.1
-fed_ok s held fault (Err e) bytes fed none = tt
+ok_shows_none s held fault (Err e) bytes fed none = tt
 
 -- and where it answers one, that is
-pub fed_err : (s : PartItems) (held : List ℕ) (fault : Option PartFault) (outcome : Result (Unit {0}) PartFault) (bytes : List ℕ) → IsFedItems s held fault bytes
+err_is_shown : (s : PartItems) (held : List ℕ) (fault : Option PartFault) (outcome : Result (Unit {0}) PartFault) (bytes : List ℕ) → IsFedItems s held fault bytes
     → IfErr outcome (λ e. fault ≡ Some e) → IfErr outcome (IsPartShown bytes)
-fed_err s held fault (Ok u) bytes fed kept = tt
-fed_err s held fault (Err e) bytes fed kept = subst (λ (o : Option PartFault). IsFedItems s held o bytes) kept fed
+err_is_shown s held fault (Ok u) bytes fed kept = tt
+err_is_shown s held fault (Err e) bytes fed kept = subst (λ (o : Option PartFault). IsFedItems s held o bytes) kept fed
+
+-- what a feed was fed after a piece, and what its answer says
+pub record AfterPiece (feed : FedPart) (outcome : Result (Unit {0}) PartFault) (bytes : List ℕ) : Type 0 where
+  pub fed : IsPartFed feed bytes
+  pub ok : OnOk outcome (ShowsNoPartFault bytes)
+  pub fault : IfErr outcome (IsPartShown bytes)
+
+pub after_piece : (old new : Feed PartItems PartFault) (view : FedPart) (outcome : Result (Unit {0}) PartFault) (bytes piece : List ℕ) → fed_part old ≡ view → IsPartFed view bytes
+    → (IsFedItems old.items old.held.items old.fault bytes → IsFedItems new.items new.held.items new.fault (bytes ++ piece)) → OnOk outcome (new.fault ≡ None)
+    → IfErr outcome (λ e. new.fault ≡ Some e) → AfterPiece (fed_part new) outcome (bytes ++ piece)
+after_piece old new view outcome bytes piece same fed step sound kept =
+    let after = step (to_items old.items old.held.items old.fault bytes (subst (λ (f : FedPart). IsPartFed f bytes) (sym same) fed)) in
+    record {
+      fed = from_items new.items new.held.items new.fault (bytes ++ piece) after;
+      ok = ok_shows_none new.items new.held.items new.fault outcome (bytes ++ piece) after sound;
+      fault = err_is_shown new.items new.held.items new.fault outcome (bytes ++ piece) after kept;
+    }

@@ -23,10 +23,12 @@ use Rattle.mt_record.specs.Bodies.{IsFrame, IsFrameFault}
 use Rattle.mt_record.specs.Parts.{part_head_bytes, IsPartHead, entry_spelling, footer_bytes, part_bytes, IsEntryLength}
 use Rattle.mt_record.specs.PartFaults.{BeginsPart, HasNoPartHeader}
 use Rattle.mt_record.specs.PartFeeding.{ShowsNoPartHeader, HasWrongEntry, ShowsNoPart, ShowsBroken, IsPartShown, PartSoFar, ReadsNothing, ReadsPart, ReadsUpTo, IsPartLeft}
-use Rattle.mt_record.specs.PartPieces.{BeginsAlikePart, IsTextFault, so_far}
+use Rattle.mt_record.specs.PartPieces.{IsTextFault, so_far}
+use Rattle.mt_record.specs.Fronts.{BeginsAlike}
 use Rattle.mt_record.proofs.Unique.{same_split, same_number}
 use Rattle.mt_record.proofs.Entries.{entry_length, short_entry}
-use Rattle.mt_record.proofs.PartBeginnings.{cut_header, part_alike}
+use Rattle.mt_record.proofs.Beginnings.{cut_front}
+use Rattle.mt_record.proofs.PartBeginnings.{part_alike}
 
 -- ---- what was read, by how far it came
 
@@ -49,9 +51,9 @@ pub header_failed : (s : PartSoFar) (part bytes : List ℕ) → s.head ≡ None 
 header_failed s part bytes none reads shows = subst ShowsNoPartHeader (sym (reads_nothing s part bytes none reads).all) shows
 
 -- bytes that begin as a header does, and hold none, begin one
-pub header_cut : (s : PartSoFar) (bytes : List ℕ) → s.head ≡ None → BeginsAlikePart bytes → HasNoPartHeader bytes → IsPartLeft s bytes
+pub header_cut : (s : PartSoFar) (bytes : List ℕ) → s.head ≡ None → BeginsAlike IsPartHead part_head_bytes bytes → HasNoPartHeader bytes → IsPartLeft s bytes
 header_cut s bytes none alike no_head =
-    subst (λ (o : Option PartHead). IsPartLeft (record s { head = o }) bytes) (sym none) (cut_header bytes alike no_head)
+    subst (λ (o : Option PartHead). IsPartLeft (record s { head = o }) bytes) (sym none) (cut_front IsPartHead part_head_bytes bytes alike no_head)
 
 -- a whole header is read
 pub header_read : (s : PartSoFar) (part bytes after : List ℕ) (head : PartHead) → s.head ≡ None → ReadsUpTo s part bytes → IsPartHead head
@@ -230,5 +232,5 @@ nothing_read reader held head entries end none =
     let start : (record { head = None; entries = []; end = None }) ≡ so_far reader = λ i. record { head = sym head i; entries = sym entries i; end = sym end i } in
     subst (λ (p : PartSoFar × List ℕ). ReadsUpTo p.0 [] p.1 × IsPartLeft p.0 p.1) (λ i. (start i, sym none i)) (
       record { none = refl; no_end = refl; all = refl },
-      cut_header [] (part_alike [] (codes "MTC1") refl) (λ other more is e. let whole = ap length e in omega (arith, whole)),
+      cut_front IsPartHead part_head_bytes [] (part_alike [] (codes "MTC1") refl) (λ other more is e. let whole = ap length e in omega (arith, whole)),
     )

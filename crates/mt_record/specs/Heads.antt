@@ -1,8 +1,9 @@
 -- Headers of logs.
-use Rattle.std.specs.Prelude.{◌≢◌, ℕ, ◌<◌, ◌^◌, List, ◌++◌, codes}
+use Rattle.std.specs.Prelude.{ℕ, ◌<◌, ◌^◌, List, ◌++◌, codes}
 use Rattle.byteorder.specs.Endian.{big_bytes}
 use Rattle.mt_words.specs.declared.limits.Format.{Format}
 use Rattle.mt_words.specs.declared.limits.Format.TheVariants.{One}
+use Rattle.mt_record.specs.Fronts.{HasNone}
 
 -- the format of a log; updates below `from` may be missing from it
 pub record Head : Type 0 where
@@ -23,4 +24,4 @@ IsHead head = head.from < 2 ^ 64
 
 -- no header begins the bytes
 abbrev pub HasNoHeader : List ℕ → Type 0
-HasNoHeader bytes = (head : Head) (more : List ℕ) → IsHead head → bytes ≢ head_bytes head ++ more
+HasNoHeader bytes = HasNone IsHead head_bytes bytes

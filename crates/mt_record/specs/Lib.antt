@@ -1,4 +1,5 @@
 pub mod Spelling
+pub mod Fronts
 pub mod Heads
 pub mod Logs
 pub mod LogFaults

@@ -1,18 +1,19 @@
 -- A log in pieces: what a feed has read, and which faults the bytes so far show.
-use Rattle.std.specs.Prelude.{◌≡◌, ◌≢◌, ℕ, ◌<◌, ◌⊎◌, Option, Some, None, List, [], ◌∷◌, ◌++◌, length}
+use Rattle.std.specs.Prelude.{◌≡◌, ℕ, ◌⊎◌, Option, Some, None, List, [], ◌∷◌, ◌++◌}
 use Rattle.std.specs.List.{flat_map}
 use Rattle.mt_words.specs.Limits.{Limits, limits_of}
 use Rattle.mt_words.specs.Changes.{Logged}
 use Rattle.mt_record.specs.declared.read.FeedFault.{FeedFault}
 use Rattle.mt_record.specs.declared.read.FeedFault.TheVariants as faults
 use Rattle.mt_record.specs.Spelling.{spelling}
-use Rattle.mt_record.specs.Heads.{Head, IsHead, head_bytes, HasNoHeader}
+use Rattle.mt_record.specs.Fronts.{ShowsNone, IsCutFront}
+use Rattle.mt_record.specs.Heads.{Head, IsHead, head_bytes}
 use Rattle.mt_record.specs.Logs.{AreRecords, latest, IsTorn, count_of}
 use Rattle.mt_record.specs.LogFaults.{HasFault, IsLogFault}
 
 -- bytes that are no header's, nor the beginning of one
 abbrev pub ShowsNoHeader : List ℕ → Type 0
-ShowsNoHeader bytes = HasNoHeader bytes × ((head : Head) (more : List ℕ) → IsHead head → head_bytes head ≢ bytes ++ more)
+ShowsNoHeader bytes = ShowsNone IsHead head_bytes bytes
 
 -- the bytes so far show the fault, however they go on
 abbrev pub ShowsFault : List ℕ → FeedFault → Type 0
@@ -64,7 +65,7 @@ HasRead (Some head) records time count bytes rest = AreRead head records time co
 
 -- the beginning of a header
 abbrev pub IsCutHeader : List ℕ → Type 0
-IsCutHeader rest = (head : Head) × (more : List ℕ) × IsHead head × (0 < length more) × (head_bytes head ≡ rest ++ more)
+IsCutHeader rest = IsCutFront IsHead head_bytes rest
 
 -- a rest from which nothing more can be read, and which shows no fault
 abbrev pub IsLogLeft : Option Head → List ℕ → Type 0

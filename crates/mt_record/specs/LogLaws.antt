@@ -1,5 +1,5 @@
 -- What was read of a log and which faults it shows, when more bytes follow: the laws that its items owe. No definition stands here.
-use Rattle.std.proofs.Common.{◌≡◌, inl, inr, ℕ, Option, Some, None, List, [], ◌∷◌, ◌++◌, length, refl, sym, ap, ◌∙◌, subst, append_assoc}
+use Rattle.std.proofs.Common.{◌≡◌, ℕ, Option, Some, None, List, [], ◌∷◌, ◌++◌, length, refl, sym, ap, ◌∙◌, subst, append_assoc}
 use Rattle.std.specs.List.{flat_map}
 use Rattle.byteorder.specs.Endian.{big_bytes}
 use Rattle.mt_words.specs.declared.fault.What.{What}
@@ -9,11 +9,11 @@ use Rattle.mt_words.specs.Changes.{Logged}
 use Rattle.mt_record.specs.declared.read.FeedFault.{FeedFault}
 use Rattle.mt_record.specs.declared.read.FeedFault.TheVariants as faults
 use Rattle.mt_record.specs.Spelling.{framed, spelling}
-use Rattle.mt_record.specs.Heads.{Head, head_bytes}
+use Rattle.mt_record.specs.Heads.{Head, IsHead, head_bytes}
 use Rattle.mt_record.specs.Logs.{latest}
 use Rattle.mt_record.specs.LogFaults.{RestFault, HasFault}
-use Rattle.mt_record.specs.MoreBytes.{apart, spelled_on}
-use Rattle.mt_record.specs.LogFeeding.{ShowsNoHeader, AreRead, HasRead, BeginLog, HasFailed}
+use Rattle.mt_record.specs.MoreBytes.{spelled_on, shows_none_on}
+use Rattle.mt_record.specs.LogFeeding.{AreRead, HasRead, BeginLog, HasFailed}
 
 -- a framed body with a fault begins longer bytes too
 framed_on : (rest text after more : List ℕ) → rest ≡ framed text ++ after → rest ++ more ≡ framed text ++ (after ++ more)
@@ -47,16 +47,6 @@ has_fault_on bytes more records what h = record {
   fault = rest_fault_on what (limits_of h.head.format) (latest 0 records) h.rest more h.fault;
 }
 
--- bytes that begin no header begin none when more bytes follow
-pub no_header_on : (bytes more : List ℕ) → ShowsNoHeader bytes → ShowsNoHeader (bytes ++ more)
-no_header_on bytes more h = (
-  λ head after is e. elim (apart bytes (head_bytes head) more after e) as (λ _. ⊥) [
-    | inl u ↦ h.0 head u.0 is u.1
-    | inr u ↦ h.1 head u.0 is u.1
-  ],
-  λ head after is e. h.1 head (more ++ after) is (e ∙ append_assoc bytes more after),
-)
-
 -- records that begin a log begin it when more bytes follow
 begin_log_on : (bytes more : List ℕ) (records : List Logged) → BeginLog bytes records → BeginLog (bytes ++ more) records
 begin_log_on bytes more [] h = tt
@@ -65,7 +55,7 @@ begin_log_on bytes more (r ∷ rs) h =
 
 -- a feed that failed has failed when more bytes follow
 pub failed_on : (fault : FeedFault) (bytes more : List ℕ) (records : List Logged) → HasFailed fault bytes records → HasFailed fault (bytes ++ more) records
-failed_on faults.Header bytes more records h = (no_header_on bytes more h.0, h.1)
+failed_on faults.Header bytes more records h = (shows_none_on IsHead head_bytes bytes more h.0, h.1)
 failed_on (faults.Record nth what) bytes more records h = (has_fault_on bytes more records what h.0, h.1)
 failed_on faults.Memory bytes more records h = begin_log_on bytes more records h
 

@@ -1,5 +1,5 @@
 -- What the steps of reading a log in pieces give.
-use Rattle.std.specs.Prelude.{◌≡◌, ◌⊎◌, ℕ, ◌+◌, ◌-◌, ◌^◌, min, Option, List, [], ◌∷◌, ◌++◌}
+use Rattle.std.specs.Prelude.{◌≡◌, ℕ, ◌+◌, ◌-◌, ◌^◌, min, Option, List, [], ◌∷◌, ◌++◌}
 use Rattle.std.specs.Option.{option_map}
 use Rattle.mt_words.specs.declared.limits.Format.TheVariants.{One}
 use Rattle.mt_words.specs.Limits.{limits_of}
@@ -8,16 +8,10 @@ use Rattle.mt_record.specs.declared.read.FeedFault.{FeedFault}
 use Rattle.mt_record.specs.declared.read.FeedFault.TheVariants as faults
 use Rattle.mt_record.specs.declared.log_items.LogItems.{LogItems}
 use Rattle.mt_record.specs.declared.feed.Feed.{Feed}
-use Rattle.mt_record.specs.Heads.{Head, IsHead, head_of, head_bytes}
+use Rattle.mt_record.specs.Heads.{Head, head_of}
 use Rattle.mt_record.specs.LogFaults.{RestFault}
 use Rattle.mt_record.specs.Bodies.{IsNext}
 use Rattle.mt_record.specs.LogFeeding.{FedLog, HasRead, IsLogLeft}
-
--- a header begins as the bytes do: with all of them, or with as many as it has
-pub record BeginsAlike (bytes : List ℕ) : Type 0 where
-  pub head : Head
-  pub is_head : IsHead head
-  pub alike : ((more : List ℕ) × (head_bytes head ≡ bytes ++ more)) ⊎ ((more : List ℕ) × (bytes ≡ head_bytes head ++ more))
 
 -- one record more was read
 pub record HasOneMore (old : LogItems) (r : Logged) (new : LogItems) : Type 0 where

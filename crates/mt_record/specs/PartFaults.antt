@@ -1,5 +1,5 @@
 -- The one fault of bytes that are no part of a checkpoint.
-use Rattle.std.specs.Prelude.{◌≡◌, ◌≢◌, ℕ, List, ◌++◌, length}
+use Rattle.std.specs.Prelude.{◌≡◌, ℕ, List, ◌++◌, length}
 use Rattle.std.specs.List.{flat_map, AllByRecursion}
 use Rattle.mt_words.specs.declared.limits.Format.TheVariants.{One}
 use Rattle.mt_words.specs.declared.record.Change.{Change}
@@ -8,15 +8,16 @@ use Rattle.mt_words.specs.Changes.{IsEntry}
 use Rattle.mt_record.specs.declared.part_text.PartHead.{PartHead}
 use Rattle.mt_record.specs.declared.part_text.PartFault.{PartFault}
 use Rattle.mt_record.specs.declared.part_text.PartFault.TheVariants as faults
+use Rattle.mt_record.specs.Fronts.{HasNone}
 use Rattle.mt_record.specs.Parts.{part_head_bytes, IsPartHead, entry_spelling, PartReading, IsPartReading}
 
 -- no header of a part begins the bytes
 abbrev pub HasNoPartHeader : List ℕ → Type 0
-HasNoPartHeader bytes = (head : PartHead) (more : List ℕ) → IsPartHead head → bytes ≢ part_head_bytes head ++ more
+HasNoPartHeader bytes = HasNone IsPartHead part_head_bytes bytes
 
 -- no entry begins the bytes
 abbrev pub HasNoEntry : List ℕ → Type 0
-HasNoEntry bytes = (entry : Change) (more : List ℕ) → IsEntry (limits_of One) entry → bytes ≢ entry_spelling entry ++ more
+HasNoEntry bytes = HasNone (IsEntry (limits_of One)) entry_spelling bytes
 
 -- the bytes begin with a header and these whole entries, and the rest follows
 pub record BeginsPart (bytes : List ℕ) (head : PartHead) (entries : List Change) (rest : List ℕ) : Type 0 where

@@ -10,13 +10,14 @@ use Rattle.mt_record.specs.declared.part_text.PartFault.{PartFault}
 use Rattle.mt_record.specs.declared.part_text.PartFault.TheVariants as faults
 use Rattle.mt_record.specs.Logs.{IsCut}
 use Rattle.mt_record.specs.Parts.{part_head_bytes, IsPartHead, entry_spelling, footer_bytes, IsEntryLength, IsPart}
-use Rattle.mt_record.specs.PartFaults.{HasNoPartHeader, BeginsPart}
+use Rattle.mt_record.specs.Fronts.{ShowsNone, IsCutFront}
+use Rattle.mt_record.specs.PartFaults.{BeginsPart}
 
 -- ---- faults that are shown
 
 -- bytes that are no header's, nor the beginning of one
 abbrev pub ShowsNoPartHeader : List ℕ → Type 0
-ShowsNoPartHeader bytes = HasNoPartHeader bytes × ((head : PartHead) (more : List ℕ) → IsPartHead head → part_head_bytes head ≢ bytes ++ more)
+ShowsNoPartHeader bytes = ShowsNone IsPartHead part_head_bytes bytes
 
 -- the bytes begin with a length that is neither zero nor that of an entry
 abbrev pub HasWrongLength : List ℕ → Type 0
@@ -95,7 +96,7 @@ ReadsUpTo so_far bytes rest = by so_far.head so_far.end
 
 -- the beginning of a header
 abbrev pub IsCutHeader : List ℕ → Type 0
-IsCutHeader rest = (head : PartHead) × (more : List ℕ) × IsPartHead head × (0 < length more) × (part_head_bytes head ≡ rest ++ more)
+IsCutHeader rest = IsCutFront IsPartHead part_head_bytes rest
 
 -- the beginning of an entry, of which no more than the length is looked at, or that of a footer
 abbrev pub IsCutItem : List ℕ → Type 0

@@ -6,9 +6,9 @@ use Rattle.mt_words.specs.declared.record.Change.{Change}
 use Rattle.mt_record.specs.declared.part_text.PartHead.{PartHead}
 use Rattle.mt_record.specs.declared.part_text.PartFault.{PartFault}
 use Rattle.mt_record.specs.declared.part_text.PartFault.TheVariants as faults
-use Rattle.mt_record.specs.Parts.{part_head_bytes, entry_spelling, footer_bytes}
-use Rattle.mt_record.specs.PartFeeding.{ShowsNoPartHeader, ShowsNoPart, IsPartShown, PartSoFar, ReadsUpTo}
-use Rattle.mt_record.specs.MoreBytes.{apart, spelled_on, behind_on}
+use Rattle.mt_record.specs.Parts.{part_head_bytes, IsPartHead, entry_spelling, footer_bytes}
+use Rattle.mt_record.specs.PartFeeding.{ShowsNoPart, IsPartShown, PartSoFar, ReadsUpTo}
+use Rattle.mt_record.specs.MoreBytes.{spelled_on, behind_on, shows_none_on}
 
 -- ---- what was read
 
@@ -48,16 +48,6 @@ reads_front s part a b h = front_by s.head s.end s.entries part a b h
 
 -- ---- faults
 
--- bytes that begin no header begin none when more bytes follow
-no_header_on : (bytes more : List ℕ) → ShowsNoPartHeader bytes → ShowsNoPartHeader (bytes ++ more)
-no_header_on bytes more h = (
-  λ head after is e. elim (apart bytes (part_head_bytes head) more after e) as (λ _. ⊥) [
-    | inl u ↦ h.0 head u.0 is u.1
-    | inr u ↦ h.1 head u.0 is u.1
-  ],
-  λ head after is e. h.1 head (more ++ after) is (e ∙ append_assoc bytes more after),
-)
-
 -- a fault behind entries stays one
 no_part_on : (count : ℕ) (rest more : List ℕ) → ShowsNoPart count rest → ShowsNoPart count (rest ++ more)
 no_part_on count rest more (inl h) = inl (h.0, h.1 ++ more, h.2, h.3, h.4, behind_on (big_bytes 4 h.0) rest h.1 more h.5)
@@ -67,7 +57,7 @@ no_part_on count rest more (inr (inr (inr h))) = inr (inr (inr (h.0, h.1, h.2 ++
 
 -- a fault that is shown is shown when more bytes follow
 pub shown_on : (fault : PartFault) (bytes more : List ℕ) → IsPartShown bytes fault → IsPartShown (bytes ++ more) fault
-shown_on faults.Header bytes more h = no_header_on bytes more h
+shown_on faults.Header bytes more h = shows_none_on IsPartHead part_head_bytes bytes more h
 shown_on (faults.Broken number entries) bytes more h = record {
   head = h.head;
   entries = h.entries;

@@ -1,5 +1,5 @@
 -- What the steps of reading a part in pieces give.
-use Rattle.std.specs.Prelude.{◌≡◌, ◌≢◌, ◌⊎◌, List, ℕ, [], ◌∷◌, ◌++◌, length}
+use Rattle.std.specs.Prelude.{◌≡◌, ◌≢◌, List, ℕ, [], ◌∷◌, ◌++◌, length}
 use Rattle.mt_words.specs.declared.record.Change.{Change}
 use Rattle.mt_words.specs.declared.limits.Format.TheVariants.{One}
 use Rattle.mt_words.specs.Limits.{limits_of}
@@ -10,16 +10,8 @@ use Rattle.mt_record.specs.declared.part_items.PartItems.{PartItems}
 use Rattle.mt_record.specs.declared.feed.Feed.{Feed}
 use Rattle.mt_record.specs.declared.part_text.PartFault.{PartFault}
 use Rattle.mt_record.specs.declared.part_text.PartFault.TheVariants as of_part
-use Rattle.mt_record.specs.declared.part_text.PartHead.{PartHead}
 use Rattle.mt_record.specs.Spelling.{change_bytes}
-use Rattle.mt_record.specs.Parts.{part_head_bytes, IsPartHead}
 use Rattle.mt_record.specs.PartFeeding.{PartSoFar, FedPart, ReadsUpTo, IsPartLeft}
-
--- a header begins as the bytes do: with all of them, or with as many as it has
-pub record BeginsAlikePart (bytes : List ℕ) : Type 0 where
-  pub head : PartHead
-  pub is_head : IsPartHead head
-  pub alike : ((more : List ℕ) × (part_head_bytes head ≡ bytes ++ more)) ⊎ ((more : List ℕ) × (bytes ≡ part_head_bytes head ++ more))
 
 -- the bytes are the fields of this entry
 pub record IsEntryText (bytes : List ℕ) (entry : Change) : Type 0 where

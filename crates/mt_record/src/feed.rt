@@ -1,5 +1,5 @@
 //! A text in pieces.
-ghost use Rattle.std.specs.Prelude.{◌≡◌, ◌<◌, ◌≤◌, ◌++◌, [], List, ℕ, Some, None, Err, length, drop, IsSome, IfOk, IfErr, OnOk};
+ghost use Rattle.std.specs.Prelude.{◌≡◌, ◌<◌, ◌≤◌, ◌++◌, [], ◌∷◌, List, ℕ, Some, None, Err, length, drop, IsSome, IfOk, IfErr, OnOk, OnErr};
 ghost use Rattle.mt_record.specs.Feeding.{HoldsUpTo, still_to_do, Reads, AreRead, IsFedBy, Tops};
 
 use crate::items::Items;
@@ -118,6 +118,14 @@ fn append(held: &mut Vec<u8>, bytes: &[u8]) -> Result<(), Memory>
     ensures { OnOk result (held.new.items ≡ held.old.items ++ bytes.now) }
 {
     Ok(held.extend_from_slice(bytes)?)
+}
+
+/// Keeps what was read behind the rest.
+pub fn keep<T: Drop>(items: &mut Vec<T>, item: T) -> Result<(), Memory>
+    ensures ok { OnOk result (items.new.items ≡ items.old.items ++ item ∷ []) }
+    ensures err { OnErr result (items.new.items ≡ items.old.items) }
+{
+    Ok(items.push(item)?)
 }
 
 /// Lets go of so many bytes at the front.

@@ -11,7 +11,7 @@ use mt_words::{LONGEST_KEY, LONGEST_VALUE, MOST_COLUMNS, Record, What};
 use std::alloc::{AllocError, Global};
 
 /// Why there is no record.
-#[derive(Debug, Drop)]
+#[derive(Drop)]
 pub enum RecordFault {
     /// The bytes begin no record.
     Wrong(What),

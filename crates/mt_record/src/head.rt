@@ -1,8 +1,6 @@
 //! Headers of logs.
-ghost use Rattle.std.specs.Prelude.{◌≡◌, ◌++◌, IfSome, IfNone, MatchBool};
+ghost use Rattle.std.specs.Prelude.{◌≡◌, ◌++◌, IfSome, IfNone};
 ghost use Rattle.mt_record.specs.Heads.{IsHead, head_bytes, head_of, HasNoHeader};
-ghost use Rattle.mt_record.specs.LogFeeding.{ShowsNoHeader};
-ghost use Rattle.mt_record.specs.LogPieces.{BeginsAlike};
 
 use crate::fields::u64_at;
 
@@ -20,11 +18,4 @@ pub fn header_at(bytes: &[u8]) -> Option<(u64, &[u8])>
 {
     let rest = bytes.strip_prefix(MAGIC)?;
     u64_at(rest)
-}
-
-/// Whether the bytes begin a header or a header begins them.
-pub fn begins_header(bytes: &[u8]) -> bool
-    ensures { MatchBool result (BeginsAlike bytes.now) (ShowsNoHeader bytes.now) }
-{
-    bytes.starts_with(MAGIC) || MAGIC.starts_with(bytes)
 }

@@ -10,9 +10,10 @@ ghost use Rattle.mt_record.specs.LogFeeding.{IsLeft, HasFailed};
 ghost use Rattle.mt_record.specs.LogPieces.{head_in, HasReadItems, IsLeftOfItems, ReadsNext, IsNextFault};
 ghost use Rattle.mt_record.specs.LogLaws.{reads_on, reads_front, failed_on, refused_failed};
 
-use crate::fields::u32_at;
+use crate::feed::keep;
+use crate::fields::{go_together, u32_at};
 use crate::frame::{RecordFault, next_record};
-use crate::head::{HEADER_BYTES, begins_header, header_at};
+use crate::head::{HEADER_BYTES, MAGIC, header_at};
 use crate::items::Items;
 use crate::read::{FeedFault, LogText};
 use mt_words::Record;
@@ -55,7 +56,7 @@ impl Items for LogItems {
             return HEADER_BYTES;
         }
         match u32_at(held) {
-            Some((length, _)) => length as usize + 8,
+            Some((length, _)) => (length as usize).saturating_add(8),
             None => 4,
         }
     }
@@ -120,7 +121,7 @@ impl LogItems {
         ensures fault { (taken : List Logged) (text : List ℕ) → HasReadItems taken self.old text bytes.now →
             IfErr result (λ fault. HasFailed fault text (taken ++ self.new.ready.items)) }
     {
-        if !begins_header(bytes) {
+        if !go_together(MAGIC, bytes) {
             return Err(FeedFault::Header);
         }
         let Some((from, after)) = header_at(bytes) else {
@@ -142,7 +143,7 @@ impl LogItems {
         match next_record(alloc, self.latest, bytes) {
             Ok(Some((record, after))) => {
                 let latest = record.timestamp();
-                self.ready.push(record)?;
+                keep(&mut self.ready, record)?;
                 self.latest = latest;
                 self.whole = self.whole.saturating_add(1);
                 Ok(Some(after))

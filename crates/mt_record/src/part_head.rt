@@ -1,9 +1,7 @@
 //! Headers of parts, and how long a footer is.
-ghost use Rattle.std.specs.Prelude.{◌≡◌, ◌++◌, IfSome, IfNone, MatchBool};
+ghost use Rattle.std.specs.Prelude.{◌≡◌, ◌++◌, IfSome, IfNone};
 ghost use Rattle.mt_record.specs.Parts.{IsPartHead, part_head_bytes};
 ghost use Rattle.mt_record.specs.PartFaults.{HasNoPartHeader};
-ghost use Rattle.mt_record.specs.PartFeeding.{ShowsNoPartHeader};
-ghost use Rattle.mt_record.specs.PartPieces.{BeginsAlikePart};
 
 use crate::fields::{u16_at, u32_at, u64_at};
 use crate::part_text::PartHead;
@@ -34,11 +32,4 @@ pub fn part_header_at(bytes: &[u8]) -> Option<(PartHead, &[u8])>
         parts,
     };
     Some((head, rest))
-}
-
-/// Whether the bytes begin a header or a header begins them.
-pub fn begins_part_header(bytes: &[u8]) -> bool
-    ensures { MatchBool result (BeginsAlikePart bytes.now) (ShowsNoPartHeader bytes.now) }
-{
-    bytes.starts_with(PART_MAGIC) || PART_MAGIC.starts_with(bytes)
 }

@@ -10,10 +10,11 @@ ghost use Rattle.mt_record.specs.PartPieces.{so_far, HasReadItems, IsLeftOfItems
 ghost use Rattle.mt_record.specs.PartLaws.{reads_on, reads_front, shown_on, refused_shown};
 
 use crate::body::read_entry;
-use crate::fields::{u32_at, u64_at};
+use crate::feed::keep;
+use crate::fields::{go_together, u32_at, u64_at};
 use crate::frame::{LONGEST_ENTRY, RecordFault, SHORTEST_ENTRY, next_frame};
 use crate::items::Items;
-use crate::part_head::{FOOTER_BYTES, PART_HEADER_BYTES, begins_part_header, part_header_at};
+use crate::part_head::{FOOTER_BYTES, PART_HEADER_BYTES, PART_MAGIC, part_header_at};
 use crate::part_text::{PartFault, PartHead, PartText};
 use mt_words::Entry;
 use std::alloc::Global;
@@ -60,7 +61,7 @@ impl Items for PartItems {
         }
         match u32_at(held) {
             Some((0, _)) => FOOTER_BYTES,
-            Some((length, _)) => length as usize + 8,
+            Some((length, _)) => (length as usize).saturating_add(8),
             None => 4,
         }
     }
@@ -122,7 +123,7 @@ impl PartItems {
         ensures next { IfOk result (ReadsStep HasReadItems IsLeftOfItems self.old self.new bytes.now) }
         ensures fault { (text : List ℕ) → ReadsUpTo (so_far self.old) text bytes.now → IfErr result (IsPartShown text) }
     {
-        if !begins_part_header(bytes) {
+        if !go_together(PART_MAGIC, bytes) {
             return Err(PartFault::Header);
         }
         let Some((head, after)) = part_header_at(bytes) else {
@@ -180,7 +181,7 @@ impl PartItems {
         ensures fault { IfErr result (IsTextFault head.number self.old text.now) }
     {
         match read_entry(*self.entries.allocator(), text) {
-            Ok(entry) => Ok(self.entries.push(entry)?),
+            Ok(entry) => Ok(keep(&mut self.entries, entry)?),
             Err(RecordFault::Wrong(_)) => Err(self.broken(head)),
             Err(RecordFault::Memory) => Err(PartFault::Memory),
         }

@@ -3,7 +3,6 @@ ghost use Rattle.std.specs.Prelude.{◌≡◌};
 ghost use Rattle.mt_record.specs.declared.part_text.PartFault.TheVariants as faults;
 
 use mt_words::{Entry, Memory};
-use std::alloc::{AllocError, AllocFailed};
 use thiserror::Error;
 
 /// The header of a part.
@@ -48,22 +47,6 @@ pub enum PartFault {
     /// A growth was refused.
     #[error("no memory")]
     Memory,
-}
-
-impl<T: Drop> From<AllocFailed<T>> for PartFault {
-    ghost from_gives = { λ _ fault. fault ≡ faults.Memory };
-
-    fn from(_refused: AllocFailed<T>) -> PartFault {
-        PartFault::Memory
-    }
-}
-
-impl From<AllocError> for PartFault {
-    ghost from_gives = { λ _ fault. fault ≡ faults.Memory };
-
-    fn from(_refused: AllocError) -> PartFault {
-        PartFault::Memory
-    }
 }
 
 impl From<Memory> for PartFault {

@@ -6,7 +6,7 @@ ghost use Rattle.mt_record.specs.LogFaults.{IsAnswered, fault_at};
 
 use crate::log_feed::LogFeed;
 use mt_words::{Fault, Memory, Record, What};
-use std::alloc::{AllocError, AllocFailed, Global};
+use std::alloc::Global;
 use thiserror::Error;
 
 /// A log that was read.
@@ -48,22 +48,6 @@ impl FeedFault {
             FeedFault::Record { nth, what } => Fault::Record { log, nth, what },
             FeedFault::Memory => Fault::Memory,
         }
-    }
-}
-
-impl<T: Drop> From<AllocFailed<T>> for FeedFault {
-    ghost from_gives = { λ _ fault. fault ≡ faults.Memory };
-
-    fn from(_refused: AllocFailed<T>) -> FeedFault {
-        FeedFault::Memory
-    }
-}
-
-impl From<AllocError> for FeedFault {
-    ghost from_gives = { λ _ fault. fault ≡ faults.Memory };
-
-    fn from(_refused: AllocError) -> FeedFault {
-        FeedFault::Memory
     }
 }
 

@@ -1,25 +1,17 @@
-use Rattle.std.proofs.Common.{◌++◌, sym, subst}
-use Rattle.mt_record.specs.LogFeeding.{FedLog, IsLogFed}
-use Rattle.mt_record.proofs.LogFeeds.{to_items, from_items, fed_ok, fed_err}
+use Rattle.mt_record.proofs.LogFeeds.{after_piece}
 use Rattle.mt_record.proofs.log_feed.LogFeed.feed.Goals as goal
 
 pub returns-clause-fed : goal.returns-clause-fed
 returns-clause-fed c bytes taken fed =
-    let old = c.self.inside.feed in
-    let new = c.feed.new.self in
-    let before = to_items old.items old.held.items old.fault bytes taken (subst (λ (f : FedLog). IsLogFed f bytes taken) (sym c.self.view_is) fed) in
-    from_items new.items new.held.items new.fault (bytes ++ c.args.piece.now) taken (c.feed.ensures.fed taken bytes before)
+    let feed = c.feed in
+    (after_piece c.self.inside.feed feed.new.self c.args.self.now feed.result bytes c.args.piece.now taken c.self.view_is fed (feed.ensures.fed taken bytes) feed.ensures.sound feed.ensures.kept).fed
 
 pub returns-clause-ok : goal.returns-clause-ok
 returns-clause-ok c bytes taken fed =
-    let old = c.self.inside.feed in
-    let new = c.feed.new.self in
-    let before = to_items old.items old.held.items old.fault bytes taken (subst (λ (f : FedLog). IsLogFed f bytes taken) (sym c.self.view_is) fed) in
-    fed_ok new.items new.held.items new.fault c.feed.result (bytes ++ c.args.piece.now) taken (c.feed.ensures.fed taken bytes before) c.feed.ensures.sound
+    let feed = c.feed in
+    (after_piece c.self.inside.feed feed.new.self c.args.self.now feed.result bytes c.args.piece.now taken c.self.view_is fed (feed.ensures.fed taken bytes) feed.ensures.sound feed.ensures.kept).ok
 
 pub returns-clause-fault : goal.returns-clause-fault
 returns-clause-fault c bytes taken fed =
-    let old = c.self.inside.feed in
-    let new = c.feed.new.self in
-    let before = to_items old.items old.held.items old.fault bytes taken (subst (λ (f : FedLog). IsLogFed f bytes taken) (sym c.self.view_is) fed) in
-    fed_err new.items new.held.items new.fault c.feed.result (bytes ++ c.args.piece.now) taken (c.feed.ensures.fed taken bytes before) c.feed.ensures.kept
+    let feed = c.feed in
+    (after_piece c.self.inside.feed feed.new.self c.args.self.now feed.result bytes c.args.piece.now taken c.self.view_is fed (feed.ensures.fed taken bytes) feed.ensures.sound feed.ensures.kept).fault

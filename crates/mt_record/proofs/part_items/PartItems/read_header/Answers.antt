@@ -1,19 +1,24 @@
 use Rattle.std.proofs.Common.{length, ap, refl, arith}
+use Rattle.std.specs.Prelude.{codes}
 use Rattle.std.proofs.lemmas.List.{length-append}
-use Rattle.mt_record.specs.Parts.{part_head_bytes}
+use Rattle.mt_record.specs.Parts.{IsPartHead, part_head_bytes}
 use Rattle.mt_record.specs.PartPieces.{so_far}
+use Rattle.mt_record.proofs.Beginnings.{shows_none}
+use Rattle.mt_record.proofs.PartBeginnings.{part_goes_alike, part_magic}
 use Rattle.mt_record.proofs.PartItems.{header_failed, header_cut, header_read}
 use Rattle.mt_record.proofs.part_items.PartItems.read_header.Goals as goal
 
-pub returns-then-not-begins_part_header-clause-fault : goal.returns-then-not-begins_part_header-clause-fault
-returns-then-not-begins_part_header-clause-fault c = λ part reads.
-    header_failed (so_far c.args.self.now) part c.args.bytes.now c.requires reads (rw c.if-not-begins_part_header.true at c.begins_part_header.ensures)
+pub returns-then-not-go_together-clause-fault : goal.returns-then-not-go_together-clause-fault
+returns-then-not-go_together-clause-fault c = λ part reads.
+    let none = shows_none IsPartHead part_head_bytes (codes "MTC1") part_magic c.args.bytes.now (rw c.if-not-go_together.true at c.go_together.ensures) in
+    header_failed (so_far c.args.self.now) part c.args.bytes.now c.requires reads none
 
 pub returns-in_default-clause-next : goal.returns-in_default-clause-next
 returns-in_default-clause-next c = (
   refl,
   λ taken part reads.
-      header_cut (so_far c.args.self.now) c.args.bytes.now c.requires (rw c.if-not-begins_part_header.false at c.begins_part_header.ensures) c.in_default.ensures.none,
+      let alike = part_goes_alike c.args.bytes.now (rw c.if-not-go_together.false at c.go_together.ensures) (λ i. omega (arith, c.type_inv.bytes i)) in
+      header_cut (so_far c.args.self.now) c.args.bytes.now c.requires alike c.in_default.ensures.none,
 )
 
 pub returns-clause-next : goal.returns-clause-next
