@@ -1,15 +1,15 @@
 //! What stands one behind the other in a text.
 ghost use Rattle.std.specs.Prelude.{◌++◌, ◌≡◌, List, ℕ, IfOk, IfErr};
-ghost use Rattle.mt_words.specs.declared.fault.Memory.{Memory};
+ghost use Rattle.mt_words.specs.declared.fault.Memory.{Memory as MemoryValue};
 ghost use Rattle.mt_record.specs.Feeding.{ReadsStep};
 
-use mt_words::Memory as Refusal;
+use mt_words::Memory;
 
 /// What was read so far of a text whose items, of any kinds, stand one behind the other. That of a log are its header
 /// and its records; that of a part its header, its entries and its footer.
 pub trait Items {
     /// Why bytes are no such text, or want of memory.
-    type Fault: Copy + From<Refusal>;
+    type Fault: Copy + From<Memory>;
 
     /// What was read and is no longer here.
     ghost Taken: { Type 0 };
@@ -46,6 +46,6 @@ pub trait Items {
         fails taken items fault text → fails taken items fault (text ++ more) };
 
     /// A refused growth may come wherever something was read.
-    ghost refused: { (taken : Taken) (items : Self) (text rest : List ℕ) (memory : Memory) (fault : Self.Fault) →
+    ghost refused: { (taken : Taken) (items : Self) (text rest : List ℕ) (memory : MemoryValue) (fault : Self.Fault) →
         Self.Fault.from_gives memory fault → reads taken items text rest → fails taken items fault text };
 }

@@ -1,5 +1,5 @@
 //! Reading of all logs.
-ghost use Rattle.std.specs.Prelude.{◌≡◌, [], map, position, nat_lt, IfOk, IfErr};
+ghost use Rattle.std.specs.Prelude.{◌≡◌, [], map, IfOk, IfErr};
 ghost use Rattle.mt_recover.specs.Verdict.{IsAnswered};
 ghost use Rattle.mt_recover.specs.LogScans.{AreScansOf};
 
@@ -27,11 +27,4 @@ pub fn read_logs(alloc: Global, logs: &[&[u8]]) -> Result<Vec<LogScan>, Fault>
         }
     }
     Ok(scans)
-}
-
-/// The first log from which updates at or past `begin` may be missing.
-pub fn first_gap(scans: &[LogScan], begin: u64) -> Option<usize>
-    ensures { result ≡ position (λ scan. nat_lt begin scan.from) scans.now }
-{
-    scans.iter().position(|scan| begin < scan.from)
 }

@@ -10,12 +10,12 @@ ghost use Rattle.mt_recover.specs.Verdict.{IsAnswered};
 ghost use Rattle.mt_recover.specs.Inputs.{OfSources, IsAnsweredFrom, BlamesUnsteady};
 
 use crate::inputs::Inputs;
-use crate::read_logs::{first_gap, read_logs};
+use crate::read_logs::read_logs;
 use crate::replay::replay;
 use crate::scan_logs::scan_logs;
 use crate::scan_parts::scan_parts;
 use crate::store::Store;
-use crate::window::Window;
+use crate::window::{Window, first_gap};
 use mt_scan::{Checkpoint, LogScan, PartScan, Source, choose, cutoff};
 use mt_words::{Entry, Fault};
 use std::alloc::Global;

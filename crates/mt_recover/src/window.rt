@@ -1,5 +1,7 @@
-//! The timestamps whose log updates survive.
-ghost use Rattle.std.specs.Prelude.{◌≤◌, ◌<◌, ◌↔◌, IsTrue};
+//! The timestamps whose log updates survive, and the logs that may lack some of them.
+ghost use Rattle.std.specs.Prelude.{◌≡◌, ◌≤◌, ◌<◌, ◌↔◌, IsTrue, position, nat_lt};
+
+use mt_scan::LogScan;
 
 /// From `begin` on, until below `cutoff`.
 #[derive(Clone, Copy, Debug)]
@@ -17,4 +19,11 @@ impl Window {
     {
         self.begin <= timestamp && timestamp < self.cutoff
     }
+}
+
+/// The first log from which updates at or past `begin` may be missing.
+pub fn first_gap(scans: &[LogScan], begin: u64) -> Option<usize>
+    ensures { result ≡ position (λ scan. nat_lt begin scan.from) scans.now }
+{
+    scans.iter().position(|scan| begin < scan.from)
 }

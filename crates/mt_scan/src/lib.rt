@@ -1,4 +1,5 @@
-//! Sources of bytes, the buffers that they borrow, and scans of logs over them.
+//! Sources of bytes, the buffers that they borrow, scans of logs and parts over them, the cutoff, and the choice of a
+//! checkpoint.
 #![tactic(auto)]
 
 mod boxed;
