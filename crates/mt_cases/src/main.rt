@@ -1,5 +1,6 @@
-//! Tries the cases of case files, which the words after the program's name name. Its status is 0 where each case is as it
-//! is to be and one holds, and else 1.
+//! Tries the cases of case files: those that the words after the program's name name, or without a word those of the
+//! folder that it runs in whose names end in `.case`, in the order of their names. Its status is 0 where each case is as
+//! it is to be and one holds, and else 1.
 #![tactic(auto)]
 
 mod answer;
@@ -30,7 +31,7 @@ fn main(rt: HostRuntime) -> io::Result<ExitCode> {
 fn try_all(rt: &HostRuntime) -> io::Result<Counts> {
     let out = BufWriter::new(rt.alloc(), rt.stdout())?;
     let mut teller = Teller::new(out, rt.stderr());
-    for name in env::args(rt)?.skip(1) {
+    for name in case_files(rt)? {
         try_file(rt, name.as_str(), &mut teller)?;
     }
     let Counts { held, not_held, .. } = teller.counts;
@@ -49,4 +50,27 @@ fn try_file<O: Write, E: Write>(
         Ok(text) => teller.try_text(rt.alloc(), name, text.as_str()),
         Err(_) => teller.tell_unread(name, "cannot be read"),
     }
+}
+
+/// The names of the files: the words after the program's name, or those of the folder.
+fn case_files(rt: &HostRuntime) -> io::Result<Vec<String>> {
+    let words: Vec<String> = env::args(rt)?.skip(1).collect(rt.alloc())?;
+    if words.is_empty() {
+        return names_here(rt);
+    }
+    Ok(words)
+}
+
+/// The names of the case files of the folder, rising.
+fn names_here(rt: &HostRuntime) -> io::Result<Vec<String>> {
+    let mut names = Vec::new(rt.alloc());
+    for entry in fs::read_dir(rt, ".")? {
+        let entry = entry?;
+        let name = entry.file_name();
+        if name.ends_with(".case") {
+            names.push(String::from_str(rt.alloc(), name)?)?;
+        }
+    }
+    names.sort()?;
+    Ok(names)
 }

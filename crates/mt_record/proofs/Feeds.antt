@@ -1,11 +1,9 @@
 -- What a feed has read when more bytes follow, whatever its items are.
-use Rattle.std.proofs.Common.{◌≡◌, ℕ, ◌+◌, ◌-◌, ◌*◌, ◌<◌, List, [], ◌∷◌, ◌++◌, length, drop, refl, sym, ap, ◌∙◌, subst, arith, true, Bool, Option}
+use Rattle.std.proofs.Common.{◌≡◌, ℕ, ◌+◌, ◌-◌, ◌*◌, ◌<◌, List, [], ◌∷◌, ◌++◌, length, drop, refl, sym, ap, ◌∙◌, subst, arith, true, Bool}
 use Rattle.std.proofs.lemmas.List.{length-append, append-nil, nil_from_length}
 use Rattle.std.proofs.lemmas.Bool.Decides.{Decides-eqb}
 use Rattle.std.specs.Prelude.{◌==◌}
-use Rattle.std.specs.Prelude.{Result, Ok, Err, Some, None}
-use Rattle.std.specs.Result.{IfOk, IfErr, result_err}
-use Rattle.mt_record.specs.Feeding.{HoldsUpTo, AreRead, IsFedBy, Tops}
+use Rattle.mt_record.specs.Feeding.{HoldsUpTo, HoldsAll, Tops}
 
 -- what was read is the same when more bytes follow
 abbrev pub GoesOn : {I : Type 0} → (I → List ℕ → List ℕ → Type 0) → Type 0
@@ -43,7 +41,7 @@ less_to_do old piece new rest items left wanted tops more some e =
 
 -- where the rest is empty all bytes are read or held back
 pub all_held : {I : Type 0} (reads : I → List ℕ → List ℕ → Type 0) (is_left : I → List ℕ → Type 0) (items : I) (held text rest : List ℕ)
-    → HoldsUpTo reads is_left items held text rest → rest ≡ [] → AreRead reads is_left items held text
+    → HoldsUpTo reads is_left items held text rest → rest ≡ [] → HoldsAll reads is_left items held text
 all_held reads is_left items held text rest holds none =
     let all = sym (append-nil holds.front) ∙ ap (λ (x : List ℕ). holds.front ++ x) (sym none) ∙ holds.joins in
     (subst (λ (x : List ℕ). reads items x held) all holds.read, holds.left)
@@ -56,25 +54,3 @@ none_held reads is_left on items held text rest holds none =
 
 pub nil_if_empty : (xs : List ℕ) (len : ℕ) (empty : Bool) → len ≡ length xs → empty ≡ (len == 0) → empty ≡ true → xs ≡ []
 nil_if_empty xs len empty number test outcome = nil_from_length xs (sym number ∙ (Decides-eqb len 0).0 (sym test ∙ outcome))
-
--- ---- a piece more
-
--- what a feed without a fault answers says what it was fed
-pub fed_after : {I F : Type 0} (reads : I → List ℕ → List ℕ → Type 0) (is_left : I → List ℕ → Type 0) (fails : I → F → List ℕ → Type 0) (items : I) (held : List ℕ)
-    (outcome : Result (Unit {0}) F) (text : List ℕ) → IfOk outcome (λ _. AreRead reads is_left items held text) → IfErr outcome (λ fault. fails items fault text)
-    → IsFedBy reads is_left fails items held (result_err outcome) text
-fed_after reads is_left fails items held (Ok u) text ok failed = ok
-fed_after reads is_left fails items held (Err fault) text ok failed = failed
-
--- a feed with a fault has it whatever follows
-pub fed_on : {I F : Type 0} (reads : I → List ℕ → List ℕ → Type 0) (is_left : I → List ℕ → Type 0) (fails : I → F → List ℕ → Type 0)
-    → ((items : I) (fault : F) (text more : List ℕ) → fails items fault text → fails items fault (text ++ more)) → (items : I) (held : List ℕ) (has : Option F) (fault : F) (text more : List ℕ)
-    → has ≡ Some fault → IsFedBy reads is_left fails items held has text → IsFedBy reads is_left fails items held has (text ++ more)
-fed_on reads is_left fails stays items held has fault text more is fed =
-    let failed = subst (λ o. IsFedBy reads is_left fails items held o text) is fed in
-    subst (λ o. IsFedBy reads is_left fails items held o (text ++ more)) (sym is) (stays items fault text more failed)
-
--- a feed without a fault has read all that it was fed
-pub fed_read : {I F : Type 0} (reads : I → List ℕ → List ℕ → Type 0) (is_left : I → List ℕ → Type 0) (fails : I → F → List ℕ → Type 0) (items : I) (held : List ℕ) (has : Option F) (text : List ℕ)
-    → has ≡ None → IsFedBy reads is_left fails items held has text → AreRead reads is_left items held text
-fed_read reads is_left fails items held has text is fed = subst (λ o. IsFedBy reads is_left fails items held o text) is fed

@@ -260,9 +260,6 @@ shown_answered faults.Header bytes h = h.0
 shown_answered (faults.Record nth what) bytes h = h
 shown_answered faults.Memory bytes h = tt
 
-pub failed_answered : (fault : FeedFault) (bytes : List ℕ) (records : List Logged) → HasFailed fault bytes records → IsAnswered bytes fault
-failed_answered fault bytes records h = shown_answered fault bytes (failed_shown fault bytes records h)
-
 -- what the generic feed says of these items
 abbrev pub IsFedItems : List Logged → LogItems → List ℕ → Option FeedFault → List ℕ → Type 0
 IsFedItems taken items held fault text = IsFedBy (HasReadItems taken) IsLeftOfItems (λ items fault text. HasFailed fault text (taken ++ items.ready.items)) items held fault text

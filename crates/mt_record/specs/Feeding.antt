@@ -18,12 +18,12 @@ ReadsStep reads is_left old new bytes (Some after) = Reads reads old new bytes a
 -- ---- feeds
 
 -- the text is what was read and what is held back, from which nothing more can be read
-abbrev pub AreRead : {I : Type 0} → (I → List ℕ → List ℕ → Type 0) → (I → List ℕ → Type 0) → I → List ℕ → List ℕ → Type 0
-AreRead reads is_left items held text = reads items text held × is_left items held
+abbrev pub HoldsAll : {I : Type 0} → (I → List ℕ → List ℕ → Type 0) → (I → List ℕ → Type 0) → I → List ℕ → List ℕ → Type 0
+HoldsAll reads is_left items held text = reads items text held × is_left items held
 
 -- a feed that was fed this text: all of it is read or held back, or there is a fault
 abbrev pub IsFedBy : {I F : Type 0} → (I → List ℕ → List ℕ → Type 0) → (I → List ℕ → Type 0) → (I → F → List ℕ → Type 0) → I → List ℕ → Option F → List ℕ → Type 0
-IsFedBy reads is_left fails items held None text = AreRead reads is_left items held text
+IsFedBy reads is_left fails items held None text = HoldsAll reads is_left items held text
 IsFedBy reads is_left fails items held (Some fault) text = fails items fault text
 
 -- the text is read and held back but for a rest of the piece

@@ -38,9 +38,9 @@ IsTextFault number reader text (of_part.Broken other entries) =
     (other ≡ number) × (entries ≡ length reader.entries.items) × ((entry : Change) → IsEntry (limits_of One) entry → text ≢ change_bytes entry)
 IsTextFault number reader text of_part.Memory = Unit {0}
 
--- what this reader has read
+-- what was read, as contracts see it
 abbrev pub so_far : PartItems → PartSoFar
-so_far reader = record { head = reader.head; entries = reader.entries.items; end = reader.end }
+so_far items = record { head = items.head; entries = items.entries.items; end = items.end }
 
 -- the bytes are what was read, and the rest
 abbrev pub HasReadItems : Unit {0} → PartItems → List ℕ → List ℕ → Type 0

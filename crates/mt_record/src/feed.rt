@@ -1,6 +1,6 @@
 //! A text in pieces.
 ghost use Rattle.std.specs.Prelude.{◌≡◌, ◌<◌, ◌≤◌, ◌++◌, [], ◌∷◌, List, ℕ, Some, None, Err, length, drop, IsSome, IfOk, IfErr, OnOk, OnErr};
-ghost use Rattle.mt_record.specs.Feeding.{HoldsUpTo, still_to_do, Reads, AreRead, IsFedBy, Tops};
+ghost use Rattle.mt_record.specs.Feeding.{HoldsUpTo, still_to_do, Reads, HoldsAll, IsFedBy, Tops};
 
 use crate::items::Items;
 use mt_words::Memory;
@@ -50,9 +50,9 @@ impl<I: Items> Feed<I> {
 
     /// Reads the next piece: what it completes straight from the piece where it lies whole in it.
     fn read(&mut self, piece: &[u8]) -> Result<(), I::Fault>
-        ensures ok { (taken : I.Taken) (text : List ℕ) → AreRead (I.reads taken) I.is_left self.old.items self.old.held.items text →
-            IfOk result (λ _. AreRead (I.reads taken) I.is_left self.new.items self.new.held.items (text ++ piece.now)) }
-        ensures fault { (taken : I.Taken) (text : List ℕ) → AreRead (I.reads taken) I.is_left self.old.items self.old.held.items text →
+        ensures ok { (taken : I.Taken) (text : List ℕ) → HoldsAll (I.reads taken) I.is_left self.old.items self.old.held.items text →
+            IfOk result (λ _. HoldsAll (I.reads taken) I.is_left self.new.items self.new.held.items (text ++ piece.now)) }
+        ensures fault { (taken : I.Taken) (text : List ℕ) → HoldsAll (I.reads taken) I.is_left self.old.items self.old.held.items text →
             IfErr result (λ fault. I.fails taken self.new.items fault (text ++ piece.now)) }
     {
         let mut rest = piece;

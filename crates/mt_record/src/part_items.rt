@@ -76,7 +76,7 @@ impl Items for PartItems {
 }
 
 impl PartItems {
-    /// A reader of nothing so far.
+    /// What was read of nothing.
     pub fn new(alloc: Global) -> PartItems
         ensures head { result.head ≡ None }
         ensures entries { result.entries.items ≡ [] }
