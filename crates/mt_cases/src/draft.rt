@@ -3,7 +3,7 @@ use crate::mistake::Mistake;
 use crate::records::{entry_of, record_of};
 use crate::words::{byte_of, number_of, push_digits, small_of};
 use mt_record::{PartHead, encode_log_header, encode_part, encode_record};
-use mt_words::Entry;
+use mt_words::{Entry, Format};
 use std::alloc::Global;
 
 /// A lawful part whose entries may still come.
@@ -112,6 +112,7 @@ impl Draft {
             begin,
             part,
             parts,
+            ..
         } = head;
         encode_part(number, begin, part, parts, end, &entries, &mut self.bytes)?;
         Ok(())
@@ -136,6 +137,7 @@ fn head_of(words: &[&str]) -> Result<(PartHead, u64), Mistake> {
         return Err(Mistake::Line);
     };
     let head = PartHead {
+        format: Format::One,
         number: small_of::<u32>(number)?,
         begin: number_of(begin)?,
         part: small_of::<u16>(part)?,

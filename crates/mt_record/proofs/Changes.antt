@@ -7,14 +7,13 @@ use Rattle.byteorder.specs.Endian.{big_bytes}
 use Rattle.mt_words.specs.declared.record.Change.{Change}
 use Rattle.mt_words.specs.declared.update.Kind.{Kind as AnyKind}
 use Rattle.mt_words.specs.declared.update.Kind.TheVariants.{Put, Remove, Whole}
-use Rattle.mt_words.specs.Limits.{Limits}
+use Rattle.mt_words.specs.declared.limits.Limits.{Limits}
 use Rattle.mt_words.specs.Words.{IsKey}
 use Rattle.mt_record.specs.declared.body.ChangeFields.{ChangeFields}
-use Rattle.mt_record.specs.declared.frame.RecordFault.{RecordFault}
-use Rattle.mt_record.specs.declared.frame.RecordFault.TheVariants as faults
-use Rattle.mt_record.specs.Spelling.{counted, column_bytes, kind_bytes, FitsColumn}
+use Rattle.mt_words.specs.declared.fault.What.{What}
+use Rattle.mt_record.specs.Spelling.{counted, column_bytes, kind_bytes, change_bytes, FitsColumn, FitsChange}
 use Rattle.mt_record.specs.LogFaults.{HasColumnsFault}
-use Rattle.mt_record.specs.Bodies.{IsNoChange, IsChangeWith, IsChangeFault, IsKindOf, HasKind, IsKindFault, AreChangeFields, HasColumns, AreSpelled, IsColumnsFault, IsSomeFault}
+use Rattle.mt_record.specs.Bodies.{IsNoChange, IsChangeWith, IsChangeFault, IsKindOf, HasKind, IsKindFault, SpellFields, AreChangeFields, HasColumns, AreSpelled, IsColumnsFault, IsSomeFault}
 use Rattle.mt_record.proofs.Unique.{apart, same_number, same_counted}
 
 -- ---- kinds
@@ -57,32 +56,29 @@ columns_are_kind byte (count ∷ bytes) is some fits =
     rw whole (kind_of_columns byte count bytes is fits, columns_of_kind byte count bytes is)
 
 -- columns that may not stand together may not stand together as some
-pub some_fault : (limits : Limits) (count : ℕ) (bytes : List ℕ) (e : RecordFault) → IsColumnsFault limits count bytes e → IsSomeFault limits count bytes e
-some_fault limits count bytes faults.Memory h = tt
-some_fault limits count bytes (faults.Wrong what) h = (h.0, h.1, h.2, λ are some. h.3 are)
+pub some_fault : (limits : Limits) (count : ℕ) (bytes : List ℕ) (what : What) → IsColumnsFault limits count bytes what → IsSomeFault limits count bytes what
+some_fault limits count bytes what h = (h.0, h.1, h.2, λ are some. h.3 are)
 
 -- columns that are refused make the put refused
-put_fault : (limits : Limits) (count : ℕ) (bytes : List ℕ) → count < 2 ^ 8 → (e : RecordFault) → IsSomeFault limits count bytes e
-    → IsKindFault limits 1 (count ∷ bytes) e
-put_fault limits count bytes fits faults.Memory h = tt
-put_fault limits count bytes fits (faults.Wrong what) h = (h.0, Put h.1, put_of_columns count bytes h.1 fits h.2, λ allowed. h.3 allowed.0 allowed.1)
+put_fault : (limits : Limits) (count : ℕ) (bytes : List ℕ) → count < 2 ^ 8 → (what : What) → IsSomeFault limits count bytes what
+    → IsKindFault limits 1 (count ∷ bytes) what
+put_fault limits count bytes fits what h = (h.0, Put h.1, put_of_columns count bytes h.1 fits h.2, λ allowed. h.3 allowed.0 allowed.1)
 
 -- and the whole
-whole_fault : (limits : Limits) (count : ℕ) (bytes : List ℕ) → count < 2 ^ 8 → (e : RecordFault) → IsSomeFault limits count bytes e
-    → IsKindFault limits 0 (count ∷ bytes) e
-whole_fault limits count bytes fits faults.Memory h = tt
-whole_fault limits count bytes fits (faults.Wrong what) h = (h.0, Whole h.1, whole_of_columns count bytes h.1 fits h.2, λ allowed. h.3 allowed.0 allowed.1)
+whole_fault : (limits : Limits) (count : ℕ) (bytes : List ℕ) → count < 2 ^ 8 → (what : What) → IsSomeFault limits count bytes what
+    → IsKindFault limits 0 (count ∷ bytes) what
+whole_fault limits count bytes fits what h = (h.0, Whole h.1, whole_of_columns count bytes h.1 fits h.2, λ allowed. h.3 allowed.0 allowed.1)
 
 -- columns that are refused behind their number make the kind of such a byte refused
-pub columns_fault : (limits : Limits) (byte : ℕ) (bytes : List ℕ) → HasColumnsByte byte → 0 < length bytes → slice_index bytes 0 < 2 ^ 8 → (e : RecordFault)
-    → IsSomeFault limits (slice_index bytes 0) (take (length bytes - 1) (drop 1 bytes)) e → IsKindFault limits byte bytes e
-columns_fault limits byte [] is some fits e h = absurd (omega (arith, some))
-columns_fault limits byte (count ∷ bytes) is some fits e h =
+pub columns_fault : (limits : Limits) (byte : ℕ) (bytes : List ℕ) → HasColumnsByte byte → 0 < length bytes → slice_index bytes 0 < 2 ^ 8 → (what : What)
+    → IsSomeFault limits (slice_index bytes 0) (take (length bytes - 1) (drop 1 bytes)) what → IsKindFault limits byte bytes what
+columns_fault limits byte [] is some fits what h = absurd (omega (arith, some))
+columns_fault limits byte (count ∷ bytes) is some fits what h =
     let whole : take (suc (length bytes) - 1) bytes ≡ bytes = take_all (suc (length bytes) - 1) bytes (omega arith) in
     let all = rw whole at h in
-    elim is as (λ _. IsKindFault limits byte (count ∷ bytes) e) [
-      | inl one ↦ rw one (put_fault limits count bytes fits e all)
-      | inr none ↦ rw none (whole_fault limits count bytes fits e all)
+    elim is as (λ _. IsKindFault limits byte (count ∷ bytes) what) [
+      | inl one ↦ rw one (put_fault limits count bytes fits what all)
+      | inr none ↦ rw none (whole_fault limits count bytes fits what all)
     ]
 
 -- ---- fields
@@ -104,15 +100,19 @@ of_change code bytes f P are kind is holds = (
 
 -- a kind that is refused makes the change's fault
 pub kind_fault : (limits : Limits) (code : ℕ) (bytes : List ℕ) (f : ChangeFields) → AreChangeFields code bytes f → 0 < f.version → IsKey limits f.key.now
-    → (e : RecordFault) → IsKindFault limits code f.carried.now e → IsChangeFault limits code bytes e
-kind_fault limits code bytes f are version key faults.Memory h = tt
-kind_fault limits code bytes f are version key (faults.Wrong what) h =
+    → (what : What) → IsKindFault limits code f.carried.now what → IsChangeFault limits code bytes what
+kind_fault limits code bytes f are version key what h =
     rw h.0 (of_change code bytes f (HasColumnsFault limits) are h.1 h.2 (version, key, h.3))
 
+-- fields that spell a change are its own
+pub same_fields : (bytes : List ℕ) (fields : ChangeFields) (change : Change) → SpellFields bytes fields → FitsChange change → bytes ≡ change_bytes change
+    → (fields.version ≡ change.version) × (fields.key.now ≡ change.key) × (fields.carried.now ≡ kind_bytes change.kind)
+same_fields bytes fields change are fits e =
+    let version = same_number 8 fields.version change.version (counted fields.key.now ++ fields.carried.now) (counted change.key ++ kind_bytes change.kind) are.version_fits fits.0 (sym are.spelled ∙ e) in
+    let key = same_counted fields.key.now change.key fields.carried.now (kind_bytes change.kind) are.key_fits fits.1 version.1 in
+    (version.0, key.0, key.1)
+
 -- where a version and a key are followed by no kind of this byte, the whole is no change of it
-pub no_change : (code version : ℕ) (bytes a b key : List ℕ) → version < 2 ^ 64 → length key < 2 ^ 16 → bytes ≡ big_bytes 8 version ++ a → a ≡ counted key ++ b
-    → (HasKind code b → ⊥) → IsNoChange code bytes
-no_change code version bytes a b key fits_version fits_key ea eb none change fits same e =
-    let s1 = same_number 8 version change.version a (counted change.key ++ kind_bytes change.kind) fits_version fits.0 (sym ea ∙ e) in
-    let s2 = same_counted key change.key b (kind_bytes change.kind) fits_key fits.1 (sym eb ∙ s1.1) in
-    none (change.kind, record { code = same; spelled = s2.1; fits = fits.2 })
+pub no_change : (code : ℕ) (bytes : List ℕ) (fields : ChangeFields) → SpellFields bytes fields → (HasKind code fields.carried.now → ⊥) → IsNoChange code bytes
+no_change code bytes fields are none change fits same e =
+    none (change.kind, record { code = same; spelled = (same_fields bytes fields change are fits e).2; fits = fits.2 })

@@ -1,7 +1,7 @@
 -- Columns from the front of bytes.
 use Rattle.std.proofs.Common.{◌≡◌, ℕ, suc, ◌+◌, ◌-◌, ◌<◌, ◌≤◌, List, [], ◌∷◌, ◌++◌, sym, ap, ◌∙◌, ◌↔◌, subst, append_assoc, arith}
 use Rattle.std.specs.List.{flat_map, AllByRecursion}
-use Rattle.mt_words.specs.Limits.{Limits}
+use Rattle.mt_words.specs.declared.limits.Limits.{Limits}
 use Rattle.mt_words.specs.Words.{IsColumn, AreColumns, CanFollow, NumbersRise, NumbersBelow}
 use Rattle.mt_record.specs.Spelling.{column_bytes, FitsColumn}
 use Rattle.mt_record.specs.Bodies.{AreSpelled, HasColumns}
@@ -52,12 +52,12 @@ rise_below low [] ds c rise = tt
 rise_below low (x ∷ xs) ds c rise = (rise_from (suc x.0) xs ds c rise.1, rise_below (suc x.0) xs ds c rise.1)
 
 -- what holds of all columns holds of one in the middle
-all_at : (limits : Limits) (xs ds : List (ℕ × List ℕ)) (c : ℕ × List ℕ) → AllByRecursion (IsColumn limits) (xs ++ c ∷ ds) → IsColumn limits c
+pub all_at : (limits : Limits) (xs ds : List (ℕ × List ℕ)) (c : ℕ × List ℕ) → AllByRecursion (IsColumn limits) (xs ++ c ∷ ds) → IsColumn limits c
 all_at limits [] ds c all = all.0
 all_at limits (x ∷ xs) ds c all = all_at limits xs ds c all.1
 
 -- a column among columns may follow those before it
-may_follow : (limits : Limits) (xs ds : List (ℕ × List ℕ)) (c : ℕ × List ℕ) → AreColumns limits (xs ++ c ∷ ds) → CanFollow limits xs c
+pub may_follow : (limits : Limits) (xs ds : List (ℕ × List ℕ)) (c : ℕ × List ℕ) → AreColumns limits (xs ++ c ∷ ds) → CanFollow limits xs c
 may_follow limits xs ds c are = (all_at limits xs ds c are.0, rise_below 0 xs ds c are.1)
 
 -- ---- one column after the other

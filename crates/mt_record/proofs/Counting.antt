@@ -6,7 +6,8 @@ use Rattle.byteorder.specs.Endian.{big_bytes}
 use Rattle.mt_words.specs.Changes.{Logged}
 use Rattle.mt_record.specs.declared.read.FeedFault.{FeedFault}
 use Rattle.mt_record.specs.Spelling.{spelling, body}
-use Rattle.mt_record.specs.Heads.{Head, head_bytes}
+use Rattle.mt_record.specs.declared.head.Head.{Head}
+use Rattle.mt_record.specs.Heads.{head_bytes}
 use Rattle.mt_record.specs.Logs.{LogReading, IsReading}
 use Rattle.mt_record.specs.LogFeeding.{FedLog, HasRead, IsLogFed}
 

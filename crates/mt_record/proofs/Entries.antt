@@ -7,9 +7,10 @@ use Rattle.mt_words.specs.declared.record.Change.{Change}
 use Rattle.mt_words.specs.declared.update.Kind.{Kind}
 use Rattle.mt_words.specs.declared.update.Kind.TheVariants.{Put, Remove, Whole}
 use Rattle.mt_words.specs.declared.limits.Format.{Format}
-use Rattle.mt_words.specs.declared.limits.Format.TheVariants.{One}
-use Rattle.mt_words.specs.Limits.{Limits, limits_of}
+use Rattle.mt_words.specs.declared.limits.Limits.{Limits}
+use Rattle.mt_words.specs.Limits.{limits_of}
 use Rattle.mt_words.specs.Changes.{AllowsKind, IsWhole, IsEntry}
+use Rattle.mt_words.proofs.Formats.{within}
 use Rattle.mt_record.specs.Spelling.{column_bytes, kind_bytes, change_bytes}
 use Rattle.mt_record.specs.Parts.{entry_spelling, IsEntryLength}
 use Rattle.mt_record.proofs.Lawful.{kind_length}
@@ -34,7 +35,9 @@ entry_length limits change entry =
 
 -- the length of an entry is short enough for its four bytes
 pub short_entry : (format : Format) (n : ℕ) → IsEntryLength (limits_of format) n → n < 2 ^ 32
-short_entry One n is = omega arith
+short_entry format n is =
+    let room = within format in
+    omega (arith, is.1, room.key, room.column)
 
 -- ---- parts
 

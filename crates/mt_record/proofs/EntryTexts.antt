@@ -1,20 +1,22 @@
 -- The fields of entries.
-use Rattle.std.proofs.Common.{◌≡◌, ◌≢◌, ◌∙◌, ℕ, List, refl, sym, subst, arith}
+use Rattle.std.proofs.Common.{◌≡◌, ◌≢◌, ◌∙◌, inl, inr, ℕ, ◌^◌, ◌<◌, List, [], ◌++◌, length, refl, sym, ap, subst, append_assoc, arith}
+use Rattle.std.specs.Prelude.{Result, Ok, Err, IfErr, OnErr}
+use Rattle.byteorder.specs.Endian.{big_bytes}
 use Rattle.mt_words.specs.declared.fault.What.{What}
 use Rattle.mt_words.specs.declared.fault.What.TheVariants.{Length, Trailer, Kind, Frame, Version, Key, Columns, Clock}
 use Rattle.mt_words.specs.declared.limits.Format.{Format}
-use Rattle.mt_words.specs.declared.limits.Format.TheVariants.{One}
 use Rattle.mt_words.specs.declared.record.Change.{Change}
 use Rattle.mt_words.specs.declared.update.Kind.{Kind as AnyKind}
 use Rattle.mt_words.specs.declared.update.Kind.TheVariants.{Put, Remove, Whole}
 use Rattle.mt_words.specs.Limits.{limits_of}
 use Rattle.mt_words.specs.Changes.{IsWhole, IsEntry}
-use Rattle.mt_record.specs.declared.frame.RecordFault.{RecordFault}
-use Rattle.mt_record.specs.declared.frame.RecordFault.TheVariants as faults
-use Rattle.mt_record.specs.Spelling.{code_of, change_bytes, FitsChange}
-use Rattle.mt_record.specs.Bodies.{IsChangeWith, IsChangeFault}
-use Rattle.mt_record.specs.PartPieces.{IsNoEntryText}
-use Rattle.mt_record.proofs.Unique.{same_change, apart}
+use Rattle.mt_record.specs.Spelling.{code_of, change_bytes, framed, FitsChange}
+use Rattle.mt_record.specs.LogFaults.{HasTrailerFault}
+use Rattle.mt_record.specs.Parts.{IsEntryLength}
+use Rattle.mt_record.specs.PartFeeding.{HasWrongEntry, ShowsNoEntry}
+use Rattle.mt_record.specs.Bodies.{AreNoFields, IsChangeWith, IsChangeFault, IsFrame, IsFrameFault}
+use Rattle.mt_record.proofs.Unique.{same_split, same_number, same_change, apart}
+use Rattle.mt_record.proofs.Entries.{entry_length, short_entry}
 use Rattle.mt_record.proofs.Lawful.{key_room, kind_fits}
 
 -- an entry fits its fields
@@ -43,8 +45,7 @@ other_entry format bytes P (change, fits, code, spelled, holds) refused entry is
     refused entry is (subst P same holds)
 
 -- bytes with the fault of a whole are the fields of no entry
-pub no_entry_text : (format : Format) (bytes : List ℕ) (what : What) → IsChangeFault (limits_of format) 0 bytes (faults.Wrong what)
-    → (entry : Change) → IsEntry (limits_of format) entry → bytes ≢ change_bytes entry
+pub no_entry_text : (format : Format) (bytes : List ℕ) (what : What) → IsChangeFault (limits_of format) 0 bytes what → AreNoFields (limits_of format) bytes
 no_entry_text format bytes Length h entry is e = h
 no_entry_text format bytes Trailer h entry is e = h
 no_entry_text format bytes Kind h entry is e = h
@@ -55,7 +56,60 @@ no_entry_text format bytes Key h entry is e = other_entry format bytes _ h (λ o
 no_entry_text format bytes Columns h entry is e = other_entry format bytes _ h (λ other lawful wrong. wrong.2 lawful.0.kind) entry is e
 no_entry_text format bytes Clock h entry is e = h
 
--- the fault of a whole, as that of an entry
-pub entry_fault : (bytes : List ℕ) (fault : RecordFault) → IsChangeFault (limits_of One) 0 bytes fault → IsNoEntryText bytes fault
-entry_fault bytes faults.Memory h = tt
-entry_fault bytes (faults.Wrong what) h = no_entry_text One bytes what h
+-- ---- frames
+
+-- the parts of what is framed as an entry is
+same_text : (text fields : List ℕ) (n : ℕ) → length text < 2 ^ 32 → length fields < 2 ^ 32 → n < 2 ^ 32
+    → big_bytes 4 (length text) ++ (text ++ big_bytes 4 n) ≡ framed fields → (text ≡ fields) × (n ≡ length fields)
+same_text text fields n fits_text fits_fields fits_n e =
+    let number = same_number 4 (length text) (length fields) (text ++ big_bytes 4 n) (fields ++ big_bytes 4 (length fields)) fits_text fits_fields e in
+    let split = same_split text fields (big_bytes 4 n) (big_bytes 4 (length fields)) number.0 number.1 in
+    (split.0, (same_number 4 n (length fields) [] [] fits_n fits_fields split.1).0)
+
+-- the fields of an entry are short enough for their length
+short_fields : (format : Format) (entry : Change) → IsEntry (limits_of format) entry → length (change_bytes entry) < 2 ^ 32
+short_fields format entry is = short_entry format (length (change_bytes entry)) (entry_length (limits_of format) entry is)
+
+-- framed bytes that are the fields of no entry are a wrong entry
+pub wrong_entry : (format : Format) (bytes text after : List ℕ) → IsFrame (IsEntryLength (limits_of format)) bytes text after
+    → AreNoFields (limits_of format) text → HasWrongEntry (limits_of format) bytes
+wrong_entry format bytes text after frame none = (
+  text,
+  length text,
+  after,
+  frame.fits,
+  short_entry format (length text) frame.fits,
+  λ entry is e. none entry is (same_text text (change_bytes entry) (length text) (short_entry format (length text) frame.fits) (short_fields format entry is) (short_entry format (length text) frame.fits) e).0,
+  frame.spelled,
+)
+
+-- another number behind the framed bytes makes a wrong entry too
+other_length : (format : Format) (bytes : List ℕ) → HasTrailerFault (IsEntryLength (limits_of format)) bytes → HasWrongEntry (limits_of format) bytes
+other_length format bytes (text, n, more, fits, small, differ, e) = (
+  text,
+  n,
+  more,
+  fits,
+  small,
+  λ entry is same.
+      let parts = same_text text (change_bytes entry) n (short_entry format (length text) fits) (short_fields format entry is) small same in
+      differ (parts.1 ∙ ap length (sym parts.0)),
+  e ∙ ap (λ (x : List ℕ). big_bytes 4 (length text) ++ x) (sym (append_assoc text (big_bytes 4 n) more))
+      ∙ sym (append_assoc (big_bytes 4 (length text)) (text ++ big_bytes 4 n) more),
+)
+
+-- what is framed wrongly is no entry
+pub frame_no_entry : (format : Format) (bytes : List ℕ) (what : What) → IsFrameFault (IsEntryLength (limits_of format)) bytes what → ShowsNoEntry (limits_of format) bytes
+frame_no_entry format bytes Length h = inl h
+frame_no_entry format bytes Trailer h = inr (other_length format bytes h)
+frame_no_entry format bytes Kind h = absurd h
+frame_no_entry format bytes Frame h = absurd h
+frame_no_entry format bytes Version h = absurd h
+frame_no_entry format bytes Key h = absurd h
+frame_no_entry format bytes Columns h = absurd h
+frame_no_entry format bytes Clock h = absurd h
+
+-- the fault of a whole is that of an entry
+pub entry_fault : (format : Format) (bytes : List ℕ) (outcome : Result (Unit {0}) What) → IfErr outcome (IsChangeFault (limits_of format) 0 bytes) → OnErr outcome (AreNoFields (limits_of format) bytes)
+entry_fault format bytes (Ok u) h = tt
+entry_fault format bytes (Err what) h = no_entry_text format bytes what h

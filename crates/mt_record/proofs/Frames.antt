@@ -4,12 +4,10 @@ use Rattle.std.proofs.lemmas.List.{take-append-drop}
 use Rattle.byteorder.specs.Endian.{big_bytes}
 use Rattle.mt_words.specs.declared.fault.What.{What}
 use Rattle.mt_words.specs.declared.fault.What.TheVariants.{Length, Trailer, Kind, Frame, Version, Key, Columns, Clock}
-use Rattle.mt_words.specs.Limits.{Limits}
-use Rattle.mt_record.specs.declared.frame.RecordFault.{RecordFault}
-use Rattle.mt_record.specs.declared.frame.RecordFault.TheVariants as faults
+use Rattle.mt_words.specs.declared.limits.Limits.{Limits}
 use Rattle.mt_record.specs.Spelling.{framed, IsRecordLength}
-use Rattle.mt_record.specs.LogFaults.{HasTrailerFault}
-use Rattle.mt_record.specs.Bodies.{IsBodyFault, IsRestFault, IsFrameFault}
+use Rattle.mt_record.specs.LogFaults.{HasTrailerFault, BodyFault, RestFault}
+use Rattle.mt_record.specs.Bodies.{IsFrameFault}
 
 -- a list in two parts
 pub parts : (n : ℕ) (bytes front back : List ℕ) → front ≡ take n bytes → back ≡ drop n bytes → bytes ≡ front ++ back
@@ -25,17 +23,16 @@ whole_record bytes a b c text n ea eb ec number =
     ∙ sym (append_assoc (big_bytes 4 (length text)) (text ++ big_bytes 4 (length text)) c)
 
 -- a body's fault is that of the rest that it begins
-pub body_fault : (limits : Limits) (low : ℕ) (rest bytes more : List ℕ) (fault : RecordFault) → IsRecordLength limits (length bytes)
-    → rest ≡ framed bytes ++ more → IsBodyFault limits low bytes fault → IsRestFault limits low rest fault
-body_fault limits low rest bytes more faults.Memory is e h = tt
-body_fault limits low rest bytes more (faults.Wrong Length) is e h = absurd h
-body_fault limits low rest bytes more (faults.Wrong Trailer) is e h = absurd h
-body_fault limits low rest bytes more (faults.Wrong Kind) is e h = (bytes, more, is, e, h)
-body_fault limits low rest bytes more (faults.Wrong Frame) is e h = (bytes, more, is, e, h)
-body_fault limits low rest bytes more (faults.Wrong Version) is e h = (bytes, more, is, e, h)
-body_fault limits low rest bytes more (faults.Wrong Key) is e h = (bytes, more, is, e, h)
-body_fault limits low rest bytes more (faults.Wrong Columns) is e h = (bytes, more, is, e, h)
-body_fault limits low rest bytes more (faults.Wrong Clock) is e h = (bytes, more, is, e, h)
+pub body_fault : (limits : Limits) (low : ℕ) (rest bytes more : List ℕ) (what : What) → IsRecordLength limits (length bytes)
+    → rest ≡ framed bytes ++ more → BodyFault what limits low bytes → RestFault what limits low rest
+body_fault limits low rest bytes more Length is e h = absurd h
+body_fault limits low rest bytes more Trailer is e h = absurd h
+body_fault limits low rest bytes more Kind is e h = (bytes, more, is, e, h)
+body_fault limits low rest bytes more Frame is e h = (bytes, more, is, e, h)
+body_fault limits low rest bytes more Version is e h = (bytes, more, is, e, h)
+body_fault limits low rest bytes more Key is e h = (bytes, more, is, e, h)
+body_fault limits low rest bytes more Columns is e h = (bytes, more, is, e, h)
+body_fault limits low rest bytes more Clock is e h = (bytes, more, is, e, h)
 
 -- another number behind the text is the frame's fault
 pub trailer_fault : (IsLength : ℕ → Type 0) (rest a b c text : List ℕ) (n trailer : ℕ) → IsLength n → rest ≡ big_bytes 4 n ++ a
@@ -53,7 +50,7 @@ trailer_fault IsLength rest a b c text n trailer is ea eb ec number small differ
 )
 
 -- a frame's fault is that of the rest that it begins
-pub frame_fault : (limits : Limits) (low : ℕ) (rest : List ℕ) (what : What) → IsFrameFault (IsRecordLength limits) rest what → IsRestFault limits low rest (faults.Wrong what)
+pub frame_fault : (limits : Limits) (low : ℕ) (rest : List ℕ) (what : What) → IsFrameFault (IsRecordLength limits) rest what → RestFault what limits low rest
 frame_fault limits low rest Length h = h
 frame_fault limits low rest Trailer h = h
 frame_fault limits low rest Kind h = absurd h

@@ -4,28 +4,31 @@ use Rattle.std.proofs.lemmas.List.{length-append}
 use Rattle.std.specs.Prelude.{IfSome}
 use Rattle.std.specs.List.{flat_map, AllByRecursion}
 use Rattle.mt_words.specs.declared.limits.Format.{Format}
-use Rattle.mt_words.specs.declared.limits.Format.TheVariants.{One}
 use Rattle.mt_words.specs.declared.record.Change.{Change}
 use Rattle.mt_words.specs.declared.update.Kind.{Kind}
 use Rattle.mt_words.specs.declared.update.Kind.TheVariants.{Put, Remove, Whole}
-use Rattle.mt_words.specs.Limits.{Limits, limits_of}
+use Rattle.mt_words.specs.declared.limits.Limits.{Limits}
+use Rattle.mt_words.specs.Limits.{limits_of}
 use Rattle.mt_words.specs.Words.{IsColumn, AreColumns, NumbersRise}
 use Rattle.mt_words.specs.Changes.{Logged, IsLawful, IsLoggedChange, AllowsKind}
+use Rattle.mt_words.proofs.Formats.{within}
 use Rattle.mt_record.specs.Spelling.{column_bytes, kind_bytes, body_of, body, IsRecordLength, FitsColumn, FitsKind, FitsLogged, Fits}
 
--- ---- the limits of each format
+-- ---- the limits of the formats
 
 -- keys are short enough for their length
 pub key_room : (format : Format) → (limits_of format).key < 2 ^ 16
-key_room One = omega arith
+key_room format = omega (arith, (within format).key)
 
 -- column numbers are bytes, and so is how many there are
 column_room : (format : Format) → suc (limits_of format).column < 2 ^ 8
-column_room One = omega arith
+column_room format = omega (arith, (within format).column)
 
 -- bodies are short enough for their length
 pub length_fits : (format : Format) (n : ℕ) → IsRecordLength (limits_of format) n → n < 2 ^ 32
-length_fits One n is = omega arith
+length_fits format n is =
+    let room = within format in
+    omega (arith, is.1, room.key, room.column)
 
 -- ---- columns
 

@@ -7,6 +7,8 @@ pub mod Records
 pub mod Encoding
 pub mod Entries
 pub mod EntryTexts
+pub mod Checked
+pub mod Copying
 pub mod OneFault
 pub mod OneLog
 pub mod OneReading

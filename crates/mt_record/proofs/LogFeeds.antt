@@ -1,22 +1,21 @@
 -- The items of a log one behind the other, and what its feed was fed.
-use Rattle.std.proofs.Common.{◌≡◌, ℕ, ◌+◌, ◌-◌, ◌^◌, ◌<◌, ◌≤◌, min, max, true, Result, Ok, Err, Option, Some, None, List, [], ◌∷◌, ◌++◌, length, refl, sym, ap, ◌∙◌, subst, append_assoc, arith}
+use Rattle.std.proofs.Common.{◌≡◌, ℕ, ◌+◌, ◌-◌, ◌^◌, ◌<◌, ◌≤◌, min, max, Result, Ok, Err, Option, Some, None, List, [], ◌∷◌, ◌++◌, length, refl, sym, ap, ◌∙◌, subst, append_assoc, arith}
 use Rattle.std.proofs.lemmas.List.{length-append}
 use Rattle.std.specs.Prelude.{◌==◌, Bool, not, codes, IfOk, OnErr, MatchOption}
 use Rattle.std.specs.Borrow.{Bor}
-use Rattle.std.proofs.lemmas.Bool.{false≢true}
-use Rattle.std.specs.Option.{is_some, option_map}
 use Rattle.std.specs.List.{flat_map}
 use Rattle.byteorder.specs.Endian.{big_bytes}
 use Rattle.std.specs.Result.{OnOk, IfErr}
 use Rattle.mt_words.specs.declared.fault.What.{What}
 use Rattle.mt_words.specs.declared.limits.Format.TheVariants.{One}
-use Rattle.mt_words.specs.Limits.{limits_of}
+use Rattle.mt_words.specs.Limits.{limits_of, magic}
 use Rattle.mt_words.specs.Changes.{Logged}
 use Rattle.mt_record.specs.declared.read.FeedFault.{FeedFault}
 use Rattle.mt_record.specs.declared.read.FeedFault.TheVariants as faults
 use Rattle.mt_record.specs.declared.log_items.LogItems.{LogItems}
 use Rattle.mt_record.specs.Spelling.{spelling, body}
-use Rattle.mt_record.specs.Heads.{Head, IsHead, head_of, head_bytes, HasNoHeader}
+use Rattle.mt_record.specs.declared.head.Head.{Head}
+use Rattle.mt_record.specs.Heads.{IsHead, head_bytes, HasNoHeader}
 use Rattle.mt_record.specs.Logs.{latest, IsLog, LogReading, IsLast, IsTextAfter}
 use Rattle.mt_record.specs.LogFaults.{RestFault, HasFault, IsAnswered}
 use Rattle.mt_record.specs.Fronts.{BeginsAlike}
@@ -24,49 +23,49 @@ use Rattle.mt_record.specs.Bodies.{IsNext}
 use Rattle.mt_record.specs.declared.feed.Feed.{Feed}
 use Rattle.mt_record.specs.Feeding.{Reads, ReadsStep, IsFedBy}
 use Rattle.mt_record.specs.LogFeeding.{FedLog, ShowsNoHeader, IsShown, ShowsNoFault, AreRead, HasRead, ReadsNoHeader, IsCutHeader, IsLeft, IsLogLeft, HasFailed, IsLogFed}
-use Rattle.mt_record.specs.LogPieces.{fed_log, head_in, HasReadItems, IsLeftOfItems, ReadsNext, IsNextFault}
+use Rattle.mt_record.specs.LogPieces.{fed_log, HasReadItems, IsLeftOfItems, ReadsNext, IsNextFault}
 use Rattle.mt_record.specs.LogLaws.{begins_by}
 use Rattle.mt_record.proofs.Records.{records_push, latest_push, spelled_push, last_is, tells_torn}
 use Rattle.mt_record.proofs.OneReading.{not_both}
 use Rattle.mt_record.proofs.Unique.{framed_apart}
-use Rattle.mt_record.proofs.Beginnings.{head_length, cut_front, part_alike}
+use Rattle.mt_record.proofs.Beginnings.{head_length, cut_front, part_alike, log_whole}
 
 -- ---- what was read, by how far it came
 
-pub reads_nothing : (items : LogItems) (taken : List Logged) (text rest : List ℕ) → items.from ≡ None → HasReadItems taken items text rest
+pub reads_nothing : (items : LogItems) (taken : List Logged) (text rest : List ℕ) → items.head ≡ None → HasReadItems taken items text rest
     → ReadsNoHeader (taken ++ items.ready.items) items.latest items.whole text rest
 reads_nothing items taken text rest none reads =
-    subst (λ (o : Option ℕ). HasRead (option_map head_of o) (taken ++ items.ready.items) items.latest items.whole text rest) none reads
+    subst (λ (o : Option Head). HasRead o (taken ++ items.ready.items) items.latest items.whole text rest) none reads
 
-pub reads_records : (items : LogItems) (from : ℕ) (taken : List Logged) (text rest : List ℕ) → items.from ≡ Some from → HasReadItems taken items text rest
-    → AreRead (head_of from) (taken ++ items.ready.items) items.latest items.whole text rest
-reads_records items from taken text rest some reads =
-    subst (λ (o : Option ℕ). HasRead (option_map head_of o) (taken ++ items.ready.items) items.latest items.whole text rest) some reads
+pub reads_records : (items : LogItems) (head : Head) (taken : List Logged) (text rest : List ℕ) → items.head ≡ Some head → HasReadItems taken items text rest
+    → AreRead head (taken ++ items.ready.items) items.latest items.whole text rest
+reads_records items head taken text rest some reads =
+    subst (λ (o : Option Head). HasRead o (taken ++ items.ready.items) items.latest items.whole text rest) some reads
 
-are_read : (items : LogItems) (from : ℕ) (taken : List Logged) (text rest : List ℕ) → items.from ≡ Some from
-    → AreRead (head_of from) (taken ++ items.ready.items) items.latest items.whole text rest → HasReadItems taken items text rest
-are_read items from taken text rest some reads =
-    subst (λ (o : Option ℕ). HasRead (option_map head_of o) (taken ++ items.ready.items) items.latest items.whole text rest) (sym some) reads
+are_read : (items : LogItems) (head : Head) (taken : List Logged) (text rest : List ℕ) → items.head ≡ Some head
+    → AreRead head (taken ++ items.ready.items) items.latest items.whole text rest → HasReadItems taken items text rest
+are_read items head taken text rest some reads =
+    subst (λ (o : Option Head). HasRead o (taken ++ items.ready.items) items.latest items.whole text rest) (sym some) reads
 
 -- ---- the header
 
 -- bytes that are no beginning of a header are the fault of the header
-pub header_failed : (items : LogItems) (taken : List Logged) (text bytes : List ℕ) → items.from ≡ None → HasReadItems taken items text bytes → ShowsNoHeader bytes
+pub header_failed : (items : LogItems) (taken : List Logged) (text bytes : List ℕ) → items.head ≡ None → HasReadItems taken items text bytes → ShowsNoHeader bytes
     → HasFailed faults.Header text (taken ++ items.ready.items)
 header_failed items taken text bytes none reads shows =
     let nothing = reads_nothing items taken text bytes none reads in
     (subst ShowsNoHeader (sym nothing.all) shows, nothing.none)
 
 -- bytes that begin as a header does, and hold none, begin one
-pub header_cut : (items : LogItems) (bytes : List ℕ) → items.from ≡ None → BeginsAlike IsHead head_bytes bytes → HasNoHeader bytes → IsLeftOfItems items bytes
-header_cut items bytes none alike no_head = subst (λ (o : Option ℕ). IsLogLeft (option_map head_of o) bytes) (sym none) (cut_front IsHead head_bytes bytes alike no_head)
+pub header_cut : (items : LogItems) (bytes : List ℕ) → items.head ≡ None → BeginsAlike IsHead head_bytes bytes → HasNoHeader bytes → IsLeftOfItems items bytes
+header_cut items bytes none alike no_head = subst (λ (o : Option Head). IsLogLeft o bytes) (sym none) (cut_front IsHead head_bytes bytes alike no_head)
 
 -- a whole header is read
-pub header_read : (items : LogItems) (from : ℕ) (taken : List Logged) (text bytes after : List ℕ) → items.from ≡ None → HasReadItems taken items text bytes → IsHead (head_of from)
-    → bytes ≡ head_bytes (head_of from) ++ after → HasReadItems taken (record items { from = Some from }) text after
-header_read items from taken text bytes after none reads is e =
+pub header_read : (items : LogItems) (head : Head) (taken : List Logged) (text bytes after : List ℕ) → items.head ≡ None → HasReadItems taken items text bytes → IsHead head
+    → bytes ≡ head_bytes head ++ after → HasReadItems taken (record items { head = Some head }) text after
+header_read items head taken text bytes after none reads is e =
     let nothing = reads_nothing items taken text bytes none reads in
-    subst (λ (p : List Logged × ℕ × ℕ). AreRead (head_of from) p.0 p.1 p.2 text after) (λ i. (sym nothing.none i, sym nothing.latest i, sym nothing.whole i))
+    subst (λ (p : List Logged × ℕ × ℕ). AreRead head p.0 p.1 p.2 text after) (λ i. (sym nothing.none i, sym nothing.latest i, sym nothing.whole i))
     (record { is_head = is; spelled = nothing.all ∙ e; lawful = tt; latest = refl; whole = refl })
 
 -- ---- records
@@ -87,119 +86,110 @@ read_push head rs r t n log rest after h next =
     }
 
 -- items that read the next record are before what follows it
-next_read : (old new : LogItems) (from : ℕ) (taken : List Logged) (text rest after : List ℕ) → old.from ≡ Some from → ReadsNext old rest new after
+next_read : (old new : LogItems) (head : Head) (taken : List Logged) (text rest after : List ℕ) → old.head ≡ Some head → ReadsNext head old rest new after
     → HasReadItems taken old text rest → HasReadItems taken new text after
-next_read old new from taken text rest after some next reads =
-    let before = reads_records old from taken text rest some reads in
-    let base = read_push (head_of from) (taken ++ old.ready.items) next.next old.latest old.whole text rest after before next.is_next in
+next_read old new head taken text rest after some next reads =
+    let before = reads_records old head taken text rest some reads in
+    let base = read_push head (taken ++ old.ready.items) next.next old.latest old.whole text rest after before next.is_next in
     let list : taken ++ new.ready.items ≡ (taken ++ old.ready.items) ++ next.next ∷ [] =
     ap (λ (x : List Logged). taken ++ x) next.more.ready ∙ sym (append_assoc taken old.ready.items (next.next ∷ [])) in
     let time = next.more.latest in
     let count = next.more.whole in
-    are_read new from taken text after (next.more.from ∙ some)
-    (subst (λ (p : List Logged × ℕ × ℕ). AreRead (head_of from) p.0 p.1 p.2 text after) (λ i. (sym list i, sym time i, sym count i)) base)
+    are_read new head taken text after (next.more.head ∙ some)
+    (subst (λ (p : List Logged × ℕ × ℕ). AreRead head p.0 p.1 p.2 text after) (λ i. (sym list i, sym time i, sym count i)) base)
 
 -- one record more is a step, and fewer bytes follow
-pub record_read : (old new : LogItems) (from : ℕ) (bytes after : List ℕ) → old.from ≡ Some from → ReadsNext old bytes new after
+record_read : (old new : LogItems) (head : Head) (bytes after : List ℕ) → old.head ≡ Some head → ReadsNext head old bytes new after
     → Reads HasReadItems old new bytes after × (length after < length bytes)
-record_read old new from bytes after some next =
+record_read old new head bytes after some next =
     let spelled = next.is_next.spelled in
     let size = ap length (spelled ∙ framed_apart (body next.next) after) in
     let behind = length-append (body next.next) (big_bytes 4 (length (body next.next)) ++ after) in (
-      record { items = spelling next.next; joins = spelled; on = λ taken text reads. next_read old new from taken text bytes after some next reads },
+      record { items = spelling next.next; joins = spelled; on = λ taken text reads. next_read old new head taken text bytes after some next reads },
       omega (arith, size, behind),
     )
 
 -- a rest that is left behind records
-pub records_left : (items : LogItems) (from : ℕ) (rest : List ℕ) → items.from ≡ Some from → IsLeft (limits_of One) rest → IsLeftOfItems items rest
-records_left items from rest some left = subst (λ (o : Option ℕ). IsLogLeft (option_map head_of o) rest) (sym some) left
+records_left : (items : LogItems) (head : Head) (rest : List ℕ) → items.head ≡ Some head → IsLeft (limits_of head.format) rest → IsLeftOfItems items rest
+records_left items head rest some left = subst (λ (o : Option Head). IsLogLeft o rest) (sym some) left
 
 -- a fault behind the records read is that of the log
-pub record_failed : (fault : FeedFault) (old : LogItems) (ready : List Logged) (from : ℕ) (taken : List Logged) (text rest : List ℕ) → old.from ≡ Some from → IsNextFault old rest fault
+record_failed : (fault : FeedFault) (old : LogItems) (ready : List Logged) (head : Head) (taken : List Logged) (text rest : List ℕ) → old.head ≡ Some head → IsNextFault head old rest fault
     → ready ≡ old.ready.items → HasReadItems taken old text rest → HasFailed fault text (taken ++ ready)
-record_failed faults.Header old ready from taken text rest some k e reads = absurd k
-record_failed (faults.Record nth what) old ready from taken text rest some k e reads =
-    let h = reads_records old from taken text rest some reads in
-    let fault = subst (λ (t : ℕ). RestFault what (limits_of One) t rest) h.latest k.1 in
+record_failed faults.Header old ready head taken text rest some k e reads = absurd k
+record_failed (faults.Record nth what) old ready head taken text rest some k e reads =
+    let h = reads_records old head taken text rest some reads in
+    let fault = subst (λ (t : ℕ). RestFault what (limits_of head.format) t rest) h.latest k.1 in
     let there : HasFault text (taken ++ old.ready.items) what =
-    record { head = head_of from; rest = rest; spelled = h.spelled; is_head = h.is_head; lawful = h.lawful; fault = fault } in
+    record { head = head; rest = rest; spelled = h.spelled; is_head = h.is_head; lawful = h.lawful; fault = fault } in
     rw e (there, k.0 ∙ h.whole)
-record_failed faults.Memory old ready from taken text rest some k e reads =
-    rw e (begins_by (head_in old) (taken ++ old.ready.items) old.latest old.whole text rest reads)
-
--- the header was read where its `from` is there
-the_from : (o : Option ℕ) → is_some o ≡ true → (from : ℕ) × (o ≡ Some from)
-the_from None there = absurd (false≢true there)
-the_from (Some from) there = (from, refl)
+record_failed faults.Memory old ready head taken text rest some k e reads =
+    rw e (begins_by old.head (taken ++ old.ready.items) old.latest old.whole text rest reads)
 
 -- a step behind the header
-pub step_by : (old new : LogItems) (bytes : List ℕ) (outcome : Result (Option (Bor (List ℕ))) FeedFault) → is_some old.from ≡ true
-    → IfOk outcome (λ next. MatchOption next ((new ≡ old) × IsLeft (limits_of One) bytes) (λ after. ReadsNext old bytes new after.now))
+pub step_by : (old new : LogItems) (head : Head) (bytes : List ℕ) (outcome : Result (Option (Bor (List ℕ))) FeedFault) → old.head ≡ Some head
+    → IfOk outcome (λ next. MatchOption next ((new ≡ old) × IsLeft (limits_of head.format) bytes) (λ after. ReadsNext head old bytes new after.now))
     → IfOk outcome (ReadsStep HasReadItems IsLeftOfItems old new bytes)
-step_by old new bytes (Ok None) there stays =
-    let from = the_from old.from there in
-    (stays.0, λ taken text reads. records_left old from.0 bytes from.1 stays.1)
-step_by old new bytes (Ok (Some after)) there next =
-    let from = the_from old.from there in
-    record_read old new from.0 bytes after.now from.1 next
-step_by old new bytes (Err fault) there next = tt
+step_by old new head bytes (Ok None) some stays = (stays.0, λ taken text reads. records_left old head bytes some stays.1)
+step_by old new head bytes (Ok (Some after)) some next = record_read old new head bytes after.now some next
+step_by old new head bytes (Err fault) some next = tt
 
 -- a fault behind the header
-pub fault_by : (old new : LogItems) (bytes : List ℕ) (outcome : Result (Option (Bor (List ℕ))) FeedFault) (taken : List Logged) (text : List ℕ) → is_some old.from ≡ true
-    → IfErr outcome (IsNextFault old bytes) → OnErr outcome (new.ready.items ≡ old.ready.items) → HasReadItems taken old text bytes
+pub fault_by : (old new : LogItems) (head : Head) (bytes : List ℕ) (outcome : Result (Option (Bor (List ℕ))) FeedFault) (taken : List Logged) (text : List ℕ) → old.head ≡ Some head
+    → IfErr outcome (IsNextFault head old bytes) → OnErr outcome (new.ready.items ≡ old.ready.items) → HasReadItems taken old text bytes
     → IfErr outcome (λ fault. HasFailed fault text (taken ++ new.ready.items))
-fault_by old new bytes (Ok next) taken text there failed kept reads = tt
-fault_by old new bytes (Err fault) taken text there failed kept reads =
-    let from = the_from old.from there in
-    record_failed fault old new.ready.items from.0 taken text bytes from.1 failed kept reads
+fault_by old new head bytes (Ok next) taken text some failed kept reads = tt
+fault_by old new head bytes (Err fault) taken text some failed kept reads =
+    record_failed fault old new.ready.items head taken text bytes some failed kept reads
 
 -- ---- the beginning
 
 -- what the feed of a log is, by its items
 abbrev pub fed_with : LogItems → List ℕ → Option FeedFault → FedLog
-fed_with items held fault = record { head = head_in items; held = held; ready = items.ready.items; latest = items.latest; whole = items.whole; fault = fault }
+fed_with items held fault = record { head = items.head; held = held; ready = items.ready.items; latest = items.latest; whole = items.whole; fault = fault }
 
 -- nothing was read of nothing
-nothing_read : (items : LogItems) (held : List ℕ) → items.from ≡ None → items.ready.items ≡ [] → items.latest ≡ 0 → items.whole ≡ 0 → held ≡ []
+nothing_read : (items : LogItems) (held : List ℕ) → items.head ≡ None → items.ready.items ≡ [] → items.latest ≡ 0 → items.whole ≡ 0 → held ≡ []
     → HasReadItems [] items [] held × IsLeftOfItems items held
-nothing_read items held from ready time count none =
-    subst (λ (p : Option ℕ × List Logged × ℕ × ℕ × List ℕ). HasRead (option_map head_of p.0) p.1 p.2 p.3 [] p.4 × IsLogLeft (option_map head_of p.0) p.4)
-    (λ i. (sym from i, sym ready i, sym time i, sym count i, sym none i)) (
+nothing_read items held head ready time count none =
+    subst (λ (p : Option Head × List Logged × ℕ × ℕ × List ℕ). HasRead p.0 p.1 p.2 p.3 [] p.4 × IsLogLeft p.0 p.4)
+    (λ i. (sym head i, sym ready i, sym time i, sym count i, sym none i)) (
       record { none = refl; latest = refl; whole = refl; all = refl },
-      cut_front IsHead head_bytes [] (part_alike [] (codes "MTL1") refl) (λ head more is e. let whole = ap length e in omega (arith, whole, length-append (head_bytes head) more, head_length head.format head.from)),
+      cut_front IsHead head_bytes [] (part_alike IsHead head_bytes (codes "MTL") 8 log_whole One [] (magic (codes "MTL") One) refl)
+          (λ other more is e. let whole = ap length e in omega (arith, whole, length-append (head_bytes other) more, head_length other)),
     )
 
 -- a feed that was fed nothing
-pub fed_nothing : (feed : Feed LogItems FeedFault) (items : LogItems) → feed.items ≡ items → feed.held.items ≡ [] → feed.fault ≡ None → items.from ≡ None → items.ready.items ≡ [] → items.latest ≡ 0
+pub fed_nothing : (feed : Feed LogItems FeedFault) (items : LogItems) → feed.items ≡ items → feed.held.items ≡ [] → feed.fault ≡ None → items.head ≡ None → items.ready.items ≡ [] → items.latest ≡ 0
     → items.whole ≡ 0 → IsLogFed (fed_log feed) [] []
-fed_nothing feed items same held sound from ready time count =
-    let nothing = nothing_read items feed.held.items from ready time count held in
+fed_nothing feed items same held sound head ready time count =
+    let nothing = nothing_read items feed.held.items head ready time count held in
     subst (λ (p : LogItems × Option FeedFault). IsLogFed (fed_with p.0 feed.held.items p.1) [] []) (λ i. (sym same i, sym sound i)) nothing
 
 -- ---- the end
 
 -- without a header there is none
-pub no_head_read : (items : LogItems) (taken : List Logged) (text left : List ℕ) → items.from ≡ None → HasReadItems taken items text left → IsLeftOfItems items left → HasNoHeader text
+pub no_head_read : (items : LogItems) (taken : List Logged) (text left : List ℕ) → items.head ≡ None → HasReadItems taken items text left → IsLeftOfItems items left → HasNoHeader text
 no_head_read items taken text left none reads rest =
     let nothing = reads_nothing items taken text left none reads in
-    let cut : IsCutHeader left = subst (λ (o : Option ℕ). IsLogLeft (option_map head_of o) left) none rest in
+    let cut : IsCutHeader left = subst (λ (o : Option Head). IsLogLeft o left) none rest in
     λ head more is e.
-    let here = head_length cut.0.format cut.0.from in
-    let there = head_length head.format head.from in
+    let here = head_length cut.0 in
+    let there = head_length head in
     let all = ap length cut.4 ∙ length-append left cut.1 in
     let long = ap length (sym nothing.all ∙ e) ∙ length-append (head_bytes head) more in
     omega (arith, here, there, all, long, cut.3)
 
 -- what was read with a header is a log
-pub text_read : (items : LogItems) (taken : List Logged) (text left : List ℕ) (from last : ℕ) (torn : Bool) → items.from ≡ Some from → HasReadItems taken items text left
-    → IsLeftOfItems items left → torn ≡ not (length left == 0) → last ≡ max from items.latest
-    → IsTextAfter taken text (record { from = from; last = last; records = items.ready; whole = items.whole; torn = torn })
-text_read items taken text left from last torn some reads rest test greatest =
-    let h = reads_records items from taken text left some reads in
-    let ends : IsLeft (limits_of One) left = subst (λ (o : Option ℕ). IsLogLeft (option_map head_of o) left) some rest in
-    let log : LogReading = record { head = head_of from; records = taken ++ items.ready.items; torn = torn } in
-    let time : last ≡ max from (latest 0 log.records) = greatest ∙ ap (λ (n : ℕ). max from n) h.latest in
-    let tells = tells_torn (limits_of One) left (length left == 0) refl ends in
+pub text_read : (items : LogItems) (taken : List Logged) (text left : List ℕ) (head : Head) (last : ℕ) (torn : Bool) → items.head ≡ Some head → HasReadItems taken items text left
+    → IsLeftOfItems items left → torn ≡ not (length left == 0) → last ≡ max head.from items.latest
+    → IsTextAfter taken text (record { from = head.from; last = last; records = items.ready; whole = items.whole; torn = torn })
+text_read items taken text left head last torn some reads rest test greatest =
+    let h = reads_records items head taken text left some reads in
+    let ends : IsLeft (limits_of head.format) left = subst (λ (o : Option Head). IsLogLeft o left) some rest in
+    let log : LogReading = record { head = head; records = taken ++ items.ready.items; torn = torn } in
+    let time : last ≡ max head.from (latest 0 log.records) = greatest ∙ ap (λ (n : ℕ). max head.from n) h.latest in
+    let tells = tells_torn (limits_of head.format) left (length left == 0) refl ends in
     record {
       log = log;
       is_reading = record {
@@ -209,7 +199,7 @@ text_read items taken text left from last torn some reads rest test greatest =
       };
       shows = record {
         from = refl;
-        last = subst (λ (n : ℕ). IsLast log n) (sym time) (last_is (limits_of One) log h.lawful);
+        last = subst (λ (n : ℕ). IsLast log n) (sym time) (last_is (limits_of head.format) log h.lawful);
         records = refl;
         whole = h.whole;
         torn = refl;
@@ -222,8 +212,8 @@ text_read items taken text left from last torn some reads rest test greatest =
 begins_no_fault : (bytes more : List ℕ) (head : Head) (records : List Logged) (what : What) → head_bytes head ≡ bytes ++ more → 0 < length more
     → HasFault bytes records what → ⊥
 begins_no_fault bytes more head records what e some h =
-    let here = head_length head.format head.from in
-    let there = head_length h.head.format h.head.from in
+    let here = head_length head in
+    let there = head_length h.head in
     let all = ap length e ∙ length-append bytes more in
     let long = ap length h.spelled ∙ length-append (head_bytes h.head) (flat_map spelling records ++ h.rest) in
     omega (arith, here, there, all, long)
@@ -280,7 +270,7 @@ ok_shows_none : (items : LogItems) (held : List ℕ) (fault : Option FeedFault) 
     → IsFedItems taken items held fault bytes → OnOk outcome (fault ≡ None) → OnOk outcome (ShowsNoFault bytes)
 ok_shows_none items held fault (Ok u) bytes taken fed none =
     let read = subst (λ (o : Option FeedFault). IsFedItems taken items held o bytes) none fed in
-    order_shows_none (head_in items) (taken ++ items.ready.items) items.latest items.whole bytes held read.0 read.1
+    order_shows_none items.head (taken ++ items.ready.items) items.latest items.whole bytes held read.0 read.1
 ok_shows_none items held fault (Err e) bytes taken fed none = tt
 
 -- and where it answers one, that is

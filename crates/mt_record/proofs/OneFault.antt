@@ -9,12 +9,14 @@ use Rattle.mt_words.specs.declared.update.Kind.{Kind as AnyKind}
 use Rattle.mt_words.specs.declared.update.Kind.TheVariants.{Put, Remove, Whole}
 use Rattle.mt_words.specs.declared.fault.What.{What}
 use Rattle.mt_words.specs.declared.fault.What.TheVariants.{Length, Trailer, Kind, Frame, Version, Key, Columns, Clock}
-use Rattle.mt_words.specs.Limits.{Limits, limits_of}
+use Rattle.mt_words.specs.declared.limits.Limits.{Limits}
+use Rattle.mt_words.specs.Limits.{limits_of}
 use Rattle.mt_words.specs.Changes.{Logged, changed, IsLawful, IsLogged, IsLawfulChange, IsLoggedChange}
 use Rattle.mt_record.specs.Spelling.{code_of, body_of, body, framed, spelling, FitsLogged, Fits, IsRecordLength}
 use Rattle.mt_record.specs.Logs.{IsTorn}
 use Rattle.mt_record.specs.LogFaults.{IsKindByte, HasVersionFault, HasKeyFault, HasColumnsFault, BodyFault, RestFault}
 use Rattle.mt_record.proofs.Unique.{same_split, same_number, same_body, framed_apart, same_framed}
+use Rattle.mt_words.proofs.Formats.{within}
 use Rattle.mt_record.proofs.Lawful.{length_fits, lawful_fits, lawful_length}
 
 -- ---- what a rest begins with
@@ -86,9 +88,9 @@ abbrev FieldFault : What → Limits → ℕ → ℕ → Option Change → Type 0
 FieldFault what limits low t None = (what ≡ Clock) × (t < low)
 FieldFault what limits low t (Some change) = ChangeFault what limits low t change
 
--- a fault of a body whose fields are read
+-- a fault of a body, of a kind that the format has, whose fields are read
 abbrev ReadFault : What → Limits → ℕ → List ℕ → Type 0
-ReadFault what limits low text = (r : Logged) × Fits r × (text ≡ body r) × FieldFault what limits low r.timestamp r.change
+ReadFault what limits low text = IsKindByte limits (slice_index text 0) × (r : Logged) × Fits r × (text ≡ body r) × FieldFault what limits low r.timestamp r.change
 
 -- a lawful record before its time has the fault of the clock
 clock_fault : (limits : Limits) (low t : ℕ) (change : Option Change) → IfSome change (IsLoggedChange limits) → t < low → FieldFault Clock limits low t change
@@ -102,25 +104,25 @@ split_body Length format low text h = absurd h
 split_body Trailer format low text h = absurd h
 split_body Kind format low text h = inl refl
 split_body Frame format low text h = inr (inl refl)
-split_body Version format low text h = inr (inr (changed h.0 h.1, h.2, h.3, inl (refl, h.4)))
-split_body Key format low text h = inr (inr (changed h.0 h.1, h.2, h.3, inr (inl (refl, h.4))))
-split_body Columns format low text h = inr (inr (changed h.0 h.1, h.2, h.3, inr (inr (inl (refl, h.4)))))
-split_body Clock format low text h = inr (inr (h.0, lawful_fits format h.0 h.1, h.2, clock_fault (limits_of format) low h.0.timestamp h.0.change h.1.1 h.3))
+split_body Version format low text h = inr (inr (h.0, changed h.1.0 h.1.1, h.1.2, h.1.3, inl (refl, h.1.4)))
+split_body Key format low text h = inr (inr (h.0, changed h.1.0 h.1.1, h.1.2, h.1.3, inr (inl (refl, h.1.4))))
+split_body Columns format low text h = inr (inr (h.0, changed h.1.0 h.1.1, h.1.2, h.1.3, inr (inr (inl (refl, h.1.4)))))
+split_body Clock format low text h = inr (inr (h.0, h.1, lawful_fits format h.1 h.2, h.3, clock_fault (limits_of format) low h.1.timestamp h.1.change h.2.1 h.4))
 
--- each kind of record has its byte
-kind_byte : (limits : Limits) (kind : AnyKind) → IsLogged kind → IsKindByte limits (code_of kind)
-kind_byte limits (Put columns) logged = inl refl
-kind_byte limits Remove logged = inr (inl refl)
-kind_byte limits (Whole columns) logged = absurd logged
+-- every format has each kind of record
+kind_byte : (format : Format) (kind : AnyKind) → IsLogged kind → IsKindByte (limits_of format) (code_of kind)
+kind_byte format (Put columns) logged = (omega arith, omega (arith, (within format).kinds))
+kind_byte format Remove logged = (omega arith, omega (arith, (within format).kinds))
+kind_byte format (Whole columns) logged = absurd logged
 
--- a body begins with the byte of a kind
-body_byte : (limits : Limits) (t : ℕ) (change : Option Change) → IfSome change FitsLogged → IsKindByte limits (slice_index (body_of t change) 0)
-body_byte limits t None fits = inr (inr refl)
-body_byte limits t (Some change) fits = kind_byte limits change.kind fits.1
+-- so that a body begins with the byte of a kind
+body_byte : (format : Format) (t : ℕ) (change : Option Change) → IfSome change FitsLogged → IsKindByte (limits_of format) (slice_index (body_of t change) 0)
+body_byte format t None fits = (omega arith, (within format).kinds)
+body_byte format t (Some change) fits = kind_byte format change.kind fits.1
 
--- the body of a record has no fault of its kind
-no_kind : (limits : Limits) (low : ℕ) (text : List ℕ) (r : Logged) → Fits r → text ≡ body r → BodyFault Kind limits low text → ⊥
-no_kind limits low text r fits e h = h (subst (λ (x : List ℕ). IsKindByte limits (slice_index x 0)) (sym e) (body_byte limits r.timestamp r.change fits.1))
+-- and the body of a record has no fault of its kind
+no_kind : (format : Format) (low : ℕ) (text : List ℕ) (r : Logged) → Fits r → text ≡ body r → BodyFault Kind (limits_of format) low text → ⊥
+no_kind format low text r fits e h = h (subst (λ (x : List ℕ). IsKindByte (limits_of format) (slice_index x 0)) (sym e) (body_byte format r.timestamp r.change fits.1))
 
 -- the body of a record has no fault of its frame
 no_frame : (limits : Limits) (low : ℕ) (text : List ℕ) (r : Logged) → Fits r → text ≡ body r → BodyFault Frame limits low text → ⊥
@@ -166,9 +168,9 @@ no_field limits low t (Some change) a is le h = no_change_fault limits low t cha
 -- fields that are read have one fault
 one_read : (limits : Limits) (low : ℕ) (text : List ℕ) (a b : What) → ReadFault a limits low text → ReadFault b limits low text → a ≡ b
 one_read limits low text a b h k =
-    let same = same_body h.0 k.0 h.1 k.1 (sym h.2 ∙ k.2) in
-    let there = subst (λ (r : Logged). FieldFault a limits low r.timestamp r.change) same h.3 in
-    one_field limits low k.0.timestamp k.0.change a b there k.3
+    let same = same_body h.1 k.1 h.2 k.2 (sym h.3 ∙ k.3) in
+    let there = subst (λ (r : Logged). FieldFault a limits low r.timestamp r.change) same h.4 in
+    one_field limits low k.1.timestamp k.1.change a b there k.4
 
 -- a body has one fault
 both_bodies : (limits : Limits) (low : ℕ) (text : List ℕ) (a b : What) → BodyFault a limits low text → BodyFault b limits low text
@@ -176,27 +178,27 @@ both_bodies : (limits : Limits) (low : ℕ) (text : List ℕ) (a b : What) → B
 both_bodies limits low text a b h k (inl p) (inl q) = p ∙ sym q
 both_bodies limits low text a b h k (inl p) (inr (inl q)) =
     absurd ((subst (λ (w : What). BodyFault w limits low text) p h) (subst (λ (w : What). BodyFault w limits low text) q k).0)
-both_bodies limits low text a b h k (inl p) (inr (inr y)) = absurd (no_kind limits low text y.0 y.1 y.2 (subst (λ (w : What). BodyFault w limits low text) p h))
+both_bodies limits low text a b h k (inl p) (inr (inr y)) = absurd ((subst (λ (w : What). BodyFault w limits low text) p h) y.0)
 both_bodies limits low text a b h k (inr (inl p)) (inl q) =
     absurd ((subst (λ (w : What). BodyFault w limits low text) q k) (subst (λ (w : What). BodyFault w limits low text) p h).0)
 both_bodies limits low text a b h k (inr (inl p)) (inr (inl q)) = p ∙ sym q
 both_bodies limits low text a b h k (inr (inl p)) (inr (inr y)) =
-    absurd (no_frame limits low text y.0 y.1 y.2 (subst (λ (w : What). BodyFault w limits low text) p h))
-both_bodies limits low text a b h k (inr (inr x)) (inl q) = absurd (no_kind limits low text x.0 x.1 x.2 (subst (λ (w : What). BodyFault w limits low text) q k))
+    absurd (no_frame limits low text y.1 y.2 y.3 (subst (λ (w : What). BodyFault w limits low text) p h))
+both_bodies limits low text a b h k (inr (inr x)) (inl q) = absurd ((subst (λ (w : What). BodyFault w limits low text) q k) x.0)
 both_bodies limits low text a b h k (inr (inr x)) (inr (inl q)) =
-    absurd (no_frame limits low text x.0 x.1 x.2 (subst (λ (w : What). BodyFault w limits low text) q k))
+    absurd (no_frame limits low text x.1 x.2 x.3 (subst (λ (w : What). BodyFault w limits low text) q k))
 both_bodies limits low text a b h k (inr (inr x)) (inr (inr y)) = one_read limits low text a b x y
 
 -- the body of a lawful record in time has no fault
 no_body : (format : Format) (low : ℕ) (text : List ℕ) (a : What) (r : Logged) → IsLawful (limits_of format) r → low ≤ r.timestamp → text ≡ body r
     → BodyFault a (limits_of format) low text → (a ≡ Kind) ⊎ ((a ≡ Frame) ⊎ ReadFault a (limits_of format) low text) → ⊥
 no_body format low text a r is le e h (inl p) =
-    no_kind (limits_of format) low text r (lawful_fits format r is) e (subst (λ (w : What). BodyFault w (limits_of format) low text) p h)
+    no_kind format low text r (lawful_fits format r is) e (subst (λ (w : What). BodyFault w (limits_of format) low text) p h)
 no_body format low text a r is le e h (inr (inl p)) =
     no_frame (limits_of format) low text r (lawful_fits format r is) e (subst (λ (w : What). BodyFault w (limits_of format) low text) p h)
 no_body format low text a r is le e h (inr (inr x)) =
-    let same = same_body x.0 r x.1 (lawful_fits format r is) (sym x.2 ∙ e) in
-    let there = subst (λ (s : Logged). FieldFault a (limits_of format) low s.timestamp s.change) same x.3 in
+    let same = same_body x.1 r x.2 (lawful_fits format r is) (sym x.3 ∙ e) in
+    let there = subst (λ (s : Logged). FieldFault a (limits_of format) low s.timestamp s.change) same x.4 in
     no_field (limits_of format) low r.timestamp r.change a is.1 le there
 
 -- ---- one fault of a rest

@@ -1,31 +1,27 @@
 -- Bytes are one header, one list of records and one rest.
-use Rattle.std.proofs.Common.{◌≡◌, ℕ, ◌<◌, ◌^◌, List, [], ◌∷◌, ◌++◌, length, drop, refl, sym, ap, ◌∙◌, subst, append_assoc}
+use Rattle.std.proofs.Common.{◌≡◌, ℕ, List, [], ◌∷◌, ◌++◌, length, drop, refl, sym, ap, ◌∙◌, subst, append_assoc}
+use Rattle.std.specs.Prelude.{slice_index}
 use Rattle.std.specs.List.{flat_map}
 use Rattle.byteorder.specs.Endian.{big_bytes}
 use Rattle.mt_words.specs.declared.limits.Format.{Format}
-use Rattle.mt_words.specs.declared.limits.Format.TheVariants.{One}
 use Rattle.mt_words.specs.Limits.{limits_of}
+use Rattle.mt_words.proofs.Formats.{same_format}
 use Rattle.mt_words.specs.Changes.{Logged}
 use Rattle.mt_record.specs.Spelling.{body, spelling}
-use Rattle.mt_record.specs.Heads.{Head, IsHead, magic_of, head_bytes}
+use Rattle.mt_record.specs.declared.head.Head.{Head}
+use Rattle.mt_record.specs.Heads.{IsHead, head_bytes}
 use Rattle.mt_record.specs.Logs.{AreRecords, latest}
 use Rattle.mt_record.proofs.Unique.{same_number, same_body, same_framed}
 use Rattle.mt_record.proofs.Lawful.{length_fits, lawful_fits, lawful_length}
 use Rattle.mt_record.proofs.OneFault.{Stops}
 
--- one magic number and one `from` begin the bytes
-same_start : (f g : Format) (a b : ℕ) (x y : List ℕ) → a < 2 ^ 64 → b < 2 ^ 64 → (magic_of f ++ big_bytes 8 a) ++ x ≡ (magic_of g ++ big_bytes 8 b) ++ y
-    → (f ≡ g) × (a ≡ b) × (x ≡ y)
-same_start One One a b x y fits_a fits_b e =
-    let tails : big_bytes 8 a ++ x ≡ big_bytes 8 b ++ y = ap (drop 4) e in
-    let same = same_number 8 a b x y fits_a fits_b tails in
-    (refl, same.0, same.1)
-
 -- one header begins the bytes
 same_head : (a b : Head) (x y : List ℕ) → IsHead a → IsHead b → head_bytes a ++ x ≡ head_bytes b ++ y → (a ≡ b) × (x ≡ y)
 same_head a b x y is_a is_b e =
-    let same = same_start a.format b.format a.from b.from x y is_a is_b e in
-    (λ i. record { format = same.0 i; from = same.1 i }, same.2)
+    let format = same_format a.format b.format (ap (λ (bytes : List ℕ). slice_index bytes 3) e) in
+    let tails : big_bytes 8 a.from ++ x ≡ big_bytes 8 b.from ++ y = ap (drop 4) e in
+    let from = same_number 8 a.from b.from x y is_a is_b tails in
+    (λ i. record { format = format i; from = from.0 i }, from.1)
 
 -- one list of records, up to a rest that begins with none, begins the bytes
 same_records : (format : Format) (low : ℕ) (rs ss : List Logged) (x y : List ℕ) → AreRecords (limits_of format) low rs → AreRecords (limits_of format) low ss

@@ -3,8 +3,9 @@ use Rattle.std.proofs.Common.{◌≡◌, ◌≢◌, ◌⊎◌, inl, inr, ◌∙�
 use Rattle.std.proofs.lemmas.List.{length-append, append-nil}
 use Rattle.std.specs.List.{flat_map, AllByRecursion}
 use Rattle.byteorder.specs.Endian.{big_bytes}
-use Rattle.mt_words.specs.declared.limits.Format.TheVariants.{One}
+use Rattle.mt_words.specs.declared.limits.Format.{Format}
 use Rattle.mt_words.specs.declared.record.Change.{Change}
+use Rattle.mt_words.specs.declared.limits.Limits.{Limits}
 use Rattle.mt_words.specs.Limits.{limits_of}
 use Rattle.mt_words.specs.Changes.{IsEntry}
 use Rattle.mt_record.specs.declared.part_text.PartHead.{PartHead}
@@ -22,199 +23,204 @@ use Rattle.mt_record.proofs.PartItems.{reads_nothing, reads_entries, reads_part}
 -- ---- what stands at the front of a rest
 
 -- a length, and enough bytes behind it for what it begins: an entry, or a footer where it is zero
-record Whole (rest : List ℕ) : Type 0 where
+record Whole (limits : Limits) (rest : List ℕ) : Type 0 where
   first : ℕ
   tail : List ℕ
   fits : first < 2 ^ 32
   spelled : rest ≡ big_bytes 4 first ++ tail
-  enough : (IsEntryLength (limits_of One) first × (first + 4 ≤ length tail)) ⊎ ((first ≡ 0) × (12 ≤ length tail))
+  enough : (IsEntryLength limits first × (first + 4 ≤ length tail)) ⊎ ((first ≡ 0) × (12 ≤ length tail))
 
--- an entry at the front is whole
-entry_whole : (rest more : List ℕ) (entry : Change) → IsEntry (limits_of One) entry → rest ≡ entry_spelling entry ++ more → Whole rest
-entry_whole rest more entry is e =
-    let fields = change_bytes entry in
-    let long = entry_length (limits_of One) entry is in
-    record {
-      first = length fields;
-      tail = fields ++ (big_bytes 4 (length fields) ++ more);
-      fits = short_entry One (length fields) long;
-      spelled = e ∙ framed_apart fields more;
-      enough = inl (long, omega (arith, length-append fields (big_bytes 4 (length fields) ++ more)));
-    }
+-- Of parts of one format.
+module _ (format : Format) where
+  abbrev limits : Limits
+  limits = limits_of format
 
--- and so is a footer
-footer_whole : (rest more : List ℕ) (end count : ℕ) → rest ≡ footer_bytes end count ++ more → Whole rest
-footer_whole rest more end count e = record {
-  first = 0;
-  tail = big_bytes 8 end ++ (big_bytes 4 count ++ more);
-  fits = omega arith;
-  spelled = e;
-  enough = inr (refl, omega arith);
-}
+  -- an entry at the front is whole
+  entry_whole : (rest more : List ℕ) (entry : Change) → IsEntry limits entry → rest ≡ entry_spelling entry ++ more → Whole limits rest
+  entry_whole rest more entry is e =
+      let fields = change_bytes entry in
+      let long = entry_length limits entry is in
+      record {
+        first = length fields;
+        tail = fields ++ (big_bytes 4 (length fields) ++ more);
+        fits = short_entry format (length fields) long;
+        spelled = e ∙ framed_apart fields more;
+        enough = inl (long, omega (arith, length-append fields (big_bytes 4 (length fields) ++ more)));
+      }
 
--- a rest in which nothing more can be read has nothing whole at its front
-cut_item : (rest : List ℕ) → IsCutItem rest → Whole rest → ⊥
-cut_item rest (inl (inl few)) whole = let all = ap length whole.spelled in omega (arith, few, all)
-cut_item rest (inl (inr (n, more, long, e, short))) whole =
-    let same = same_number 4 n whole.first more whole.tail (short_entry One n long) whole.fits (sym e ∙ whole.spelled) in
-    let tails = ap length same.1 in
-    elim whole.enough as (λ _. ⊥) [ inl entry ↦ omega (arith, same.0, tails, short, entry.1) | inr footer ↦ omega (arith, same.0, long.0, footer.0) ]
-cut_item rest (inr (more, short, e)) whole =
-    let same = same_number 4 0 whole.first more whole.tail (omega arith) whole.fits (sym e ∙ whole.spelled) in
-    let tails = ap length same.1 in
-    elim whole.enough as (λ _. ⊥) [ inl entry ↦ omega (arith, same.0, entry.0.0) | inr footer ↦ omega (arith, tails, short, footer.1) ]
+  -- and so is a footer
+  footer_whole : (rest more : List ℕ) (end count : ℕ) → rest ≡ footer_bytes end count ++ more → Whole limits rest
+  footer_whole rest more end count e = record {
+    first = 0;
+    tail = big_bytes 8 end ++ (big_bytes 4 count ++ more);
+    fits = omega arith;
+    spelled = e;
+    enough = inr (refl, omega arith);
+  }
 
-none_left : (rest : List ℕ) → (rest ≡ []) ⊎ IsCutItem rest → Whole rest → ⊥
-none_left rest (inl none) whole = let all = ap length (sym none ∙ whole.spelled) in omega (arith, all)
-none_left rest (inr cut) whole = cut_item rest cut whole
+  -- a rest in which nothing more can be read has nothing whole at its front
+  cut_item : (rest : List ℕ) → IsCutItem limits rest → Whole limits rest → ⊥
+  cut_item rest (inl (inl few)) whole = let all = ap length whole.spelled in omega (arith, few, all)
+  cut_item rest (inl (inr (n, more, long, e, short))) whole =
+      let same = same_number 4 n whole.first more whole.tail (short_entry format n long) whole.fits (sym e ∙ whole.spelled) in
+      let tails = ap length same.1 in
+      elim whole.enough as (λ _. ⊥) [ inl entry ↦ omega (arith, same.0, tails, short, entry.1) | inr footer ↦ omega (arith, same.0, long.0, footer.0) ]
+  cut_item rest (inr (more, short, e)) whole =
+      let same = same_number 4 0 whole.first more whole.tail (omega arith) whole.fits (sym e ∙ whole.spelled) in
+      let tails = ap length same.1 in
+      elim whole.enough as (λ _. ⊥) [ inl entry ↦ omega (arith, same.0, entry.0.0) | inr footer ↦ omega (arith, tails, short, footer.1) ]
 
--- so that it begins with no entry
-left_no_entry : (rest : List ℕ) → (rest ≡ []) ⊎ IsCutItem rest → HasNoEntry rest
-left_no_entry rest left entry more is e = none_left rest left (entry_whole rest more entry is e)
+  none_left : (rest : List ℕ) → (rest ≡ []) ⊎ IsCutItem limits rest → Whole limits rest → ⊥
+  none_left rest (inl none) whole = let all = ap length (sym none ∙ whole.spelled) in omega (arith, all)
+  none_left rest (inr cut) whole = cut_item rest cut whole
 
--- ---- what shows that there is no part
+  -- so that it begins with no entry
+  left_no_entry : (rest : List ℕ) → (rest ≡ []) ⊎ IsCutItem limits rest → HasNoEntry limits rest
+  left_no_entry rest left entry more is e = none_left rest left (entry_whole rest more entry is e)
 
--- a footer at the front is no entry
-footer_no_entry : (rest more : List ℕ) (end count : ℕ) → rest ≡ footer_bytes end count ++ more → HasNoEntry rest
-footer_no_entry rest more end count e entry behind is other =
-    let fields = change_bytes entry in
-    let long = entry_length (limits_of One) entry is in
-    let same = same_number 4 0 (length fields) (big_bytes 8 end ++ (big_bytes 4 count ++ more)) (fields ++ (big_bytes 4 (length fields) ++ behind))
-    (omega arith) (short_entry One (length fields) long) (sym e ∙ other ∙ framed_apart fields behind) in
-    omega (arith, same.0, long.0)
+  -- ---- what shows that there is no part
 
--- what is framed wrongly is no entry
-wrong_no_entry : (rest text more : List ℕ) (n : ℕ) → IsEntryLength (limits_of One) (length text) → n < 2 ^ 32
-    → ((entry : Change) → IsEntry (limits_of One) entry → big_bytes 4 (length text) ++ (text ++ big_bytes 4 n) ≢ entry_spelling entry)
-    → rest ≡ (big_bytes 4 (length text) ++ (text ++ big_bytes 4 n)) ++ more → HasNoEntry rest
-wrong_no_entry rest text more n fits small refused e entry behind is other =
-    let fields = change_bytes entry in
-    let long = entry_length (limits_of One) entry is in
-    let frame = big_bytes 4 (length text) ++ (text ++ big_bytes 4 n) in
-    let number = same_number 4 (length text) (length fields) ((text ++ big_bytes 4 n) ++ more) (fields ++ (big_bytes 4 (length fields) ++ behind))
-    (short_entry One (length text) fits) (short_entry One (length fields) long) (sym e ∙ other ∙ framed_apart fields behind) in
-    let sizes : length frame ≡ length (entry_spelling entry) =
-    omega (arith, number.0, length-append text (big_bytes 4 n), length-append fields (big_bytes 4 (length fields))) in
-    refused entry is (same_split frame (entry_spelling entry) more behind sizes (sym e ∙ other)).0
+  -- a footer at the front is no entry
+  footer_no_entry : (rest more : List ℕ) (end count : ℕ) → rest ≡ footer_bytes end count ++ more → HasNoEntry limits rest
+  footer_no_entry rest more end count e entry behind is other =
+      let fields = change_bytes entry in
+      let long = entry_length limits entry is in
+      let same = same_number 4 0 (length fields) (big_bytes 8 end ++ (big_bytes 4 count ++ more)) (fields ++ (big_bytes 4 (length fields) ++ behind))
+      (omega arith) (short_entry format (length fields) long) (sym e ∙ other ∙ framed_apart fields behind) in
+      omega (arith, same.0, long.0)
 
--- a wrong length is no entry's
-length_no_entry : (rest : List ℕ) (n : ℕ) (more : List ℕ) → n < 2 ^ 32 → (IsEntryLength (limits_of One) n → ⊥) → rest ≡ big_bytes 4 n ++ more → HasNoEntry rest
-length_no_entry rest n more fits wrong e entry behind is other =
-    let fields = change_bytes entry in
-    let long = entry_length (limits_of One) entry is in
-    let same = same_number 4 n (length fields) more (fields ++ (big_bytes 4 (length fields) ++ behind)) fits (short_entry One (length fields) long)
-    (sym e ∙ other ∙ framed_apart fields behind) in
-    wrong (subst (IsEntryLength (limits_of One)) (sym same.0) long)
+  -- what is framed wrongly is no entry
+  wrong_no_entry : (rest text more : List ℕ) (n : ℕ) → IsEntryLength limits (length text) → n < 2 ^ 32
+      → ((entry : Change) → IsEntry limits entry → big_bytes 4 (length text) ++ (text ++ big_bytes 4 n) ≢ entry_spelling entry)
+      → rest ≡ (big_bytes 4 (length text) ++ (text ++ big_bytes 4 n)) ++ more → HasNoEntry limits rest
+  wrong_no_entry rest text more n fits small refused e entry behind is other =
+      let fields = change_bytes entry in
+      let long = entry_length limits entry is in
+      let frame = big_bytes 4 (length text) ++ (text ++ big_bytes 4 n) in
+      let number = same_number 4 (length text) (length fields) ((text ++ big_bytes 4 n) ++ more) (fields ++ (big_bytes 4 (length fields) ++ behind))
+      (short_entry format (length text) fits) (short_entry format (length fields) long) (sym e ∙ other ∙ framed_apart fields behind) in
+      let sizes : length frame ≡ length (entry_spelling entry) =
+      omega (arith, number.0, length-append text (big_bytes 4 n), length-append fields (big_bytes 4 (length fields))) in
+      refused entry is (same_split frame (entry_spelling entry) more behind sizes (sym e ∙ other)).0
 
-pub shown_no_entry : (count : ℕ) (rest : List ℕ) → ShowsNoPart count rest → HasNoEntry rest
-shown_no_entry count rest (inl h) = length_no_entry rest h.0 h.1 h.2 h.4 h.5
-shown_no_entry count rest (inr (inl h)) = wrong_no_entry rest h.0 h.2 h.1 h.3 h.4 h.5 h.6
-shown_no_entry count rest (inr (inr (inl h))) = footer_no_entry rest h.2 h.0 h.1 h.5
-shown_no_entry count rest (inr (inr (inr h))) = footer_no_entry rest (h.1 ∷ h.2) h.0 count h.3
+  -- a wrong length is no entry's
+  length_no_entry : (rest : List ℕ) (n : ℕ) (more : List ℕ) → n < 2 ^ 32 → (IsEntryLength limits n → ⊥) → rest ≡ big_bytes 4 n ++ more → HasNoEntry limits rest
+  length_no_entry rest n more fits wrong e entry behind is other =
+      let fields = change_bytes entry in
+      let long = entry_length limits entry is in
+      let same = same_number 4 n (length fields) more (fields ++ (big_bytes 4 (length fields) ++ behind)) fits (short_entry format (length fields) long)
+      (sym e ∙ other ∙ framed_apart fields behind) in
+      wrong (subst (IsEntryLength limits) (sym same.0) long)
 
--- framed bytes are whole, lawful or not
-frame_whole : (rest text more : List ℕ) (n : ℕ) → IsEntryLength (limits_of One) (length text) → rest ≡ (big_bytes 4 (length text) ++ (text ++ big_bytes 4 n)) ++ more → Whole rest
-frame_whole rest text more n fits e = record {
-  first = length text;
-  tail = (text ++ big_bytes 4 n) ++ more;
-  fits = short_entry One (length text) fits;
-  spelled = e;
-  enough = inl (fits, omega (arith, length-append (text ++ big_bytes 4 n) more, length-append text (big_bytes 4 n)));
-}
+  pub shown_no_entry : (count : ℕ) (rest : List ℕ) → ShowsNoPart limits count rest → HasNoEntry limits rest
+  shown_no_entry count rest (inl h) = length_no_entry rest h.0 h.1 h.2 h.4 h.5
+  shown_no_entry count rest (inr (inl h)) = wrong_no_entry rest h.0 h.2 h.1 h.3 h.4 h.5 h.6
+  shown_no_entry count rest (inr (inr (inl h))) = footer_no_entry rest h.2 h.0 h.1 h.5
+  shown_no_entry count rest (inr (inr (inr h))) = footer_no_entry rest (h.1 ∷ h.2) h.0 count h.3
 
--- a rest in which nothing more can be read has no wrong length
-cut_length : (rest : List ℕ) (n : ℕ) (more : List ℕ) → n < 2 ^ 32 → 0 < n → (IsEntryLength (limits_of One) n → ⊥) → rest ≡ big_bytes 4 n ++ more
-    → (rest ≡ []) ⊎ IsCutItem rest → ⊥
-cut_length rest n more fits some wrong e (inl none) = let all = ap length (sym none ∙ e) in omega (arith, all)
-cut_length rest n more fits some wrong e (inr (inl (inl few))) = let all = ap length e in omega (arith, few, all)
-cut_length rest n more fits some wrong e (inr (inl (inr (m, tail, long, f, short)))) =
-    let same = same_number 4 n m more tail fits (short_entry One m long) (sym e ∙ f) in
-    wrong (subst (IsEntryLength (limits_of One)) (sym same.0) long)
-cut_length rest n more fits some wrong e (inr (inr (tail, short, f))) =
-    let same = same_number 4 n 0 more tail fits (omega arith) (sym e ∙ f) in
-    omega (arith, same.0, some)
+  -- framed bytes are whole, lawful or not
+  frame_whole : (rest text more : List ℕ) (n : ℕ) → IsEntryLength limits (length text) → rest ≡ (big_bytes 4 (length text) ++ (text ++ big_bytes 4 n)) ++ more → Whole limits rest
+  frame_whole rest text more n fits e = record {
+    first = length text;
+    tail = (text ++ big_bytes 4 n) ++ more;
+    fits = short_entry format (length text) fits;
+    spelled = e;
+    enough = inl (fits, omega (arith, length-append (text ++ big_bytes 4 n) more, length-append text (big_bytes 4 n)));
+  }
 
--- it shows nothing
-left_shows_none : (count : ℕ) (rest : List ℕ) → (rest ≡ []) ⊎ IsCutItem rest → ShowsNoPart count rest → ⊥
-left_shows_none count rest left (inl (n, more, fits, some, wrong, e)) = cut_length rest n more fits some wrong e left
-left_shows_none count rest left (inr (inl h)) = none_left rest left (frame_whole rest h.0 h.2 h.1 h.3 h.6)
-left_shows_none count rest left (inr (inr (inl h))) = none_left rest left (footer_whole rest h.2 h.0 h.1 h.5)
-left_shows_none count rest left (inr (inr (inr h))) = none_left rest left (footer_whole rest (h.1 ∷ h.2) h.0 count h.3)
+  -- a rest in which nothing more can be read has no wrong length
+  cut_length : (rest : List ℕ) (n : ℕ) (more : List ℕ) → n < 2 ^ 32 → 0 < n → (IsEntryLength limits n → ⊥) → rest ≡ big_bytes 4 n ++ more
+      → (rest ≡ []) ⊎ IsCutItem limits rest → ⊥
+  cut_length rest n more fits some wrong e (inl none) = let all = ap length (sym none ∙ e) in omega (arith, all)
+  cut_length rest n more fits some wrong e (inr (inl (inl few))) = let all = ap length e in omega (arith, few, all)
+  cut_length rest n more fits some wrong e (inr (inl (inr (m, tail, long, f, short)))) =
+      let same = same_number 4 n m more tail fits (short_entry format m long) (sym e ∙ f) in
+      wrong (subst (IsEntryLength limits) (sym same.0) long)
+  cut_length rest n more fits some wrong e (inr (inr (tail, short, f))) =
+      let same = same_number 4 n 0 more tail fits (omega arith) (sym e ∙ f) in
+      omega (arith, same.0, some)
 
--- a footer with the number of the entries shows nothing
-footer_shows_none : (count end : ℕ) (rest : List ℕ) → end < 2 ^ 64 → count < 2 ^ 32 → rest ≡ footer_bytes end count → ShowsNoPart count rest → ⊥
-footer_shows_none count end rest fits_end fits e (inl (n, more, small, some, wrong, f)) =
-    let same = same_number 4 n 0 more (big_bytes 8 end ++ big_bytes 4 count) small (omega arith) (sym f ∙ e) in
-    omega (arith, same.0, some)
-footer_shows_none count end rest fits_end fits e (inr (inl h)) =
-    let same = same_number 4 (length h.0) 0 ((h.0 ++ big_bytes 4 h.1) ++ h.2) (big_bytes 8 end ++ big_bytes 4 count) (short_entry One (length h.0) h.3) (omega arith) (sym h.6 ∙ e) in
-    omega (arith, same.0, h.3.0)
-footer_shows_none count end rest fits_end fits e (inr (inr (inl (other, n, more, small, differ, f)))) =
-    let tails = (same_split (big_bytes 4 0) (big_bytes 4 0) (big_bytes 8 other ++ (big_bytes 4 n ++ more)) (big_bytes 8 end ++ big_bytes 4 count) refl (sym f ∙ e)).1 in
-    let counts = (same_split (big_bytes 8 other) (big_bytes 8 end) (big_bytes 4 n ++ more) (big_bytes 4 count) refl tails).1 in
-    differ (same_number 4 n count more [] small fits counts).0
-footer_shows_none count end rest fits_end fits e (inr (inr (inr (other, byte, more, f)))) = let all = ap length (sym f ∙ e) in omega (arith, all)
+  -- it shows nothing
+  left_shows_none : (count : ℕ) (rest : List ℕ) → (rest ≡ []) ⊎ IsCutItem limits rest → ShowsNoPart limits count rest → ⊥
+  left_shows_none count rest left (inl (n, more, fits, some, wrong, e)) = cut_length rest n more fits some wrong e left
+  left_shows_none count rest left (inr (inl h)) = none_left rest left (frame_whole rest h.0 h.2 h.1 h.3 h.6)
+  left_shows_none count rest left (inr (inr (inl h))) = none_left rest left (footer_whole rest h.2 h.0 h.1 h.5)
+  left_shows_none count rest left (inr (inr (inr h))) = none_left rest left (footer_whole rest (h.1 ∷ h.2) h.0 count h.3)
 
--- ---- the entries at the beginning of a part
+  -- a footer with the number of the entries shows nothing
+  footer_shows_none : (count end : ℕ) (rest : List ℕ) → end < 2 ^ 64 → count < 2 ^ 32 → rest ≡ footer_bytes end count → ShowsNoPart limits count rest → ⊥
+  footer_shows_none count end rest fits_end fits e (inl (n, more, small, some, wrong, f)) =
+      let same = same_number 4 n 0 more (big_bytes 8 end ++ big_bytes 4 count) small (omega arith) (sym f ∙ e) in
+      omega (arith, same.0, some)
+  footer_shows_none count end rest fits_end fits e (inr (inl h)) =
+      let same = same_number 4 (length h.0) 0 ((h.0 ++ big_bytes 4 h.1) ++ h.2) (big_bytes 8 end ++ big_bytes 4 count) (short_entry format (length h.0) h.3) (omega arith) (sym h.6 ∙ e) in
+      omega (arith, same.0, h.3.0)
+  footer_shows_none count end rest fits_end fits e (inr (inr (inl (other, n, more, small, differ, f)))) =
+      let tails = (same_split (big_bytes 4 0) (big_bytes 4 0) (big_bytes 8 other ++ (big_bytes 4 n ++ more)) (big_bytes 8 end ++ big_bytes 4 count) refl (sym f ∙ e)).1 in
+      let counts = (same_split (big_bytes 8 other) (big_bytes 8 end) (big_bytes 4 n ++ more) (big_bytes 4 count) refl tails).1 in
+      differ (same_number 4 n count more [] small fits counts).0
+  footer_shows_none count end rest fits_end fits e (inr (inr (inr (other, byte, more, f)))) = let all = ap length (sym f ∙ e) in omega (arith, all)
 
--- entries and a rest that begins with none are the bytes in one way
-same_rest : (xs ys : List Change) (a b : List ℕ) → AllByRecursion (IsEntry (limits_of One)) xs → AllByRecursion (IsEntry (limits_of One)) ys → HasNoEntry a → HasNoEntry b
-    → flat_map entry_spelling xs ++ a ≡ flat_map entry_spelling ys ++ b → (xs ≡ ys) × (a ≡ b)
-same_rest [] [] a b are too none_a none_b e = (refl, e)
-same_rest [] (y ∷ ys) a b are too none_a none_b e = absurd (none_a y (flat_map entry_spelling ys ++ b) too.0 (e ∙ append_assoc (entry_spelling y) (flat_map entry_spelling ys) b))
-same_rest (x ∷ xs) [] a b are too none_a none_b e = absurd (none_b x (flat_map entry_spelling xs ++ a) are.0 (sym e ∙ append_assoc (entry_spelling x) (flat_map entry_spelling xs) a))
-same_rest (x ∷ xs) (y ∷ ys) a b are too none_a none_b e =
-    let apart = sym (append_assoc (entry_spelling x) (flat_map entry_spelling xs) a) ∙ e ∙ append_assoc (entry_spelling y) (flat_map entry_spelling ys) b in
-    let first = same_entry One x y (flat_map entry_spelling xs ++ a) (flat_map entry_spelling ys ++ b) are.0 too.0 apart in
-    let rest = same_rest xs ys a b are.1 too.1 none_a none_b first.1 in
-    (λ i. first.0 i ∷ rest.0 i, rest.1)
+  -- ---- the entries at the beginning of a part
+
+  -- entries and a rest that begins with none are the bytes in one way
+  same_rest : (xs ys : List Change) (a b : List ℕ) → AllByRecursion (IsEntry limits) xs → AllByRecursion (IsEntry limits) ys → HasNoEntry limits a → HasNoEntry limits b
+      → flat_map entry_spelling xs ++ a ≡ flat_map entry_spelling ys ++ b → (xs ≡ ys) × (a ≡ b)
+  same_rest [] [] a b are too none_a none_b e = (refl, e)
+  same_rest [] (y ∷ ys) a b are too none_a none_b e = absurd (none_a y (flat_map entry_spelling ys ++ b) too.0 (e ∙ append_assoc (entry_spelling y) (flat_map entry_spelling ys) b))
+  same_rest (x ∷ xs) [] a b are too none_a none_b e = absurd (none_b x (flat_map entry_spelling xs ++ a) are.0 (sym e ∙ append_assoc (entry_spelling x) (flat_map entry_spelling xs) a))
+  same_rest (x ∷ xs) (y ∷ ys) a b are too none_a none_b e =
+      let apart = sym (append_assoc (entry_spelling x) (flat_map entry_spelling xs) a) ∙ e ∙ append_assoc (entry_spelling y) (flat_map entry_spelling ys) b in
+      let first = same_entry format x y (flat_map entry_spelling xs ++ a) (flat_map entry_spelling ys ++ b) are.0 too.0 apart in
+      let rest = same_rest xs ys a b are.1 too.1 none_a none_b first.1 in
+      (λ i. first.0 i ∷ rest.0 i, rest.1)
 
 -- bytes begin with one header and one list of whole entries
-pub same_beginning : (bytes : List ℕ) (h k : PartHead) (xs ys : List Change) (a b : List ℕ) → BeginsPart bytes h xs a → BeginsPart bytes k ys b → HasNoEntry a → HasNoEntry b
-    → (h ≡ k) × (xs ≡ ys) × (a ≡ b)
+pub same_beginning : (bytes : List ℕ) (h k : PartHead) (xs ys : List Change) (a b : List ℕ) → BeginsPart bytes h xs a → BeginsPart bytes k ys b → HasNoEntry (limits_of h.format) a
+    → HasNoEntry (limits_of k.format) b → (h ≡ k) × (xs ≡ ys) × (a ≡ b)
 same_beginning bytes h k xs ys a b p q none_a none_b =
     let heads = same_head h k (flat_map entry_spelling xs ++ a) (flat_map entry_spelling ys ++ b) p.is_head q.is_head (sym p.spelled ∙ q.spelled) in
-    let rest = same_rest xs ys a b p.lawful q.lawful none_a none_b heads.1 in
+    let lawful = subst (λ (head : PartHead). AllByRecursion (IsEntry (limits_of head.format)) xs) heads.0 p.lawful in
+    let none = subst (λ (head : PartHead). HasNoEntry (limits_of head.format) a) heads.0 none_a in
+    let rest = same_rest k.format xs ys a b lawful q.lawful none none_b heads.1 in
     (heads.0, rest.0, rest.1)
 
 -- a part begins with its header and its entries, and then its footer follows
 part_begins : (bytes : List ℕ) (head : PartHead) (entries : List Change) (end : ℕ) → IsPart bytes head entries end → BeginsPart bytes head entries (footer_bytes end (length entries))
 part_begins bytes head entries end is = record { spelled = is.spelled; is_head = is.is_head; lawful = is.lawful }
 
--- what follows all whole entries of a part is its footer
-at_footer : (bytes : List ℕ) (head : PartHead) (entries : List Change) (rest : List ℕ) (part : PartReading) → BeginsPart bytes head entries rest → HasNoEntry rest
-    → IsPartReading bytes part → rest ≡ footer_bytes part.end (length entries)
-at_footer bytes head entries rest part begins none is =
-    let footer = footer_bytes part.end (length part.entries) in
-    let same = same_beginning bytes head part.head entries part.entries rest footer begins (part_begins bytes part.head part.entries part.end is) none
-    (footer_no_entry footer [] part.end (length part.entries) (sym (append-nil footer))) in
-    same.2 ∙ ap (λ (xs : List Change). footer_bytes part.end (length xs)) (sym same.1)
+-- what begins bytes, up to a rest that begins with no entry, is all of a part but its footer
+up_to_footer : (bytes rest : List ℕ) (head other : PartHead) (entries others : List Change) (end : ℕ) → BeginsPart bytes head entries rest → HasNoEntry (limits_of head.format) rest
+    → IsPart bytes other others end → (entries ≡ others) × (rest ≡ footer_bytes end (length entries))
+up_to_footer bytes rest head other entries others end begins none is =
+    let footer = footer_bytes end (length others) in
+    let same = same_beginning bytes head other entries others rest footer begins (part_begins bytes other others end is) none
+    (footer_no_entry other.format footer [] end (length others) (sym (append-nil footer))) in
+    (same.1, same.2 ∙ ap (λ (xs : List Change). footer_bytes end (length xs)) (sym same.1))
 
 -- ---- one fault
 
 -- where what follows the entries shows that there is no part, the bytes are none
-shown_no_part : (bytes : List ℕ) (head : PartHead) (entries : List Change) (rest : List ℕ) → BeginsPart bytes head entries rest → ShowsNoPart (length entries) rest
+shown_no_part : (bytes : List ℕ) (head : PartHead) (entries : List Change) (rest : List ℕ) → BeginsPart bytes head entries rest → ShowsNoPart (limits_of head.format) (length entries) rest
     → (part : PartReading) → IsPartReading bytes part → ⊥
 shown_no_part bytes head entries rest begins shown part is =
-    let none = shown_no_entry (length entries) rest shown in
-    let footer = at_footer bytes head entries rest part begins none is in
-    let same = same_beginning bytes head part.head entries part.entries rest (footer_bytes part.end (length part.entries)) begins (part_begins bytes part.head part.entries part.end is) none
-    (footer_no_entry (footer_bytes part.end (length part.entries)) [] part.end (length part.entries) (sym (append-nil (footer_bytes part.end (length part.entries))))) in
-    let few : length entries < 2 ^ 32 = subst (λ (xs : List Change). length xs < 2 ^ 32) (sym same.1) is.count in
-    footer_shows_none (length entries) part.end rest is.fits few footer shown
+    let none = shown_no_entry head.format (length entries) rest shown in
+    let same = up_to_footer bytes rest head _ entries part.entries part.end begins none is.1 in
+    let few : length entries < 2 ^ 32 = subst (λ (xs : List Change). length xs < 2 ^ 32) (sym same.0) is.1.count in
+    footer_shows_none head.format (length entries) part.end rest is.1.fits few same.1 shown
 
 -- and where nothing more can be read behind them, too
-left_no_part : (bytes : List ℕ) (head : PartHead) (entries : List Change) (rest : List ℕ) → BeginsPart bytes head entries rest → (rest ≡ []) ⊎ IsCutItem rest
+left_no_part : (bytes : List ℕ) (head : PartHead) (entries : List Change) (rest : List ℕ) → BeginsPart bytes head entries rest → (rest ≡ []) ⊎ IsCutItem (limits_of head.format) rest
     → (part : PartReading) → IsPartReading bytes part → ⊥
 left_no_part bytes head entries rest begins left part is =
-    let footer = at_footer bytes head entries rest part begins (left_no_entry rest left) is in
-    none_left rest left (footer_whole rest [] part.end (length entries) (footer ∙ sym (append-nil (footer_bytes part.end (length entries)))))
+    let same = up_to_footer bytes rest head _ entries part.entries part.end begins (left_no_entry head.format rest left) is.1 in
+    none_left head.format rest left (footer_whole head.format rest [] part.end (length entries) (same.1 ∙ sym (append-nil (footer_bytes part.end (length entries)))))
 
 -- a fault that is shown is that of the bytes
 pub shown_answered : (fault : PartFault) (bytes : List ℕ) → IsPartShown bytes fault → IsPartAnswered bytes fault
 shown_answered faults.Header bytes h = h.0
 shown_answered (faults.Broken number entries) bytes h =
-    let shown = subst (λ (n : ℕ). ShowsNoPart n h.rest) h.counted h.shown in
+    let shown = subst (λ (n : ℕ). ShowsNoPart (limits_of h.head.format) n h.rest) h.counted h.shown in
     record {
       head = h.head;
       entries = h.entries;
@@ -222,13 +228,13 @@ shown_answered (faults.Broken number entries) bytes h =
       begins = h.begins;
       named = h.named;
       counted = h.counted;
-      last = shown_no_entry (length h.entries) h.rest shown;
+      last = shown_no_entry h.head.format (length h.entries) h.rest shown;
       no_part = shown_no_part bytes h.head h.entries h.rest h.begins shown;
     }
 shown_answered faults.Memory bytes h = tt
 
 -- a part that is cut is broken
-pub cut_broken : (bytes : List ℕ) (head : PartHead) (entries : List Change) (rest : List ℕ) → BeginsPart bytes head entries rest → (rest ≡ []) ⊎ IsCutItem rest
+pub cut_broken : (bytes : List ℕ) (head : PartHead) (entries : List Change) (rest : List ℕ) → BeginsPart bytes head entries rest → (rest ≡ []) ⊎ IsCutItem (limits_of head.format) rest
     → IsBroken bytes head.number (length entries)
 cut_broken bytes head entries rest begins left = record {
   head = head;
@@ -237,7 +243,7 @@ cut_broken bytes head entries rest begins left = record {
   begins = begins;
   named = refl;
   counted = refl;
-  last = left_no_entry rest left;
+  last = left_no_entry head.format rest left;
   no_part = left_no_part bytes head entries rest begins left;
 }
 
@@ -258,19 +264,23 @@ cut_shows_none bytes cut (faults.Broken number entries) h =
 cut_shows_none bytes cut faults.Memory h = h
 
 -- bytes that a part begins to be show no fault
-begun_shows_none : (bytes : List ℕ) (head : PartHead) (entries : List Change) (rest : List ℕ) → BeginsPart bytes head entries rest → (rest ≡ []) ⊎ IsCutItem rest
+begun_shows_none : (bytes : List ℕ) (head : PartHead) (entries : List Change) (rest : List ℕ) → BeginsPart bytes head entries rest → (rest ≡ []) ⊎ IsCutItem (limits_of head.format) rest
     → ShowsNoPartFault bytes
 begun_shows_none bytes head entries rest begins left faults.Header h = h.0 head (flat_map entry_spelling entries ++ rest) begins.is_head begins.spelled
 begun_shows_none bytes head entries rest begins left (faults.Broken number count) h =
-    let same = same_beginning bytes head h.head entries h.entries rest h.rest begins h.begins (left_no_entry rest left) (shown_no_entry count h.rest h.shown) in
-    left_shows_none count rest left (subst (ShowsNoPart count) (sym same.2) h.shown)
+    let same = same_beginning bytes head h.head entries h.entries rest h.rest begins h.begins (left_no_entry head.format rest left) (shown_no_entry h.head.format count h.rest h.shown) in
+    left_shows_none head.format count rest left (subst (λ (p : PartHead × List ℕ). ShowsNoPart (limits_of p.0.format) count p.1) (λ i. (sym same.0 i, sym same.2 i)) h.shown)
 begun_shows_none bytes head entries rest begins left faults.Memory h = h
 
+-- what a part with this header says
+abbrev reading_of : PartHead → List Change → ℕ → PartReading
+reading_of head entries end = record { number = head.number; begin = head.begin; part = head.part; parts = head.parts; entries = entries; end = end }
+
 -- a part shows no fault
-part_shows_none : (bytes : List ℕ) (part : PartReading) → IsPartReading bytes part → ShowsNoPartFault bytes
-part_shows_none bytes part is faults.Header h = h.0 part.head _ is.is_head is.spelled
-part_shows_none bytes part is (faults.Broken number count) h = (shown_answered (faults.Broken number count) bytes h).no_part part is
-part_shows_none bytes part is faults.Memory h = h
+part_shows_none : (bytes : List ℕ) (head : PartHead) (entries : List Change) (end : ℕ) → IsPart bytes head entries end → ShowsNoPartFault bytes
+part_shows_none bytes head entries end is faults.Header h = h.0 head _ is.is_head is.spelled
+part_shows_none bytes head entries end is (faults.Broken number count) h = (shown_answered (faults.Broken number count) bytes h).no_part (reading_of head entries end) (head.format, is)
+part_shows_none bytes head entries end is faults.Memory h = h
 
 -- a part with nothing behind it is all of the bytes
 pub whole_part : (head : PartHead) (entries : List Change) (end : ℕ) (bytes held : List ℕ) (reads : ReadsPart head entries end bytes held) → held ≡ [] → bytes ≡ reads.part
@@ -281,7 +291,7 @@ by_stage : (o : Option PartHead) (e : Option ℕ) (entries : List Change) (bytes
 by_stage None e entries bytes held reads left = subst ShowsNoPartFault (sym reads.all) (cut_shows_none held left)
 by_stage (Some head) None entries bytes held reads left = begun_shows_none bytes head entries held reads left
 by_stage (Some head) (Some end) entries bytes held reads left =
-    part_shows_none bytes (record { head = head; entries = entries; end = end }) (subst (λ (x : List ℕ). IsPart x head entries end) (sym (whole_part head entries end bytes held reads left)) reads.is_part)
+    part_shows_none bytes head entries end (subst (λ (x : List ℕ). IsPart x head entries end) (sym (whole_part head entries end bytes held reads left)) reads.is_part)
 
 -- a feed in good order shows no fault
 pub order_shows_none : (s : PartSoFar) (bytes held : List ℕ) → ReadsUpTo s bytes held → IsPartLeft s held → ShowsNoPartFault bytes
@@ -336,5 +346,5 @@ one_part_fault bytes (faults.Broken number entries) faults.Memory f g = absurd g
 pub part_or_fault : (bytes : List ℕ) (head : PartHead) (entries : List Change) (end : ℕ) (fault : PartFault) → IsPart bytes head entries end → IsPartFault bytes fault → ⊥
 part_or_fault bytes head entries end faults.Header is f =
     has_header bytes head entries (footer_bytes end (length entries)) (part_begins bytes head entries end is) f
-part_or_fault bytes head entries end (faults.Broken number count) is f = f.no_part (record { head = head; entries = entries; end = end }) is
+part_or_fault bytes head entries end (faults.Broken number count) is f = f.no_part (reading_of head entries end) (head.format, is)
 part_or_fault bytes head entries end faults.Memory is f = f

@@ -6,29 +6,23 @@ use Rattle.std.specs.Prelude.{◌==◌, codes}
 use Rattle.std.proofs.lemmas.Bool.{false≢true}
 use Rattle.std.proofs.lemmas.List.{flat_map_more}
 use Rattle.byteorder.specs.Endian.{big_bytes}
-use Rattle.mt_words.specs.declared.fault.What.{What}
-use Rattle.mt_words.specs.declared.fault.What.TheVariants.{Length, Trailer, Kind, Frame, Version, Key, Columns, Clock}
 use Rattle.mt_words.specs.declared.limits.Format.TheVariants.{One}
 use Rattle.mt_words.specs.declared.record.Change.{Change}
-use Rattle.mt_words.specs.Limits.{limits_of}
+use Rattle.mt_words.specs.declared.limits.Limits.{Limits}
+use Rattle.mt_words.specs.Limits.{limits_of, magic}
 use Rattle.mt_words.specs.Changes.{IsEntry}
 use Rattle.mt_words.proofs.Rising.{all_push}
 use Rattle.mt_record.specs.declared.part_text.PartHead.{PartHead}
-use Rattle.mt_record.specs.declared.part_text.PartFault.{PartFault}
-use Rattle.mt_record.specs.declared.part_text.PartFault.TheVariants as of_part
 use Rattle.mt_record.specs.declared.part_items.PartItems.{PartItems}
-use Rattle.mt_record.specs.Spelling.{framed, change_bytes}
-use Rattle.mt_record.specs.LogFaults.{HasTrailerFault}
-use Rattle.mt_record.specs.Bodies.{IsFrame, IsFrameFault}
-use Rattle.mt_record.specs.Parts.{part_head_bytes, IsPartHead, entry_spelling, footer_bytes, part_bytes, IsEntryLength}
+use Rattle.mt_record.specs.Spelling.{framed}
+use Rattle.mt_record.specs.Bodies.{IsNextEntry}
+use Rattle.mt_record.specs.Parts.{part_head_bytes, IsPartHead, entry_spelling, footer_bytes, part_bytes}
 use Rattle.mt_record.specs.PartFaults.{BeginsPart, HasNoPartHeader}
-use Rattle.mt_record.specs.PartFeeding.{ShowsNoPartHeader, HasWrongEntry, ShowsNoPart, ShowsBroken, IsPartShown, PartSoFar, ReadsNothing, ReadsPart, ReadsUpTo, IsPartLeft}
-use Rattle.mt_record.specs.PartPieces.{IsTextFault, so_far}
+use Rattle.mt_record.specs.PartFeeding.{ShowsNoPartHeader, ShowsNoEntry, ShowsNoPart, ShowsBroken, PartSoFar, ReadsNothing, ReadsPart, ReadsUpTo, IsPartLeft}
+use Rattle.mt_record.specs.PartPieces.{so_far}
 use Rattle.mt_record.specs.Fronts.{BeginsAlike}
-use Rattle.mt_record.proofs.Unique.{same_split, same_number}
-use Rattle.mt_record.proofs.Entries.{entry_length, short_entry}
-use Rattle.mt_record.proofs.Beginnings.{cut_front}
-use Rattle.mt_record.proofs.PartBeginnings.{part_alike}
+use Rattle.mt_record.proofs.Beginnings.{cut_front, part_alike}
+use Rattle.mt_record.proofs.PartBeginnings.{part_whole}
 
 -- ---- what was read, by how far it came
 
@@ -66,14 +60,14 @@ header_read s part bytes after head none reads is e =
 -- ---- entries
 
 -- a fault behind the entries breaks the part
-pub broken_at : (part rest : List ℕ) (head : PartHead) (entries : List Change) → BeginsPart part head entries rest → ShowsNoPart (length entries) rest
+pub broken_at : (part rest : List ℕ) (head : PartHead) (entries : List Change) → BeginsPart part head entries rest → ShowsNoPart (limits_of head.format) (length entries) rest
     → ShowsBroken part head.number (length entries)
 broken_at part rest head entries begins shown =
     record { head = head; entries = entries; rest = rest; begins = begins; named = refl; counted = refl; shown = shown }
 
 -- one entry more is read
 pub entry_read : (part bytes after : List ℕ) (head : PartHead) (entries : List Change) (entry : Change) → BeginsPart part head entries bytes
-    → IsEntry (limits_of One) entry → bytes ≡ entry_spelling entry ++ after → BeginsPart part head (entries ++ entry ∷ []) after
+    → IsEntry (limits_of head.format) entry → bytes ≡ entry_spelling entry ++ after → BeginsPart part head (entries ++ entry ∷ []) after
 entry_read part bytes after head entries entry begins is e =
     let joined : flat_map entry_spelling entries ++ bytes ≡ flat_map entry_spelling (entries ++ entry ∷ []) ++ after =
     ap (λ (x : List ℕ). flat_map entry_spelling entries ++ x) e
@@ -82,65 +76,18 @@ entry_read part bytes after head entries entry begins is e =
     record {
       spelled = begins.spelled ∙ ap (λ (x : List ℕ). part_head_bytes head ++ x) joined;
       is_head = begins.is_head;
-      lawful = all_push (IsEntry (limits_of One)) entries entry begins.lawful is;
+      lawful = all_push (IsEntry (limits_of head.format)) entries entry begins.lawful is;
     }
-
--- the parts of what is framed as an entry is
-same_text : (text fields : List ℕ) (n : ℕ) → length text < 2 ^ 32 → length fields < 2 ^ 32 → n < 2 ^ 32
-    → big_bytes 4 (length text) ++ (text ++ big_bytes 4 n) ≡ framed fields → (text ≡ fields) × (n ≡ length fields)
-same_text text fields n fits_text fits_fields fits_n e =
-    let number = same_number 4 (length text) (length fields) (text ++ big_bytes 4 n) (fields ++ big_bytes 4 (length fields)) fits_text fits_fields e in
-    let split = same_split text fields (big_bytes 4 n) (big_bytes 4 (length fields)) number.0 number.1 in
-    (split.0, (same_number 4 n (length fields) [] [] fits_n fits_fields split.1).0)
-
--- the fields of an entry are short enough for their length
-short_fields : (entry : Change) → IsEntry (limits_of One) entry → length (change_bytes entry) < 2 ^ 32
-short_fields entry is = short_entry One (length (change_bytes entry)) (entry_length (limits_of One) entry is)
-
--- framed bytes that are the fields of no entry are a wrong entry
-pub wrong_entry : (bytes text after : List ℕ) → IsFrame (IsEntryLength (limits_of One)) bytes text after
-    → ((entry : Change) → IsEntry (limits_of One) entry → text ≢ change_bytes entry) → HasWrongEntry bytes
-wrong_entry bytes text after frame none = (
-  text,
-  length text,
-  after,
-  frame.fits,
-  omega (arith, frame.fits.1),
-  λ entry is e. none entry is (same_text text (change_bytes entry) (length text) (omega (arith, frame.fits.1)) (short_fields entry is) (omega (arith, frame.fits.1)) e).0,
-  frame.spelled,
-)
-
--- another number behind the framed bytes makes a wrong entry too
-other_length : (bytes : List ℕ) → HasTrailerFault (IsEntryLength (limits_of One)) bytes → HasWrongEntry bytes
-other_length bytes (text, n, more, fits, small, differ, e) = (
-  text,
-  n,
-  more,
-  fits,
-  small,
-  λ entry is same.
-      let parts = same_text text (change_bytes entry) n (omega (arith, fits.1)) (short_fields entry is) small same in
-      differ (parts.1 ∙ ap length (sym parts.0)),
-  e ∙ ap (λ (x : List ℕ). big_bytes 4 (length text) ++ x) (sym (append_assoc text (big_bytes 4 n) more))
-      ∙ sym (append_assoc (big_bytes 4 (length text)) (text ++ big_bytes 4 n) more),
-)
 
 -- a length that no entry has is a wrong one, if it is not that of a footer
 other_than_zero : (bytes : List ℕ) (n : ℕ) (more : List ℕ) → bytes ≡ big_bytes 4 n ++ more → ((rest : List ℕ) → bytes ≢ big_bytes 4 0 ++ rest) → 0 < n
 other_than_zero bytes zero more e some = absurd (some more e)
 other_than_zero bytes (suc n) more e some = omega arith
 
--- a fault of the frame is shown
-pub frame_shown : (count : ℕ) (bytes : List ℕ) (what : What) → IsFrameFault (IsEntryLength (limits_of One)) bytes what → ((rest : List ℕ) → bytes ≢ big_bytes 4 0 ++ rest)
-    → ShowsNoPart count bytes
-frame_shown count bytes Length h some = inl (h.0, h.1, h.2, other_than_zero bytes h.0 h.1 h.3 some, h.4, h.3)
-frame_shown count bytes Trailer h some = inr (inl (other_length bytes h))
-frame_shown count bytes Kind h some = absurd h
-frame_shown count bytes Frame h some = absurd h
-frame_shown count bytes Version h some = absurd h
-frame_shown count bytes Key h some = absurd h
-frame_shown count bytes Columns h some = absurd h
-frame_shown count bytes Clock h some = absurd h
+-- bytes that no entry begins, nor a footer, break the part
+pub entry_shown : (limits : Limits) (count : ℕ) (bytes : List ℕ) → ShowsNoEntry limits bytes → ((rest : List ℕ) → bytes ≢ big_bytes 4 0 ++ rest) → ShowsNoPart limits count bytes
+entry_shown limits count bytes (inl h) some = inl (h.0, h.1, h.2, other_than_zero bytes h.0 h.1 h.3 some, h.4, h.3)
+entry_shown limits count bytes (inr h) some = inr (inl h)
 
 -- ---- the footer
 
@@ -159,9 +106,9 @@ footer_read part a b after head entries end count begins fits_end ea fits_count 
 }
 
 -- a footer with another number is a wrong one
-pub footer_shown : (a b after : List ℕ) (end count entries : ℕ) → a ≡ big_bytes 8 end ++ b → count < 2 ^ 32 → b ≡ big_bytes 4 count ++ after → count ≢ entries
-    → ShowsNoPart entries (big_bytes 4 0 ++ a)
-footer_shown a b after end count entries ea fits eb differ =
+pub footer_shown : (limits : Limits) (a b after : List ℕ) (end count entries : ℕ) → a ≡ big_bytes 8 end ++ b → count < 2 ^ 32 → b ≡ big_bytes 4 count ++ after → count ≢ entries
+    → ShowsNoPart limits entries (big_bytes 4 0 ++ a)
+footer_shown limits a b after end count entries ea fits eb differ =
     inr (inr (inl (end, count, after, fits, differ, ap (λ (x : List ℕ). big_bytes 4 0 ++ x) (ea ∙ ap (λ (x : List ℕ). big_bytes 8 end ++ x) eb))))
 
 -- what stands behind a part breaks it
@@ -205,25 +152,15 @@ behind_end s part bytes head some ends test reads =
     more_shown part bytes head s.entries end.0 (reads_part s part bytes head end.0 some end.1 reads) (some_bytes bytes test)
 
 -- a part whose entry is read goes on behind it
-pub entry_goes_on : (s new : PartSoFar) (part bytes text after : List ℕ) (head : PartHead) (entry : Change) → s.head ≡ Some head → s.end ≡ None → new.head ≡ s.head → new.end ≡ s.end
-    → new.entries ≡ s.entries ++ entry ∷ [] → IsEntry (limits_of One) entry → text ≡ change_bytes entry → bytes ≡ framed text ++ after → ReadsUpTo s part bytes
-    → ReadsUpTo new part after
-entry_goes_on s new part bytes text after head entry some not_ended same_head same_end added is fields spelled reads =
+pub entry_goes_on : (s : PartSoFar) (entries : List Change) (part bytes fields after : List ℕ) (head : PartHead) (next : IsNextEntry (limits_of head.format) bytes fields after) → s.head ≡ Some head
+    → s.end ≡ None → entries ≡ s.entries ++ next.next ∷ [] → ReadsUpTo s part bytes → ReadsUpTo (record s { entries = entries }) part after
+entry_goes_on s entries part bytes fields after head next some not_ended added reads =
     let begins = reads_entries s part bytes head some not_ended reads in
-    let one_more = entry_read part bytes after head s.entries entry begins is (spelled ∙ ap (λ (x : List ℕ). framed x ++ after) fields) in
-    let to : (record { head = Some head; entries = s.entries ++ entry ∷ []; end = None }) ≡ new =
-    λ i. record { head = sym (same_head ∙ some) i; entries = sym added i; end = sym (same_end ∙ not_ended) i } in
+    let spelled = next.spelled ∙ ap (λ (x : List ℕ). framed x ++ after) next.fields.spelled in
+    let one_more = entry_read part bytes after head s.entries next.next begins next.fields.lawful spelled in
+    let to : (record { head = Some head; entries = s.entries ++ next.next ∷ []; end = None }) ≡ record s { entries = entries } =
+    λ i. record { head = sym some i; entries = sym added i; end = sym not_ended i } in
     subst (λ (x : PartSoFar). ReadsUpTo x part after) to one_more
-
--- a text that is no entry's fields breaks the part
-pub text_shown : (fault : PartFault) (s : PartSoFar) (part bytes text after : List ℕ) (head : PartHead) (reader : PartItems) → s ≡ so_far reader → s.head ≡ Some head → s.end ≡ None
-    → IsFrame (IsEntryLength (limits_of One)) bytes text after → IsTextFault head.number reader text fault → ReadsUpTo s part bytes → IsPartShown part fault
-text_shown of_part.Header s part bytes text after head reader same some not_ended frame h reads = absurd h
-text_shown (of_part.Broken number entries) s part bytes text after head reader same some not_ended frame h reads =
-    let begins = reads_entries s part bytes head some not_ended reads in
-    let count : entries ≡ length s.entries = h.1 ∙ ap (λ (x : PartSoFar). length x.entries) (sym same) in
-    rw (h.0, count) (broken_at part bytes head s.entries begins (inr (inl (wrong_entry bytes text after frame h.2))))
-text_shown of_part.Memory s part bytes text after head reader same some not_ended frame h reads = tt
 
 -- nothing was read of nothing
 pub nothing_read : (reader : PartItems) (held : List ℕ) → reader.head ≡ None → reader.entries.items ≡ [] → reader.end ≡ None → held ≡ []
@@ -232,5 +169,6 @@ nothing_read reader held head entries end none =
     let start : (record { head = None; entries = []; end = None }) ≡ so_far reader = λ i. record { head = sym head i; entries = sym entries i; end = sym end i } in
     subst (λ (p : PartSoFar × List ℕ). ReadsUpTo p.0 [] p.1 × IsPartLeft p.0 p.1) (λ i. (start i, sym none i)) (
       record { none = refl; no_end = refl; all = refl },
-      cut_front IsPartHead part_head_bytes [] (part_alike [] (codes "MTC1") refl) (λ other more is e. let whole = ap length e in omega (arith, whole)),
+      cut_front IsPartHead part_head_bytes [] (part_alike IsPartHead part_head_bytes (codes "MTC") 16 part_whole One [] (magic (codes "MTC") One) refl)
+          (λ other more is e. let whole = ap length e in omega (arith, whole)),
     )

@@ -6,7 +6,7 @@ use Rattle.std.proofs.lemmas.List.Concat.{flat_map-cons, flat_map-append}
 use Rattle.std.proofs.lemmas.List.Elements.{All-nil, All-cons, All-weaker, Contains-append_right}
 use Rattle.std.specs.Prelude.{◌↔◌, ◌==◌, Bool, not, IsTrue, Contains, All}
 use Rattle.std.specs.List.{flat_map}
-use Rattle.mt_words.specs.Limits.{Limits}
+use Rattle.mt_words.specs.declared.limits.Limits.{Limits}
 use Rattle.mt_words.specs.Changes.{Logged, IsLawful}
 use Rattle.mt_record.specs.Spelling.{spelling}
 use Rattle.mt_record.specs.Logs.{AreRecords, latest, LogReading, IsLast, IsTorn}

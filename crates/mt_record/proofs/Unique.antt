@@ -58,7 +58,7 @@ same_columns (c ∷ cs) (d ∷ ds) fits_c fits_d number e =
     λ i. first.0 i ∷ rest i
 
 -- the bytes are columns behind their number in one way
-same_carried : (cs ds : List (ℕ × List ℕ)) → AllByRecursion FitsColumn cs → AllByRecursion FitsColumn ds
+pub same_carried : (cs ds : List (ℕ × List ℕ)) → AllByRecursion FitsColumn cs → AllByRecursion FitsColumn ds
     → length cs ∷ flat_map column_bytes cs ≡ length ds ∷ flat_map column_bytes ds → cs ≡ ds
 same_carried cs ds fits_c fits_d e =
     let number : length cs ≡ length ds = ap (λ (x : List ℕ). slice_index x 0) e in
@@ -94,7 +94,7 @@ same_change a b fits_a fits_b code e =
     λ i. record { version = version.0 i; key = key.0 i; kind = kind i }
 
 -- no kind has the byte of a mark
-no_mark : (kind : Kind) → 3 ≡ code_of kind → ⊥
+pub no_mark : (kind : Kind) → 3 ≡ code_of kind → ⊥
 no_mark (Put columns) same = apart 1 3 (omega arith) (sym same)
 no_mark Remove same = apart 2 3 (omega arith) (sym same)
 no_mark (Whole columns) same = apart 0 3 (omega arith) (sym same)

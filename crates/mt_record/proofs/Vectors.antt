@@ -4,14 +4,9 @@ use Rattle.std.specs.List.{flat_map}
 use Rattle.mt_words.specs.declared.limits.Format.TheVariants.{One}
 use Rattle.mt_words.specs.Limits.{limits_of}
 use Rattle.mt_words.specs.Changes.{mark_of, put_of, remove_of, entry_of}
-use Rattle.mt_record.specs.declared.frame.TheConstants.{LONGEST_RECORD}
 use Rattle.mt_record.specs.Spelling.{spelling, longest_record}
 use Rattle.mt_record.specs.Heads.{head_of, head_bytes}
 use Rattle.mt_record.specs.Parts.{longest_entry, part_head, part_bytes}
-
--- the greatest body of the format is the one that the code reads
-longest_is_constant : longest_record (limits_of One) ≡ LONGEST_RECORD
-longest_is_constant = refl
 
 -- the greatest body of the format has so many bytes
 longest_is_number : longest_record (limits_of One) ≡ 1049652
@@ -48,7 +43,7 @@ remove : spelling (remove_of 11 6 (107 ∷ [])) ≡ 0 ∷ 0 ∷ 0 ∷ 20 ∷ 2 �
 remove = refl
 
 -- a part of checkpoint 1, from 2 to 4, of one entry: the columns 0 and 1 of "a"
-part_of_one_entry : part_bytes (part_head 1 2 0 1) (entry_of 1 (97 ∷ []) ((0, 111 ∷ []) ∷ (1, 112 ∷ []) ∷ []) ∷ []) 4
+part_of_one_entry : part_bytes (part_head One 1 2 0 1) (entry_of 1 (97 ∷ []) ((0, 111 ∷ []) ∷ (1, 112 ∷ []) ∷ []) ∷ []) 4
     ≡ 77 ∷ 84 ∷ 67 ∷ 49 ∷ 0 ∷ 0 ∷ 0 ∷ 1 ∷ 0 ∷ 0 ∷ 0 ∷ 0 ∷ 0 ∷ 0 ∷ 0 ∷ 2 ∷ 0 ∷ 0 ∷ 0 ∷ 1
     ∷ 0 ∷ 0 ∷ 0 ∷ 20 ∷ 0 ∷ 0 ∷ 0 ∷ 0 ∷ 0 ∷ 0 ∷ 0 ∷ 1 ∷ 0 ∷ 1 ∷ 97 ∷ 2 ∷ 0 ∷ 0 ∷ 1 ∷ 111 ∷ 1 ∷ 0 ∷ 1 ∷ 112 ∷ 0 ∷ 0 ∷ 0 ∷ 20
     ∷ 0 ∷ 0 ∷ 0 ∷ 0 ∷ 0 ∷ 0 ∷ 0 ∷ 0 ∷ 0 ∷ 0 ∷ 0 ∷ 4 ∷ 0 ∷ 0 ∷ 0 ∷ 1 ∷ []

@@ -1,4 +1,4 @@
--- What the steps of reading a record give.
+-- What the steps of reading a record or an entry give.
 use Rattle.std.specs.Prelude.{◌≡◌, ◌≢◌, ℕ, ◌≤◌, ◌<◌, ◌^◌, List, ◌++◌, length}
 use Rattle.std.specs.List.{flat_map, AllByRecursion}
 use Rattle.byteorder.specs.Endian.{big_bytes}
@@ -6,14 +6,14 @@ use Rattle.mt_words.specs.declared.fault.What.{What}
 use Rattle.mt_words.specs.declared.fault.What.TheVariants.{Length, Trailer, Frame, Version, Key, Columns}
 use Rattle.mt_words.specs.declared.record.Change.{Change}
 use Rattle.mt_words.specs.declared.update.Kind.{Kind}
-use Rattle.mt_words.specs.Limits.{Limits}
+use Rattle.mt_words.specs.declared.update.Kind.TheVariants.{Put}
+use Rattle.mt_words.specs.declared.limits.Limits.{Limits}
+use Rattle.mt_words.specs.Limits.{widest}
 use Rattle.mt_words.specs.Words.{AreColumns}
-use Rattle.mt_words.specs.Changes.{Logged, IsLawful, IsLawfulChange, AllowsKind}
+use Rattle.mt_words.specs.Changes.{Logged, IsLawful, IsLawfulChange, AllowsKind, IsEntry}
 use Rattle.mt_record.specs.declared.body.ChangeFields.{ChangeFields}
-use Rattle.mt_record.specs.declared.frame.RecordFault.{RecordFault}
-use Rattle.mt_record.specs.declared.frame.RecordFault.TheVariants as faults
 use Rattle.mt_record.specs.Spelling.{counted, column_bytes, code_of, kind_bytes, change_bytes, body, framed, spelling, FitsColumn, FitsKind, FitsChange}
-use Rattle.mt_record.specs.LogFaults.{HasLengthFault, HasTrailerFault, HasVersionFault, HasKeyFault, HasColumnsFault, BodyFault, RestFault}
+use Rattle.mt_record.specs.LogFaults.{HasLengthFault, HasTrailerFault, HasVersionFault, HasKeyFault, HasColumnsFault}
 
 -- the next record of a log, and what follows it
 pub record IsNext (limits : Limits) (low : ℕ) (bytes : List ℕ) (r : Logged) (after : List ℕ) : Type 0 where
@@ -21,9 +21,12 @@ pub record IsNext (limits : Limits) (low : ℕ) (bytes : List ℕ) (r : Logged) 
   pub rises : low ≤ r.timestamp
   pub spelled : bytes ≡ spelling r ++ after
 
-abbrev pub IsRestFault : Limits → ℕ → List ℕ → RecordFault → Type 0
-IsRestFault limits low rest (faults.Wrong what) = RestFault what limits low rest
-IsRestFault limits low rest faults.Memory = Unit {0}
+-- the timestamp and the body of the next record, and what follows it
+pub record IsNextBody (limits : Limits) (low : ℕ) (bytes : List ℕ) (timestamp : ℕ) (text after : List ℕ) : Type 0 where
+  pub next : Logged
+  pub is_next : IsNext limits low bytes next after
+  pub same_time : timestamp ≡ next.timestamp
+  pub same_body : text ≡ body next
 
 -- ---- frames
 
@@ -50,9 +53,32 @@ pub record IsBodyOf (limits : Limits) (low : ℕ) (bytes : List ℕ) (r : Logged
   pub rises : low ≤ r.timestamp
   pub spelled : bytes ≡ body r
 
-abbrev pub IsBodyFault : Limits → ℕ → List ℕ → RecordFault → Type 0
-IsBodyFault limits low bytes (faults.Wrong what) = BodyFault what limits low bytes
-IsBodyFault limits low bytes faults.Memory = Unit {0}
+-- the bytes are the body of a record of this timestamp
+abbrev pub IsBodyAt : Limits → ℕ → List ℕ → ℕ → Type 0
+IsBodyAt limits low bytes timestamp = (r : Logged) × IsBodyOf limits low bytes r × (timestamp ≡ r.timestamp)
+
+-- the bytes are the body of a record that some format allows
+abbrev pub IsBody : List ℕ → Type 0
+IsBody bytes = (r : Logged) × IsBodyOf widest 0 bytes r
+
+-- the bytes are the fields of this entry
+pub record AreFieldsOf (limits : Limits) (bytes : List ℕ) (entry : Change) : Type 0 where
+  pub lawful : IsEntry limits entry
+  pub spelled : bytes ≡ change_bytes entry
+
+-- the bytes are the fields of an entry that some format allows
+abbrev pub AreFields : List ℕ → Type 0
+AreFields bytes = (entry : Change) × AreFieldsOf widest bytes entry
+
+-- the bytes are the fields of no entry
+abbrev pub AreNoFields : Limits → List ℕ → Type 0
+AreNoFields limits bytes = (entry : Change) → IsEntry limits entry → bytes ≢ change_bytes entry
+
+-- the fields of the next entry of a part, and what follows it
+pub record IsNextEntry (limits : Limits) (bytes text after : List ℕ) : Type 0 where
+  pub next : Change
+  pub fields : AreFieldsOf limits text next
+  pub spelled : bytes ≡ framed text ++ after
 
 -- ---- changes
 
@@ -71,13 +97,12 @@ abbrev pub IsChangeWith : ℕ → List ℕ → (Change → Type 0) → Type 0
 IsChangeWith code bytes P = (change : Change) × FitsChange change × (code_of change.kind ≡ code) × (bytes ≡ change_bytes change) × P change
 
 -- the first fault of a change of the kind of this byte
-abbrev pub IsChangeFault : Limits → ℕ → List ℕ → RecordFault → Type 0
-IsChangeFault limits code bytes faults.Memory = Unit {0}
-IsChangeFault limits code bytes (faults.Wrong Frame) = IsNoChange code bytes
-IsChangeFault limits code bytes (faults.Wrong Version) = IsChangeWith code bytes HasVersionFault
-IsChangeFault limits code bytes (faults.Wrong Key) = IsChangeWith code bytes (HasKeyFault limits)
-IsChangeFault limits code bytes (faults.Wrong Columns) = IsChangeWith code bytes (HasColumnsFault limits)
-IsChangeFault limits code bytes (faults.Wrong what) = ⊥
+abbrev pub IsChangeFault : Limits → ℕ → List ℕ → What → Type 0
+IsChangeFault limits code bytes Frame = IsNoChange code bytes
+IsChangeFault limits code bytes Version = IsChangeWith code bytes HasVersionFault
+IsChangeFault limits code bytes Key = IsChangeWith code bytes (HasKeyFault limits)
+IsChangeFault limits code bytes Columns = IsChangeWith code bytes (HasColumnsFault limits)
+IsChangeFault limits code bytes what = ⊥
 
 -- ---- kinds
 
@@ -96,9 +121,18 @@ abbrev pub IsAllowedKind : Limits → ℕ → List ℕ → Kind → Type 0
 IsAllowedKind limits code bytes kind = IsKindOf code bytes kind × AllowsKind limits kind
 
 -- the fault of the kind of this byte that carries the bytes: the format does not allow it
-abbrev pub IsKindFault : Limits → ℕ → List ℕ → RecordFault → Type 0
-IsKindFault limits code bytes faults.Memory = Unit {0}
-IsKindFault limits code bytes (faults.Wrong what) = (what ≡ Columns) × (kind : Kind) × IsKindOf code bytes kind × (AllowsKind limits kind → ⊥)
+abbrev pub IsKindFault : Limits → ℕ → List ℕ → What → Type 0
+IsKindFault limits code bytes what = (what ≡ Columns) × (kind : Kind) × IsKindOf code bytes kind × (AllowsKind limits kind → ⊥)
+
+-- the bytes are these fields, one behind the other
+pub record SpellFields (bytes : List ℕ) (fields : ChangeFields) : Type 0 where
+  pub spelled : bytes ≡ big_bytes 8 fields.version ++ (counted fields.key.now ++ fields.carried.now)
+  pub version_fits : fields.version < 2 ^ 64
+  pub key_fits : length fields.key.now < 2 ^ 16
+
+-- the bytes are no fields of a change, whatever its kind carries
+abbrev pub HasNoFields : List ℕ → Type 0
+HasNoFields bytes = (version : ℕ) (key carried : List ℕ) → version < 2 ^ 64 → length key < 2 ^ 16 → bytes ≢ big_bytes 8 version ++ (counted key ++ carried)
 
 -- the fields of a change of the kind of this byte
 pub record AreChangeFields (code : ℕ) (bytes : List ℕ) (fields : ChangeFields) : Type 0 where
@@ -118,12 +152,25 @@ pub record AreSpelled (count : ℕ) (bytes : List ℕ) (columns : List (ℕ × L
 abbrev pub HasColumns : ℕ → List ℕ → Type 0
 HasColumns count bytes = (columns : List (ℕ × List ℕ)) × AreSpelled count bytes columns
 
-abbrev pub IsColumnsFault : Limits → ℕ → List ℕ → RecordFault → Type 0
-IsColumnsFault limits count bytes faults.Memory = Unit {0}
-IsColumnsFault limits count bytes (faults.Wrong what) = (what ≡ Columns) × (columns : List (ℕ × List ℕ)) × AreSpelled count bytes columns × (AreColumns limits columns → ⊥)
+-- there are so many columns spelled so, and the format does not allow them
+abbrev pub IsColumnsFault : Limits → ℕ → List ℕ → What → Type 0
+IsColumnsFault limits count bytes what = (what ≡ Columns) × (columns : List (ℕ × List ℕ)) × AreSpelled count bytes columns × (AreColumns limits columns → ⊥)
 
 -- there are so many columns spelled so, and the format does not allow a key to have just these
-abbrev pub IsSomeFault : Limits → ℕ → List ℕ → RecordFault → Type 0
-IsSomeFault limits count bytes faults.Memory = Unit {0}
-IsSomeFault limits count bytes (faults.Wrong what) =
+abbrev pub IsSomeFault : Limits → ℕ → List ℕ → What → Type 0
+IsSomeFault limits count bytes what =
     (what ≡ Columns) × (columns : List (ℕ × List ℕ)) × AreSpelled count bytes columns × (AreColumns limits columns → 0 < length columns → ⊥)
+
+-- so many columns spelled so, as the format allows them
+abbrev pub HasAllowedColumns : Limits → ℕ → List ℕ → Type 0
+HasAllowedColumns limits count bytes = (columns : List (ℕ × List ℕ)) × AreSpelled count bytes columns × AreColumns limits columns
+
+-- and at least one
+abbrev pub HasSomeColumns : Limits → ℕ → List ℕ → Type 0
+HasSomeColumns limits count bytes = (columns : List (ℕ × List ℕ)) × AreSpelled count bytes columns × AreColumns limits columns × (0 < length columns)
+
+-- these columns behind their number, of which there is at least one
+pub record IsCarried (bytes : List ℕ) (columns : List (ℕ × List ℕ)) : Type 0 where
+  pub lawful : AreColumns widest columns
+  pub some : 0 < length columns
+  pub spelled : bytes ≡ kind_bytes (Put columns)

@@ -1,23 +1,17 @@
 -- Headers of logs.
 use Rattle.std.specs.Prelude.{ℕ, ◌<◌, ◌^◌, List, ◌++◌, codes}
 use Rattle.byteorder.specs.Endian.{big_bytes}
-use Rattle.mt_words.specs.declared.limits.Format.{Format}
 use Rattle.mt_words.specs.declared.limits.Format.TheVariants.{One}
+use Rattle.mt_words.specs.Limits.{magic}
+use Rattle.mt_record.specs.declared.head.Head.{Head}
 use Rattle.mt_record.specs.Fronts.{HasNone}
 
--- the format of a log; updates below `from` may be missing from it
-pub record Head : Type 0 where
-  pub format : Format
-  pub from : ℕ
-
+-- the header of a log of the first format
 abbrev pub head_of : ℕ → Head
 head_of from = record { format = One; from = from }
 
-abbrev pub magic_of : Format → List ℕ
-magic_of One = codes "MTL1"
-
 abbrev pub head_bytes : Head → List ℕ
-head_bytes head = magic_of head.format ++ big_bytes 8 head.from
+head_bytes head = magic (codes "MTL") head.format ++ big_bytes 8 head.from
 
 abbrev pub IsHead : Head → Type 0
 IsHead head = head.from < 2 ^ 64

@@ -1,5 +1,5 @@
 -- The one fault of bytes that are no log.
-use Rattle.std.specs.Prelude.{◌≡◌, ◌≢◌, ℕ, ◌<◌, ◌^◌, ◌⊎◌, List, ◌++◌, length, slice_index}
+use Rattle.std.specs.Prelude.{◌≡◌, ◌≢◌, ℕ, ◌≤◌, ◌<◌, ◌^◌, List, ◌++◌, length, slice_index}
 use Rattle.std.specs.List.{flat_map}
 use Rattle.byteorder.specs.Endian.{big_bytes}
 use Rattle.mt_words.specs.declared.record.Change.{Change}
@@ -7,18 +7,20 @@ use Rattle.mt_words.specs.declared.fault.Fault.{Fault}
 use Rattle.mt_words.specs.declared.fault.Fault.TheVariants as of_all
 use Rattle.mt_words.specs.declared.fault.What.{What}
 use Rattle.mt_words.specs.declared.fault.What.TheVariants.{Length, Trailer, Kind, Frame, Version, Key, Columns, Clock}
-use Rattle.mt_words.specs.Limits.{Limits, limits_of}
+use Rattle.mt_words.specs.declared.limits.Limits.{Limits}
+use Rattle.mt_words.specs.Limits.{limits_of}
 use Rattle.mt_words.specs.Words.{IsKey}
 use Rattle.mt_words.specs.Changes.{Logged, changed, IsLawful, AllowsKind}
 use Rattle.mt_record.specs.declared.read.FeedFault.{FeedFault}
 use Rattle.mt_record.specs.declared.read.FeedFault.TheVariants as faults
 use Rattle.mt_record.specs.Spelling.{body, framed, spelling, Fits, IsRecordLength}
-use Rattle.mt_record.specs.Heads.{Head, IsHead, head_bytes, HasNoHeader}
+use Rattle.mt_record.specs.declared.head.Head.{Head}
+use Rattle.mt_record.specs.Heads.{IsHead, head_bytes, HasNoHeader}
 use Rattle.mt_record.specs.Logs.{AreRecords, latest, count_of}
 
 -- the byte of a kind of record that a format has
 abbrev pub IsKindByte : Limits → ℕ → Type 0
-IsKindByte limits byte = (byte ≡ 1) ⊎ ((byte ≡ 2) ⊎ (byte ≡ 3))
+IsKindByte limits byte = (1 ≤ byte) × (byte ≤ limits.kind)
 
 -- The first of version, key and columns that a format does not allow.
 abbrev pub HasVersionFault : Change → Type 0
@@ -34,16 +36,16 @@ HasColumnsFault limits change = (0 < change.version) × IsKey limits change.key 
 abbrev pub IsBodyOfChange : List ℕ → (Change → Type 0) → Type 0
 IsBodyOfChange bytes P = (timestamp : ℕ) × (change : Change) × Fits (changed timestamp change) × (bytes ≡ body (changed timestamp change)) × P change
 
--- The first fault of a body behind a record of timestamp low. Frame: its bytes are the fields of no record of its kind.
+-- The first fault of a body behind a record of timestamp low. All but Kind: its byte is that of a kind that the format has. Frame: its bytes are the fields of no record of its kind.
 abbrev pub BodyFault : What → Limits → ℕ → List ℕ → Type 0
 BodyFault Length limits low bytes = ⊥
 BodyFault Trailer limits low bytes = ⊥
 BodyFault Kind limits low bytes = IsKindByte limits (slice_index bytes 0) → ⊥
 BodyFault Frame limits low bytes = IsKindByte limits (slice_index bytes 0) × ((r : Logged) → Fits r → bytes ≢ body r)
-BodyFault Version limits low bytes = IsBodyOfChange bytes HasVersionFault
-BodyFault Key limits low bytes = IsBodyOfChange bytes (HasKeyFault limits)
-BodyFault Columns limits low bytes = IsBodyOfChange bytes (HasColumnsFault limits)
-BodyFault Clock limits low bytes = (r : Logged) × IsLawful limits r × (bytes ≡ body r) × (r.timestamp < low)
+BodyFault Version limits low bytes = IsKindByte limits (slice_index bytes 0) × IsBodyOfChange bytes HasVersionFault
+BodyFault Key limits low bytes = IsKindByte limits (slice_index bytes 0) × IsBodyOfChange bytes (HasKeyFault limits)
+BodyFault Columns limits low bytes = IsKindByte limits (slice_index bytes 0) × IsBodyOfChange bytes (HasColumnsFault limits)
+BodyFault Clock limits low bytes = IsKindByte limits (slice_index bytes 0) × (r : Logged) × IsLawful limits r × (bytes ≡ body r) × (r.timestamp < low)
 
 -- a length stands at the front that nothing framed has
 abbrev pub HasLengthFault : (ℕ → Type 0) → List ℕ → Type 0

@@ -1,13 +1,15 @@
 -- A log in pieces: what a feed has read, and which faults the bytes so far show.
 use Rattle.std.specs.Prelude.{◌≡◌, ℕ, ◌⊎◌, Option, Some, None, List, [], ◌∷◌, ◌++◌}
 use Rattle.std.specs.List.{flat_map}
-use Rattle.mt_words.specs.Limits.{Limits, limits_of}
+use Rattle.mt_words.specs.declared.limits.Limits.{Limits}
+use Rattle.mt_words.specs.Limits.{limits_of}
 use Rattle.mt_words.specs.Changes.{Logged}
 use Rattle.mt_record.specs.declared.read.FeedFault.{FeedFault}
 use Rattle.mt_record.specs.declared.read.FeedFault.TheVariants as faults
 use Rattle.mt_record.specs.Spelling.{spelling}
 use Rattle.mt_record.specs.Fronts.{ShowsNone, IsCutFront}
-use Rattle.mt_record.specs.Heads.{Head, IsHead, head_bytes}
+use Rattle.mt_record.specs.declared.head.Head.{Head}
+use Rattle.mt_record.specs.Heads.{IsHead, head_bytes}
 use Rattle.mt_record.specs.Logs.{AreRecords, latest, IsTorn, count_of}
 use Rattle.mt_record.specs.LogFaults.{HasFault, IsLogFault}
 

@@ -4,12 +4,14 @@ use Rattle.std.specs.List.{flat_map}
 use Rattle.byteorder.specs.Endian.{big_bytes}
 use Rattle.mt_words.specs.declared.fault.What.{What}
 use Rattle.mt_words.specs.declared.fault.What.TheVariants.{Length, Trailer, Kind, Frame, Version, Key, Columns, Clock}
-use Rattle.mt_words.specs.Limits.{Limits, limits_of}
+use Rattle.mt_words.specs.declared.limits.Limits.{Limits}
+use Rattle.mt_words.specs.Limits.{limits_of}
 use Rattle.mt_words.specs.Changes.{Logged}
 use Rattle.mt_record.specs.declared.read.FeedFault.{FeedFault}
 use Rattle.mt_record.specs.declared.read.FeedFault.TheVariants as faults
 use Rattle.mt_record.specs.Spelling.{framed, spelling}
-use Rattle.mt_record.specs.Heads.{Head, IsHead, head_bytes}
+use Rattle.mt_record.specs.declared.head.Head.{Head}
+use Rattle.mt_record.specs.Heads.{IsHead, head_bytes}
 use Rattle.mt_record.specs.Logs.{latest}
 use Rattle.mt_record.specs.LogFaults.{RestFault, HasFault}
 use Rattle.mt_record.specs.MoreBytes.{spelled_on, shows_none_on}

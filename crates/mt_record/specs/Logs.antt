@@ -2,11 +2,13 @@
 use Rattle.std.specs.Prelude.{◌≡◌, ℕ, ◌+◌, ◌-◌, ◌≤◌, ◌<◌, ◌^◌, ◌↔◌, ◌⊎◌, min, Bool, IsTrue, List, [], ◌∷◌, ◌++◌, length, map, Contains, All}
 use Rattle.std.specs.List.{flat_map}
 use Rattle.byteorder.specs.Endian.{big_bytes}
-use Rattle.mt_words.specs.Limits.{Limits, limits_of}
+use Rattle.mt_words.specs.declared.limits.Limits.{Limits}
+use Rattle.mt_words.specs.Limits.{limits_of}
 use Rattle.mt_words.specs.Changes.{Logged, IsLawful}
 use Rattle.mt_record.specs.declared.read.LogText.{LogText}
 use Rattle.mt_record.specs.Spelling.{spelling, IsRecordLength}
-use Rattle.mt_record.specs.Heads.{Head, IsHead, head_bytes}
+use Rattle.mt_record.specs.declared.head.Head.{Head}
+use Rattle.mt_record.specs.Heads.{IsHead, head_bytes}
 
 -- lawful records whose timestamps never fall, from low on
 abbrev pub AreRecords : Limits → ℕ → List Logged → Type 0

@@ -1,8 +1,8 @@
 -- The one fault of bytes that are no part of a checkpoint.
 use Rattle.std.specs.Prelude.{◌≡◌, ℕ, List, ◌++◌, length}
 use Rattle.std.specs.List.{flat_map, AllByRecursion}
-use Rattle.mt_words.specs.declared.limits.Format.TheVariants.{One}
 use Rattle.mt_words.specs.declared.record.Change.{Change}
+use Rattle.mt_words.specs.declared.limits.Limits.{Limits}
 use Rattle.mt_words.specs.Limits.{limits_of}
 use Rattle.mt_words.specs.Changes.{IsEntry}
 use Rattle.mt_record.specs.declared.part_text.PartHead.{PartHead}
@@ -16,14 +16,14 @@ abbrev pub HasNoPartHeader : List ℕ → Type 0
 HasNoPartHeader bytes = HasNone IsPartHead part_head_bytes bytes
 
 -- no entry begins the bytes
-abbrev pub HasNoEntry : List ℕ → Type 0
-HasNoEntry bytes = HasNone (IsEntry (limits_of One)) entry_spelling bytes
+abbrev pub HasNoEntry : Limits → List ℕ → Type 0
+HasNoEntry limits bytes = HasNone (IsEntry limits) entry_spelling bytes
 
 -- the bytes begin with a header and these whole entries, and the rest follows
 pub record BeginsPart (bytes : List ℕ) (head : PartHead) (entries : List Change) (rest : List ℕ) : Type 0 where
   pub spelled : bytes ≡ part_head_bytes head ++ (flat_map entry_spelling entries ++ rest)
   pub is_head : IsPartHead head
-  pub lawful : AllByRecursion (IsEntry (limits_of One)) entries
+  pub lawful : AllByRecursion (IsEntry (limits_of head.format)) entries
 
 -- the bytes are no part, but begin with the header of one of the checkpoint of this number, and with just so many whole entries
 pub record IsBroken (bytes : List ℕ) (number count : ℕ) : Type 0 where
@@ -33,7 +33,7 @@ pub record IsBroken (bytes : List ℕ) (number count : ℕ) : Type 0 where
   pub begins : BeginsPart bytes head entries rest
   pub named : number ≡ head.number
   pub counted : count ≡ length entries
-  pub last : HasNoEntry rest
+  pub last : HasNoEntry (limits_of head.format) rest
   pub no_part : (part : PartReading) → IsPartReading bytes part → ⊥
 
 -- the fault of the bytes, which are no part: want of memory is none

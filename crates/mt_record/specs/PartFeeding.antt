@@ -1,14 +1,15 @@
 -- A part in pieces: what a feed has read, and which faults the bytes so far show.
 use Rattle.std.specs.Prelude.{◌≡◌, ◌≢◌, ℕ, ◌<◌, ◌^◌, ◌⊎◌, Option, Some, None, List, [], ◌∷◌, ◌++◌, length}
 use Rattle.byteorder.specs.Endian.{big_bytes}
-use Rattle.mt_words.specs.declared.limits.Format.TheVariants.{One}
 use Rattle.mt_words.specs.declared.record.Change.{Change}
+use Rattle.mt_words.specs.declared.limits.Limits.{Limits}
 use Rattle.mt_words.specs.Limits.{limits_of}
 use Rattle.mt_words.specs.Changes.{IsEntry}
 use Rattle.mt_record.specs.declared.part_text.PartHead.{PartHead}
 use Rattle.mt_record.specs.declared.part_text.PartFault.{PartFault}
 use Rattle.mt_record.specs.declared.part_text.PartFault.TheVariants as faults
 use Rattle.mt_record.specs.Logs.{IsCut}
+use Rattle.mt_record.specs.LogFaults.{HasLengthFault}
 use Rattle.mt_record.specs.Parts.{part_head_bytes, IsPartHead, entry_spelling, footer_bytes, IsEntryLength, IsPart}
 use Rattle.mt_record.specs.Fronts.{ShowsNone, IsCutFront}
 use Rattle.mt_record.specs.PartFaults.{BeginsPart}
@@ -20,13 +21,13 @@ abbrev pub ShowsNoPartHeader : List ℕ → Type 0
 ShowsNoPartHeader bytes = ShowsNone IsPartHead part_head_bytes bytes
 
 -- the bytes begin with a length that is neither zero nor that of an entry
-abbrev pub HasWrongLength : List ℕ → Type 0
-HasWrongLength rest = (n : ℕ) × (more : List ℕ) × (n < 2 ^ 32) × (0 < n) × (IsEntryLength (limits_of One) n → ⊥) × (rest ≡ big_bytes 4 n ++ more)
+abbrev pub HasWrongLength : Limits → List ℕ → Type 0
+HasWrongLength limits rest = (n : ℕ) × (more : List ℕ) × (n < 2 ^ 32) × (0 < n) × (IsEntryLength limits n → ⊥) × (rest ≡ big_bytes 4 n ++ more)
 
 -- the bytes begin with the length of an entry, so many bytes and one length more, and these are no entry
-abbrev pub HasWrongEntry : List ℕ → Type 0
-HasWrongEntry rest = (text : List ℕ) × (n : ℕ) × (more : List ℕ) × IsEntryLength (limits_of One) (length text) × (n < 2 ^ 32)
-    × ((entry : Change) → IsEntry (limits_of One) entry → big_bytes 4 (length text) ++ (text ++ big_bytes 4 n) ≢ entry_spelling entry)
+abbrev pub HasWrongEntry : Limits → List ℕ → Type 0
+HasWrongEntry limits rest = (text : List ℕ) × (n : ℕ) × (more : List ℕ) × IsEntryLength limits (length text) × (n < 2 ^ 32)
+    × ((entry : Change) → IsEntry limits entry → big_bytes 4 (length text) ++ (text ++ big_bytes 4 n) ≢ entry_spelling entry)
     × (rest ≡ (big_bytes 4 (length text) ++ (text ++ big_bytes 4 n)) ++ more)
 
 -- the bytes begin with a footer that has another number than that of the entries
@@ -37,9 +38,13 @@ HasWrongCount count rest = (end : ℕ) × (n : ℕ) × (more : List ℕ) × (n <
 abbrev pub HasMore : ℕ → List ℕ → Type 0
 HasMore count rest = (end : ℕ) × (byte : ℕ) × (more : List ℕ) × (rest ≡ footer_bytes end count ++ byte ∷ more)
 
+-- the bytes show that no entry begins them
+abbrev pub ShowsNoEntry : Limits → List ℕ → Type 0
+ShowsNoEntry limits rest = HasLengthFault (IsEntryLength limits) rest ⊎ HasWrongEntry limits rest
+
 -- what follows so many entries shows that there is no part
-abbrev pub ShowsNoPart : ℕ → List ℕ → Type 0
-ShowsNoPart count rest = HasWrongLength rest ⊎ (HasWrongEntry rest ⊎ (HasWrongCount count rest ⊎ HasMore count rest))
+abbrev pub ShowsNoPart : Limits → ℕ → List ℕ → Type 0
+ShowsNoPart limits count rest = HasWrongLength limits rest ⊎ (HasWrongEntry limits rest ⊎ (HasWrongCount count rest ⊎ HasMore count rest))
 
 -- the bytes show that the part of the checkpoint of this number is broken behind so many entries
 pub record ShowsBroken (bytes : List ℕ) (number count : ℕ) : Type 0 where
@@ -49,7 +54,7 @@ pub record ShowsBroken (bytes : List ℕ) (number count : ℕ) : Type 0 where
   pub begins : BeginsPart bytes head entries rest
   pub named : number ≡ head.number
   pub counted : count ≡ length entries
-  pub shown : ShowsNoPart count rest
+  pub shown : ShowsNoPart (limits_of head.format) count rest
 
 -- the bytes so far show the fault, however they go on
 abbrev pub ShowsPartFault : List ℕ → PartFault → Type 0
@@ -99,8 +104,8 @@ abbrev pub IsCutHeader : List ℕ → Type 0
 IsCutHeader rest = IsCutFront IsPartHead part_head_bytes rest
 
 -- the beginning of an entry, of which no more than the length is looked at, or that of a footer
-abbrev pub IsCutItem : List ℕ → Type 0
-IsCutItem rest = IsCut (IsEntryLength (limits_of One)) rest ⊎ ((more : List ℕ) × (length more < 12) × (rest ≡ big_bytes 4 0 ++ more))
+abbrev pub IsCutItem : Limits → List ℕ → Type 0
+IsCutItem limits rest = IsCut (IsEntryLength limits) rest ⊎ ((more : List ℕ) × (length more < 12) × (rest ≡ big_bytes 4 0 ++ more))
 
 -- a rest from which nothing more can be read, and which shows no fault
 abbrev pub IsPartLeft : PartSoFar → List ℕ → Type 0
@@ -108,7 +113,7 @@ IsPartLeft so_far rest = by so_far.head so_far.end
   where
     by : Option PartHead → Option ℕ → Type 0
     by None end = IsCutHeader rest
-    by (Some head) None = (rest ≡ []) ⊎ IsCutItem rest
+    by (Some head) None = (rest ≡ []) ⊎ IsCutItem (limits_of head.format) rest
     by (Some head) (Some end) = rest ≡ []
 
 -- what a contract sees of a feed: what was read, the bytes held back, and the fault that it answered

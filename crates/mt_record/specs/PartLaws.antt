@@ -2,7 +2,9 @@
 use Rattle.std.proofs.Common.{◌≡◌, inl, inr, ℕ, Option, Some, None, List, ◌∷◌, ◌++◌, length, refl, sym, ap, ◌∙◌, append_assoc}
 use Rattle.std.specs.List.{flat_map}
 use Rattle.byteorder.specs.Endian.{big_bytes}
+use Rattle.mt_words.specs.declared.limits.Limits.{Limits}
 use Rattle.mt_words.specs.declared.record.Change.{Change}
+use Rattle.mt_words.specs.Limits.{limits_of}
 use Rattle.mt_record.specs.declared.part_text.PartHead.{PartHead}
 use Rattle.mt_record.specs.declared.part_text.PartFault.{PartFault}
 use Rattle.mt_record.specs.declared.part_text.PartFault.TheVariants as faults
@@ -49,11 +51,11 @@ reads_front s part a b h = front_by s.head s.end s.entries part a b h
 -- ---- faults
 
 -- a fault behind entries stays one
-no_part_on : (count : ℕ) (rest more : List ℕ) → ShowsNoPart count rest → ShowsNoPart count (rest ++ more)
-no_part_on count rest more (inl h) = inl (h.0, h.1 ++ more, h.2, h.3, h.4, behind_on (big_bytes 4 h.0) rest h.1 more h.5)
-no_part_on count rest more (inr (inl h)) = inr (inl (h.0, h.1, h.2 ++ more, h.3, h.4, h.5, behind_on (big_bytes 4 (length h.0) ++ (h.0 ++ big_bytes 4 h.1)) rest h.2 more h.6))
-no_part_on count rest more (inr (inr (inl h))) = inr (inr (inl (h.0, h.1, h.2 ++ more, h.3, h.4, behind_on (footer_bytes h.0 h.1) rest h.2 more h.5)))
-no_part_on count rest more (inr (inr (inr h))) = inr (inr (inr (h.0, h.1, h.2 ++ more, behind_on (footer_bytes h.0 count) rest (h.1 ∷ h.2) more h.3)))
+no_part_on : (limits : Limits) (count : ℕ) (rest more : List ℕ) → ShowsNoPart limits count rest → ShowsNoPart limits count (rest ++ more)
+no_part_on limits count rest more (inl h) = inl (h.0, h.1 ++ more, h.2, h.3, h.4, behind_on (big_bytes 4 h.0) rest h.1 more h.5)
+no_part_on limits count rest more (inr (inl h)) = inr (inl (h.0, h.1, h.2 ++ more, h.3, h.4, h.5, behind_on (big_bytes 4 (length h.0) ++ (h.0 ++ big_bytes 4 h.1)) rest h.2 more h.6))
+no_part_on limits count rest more (inr (inr (inl h))) = inr (inr (inl (h.0, h.1, h.2 ++ more, h.3, h.4, behind_on (footer_bytes h.0 h.1) rest h.2 more h.5)))
+no_part_on limits count rest more (inr (inr (inr h))) = inr (inr (inr (h.0, h.1, h.2 ++ more, behind_on (footer_bytes h.0 count) rest (h.1 ∷ h.2) more h.3)))
 
 -- a fault that is shown is shown when more bytes follow
 pub shown_on : (fault : PartFault) (bytes more : List ℕ) → IsPartShown bytes fault → IsPartShown (bytes ++ more) fault
@@ -69,7 +71,7 @@ shown_on (faults.Broken number entries) bytes more h = record {
   };
   named = h.named;
   counted = h.counted;
-  shown = no_part_on entries h.rest more h.shown;
+  shown = no_part_on (limits_of h.head.format) entries h.rest more h.shown;
 }
 shown_on faults.Memory bytes more h = tt
 

@@ -4,19 +4,20 @@ use Rattle.std.specs.List.{flat_map, AllByRecursion}
 use Rattle.byteorder.specs.Endian.{big_bytes}
 use Rattle.mt_words.specs.declared.limits.TheConstants.{LONGEST_VALUE}
 use Rattle.mt_words.specs.declared.record.Change.{Change}
-use Rattle.mt_words.specs.Limits.{Limits, limits_of}
-use Rattle.mt_words.specs.declared.limits.Format.TheVariants.{One}
+use Rattle.mt_words.specs.declared.limits.Limits.{Limits}
+use Rattle.mt_words.specs.Limits.{limits_of, magic}
+use Rattle.mt_words.specs.declared.limits.Format.{Format}
 use Rattle.mt_words.specs.Changes.{IsEntry}
 use Rattle.mt_record.specs.declared.part_text.PartHead.{PartHead}
 use Rattle.mt_record.specs.declared.part_text.PartText.{PartText}
 use Rattle.mt_record.specs.Spelling.{change_bytes, framed}
 
 -- the header of a part: the number of its checkpoint, where that begins, the part's own number, and how many parts there are
-abbrev pub part_head : ℕ → ℕ → ℕ → ℕ → PartHead
-part_head number begin part parts = record { number = number; begin = begin; part = part; parts = parts }
+abbrev pub part_head : Format → ℕ → ℕ → ℕ → ℕ → PartHead
+part_head format number begin part parts = record { format = format; number = number; begin = begin; part = part; parts = parts }
 
 abbrev pub part_head_bytes : PartHead → List ℕ
-part_head_bytes head = codes "MTC1" ++ (big_bytes 4 head.number ++ (big_bytes 8 head.begin ++ (big_bytes 2 head.part ++ big_bytes 2 head.parts)))
+part_head_bytes head = magic (codes "MTC") head.format ++ (big_bytes 4 head.number ++ (big_bytes 8 head.begin ++ (big_bytes 2 head.part ++ big_bytes 2 head.parts)))
 
 pub record IsPartHead (head : PartHead) : Type 0 where
   pub number : head.number < 2 ^ 32
@@ -48,22 +49,25 @@ part_bytes head entries end = part_head_bytes head ++ (flat_map entry_spelling e
 pub record IsPart (bytes : List ℕ) (head : PartHead) (entries : List Change) (end : ℕ) : Type 0 where
   pub spelled : bytes ≡ part_bytes head entries end
   pub is_head : IsPartHead head
-  pub lawful : AllByRecursion (IsEntry (limits_of One)) entries
+  pub lawful : AllByRecursion (IsEntry (limits_of head.format)) entries
   pub fits : end < 2 ^ 64
   pub count : length entries < 2 ^ 32
 
--- what a part says
+-- what a part says, in whatever format
 pub record PartReading : Type 0 where
-  pub head : PartHead
+  pub number : ℕ
+  pub begin : ℕ
+  pub part : ℕ
+  pub parts : ℕ
   pub entries : List Change
   pub end : ℕ
 
 abbrev pub IsPartReading : List ℕ → PartReading → Type 0
-IsPartReading bytes part = IsPart bytes part.head part.entries part.end
+IsPartReading bytes part = (format : Format) × IsPart bytes (part_head format part.number part.begin part.part part.parts) part.entries part.end
 
 -- what the text of a part shows
 abbrev pub shown_by : PartText → PartReading
-shown_by text = record { head = part_head text.number text.begin text.part text.parts; entries = text.entries.items; end = text.end }
+shown_by text = record { number = text.number; begin = text.begin; part = text.part; parts = text.parts; entries = text.entries.items; end = text.end }
 
 -- the text of the part that the bytes are
 abbrev pub IsPartText : List ℕ → PartText → Type 0

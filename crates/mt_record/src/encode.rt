@@ -9,18 +9,27 @@ ghost use Rattle.mt_record.specs.Spelling.{code_of as code_of_kind, column_bytes
 ghost use Rattle.mt_record.specs.Adding.{HasRoom, Adds};
 
 use crate::body::{MARK, PUT, REMOVE, WHOLE};
-use crate::head::{HEADER_BYTES, MAGIC};
-use crate::put::{put_bytes, put_column, put_counted, put_u32, put_u64};
-use mt_words::{Change, Column, Kind, Memory, Record};
+use crate::head::{HEADER_BYTES, Head, LOG};
+use crate::put::{put_bytes, put_column, put_counted, put_magic, put_u32, put_u64};
+use mt_words::{Change, Column, Format, Kind, Memory, Record};
 
 /// Appends the header of a log from which updates below `from` may be missing. On an Err nothing is appended.
 pub fn encode_log_header(from: u64, out: &mut Vec<u8>) -> Result<(), Memory>
     ensures ok { OnOk result (out.new.items ≡ out.old.items ++ head_bytes (head_of from)) }
     ensures err { OnErr result (out.new.items ≡ out.old.items) }
 {
+    let format = Format::One;
+    append_header(Head { format, from }, out)
+}
+
+/// Appends the header. On an Err nothing is appended.
+fn append_header(head: Head, out: &mut Vec<u8>) -> Result<(), Memory>
+    ensures ok { OnOk result (out.new.items ≡ out.old.items ++ head_bytes head) }
+    ensures err { OnErr result (out.new.items ≡ out.old.items) }
+{
     out.reserve(HEADER_BYTES)?;
-    put_bytes(MAGIC, out);
-    put_u64(from, out);
+    put_magic(LOG, head.format, out);
+    put_u64(head.from, out);
     Ok(())
 }
 

@@ -3,13 +3,15 @@ ghost use Rattle.std.specs.Prelude.{◌≡◌, ◌<◌, ◌^◌, ◌++◌, lengt
 ghost use Rattle.std.specs.List.{flat_map};
 ghost use Rattle.std.specs.Io.{StartsWith};
 ghost use Rattle.mt_words.specs.Limits.{widest};
+ghost use Rattle.mt_words.specs.declared.limits.Format.TheVariants.{One};
 ghost use Rattle.mt_record.specs.Spelling.{change_bytes};
 ghost use Rattle.mt_record.specs.Parts.{part_head, part_head_bytes, part_bytes, entry_spelling, footer_bytes, IsEntryLength};
 
 use crate::encode::{change_length, put_change};
-use crate::part_head::{FOOTER_BYTES, PART_HEADER_BYTES, PART_MAGIC};
-use crate::put::{put_bytes, put_u16, put_u32, put_u64};
-use mt_words::{Entry, Memory};
+use crate::part_head::{FOOTER_BYTES, PART, PART_HEADER_BYTES};
+use crate::part_text::PartHead;
+use crate::put::{put_magic, put_u16, put_u32, put_u64};
+use mt_words::{Entry, Format, Memory};
 
 /// Appends a part of the checkpoint of this number, from its timestamp `begin` to its timestamp `end`: the part of
 /// number `part`, of `parts`, with these entries, of which there are fewer than 2^32. On an Err nothing is appended.
@@ -25,11 +27,18 @@ pub fn encode_part(
 ) -> Result<(), Memory>
     requires { length entries.now < 2 ^ 32 }
     ensures ok { OnOk result (out.new.items ≡
-        out.old.items ++ part_bytes (part_head number begin part parts) entries.now end) }
+        out.old.items ++ part_bytes (part_head One number begin part parts) entries.now end) }
     ensures err { OnErr result (out.new.items ≡ out.old.items) }
 {
+    let head = PartHead {
+        format: Format::One,
+        number,
+        begin,
+        part,
+        parts,
+    };
     let start = out.len();
-    append_header(number, begin, part, parts, out)?;
+    append_header(head, out)?;
     let outcome = append_rest(end, entries, out);
     if outcome.is_err() {
         out.truncate(start);
@@ -38,23 +47,16 @@ pub fn encode_part(
 }
 
 /// Appends the header. On an Err nothing is appended.
-fn append_header(
-    number: u32,
-    begin: u64,
-    part: u16,
-    parts: u16,
-    out: &mut Vec<u8>,
-) -> Result<(), Memory>
-    ensures ok { OnOk result (out.new.items ≡
-        out.old.items ++ part_head_bytes (part_head number begin part parts)) }
+fn append_header(head: PartHead, out: &mut Vec<u8>) -> Result<(), Memory>
+    ensures ok { OnOk result (out.new.items ≡ out.old.items ++ part_head_bytes head) }
     ensures err { OnErr result (out.new.items ≡ out.old.items) }
 {
     out.reserve(PART_HEADER_BYTES)?;
-    put_bytes(PART_MAGIC, out);
-    put_u32(number, out);
-    put_u64(begin, out);
-    put_u16(part, out);
-    put_u16(parts, out);
+    put_magic(PART, head.format, out);
+    put_u32(head.number, out);
+    put_u64(head.begin, out);
+    put_u16(head.part, out);
+    put_u16(head.parts, out);
     Ok(())
 }
 

@@ -1,17 +1,9 @@
 //! Fields from the front of bytes. Each gives the bytes behind it too; none is copied.
-ghost use Rattle.std.specs.Prelude.{◌≡◌, ◌<◌, ◌^◌, ◌++◌, List, ℕ, length, IfSome, IfNone, MatchBool};
+ghost use Rattle.std.specs.Prelude.{◌≡◌, ◌<◌, ◌^◌, ◌++◌, List, ℕ, length, IfSome, IfNone};
 ghost use Rattle.byteorder.specs.Endian.{big_bytes};
-ghost use Rattle.mt_record.specs.Fronts.{GoTogether};
 ghost use Rattle.mt_record.specs.Spelling.{counted, column_bytes, FitsColumn};
 
 use byteorder::{BigEndian, ByteOrder};
-
-/// Whether the bytes begin with this magic number, or begin it.
-pub fn go_together(magic: &[u8], bytes: &[u8]) -> bool
-    ensures { MatchBool result (GoTogether magic.now bytes.now) (GoTogether magic.now bytes.now → ⊥) }
-{
-    bytes.starts_with(magic) || magic.starts_with(bytes)
-}
 
 /// A number of two bytes.
 pub fn u16_at(bytes: &[u8]) -> Option<(u16, &[u8])>

@@ -1,76 +1,78 @@
 //! One record or entry at the front of bytes, in its frame of two lengths.
-ghost use Rattle.std.specs.Prelude.{◌≡◌, ◌<◌, ◌^◌, ◌⊎◌, [], length, IfOk, IfErr, MatchOption};
+ghost use Rattle.std.specs.Prelude.{◌≡◌, ◌<◌, ◌^◌, ◌⊎◌, ◌+◌, ◌*◌, suc, [], length, IfOk, IfErr, OnErr, MatchOption};
+ghost use Rattle.mt_words.specs.declared.limits.TheConstants.{LONGEST_VALUE};
 ghost use Rattle.mt_words.specs.Limits.{limits_of};
-ghost use Rattle.mt_words.specs.declared.limits.Format.TheVariants.{One};
+ghost use Rattle.mt_record.specs.Spelling.{longest_record as longest_record_of};
 ghost use Rattle.mt_record.specs.Logs.{IsTorn, IsCut};
-ghost use Rattle.mt_record.specs.Bodies.{IsNext, IsRestFault, IsWithin, IsFrame, IsFrameFault};
+ghost use Rattle.mt_record.specs.LogFaults.{RestFault};
+ghost use Rattle.mt_record.specs.Parts.{longest_entry as longest_entry_of, IsEntryLength};
+ghost use Rattle.mt_record.specs.PartFeeding.{ShowsNoEntry};
+ghost use Rattle.mt_record.specs.Bodies.{IsNextBody, IsNextEntry, IsWithin, IsFrame, IsFrameFault};
 
-use crate::body::read_body;
+use crate::check::{check_body, check_entry};
 use crate::fields::u32_at;
-use mt_words::{LONGEST_KEY, LONGEST_VALUE, MOST_COLUMNS, Record, What};
-use std::alloc::{AllocError, Global};
-
-/// Why there is no record.
-#[derive(Drop)]
-pub enum RecordFault {
-    /// The bytes begin no record.
-    Wrong(What),
-    /// A growth was refused.
-    Memory,
-}
-
-impl From<AllocError> for RecordFault {
-    ghost use Rattle.std.specs.Prelude.{◌≡◌};
-    ghost use Rattle.mt_record.specs.declared.frame.RecordFault.TheVariants.{Memory};
-
-    ghost from_gives = { λ _ fault. fault ≡ Memory };
-
-    fn from(_refused: AllocError) -> RecordFault {
-        RecordFault::Memory
-    }
-}
+use mt_words::{Format, LONGEST_VALUE, What};
 
 /// The least length of a body: that of a mark.
 const SHORTEST_RECORD: usize = 9;
 
-/// The greatest length of a body: that of a put of the longest key and of all columns, each as long as can be.
-const LONGEST_RECORD: usize = 20 + LONGEST_KEY + MOST_COLUMNS * (3 + LONGEST_VALUE);
-
 /// The least length of an entry: that of the empty key with one empty column.
-pub const SHORTEST_ENTRY: usize = 14;
+const SHORTEST_ENTRY: usize = 14;
 
-/// The greatest length of an entry: that of the longest key and of all columns, each as long as can be.
-pub const LONGEST_ENTRY: usize = 11 + LONGEST_KEY + MOST_COLUMNS * (3 + LONGEST_VALUE);
-
-/// The record at the front, behind one of timestamp `latest`, and the bytes after it; None where they are empty or
-/// torn.
+/// The timestamp and the body of the record at the front, behind one of timestamp `latest`, and the bytes after it;
+/// None where they are empty or torn.
 pub fn next_record(
-    alloc: Global,
+    format: Format,
     latest: u64,
     bytes: &[u8],
-) -> Result<Option<(Record, &[u8])>, RecordFault>
+) -> Result<Option<(u64, &[u8], &[u8])>, What>
     ensures found { IfOk result (λ found. MatchOption found
-        ((bytes.now ≡ []) ⊎ IsTorn (limits_of One) bytes.now)
-        (λ x. IsNext (limits_of One) latest bytes.now x.0 x.1.now)) }
-    ensures fault { IfErr result (IsRestFault (limits_of One) latest bytes.now) }
+        ((bytes.now ≡ []) ⊎ IsTorn (limits_of format) bytes.now)
+        (λ x. IsNextBody (limits_of format) latest bytes.now x.0 x.1.now x.2.now)) }
+    ensures fault { IfErr result (λ what. RestFault what (limits_of format) latest bytes.now) }
 {
-    match next_frame(bytes, SHORTEST_RECORD, LONGEST_RECORD) {
-        Ok(Some((text, after))) => {
-            let record = read_body(alloc, latest, text)?;
-            Ok(Some((record, after)))
-        }
-        Ok(None) => Ok(None),
-        Err(what) => Err(RecordFault::Wrong(what)),
-    }
+    let Some((text, after)) = next_frame(bytes, SHORTEST_RECORD, longest_record(format))? else {
+        return Ok(None);
+    };
+    let timestamp = check_body(format, latest, text)?;
+    Ok(Some((timestamp, text, after)))
+}
+
+/// The fields of the entry at the front, and the bytes after it; None where they are empty or cut.
+pub fn next_entry(format: Format, bytes: &[u8]) -> Result<Option<(&[u8], &[u8])>, What>
+    ensures found { IfOk result (λ found. MatchOption found
+        ((bytes.now ≡ []) ⊎ IsCut (IsEntryLength (limits_of format)) bytes.now)
+        (λ x. IsNextEntry (limits_of format) bytes.now x.0.now x.1.now)) }
+    ensures fault { OnErr result (ShowsNoEntry (limits_of format) bytes.now) }
+{
+    let Some((text, after)) = next_frame(bytes, SHORTEST_ENTRY, longest_entry(format))? else {
+        return Ok(None);
+    };
+    check_entry(format, text)?;
+    Ok(Some((text, after)))
+}
+
+/// The greatest length of a body: that of a put of the longest key and of all columns, each as long as can be.
+fn longest_record(format: Format) -> usize
+    ensures value { result ≡ longest_record_of (limits_of format) }
+    ensures fits { result < 2 ^ 32 }
+{
+    let limits = format.limits();
+    20 + limits.key + (limits.column as usize + 1) * (3 + LONGEST_VALUE)
+}
+
+/// The greatest length of an entry: that of the longest key and of all columns, each as long as can be.
+fn longest_entry(format: Format) -> usize
+    ensures value { result ≡ longest_entry_of (limits_of format) }
+    ensures fits { result < 2 ^ 32 }
+{
+    let limits = format.limits();
+    11 + limits.key + (limits.column as usize + 1) * (3 + LONGEST_VALUE)
 }
 
 /// The text between two copies of its length at the front, and the bytes after it; None where the bytes are empty or
 /// cut.
-pub fn next_frame(
-    bytes: &[u8],
-    shortest: usize,
-    longest: usize,
-) -> Result<Option<(&[u8], &[u8])>, What>
+fn next_frame(bytes: &[u8], shortest: usize, longest: usize) -> Result<Option<(&[u8], &[u8])>, What>
     requires { longest < 2 ^ 32 }
     ensures found { IfOk result (λ found. MatchOption found
         ((bytes.now ≡ []) ⊎ IsCut (IsWithin shortest longest) bytes.now)

@@ -2,6 +2,8 @@
 #![tactic(auto)]
 
 mod body;
+mod check;
+mod copy;
 mod encode;
 mod encode_parts;
 mod feed;
@@ -12,6 +14,7 @@ mod items;
 mod laws;
 mod log_feed;
 mod log_items;
+mod magic;
 mod part_feed;
 mod part_head;
 mod part_items;

@@ -4,10 +4,11 @@ ghost use Rattle.mt_record.specs.Parts.{IsPartHead, part_head_bytes};
 ghost use Rattle.mt_record.specs.PartFaults.{HasNoPartHeader};
 
 use crate::fields::{u16_at, u32_at, u64_at};
+use crate::magic::format_at;
 use crate::part_text::PartHead;
 
-/// What the header of a part begins with.
-pub const PART_MAGIC: &[u8] = b"MTC1";
+/// The letters that a part begins with.
+pub const PART: &[u8] = b"MTC";
 
 /// The number of bytes of a part's header.
 pub const PART_HEADER_BYTES: usize = 20;
@@ -20,12 +21,13 @@ pub fn part_header_at(bytes: &[u8]) -> Option<(PartHead, &[u8])>
     ensures found { IfSome result (λ x. IsPartHead x.0 × (bytes.now ≡ part_head_bytes x.0 ++ x.1.now)) }
     ensures none { IfNone result (HasNoPartHeader bytes.now) }
 {
-    let rest = bytes.strip_prefix(PART_MAGIC)?;
+    let (format, rest) = format_at(PART, bytes)?;
     let (number, rest) = u32_at(rest)?;
     let (begin, rest) = u64_at(rest)?;
     let (part, rest) = u16_at(rest)?;
     let (parts, rest) = u16_at(rest)?;
     let head = PartHead {
+        format,
         number,
         begin,
         part,

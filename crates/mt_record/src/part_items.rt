@@ -1,22 +1,26 @@
 //! The items of a part, one behind the other: its header, its entries and its footer.
-ghost use Rattle.std.specs.Prelude.{◌≡◌, ◌≢◌, ◌++◌, [], List, ℕ, None, Some, IfOk, IfErr, OnOk, length};
+ghost use Rattle.std.specs.Prelude.{◌≡◌, ◌≢◌, ◌++◌, [], ◌∷◌, List, ℕ, None, Some, IfOk, IfErr, OnOk, OnErr, length};
 ghost use Rattle.byteorder.specs.Endian.{big_bytes};
 ghost use Rattle.mt_record.specs.declared.part_text.PartFault.TheVariants.{Broken};
+ghost use Rattle.mt_words.specs.declared.record.Change.{Change};
+ghost use Rattle.mt_words.specs.Limits.{widest};
+ghost use Rattle.mt_record.specs.Bodies.{AreFields, AreFieldsOf};
 ghost use Rattle.mt_record.specs.Parts.{IsPartText};
 ghost use Rattle.mt_record.specs.PartFaults.{IsPartAnswered};
 ghost use Rattle.mt_record.specs.Feeding.{ReadsStep};
 ghost use Rattle.mt_record.specs.PartFeeding.{ReadsUpTo, IsPartLeft, IsPartShown};
-ghost use Rattle.mt_record.specs.PartPieces.{so_far, HasReadItems, IsLeftOfItems, AddsEntry, IsTextFault};
+ghost use Rattle.mt_record.specs.PartPieces.{so_far, HasReadItems, IsLeftOfItems};
 ghost use Rattle.mt_record.specs.PartLaws.{reads_on, reads_front, shown_on, refused_shown};
 
-use crate::body::read_entry;
+use crate::copy::copy_entry;
 use crate::feed::keep;
-use crate::fields::{go_together, u32_at, u64_at};
-use crate::frame::{LONGEST_ENTRY, RecordFault, SHORTEST_ENTRY, next_frame};
+use crate::fields::{u32_at, u64_at};
+use crate::frame::next_entry;
 use crate::items::Items;
-use crate::part_head::{FOOTER_BYTES, PART_HEADER_BYTES, PART_MAGIC, part_header_at};
+use crate::magic::goes_with_magic;
+use crate::part_head::{FOOTER_BYTES, PART, PART_HEADER_BYTES, part_header_at};
 use crate::part_text::{PartFault, PartHead, PartText};
-use mt_words::Entry;
+use mt_words::{Entry, Memory};
 use std::alloc::Global;
 
 /// What was read of a part so far.
@@ -123,7 +127,7 @@ impl PartItems {
         ensures next { IfOk result (ReadsStep HasReadItems IsLeftOfItems self.old self.new bytes.now) }
         ensures fault { (text : List ℕ) → ReadsUpTo (so_far self.old) text bytes.now → IfErr result (IsPartShown text) }
     {
-        if !go_together(PART_MAGIC, bytes) {
+        if !goes_with_magic(PART, bytes) {
             return Err(PartFault::Header);
         }
         let Some((head, after)) = part_header_at(bytes) else {
@@ -150,11 +154,11 @@ impl PartItems {
         if length == 0 {
             return self.read_footer(head, rest);
         }
-        self.read_framed(head, bytes)
+        self.read_entry(head, bytes)
     }
 
     /// Reads an entry.
-    fn read_framed<'a>(
+    fn read_entry<'a>(
         &mut self,
         head: PartHead,
         bytes: &'a [u8],
@@ -165,25 +169,13 @@ impl PartItems {
         ensures next { IfOk result (ReadsStep HasReadItems IsLeftOfItems self.old self.new bytes.now) }
         ensures fault { (text : List ℕ) → ReadsUpTo (so_far self.old) text bytes.now → IfErr result (IsPartShown text) }
     {
-        match next_frame(bytes, SHORTEST_ENTRY, LONGEST_ENTRY) {
-            Ok(Some((text, after))) => {
-                self.push_entry(head, text)?;
+        match next_entry(head.format, bytes) {
+            Ok(Some((fields, after))) => {
+                put_entry(&mut self.entries, fields)?;
                 Ok(Some(after))
             }
             Ok(None) => Ok(None),
             Err(_) => Err(self.broken(head)),
-        }
-    }
-
-    /// Adds the entry whose fields these are.
-    fn push_entry(&mut self, head: PartHead, text: &[u8]) -> Result<(), PartFault>
-        ensures ok { OnOk result (AddsEntry self.old text.now self.new) }
-        ensures fault { IfErr result (IsTextFault head.number self.old text.now) }
-    {
-        match read_entry(*self.entries.allocator(), text) {
-            Ok(entry) => Ok(keep(&mut self.entries, entry)?),
-            Err(RecordFault::Wrong(_)) => Err(self.broken(head)),
-            Err(RecordFault::Memory) => Err(PartFault::Memory),
         }
     }
 
@@ -221,4 +213,14 @@ impl PartItems {
             entries: self.entries.len() as u64,
         }
     }
+}
+
+/// Puts the entry with these fields behind the others.
+fn put_entry(entries: &mut Vec<Entry>, fields: &[u8]) -> Result<(), Memory>
+    requires { AreFields fields.now }
+    ensures ok { (entry : Change) → AreFieldsOf widest fields.now entry → OnOk result (entries.new.items ≡ entries.old.items ++ entry ∷ []) }
+    ensures err { OnErr result (entries.new.items ≡ entries.old.items) }
+{
+    let entry = copy_entry(*entries.allocator(), fields)?;
+    keep(entries, entry)
 }

@@ -2,12 +2,13 @@
 ghost use Rattle.std.specs.Prelude.{◌≡◌};
 ghost use Rattle.mt_record.specs.declared.part_text.PartFault.TheVariants as faults;
 
-use mt_words::{Entry, Memory};
+use mt_words::{Entry, Format, Memory};
 use thiserror::Error;
 
 /// The header of a part.
 #[derive(Clone, Copy, Debug)]
 pub struct PartHead {
+    pub format: Format,
     /// The number of its checkpoint.
     pub number: u32,
     /// The timestamp from which on logs are replayed over the checkpoint.

@@ -1,11 +1,12 @@
 //! Fields at the end of bytes, in room that was made before. Each is copied once.
 ghost use Rattle.std.specs.Prelude.{◌<◌, ◌^◌, length};
 ghost use Rattle.byteorder.specs.Endian.{big_bytes};
+ghost use Rattle.mt_words.specs.Limits.{magic};
 ghost use Rattle.mt_record.specs.Spelling.{counted, column_bytes, FitsColumn};
 ghost use Rattle.mt_record.specs.Adding.{HasRoom, Adds};
 
 use byteorder::{BigEndian, ByteOrder};
-use mt_words::Column;
+use mt_words::{Column, Format};
 
 /// Bytes.
 pub fn put_bytes(bytes: &[u8], out: &mut Vec<u8>)
@@ -15,6 +16,15 @@ pub fn put_bytes(bytes: &[u8], out: &mut Vec<u8>)
     let Ok(()) = out.extend_from_slice(bytes) else {
         unreachable!();
     };
+}
+
+/// What a file of the format begins with: these letters, and its digit.
+pub fn put_magic(letters: &[u8], format: Format, out: &mut Vec<u8>)
+    requires { HasRoom (length (magic letters.now format)) out.old }
+    ensures { Adds (magic letters.now format) out.old out.new }
+{
+    put_bytes(letters, out);
+    put_bytes(&[format.limits().digit], out);
 }
 
 /// A number of two bytes.

@@ -9,7 +9,7 @@ use Rattle.mt_words.specs.declared.record.Change.{Change}
 use Rattle.mt_words.specs.declared.update.Origin.{Origin}
 use Rattle.mt_words.specs.declared.update.Update.{Update}
 use Rattle.mt_words.specs.declared.limits.Format.{Format}
-use Rattle.mt_words.specs.declared.limits.Format.TheVariants.{One}
+use Rattle.mt_words.proofs.Formats.{kind_within}
 use Rattle.mt_words.specs.declared.update.Kind.{Kind}
 use Rattle.mt_words.specs.Limits.{limits_of, widest}
 use Rattle.mt_words.specs.Changes.{Logged, AllowsKind, IsLawful}
@@ -48,16 +48,13 @@ scan_more window scans scan =
 
 -- ---- lawful records make lawful updates
 
-pub of_format : (format : Format) (kind : Kind) → AllowsKind (limits_of format) kind → AllowsKind widest kind
-of_format One kind allows = allows
-
 lawful_one : (format : Format) (origin : Origin) (r : Logged) (change : Option Change) (u : Update) → r.change ≡ change → IsLawful (limits_of format) r → Contains (update_by origin r.timestamp change) u → AllowsKind widest u.kind
 lawful_one format origin r None u e lawful at = absurd (no_element u at)
 lawful_one format origin r (Some change) u e lawful at =
     let whole : IsLawful (limits_of format) (record { timestamp = r.timestamp; change = Some change }) = subst (λ (c : Option Change). IsLawful (limits_of format) (record { timestamp = r.timestamp; change = c })) e lawful in
     elim (Contains-push_cases [] (update_at origin r.timestamp change) u at) as (λ _. AllowsKind widest u.kind) [
       | inl none ↦ absurd (no_element u none)
-      | inr same ↦ subst (λ (x : Update). AllowsKind widest x.kind) same (of_format format change.kind whole.1.0.kind)
+      | inr same ↦ subst (λ (x : Update). AllowsKind widest x.kind) same (kind_within format change.kind whole.1.0.kind)
     ]
 
 lawful_log : (format : Format) (low log nth : ℕ) (rs : List Logged) (u : Update) → AreRecords (limits_of format) low rs → Contains (updates_from log nth rs) u → AllowsKind widest u.kind

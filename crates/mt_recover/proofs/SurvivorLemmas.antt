@@ -7,8 +7,8 @@ use Rattle.std.proofs.lemmas.List.Sorted.{Contains-permutation, IsPermutation-sy
 use Rattle.mt_words.specs.declared.record.Change.{Change}
 use Rattle.mt_words.specs.declared.update.Origin.TheVariants as origins
 use Rattle.mt_words.specs.declared.update.Update.{Update}
-use Rattle.mt_words.specs.declared.limits.Format.TheVariants.{One}
-use Rattle.mt_words.specs.Limits.{limits_of, widest}
+use Rattle.mt_words.proofs.Formats.{entries_within}
+use Rattle.mt_words.specs.Limits.{widest}
 use Rattle.mt_words.specs.Words.{IsBelow}
 use Rattle.mt_words.specs.Changes.{Logged, AllowsKind, IsEntry}
 use Rattle.mt_words.specs.Updates.{update_at}
@@ -22,7 +22,7 @@ use Rattle.mt_recover.specs.Recovery.{AreReadings, AreKnown, records_of}
 use Rattle.mt_recover.specs.Walk.{AreApart, AreLawful}
 use Rattle.mt_recover.proofs.KeyWritesLemmas.{no_element, head_or_tail}
 use Rattle.mt_recover.proofs.Apart.{of_logs, logs_apart}
-use Rattle.mt_recover.proofs.ReplayLemmas.{of_format, was_there, lawful_logs}
+use Rattle.mt_recover.proofs.ReplayLemmas.{was_there, lawful_logs}
 use Rattle.mt_recover.proofs.OneWalk.{head_in, of_each, not_below_itself}
 
 -- ---- the updates of entries
@@ -132,25 +132,25 @@ among_wholes (t ∷ ts) text at = elim (head_or_tail t text ts at) as (λ _. Con
 
 -- the entries of a whole part are lawful
 part_lawful : (parts : List (List ℕ)) (known : List KnownPart) (text : PartReading) → AreKnown parts known → Contains known (whole text)
-    → AllByRecursion (IsEntry (limits_of One)) text.entries
+    → AllByRecursion (IsEntry widest) text.entries
 part_lawful [] [] text are at = absurd (no_element (whole text) at)
 part_lawful [] (k ∷ ks) text are at = absurd are
 part_lawful (b ∷ bs) [] text are at = absurd are
 part_lawful (b ∷ bs) (k ∷ ks) text are at =
-    elim (head_or_tail k (whole text) ks at) as (λ _. AllByRecursion (IsEntry (limits_of One)) text.entries) [
-      | inl same ↦ let is : IsKnown b (whole text) = subst (IsKnown b) same are.0 in is.lawful
+    elim (head_or_tail k (whole text) ks at) as (λ _. AllByRecursion (IsEntry widest) text.entries) [
+      | inl same ↦ let is : IsKnown b (whole text) = subst (IsKnown b) same are.0 in entries_within is.0 text.entries is.1.lawful
       | inr later ↦ part_lawful bs ks text are.1 later
     ]
 
 -- so are those of a valid checkpoint
 checkpoint_lawful : (parts : List (List ℕ)) (known : List KnownPart) (checkpoint : Checkpoint) (entry : Change) → AreKnown parts known
-    → IsValid known checkpoint → Contains checkpoint.entries entry → IsEntry (limits_of One) entry
+    → IsValid known checkpoint → Contains checkpoint.entries entry → IsEntry widest entry
 checkpoint_lawful parts known checkpoint entry are valid at =
     let of = in_part valid.texts entry (subst (λ (x : List Change). Contains x entry) valid.make_up.all at) in
     let its = parts_of checkpoint.number known in
     let found : Contains its (whole of.0) =
     Contains-permutation (map whole valid.texts) its (whole of.0) (IsPermutation-sym its (map whole valid.texts) valid.are_whole) (among_wholes valid.texts of.0 of.1) in
-    of_each (IsEntry (limits_of One)) of.0.entries entry
+    of_each (IsEntry widest) of.0.entries entry
     (part_lawful parts known of.0 are (was_there (belongs_to checkpoint.number) known (whole of.0) found)) of.2
 
 -- and the updates that they make
@@ -160,7 +160,7 @@ chosen_lawful parts known cutoff None are is u at = absurd (no_element u at)
 chosen_lawful parts known cutoff (Some checkpoint) are is u at =
     let of = of_entry checkpoint.entries u at in
     let lawful = checkpoint_lawful parts known checkpoint of.0 are is.0.valid of.1 in
-    subst (λ (x : Update). AllowsKind widest x.kind) of.2 (of_format One of.0.kind lawful.0.kind)
+    subst (λ (x : Update). AllowsKind widest x.kind) of.2 lawful.0.kind
 
 -- what survives is lawful
 pub survivors_lawful : (parts : List (List ℕ)) (known : List KnownPart) (cutoff : ℕ) (chosen : Option Checkpoint) (logs : List (List ℕ))

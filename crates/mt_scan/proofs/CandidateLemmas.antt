@@ -78,16 +78,16 @@ module _ (xs : List ℕ) (rise : IsStrictlyIncreasing xs) where
 -- ---- texts by the numbers of their parts
 
 abbrev part_in : KnownPart → ℕ
-part_in (whole part) = part.head.part
+part_in (whole part) = part.part
 part_in (broken number) = 0
 part_in nameless = 0
 
 abbrev numbers_of : List PartReading → List ℕ
-numbers_of texts = map (λ text. text.head.part) texts
+numbers_of texts = map (λ text. text.part) texts
 
 numbers_in : (texts : List PartReading) → map part_in (map whole texts) ≡ numbers_of texts
 numbers_in [] = refl
-numbers_in (x ∷ xs) = ap (λ (ns : List ℕ). x.head.part ∷ ns) (numbers_in xs)
+numbers_in (x ∷ xs) = ap (λ (ns : List ℕ). x.part ∷ ns) (numbers_in xs)
 
 same_numbers : (xs ys : List PartReading) → AreSameTexts xs ys → IsPermutation (numbers_of ys) (numbers_of xs)
 same_numbers xs ys same =
@@ -98,8 +98,8 @@ same_numbers xs ys same =
 module _ (d : PartReading) (texts : List PartReading) (are : AreNumbered texts) where
   number_is : (k n : ℕ) → k < length (numbers_of texts) → get_or (numbers_of texts) k n ≡ k
   number_is k n fits =
-      let within : k < length texts = omega (arith, fits, length-map texts (λ (text : PartReading). text.head.part)) in
-      get_or-map (λ (text : PartReading). text.head.part) texts k d n within ∙ are k d within
+      let within : k < length texts = omega (arith, fits, length-map texts (λ (text : PartReading). text.part)) in
+      get_or-map (λ (text : PartReading). text.part) texts k d n within ∙ are k d within
 
   numbers_differ : IsDistinct eqb (numbers_of texts)
   numbers_differ = IsDistinct-from_apart eqb (numbers_of texts) (λ i j n lt fits.
@@ -110,12 +110,12 @@ module _ (d : PartReading) (texts : List PartReading) (are : AreNumbered texts) 
 
 sorted_numbers : (sorted : List PartText) (d : PartText) → IsNonDecreasingBy (λ (text : PartText). text.part) sorted → IsNonDecreasing (numbers_of (shown_by_all sorted))
 sorted_numbers sorted d rise = λ i j n le fits.
-    let within : j < length (shown_by_all sorted) = omega (arith, fits, length-map (shown_by_all sorted) (λ (text : PartReading). text.head.part)) in
+    let within : j < length (shown_by_all sorted) = omega (arith, fits, length-map (shown_by_all sorted) (λ (text : PartReading). text.part)) in
     let inside : j < length sorted = omega (arith, within, length-map sorted shown_by) in
     let at_i : get_or (numbers_of (shown_by_all sorted)) i n ≡ (get_or sorted i d).part =
-    get_or-map (λ (text : PartReading). text.head.part) (shown_by_all sorted) i (shown_by d) n (omega (arith, le, within)) ∙ ap (λ (x : PartReading). x.head.part) (get_or-map shown_by sorted i d (shown_by d) (omega (arith, le, inside))) in
+    get_or-map (λ (text : PartReading). text.part) (shown_by_all sorted) i (shown_by d) n (omega (arith, le, within)) ∙ ap (λ (x : PartReading). x.part) (get_or-map shown_by sorted i d (shown_by d) (omega (arith, le, inside))) in
     let at_j : get_or (numbers_of (shown_by_all sorted)) j n ≡ (get_or sorted j d).part =
-    get_or-map (λ (text : PartReading). text.head.part) (shown_by_all sorted) j (shown_by d) n within ∙ ap (λ (x : PartReading). x.head.part) (get_or-map shown_by sorted j d (shown_by d) inside) in
+    get_or-map (λ (text : PartReading). text.part) (shown_by_all sorted) j (shown_by d) n within ∙ ap (λ (x : PartReading). x.part) (get_or-map shown_by sorted j d (shown_by d) inside) in
     let low : (get_or sorted i d).part ≤ (get_or sorted j d).part = rise i j d le inside in
     omega (arith, at_i, at_j, low)
 
@@ -130,9 +130,9 @@ sorted_are_numbered sorted ordered d rise are same = λ k e fits.
     let many : length (numbers_of texts) ≡ length (numbers_of ordered) = length_permutation (numbers_of ordered) (numbers_of texts) moved in
     let below : All (λ (n : ℕ). n < length (numbers_of ordered)) (numbers_of texts) =
     All-permutation (λ (n : ℕ). n < length (numbers_of ordered)) (numbers_of ordered) (numbers_of texts) moved (numbers_below (shown_by d) ordered are) in
-    let within : k < length (numbers_of texts) = omega (arith, fits, length-map texts (λ (text : PartReading). text.head.part)) in
+    let within : k < length (numbers_of texts) = omega (arith, fits, length-map texts (λ (text : PartReading). text.part)) in
     let is = number_at (numbers_of texts) up k within (subst (λ (m : ℕ). All (λ (n : ℕ). n < m) (numbers_of texts)) (sym many) below) in
-    sym (get_or-map (λ (text : PartReading). text.head.part) texts k e 0 fits) ∙ is
+    sym (get_or-map (λ (text : PartReading). text.part) texts k e 0 fits) ∙ is
 
 -- ---- a candidate, or none
 

@@ -32,8 +32,8 @@ pub record IsOf (number : ℕ) (part : KnownPart) : Type 0 where
   pub own : belongs_to number part ≡ true
   pub alone : (q : ℕ) → number ≢ q → belongs_to q part ≡ false
 
-pub whole_is_of : (part : PartReading) → IsOf part.head.number (whole part)
-whole_is_of part = record { own = eq-eqb part.head.number part.head.number refl; alone = λ q other. ne_eqb part.head.number q other }
+pub whole_is_of : (part : PartReading) → IsOf part.number (whole part)
+whole_is_of part = record { own = eq-eqb part.number part.number refl; alone = λ q other. ne_eqb part.number q other }
 
 pub broken_is_of : (number : ℕ) → IsOf number (broken number)
 broken_is_of number = record { own = eq-eqb number number refl; alone = λ q other. ne_eqb number q other }
@@ -61,18 +61,18 @@ broken_more parts number old new is others are =
     (subst (IsGroupAt (parts_of number parts ++ broken number ∷ [])) (sym is) (number, Contains-push (parts_of number parts) (broken number))) others are
 
 -- a group that is there gets one more whole part
-pub whole_more : (parts : List KnownPart) (part : PartReading) (old new : BTreeMap ℕ Group) (before after : Group) → get nat_cmp old part.head.number ≡ Some before → get nat_cmp new part.head.number ≡ Some after
-    → AreOthers old new part.head.number → ((own : List KnownPart) → IsGroupOf own before → IsGroupOf (own ++ whole part ∷ []) after) → AreGroupsOf parts old → AreGroupsOf (parts ++ whole part ∷ []) new
+pub whole_more : (parts : List KnownPart) (part : PartReading) (old new : BTreeMap ℕ Group) (before after : Group) → get nat_cmp old part.number ≡ Some before → get nat_cmp new part.number ≡ Some after
+    → AreOthers old new part.number → ((own : List KnownPart) → IsGroupOf own before → IsGroupOf (own ++ whole part ∷ []) after) → AreGroupsOf parts old → AreGroupsOf (parts ++ whole part ∷ []) new
 whole_more parts part old new before after was is others adds are =
-    let number : ℕ = part.head.number in
+    let number : ℕ = part.number in
     let there = subst (IsGroupAt (parts_of number parts)) was (are number) in
     groups_more parts (whole part) number old new (whole_is_of part) (subst (IsGroupAt (parts_of number parts ++ whole part ∷ [])) (sym is) (adds (parts_of number parts) there)) others are
 
 -- the first whole part of a group
-pub whole_first : (parts : List KnownPart) (part : PartReading) (old new : BTreeMap ℕ Group) (after : Group) → get nat_cmp old part.head.number ≡ None → get nat_cmp new part.head.number ≡ Some after
-    → AreOthers old new part.head.number → IsGroupOf (whole part ∷ []) after → AreGroupsOf parts old → AreGroupsOf (parts ++ whole part ∷ []) new
+pub whole_first : (parts : List KnownPart) (part : PartReading) (old new : BTreeMap ℕ Group) (after : Group) → get nat_cmp old part.number ≡ None → get nat_cmp new part.number ≡ Some after
+    → AreOthers old new part.number → IsGroupOf (whole part ∷ []) after → AreGroupsOf parts old → AreGroupsOf (parts ++ whole part ∷ []) new
 whole_first parts part old new after was is others alone are =
-    let number : ℕ = part.head.number in
+    let number : ℕ = part.number in
     let none : parts_of number parts ≡ [] = subst (IsGroupAt (parts_of number parts)) was (are number) in
     groups_more parts (whole part) number old new (whole_is_of part)
     (subst (IsGroupAt (parts_of number parts ++ whole part ∷ [])) (sym is) (subst (λ (x : List KnownPart). IsGroupOf (x ++ whole part ∷ []) after) (sym none) alone)) others are

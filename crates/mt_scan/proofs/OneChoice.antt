@@ -33,7 +33,7 @@ same_length xs ys moved = omega (arith, length_permutation (map whole xs) (map w
 
 -- each text has the number of its place
 abbrev pub AreNumbered : List PartReading → Type 0
-AreNumbered texts = (k : ℕ) (d : PartReading) → k < length texts → (get_or texts k d).head.part ≡ k
+AreNumbered texts = (k : ℕ) (d : PartReading) → k < length texts → (get_or texts k d).part ≡ k
 
 pub are_numbered : (checkpoint : Checkpoint) (count : ℕ) (texts : List PartReading) → AreInPlace checkpoint count 0 texts → AreNumbered texts
 are_numbered checkpoint count texts are k d fits = let of_k = (at_place checkpoint count 0 texts k d are fits).stands in omega (arith, of_k)
@@ -44,9 +44,9 @@ same_at xs ys of_xs of_ys moved k d fits =
     let x : PartReading = get_or xs k d in
     let there : Contains (map whole xs) (whole x) = (k, omega (arith, fits, length-map xs whole), get_or-map whole xs k d (whole x) fits) in
     let at : Contains ys x = whole_among ys x (Contains-permutation (map whole xs) (map whole ys) (whole x) moved there) in
-    let of_x : x.head.part ≡ k = of_xs k d fits in
-    let of_y : (get_or ys at.0 x).head.part ≡ at.0 = of_ys at.0 x at.1 in
-    let parts : (get_or ys at.0 x).head.part ≡ x.head.part = ap (λ (y : PartReading). y.head.part) at.2 in
+    let of_x : x.part ≡ k = of_xs k d fits in
+    let of_y : (get_or ys at.0 x).part ≡ at.0 = of_ys at.0 x at.1 in
+    let parts : (get_or ys at.0 x).part ≡ x.part = ap (λ (y : PartReading). y.part) at.2 in
     let place : at.0 ≡ k = omega (arith, of_x, of_y, parts) in
     sym at.2 ∙ ap (λ (i : ℕ). get_or ys i x) place ∙ get_or_default ys k x d (omega (arith, fits, same_length xs ys moved))
 

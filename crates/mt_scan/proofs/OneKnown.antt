@@ -18,13 +18,13 @@ no_header_broken number entries e = cc
 
 pub one_known : (bytes : List ℕ) (a b : KnownPart) → IsKnown bytes a → IsKnown bytes b → a ≡ b
 one_known bytes (whole p) (whole q) x y =
-    let same = one_part bytes p.head q.head p.entries q.entries p.end q.end x y in
-    λ i. whole (record { head = same.0 i; entries = same.1 i; end = same.2 i })
-one_known bytes (whole p) (broken n) x y = absurd (part_or_fault bytes p.head p.entries p.end (of_part.Broken n y.0) x y.1)
-one_known bytes (whole p) nameless x y = absurd (part_or_fault bytes p.head p.entries p.end of_part.Header x y)
-one_known bytes (broken n) (whole q) x y = absurd (part_or_fault bytes q.head q.entries q.end (of_part.Broken n x.0) y x.1)
+    let same = one_part bytes _ _ p.entries q.entries p.end q.end x.1 y.1 in
+    λ i. whole (record { number = (same.0 i).number; begin = (same.0 i).begin; part = (same.0 i).part; parts = (same.0 i).parts; entries = same.1 i; end = same.2 i })
+one_known bytes (whole p) (broken n) x y = absurd (part_or_fault bytes _ p.entries p.end (of_part.Broken n y.0) x.1 y.1)
+one_known bytes (whole p) nameless x y = absurd (part_or_fault bytes _ p.entries p.end of_part.Header x.1 y)
+one_known bytes (broken n) (whole q) x y = absurd (part_or_fault bytes _ q.entries q.end (of_part.Broken n x.0) y.1 x.1)
 one_known bytes (broken n) (broken m) x y = ap broken (ap named_by (one_part_fault bytes (of_part.Broken n x.0) (of_part.Broken m y.0) x.1 y.1))
 one_known bytes (broken n) nameless x y = absurd (no_header_broken n x.0 (one_part_fault bytes of_part.Header (of_part.Broken n x.0) y x.1))
-one_known bytes nameless (whole q) x y = absurd (part_or_fault bytes q.head q.entries q.end of_part.Header y x)
+one_known bytes nameless (whole q) x y = absurd (part_or_fault bytes _ q.entries q.end of_part.Header y.1 x)
 one_known bytes nameless (broken m) x y = absurd (no_header_broken m y.0 (one_part_fault bytes of_part.Header (of_part.Broken m y.0) x y.1))
 one_known bytes nameless nameless x y = refl

@@ -19,7 +19,7 @@ pub record Checkpoint : Type 0 where
 
 -- the part is one of the checkpoint of this number
 abbrev pub belongs_to : ℕ → KnownPart → Bool
-belongs_to number (whole part) = part.head.number == number
+belongs_to number (whole part) = part.number == number
 belongs_to number (broken other) = other == number
 belongs_to number nameless = false
 
@@ -29,9 +29,9 @@ parts_of number parts = filter (belongs_to number) parts
 
 -- the part stands at this place among so many parts of the checkpoint, and agrees with it
 pub record IsPartAt (checkpoint : Checkpoint) (count place : ℕ) (part : PartReading) : Type 0 where
-  pub stands : part.head.part ≡ place
-  pub parts : part.head.parts ≡ count
-  pub begin_agrees : part.head.begin ≡ checkpoint.begin
+  pub stands : part.part ≡ place
+  pub parts : part.parts ≡ count
+  pub begin_agrees : part.begin ≡ checkpoint.begin
   pub end_agrees : part.end ≡ checkpoint.end
 
 -- the parts stand one behind the other, from this place on

@@ -3,7 +3,7 @@ use Rattle.std.specs.Prelude.{ℕ, ◌<◌, ◌^◌, List, length, Contains, Opt
 use Rattle.mt_words.specs.declared.record.Change.{Change}
 use Rattle.mt_words.specs.declared.update.Kind.{Kind}
 use Rattle.mt_words.specs.declared.update.Kind.TheVariants.{Put, Remove, Whole}
-use Rattle.mt_words.specs.Limits.{Limits}
+use Rattle.mt_words.specs.declared.limits.Limits.{Limits}
 use Rattle.mt_words.specs.Words.{IsKey, AreColumns}
 
 -- a record, lawful or not: a timestamp and, but for a mark, a change

@@ -1,17 +1,18 @@
--- The formats, and what each allows.
-use Rattle.std.specs.Prelude.{ℕ}
+-- What each format allows.
+use Rattle.std.specs.Prelude.{ℕ, List, [], ◌∷◌, ◌++◌}
 use Rattle.mt_words.specs.declared.limits.Format.{Format}
 use Rattle.mt_words.specs.declared.limits.Format.TheVariants.{One}
+use Rattle.mt_words.specs.declared.limits.Limits.{Limits}
 use Rattle.mt_words.specs.declared.limits.TheConstants.{LONGEST_KEY, GREATEST_COLUMN}
 
--- the most bytes of a key, and the greatest column number
-pub record Limits : Type 0 where
-  pub key : ℕ
-  pub column : ℕ
-
+-- the digit is that of "1"
 abbrev pub limits_of : Format → Limits
-limits_of One = record { key = LONGEST_KEY; column = GREATEST_COLUMN }
+limits_of One = record { digit = 49; key = LONGEST_KEY; column = GREATEST_COLUMN; kind = 3 }
 
 -- what keys and columns in memory can be: all that some format allows
 abbrev pub widest : Limits
 widest = limits_of One
+
+-- what a file of the format begins with: three letters, and the digit
+abbrev pub magic : List ℕ → Format → List ℕ
+magic letters format = letters ++ (limits_of format).digit ∷ []

@@ -13,6 +13,6 @@ pub use columns::{Column, Columns};
 pub use entry::Entry;
 pub use fault::{Fault, Memory, What};
 pub use key::Key;
-pub use limits::{Format, GREATEST_COLUMN, LONGEST_KEY, LONGEST_VALUE, MOST_COLUMNS};
+pub use limits::{Format, GREATEST_COLUMN, LONGEST_KEY, LONGEST_VALUE, Limits, MOST_COLUMNS};
 pub use record::{Change, Record};
 pub use update::{Kind, Origin, Stamp, Update};

@@ -6,4 +6,4 @@ returns-in_default-clause-fault c = λ taken bytes left reads rest. no_head_read
 
 pub returns-clause-log : goal.returns-clause-log
 returns-clause-log c = λ taken bytes left reads rest test.
-    text_read c.args.self taken bytes left c.in-Some.from c.max.result c.args.torn c.in-Some.is reads rest test c.max.ensures
+    text_read c.args.self taken bytes left c.in-Some.head c.max.result c.args.torn c.in-Some.is reads rest test c.max.ensures

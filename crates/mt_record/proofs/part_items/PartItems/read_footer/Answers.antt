@@ -1,5 +1,6 @@
 use Rattle.std.proofs.Common.{◌≡◌, List, ℕ, ◌++◌, length, ap, ◌∙◌, arith}
 use Rattle.byteorder.specs.Endian.{big_bytes}
+use Rattle.mt_words.specs.Limits.{limits_of}
 use Rattle.mt_record.specs.PartPieces.{so_far}
 use Rattle.mt_record.proofs.PartItems.{reads_entries, broken_at, footer_shown, footer_read, ended}
 use Rattle.mt_record.proofs.part_items.PartItems.read_footer.Goals as goal
@@ -12,7 +13,7 @@ returns-then-count-len-clause-fault c = λ part reads.
     let count = c.in-Some-u32_at.ensures.found in
     let begins = reads_entries (so_far old) part (big_bytes 4 0 ++ bytes) c.args.head c.requires.head c.requires.open reads in
     rw c.broken.ensures (broken_at part (big_bytes 4 0 ++ bytes) c.args.head old.entries.items begins
-    (footer_shown bytes c.in-Some.rest.now c.in-Some-u32_at.after.now c.in-Some.end c.in-Some-u32_at.count (length old.entries.items) end.1 count.0 count.1 (λ e. c.if-count-len.true (omega (arith, e, c.len.ensures, old.entries.ok.0)))))
+    (footer_shown (limits_of c.args.head.format) bytes c.in-Some.rest.now c.in-Some-u32_at.after.now c.in-Some.end c.in-Some-u32_at.count (length old.entries.items) end.1 count.0 count.1 (λ e. c.if-count-len.true (omega (arith, e, c.len.ensures, old.entries.ok.0)))))
 
 pub returns-clause-next : goal.returns-clause-next
 returns-clause-next c =

@@ -1,24 +1,27 @@
 use Rattle.std.proofs.Common.{length, ap, refl, arith}
 use Rattle.std.specs.Prelude.{codes}
 use Rattle.std.proofs.lemmas.List.{length-append}
+use Rattle.mt_record.specs.declared.part_text.PartHead.{PartHead}
 use Rattle.mt_record.specs.Parts.{IsPartHead, part_head_bytes}
 use Rattle.mt_record.specs.PartPieces.{so_far}
-use Rattle.mt_record.proofs.Beginnings.{shows_none}
-use Rattle.mt_record.proofs.PartBeginnings.{part_goes_alike, part_magic}
+use Rattle.mt_record.proofs.Beginnings.{shows_none, alike}
+use Rattle.mt_record.proofs.PartBeginnings.{part_whole, part_magic}
 use Rattle.mt_record.proofs.PartItems.{header_failed, header_cut, header_read}
 use Rattle.mt_record.proofs.part_items.PartItems.read_header.Goals as goal
 
-pub returns-then-not-go_together-clause-fault : goal.returns-then-not-go_together-clause-fault
-returns-then-not-go_together-clause-fault c = λ part reads.
-    let none = shows_none IsPartHead part_head_bytes (codes "MTC1") part_magic c.args.bytes.now (rw c.if-not-go_together.true at c.go_together.ensures) in
+pub returns-then-not-goes_with_magic-clause-fault : goal.returns-then-not-goes_with_magic-clause-fault
+returns-then-not-goes_with_magic-clause-fault c = λ part reads.
+    let no_magic = rw c.if-not-goes_with_magic.true at c.goes_with_magic.ensures in
+    let none = shows_none IsPartHead part_head_bytes (codes "MTC") (λ (head : PartHead). head.format) part_magic c.args.bytes.now no_magic in
     header_failed (so_far c.args.self.now) part c.args.bytes.now c.requires reads none
 
 pub returns-in_default-clause-next : goal.returns-in_default-clause-next
 returns-in_default-clause-next c = (
   refl,
   λ taken part reads.
-      let alike = part_goes_alike c.args.bytes.now (rw c.if-not-go_together.false at c.go_together.ensures) (λ i. omega (arith, c.type_inv.bytes i)) in
-      header_cut (so_far c.args.self.now) c.args.bytes.now c.requires alike c.in_default.ensures.none,
+      let goes = rw c.if-not-goes_with_magic.false at c.goes_with_magic.ensures in
+      let begins = alike IsPartHead part_head_bytes (codes "MTC") 16 part_whole c.args.bytes.now goes (λ i. omega (arith, c.type_inv.bytes i)) in
+      header_cut (so_far c.args.self.now) c.args.bytes.now c.requires begins c.in_default.ensures.none,
 )
 
 pub returns-clause-next : goal.returns-clause-next

@@ -1,0 +1,189 @@
+-- Checked bodies, field by field.
+use Rattle.std.proofs.Common.{◌≡◌, ℕ, ◌+◌, ◌<◌, ◌≤◌, ◌^◌, Option, Some, None, List, [], ◌∷◌, ◌++◌, length, drop, refl, sym, ap, ◌∙◌, subst, append_assoc, arith}
+use Rattle.std.proofs.lemmas.List.{nil_from_length, append-nil}
+use Rattle.std.specs.Prelude.{slice_index, IfSome}
+use Rattle.std.specs.List.{flat_map}
+use Rattle.byteorder.specs.Endian.{big_bytes}
+use Rattle.mt_words.specs.declared.limits.Format.{Format}
+use Rattle.mt_words.specs.declared.limits.Format.TheVariants.{One}
+use Rattle.mt_words.specs.declared.record.Change.{Change}
+use Rattle.mt_words.specs.declared.update.Kind.{Kind}
+use Rattle.mt_words.specs.declared.update.Kind.TheVariants.{Put, Remove, Whole}
+use Rattle.mt_words.specs.Limits.{limits_of, widest}
+use Rattle.mt_words.specs.Words.{IsColumn, AreColumns, CanFollow}
+use Rattle.mt_words.specs.Changes.{Logged, mark_of, changed, remove_of, put_of, AllowsKind, IsLogged, IsLoggedChange, IsWhole}
+use Rattle.mt_words.proofs.Formats.{change_within}
+use Rattle.mt_record.specs.Spelling.{column_bytes, code_of, kind_bytes, change_bytes, body_of, FitsColumn, FitsChange}
+use Rattle.mt_record.specs.Bodies.{IsBodyOf, IsBody, AreFieldsOf, HasNoFields, IsCarried}
+use Rattle.mt_record.proofs.Columns.{all_at, may_follow}
+use Rattle.mt_record.proofs.Unique.{apart, same_number, same_column, same_carried, same_change, same_body, no_mark}
+use Rattle.mt_record.proofs.Lawful.{put_fits, lawful_fits}
+use Rattle.mt_record.proofs.EntryTexts.{entry_fits, whole_code}
+
+-- ---- fields
+
+-- the bytes of a change have fields
+pub has_fields : (bytes : List ℕ) (change : Change) → FitsChange change → bytes ≡ change_bytes change → HasNoFields bytes → ⊥
+has_fields bytes change fits e none = none change.version change.key (kind_bytes change.kind) fits.0 fits.1 e
+
+-- one list of columns is carried so
+pub same_columns : (bytes : List ℕ) (a b : List (ℕ × List ℕ)) → IsCarried bytes a → IsCarried bytes b → a ≡ b
+same_columns bytes a b is too = same_carried a b (put_fits One a is.lawful).1 (put_fits One b too.lawful).1 (sym is.spelled ∙ too.spelled)
+
+-- ---- the two halves of a body
+
+-- a lawful change of a record, its byte and its bytes
+pub record Carries (byte : ℕ) (rest : List ℕ) : Type 0 where
+  pub change : Change
+  pub lawful : IsLoggedChange widest change
+  pub code : code_of change.kind ≡ byte
+  pub spelled : rest ≡ change_bytes change
+
+-- a body has a byte in front
+pub some_body : (bytes : List ℕ) → IsBody bytes → bytes ≡ [] → ⊥
+some_body bytes (r, is) none = by r.change (sym none ∙ is.spelled)
+  where
+    by : (o : Option Change) → [] ≡ body_of r.timestamp o → ⊥
+    by None e = omega (arith, ap length e)
+    by (Some change) e = omega (arith, ap length e)
+
+-- and eight bytes behind it
+pub timed : (bytes fields : List ℕ) (code : ℕ) → IsBody bytes → bytes ≡ code ∷ fields → length fields < 8 → ⊥
+timed bytes fields code (r, is) e few = by r.change (sym e ∙ is.spelled)
+  where
+    by : (o : Option Change) → code ∷ fields ≡ body_of r.timestamp o → ⊥
+    by None same = omega (arith, ap length same, few)
+    by (Some change) same = omega (arith, ap length same, few)
+
+-- the body of a mark
+pub is_mark : (bytes fields rest : List ℕ) (code t : ℕ) → IsBody bytes → bytes ≡ code ∷ fields → t < 2 ^ 64 → fields ≡ big_bytes 8 t ++ rest → code ≡ 3 → IsBodyOf widest 0 bytes (mark_of t)
+is_mark bytes fields rest code t (r, is) e fits tail mark = by r.change (sym e ∙ is.spelled)
+  where
+    by : (o : Option Change) → code ∷ fields ≡ body_of r.timestamp o → IsBodyOf widest 0 bytes (mark_of t)
+    by None same =
+        let time = same_number 8 t r.timestamp rest [] fits is.lawful.0 (sym tail ∙ ap (drop 1) same) in
+        record { lawful = (fits, tt); rises = omega arith; spelled = e ∙ (λ i. mark i ∷ tail i) ∙ ap (λ (x : List ℕ). 3 ∷ (big_bytes 8 t ++ x)) time.1 }
+    by (Some change) same = absurd (no_mark change.kind (sym mark ∙ ap (λ (x : List ℕ). slice_index x 0) same))
+
+-- the body of another record
+pub carries : (bytes fields rest : List ℕ) (code t : ℕ) → IsBody bytes → bytes ≡ code ∷ fields → t < 2 ^ 64 → fields ≡ big_bytes 8 t ++ rest → (code ≡ 3 → ⊥) → Carries code rest
+carries bytes fields rest code t (r, is) e fits tail other = by r.change is.lawful.1 (sym e ∙ is.spelled)
+  where
+    by : (o : Option Change) → IfSome o (IsLoggedChange widest) → code ∷ fields ≡ body_of r.timestamp o → Carries code rest
+    by None lawful same = absurd (other (ap (λ (x : List ℕ). slice_index x 0) same))
+    by (Some change) lawful same =
+        let time = same_number 8 t r.timestamp rest (change_bytes change) fits is.lawful.0 (sym tail ∙ ap (drop 1) same) in
+        record { change = change; lawful = lawful; code = sym (ap (λ (x : List ℕ). slice_index x 0) same); spelled = time.1 }
+
+-- a record with these parts has the body
+pub changed_body : (bytes fields rest : List ℕ) (code t : ℕ) (has : Carries code rest) → bytes ≡ code ∷ fields → t < 2 ^ 64 → fields ≡ big_bytes 8 t ++ rest
+    → IsBodyOf widest 0 bytes (changed t has.change)
+changed_body bytes fields rest code t has e fits tail =
+    record { lawful = (fits, has.lawful); rises = omega arith; spelled = e ∙ (λ i. sym has.code i ∷ tail i) ∙ ap (λ (x : List ℕ). code_of has.change.kind ∷ (big_bytes 8 t ++ x)) has.spelled }
+
+-- ---- kinds
+
+pub change_fits : (change : Change) → IsLoggedChange widest change → FitsChange change
+change_fits change lawful = (lawful_fits One (changed 0 change) (omega arith, lawful)).1.0
+
+-- a kind with the byte of a remove is one
+pub is_remove : (kind : Kind) → code_of kind ≡ 2 → kind ≡ Remove
+is_remove (Put columns) code = absurd (apart 1 2 (omega arith) code)
+is_remove Remove code = refl
+is_remove (Whole columns) code = absurd (apart 0 2 (omega arith) code)
+
+-- another one that records have is a put of what it carries
+pub is_put : (kind : Kind) → AllowsKind widest kind → IsLogged kind → (code_of kind ≡ 2 → ⊥) → (columns : List (ℕ × List ℕ)) × (kind ≡ Put columns) × IsCarried (kind_bytes kind) columns
+is_put (Put columns) allows logged other = (columns, refl, record { lawful = allows.0; some = allows.1; spelled = refl })
+is_put Remove allows logged other = absurd (other refl)
+is_put (Whole columns) allows logged other = absurd logged
+
+-- and that of an entry a whole
+pub is_whole : (kind : Kind) → AllowsKind widest kind → IsWhole kind → (columns : List (ℕ × List ℕ)) × (kind ≡ Whole columns) × IsCarried (kind_bytes kind) columns
+is_whole (Put columns) allows whole = absurd whole
+is_whole Remove allows whole = absurd whole
+is_whole (Whole columns) allows whole = (columns, refl, record { lawful = allows.0; some = allows.1; spelled = refl })
+
+-- ---- columns, one after the other
+
+-- the columns so far and those that are left are carried, and these are the rest
+pub record AreLeft (bytes : List ℕ) (columns : List (ℕ × List ℕ)) (rest : List ℕ) (counter end : ℕ) : Type 0 where
+  pub left : List (ℕ × List ℕ)
+  pub carried : IsCarried bytes (columns ++ left)
+  pub spelled : rest ≡ flat_map column_bytes left
+  pub number : length left + counter ≡ end
+
+-- all are left
+pub all_left : (bytes rest : List ℕ) (count : ℕ) (columns : List (ℕ × List ℕ)) → IsCarried bytes columns → bytes ≡ count ∷ rest → AreLeft bytes [] rest 0 count
+all_left bytes rest count columns is e = record {
+  left = columns;
+  carried = is;
+  spelled = ap (drop 1) (sym e ∙ is.spelled);
+  number = omega (arith, ap (λ (x : List ℕ). slice_index x 0) (sym e ∙ is.spelled));
+}
+
+-- a column fits its fields
+column_fits : (column : ℕ × List ℕ) → IsColumn widest column → FitsColumn column
+column_fits column is = (omega (arith, is.0), omega (arith, is.1))
+
+-- where some are left, one stands in front
+pub one_left : (bytes rest : List ℕ) (columns : List (ℕ × List ℕ)) (i end : ℕ) → AreLeft bytes columns rest i end → i < end
+    → ((column : ℕ × List ℕ) (more : List ℕ) → FitsColumn column → rest ≡ column_bytes column ++ more → ⊥) → ⊥
+one_left bytes rest columns i end are some none = by are.left are.carried.lawful are.spelled are.number
+  where
+    by : (left : List (ℕ × List ℕ)) → AreColumns widest (columns ++ left) → rest ≡ flat_map column_bytes left → length left + i ≡ end → ⊥
+    by [] lawful e number = omega (arith, number, some)
+    by (c ∷ cs) lawful e number = none c (flat_map column_bytes cs) (column_fits c (all_at widest columns cs c lawful.0)) e
+
+-- it may follow those so far, and then one less is left
+pub next_left : (bytes rest after : List ℕ) (columns new : List (ℕ × List ℕ)) (column : ℕ × List ℕ) (i end : ℕ) → AreLeft bytes columns rest i end → i < end → FitsColumn column
+    → rest ≡ column_bytes column ++ after → CanFollow widest columns column × (new ≡ columns ++ column ∷ [] → AreLeft bytes new after (i + 1) end)
+next_left bytes rest after columns new column i end are some fits e = by are.left are.carried are.spelled are.number
+  where
+    by : (left : List (ℕ × List ℕ)) → IsCarried bytes (columns ++ left) → rest ≡ flat_map column_bytes left → length left + i ≡ end
+        → CanFollow widest columns column × (new ≡ columns ++ column ∷ [] → AreLeft bytes new after (i + 1) end)
+    by [] carried spelled number = absurd (omega (arith, number, some))
+    by (c ∷ cs) carried spelled number =
+        let same = same_column c column (flat_map column_bytes cs) after (column_fits c (all_at widest columns cs c carried.lawful.0)) fits (sym spelled ∙ e) in (
+          subst (CanFollow widest columns) same.0 (may_follow widest columns cs c carried.lawful),
+          λ added. record {
+            left = cs;
+            carried = subst (IsCarried bytes) (sym (ap (λ (x : List (ℕ × List ℕ)). x ++ cs) (added ∙ ap (λ (d : ℕ × List ℕ). columns ++ d ∷ []) (sym same.0)) ∙ append_assoc columns (c ∷ []) cs)) carried;
+            spelled = sym same.1;
+            number = omega (arith, number);
+          },
+        )
+
+-- where none are left, all were copied
+pub none_left : (bytes rest : List ℕ) (columns : List (ℕ × List ℕ)) (i end : ℕ) → AreLeft bytes columns rest i end → end ≤ i → IsCarried bytes columns
+none_left bytes rest columns i end are all =
+    let none : are.left ≡ [] = nil_from_length are.left (omega (arith, are.number, all)) in
+    subst (IsCarried bytes) (ap (λ (x : List (ℕ × List ℕ)). columns ++ x) none ∙ append-nil columns) are.carried
+
+-- ---- records and entries made anew
+
+-- a remove is made of its fields
+pub remove_is : (t version : ℕ) (key : List ℕ) (change : Change) → code_of change.kind ≡ 2 → version ≡ change.version → key ≡ change.key → changed t change ≡ remove_of t version key
+remove_is t version key change code same_version same_key =
+    λ i. record { timestamp = t; change = Some (record { version = sym same_version i; key = sym same_key i; kind = is_remove change.kind code i }) }
+
+-- a put of its fields and the columns that are carried
+pub put_is : (t version : ℕ) (key carried : List ℕ) (columns : List (ℕ × List ℕ)) (change : Change) → IsLoggedChange widest change → (code_of change.kind ≡ 2 → ⊥) → version ≡ change.version
+    → key ≡ change.key → carried ≡ kind_bytes change.kind → IsCarried carried columns → changed t change ≡ put_of t version key columns
+put_is t version key carried columns change lawful other same_version same_key same_carried is =
+    let put = is_put change.kind lawful.0.kind lawful.1 other in
+    let same = same_columns (kind_bytes change.kind) put.0 columns put.2 (subst (λ (b : List ℕ). IsCarried b columns) same_carried is) in
+    λ i. record { timestamp = t; change = Some (record { version = sym same_version i; key = sym same_key i; kind = (put.1 ∙ ap Put same) i }) }
+
+-- one record has a body
+pub same_record : (bytes : List ℕ) (a b : Logged) → IsBodyOf widest 0 bytes a → IsBodyOf widest 0 bytes b → a ≡ b
+same_record bytes a b is too = same_body a b (lawful_fits One a is.lawful) (lawful_fits One b too.lawful) (sym is.spelled ∙ too.spelled)
+
+-- and one entry has these fields
+pub same_entry : (bytes : List ℕ) (a b : Change) → AreFieldsOf widest bytes a → AreFieldsOf widest bytes b → a ≡ b
+same_entry bytes a b is too =
+    same_change a b (entry_fits One a is.lawful) (entry_fits One b too.lawful) (whole_code a.kind is.lawful.1 ∙ sym (whole_code b.kind too.lawful.1)) (sym is.spelled ∙ too.spelled)
+
+-- the fields of an entry that a format allows are those of one that some format allows
+pub entry_within : (format : Format) (bytes : List ℕ) (entry : Change) → AreFieldsOf (limits_of format) bytes entry → AreFieldsOf widest bytes entry
+entry_within format bytes entry is = record { lawful = (change_within format entry is.lawful.0, is.lawful.1); spelled = is.spelled }

@@ -1,0 +1,122 @@
+//! Bodies checked as they stand: nothing is copied, and no memory is taken.
+ghost use Rattle.std.specs.Prelude.{◌≡◌, ◌≤◌, ◌<◌, ℕ, List, length, IfOk, IfErr, OnOk, OnErr};
+ghost use Rattle.mt_words.specs.Limits.{limits_of};
+ghost use Rattle.mt_words.specs.declared.record.Change.{Change as ChangeValue};
+ghost use Rattle.mt_words.specs.declared.update.Kind.{Kind as KindValue};
+ghost use Rattle.mt_record.specs.LogFaults.{BodyFault};
+ghost use Rattle.mt_record.specs.Bodies.{IsBodyAt, AreFieldsOf, AreNoFields, IsChangeOf, IsChangeFault, HasKind, IsAllowedKind, IsKindFault, HasColumns, HasAllowedColumns, HasSomeColumns, IsColumnsFault, IsSomeFault};
+
+use crate::body::{MARK, PUT, REMOVE, WHOLE, change_fields};
+use crate::fields::{column_at, u64_at};
+use mt_words::{Format, What};
+
+/// Checks the body of a record behind one of timestamp `latest`; its timestamp.
+pub fn check_body(format: Format, latest: u64, bytes: &[u8]) -> Result<u64, What>
+    ensures found { IfOk result (IsBodyAt (limits_of format) latest bytes.now) }
+    ensures fault { IfErr result (λ what. BodyFault what (limits_of format) latest bytes.now) }
+{
+    let timestamp = check_record(format, bytes)?;
+    if timestamp < latest {
+        return Err(What::Clock);
+    }
+    Ok(timestamp)
+}
+
+/// Checks the body of a record, whatever stands before it; its timestamp.
+fn check_record(format: Format, bytes: &[u8]) -> Result<u64, What>
+    ensures found { IfOk result (IsBodyAt (limits_of format) 0 bytes.now) }
+    ensures fault { IfErr result (λ what. (low : ℕ) → BodyFault what (limits_of format) low bytes.now) }
+{
+    let [code, fields @ ..] = bytes else {
+        return Err(What::Kind);
+    };
+    if *code == WHOLE || *code > format.limits().kind {
+        return Err(What::Kind);
+    }
+    let Some((timestamp, rest)) = u64_at(fields) else {
+        return Err(What::Frame);
+    };
+    match (*code, rest) {
+        (MARK, []) => Ok(timestamp),
+        (MARK, _) => Err(What::Frame),
+        (code, _) => {
+            check_change(format, code, rest)?;
+            Ok(timestamp)
+        }
+    }
+}
+
+/// Checks the fields of an entry.
+pub fn check_entry(format: Format, bytes: &[u8]) -> Result<(), What>
+    ensures found { OnOk result ((entry : ChangeValue) × AreFieldsOf (limits_of format) bytes.now entry) }
+    ensures fault { OnErr result (AreNoFields (limits_of format) bytes.now) }
+{
+    check_change(format, WHOLE, bytes)
+}
+
+/// Checks the change that the bytes are, of the kind of this byte. All faults are tested in their order.
+fn check_change(format: Format, code: u8, bytes: &[u8]) -> Result<(), What>
+    ensures found { OnOk result ((change : ChangeValue) × IsChangeOf (limits_of format) code bytes.now change) }
+    ensures fault { IfErr result (IsChangeFault (limits_of format) code bytes.now) }
+{
+    let Some(fields) = change_fields(code, bytes) else {
+        return Err(What::Frame);
+    };
+    if fields.version == 0 {
+        return Err(What::Version);
+    }
+    if fields.key.len() > format.limits().key {
+        return Err(What::Key);
+    }
+    check_kind(format, code, fields.carried)?;
+    Ok(())
+}
+
+/// Checks the kind of this byte that carries the bytes.
+fn check_kind(format: Format, code: u8, bytes: &[u8]) -> Result<(), What>
+    requires { HasKind code bytes.now }
+    ensures found { OnOk result ((kind : KindValue) × IsAllowedKind (limits_of format) code bytes.now kind) }
+    ensures fault { IfErr result (IsKindFault (limits_of format) code bytes.now) }
+{
+    match (code, bytes) {
+        (PUT, [count, columns @ ..]) => check_some(format, *count, columns),
+        (WHOLE, [count, columns @ ..]) => check_some(format, *count, columns),
+        (REMOVE, []) => Ok(()),
+        _ => unreachable!(),
+    }
+}
+
+/// Checks the columns that the bytes are, of which there is to be at least one.
+fn check_some(format: Format, count: u8, bytes: &[u8]) -> Result<(), What>
+    requires { HasColumns count bytes.now }
+    ensures found { OnOk result (HasSomeColumns (limits_of format) count bytes.now) }
+    ensures fault { IfErr result (IsSomeFault (limits_of format) count bytes.now) }
+{
+    check_columns(format, count, bytes)?;
+    if count == 0 {
+        return Err(What::Columns);
+    }
+    Ok(())
+}
+
+/// Checks the columns that the bytes are.
+fn check_columns(format: Format, count: u8, bytes: &[u8]) -> Result<(), What>
+    requires { HasColumns count bytes.now }
+    ensures found { OnOk result (HasAllowedColumns (limits_of format) count bytes.now) }
+    ensures fault { IfErr result (IsColumnsFault (limits_of format) count bytes.now) }
+{
+    let greatest = format.limits().column;
+    let mut least = 0;
+    let mut rest = bytes;
+    for _ in 0..count {
+        let Some((number, _, after)) = column_at(rest) else {
+            unreachable!();
+        };
+        if number < least || number > greatest {
+            return Err(What::Columns);
+        }
+        least = number + 1;
+        rest = after;
+    }
+    Ok(())
+}

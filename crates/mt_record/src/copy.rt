@@ -1,0 +1,88 @@
+//! Checked bodies copied: the key and the values once, each straight to where it will stay.
+ghost use Rattle.std.specs.Prelude.{◌≡◌, ℕ, List, IfOk};
+ghost use Rattle.mt_words.specs.Limits.{widest};
+ghost use Rattle.mt_words.specs.Words.{IsKey};
+ghost use Rattle.mt_record.specs.Bodies.{IsBody, IsBodyOf, AreFields, AreFieldsOf, IsCarried};
+
+use crate::body::{MARK, REMOVE, fields_at};
+use crate::fields::{column_at, u64_at};
+use mt_words::{Columns, Entry, Key, Memory, Record};
+use std::alloc::Global;
+
+/// The record of this body.
+pub fn copy_record(alloc: Global, bytes: &[u8]) -> Result<Record, Memory>
+    requires { IsBody bytes.now }
+    ensures { IfOk result (IsBodyOf widest 0 bytes.now) }
+{
+    let Some((code, fields)) = bytes.split_first() else {
+        unreachable!();
+    };
+    let Some((timestamp, rest)) = u64_at(fields) else {
+        unreachable!();
+    };
+    if *code == MARK {
+        return Ok(Record::mark(timestamp));
+    }
+    let Some(fields) = fields_at(rest) else {
+        unreachable!();
+    };
+    let key = copy_key(alloc, fields.key)?;
+    let record = if *code == REMOVE {
+        Record::remove(timestamp, fields.version, key)
+    } else {
+        let columns = copy_columns(alloc, fields.carried)?;
+        Record::put(timestamp, fields.version, key, columns)
+    };
+    let Some(record) = record else {
+        unreachable!();
+    };
+    Ok(record)
+}
+
+/// The entry with these fields.
+pub fn copy_entry(alloc: Global, bytes: &[u8]) -> Result<Entry, Memory>
+    requires { AreFields bytes.now }
+    ensures { IfOk result (AreFieldsOf widest bytes.now) }
+{
+    let Some(fields) = fields_at(bytes) else {
+        unreachable!();
+    };
+    let key = copy_key(alloc, fields.key)?;
+    let columns = copy_columns(alloc, fields.carried)?;
+    let Some(entry) = Entry::new(fields.version, key, columns) else {
+        unreachable!();
+    };
+    Ok(entry)
+}
+
+/// The key of these bytes.
+fn copy_key(alloc: Global, bytes: &[u8]) -> Result<Key, Memory>
+    requires { IsKey widest bytes.now }
+    ensures { IfOk result (λ key. key ≡ bytes.now) }
+{
+    let Some(key) = Key::new(Vec::from_slice(alloc, bytes)?) else {
+        unreachable!();
+    };
+    Ok(key)
+}
+
+/// The columns that the bytes are, behind their number.
+fn copy_columns(alloc: Global, bytes: &[u8]) -> Result<Columns, Memory>
+    requires { (columns : List (ℕ × List ℕ)) × IsCarried bytes.now columns }
+    ensures { IfOk result (IsCarried bytes.now) }
+{
+    let Some((count, mut rest)) = bytes.split_first() else {
+        unreachable!();
+    };
+    let mut columns = Columns::new(alloc);
+    for _ in 0..*count {
+        let Some((number, value, after)) = column_at(rest) else {
+            unreachable!();
+        };
+        let Ok(()) = columns.push(number, Vec::from_slice(alloc, value)?) else {
+            unreachable!();
+        };
+        rest = after;
+    }
+    Ok(columns)
+}

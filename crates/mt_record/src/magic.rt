@@ -1,0 +1,28 @@
+//! What files begin with: three letters, which tell a log from a part, and the digit of the format.
+ghost use Rattle.std.specs.Prelude.{◌≡◌, ◌≢◌, ◌++◌, List, ℕ, IfSome, IfNone, MatchBool};
+ghost use Rattle.mt_words.specs.declared.limits.Format.{Format as AnyFormat};
+ghost use Rattle.mt_words.specs.Limits.{magic};
+ghost use Rattle.mt_record.specs.Fronts.{GoesWithMagic};
+
+use mt_words::Format;
+
+/// The format of a file that begins with these letters, and the bytes behind its digit.
+pub fn format_at<'a>(letters: &[u8], bytes: &'a [u8]) -> Option<(Format, &'a [u8])>
+    ensures found { IfSome result (λ x. bytes.now ≡ magic letters.now x.0 ++ x.1.now) }
+    ensures none { IfNone result
+        ((format : AnyFormat) (more : List ℕ) → bytes.now ≢ magic letters.now format ++ more) }
+{
+    let (digit, rest) = bytes.strip_prefix(letters)?.split_first()?;
+    Some((Format::of_digit(*digit)?, rest))
+}
+
+/// Whether the bytes begin with these letters and the digit of a format, or begin such four bytes.
+pub fn goes_with_magic(letters: &[u8], bytes: &[u8]) -> bool
+    ensures { MatchBool result (GoesWithMagic letters.now bytes.now) (GoesWithMagic letters.now bytes.now → ⊥) }
+{
+    match bytes.strip_prefix(letters) {
+        Some([digit, ..]) => Format::of_digit(*digit).is_some(),
+        Some([]) => true,
+        None => letters.starts_with(bytes),
+    }
+}

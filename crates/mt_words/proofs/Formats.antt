@@ -1,0 +1,74 @@
+-- What holds of every format. A further one is an equation more in each of these.
+use Rattle.std.proofs.Common.{◌≡◌, ◌≢◌, ℕ, ◌≤◌, Bool, true, false, Option, Some, None, List, [], ◌∷◌, refl, sym, ap, ◌∙◌, arith}
+use Rattle.std.specs.Prelude.{◌==◌, IfSome}
+use Rattle.std.specs.List.{AllByRecursion}
+use Rattle.mt_words.specs.declared.limits.Format.{Format}
+use Rattle.mt_words.specs.declared.limits.Format.TheVariants.{One}
+use Rattle.mt_words.specs.declared.limits.Limits.{Limits}
+use Rattle.mt_words.specs.declared.record.Change.{Change}
+use Rattle.mt_words.specs.declared.update.Kind.{Kind}
+use Rattle.mt_words.specs.declared.update.Kind.TheVariants.{Put, Remove, Whole}
+use Rattle.mt_words.specs.Limits.{limits_of, widest}
+use Rattle.mt_words.specs.Words.{IsColumn}
+use Rattle.mt_words.specs.Changes.{AllowsKind, IsLawfulChange, IsLoggedChange, IsEntry}
+
+-- what a format allows can stand in memory, and puts, removes and marks are among it
+pub record IsWithin (limits : Limits) : Type 0 where
+  pub key : limits.key ≤ widest.key
+  pub column : limits.column ≤ widest.column
+  pub kinds : 3 ≤ limits.kind
+
+pub within : (format : Format) → IsWithin (limits_of format)
+within One = record { key = omega arith; column = omega arith; kinds = omega arith }
+
+-- ---- digits
+
+-- the first if the test says so
+abbrev either : Bool → Format → Option Format → Option Format
+either true format other = Some format
+either false format other = other
+
+-- the first of these formats with the digit
+abbrev first_with : ℕ → List Format → Option Format
+first_with digit [] = None
+first_with digit (format ∷ formats) = either ((limits_of format).digit == digit) format (first_with digit formats)
+
+found : (format : Format) → first_with (limits_of format).digit (One ∷ []) ≡ Some format
+found One = refl
+
+abbrev or_else : Format → Option Format → Format
+or_else format None = format
+or_else format (Some other) = other
+
+-- two formats have two digits
+pub same_format : (a b : Format) → (limits_of a).digit ≡ (limits_of b).digit → a ≡ b
+same_format a b e = ap (or_else a) (sym (found a) ∙ ap (λ (digit : ℕ). first_with digit (One ∷ [])) e ∙ found b)
+
+-- ---- kinds
+
+-- columns that a format allows can stand in memory
+columns_within : (format : Format) (columns : List (ℕ × List ℕ)) → AllByRecursion (IsColumn (limits_of format)) columns → AllByRecursion (IsColumn widest) columns
+columns_within format [] all = tt
+columns_within format (c ∷ cs) all = let room = within format in ((omega (arith, all.0.0, room.column), all.0.1), columns_within format cs all.1)
+
+-- and so can kinds
+pub kind_within : (format : Format) (kind : Kind) → AllowsKind (limits_of format) kind → AllowsKind widest kind
+kind_within format (Put columns) allows = ((columns_within format columns allows.0.0, allows.0.1), allows.1)
+kind_within format Remove allows = tt
+kind_within format (Whole columns) allows = ((columns_within format columns allows.0.0, allows.0.1), allows.1)
+
+-- and changes
+pub change_within : (format : Format) (change : Change) → IsLawfulChange (limits_of format) change → IsLawfulChange widest change
+change_within format change is =
+    let room = within format in
+    record { version = is.version; version_fits = is.version_fits; key = omega (arith, is.key, room.key); kind = kind_within format change.kind is.kind }
+
+-- and the entries of a checkpoint
+pub entries_within : (format : Format) (entries : List Change) → AllByRecursion (IsEntry (limits_of format)) entries → AllByRecursion (IsEntry widest) entries
+entries_within format [] all = tt
+entries_within format (entry ∷ entries) all = ((change_within format entry all.0.0, all.0.1), entries_within format entries all.1)
+
+-- and records
+pub record_within : (format : Format) (change : Option Change) → IfSome change (IsLoggedChange (limits_of format)) → IfSome change (IsLoggedChange widest)
+record_within format None lawful = tt
+record_within format (Some change) lawful = (change_within format change lawful.0, lawful.1)
