@@ -1,7 +1,8 @@
 -- The items of a log one behind the other, and what its feed was fed.
 use Rattle.std.proofs.Common.{◌≡◌, ℕ, ◌+◌, ◌-◌, ◌^◌, ◌<◌, ◌≤◌, min, max, Result, Ok, Err, Option, Some, None, List, [], ◌∷◌, ◌++◌, length, refl, sym, ap, ◌∙◌, subst, append_assoc, arith}
 use Rattle.std.proofs.lemmas.List.{length-append}
-use Rattle.std.specs.Prelude.{◌==◌, Bool, not, codes, IfOk, OnErr, MatchOption}
+use Rattle.std.specs.Prelude.{◌==◌, Bool, not, codes, IfOk, OnErr, MatchOption, Vec}
+use Rattle.std.specs.Global.{Global}
 use Rattle.std.specs.Borrow.{Bor}
 use Rattle.std.specs.List.{flat_map}
 use Rattle.byteorder.specs.Endian.{big_bytes}
@@ -22,8 +23,8 @@ use Rattle.mt_record.specs.Fronts.{BeginsAlike}
 use Rattle.mt_record.specs.Bodies.{IsNext}
 use Rattle.mt_record.specs.declared.feed.Feed.{Feed}
 use Rattle.mt_record.specs.Feeding.{Reads, ReadsStep, IsFedBy}
-use Rattle.mt_record.specs.LogFeeding.{FedLog, ShowsNoHeader, IsShown, ShowsNoFault, AreRead, HasRead, ReadsNoHeader, IsCutHeader, IsLeft, IsLogLeft, HasFailed, IsLogFed}
-use Rattle.mt_record.specs.LogPieces.{fed_log, HasReadItems, IsLeftOfItems, ReadsNext, IsNextFault}
+use Rattle.mt_record.specs.LogFeeding.{FedLog, LogSoFar, ShowsNoHeader, IsShown, ShowsNoFault, AreRead, HasRead, ReadsNoHeader, IsCutHeader, IsLeft, IsLogLeft, HasFailed, IsLogFed}
+use Rattle.mt_record.specs.LogPieces.{fed_log, so_far, ReadsLog, HasReadItems, IsLeftOfItems, ReadsNext, IsNextFault}
 use Rattle.mt_record.specs.LogLaws.{begins_by}
 use Rattle.mt_record.proofs.Records.{records_push, latest_push, spelled_push, last_is, tells_torn}
 use Rattle.mt_record.proofs.OneReading.{not_both}
@@ -32,37 +33,37 @@ use Rattle.mt_record.proofs.Beginnings.{head_length, cut_front, part_alike, log_
 
 -- ---- what was read, by how far it came
 
-pub reads_nothing : (items : LogItems) (taken : List Logged) (text rest : List ℕ) → items.head ≡ None → HasReadItems taken items text rest
-    → ReadsNoHeader (taken ++ items.ready.items) items.latest items.whole text rest
+pub reads_nothing : (items : LogSoFar) (taken : List Logged) (text rest : List ℕ) → items.head ≡ None → ReadsLog taken items text rest
+    → ReadsNoHeader (taken ++ items.ready) items.latest items.whole text rest
 reads_nothing items taken text rest none reads =
-    subst (λ (o : Option Head). HasRead o (taken ++ items.ready.items) items.latest items.whole text rest) none reads
+    subst (λ (o : Option Head). HasRead o (taken ++ items.ready) items.latest items.whole text rest) none reads
 
-pub reads_records : (items : LogItems) (head : Head) (taken : List Logged) (text rest : List ℕ) → items.head ≡ Some head → HasReadItems taken items text rest
-    → AreRead head (taken ++ items.ready.items) items.latest items.whole text rest
+pub reads_records : (items : LogSoFar) (head : Head) (taken : List Logged) (text rest : List ℕ) → items.head ≡ Some head → ReadsLog taken items text rest
+    → AreRead head (taken ++ items.ready) items.latest items.whole text rest
 reads_records items head taken text rest some reads =
-    subst (λ (o : Option Head). HasRead o (taken ++ items.ready.items) items.latest items.whole text rest) some reads
+    subst (λ (o : Option Head). HasRead o (taken ++ items.ready) items.latest items.whole text rest) some reads
 
-are_read : (items : LogItems) (head : Head) (taken : List Logged) (text rest : List ℕ) → items.head ≡ Some head
-    → AreRead head (taken ++ items.ready.items) items.latest items.whole text rest → HasReadItems taken items text rest
+are_read : (items : LogSoFar) (head : Head) (taken : List Logged) (text rest : List ℕ) → items.head ≡ Some head
+    → AreRead head (taken ++ items.ready) items.latest items.whole text rest → ReadsLog taken items text rest
 are_read items head taken text rest some reads =
-    subst (λ (o : Option Head). HasRead o (taken ++ items.ready.items) items.latest items.whole text rest) (sym some) reads
+    subst (λ (o : Option Head). HasRead o (taken ++ items.ready) items.latest items.whole text rest) (sym some) reads
 
 -- ---- the header
 
 -- bytes that are no beginning of a header are the fault of the header
-pub header_failed : (items : LogItems) (taken : List Logged) (text bytes : List ℕ) → items.head ≡ None → HasReadItems taken items text bytes → ShowsNoHeader bytes
-    → HasFailed faults.Header text (taken ++ items.ready.items)
+pub header_failed : (items : LogSoFar) (taken : List Logged) (text bytes : List ℕ) → items.head ≡ None → ReadsLog taken items text bytes → ShowsNoHeader bytes
+    → HasFailed faults.Header text (taken ++ items.ready)
 header_failed items taken text bytes none reads shows =
     let nothing = reads_nothing items taken text bytes none reads in
     (subst ShowsNoHeader (sym nothing.all) shows, nothing.none)
 
 -- bytes that begin as a header does, and hold none, begin one
-pub header_cut : (items : LogItems) (bytes : List ℕ) → items.head ≡ None → BeginsAlike IsHead head_bytes bytes → HasNoHeader bytes → IsLeftOfItems items bytes
+pub header_cut : (items : LogSoFar) (bytes : List ℕ) → items.head ≡ None → BeginsAlike IsHead head_bytes bytes → HasNoHeader bytes → IsLogLeft items.head bytes
 header_cut items bytes none alike no_head = subst (λ (o : Option Head). IsLogLeft o bytes) (sym none) (cut_front IsHead head_bytes bytes alike no_head)
 
 -- a whole header is read
-pub header_read : (items : LogItems) (head : Head) (taken : List Logged) (text bytes after : List ℕ) → items.head ≡ None → HasReadItems taken items text bytes → IsHead head
-    → bytes ≡ head_bytes head ++ after → HasReadItems taken (record items { head = Some head }) text after
+pub header_read : (items : LogSoFar) (head : Head) (taken : List Logged) (text bytes after : List ℕ) → items.head ≡ None → ReadsLog taken items text bytes → IsHead head
+    → bytes ≡ head_bytes head ++ after → ReadsLog taken (record items { head = Some head }) text after
 header_read items head taken text bytes after none reads is e =
     let nothing = reads_nothing items taken text bytes none reads in
     subst (λ (p : List Logged × ℕ × ℕ). AreRead head p.0 p.1 p.2 text after) (λ i. (sym nothing.none i, sym nothing.latest i, sym nothing.whole i))
@@ -86,21 +87,21 @@ read_push head rs r t n log rest after h next =
     }
 
 -- items that read the next record are before what follows it
-next_read : (old new : LogItems) (head : Head) (taken : List Logged) (text rest after : List ℕ) → old.head ≡ Some head → ReadsNext head old rest new after
-    → HasReadItems taken old text rest → HasReadItems taken new text after
+next_read : (old new : LogSoFar) (head : Head) (taken : List Logged) (text rest after : List ℕ) → old.head ≡ Some head → ReadsNext head old rest new after
+    → ReadsLog taken old text rest → ReadsLog taken new text after
 next_read old new head taken text rest after some next reads =
     let before = reads_records old head taken text rest some reads in
-    let base = read_push head (taken ++ old.ready.items) next.next old.latest old.whole text rest after before next.is_next in
-    let list : taken ++ new.ready.items ≡ (taken ++ old.ready.items) ++ next.next ∷ [] =
-    ap (λ (x : List Logged). taken ++ x) next.more.ready ∙ sym (append_assoc taken old.ready.items (next.next ∷ [])) in
+    let base = read_push head (taken ++ old.ready) next.next old.latest old.whole text rest after before next.is_next in
+    let list : taken ++ new.ready ≡ (taken ++ old.ready) ++ next.next ∷ [] =
+    ap (λ (x : List Logged). taken ++ x) next.more.ready ∙ sym (append_assoc taken old.ready (next.next ∷ [])) in
     let time = next.more.latest in
     let count = next.more.whole in
     are_read new head taken text after (next.more.head ∙ some)
     (subst (λ (p : List Logged × ℕ × ℕ). AreRead head p.0 p.1 p.2 text after) (λ i. (sym list i, sym time i, sym count i)) base)
 
 -- one record more is a step, and fewer bytes follow
-record_read : (old new : LogItems) (head : Head) (bytes after : List ℕ) → old.head ≡ Some head → ReadsNext head old bytes new after
-    → Reads HasReadItems old new bytes after × (length after < length bytes)
+record_read : (old new : LogSoFar) (head : Head) (bytes after : List ℕ) → old.head ≡ Some head → ReadsNext head old bytes new after
+    → Reads ReadsLog old new bytes after × (length after < length bytes)
 record_read old new head bytes after some next =
     let spelled = next.is_next.spelled in
     let size = ap length (spelled ∙ framed_apart (body next.next) after) in
@@ -110,47 +111,53 @@ record_read old new head bytes after some next =
     )
 
 -- a rest that is left behind records
-records_left : (items : LogItems) (head : Head) (rest : List ℕ) → items.head ≡ Some head → IsLeft (limits_of head.format) rest → IsLeftOfItems items rest
+records_left : (items : LogSoFar) (head : Head) (rest : List ℕ) → items.head ≡ Some head → IsLeft (limits_of head.format) rest → IsLogLeft items.head rest
 records_left items head rest some left = subst (λ (o : Option Head). IsLogLeft o rest) (sym some) left
 
 -- a fault behind the records read is that of the log
-record_failed : (fault : FeedFault) (old : LogItems) (ready : List Logged) (head : Head) (taken : List Logged) (text rest : List ℕ) → old.head ≡ Some head → IsNextFault head old rest fault
-    → ready ≡ old.ready.items → HasReadItems taken old text rest → HasFailed fault text (taken ++ ready)
+record_failed : (fault : FeedFault) (old : LogSoFar) (ready : List Logged) (head : Head) (taken : List Logged) (text rest : List ℕ) → old.head ≡ Some head → IsNextFault head old rest fault
+    → ready ≡ old.ready → ReadsLog taken old text rest → HasFailed fault text (taken ++ ready)
 record_failed faults.Header old ready head taken text rest some k e reads = absurd k
 record_failed (faults.Record nth what) old ready head taken text rest some k e reads =
     let h = reads_records old head taken text rest some reads in
     let fault = subst (λ (t : ℕ). RestFault what (limits_of head.format) t rest) h.latest k.1 in
-    let there : HasFault text (taken ++ old.ready.items) what =
+    let there : HasFault text (taken ++ old.ready) what =
     record { head = head; rest = rest; spelled = h.spelled; is_head = h.is_head; lawful = h.lawful; fault = fault } in
     rw e (there, k.0 ∙ h.whole)
 record_failed faults.Memory old ready head taken text rest some k e reads =
-    rw e (begins_by old.head (taken ++ old.ready.items) old.latest old.whole text rest reads)
+    rw e (begins_by old.head (taken ++ old.ready) old.latest old.whole text rest reads)
 
 -- a step behind the header
-pub step_by : (old new : LogItems) (head : Head) (bytes : List ℕ) (outcome : Result (Option (Bor (List ℕ))) FeedFault) → old.head ≡ Some head
-    → IfOk outcome (λ next. MatchOption next ((new ≡ old) × IsLeft (limits_of head.format) bytes) (λ after. ReadsNext head old bytes new after.now))
-    → IfOk outcome (ReadsStep HasReadItems IsLeftOfItems old new bytes)
-step_by old new head bytes (Ok None) some stays = (stays.0, λ taken text reads. records_left old head bytes some stays.1)
-step_by old new head bytes (Ok (Some after)) some next = record_read old new head bytes after.now some next
-step_by old new head bytes (Err fault) some next = tt
+pub step_by : {R : Type 0} (listed : R → List Logged) (old new : LogItems R) (head : Head) (bytes : List ℕ) (outcome : Result (Option (Bor (List ℕ))) FeedFault) → old.head ≡ Some head
+    → IfOk outcome (λ next. MatchOption next ((new ≡ old) × IsLeft (limits_of head.format) bytes) (λ after. ReadsNext head (so_far listed old) bytes (so_far listed new) after.now))
+    → IfOk outcome (ReadsStep (HasReadItems listed) IsLeftOfItems old new bytes)
+step_by listed old new head bytes (Ok None) some stays = (stays.0, λ taken text reads. records_left (so_far listed old) head bytes some stays.1)
+step_by listed old new head bytes (Ok (Some after)) some next =
+    let read = record_read (so_far listed old) (so_far listed new) head bytes after.now some next in
+    (record { items = read.0.items; joins = read.0.joins; on = read.0.on }, read.1)
+step_by listed old new head bytes (Err fault) some next = tt
 
 -- a fault behind the header
-pub fault_by : (old new : LogItems) (head : Head) (bytes : List ℕ) (outcome : Result (Option (Bor (List ℕ))) FeedFault) (taken : List Logged) (text : List ℕ) → old.head ≡ Some head
-    → IfErr outcome (IsNextFault head old bytes) → OnErr outcome (new.ready.items ≡ old.ready.items) → HasReadItems taken old text bytes
-    → IfErr outcome (λ fault. HasFailed fault text (taken ++ new.ready.items))
-fault_by old new head bytes (Ok next) taken text some failed kept reads = tt
-fault_by old new head bytes (Err fault) taken text some failed kept reads =
-    record_failed fault old new.ready.items head taken text bytes some failed kept reads
+pub fault_by : {R : Type 0} (listed : R → List Logged) (old new : LogItems R) (head : Head) (bytes : List ℕ) (outcome : Result (Option (Bor (List ℕ))) FeedFault) (taken : List Logged) (text : List ℕ)
+    → old.head ≡ Some head → IfErr outcome (IsNextFault head (so_far listed old) bytes) → OnErr outcome (listed new.ready ≡ listed old.ready) → HasReadItems listed taken old text bytes
+    → IfErr outcome (λ fault. HasFailed fault text (taken ++ listed new.ready))
+fault_by listed old new head bytes (Ok next) taken text some failed kept reads = tt
+fault_by listed old new head bytes (Err fault) taken text some failed kept reads =
+    record_failed fault (so_far listed old) (listed new.ready) head taken text bytes some failed kept reads
 
 -- ---- the beginning
 
+-- the records of a vector
+abbrev pub in_vec : Vec Logged Global → List Logged
+in_vec records = records.items
+
 -- what the feed of a log is, by its items
-abbrev pub fed_with : LogItems → List ℕ → Option FeedFault → FedLog
-fed_with items held fault = record { head = items.head; held = held; ready = items.ready.items; latest = items.latest; whole = items.whole; fault = fault }
+abbrev pub fed_with : LogSoFar → List ℕ → Option FeedFault → FedLog
+fed_with items held fault = record { head = items.head; held = held; ready = items.ready; latest = items.latest; whole = items.whole; fault = fault }
 
 -- nothing was read of nothing
-nothing_read : (items : LogItems) (held : List ℕ) → items.head ≡ None → items.ready.items ≡ [] → items.latest ≡ 0 → items.whole ≡ 0 → held ≡ []
-    → HasReadItems [] items [] held × IsLeftOfItems items held
+nothing_read : (items : LogSoFar) (held : List ℕ) → items.head ≡ None → items.ready ≡ [] → items.latest ≡ 0 → items.whole ≡ 0 → held ≡ []
+    → ReadsLog [] items [] held × IsLogLeft items.head held
 nothing_read items held head ready time count none =
     subst (λ (p : Option Head × List Logged × ℕ × ℕ × List ℕ). HasRead p.0 p.1 p.2 p.3 [] p.4 × IsLogLeft p.0 p.4)
     (λ i. (sym head i, sym ready i, sym time i, sym count i, sym none i)) (
@@ -160,16 +167,16 @@ nothing_read items held head ready time count none =
     )
 
 -- a feed that was fed nothing
-pub fed_nothing : (feed : Feed LogItems FeedFault) (items : LogItems) → feed.items ≡ items → feed.held.items ≡ [] → feed.fault ≡ None → items.head ≡ None → items.ready.items ≡ [] → items.latest ≡ 0
-    → items.whole ≡ 0 → IsLogFed (fed_log feed) [] []
+pub fed_nothing : (feed : Feed (LogItems (Vec Logged Global)) FeedFault) (items : LogItems (Vec Logged Global)) → feed.items ≡ items → feed.held.items ≡ [] → feed.fault ≡ None → items.head ≡ None
+    → items.ready.items ≡ [] → items.latest ≡ 0 → items.whole ≡ 0 → IsLogFed (fed_log feed) [] []
 fed_nothing feed items same held sound head ready time count =
-    let nothing = nothing_read items feed.held.items head ready time count held in
-    subst (λ (p : LogItems × Option FeedFault). IsLogFed (fed_with p.0 feed.held.items p.1) [] []) (λ i. (sym same i, sym sound i)) nothing
+    let nothing = nothing_read (so_far in_vec items) feed.held.items head ready time count held in
+    subst (λ (p : LogSoFar × Option FeedFault). IsLogFed (fed_with p.0 feed.held.items p.1) [] []) (λ i. (so_far in_vec (sym same i), sym sound i)) nothing
 
 -- ---- the end
 
 -- without a header there is none
-pub no_head_read : (items : LogItems) (taken : List Logged) (text left : List ℕ) → items.head ≡ None → HasReadItems taken items text left → IsLeftOfItems items left → HasNoHeader text
+pub no_head_read : (items : LogSoFar) (taken : List Logged) (text left : List ℕ) → items.head ≡ None → ReadsLog taken items text left → IsLogLeft items.head left → HasNoHeader text
 no_head_read items taken text left none reads rest =
     let nothing = reads_nothing items taken text left none reads in
     let cut : IsCutHeader left = subst (λ (o : Option Head). IsLogLeft o left) none rest in
@@ -181,11 +188,11 @@ no_head_read items taken text left none reads rest =
     omega (arith, here, there, all, long, cut.3)
 
 -- what was read with a header is a log
-pub text_read : (items : LogItems) (taken : List Logged) (text left : List ℕ) (head : Head) (last : ℕ) (torn : Bool) → items.head ≡ Some head → HasReadItems taken items text left
-    → IsLeftOfItems items left → torn ≡ not (length left == 0) → last ≡ max head.from items.latest
+pub text_read : (items : LogItems (Vec Logged Global)) (taken : List Logged) (text left : List ℕ) (head : Head) (last : ℕ) (torn : Bool) → items.head ≡ Some head → HasReadItems in_vec taken items text left
+    → IsLogLeft items.head left → torn ≡ not (length left == 0) → last ≡ max head.from items.latest
     → IsTextAfter taken text (record { from = head.from; last = last; records = items.ready; whole = items.whole; torn = torn })
 text_read items taken text left head last torn some reads rest test greatest =
-    let h = reads_records items head taken text left some reads in
+    let h = reads_records (so_far in_vec items) head taken text left some reads in
     let ends : IsLeft (limits_of head.format) left = subst (λ (o : Option Head). IsLogLeft o left) some rest in
     let log : LogReading = record { head = head; records = taken ++ items.ready.items; torn = torn } in
     let time : last ≡ max head.from (latest 0 log.records) = greatest ∙ ap (λ (n : ℕ). max head.from n) h.latest in
@@ -251,34 +258,34 @@ shown_answered (faults.Record nth what) bytes h = h
 shown_answered faults.Memory bytes h = tt
 
 -- what the generic feed says of these items
-abbrev pub IsFedItems : List Logged → LogItems → List ℕ → Option FeedFault → List ℕ → Type 0
-IsFedItems taken items held fault text = IsFedBy (HasReadItems taken) IsLeftOfItems (λ items fault text. HasFailed fault text (taken ++ items.ready.items)) items held fault text
+abbrev pub IsFedItems : List Logged → LogSoFar → List ℕ → Option FeedFault → List ℕ → Type 0
+IsFedItems taken items held fault text = IsFedBy (ReadsLog taken) (λ items rest. IsLogLeft items.head rest) (λ items fault text. HasFailed fault text (taken ++ items.ready)) items held fault text
 
 -- is what is said of the feed of a log
-to_items : (items : LogItems) (held : List ℕ) (fault : Option FeedFault) (bytes : List ℕ) (taken : List Logged) → IsLogFed (fed_with items held fault) bytes taken
+to_items : (items : LogSoFar) (held : List ℕ) (fault : Option FeedFault) (bytes : List ℕ) (taken : List Logged) → IsLogFed (fed_with items held fault) bytes taken
     → IsFedItems taken items held fault bytes
 to_items items held None bytes taken fed = fed
 to_items items held (Some fault) bytes taken fed = fed
 
-from_items : (items : LogItems) (held : List ℕ) (fault : Option FeedFault) (bytes : List ℕ) (taken : List Logged) → IsFedItems taken items held fault bytes
+from_items : (items : LogSoFar) (held : List ℕ) (fault : Option FeedFault) (bytes : List ℕ) (taken : List Logged) → IsFedItems taken items held fault bytes
     → IsLogFed (fed_with items held fault) bytes taken
 from_items items held None bytes taken fed = fed
 from_items items held (Some fault) bytes taken fed = fed
 
 -- where a feed answers no fault, none is shown
-ok_shows_none : (items : LogItems) (held : List ℕ) (fault : Option FeedFault) (outcome : Result (Unit {0}) FeedFault) (bytes : List ℕ) (taken : List Logged)
+ok_shows_none : (items : LogSoFar) (held : List ℕ) (fault : Option FeedFault) (outcome : Result (Unit {0}) FeedFault) (bytes : List ℕ) (taken : List Logged)
     → IsFedItems taken items held fault bytes → OnOk outcome (fault ≡ None) → OnOk outcome (ShowsNoFault bytes)
 ok_shows_none items held fault (Ok u) bytes taken fed none =
     let read = subst (λ (o : Option FeedFault). IsFedItems taken items held o bytes) none fed in
-    order_shows_none items.head (taken ++ items.ready.items) items.latest items.whole bytes held read.0 read.1
+    order_shows_none items.head (taken ++ items.ready) items.latest items.whole bytes held read.0 read.1
 ok_shows_none items held fault (Err e) bytes taken fed none = tt
 
 -- and where it answers one, that is
-err_is_shown : (items : LogItems) (held : List ℕ) (fault : Option FeedFault) (outcome : Result (Unit {0}) FeedFault) (bytes : List ℕ) (taken : List Logged)
+err_is_shown : (items : LogSoFar) (held : List ℕ) (fault : Option FeedFault) (outcome : Result (Unit {0}) FeedFault) (bytes : List ℕ) (taken : List Logged)
     → IsFedItems taken items held fault bytes → IfErr outcome (λ e. fault ≡ Some e) → IfErr outcome (IsShown bytes)
 err_is_shown items held fault (Ok u) bytes taken fed kept = tt
 err_is_shown items held fault (Err e) bytes taken fed kept =
-    failed_shown e bytes (taken ++ items.ready.items) (subst (λ (o : Option FeedFault). IsFedItems taken items held o bytes) kept fed)
+    failed_shown e bytes (taken ++ items.ready) (subst (λ (o : Option FeedFault). IsFedItems taken items held o bytes) kept fed)
 
 -- what a feed was fed after a piece, and what its answer says
 pub record AfterPiece (feed : FedLog) (outcome : Result (Unit {0}) FeedFault) (bytes : List ℕ) (taken : List Logged) : Type 0 where
@@ -286,13 +293,31 @@ pub record AfterPiece (feed : FedLog) (outcome : Result (Unit {0}) FeedFault) (b
   pub ok : OnOk outcome (ShowsNoFault bytes)
   pub fault : IfErr outcome (IsShown bytes)
 
-pub after_piece : (old new : Feed LogItems FeedFault) (view : FedLog) (outcome : Result (Unit {0}) FeedFault) (bytes piece : List ℕ) (taken : List Logged) → fed_log old ≡ view
-    → IsLogFed view bytes taken → (IsFedItems taken old.items old.held.items old.fault bytes → IsFedItems taken new.items new.held.items new.fault (bytes ++ piece))
-    → OnOk outcome (new.fault ≡ None) → IfErr outcome (λ e. new.fault ≡ Some e) → AfterPiece (fed_log new) outcome (bytes ++ piece) taken
+-- what the feed of a log says of its items
+abbrev pub IsFedWith : List Logged → Feed (LogItems (Vec Logged Global)) FeedFault → List ℕ → Type 0
+IsFedWith taken feed text =
+    IsFedBy (HasReadItems in_vec taken) IsLeftOfItems (λ items fault text. HasFailed fault text (taken ++ items.ready.items)) feed.items feed.held.items feed.fault text
+
+-- in other words
+with_items : (taken : List Logged) (items : LogItems (Vec Logged Global)) (held : List ℕ) (fault : Option FeedFault) (text : List ℕ) → IsFedItems taken (so_far in_vec items) held fault text
+    → IsFedBy (HasReadItems in_vec taken) IsLeftOfItems (λ items fault text. HasFailed fault text (taken ++ items.ready.items)) items held fault text
+with_items taken items held None text fed = fed
+with_items taken items held (Some fault) text fed = fed
+
+of_items : (taken : List Logged) (items : LogItems (Vec Logged Global)) (held : List ℕ) (fault : Option FeedFault) (text : List ℕ)
+    → IsFedBy (HasReadItems in_vec taken) IsLeftOfItems (λ items fault text. HasFailed fault text (taken ++ items.ready.items)) items held fault text
+    → IsFedItems taken (so_far in_vec items) held fault text
+of_items taken items held None text fed = fed
+of_items taken items held (Some fault) text fed = fed
+
+pub after_piece : (old new : Feed (LogItems (Vec Logged Global)) FeedFault) (view : FedLog) (outcome : Result (Unit {0}) FeedFault) (bytes piece : List ℕ) (taken : List Logged) → fed_log old ≡ view
+    → IsLogFed view bytes taken → (IsFedWith taken old bytes → IsFedWith taken new (bytes ++ piece)) → OnOk outcome (new.fault ≡ None) → IfErr outcome (λ e. new.fault ≡ Some e)
+    → AfterPiece (fed_log new) outcome (bytes ++ piece) taken
 after_piece old new view outcome bytes piece taken same fed step sound kept =
-    let after = step (to_items old.items old.held.items old.fault bytes taken (subst (λ (f : FedLog). IsLogFed f bytes taken) (sym same) fed)) in
+    let before = to_items (so_far in_vec old.items) old.held.items old.fault bytes taken (subst (λ (f : FedLog). IsLogFed f bytes taken) (sym same) fed) in
+    let after = of_items taken new.items new.held.items new.fault (bytes ++ piece) (step (with_items taken old.items old.held.items old.fault bytes before)) in
     record {
-      fed = from_items new.items new.held.items new.fault (bytes ++ piece) taken after;
-      ok = ok_shows_none new.items new.held.items new.fault outcome (bytes ++ piece) taken after sound;
-      fault = err_is_shown new.items new.held.items new.fault outcome (bytes ++ piece) taken after kept;
+      fed = from_items (so_far in_vec new.items) new.held.items new.fault (bytes ++ piece) taken after;
+      ok = ok_shows_none (so_far in_vec new.items) new.held.items new.fault outcome (bytes ++ piece) taken after sound;
+      fault = err_is_shown (so_far in_vec new.items) new.held.items new.fault outcome (bytes ++ piece) taken after kept;
     }

@@ -1,6 +1,9 @@
 -- What the feed of a part was fed.
 use Rattle.std.proofs.Common.{◌≡◌, Result, Ok, Err, Option, Some, None, List, [], ◌++◌, ℕ, sym, subst}
 use Rattle.std.specs.Result.{OnOk, IfErr}
+use Rattle.std.specs.Prelude.{Vec}
+use Rattle.std.specs.Global.{Global}
+use Rattle.mt_words.specs.declared.record.Change.{Change}
 use Rattle.mt_record.specs.declared.part_text.PartFault.{PartFault}
 use Rattle.mt_record.specs.declared.part_items.PartItems.{PartItems}
 use Rattle.mt_record.specs.declared.feed.Feed.{Feed}
@@ -9,27 +12,27 @@ use Rattle.mt_record.specs.PartFeeding.{IsPartShown, IsPartFed, FedPart, ShowsNo
 use Rattle.mt_record.specs.PartPieces.{so_far, fed_part, HasReadItems, IsLeftOfItems}
 use Rattle.mt_record.specs.PartLaws.{shown_on}
 use Rattle.mt_record.proofs.OnePartFault.{order_shows_none}
-use Rattle.mt_record.proofs.PartItems.{nothing_read}
+use Rattle.mt_record.proofs.PartItems.{in_vec, nothing_read}
 
 -- what the generic feed says of these items
-abbrev pub IsFedItems : PartItems → List ℕ → Option PartFault → List ℕ → Type 0
-IsFedItems items held fault text = IsFedBy (HasReadItems tt) IsLeftOfItems (λ _ fault text. IsPartShown text fault) items held fault text
+abbrev pub IsFedItems : PartItems (Vec Change Global) → List ℕ → Option PartFault → List ℕ → Type 0
+IsFedItems items held fault text = IsFedBy (HasReadItems in_vec tt) (IsLeftOfItems in_vec) (λ _ fault text. IsPartShown text fault) items held fault text
 
 -- is what is said of the feed of a part
-to_items : (s : PartItems) (held : List ℕ) (fault : Option PartFault) (bytes : List ℕ) → IsPartFed (record { so_far = so_far s; held = held; fault = fault }) bytes → IsFedItems s held fault bytes
+to_items : (s : PartItems (Vec Change Global)) (held : List ℕ) (fault : Option PartFault) (bytes : List ℕ) → IsPartFed (record { so_far = so_far in_vec s; held = held; fault = fault }) bytes → IsFedItems s held fault bytes
 to_items s held None bytes fed = fed
 to_items s held (Some fault) bytes fed = fed
 
-from_items : (s : PartItems) (held : List ℕ) (fault : Option PartFault) (bytes : List ℕ) → IsFedItems s held fault bytes → IsPartFed (record { so_far = so_far s; held = held; fault = fault }) bytes
+from_items : (s : PartItems (Vec Change Global)) (held : List ℕ) (fault : Option PartFault) (bytes : List ℕ) → IsFedItems s held fault bytes → IsPartFed (record { so_far = so_far in_vec s; held = held; fault = fault }) bytes
 from_items s held None bytes fed = fed
 from_items s held (Some fault) bytes fed = fed
 
 -- a feed that was fed nothing
-pub fed_nothing : (feed : Feed PartItems PartFault) (items : PartItems) → feed.items ≡ items → feed.held.items ≡ [] → feed.fault ≡ None → items.head ≡ None → items.entries.items ≡ [] → items.end ≡ None
+pub fed_nothing : (feed : Feed (PartItems (Vec Change Global)) PartFault) (items : PartItems (Vec Change Global)) → feed.items ≡ items → feed.held.items ≡ [] → feed.fault ≡ None → items.head ≡ None → items.entries.items ≡ [] → items.end ≡ None
     → IsPartFed (fed_part feed) []
 fed_nothing feed items same held sound head entries end =
     let nothing = nothing_read items feed.held.items head entries end held in
-    subst (λ (p : PartItems × Option PartFault). IsPartFed (record { so_far = so_far p.0; held = feed.held.items; fault = p.1 }) []) (λ i. (sym same i, sym sound i)) nothing
+    subst (λ (p : PartItems (Vec Change Global) × Option PartFault). IsPartFed (record { so_far = so_far in_vec p.0; held = feed.held.items; fault = p.1 }) []) (λ i. (sym same i, sym sound i)) nothing
 
 -- ---- feeds
 
@@ -47,15 +50,15 @@ fed_on feed fault bytes more e fed =
     subst (λ (o : Option PartFault). IsPartFed (record feed { fault = o }) (bytes ++ more)) (sym e) (failed_on feed fault bytes more e fed)
 
 -- where a feed answers no fault, none is shown
-ok_shows_none : (s : PartItems) (held : List ℕ) (fault : Option PartFault) (outcome : Result (Unit {0}) PartFault) (bytes : List ℕ) → IsFedItems s held fault bytes
+ok_shows_none : (s : PartItems (Vec Change Global)) (held : List ℕ) (fault : Option PartFault) (outcome : Result (Unit {0}) PartFault) (bytes : List ℕ) → IsFedItems s held fault bytes
     → OnOk outcome (fault ≡ None) → OnOk outcome (ShowsNoPartFault bytes)
 ok_shows_none s held fault (Ok u) bytes fed none =
     let read = subst (λ (o : Option PartFault). IsFedItems s held o bytes) none fed in
-    order_shows_none (so_far s) bytes held read.0 read.1
+    order_shows_none (so_far in_vec s) bytes held read.0 read.1
 ok_shows_none s held fault (Err e) bytes fed none = tt
 
 -- and where it answers one, that is
-err_is_shown : (s : PartItems) (held : List ℕ) (fault : Option PartFault) (outcome : Result (Unit {0}) PartFault) (bytes : List ℕ) → IsFedItems s held fault bytes
+err_is_shown : (s : PartItems (Vec Change Global)) (held : List ℕ) (fault : Option PartFault) (outcome : Result (Unit {0}) PartFault) (bytes : List ℕ) → IsFedItems s held fault bytes
     → IfErr outcome (λ e. fault ≡ Some e) → IfErr outcome (IsPartShown bytes)
 err_is_shown s held fault (Ok u) bytes fed kept = tt
 err_is_shown s held fault (Err e) bytes fed kept = subst (λ (o : Option PartFault). IsFedItems s held o bytes) kept fed
@@ -66,7 +69,7 @@ pub record AfterPiece (feed : FedPart) (outcome : Result (Unit {0}) PartFault) (
   pub ok : OnOk outcome (ShowsNoPartFault bytes)
   pub fault : IfErr outcome (IsPartShown bytes)
 
-pub after_piece : (old new : Feed PartItems PartFault) (view : FedPart) (outcome : Result (Unit {0}) PartFault) (bytes piece : List ℕ) → fed_part old ≡ view → IsPartFed view bytes
+pub after_piece : (old new : Feed (PartItems (Vec Change Global)) PartFault) (view : FedPart) (outcome : Result (Unit {0}) PartFault) (bytes piece : List ℕ) → fed_part old ≡ view → IsPartFed view bytes
     → (IsFedItems old.items old.held.items old.fault bytes → IsFedItems new.items new.held.items new.fault (bytes ++ piece)) → OnOk outcome (new.fault ≡ None)
     → IfErr outcome (λ e. new.fault ≡ Some e) → AfterPiece (fed_part new) outcome (bytes ++ piece)
 after_piece old new view outcome bytes piece same fed step sound kept =

@@ -41,6 +41,13 @@ pub record FedLog : Type 0 where
   pub whole : ℕ
   pub fault : Option FeedFault
 
+-- what was read of a log: its header, if that is whole; the records that were not yet taken; the timestamp of the last one; how many there are
+pub record LogSoFar : Type 0 where
+  pub head : Option Head
+  pub ready : List Logged
+  pub latest : ℕ
+  pub whole : ℕ
+
 -- no header was read and no record, and the rest is all of the bytes
 pub record ReadsNoHeader (records : List Logged) (time count : ℕ) (bytes rest : List ℕ) : Type 0 where
   pub none : records ≡ []

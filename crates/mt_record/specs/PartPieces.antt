@@ -1,22 +1,24 @@
 -- What the steps of reading a part in pieces give.
-use Rattle.std.specs.Prelude.{List, ℕ}
+use Rattle.std.specs.Prelude.{List, ℕ, Vec}
+use Rattle.std.specs.Global.{Global}
+use Rattle.mt_words.specs.declared.record.Change.{Change}
 use Rattle.mt_record.specs.declared.part_items.PartItems.{PartItems}
 use Rattle.mt_record.specs.declared.feed.Feed.{Feed}
 use Rattle.mt_record.specs.declared.part_text.PartFault.{PartFault}
 use Rattle.mt_record.specs.PartFeeding.{PartSoFar, FedPart, ReadsUpTo, IsPartLeft}
 
--- what was read, as contracts see it
-abbrev pub so_far : PartItems → PartSoFar
-so_far items = record { head = items.head; entries = items.entries.items; end = items.end }
+-- what was read, as contracts see it; the entries are those that are told of what they were put into
+abbrev pub so_far : {E : Type 0} → (E → List Change) → PartItems E → PartSoFar
+so_far listed items = record { head = items.head; entries = listed items.entries; end = items.end }
 
 -- the bytes are what was read, and the rest
-abbrev pub HasReadItems : Unit {0} → PartItems → List ℕ → List ℕ → Type 0
-HasReadItems taken items text rest = ReadsUpTo (so_far items) text rest
+abbrev pub HasReadItems : {E : Type 0} → (E → List Change) → Unit {0} → PartItems E → List ℕ → List ℕ → Type 0
+HasReadItems listed taken items text rest = ReadsUpTo (so_far listed items) text rest
 
 -- a rest from which nothing more can be read
-abbrev pub IsLeftOfItems : PartItems → List ℕ → Type 0
-IsLeftOfItems items rest = IsPartLeft (so_far items) rest
+abbrev pub IsLeftOfItems : {E : Type 0} → (E → List Change) → PartItems E → List ℕ → Type 0
+IsLeftOfItems listed items rest = IsPartLeft (so_far listed items) rest
 
 -- what the feed of a part holds
-abbrev pub fed_part : Feed PartItems PartFault → FedPart
-fed_part feed = record { so_far = so_far feed.items; held = feed.held.items; fault = feed.fault }
+abbrev pub fed_part : Feed (PartItems (Vec Change Global)) PartFault → FedPart
+fed_part feed = record { so_far = so_far (λ entries. entries.items) feed.items; held = feed.held.items; fault = feed.fault }

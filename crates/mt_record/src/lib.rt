@@ -11,6 +11,7 @@ mod fields;
 mod frame;
 mod head;
 mod items;
+mod kept;
 mod laws;
 mod log_feed;
 mod log_items;

@@ -19,7 +19,7 @@ use std::mem;
 /// the bytes, however they are cut.
 #[derive(Debug, Drop)]
 pub struct LogFeed {
-    feed: Feed<LogItems>,
+    feed: Feed<LogItems<Vec<Record>>>,
 }
 
 impl Model for LogFeed {
@@ -38,7 +38,7 @@ impl LogFeed {
         ensures sound { result.fault ≡ None }
     {
         LogFeed {
-            feed: Feed::new(alloc, LogItems::new(alloc)),
+            feed: Feed::new(alloc, LogItems::new(Vec::new(alloc))),
         }
     }
 

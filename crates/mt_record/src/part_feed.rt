@@ -8,6 +8,7 @@ ghost use Rattle.mt_record.specs.PartFeeding.{IsPartFed, ShowsNoPartFault, IsPar
 use crate::feed::Feed;
 use crate::part_items::PartItems;
 use crate::part_text::{PartFault, PartText};
+use mt_words::Entry;
 use std::alloc::Global;
 use std::marker::Model;
 
@@ -16,7 +17,7 @@ use std::marker::Model;
 /// piece. Its work is linear in the bytes, however they are cut.
 #[derive(Debug, Drop)]
 pub struct PartFeed {
-    feed: Feed<PartItems>,
+    feed: Feed<PartItems<Vec<Entry>>>,
 }
 
 impl Model for PartFeed {
@@ -35,7 +36,7 @@ impl PartFeed {
         ensures sound { result.fault ≡ None }
     {
         PartFeed {
-            feed: Feed::new(alloc, PartItems::new(alloc)),
+            feed: Feed::new(alloc, PartItems::new(Vec::new(alloc))),
         }
     }
 

@@ -1,10 +1,7 @@
 //! The items of a part, one behind the other: its header, its entries and its footer.
-ghost use Rattle.std.specs.Prelude.{◌≡◌, ◌≢◌, ◌++◌, [], ◌∷◌, List, ℕ, None, Some, IfOk, IfErr, OnOk, OnErr, length};
+ghost use Rattle.std.specs.Prelude.{◌≡◌, ◌≢◌, ◌++◌, List, ℕ, None, Some, IfOk, IfErr, length};
 ghost use Rattle.byteorder.specs.Endian.{big_bytes};
 ghost use Rattle.mt_record.specs.declared.part_text.PartFault.TheVariants.{Broken};
-ghost use Rattle.mt_words.specs.declared.record.Change.{Change};
-ghost use Rattle.mt_words.specs.Limits.{widest};
-ghost use Rattle.mt_record.specs.Bodies.{AreFields, AreFieldsOf};
 ghost use Rattle.mt_record.specs.Parts.{IsPartText};
 ghost use Rattle.mt_record.specs.PartFaults.{IsPartAnswered};
 ghost use Rattle.mt_record.specs.Feeding.{ReadsStep};
@@ -12,36 +9,34 @@ ghost use Rattle.mt_record.specs.PartFeeding.{ReadsUpTo, IsPartLeft, IsPartShown
 ghost use Rattle.mt_record.specs.PartPieces.{so_far, HasReadItems, IsLeftOfItems};
 ghost use Rattle.mt_record.specs.PartLaws.{reads_on, reads_front, shown_on, refused_shown};
 
-use crate::copy::copy_entry;
-use crate::feed::keep;
 use crate::fields::{u32_at, u64_at};
 use crate::frame::next_entry;
 use crate::items::Items;
+use crate::kept::Entries;
 use crate::magic::goes_with_magic;
 use crate::part_head::{FOOTER_BYTES, PART, PART_HEADER_BYTES, part_header_at};
 use crate::part_text::{PartFault, PartHead, PartText};
-use mt_words::{Entry, Memory};
-use std::alloc::Global;
+use mt_words::Entry;
 
 /// What was read of a part so far.
 #[derive(Debug, Drop)]
-pub struct PartItems {
+pub struct PartItems<E: Entries> {
     /// Its header, once that is whole.
     pub head: Option<PartHead>,
     /// The entries, in order.
-    pub entries: Vec<Entry>,
+    pub entries: E,
     /// Where its checkpoint ends, once the footer is whole.
     pub end: Option<u64>,
 }
 
-impl Items for PartItems {
+impl<E: Entries> Items for PartItems<E> {
     type Fault = PartFault;
 
     ghost Taken = { Unit {0} };
 
-    ghost reads = { HasReadItems };
+    ghost reads = { HasReadItems E.listed };
 
-    ghost is_left = { IsLeftOfItems };
+    ghost is_left = { IsLeftOfItems E.listed };
 
     ghost fails = { λ _ _ fault text. IsPartShown text fault };
 
@@ -70,35 +65,130 @@ impl Items for PartItems {
         }
     }
 
-    ghost goes_on = { λ _ items text rest more. reads_on (so_far items) text rest more };
+    ghost goes_on = { λ _ items text rest more. reads_on (so_far E.listed items) text rest more };
 
-    ghost front = { λ _ items text a b. reads_front (so_far items) text a b };
+    ghost front = { λ _ items text a b. reads_front (so_far E.listed items) text a b };
 
     ghost stays_failed = { λ _ _ fault text more. shown_on fault text more };
 
     ghost refused = { λ _ _ text rest _ fault is _. refused_shown fault text is };
 }
 
-impl PartItems {
-    /// What was read of nothing.
-    pub fn new(alloc: Global) -> PartItems
+impl<E: Entries> PartItems<E> {
+    /// What was read of nothing, for entries to be put into what is empty.
+    pub fn new(entries: E) -> PartItems<E>
         ensures head { result.head ≡ None }
-        ensures entries { result.entries.items ≡ [] }
+        ensures entries { result.entries ≡ entries }
         ensures end { result.end ≡ None }
     {
         PartItems {
             head: None,
-            entries: Vec::new(alloc),
+            entries,
             end: None,
         }
     }
 
+    /// Reads the header.
+    fn read_header<'a>(&mut self, bytes: &'a [u8]) -> Result<Option<&'a [u8]>, PartFault>
+        requires { self.old.head ≡ None }
+        ensures next { IfOk result (ReadsStep (HasReadItems E.listed) (IsLeftOfItems E.listed) self.old self.new bytes.now) }
+        ensures fault { (text : List ℕ) → ReadsUpTo (so_far E.listed self.old) text bytes.now → IfErr result (IsPartShown text) }
+    {
+        if !goes_with_magic(PART, bytes) {
+            return Err(PartFault::Header);
+        }
+        let Some((head, after)) = part_header_at(bytes) else {
+            return Ok(None);
+        };
+        self.head = Some(head);
+        Ok(Some(after))
+    }
+
+    /// Reads an entry, or the footer, which begins with a length of zero.
+    fn read_item<'a>(
+        &mut self,
+        head: PartHead,
+        bytes: &'a [u8],
+    ) -> Result<Option<&'a [u8]>, PartFault>
+        requires head { self.old.head ≡ Some head }
+        requires open { self.old.end ≡ None }
+        ensures next { IfOk result (ReadsStep (HasReadItems E.listed) (IsLeftOfItems E.listed) self.old self.new bytes.now) }
+        ensures fault { (text : List ℕ) → ReadsUpTo (so_far E.listed self.old) text bytes.now → IfErr result (IsPartShown text) }
+    {
+        let Some((length, rest)) = u32_at(bytes) else {
+            return Ok(None);
+        };
+        if length == 0 {
+            return self.read_footer(head, rest);
+        }
+        self.read_entry(head, bytes)
+    }
+
+    /// Reads an entry.
+    fn read_entry<'a>(
+        &mut self,
+        head: PartHead,
+        bytes: &'a [u8],
+    ) -> Result<Option<&'a [u8]>, PartFault>
+        requires head { self.old.head ≡ Some head }
+        requires open { self.old.end ≡ None }
+        requires entry { (more : List ℕ) → bytes.now ≢ big_bytes 4 0 ++ more }
+        ensures next { IfOk result (ReadsStep (HasReadItems E.listed) (IsLeftOfItems E.listed) self.old self.new bytes.now) }
+        ensures fault { (text : List ℕ) → ReadsUpTo (so_far E.listed self.old) text bytes.now → IfErr result (IsPartShown text) }
+    {
+        match next_entry(head.format, bytes) {
+            Ok(Some((fields, after))) => {
+                self.entries.put_entry(fields)?;
+                Ok(Some(after))
+            }
+            Ok(None) => Ok(None),
+            Err(_) => Err(self.broken(head)),
+        }
+    }
+
+    /// Reads the footer, of which this follows its length of zero.
+    fn read_footer<'a>(
+        &mut self,
+        head: PartHead,
+        bytes: &'a [u8],
+    ) -> Result<Option<&'a [u8]>, PartFault>
+        requires head { self.old.head ≡ Some head }
+        requires open { self.old.end ≡ None }
+        ensures next { IfOk result (ReadsStep (HasReadItems E.listed) (IsLeftOfItems E.listed) self.old self.new (big_bytes 4 0 ++ bytes.now)) }
+        ensures fault { (text : List ℕ) → ReadsUpTo (so_far E.listed self.old) text (big_bytes 4 0 ++ bytes.now) →
+            IfErr result (IsPartShown text) }
+    {
+        let Some((end, rest)) = u64_at(bytes) else {
+            return Ok(None);
+        };
+        let Some((count, after)) = u32_at(rest) else {
+            return Ok(None);
+        };
+        if count as usize != self.entries.count() {
+            return Err(self.broken(head));
+        }
+        self.end = Some(end);
+        Ok(Some(after))
+    }
+
+    /// The fault of a part that is broken behind the entries so far.
+    fn broken(&self, head: PartHead) -> PartFault
+        ensures { result ≡ Broken head.number (length (E.listed self.now.entries)) }
+    {
+        PartFault::Broken {
+            number: head.number,
+            entries: self.entries.count() as u64,
+        }
+    }
+}
+
+impl PartItems<Vec<Entry>> {
     /// What was read, as a part behind which nothing more came than could not be read. An Err is the fault of a part
     /// that is cut short.
     pub fn finish(self) -> Result<PartText, PartFault>
-        ensures part { (bytes left : List ℕ) → ReadsUpTo (so_far self) bytes left → IsPartLeft (so_far self) left →
+        ensures part { (bytes left : List ℕ) → ReadsUpTo (so_far (λ entries. entries.items) self) bytes left → IsPartLeft (so_far (λ entries. entries.items) self) left →
             IfOk result (IsPartText bytes) }
-        ensures fault { (bytes left : List ℕ) → ReadsUpTo (so_far self) bytes left → IsPartLeft (so_far self) left →
+        ensures fault { (bytes left : List ℕ) → ReadsUpTo (so_far (λ entries. entries.items) self) bytes left → IsPartLeft (so_far (λ entries. entries.items) self) left →
             IfErr result (IsPartAnswered bytes) }
     {
         let PartItems { head, entries, end } = self;
@@ -120,107 +210,4 @@ impl PartItems {
             end,
         })
     }
-
-    /// Reads the header.
-    fn read_header<'a>(&mut self, bytes: &'a [u8]) -> Result<Option<&'a [u8]>, PartFault>
-        requires { self.old.head ≡ None }
-        ensures next { IfOk result (ReadsStep HasReadItems IsLeftOfItems self.old self.new bytes.now) }
-        ensures fault { (text : List ℕ) → ReadsUpTo (so_far self.old) text bytes.now → IfErr result (IsPartShown text) }
-    {
-        if !goes_with_magic(PART, bytes) {
-            return Err(PartFault::Header);
-        }
-        let Some((head, after)) = part_header_at(bytes) else {
-            return Ok(None);
-        };
-        self.head = Some(head);
-        Ok(Some(after))
-    }
-
-    /// Reads an entry, or the footer, which begins with a length of zero.
-    fn read_item<'a>(
-        &mut self,
-        head: PartHead,
-        bytes: &'a [u8],
-    ) -> Result<Option<&'a [u8]>, PartFault>
-        requires head { self.old.head ≡ Some head }
-        requires open { self.old.end ≡ None }
-        ensures next { IfOk result (ReadsStep HasReadItems IsLeftOfItems self.old self.new bytes.now) }
-        ensures fault { (text : List ℕ) → ReadsUpTo (so_far self.old) text bytes.now → IfErr result (IsPartShown text) }
-    {
-        let Some((length, rest)) = u32_at(bytes) else {
-            return Ok(None);
-        };
-        if length == 0 {
-            return self.read_footer(head, rest);
-        }
-        self.read_entry(head, bytes)
-    }
-
-    /// Reads an entry.
-    fn read_entry<'a>(
-        &mut self,
-        head: PartHead,
-        bytes: &'a [u8],
-    ) -> Result<Option<&'a [u8]>, PartFault>
-        requires head { self.old.head ≡ Some head }
-        requires open { self.old.end ≡ None }
-        requires entry { (more : List ℕ) → bytes.now ≢ big_bytes 4 0 ++ more }
-        ensures next { IfOk result (ReadsStep HasReadItems IsLeftOfItems self.old self.new bytes.now) }
-        ensures fault { (text : List ℕ) → ReadsUpTo (so_far self.old) text bytes.now → IfErr result (IsPartShown text) }
-    {
-        match next_entry(head.format, bytes) {
-            Ok(Some((fields, after))) => {
-                put_entry(&mut self.entries, fields)?;
-                Ok(Some(after))
-            }
-            Ok(None) => Ok(None),
-            Err(_) => Err(self.broken(head)),
-        }
-    }
-
-    /// Reads the footer, of which this follows its length of zero.
-    fn read_footer<'a>(
-        &mut self,
-        head: PartHead,
-        bytes: &'a [u8],
-    ) -> Result<Option<&'a [u8]>, PartFault>
-        requires head { self.old.head ≡ Some head }
-        requires open { self.old.end ≡ None }
-        ensures next { IfOk result (ReadsStep HasReadItems IsLeftOfItems self.old self.new (big_bytes 4 0 ++ bytes.now)) }
-        ensures fault { (text : List ℕ) → ReadsUpTo (so_far self.old) text (big_bytes 4 0 ++ bytes.now) →
-            IfErr result (IsPartShown text) }
-    {
-        let Some((end, rest)) = u64_at(bytes) else {
-            return Ok(None);
-        };
-        let Some((count, after)) = u32_at(rest) else {
-            return Ok(None);
-        };
-        if count as usize != self.entries.len() {
-            return Err(self.broken(head));
-        }
-        self.end = Some(end);
-        Ok(Some(after))
-    }
-
-    /// The fault of a part that is broken behind the entries so far.
-    fn broken(&self, head: PartHead) -> PartFault
-        ensures { result ≡ Broken head.number (length self.now.entries.items) }
-    {
-        PartFault::Broken {
-            number: head.number,
-            entries: self.entries.len() as u64,
-        }
-    }
-}
-
-/// Puts the entry with these fields behind the others.
-fn put_entry(entries: &mut Vec<Entry>, fields: &[u8]) -> Result<(), Memory>
-    requires { AreFields fields.now }
-    ensures ok { (entry : Change) → AreFieldsOf widest fields.now entry → OnOk result (entries.new.items ≡ entries.old.items ++ entry ∷ []) }
-    ensures err { OnErr result (entries.new.items ≡ entries.old.items) }
-{
-    let entry = copy_entry(*entries.allocator(), fields)?;
-    keep(entries, entry)
 }

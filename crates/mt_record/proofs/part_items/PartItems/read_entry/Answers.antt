@@ -11,7 +11,7 @@ use Rattle.mt_record.proofs.PartItems.{reads_entries, broken_at, entry_shown, en
 use Rattle.mt_record.proofs.part_items.PartItems.read_entry.Goals as goal
 
 pub returns-in_ok-put_entry-in-Ok-Some-clause-next : goal.returns-in_ok-put_entry-in-Ok-Some-clause-next
-returns-in_ok-put_entry-in-Ok-Some-clause-next c =
+returns-in_ok-put_entry-in-Ok-Some-clause-next g c =
     let old = c.args.self.now in
     let bytes = c.args.bytes.now in
     let fields = c.in-Ok-Some.fields.now in
@@ -19,20 +19,20 @@ returns-in_ok-put_entry-in-Ok-Some-clause-next c =
     let next : IsNextEntry (limits_of c.args.head.format) bytes fields after = rw c.in-Ok-Some.field-0-is at c.in-Ok-Some.ensures.found in
     let are = entry_within c.args.head.format fields next.next next.fields in
     let added = c.in_ok-put_entry-in-Ok-Some.ensures.ok next.next (subst (λ (x : Bor (List ℕ)). AreFieldsOf widest x.now next.next) (sym c.in-Ok-Some.fields-is) are) in
-    let new : PartItems = record old { entries = c.put_entry.new.entries } in
-    let reads : Reads HasReadItems old new bytes after =
+    let new : PartItems _ = record old { entries = c.put_entry.new.self } in
+    let reads : Reads (HasReadItems g.E.Entries.listed) old new bytes after =
     record {
       items = framed fields;
       joins = next.spelled;
-      on = λ taken part reads. entry_goes_on (so_far old) c.put_entry.new.entries.items part bytes fields after c.args.head next c.requires.head c.requires.open added reads;
+      on = λ taken part reads. entry_goes_on (so_far g.E.Entries.listed old) (g.E.Entries.listed c.put_entry.new.self) part bytes fields after c.args.head next c.requires.head c.requires.open added reads;
     } in
-    subst (λ (x : Bor (List ℕ)). Reads HasReadItems old new bytes x.now × (length x.now < length bytes)) (sym c.in-Ok-Some.after-is)
+    subst (λ (x : Bor (List ℕ)). Reads (HasReadItems g.E.Entries.listed) old new bytes x.now × (length x.now < length bytes)) (sym c.in-Ok-Some.after-is)
     (reads, omega (arith, ap length next.spelled, length-append (framed fields) after))
 
 pub returns-in-Err-clause-fault : goal.returns-in-Err-clause-fault
-returns-in-Err-clause-fault c = λ part reads.
+returns-in-Err-clause-fault g c = λ part reads.
     let old = c.args.self.now in
     let bytes = c.args.bytes.now in
-    let begins = reads_entries (so_far old) part bytes c.args.head c.requires.head c.requires.open reads in
-    rw c.broken.ensures (broken_at part bytes c.args.head old.entries.items begins
-    (entry_shown (limits_of c.args.head.format) (length old.entries.items) bytes c.in-Err.ensures.fault c.requires.entry))
+    let begins = reads_entries (so_far g.E.Entries.listed old) part bytes c.args.head c.requires.head c.requires.open reads in
+    rw c.broken.ensures (broken_at part bytes c.args.head (g.E.Entries.listed old.entries) begins
+    (entry_shown (limits_of c.args.head.format) (length (g.E.Entries.listed old.entries)) bytes c.in-Err.ensures.fault c.requires.entry))

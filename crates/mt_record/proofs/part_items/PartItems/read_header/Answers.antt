@@ -10,28 +10,28 @@ use Rattle.mt_record.proofs.PartItems.{header_failed, header_cut, header_read}
 use Rattle.mt_record.proofs.part_items.PartItems.read_header.Goals as goal
 
 pub returns-then-not-goes_with_magic-clause-fault : goal.returns-then-not-goes_with_magic-clause-fault
-returns-then-not-goes_with_magic-clause-fault c = λ part reads.
+returns-then-not-goes_with_magic-clause-fault g c = λ part reads.
     let no_magic = rw c.if-not-goes_with_magic.true at c.goes_with_magic.ensures in
     let none = shows_none IsPartHead part_head_bytes (codes "MTC") (λ (head : PartHead). head.format) part_magic c.args.bytes.now no_magic in
-    header_failed (so_far c.args.self.now) part c.args.bytes.now c.requires reads none
+    header_failed (so_far g.E.Entries.listed c.args.self.now) part c.args.bytes.now c.requires reads none
 
 pub returns-in_default-clause-next : goal.returns-in_default-clause-next
-returns-in_default-clause-next c = (
+returns-in_default-clause-next g c = (
   refl,
   λ taken part reads.
       let goes = rw c.if-not-goes_with_magic.false at c.goes_with_magic.ensures in
       let begins = alike IsPartHead part_head_bytes (codes "MTC") 16 part_whole c.args.bytes.now goes (λ i. omega (arith, c.type_inv.bytes i)) in
-      header_cut (so_far c.args.self.now) c.args.bytes.now c.requires begins c.in_default.ensures.none,
+      header_cut (so_far g.E.Entries.listed c.args.self.now) c.args.bytes.now c.requires begins c.in_default.ensures.none,
 )
 
 pub returns-clause-next : goal.returns-clause-next
-returns-clause-next c =
+returns-clause-next g c =
     let after = c.in-Some.after.now in
     let found = c.in-Some.ensures.found in (
       record {
         items = part_head_bytes c.in-Some.head;
         joins = found.1;
-        on = λ taken part reads. header_read (so_far c.args.self.now) part c.args.bytes.now after c.in-Some.head c.requires reads found.0 found.1;
+        on = λ taken part reads. header_read (so_far g.E.Entries.listed c.args.self.now) part c.args.bytes.now after c.in-Some.head c.requires reads found.0 found.1;
       },
       omega (arith, ap length found.1, length-append (part_head_bytes c.in-Some.head) after),
     )

@@ -3,5 +3,5 @@ use Rattle.mt_record.proofs.PartItems.{behind_end}
 use Rattle.mt_record.proofs.part_items.PartItemsItems.read_next.Goals as goal
 
 pub returns-clause-fault : goal.returns-clause-fault
-returns-clause-fault c = λ taken part reads.
-    rw c.broken.ensures (behind_end (so_far c.args.self.now) part c.args.bytes.now c.in-Some.head c.in-Some.is c.if-is_none.ensures c.if-is_empty.ensures reads)
+returns-clause-fault g c = λ taken part reads.
+    rw c.broken.ensures (behind_end (so_far g.E.Entries.listed c.args.self.now) part c.args.bytes.now c.in-Some.head c.in-Some.is c.if-is_none.ensures c.if-is_empty.ensures reads)

@@ -1,0 +1,58 @@
+//! What the records of a log and the entries of a part are put into, as they are read.
+ghost use Rattle.std.specs.Prelude.{◌≡◌, ◌++◌, [], ◌∷◌, List, length, OnOk, OnErr};
+ghost use Rattle.mt_words.specs.declared.record.Change.{Change};
+ghost use Rattle.mt_words.specs.Limits.{widest};
+ghost use Rattle.mt_words.specs.Changes.{Logged};
+ghost use Rattle.mt_record.specs.Bodies.{IsBody, IsBodyOf, AreFields, AreFieldsOf};
+
+use crate::copy::{copy_entry, copy_record};
+use crate::feed::keep;
+use mt_words::{Entry, Memory, Record};
+
+/// Records, in the order in which they were put into it.
+pub trait Records: Drop {
+    ghost listed: { Self → List Logged };
+
+    /// Puts the record of this body behind the others.
+    fn put_record(&mut self, body: &[u8]) -> Result<(), Memory>
+        requires { IsBody body.now }
+        ensures ok { (r : Logged) → IsBodyOf widest 0 body.now r → OnOk result (listed self.new ≡ listed self.old ++ r ∷ []) }
+        ensures err { OnErr result (listed self.new ≡ listed self.old) };
+}
+
+impl Records for Vec<Record> {
+    ghost listed = { λ records. records.items };
+
+    fn put_record(&mut self, body: &[u8]) -> Result<(), Memory> {
+        let record = copy_record(*self.allocator(), body)?;
+        keep(self, record)
+    }
+}
+
+/// Entries of a checkpoint, in the order in which they were put into it.
+pub trait Entries: Drop {
+    ghost listed: { Self → List Change };
+
+    /// Puts the entry with these fields behind the others.
+    fn put_entry(&mut self, fields: &[u8]) -> Result<(), Memory>
+        requires { AreFields fields.now }
+        ensures ok { (entry : Change) → AreFieldsOf widest fields.now entry → OnOk result (listed self.new ≡ listed self.old ++ entry ∷ []) }
+        ensures err { OnErr result (listed self.new ≡ listed self.old) };
+
+    /// How many there are.
+    fn count(&self) -> usize
+        ensures { result ≡ length (listed self.now) };
+}
+
+impl Entries for Vec<Entry> {
+    ghost listed = { λ entries. entries.items };
+
+    fn put_entry(&mut self, fields: &[u8]) -> Result<(), Memory> {
+        let entry = copy_entry(*self.allocator(), fields)?;
+        keep(self, entry)
+    }
+
+    fn count(&self) -> usize {
+        self.len()
+    }
+}
