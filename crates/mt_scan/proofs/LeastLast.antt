@@ -1,5 +1,5 @@
 -- The least of the last timestamps is the cutoff.
-use Rattle.std.proofs.Common.{◌≡◌, ◌⊎◌, inl, inr, ℕ, ◌≤◌, List, [], ◌∷◌, map, All, Contains, Option, Some, None, IfSome, subst, arith}
+use Rattle.std.proofs.Common.{◌≡◌, ◌⊎◌, inl, inr, ℕ, ◌≤◌, List, [], ◌∷◌, map, All, Contains, subst, arith}
 use Rattle.std.proofs.lemmas.List.Elements.{All-contains, Contains-push, Contains-push_cases, Contains-append_cases, Contains-append_left, Contains-append_right}
 use Rattle.mt_record.specs.Logs.{LogReading, IsLast, times_of}
 use Rattle.mt_scan.specs.declared.log_scan.LogScan.{LogScan}
@@ -60,7 +60,3 @@ cutoff_is scans logs n have at least = record {
       let low : n ≤ shown.0 = All-contains (λ (m : ℕ). n ≤ m) (map last_in scans) shown.0 least shown.1 in
       omega (arith, low, same);
 }
-
-pub on_some : {A : Type 0} (o : Option A) (P Q : A → Type 0) → ((x : A) → P x → Q x) → IfSome o P → IfSome o Q
-on_some None P Q f h = tt
-on_some (Some x) P Q f h = f x h
