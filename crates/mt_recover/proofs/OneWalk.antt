@@ -11,8 +11,8 @@ use Rattle.mt_words.specs.Words.{IsBelow, NumbersRise, AreColumns}
 use Rattle.mt_words.specs.Limits.{widest}
 use Rattle.mt_words.specs.Walks.{Pair, KeysRise, IsPair, IsMap, Holds}
 use Rattle.mt_words.specs.declared.update.Update.{Update}
+use Rattle.mt_scan.proofs.Elements.{no_element, head_or_tail, head_in}
 use Rattle.mt_recover.specs.Walk.{IsWalk}
-use Rattle.mt_recover.proofs.KeyWritesLemmas.{no_element, head_or_tail}
 
 -- ---- lists whose elements rise
 
@@ -20,10 +20,6 @@ use Rattle.mt_recover.proofs.KeyWritesLemmas.{no_element, head_or_tail}
 abbrev Rises : {A : Type 0} → (A → A → Type 0) → List A → Type 0
 Rises Before [] = Unit {0}
 Rises Before (x ∷ xs) = AllByRecursion (Before x) xs × Rises Before xs
-
--- the head is in the list
-pub head_in : {A : Type 0} (x : A) (xs : List A) → Contains (x ∷ xs) x
-head_in x xs = Contains-append_left (x ∷ []) xs x (Contains-push [] x)
 
 -- what holds of all holds of each
 pub of_each : {A : Type 0} (P : A → Type 0) (xs : List A) (x : A) → AllByRecursion P xs → Contains xs x → P x
