@@ -9,10 +9,10 @@ use Rattle.mt_words.specs.Limits.{widest}
 use Rattle.mt_words.specs.Words.{NumbersBelow, AreColumns}
 use Rattle.mt_words.specs.declared.update.Stamp.{Stamp}
 use Rattle.mt_words.specs.Stamps.{IsOlder, IsAtMost}
+use Rattle.mt_scan.proofs.Elements.{no_element}
 use Rattle.mt_recover.specs.Cells.{Written, Slots, column_in, IsGreatest, IsUnwritten, IsCellOf, IsKept, IsCleared, IsColumnsOf}
 use Rattle.mt_recover.proofs.StampLemmas.{same_stamp, older_or_not, not_newer}
 use Rattle.mt_recover.proofs.CellLemmas.{some_is, get_set_other}
-use Rattle.mt_recover.proofs.KeyWritesLemmas.{no_element}
 
 -- these are the columns of the slots below a number that the reset keeps
 pub record AreColumnsBelow (reset : Option Stamp) (slots : Slots) (number : ℕ) (columns : List (ℕ × List ℕ)) : Type 0 where

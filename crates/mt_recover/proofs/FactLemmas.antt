@@ -121,8 +121,10 @@ facts_of logs parts scans known cutoff chosen are know is of = record {
   read = are.read;
   cutoff = cutoff;
   is_cutoff = is are.readings (numbers_of 0 scans are.readings are.show);
+  known = known;
+  are_known = know;
   chosen = chosen;
-  is_chosen = (known, know, of);
+  is_chosen = of;
 }
 
 -- the least log with a gap

@@ -1,5 +1,5 @@
 -- The writes and the resets of the keys, update by update.
-use Rattle.std.proofs.Common.{◌≡◌, ◌≢◌, ◌↔◌, ◌⊎◌, inl, inr, ℕ, true, false, List, [], ◌∷◌, ◌++◌, Option, Some, None, Contains, refl, sym, ap, ◌∙◌, subst, arith}
+use Rattle.std.proofs.Common.{◌≡◌, ◌≢◌, ◌↔◌, ◌⊎◌, inl, inr, ℕ, true, false, List, [], ◌∷◌, ◌++◌, Option, Some, None, Contains, refl, sym, ap, ◌∙◌, subst}
 use Rattle.std.specs.Cmp.Lexicographic.{slice_cmp}
 use Rattle.std.specs.Ordering.{nat_cmp, is_eq}
 use Rattle.std.specs.declared.cmp.Ordering.{Ordering}
@@ -16,21 +16,13 @@ use Rattle.mt_words.specs.Limits.{widest}
 use Rattle.mt_words.specs.Words.{IsColumn, AreColumns}
 use Rattle.mt_words.specs.Changes.{Writes, IsReset}
 use Rattle.mt_words.specs.Stamps.{IsAtMost}
+use Rattle.mt_scan.proofs.Elements.{no_element}
 use Rattle.mt_recover.specs.Cells.{Written}
 use Rattle.mt_recover.specs.KeyWrites.{History, Histories, AddsColumns, IsLater, IsWriteOf, IsGreatestReset, IsResetOf, AreHistoriesOf, writes_in, reset_in, put_update, remove_update, whole_update}
 use Rattle.mt_recover.proofs.StampLemmas.{at_most_itself, at_most_trans, older_or_not, not_newer}
 use Rattle.std.specs.Result.{OnOk}
 use Rattle.std.specs.declared.result.Result.{Result}
 use Rattle.std.specs.declared.result.Result.TheVariants.{Ok, Err}
-
-pub no_element : {A : Type 0} (x : A) → Contains [] x → ⊥
-no_element x at = omega (arith, at.1)
-
-pub head_or_tail : {A : Type 0} (x y : A) (xs : List A) → Contains (x ∷ xs) y → (x ≡ y) ⊎ Contains xs y
-head_or_tail x y xs at = elim (Contains-append_cases (x ∷ []) xs y at) as (λ _. (x ≡ y) ⊎ Contains xs y) [
-  | inl one ↦ elim (Contains-push_cases [] x y one) as (λ _. (x ≡ y) ⊎ Contains xs y) [ inl none ↦ absurd (no_element y none) | inr e ↦ inl e ]
-  | inr later ↦ inr later
-]
 
 -- ---- columns that are added
 

@@ -1,7 +1,8 @@
--- Logs have one store or one fault: what recovery finds in them is one, and no log is also faulty.
+-- Logs and parts have one store or one fault: what recovery finds in them is one, and no log is also faulty.
 use Rattle.std.proofs.Common.{◌≡◌, ◌⊎◌, inl, inr, ℕ, zero, suc, ◌<◌, ◌≤◌, List, [], ◌∷◌, take, Option, Some, None, Contains}
 use Rattle.std.proofs.Common.{refl, sym, ap, ◌∙◌, subst, arith}
 use Rattle.std.specs.Prelude.{slice_get}
+use Rattle.std.specs.List.{AllZip}
 use Rattle.std.proofs.lemmas.Bool.{cases_order}
 use Rattle.std.proofs.Math.Nat.{le_antisymm}
 use Rattle.mt_words.specs.declared.fault.Fault.{Fault}
@@ -14,30 +15,30 @@ use Rattle.mt_record.specs.Logs.{LogReading, IsReading}
 use Rattle.mt_record.specs.LogFaults.{IsLogFault, fault_at}
 use Rattle.mt_record.proofs.OneReading.{one_reading_of, one_fault, not_both}
 use Rattle.mt_scan.specs.Cutoff.{IsCutoff}
-use Rattle.mt_scan.specs.PartScans.{KnownPart}
+use Rattle.mt_scan.specs.PartScans.{KnownPart, IsKnown}
 use Rattle.mt_scan.specs.Choice.{Checkpoint, IsChosenOf}
 use Rattle.mt_scan.proofs.OneChoice.{one_chosen}
 use Rattle.mt_scan.proofs.OneKnown.{one_known}
+use Rattle.mt_scan.proofs.Elements.{no_element}
 use Rattle.mt_recover.specs.Survivors.{begin_of, survivors}
 use Rattle.mt_recover.specs.Walk.{IsWalk}
-use Rattle.mt_recover.specs.Recovery.{AreReadings, AreKnown, IsChosen, Facts, IsGap, records_of, IsStoreOf}
+use Rattle.mt_recover.specs.Recovery.{AreReadings, Facts, IsGap, records_of, IsStoreOf}
 use Rattle.mt_recover.specs.Verdict.{IsFirst, IsFirstFault, IsVerdict}
-use Rattle.mt_recover.proofs.KeyWritesLemmas.{no_element}
 use Rattle.mt_recover.proofs.OneWalk.{one_walk}
 
 -- ---- readings
 
--- logs have one list of readings
-pub same_readings : (logs : List (List ℕ)) (readings others : List LogReading) → AreReadings logs readings → AreReadings logs others
-    → readings ≡ others
-same_readings [] [] [] are too = refl
-same_readings [] [] (o ∷ os) are too = absurd too
-same_readings [] (r ∷ rs) others are too = absurd are
-same_readings (l ∷ ls) [] others are too = absurd are
-same_readings (l ∷ ls) (r ∷ rs) [] are too = absurd too
-same_readings (l ∷ ls) (r ∷ rs) (o ∷ os) are too =
-    let first = one_reading_of l r o are.0 too.0 in
-    let rest = same_readings ls rs os are.1 too.1 in
+-- where each element has one partner, a list has one list of partners
+one_zip : {A B : Type 0} (R : A → B → Type 0) → ((x : A) (y z : B) → R x y → R x z → y ≡ z) → (xs : List A) (ys zs : List B) → AllZip R xs ys → AllZip R xs zs
+    → ys ≡ zs
+one_zip R one [] [] [] are too = refl
+one_zip R one [] [] (z ∷ zs) are too = absurd too
+one_zip R one [] (y ∷ ys) zs are too = absurd are
+one_zip R one (x ∷ xs) [] zs are too = absurd are
+one_zip R one (x ∷ xs) (y ∷ ys) [] are too = absurd too
+one_zip R one (x ∷ xs) (y ∷ ys) (z ∷ zs) are too =
+    let first = one x y z are.0 too.0 in
+    let rest = one_zip R one xs ys zs are.1 too.1 in
     λ i. first i ∷ rest i
 
 -- among readings, each log has one
@@ -68,37 +69,19 @@ no_fault_at logs readings i bytes fault are at is_fault =
 cutoff_at_most : (readings : List LogReading) (cutoff other : ℕ) → IsCutoff readings cutoff → IsCutoff readings other → cutoff ≤ other
 cutoff_at_most readings cutoff other is too = is.least other too.has
 
--- of parts one thing is known
-same_known : (parts : List (List ℕ)) (known others : List KnownPart) → AreKnown parts known → AreKnown parts others → known ≡ others
-same_known [] [] [] are too = refl
-same_known [] [] (o ∷ os) are too = absurd too
-same_known [] (k ∷ ks) others are too = absurd are
-same_known (p ∷ ps) [] others are too = absurd are
-same_known (p ∷ ps) (k ∷ ks) [] are too = absurd too
-same_known (p ∷ ps) (k ∷ ks) (o ∷ os) are too =
-    let first = one_known p k o are.0 too.0 in
-    let rest = same_known ps ks os are.1 too.1 in
-    λ i. first i ∷ rest i
-
--- below a cutoff one checkpoint is chosen
-same_chosen : (parts : List (List ℕ)) (cutoff last : ℕ) (chosen other : Option Checkpoint) → cutoff ≡ last → IsChosen parts cutoff chosen
-    → IsChosen parts last other → chosen ≡ other
-same_chosen parts cutoff last chosen other same is too =
-    let known = same_known parts is.0 too.0 is.1 too.1 in
-    let chosen_too : IsChosenOf too.0 last chosen =
-    subst (λ (x : List KnownPart × ℕ). IsChosenOf x.0 x.1 chosen) (λ i. (known i, same i)) is.2 in
-    one_chosen too.0 last chosen other chosen_too too.2
-
 -- recovery finds one thing in logs and parts
 pub same_facts : (logs parts : List (List ℕ)) (a b : Facts logs parts)
-    → (a.readings ≡ b.readings) × (a.cutoff ≡ b.cutoff) × (a.chosen ≡ b.chosen)
+    → (a.readings ≡ b.readings) × (a.cutoff ≡ b.cutoff) × (a.known ≡ b.known) × (a.chosen ≡ b.chosen)
 same_facts logs parts a b =
-    let readings : a.readings ≡ b.readings = same_readings logs a.readings b.readings a.read b.read in
+    let readings : a.readings ≡ b.readings = one_zip IsReading one_reading_of logs a.readings b.readings a.read b.read in
     let is : IsCutoff b.readings a.cutoff = subst (λ (x : List LogReading). IsCutoff x a.cutoff) readings a.is_cutoff in
     let low = cutoff_at_most b.readings a.cutoff b.cutoff is b.is_cutoff in
     let high = cutoff_at_most b.readings b.cutoff a.cutoff b.is_cutoff is in
     let cutoff : a.cutoff ≡ b.cutoff = le_antisymm low high in
-    (readings, cutoff, same_chosen parts a.cutoff b.cutoff a.chosen b.chosen cutoff a.is_chosen b.is_chosen)
+    let known : a.known ≡ b.known = one_zip IsKnown one_known parts a.known b.known a.are_known b.are_known in
+    let chosen : IsChosenOf b.known b.cutoff a.chosen =
+    subst (λ (x : List KnownPart × ℕ). IsChosenOf x.0 x.1 a.chosen) (λ i. (known i, cutoff i)) a.is_chosen in
+    (readings, cutoff, known, one_chosen b.known b.cutoff a.chosen b.chosen chosen b.is_chosen)
 
 -- no list of readings of no logs has an element
 no_log : (readings : List LogReading) (log : LogReading) → AreReadings [] readings → Contains readings log → ⊥
@@ -123,7 +106,7 @@ pub one_store : (logs parts : List (List ℕ)) (pairs others : List Pair) → Is
 one_store logs parts pairs others is too =
     let same = same_facts logs parts is.facts too.facts in
     let walk : IsWalk (updates_in logs parts too.facts) pairs =
-    subst (λ (x : List Update). IsWalk x pairs) (λ i. survivors (same.1 i) (same.2 i) (records_of (same.0 i))) is.walk in
+    subst (λ (x : List Update). IsWalk x pairs) (λ i. survivors (same.1 i) (same.3 i) (records_of (same.0 i))) is.walk in
     one_walk (updates_in logs parts too.facts) pairs others walk too.walk
 
 -- ---- faults
@@ -162,7 +145,7 @@ one_first_gap : (logs parts : List (List ℕ)) (i j : ℕ) (a b : Facts logs par
 one_first_gap logs parts i j a b is too =
     let same = same_facts logs parts a b in
     let gap : IsFirst (IsGap (begin_of b.chosen) b.readings) i =
-    subst (λ (x : Option Checkpoint × List LogReading). IsFirst (IsGap (begin_of x.0) x.1) i) (λ k. (same.2 k, same.0 k)) is in
+    subst (λ (x : Option Checkpoint × List LogReading). IsFirst (IsGap (begin_of x.0) x.1) i) (λ k. (same.3 k, same.0 k)) is in
     one_first (IsGap (begin_of b.chosen) b.readings) i j gap too
 
 -- it says that there is no log
@@ -185,10 +168,7 @@ named logs parts faults.NoLogs is = inl (refl, is)
 named logs parts (faults.Header i) is = inr (inl (i, of_log.Header, refl, is))
 named logs parts (faults.Record i nth what) is = inr (inl (i, of_log.Record nth what, refl, is))
 named logs parts (faults.Gap i) is = inr (inr (i, is.0, refl, is.1))
-named logs parts (faults.Source i) is = absurd is
-named logs parts (faults.PartSource i) is = absurd is
-named logs parts (faults.Missing i) is = absurd is
-named logs parts faults.Memory is = absurd is
+named logs parts fault is = absurd is
 
 -- where there is no log, none has a fault
 none_not_fault : (logs : List (List ℕ)) (i : ℕ) (fault : FeedFault) → logs ≡ [] → IsFirstFault logs i fault → ⊥
@@ -239,7 +219,7 @@ no_verdict logs parts pairs fault is too = elim (named logs parts fault too) as 
     | inr gap ↦
         let same = same_facts logs parts gap.1 is.facts in
         let stands : IsGap (begin_of is.facts.chosen) is.facts.readings gap.0 =
-        subst (λ (x : Option Checkpoint × List LogReading). IsGap (begin_of x.0) x.1 gap.0) (λ k. (same.2 k, same.0 k)) gap.3.0 in
+        subst (λ (x : Option Checkpoint × List LogReading). IsGap (begin_of x.0) x.1 gap.0) (λ k. (same.3 k, same.0 k)) gap.3.0 in
         is.no_gap gap.0 stands
   ]
 ]

@@ -6,13 +6,13 @@ use Rattle.std.specs.Ordering.{nat_cmp, is_lt, ordering_reverse}
 use Rattle.std.specs.declared.cmp.Ordering.{Ordering}
 use Rattle.std.specs.declared.cmp.Ordering.TheVariants.{Less, Equal, Greater}
 use Rattle.std.proofs.lemmas.Cmp.{nat_list_cmp_total}
-use Rattle.std.proofs.lemmas.List.Elements.{All-contains, All-from_recursion, Contains-push, Contains-append_left, Contains-append_right}
+use Rattle.std.proofs.lemmas.List.Elements.{All-contains, All-from_recursion, Contains-append_right}
 use Rattle.mt_words.specs.Words.{IsBelow, NumbersRise, AreColumns}
 use Rattle.mt_words.specs.Limits.{widest}
 use Rattle.mt_words.specs.Walks.{Pair, KeysRise, IsPair, IsMap, Holds}
 use Rattle.mt_words.specs.declared.update.Update.{Update}
+use Rattle.mt_scan.proofs.Elements.{no_element, head_or_tail, head_in}
 use Rattle.mt_recover.specs.Walk.{IsWalk}
-use Rattle.mt_recover.proofs.KeyWritesLemmas.{no_element, head_or_tail}
 
 -- ---- lists whose elements rise
 
@@ -20,10 +20,6 @@ use Rattle.mt_recover.proofs.KeyWritesLemmas.{no_element, head_or_tail}
 abbrev Rises : {A : Type 0} → (A → A → Type 0) → List A → Type 0
 Rises Before [] = Unit {0}
 Rises Before (x ∷ xs) = AllByRecursion (Before x) xs × Rises Before xs
-
--- the head is in the list
-pub head_in : {A : Type 0} (x : A) (xs : List A) → Contains (x ∷ xs) x
-head_in x xs = Contains-append_left (x ∷ []) xs x (Contains-push [] x)
 
 -- what holds of all holds of each
 pub of_each : {A : Type 0} (P : A → Type 0) (xs : List A) (x : A) → AllByRecursion P xs → Contains xs x → P x

@@ -1,28 +1,17 @@
--- Logs that were read one after the other.
-use Rattle.std.proofs.Common.{◌≡◌, ℕ, zero, suc, ◌+◌, ◌<◌, List, [], ◌∷◌, ◌++◌, length, get_or, map, take, Bor, Some, sym, ap, ◌∙◌, subst, add-one, arith}
+-- Logs that were read or scanned one after the other.
+use Rattle.std.proofs.Common.{◌≡◌, ℕ, zero, suc, ◌+◌, ◌<◌, List, [], ◌∷◌, ◌++◌, length, get_or, map, take, Bor, Some, ap, ◌∙◌, subst, add-one, arith}
 use Rattle.std.specs.Prelude.{slice_get}
 use Rattle.std.specs.Option.{option_map}
 use Rattle.std.proofs.lemmas.Option.{slice_get-map, slice_get-get_or}
+use Rattle.std.proofs.lemmas.Slice.Zip.{all_zipped_more}
 use Rattle.mt_record.specs.declared.read.FeedFault.{FeedFault}
 use Rattle.mt_record.specs.declared.read.FeedFault.TheVariants as of_log
 use Rattle.mt_record.specs.Logs.{LogReading, IsReading}
-use Rattle.mt_record.specs.LogFaults.{IsAnswered as IsAnsweredOfLog, fault_at}
+use Rattle.mt_record.specs.LogFaults.{IsAnswered, fault_at}
 use Rattle.mt_scan.specs.declared.log_scan.LogScan.{LogScan}
 use Rattle.mt_scan.specs.Scans.{ShowsLog, IsScanOf}
-use Rattle.mt_recover.specs.Recovery.{AreReadings}
-use Rattle.mt_recover.specs.Verdict.{IsAnswered}
+use Rattle.mt_recover.specs.Verdict.{IsVerdictOrMemory}
 use Rattle.mt_recover.specs.LogScans.{ShowAll, AreScansOf}
-
--- one more reading
-readings_push : (logs : List (List ℕ)) (readings : List LogReading) (i : ℕ) (bytes : List ℕ) (log : LogReading) → slice_get logs i ≡ Some bytes → AreReadings (take i logs) readings → IsReading bytes log → AreReadings (take (suc i) logs) (readings ++ log ∷ [])
-readings_push [] readings zero bytes log at are is = absurd cc
-readings_push [] readings (suc i) bytes log at are is = absurd cc
-readings_push (l ∷ ls) [] zero bytes log at are is =
-    let same : l ≡ bytes = cc in
-    (subst (λ (x : List ℕ). IsReading x log) (sym same) is, tt)
-readings_push (l ∷ ls) (r ∷ rs) zero bytes log at are is = absurd are
-readings_push (l ∷ ls) [] (suc i) bytes log at are is = absurd are
-readings_push (l ∷ ls) (r ∷ rs) (suc i) bytes log at are is = (are.0, readings_push ls rs i bytes log at are.1 is)
 
 -- one more scan
 pub show_push : (number : ℕ) (scans : List LogScan) (readings : List LogReading) (i : ℕ) (scan : LogScan) (log : LogReading) → i ≡ number + length scans → ShowAll number scans readings → ShowsLog i scan log → ShowAll number (scans ++ scan ∷ []) (readings ++ log ∷ [])
@@ -31,13 +20,23 @@ show_push number [] (r ∷ rs) i scan log at show one = absurd show
 show_push number (s ∷ ss) [] i scan log at show one = absurd show
 show_push number (s ∷ ss) (r ∷ rs) i scan log at show one = let next : i ≡ suc number + length ss = omega arith in (show.0, show_push (suc number) ss rs i scan log next show.1 one)
 
--- one more log
-pub scans_more : (logs : List (List ℕ)) (scans : List LogScan) (i : ℕ) (bytes : List ℕ) (scan : LogScan) → slice_get logs i ≡ Some bytes → i ≡ length scans → AreScansOf (take i logs) scans → IsScanOf i bytes scan → AreScansOf (take (i + 1) logs) (scans ++ scan ∷ [])
-scans_more logs scans i bytes scan at number are is = record {
+-- one more log and its scan
+pub scans_append : (logs : List (List ℕ)) (scans : List LogScan) (bytes : List ℕ) (scan : LogScan) (number : ℕ) → number ≡ length scans → AreScansOf logs scans
+    → IsScanOf number bytes scan → AreScansOf (logs ++ bytes ∷ []) (scans ++ scan ∷ [])
+scans_append logs scans bytes scan number at are is = record {
   readings = are.readings ++ is.log ∷ [];
-  read = rw add-one (readings_push logs are.readings i bytes is.log at are.read is.is_reading);
-  show = show_push 0 scans are.readings i scan is.log (omega arith) are.show is.shows;
+  read = all_zipped_more IsReading logs are.readings bytes is.log are.read is.is_reading;
+  show = show_push 0 scans are.readings number scan is.log (omega arith) are.show is.shows;
 }
+
+take_next : {A : Type 0} (xs : List A) (i : ℕ) (x : A) → slice_get xs i ≡ Some x → take (suc i) xs ≡ take i xs ++ x ∷ []
+take_next [] i x at = absurd cc
+take_next (y ∷ ys) zero x at = let same : y ≡ x = cc in ap (λ z. z ∷ []) same
+take_next (y ∷ ys) (suc i) x at = ap (λ zs. y ∷ zs) (take_next ys i x at)
+
+-- the next of the logs and its scan
+pub scans_more : (logs : List (List ℕ)) (scans : List LogScan) (i : ℕ) (bytes : List ℕ) (scan : LogScan) → slice_get logs i ≡ Some bytes → i ≡ length scans → AreScansOf (take i logs) scans → IsScanOf i bytes scan → AreScansOf (take (i + 1) logs) (scans ++ scan ∷ [])
+scans_more logs scans i bytes scan at number are is = rw (add-one, take_next logs i bytes at) (scans_append (take i logs) scans bytes scan i number are is)
 
 pub scans_none : (logs : List (List ℕ)) → AreScansOf (take 0 logs) []
 scans_none [] = record { readings = []; read = tt; show = tt }
@@ -49,7 +48,7 @@ log_at logs i d lt = slice_get-map (λ log. log.now) logs i ∙ ap (option_map (
 
 -- a log's fault, behind whole logs
 pub fault_behind : (logs : List (Bor (List ℕ))) (scans : List LogScan) (i : ℕ) (d : Bor (List ℕ)) (fault : FeedFault) (parts : List (List ℕ)) → i < length logs → AreScansOf (take i (map (λ log. log.now) logs)) scans
-    → IsAnsweredOfLog (get_or logs i d).now fault → IsAnswered (map (λ log. log.now) logs) parts (fault_at i fault)
+    → IsAnswered (get_or logs i d).now fault → IsVerdictOrMemory (map (λ log. log.now) logs) parts (fault_at i fault)
 fault_behind logs scans i d of_log.Memory parts lt are is = tt
 fault_behind logs scans i d of_log.Header parts lt are is = record { readings = are.readings; before = are.read; bytes = (get_or logs i d).now; stands = log_at logs i d lt; is_fault = is }
 fault_behind logs scans i d (of_log.Record nth what) parts lt are is = record { readings = are.readings; before = are.read; bytes = (get_or logs i d).now; stands = log_at logs i d lt; is_fault = is }

@@ -6,10 +6,11 @@ use Rattle.std.specs.Cmp.Lexicographic.{slice_cmp}
 use Rattle.std.specs.Ordering.{nat_cmp, is_lt}
 use Rattle.std.specs.declared.cmp.Ordering.TheVariants.{Less}
 use Rattle.std.specs.Map.{keys_of}
-use Rattle.std.proofs.lemmas.List.Elements.{Contains-push, Contains-push_cases, Contains-append_left, Contains-append_right, All-contains, All-from_recursion}
+use Rattle.std.proofs.lemmas.List.Elements.{Contains-push, Contains-push_cases, Contains-append_left, Contains-append_right}
 use Rattle.mt_words.specs.Limits.{widest}
 use Rattle.mt_words.specs.Words.{IsKey, IsBelow}
 use Rattle.mt_words.specs.Walks.{Pair, KeysRise, IsPair, IsMap}
+use Rattle.mt_scan.proofs.KeysInOrder.{keys_below}
 use Rattle.mt_recover.specs.Cells.{IsColumnsOf}
 use Rattle.mt_recover.specs.KeyWrites.{History}
 
@@ -69,17 +70,5 @@ rows_same entries rows key writes columns are is none = record {
 }
 
 -- in order, each entry is above those before it
-all_of : {A : Type 0} (P : A → Type 0) (xs : List A) (x : A) → AllByRecursion P xs → Contains xs x → P x
-all_of P xs x all at = All-contains P xs x (All-from_recursion P xs all) at
-
-first_below : (e : Entry) (es : List Entry) (key : List ℕ) (writes : History) (rest : List Entry) → AllByRecursion (λ (y : List ℕ). slice_cmp nat_cmp e.0 y ≡ Less) (keys_of (es ++ (key, writes) ∷ rest)) → slice_cmp nat_cmp e.0 key ≡ Less
-first_below e [] key writes rest all = all.0
-first_below e (f ∷ fs) key writes rest all = first_below e fs key writes rest all.1
-
-pub entries_below : (entries : List Entry) (key : List ℕ) (writes : History) (rest : List Entry) → IsStrictlySortedBy (slice_cmp nat_cmp) (keys_of (entries ++ (key, writes) ∷ rest)) → AllByRecursion (λ (e : Entry). slice_cmp nat_cmp e.0 key ≡ Less) entries
-unfolding IsStrictlySortedBy
-entries_below [] key writes rest sorted = tt
-entries_below (e ∷ es) key writes rest sorted = (first_below e es key writes rest sorted.0, entries_below es key writes rest sorted.1)
-
 pub are_below : (all entries : List Entry) (key : List ℕ) (writes : History) (rest : List Entry) → IsStrictlySortedBy (slice_cmp nat_cmp) (keys_of all) → all ≡ entries ++ (key, writes) ∷ rest → AreBelow entries key
-are_below all entries key writes rest sorted e = λ x at. all_of (λ (y : Entry). slice_cmp nat_cmp y.0 key ≡ Less) entries x (entries_below entries key writes rest (subst (λ (es : List Entry). IsStrictlySortedBy (slice_cmp nat_cmp) (keys_of es)) e sorted)) at
+are_below all entries key writes rest sorted e = keys_below (slice_cmp nat_cmp) all entries key writes rest sorted e

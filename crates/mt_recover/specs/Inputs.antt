@@ -1,18 +1,16 @@
 -- Sources of logs and parts, and what recovery from them answers.
-use Rattle.std.specs.Prelude.{◌≡◌, false, ℕ, ◌<◌, IsSomeAnd, List, [], ◌∷◌, length, slice_get, take}
+use Rattle.std.specs.Prelude.{◌≡◌, false, ℕ, ◌<◌, IsSomeAnd, List, length, slice_get, take}
+use Rattle.std.specs.List.{AllZip}
 use Rattle.mt_words.specs.declared.fault.Fault.{Fault}
 use Rattle.mt_words.specs.declared.fault.Fault.TheVariants as faults
 use Rattle.mt_record.specs.Logs.{LogReading}
 use Rattle.mt_scan.specs.Sources.{Seen, Agrees}
 use Rattle.mt_recover.specs.Recovery.{AreReadings}
-use Rattle.mt_recover.specs.Verdict.{IsAnswered}
+use Rattle.mt_recover.specs.Verdict.{IsVerdictOrMemory}
 
 -- the sources may have these bytes: just those that they tell, or any where they tell none
 abbrev pub MayHave : {S : Type 0} → (S → Seen) → List S → List (List ℕ) → Type 0
-MayHave seen [] [] = Unit {0}
-MayHave seen (source ∷ sources) (bytes ∷ more) = Agrees (seen source).told bytes × MayHave seen sources more
-MayHave seen [] (bytes ∷ more) = ⊥
-MayHave seen (source ∷ sources) [] = ⊥
+MayHave seen sources all = AllZip (λ source bytes. Agrees (seen source).told bytes) sources all
 
 -- this holds of some logs and parts that the sources may have
 abbrev pub OfSources : {S : Type 0} → (S → Seen) → List S → List S → (List (List ℕ) → List (List ℕ) → Type 0) → Type 0
@@ -28,7 +26,7 @@ AreLogs logs = (readings : List LogReading) × AreReadings logs readings
 abbrev pub IsAnsweredFrom : List (List ℕ) → List (List ℕ) → Fault → Type 0
 IsAnsweredFrom logs parts (faults.Source i) = AreLogs (take i logs)
 IsAnsweredFrom logs parts (faults.PartSource i) = (0 < length logs) × AreLogs logs
-IsAnsweredFrom logs parts fault = IsAnswered logs parts fault
+IsAnsweredFrom logs parts fault = IsVerdictOrMemory logs parts fault
 
 -- a source that is blamed is not steady
 abbrev pub BlamesUnsteady : {S : Type 0} → (S → Seen) → List S → List S → Fault → Type 0

@@ -1,5 +1,6 @@
 -- What recovery makes of logs and checkpoint parts.
-use Rattle.std.specs.Prelude.{ℕ, ◌<◌, Option, IsSomeAnd, List, [], ◌∷◌, map, slice_get}
+use Rattle.std.specs.Prelude.{ℕ, ◌<◌, Option, IsSomeAnd, List, map, slice_get}
+use Rattle.std.specs.List.{AllZip}
 use Rattle.mt_words.specs.Changes.{Logged}
 use Rattle.mt_words.specs.Walks.{Pair}
 use Rattle.mt_record.specs.Logs.{LogReading, IsReading}
@@ -11,30 +12,22 @@ use Rattle.mt_recover.specs.Walk.{IsWalk}
 
 -- each log says this
 abbrev pub AreReadings : List (List ℕ) → List LogReading → Type 0
-AreReadings [] [] = Unit {0}
-AreReadings (bytes ∷ logs) (log ∷ readings) = IsReading bytes log × AreReadings logs readings
-AreReadings [] (log ∷ readings) = ⊥
-AreReadings (bytes ∷ logs) [] = ⊥
+AreReadings logs readings = AllZip IsReading logs readings
 
 -- this is known of each part
 abbrev pub AreKnown : List (List ℕ) → List KnownPart → Type 0
-AreKnown [] [] = Unit {0}
-AreKnown (bytes ∷ parts) (part ∷ known) = IsKnown bytes part × AreKnown parts known
-AreKnown [] (part ∷ known) = ⊥
-AreKnown (bytes ∷ parts) [] = ⊥
+AreKnown parts known = AllZip IsKnown parts known
 
--- the checkpoint to begin from: that which is chosen among what is known of the parts
-abbrev pub IsChosen : List (List ℕ) → ℕ → Option Checkpoint → Type 0
-IsChosen parts cutoff chosen = (known : List KnownPart) × AreKnown parts known × IsChosenOf known cutoff chosen
-
--- what recovery finds: what the logs say, their cutoff, and the chosen checkpoint
+-- what recovery finds: what the logs say, their cutoff, what is known of the parts, and the checkpoint that is chosen among them
 pub record Facts (logs parts : List (List ℕ)) : Type 0 where
   pub readings : List LogReading
   pub read : AreReadings logs readings
   pub cutoff : ℕ
   pub is_cutoff : IsCutoff readings cutoff
+  pub known : List KnownPart
+  pub are_known : AreKnown parts known
   pub chosen : Option Checkpoint
-  pub is_chosen : IsChosen parts cutoff chosen
+  pub is_chosen : IsChosenOf known cutoff chosen
 
 -- updates that recovery needs may be missing from log i
 abbrev pub IsGap : ℕ → List LogReading → ℕ → Type 0

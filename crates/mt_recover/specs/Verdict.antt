@@ -27,12 +27,9 @@ IsVerdict logs parts faults.NoLogs = logs ≡ []
 IsVerdict logs parts (faults.Header i) = IsFirstFault logs i of_log.Header
 IsVerdict logs parts (faults.Record i nth what) = IsFirstFault logs i (of_log.Record nth what)
 IsVerdict logs parts (faults.Gap i) = (facts : Facts logs parts) × IsFirst (IsGap (begin_of facts.chosen) facts.readings) i
-IsVerdict logs parts (faults.Source i) = ⊥
-IsVerdict logs parts (faults.PartSource i) = ⊥
-IsVerdict logs parts (faults.Missing i) = ⊥
-IsVerdict logs parts faults.Memory = ⊥
+IsVerdict logs parts fault = ⊥
 
 -- a fault that was answered is the verdict; nothing is said where memory was refused
-abbrev pub IsAnswered : List (List ℕ) → List (List ℕ) → Fault → Type 0
-IsAnswered logs parts faults.Memory = Unit {0}
-IsAnswered logs parts fault = IsVerdict logs parts fault
+abbrev pub IsVerdictOrMemory : List (List ℕ) → List (List ℕ) → Fault → Type 0
+IsVerdictOrMemory logs parts faults.Memory = Unit {0}
+IsVerdictOrMemory logs parts fault = IsVerdict logs parts fault

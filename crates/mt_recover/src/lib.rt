@@ -3,7 +3,6 @@
 
 mod cell;
 mod dump;
-mod inputs;
 mod key_writes;
 mod laws;
 mod program;
@@ -16,8 +15,7 @@ mod store;
 mod window;
 
 pub use dump::write_dump;
-pub use inputs::Inputs;
 pub use laws::{one_verdict, one_walk};
 pub use program::dump_files;
-pub use recover::{Recovered, recover_logs, recover_one};
+pub use recover::{Inputs, Recovered, recover_logs, recover_one};
 pub use store::Store;

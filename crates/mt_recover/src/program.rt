@@ -7,7 +7,7 @@ use crate::dump::write_dump;
 use crate::recover::{Recovered, recover_logs};
 use crate::store::Store;
 use mt_words::{Fault, Memory};
-use std::alloc::Global;
+use std::alloc::{AllocError, Global};
 use std::fs::{File, OpenFile};
 use std::io::{self, ErrorKind, Read, Write};
 use std::rt::Files;
@@ -127,22 +127,13 @@ fn read_files<'a, R: Files + AllocGlobal>(
     ensures read { IfOk result (λ files. vec_len files ≡ length names.now) }
     ensures files { result ≢ Err Failure.NoFiles }
 {
-    let Ok(mut files) = Vec::with_capacity(rt.alloc(), names.len()) else {
-        return Err(Failure::Recovery(Fault::Memory));
-    };
+    let mut files = Vec::new(rt.alloc());
     for (log, name) in names.iter().enumerate() {
         let Ok(file) = File::open(rt, name.as_str()) else {
             return Err(Failure::Open(name.as_str()));
         };
-        match read_file(rt, file) {
-            Ok(bytes) => {
-                let Ok(()) = files.push(bytes) else {
-                    return Err(Failure::Recovery(Fault::Memory));
-                };
-            }
-            Err(Unread::Memory) => return Err(Failure::Recovery(Fault::Memory)),
-            Err(Unread::Source) => return Err(Failure::Recovery(Fault::Source { log })),
-        }
+        let bytes = read_file(rt, file).map_err(|unread| unread.of_log(log))?;
+        files.push(bytes).map_err(Fault::from)?;
     }
     Ok(files)
 }
@@ -154,6 +145,25 @@ enum Unread {
     Memory,
     /// The file cannot be read whole, or has more than `MOST_BYTES`.
     Source,
+}
+
+impl Unread {
+    /// The fault of recovery that it is, as that of the log of this number.
+    fn of_log(self, log: usize) -> Fault
+        ensures memory { self ≡ Unread.Memory → result ≡ Fault.Memory }
+        ensures source { self ≡ Unread.Source → result ≡ Fault.Source log }
+    {
+        match self {
+            Unread::Memory => Fault::Memory,
+            Unread::Source => Fault::Source { log },
+        }
+    }
+}
+
+impl From<AllocError> for Unread {
+    fn from(_refused: AllocError) -> Unread {
+        Unread::Memory
+    }
 }
 
 impl From<io::Error> for Unread {
@@ -174,9 +184,7 @@ fn read_file<R: Files + AllocGlobal>(rt: &R, file: R::File) -> Result<Vec<u8>, U
         return Err(Unread::Source);
     }
     // A byte more than the file has, so that its end is found without a growth.
-    let Ok(mut bytes) = Vec::with_capacity(rt.alloc(), size as usize + 1) else {
-        return Err(Unread::Memory);
-    };
+    let mut bytes = Vec::with_capacity(rt.alloc(), size as usize + 1)?;
     let count = file.take(MOST_BYTES + 1).read_to_end(&mut bytes)?;
     if count as u64 > MOST_BYTES {
         return Err(Unread::Source);

@@ -1,6 +1,6 @@
 //! Reading of all logs.
 ghost use Rattle.std.specs.Prelude.{◌≡◌, [], map, IfOk, IfErr};
-ghost use Rattle.mt_recover.specs.Verdict.{IsAnswered};
+ghost use Rattle.mt_recover.specs.Verdict.{IsVerdictOrMemory};
 ghost use Rattle.mt_recover.specs.LogScans.{AreScansOf};
 
 use mt_record::read_log;
@@ -12,16 +12,14 @@ use std::alloc::Global;
 /// An Err is the fault of the first that has one.
 pub fn read_logs(alloc: Global, logs: &[&[u8]]) -> Result<Vec<LogScan>, Fault>
     ensures read { IfOk result (λ scans. AreScansOf (map (λ log. log.now) logs.now) scans.items) }
-    ensures fault { IfErr result (IsAnswered (map (λ log. log.now) logs.now) []) }
+    ensures fault { IfErr result (IsVerdictOrMemory (map (λ log. log.now) logs.now) []) }
 {
     let mut scans = Vec::new(alloc);
     for (log, bytes) in logs.iter().enumerate() {
         match read_log(alloc, bytes) {
             Ok(text) => {
                 let scan = LogScan::of(alloc, log, text)?;
-                let Ok(()) = scans.push(scan) else {
-                    return Err(Fault::Memory);
-                };
+                scans.push(scan)?;
             }
             Err(fault) => return Err(fault.of_log(log)),
         }

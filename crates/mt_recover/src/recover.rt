@@ -1,4 +1,4 @@
-//! Recovery.
+//! Recovery from sources, and from logs in memory.
 ghost use Rattle.std.specs.Prelude.{◌≡◌, [], List, ℕ, map, IfOk, IfErr};
 ghost use Rattle.std.specs.Option.{option_map};
 ghost use Rattle.mt_scan.specs.PartScans.{known_by};
@@ -6,10 +6,9 @@ ghost use Rattle.mt_scan.specs.Choice.{checkpoint_in};
 ghost use Rattle.mt_recover.specs.Survivors.{begin_of, wholes, entry_updates};
 ghost use Rattle.mt_recover.specs.LogScans.{AreScansOf};
 ghost use Rattle.mt_recover.specs.Recovery.{AreKnown, IsStoreOf};
-ghost use Rattle.mt_recover.specs.Verdict.{IsAnswered};
+ghost use Rattle.mt_recover.specs.Verdict.{IsVerdictOrMemory};
 ghost use Rattle.mt_recover.specs.Inputs.{OfSources, IsAnsweredFrom, BlamesUnsteady};
 
-use crate::inputs::Inputs;
 use crate::read_logs::read_logs;
 use crate::replay::replay;
 use crate::scan_logs::scan_logs;
@@ -20,6 +19,16 @@ use mt_scan::{Checkpoint, LogScan, PartScan, Source, choose, cutoff};
 use mt_words::{Entry, Fault};
 use std::alloc::Global;
 use std::marker::Model;
+
+/// The sources of the logs and of the checkpoint parts. A log's position in its list is its number, and a part's
+/// likewise. Sources of several kinds go together under an enum that is a `Source`.
+#[derive(Debug, Drop)]
+pub struct Inputs<S> {
+    /// One for each worker's log.
+    pub logs: Vec<S>,
+    /// Those of the checkpoint parts, in any order.
+    pub parts: Vec<S>,
+}
 
 /// What was recovered.
 #[derive(Debug, Drop)]
@@ -73,7 +82,7 @@ pub fn recover_one<S: Source>(alloc: Global, inputs: Inputs<S>) -> Result<Recove
 /// list is its number. An Err is the one fault of the logs, or `Memory` where a growth was refused.
 pub fn recover_logs(alloc: Global, logs: &[&[u8]]) -> Result<Recovered, Fault>
     ensures store { IfOk result (λ recovered. IsStoreOf (map (λ log. log.now) logs.now) [] recovered.store) }
-    ensures fault { IfErr result (IsAnswered (map (λ log. log.now) logs.now) []) }
+    ensures fault { IfErr result (IsVerdictOrMemory (map (λ log. log.now) logs.now) []) }
 {
     let scans = read_logs(alloc, logs)?;
     recover_scans(alloc, scans, Vec::new(alloc))
@@ -89,7 +98,7 @@ pub(crate) fn recover_scans(
     ensures store { (logs part_bytes : List (List ℕ)) → AreScansOf logs scans.items →
         AreKnown part_bytes (map known_by parts.items) → IfOk result (λ recovered. IsStoreOf logs part_bytes recovered.store) }
     ensures fault { (logs part_bytes : List (List ℕ)) → AreScansOf logs scans.items →
-        AreKnown part_bytes (map known_by parts.items) → IfErr result (IsAnswered logs part_bytes) }
+        AreKnown part_bytes (map known_by parts.items) → IfErr result (IsVerdictOrMemory logs part_bytes) }
 {
     let Some(cutoff) = cutoff(&scans) else {
         return Err(Fault::NoLogs);

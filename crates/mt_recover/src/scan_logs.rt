@@ -1,5 +1,5 @@
 //! Scans of all logs.
-ghost use Rattle.std.specs.Prelude.{◌≡◌, [], List, ℕ, IfOk, IfErr};
+ghost use Rattle.std.specs.Prelude.{List, ℕ, IfOk, IfErr};
 ghost use Rattle.mt_recover.specs.LogScans.{AreScansOf};
 ghost use Rattle.mt_recover.specs.Inputs.{MayHave, IsAnsweredFrom, BlamesUnsteady};
 
@@ -14,17 +14,13 @@ pub fn scan_logs<S: Source>(alloc: Global, sources: Vec<S>) -> Result<Vec<LogSca
         MayHave S.seen sources.items logs × AreScansOf logs scans.items) }
     ensures fault { IfErr result (λ fault. (logs : List (List ℕ)) ×
         MayHave S.seen sources.items logs × ((parts : List (List ℕ)) → IsAnsweredFrom logs parts fault)) }
-    ensures steady { IfErr result (BlamesUnsteady S.seen sources.items []) }
+    ensures steady { IfErr result (λ fault. (parts : List S) → BlamesUnsteady S.seen sources.items parts fault) }
 {
-    let Ok(mut scans) = Vec::with_capacity(alloc, sources.len()) else {
-        return Err(Fault::Memory);
-    };
+    let mut scans = Vec::new(alloc);
     for source in sources {
         let mut source = source;
         let scan = scan_log(alloc, &mut source, scans.len())?;
-        let Ok(()) = scans.push(scan) else {
-            return Err(Fault::Memory);
-        };
+        scans.push(scan)?;
     }
     Ok(scans)
 }

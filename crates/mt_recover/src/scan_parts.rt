@@ -1,5 +1,5 @@
 //! Scans of all checkpoint parts.
-ghost use Rattle.std.specs.Prelude.{[], List, ℕ, map, IfOk, IfErr};
+ghost use Rattle.std.specs.Prelude.{List, ℕ, map, IfOk, IfErr};
 ghost use Rattle.mt_scan.specs.PartScans.{known_by, IsPartScanFault};
 ghost use Rattle.mt_recover.specs.Recovery.{AreKnown};
 ghost use Rattle.mt_recover.specs.Inputs.{MayHave, BlamesUnsteady};
@@ -14,17 +14,13 @@ pub fn scan_parts<S: Source>(alloc: Global, sources: Vec<S>) -> Result<Vec<PartS
     ensures scans { IfOk result (λ scans. (parts : List (List ℕ)) ×
         MayHave S.seen sources.items parts × AreKnown parts (map known_by scans.items)) }
     ensures fault { IfErr result (λ fault. (part : ℕ) × IsPartScanFault part fault) }
-    ensures steady { IfErr result (BlamesUnsteady S.seen [] sources.items) }
+    ensures steady { IfErr result (λ fault. (logs : List S) → BlamesUnsteady S.seen logs sources.items fault) }
 {
-    let Ok(mut scans) = Vec::with_capacity(alloc, sources.len()) else {
-        return Err(Fault::Memory);
-    };
+    let mut scans = Vec::new(alloc);
     for source in sources {
         let mut source = source;
         let scan = scan_part(alloc, &mut source, scans.len())?;
-        let Ok(()) = scans.push(scan) else {
-            return Err(Fault::Memory);
-        };
+        scans.push(scan)?;
     }
     Ok(scans)
 }

@@ -1,9 +1,10 @@
 -- The least of the last timestamps is the cutoff.
-use Rattle.std.proofs.Common.{◌≡◌, ◌⊎◌, inl, inr, ℕ, ◌≤◌, List, [], ◌∷◌, map, All, Contains, Option, Some, None, IfSome, subst, arith}
-use Rattle.std.proofs.lemmas.List.Elements.{All-contains, Contains-push, Contains-push_cases, Contains-append_cases, Contains-append_left, Contains-append_right}
+use Rattle.std.proofs.Common.{◌≡◌, inl, inr, ℕ, ◌≤◌, List, [], ◌∷◌, map, All, Contains, subst, arith}
+use Rattle.std.proofs.lemmas.List.Elements.{All-contains}
 use Rattle.mt_record.specs.Logs.{LogReading, IsLast, times_of}
 use Rattle.mt_scan.specs.declared.log_scan.LogScan.{LogScan}
 use Rattle.mt_scan.specs.Cutoff.{HasLast, IsCutoff, HaveNumbersOf}
+use Rattle.mt_scan.proofs.Elements.{no_element, head_or_tail, head_in, tail_in}
 
 abbrev pub last_in : LogScan → ℕ
 last_in scan = scan.last
@@ -15,30 +16,15 @@ same_last log a b x y =
     let high : b ≤ a = All-contains (λ (time : ℕ). time ≤ a) (times_of log) b x.1 y.0 in
     omega (arith, low, high)
 
-no_element : {A : Type 0} (x : A) → Contains [] x → ⊥
-no_element x at = omega (arith, at.1)
-
-head_or_tail : {A : Type 0} (x y : A) (xs : List A) → Contains (x ∷ xs) y → (x ≡ y) ⊎ Contains xs y
-head_or_tail x y xs at = elim (Contains-append_cases (x ∷ []) xs y at) as (λ _. (x ≡ y) ⊎ Contains xs y) [
-  | inl one ↦ elim (Contains-push_cases [] x y one) as (λ _. (x ≡ y) ⊎ Contains xs y) [ inl none ↦ absurd (no_element y none) | inr e ↦ inl e ]
-  | inr later ↦ inr later
-]
-
-first : {A : Type 0} (x : A) (xs : List A) → Contains (x ∷ xs) x
-first x xs = Contains-append_left (x ∷ []) xs x (Contains-push [] x)
-
-later : {A : Type 0} (x y : A) (xs : List A) → Contains xs y → Contains (x ∷ xs) y
-later x y xs at = Contains-append_right (x ∷ []) xs y at
-
 -- the last timestamp in a scan is that of a log
 last_stands : (scans : List LogScan) (logs : List LogReading) (n : ℕ) → HaveNumbersOf scans logs → Contains (map last_in scans) n → HasLast logs n
 last_stands [] logs n have at = absurd (no_element n at)
 last_stands (s ∷ ss) [] n have at = absurd have
 last_stands (s ∷ ss) (l ∷ ls) n have at = elim (head_or_tail s.last n (map last_in ss) at) as (λ _. HasLast (l ∷ ls) n) [
-  | inl e ↦ record { log = l; stands = first l ls; is_last = subst (IsLast l) e have.0.last }
+  | inl e ↦ record { log = l; stands = head_in l ls; is_last = subst (IsLast l) e have.0.last }
   | inr rest ↦
       let found = last_stands ss ls n have.1 rest in
-      record { log = found.log; stands = later l found.log ls found.stands; is_last = found.is_last }
+      record { log = found.log; stands = tail_in l found.log ls found.stands; is_last = found.is_last }
 ]
 
 -- the last timestamp of a log is in a scan
@@ -47,8 +33,8 @@ last_shown [] [] log have at = absurd (no_element log at)
 last_shown [] (l ∷ ls) log have at = absurd have
 last_shown (s ∷ ss) [] log have at = absurd have
 last_shown (s ∷ ss) (l ∷ ls) log have at = elim (head_or_tail l log ls at) as (λ _. (n : ℕ) × Contains (map last_in (s ∷ ss)) n × IsLast log n) [
-  | inl e ↦ (s.last, first s.last (map last_in ss), subst (λ (x : LogReading). IsLast x s.last) e have.0.last)
-  | inr rest ↦ let found = last_shown ss ls log have.1 rest in (found.0, later s.last found.0 (map last_in ss) found.1, found.2)
+  | inl e ↦ (s.last, head_in s.last (map last_in ss), subst (λ (x : LogReading). IsLast x s.last) e have.0.last)
+  | inr rest ↦ let found = last_shown ss ls log have.1 rest in (found.0, tail_in s.last found.0 (map last_in ss) found.1, found.2)
 ]
 
 pub cutoff_is : (scans : List LogScan) (logs : List LogReading) (n : ℕ) → HaveNumbersOf scans logs → Contains (map last_in scans) n → All (λ last. n ≤ last) (map last_in scans) → IsCutoff logs n
@@ -60,7 +46,3 @@ cutoff_is scans logs n have at least = record {
       let low : n ≤ shown.0 = All-contains (λ (m : ℕ). n ≤ m) (map last_in scans) shown.0 least shown.1 in
       omega (arith, low, same);
 }
-
-pub on_some : {A : Type 0} (o : Option A) (P Q : A → Type 0) → ((x : A) → P x → Q x) → IfSome o P → IfSome o Q
-on_some None P Q f h = tt
-on_some (Some x) P Q f h = f x h

@@ -3,6 +3,8 @@ pub mod Shown
 pub mod Counting
 pub mod Steps
 pub mod PartSteps
+pub mod Elements
+pub mod KeysInOrder
 pub mod LeastLast
 pub mod OneField
 pub mod OneKnown

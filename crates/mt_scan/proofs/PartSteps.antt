@@ -34,9 +34,14 @@ stopped first now feed (Some fault) s e some =
     (s.bytes ++ more.0, more.1, fed_on feed fault s.bytes more.0 e s.fed)
 
 -- and so was one at the end
-pub all_fed : (first now : Seen) (feed : FedPart) (s : HasFed first now feed) → IsAtEnd now.told ⊎ IsSome feed.fault → (bytes : List ℕ) × Agrees first.told bytes × IsPartFed feed bytes
+all_fed : (first now : Seen) (feed : FedPart) (s : HasFed first now feed) → IsAtEnd now.told ⊎ IsSome feed.fault → (bytes : List ℕ) × Agrees first.told bytes × IsPartFed feed bytes
 all_fed first now feed s (inl ends) = (s.bytes, all_handed_out first.told now.told s.bytes s.handed_out ends, s.fed)
 all_fed first now feed s (inr fault) = stopped first now feed feed.fault s refl fault
+
+-- and so was one behind its last piece
+pub last_fed : (first before after : Seen) (old new : FedPart) (more : Bool) (s : HasFed first before old) → FeedsPartPiece before after new s.bytes more → more ≡ false
+    → (bytes : List ℕ) × Agrees first.told bytes × IsPartFed new bytes
+last_fed first before after old new more s f last = all_fed first after new (one_more first before after old new more s f) (f.stops last)
 
 -- a feed that does not answer Ok has a fault
 pub has_fault : (answer : Result (Unit {0}) PartFault) (fault : Option PartFault) → is_ok answer ≡ false → IfErr answer (λ f. fault ≡ Some f) → IsSome fault

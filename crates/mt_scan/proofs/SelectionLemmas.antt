@@ -1,6 +1,5 @@
 -- The best of the checkpoints, group by group.
 use Rattle.std.proofs.Common.{◌≡◌, ◌↔◌, ◌⊎◌, inl, inr, ℕ, ◌+◌, ◌<◌, List, [], ◌∷◌, ◌++◌, length, get_or, map, Contains, Option, Some, None, refl, sym, ap, subst, nat_cmp, arith}
-use Rattle.std.specs.List.{AllByRecursion}
 use Rattle.std.specs.List.Sorted.{IsStrictlyIncreasing, IsStrictlySortedBy}
 use Rattle.std.specs.Ordering.{MatchOrdering}
 use Rattle.std.specs.declared.cmp.Ordering.{Ordering}
@@ -9,7 +8,7 @@ use Rattle.std.specs.Map.{keys_of}
 use Rattle.std.proofs.lemmas.Bool.{cases_lt}
 use Rattle.std.proofs.lemmas.Cmp.{ranked}
 use Rattle.std.proofs.lemmas.List.{length_push, get_or_push, get_or_append_left}
-use Rattle.std.proofs.lemmas.List.Elements.{Contains-push, Contains-push_cases, Contains-append_left, Contains-get_or, All-contains, All-from_recursion}
+use Rattle.std.proofs.lemmas.List.Elements.{Contains-push, Contains-push_cases, Contains-append_left, Contains-get_or}
 use Rattle.std.proofs.lemmas.List.Sorted.{IsPermutation-sym, IsPermutation-trans}
 use Rattle.mt_record.specs.Parts.{PartReading}
 use Rattle.mt_scan.specs.PartScans.{whole}
@@ -21,6 +20,7 @@ use Rattle.mt_scan.specs.declared.candidate.Candidate.{Candidate}
 use Rattle.mt_scan.specs.declared.selection.Selection.{Selection}
 use Rattle.mt_scan.specs.declared.group.Group.{Group}
 use Rattle.mt_scan.specs.declared.group.Group.TheVariants as groups
+use Rattle.mt_scan.proofs.KeysInOrder.{keys_below}
 use Rattle.mt_scan.proofs.OneChoice.{are_numbered, same_texts, same_times}
 
 -- ---- one group
@@ -246,17 +246,5 @@ selection_none cutoff selection best skipped = record {
 less_is_below : (a b : ℕ) → nat_cmp a b ≡ Less → a < b
 less_is_below a b e = subst (λ (o : Ordering). MatchOrdering o (a < b) (a ≡ b) (b < a)) e (ranked a b (nat_cmp a b) refl)
 
-first_below : (e : Entry) (es : List Entry) (number : ℕ) (group : Group) (rest : List Entry) → AllByRecursion (λ (n : ℕ). nat_cmp e.0 n ≡ Less) (keys_of (es ++ (number, group) ∷ rest)) → nat_cmp e.0 number ≡ Less
-first_below e [] number group rest all = all.0
-first_below e (f ∷ fs) number group rest all = first_below e fs number group rest all.1
-
-entries_below : (entries : List Entry) (number : ℕ) (group : Group) (rest : List Entry) → IsStrictlySortedBy nat_cmp (keys_of (entries ++ (number, group) ∷ rest)) → AllByRecursion (λ (e : Entry). nat_cmp e.0 number ≡ Less) entries
-unfolding IsStrictlySortedBy
-entries_below [] number group rest sorted = tt
-entries_below (e ∷ es) number group rest sorted = (first_below e es number group rest sorted.0, entries_below es number group rest sorted.1)
-
 pub are_below : (all entries : List Entry) (number : ℕ) (group : Group) (rest : List Entry) → IsStrictlySortedBy nat_cmp (keys_of all) → all ≡ entries ++ (number, group) ∷ rest → AreBelow entries number
-are_below all entries number group rest sorted e = λ x at.
-    let every = entries_below entries number group rest (subst (λ (es : List Entry). IsStrictlySortedBy nat_cmp (keys_of es)) e sorted) in
-    let less : nat_cmp x.0 number ≡ Less = All-contains (λ (y : Entry). nat_cmp y.0 number ≡ Less) entries x (All-from_recursion (λ (y : Entry). nat_cmp y.0 number ≡ Less) entries every) at in
-    less_is_below x.0 number less
+are_below all entries number group rest sorted e = λ x at. less_is_below x.0 number (keys_below nat_cmp all entries number group rest sorted e x at)

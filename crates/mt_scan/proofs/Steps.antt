@@ -1,4 +1,4 @@
--- How the steps of a scan go together.
+-- How the steps of a scan of a log go together.
 use Rattle.std.proofs.Common.{◌≡◌, ℕ, zero, ◌+◌, ◌≤◌, ◌<◌, ◌^◌, List, ◌++◌, length, suc, Bool, None, sym, ap, subst, arith}
 use Rattle.std.specs.Io.KnownBytes.{Consumes, IsAtEnd}
 use Rattle.std.proofs.lemmas.List.{length-append}

@@ -1,5 +1,6 @@
 -- The cutoff of logs.
-use Rattle.std.specs.Prelude.{ℕ, ◌≤◌, List, [], ◌∷◌, Contains}
+use Rattle.std.specs.Prelude.{ℕ, ◌≤◌, List, Contains}
+use Rattle.std.specs.List.{AllZip}
 use Rattle.mt_record.specs.Logs.{LogReading, IsLast}
 use Rattle.mt_scan.specs.declared.log_scan.LogScan.{LogScan}
 use Rattle.mt_scan.specs.Scans.{HasNumbersOf}
@@ -17,7 +18,4 @@ pub record IsCutoff (logs : List LogReading) (cutoff : ℕ) : Type 0 where
 
 -- the numbers of each scan are those of its log
 abbrev pub HaveNumbersOf : List LogScan → List LogReading → Type 0
-HaveNumbersOf [] [] = Unit {0}
-HaveNumbersOf (scan ∷ scans) (log ∷ logs) = HasNumbersOf scan log × HaveNumbersOf scans logs
-HaveNumbersOf [] (log ∷ logs) = ⊥
-HaveNumbersOf (scan ∷ scans) [] = ⊥
+HaveNumbersOf scans logs = AllZip HasNumbersOf scans logs

@@ -10,16 +10,20 @@ use Rattle.mt_scan.specs.declared.reader_source.ReaderSource.{ReaderSource}
 use Rattle.mt_scan.specs.declared.reader_source.Progress.{Progress}
 use Rattle.mt_scan.specs.declared.reader_source.Progress.TheVariants.{Open, Ended, Failed}
 
--- bytes in memory
-abbrev pub seen_of_memory : MemSource Buffered → Seen
-seen_of_memory source = record {
-  told = Some source.rest.now;
-  bound = length source.rest.now;
+-- bytes that are all told, behind what a buffer shows
+abbrev pub seen_of_bytes : List ℕ → Buffered → Seen
+seen_of_bytes rest buffer = record {
+  told = Some rest;
+  bound = length rest;
   failures = 0;
   steady = true;
-  shown = source.buffer.shown;
+  shown = buffer.shown;
   spent = false;
 }
+
+-- bytes in memory
+abbrev pub seen_of_memory : MemSource Buffered → Seen
+seen_of_memory source = seen_of_bytes source.rest.now source.buffer
 
 -- how many bytes a piece has, but for the last
 abbrev pub piece_size : MemSource Buffered → ℕ
@@ -27,12 +31,9 @@ piece_size source = source.buffer.size
 
 -- bytes in memory behind a device that fails
 abbrev pub seen_of_fault : FaultSource Buffered → Seen
-seen_of_fault source = record {
-  told = Some source.rest.now;
-  bound = length source.rest.now;
+seen_of_fault source = record (seen_of_bytes source.rest.now source.buffer) {
   failures = source.failures.count;
   steady = false;
-  shown = source.buffer.shown;
   spent = nat_eq source.left 0;
 }
 

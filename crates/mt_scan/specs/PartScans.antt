@@ -30,9 +30,4 @@ known_by scans.Nameless = nameless
 abbrev pub IsPartScanFault : ℕ → Fault → Type 0
 IsPartScanFault number (faults.PartSource part) = part ≡ number
 IsPartScanFault number faults.Memory = Unit {0}
-IsPartScanFault number faults.NoLogs = ⊥
-IsPartScanFault number (faults.Header log) = ⊥
-IsPartScanFault number (faults.Record log nth what) = ⊥
-IsPartScanFault number (faults.Source log) = ⊥
-IsPartScanFault number (faults.Gap log) = ⊥
-IsPartScanFault number (faults.Missing piece) = ⊥
+IsPartScanFault number fault = ⊥

@@ -46,10 +46,7 @@ IsScanFault number bytes (faults.Header log) = (log ≡ number) × IsLogFault by
 IsScanFault number bytes (faults.Record log nth what) = (log ≡ number) × IsLogFault bytes (of_log.Record nth what)
 IsScanFault number bytes (faults.Source log) = log ≡ number
 IsScanFault number bytes faults.Memory = Unit {0}
-IsScanFault number bytes faults.NoLogs = ⊥
-IsScanFault number bytes (faults.PartSource part) = ⊥
-IsScanFault number bytes (faults.Gap log) = ⊥
-IsScanFault number bytes (faults.Missing piece) = ⊥
+IsScanFault number bytes fault = ⊥
 
 -- This holds of some bytes that a source which tells these may have: of just those told, or of any where it tells none.
 abbrev pub OfTold : Option (List ℕ) → (List ℕ → Type 0) → Type 0

@@ -34,8 +34,7 @@ impl<'a> FaultSource<'a> {
         ensures size { IfSome result (λ s. HoldsBufferOf (fault_piece_size s) slot.old) }
         ensures slot { IfSome result (λ s. s.slot.ghost_name ≡ slot.entry.ghost_name) }
     {
-        let mut buffer = slot.buffer.take()?;
-        buffer.clear();
+        let buffer = slot.take_out()?;
         Some(FaultSource {
             rest: bytes,
             slot,
@@ -57,7 +56,7 @@ impl<B: Drop> Drop for FaultSource<'_, B> {
             left: _,
             failures: _,
         } = self;
-        slot.buffer = Some(buffer);
+        slot.put_back(buffer);
     }
 }
 

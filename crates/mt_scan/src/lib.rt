@@ -2,7 +2,6 @@
 //! checkpoint.
 #![tactic(auto)]
 
-mod boxed;
 mod buffer;
 mod candidate;
 mod choice;

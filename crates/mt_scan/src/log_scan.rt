@@ -1,4 +1,4 @@
-//! What a scan found.
+//! What a scan of a log found, and the cutoff of all logs.
 ghost use Rattle.std.specs.Prelude.{◌≡◌, [], List, ℕ, IfOk, IfSome, IfNone};
 ghost use Rattle.mt_record.specs.Logs.{LogReading, IsTextOf};
 ghost use Rattle.mt_scan.specs.Scans.{IsScanOf};

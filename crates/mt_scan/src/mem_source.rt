@@ -26,8 +26,7 @@ impl<'a> MemSource<'a> {
         ensures size { IfSome result (λ s. HoldsBufferOf (piece_size s) slot.old) }
         ensures slot { IfSome result (λ s. s.slot.ghost_name ≡ slot.entry.ghost_name) }
     {
-        let mut buffer = slot.buffer.take()?;
-        buffer.clear();
+        let buffer = slot.take_out()?;
         Some(MemSource {
             rest: bytes,
             slot,
@@ -45,7 +44,7 @@ impl<B: Drop> Drop for MemSource<'_, B> {
             slot,
             buffer,
         } = self;
-        slot.buffer = Some(buffer);
+        slot.put_back(buffer);
     }
 }
 

@@ -49,8 +49,7 @@ impl<'a, R: Read + Drop> ReaderSource<'a, R> {
         ensures size { IfSome result (λ s. HoldsBufferOf (reader_piece_size s) slot.old) }
         ensures slot { IfSome result (λ s. s.slot.ghost_name ≡ slot.entry.ghost_name) }
     {
-        let mut buffer = slot.buffer.take()?;
-        buffer.clear();
+        let buffer = slot.take_out()?;
         Some(ReaderSource {
             reader,
             slot,
@@ -74,7 +73,7 @@ impl<R: Drop, B: Drop> Drop for ReaderSource<'_, R, B> {
             progress: _,
             failures: _,
         } = self;
-        slot.buffer = Some(buffer);
+        slot.put_back(buffer);
     }
 }
 

@@ -1,5 +1,5 @@
 //! Buffers that sources borrow, each in a place of its own.
-ghost use Rattle.std.specs.Prelude.{◌≡◌, ◌≤◌, ◌↔◌, All, IfOk, IsTrue, IsSome, length};
+ghost use Rattle.std.specs.Prelude.{◌≡◌, ◌≤◌, ◌↔◌, [], All, IfOk, IfSome, IsTrue, IsSome, Some, length};
 ghost use Rattle.std.specs.Borrow.{sem};
 ghost use Rattle.mt_scan.specs.declared.slot.TheConstants.{LONGEST_BUFFER};
 ghost use Rattle.mt_scan.specs.Buffers.{HoldsBufferOf};
@@ -17,7 +17,7 @@ pub const LONGEST_BUFFER: usize = 65_536;
 /// buffer, if it is there.
 #[derive(Debug, Drop)]
 pub struct Slot<B = Buffer> {
-    pub(crate) buffer: Option<B>,
+    buffer: Option<B>,
 }
 
 impl<B> Model for Slot<B> {
@@ -34,6 +34,28 @@ impl<B> Slot<B> {
         ensures { IsTrue result ↔ IsSome self.now }
     {
         self.buffer.is_some()
+    }
+}
+
+impl<B: Drop> Slot<B> {
+    /// Puts the buffer into its place, as the drop of each source does.
+    pub(crate) fn put_back(&mut self, buffer: B)
+        ensures { self.new ≡ Some buffer }
+    {
+        self.buffer = Some(buffer);
+    }
+}
+
+impl Slot {
+    /// Takes the buffer out, to show nothing yet. None where it is not there.
+    pub(crate) fn take_out(&mut self) -> Option<Buffer>
+        ensures variant { IsSome result ↔ IsSome self.old }
+        ensures shown { IfSome result (λ buffer. buffer.shown ≡ []) }
+        ensures size { IfSome result (λ buffer. HoldsBufferOf buffer.size self.old) }
+    {
+        let mut buffer = self.buffer.take()?;
+        buffer.clear();
+        Some(buffer)
     }
 }
 

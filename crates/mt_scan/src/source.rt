@@ -29,3 +29,17 @@ pub trait Source: Drop {
     fn piece(&self) -> &[u8]
         ensures { result.now ≡ (seen self.now).shown };
 }
+
+/// The source inside, whatever its kind. A box holds sources that borrow nothing; those that borrow go together under
+/// an enum that is a `Source`.
+impl Source for Box<dyn Source + Send> {
+    ghost seen = { λ b. (Source-box b).seen b.value };
+
+    fn advance(&mut self) -> Result<usize, SourceFault> {
+        (**self).advance()
+    }
+
+    fn piece(&self) -> &[u8] {
+        (**self).piece()
+    }
+}

@@ -17,7 +17,7 @@ loop-log-preserved c =
     let scan = c.in_ok-scan-in-Ok.scan in
     let logs = map (λ (log : Bor (List ℕ)). log.now) c.args.logs.now in
     let at = log_at c.args.logs.now c.loop-log.log (record { ref_ptr = (0, 0); now = [] }) c.loop-log-test.true in
-    rw c.in-Ok-push.ensures.items (record {
+    rw c.in_ok-push-in-Ok.ensures.items (record {
       number_is = omega (arith, length-append scans (scan ∷ []), so_far.number_is);
       are = scans_more logs scans c.loop-log.log _ scan at so_far.number_is so_far.are (c.in_ok-scan-in-Ok.ensures _ c.in-Ok.ensures.log);
     })

@@ -1,8 +1,8 @@
 use Rattle.std.proofs.Common.{[], ◌<◌, length, refl, arith}
-use Rattle.std.proofs.lemmas.Result.{IfOk-weaker, err_from_is_err_and}
+use Rattle.std.proofs.lemmas.Result.{IfOk-weaker, IfErr-weaker, err_from_is_err_and}
 use Rattle.mt_recover.specs.Recovery.{IsStoreOf}
 use Rattle.mt_recover.specs.Inputs.{OfSources, IsAnsweredFrom, BlamesUnsteady}
-use Rattle.mt_recover.proofs.SourceLemmas.{some_logs, no_sources, some_sources, none_to_have, as_many_have, part_fault, blames_log, blames_beside, answered_from, blames_none, on_err}
+use Rattle.mt_recover.proofs.SourceLemmas.{some_logs, no_sources, some_sources, none_to_have, as_many_have, part_fault, answered_from, blames_none}
 use Rattle.mt_recover.proofs.recover.recover_one.Goals as goal
 
 pub returns-then-is_empty-clause-fault : goal.returns-then-is_empty-clause-fault
@@ -22,7 +22,7 @@ returns-in_err-scans-clause-fault g c =
 pub returns-in_err-scans-clause-steady : goal.returns-in_err-scans-clause-steady
 returns-in_err-scans-clause-steady g c =
     let p = err_from_is_err_and c.from_residual.result c.from_residual.ensures.1 in
-    rw (p.1, p.2) (blames_log g.S.Source.seen c.args.inputs.logs.items c.args.inputs.parts.items _ c.in_err-scans.ensures.steady)
+    rw (p.1, p.2) (c.in_err-scans.ensures.steady c.args.inputs.parts.items)
 
 pub returns-in_err-parts-clause-fault : goal.returns-in_err-parts-clause-fault
 returns-in_err-parts-clause-fault g c =
@@ -39,7 +39,7 @@ returns-in_err-parts-clause-fault g c =
 pub returns-in_err-parts-clause-steady : goal.returns-in_err-parts-clause-steady
 returns-in_err-parts-clause-steady g c =
     let p = err_from_is_err_and c.from_residual-in_err-parts.result c.from_residual-in_err-parts.ensures.1 in
-    rw (p.1, p.2) (blames_beside g.S.Source.seen c.args.inputs.logs.items c.args.inputs.parts.items _ c.in_err-parts.ensures.steady)
+    rw (p.1, p.2) (c.in_err-parts.ensures.steady c.args.inputs.logs.items)
 
 pub returns-clause-store : goal.returns-clause-store
 returns-clause-store g c =
@@ -54,7 +54,7 @@ returns-clause-fault g c =
     let seen = g.S.Source.seen in
     let logs = c.in_ok-scans.ensures.scans in
     let parts = c.in_ok-parts.ensures.scans in
-    on_err c.recover_scans.result _ (λ fault. OfSources seen c.args.inputs.logs.items c.args.inputs.parts.items (λ logs parts. IsAnsweredFrom logs parts fault))
+    IfErr-weaker c.recover_scans.result _ (λ fault. OfSources seen c.args.inputs.logs.items c.args.inputs.parts.items (λ logs parts. IsAnsweredFrom logs parts fault))
     (λ fault is. (logs.0, parts.0, logs.1, parts.1, answered_from logs.0 parts.0 fault is)) (c.recover_scans.ensures.fault logs.0 parts.0 logs.2 parts.2)
 
 pub returns-clause-steady : goal.returns-clause-steady
@@ -62,5 +62,5 @@ returns-clause-steady g c =
     let seen = g.S.Source.seen in
     let logs = c.in_ok-scans.ensures.scans in
     let parts = c.in_ok-parts.ensures.scans in
-    on_err c.recover_scans.result _ (BlamesUnsteady seen c.args.inputs.logs.items c.args.inputs.parts.items)
+    IfErr-weaker c.recover_scans.result _ (BlamesUnsteady seen c.args.inputs.logs.items c.args.inputs.parts.items)
     (λ fault is. blames_none seen c.args.inputs.logs.items c.args.inputs.parts.items logs.0 parts.0 fault is) (c.recover_scans.ensures.fault logs.0 parts.0 logs.2 parts.2)
