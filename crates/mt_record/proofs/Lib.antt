@@ -20,3 +20,7 @@ pub mod Feeds
 pub mod LogFeeds
 pub mod PartFeeds
 pub mod Counting
+pub mod Checked
+pub mod TextLemmas
+pub mod Decodes
+pub mod KeptRecords

@@ -2,6 +2,7 @@
 #![tactic(auto)]
 
 mod body;
+mod check;
 mod encode;
 mod encode_parts;
 mod feed;
@@ -9,7 +10,10 @@ mod fields;
 mod frame;
 mod head;
 mod items;
+mod kept_entries;
 mod laws;
+mod lent;
+mod lent_columns;
 mod log_feed;
 mod log_items;
 mod part_feed;
@@ -18,11 +22,21 @@ mod part_items;
 mod part_text;
 mod put;
 mod read;
+mod spelled;
+mod texts;
+mod updates;
 
+pub use check::check_body;
 pub use encode::{encode_log_header, encode_record};
 pub use encode_parts::encode_part;
+pub use frame::RecordFault;
+pub use kept_entries::KeptEntries;
 pub use laws::{one_part, one_reading};
+pub use lent::Lent;
+pub use lent_columns::LentColumns;
 pub use log_feed::LogFeed;
 pub use part_feed::PartFeed;
 pub use part_text::{PartFault, PartHead, PartText};
 pub use read::{FeedFault, LogText, read_log};
+pub use texts::Texts;
+pub use updates::Updates;
