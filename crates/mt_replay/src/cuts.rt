@@ -1,11 +1,15 @@
 //! Cuts of the keys into pieces.
-ghost use Rattle.std.specs.Prelude.{◌≡◌, ◌≤◌, ◌<◌, ◌+◌, ◌↔◌, length, map, max, IfOk, IfErr, IsSome, IfSome};
+ghost use Rattle.std.specs.Prelude.{◌≡◌, ◌≤◌, ◌<◌, ◌+◌, ◌↔◌, length, map, max, All, IfOk, IfErr, IsSome, IfSome};
+ghost use Rattle.mt_words.specs.Limits.{widest};
+ghost use Rattle.mt_words.specs.Words.{IsKey};
 ghost use Rattle.mt_replay.specs.Cuts.{AreCuts, AreRising, IsCutFault, even_cuts, even_at};
 ghost use Rattle.mt_replay.specs.Even.{IsEven};
-ghost use Rattle.mt_replay.specs.Runs.{all_updates};
+ghost use Rattle.mt_replay.specs.Runs.{together};
 
+use crate::LogCells;
+use crate::copies::copy_key;
 use crate::distinct::distinct_keys;
-use mt_words::{Key, Memory, Update};
+use mt_words::{Key, Memory};
 use std::alloc::Global;
 use std::marker::Model;
 use std::thread::Threads;
@@ -110,18 +114,19 @@ impl Cuts {
     pub fn even(
         rt: &(impl Threads + Sync),
         alloc: Global,
-        lists: &[&[Update]],
+        lists: &[LogCells],
         pieces: Pieces,
     ) -> Result<Cuts, Memory>
-        ensures { IfOk result (IsEven (all_updates (map (λ list. list.now) lists.now)) pieces) }
+        ensures { IfOk result (IsEven (together lists.now) pieces) }
     {
         let keys = distinct_keys(rt, alloc, lists)?;
         Cuts::even_of(alloc, &keys, pieces)
     }
 
     /// Cuts of rising keys into pieces of about as many keys.
-    pub fn even_of(alloc: Global, keys: &[&Key], pieces: Pieces) -> Result<Cuts, Memory>
-        requires { AreRising (map (λ key. key.now) keys.now) }
+    fn even_of(alloc: Global, keys: &[&[u8]], pieces: Pieces) -> Result<Cuts, Memory>
+        requires rising { AreRising (map (λ key. key.now) keys.now) }
+        requires lawful { All (IsKey widest) (map (λ key. key.now) keys.now) }
         ensures { IfOk result (λ cuts. cuts ≡ even_cuts (map (λ key. key.now) keys.now) pieces) }
     {
         let asked = (pieces.count as usize).min(keys.len().max(1));
@@ -131,7 +136,8 @@ impl Cuts {
 }
 
 /// The keys at which so many even pieces begin.
-fn even_keys(alloc: Global, keys: &[&Key], pieces: usize) -> Result<Vec<Key>, Memory>
+fn even_keys(alloc: Global, keys: &[&[u8]], pieces: usize) -> Result<Vec<Key>, Memory>
+    requires lawful { All (IsKey widest) (map (λ key. key.now) keys.now) }
     requires some { 0 < pieces }
     requires within { pieces ≤ max (length keys.now) 1 }
     ensures { IfOk result (λ cuts. cuts.items ≡ even_at (map (λ key. key.now) keys.now) pieces) }
@@ -139,7 +145,7 @@ fn even_keys(alloc: Global, keys: &[&Key], pieces: usize) -> Result<Vec<Key>, Me
     let mut cuts = Vec::new(alloc);
     for cut in 1..pieces {
         let place = (cut as u128 * keys.len() as u128 / pieces as u128) as usize;
-        cuts.push(keys[place].try_copy()?)?;
+        cuts.push(copy_key(alloc, keys[place])?)?;
     }
     Ok(cuts)
 }
