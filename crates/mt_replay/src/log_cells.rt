@@ -5,11 +5,11 @@ ghost use Rattle.std.specs.Cmp.Lexicographic.{slice_cmp};
 ghost use Rattle.std.specs.List.Sorted.{IsPartitionPoint};
 ghost use Rattle.mt_words.specs.declared.update.Update.{Update as UpdateValue};
 ghost use Rattle.mt_record.specs.Kept.{kept_updates, listed};
-ghost use Rattle.mt_replay.specs.Survivors.{in_window};
+ghost use Rattle.mt_replay.specs.Survivors.{in_window, wholes};
 ghost use Rattle.mt_replay.specs.Cuts.{is_below, InKeyOrder};
 
 use crate::Window;
-use mt_record::{Lent, Texts, Updates};
+use mt_record::{KeptEntries, Lent, Texts, Updates};
 use mt_words::{Memory, Origin};
 use std::alloc::Global;
 use std::cmp::Ordering;
@@ -44,6 +44,15 @@ impl LogCells {
         let mut lents = survivors(alloc, updates, window)?;
         sort_by_key(&mut lents);
         gather(alloc, updates.size(), &lents)
+    }
+
+    /// The entries of a checkpoint: no window leaves one out.
+    pub fn of_entries(alloc: Global, entries: &KeptEntries) -> Result<LogCells, Memory>
+        ensures { IfOk result (λ cells. IsPermutation (wholes entries.now) cells) }
+    {
+        let mut lents = all_entries(alloc, entries)?;
+        sort_by_key(&mut lents);
+        gather(alloc, entries.size(), &lents)
     }
 
     /// How many updates there are.
@@ -121,6 +130,17 @@ fn add_survivor<'a>(
     }
     lents.push(update)?;
     Ok(())
+}
+
+/// The updates of all entries.
+fn all_entries(alloc: Global, entries: &KeptEntries) -> Result<Vec<Lent<'_>>, Memory>
+    ensures { IfOk result (λ lents. lents.items ≡ wholes entries.now) }
+{
+    let mut lents = Vec::with_capacity(alloc, entries.len())?;
+    for number in 0..entries.len() {
+        lents.push(entries.update(number))?;
+    }
+    Ok(lents)
 }
 
 /// Sorts updates by their keys, those of one key in any order.
