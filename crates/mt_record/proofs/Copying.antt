@@ -14,7 +14,7 @@ use Rattle.mt_words.specs.Words.{IsColumn, AreColumns, CanFollow}
 use Rattle.mt_words.specs.Changes.{Logged, mark_of, changed, remove_of, put_of, AllowsKind, IsLogged, IsLoggedChange, IsWhole}
 use Rattle.mt_words.proofs.Formats.{change_within}
 use Rattle.mt_record.specs.Spelling.{column_bytes, code_of, kind_bytes, change_bytes, body_of, FitsColumn, FitsChange}
-use Rattle.mt_record.specs.Bodies.{IsBodyOf, IsBody, AreFieldsOf, HasNoFields, IsCarried}
+use Rattle.mt_record.specs.Bodies.{IsBodyOf, IsLawfulBody, AreFieldsOf, HasNoFields, CarriesColumns}
 use Rattle.mt_record.proofs.Columns.{all_at, may_follow}
 use Rattle.mt_record.proofs.Unique.{apart, same_number, same_column, same_carried, same_change, same_body, no_mark}
 use Rattle.mt_record.proofs.Lawful.{put_fits, lawful_fits}
@@ -27,7 +27,7 @@ pub has_fields : (bytes : List ℕ) (change : Change) → FitsChange change → 
 has_fields bytes change fits e none = none change.version change.key (kind_bytes change.kind) fits.0 fits.1 e
 
 -- one list of columns is carried so
-pub same_columns : (bytes : List ℕ) (a b : List (ℕ × List ℕ)) → IsCarried bytes a → IsCarried bytes b → a ≡ b
+pub same_columns : (bytes : List ℕ) (a b : List (ℕ × List ℕ)) → CarriesColumns bytes a → CarriesColumns bytes b → a ≡ b
 same_columns bytes a b is too = same_carried a b (put_fits One a is.lawful).1 (put_fits One b too.lawful).1 (sym is.spelled ∙ too.spelled)
 
 -- ---- the two halves of a body
@@ -40,7 +40,7 @@ pub record Carries (byte : ℕ) (rest : List ℕ) : Type 0 where
   pub spelled : rest ≡ change_bytes change
 
 -- a body has a byte in front
-pub some_body : (bytes : List ℕ) → IsBody bytes → bytes ≡ [] → ⊥
+pub some_body : (bytes : List ℕ) → IsLawfulBody bytes → bytes ≡ [] → ⊥
 some_body bytes (r, is) none = by r.change (sym none ∙ is.spelled)
   where
     by : (o : Option Change) → [] ≡ body_of r.timestamp o → ⊥
@@ -48,7 +48,7 @@ some_body bytes (r, is) none = by r.change (sym none ∙ is.spelled)
     by (Some change) e = omega (arith, ap length e)
 
 -- and eight bytes behind it
-pub timed : (bytes fields : List ℕ) (code : ℕ) → IsBody bytes → bytes ≡ code ∷ fields → length fields < 8 → ⊥
+pub timed : (bytes fields : List ℕ) (code : ℕ) → IsLawfulBody bytes → bytes ≡ code ∷ fields → length fields < 8 → ⊥
 timed bytes fields code (r, is) e few = by r.change (sym e ∙ is.spelled)
   where
     by : (o : Option Change) → code ∷ fields ≡ body_of r.timestamp o → ⊥
@@ -56,7 +56,7 @@ timed bytes fields code (r, is) e few = by r.change (sym e ∙ is.spelled)
     by (Some change) same = omega (arith, ap length same, few)
 
 -- the body of a mark
-pub is_mark : (bytes fields rest : List ℕ) (code t : ℕ) → IsBody bytes → bytes ≡ code ∷ fields → t < 2 ^ 64 → fields ≡ big_bytes 8 t ++ rest → code ≡ 3 → IsBodyOf widest 0 bytes (mark_of t)
+pub is_mark : (bytes fields rest : List ℕ) (code t : ℕ) → IsLawfulBody bytes → bytes ≡ code ∷ fields → t < 2 ^ 64 → fields ≡ big_bytes 8 t ++ rest → code ≡ 3 → IsBodyOf widest 0 bytes (mark_of t)
 is_mark bytes fields rest code t (r, is) e fits tail mark = by r.change (sym e ∙ is.spelled)
   where
     by : (o : Option Change) → code ∷ fields ≡ body_of r.timestamp o → IsBodyOf widest 0 bytes (mark_of t)
@@ -66,7 +66,7 @@ is_mark bytes fields rest code t (r, is) e fits tail mark = by r.change (sym e �
     by (Some change) same = absurd (no_mark change.kind (sym mark ∙ ap (λ (x : List ℕ). slice_index x 0) same))
 
 -- the body of another record
-pub carries : (bytes fields rest : List ℕ) (code t : ℕ) → IsBody bytes → bytes ≡ code ∷ fields → t < 2 ^ 64 → fields ≡ big_bytes 8 t ++ rest → (code ≡ 3 → ⊥) → Carries code rest
+pub carries : (bytes fields rest : List ℕ) (code t : ℕ) → IsLawfulBody bytes → bytes ≡ code ∷ fields → t < 2 ^ 64 → fields ≡ big_bytes 8 t ++ rest → (code ≡ 3 → ⊥) → Carries code rest
 carries bytes fields rest code t (r, is) e fits tail other = by r.change is.lawful.1 (sym e ∙ is.spelled)
   where
     by : (o : Option Change) → IfSome o (IsLoggedChange widest) → code ∷ fields ≡ body_of r.timestamp o → Carries code rest
@@ -93,13 +93,13 @@ is_remove Remove code = refl
 is_remove (Whole columns) code = absurd (apart 0 2 (omega arith) code)
 
 -- another one that records have is a put of what it carries
-pub is_put : (kind : Kind) → AllowsKind widest kind → IsLogged kind → (code_of kind ≡ 2 → ⊥) → (columns : List (ℕ × List ℕ)) × (kind ≡ Put columns) × IsCarried (kind_bytes kind) columns
+pub is_put : (kind : Kind) → AllowsKind widest kind → IsLogged kind → (code_of kind ≡ 2 → ⊥) → (columns : List (ℕ × List ℕ)) × (kind ≡ Put columns) × CarriesColumns (kind_bytes kind) columns
 is_put (Put columns) allows logged other = (columns, refl, record { lawful = allows.0; some = allows.1; spelled = refl })
 is_put Remove allows logged other = absurd (other refl)
 is_put (Whole columns) allows logged other = absurd logged
 
 -- and that of an entry a whole
-pub is_whole : (kind : Kind) → AllowsKind widest kind → IsWhole kind → (columns : List (ℕ × List ℕ)) × (kind ≡ Whole columns) × IsCarried (kind_bytes kind) columns
+pub is_whole : (kind : Kind) → AllowsKind widest kind → IsWhole kind → (columns : List (ℕ × List ℕ)) × (kind ≡ Whole columns) × CarriesColumns (kind_bytes kind) columns
 is_whole (Put columns) allows whole = absurd whole
 is_whole Remove allows whole = absurd whole
 is_whole (Whole columns) allows whole = (columns, refl, record { lawful = allows.0; some = allows.1; spelled = refl })
@@ -109,12 +109,12 @@ is_whole (Whole columns) allows whole = (columns, refl, record { lawful = allows
 -- the columns so far and those that are left are carried, and these are the rest
 pub record AreLeft (bytes : List ℕ) (columns : List (ℕ × List ℕ)) (rest : List ℕ) (counter end : ℕ) : Type 0 where
   pub left : List (ℕ × List ℕ)
-  pub carried : IsCarried bytes (columns ++ left)
+  pub carried : CarriesColumns bytes (columns ++ left)
   pub spelled : rest ≡ flat_map column_bytes left
   pub number : length left + counter ≡ end
 
 -- all are left
-pub all_left : (bytes rest : List ℕ) (count : ℕ) (columns : List (ℕ × List ℕ)) → IsCarried bytes columns → bytes ≡ count ∷ rest → AreLeft bytes [] rest 0 count
+pub all_left : (bytes rest : List ℕ) (count : ℕ) (columns : List (ℕ × List ℕ)) → CarriesColumns bytes columns → bytes ≡ count ∷ rest → AreLeft bytes [] rest 0 count
 all_left bytes rest count columns is e = record {
   left = columns;
   carried = is;
@@ -140,7 +140,7 @@ pub next_left : (bytes rest after : List ℕ) (columns new : List (ℕ × List �
     → rest ≡ column_bytes column ++ after → CanFollow widest columns column × (new ≡ columns ++ column ∷ [] → AreLeft bytes new after (i + 1) end)
 next_left bytes rest after columns new column i end are some fits e = by are.left are.carried are.spelled are.number
   where
-    by : (left : List (ℕ × List ℕ)) → IsCarried bytes (columns ++ left) → rest ≡ flat_map column_bytes left → length left + i ≡ end
+    by : (left : List (ℕ × List ℕ)) → CarriesColumns bytes (columns ++ left) → rest ≡ flat_map column_bytes left → length left + i ≡ end
         → CanFollow widest columns column × (new ≡ columns ++ column ∷ [] → AreLeft bytes new after (i + 1) end)
     by [] carried spelled number = absurd (omega (arith, number, some))
     by (c ∷ cs) carried spelled number =
@@ -148,17 +148,17 @@ next_left bytes rest after columns new column i end are some fits e = by are.lef
           subst (CanFollow widest columns) same.0 (may_follow widest columns cs c carried.lawful),
           λ added. record {
             left = cs;
-            carried = subst (IsCarried bytes) (sym (ap (λ (x : List (ℕ × List ℕ)). x ++ cs) (added ∙ ap (λ (d : ℕ × List ℕ). columns ++ d ∷ []) (sym same.0)) ∙ append_assoc columns (c ∷ []) cs)) carried;
+            carried = subst (CarriesColumns bytes) (sym (ap (λ (x : List (ℕ × List ℕ)). x ++ cs) (added ∙ ap (λ (d : ℕ × List ℕ). columns ++ d ∷ []) (sym same.0)) ∙ append_assoc columns (c ∷ []) cs)) carried;
             spelled = sym same.1;
             number = omega (arith, number);
           },
         )
 
 -- where none are left, all were copied
-pub none_left : (bytes rest : List ℕ) (columns : List (ℕ × List ℕ)) (i end : ℕ) → AreLeft bytes columns rest i end → end ≤ i → IsCarried bytes columns
+pub none_left : (bytes rest : List ℕ) (columns : List (ℕ × List ℕ)) (i end : ℕ) → AreLeft bytes columns rest i end → end ≤ i → CarriesColumns bytes columns
 none_left bytes rest columns i end are all =
     let none : are.left ≡ [] = nil_from_length are.left (omega (arith, are.number, all)) in
-    subst (IsCarried bytes) (ap (λ (x : List (ℕ × List ℕ)). columns ++ x) none ∙ append-nil columns) are.carried
+    subst (CarriesColumns bytes) (ap (λ (x : List (ℕ × List ℕ)). columns ++ x) none ∙ append-nil columns) are.carried
 
 -- ---- records and entries made anew
 
@@ -169,10 +169,10 @@ remove_is t version key change code same_version same_key =
 
 -- a put of its fields and the columns that are carried
 pub put_is : (t version : ℕ) (key carried : List ℕ) (columns : List (ℕ × List ℕ)) (change : Change) → IsLoggedChange widest change → (code_of change.kind ≡ 2 → ⊥) → version ≡ change.version
-    → key ≡ change.key → carried ≡ kind_bytes change.kind → IsCarried carried columns → changed t change ≡ put_of t version key columns
+    → key ≡ change.key → carried ≡ kind_bytes change.kind → CarriesColumns carried columns → changed t change ≡ put_of t version key columns
 put_is t version key carried columns change lawful other same_version same_key same_carried is =
     let put = is_put change.kind lawful.0.kind lawful.1 other in
-    let same = same_columns (kind_bytes change.kind) put.0 columns put.2 (subst (λ (b : List ℕ). IsCarried b columns) same_carried is) in
+    let same = same_columns (kind_bytes change.kind) put.0 columns put.2 (subst (λ (b : List ℕ). CarriesColumns b columns) same_carried is) in
     λ i. record { timestamp = t; change = Some (record { version = sym same_version i; key = sym same_key i; kind = (put.1 ∙ ap Put same) i }) }
 
 -- one record has a body

@@ -22,3 +22,6 @@ pub mod Feeds
 pub mod LogFeeds
 pub mod PartFeeds
 pub mod Counting
+pub mod TextLemmas
+pub mod Decodes
+pub mod KeptRecords

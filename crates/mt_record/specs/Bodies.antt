@@ -58,8 +58,8 @@ abbrev pub IsBodyAt : Limits → ℕ → List ℕ → ℕ → Type 0
 IsBodyAt limits low bytes timestamp = (r : Logged) × IsBodyOf limits low bytes r × (timestamp ≡ r.timestamp)
 
 -- the bytes are the body of a record that some format allows
-abbrev pub IsBody : List ℕ → Type 0
-IsBody bytes = (r : Logged) × IsBodyOf widest 0 bytes r
+abbrev pub IsLawfulBody : List ℕ → Type 0
+IsLawfulBody bytes = (r : Logged) × IsBodyOf widest 0 bytes r
 
 -- the bytes are the fields of this entry
 pub record AreFieldsOf (limits : Limits) (bytes : List ℕ) (entry : Change) : Type 0 where
@@ -170,7 +170,7 @@ abbrev pub HasSomeColumns : Limits → ℕ → List ℕ → Type 0
 HasSomeColumns limits count bytes = (columns : List (ℕ × List ℕ)) × AreSpelled count bytes columns × AreColumns limits columns × (0 < length columns)
 
 -- these columns behind their number, of which there is at least one
-pub record IsCarried (bytes : List ℕ) (columns : List (ℕ × List ℕ)) : Type 0 where
+pub record CarriesColumns (bytes : List ℕ) (columns : List (ℕ × List ℕ)) : Type 0 where
   pub lawful : AreColumns widest columns
   pub some : 0 < length columns
   pub spelled : bytes ≡ kind_bytes (Put columns)

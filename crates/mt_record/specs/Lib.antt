@@ -15,3 +15,6 @@ pub mod PartPieces
 pub mod MoreBytes
 pub mod LogLaws
 pub mod PartLaws
+pub mod Texts
+pub mod Decoding
+pub mod Kept

@@ -2,7 +2,7 @@
 ghost use Rattle.std.specs.Prelude.{◌≡◌, ℕ, List, IfOk};
 ghost use Rattle.mt_words.specs.Limits.{widest};
 ghost use Rattle.mt_words.specs.Words.{IsKey};
-ghost use Rattle.mt_record.specs.Bodies.{IsBody, IsBodyOf, AreFields, AreFieldsOf, IsCarried};
+ghost use Rattle.mt_record.specs.Bodies.{IsLawfulBody, IsBodyOf, AreFields, AreFieldsOf, CarriesColumns};
 
 use crate::body::{MARK, REMOVE, fields_at};
 use crate::fields::{column_at, u64_at};
@@ -11,7 +11,7 @@ use std::alloc::Global;
 
 /// The record of this body.
 pub fn copy_record(alloc: Global, bytes: &[u8]) -> Result<Record, Memory>
-    requires { IsBody bytes.now }
+    requires { IsLawfulBody bytes.now }
     ensures { IfOk result (IsBodyOf widest 0 bytes.now) }
 {
     let Some((code, fields)) = bytes.split_first() else {
@@ -68,8 +68,8 @@ fn copy_key(alloc: Global, bytes: &[u8]) -> Result<Key, Memory>
 
 /// The columns that the bytes are, behind their number.
 fn copy_columns(alloc: Global, bytes: &[u8]) -> Result<Columns, Memory>
-    requires { (columns : List (ℕ × List ℕ)) × IsCarried bytes.now columns }
-    ensures { IfOk result (IsCarried bytes.now) }
+    requires { (columns : List (ℕ × List ℕ)) × CarriesColumns bytes.now columns }
+    ensures { IfOk result (CarriesColumns bytes.now) }
 {
     let Some((count, mut rest)) = bytes.split_first() else {
         unreachable!();

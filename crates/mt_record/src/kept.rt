@@ -3,7 +3,7 @@ ghost use Rattle.std.specs.Prelude.{◌≡◌, ◌++◌, [], ◌∷◌, List, le
 ghost use Rattle.mt_words.specs.declared.record.Change.{Change};
 ghost use Rattle.mt_words.specs.Limits.{widest};
 ghost use Rattle.mt_words.specs.Changes.{Logged};
-ghost use Rattle.mt_record.specs.Bodies.{IsBody, IsBodyOf, AreFields, AreFieldsOf};
+ghost use Rattle.mt_record.specs.Bodies.{IsLawfulBody, IsBodyOf, AreFields, AreFieldsOf};
 
 use crate::copy::{copy_entry, copy_record};
 use crate::feed::keep;
@@ -15,7 +15,7 @@ pub trait Records: Drop {
 
     /// Puts the record of this body behind the others.
     fn put_record(&mut self, body: &[u8]) -> Result<(), Memory>
-        requires { IsBody body.now }
+        requires { IsLawfulBody body.now }
         ensures ok { (r : Logged) → IsBodyOf widest 0 body.now r → OnOk result (listed self.new ≡ listed self.old ++ r ∷ []) }
         ensures err { OnErr result (listed self.new ≡ listed self.old) };
 }

@@ -1,6 +1,6 @@
 use Rattle.std.proofs.Common.{List, ℕ, sym, subst}
 use Rattle.mt_words.specs.declared.limits.Format.TheVariants.{One}
-use Rattle.mt_record.specs.Bodies.{IsCarried}
+use Rattle.mt_record.specs.Bodies.{CarriesColumns}
 use Rattle.mt_record.proofs.Changes.{same_fields}
 use Rattle.mt_record.proofs.EntryTexts.{entry_fits}
 use Rattle.mt_record.proofs.Copying.{is_whole}
@@ -12,4 +12,4 @@ copy_columns-requires c =
     let is = c.requires.1 in
     let same = same_fields c.args.bytes.now c.in-Some.fields entry c.in-Some.ensures.found (entry_fits One entry is.lawful) is.spelled in
     let whole = is_whole entry.kind is.lawful.0.kind is.lawful.1 in
-    (whole.0, subst (λ (bytes : List ℕ). IsCarried bytes whole.0) (sym same.2) whole.2)
+    (whole.0, subst (λ (bytes : List ℕ). CarriesColumns bytes whole.0) (sym same.2) whole.2)

@@ -1,6 +1,6 @@
 use Rattle.std.proofs.Common.{◌∙◌, List, ℕ, sym, subst}
 use Rattle.mt_words.specs.Limits.{widest}
-use Rattle.mt_record.specs.Bodies.{IsBodyOf, IsCarried}
+use Rattle.mt_record.specs.Bodies.{IsBodyOf, CarriesColumns}
 use Rattle.mt_record.proofs.Changes.{same_fields}
 use Rattle.mt_record.proofs.Copying.{carries, changed_body, change_fits, is_put, remove_is, put_is}
 use Rattle.mt_record.proofs.copy.copy_record.Goals as goal
@@ -13,7 +13,7 @@ copy_columns-requires c =
     let has = carries c.args.bytes.now c.in-Some.fields.now rest c.in-Some.code.now c.in-Some-u64_at.timestamp c.requires c.in-Some.ensures.cases.0 found.0 found.1 c.if-code-eq-MARK.false in
     let same = same_fields rest c.in-Some-fields_at.fields has.change c.in-Some-fields_at.ensures.found (change_fits has.change has.lawful) has.spelled in
     let put = is_put has.change.kind has.lawful.0.kind has.lawful.1 (λ code. c.if-code-eq-REMOVE.false (sym has.code ∙ code)) in
-    (put.0, subst (λ (bytes : List ℕ). IsCarried bytes put.0) (sym same.2) put.2)
+    (put.0, subst (λ (bytes : List ℕ). CarriesColumns bytes put.0) (sym same.2) put.2)
 
 pub returns : goal.returns
 returns c =

@@ -1,0 +1,291 @@
+-- A body says the record that it spells.
+use Rattle.std.proofs.Common.{◌≡◌, ◌↔◌, ◌||◌, IsTrue, ℕ, suc, ◌^◌, ◌<◌, ◌≤◌, ◌+◌, ◌-◌, List, [], ◌∷◌, ◌++◌, length, take, drop, Option, Some, None, Bool, true, false, refl, sym, ap, subst, ◌∙◌, append_assoc, arith}
+use Rattle.std.proofs.Math.Seq.{take-append_seam, drop-append_seam}
+use Rattle.std.proofs.lemmas.List.{append-nil, length-append, take_rest, drop-drop}
+use Rattle.std.proofs.lemmas.Bool.{false≢true}
+use Rattle.std.specs.Prelude.{IfSome, slice_index}
+use Rattle.std.specs.List.{flat_map, AllByRecursion}
+use Rattle.byteorder.specs.Endian.{big_bytes, big_from}
+use Rattle.byteorder.specs.Numbers.{big_number-reads_back}
+use Rattle.mt_words.specs.declared.limits.Format.TheVariants.{One}
+use Rattle.mt_words.specs.declared.record.Change.{Change}
+use Rattle.mt_words.specs.declared.update.Kind.{Kind}
+use Rattle.mt_words.specs.declared.update.Kind.TheVariants.{Put, Remove, Whole}
+use Rattle.mt_words.specs.Limits.{widest}
+use Rattle.mt_words.specs.Words.{IsColumn, AreColumns}
+use Rattle.mt_words.specs.Changes.{Logged, changed, IsLawful, IsLawfulChange, IsLoggedChange, AllowsKind, IsReset}
+use Rattle.mt_record.specs.Spelling.{counted, column_bytes, code_of, kind_bytes, body_of, body, FitsColumn, FitsKind, FitsChange}
+use Rattle.mt_record.proofs.Lawful.{key_room, put_fits}
+use Rattle.mt_record.specs.Bodies.{AreSpelled}
+use Rattle.mt_record.proofs.Unique.{same_column}
+use Rattle.mt_record.specs.Decoding.{columns_from, columns_counted, columns_carried, columns_of, kind_from, is_mark_in, is_remove_in, is_whole_in, time_in, version_in, key_length_in, key_in, carried_in, kind_in, change_in, change_unless, decode, IsSound, IsBody, IsChangeBody, IsEntryBody, IsCarried, AreLent, AreCounted}
+
+-- ---- fields
+
+-- counted bytes at the front
+counted_front : (text more : List ℕ) → length text < 2 ^ 16 → big_from 0 2 (counted text ++ more) ≡ length text
+counted_front text more below = big_number-reads_back 2 (length text) (text ++ more) below
+
+take_front : (n : ℕ) (text more : List ℕ) → n ≡ length text → take n (text ++ more) ≡ text
+take_front n text more same = subst (λ m. take m (text ++ more) ≡ text) (sym same) (take-append_seam text more)
+
+drop_front : (n : ℕ) (text more : List ℕ) → n ≡ length text → drop n (text ++ more) ≡ more
+drop_front n text more same = subst (λ m. drop m (text ++ more) ≡ more) (sym same) (drop-append_seam text more)
+
+-- spelled columns are read back
+pub columns_back : (cs : List (ℕ × List ℕ)) (more : List ℕ) → AllByRecursion FitsColumn cs → columns_from (length cs) (flat_map column_bytes cs ++ more) ≡ cs
+columns_back [] more all = refl
+columns_back (c ∷ cs) more all =
+    let after = flat_map column_bytes cs ++ more in
+    let regrouped : flat_map column_bytes (c ∷ cs) ++ more ≡ column_bytes c ++ after = append_assoc (column_bytes c) (flat_map column_bytes cs) more in
+    let n = counted_front c.1 after all.0.1 in
+    let text = take_front (big_from 0 2 (counted c.1 ++ after)) c.1 after n in
+    let rest = drop_front (big_from 0 2 (counted c.1 ++ after)) c.1 after n in
+    let tail = columns_back cs more all.1 in
+    subst (λ bytes. columns_from (suc (length cs)) bytes ≡ c ∷ cs) (sym regrouped) (λ i. (c.0, text i) ∷ (ap (columns_from (length cs)) rest ∙ tail) i)
+
+-- ---- the fields of a body
+
+-- the body of a change, and what stands where
+abbrev change_body : ℕ → ℕ → List ℕ → ℕ → List ℕ → List ℕ
+change_body code t key v carried = code ∷ (big_bytes 8 t ++ (big_bytes 8 v ++ (counted key ++ carried)))
+
+time_back : (code t : ℕ) (rest : List ℕ) → t < 2 ^ 64 → time_in (code ∷ (big_bytes 8 t ++ rest)) ≡ t
+unfolding time_in
+time_back code t rest below = big_number-reads_back 8 t rest below
+
+version_back : (code t v : ℕ) (key carried : List ℕ) → v < 2 ^ 64 → version_in (change_body code t key v carried) ≡ v
+unfolding version_in
+version_back code t v key carried below = big_number-reads_back 8 v (counted key ++ carried) below
+
+key_length_back : (code t v : ℕ) (key carried : List ℕ) → length key < 2 ^ 16 → key_length_in (change_body code t key v carried) ≡ length key
+unfolding key_length_in
+key_length_back code t v key carried below = counted_front key carried below
+
+key_back : (code t v : ℕ) (key carried : List ℕ) → length key < 2 ^ 16 → key_in (change_body code t key v carried) ≡ key
+unfolding key_in
+key_back code t v key carried below = take_front (key_length_in (change_body code t key v carried)) key carried (key_length_back code t v key carried below)
+
+carried_back : (code t v : ℕ) (key carried : List ℕ) → length key < 2 ^ 16 → carried_in (change_body code t key v carried) ≡ carried
+unfolding carried_in
+carried_back code t v key carried below = drop_front (key_length_in (change_body code t key v carried)) key carried (key_length_back code t v key carried below)
+
+-- ---- the kind
+
+-- spelled columns behind their number are read back
+some_back : (cs : List (ℕ × List ℕ)) → AllByRecursion FitsColumn cs → columns_from (length cs) (flat_map column_bytes cs) ≡ cs
+some_back cs all = subst (λ bytes. columns_from (length cs) bytes ≡ cs) (append-nil (flat_map column_bytes cs)) (columns_back cs [] all)
+
+mark_back : (t : ℕ) → t < 2 ^ 64 → decode (body_of t None) ≡ record { timestamp = t; change = None }
+unfolding is_mark_in
+mark_back t below = λ i. record { timestamp = time_back 3 t [] below i; change = None }
+
+put_back : (t v : ℕ) (key : List ℕ) (cs : List (ℕ × List ℕ)) → t < 2 ^ 64 → v < 2 ^ 64 → length key < 2 ^ 16 → AllByRecursion FitsColumn cs
+    → decode (body_of t (Some (record { version = v; key = key; kind = Put cs }))) ≡ record { timestamp = t; change = Some (record { version = v; key = key; kind = Put cs }) }
+unfolding is_mark_in is_remove_in is_whole_in
+put_back t v key cs fits_t fits_v fits_key fits =
+    let carried = carried_back 1 t v key (kind_bytes (Put cs)) fits_key in
+    let columns = some_back cs fits in
+    let kind : kind_from false false (carried_in (change_body 1 t key v (kind_bytes (Put cs)))) ≡ Put cs = ap (kind_from false false) carried ∙ ap Put columns in
+    λ i. record {
+      timestamp = time_back 1 t (big_bytes 8 v ++ (counted key ++ kind_bytes (Put cs))) fits_t i;
+      change = Some (record { version = version_back 1 t v key (kind_bytes (Put cs)) fits_v i; key = key_back 1 t v key (kind_bytes (Put cs)) fits_key i; kind = kind i });
+    }
+
+remove_back : (t v : ℕ) (key : List ℕ) → t < 2 ^ 64 → v < 2 ^ 64 → length key < 2 ^ 16
+    → decode (body_of t (Some (record { version = v; key = key; kind = Remove }))) ≡ record { timestamp = t; change = Some (record { version = v; key = key; kind = Remove }) }
+unfolding is_mark_in is_remove_in is_whole_in
+remove_back t v key fits_t fits_v fits_key = λ i. record {
+  timestamp = time_back 2 t (big_bytes 8 v ++ (counted key ++ [])) fits_t i;
+  change = Some (record { version = version_back 2 t v key [] fits_v i; key = key_back 2 t v key [] fits_key i; kind = Remove });
+}
+
+whole_back : (t v : ℕ) (key : List ℕ) (cs : List (ℕ × List ℕ)) → t < 2 ^ 64 → v < 2 ^ 64 → length key < 2 ^ 16 → AllByRecursion FitsColumn cs
+    → decode (body_of t (Some (record { version = v; key = key; kind = Whole cs }))) ≡ record { timestamp = t; change = Some (record { version = v; key = key; kind = Whole cs }) }
+unfolding is_mark_in is_remove_in is_whole_in
+whole_back t v key cs fits_t fits_v fits_key fits =
+    let carried = carried_back 0 t v key (kind_bytes (Whole cs)) fits_key in
+    let columns = some_back cs fits in
+    let kind : kind_from false true (carried_in (change_body 0 t key v (kind_bytes (Whole cs)))) ≡ Whole cs = ap (kind_from false true) carried ∙ ap Whole columns in
+    λ i. record {
+      timestamp = time_back 0 t (big_bytes 8 v ++ (counted key ++ kind_bytes (Whole cs))) fits_t i;
+      change = Some (record { version = version_back 0 t v key (kind_bytes (Whole cs)) fits_v i; key = key_back 0 t v key (kind_bytes (Whole cs)) fits_key i; kind = kind i });
+    }
+
+change_back : (t : ℕ) (change : Change) → t < 2 ^ 64 → FitsChange change → decode (body_of t (Some change)) ≡ changed t change
+change_back t change fits_t fits = by_kind change.kind fits.2
+  where
+    by_kind : (kind : Kind) → FitsKind kind
+        → decode (body_of t (Some (record { version = change.version; key = change.key; kind = kind }))) ≡ changed t (record { version = change.version; key = change.key; kind = kind })
+    by_kind (Put cs) fit = put_back t change.version change.key cs fits_t fits.0 fits.1 fit.1
+    by_kind Remove fit = remove_back t change.version change.key fits_t fits.0 fits.1
+    by_kind (Whole cs) fit = whole_back t change.version change.key cs fits_t fits.0 fits.1 fit.1
+
+-- ---- a record
+
+-- a change fits its fields
+fits_of : (change : Change) → IsSound change → FitsChange change
+fits_of change sound = (sound.version, omega (arith, sound.key, key_room One), by_kind change.kind sound.columns)
+  where
+    by_kind : (kind : Kind) → AreColumns widest (columns_of kind) → FitsKind kind
+    by_kind (Put cs) are = put_fits One cs are
+    by_kind Remove are = tt
+    by_kind (Whole cs) are = put_fits One cs are
+
+-- a lawful change is sound
+pub lawful_sound : (change : Change) → IsLawfulChange widest change → IsSound change
+lawful_sound change lawful = record { version = lawful.version_fits; key = lawful.key; columns = by_kind change.kind lawful.kind }
+  where
+    by_kind : (kind : Kind) → AllowsKind widest kind → AreColumns widest (columns_of kind)
+    by_kind (Put cs) allowed = allowed.0
+    by_kind Remove allowed = (tt, tt)
+    by_kind (Whole cs) allowed = allowed.0
+
+record_back : (t : ℕ) (change : Option Change) → t < 2 ^ 64 → IfSome change IsSound → decode (body_of t change) ≡ record { timestamp = t; change = change }
+record_back t None below sound = mark_back t below
+record_back t (Some change) below sound = change_back t change below (fits_of change sound)
+
+-- the bytes of the body of a mark or of a change are a body, which says just that
+pub says : (bytes : List ℕ) (r : Logged) → r.timestamp < 2 ^ 64 → IfSome r.change IsSound → bytes ≡ body r → (decode bytes ≡ r) × IsBody bytes
+says bytes r below sound same =
+    let back : decode bytes ≡ r = ap decode same ∙ record_back r.timestamp r.change below sound in (
+      back,
+      record {
+        time = subst (λ (q : Logged). q.timestamp < 2 ^ 64) (sym back) below;
+        change = subst (λ (q : Logged). IfSome q.change IsSound) (sym back) sound;
+        spelled = same ∙ ap body (sym back);
+      },
+    )
+
+-- so are those of a lawful record's body
+pub body_says : (bytes : List ℕ) (r : Logged) → IsLawful widest r → bytes ≡ body r → (decode bytes ≡ r) × IsBody bytes
+body_says bytes r lawful same = says bytes r lawful.0 (sound_change r.change lawful.1) same
+  where
+    sound_change : (change : Option Change) → IfSome change (IsLoggedChange widest) → IfSome change IsSound
+    sound_change None is = tt
+    sound_change (Some change) is = lawful_sound change is.0
+
+-- what is no mark says its change
+unmarked : (mark : Bool) (a b : Change) → change_unless mark a ≡ Some b → (mark ≡ false) × (a ≡ b)
+unmarked true a b same = absurd cc
+unmarked false a b same = (refl, cc)
+
+-- the body of a lawful entry says the entry
+pub entry_says : (bytes : List ℕ) (entry : Change) → IsLawfulChange widest entry → bytes ≡ body_of 0 (Some entry) → (change_in bytes ≡ entry) × IsEntryBody bytes
+entry_says bytes entry lawful same =
+    let back = says bytes (changed 0 entry) (omega arith) (lawful_sound entry lawful) same in
+    let change = unmarked (is_mark_in bytes) (change_in bytes) entry (ap (λ (r : Logged). r.change) back.0) in
+    (change.1, record { change = (back.1, change.0); no_time = ap (λ (r : Logged). r.timestamp) back.0 })
+
+-- ---- room
+
+-- a body has so many bytes at least
+pub least_bytes : (bytes : List ℕ) → IsBody bytes → 9 ≤ length bytes
+least_bytes bytes is = least (is_mark_in bytes) is.spelled
+  where
+    least : (mark : Bool) → bytes ≡ body_of (time_in bytes) (change_unless mark (change_in bytes)) → 9 ≤ length bytes
+    least true same = omega (arith, ap length same)
+    least false same = omega (arith, ap length same)
+
+-- the body of a change, by its fields
+pub spelled_change : (bytes : List ℕ) → IsChangeBody bytes
+    → bytes ≡ change_body (code_of (kind_in bytes)) (time_in bytes) (key_in bytes) (version_in bytes) (kind_bytes (kind_in bytes))
+spelled_change bytes is = is.0.spelled ∙ ap (λ (mark : Bool). body_of (time_in bytes) (change_unless mark (change_in bytes))) is.1
+
+pub change_sound : (bytes : List ℕ) → IsChangeBody bytes → IsSound (change_in bytes)
+change_sound bytes is = subst (λ (mark : Bool). IfSome (change_unless mark (change_in bytes)) IsSound) is.1 is.0.change
+
+change_fits : (bytes : List ℕ) → IsChangeBody bytes → FitsChange (change_in bytes)
+change_fits bytes is = fits_of (change_in bytes) (change_sound bytes is)
+
+-- its key is as long as is said
+pub key_is_long : (bytes : List ℕ) → IsChangeBody bytes → key_length_in bytes ≡ length (key_in bytes)
+key_is_long bytes is =
+    let same = spelled_change bytes is in
+    let fit = change_fits bytes is in
+    ap key_length_in same ∙ key_length_back (code_of (kind_in bytes)) (time_in bytes) (version_in bytes) (key_in bytes) (kind_bytes (kind_in bytes)) fit.1
+
+-- and it has room
+pub change_room : (bytes : List ℕ) → IsChangeBody bytes → 19 + key_length_in bytes ≤ length bytes
+change_room bytes is =
+    let same = spelled_change bytes is in
+    let long = key_is_long bytes is in
+    let all = ap length same in
+    omega (arith, long, all, length-append (key_in bytes) (kind_bytes (kind_in bytes)))
+
+-- what its kind carries is spelled so
+pub carried_spelled : (bytes : List ℕ) → IsChangeBody bytes → (carried_in bytes ≡ kind_bytes (kind_in bytes)) × FitsKind (kind_in bytes)
+carried_spelled bytes is =
+    let same = spelled_change bytes is in
+    let fit = change_fits bytes is in
+    (ap carried_in same ∙ carried_back (code_of (kind_in bytes)) (time_in bytes) (version_in bytes) (key_in bytes) (kind_bytes (kind_in bytes)) fit.1, fit.2)
+
+-- nothing, or columns behind their number
+pub carried_is : (bytes : List ℕ) → IsChangeBody bytes → IsCarried (is_remove_in bytes) (carried_in bytes)
+carried_is bytes is =
+    let spelled = carried_spelled bytes is in
+    by_kind (is_remove_in bytes) (is_whole_in bytes) spelled.0 spelled.1 (change_sound bytes is).columns
+  where
+    counted_are : (carried : List ℕ) → carried ≡ length (columns_counted carried) ∷ flat_map column_bytes (columns_counted carried)
+        → AllByRecursion FitsColumn (columns_counted carried) → AllByRecursion (IsColumn widest) (columns_counted carried) → AreCounted carried
+    counted_are carried same fits lawful = record {
+      some = omega (arith, ap length same);
+      columns = record {
+        spelled = record { number = ap (λ (xs : List ℕ). slice_index xs 0) (sym same); spelled = ap (drop 1) same; fits = fits };
+        lawful = lawful;
+      };
+    }
+
+    by_kind : (remove whole : Bool) → carried_in bytes ≡ kind_bytes (kind_from remove whole (carried_in bytes)) → FitsKind (kind_from remove whole (carried_in bytes))
+        → AreColumns widest (columns_of (kind_from remove whole (carried_in bytes))) → IsCarried remove (carried_in bytes)
+    by_kind true whole same fits are = same
+    by_kind false true same fits are = counted_are (carried_in bytes) same fits.1 are.0
+    by_kind false false same fits are = counted_are (carried_in bytes) same fits.1 are.0
+
+-- those columns are the ones that the kind sets
+pub carried_columns : (remove whole : Bool) (bytes : List ℕ) → columns_carried remove bytes ≡ columns_of (kind_from remove whole bytes)
+carried_columns true whole bytes = refl
+carried_columns false true bytes = refl
+carried_columns false false bytes = refl
+
+-- a change clears its key if it is a remove or a whole
+pub resets : (remove whole : Bool) (bytes : List ℕ) → IsTrue (remove || whole) ↔ IsReset (kind_from remove whole bytes)
+resets true whole bytes = (λ _. tt, λ _. refl)
+resets false true bytes = (λ _. tt, λ _. refl)
+resets false false bytes = (λ t. absurd (false≢true t), λ r. absurd r)
+
+-- ---- columns, one after the other
+
+-- the columns are the one at the front and those behind it
+pub next_column : (n left : ℕ) (bytes after : List ℕ) (c : ℕ × List ℕ) → left ≡ suc n → FitsColumn c → bytes ≡ column_bytes c ++ after
+    → AreLent left bytes
+    → (columns_from left bytes ≡ c ∷ columns_from n after) × IsColumn widest c × AreLent n after
+next_column n left bytes after c more fit same are =
+    let length_is = counted_front c.1 after fit.1 in
+    let text = take_front (big_from 0 2 (counted c.1 ++ after)) c.1 after length_is in
+    let rest = drop_front (big_from 0 2 (counted c.1 ++ after)) c.1 after length_is in
+    let here : columns_from (suc n) (column_bytes c ++ after) ≡ c ∷ columns_from n after = λ i. (c.0, text i) ∷ columns_from n (rest i) in
+    let is : columns_from left bytes ≡ c ∷ columns_from n after = (λ i. columns_from (more i) (same i)) ∙ here in
+    let all : AreSpelled left bytes (c ∷ columns_from n after) = subst (AreSpelled left bytes) is are.spelled in
+    let lawful : AllByRecursion (IsColumn widest) (c ∷ columns_from n after) = subst (AllByRecursion (IsColumn widest)) is are.lawful in (
+      is,
+      lawful.0,
+      record {
+        spelled = record {
+          number = omega (arith, all.number, more);
+          spelled = (same_column c c after (flat_map column_bytes (columns_from n after)) fit all.fits.0 (sym same ∙ all.spelled)).1;
+          fits = all.fits.1;
+        };
+        lawful = lawful.1;
+      },
+    )
+
+-- what stands behind the key, from the place that the length gives
+pub carried_at : (bytes : List ℕ) (n : ℕ) → n ≡ key_length_in bytes → drop (19 + n) bytes ≡ carried_in bytes
+unfolding carried_in
+carried_at bytes n same = sym (drop-drop n 19 bytes) ∙ ap (λ m. drop m (drop 19 bytes)) same
+
+-- the length of the key, as it is read
+pub key_length_read : (bytes : List ℕ) (n : ℕ) → n ≡ big_from 0 2 (take (length bytes - 17) (drop 17 bytes)) → n ≡ key_length_in bytes
+unfolding key_length_in
+key_length_read bytes n same = same ∙ ap (big_from 0 2) (take_rest bytes 17)

@@ -1,0 +1,103 @@
+//! An update that is lent from its body.
+ghost use Rattle.std.specs.Prelude.{◌≡◌, ◌↔◌, IsTrue, MatchOption, Contains, ℕ, List};
+ghost use Rattle.mt_words.specs.Limits.{widest};
+ghost use Rattle.mt_words.specs.Words.{IsKey};
+ghost use Rattle.mt_words.specs.Changes.{IsReset};
+ghost use Rattle.mt_record.specs.Decoding.{IsChangeBody, columns_of, update_in};
+
+use crate::body::PUT;
+use crate::lent_columns::LentColumns;
+use crate::spelled;
+use mt_words::{Origin, Stamp};
+use std::marker::Model;
+
+/// An update: its body, and where it comes from.
+#[derive(Drop)]
+pub struct Lent<'a> {
+    origin: Origin,
+    body: &'a [u8],
+}
+
+impl<'a> Model for Lent<'a> {
+    ghost use Rattle.mt_words.specs.declared.update.Update.{Update};
+    ghost use Rattle.mt_record.specs.Decoding.{IsChangeBody, update_in};
+
+    ghost Value = { Update };
+
+    ghost view = { λ u. update_in u.origin u.body.now };
+
+    ghost invariant = { λ u. IsChangeBody u.body.now };
+}
+
+impl<'a> Lent<'a> {
+    /// The update of this origin and body.
+    pub fn of(origin: Origin, body: &'a [u8]) -> Lent<'a>
+        requires { IsChangeBody body.now }
+        ensures { result ≡ update_in origin body.now }
+    {
+        Lent { origin, body }
+    }
+
+    /// Where it comes from.
+    pub fn origin(&self) -> Origin
+        ensures { result ≡ self.now.stamp.origin }
+    {
+        self.origin
+    }
+
+    /// Its body.
+    pub fn body(&self) -> &'a [u8]
+        ensures lawful { IsChangeBody result.now }
+        ensures says { update_in self.now.stamp.origin result.now ≡ self.now }
+    {
+        self.body
+    }
+
+    /// The key that it changes.
+    pub fn key(&self) -> &'a [u8]
+        ensures value { result.now ≡ self.now.key }
+        ensures lawful { IsKey widest self.now.key }
+    {
+        spelled::key(self.body)
+    }
+
+    /// Its place among the updates of the key.
+    pub fn stamp(&self) -> Stamp
+        ensures { result ≡ self.now.stamp }
+    {
+        Stamp {
+            version: spelled::version(self.body),
+            origin: self.origin,
+        }
+    }
+
+    /// The timestamp of its record.
+    pub fn timestamp(&self) -> u64
+        ensures { result ≡ self.now.timestamp }
+    {
+        spelled::timestamp(self.body)
+    }
+
+    /// Whether it clears all columns of its key, before it sets its own.
+    pub fn is_reset(&self) -> bool
+        ensures { IsTrue result ↔ IsReset self.now.kind }
+    {
+        spelled::is_reset(self.body)
+    }
+
+    /// The columns that it sets; a remove sets none.
+    pub fn columns(&self) -> LentColumns<'a>
+        ensures { result ≡ columns_of self.now.kind }
+    {
+        spelled::columns(self.body)
+    }
+
+    /// The bytes that it sets this column to, if it sets it.
+    pub fn column(&self, number: u8) -> Option<&'a [u8]>
+        ensures { MatchOption result
+            ((bytes : List ℕ) → Contains (columns_of self.now.kind) (number, bytes) → ⊥)
+            (λ bytes. Contains (columns_of self.now.kind) (number, bytes.now)) }
+    {
+        self.columns().find(number)
+    }
+}

@@ -1,0 +1,67 @@
+-- The updates of cells.
+use Rattle.std.proofs.Common.{◌≡◌, ℕ, zero, suc, ◌+◌, ◌<◌, List, [], ◌∷◌, ◌++◌, length, take, get_or, refl, sym, ap, ◌∙◌, arith}
+use Rattle.std.specs.Prelude.{filter}
+use Rattle.std.proofs.Math.Seq.{take-suc}
+use Rattle.std.proofs.lemmas.List.{length-take-le}
+use Rattle.std.proofs.lemmas.List.Elements.{filter-append}
+use Rattle.mt_words.specs.declared.update.Origin.{Origin}
+use Rattle.mt_words.specs.declared.update.Origin.TheVariants.{Checkpoint}
+use Rattle.mt_words.specs.declared.update.Update.{Update}
+use Rattle.mt_words.specs.Changes.{Logged, mark_of}
+use Rattle.mt_words.specs.Updates.{update_of, updates_from}
+use Rattle.mt_record.specs.Decoding.{update_in}
+use Rattle.mt_record.specs.Kept.{Kept}
+use Rattle.mt_record.proofs.KeptRecords.{updates_push}
+use Rattle.mt_replay.specs.declared.window.Window.{Window}
+use Rattle.mt_replay.specs.Survivors.{in_window}
+use Rattle.mt_replay.specs.LogCells.{cells_from}
+
+-- ---- survivors
+
+-- those of one record more
+pub survivors_step : (window : Window) (kept : Kept) (i : ℕ) (old new more : List Update) → i < length kept.records
+    → ((d : Logged) → more ≡ update_of kept.log i (get_or kept.records i d))
+    → old ≡ filter (in_window window) (updates_from kept.log 0 (take i kept.records)) → new ≡ old ++ filter (in_window window) more
+    → new ≡ filter (in_window window) (updates_from kept.log 0 (take (i + 1) kept.records))
+survivors_step window kept i old new more below is so_far added =
+    let one : i + 1 ≡ suc i = omega arith in
+    let r : Logged = get_or kept.records i (mark_of 0) in
+    let longer : take (i + 1) kept.records ≡ take i kept.records ++ get_or kept.records i (mark_of 0) ∷ [] = ap (λ (n : ℕ). take n kept.records) one ∙ take-suc kept.records i (mark_of 0) below in
+    let long = length-take-le i kept.records (omega (arith, below)) in
+    let pushed = updates_push kept.log 0 i (take i kept.records) (get_or kept.records i (mark_of 0)) (omega (arith, long)) in
+    added
+    ∙ (λ j. so_far j ++ filter (in_window window) (is (mark_of 0) j))
+    ∙ sym (filter-append (in_window window) (updates_from kept.log 0 (take i kept.records)) (update_of kept.log i (get_or kept.records i (mark_of 0))))
+    ∙ ap (filter (in_window window)) (sym pushed)
+    ∙ ap (λ (rs : List Logged). filter (in_window window) (updates_from kept.log 0 rs)) (sym longer)
+
+-- ---- cells
+
+pub cells_count : (origins : List Origin) (bodies : List (List ℕ)) → length origins ≡ length bodies → length (cells_from origins bodies) ≡ length origins
+cells_count [] bodies same = refl
+cells_count (o ∷ os) [] same = absurd (omega (arith, same))
+cells_count (o ∷ os) (b ∷ bs) same = ap suc (cells_count os bs (omega (arith, same)))
+
+-- the update at a place
+pub cell_at : (origins : List Origin) (bodies : List (List ℕ)) (k : ℕ) (d : Update) → length origins ≡ length bodies → k < length origins
+    → get_or (cells_from origins bodies) k d ≡ update_in (get_or origins k Checkpoint) (get_or bodies k [])
+cell_at [] bodies k d same below = absurd (omega (arith, below))
+cell_at (o ∷ os) [] k d same below = absurd (omega (arith, same))
+cell_at (o ∷ os) (b ∷ bs) zero d same below = refl
+cell_at (o ∷ os) (b ∷ bs) (suc k) d same below = cell_at os bs k d (omega (arith, same)) (omega (arith, below))
+
+-- a place is that of an origin
+pub place_within : (origins : List Origin) (bodies : List (List ℕ)) (updates : List Update) (at : ℕ) → cells_from origins bodies ≡ updates
+    → length origins ≡ length bodies → at < length updates → at < length origins
+place_within origins bodies updates at same long below =
+    let count = cells_count origins bodies long in
+    let all : length (cells_from origins bodies) ≡ length updates = ap length same in
+    omega (arith, count, all, below)
+
+-- one update more
+pub cells_push : (origins : List Origin) (bodies : List (List ℕ)) (o : Origin) (b : List ℕ) → length origins ≡ length bodies
+    → cells_from (origins ++ o ∷ []) (bodies ++ b ∷ []) ≡ cells_from origins bodies ++ update_in o b ∷ []
+cells_push [] [] o b same = refl
+cells_push [] (c ∷ cs) o b same = absurd (omega (arith, same))
+cells_push (p ∷ ps) [] o b same = absurd (omega (arith, same))
+cells_push (p ∷ ps) (c ∷ cs) o b same = ap (λ (us : List Update). update_in p c ∷ us) (cells_push ps cs o b (omega (arith, same)))

@@ -1,0 +1,44 @@
+-- The updates of logs and of a checkpoint, and which of them survive.
+use Rattle.std.specs.Prelude.{ℕ, suc, ◌&&◌, ◌||◌, Bool, true, false, nat_lt, nat_le, List, [], ◌∷◌, ◌++◌, map, filter}
+use Rattle.mt_words.specs.declared.record.Change.{Change}
+use Rattle.mt_words.specs.declared.update.Kind.{Kind}
+use Rattle.mt_words.specs.declared.update.Kind.TheVariants.{Put, Remove, Whole}
+use Rattle.mt_words.specs.declared.update.Origin.TheVariants as origins
+use Rattle.mt_words.specs.declared.update.Update.{Update}
+use Rattle.mt_words.specs.Changes.{Logged}
+use Rattle.mt_words.specs.Updates.{update_at, updates_from}
+use Rattle.mt_replay.specs.declared.window.Window.{Window}
+
+-- the updates of logs, which are numbered from log on
+abbrev pub all_updates : ℕ → List (List Logged) → List Update
+all_updates log [] = []
+all_updates log (rs ∷ rss) = updates_from log 0 rs ++ all_updates (suc log) rss
+
+-- the updates of the logs that have these records
+abbrev pub log_updates : List (List Logged) → List Update
+log_updates logs = all_updates 0 logs
+
+-- the updates that entries make, each of its key as a whole
+abbrev pub wholes : List Change → List Update
+wholes entries = map (update_at origins.Checkpoint 0) entries
+
+-- from begin on, until below the cutoff
+abbrev pub is_within : Window → ℕ → Bool
+is_within window timestamp = nat_le window.begin timestamp && nat_lt timestamp window.cutoff
+
+abbrev pub in_window : Window → Update → Bool
+in_window window update = is_within window update.timestamp
+
+-- the log updates in the window
+abbrev pub log_survivors : Window → List (List Logged) → List Update
+log_survivors window logs = filter (in_window window) (log_updates logs)
+
+-- it is the entry of a checkpoint
+abbrev pub is_whole : Kind → Bool
+is_whole (Put columns) = false
+is_whole Remove = false
+is_whole (Whole columns) = true
+
+-- a log update survives in the window; the entry of a checkpoint has no timestamp to look at, and survives
+abbrev pub survives : Window → Update → Bool
+survives window update = is_whole update.kind || in_window window update

@@ -1,0 +1,151 @@
+//! Cuts of the keys into pieces.
+ghost use Rattle.std.specs.Prelude.{◌≡◌, ◌≤◌, ◌<◌, ◌+◌, ◌↔◌, length, map, max, All, IfOk, IfErr, IsSome, IfSome};
+ghost use Rattle.mt_words.specs.Limits.{widest};
+ghost use Rattle.mt_words.specs.Words.{IsKey};
+ghost use Rattle.mt_replay.specs.Cuts.{AreCuts, AreRising, IsCutFault, even_cuts, even_at};
+ghost use Rattle.mt_replay.specs.Even.{IsEven};
+ghost use Rattle.mt_replay.specs.Runs.{together};
+
+use crate::LogCells;
+use crate::copies::copy_key;
+use crate::distinct::distinct_keys;
+use mt_words::{Key, Memory};
+use std::alloc::Global;
+use std::marker::Model;
+use std::thread::Threads;
+
+/// The most cuts.
+pub const MOST_CUTS: usize = 4095;
+
+/// The most pieces.
+const MOST_PIECES: u32 = 4096;
+
+/// Why keys are no cuts.
+#[derive(Clone, Copy, Debug, PartialEq, Eq)]
+pub enum CutFault {
+    /// This key is not above the one before it.
+    NotRising { at: usize },
+    /// There are more than `MOST_CUTS`.
+    TooMany,
+}
+
+/// Keys that strictly rise, at most `MOST_CUTS`. Each begins a piece; the first piece has what lies before them all.
+#[derive(Debug, Drop)]
+pub struct Cuts {
+    keys: Vec<Key>,
+}
+
+impl Model for Cuts {
+    ghost use Rattle.std.specs.Prelude.{List, ℕ};
+    ghost use Rattle.mt_replay.specs.Cuts.{AreCuts};
+
+    ghost Value = { List (List ℕ) };
+
+    ghost view = { λ c. c.keys.items };
+
+    ghost invariant = { λ c. AreCuts c.keys.items };
+}
+
+/// How many pieces are asked for: 1 to 4,096.
+#[derive(Clone, Copy, Debug)]
+pub struct Pieces {
+    count: u32,
+}
+
+impl Model for Pieces {
+    ghost use Rattle.std.specs.Prelude.{ℕ, ◌<◌, ◌≤◌};
+
+    ghost Value = { ℕ };
+
+    ghost view = { λ p. p.count };
+
+    ghost inverse = { λ n. record { count = n } };
+
+    ghost invariant = { λ p. (0 < p.count) × (p.count ≤ 4096) };
+}
+
+impl Pieces {
+    /// So many pieces. None where that is 0 or more than 4,096.
+    pub fn new(count: u32) -> Option<Pieces>
+        ensures accepted { IsSome result ↔ (0 < count) × (count ≤ 4096) }
+        ensures value { IfSome result (λ pieces. pieces ≡ count) }
+    {
+        if count == 0 || count > MOST_PIECES {
+            return None;
+        }
+        Some(Pieces { count })
+    }
+}
+
+impl Cuts {
+    /// Cuts at these keys.
+    pub fn new(keys: Vec<Key>) -> Result<Cuts, CutFault>
+        ensures cuts { IfOk result (λ cuts. (cuts ≡ keys.items) × AreCuts cuts) }
+        ensures fault { IfErr result (IsCutFault keys.items) }
+    {
+        for at in 1..keys.len() {
+            if keys[at] <= keys[at - 1] {
+                return Err(CutFault::NotRising { at });
+            }
+        }
+        if keys.len() > MOST_CUTS {
+            return Err(CutFault::TooMany);
+        }
+        Ok(Cuts { keys })
+    }
+
+    /// How many pieces the cuts make.
+    pub fn pieces(&self) -> u32
+        ensures value { result ≡ length self.now + 1 }
+        ensures lawful { AreCuts self.now }
+    {
+        self.keys.len() as u32 + 1
+    }
+
+    /// The keys.
+    pub(crate) fn keys(&self) -> &[Key]
+        ensures value { result.now ≡ self.now }
+        ensures lawful { AreCuts self.now }
+    {
+        &self.keys
+    }
+
+    /// Cuts of the keys that updates have into pieces of about as many keys.
+    pub fn even(
+        rt: &(impl Threads + Sync),
+        alloc: Global,
+        lists: &[LogCells],
+        pieces: Pieces,
+    ) -> Result<Cuts, Memory>
+        ensures { IfOk result (IsEven (together lists.now) pieces) }
+    {
+        let keys = distinct_keys(rt, alloc, lists)?;
+        Cuts::even_of(alloc, &keys, pieces)
+    }
+
+    /// Cuts of rising keys into pieces of about as many keys.
+    fn even_of(alloc: Global, keys: &[&[u8]], pieces: Pieces) -> Result<Cuts, Memory>
+        requires rising { AreRising (map (λ key. key.now) keys.now) }
+        requires lawful { All (IsKey widest) (map (λ key. key.now) keys.now) }
+        ensures { IfOk result (λ cuts. cuts ≡ even_cuts (map (λ key. key.now) keys.now) pieces) }
+    {
+        let asked = (pieces.count as usize).min(keys.len().max(1));
+        let keys = even_keys(alloc, keys, asked)?;
+        Ok(Cuts { keys })
+    }
+}
+
+/// The keys at which so many even pieces begin.
+fn even_keys(alloc: Global, keys: &[&[u8]], pieces: usize) -> Result<Vec<Key>, Memory>
+    requires lawful { All (IsKey widest) (map (λ key. key.now) keys.now) }
+    requires some { 0 < pieces }
+    requires within { pieces ≤ max (length keys.now) 1 }
+    ensures { IfOk result (λ cuts. cuts.items ≡ even_at (map (λ key. key.now) keys.now) pieces) }
+{
+    let mut cuts = Vec::new(alloc);
+    for cut in 1..pieces {
+        let place = (cut as u128 * keys.len() as u128 / pieces as u128) as usize;
+        cuts.push(copy_key(alloc, keys[place])?)?;
+    }
+    Ok(cuts)
+}

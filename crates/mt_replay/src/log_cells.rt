@@ -1,0 +1,170 @@
+//! The surviving updates of a log, by rising key.
+ghost use Rattle.std.specs.Prelude.{◌≡◌, ◌≤◌, ◌<◌, ◌++◌, true, false, IfOk, OnOk, IsPermutation, List, length, filter, slice_index_or};
+ghost use Rattle.std.specs.Ordering.{nat_cmp};
+ghost use Rattle.std.specs.Cmp.Lexicographic.{slice_cmp};
+ghost use Rattle.std.specs.List.Sorted.{IsPartitionPoint};
+ghost use Rattle.mt_words.specs.declared.update.Update.{Update as UpdateValue};
+ghost use Rattle.mt_record.specs.Kept.{kept_updates, listed};
+ghost use Rattle.mt_replay.specs.Survivors.{in_window, wholes};
+ghost use Rattle.mt_replay.specs.Cuts.{is_below, InKeyOrder};
+
+use crate::Window;
+use mt_record::{KeptEntries, Lent, Texts, Updates};
+use mt_words::{Memory, Origin};
+use std::alloc::Global;
+use std::cmp::Ordering;
+use std::marker::Model;
+
+/// The surviving updates of a log, or the entries of the chosen checkpoint, by rising key. Their bodies lie in that
+/// order too, so that to go over them is to go over memory.
+#[derive(Drop)]
+pub struct LogCells {
+    origins: Vec<Origin>,
+    bodies: Texts,
+}
+
+impl Model for LogCells {
+    ghost use Rattle.std.specs.Prelude.{List};
+    ghost use Rattle.mt_words.specs.declared.update.Update.{Update};
+    ghost use Rattle.mt_replay.specs.LogCells.{cells_from, AreCells};
+
+    ghost Value = { List Update };
+
+    ghost view = { λ c. cells_from c.origins.items c.bodies };
+
+    ghost invariant = { λ c. AreCells c.origins.items c.bodies };
+}
+
+impl LogCells {
+    /// The updates of a log in the window.
+    pub fn of_log(alloc: Global, updates: &Updates, window: Window) -> Result<LogCells, Memory>
+        ensures { IfOk result (λ cells.
+            IsPermutation (filter (in_window window) (kept_updates updates.now)) cells) }
+    {
+        let mut lents = survivors(alloc, updates, window)?;
+        sort_by_key(&mut lents);
+        gather(alloc, updates.size(), &lents)
+    }
+
+    /// The entries of a checkpoint: no window leaves one out.
+    pub fn of_entries(alloc: Global, entries: &KeptEntries) -> Result<LogCells, Memory>
+        ensures { IfOk result (λ cells. IsPermutation (wholes entries.now) cells) }
+    {
+        let mut lents = all_entries(alloc, entries)?;
+        sort_by_key(&mut lents);
+        gather(alloc, entries.size(), &lents)
+    }
+
+    /// How many updates there are.
+    pub fn len(&self) -> usize
+        ensures value { result ≡ length self.now }
+        ensures in_order { InKeyOrder self.now }
+    {
+        self.origins.len()
+    }
+
+    /// The update at this place.
+    pub fn get(&self, at: usize) -> Lent<'_>
+        requires { at < length self.now }
+        ensures { (d : UpdateValue) → result ≡ slice_index_or self.now at d }
+    {
+        Lent::of(self.origins[at], self.bodies.get(at))
+    }
+
+    /// How many updates have keys below this one.
+    pub fn place_of(&self, key: &[u8]) -> usize
+        ensures within { result ≤ length self.now }
+        ensures point { IsPartitionPoint (λ update. is_below update.key key.now ≡ true)
+            (λ update. is_below update.key key.now ≡ false) self.now result }
+    {
+        let mut low = 0;
+        let mut high = self.len();
+        while low < high {
+            let middle = low + (high - low) / 2;
+            let update = self.get(middle);
+            if comes_before(update.key(), key) {
+                low = middle + 1;
+            } else {
+                high = middle;
+            }
+        }
+        low
+    }
+}
+
+/// Whether the first key lies below the second.
+fn comes_before(first: &[u8], second: &[u8]) -> bool
+    ensures { result ≡ is_below first.now second.now }
+{
+    first.cmp(second).is_lt()
+}
+
+/// The updates in the window, in the order of their records.
+fn survivors<'a>(
+    alloc: Global,
+    updates: &'a Updates,
+    window: Window,
+) -> Result<Vec<Lent<'a>>, Memory>
+    ensures { IfOk result (λ lents. lents.items ≡ filter (in_window window) (kept_updates updates.now)) }
+{
+    let mut lents = Vec::with_capacity(alloc, updates.len())?;
+    for number in 0..updates.len() {
+        add_survivor(&mut lents, updates.update(number), window)?;
+    }
+    Ok(lents)
+}
+
+/// Adds an update, if there is one and it is in the window.
+fn add_survivor<'a>(
+    lents: &mut Vec<Lent<'a>>,
+    update: Option<Lent<'a>>,
+    window: Window,
+) -> Result<(), Memory>
+    ensures { OnOk result (lents.new.items ≡ lents.old.items ++ filter (in_window window) (listed update.entry)) }
+{
+    let Some(update) = update else {
+        return Ok(());
+    };
+    if !window.contains(update.timestamp()) {
+        return Ok(());
+    }
+    lents.push(update)?;
+    Ok(())
+}
+
+/// The updates of all entries.
+fn all_entries(alloc: Global, entries: &KeptEntries) -> Result<Vec<Lent<'_>>, Memory>
+    ensures { IfOk result (λ lents. lents.items ≡ wholes entries.now) }
+{
+    let mut lents = Vec::with_capacity(alloc, entries.len())?;
+    for number in 0..entries.len() {
+        lents.push(entries.update(number))?;
+    }
+    Ok(lents)
+}
+
+/// Sorts updates by their keys, those of one key in any order.
+fn sort_by_key(updates: &mut Vec<Lent<'_>>)
+    ensures same { IsPermutation updates.old.items updates.new.items }
+    ensures in_order { InKeyOrder updates.new.items }
+{
+    updates.sort_unstable_by(
+        |a: &Lent<'_>, b: &Lent<'_>| -> Ordering
+            ensures { result ≡ slice_cmp nat_cmp a.now.key b.now.key }
+        { a.key().cmp(b.key()) },
+    );
+}
+
+/// Cells of these updates, whose bodies have so many bytes at the most.
+fn gather(alloc: Global, size: usize, updates: &[Lent<'_>]) -> Result<LogCells, Memory>
+    requires { InKeyOrder updates.now }
+    ensures { IfOk result (λ cells. cells ≡ updates.now) }
+{
+    let mut origins = Vec::with_capacity(alloc, updates.len())?;
+    let mut bodies = Texts::with_capacity(alloc, updates.len(), size)?;
+    for update in updates {
+        origins.push(update.origin())?;
+        bodies.push(update.body())?;
+    }
+    Ok(LogCells { origins, bodies })
+}

@@ -1,0 +1,21 @@
+//! The timestamps whose log updates survive.
+ghost use Rattle.std.specs.Prelude.{◌≡◌};
+ghost use Rattle.mt_replay.specs.Survivors.{is_within};
+
+/// From `begin` on, until below `cutoff`.
+#[derive(Clone, Copy, Debug)]
+pub struct Window {
+    /// The first timestamp.
+    pub begin: u64,
+    /// The first timestamp that is too late.
+    pub cutoff: u64,
+}
+
+impl Window {
+    /// Whether an update of this timestamp survives.
+    pub fn contains(self, timestamp: u64) -> bool
+        ensures { result ≡ is_within self timestamp }
+    {
+        self.begin <= timestamp && timestamp < self.cutoff
+    }
+}
