@@ -5,11 +5,10 @@ use Rattle.std.specs.Prelude.{slice_index, IfSome}
 use Rattle.std.specs.List.{flat_map}
 use Rattle.byteorder.specs.Endian.{big_bytes}
 use Rattle.mt_words.specs.declared.limits.Format.{Format}
-use Rattle.mt_words.specs.declared.limits.Format.TheVariants.{One}
 use Rattle.mt_words.specs.declared.record.Change.{Change}
 use Rattle.mt_words.specs.declared.update.Kind.{Kind}
 use Rattle.mt_words.specs.declared.update.Kind.TheVariants.{Put, Remove, Whole}
-use Rattle.mt_words.specs.Limits.{limits_of, widest}
+use Rattle.mt_words.specs.Limits.{limits_of, widest, widest_format}
 use Rattle.mt_words.specs.Words.{IsColumn, AreColumns, CanFollow}
 use Rattle.mt_words.specs.Changes.{Logged, mark_of, changed, remove_of, put_of, AllowsKind, IsLogged, IsLoggedChange, IsWhole}
 use Rattle.mt_words.proofs.Formats.{change_within}
@@ -28,7 +27,7 @@ has_fields bytes change fits e none = none change.version change.key (kind_bytes
 
 -- one list of columns is carried so
 pub same_columns : (bytes : List ℕ) (a b : List (ℕ × List ℕ)) → CarriesColumns bytes a → CarriesColumns bytes b → a ≡ b
-same_columns bytes a b is too = same_carried a b (put_fits One a is.lawful).1 (put_fits One b too.lawful).1 (sym is.spelled ∙ too.spelled)
+same_columns bytes a b is too = same_carried a b (put_fits widest_format a is.lawful).1 (put_fits widest_format b too.lawful).1 (sym is.spelled ∙ too.spelled)
 
 -- ---- the two halves of a body
 
@@ -84,7 +83,7 @@ changed_body bytes fields rest code t has e fits tail =
 -- ---- kinds
 
 pub change_fits : (change : Change) → IsLoggedChange widest change → FitsChange change
-change_fits change lawful = (lawful_fits One (changed 0 change) (omega arith, lawful)).1.0
+change_fits change lawful = (lawful_fits widest_format (changed 0 change) (omega arith, lawful)).1.0
 
 -- a kind with the byte of a remove is one
 pub is_remove : (kind : Kind) → code_of kind ≡ 2 → kind ≡ Remove
@@ -177,12 +176,12 @@ put_is t version key carried columns change lawful other same_version same_key s
 
 -- one record has a body
 pub same_record : (bytes : List ℕ) (a b : Logged) → IsBodyOf widest 0 bytes a → IsBodyOf widest 0 bytes b → a ≡ b
-same_record bytes a b is too = same_body a b (lawful_fits One a is.lawful) (lawful_fits One b too.lawful) (sym is.spelled ∙ too.spelled)
+same_record bytes a b is too = same_body a b (lawful_fits widest_format a is.lawful) (lawful_fits widest_format b too.lawful) (sym is.spelled ∙ too.spelled)
 
 -- and one entry has these fields
 pub same_entry : (bytes : List ℕ) (a b : Change) → AreFieldsOf widest bytes a → AreFieldsOf widest bytes b → a ≡ b
 same_entry bytes a b is too =
-    same_change a b (entry_fits One a is.lawful) (entry_fits One b too.lawful) (whole_code a.kind is.lawful.1 ∙ sym (whole_code b.kind too.lawful.1)) (sym is.spelled ∙ too.spelled)
+    same_change a b (entry_fits widest_format a is.lawful) (entry_fits widest_format b too.lawful) (whole_code a.kind is.lawful.1 ∙ sym (whole_code b.kind too.lawful.1)) (sym is.spelled ∙ too.spelled)
 
 -- the fields of an entry that a format allows are those of one that some format allows
 pub entry_within : (format : Format) (bytes : List ℕ) (entry : Change) → AreFieldsOf (limits_of format) bytes entry → AreFieldsOf widest bytes entry

@@ -7,11 +7,10 @@ use Rattle.std.specs.Prelude.{IfSome, slice_index}
 use Rattle.std.specs.List.{flat_map, AllByRecursion}
 use Rattle.byteorder.specs.Endian.{big_bytes, big_from}
 use Rattle.byteorder.specs.Numbers.{big_number-reads_back}
-use Rattle.mt_words.specs.declared.limits.Format.TheVariants.{One}
 use Rattle.mt_words.specs.declared.record.Change.{Change}
 use Rattle.mt_words.specs.declared.update.Kind.{Kind}
 use Rattle.mt_words.specs.declared.update.Kind.TheVariants.{Put, Remove, Whole}
-use Rattle.mt_words.specs.Limits.{widest}
+use Rattle.mt_words.specs.Limits.{widest, widest_format}
 use Rattle.mt_words.specs.Words.{IsColumn, AreColumns}
 use Rattle.mt_words.specs.Changes.{Logged, changed, IsLawful, IsLawfulChange, IsLoggedChange, AllowsKind, IsReset}
 use Rattle.mt_record.specs.Spelling.{counted, column_bytes, code_of, kind_bytes, body_of, body, FitsColumn, FitsKind, FitsChange}
@@ -125,12 +124,12 @@ change_back t change fits_t fits = by_kind change.kind fits.2
 
 -- a change fits its fields
 fits_of : (change : Change) → IsSound change → FitsChange change
-fits_of change sound = (sound.version, omega (arith, sound.key, key_room One), by_kind change.kind sound.columns)
+fits_of change sound = (sound.version, omega (arith, sound.key, key_room widest_format), by_kind change.kind sound.columns)
   where
     by_kind : (kind : Kind) → AreColumns widest (columns_of kind) → FitsKind kind
-    by_kind (Put cs) are = put_fits One cs are
+    by_kind (Put cs) are = put_fits widest_format cs are
     by_kind Remove are = tt
-    by_kind (Whole cs) are = put_fits One cs are
+    by_kind (Whole cs) are = put_fits widest_format cs are
 
 -- a lawful change is sound
 pub lawful_sound : (change : Change) → IsLawfulChange widest change → IsSound change

@@ -7,8 +7,7 @@ use Rattle.std.proofs.lemmas.List.Folds.{length-flat_map-take}
 use Rattle.std.specs.Prelude.{Vec}
 use Rattle.std.specs.List.{flat_map}
 use Rattle.byteorder.specs.Endian.{big_bytes}
-use Rattle.mt_words.specs.declared.limits.Format.TheVariants.{One}
-use Rattle.mt_words.specs.Limits.{widest}
+use Rattle.mt_words.specs.Limits.{widest, widest_format}
 use Rattle.mt_words.specs.Words.{AreColumns}
 use Rattle.mt_words.specs.declared.record.Change.{Change}
 use Rattle.mt_words.specs.Changes.{Logged, IsLawful}
@@ -20,7 +19,7 @@ use Rattle.mt_record.proofs.Lawful.{put_fits, columns_length, lawful_length}
 
 -- there are few columns
 pub few_columns : (cs : List (ℕ × List ℕ)) → AreColumns widest cs → length cs < 2 ^ 8
-few_columns cs are = (put_fits One cs are).0
+few_columns cs are = (put_fits widest_format cs are).0
 
 -- ---- the first columns
 

@@ -9,9 +9,13 @@ use Rattle.mt_words.specs.declared.limits.TheConstants.{LONGEST_KEY, GREATEST_CO
 abbrev pub limits_of : Format → Limits
 limits_of One = record { digit = 49; key = LONGEST_KEY; column = GREATEST_COLUMN; kind = 3 }
 
--- what keys and columns in memory can be: all that some format allows
+-- the format that allows what any other does
+abbrev pub widest_format : Format
+widest_format = One
+
+-- what keys and columns in memory can be
 abbrev pub widest : Limits
-widest = limits_of One
+widest = limits_of widest_format
 
 -- what a file of the format begins with: three letters, and the digit
 abbrev pub magic : List ℕ → Format → List ℕ
