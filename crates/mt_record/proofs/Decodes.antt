@@ -10,14 +10,16 @@ use Rattle.byteorder.specs.Numbers.{big_number-reads_back}
 use Rattle.mt_words.specs.declared.record.Change.{Change}
 use Rattle.mt_words.specs.declared.update.Kind.{Kind}
 use Rattle.mt_words.specs.declared.update.Kind.TheVariants.{Put, Remove, Whole}
+use Rattle.mt_words.specs.declared.update.Update.{Update}
 use Rattle.mt_words.specs.Limits.{widest, widest_format}
 use Rattle.mt_words.specs.Words.{IsColumn, AreColumns}
 use Rattle.mt_words.specs.Changes.{Logged, changed, IsLawful, IsLawfulChange, IsLoggedChange, AllowsKind, IsReset}
+use Rattle.mt_words.specs.Updates.{update_at}
 use Rattle.mt_record.specs.Spelling.{counted, column_bytes, code_of, kind_bytes, body_of, body, FitsColumn, FitsKind, FitsChange}
 use Rattle.mt_record.proofs.Lawful.{key_room, put_fits}
 use Rattle.mt_record.specs.Bodies.{AreSpelled}
 use Rattle.mt_record.proofs.Unique.{same_column}
-use Rattle.mt_record.specs.Decoding.{columns_from, columns_counted, columns_carried, columns_of, kind_from, is_mark_in, is_remove_in, is_whole_in, time_in, version_in, key_length_in, key_in, carried_in, kind_in, change_in, change_unless, decode, IsSound, IsBody, IsChangeBody, IsEntryBody, IsCarried, AreLent, AreCounted}
+use Rattle.mt_record.specs.Decoding.{columns_from, columns_counted, columns_carried, columns_of, kind_from, is_mark_in, is_remove_in, is_whole_in, time_in, version_in, key_length_in, key_in, carried_in, kind_in, change_in, update_in, change_unless, decode, IsSound, IsBody, IsChangeBody, IsEntryBody, IsCarried, AreLent, AreCounted}
 
 -- ---- fields
 
@@ -175,6 +177,15 @@ entry_says bytes entry lawful same =
     let back = says bytes (changed 0 entry) (omega arith) (lawful_sound entry lawful) same in
     let change = unmarked (is_mark_in bytes) (change_in bytes) entry (ap (λ (r : Logged). r.change) back.0) in
     (change.1, record { change = (back.1, change.0); no_time = ap (λ (r : Logged). r.timestamp) back.0 })
+
+-- and so does that of an update
+pub update_says : (bytes : List ℕ) (u : Update) → u.timestamp < 2 ^ 64 → IsSound (record { version = u.stamp.version; key = u.key; kind = u.kind })
+    → bytes ≡ body_of u.timestamp (Some (record { version = u.stamp.version; key = u.key; kind = u.kind })) → IsChangeBody bytes × (update_in u.stamp.origin bytes ≡ u)
+update_says bytes u below sound same =
+    let back = says bytes (changed u.timestamp (record { version = u.stamp.version; key = u.key; kind = u.kind })) below sound same in
+    let change = unmarked (is_mark_in bytes) (change_in bytes) (record { version = u.stamp.version; key = u.key; kind = u.kind }) (ap (λ (r : Logged). r.change) back.0) in
+    let time = ap (λ (r : Logged). r.timestamp) back.0 in
+    ((back.1, change.0), λ i. update_at u.stamp.origin (time i) (change.1 i))
 
 -- ---- room
 

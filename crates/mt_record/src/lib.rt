@@ -27,6 +27,7 @@ mod put;
 mod read;
 mod spelled;
 mod texts;
+mod update_bodies;
 mod updates;
 
 pub use encode::{encode_log_header, encode_record};
@@ -40,4 +41,5 @@ pub use part_feed::PartFeed;
 pub use part_text::{PartFault, PartHead, PartText};
 pub use read::{FeedFault, LogText, read_log};
 pub use texts::Texts;
+pub use update_bodies::body_of_update;
 pub use updates::Updates;

@@ -1,16 +1,17 @@
 //! The surviving updates of a log, by rising key.
-ghost use Rattle.std.specs.Prelude.{◌≡◌, ◌≤◌, ◌<◌, ◌++◌, true, false, IfOk, OnOk, IsPermutation, List, length, filter, slice_index_or};
+ghost use Rattle.std.specs.Prelude.{◌≡◌, ◌≤◌, ◌<◌, ◌++◌, [], ◌∷◌, true, false, IfOk, OnOk, IsPermutation, List, length, filter, slice_index_or};
 ghost use Rattle.std.specs.Ordering.{nat_cmp};
 ghost use Rattle.std.specs.Cmp.Lexicographic.{slice_cmp};
 ghost use Rattle.std.specs.List.Sorted.{IsPartitionPoint};
 ghost use Rattle.mt_words.specs.declared.update.Update.{Update as UpdateValue};
 ghost use Rattle.mt_record.specs.Kept.{kept_updates, listed};
-ghost use Rattle.mt_replay.specs.Survivors.{in_window, wholes};
+ghost use Rattle.mt_replay.specs.Survivors.{in_window, survives as survives_in, wholes};
 ghost use Rattle.mt_replay.specs.Cuts.{is_below, InKeyOrder};
 
 use crate::Window;
-use mt_record::{KeptEntries, Lent, Texts, Updates};
-use mt_words::{Memory, Origin};
+use crate::bodies::Bodies;
+use mt_record::{KeptEntries, Lent, Updates, body_of_update};
+use mt_words::{Kind, Memory, Update};
 use std::alloc::Global;
 use std::cmp::Ordering;
 use std::marker::Model;
@@ -19,23 +20,33 @@ use std::marker::Model;
 /// order too, so that to go over them is to go over memory.
 #[derive(Drop)]
 pub struct LogCells {
-    origins: Vec<Origin>,
-    bodies: Texts,
+    bodies: Bodies,
 }
 
 impl Model for LogCells {
     ghost use Rattle.std.specs.Prelude.{List};
     ghost use Rattle.mt_words.specs.declared.update.Update.{Update};
-    ghost use Rattle.mt_replay.specs.LogCells.{cells_from, AreCells};
+    ghost use Rattle.mt_replay.specs.Cuts.{InKeyOrder};
 
     ghost Value = { List Update };
 
-    ghost view = { λ c. cells_from c.origins.items c.bodies };
+    ghost view = { λ c. c.bodies };
 
-    ghost invariant = { λ c. AreCells c.origins.items c.bodies };
+    ghost invariant = { λ c. InKeyOrder c.bodies };
 }
 
 impl LogCells {
+    /// The updates that survive. Each is spelled on the way: where they are bodies already, `of_log` and `of_entries`
+    /// spare that.
+    pub fn of(alloc: Global, updates: Vec<Update>, window: Window) -> Result<LogCells, Memory>
+        ensures { IfOk result (λ cells. IsPermutation (filter (survives_in window) updates.items) cells) }
+    {
+        let bodies = spell(alloc, &updates, window)?;
+        let mut lents = all_bodies(alloc, &bodies)?;
+        sort_by_key(&mut lents);
+        gather(alloc, bodies.size(), &lents)
+    }
+
     /// The updates of a log in the window.
     pub fn of_log(alloc: Global, updates: &Updates, window: Window) -> Result<LogCells, Memory>
         ensures { IfOk result (λ cells.
@@ -60,7 +71,7 @@ impl LogCells {
         ensures value { result ≡ length self.now }
         ensures in_order { InKeyOrder self.now }
     {
-        self.origins.len()
+        self.bodies.len()
     }
 
     /// The update at this place.
@@ -68,7 +79,7 @@ impl LogCells {
         requires { at < length self.now }
         ensures { (d : UpdateValue) → result ≡ slice_index_or self.now at d }
     {
-        Lent::of(self.origins[at], self.bodies.get(at))
+        self.bodies.get(at)
     }
 
     /// How many updates have keys below this one.
@@ -143,6 +154,55 @@ fn all_entries(alloc: Global, entries: &KeptEntries) -> Result<Vec<Lent<'_>>, Me
     Ok(lents)
 }
 
+/// The updates that survive, spelled as bodies.
+fn spell(alloc: Global, updates: &[Update], window: Window) -> Result<Bodies, Memory>
+    ensures { IfOk result (λ bodies. bodies ≡ filter (survives_in window) updates.now) }
+{
+    let mut bodies = Bodies::with_capacity(alloc, updates.len(), 0)?;
+    for update in updates {
+        add_body(alloc, &mut bodies, update, window)?;
+    }
+    Ok(bodies)
+}
+
+/// Adds the body of an update, if it survives.
+fn add_body(
+    alloc: Global,
+    bodies: &mut Bodies,
+    update: &Update,
+    window: Window,
+) -> Result<(), Memory>
+    ensures { OnOk result (bodies.new ≡ bodies.old ++ filter (survives_in window) (update.now ∷ [])) }
+{
+    if !survives(update, window) {
+        return Ok(());
+    }
+    let body = body_of_update(alloc, update)?;
+    bodies.push(update.stamp.origin, &body)?;
+    Ok(())
+}
+
+/// Whether an update survives: an entry always, and any other in the window.
+fn survives(update: &Update, window: Window) -> bool
+    ensures { result ≡ survives_in window update.now }
+{
+    match &update.kind {
+        Kind::Whole(_) => true,
+        _ => window.contains(update.timestamp),
+    }
+}
+
+/// The updates of all bodies.
+fn all_bodies(alloc: Global, bodies: &Bodies) -> Result<Vec<Lent<'_>>, Memory>
+    ensures { IfOk result (λ lents. lents.items ≡ bodies.now) }
+{
+    let mut lents = Vec::with_capacity(alloc, bodies.len())?;
+    for at in 0..bodies.len() {
+        lents.push(bodies.get(at))?;
+    }
+    Ok(lents)
+}
+
 /// Sorts updates by their keys, those of one key in any order.
 fn sort_by_key(updates: &mut Vec<Lent<'_>>)
     ensures same { IsPermutation updates.old.items updates.new.items }
@@ -160,11 +220,9 @@ fn gather(alloc: Global, size: usize, updates: &[Lent<'_>]) -> Result<LogCells, 
     requires { InKeyOrder updates.now }
     ensures { IfOk result (λ cells. cells ≡ updates.now) }
 {
-    let mut origins = Vec::with_capacity(alloc, updates.len())?;
-    let mut bodies = Texts::with_capacity(alloc, updates.len(), size)?;
+    let mut bodies = Bodies::with_capacity(alloc, updates.len(), size)?;
     for update in updates {
-        origins.push(update.origin())?;
-        bodies.push(update.body())?;
+        bodies.push(update.origin(), update.body())?;
     }
-    Ok(LogCells { origins, bodies })
+    Ok(LogCells { bodies })
 }

@@ -1,4 +1,4 @@
--- The updates of cells.
+-- The updates of bodies.
 use Rattle.std.proofs.Common.{◌≡◌, ℕ, zero, suc, ◌+◌, ◌<◌, List, [], ◌∷◌, ◌++◌, length, take, get_or, refl, sym, ap, ◌∙◌, arith}
 use Rattle.std.specs.Prelude.{filter}
 use Rattle.std.proofs.Math.Seq.{take-suc}
@@ -14,7 +14,7 @@ use Rattle.mt_record.specs.Kept.{Kept}
 use Rattle.mt_record.proofs.KeptRecords.{updates_push}
 use Rattle.mt_replay.specs.declared.window.Window.{Window}
 use Rattle.mt_replay.specs.Survivors.{in_window}
-use Rattle.mt_replay.specs.LogCells.{cells_from}
+use Rattle.mt_replay.specs.Bodies.{updates_at}
 
 -- ---- survivors
 
@@ -35,33 +35,33 @@ survivors_step window kept i old new more below is so_far added =
     ∙ ap (filter (in_window window)) (sym pushed)
     ∙ ap (λ (rs : List Logged). filter (in_window window) (updates_from kept.log 0 rs)) (sym longer)
 
--- ---- cells
+-- ---- bodies
 
-pub cells_count : (origins : List Origin) (bodies : List (List ℕ)) → length origins ≡ length bodies → length (cells_from origins bodies) ≡ length origins
-cells_count [] bodies same = refl
-cells_count (o ∷ os) [] same = absurd (omega (arith, same))
-cells_count (o ∷ os) (b ∷ bs) same = ap suc (cells_count os bs (omega (arith, same)))
+pub bodies_count : (origins : List Origin) (bodies : List (List ℕ)) → length origins ≡ length bodies → length (updates_at origins bodies) ≡ length origins
+bodies_count [] bodies same = refl
+bodies_count (o ∷ os) [] same = absurd (omega (arith, same))
+bodies_count (o ∷ os) (b ∷ bs) same = ap suc (bodies_count os bs (omega (arith, same)))
 
 -- the update at a place
-pub cell_at : (origins : List Origin) (bodies : List (List ℕ)) (k : ℕ) (d : Update) → length origins ≡ length bodies → k < length origins
-    → get_or (cells_from origins bodies) k d ≡ update_in (get_or origins k Checkpoint) (get_or bodies k [])
-cell_at [] bodies k d same below = absurd (omega (arith, below))
-cell_at (o ∷ os) [] k d same below = absurd (omega (arith, same))
-cell_at (o ∷ os) (b ∷ bs) zero d same below = refl
-cell_at (o ∷ os) (b ∷ bs) (suc k) d same below = cell_at os bs k d (omega (arith, same)) (omega (arith, below))
+pub update_at_place : (origins : List Origin) (bodies : List (List ℕ)) (k : ℕ) (d : Update) → length origins ≡ length bodies → k < length origins
+    → get_or (updates_at origins bodies) k d ≡ update_in (get_or origins k Checkpoint) (get_or bodies k [])
+update_at_place [] bodies k d same below = absurd (omega (arith, below))
+update_at_place (o ∷ os) [] k d same below = absurd (omega (arith, same))
+update_at_place (o ∷ os) (b ∷ bs) zero d same below = refl
+update_at_place (o ∷ os) (b ∷ bs) (suc k) d same below = update_at_place os bs k d (omega (arith, same)) (omega (arith, below))
 
 -- a place is that of an origin
-pub place_within : (origins : List Origin) (bodies : List (List ℕ)) (updates : List Update) (at : ℕ) → cells_from origins bodies ≡ updates
+pub place_within : (origins : List Origin) (bodies : List (List ℕ)) (updates : List Update) (at : ℕ) → updates_at origins bodies ≡ updates
     → length origins ≡ length bodies → at < length updates → at < length origins
 place_within origins bodies updates at same long below =
-    let count = cells_count origins bodies long in
-    let all : length (cells_from origins bodies) ≡ length updates = ap length same in
+    let count = bodies_count origins bodies long in
+    let all : length (updates_at origins bodies) ≡ length updates = ap length same in
     omega (arith, count, all, below)
 
 -- one update more
-pub cells_push : (origins : List Origin) (bodies : List (List ℕ)) (o : Origin) (b : List ℕ) → length origins ≡ length bodies
-    → cells_from (origins ++ o ∷ []) (bodies ++ b ∷ []) ≡ cells_from origins bodies ++ update_in o b ∷ []
-cells_push [] [] o b same = refl
-cells_push [] (c ∷ cs) o b same = absurd (omega (arith, same))
-cells_push (p ∷ ps) [] o b same = absurd (omega (arith, same))
-cells_push (p ∷ ps) (c ∷ cs) o b same = ap (λ (us : List Update). update_in p c ∷ us) (cells_push ps cs o b (omega (arith, same)))
+pub bodies_push : (origins : List Origin) (bodies : List (List ℕ)) (o : Origin) (b : List ℕ) → length origins ≡ length bodies
+    → updates_at (origins ++ o ∷ []) (bodies ++ b ∷ []) ≡ updates_at origins bodies ++ update_in o b ∷ []
+bodies_push [] [] o b same = refl
+bodies_push [] (c ∷ cs) o b same = absurd (omega (arith, same))
+bodies_push (p ∷ ps) [] o b same = absurd (omega (arith, same))
+bodies_push (p ∷ ps) (c ∷ cs) o b same = ap (λ (us : List Update). update_in p c ∷ us) (bodies_push ps cs o b (omega (arith, same)))
