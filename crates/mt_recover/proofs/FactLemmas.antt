@@ -14,8 +14,9 @@ use Rattle.mt_scan.specs.declared.log_scan.LogScan.{LogScan}
 use Rattle.mt_scan.specs.Cutoff.{IsCutoff, HaveNumbersOf}
 use Rattle.mt_scan.specs.PartScans.{KnownPart}
 use Rattle.mt_scan.specs.Choice.{Checkpoint, IsChosenOf}
-use Rattle.mt_recover.specs.Survivors.{in_window, all_updates, wholes, entry_updates, begin_of, survivors}
-use Rattle.mt_recover.specs.Walk.{AreApart, AreLawful, IsWalk}
+use Rattle.mt_replay.specs.Survivors.{in_window, all_updates, wholes}
+use Rattle.mt_recover.specs.Survivors.{entry_updates, begin_of, survivors}
+use Rattle.mt_replay.specs.Walk.{AreApart, AreLawful, IsWalk}
 use Rattle.mt_recover.specs.Recovery.{AreReadings, AreKnown, Facts, IsGap, records_of, IsStoreOf}
 use Rattle.mt_recover.specs.Verdict.{IsFirst, IsVerdict}
 use Rattle.mt_recover.specs.LogScans.{ShowAll, AreScansOf, kept, surviving}

@@ -12,7 +12,7 @@ use Rattle.std.proofs.lemmas.Cmp.{nat_list_cmp_total, tied_itself}
 use Rattle.std.proofs.lemmas.Map.Lookups.{exact_bytes}
 use Rattle.mt_words.specs.Words.{IsBelow}
 use Rattle.mt_words.specs.Walks.{Pair, KeysRise}
-use Rattle.mt_recover.specs.Walk.{IsFound}
+use Rattle.mt_replay.specs.Walk.{IsFound}
 
 -- how a row's key stands to this one
 abbrev pub beside : List ℕ → Pair → Ordering

@@ -17,9 +17,9 @@ use Rattle.mt_words.specs.Words.{IsColumn, AreColumns}
 use Rattle.mt_words.specs.Changes.{Writes, IsReset}
 use Rattle.mt_words.specs.Stamps.{IsAtMost}
 use Rattle.mt_scan.proofs.Elements.{no_element}
-use Rattle.mt_recover.specs.Cells.{Written}
+use Rattle.mt_replay.specs.Cells.{Written}
 use Rattle.mt_recover.specs.KeyWrites.{History, Histories, AddsColumns, IsLater, IsWriteOf, IsGreatestReset, IsResetOf, AreHistoriesOf, writes_in, reset_in, put_update, remove_update, whole_update}
-use Rattle.mt_recover.proofs.StampLemmas.{at_most_itself, at_most_trans, older_or_not, not_newer}
+use Rattle.mt_replay.proofs.StampLemmas.{at_most_itself, at_most_trans, older_or_not, not_newer}
 use Rattle.std.specs.Result.{OnOk}
 use Rattle.std.specs.declared.result.Result.{Result}
 use Rattle.std.specs.declared.result.Result.TheVariants.{Ok, Err}

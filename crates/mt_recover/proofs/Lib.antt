@@ -1,7 +1,4 @@
-pub mod StampLemmas
-pub mod CellLemmas
 pub mod KeyWritesLemmas
-pub mod ColumnsLemmas
 pub mod StoreLemmas
 pub mod WalkLemmas
 pub mod Apart

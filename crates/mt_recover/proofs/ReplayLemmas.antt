@@ -17,8 +17,8 @@ use Rattle.mt_words.specs.Updates.{update_at, update_by, update_of, updates_from
 use Rattle.mt_record.specs.Logs.{AreRecords, LogReading}
 use Rattle.mt_scan.specs.declared.log_scan.LogScan.{LogScan}
 use Rattle.mt_scan.proofs.Elements.{no_element, head_or_tail}
-use Rattle.mt_recover.specs.declared.window.Window.{Window}
-use Rattle.mt_recover.specs.Survivors.{all_updates, in_window}
+use Rattle.mt_replay.specs.declared.window.Window.{Window}
+use Rattle.mt_replay.specs.Survivors.{all_updates, in_window}
 use Rattle.mt_recover.specs.LogScans.{kept, kept_in}
 use Rattle.mt_recover.specs.Recovery.{AreReadings, records_of}
 

@@ -11,7 +11,7 @@ use Rattle.mt_words.specs.Limits.{widest}
 use Rattle.mt_words.specs.Words.{IsKey, IsBelow}
 use Rattle.mt_words.specs.Walks.{Pair, KeysRise, IsPair, IsMap}
 use Rattle.mt_scan.proofs.KeysInOrder.{keys_below}
-use Rattle.mt_recover.specs.Cells.{IsColumnsOf}
+use Rattle.mt_replay.specs.Cells.{IsColumnsOf}
 use Rattle.mt_recover.specs.KeyWrites.{History}
 
 abbrev pub Entry : Type 0

@@ -17,10 +17,11 @@ use Rattle.mt_record.specs.Parts.{PartReading}
 use Rattle.mt_scan.specs.PartScans.{KnownPart, whole, IsKnown}
 use Rattle.mt_scan.specs.Choice.{Checkpoint, EntriesRise, belongs_to, parts_of, IsValid, IsChosenOf}
 use Rattle.mt_scan.proofs.Elements.{no_element, head_or_tail, head_in}
-use Rattle.mt_recover.specs.declared.window.Window.{Window}
-use Rattle.mt_recover.specs.Survivors.{in_window, log_updates, log_survivors, wholes, entry_updates, begin_of, survivors}
+use Rattle.mt_replay.specs.declared.window.Window.{Window}
+use Rattle.mt_replay.specs.Survivors.{in_window, log_updates, log_survivors, wholes}
+use Rattle.mt_recover.specs.Survivors.{entry_updates, begin_of, survivors}
 use Rattle.mt_recover.specs.Recovery.{AreReadings, AreKnown, records_of}
-use Rattle.mt_recover.specs.Walk.{AreApart, AreLawful}
+use Rattle.mt_replay.specs.Walk.{AreApart, AreLawful}
 use Rattle.mt_recover.proofs.Apart.{of_logs, logs_apart}
 use Rattle.mt_recover.proofs.ReplayLemmas.{was_there, lawful_logs}
 use Rattle.mt_recover.proofs.OneWalk.{of_each, not_below_itself}

@@ -16,11 +16,11 @@ use Rattle.mt_words.specs.Changes.{AllowsKind, Writes, IsReset}
 use Rattle.mt_words.specs.Stamps.{IsAtMost}
 use Rattle.mt_words.specs.Walks.{Pair, Holds}
 use Rattle.mt_scan.proofs.Elements.{no_element, head_or_tail}
-use Rattle.mt_recover.specs.KeyColumns.{HasColumn}
-use Rattle.mt_recover.specs.Walk.{IsWalk, AreApart, AreLawful}
-use Rattle.mt_recover.specs.Cells.{Written, IsGreatest, IsKept}
+use Rattle.mt_replay.specs.KeyColumns.{HasColumn}
+use Rattle.mt_replay.specs.Walk.{IsWalk, AreApart, AreLawful}
+use Rattle.mt_replay.specs.Cells.{Written, IsGreatest, IsKept}
 use Rattle.mt_recover.specs.KeyWrites.{History, Histories, IsWriteOf, IsResetOf, AreHistoriesOf, writes_in, reset_in}
-use Rattle.mt_recover.proofs.StampLemmas.{at_most_trans, same_stamp}
+use Rattle.mt_replay.proofs.StampLemmas.{at_most_trans, same_stamp}
 use Rattle.mt_recover.proofs.StoreLemmas.{AreRowsOf}
 
 -- ---- a number stands once among columns

@@ -8,7 +8,7 @@ use Rattle.mt_words.specs.declared.update.Kind.TheVariants.{Put, Remove, Whole}
 use Rattle.mt_words.specs.declared.update.Update.{Update}
 use Rattle.mt_words.specs.Changes.{Writes, IsReset}
 use Rattle.mt_words.specs.Stamps.{IsOlder, IsAtMost}
-use Rattle.mt_recover.specs.Cells.{Written}
+use Rattle.mt_replay.specs.Cells.{Written}
 
 -- what is known of one key: its greatest reset, if there is one, and its writes
 pub record History : Type 0 where

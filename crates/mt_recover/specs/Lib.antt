@@ -1,10 +1,7 @@
 pub mod Survivors
-pub mod KeyColumns
-pub mod Walk
 pub mod Recovery
 pub mod Verdict
 pub mod Dump
-pub mod Cells
 pub mod KeyWrites
 pub mod LogScans
 pub mod Inputs

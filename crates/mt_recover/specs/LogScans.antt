@@ -6,8 +6,8 @@ use Rattle.mt_words.specs.declared.update.Update.{Update}
 use Rattle.mt_record.specs.Logs.{LogReading}
 use Rattle.mt_scan.specs.declared.log_scan.LogScan.{LogScan}
 use Rattle.mt_scan.specs.Scans.{ShowsLog}
-use Rattle.mt_recover.specs.declared.window.Window.{Window}
-use Rattle.mt_recover.specs.Survivors.{in_window, wholes}
+use Rattle.mt_replay.specs.declared.window.Window.{Window}
+use Rattle.mt_replay.specs.Survivors.{in_window, wholes}
 use Rattle.mt_recover.specs.Recovery.{AreReadings}
 
 -- each scan shows what its log says; the logs are numbered from this number on

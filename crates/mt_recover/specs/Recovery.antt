@@ -8,7 +8,7 @@ use Rattle.mt_scan.specs.Cutoff.{IsCutoff}
 use Rattle.mt_scan.specs.PartScans.{KnownPart, IsKnown}
 use Rattle.mt_scan.specs.Choice.{Checkpoint, IsChosenOf}
 use Rattle.mt_recover.specs.Survivors.{begin_of, survivors}
-use Rattle.mt_recover.specs.Walk.{IsWalk}
+use Rattle.mt_replay.specs.Walk.{IsWalk}
 
 -- each log says this
 abbrev pub AreReadings : List (List ℕ) → List LogReading → Type 0

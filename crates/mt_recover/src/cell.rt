@@ -3,7 +3,7 @@ ghost use Rattle.std.specs.Prelude.{◌≡◌, ◌≤◌, ◌<◌, ◌↔◌, �
 ghost use Rattle.mt_words.specs.declared.limits.TheConstants.{GREATEST_COLUMN, MOST_COLUMNS};
 ghost use Rattle.mt_words.specs.Limits.{widest};
 ghost use Rattle.mt_words.specs.Words.{IsColumn, NumbersBelow};
-ghost use Rattle.mt_recover.specs.Cells.{Written, IsNewer, IsCleared, column_in, IsCellOf, IsColumnsOf};
+ghost use Rattle.mt_replay.specs.Cells.{Written, IsNewer, IsCleared, column_in, IsCellOf, IsColumnsOf};
 
 use mt_words::{Column, Columns, MOST_COLUMNS, Stamp};
 use std::alloc::Global;
@@ -20,7 +20,7 @@ pub struct Write {
 impl Model for Write {
     ghost use Rattle.mt_words.specs.Limits.{widest};
     ghost use Rattle.mt_words.specs.Words.{IsColumn};
-    ghost use Rattle.mt_recover.specs.Cells.{Written};
+    ghost use Rattle.mt_replay.specs.Cells.{Written};
 
     ghost Value = { Written };
 
@@ -47,7 +47,7 @@ pub struct Cell {
 }
 
 impl Model for Cell {
-    ghost use Rattle.mt_recover.specs.Cells.{Slots};
+    ghost use Rattle.mt_replay.specs.Cells.{Slots};
 
     ghost Value = { Slots };
 

@@ -1,7 +1,7 @@
 //! The writes and the reset of the keys.
 ghost use Rattle.std.specs.Prelude.{◌≡◌, ◌↔◌, ◌++◌, [], ◌∷◌, List, ℕ, None, Some, IsTrue, IfOk, OnOk};
 ghost use Rattle.mt_words.specs.declared.update.Update.{Update};
-ghost use Rattle.mt_recover.specs.Cells.{IsColumnsOf};
+ghost use Rattle.mt_replay.specs.Cells.{IsColumnsOf};
 ghost use Rattle.mt_recover.specs.KeyWrites.{AddsColumns, IsLater, AreHistoriesOf, put_update, remove_update, whole_update};
 
 use crate::cell::{Cell, Write};

@@ -6,8 +6,9 @@ ghost use Rattle.mt_words.specs.Changes.{Logged};
 ghost use Rattle.mt_words.specs.Walks.{Pair};
 ghost use Rattle.mt_scan.specs.PartScans.{KnownPart};
 ghost use Rattle.mt_scan.specs.Choice.{Checkpoint, IsChosenOf};
-ghost use Rattle.mt_recover.specs.Survivors.{log_updates, survivors};
-ghost use Rattle.mt_recover.specs.Walk.{IsWalk, AreApart};
+ghost use Rattle.mt_replay.specs.Survivors.{log_updates};
+ghost use Rattle.mt_recover.specs.Survivors.{survivors};
+ghost use Rattle.mt_replay.specs.Walk.{IsWalk, AreApart};
 ghost use Rattle.mt_recover.specs.Recovery.{IsStoreOf};
 ghost use Rattle.mt_recover.specs.Verdict.{IsVerdict};
 

@@ -12,7 +12,6 @@ mod replay;
 mod scan_logs;
 mod scan_parts;
 mod store;
-mod window;
 
 pub use dump::write_dump;
 pub use laws::{one_verdict, one_walk};

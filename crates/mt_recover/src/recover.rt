@@ -1,9 +1,10 @@
 //! Recovery from sources, and from logs in memory.
-ghost use Rattle.std.specs.Prelude.{◌≡◌, [], List, ℕ, map, IfOk, IfErr};
+ghost use Rattle.std.specs.Prelude.{◌≡◌, [], List, ℕ, map, position, nat_lt, IfOk, IfErr};
 ghost use Rattle.std.specs.Option.{option_map};
 ghost use Rattle.mt_scan.specs.PartScans.{known_by};
 ghost use Rattle.mt_scan.specs.Choice.{checkpoint_in};
-ghost use Rattle.mt_recover.specs.Survivors.{begin_of, wholes, entry_updates};
+ghost use Rattle.mt_replay.specs.Survivors.{wholes};
+ghost use Rattle.mt_recover.specs.Survivors.{begin_of, entry_updates};
 ghost use Rattle.mt_recover.specs.LogScans.{AreScansOf};
 ghost use Rattle.mt_recover.specs.Recovery.{AreKnown, IsStoreOf};
 ghost use Rattle.mt_recover.specs.Verdict.{IsVerdictOrMemory};
@@ -14,7 +15,7 @@ use crate::replay::replay;
 use crate::scan_logs::scan_logs;
 use crate::scan_parts::scan_parts;
 use crate::store::Store;
-use crate::window::{Window, first_gap};
+use mt_replay::Window;
 use mt_scan::{Checkpoint, LogScan, PartScan, Source, choose, cutoff};
 use mt_words::{Entry, Fault};
 use std::alloc::Global;
@@ -121,4 +122,11 @@ fn start_from(alloc: Global, chosen: Option<Checkpoint>) -> (u64, Vec<Entry>)
         Some(checkpoint) => (checkpoint.begin, checkpoint.entries),
         None => (0, Vec::new(alloc)),
     }
+}
+
+/// The first log from which updates at or past `begin` may be missing.
+fn first_gap(scans: &[LogScan], begin: u64) -> Option<usize>
+    ensures { result ≡ position (λ scan. nat_lt begin scan.from) scans.now }
+{
+    scans.iter().position(|scan| begin < scan.from)
 }

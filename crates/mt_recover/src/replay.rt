@@ -3,14 +3,14 @@ ghost use Rattle.std.specs.Prelude.{◌≡◌, [], ◌∷◌, ◌++◌, List, fi
 ghost use Rattle.mt_words.specs.declared.update.Update.{Update};
 ghost use Rattle.mt_words.specs.declared.update.Origin.TheVariants as origins;
 ghost use Rattle.mt_words.specs.Updates.{update_at};
-ghost use Rattle.mt_recover.specs.Survivors.{in_window, wholes};
-ghost use Rattle.mt_recover.specs.Walk.{IsWalk, AreApart, AreLawful};
+ghost use Rattle.mt_replay.specs.Survivors.{in_window, wholes};
+ghost use Rattle.mt_replay.specs.Walk.{IsWalk, AreApart, AreLawful};
 ghost use Rattle.mt_recover.specs.KeyWrites.{AreHistoriesOf};
 ghost use Rattle.mt_recover.specs.LogScans.{surviving};
 
 use crate::key_writes::{KeyWrites, add_put, add_remove, add_whole};
 use crate::store::Store;
-use crate::window::Window;
+use mt_replay::Window;
 use mt_scan::LogScan;
 use mt_words::{Change, Entry, Key, Kind, Memory, Origin, Stamp, Update};
 use std::alloc::Global;

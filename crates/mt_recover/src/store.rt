@@ -3,7 +3,7 @@ ghost use Rattle.std.specs.Prelude.{◌≡◌, List, ℕ, MatchOption, Contains}
 ghost use Rattle.std.specs.Ordering.{nat_cmp};
 ghost use Rattle.std.specs.Cmp.Lexicographic.{slice_cmp};
 ghost use Rattle.mt_words.specs.Walks.{IsMap, KeysRise};
-ghost use Rattle.mt_recover.specs.Walk.{IsFound};
+ghost use Rattle.mt_replay.specs.Walk.{IsFound};
 
 use mt_words::{Columns, Key};
 use std::cmp::Ordering;

@@ -2,7 +2,7 @@ use Rattle.std.proofs.Common.{◌≡◌, ◌∙◌, List, None, sym, refl, ap, s
 use Rattle.std.specs.Option.{IsSome}
 use Rattle.std.specs.Cmp.Lexicographic.{slice_cmp}
 use Rattle.std.specs.BTreeMap.{get}
-use Rattle.mt_recover.specs.Cells.{Written}
+use Rattle.mt_replay.specs.Cells.{Written}
 use Rattle.mt_recover.specs.KeyWrites.{History, Histories, AddsColumns, whole_update}
 use Rattle.mt_recover.proofs.KeyWritesLemmas.{IsLaterOf, histories_more, on_ok_two, after_whole}
 use Rattle.mt_recover.proofs.key_writes.add_whole.Goals as goal

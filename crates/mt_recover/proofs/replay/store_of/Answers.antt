@@ -1,7 +1,7 @@
 use Rattle.std.proofs.Common.{◌≡◌, ◌∙◌, ◌++◌, List, sym, ap, subst, arith}
 use Rattle.std.proofs.lemmas.List.{map-id}
 use Rattle.std.proofs.lemmas.Map.Iter.{rest_more, rest_so_far, iter_end}
-use Rattle.mt_recover.specs.Walk.{IsWalk}
+use Rattle.mt_replay.specs.Walk.{IsWalk}
 use Rattle.mt_recover.proofs.StoreLemmas.{Entry, AreRowsOf, rows_more, rows_same, are_below}
 use Rattle.mt_recover.proofs.WalkLemmas.{walk_of}
 use Rattle.mt_recover.proofs.replay.store_of.Goals as goal

@@ -4,7 +4,7 @@ use Rattle.std.proofs.lemmas.Iterator.Consumers.{YieldsList-end}
 use Rattle.std.proofs.lemmas.Iterator.Adapters.{YieldsList-from_vec}
 use Rattle.mt_words.specs.declared.record.Change.{Change}
 use Rattle.mt_words.specs.declared.update.Update.{Update}
-use Rattle.mt_recover.specs.Survivors.{wholes}
+use Rattle.mt_replay.specs.Survivors.{wholes}
 use Rattle.mt_recover.specs.KeyWrites.{AreHistoriesOf}
 use Rattle.mt_recover.proofs.SurvivorLemmas.{wholes_more}
 use Rattle.mt_recover.proofs.replay.take_entries.Goals as goal

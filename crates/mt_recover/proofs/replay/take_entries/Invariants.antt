@@ -1,6 +1,6 @@
 use Rattle.std.proofs.Common.{◌++◌, List}
 use Rattle.mt_words.specs.declared.update.Update.{Update}
-use Rattle.mt_recover.specs.Survivors.{wholes}
+use Rattle.mt_replay.specs.Survivors.{wholes}
 use Rattle.mt_recover.specs.KeyWrites.{AreHistoriesOf}
 use Rattle.mt_recover.proofs.replay.take_entries.Given as goal
 

@@ -1,7 +1,7 @@
 use Rattle.std.proofs.Common.{◌++◌, List}
 use Rattle.std.specs.List.{filter}
 use Rattle.mt_words.specs.declared.update.Update.{Update}
-use Rattle.mt_recover.specs.Survivors.{in_window}
+use Rattle.mt_replay.specs.Survivors.{in_window}
 use Rattle.mt_recover.specs.KeyWrites.{AreHistoriesOf}
 use Rattle.mt_recover.proofs.replay.take_updates.Given as goal
 

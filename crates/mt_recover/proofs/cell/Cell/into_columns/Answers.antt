@@ -1,7 +1,7 @@
 use Rattle.std.proofs.Common.{◌≡◌, ℕ, ap, subst, arith}
 use Rattle.std.specs.Prelude.{slice_get}
-use Rattle.mt_recover.specs.Cells.{Slots}
-use Rattle.mt_recover.proofs.ColumnsLemmas.{AreColumnsBelow, columns_none, left_more, columns_step, columns_all}
+use Rattle.mt_replay.specs.Cells.{Slots}
+use Rattle.mt_replay.proofs.ColumnsLemmas.{AreColumnsBelow, columns_none, left_more, columns_step, columns_all}
 use Rattle.mt_recover.proofs.cell.Cell.into_columns.Goals as goal
 
 pub loop-number-init : goal.loop-number-init

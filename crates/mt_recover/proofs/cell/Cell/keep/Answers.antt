@@ -1,4 +1,4 @@
-use Rattle.mt_recover.proofs.CellLemmas.{cell_push}
+use Rattle.mt_replay.proofs.CellLemmas.{cell_push}
 use Rattle.mt_recover.proofs.cell.Cell.keep.Goals as goal
 
 pub returns : goal.returns

@@ -2,7 +2,7 @@ use Rattle.std.proofs.Common.{◌≡◌, ◌∙◌, List, sym, ap, subst}
 use Rattle.std.proofs.lemmas.List.{map-id}
 use Rattle.std.proofs.lemmas.Iterator.Consumers.{YieldsList-end}
 use Rattle.std.proofs.lemmas.Iterator.Adapters.{YieldsList-from_vec}
-use Rattle.mt_recover.specs.Cells.{Written, IsCellOf, IsColumnsOf}
+use Rattle.mt_replay.specs.Cells.{Written, IsCellOf, IsColumnsOf}
 use Rattle.mt_recover.specs.KeyWrites.{History}
 use Rattle.mt_recover.proofs.key_writes.KeyWrites.into_columns.Goals as goal
 

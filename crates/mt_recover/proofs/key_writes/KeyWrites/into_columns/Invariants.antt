@@ -1,4 +1,4 @@
-use Rattle.mt_recover.specs.Cells.{IsCellOf}
+use Rattle.mt_replay.specs.Cells.{IsCellOf}
 use Rattle.mt_recover.proofs.key_writes.KeyWrites.into_columns.Given as goal
 
 -- the cell has seen the writes so far
