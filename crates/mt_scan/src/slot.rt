@@ -47,7 +47,7 @@ impl<B: Drop> Slot<B> {
 }
 
 impl Slot {
-    /// Takes the buffer out, to show nothing yet. None where it is not there.
+    /// Takes the buffer out of its place, to show no bytes yet. None where it is not there.
     pub(crate) fn take_out(&mut self) -> Option<Buffer>
         ensures variant { IsSome result ↔ IsSome self.old }
         ensures shown { IfSome result (λ buffer. buffer.shown ≡ []) }
