@@ -3,7 +3,6 @@ use Rattle.std.proofs.Common.{◌≡◌, ◌⊎◌, inl, inr, ℕ, suc, ◌<◌,
 use Rattle.std.specs.Prelude.{cond}
 use Rattle.std.specs.List.{filter}
 use Rattle.std.proofs.lemmas.List.{append-nil, flat_map_more}
-use Rattle.std.proofs.lemmas.Bool.Decides.{nat_tests}
 use Rattle.std.proofs.lemmas.List.Elements.{filter-append, Contains-push, Contains-append_left, Contains-append_right, Contains-append_cases, Contains-push_cases}
 use Rattle.mt_words.specs.declared.record.Change.{Change}
 use Rattle.mt_words.specs.declared.update.Origin.{Origin}
@@ -18,7 +17,7 @@ use Rattle.mt_record.specs.Logs.{AreRecords, LogReading}
 use Rattle.mt_scan.specs.declared.log_scan.LogScan.{LogScan}
 use Rattle.mt_scan.proofs.Elements.{no_element, head_or_tail}
 use Rattle.mt_replay.specs.declared.window.Window.{Window}
-use Rattle.mt_replay.specs.Survivors.{all_updates, in_window}
+use Rattle.mt_replay.specs.Survivors.{all_updates, is_within, in_window}
 use Rattle.mt_recover.specs.LogScans.{kept, kept_in}
 use Rattle.mt_recover.specs.Recovery.{AreReadings, records_of}
 
@@ -31,14 +30,9 @@ update_more window before updates u =
     ap (λ (x : List Update). before ++ x) (filter-append (in_window window) updates (u ∷ []))
     ∙ sym (append_assoc before (filter (in_window window) updates) (filter (in_window window) (u ∷ [])))
 
--- a timestamp outside the window fails its test
-not_within : (window : Window) (u : Update) → ((window.begin ≤ u.timestamp) × (u.timestamp < window.cutoff) → ⊥) → in_window window u ≡ false
-not_within window u out = grind (arith, nat_tests)
-
 -- one more update outside the window is no survivor
-pub update_passed : (window : Window) (before : List Update) (u : Update) → ((window.begin ≤ u.timestamp) × (u.timestamp < window.cutoff) → ⊥)
-    → before ++ filter (in_window window) (u ∷ []) ≡ before
-update_passed window before u out = ap (λ (b : Bool). before ++ cond b (u ∷ []) []) (not_within window u out) ∙ append-nil before
+pub update_passed : (window : Window) (before : List Update) (u : Update) → false ≡ is_within window u.timestamp → before ++ filter (in_window window) (u ∷ []) ≡ before
+update_passed window before u out = ap (λ (b : Bool). before ++ cond b (u ∷ []) []) (sym out) ∙ append-nil before
 
 -- the survivors of one more scan
 pub scan_more : (window : Window) (scans : List LogScan) (scan : LogScan) → kept_in window (scans ++ scan ∷ []) ≡ kept_in window scans ++ filter (in_window window) scan.updates.items
