@@ -1,7 +1,7 @@
 //! An update that is lent from its body.
 ghost use Rattle.std.specs.Prelude.{◌≡◌, ◌↔◌, IsTrue, MatchOption, Contains, ℕ, List};
 ghost use Rattle.mt_words.specs.Limits.{widest};
-ghost use Rattle.mt_words.specs.Words.{IsKey};
+ghost use Rattle.mt_words.specs.Words.{IsKey, AreColumns};
 ghost use Rattle.mt_words.specs.Changes.{IsReset};
 ghost use Rattle.mt_record.specs.Decoding.{IsChangeBody, columns_of, update_in};
 
@@ -87,7 +87,8 @@ impl<'a> Lent<'a> {
 
     /// The columns that it sets; a remove sets none.
     pub fn columns(&self) -> LentColumns<'a>
-        ensures { result ≡ columns_of self.now.kind }
+        ensures value { result ≡ columns_of self.now.kind }
+        ensures lawful { AreColumns widest (columns_of self.now.kind) }
     {
         spelled::columns(self.body)
     }

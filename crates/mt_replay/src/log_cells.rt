@@ -1,19 +1,18 @@
 //! The surviving updates of a log, by rising key.
-ghost use Rattle.std.specs.Prelude.{◌≡◌, ◌≤◌, ◌<◌, ◌++◌, [], ◌∷◌, true, false, IfOk, OnOk, IsPermutation, List, length, filter, slice_index_or};
-ghost use Rattle.std.specs.Ordering.{nat_cmp};
-ghost use Rattle.std.specs.Cmp.Lexicographic.{slice_cmp};
+ghost use Rattle.std.specs.Prelude.{◌≡◌, ◌≤◌, ◌<◌, true, false, IfOk, IsPermutation, List, length, filter, slice_index_or};
 ghost use Rattle.std.specs.List.Sorted.{IsPartitionPoint};
 ghost use Rattle.mt_words.specs.declared.update.Update.{Update as UpdateValue};
-ghost use Rattle.mt_record.specs.Kept.{kept_updates, listed};
+ghost use Rattle.mt_record.specs.Kept.{kept_updates};
 ghost use Rattle.mt_replay.specs.Survivors.{in_window, survives as survives_in, wholes};
 ghost use Rattle.mt_replay.specs.Cuts.{is_below, InKeyOrder};
 
 use crate::Window;
 use crate::bodies::Bodies;
-use mt_record::{KeptEntries, Lent, Updates, body_of_update};
-use mt_words::{Kind, Memory, Update};
+use crate::lents::{all_bodies, all_entries, sort_by_key, survivors};
+use crate::spelling::spell;
+use mt_record::{KeptEntries, Lent, Updates};
+use mt_words::{Memory, Update};
 use std::alloc::Global;
-use std::cmp::Ordering;
 use std::marker::Model;
 
 /// The surviving updates of a log, or the entries of the chosen checkpoint, by rising key. Their bodies lie in that
@@ -108,111 +107,6 @@ fn comes_before(first: &[u8], second: &[u8]) -> bool
     ensures { result ≡ is_below first.now second.now }
 {
     first.cmp(second).is_lt()
-}
-
-/// The updates in the window, in the order of their records.
-fn survivors<'a>(
-    alloc: Global,
-    updates: &'a Updates,
-    window: Window,
-) -> Result<Vec<Lent<'a>>, Memory>
-    ensures { IfOk result (λ lents. lents.items ≡ filter (in_window window) (kept_updates updates.now)) }
-{
-    let mut lents = Vec::with_capacity(alloc, updates.len())?;
-    for number in 0..updates.len() {
-        add_survivor(&mut lents, updates.update(number), window)?;
-    }
-    Ok(lents)
-}
-
-/// Adds an update, if there is one and it is in the window.
-fn add_survivor<'a>(
-    lents: &mut Vec<Lent<'a>>,
-    update: Option<Lent<'a>>,
-    window: Window,
-) -> Result<(), Memory>
-    ensures { OnOk result (lents.new.items ≡ lents.old.items ++ filter (in_window window) (listed update.entry)) }
-{
-    let Some(update) = update else {
-        return Ok(());
-    };
-    if !window.contains(update.timestamp()) {
-        return Ok(());
-    }
-    lents.push(update)?;
-    Ok(())
-}
-
-/// The updates of all entries.
-fn all_entries(alloc: Global, entries: &KeptEntries) -> Result<Vec<Lent<'_>>, Memory>
-    ensures { IfOk result (λ lents. lents.items ≡ wholes entries.now) }
-{
-    let mut lents = Vec::with_capacity(alloc, entries.len())?;
-    for number in 0..entries.len() {
-        lents.push(entries.update(number))?;
-    }
-    Ok(lents)
-}
-
-/// The updates that survive, spelled as bodies.
-fn spell(alloc: Global, updates: &[Update], window: Window) -> Result<Bodies, Memory>
-    ensures { IfOk result (λ bodies. bodies ≡ filter (survives_in window) updates.now) }
-{
-    let mut bodies = Bodies::with_capacity(alloc, updates.len(), 0)?;
-    for update in updates {
-        add_body(alloc, &mut bodies, update, window)?;
-    }
-    Ok(bodies)
-}
-
-/// Adds the body of an update, if it survives.
-fn add_body(
-    alloc: Global,
-    bodies: &mut Bodies,
-    update: &Update,
-    window: Window,
-) -> Result<(), Memory>
-    ensures { OnOk result (bodies.new ≡ bodies.old ++ filter (survives_in window) (update.now ∷ [])) }
-{
-    if !survives(update, window) {
-        return Ok(());
-    }
-    let body = body_of_update(alloc, update)?;
-    bodies.push(update.stamp.origin, &body)?;
-    Ok(())
-}
-
-/// Whether an update survives: an entry always, and any other in the window.
-fn survives(update: &Update, window: Window) -> bool
-    ensures { result ≡ survives_in window update.now }
-{
-    match &update.kind {
-        Kind::Whole(_) => true,
-        _ => window.contains(update.timestamp),
-    }
-}
-
-/// The updates of all bodies.
-fn all_bodies(alloc: Global, bodies: &Bodies) -> Result<Vec<Lent<'_>>, Memory>
-    ensures { IfOk result (λ lents. lents.items ≡ bodies.now) }
-{
-    let mut lents = Vec::with_capacity(alloc, bodies.len())?;
-    for at in 0..bodies.len() {
-        lents.push(bodies.get(at))?;
-    }
-    Ok(lents)
-}
-
-/// Sorts updates by their keys, those of one key in any order.
-fn sort_by_key(updates: &mut Vec<Lent<'_>>)
-    ensures same { IsPermutation updates.old.items updates.new.items }
-    ensures in_order { InKeyOrder updates.new.items }
-{
-    updates.sort_unstable_by(
-        |a: &Lent<'_>, b: &Lent<'_>| -> Ordering
-            ensures { result ≡ slice_cmp nat_cmp a.now.key b.now.key }
-        { a.key().cmp(b.key()) },
-    );
 }
 
 /// Cells of these updates, whose bodies have so many bytes at the most.

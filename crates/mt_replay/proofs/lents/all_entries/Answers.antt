@@ -4,7 +4,7 @@ use Rattle.mt_words.specs.declared.record.Change.{Change}
 use Rattle.mt_words.specs.declared.update.Kind.TheVariants.{Remove}
 use Rattle.mt_words.specs.declared.update.Origin.TheVariants as origins
 use Rattle.mt_words.specs.Updates.{update_at}
-use Rattle.mt_replay.proofs.log_cells.all_entries.Goals as goal
+use Rattle.mt_replay.proofs.lents.all_entries.Goals as goal
 
 pub loop-number-preserved : goal.loop-number-preserved
 loop-number-preserved c =

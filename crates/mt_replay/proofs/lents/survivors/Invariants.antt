@@ -2,7 +2,7 @@ use Rattle.std.proofs.Common.{◌≡◌, take}
 use Rattle.std.specs.Prelude.{filter}
 use Rattle.mt_words.specs.Updates.{updates_from}
 use Rattle.mt_replay.specs.Survivors.{in_window}
-use Rattle.mt_replay.proofs.log_cells.survivors.Given as goal
+use Rattle.mt_replay.proofs.lents.survivors.Given as goal
 
 -- those of the first records
 abbrev pub invariant-loop-number : goal.invariant-loop-number

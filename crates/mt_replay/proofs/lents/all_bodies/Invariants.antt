@@ -1,5 +1,5 @@
 use Rattle.std.proofs.Common.{◌≡◌, take}
-use Rattle.mt_replay.proofs.log_cells.all_bodies.Given as goal
+use Rattle.mt_replay.proofs.lents.all_bodies.Given as goal
 
 -- those of the first bodies
 abbrev pub invariant-loop-at : goal.invariant-loop-at

@@ -1,6 +1,6 @@
 use Rattle.std.proofs.Common.{◌≡◌, take}
 use Rattle.mt_replay.specs.Survivors.{wholes}
-use Rattle.mt_replay.proofs.log_cells.all_entries.Given as goal
+use Rattle.mt_replay.proofs.lents.all_entries.Given as goal
 
 -- those of the first entries
 abbrev pub invariant-loop-number : goal.invariant-loop-number

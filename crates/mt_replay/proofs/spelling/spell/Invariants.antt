@@ -1,7 +1,7 @@
 use Rattle.std.proofs.Common.{◌≡◌, take}
 use Rattle.std.specs.Prelude.{filter}
 use Rattle.mt_replay.specs.Survivors.{survives}
-use Rattle.mt_replay.proofs.log_cells.spell.Given as goal
+use Rattle.mt_replay.proofs.spelling.spell.Given as goal
 
 -- those of the first updates
 abbrev pub invariant-loop-update : goal.invariant-loop-update

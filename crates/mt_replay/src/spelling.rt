@@ -1,0 +1,47 @@
+//! Updates in memory as bodies.
+ghost use Rattle.std.specs.Prelude.{◌≡◌, ◌++◌, [], ◌∷◌, IfOk, OnOk, filter};
+ghost use Rattle.mt_replay.specs.Survivors.{survives as survives_in};
+
+use crate::Window;
+use crate::bodies::Bodies;
+use mt_record::body_of_update;
+use mt_words::{Kind, Memory, Update};
+use std::alloc::Global;
+
+/// The updates that survive, spelled as bodies.
+pub(crate) fn spell(alloc: Global, updates: &[Update], window: Window) -> Result<Bodies, Memory>
+    ensures { IfOk result (λ bodies. bodies ≡ filter (survives_in window) updates.now) }
+{
+    let mut bodies = Bodies::with_capacity(alloc, updates.len(), 0)?;
+    for update in updates {
+        add_body(alloc, &mut bodies, update, window)?;
+    }
+    Ok(bodies)
+}
+
+/// Adds the body of an update, if it survives.
+fn add_body(
+    alloc: Global,
+    bodies: &mut Bodies,
+    update: &Update,
+    window: Window,
+) -> Result<(), Memory>
+    ensures { OnOk result (bodies.new ≡ bodies.old ++ filter (survives_in window) (update.now ∷ [])) }
+{
+    if !survives(update, window) {
+        return Ok(());
+    }
+    let body = body_of_update(alloc, update)?;
+    bodies.push(update.stamp.origin, &body)?;
+    Ok(())
+}
+
+/// Whether an update survives: an entry always, and any other in the window.
+fn survives(update: &Update, window: Window) -> bool
+    ensures { result ≡ survives_in window update.now }
+{
+    match &update.kind {
+        Kind::Whole(_) => true,
+        _ => window.contains(update.timestamp),
+    }
+}
