@@ -1,5 +1,5 @@
 //! Cuts of the keys into pieces.
-ghost use Rattle.std.specs.Prelude.{◌≡◌, ◌≤◌, ◌<◌, ◌+◌, ◌↔◌, length, map, max, All, IfOk, IfErr, IsSome, IfSome};
+ghost use Rattle.std.specs.Prelude.{◌≡◌, ◌≤◌, ◌<◌, ◌+◌, ◌↔◌, [], length, map, max, All, IfOk, IfErr, IsSome, IfSome};
 ghost use Rattle.mt_words.specs.Limits.{widest};
 ghost use Rattle.mt_words.specs.Words.{IsKey};
 ghost use Rattle.mt_replay.specs.Cuts.{AreCuts, AreRising, IsCutFault, even_cuts, even_at};
@@ -92,6 +92,15 @@ impl Cuts {
             return Err(CutFault::TooMany);
         }
         Ok(Cuts { keys })
+    }
+
+    /// No cut: all keys are one piece.
+    pub fn none(alloc: Global) -> Cuts
+        ensures { result ≡ [] }
+    {
+        Cuts {
+            keys: Vec::new(alloc),
+        }
     }
 
     /// How many pieces the cuts make.
