@@ -1,26 +1,31 @@
 -- From the scans of the logs to what recovery finds.
-use Rattle.std.proofs.Common.{◌≡◌, ℕ, zero, suc, ◌<◌, ◌≤◌, Bool, true, false, List, [], ◌∷◌, ◌++◌, length, get_or, Option, Some, None, refl, sym, subst, arith}
+use Rattle.std.proofs.Common.{◌≡◌, ℕ, zero, suc, ◌<◌, ◌≤◌, Bool, true, false, List, [], ◌∷◌, ◌++◌, length, get_or, Option, Some, None, Contains, IsPermutation, refl, sym, ap, subst, arith}
 use Rattle.std.specs.Prelude.{nat_lt, not, cond, filter}
 use Rattle.std.specs.List.{position, position_or_len}
+use Rattle.std.specs.Option.{option_map}
 use Rattle.std.proofs.lemmas.Bool.Decides.{nat_tests}
+use Rattle.std.proofs.lemmas.List.Sorted.{IsPermutation-sym, Contains-permutation}
 use Rattle.std.proofs.lemmas.List.Sums.{prefix_len_passes}
 use Rattle.std.proofs.lemmas.List.Quantifiers.{position-Some}
 use Rattle.mt_words.specs.declared.fault.Fault.TheVariants.{Gap}
-use Rattle.mt_words.specs.declared.record.Change.{Change}
 use Rattle.mt_words.specs.declared.update.Update.{Update}
 use Rattle.mt_words.specs.Walks.{Pair}
 use Rattle.mt_record.specs.Logs.{LogReading}
 use Rattle.mt_scan.specs.declared.log_scan.LogScan.{LogScan}
 use Rattle.mt_scan.specs.Cutoff.{IsCutoff, HaveNumbersOf}
 use Rattle.mt_scan.specs.PartScans.{KnownPart}
-use Rattle.mt_scan.specs.Choice.{Checkpoint, IsChosenOf}
-use Rattle.mt_replay.specs.Survivors.{in_window, all_updates, wholes}
+use Rattle.mt_scan.specs.declared.choice.Checkpoint.{Checkpoint as Chosen}
+use Rattle.mt_scan.specs.Choice.{Checkpoint, IsChosenOf, checkpoint_in}
+use Rattle.mt_replay.specs.Survivors.{in_window, all_updates}
 use Rattle.mt_recover.specs.Survivors.{entry_updates, begin_of, survivors}
-use Rattle.mt_replay.specs.Walk.{AreApart, AreLawful, IsWalk}
+use Rattle.mt_replay.specs.Walk.{AreApart, IsWalk}
 use Rattle.mt_recover.specs.Recovery.{AreReadings, AreKnown, Facts, IsGap, records_of, IsStoreOf}
 use Rattle.mt_recover.specs.Verdict.{IsFirst, IsVerdict}
-use Rattle.mt_recover.specs.LogScans.{ShowAll, AreScansOf, kept, surviving}
-use Rattle.mt_recover.proofs.SurvivorLemmas.{survivors_apart, survivors_lawful}
+use Rattle.mt_recover.specs.declared.start.Start.{Start}
+use Rattle.mt_recover.specs.LogScans.{ShowAll, AreScansOf, kept}
+use Rattle.mt_recover.specs.Start.{IsStartOf, surviving}
+use Rattle.mt_replay.proofs.StepLemmas.{same_column}
+use Rattle.mt_recover.proofs.SurvivorLemmas.{survivors_apart}
 
 -- ---- gaps
 
@@ -137,29 +142,51 @@ gap_of logs parts scans known cutoff begin chosen i are know is of from e = (
   subst (λ (n : ℕ). IsFirst (IsGap n are.readings) i) from (first_gap begin scans are.readings i (numbers_of 0 scans are.readings are.show) e),
 )
 
--- the walk of updates, where they are apart and lawful
-abbrev pub IsWalkOfLawful : List Update → List Pair → Type 0
-IsWalkOfLawful updates pairs = AreApart updates → AreLawful updates → IsWalk updates pairs
-
--- what survives of the scans and of entries is what survives of the logs and of the chosen checkpoint
-same_survivors : (scans : List LogScan) (readings : List LogReading) (entries : List Change) (cutoff begin : ℕ) (chosen : Option Checkpoint)
-    → ShowAll 0 scans readings → begin ≡ begin_of chosen → wholes entries ≡ entry_updates chosen
-    → surviving (record { begin = begin; cutoff = cutoff }) scans entries ≡ survivors cutoff chosen (records_of readings)
-same_survivors scans readings entries cutoff begin chosen show from all =
-    let updates = same_updates 0 scans readings show in
-    λ i. filter (in_window (record { begin = from i; cutoff = cutoff })) (updates i) ++ all i
-
--- the store of logs and parts
-pub store_is : (logs parts : List (List ℕ)) (scans : List LogScan) (known : List KnownPart) (entries : List Change) (cutoff begin : ℕ) (chosen : Option Checkpoint)
-    (pairs : List Pair) → AreScansOf logs scans → AreKnown parts known → IsCutoffOf scans cutoff → IsChosenOf known cutoff chosen → begin ≡ begin_of chosen
-    → wholes entries ≡ entry_updates chosen → position (has_gap begin) scans ≡ None
-    → IsWalkOfLawful (surviving (record { begin = begin; cutoff = cutoff }) scans entries) pairs → IsStoreOf logs parts pairs
-store_is logs parts scans known entries cutoff begin chosen pairs are know is of from all e walk_of = record {
-  facts = facts_of logs parts scans known cutoff chosen are know is of;
+-- recovery starts from there
+pub start_of : (logs parts : List (List ℕ)) (scans : List LogScan) (known : List KnownPart) (cutoff begin : ℕ) (chosen : Option Chosen)
+    → AreScansOf logs scans → AreKnown parts known → IsCutoffOf scans cutoff → IsChosenOf known cutoff (option_map checkpoint_in chosen)
+    → begin ≡ begin_of (option_map checkpoint_in chosen) → position (has_gap begin) scans ≡ None
+    → IsStartOf logs parts scans (record { window = record { begin = begin; cutoff = cutoff }; chosen = chosen })
+start_of logs parts scans known cutoff begin chosen are know is of from e = record {
+  facts = facts_of logs parts scans known cutoff (option_map checkpoint_in chosen) are know is of;
+  show = are.show;
   no_gap = subst (λ (n : ℕ). (i : ℕ) → IsGap n are.readings i → ⊥) from (no_gap begin scans are.readings (numbers_of 0 scans are.readings are.show) e);
-  walk =
-      let same = same_survivors scans are.readings entries cutoff begin chosen are.show from all in
-      let walk = subst (λ (x : List Update). IsWalkOfLawful x pairs) same walk_of in
-      walk (survivors_apart known cutoff chosen (records_of are.readings) of)
-      (survivors_lawful parts known cutoff chosen logs are.readings know of are.read);
+  window = ap (λ (n : ℕ). record { begin = n; cutoff = cutoff }) from;
+  chosen = refl;
 }
+
+-- ---- the store
+
+-- what survives of the scans is what survives of the logs and of the chosen checkpoint
+same_survivors : (logs parts : List (List ℕ)) (scans : List LogScan) (start : Start) (is : IsStartOf logs parts scans start)
+    → surviving start scans ≡ survivors is.facts.cutoff is.facts.chosen (records_of is.facts.readings)
+same_survivors logs parts scans start is =
+    let updates = same_updates 0 scans is.facts.readings is.show in
+    λ i. filter (in_window (is.window i)) (updates i) ++ entry_updates (is.chosen i)
+
+-- the walk of updates in another order
+walk_of : (updates moved : List Update) (pairs : List Pair) → IsPermutation updates moved → AreApart updates → (AreApart moved → IsWalk moved pairs) → IsWalk updates pairs
+walk_of updates moved pairs same apart walk =
+    let into : (u : Update) → Contains updates u → Contains moved u = λ u at. Contains-permutation updates moved u same at in
+    let from : (u : Update) → Contains moved u → Contains updates u = λ u at. Contains-permutation moved updates u (IsPermutation-sym updates moved same) at in
+    let is = walk (λ a b at here. apart a b (from a at) (from b here)) in
+    record {
+      map = is.map;
+      exact = λ key number bytes. (
+        λ holds. same_column moved updates key number bytes (λ u at _. from u at) (λ u at _. into u at) ((is.exact key number bytes).0 holds),
+        λ has. (is.exact key number bytes).1 (same_column updates moved key number bytes (λ u at _. into u at) (λ u at _. from u at) has),
+      );
+    }
+
+-- the walk of what survives is the store
+pub store_of : (logs parts : List (List ℕ)) (scans : List LogScan) (start : Start) (moved : List Update) (pairs : List Pair) → IsStartOf logs parts scans start
+    → IsPermutation (surviving start scans) moved → (AreApart moved → IsWalk moved pairs) → IsStoreOf logs parts pairs
+store_of logs parts scans start moved pairs is same walk =
+    let facts = is.facts in
+    let all : List Update = survivors facts.cutoff facts.chosen (records_of facts.readings) in
+    record {
+      facts = facts;
+      no_gap = is.no_gap;
+      walk = walk_of all moved pairs (subst (λ (us : List Update). IsPermutation us moved) (same_survivors logs parts scans start is) same)
+      (survivors_apart facts.known facts.cutoff facts.chosen (records_of facts.readings) facts.is_chosen) walk;
+    }

@@ -1,6 +1,3 @@
-pub mod KeyWritesLemmas
-pub mod StoreLemmas
-pub mod WalkLemmas
 pub mod Apart
 pub mod ReplayLemmas
 pub mod OneWalk

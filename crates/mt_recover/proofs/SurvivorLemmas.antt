@@ -1,4 +1,4 @@
--- What survives of logs and of a chosen checkpoint: no two updates of a key have one stamp, and each is lawful.
+-- What survives of logs and of a chosen checkpoint: no two updates of a key have one stamp, 
 use Rattle.std.proofs.Common.{◌≡◌, inl, inr, ℕ, List, [], ◌∷◌, ◌++◌, map, Option, Some, None, Contains, sym, ap, ◌∙◌, subst, append_assoc}
 use Rattle.std.specs.List.{AllByRecursion, flat_map}
 use Rattle.std.proofs.lemmas.List.{map-append}
@@ -23,17 +23,10 @@ use Rattle.mt_recover.specs.Survivors.{entry_updates, begin_of, survivors}
 use Rattle.mt_recover.specs.Recovery.{AreReadings, AreKnown, records_of}
 use Rattle.mt_replay.specs.Walk.{AreApart, AreLawful}
 use Rattle.mt_recover.proofs.Apart.{of_logs, logs_apart}
-use Rattle.mt_recover.proofs.ReplayLemmas.{was_there, lawful_logs}
+use Rattle.mt_recover.proofs.ReplayLemmas.{was_there}
 use Rattle.mt_recover.proofs.OneWalk.{of_each, not_below_itself}
 
 -- ---- the updates of entries
-
--- those of one more entry
-pub wholes_more : (before : List Update) (entries : List Change) (entry : Change)
-    → (before ++ wholes entries) ++ update_at origins.Checkpoint 0 entry ∷ [] ≡ before ++ wholes (entries ++ entry ∷ [])
-wholes_more before entries entry =
-    append_assoc before (wholes entries) (update_at origins.Checkpoint 0 entry ∷ [])
-    ∙ ap (λ (x : List Update). before ++ x) (sym (map-append (update_at origins.Checkpoint 0) entries (entry ∷ [])))
 
 -- each is that of an entry
 of_entry : (entries : List Change) (u : Update) → Contains (wholes entries) u
@@ -109,67 +102,4 @@ survivors_apart known cutoff chosen logs is u w at here key same =
         | inl log ↦ absurd (two_origins logs chosen w u (was_there (in_window window) (log_updates logs) w log) entry (sym same))
         | inr too ↦ one_of_chosen known cutoff chosen u w is entry too key
       ]
-    ]
-
--- ---- lawful entries
-
--- an entry of parts is one of a part
-in_part : (texts : List PartReading) (entry : Change) → Contains (flat_map (λ (text : PartReading). text.entries) texts) entry
-    → (text : PartReading) × Contains texts text × Contains text.entries entry
-in_part [] entry at = absurd (no_element entry at)
-in_part (t ∷ ts) entry at =
-    elim (Contains-append_cases t.entries (flat_map (λ (text : PartReading). text.entries) ts) entry at)
-    as (λ _. (text : PartReading) × Contains (t ∷ ts) text × Contains text.entries entry) [
-      | inl first ↦ (t, head_in t ts, first)
-      | inr later ↦ let is = in_part ts entry later in (is.0, Contains-append_right (t ∷ []) ts is.0 is.1, is.2)
-    ]
-
-among_wholes : (texts : List PartReading) (text : PartReading) → Contains texts text → Contains (map whole texts) (whole text)
-among_wholes [] text at = absurd (no_element text at)
-among_wholes (t ∷ ts) text at = elim (head_or_tail t text ts at) as (λ _. Contains (map whole (t ∷ ts)) (whole text)) [
-  | inl same ↦ subst (λ (x : PartReading). Contains (map whole (t ∷ ts)) (whole x)) same (head_in (whole t) (map whole ts))
-  | inr later ↦ Contains-append_right (whole t ∷ []) (map whole ts) (whole text) (among_wholes ts text later)
-]
-
--- the entries of a whole part are lawful
-part_lawful : (parts : List (List ℕ)) (known : List KnownPart) (text : PartReading) → AreKnown parts known → Contains known (whole text)
-    → AllByRecursion (IsEntry widest) text.entries
-part_lawful [] [] text are at = absurd (no_element (whole text) at)
-part_lawful [] (k ∷ ks) text are at = absurd are
-part_lawful (b ∷ bs) [] text are at = absurd are
-part_lawful (b ∷ bs) (k ∷ ks) text are at =
-    elim (head_or_tail k (whole text) ks at) as (λ _. AllByRecursion (IsEntry widest) text.entries) [
-      | inl same ↦ let is : IsKnown b (whole text) = subst (IsKnown b) same are.0 in entries_within is.0 text.entries is.1.lawful
-      | inr later ↦ part_lawful bs ks text are.1 later
-    ]
-
--- so are those of a valid checkpoint
-checkpoint_lawful : (parts : List (List ℕ)) (known : List KnownPart) (checkpoint : Checkpoint) (entry : Change) → AreKnown parts known
-    → IsValid known checkpoint → Contains checkpoint.entries entry → IsEntry widest entry
-checkpoint_lawful parts known checkpoint entry are valid at =
-    let of = in_part valid.texts entry (subst (λ (x : List Change). Contains x entry) valid.make_up.all at) in
-    let its = parts_of checkpoint.number known in
-    let found : Contains its (whole of.0) =
-    Contains-permutation (map whole valid.texts) its (whole of.0) (IsPermutation-sym its (map whole valid.texts) valid.are_whole) (among_wholes valid.texts of.0 of.1) in
-    of_each (IsEntry widest) of.0.entries entry
-    (part_lawful parts known of.0 are (was_there (belongs_to checkpoint.number) known (whole of.0) found)) of.2
-
--- and the updates that they make
-chosen_lawful : (parts : List (List ℕ)) (known : List KnownPart) (cutoff : ℕ) (chosen : Option Checkpoint) → AreKnown parts known
-    → IsChosenOf known cutoff chosen → AreLawful (entry_updates chosen)
-chosen_lawful parts known cutoff None are is u at = absurd (no_element u at)
-chosen_lawful parts known cutoff (Some checkpoint) are is u at =
-    let of = of_entry checkpoint.entries u at in
-    let lawful = checkpoint_lawful parts known checkpoint of.0 are is.0.valid of.1 in
-    subst (λ (x : Update). AllowsKind widest x.kind) of.2 lawful.0.kind
-
--- what survives is lawful
-pub survivors_lawful : (parts : List (List ℕ)) (known : List KnownPart) (cutoff : ℕ) (chosen : Option Checkpoint) (logs : List (List ℕ))
-    (readings : List LogReading) → AreKnown parts known → IsChosenOf known cutoff chosen → AreReadings logs readings
-    → AreLawful (survivors cutoff chosen (records_of readings))
-survivors_lawful parts known cutoff chosen logs readings are is read u at =
-    let window : Window = record { begin = begin_of chosen; cutoff = cutoff } in
-    elim (Contains-append_cases (log_survivors window (records_of readings)) (entry_updates chosen) u at) as (λ _. AllowsKind widest u.kind) [
-      | inl log ↦ lawful_logs 0 logs readings u read (was_there (in_window window) (log_updates (records_of readings)) u log)
-      | inr entry ↦ chosen_lawful parts known cutoff chosen are is u entry
     ]

@@ -2,6 +2,6 @@ pub mod Survivors
 pub mod Recovery
 pub mod Verdict
 pub mod Dump
-pub mod KeyWrites
 pub mod LogScans
+pub mod Start
 pub mod Inputs

@@ -1,13 +1,12 @@
 -- The scans of logs, and the updates that they kept.
-use Rattle.std.specs.Prelude.{ℕ, suc, List, [], ◌∷◌, ◌++◌, filter}
+use Rattle.std.specs.Prelude.{ℕ, suc, List, [], ◌∷◌, filter}
 use Rattle.std.specs.List.{flat_map}
-use Rattle.mt_words.specs.declared.record.Change.{Change}
 use Rattle.mt_words.specs.declared.update.Update.{Update}
 use Rattle.mt_record.specs.Logs.{LogReading}
 use Rattle.mt_scan.specs.declared.log_scan.LogScan.{LogScan}
 use Rattle.mt_scan.specs.Scans.{ShowsLog}
 use Rattle.mt_replay.specs.declared.window.Window.{Window}
-use Rattle.mt_replay.specs.Survivors.{in_window, wholes}
+use Rattle.mt_replay.specs.Survivors.{in_window}
 use Rattle.mt_recover.specs.Recovery.{AreReadings}
 
 -- each scan shows what its log says; the logs are numbered from this number on
@@ -23,14 +22,14 @@ pub record AreScansOf (logs : List (List ℕ)) (scans : List LogScan) : Type 0 w
   pub read : AreReadings logs readings
   pub show : ShowAll 0 scans readings
 
+-- the updates that a scan kept
+abbrev pub kept_by : LogScan → List Update
+kept_by scan = scan.updates.items
+
 -- all updates of the scans
 abbrev pub kept : List LogScan → List Update
-kept scans = flat_map (λ scan. scan.updates.items) scans
+kept scans = flat_map kept_by scans
 
 -- those in the window
 abbrev pub kept_in : Window → List LogScan → List Update
 kept_in window scans = filter (in_window window) (kept scans)
-
--- what survives of the scans, and all that these entries of a checkpoint make
-abbrev pub surviving : Window → List LogScan → List Change → List Update
-surviving window scans entries = kept_in window scans ++ wholes entries

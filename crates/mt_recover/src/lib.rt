@@ -1,16 +1,15 @@
 //! Recovery of a store from update logs and checkpoint parts, and its text.
 #![tactic(auto)]
 
-mod cell;
+mod cells;
 mod dump;
-mod key_writes;
 mod laws;
 mod program;
 mod read_logs;
 mod recover;
-mod replay;
 mod scan_logs;
 mod scan_parts;
+mod start;
 mod store;
 
 pub use dump::write_dump;

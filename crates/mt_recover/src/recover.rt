@@ -1,23 +1,20 @@
 //! Recovery from sources, and from logs in memory.
-ghost use Rattle.std.specs.Prelude.{◌≡◌, [], List, ℕ, map, position, nat_lt, IfOk, IfErr};
-ghost use Rattle.std.specs.Option.{option_map};
+ghost use Rattle.std.specs.Prelude.{◌≡◌, [], List, ℕ, map, IfOk, IfErr};
 ghost use Rattle.mt_scan.specs.PartScans.{known_by};
-ghost use Rattle.mt_scan.specs.Choice.{checkpoint_in};
-ghost use Rattle.mt_replay.specs.Survivors.{wholes};
-ghost use Rattle.mt_recover.specs.Survivors.{begin_of, entry_updates};
 ghost use Rattle.mt_recover.specs.LogScans.{AreScansOf};
 ghost use Rattle.mt_recover.specs.Recovery.{AreKnown, IsStoreOf};
 ghost use Rattle.mt_recover.specs.Verdict.{IsVerdictOrMemory};
 ghost use Rattle.mt_recover.specs.Inputs.{OfSources, IsAnsweredFrom, BlamesUnsteady};
 
+use crate::cells::cells_of;
+use crate::pieces::replay_all;
 use crate::read_logs::read_logs;
-use crate::replay::replay;
 use crate::scan_logs::scan_logs;
 use crate::scan_parts::scan_parts;
+use crate::start::Start;
 use crate::store::Store;
-use mt_replay::Window;
-use mt_scan::{Checkpoint, LogScan, PartScan, Source, choose, cutoff};
-use mt_words::{Entry, Fault};
+use mt_scan::{LogScan, PartScan, Source};
+use mt_words::Fault;
 use std::alloc::Global;
 use std::marker::Model;
 
@@ -101,32 +98,10 @@ pub(crate) fn recover_scans(
     ensures fault { (logs part_bytes : List (List ℕ)) → AreScansOf logs scans.items →
         AreKnown part_bytes (map known_by parts.items) → IfErr result (IsVerdictOrMemory logs part_bytes) }
 {
-    let Some(cutoff) = cutoff(&scans) else {
-        return Err(Fault::NoLogs);
-    };
-    let choice = choose(alloc, parts, cutoff)?;
-    let (begin, entries) = start_from(alloc, choice.chosen);
-    if let Some(log) = first_gap(&scans, begin) {
-        return Err(Fault::Gap { log });
-    }
-    let store = replay(alloc, Window { begin, cutoff }, scans, entries)?;
-    Ok(Recovered { store })
-}
-
-/// From where on logs are replayed, and over which entries.
-fn start_from(alloc: Global, chosen: Option<Checkpoint>) -> (u64, Vec<Entry>)
-    ensures begin { result.0 ≡ begin_of (option_map checkpoint_in chosen) }
-    ensures entries { wholes result.1.items ≡ entry_updates (option_map checkpoint_in chosen) }
-{
-    match chosen {
-        Some(checkpoint) => (checkpoint.begin, checkpoint.entries),
-        None => (0, Vec::new(alloc)),
-    }
-}
-
-/// The first log from which updates at or past `begin` may be missing.
-fn first_gap(scans: &[LogScan], begin: u64) -> Option<usize>
-    ensures { result ≡ position (λ scan. nat_lt begin scan.from) scans.now }
-{
-    scans.iter().position(|scan| begin < scan.from)
+    let start = Start::of(alloc, &scans, parts)?;
+    let lists = cells_of(alloc, scans, start)?;
+    let pairs = replay_all(alloc, &lists)?;
+    Ok(Recovered {
+        store: Store::of(pairs),
+    })
 }

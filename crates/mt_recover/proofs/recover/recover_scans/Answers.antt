@@ -1,30 +1,27 @@
-use Rattle.std.proofs.Common.{◌≡◌, ◌∙◌, List, Some, None, map, sym, subst}
-use Rattle.std.specs.List.{position}
-use Rattle.std.specs.Option.{option_map}
+use Rattle.std.proofs.Common.{List, IsPermutation, sym, subst}
+use Rattle.std.proofs.lemmas.Result.{err_from_is_err_and}
+use Rattle.mt_words.specs.declared.update.Update.{Update}
 use Rattle.mt_scan.specs.declared.log_scan.LogScan.{LogScan}
-use Rattle.mt_scan.specs.PartScans.{known_by}
-use Rattle.mt_scan.specs.Choice.{checkpoint_in}
-use Rattle.mt_recover.proofs.FactLemmas.{has_gap, no_logs, IsCutoffOf, gap_of, store_is}
+use Rattle.mt_replay.specs.Runs.{together}
+use Rattle.mt_recover.specs.LogScans.{AreScansOf}
+use Rattle.mt_recover.specs.Recovery.{IsStoreOf}
+use Rattle.mt_recover.specs.Start.{surviving}
+use Rattle.mt_recover.proofs.FactLemmas.{store_of}
 use Rattle.mt_recover.proofs.recover.recover_scans.Goals as goal
 
-pub returns-in_default-clause-fault : goal.returns-in_default-clause-fault
-returns-in_default-clause-fault c = λ logs bytes are know. no_logs logs c.args.scans.items are (sym c.deref.ensures.value ∙ c.in_default.ensures.none)
-
-pub returns-in-Some-first_gap-clause-fault : goal.returns-in-Some-first_gap-clause-fault
-returns-in-Some-first_gap-clause-fault c =
-    let is = subst (λ (x : List LogScan). IsCutoffOf x c.in-Some.cutoff) c.deref.ensures.value c.in-Some.ensures.found in
-    let begin = c.start_from-begin.result.0 in
-    let first = subst (λ (x : List LogScan). position (has_gap begin) x ≡ Some c.in-Some-first_gap.log) c.deref-2.ensures.value (sym c.in-Some-first_gap.ensures) in
-    let known = map known_by c.args.parts.items in
-    let chosen = option_map checkpoint_in c.in_ok-choice.choice.chosen in
-    λ logs bytes are know. gap_of logs bytes c.args.scans.items known c.in-Some.cutoff begin chosen c.in-Some-first_gap.log are know is c.in_ok-choice.ensures.chosen c.start_from-begin.ensures.begin first
+pub returns-in_err-start-clause-fault : goal.returns-in_err-start-clause-fault
+returns-in_err-start-clause-fault c = λ logs bytes are know.
+    let p = err_from_is_err_and c.from_residual.result c.from_residual.ensures.1 in
+    let own = subst (AreScansOf logs) (sym c.deref.ensures.value) are in
+    rw (p.1, p.2) (c.in_err-start.ensures.fault logs bytes own know)
 
 pub returns-clause-store : goal.returns-clause-store
-returns-clause-store c =
-    let is = subst (λ (x : List LogScan). IsCutoffOf x c.in-Some.cutoff) c.deref.ensures.value c.in-Some.ensures.found in
-    let begin = c.start_from-begin.result.0 in
-    let entries = c.start_from-begin.result.1.items in
-    let none = subst (λ (x : List LogScan). position (has_gap begin) x ≡ None) c.deref-2.ensures.value (sym c.in_default-first_gap.ensures) in
-    let known = map known_by c.args.parts.items in
-    let chosen = option_map checkpoint_in c.in_ok-choice.choice.chosen in
-    λ logs bytes are know. store_is logs bytes c.args.scans.items known entries c.in-Some.cutoff begin chosen c.in_ok-store.store are know is c.in_ok-choice.ensures.chosen c.start_from-begin.ensures.begin c.start_from-begin.ensures.entries none c.in_ok-store.ensures
+returns-clause-store c = λ logs bytes are know.
+    let start = c.in_ok-start.start in
+    let scans : List LogScan = c.deref.result.now in
+    let lists : List (List Update) = c.deref-2.result.now in
+    let own = subst (AreScansOf logs) (sym c.deref.ensures.value) are in
+    let given = subst (λ (x : List (List Update)). IsPermutation (surviving start c.args.scans.items) (together x)) (sym c.deref-2.ensures.value) c.in_ok-lists.ensures in
+    let same = subst (λ (x : List LogScan). IsPermutation (surviving start x) (together lists)) (sym c.deref.ensures.value) given in
+    subst (IsStoreOf logs bytes) (sym c.of-2.ensures)
+    (store_of logs bytes scans start (together lists) c.in_ok-pairs.pairs.items (c.in_ok-start.ensures.start logs bytes own know) same c.in_ok-pairs.ensures.walk)
