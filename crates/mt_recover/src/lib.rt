@@ -5,6 +5,7 @@ mod cell;
 mod dump;
 mod key_writes;
 mod laws;
+mod pieces;
 mod program;
 mod read_logs;
 mod recover;
