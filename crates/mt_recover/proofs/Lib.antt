@@ -9,3 +9,4 @@ pub mod FindLemmas
 pub mod DumpLemmas
 pub mod OneVerdict
 pub mod Worked
+pub mod PiecesLemmas

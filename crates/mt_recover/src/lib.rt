@@ -4,6 +4,7 @@
 mod cells;
 mod dump;
 mod laws;
+mod pieces;
 mod program;
 mod read_logs;
 mod recover;
