@@ -2,11 +2,13 @@
 use crate::draft::Draft;
 use crate::mistake::Mistake;
 use crate::source::DraftSource;
-use mt_recover::{Inputs, Recovered, recover_logs, recover_one, write_dump};
+use mt_recover::{
+    Cuts, Cutting, Inputs, NoGate, Recovered, Workers, recover, recover_logs, write_dump,
+};
 use mt_scan::{
     Choice, LONGEST_BUFFER, LogScan, PartScan, Rack, Slot, choose, cutoff, scan_log, scan_part,
 };
-use mt_words::Fault;
+use mt_words::{Fault, Key};
 use std::alloc::Global;
 use std::fmt::Display;
 use std::io::{self, Write};
@@ -24,35 +26,34 @@ pub fn push_from_memory(
     Ok(write_answer(recover_logs(alloc, &logs), text)?)
 }
 
-/// Appends what recovery answers from sources with buffers of this size, and before that, if it is asked for, what is
-/// chosen from the parts. All buffers are back then.
-pub fn push_from_sources(
-    alloc: Global,
-    drafts: &[Draft],
-    has_choice: bool,
-    size: usize,
-    text: &mut Vec<u8>,
-) -> Result<(), Mistake> {
-    let mut rack = rack_for(alloc, drafts, size)?;
-    if has_choice {
-        let inputs = inputs_of(alloc, drafts, rack.slots())?;
-        push_choice(alloc, inputs, text)?;
+/// What so many workers answer, where the keys are cut so.
+pub fn recover_by(
+    rt: &HostRuntime,
+    inputs: Inputs<DraftSource<'_>>,
+    workers: u32,
+    cutting: Cutting,
+) -> Result<Result<Recovered, Fault>, Mistake> {
+    let workers = Workers::new(workers).ok_or(Mistake::Number)?;
+    Ok(recover(rt, rt.alloc(), inputs, workers, cutting, &NoGate))
+}
+
+/// Cuts at these keys.
+pub fn cuts_at(alloc: Global, keys: &[Vec<u8>]) -> Result<Cuts, Mistake> {
+    let mut cuts = Vec::new(alloc);
+    for key in keys {
+        let bytes = Vec::from_slice(alloc, key)?;
+        cuts.push(Key::new(bytes).ok_or(Mistake::Key)?)?;
     }
-    let inputs = inputs_of(alloc, drafts, rack.slots())?;
-    write_answer(recover_one(alloc, inputs), text)?;
-    if !rack.all_full() {
-        text.extend_from_slice(b"a buffer is not back\n")?;
-    }
-    Ok(())
+    Cuts::new(cuts).map_err(|_| Mistake::Cuts)
 }
 
 /// A slot with a buffer of this size for each draft.
-fn rack_for(alloc: Global, drafts: &[Draft], size: usize) -> Result<Rack, Mistake> {
+pub fn rack_for(alloc: Global, drafts: &[Draft], size: usize) -> Result<Rack, Mistake> {
     Ok(Rack::new(alloc, drafts.len(), size.clamp(1, LONGEST_BUFFER))?)
 }
 
 /// The sources of the drafts, each with the buffer of a slot.
-fn inputs_of<'a>(
+pub fn inputs_of<'a>(
     alloc: Global,
     drafts: &'a [Draft],
     slots: &'a mut [Slot],
@@ -71,7 +72,7 @@ fn inputs_of<'a>(
 }
 
 /// Writes an answer of recovery: `store` and its pairs, or `fault` and the fault.
-fn write_answer<W: Write>(answer: Result<Recovered, Fault>, out: &mut W) -> io::Result<()> {
+pub fn write_answer<W: Write>(answer: Result<Recovered, Fault>, out: &mut W) -> io::Result<()> {
     match answer {
         Ok(recovered) => {
             out.write_all(b"store\n")?;
@@ -83,7 +84,7 @@ fn write_answer<W: Write>(answer: Result<Recovered, Fault>, out: &mut W) -> io::
 
 /// Appends what is chosen from the parts, below the cutoff of the logs: `choice` and the number of the checkpoint or
 /// `none`, then `skipped` and `nameless` with their numbers, where there are any; or `choice fault` and the fault.
-fn push_choice(
+pub fn push_choice(
     alloc: Global,
     inputs: Inputs<DraftSource<'_>>,
     text: &mut Vec<u8>,

@@ -47,7 +47,7 @@ fn try_file<O: Write, E: Write>(
     teller: &mut Teller<O, E>,
 ) -> io::Result<()> {
     match fs::read_to_string(rt, name) {
-        Ok(text) => teller.try_text(rt.alloc(), name, text.as_str()),
+        Ok(text) => teller.try_text(rt, name, text.as_str()),
         Err(_) => teller.tell_unread(name, "cannot be read"),
     }
 }

@@ -4,7 +4,6 @@ use crate::case::Way;
 use crate::mistake::Mistake;
 use crate::names::{Named, read_name};
 use crate::trying::{Difference, try_case};
-use std::alloc::Global;
 use std::io::{self, Write};
 
 /// What became of the cases so far. A line that is not understood, and a file that cannot be read, is a case that does
@@ -49,15 +48,15 @@ impl<O: Write, E: Write> Teller<O, E> {
     }
 
     /// Tries the cases of a file of this name and this text. Those behind a line `refused` are not to hold.
-    pub fn try_text(&mut self, alloc: Global, file: &str, text: &str) -> io::Result<()> {
-        let Ok(blocks) = blocks_of(alloc, text) else {
+    pub fn try_text(&mut self, rt: &HostRuntime, file: &str, text: &str) -> io::Result<()> {
+        let Ok(blocks) = blocks_of(rt.alloc(), text) else {
             return self.tell_unread(file, "no memory");
         };
-        let mut names = Vec::new(alloc);
+        let mut names = Vec::new(rt.alloc());
         let mut is_refused = false;
         for block in &blocks {
             is_refused = is_refused || block.head.first_word() == "refused";
-            self.try_block(alloc, file, &mut names, block, is_refused)?;
+            self.try_block(rt, file, &mut names, block, is_refused)?;
         }
         Ok(())
     }
@@ -71,14 +70,14 @@ impl<O: Write, E: Write> Teller<O, E> {
     /// Adds a name, or tries a case; a head that is neither is told.
     fn try_block<'a>(
         &mut self,
-        alloc: Global,
+        rt: &HostRuntime,
         file: &str,
         names: &mut Vec<Named<'a>>,
         block: &Block<'a>,
         is_refused: bool,
     ) -> io::Result<()> {
         let mut at = block.head;
-        match trial_of(alloc, names, block, &mut at) {
+        match trial_of(rt, names, block, &mut at) {
             Ok(Trial::NoCase) => Ok(()),
             Ok(Trial::Holds) => self.tell_holds(file, &at, is_refused),
             Ok(Trial::Differs(difference)) => {
@@ -150,7 +149,7 @@ impl<O: Write, E: Write> Teller<O, E> {
 
 /// Adds the name that a block gives, or tries its case. `at` is the line that was read last.
 fn trial_of<'a>(
-    alloc: Global,
+    rt: &HostRuntime,
     names: &mut Vec<Named<'a>>,
     block: &Block<'a>,
     at: &mut Line<'a>,
@@ -158,11 +157,11 @@ fn trial_of<'a>(
     match block.head.first_word() {
         "refused" => ask_empty(block, at),
         "name" => {
-            let named = read_name(alloc, names, block, at)?;
+            let named = read_name(rt.alloc(), names, block, at)?;
             names.push(named)?;
             Ok(Trial::NoCase)
         }
-        "case" => match try_case(alloc, names, block, at)? {
+        "case" => match try_case(rt, names, block, at)? {
             None => Ok(Trial::Holds),
             Some(difference) => Ok(Trial::Differs(difference)),
         },
@@ -186,6 +185,12 @@ fn write_difference<O: Write>(difference: &Difference, out: &mut O) -> io::Resul
     match difference.way {
         Way::Memory => out.write_all(b"came, from memory")?,
         Way::Buffers(size) => write!(out, "came, with buffers of {size}")?,
+        Way::Even { workers, pieces } => {
+            write!(out, "came, with {workers} workers and {pieces} pieces")?;
+        }
+        Way::At { workers, line } => {
+            write!(out, "came, with {workers} workers and line {line} of cuts")?;
+        }
     }
     if let Some(pass) = difference.pass {
         write!(out, " and n = {pass}")?;

@@ -17,7 +17,7 @@ pub struct Difference {
 
 /// The first difference in a case, if there is one, in whatever pass and way. `at` is the line that was read last.
 pub fn try_case<'a>(
-    alloc: Global,
+    rt: &HostRuntime,
     names: &[Named<'_>],
     block: &Block<'a>,
     at: &mut Line<'a>,
@@ -26,16 +26,16 @@ pub fn try_case<'a>(
     match lines.split_first() {
         Some((line, rest)) if line.first_word() == "each" => {
             *at = *line;
-            let passes = passes_of(alloc, line)?;
-            try_passes(alloc, names, block.head, rest, passes, at)
+            let passes = passes_of(rt.alloc(), line)?;
+            try_passes(rt, names, block.head, rest, passes, at)
         }
-        _ => try_pass(alloc, names, block.head, lines, None, at),
+        _ => try_pass(rt, names, block.head, lines, None, at),
     }
 }
 
 /// The first difference in these passes.
 fn try_passes<'a>(
-    alloc: Global,
+    rt: &HostRuntime,
     names: &[Named<'_>],
     head: Line<'a>,
     lines: &[Line<'a>],
@@ -44,7 +44,7 @@ fn try_passes<'a>(
 ) -> Result<Option<Difference>, Mistake> {
     for pass in passes.first..=passes.last {
         if passes.but != Some(pass) {
-            let found = try_pass(alloc, names, head, lines, Some(pass), at)?;
+            let found = try_pass(rt, names, head, lines, Some(pass), at)?;
             if found.is_some() {
                 return Ok(found);
             }
@@ -55,20 +55,20 @@ fn try_passes<'a>(
 
 /// The first difference in a pass.
 fn try_pass<'a>(
-    alloc: Global,
+    rt: &HostRuntime,
     names: &[Named<'_>],
     head: Line<'a>,
     lines: &[Line<'a>],
     pass: Option<u64>,
     at: &mut Line<'a>,
 ) -> Result<Option<Difference>, Mistake> {
-    let mut case = Case::new(alloc);
+    let mut case = Case::new(rt.alloc());
     for line in lines {
         *at = *line;
-        read_line(alloc, names, line.text, pass, &mut case)?;
+        read_line(rt.alloc(), names, line.text, pass, &mut case)?;
     }
     *at = head;
-    compare(alloc, case, pass)
+    compare(rt, case, pass)
 }
 
 /// Takes the text of a line in.
@@ -85,13 +85,13 @@ fn read_line(
 
 /// The first difference between what comes and what is expected.
 fn compare(
-    alloc: Global,
+    rt: &HostRuntime,
     mut case: Case,
     pass: Option<u64>,
 ) -> Result<Option<Difference>, Mistake> {
     case.finish()?;
-    for way in case.ways(alloc)? {
-        let came = case.come(alloc, way)?;
+    for way in case.ways(rt.alloc())? {
+        let came = case.come(rt, way)?;
         if came != case.expected {
             return Ok(Some(differing(case, pass, way, came)));
         }
