@@ -12,9 +12,12 @@ mod scan_logs;
 mod scan_parts;
 mod start;
 mod store;
+mod workers;
 
 pub use dump::write_dump;
 pub use laws::{one_verdict, one_walk};
+pub use mt_replay::{Cuts, Pieces};
 pub use program::dump_files;
 pub use recover::{Inputs, Recovered, recover_logs, recover_one};
 pub use store::Store;
+pub use workers::{Cutting, Gate, NoGate, Workers};
