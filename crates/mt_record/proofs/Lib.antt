@@ -21,7 +21,6 @@ pub mod PartItems
 pub mod Feeds
 pub mod LogFeeds
 pub mod PartFeeds
-pub mod Counting
 pub mod TextLemmas
 pub mod Decodes
-pub mod KeptRecords
+pub mod RecordLemmas

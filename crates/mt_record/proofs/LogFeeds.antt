@@ -1,8 +1,7 @@
 -- The items of a log one behind the other, and what its feed was fed.
 use Rattle.std.proofs.Common.{◌≡◌, ℕ, ◌+◌, ◌-◌, ◌^◌, ◌<◌, ◌≤◌, min, max, Result, Ok, Err, Option, Some, None, List, [], ◌∷◌, ◌++◌, length, refl, sym, ap, ◌∙◌, subst, append_assoc, arith}
 use Rattle.std.proofs.lemmas.List.{length-append}
-use Rattle.std.specs.Prelude.{◌==◌, Bool, not, codes, IfOk, OnErr, MatchOption, Vec}
-use Rattle.std.specs.Global.{Global}
+use Rattle.std.specs.Prelude.{◌==◌, Bool, not, codes, IfOk, OnErr, MatchOption}
 use Rattle.std.specs.Borrow.{Bor}
 use Rattle.std.specs.List.{flat_map}
 use Rattle.byteorder.specs.Endian.{big_bytes}
@@ -17,7 +16,7 @@ use Rattle.mt_record.specs.declared.log_items.LogItems.{LogItems}
 use Rattle.mt_record.specs.Spelling.{spelling, body}
 use Rattle.mt_record.specs.declared.head.Head.{Head}
 use Rattle.mt_record.specs.Heads.{IsHead, head_bytes, HasNoHeader}
-use Rattle.mt_record.specs.Logs.{latest, IsLog, LogReading, IsLast, IsTextAfter}
+use Rattle.mt_record.specs.Logs.{latest, IsLog, LogReading, IsLast, IsTextIn}
 use Rattle.mt_record.specs.LogFaults.{RestFault, HasFault, IsAnswered}
 use Rattle.mt_record.specs.Fronts.{BeginsAlike}
 use Rattle.mt_record.specs.Bodies.{IsNext}
@@ -147,10 +146,6 @@ fault_by listed old new head bytes (Err fault) taken text some failed kept reads
 
 -- ---- the beginning
 
--- the records of a vector
-abbrev pub in_vec : Vec Logged Global → List Logged
-in_vec records = records.items
-
 -- what the feed of a log is, by its items
 abbrev pub fed_with : LogSoFar → List ℕ → Option FeedFault → FedLog
 fed_with items held fault = record { head = items.head; held = held; ready = items.ready; latest = items.latest; whole = items.whole; fault = fault }
@@ -167,11 +162,11 @@ nothing_read items held head ready time count none =
     )
 
 -- a feed that was fed nothing
-pub fed_nothing : (feed : Feed (LogItems (Vec Logged Global)) FeedFault) (items : LogItems (Vec Logged Global)) → feed.items ≡ items → feed.held.items ≡ [] → feed.fault ≡ None → items.head ≡ None
-    → items.ready.items ≡ [] → items.latest ≡ 0 → items.whole ≡ 0 → IsLogFed (fed_log feed) [] []
-fed_nothing feed items same held sound head ready time count =
-    let nothing = nothing_read (so_far in_vec items) feed.held.items head ready time count held in
-    subst (λ (p : LogSoFar × Option FeedFault). IsLogFed (fed_with p.0 feed.held.items p.1) [] []) (λ i. (so_far in_vec (sym same i), sym sound i)) nothing
+pub fed_nothing : {R : Type 0} (listed : R → List Logged) (feed : Feed (LogItems R) FeedFault) (items : LogItems R) → feed.items ≡ items → feed.held.items ≡ [] → feed.fault ≡ None → items.head ≡ None
+    → listed items.ready ≡ [] → items.latest ≡ 0 → items.whole ≡ 0 → IsLogFed (fed_log listed feed) [] []
+fed_nothing listed feed items same held sound head ready time count =
+    let nothing = nothing_read (so_far listed items) feed.held.items head ready time count held in
+    subst (λ (p : LogSoFar × Option FeedFault). IsLogFed (fed_with p.0 feed.held.items p.1) [] []) (λ i. (so_far listed (sym same i), sym sound i)) nothing
 
 -- ---- the end
 
@@ -188,13 +183,13 @@ no_head_read items taken text left none reads rest =
     omega (arith, here, there, all, long, cut.3)
 
 -- what was read with a header is a log
-pub text_read : (items : LogItems (Vec Logged Global)) (taken : List Logged) (text left : List ℕ) (head : Head) (last : ℕ) (torn : Bool) → items.head ≡ Some head → HasReadItems in_vec taken items text left
+pub text_read : {R : Type 0} (listed : R → List Logged) (items : LogItems R) (taken : List Logged) (text left : List ℕ) (head : Head) (last : ℕ) (torn : Bool) → items.head ≡ Some head → HasReadItems listed taken items text left
     → IsLogLeft items.head left → torn ≡ not (length left == 0) → last ≡ max head.from items.latest
-    → IsTextAfter taken text (record { from = head.from; last = last; records = items.ready; whole = items.whole; torn = torn })
-text_read items taken text left head last torn some reads rest test greatest =
-    let h = reads_records (so_far in_vec items) head taken text left some reads in
+    → IsTextIn listed taken text (record { from = head.from; last = last; records = items.ready; whole = items.whole; torn = torn })
+text_read listed items taken text left head last torn some reads rest test greatest =
+    let h = reads_records (so_far listed items) head taken text left some reads in
     let ends : IsLeft (limits_of head.format) left = subst (λ (o : Option Head). IsLogLeft o left) some rest in
-    let log : LogReading = record { head = head; records = taken ++ items.ready.items; torn = torn } in
+    let log : LogReading = record { head = head; records = taken ++ listed items.ready; torn = torn } in
     let time : last ≡ max head.from (latest 0 log.records) = greatest ∙ ap (λ (n : ℕ). max head.from n) h.latest in
     let tells = tells_torn (limits_of head.format) left (length left == 0) refl ends in
     record {
@@ -294,30 +289,30 @@ pub record AfterPiece (feed : FedLog) (outcome : Result (Unit {0}) FeedFault) (b
   pub fault : IfErr outcome (IsShown bytes)
 
 -- what the feed of a log says of its items
-abbrev pub IsFedWith : List Logged → Feed (LogItems (Vec Logged Global)) FeedFault → List ℕ → Type 0
-IsFedWith taken feed text =
-    IsFedBy (HasReadItems in_vec taken) IsLeftOfItems (λ items fault text. HasFailed fault text (taken ++ items.ready.items)) feed.items feed.held.items feed.fault text
+abbrev pub IsFedWith : {R : Type 0} → (R → List Logged) → List Logged → Feed (LogItems R) FeedFault → List ℕ → Type 0
+IsFedWith listed taken feed text =
+    IsFedBy (HasReadItems listed taken) IsLeftOfItems (λ items fault text. HasFailed fault text (taken ++ listed items.ready)) feed.items feed.held.items feed.fault text
 
 -- in other words
-with_items : (taken : List Logged) (items : LogItems (Vec Logged Global)) (held : List ℕ) (fault : Option FeedFault) (text : List ℕ) → IsFedItems taken (so_far in_vec items) held fault text
-    → IsFedBy (HasReadItems in_vec taken) IsLeftOfItems (λ items fault text. HasFailed fault text (taken ++ items.ready.items)) items held fault text
-with_items taken items held None text fed = fed
-with_items taken items held (Some fault) text fed = fed
+with_items : {R : Type 0} (listed : R → List Logged) (taken : List Logged) (items : LogItems R) (held : List ℕ) (fault : Option FeedFault) (text : List ℕ) → IsFedItems taken (so_far listed items) held fault text
+    → IsFedBy (HasReadItems listed taken) IsLeftOfItems (λ items fault text. HasFailed fault text (taken ++ listed items.ready)) items held fault text
+with_items listed taken items held None text fed = fed
+with_items listed taken items held (Some fault) text fed = fed
 
-of_items : (taken : List Logged) (items : LogItems (Vec Logged Global)) (held : List ℕ) (fault : Option FeedFault) (text : List ℕ)
-    → IsFedBy (HasReadItems in_vec taken) IsLeftOfItems (λ items fault text. HasFailed fault text (taken ++ items.ready.items)) items held fault text
-    → IsFedItems taken (so_far in_vec items) held fault text
-of_items taken items held None text fed = fed
-of_items taken items held (Some fault) text fed = fed
+of_items : {R : Type 0} (listed : R → List Logged) (taken : List Logged) (items : LogItems R) (held : List ℕ) (fault : Option FeedFault) (text : List ℕ)
+    → IsFedBy (HasReadItems listed taken) IsLeftOfItems (λ items fault text. HasFailed fault text (taken ++ listed items.ready)) items held fault text
+    → IsFedItems taken (so_far listed items) held fault text
+of_items listed taken items held None text fed = fed
+of_items listed taken items held (Some fault) text fed = fed
 
-pub after_piece : (old new : Feed (LogItems (Vec Logged Global)) FeedFault) (view : FedLog) (outcome : Result (Unit {0}) FeedFault) (bytes piece : List ℕ) (taken : List Logged) → fed_log old ≡ view
-    → IsLogFed view bytes taken → (IsFedWith taken old bytes → IsFedWith taken new (bytes ++ piece)) → OnOk outcome (new.fault ≡ None) → IfErr outcome (λ e. new.fault ≡ Some e)
-    → AfterPiece (fed_log new) outcome (bytes ++ piece) taken
-after_piece old new view outcome bytes piece taken same fed step sound kept =
-    let before = to_items (so_far in_vec old.items) old.held.items old.fault bytes taken (subst (λ (f : FedLog). IsLogFed f bytes taken) (sym same) fed) in
-    let after = of_items taken new.items new.held.items new.fault (bytes ++ piece) (step (with_items taken old.items old.held.items old.fault bytes before)) in
+pub after_piece : {R : Type 0} (listed : R → List Logged) (old new : Feed (LogItems R) FeedFault) (view : FedLog) (outcome : Result (Unit {0}) FeedFault) (bytes piece : List ℕ) (taken : List Logged) → fed_log listed old ≡ view
+    → IsLogFed view bytes taken → (IsFedWith listed taken old bytes → IsFedWith listed taken new (bytes ++ piece)) → OnOk outcome (new.fault ≡ None) → IfErr outcome (λ e. new.fault ≡ Some e)
+    → AfterPiece (fed_log listed new) outcome (bytes ++ piece) taken
+after_piece listed old new view outcome bytes piece taken same fed step sound kept =
+    let before = to_items (so_far listed old.items) old.held.items old.fault bytes taken (subst (λ (f : FedLog). IsLogFed f bytes taken) (sym same) fed) in
+    let after = of_items listed taken new.items new.held.items new.fault (bytes ++ piece) (step (with_items listed taken old.items old.held.items old.fault bytes before)) in
     record {
-      fed = from_items (so_far in_vec new.items) new.held.items new.fault (bytes ++ piece) taken after;
-      ok = ok_shows_none (so_far in_vec new.items) new.held.items new.fault outcome (bytes ++ piece) taken after sound;
-      fault = err_is_shown (so_far in_vec new.items) new.held.items new.fault outcome (bytes ++ piece) taken after kept;
+      fed = from_items (so_far listed new.items) new.held.items new.fault (bytes ++ piece) taken after;
+      ok = ok_shows_none (so_far listed new.items) new.held.items new.fault outcome (bytes ++ piece) taken after sound;
+      fault = err_is_shown (so_far listed new.items) new.held.items new.fault outcome (bytes ++ piece) taken after kept;
     }

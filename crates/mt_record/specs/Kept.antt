@@ -1,17 +1,30 @@
 -- What is kept of a log.
-use Rattle.std.specs.Prelude.{ℕ, List, [], ◌∷◌, ◌++◌, Option, Some, None}
+use Rattle.std.specs.Prelude.{◌≡◌, ℕ, Bool, true, false, List, [], ◌∷◌, map, filter, All, Option, Some, None}
+use Rattle.mt_words.specs.declared.record.Change.{Change}
 use Rattle.mt_words.specs.declared.update.Update.{Update}
 use Rattle.mt_words.specs.Changes.{Logged}
 use Rattle.mt_words.specs.Updates.{updates_from}
+use Rattle.mt_record.specs.Bodies.{IsLawfulBody}
+use Rattle.mt_record.specs.Decoding.{decode}
+use Rattle.mt_record.specs.Logs.{count_of}
+
+-- a record that changes nothing
+abbrev pub is_mark : Logged → Bool
+is_mark r = by r.change
+  where
+    by : Option Change → Bool
+    by None = true
+    by (Some change) = false
+
+-- bodies of lawful records, of which so many are marks, as far as a u64 counts
+pub record AreKept (bodies : List (List ℕ)) (marks : ℕ) : Type 0 where
+  pub lawful : All IsLawfulBody bodies
+  pub marked : marks ≡ count_of (filter is_mark (map decode bodies))
 
 -- the records of the log of this number
 pub record Kept : Type 0 where
   pub log : ℕ
   pub records : List Logged
-
--- one record more
-abbrev pub and_record : Kept → Logged → Kept
-and_record kept r = record { log = kept.log; records = kept.records ++ r ∷ [] }
 
 -- the updates that they make
 abbrev pub kept_updates : Kept → List Update

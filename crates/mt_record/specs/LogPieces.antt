@@ -1,6 +1,5 @@
 -- What the steps of reading a log in pieces give.
-use Rattle.std.specs.Prelude.{◌≡◌, ℕ, ◌+◌, ◌-◌, ◌^◌, min, List, [], ◌∷◌, ◌++◌, Vec}
-use Rattle.std.specs.Global.{Global}
+use Rattle.std.specs.Prelude.{◌≡◌, ℕ, ◌+◌, ◌-◌, ◌^◌, min, List, [], ◌∷◌, ◌++◌}
 use Rattle.mt_words.specs.Limits.{limits_of}
 use Rattle.mt_words.specs.Changes.{Logged}
 use Rattle.mt_record.specs.declared.read.FeedFault.{FeedFault}
@@ -49,11 +48,11 @@ abbrev pub IsLeftOfItems : {R : Type 0} → LogItems R → List ℕ → Type 0
 IsLeftOfItems items rest = IsLogLeft items.head rest
 
 -- what the feed of a log holds
-abbrev pub fed_log : Feed (LogItems (Vec Logged Global)) FeedFault → FedLog
-fed_log feed = record {
+abbrev pub fed_log : {R : Type 0} → (R → List Logged) → Feed (LogItems R) FeedFault → FedLog
+fed_log listed feed = record {
   head = feed.items.head;
   held = feed.held.items;
-  ready = feed.items.ready.items;
+  ready = listed feed.items.ready;
   latest = feed.items.latest;
   whole = feed.items.whole;
   fault = feed.fault;

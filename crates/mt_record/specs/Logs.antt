@@ -1,5 +1,6 @@
 -- Which bytes are a log, what it says, and its last timestamp.
-use Rattle.std.specs.Prelude.{◌≡◌, ℕ, ◌+◌, ◌-◌, ◌≤◌, ◌<◌, ◌^◌, ◌↔◌, ◌⊎◌, min, Bool, IsTrue, List, [], ◌∷◌, ◌++◌, length, map, Contains, All}
+use Rattle.std.specs.Prelude.{◌≡◌, ℕ, ◌+◌, ◌-◌, ◌≤◌, ◌<◌, ◌^◌, ◌↔◌, ◌⊎◌, min, Bool, IsTrue, List, [], ◌∷◌, ◌++◌, length, map, Contains, All, Vec}
+use Rattle.std.specs.Global.{Global}
 use Rattle.std.specs.List.{flat_map}
 use Rattle.byteorder.specs.Endian.{big_bytes}
 use Rattle.mt_words.specs.declared.limits.Limits.{Limits}
@@ -59,23 +60,31 @@ IsLast log n = Contains (times_of log) n × All (λ time. time ≤ n) (times_of 
 abbrev pub count_of : List Logged → ℕ
 count_of records = min (length records) (2 ^ 64 - 1)
 
--- the text shows what the log says, of which these records were taken before
-pub record ShowsAfter (taken : List Logged) (text : LogText) (log : LogReading) : Type 0 where
+-- the text shows what the log says, of which these records were taken before; those of the text are told of what they were put into
+pub record ShowsIn {R : Type 0} (listed : R → List Logged) (taken : List Logged) (text : LogText R) (log : LogReading) : Type 0 where
   pub from : text.from ≡ log.head.from
   pub last : IsLast log text.last
-  pub records : taken ++ text.records.items ≡ log.records
+  pub records : taken ++ listed text.records ≡ log.records
   pub whole : text.whole ≡ count_of log.records
   pub torn : text.torn ≡ log.torn
 
 -- the text of the log that the bytes are, of which these records were taken before
-pub record IsTextAfter (taken : List Logged) (bytes : List ℕ) (text : LogText) : Type 0 where
+pub record IsTextIn {R : Type 0} (listed : R → List Logged) (taken : List Logged) (bytes : List ℕ) (text : LogText R) : Type 0 where
   pub log : LogReading
   pub is_reading : IsReading bytes log
-  pub shows : ShowsAfter taken text log
+  pub shows : ShowsIn listed taken text log
 
-abbrev pub Shows : LogText → LogReading → Type 0
-Shows text log = ShowsAfter [] text log
+-- those of a text with a vector of records
+abbrev pub IsTextAfter : List Logged → List ℕ → LogText (Vec Logged Global) → Type 0
+IsTextAfter taken bytes text = IsTextIn (λ records. records.items) taken bytes text
+
+abbrev pub Shows : LogText (Vec Logged Global) → LogReading → Type 0
+Shows text log = ShowsIn (λ records. records.items) [] text log
 
 -- the text of the log that the bytes are
-abbrev pub IsTextOf : List ℕ → LogText → Type 0
+abbrev pub IsTextOf : List ℕ → LogText (Vec Logged Global) → Type 0
 IsTextOf bytes text = IsTextAfter [] bytes text
+
+-- and that whose records are kept as bodies
+abbrev pub IsKeptTextOf : List ℕ → LogText (List Logged) → Type 0
+IsKeptTextOf bytes text = IsTextIn (λ records. records) [] bytes text

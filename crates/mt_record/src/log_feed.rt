@@ -2,11 +2,12 @@
 ghost use Rattle.std.specs.Prelude.{◌≡◌, ◌++◌, [], List, ℕ, Some, None, IsSome, IfOk, IfErr, OnOk};
 ghost use Rattle.mt_words.specs.Changes.{Logged};
 ghost use Rattle.mt_record.specs.declared.read.FeedFault.{FeedFault as FaultValue};
-ghost use Rattle.mt_record.specs.Logs.{IsTextAfter};
+ghost use Rattle.mt_record.specs.Logs.{IsTextIn};
 ghost use Rattle.mt_record.specs.LogFaults.{IsAnswered};
 ghost use Rattle.mt_record.specs.LogFeeding.{IsLogFed, ShowsNoFault, IsShown};
 
 use crate::feed::Feed;
+use crate::kept::Records;
 use crate::log_items::LogItems;
 use crate::read::{FeedFault, LogText};
 use mt_words::Record;
@@ -14,21 +15,21 @@ use std::alloc::Global;
 use std::marker::Model;
 use std::mem;
 
-/// Reads a log that comes in pieces of any size. It holds back no more than the beginning of the header or of one
-/// record, and copies each byte of a key or value once where its record lies whole in a piece. Its work is linear in
-/// the bytes, however they are cut.
+/// Reads a log that comes in pieces of any size, and puts its records into an `R`. It holds back no more than the
+/// beginning of the header or of one record, and copies each byte of a key or value once where its record lies whole in
+/// a piece. Its work is linear in the bytes, however they are cut.
 #[derive(Debug, Drop)]
-pub struct LogFeed {
-    feed: Feed<LogItems<Vec<Record>>>,
+pub struct LogFeed<R: Records = Vec<Record>> {
+    feed: Feed<LogItems<R>>,
 }
 
-impl Model for LogFeed {
+impl<R: Records> Model for LogFeed<R> {
     ghost use Rattle.mt_record.specs.LogFeeding.{FedLog};
     ghost use Rattle.mt_record.specs.LogPieces.{fed_log};
 
     ghost Value = { FedLog };
 
-    ghost view = { λ f. fed_log f.feed };
+    ghost view = { λ f. fed_log R.listed f.feed };
 }
 
 impl LogFeed {
@@ -37,8 +38,32 @@ impl LogFeed {
         ensures fed { IsLogFed result [] [] }
         ensures sound { result.fault ≡ None }
     {
+        LogFeed::filling(alloc, Vec::new(alloc))
+    }
+
+    /// The whole records that were read and not yet taken, in order: after a fault those before it, after `Memory` a
+    /// beginning of the whole ones. It takes no memory.
+    pub fn take(&mut self) -> Vec<Record>
+        ensures fed { (bytes : List ℕ) (taken : List Logged) → IsLogFed self.old bytes taken →
+            IsLogFed self.new bytes (taken ++ result.items) }
+        ensures records { result.items ≡ self.old.ready }
+        ensures rest { self.new ≡ record self.old { ready = [] } }
+    {
+        let ready = &mut self.feed.items.ready;
+        let alloc = *ready.allocator();
+        mem::replace(ready, Vec::new(alloc))
+    }
+}
+
+impl<R: Records> LogFeed<R> {
+    /// A feed that was fed nothing, for records to be put into what is empty.
+    pub fn filling(alloc: Global, records: R) -> LogFeed<R>
+        requires { R.listed records ≡ [] }
+        ensures fed { IsLogFed result [] [] }
+        ensures sound { result.fault ≡ None }
+    {
         LogFeed {
-            feed: Feed::new(alloc, LogItems::new(Vec::new(alloc))),
+            feed: Feed::new(alloc, LogItems::new(records)),
         }
     }
 
@@ -59,24 +84,11 @@ impl LogFeed {
         self.feed.feed(piece)
     }
 
-    /// The whole records that were read and not yet taken, in order: after a fault those before it, after `Memory` a
-    /// beginning of the whole ones. It takes no memory.
-    pub fn take(&mut self) -> Vec<Record>
-        ensures fed { (bytes : List ℕ) (taken : List Logged) → IsLogFed self.old bytes taken →
-            IsLogFed self.new bytes (taken ++ result.items) }
-        ensures records { result.items ≡ self.old.ready }
-        ensures rest { self.new ≡ record self.old { ready = [] } }
-    {
-        let ready = &mut self.feed.items.ready;
-        let alloc = *ready.allocator();
-        mem::replace(ready, Vec::new(alloc))
-    }
-
     /// What the bytes say as a log, with the records not yet taken. An Err is the one fault of the bytes, or `Memory`
     /// where a growth was refused.
-    pub fn finish(self) -> Result<LogText, FeedFault>
+    pub fn finish(self) -> Result<LogText<R>, FeedFault>
         ensures log { (bytes : List ℕ) (taken : List Logged) → IsLogFed self bytes taken →
-            IfOk result (IsTextAfter taken bytes) }
+            IfOk result (IsTextIn R.listed taken bytes) }
         ensures fault { (bytes : List ℕ) (taken : List Logged) → IsLogFed self bytes taken →
             IfErr result (IsAnswered bytes) }
         ensures again { (fault : FaultValue) → self.fault ≡ Some fault → result ≡ Err fault }

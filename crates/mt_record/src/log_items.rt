@@ -2,7 +2,7 @@
 ghost use Rattle.std.specs.Prelude.{◌≡◌, ◌==◌, ◌++◌, List, ℕ, None, Some, length, not, IfOk, IfErr, OnErr, MatchOption};
 ghost use Rattle.mt_words.specs.Limits.{limits_of};
 ghost use Rattle.mt_words.specs.Changes.{Logged};
-ghost use Rattle.mt_record.specs.Logs.{IsTextAfter};
+ghost use Rattle.mt_record.specs.Logs.{IsTextIn};
 ghost use Rattle.mt_record.specs.LogFaults.{IsAnswered};
 ghost use Rattle.mt_record.specs.Feeding.{ReadsStep};
 ghost use Rattle.mt_record.specs.LogFeeding.{IsLeft, HasFailed};
@@ -16,7 +16,6 @@ use crate::items::Items;
 use crate::kept::Records;
 use crate::magic::goes_with_magic;
 use crate::read::{FeedFault, LogText};
-use mt_words::Record;
 
 /// What was read of a log so far.
 #[derive(Debug, Drop)]
@@ -132,14 +131,12 @@ impl<R: Records> LogItems<R> {
             }
         }
     }
-}
 
-impl LogItems<Vec<Record>> {
     /// What was read, as a log with a torn tail or without one. An Err is the fault of a header that is cut short.
-    pub fn finish(self, torn: bool) -> Result<LogText, FeedFault>
-        ensures log { (taken : List Logged) (bytes left : List ℕ) → ReadsLog taken (so_far (λ records. records.items) self) bytes left → IsLeftOfItems self left →
-            torn ≡ not (length left == 0) → IfOk result (IsTextAfter taken bytes) }
-        ensures fault { (taken : List Logged) (bytes left : List ℕ) → ReadsLog taken (so_far (λ records. records.items) self) bytes left → IsLeftOfItems self left →
+    pub fn finish(self, torn: bool) -> Result<LogText<R>, FeedFault>
+        ensures log { (taken : List Logged) (bytes left : List ℕ) → ReadsLog taken (so_far R.listed self) bytes left → IsLeftOfItems self left →
+            torn ≡ not (length left == 0) → IfOk result (IsTextIn R.listed taken bytes) }
+        ensures fault { (taken : List Logged) (bytes left : List ℕ) → ReadsLog taken (so_far R.listed self) bytes left → IsLeftOfItems self left →
             IfErr result (IsAnswered bytes) }
     {
         let LogItems {

@@ -11,13 +11,13 @@ use thiserror::Error;
 
 /// A log that was read.
 #[derive(Debug, Drop)]
-pub struct LogText {
+pub struct LogText<R = Vec<Record>> {
     /// Updates below this timestamp may be missing.
     pub from: u64,
     /// The last timestamp: the greatest of `from` and the timestamps of the whole records.
     pub last: u64,
-    /// The whole records, in order.
-    pub records: Vec<Record>,
+    /// The whole records, in order, in what they were put into.
+    pub records: R,
     /// How many whole records there are.
     pub whole: u64,
     /// Whether a torn tail follows them.

@@ -7,7 +7,7 @@ use std::alloc::Global;
 use std::marker::Model;
 
 /// A list of texts. They lie one behind the other in one buffer.
-#[derive(Drop)]
+#[derive(Debug, Drop)]
 pub struct Texts {
     bytes: Vec<u8>,
     ends: Vec<usize>,

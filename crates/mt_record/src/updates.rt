@@ -1,49 +1,39 @@
-//! The records of a log, as they were spelled.
-ghost use Rattle.std.specs.Prelude.{◌≡◌, ◌<◌, ◌++◌, [], ℕ, OnOk, OnErr, length, slice_index_or};
-ghost use Rattle.mt_words.specs.Limits.{widest};
+//! The updates of a log, lent from its records.
+ghost use Rattle.std.specs.Prelude.{◌≡◌, ◌<◌, ◌++◌, IfOk, OnOk, length, slice_index_or};
+ghost use Rattle.mt_words.specs.declared.update.Origin.TheVariants as origins;
 ghost use Rattle.mt_words.specs.Changes.{Logged};
-ghost use Rattle.mt_words.specs.Updates.{update_of};
-ghost use Rattle.mt_record.specs.Bodies.{IsBodyOf};
-ghost use Rattle.mt_record.specs.Decoding.{IsBody, decode};
-ghost use Rattle.mt_record.specs.Kept.{and_record, kept_updates, listed};
+ghost use Rattle.mt_words.specs.Updates.{update_by, update_of};
+ghost use Rattle.mt_record.specs.Kept.{kept_updates, listed};
 
-use crate::kept::Records;
+use crate::copy::copy_record;
+use crate::kept_records::KeptRecords;
 use crate::lent::Lent;
 use crate::spelled;
-use crate::texts::Texts;
-use mt_words::{Memory, Origin};
+use mt_words::{Change, Memory, Origin, Record, Stamp, Update};
 use std::alloc::Global;
 use std::marker::Model;
 
-/// The records of a log: their bodies, as they were spelled. Marks are among them, so that a body's place is the
-/// number of its record.
-#[derive(Drop)]
+/// The updates of a log, by its records.
+#[derive(Debug, Drop)]
 pub struct Updates {
     log: usize,
-    bodies: Texts,
+    records: KeptRecords,
 }
 
 impl Model for Updates {
-    ghost use Rattle.std.specs.Prelude.{map, All};
-    ghost use Rattle.mt_record.specs.Decoding.{IsBody, decode};
     ghost use Rattle.mt_record.specs.Kept.{Kept};
 
     ghost Value = { Kept };
 
-    ghost view = { λ u. record { log = u.log; records = map decode u.bodies } };
-
-    ghost invariant = { λ u. All IsBody u.bodies };
+    ghost view = { λ u. record { log = u.log; records = u.records } };
 }
 
 impl Updates {
-    /// No record of the log of this number.
-    pub fn new(alloc: Global, log: usize) -> Updates
-        ensures { result ≡ record { log = log; records = [] } }
+    /// The updates that these records of the log of this number make.
+    pub fn of(log: usize, records: KeptRecords) -> Updates
+        ensures { result ≡ record { log = log; records = records } }
     {
-        Updates {
-            log,
-            bodies: Texts::new(alloc),
-        }
+        Updates { log, records }
     }
 
     /// The number of the log.
@@ -54,27 +44,22 @@ impl Updates {
     }
 
     /// How many records there are, marks included.
-    pub fn len(&self) -> usize
+    pub fn record_count(&self) -> usize
         ensures { result ≡ length self.now.records }
     {
-        self.bodies.len()
+        self.records.len()
     }
 
-    /// How many bytes their bodies have together.
-    pub fn size(&self) -> usize {
-        self.bodies.size()
-    }
-
-    /// Adds the record of this body behind the others.
-    pub fn push_body(&mut self, body: &[u8]) -> Result<(), Memory>
-        requires { IsBody body.now }
-        ensures record_of { OnOk result (self.new ≡ and_record self.old (decode body.now)) }
-        ensures err { OnErr result (self.new ≡ self.old) }
-        ensures updates { (low : ℕ) (r : Logged) → IsBodyOf widest low body.now r →
-            OnOk result (kept_updates self.new ≡ kept_updates self.old ++ update_of self.old.log (length self.old.records) r) }
+    /// How many updates there are.
+    pub fn len(&self) -> usize
+        ensures { result ≡ length (kept_updates self.now) }
     {
-        self.bodies.push(body)?;
-        Ok(())
+        self.records.len() - self.records.marks() as usize
+    }
+
+    /// How many bytes the bodies of the records have together.
+    pub fn size(&self) -> usize {
+        self.records.size()
     }
 
     /// The update of the record of this number, which a mark has not.
@@ -83,22 +68,52 @@ impl Updates {
         ensures { (d : Logged) →
             listed result ≡ update_of self.now.log number (slice_index_or self.now.records number d) }
     {
-        let body = self.bodies.get(number);
+        let body = self.records.body(number);
         if spelled::is_mark(body) {
             return None;
         }
-        let origin = Origin::Log {
+        Some(Lent::of(self.origin(number), body))
+    }
+
+    /// All of them, each with a copy of its key and its values.
+    pub fn into_vec(self, alloc: Global) -> Result<Vec<Update>, Memory>
+        ensures { IfOk result (λ updates. updates.items ≡ kept_updates self) }
+    {
+        let mut updates = Vec::with_capacity(alloc, self.len())?;
+        for number in 0..self.record_count() {
+            let logged = copy_record(alloc, self.records.body(number))?;
+            push_update(&mut updates, self.origin(number), logged)?;
+        }
+        Ok(updates)
+    }
+
+    /// Where the update of the record of this number comes from.
+    fn origin(&self, number: usize) -> Origin
+        ensures { result ≡ origins.Log self.now.log number }
+    {
+        Origin::Log {
             log: self.log,
             record: number as u64,
-        };
-        Some(Lent::of(origin, body))
+        }
     }
 }
 
-impl Records for Updates {
-    ghost listed = { λ updates. updates.records };
-
-    fn put_record(&mut self, body: &[u8]) -> Result<(), Memory> {
-        self.push_body(body)
-    }
+/// Adds the update of a record, which a mark has not.
+fn push_update(updates: &mut Vec<Update>, origin: Origin, logged: Record) -> Result<(), Memory>
+    ensures { OnOk result (updates.new.items ≡
+        updates.old.items ++ update_by origin logged.timestamp logged.change) }
+{
+    let timestamp = logged.timestamp();
+    let Some(change) = logged.into_change() else {
+        return Ok(());
+    };
+    let Change { version, key, kind } = change;
+    let stamp = Stamp { version, origin };
+    updates.push(Update {
+        key,
+        stamp,
+        timestamp,
+        kind,
+    })?;
+    Ok(())
 }

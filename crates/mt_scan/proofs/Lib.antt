@@ -1,6 +1,5 @@
 pub mod Telling
 pub mod Shown
-pub mod Counting
 pub mod Steps
 pub mod PartSteps
 pub mod Elements

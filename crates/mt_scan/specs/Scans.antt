@@ -1,24 +1,16 @@
 -- What a scan gives: a function of the bytes of its log.
-use Rattle.std.specs.Prelude.{◌≡◌, ℕ, List, Option, Some, None, Bool, true, false, Result, Ok, Err}
+use Rattle.std.specs.Prelude.{◌≡◌, ℕ, List, Option, Result, Ok, Err}
 use Rattle.std.specs.List.{filter}
 use Rattle.mt_words.specs.declared.fault.Fault.{Fault}
 use Rattle.mt_words.specs.declared.fault.Fault.TheVariants as faults
-use Rattle.mt_words.specs.declared.record.Change.{Change}
-use Rattle.mt_words.specs.Changes.{Logged}
 use Rattle.mt_words.specs.Updates.{updates_from}
+use Rattle.mt_record.specs.declared.read.FeedFault.{FeedFault}
 use Rattle.mt_record.specs.declared.read.FeedFault.TheVariants as of_log
 use Rattle.mt_record.specs.Logs.{LogReading, IsReading, IsLast, count_of}
-use Rattle.mt_record.specs.LogFaults.{IsLogFault}
+use Rattle.mt_record.specs.LogFaults.{IsLogFault, IsAnswered, fault_at}
+use Rattle.mt_record.specs.Kept.{is_mark, kept_updates}
 use Rattle.mt_scan.specs.declared.log_scan.LogScan.{LogScan}
 use Rattle.mt_scan.specs.Sources.{Agrees}
-
--- a record that changes nothing
-abbrev pub is_mark : Logged → Bool
-is_mark r = by r.change
-  where
-    by : Option Change → Bool
-    by None = true
-    by (Some change) = false
 
 -- the numbers of a scan are those of the log
 pub record HasNumbersOf (scan : LogScan) (log : LogReading) : Type 0 where
@@ -31,7 +23,7 @@ pub record HasNumbersOf (scan : LogScan) (log : LogReading) : Type 0 where
 -- the scan shows what the log of this number says: its numbers, and all its updates
 pub record ShowsLog (number : ℕ) (scan : LogScan) (log : LogReading) : Type 0 where
   pub numbers : HasNumbersOf scan log
-  pub updates : scan.updates.items ≡ updates_from number 0 log.records
+  pub updates : kept_updates scan.updates ≡ updates_from number 0 log.records
   pub dropped : scan.dropped ≡ 0
 
 -- the scan of the log of this number that the bytes are
@@ -47,6 +39,12 @@ IsScanFault number bytes (faults.Record log nth what) = (log ≡ number) × IsLo
 IsScanFault number bytes (faults.Source log) = log ≡ number
 IsScanFault number bytes faults.Memory = Unit {0}
 IsScanFault number bytes fault = ⊥
+
+-- the fault of the bytes as that of the log of this number, or want of memory
+pub record IsLogVerdict (number : ℕ) (bytes : List ℕ) (fault : Fault) : Type 0 where
+  pub of_bytes : FeedFault
+  pub answered : IsAnswered bytes of_bytes
+  pub is : fault ≡ fault_at number of_bytes
 
 -- This holds of some bytes that a source which tells these may have: of just those told, or of any where it tells none.
 abbrev pub OfTold : Option (List ℕ) → (List ℕ → Type 0) → Type 0

@@ -17,7 +17,6 @@ mod selection;
 mod slot;
 mod source;
 mod tally;
-mod updates;
 
 pub use choice::{Checkpoint, Choice, choose};
 pub use fault_source::FaultSource;
@@ -25,6 +24,6 @@ pub use log_scan::{LogScan, cutoff};
 pub use mem_source::MemSource;
 pub use part_scan::{PartScan, scan_part};
 pub use reader_source::ReaderSource;
-pub use scan::scan_log;
+pub use scan::{scan_bytes, scan_log};
 pub use slot::{LONGEST_BUFFER, Rack, Slot};
 pub use source::{Source, SourceFault};

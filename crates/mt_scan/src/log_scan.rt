@@ -1,13 +1,10 @@
 //! What a scan of a log found, and the cutoff of all logs.
-ghost use Rattle.std.specs.Prelude.{◌≡◌, [], List, ℕ, IfOk, IfSome, IfNone};
-ghost use Rattle.mt_record.specs.Logs.{LogReading, IsTextOf};
+ghost use Rattle.std.specs.Prelude.{◌≡◌, [], List, ℕ, IfSome, IfNone};
+ghost use Rattle.mt_record.specs.Logs.{LogReading, IsKeptTextOf};
 ghost use Rattle.mt_scan.specs.Scans.{IsScanOf};
 ghost use Rattle.mt_scan.specs.Cutoff.{HaveNumbersOf, IsCutoff};
 
-use crate::updates::LogUpdates;
-use mt_record::LogText;
-use mt_words::{Memory, Update};
-use std::alloc::Global;
+use mt_record::{KeptRecords, LogText, Updates};
 
 /// What a scan found in a log.
 #[derive(Debug, Drop)]
@@ -20,8 +17,8 @@ pub struct LogScan {
     pub whole: u64,
     /// How many of them are marks.
     pub marks: u64,
-    /// The updates that were kept, in order.
-    pub updates: Vec<Update>,
+    /// The updates that were kept, lent from its records.
+    pub updates: Updates,
     /// How many updates were counted and not kept.
     pub dropped: u64,
     /// Whether a torn tail follows the records.
@@ -29,11 +26,26 @@ pub struct LogScan {
 }
 
 impl LogScan {
-    /// The scan of the log of this number that was read whole.
-    pub fn of(alloc: Global, log: usize, text: LogText) -> Result<LogScan, Memory>
-        ensures { (bytes : List ℕ) → IsTextOf bytes text → IfOk result (IsScanOf log bytes) }
+    /// The scan of the log of this number that was read whole. It takes no memory.
+    pub fn of(log: usize, text: LogText<KeptRecords>) -> LogScan
+        ensures { (bytes : List ℕ) → IsKeptTextOf bytes text → IsScanOf log bytes result }
     {
-        LogUpdates::new(alloc, log).finish(text)
+        let LogText {
+            from,
+            last,
+            records,
+            whole,
+            torn,
+        } = text;
+        LogScan {
+            from,
+            last,
+            whole,
+            marks: records.marks(),
+            updates: Updates::of(log, records),
+            dropped: 0,
+            torn,
+        }
     }
 }
 

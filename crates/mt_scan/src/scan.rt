@@ -1,14 +1,12 @@
 //! Scans of logs.
-ghost use Rattle.std.specs.Prelude.{◌≡◌, ◌+◌, ◌++◌, List, ℕ, None, IfOk, IfErr, OnOk, IsTrue};
-ghost use Rattle.mt_words.specs.Changes.{Logged};
+ghost use Rattle.std.specs.Prelude.{◌≡◌, ◌+◌, ◌++◌, [], List, ℕ, IfOk, IfErr, IsTrue};
 ghost use Rattle.mt_record.specs.LogFeeding.{IsLogFed};
-ghost use Rattle.mt_scan.specs.Scans.{IsScanOf, IsScanFault, OfTold, failures_of};
+ghost use Rattle.mt_scan.specs.Scans.{IsScanOf, IsScanFault, IsLogVerdict, OfTold, failures_of};
 ghost use Rattle.mt_scan.specs.Keeping.{FeedsPiece};
 
 use crate::log_scan::LogScan;
 use crate::source::Source;
-use crate::updates::LogUpdates;
-use mt_record::LogFeed;
+use mt_record::{KeptRecords, LogFeed};
 use mt_words::Fault;
 use std::alloc::Global;
 
@@ -21,23 +19,23 @@ pub fn scan_log<S: Source>(alloc: Global, source: &mut S, log: usize) -> Result<
     ensures failed { (S.seen source.new).failures ≡ (S.seen source.old).failures + failures_of result }
     ensures steady { IsTrue (S.seen source.old).steady → failures_of result ≡ 0 }
 {
-    let mut feed = LogFeed::new(alloc);
-    let mut updates = LogUpdates::new(alloc, log);
-    'pieces: while feed_piece(source, &mut feed, log)? {
-        updates.add(feed.take())?;
-    }
+    let mut feed = LogFeed::filling(alloc, KeptRecords::new(alloc));
+    'pieces: while feed_piece(source, &mut feed, log)? {}
     match feed.finish() {
-        Ok(text) => Ok(updates.finish(text)?),
+        Ok(text) => Ok(LogScan::of(log, text)),
         Err(fault) => Err(fault.of_log(log)),
     }
 }
 
 /// Feeds the next piece of the log, if there is one.
-fn feed_piece<S: Source>(source: &mut S, feed: &mut LogFeed, log: usize) -> Result<bool, Fault>
-    ensures fed { (bytes : List ℕ) (taken : List Logged) → IsLogFed feed.old bytes taken →
-        IfOk result (FeedsPiece (S.seen source.old) (S.seen source.new) feed.new bytes taken) }
-    ensures sound { OnOk result (feed.old.fault ≡ None → feed.new.fault ≡ None) }
-    ensures fault { (bytes : List ℕ) (taken : List Logged) → IsLogFed feed.old bytes taken →
+fn feed_piece<S: Source>(
+    source: &mut S,
+    feed: &mut LogFeed<KeptRecords>,
+    log: usize,
+) -> Result<bool, Fault>
+    ensures fed { (bytes : List ℕ) → IsLogFed feed.old bytes [] →
+        IfOk result (FeedsPiece (S.seen source.old) (S.seen source.new) feed.new bytes) }
+    ensures fault { (bytes : List ℕ) → IsLogFed feed.old bytes [] →
         IfErr result (λ fault. OfTold (S.seen source.old).told (λ rest. IsScanFault log (bytes ++ rest) fault)) }
     ensures failed { (S.seen source.new).failures ≡ (S.seen source.old).failures + failures_of result }
     ensures steady { IsTrue (S.seen source.old).steady →
@@ -50,5 +48,21 @@ fn feed_piece<S: Source>(source: &mut S, feed: &mut LogFeed, log: usize) -> Resu
             Err(fault) => Err(fault.of_log(log)),
         },
         Err(_) => Err(Fault::Source { log }),
+    }
+}
+
+/// Reads the log of this number whose bytes are in memory, and keeps its updates. An Err is the fault of the bytes, or
+/// `Memory` where a growth was refused.
+pub fn scan_bytes(alloc: Global, bytes: &[u8], log: usize) -> Result<LogScan, Fault>
+    ensures scan { IfOk result (IsScanOf log bytes.now) }
+    ensures fault { IfErr result (IsLogVerdict log bytes.now) }
+{
+    let mut feed = LogFeed::filling(alloc, KeptRecords::new(alloc));
+    if let Err(fault) = feed.feed(bytes) {
+        return Err(fault.of_log(log));
+    }
+    match feed.finish() {
+        Ok(text) => Ok(LogScan::of(log, text)),
+        Err(fault) => Err(fault.of_log(log)),
     }
 }
