@@ -25,3 +25,4 @@ pub mod Counting
 pub mod TextLemmas
 pub mod Decodes
 pub mod KeptRecords
+pub mod KeptBodies
