@@ -1,8 +1,6 @@
 -- What the feed of a part was fed.
 use Rattle.std.proofs.Common.{◌≡◌, Result, Ok, Err, Option, Some, None, List, [], ◌++◌, ℕ, sym, subst}
 use Rattle.std.specs.Result.{OnOk, IfErr}
-use Rattle.std.specs.Prelude.{Vec}
-use Rattle.std.specs.Global.{Global}
 use Rattle.mt_words.specs.declared.record.Change.{Change}
 use Rattle.mt_record.specs.declared.part_text.PartFault.{PartFault}
 use Rattle.mt_record.specs.declared.part_items.PartItems.{PartItems}
@@ -12,27 +10,27 @@ use Rattle.mt_record.specs.PartFeeding.{IsPartShown, IsPartFed, FedPart, ShowsNo
 use Rattle.mt_record.specs.PartPieces.{so_far, fed_part, HasReadItems, IsLeftOfItems}
 use Rattle.mt_record.specs.PartLaws.{shown_on}
 use Rattle.mt_record.proofs.OnePartFault.{order_shows_none}
-use Rattle.mt_record.proofs.PartItems.{in_vec, nothing_read}
+use Rattle.mt_record.proofs.PartItems.{nothing_read}
 
 -- what the generic feed says of these items
-abbrev pub IsFedItems : PartItems (Vec Change Global) → List ℕ → Option PartFault → List ℕ → Type 0
-IsFedItems items held fault text = IsFedBy (HasReadItems in_vec tt) (IsLeftOfItems in_vec) (λ _ fault text. IsPartShown text fault) items held fault text
+abbrev pub IsFedItems : {E : Type 0} → (E → List Change) → PartItems E → List ℕ → Option PartFault → List ℕ → Type 0
+IsFedItems listed items held fault text = IsFedBy (HasReadItems listed tt) (IsLeftOfItems listed) (λ _ fault text. IsPartShown text fault) items held fault text
 
 -- is what is said of the feed of a part
-to_items : (s : PartItems (Vec Change Global)) (held : List ℕ) (fault : Option PartFault) (bytes : List ℕ) → IsPartFed (record { so_far = so_far in_vec s; held = held; fault = fault }) bytes → IsFedItems s held fault bytes
-to_items s held None bytes fed = fed
-to_items s held (Some fault) bytes fed = fed
+to_items : {E : Type 0} (listed : E → List Change) (s : PartItems E) (held : List ℕ) (fault : Option PartFault) (bytes : List ℕ) → IsPartFed (record { so_far = so_far listed s; held = held; fault = fault }) bytes → IsFedItems listed s held fault bytes
+to_items listed s held None bytes fed = fed
+to_items listed s held (Some fault) bytes fed = fed
 
-from_items : (s : PartItems (Vec Change Global)) (held : List ℕ) (fault : Option PartFault) (bytes : List ℕ) → IsFedItems s held fault bytes → IsPartFed (record { so_far = so_far in_vec s; held = held; fault = fault }) bytes
-from_items s held None bytes fed = fed
-from_items s held (Some fault) bytes fed = fed
+from_items : {E : Type 0} (listed : E → List Change) (s : PartItems E) (held : List ℕ) (fault : Option PartFault) (bytes : List ℕ) → IsFedItems listed s held fault bytes → IsPartFed (record { so_far = so_far listed s; held = held; fault = fault }) bytes
+from_items listed s held None bytes fed = fed
+from_items listed s held (Some fault) bytes fed = fed
 
 -- a feed that was fed nothing
-pub fed_nothing : (feed : Feed (PartItems (Vec Change Global)) PartFault) (items : PartItems (Vec Change Global)) → feed.items ≡ items → feed.held.items ≡ [] → feed.fault ≡ None → items.head ≡ None → items.entries.items ≡ [] → items.end ≡ None
-    → IsPartFed (fed_part feed) []
-fed_nothing feed items same held sound head entries end =
-    let nothing = nothing_read items feed.held.items head entries end held in
-    subst (λ (p : PartItems (Vec Change Global) × Option PartFault). IsPartFed (record { so_far = so_far in_vec p.0; held = feed.held.items; fault = p.1 }) []) (λ i. (sym same i, sym sound i)) nothing
+pub fed_nothing : {E : Type 0} (listed : E → List Change) (feed : Feed (PartItems E) PartFault) (items : PartItems E) → feed.items ≡ items → feed.held.items ≡ [] → feed.fault ≡ None → items.head ≡ None → listed items.entries ≡ [] → items.end ≡ None
+    → IsPartFed (fed_part listed feed) []
+fed_nothing listed feed items same held sound head entries end =
+    let nothing = nothing_read listed items feed.held.items head entries end held in
+    subst (λ (p : PartItems _ × Option PartFault). IsPartFed (record { so_far = so_far listed p.0; held = feed.held.items; fault = p.1 }) []) (λ i. (sym same i, sym sound i)) nothing
 
 -- ---- feeds
 
@@ -50,18 +48,18 @@ fed_on feed fault bytes more e fed =
     subst (λ (o : Option PartFault). IsPartFed (record feed { fault = o }) (bytes ++ more)) (sym e) (failed_on feed fault bytes more e fed)
 
 -- where a feed answers no fault, none is shown
-ok_shows_none : (s : PartItems (Vec Change Global)) (held : List ℕ) (fault : Option PartFault) (outcome : Result (Unit {0}) PartFault) (bytes : List ℕ) → IsFedItems s held fault bytes
+ok_shows_none : {E : Type 0} (listed : E → List Change) (s : PartItems E) (held : List ℕ) (fault : Option PartFault) (outcome : Result (Unit {0}) PartFault) (bytes : List ℕ) → IsFedItems listed s held fault bytes
     → OnOk outcome (fault ≡ None) → OnOk outcome (ShowsNoPartFault bytes)
-ok_shows_none s held fault (Ok u) bytes fed none =
-    let read = subst (λ (o : Option PartFault). IsFedItems s held o bytes) none fed in
-    order_shows_none (so_far in_vec s) bytes held read.0 read.1
-ok_shows_none s held fault (Err e) bytes fed none = tt
+ok_shows_none listed s held fault (Ok u) bytes fed none =
+    let read = subst (λ (o : Option PartFault). IsFedItems listed s held o bytes) none fed in
+    order_shows_none (so_far listed s) bytes held read.0 read.1
+ok_shows_none listed s held fault (Err e) bytes fed none = tt
 
 -- and where it answers one, that is
-err_is_shown : (s : PartItems (Vec Change Global)) (held : List ℕ) (fault : Option PartFault) (outcome : Result (Unit {0}) PartFault) (bytes : List ℕ) → IsFedItems s held fault bytes
+err_is_shown : {E : Type 0} (listed : E → List Change) (s : PartItems E) (held : List ℕ) (fault : Option PartFault) (outcome : Result (Unit {0}) PartFault) (bytes : List ℕ) → IsFedItems listed s held fault bytes
     → IfErr outcome (λ e. fault ≡ Some e) → IfErr outcome (IsPartShown bytes)
-err_is_shown s held fault (Ok u) bytes fed kept = tt
-err_is_shown s held fault (Err e) bytes fed kept = subst (λ (o : Option PartFault). IsFedItems s held o bytes) kept fed
+err_is_shown listed s held fault (Ok u) bytes fed kept = tt
+err_is_shown listed s held fault (Err e) bytes fed kept = subst (λ (o : Option PartFault). IsFedItems listed s held o bytes) kept fed
 
 -- what a feed was fed after a piece, and what its answer says
 pub record AfterPiece (feed : FedPart) (outcome : Result (Unit {0}) PartFault) (bytes : List ℕ) : Type 0 where
@@ -69,13 +67,13 @@ pub record AfterPiece (feed : FedPart) (outcome : Result (Unit {0}) PartFault) (
   pub ok : OnOk outcome (ShowsNoPartFault bytes)
   pub fault : IfErr outcome (IsPartShown bytes)
 
-pub after_piece : (old new : Feed (PartItems (Vec Change Global)) PartFault) (view : FedPart) (outcome : Result (Unit {0}) PartFault) (bytes piece : List ℕ) → fed_part old ≡ view → IsPartFed view bytes
-    → (IsFedItems old.items old.held.items old.fault bytes → IsFedItems new.items new.held.items new.fault (bytes ++ piece)) → OnOk outcome (new.fault ≡ None)
-    → IfErr outcome (λ e. new.fault ≡ Some e) → AfterPiece (fed_part new) outcome (bytes ++ piece)
-after_piece old new view outcome bytes piece same fed step sound kept =
-    let after = step (to_items old.items old.held.items old.fault bytes (subst (λ (f : FedPart). IsPartFed f bytes) (sym same) fed)) in
+pub after_piece : {E : Type 0} (listed : E → List Change) (old new : Feed (PartItems E) PartFault) (view : FedPart) (outcome : Result (Unit {0}) PartFault) (bytes piece : List ℕ) → fed_part listed old ≡ view → IsPartFed view bytes
+    → (IsFedItems listed old.items old.held.items old.fault bytes → IsFedItems listed new.items new.held.items new.fault (bytes ++ piece)) → OnOk outcome (new.fault ≡ None)
+    → IfErr outcome (λ e. new.fault ≡ Some e) → AfterPiece (fed_part listed new) outcome (bytes ++ piece)
+after_piece listed old new view outcome bytes piece same fed step sound kept =
+    let after = step (to_items listed old.items old.held.items old.fault bytes (subst (λ (f : FedPart). IsPartFed f bytes) (sym same) fed)) in
     record {
-      fed = from_items new.items new.held.items new.fault (bytes ++ piece) after;
-      ok = ok_shows_none new.items new.held.items new.fault outcome (bytes ++ piece) after sound;
-      fault = err_is_shown new.items new.held.items new.fault outcome (bytes ++ piece) after kept;
+      fed = from_items listed new.items new.held.items new.fault (bytes ++ piece) after;
+      ok = ok_shows_none listed new.items new.held.items new.fault outcome (bytes ++ piece) after sound;
+      fault = err_is_shown listed new.items new.held.items new.fault outcome (bytes ++ piece) after kept;
     }

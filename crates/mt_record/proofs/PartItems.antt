@@ -2,8 +2,7 @@
 use Rattle.std.proofs.Common.{◌≡◌, ◌≢◌, inl, inr, ℕ, zero, suc, ◌^◌, ◌<◌, Option, Some, None, List, [], ◌∷◌, ◌++◌, length, refl, sym, ap, ◌∙◌, subst, append_assoc, true, false, arith}
 use Rattle.std.specs.List.{flat_map}
 use Rattle.std.specs.Option.{is_some}
-use Rattle.std.specs.Global.{Global}
-use Rattle.std.specs.Prelude.{◌==◌, codes, Vec}
+use Rattle.std.specs.Prelude.{◌==◌, codes}
 use Rattle.std.proofs.lemmas.Bool.{false≢true}
 use Rattle.std.proofs.lemmas.List.{flat_map_more}
 use Rattle.byteorder.specs.Endian.{big_bytes}
@@ -163,15 +162,11 @@ entry_goes_on s entries part bytes fields after head next some not_ended added r
     λ i. record { head = sym some i; entries = sym added i; end = sym not_ended i } in
     subst (λ (x : PartSoFar). ReadsUpTo x part after) to one_more
 
--- the entries of a vector
-abbrev pub in_vec : Vec Change Global → List Change
-in_vec entries = entries.items
-
 -- nothing was read of nothing
-pub nothing_read : (reader : PartItems (Vec Change Global)) (held : List ℕ) → reader.head ≡ None → reader.entries.items ≡ [] → reader.end ≡ None → held ≡ []
-    → ReadsUpTo (so_far in_vec reader) [] held × IsPartLeft (so_far in_vec reader) held
-nothing_read reader held head entries end none =
-    let start : (record { head = None; entries = []; end = None }) ≡ so_far in_vec reader = λ i. record { head = sym head i; entries = sym entries i; end = sym end i } in
+pub nothing_read : {E : Type 0} (listed : E → List Change) (reader : PartItems E) (held : List ℕ) → reader.head ≡ None → listed reader.entries ≡ [] → reader.end ≡ None → held ≡ []
+    → ReadsUpTo (so_far listed reader) [] held × IsPartLeft (so_far listed reader) held
+nothing_read listed reader held head entries end none =
+    let start : (record { head = None; entries = []; end = None }) ≡ so_far listed reader = λ i. record { head = sym head i; entries = sym entries i; end = sym end i } in
     subst (λ (p : PartSoFar × List ℕ). ReadsUpTo p.0 [] p.1 × IsPartLeft p.0 p.1) (λ i. (start i, sym none i)) (
       record { none = refl; no_end = refl; all = refl },
       cut_front IsPartHead part_head_bytes [] (part_alike IsPartHead part_head_bytes (codes "MTC") 16 part_whole One [] (magic (codes "MTC") One) refl)

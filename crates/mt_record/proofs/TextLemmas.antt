@@ -1,4 +1,4 @@
-use Rattle.std.proofs.Common.{◌≡◌, ◌≤◌, ◌<◌, ◌-◌, ◌+◌, ◌++◌, [], ◌∷◌, List, ℕ, zero, suc, length, take, drop, get_or, refl, sym, ap, subst, ◌∙◌, arith}
+use Rattle.std.proofs.Common.{◌≡◌, ◌≤◌, ◌<◌, ◌-◌, ◌+◌, ◌++◌, [], ◌∷◌, List, ℕ, zero, suc, length, take, drop, get_or, refl, sym, ap, subst, ◌∙◌, append_assoc, arith}
 use Rattle.std.proofs.lemmas.List.{take-append-le, drop-append-le, take_all, length-drop}
 use Rattle.mt_record.specs.Texts.{texts_from, AreEnds, start_at}
 
@@ -77,3 +77,8 @@ text_part bytes ends texts n start end same are below at_start at_end =
 -- where it starts, by the number before it
 pub start_by : (ends : List ℕ) (at before : ℕ) → at ≡ suc before → before < length ends → get_or ends before 0 ≡ start_at 0 ends at
 start_by ends at before same below = subst (λ n. get_or ends before 0 ≡ start_at 0 ends n) (sym same) (sym (start_is 0 ends before 0 below))
+
+-- two pieces that were added one behind the other
+pub pieces_added : (old front rest made one new : List ℕ) → made ≡ old → one ≡ made ++ front → new ≡ one ++ rest → new ≡ old ++ (front ++ rest)
+pieces_added old front rest made one new same first second =
+    second ∙ ap (λ (bs : List ℕ). bs ++ rest) (first ∙ ap (λ (bs : List ℕ). bs ++ front) same) ∙ append_assoc old front rest

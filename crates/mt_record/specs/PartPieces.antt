@@ -1,6 +1,5 @@
 -- What the steps of reading a part in pieces give.
-use Rattle.std.specs.Prelude.{List, ℕ, Vec}
-use Rattle.std.specs.Global.{Global}
+use Rattle.std.specs.Prelude.{List, ℕ}
 use Rattle.mt_words.specs.declared.record.Change.{Change}
 use Rattle.mt_record.specs.declared.part_items.PartItems.{PartItems}
 use Rattle.mt_record.specs.declared.feed.Feed.{Feed}
@@ -20,5 +19,5 @@ abbrev pub IsLeftOfItems : {E : Type 0} → (E → List Change) → PartItems E 
 IsLeftOfItems listed items rest = IsPartLeft (so_far listed items) rest
 
 -- what the feed of a part holds
-abbrev pub fed_part : Feed (PartItems (Vec Change Global)) PartFault → FedPart
-fed_part feed = record { so_far = so_far (λ entries. entries.items) feed.items; held = feed.held.items; fault = feed.fault }
+abbrev pub fed_part : {E : Type 0} → (E → List Change) → Feed (PartItems E) PartFault → FedPart
+fed_part listed feed = record { so_far = so_far listed feed.items; held = feed.held.items; fault = feed.fault }

@@ -65,10 +65,10 @@ pub record PartReading : Type 0 where
 abbrev pub IsPartReading : List ℕ → PartReading → Type 0
 IsPartReading bytes part = (format : Format) × IsPart bytes (part_head format part.number part.begin part.part part.parts) part.entries part.end
 
--- what the text of a part shows
-abbrev pub shown_by : PartText → PartReading
-shown_by text = record { number = text.number; begin = text.begin; part = text.part; parts = text.parts; entries = text.entries.items; end = text.end }
+-- what the text of a part shows; the entries are those that are told of what they were put into
+abbrev pub shown_in : {E : Type 0} → (E → List Change) → PartText E → PartReading
+shown_in listed text = record { number = text.number; begin = text.begin; part = text.part; parts = text.parts; entries = listed text.entries; end = text.end }
 
 -- the text of the part that the bytes are
-abbrev pub IsPartText : List ℕ → PartText → Type 0
-IsPartText bytes text = IsPartReading bytes (shown_by text)
+abbrev pub IsPartText : {E : Type 0} → (E → List Change) → List ℕ → PartText E → Type 0
+IsPartText listed bytes text = IsPartReading bytes (shown_in listed text)

@@ -1,22 +1,24 @@
 //! The entries of a checkpoint, as bodies.
-ghost use Rattle.std.specs.Prelude.{◌≡◌, ◌<◌, ◌++◌, [], ◌∷◌, Some, OnOk, OnErr, IfOk, length, slice_index_or};
+ghost use Rattle.std.specs.Prelude.{◌≡◌, ◌<◌, [], length, slice_index_or};
 ghost use Rattle.mt_words.specs.declared.record.Change.{Change};
 ghost use Rattle.mt_words.specs.declared.update.Origin.TheVariants as origins;
 ghost use Rattle.mt_words.specs.Updates.{update_at};
-ghost use Rattle.mt_record.specs.Spelling.{body_of};
 
 use crate::body::WHOLE;
-use crate::encode::{change_length, put_change};
+use crate::kept::Entries;
 use crate::lent::Lent;
-use crate::put::{put_bytes, put_u64};
+use crate::spelled;
 use crate::texts::Texts;
-use mt_words::{Entry, Memory, Origin};
+use mt_words::{Memory, Origin};
 use std::alloc::Global;
 use std::marker::Model;
 
+/// What the body of an entry has before its fields: the byte of its kind, and a timestamp of 0.
+const BEFORE_FIELDS: &[u8] = &[WHOLE, 0, 0, 0, 0, 0, 0, 0, 0];
+
 /// The entries of a checkpoint: their bodies, spelled as those of records of their kind would be. So they are lent as
 /// updates are.
-#[derive(Drop)]
+#[derive(Debug, Drop)]
 pub struct KeptEntries {
     bodies: Texts,
 }
@@ -55,18 +57,6 @@ impl KeptEntries {
         self.bodies.size()
     }
 
-    /// Adds a copy of an entry behind the others.
-    pub fn push(&mut self, alloc: Global, entry: &Entry) -> Result<(), Memory>
-        ensures ok { OnOk result (self.new ≡ self.old ++ entry.now ∷ []) }
-        ensures err { OnErr result (self.new ≡ self.old) }
-    {
-        // It tells the proof that the entry is lawful.
-        let _ = entry.change();
-        let body = body_of_entry(alloc, entry)?;
-        self.bodies.push(&body)?;
-        Ok(())
-    }
-
     /// The update of the entry of this number.
     pub fn update(&self, number: usize) -> Lent<'_>
         requires { number < length self.now }
@@ -74,16 +64,25 @@ impl KeptEntries {
     {
         Lent::of(Origin::Checkpoint, self.bodies.get(number))
     }
+
+    /// The key of the entry of this number.
+    pub fn key(&self, number: usize) -> &[u8]
+        requires { number < length self.now }
+        ensures { (d : Change) → result.now ≡ (slice_index_or self.now number d).key }
+    {
+        spelled::key(self.bodies.get(number))
+    }
 }
 
-/// The body of an entry.
-fn body_of_entry(alloc: Global, entry: &Entry) -> Result<Vec<u8>, Memory>
-    ensures { IfOk result (λ body. body.items ≡ body_of 0 (Some entry.now)) }
-{
-    let change = entry.change();
-    let mut body = Vec::with_capacity(alloc, 9 + change_length(change))?;
-    put_bytes(&[WHOLE], &mut body);
-    put_u64(0, &mut body);
-    put_change(change, &mut body);
-    Ok(body)
+impl Entries for KeptEntries {
+    ghost listed = { λ entries. entries };
+
+    fn put_entry(&mut self, fields: &[u8]) -> Result<(), Memory> {
+        self.bodies.push_joined(BEFORE_FIELDS, fields)?;
+        Ok(())
+    }
+
+    fn count(&self) -> usize {
+        self.len()
+    }
 }

@@ -6,6 +6,7 @@ ghost use Rattle.mt_record.specs.PartFaults.{IsPartAnswered};
 ghost use Rattle.mt_record.specs.PartFeeding.{IsPartFed, ShowsNoPartFault, IsPartShown};
 
 use crate::feed::Feed;
+use crate::kept::Entries;
 use crate::part_items::PartItems;
 use crate::part_text::{PartFault, PartText};
 use mt_words::Entry;
@@ -14,19 +15,19 @@ use std::marker::Model;
 
 /// Reads a part of a checkpoint that comes in pieces of any size. It holds back no more than the beginning of the
 /// header, of one entry or of the footer, and copies each byte of a key or value once where its entry lies whole in a
-/// piece. Its work is linear in the bytes, however they are cut.
+/// piece. Its work is linear in the bytes, however they are cut. `E` is what the entries are put into.
 #[derive(Debug, Drop)]
-pub struct PartFeed {
-    feed: Feed<PartItems<Vec<Entry>>>,
+pub struct PartFeed<E: Entries = Vec<Entry>> {
+    feed: Feed<PartItems<E>>,
 }
 
-impl Model for PartFeed {
+impl<E: Entries> Model for PartFeed<E> {
     ghost use Rattle.mt_record.specs.PartFeeding.{FedPart};
     ghost use Rattle.mt_record.specs.PartPieces.{fed_part};
 
     ghost Value = { FedPart };
 
-    ghost view = { λ f. fed_part f.feed };
+    ghost view = { λ f. fed_part E.listed f.feed };
 }
 
 impl PartFeed {
@@ -35,8 +36,19 @@ impl PartFeed {
         ensures fed { IsPartFed result [] }
         ensures sound { result.fault ≡ None }
     {
+        PartFeed::filling(alloc, Vec::new(alloc))
+    }
+}
+
+impl<E: Entries> PartFeed<E> {
+    /// A feed that was fed nothing, for entries to be put into what is empty.
+    pub fn filling(alloc: Global, entries: E) -> PartFeed<E>
+        requires { E.listed entries ≡ [] }
+        ensures fed { IsPartFed result [] }
+        ensures sound { result.fault ≡ None }
+    {
         PartFeed {
-            feed: Feed::new(alloc, PartItems::new(Vec::new(alloc))),
+            feed: Feed::new(alloc, PartItems::new(entries)),
         }
     }
 
@@ -58,8 +70,8 @@ impl PartFeed {
 
     /// What the bytes say as a part. An Err is the one fault of the bytes, a part that is cut short among them, or
     /// `Memory` where a growth was refused.
-    pub fn finish(self) -> Result<PartText, PartFault>
-        ensures part { (bytes : List ℕ) → IsPartFed self bytes → IfOk result (IsPartText bytes) }
+    pub fn finish(self) -> Result<PartText<E>, PartFault>
+        ensures part { (bytes : List ℕ) → IsPartFed self bytes → IfOk result (IsPartText E.listed bytes) }
         ensures fault { (bytes : List ℕ) → IsPartFed self bytes → IfErr result (IsPartAnswered bytes) }
         ensures again { (fault : FaultValue) → self.fault ≡ Some fault → result ≡ Err fault }
     {

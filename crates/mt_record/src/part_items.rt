@@ -16,7 +16,6 @@ use crate::kept::Entries;
 use crate::magic::goes_with_magic;
 use crate::part_head::{FOOTER_BYTES, PART, PART_HEADER_BYTES, part_header_at};
 use crate::part_text::{PartFault, PartHead, PartText};
-use mt_words::Entry;
 
 /// What was read of a part so far.
 #[derive(Debug, Drop)]
@@ -180,15 +179,13 @@ impl<E: Entries> PartItems<E> {
             entries: self.entries.count() as u64,
         }
     }
-}
 
-impl PartItems<Vec<Entry>> {
     /// What was read, as a part behind which nothing more came than could not be read. An Err is the fault of a part
     /// that is cut short.
-    pub fn finish(self) -> Result<PartText, PartFault>
-        ensures part { (bytes left : List ℕ) → ReadsUpTo (so_far (λ entries. entries.items) self) bytes left → IsPartLeft (so_far (λ entries. entries.items) self) left →
-            IfOk result (IsPartText bytes) }
-        ensures fault { (bytes left : List ℕ) → ReadsUpTo (so_far (λ entries. entries.items) self) bytes left → IsPartLeft (so_far (λ entries. entries.items) self) left →
+    pub fn finish(self) -> Result<PartText<E>, PartFault>
+        ensures part { (bytes left : List ℕ) → ReadsUpTo (so_far E.listed self) bytes left → IsPartLeft (so_far E.listed self) left →
+            IfOk result (IsPartText E.listed bytes) }
+        ensures fault { (bytes left : List ℕ) → ReadsUpTo (so_far E.listed self) bytes left → IsPartLeft (so_far E.listed self) left →
             IfErr result (IsPartAnswered bytes) }
     {
         let PartItems { head, entries, end } = self;
@@ -198,7 +195,7 @@ impl PartItems<Vec<Entry>> {
         let Some(end) = end else {
             return Err(PartFault::Broken {
                 number: head.number,
-                entries: entries.len() as u64,
+                entries: entries.count() as u64,
             });
         };
         Ok(PartText {

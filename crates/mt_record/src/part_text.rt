@@ -19,9 +19,9 @@ pub struct PartHead {
     pub parts: u16,
 }
 
-/// A part that was read.
+/// A part that was read. `E` is what its entries were put into.
 #[derive(Debug, Drop)]
-pub struct PartText {
+pub struct PartText<E = Vec<Entry>> {
     /// The number of its checkpoint.
     pub number: u32,
     /// The timestamp from which on logs are replayed over the checkpoint.
@@ -31,7 +31,7 @@ pub struct PartText {
     /// How many parts the checkpoint has.
     pub parts: u16,
     /// The entries, in order.
-    pub entries: Vec<Entry>,
+    pub entries: E,
     /// The timestamp at which the checkpoint was complete.
     pub end: u64,
 }

@@ -2,6 +2,7 @@
 ghost use Rattle.std.specs.Prelude.{◌≡◌, ◌<◌, ◌≤◌, ◌++◌, [], ◌∷◌, List, ℕ, OnOk, OnErr, IfOk, length, slice_index_or};
 ghost use Rattle.mt_record.specs.Texts.{start_at};
 
+use crate::put::put_bytes;
 use mt_words::Memory;
 use std::alloc::Global;
 use std::marker::Model;
@@ -72,8 +73,19 @@ impl Texts {
         ensures ok { OnOk result (self.new ≡ self.old ++ text.now ∷ []) }
         ensures err { OnErr result (self.new ≡ self.old) }
     {
+        self.push_joined(&[], text)
+    }
+
+    /// Adds a text that comes in two pieces behind the others.
+    pub fn push_joined(&mut self, front: &[u8], rest: &[u8]) -> Result<(), Memory>
+        ensures ok { OnOk result (self.new ≡ self.old ++ (front.now ++ rest.now) ∷ []) }
+        ensures err { OnErr result (self.new ≡ self.old) }
+    {
+        // A text is added whole or not at all: so all room is made first.
         self.ends.reserve(1)?;
-        self.bytes.extend_from_slice(text)?;
+        self.bytes.reserve(front.len() + rest.len())?;
+        put_bytes(front, &mut self.bytes);
+        put_bytes(rest, &mut self.bytes);
         let end = self.bytes.len();
         let Ok(()) = self.ends.push(end) else {
             unreachable!();
