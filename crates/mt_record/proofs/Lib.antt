@@ -24,5 +24,4 @@ pub mod PartFeeds
 pub mod TextLemmas
 pub mod Decodes
 pub mod RecordLemmas
-pub mod KeptRecords
 pub mod KeptBodies
