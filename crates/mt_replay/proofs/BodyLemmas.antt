@@ -11,7 +11,7 @@ use Rattle.mt_words.specs.Changes.{Logged, mark_of}
 use Rattle.mt_words.specs.Updates.{update_of, updates_from}
 use Rattle.mt_record.specs.Decoding.{update_in}
 use Rattle.mt_record.specs.Kept.{Kept}
-use Rattle.mt_record.proofs.KeptRecords.{updates_push}
+use Rattle.mt_record.proofs.RecordLemmas.{updates_push}
 use Rattle.mt_replay.specs.declared.window.Window.{Window}
 use Rattle.mt_replay.specs.Survivors.{in_window}
 use Rattle.mt_replay.specs.Bodies.{updates_at}

@@ -21,8 +21,8 @@ pub(crate) fn survivors<'a>(
 ) -> Result<Vec<Lent<'a>>, Memory>
     ensures { IfOk result (λ lents. lents.items ≡ filter (in_window window) (kept_updates updates.now)) }
 {
-    let mut lents = Vec::with_capacity(alloc, updates.len())?;
-    for number in 0..updates.len() {
+    let mut lents = Vec::with_capacity(alloc, updates.record_count())?;
+    for number in 0..updates.record_count() {
         add_survivor(&mut lents, updates.update(number), window)?;
     }
     Ok(lents)
