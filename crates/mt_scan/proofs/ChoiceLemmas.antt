@@ -12,15 +12,13 @@ use Rattle.std.proofs.lemmas.Map.Views.{btree_map_get_iff}
 use Rattle.mt_record.specs.Parts.{PartReading}
 use Rattle.mt_scan.specs.PartScans.{KnownPart, whole, broken}
 use Rattle.mt_scan.specs.Choice.{Checkpoint, IsValid, MayBeChosen, IsChosenOf, IsSkipped, parts_of, checkpoint_in}
-use Rattle.mt_scan.specs.Candidates.{candidate_in}
 use Rattle.mt_scan.specs.Groups.{IsGroupOf, IsGroupAt, AreGroupsOf, HasCheckpoint}
 use Rattle.mt_scan.specs.Selections.{IsOffered, IsPassed, IsBestOf, IsSelectionOf, IsSelectionFor}
-use Rattle.mt_scan.specs.declared.candidate.Candidate.{Candidate}
-use Rattle.mt_scan.specs.declared.choice.Checkpoint.{Checkpoint as Chosen}
+use Rattle.mt_scan.specs.declared.checkpoint.Checkpoint.{Checkpoint as CheckpointValue}
 use Rattle.mt_scan.specs.declared.selection.Selection.{Selection}
 use Rattle.mt_scan.specs.declared.group.Group.{Group}
 use Rattle.mt_scan.specs.declared.group.Group.TheVariants as groups
-use Rattle.mt_scan.proofs.CandidateLemmas.{in_place_of}
+use Rattle.mt_scan.proofs.CheckpointLemmas.{in_place_of}
 
 -- ---- the parts of one checkpoint
 
@@ -105,9 +103,9 @@ module _ (parts : List KnownPart) (all : BTreeMap ℕ Group) (are : AreGroupsOf 
     ends_below = is.ends_below;
   }
 
-  chosen : (cutoff : ℕ) (best : Option Candidate) → IsBestOf all.entries cutoff best → IsChosenOf parts cutoff (option_map candidate_in best)
+  chosen : (cutoff : ℕ) (best : Option CheckpointValue) → IsBestOf all.entries cutoff best → IsChosenOf parts cutoff (option_map checkpoint_in best)
   chosen cutoff None is = λ other may. is other (may_be_offered cutoff other may)
-  chosen cutoff (Some best) is = (may_be_chosen cutoff (candidate_in best) is.0, λ other may. is.1 other (may_be_offered cutoff other may))
+  chosen cutoff (Some best) is = (may_be_chosen cutoff (checkpoint_in best) is.0, λ other may. is.1 other (may_be_offered cutoff other may))
 
   passed : (number : ℕ) → IsPassed all.entries number → IsSkipped parts number
   passed number is =
@@ -139,12 +137,3 @@ module _ (parts : List KnownPart) (all : BTreeMap ℕ Group) (are : AreGroupsOf 
       exact = λ number. (λ at. passed number ((is.exact number).0 at), λ skipped. (is.exact number).1 (skipped_at number (get nat_cmp all number) refl skipped));
     };
   }
-
--- ---- the best one as a checkpoint
-
-pub best_is_some : (chosen : Option Chosen) (best : Option Candidate) (checkpoint : Chosen) (candidate : Candidate) → chosen ≡ Some checkpoint → best ≡ Some candidate
-    → checkpoint_in checkpoint ≡ candidate_in candidate → option_map checkpoint_in chosen ≡ option_map candidate_in best
-best_is_some chosen best checkpoint candidate e f same = ap (λ (o : Option Chosen). option_map checkpoint_in o) e ∙ ap Some same ∙ ap (λ (o : Option Candidate). option_map candidate_in o) (sym f)
-
-pub best_is_none : (chosen : Option Chosen) (best : Option Candidate) → chosen ≡ None → best ≡ None → option_map checkpoint_in chosen ≡ option_map candidate_in best
-best_is_none chosen best e f = ap (λ (o : Option Chosen). option_map checkpoint_in o) e ∙ ap (λ (o : Option Candidate). option_map candidate_in o) (sym f)

@@ -10,7 +10,7 @@ pub mod OneKnown
 pub mod OneChoice
 pub mod GroupLemmas
 pub mod RisingLemmas
-pub mod CandidateLemmas
+pub mod CheckpointLemmas
 pub mod SelectionLemmas
 pub mod ChoiceLemmas
 pub mod NamelessLemmas

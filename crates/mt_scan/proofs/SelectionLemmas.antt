@@ -11,12 +11,12 @@ use Rattle.std.proofs.lemmas.List.{length_push, get_or_push, get_or_append_left}
 use Rattle.std.proofs.lemmas.List.Elements.{Contains-push, Contains-push_cases, Contains-append_left, Contains-get_or}
 use Rattle.std.proofs.lemmas.List.Sorted.{IsPermutation-sym, IsPermutation-trans}
 use Rattle.mt_record.specs.Parts.{PartReading}
-use Rattle.mt_scan.specs.PartScans.{whole}
-use Rattle.mt_scan.specs.Choice.{Checkpoint, AreInPlace, MakeUp, IsNoBetter}
-use Rattle.mt_scan.specs.Candidates.{shown_by_all, AreSameTexts, candidate_in}
-use Rattle.mt_scan.specs.Groups.{HasCheckpoint, HasNone, IsCandidateOf}
+use Rattle.mt_scan.specs.PartScans.{whole, shown_by_all}
+use Rattle.mt_scan.specs.Choice.{Checkpoint, AreInPlace, MakeUp, IsNoBetter, checkpoint_in}
+use Rattle.mt_scan.specs.Checkpoints.{AreSameTexts}
+use Rattle.mt_scan.specs.Groups.{HasCheckpoint, HasNone, IsCheckpointOf}
 use Rattle.mt_scan.specs.Selections.{AreBelow, IsOffered, IsPassed, IsBestOf, IsSelectionOf, IsNoWorse}
-use Rattle.mt_scan.specs.declared.candidate.Candidate.{Candidate}
+use Rattle.mt_scan.specs.declared.checkpoint.Checkpoint.{Checkpoint as CheckpointValue}
 use Rattle.mt_scan.specs.declared.selection.Selection.{Selection}
 use Rattle.mt_scan.specs.declared.group.Group.{Group}
 use Rattle.mt_scan.specs.declared.group.Group.TheVariants as groups
@@ -34,22 +34,22 @@ same_times_of a b xs ys of_a of_b same =
     let texts : xs ≡ ys = same_texts xs ys (are_numbered a (length xs) xs of_a.in_place) (are_numbered b (length ys) ys of_b.in_place) same in
     same_times a b (length xs) (length ys) xs of_a.in_place (subst (λ (zs : List PartReading). AreInPlace b (length ys) 0 zs) (sym texts) of_b.in_place) of_a.some
 
--- the checkpoints of a group end where its candidate does
-one_end : (number : ℕ) (group : Group) (candidate : Candidate) (other : Checkpoint) → IsCandidateOf number group candidate → HasCheckpoint group other → other.end ≡ candidate.end
-one_end number (groups.Whole texts) candidate other is has =
-    let made : List PartReading = shown_by_all candidate.texts.items in
-    let same : AreSameTexts has.ordered made =
-    IsPermutation-trans (map whole has.ordered) (map whole (shown_by_all texts.items)) (map whole made) (IsPermutation-sym (map whole (shown_by_all texts.items)) (map whole has.ordered) has.same) is.same in
-    (same_times_of other (candidate_in candidate) has.ordered made has.make_up is.make_up same).1
-one_end number groups.Broken candidate other is has = absurd is
+-- the checkpoints of a group end where the one made of it does
+one_end : (number : ℕ) (group : Group) (made : CheckpointValue) (other : Checkpoint) → IsCheckpointOf number group made → HasCheckpoint group other → other.end ≡ made.end
+one_end number (groups.Whole texts) made other is has =
+    let parts : List PartReading = shown_by_all made.parts.items in
+    let same : AreSameTexts has.ordered parts =
+    IsPermutation-trans (map whole has.ordered) (map whole (shown_by_all texts.items)) (map whole parts) (IsPermutation-sym (map whole (shown_by_all texts.items)) (map whole has.ordered) has.same) is.same in
+    (same_times_of other (checkpoint_in made) has.ordered parts has.make_up is.make_up same).1
+one_end number groups.Broken made other is has = absurd is
 
-candidate_number : (number : ℕ) (group : Group) (candidate : Candidate) → IsCandidateOf number group candidate → candidate.number ≡ number
-candidate_number number (groups.Whole texts) candidate is = is.number_is
-candidate_number number groups.Broken candidate is = absurd is
+made_number : (number : ℕ) (group : Group) (made : CheckpointValue) → IsCheckpointOf number group made → made.number ≡ number
+made_number number (groups.Whole texts) made is = is.number_is
+made_number number groups.Broken made is = absurd is
 
-candidate_has : (number : ℕ) (group : Group) (candidate : Candidate) → IsCandidateOf number group candidate → HasCheckpoint group (candidate_in candidate)
-candidate_has number (groups.Whole texts) candidate is = record { ordered = shown_by_all candidate.texts.items; same = is.same; make_up = is.make_up }
-candidate_has number groups.Broken candidate is = absurd is
+made_has : (number : ℕ) (group : Group) (made : CheckpointValue) → IsCheckpointOf number group made → HasCheckpoint group (checkpoint_in made)
+made_has number (groups.Whole texts) made is = record { ordered = shown_by_all made.parts.items; same = is.same; make_up = is.make_up }
+made_has number groups.Broken made is = absurd is
 
 -- ---- one more group
 
@@ -102,43 +102,43 @@ passed_more all number group n none = (
 )
 
 -- the best of the groups, if the last one has no checkpoint
-best_same : (all : List Entry) (number : ℕ) (group : Group) (cutoff : ℕ) (best : Option Candidate) → HasNone group → IsBestOf all cutoff best → IsBestOf (all ++ (number, group) ∷ []) cutoff best
+best_same : (all : List Entry) (number : ℕ) (group : Group) (cutoff : ℕ) (best : Option CheckpointValue) → HasNone group → IsBestOf all cutoff best → IsBestOf (all ++ (number, group) ∷ []) cutoff best
 best_same all number group cutoff None none is = λ other offered. elim (offered_cases all number group cutoff other offered) as (λ _. ⊥) [ inl before ↦ is other before | inr last ↦ none other last.has ]
 best_same all number group cutoff (Some best) none is = (
-  offered_more all number group cutoff (candidate_in best) is.0,
-  λ other offered. elim (offered_cases all number group cutoff other offered) as (λ _. IsNoBetter other (candidate_in best)) [ inl before ↦ is.1 other before | inr last ↦ absurd (none other last.has) ],
+  offered_more all number group cutoff (checkpoint_in best) is.0,
+  λ other offered. elim (offered_cases all number group cutoff other offered) as (λ _. IsNoBetter other (checkpoint_in best)) [ inl before ↦ is.1 other before | inr last ↦ absurd (none other last.has) ],
 )
 
-module _ (all : List Entry) (number : ℕ) (group : Group) (cutoff : ℕ) (candidate : Candidate) (is_of : IsCandidateOf number group candidate) (below : AreBelow all number) where
-  offered : candidate.end < cutoff → IsOffered (all ++ (number, group) ∷ []) cutoff (candidate_in candidate)
+module _ (all : List Entry) (number : ℕ) (group : Group) (cutoff : ℕ) (made : CheckpointValue) (is_of : IsCheckpointOf number group made) (below : AreBelow all number) where
+  offered : made.end < cutoff → IsOffered (all ++ (number, group) ∷ []) cutoff (checkpoint_in made)
   offered ends = record {
     group = group;
-    stands = subst (λ (n : ℕ). Contains (all ++ (number, group) ∷ []) (n, group)) (sym (candidate_number number group candidate is_of)) (Contains-push all (number, group));
-    has = candidate_has number group candidate is_of;
+    stands = subst (λ (n : ℕ). Contains (all ++ (number, group) ∷ []) (n, group)) (sym (made_number number group made is_of)) (Contains-push all (number, group));
+    has = made_has number group made is_of;
     ends_below = ends;
   }
 
   -- no other checkpoint of the group is better
-  no_other : (other : Checkpoint) → IsLast number group cutoff other → IsNoBetter other (candidate_in candidate)
+  no_other : (other : Checkpoint) → IsLast number group cutoff other → IsNoBetter other (checkpoint_in made)
   no_other other last =
-      let e = one_end number group candidate other is_of last.has in
-      inr (e, omega (arith, last.number_is, candidate_number number group candidate is_of))
+      let e = one_end number group made other is_of last.has in
+      inr (e, omega (arith, last.number_is, made_number number group made is_of))
 
-  -- the candidate is the best now
-  best_taken : (best : Option Candidate) → IsBestOf all cutoff best → IsNoWorse cutoff best candidate → IsBestOf (all ++ (number, group) ∷ []) cutoff (Some candidate)
+  -- the one made of the group is the best now
+  best_taken : (best : Option CheckpointValue) → IsBestOf all cutoff best → IsNoWorse cutoff best made → IsBestOf (all ++ (number, group) ∷ []) cutoff (Some made)
   best_taken None is no_worse = (
     offered no_worse,
-    λ other now. elim (offered_cases all number group cutoff other now) as (λ _. IsNoBetter other (candidate_in candidate)) [ inl before ↦ absurd (is other before) | inr last ↦ no_other other last ],
+    λ other now. elim (offered_cases all number group cutoff other now) as (λ _. IsNoBetter other (checkpoint_in made)) [ inl before ↦ absurd (is other before) | inr last ↦ no_other other last ],
   )
   best_taken (Some best) is no_worse = (
     offered no_worse.0,
-    λ other now. elim (offered_cases all number group cutoff other now) as (λ _. IsNoBetter other (candidate_in candidate)) [
+    λ other now. elim (offered_cases all number group cutoff other now) as (λ _. IsNoBetter other (checkpoint_in made)) [
       | inl before ↦
           let lesser : other.number < number = below (other.number, before.group) before.stands in
-          let own = candidate_number number group candidate is_of in
-          elim (is.1 other before) as (λ _. IsNoBetter other (candidate_in candidate)) [
+          let own = made_number number group made is_of in
+          elim (is.1 other before) as (λ _. IsNoBetter other (checkpoint_in made)) [
             | inl less ↦ inl (omega (arith, less, no_worse.1))
-            | inr same ↦ elim (cases_lt other.end candidate.end) as (λ _. IsNoBetter other (candidate_in candidate)) [
+            | inr same ↦ elim (cases_lt other.end made.end) as (λ _. IsNoBetter other (checkpoint_in made)) [
               | inl less ↦ inl less
               | inr above ↦ inr (omega (arith, above, same.0, no_worse.1), omega (arith, lesser, own))
             ]
@@ -148,49 +148,49 @@ module _ (all : List Entry) (number : ℕ) (group : Group) (cutoff : ℕ) (candi
   )
 
   -- the best so far stays it
-  best_left : (best : Option Candidate) → IsBestOf all cutoff best → (IsNoWorse cutoff best candidate → ⊥) → IsBestOf (all ++ (number, group) ∷ []) cutoff best
+  best_left : (best : Option CheckpointValue) → IsBestOf all cutoff best → (IsNoWorse cutoff best made → ⊥) → IsBestOf (all ++ (number, group) ∷ []) cutoff best
   best_left None is worse = λ other now. elim (offered_cases all number group cutoff other now) as (λ _. ⊥) [
     | inl before ↦ is other before
-    | inr last ↦ let e = one_end number group candidate other is_of last.has in worse (omega (arith, e, last.ends_below))
+    | inr last ↦ let e = one_end number group made other is_of last.has in worse (omega (arith, e, last.ends_below))
   ]
   best_left (Some best) is worse = (
-    offered_more all number group cutoff (candidate_in best) is.0,
-    λ other now. elim (offered_cases all number group cutoff other now) as (λ _. IsNoBetter other (candidate_in best)) [
+    offered_more all number group cutoff (checkpoint_in best) is.0,
+    λ other now. elim (offered_cases all number group cutoff other now) as (λ _. IsNoBetter other (checkpoint_in best)) [
       | inl before ↦ is.1 other before
       | inr last ↦
-          let e = one_end number group candidate other is_of last.has in
-          let ends : candidate.end < cutoff = omega (arith, e, last.ends_below) in
-          elim (cases_lt candidate.end best.end) as (λ _. IsNoBetter other (candidate_in best)) [ inl less ↦ inl (omega (arith, e, less)) | inr above ↦ absurd (worse (ends, above)) ]
+          let e = one_end number group made other is_of last.has in
+          let ends : made.end < cutoff = omega (arith, e, last.ends_below) in
+          elim (cases_lt made.end best.end) as (λ _. IsNoBetter other (checkpoint_in best)) [ inl less ↦ inl (omega (arith, e, less)) | inr above ↦ absurd (worse (ends, above)) ]
     ],
   )
 
-no_worse_or_not : (cutoff : ℕ) (best : Option Candidate) (candidate : Candidate) → IsNoWorse cutoff best candidate ⊎ (IsNoWorse cutoff best candidate → ⊥)
-no_worse_or_not cutoff None candidate = elim (cases_lt candidate.end cutoff) as (λ _. IsNoWorse cutoff None candidate ⊎ (IsNoWorse cutoff None candidate → ⊥)) [ inl less ↦ inl less | inr above ↦ inr (λ h. omega (arith, above, h)) ]
-no_worse_or_not cutoff (Some best) candidate =
-    elim (cases_lt candidate.end cutoff) as (λ _. IsNoWorse cutoff (Some best) candidate ⊎ (IsNoWorse cutoff (Some best) candidate → ⊥)) [
-      | inl ends ↦ elim (cases_lt candidate.end best.end) as (λ _. IsNoWorse cutoff (Some best) candidate ⊎ (IsNoWorse cutoff (Some best) candidate → ⊥)) [ inl less ↦ inr (λ h. omega (arith, less, h.1)) | inr above ↦ inl (ends, above) ]
+no_worse_or_not : (cutoff : ℕ) (best : Option CheckpointValue) (made : CheckpointValue) → IsNoWorse cutoff best made ⊎ (IsNoWorse cutoff best made → ⊥)
+no_worse_or_not cutoff None made = elim (cases_lt made.end cutoff) as (λ _. IsNoWorse cutoff None made ⊎ (IsNoWorse cutoff None made → ⊥)) [ inl less ↦ inl less | inr above ↦ inr (λ h. omega (arith, above, h)) ]
+no_worse_or_not cutoff (Some best) made =
+    elim (cases_lt made.end cutoff) as (λ _. IsNoWorse cutoff (Some best) made ⊎ (IsNoWorse cutoff (Some best) made → ⊥)) [
+      | inl ends ↦ elim (cases_lt made.end best.end) as (λ _. IsNoWorse cutoff (Some best) made ⊎ (IsNoWorse cutoff (Some best) made → ⊥)) [ inl less ↦ inr (λ h. omega (arith, less, h.1)) | inr above ↦ inl (ends, above) ]
       | inr above ↦ inr (λ h. omega (arith, above, h.0))
     ]
 
--- a candidate was offered
-pub record IsOfferedTo (cutoff : ℕ) (candidate : Candidate) (old new : Selection) : Type 0 where
-  pub taken : IsNoWorse cutoff old.best candidate → new.best ≡ Some candidate
-  pub left : (IsNoWorse cutoff old.best candidate → ⊥) → new.best ≡ old.best
+-- a checkpoint was offered
+pub record IsOfferedTo (cutoff : ℕ) (made : CheckpointValue) (old new : Selection) : Type 0 where
+  pub taken : IsNoWorse cutoff old.best made → new.best ≡ Some made
+  pub left : (IsNoWorse cutoff old.best made → ⊥) → new.best ≡ old.best
   pub skipped : new.skipped ≡ old.skipped
 
-pub selection_offered : (all : List Entry) (number : ℕ) (group : Group) (cutoff : ℕ) (candidate : Candidate) (old new : Selection) → IsCandidateOf number group candidate → AreBelow all number
-    → IsOfferedTo cutoff candidate old new → IsSelectionOf all cutoff old → IsSelectionOf (all ++ (number, group) ∷ []) cutoff new
-selection_offered all number group cutoff candidate old new is_of below offer is =
+pub selection_offered : (all : List Entry) (number : ℕ) (group : Group) (cutoff : ℕ) (made : CheckpointValue) (old new : Selection) → IsCheckpointOf number group made → AreBelow all number
+    → IsOfferedTo cutoff made old new → IsSelectionOf all cutoff old → IsSelectionOf (all ++ (number, group) ∷ []) cutoff new
+selection_offered all number group cutoff made old new is_of below offer is =
     let more : List Entry = all ++ (number, group) ∷ [] in
     let same : old.skipped.items ≡ new.skipped.items = sym (ap (λ skipped. skipped.items) offer.skipped) in
     record {
-      best = elim (no_worse_or_not cutoff old.best candidate) as (λ _. IsBestOf more cutoff new.best) [
-        | inl h ↦ subst (IsBestOf more cutoff) (sym (offer.taken h)) (best_taken all number group cutoff candidate is_of below old.best is.best h)
-        | inr h ↦ subst (IsBestOf more cutoff) (sym (offer.left h)) (best_left all number group cutoff candidate is_of below old.best is.best h)
+      best = elim (no_worse_or_not cutoff old.best made) as (λ _. IsBestOf more cutoff new.best) [
+        | inl h ↦ subst (IsBestOf more cutoff) (sym (offer.taken h)) (best_taken all number group cutoff made is_of below old.best is.best h)
+        | inr h ↦ subst (IsBestOf more cutoff) (sym (offer.left h)) (best_left all number group cutoff made is_of below old.best is.best h)
       ];
       rise = subst IsStrictlyIncreasing same is.rise;
       exact = λ n.
-          let passed = passed_same all number group (candidate_in candidate) n (candidate_has number group candidate is_of) in
+          let passed = passed_same all number group (checkpoint_in made) n (made_has number group made is_of) in
           let both : Contains old.skipped.items n ↔ IsPassed more n = (λ h. passed.1 ((is.exact n).0 h), λ h. (is.exact n).1 (passed.0 h)) in
           subst (λ (ns : List ℕ). Contains ns n ↔ IsPassed more n) same both;
     }

@@ -7,8 +7,8 @@ use Rattle.mt_words.specs.declared.record.Change.{Change}
 use Rattle.mt_words.specs.Words.{IsBelow}
 use Rattle.mt_record.specs.Parts.{PartReading}
 use Rattle.mt_scan.specs.declared.choice.Choice.{Choice}
-use Rattle.mt_scan.specs.declared.choice.Checkpoint.{Checkpoint as Chosen}
-use Rattle.mt_scan.specs.PartScans.{KnownPart, whole, broken, nameless}
+use Rattle.mt_scan.specs.declared.checkpoint.Checkpoint.{Checkpoint as CheckpointValue}
+use Rattle.mt_scan.specs.PartScans.{KnownPart, whole, broken, nameless, shown_by_all}
 
 -- a checkpoint: its number, the timestamps from which on logs are replayed over it and at which it was complete, and its entries
 pub record Checkpoint : Type 0 where
@@ -89,13 +89,13 @@ pub record AreNameless (parts : List KnownPart) (positions : List ℕ) : Type 0 
   pub rise : IsStrictlyIncreasing positions
   pub exact : (i : ℕ) → Contains positions i ↔ (slice_get parts i ≡ Some nameless)
 
--- what a checkpoint in memory shows
-abbrev pub checkpoint_in : Chosen → Checkpoint
+-- what a checkpoint in memory shows: its entries are those of its parts, one part behind the other
+abbrev pub checkpoint_in : CheckpointValue → Checkpoint
 checkpoint_in checkpoint = record {
   number = checkpoint.number;
   begin = checkpoint.begin;
   end = checkpoint.end;
-  entries = checkpoint.entries.items;
+  entries = flat_map (λ text. text.entries) (shown_by_all checkpoint.parts.items);
 }
 
 -- the choice among these parts

@@ -2,12 +2,12 @@
 use Rattle.std.specs.Prelude.{◌≡◌, ℕ, ◌<◌, List, [], length, map, Option, Some, None, Contains}
 use Rattle.std.specs.Ordering.{nat_cmp}
 use Rattle.std.specs.BTreeMap.{BTreeMap, get}
-use Rattle.mt_scan.specs.PartScans.{KnownPart, whole, broken}
+use Rattle.mt_scan.specs.PartScans.{KnownPart, whole, broken, shown_by_all}
 use Rattle.mt_scan.specs.Choice.{Checkpoint, parts_of}
-use Rattle.mt_scan.specs.Candidates.{shown_by_all, CanMakeUp, IsMadeOf}
+use Rattle.mt_scan.specs.Checkpoints.{CanMakeUp, IsMadeOf}
 use Rattle.mt_scan.specs.declared.group.Group.{Group}
 use Rattle.mt_scan.specs.declared.group.Group.TheVariants as groups
-use Rattle.mt_scan.specs.declared.candidate.Candidate.{Candidate}
+use Rattle.mt_scan.specs.declared.checkpoint.Checkpoint.{Checkpoint as CheckpointValue}
 
 -- the parts of a checkpoint, in any order: they are all whole, or one of them is broken
 abbrev pub IsGroupOf : List KnownPart → Group → Type 0
@@ -32,7 +32,7 @@ HasCheckpoint groups.Broken checkpoint = ⊥
 abbrev pub HasNone : Group → Type 0
 HasNone group = (checkpoint : Checkpoint) → HasCheckpoint group checkpoint → ⊥
 
--- the candidate of this number that is made of the group
-abbrev pub IsCandidateOf : ℕ → Group → Candidate → Type 0
-IsCandidateOf number (groups.Whole texts) candidate = IsMadeOf number (shown_by_all texts.items) candidate
-IsCandidateOf number groups.Broken candidate = ⊥
+-- the checkpoint of this number that is made of the group
+abbrev pub IsCheckpointOf : ℕ → Group → CheckpointValue → Type 0
+IsCheckpointOf number (groups.Whole texts) made = IsMadeOf number (shown_by_all texts.items) made
+IsCheckpointOf number groups.Broken made = ⊥

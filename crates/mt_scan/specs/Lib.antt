@@ -6,7 +6,7 @@ pub mod Scans
 pub mod PartScans
 pub mod Cutoff
 pub mod Choice
-pub mod Candidates
+pub mod Checkpoints
 pub mod Rising
 pub mod Groups
 pub mod Selections

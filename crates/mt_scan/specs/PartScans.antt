@@ -1,9 +1,11 @@
 -- What a scan of a checkpoint part gives: a function of the part's bytes.
-use Rattle.std.specs.Prelude.{◌≡◌, ℕ, List}
+use Rattle.std.specs.Prelude.{◌≡◌, ℕ, List, map}
 use Rattle.mt_words.specs.declared.fault.Fault.{Fault}
 use Rattle.mt_words.specs.declared.fault.Fault.TheVariants as faults
 use Rattle.mt_record.specs.declared.part_text.PartFault.TheVariants as of_part
-use Rattle.mt_record.specs.Parts.{PartReading, IsPartReading, shown_by}
+use Rattle.mt_words.specs.declared.record.Change.{Change}
+use Rattle.mt_record.specs.declared.part_text.PartText.{PartText}
+use Rattle.mt_record.specs.Parts.{PartReading, IsPartReading, shown_in}
 use Rattle.mt_record.specs.PartFaults.{IsPartFault}
 use Rattle.mt_scan.specs.declared.part_scan.PartScan.{PartScan}
 use Rattle.mt_scan.specs.declared.part_scan.PartScan.TheVariants as scans
@@ -19,6 +21,18 @@ abbrev pub IsKnown : List ℕ → KnownPart → Type 0
 IsKnown bytes (whole part) = IsPartReading bytes part
 IsKnown bytes (broken number) = (entries : ℕ) × IsPartFault bytes (of_part.Broken number entries)
 IsKnown bytes nameless = IsPartFault bytes of_part.Header
+
+-- a part that was read, with its entries as they are kept
+abbrev pub KeptPart : Type 0
+KeptPart = PartText (List Change)
+
+-- what the part shows
+abbrev pub shown_by : KeptPart → PartReading
+shown_by text = shown_in (λ entries. entries) text
+
+-- what each of them shows
+abbrev pub shown_by_all : List KeptPart → List PartReading
+shown_by_all texts = map shown_by texts
 
 -- what a scan shows of its part
 abbrev pub known_by : PartScan → KnownPart

@@ -3,10 +3,9 @@ use Rattle.std.specs.Prelude.{ℕ, ◌<◌, ◌≤◌, ◌↔◌, List, Option, 
 use Rattle.std.specs.Option.{option_map}
 use Rattle.std.specs.List.Sorted.{IsStrictlyIncreasing}
 use Rattle.mt_scan.specs.PartScans.{KnownPart}
-use Rattle.mt_scan.specs.Choice.{Checkpoint, IsNoBetter, IsChosenOf, AreSkipped}
-use Rattle.mt_scan.specs.Candidates.{candidate_in}
+use Rattle.mt_scan.specs.Choice.{Checkpoint, IsNoBetter, IsChosenOf, AreSkipped, checkpoint_in}
 use Rattle.mt_scan.specs.Groups.{HasCheckpoint, HasNone}
-use Rattle.mt_scan.specs.declared.candidate.Candidate.{Candidate}
+use Rattle.mt_scan.specs.declared.checkpoint.Checkpoint.{Checkpoint as CheckpointValue}
 use Rattle.mt_scan.specs.declared.group.Group.{Group}
 use Rattle.mt_scan.specs.declared.selection.Selection.{Selection}
 
@@ -28,9 +27,9 @@ pub record IsPassed (all : List (ℕ × Group)) (number : ℕ) : Type 0 where
   pub none : HasNone group
 
 -- the best of the checkpoints that are offered
-abbrev pub IsBestOf : List (ℕ × Group) → ℕ → Option Candidate → Type 0
+abbrev pub IsBestOf : List (ℕ × Group) → ℕ → Option CheckpointValue → Type 0
 IsBestOf all cutoff None = (other : Checkpoint) → IsOffered all cutoff other → ⊥
-IsBestOf all cutoff (Some best) = IsOffered all cutoff (candidate_in best) × ((other : Checkpoint) → IsOffered all cutoff other → IsNoBetter other (candidate_in best))
+IsBestOf all cutoff (Some best) = IsOffered all cutoff (checkpoint_in best) × ((other : Checkpoint) → IsOffered all cutoff other → IsNoBetter other (checkpoint_in best))
 
 -- the best of these groups, and the numbers of those that are of no checkpoint
 pub record IsSelectionOf (all : List (ℕ × Group)) (cutoff : ℕ) (selection : Selection) : Type 0 where
@@ -38,12 +37,12 @@ pub record IsSelectionOf (all : List (ℕ × Group)) (cutoff : ℕ) (selection :
   pub rise : IsStrictlyIncreasing selection.skipped.items
   pub exact : (number : ℕ) → Contains selection.skipped.items number ↔ IsPassed all number
 
--- a candidate that is to stand in the place of the best one so far
-abbrev pub IsNoWorse : ℕ → Option Candidate → Candidate → Type 0
-IsNoWorse cutoff None candidate = candidate.end < cutoff
-IsNoWorse cutoff (Some best) candidate = (candidate.end < cutoff) × (best.end ≤ candidate.end)
+-- a checkpoint that is to stand in the place of the best one so far
+abbrev pub IsNoWorse : ℕ → Option CheckpointValue → CheckpointValue → Type 0
+IsNoWorse cutoff None next = next.end < cutoff
+IsNoWorse cutoff (Some best) next = (next.end < cutoff) × (best.end ≤ next.end)
 
 -- what of these parts is to be chosen, and what to be skipped
 pub record IsSelectionFor (parts : List KnownPart) (cutoff : ℕ) (selection : Selection) : Type 0 where
-  pub chosen : IsChosenOf parts cutoff (option_map candidate_in selection.best)
+  pub chosen : IsChosenOf parts cutoff (option_map checkpoint_in selection.best)
   pub skipped : AreSkipped parts selection.skipped.items

@@ -3,24 +3,12 @@ ghost use Rattle.std.specs.Prelude.{IfOk, map};
 ghost use Rattle.mt_scan.specs.PartScans.{known_by};
 ghost use Rattle.mt_scan.specs.Choice.{AreNameless, IsChoiceOf};
 
+use crate::checkpoint::Checkpoint;
 use crate::group::group_parts;
 use crate::part_scan::PartScan;
 use crate::selection::{Selection, select};
-use mt_words::{Entry, Memory};
+use mt_words::Memory;
 use std::alloc::Global;
-
-/// A valid checkpoint.
-#[derive(Debug, Drop)]
-pub struct Checkpoint {
-    /// Its number.
-    pub number: u32,
-    /// The timestamp from which on logs are replayed over it.
-    pub begin: u64,
-    /// The timestamp at which it was complete.
-    pub end: u64,
-    /// Its entries, by rising keys.
-    pub entries: Vec<Entry>,
-}
 
 /// Which checkpoint to begin from, and which parts are of no use.
 #[derive(Debug, Drop)]
@@ -36,7 +24,7 @@ pub struct Choice {
 
 /// Chooses the checkpoint to begin from among those of these parts, which stand in any order. A checkpoint is valid
 /// where its parts are all whole, agree in begin, end and the number of parts, are numbered from 0 on, once each, and
-/// their entries, in the order of those numbers, have rising keys; and it begins at its end at the latest. Entries are
+/// their entries, in the order of those numbers, have rising keys; and it begins at its end at the latest. Parts are
 /// moved, none is copied. It takes time n log n for n parts, and goes once through the entries.
 pub fn choose(alloc: Global, scans: Vec<PartScan>, cutoff: u64) -> Result<Choice, Memory>
     ensures { IfOk result (IsChoiceOf (map known_by scans.items) cutoff) }
@@ -44,12 +32,8 @@ pub fn choose(alloc: Global, scans: Vec<PartScan>, cutoff: u64) -> Result<Choice
     let nameless = nameless_among(alloc, &scans)?;
     let groups = group_parts(alloc, scans)?;
     let Selection { best, skipped } = select(alloc, groups, cutoff)?;
-    let chosen = match best {
-        Some(candidate) => Some(candidate.into_checkpoint(alloc)?),
-        None => None,
-    };
     Ok(Choice {
-        chosen,
+        chosen: best,
         skipped,
         nameless,
     })

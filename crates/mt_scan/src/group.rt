@@ -1,12 +1,11 @@
 //! Parts by the numbers of their checkpoints.
 ghost use Rattle.std.specs.Prelude.{List, [], ◌∷◌, ◌++◌, map, IfOk, OnOk, MatchOption};
-ghost use Rattle.mt_record.specs.Parts.{shown_by};
-ghost use Rattle.mt_scan.specs.PartScans.{KnownPart, whole, broken, known_by};
-ghost use Rattle.mt_scan.specs.Groups.{IsGroupOf, AreGroupsOf, HasNone, IsCandidateOf};
+ghost use Rattle.mt_scan.specs.PartScans.{KnownPart, whole, broken, shown_by, known_by};
+ghost use Rattle.mt_scan.specs.Groups.{IsGroupOf, AreGroupsOf, HasNone, IsCheckpointOf};
 
-use crate::candidate::Candidate;
+use crate::checkpoint::Checkpoint;
 use crate::part_scan::PartScan;
-use mt_record::PartText;
+use mt_record::{KeptEntries, PartText};
 use mt_words::Memory;
 use std::alloc::Global;
 use std::collections::BTreeMap;
@@ -15,14 +14,14 @@ use std::collections::BTreeMap;
 #[derive(Debug, Drop)]
 pub enum Group {
     /// They are whole, and stand in any order.
-    Whole(Vec<PartText>),
+    Whole(Vec<PartText<KeptEntries>>),
     /// One of them is broken.
     Broken,
 }
 
 impl Group {
     /// Adds a whole part. After an Err it may be missing.
-    fn add(&mut self, text: PartText) -> Result<(), Memory>
+    fn add(&mut self, text: PartText<KeptEntries>) -> Result<(), Memory>
         ensures { OnOk result ((parts : List KnownPart) → IsGroupOf parts self.old →
             IsGroupOf (parts ++ whole (shown_by text) ∷ []) self.new) }
     {
@@ -33,11 +32,11 @@ impl Group {
     }
 
     /// The checkpoint of this number whose parts these are. None where they make up no valid one.
-    pub fn into_candidate(self, number: u32) -> Option<Candidate>
-        ensures { MatchOption result (HasNone self) (IsCandidateOf number self) }
+    pub fn into_checkpoint(self, number: u32) -> Option<Checkpoint>
+        ensures { MatchOption result (HasNone self) (IsCheckpointOf number self) }
     {
         match self {
-            Group::Whole(texts) => Candidate::of(number, texts),
+            Group::Whole(texts) => Checkpoint::of(number, texts),
             Group::Broken => None,
         }
     }
@@ -67,7 +66,11 @@ fn add_scan(alloc: Global, groups: &mut BTreeMap<u32, Group>, scan: PartScan) ->
 }
 
 /// Adds a whole part to those of its checkpoint.
-fn add_whole(alloc: Global, groups: &mut BTreeMap<u32, Group>, text: PartText) -> Result<(), Memory>
+fn add_whole(
+    alloc: Global,
+    groups: &mut BTreeMap<u32, Group>,
+    text: PartText<KeptEntries>,
+) -> Result<(), Memory>
     ensures { OnOk result ((parts : List KnownPart) → AreGroupsOf parts groups.old →
         AreGroupsOf (parts ++ whole (shown_by text) ∷ []) groups.new) }
 {

@@ -3,7 +3,7 @@
 #![tactic(auto)]
 
 mod buffer;
-mod candidate;
+mod checkpoint;
 mod choice;
 mod fault_source;
 mod group;
@@ -18,7 +18,8 @@ mod slot;
 mod source;
 mod tally;
 
-pub use choice::{Checkpoint, Choice, choose};
+pub use checkpoint::Checkpoint;
+pub use choice::{Choice, choose};
 pub use fault_source::FaultSource;
 pub use log_scan::{LogScan, cutoff};
 pub use mem_source::MemSource;

@@ -6,7 +6,7 @@ ghost use Rattle.mt_scan.specs.Keeping.{FeedsPartPiece};
 ghost use Rattle.mt_record.specs.PartFeeding.{IsPartFed};
 
 use crate::source::Source;
-use mt_record::{PartFault, PartFeed, PartText};
+use mt_record::{KeptEntries, PartFault, PartFeed, PartText};
 use mt_words::Fault;
 use std::alloc::Global;
 
@@ -14,7 +14,7 @@ use std::alloc::Global;
 #[derive(Debug, Drop)]
 pub enum PartScan {
     /// The part is whole.
-    Whole(PartText),
+    Whole(PartText<KeptEntries>),
     /// It has a header, and is broken.
     Broken {
         /// The number of its checkpoint.
@@ -33,7 +33,7 @@ pub fn scan_part<S: Source>(alloc: Global, source: &mut S, part: usize) -> Resul
     ensures failed { (S.seen source.new).failures ≡ (S.seen source.old).failures + failures_of result }
     ensures steady { IsTrue (S.seen source.old).steady → failures_of result ≡ 0 }
 {
-    let mut feed = PartFeed::new(alloc);
+    let mut feed = PartFeed::filling(alloc, KeptEntries::new(alloc));
     'pieces: while feed_piece(source, &mut feed, part)? {}
     match feed.finish() {
         Ok(text) => Ok(PartScan::Whole(text)),
@@ -45,7 +45,11 @@ pub fn scan_part<S: Source>(alloc: Global, source: &mut S, part: usize) -> Resul
 
 /// Feeds the next piece of the part, if there is one; false at the end, and after a fault of the bytes, which the feed
 /// keeps.
-fn feed_piece<S: Source>(source: &mut S, feed: &mut PartFeed, part: usize) -> Result<bool, Fault>
+fn feed_piece<S: Source>(
+    source: &mut S,
+    feed: &mut PartFeed<KeptEntries>,
+    part: usize,
+) -> Result<bool, Fault>
     ensures fed { (bytes : List ℕ) → IsPartFed feed.old bytes →
         IfOk result (FeedsPartPiece (S.seen source.old) (S.seen source.new) feed.new bytes) }
     ensures fault { IfErr result (IsPartScanFault part) }

@@ -4,7 +4,7 @@ ghost use Rattle.mt_scan.specs.PartScans.{KnownPart};
 ghost use Rattle.mt_scan.specs.Groups.{AreGroupsOf};
 ghost use Rattle.mt_scan.specs.Selections.{AreBelow, IsSelectionOf, IsNoWorse, IsSelectionFor};
 
-use crate::candidate::Candidate;
+use crate::checkpoint::Checkpoint;
 use crate::group::Group;
 use mt_words::Memory;
 use std::alloc::Global;
@@ -14,7 +14,7 @@ use std::collections::BTreeMap;
 #[derive(Debug, Drop)]
 pub struct Selection {
     /// Of the valid ones that end below the cutoff the one with the greatest end, and then the greatest number.
-    pub best: Option<Candidate>,
+    pub best: Option<Checkpoint>,
     /// The numbers of the invalid ones, rising.
     pub skipped: Vec<u32>,
 }
@@ -25,31 +25,31 @@ impl Selection {
         ensures { OnOk result ((all : List (ℕ × Group)) → AreBelow all number → IsSelectionOf all cutoff self.old →
             IsSelectionOf (all ++ (number, group) ∷ []) cutoff self.new) }
     {
-        match group.into_candidate(number) {
-            Some(candidate) => self.offer(candidate, cutoff),
+        match group.into_checkpoint(number) {
+            Some(checkpoint) => self.offer(checkpoint, cutoff),
             None => self.skipped.push(number)?,
         }
         Ok(())
     }
 
     /// Keeps the valid checkpoint, if it is no worse than the best so far.
-    fn offer(&mut self, candidate: Candidate, cutoff: u64)
-        ensures taken { IsNoWorse cutoff self.old.best candidate → self.new.best ≡ Some candidate }
-        ensures left { (IsNoWorse cutoff self.old.best candidate → ⊥) → self.new.best ≡ self.old.best }
+    fn offer(&mut self, checkpoint: Checkpoint, cutoff: u64)
+        ensures taken { IsNoWorse cutoff self.old.best checkpoint → self.new.best ≡ Some checkpoint }
+        ensures left { (IsNoWorse cutoff self.old.best checkpoint → ⊥) → self.new.best ≡ self.old.best }
         ensures skipped { self.new.skipped ≡ self.old.skipped }
     {
-        if self.is_no_worse(&candidate, cutoff) {
-            self.best = Some(candidate);
+        if self.is_no_worse(&checkpoint, cutoff) {
+            self.best = Some(checkpoint);
         }
     }
 
     /// Whether the valid checkpoint is to stand in the place of the best so far.
-    fn is_no_worse(&self, candidate: &Candidate, cutoff: u64) -> bool
-        ensures { IsTrue result ↔ IsNoWorse cutoff self.now.best candidate.now }
+    fn is_no_worse(&self, checkpoint: &Checkpoint, cutoff: u64) -> bool
+        ensures { IsTrue result ↔ IsNoWorse cutoff self.now.best checkpoint.now }
     {
         match &self.best {
-            Some(best) => candidate.end < cutoff && best.end <= candidate.end,
-            None => candidate.end < cutoff,
+            Some(best) => checkpoint.end < cutoff && best.end <= checkpoint.end,
+            None => checkpoint.end < cutoff,
         }
     }
 }

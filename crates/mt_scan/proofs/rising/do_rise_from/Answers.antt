@@ -1,17 +1,29 @@
-use Rattle.std.proofs.Common.{refl}
+use Rattle.std.proofs.Common.{◌<◌, length, refl, arith}
 use Rattle.std.proofs.lemmas.Bool.{false≢true}
-use Rattle.mt_scan.specs.Rising.{listed}
-use Rattle.mt_scan.proofs.RisingLemmas.{entry_more, entry_stops}
+use Rattle.std.proofs.lemmas.List.{length-map}
+use Rattle.mt_words.specs.declared.record.Change.{Change}
+use Rattle.mt_scan.specs.Rising.{keys_of, listed}
+use Rattle.mt_scan.proofs.RisingLemmas.{key_at, key_more, key_stops}
 use Rattle.mt_scan.proofs.rising.do_rise_from.Goals as goal
 
 pub returns-then-not-can_follow : goal.returns-then-not-can_follow
-returns-then-not-can_follow c = (
-  λ h. absurd (false≢true h),
-  λ rise. absurd (entry_stops (listed c.args.before) c.args.entries.now c.loop-entry.entry-index c.entry-item.result (listed c.loop-entry.last) c.loop-entry-test.true c.entry-item.is c.loop-entry.invariant
-      (λ on. false≢true (c.if-not-can_follow.ensures.1 on)) rise),
-)
+returns-then-not-can_follow c =
+    let entries = c.args.entries.now in
+    let number = c.loop-number.number in
+    let key = c.key-key.result.now in
+    let below : number < length entries = omega (arith, c.loop-number-test.true, c.len-number-end.ensures) in
+    let within : number < length (keys_of entries) = omega (arith, below, length-map entries (λ (entry : Change). entry.key)) in (
+      λ h. absurd (false≢true h),
+      λ rise. absurd (key_stops (listed c.args.before) (keys_of entries) number key (listed c.loop-number.last) within (key_at entries number key below c.key-key.ensures) c.loop-number.invariant
+          (λ on. false≢true (c.if-not-can_follow.ensures.1 on)) rise),
+    )
 
-pub loop-entry-preserved : goal.loop-entry-preserved
-loop-entry-preserved c =
-    entry_more (listed c.args.before) c.args.entries.now c.loop-entry.entry-index c.entry-item.result (listed c.loop-entry.last) c.loop-entry-test.true c.entry-item.is c.loop-entry.invariant
+pub loop-number-preserved : goal.loop-number-preserved
+loop-number-preserved c =
+    let entries = c.args.entries.now in
+    let number = c.loop-number.number in
+    let key = c.key-key.result.now in
+    let below : number < length entries = omega (arith, c.loop-number-test.true, c.len-number-end.ensures) in
+    let within : number < length (keys_of entries) = omega (arith, below, length-map entries (λ (entry : Change). entry.key)) in
+    key_more (listed c.args.before) (keys_of entries) number key (listed c.loop-number.last) within (key_at entries number key below c.key-key.ensures) c.loop-number.invariant
     (c.if-not-can_follow.ensures.0 refl)

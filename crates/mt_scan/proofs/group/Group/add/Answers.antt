@@ -1,6 +1,5 @@
 use Rattle.std.proofs.Common.{List, ◌∷◌, [], ◌++◌, sym, subst}
-use Rattle.mt_record.specs.Parts.{shown_by}
-use Rattle.mt_scan.specs.PartScans.{KnownPart, whole}
+use Rattle.mt_scan.specs.PartScans.{KnownPart, whole, shown_by}
 use Rattle.mt_scan.specs.Groups.{IsGroupOf}
 use Rattle.mt_scan.specs.declared.group.Group.{Group}
 use Rattle.mt_scan.proofs.GroupLemmas.{stays_broken}

@@ -4,7 +4,7 @@ use Rattle.mt_scan.proofs.selection.Selection.add.Goals as goal
 
 pub returns-in-Some : goal.returns-in-Some
 returns-in-Some c = λ all below is.
-    selection_offered all c.args.number c.args.group c.args.cutoff c.in-Some.candidate c.args.self.now c.offer.new.self c.in-Some.ensures below
+    selection_offered all c.args.number c.args.group c.args.cutoff c.in-Some.checkpoint c.args.self.now c.offer.new.self c.in-Some.ensures below
     (record { taken = c.offer.ensures.taken; left = c.offer.ensures.left; skipped = c.offer.ensures.skipped }) is
 
 pub returns-in_ok-push-in-None : goal.returns-in_ok-push-in-None

@@ -7,12 +7,11 @@ use Rattle.std.proofs.lemmas.List.{length-map, length-take-le, get_or-map, map_p
 use Rattle.std.proofs.lemmas.List.Sorted.{All-permutation, IsPermutation-map, IsPermutation-sym, IsPermutation-trans, length_permutation}
 use Rattle.std.proofs.lemmas.Map.Keys.{IsDistinct-from_apart, IsDistinct-IsPermutation, IsStrictlyIncreasing-from_distinct}
 use Rattle.std.proofs.lemmas.Cmp.{nat_eq_equiv}
-use Rattle.mt_record.specs.declared.part_text.PartText.{PartText}
-use Rattle.mt_record.specs.Parts.{PartReading, shown_by}
-use Rattle.mt_scan.specs.PartScans.{KnownPart, whole, broken, nameless}
-use Rattle.mt_scan.specs.Choice.{Checkpoint, IsPartAt, AreInPlace, EntriesRise, MakeUp}
-use Rattle.mt_scan.specs.Candidates.{shown_by_all, MakeUpNone, AreSameTexts, IsMadeOf, candidate_in}
-use Rattle.mt_scan.specs.declared.candidate.Candidate.{Candidate}
+use Rattle.mt_record.specs.Parts.{PartReading}
+use Rattle.mt_scan.specs.PartScans.{KnownPart, KeptPart, whole, broken, nameless, shown_by, shown_by_all}
+use Rattle.mt_scan.specs.Choice.{Checkpoint, IsPartAt, AreInPlace, EntriesRise, MakeUp, checkpoint_in}
+use Rattle.mt_scan.specs.Checkpoints.{MakeUpNone, AreSameTexts, IsMadeOf}
+use Rattle.mt_scan.specs.declared.checkpoint.Checkpoint.{Checkpoint as CheckpointValue}
 use Rattle.mt_scan.proofs.OneChoice.{at_place, AreNumbered, are_numbered, same_texts}
 
 -- ---- one more part in place
@@ -24,20 +23,20 @@ in_place_push checkpoint count place (y ∷ ys) x are at =
     let e : place + suc (length ys) ≡ suc place + length ys = omega arith in
     (are.0, in_place_push checkpoint count (suc place) ys x are.1 (subst (λ (n : ℕ). IsPartAt checkpoint count n x) e at))
 
-pub in_place_more : (checkpoint : Checkpoint) (count : ℕ) (texts : List PartText) (i : ℕ) (x : PartText) → i < length texts → x ≡ get_or texts i x
+pub in_place_more : (checkpoint : Checkpoint) (count : ℕ) (texts : List KeptPart) (i : ℕ) (x : KeptPart) → i < length texts → x ≡ get_or texts i x
     → AreInPlace checkpoint count 0 (shown_by_all (take i texts)) → IsPartAt checkpoint count i (shown_by x) → AreInPlace checkpoint count 0 (shown_by_all (take (i + 1) texts))
 in_place_more checkpoint count texts i x fits at are is =
-    let more : take (i + 1) texts ≡ take i texts ++ x ∷ [] = take_more texts i x fits ∙ ap (λ (y : PartText). take i texts ++ y ∷ []) (sym at) in
+    let more : take (i + 1) texts ≡ take i texts ++ x ∷ [] = take_more texts i x fits ∙ ap (λ (y : KeptPart). take i texts ++ y ∷ []) (sym at) in
     let long : 0 + length (shown_by_all (take i texts)) ≡ i = omega (arith, length-map (take i texts) shown_by, length-take-le i texts (omega (arith, fits))) in
     let all = in_place_push checkpoint count 0 (shown_by_all (take i texts)) (shown_by x) are (subst (λ (n : ℕ). IsPartAt checkpoint count n (shown_by x)) (sym long) is) in
-    subst (AreInPlace checkpoint count 0) (sym (ap (λ (ys : List PartText). shown_by_all ys) more ∙ map_push shown_by (take i texts) x)) all
+    subst (AreInPlace checkpoint count 0) (sym (ap (λ (ys : List KeptPart). shown_by_all ys) more ∙ map_push shown_by (take i texts) x)) all
 
-pub in_place_at : (checkpoint : Checkpoint) (count : ℕ) (texts : List PartText) (i : ℕ) (x : PartText) → i < length texts → x ≡ get_or texts i x
+pub in_place_at : (checkpoint : Checkpoint) (count : ℕ) (texts : List KeptPart) (i : ℕ) (x : KeptPart) → i < length texts → x ≡ get_or texts i x
     → AreInPlace checkpoint count 0 (shown_by_all texts) → IsPartAt checkpoint count i (shown_by x)
 in_place_at checkpoint count texts i x fits at are =
     let is = at_place checkpoint count 0 (shown_by_all texts) i (shown_by x) are (omega (arith, fits, length-map texts shown_by)) in
     let e : 0 + i ≡ i = omega arith in
-    let same : get_or (shown_by_all texts) i (shown_by x) ≡ shown_by x = get_or-map shown_by texts i x (shown_by x) fits ∙ ap (λ (y : PartText). shown_by y) (sym at) in
+    let same : get_or (shown_by_all texts) i (shown_by x) ≡ shown_by x = get_or-map shown_by texts i x (shown_by x) fits ∙ ap (λ (y : KeptPart). shown_by y) (sym at) in
     subst (IsPartAt checkpoint count i) same (subst (λ (n : ℕ). IsPartAt checkpoint count n (get_or (shown_by_all texts) i (shown_by x))) e is)
 
 -- the same for another checkpoint of these times
@@ -108,7 +107,7 @@ module _ (d : PartReading) (texts : List PartReading) (are : AreNumbered texts) 
   numbers_below : All (λ (n : ℕ). n < length (numbers_of texts)) (numbers_of texts)
   numbers_below = λ k n fits. let e = number_is k n fits in omega (arith, e, fits)
 
-sorted_numbers : (sorted : List PartText) (d : PartText) → IsNonDecreasingBy (λ (text : PartText). text.part) sorted → IsNonDecreasing (numbers_of (shown_by_all sorted))
+sorted_numbers : (sorted : List KeptPart) (d : KeptPart) → IsNonDecreasingBy (λ (text : KeptPart). text.part) sorted → IsNonDecreasing (numbers_of (shown_by_all sorted))
 sorted_numbers sorted d rise = λ i j n le fits.
     let within : j < length (shown_by_all sorted) = omega (arith, fits, length-map (shown_by_all sorted) (λ (text : PartReading). text.part)) in
     let inside : j < length sorted = omega (arith, within, length-map sorted shown_by) in
@@ -120,7 +119,7 @@ sorted_numbers sorted d rise = λ i j n le fits.
     omega (arith, at_i, at_j, low)
 
 -- sorted texts that are those of a checkpoint stand in its order
-pub sorted_are_numbered : (sorted : List PartText) (ordered : List PartReading) (d : PartText) → IsNonDecreasingBy (λ (text : PartText). text.part) sorted → AreNumbered ordered → AreSameTexts (shown_by_all sorted) ordered
+pub sorted_are_numbered : (sorted : List KeptPart) (ordered : List PartReading) (d : KeptPart) → IsNonDecreasingBy (λ (text : KeptPart). text.part) sorted → AreNumbered ordered → AreSameTexts (shown_by_all sorted) ordered
     → AreNumbered (shown_by_all sorted)
 sorted_are_numbered sorted ordered d rise are same = λ k e fits.
     let texts : List PartReading = shown_by_all sorted in
@@ -134,45 +133,45 @@ sorted_are_numbered sorted ordered d rise are same = λ k e fits.
     let is = number_at (numbers_of texts) up k within (subst (λ (m : ℕ). All (λ (n : ℕ). n < m) (numbers_of texts)) (sym many) below) in
     sym (get_or-map (λ (text : PartReading). text.part) texts k e 0 fits) ∙ is
 
--- ---- a candidate, or none
+-- ---- a checkpoint, or none
 
-same_texts_as : (texts sorted : List PartText) → IsPermutation texts sorted → AreSameTexts (shown_by_all texts) (shown_by_all sorted)
+same_texts_as : (texts sorted : List KeptPart) → IsPermutation texts sorted → AreSameTexts (shown_by_all texts) (shown_by_all sorted)
 same_texts_as texts sorted moved = IsPermutation-map whole (shown_by_all texts) (shown_by_all sorted) (IsPermutation-map shown_by texts sorted moved)
 
-first_times : (checkpoint : Checkpoint) (count : ℕ) (texts : List PartText) (first : PartText) → slice_get texts 0 ≡ Some first → AreInPlace checkpoint count 0 (shown_by_all texts)
+first_times : (checkpoint : Checkpoint) (count : ℕ) (texts : List KeptPart) (first : KeptPart) → slice_get texts 0 ≡ Some first → AreInPlace checkpoint count 0 (shown_by_all texts)
     → (checkpoint.begin ≡ first.begin) × (checkpoint.end ≡ first.end)
 first_times checkpoint count [] first at are = cc
 first_times checkpoint count (x ∷ xs) first at are =
     let e : x ≡ first = cc in
-    (sym are.0.begin_agrees ∙ ap (λ (y : PartText). y.begin) e, sym are.0.end_agrees ∙ ap (λ (y : PartText). y.end) e)
+    (sym are.0.begin_agrees ∙ ap (λ (y : KeptPart). y.begin) e, sym are.0.end_agrees ∙ ap (λ (y : KeptPart). y.end) e)
 
 -- texts that make up no checkpoint in the order of their numbers make up none
-pub none_made : (texts : List PartText) (candidate : Candidate) (first : PartText) → IsPermutation texts candidate.texts.items → IsNonDecreasingBy (λ (text : PartText). text.part) candidate.texts.items
-    → slice_get candidate.texts.items 0 ≡ Some first → candidate.begin ≡ first.begin → candidate.end ≡ first.end
-    → (MakeUp (shown_by_all candidate.texts.items) (candidate_in candidate) → ⊥) → MakeUpNone (shown_by_all texts)
-none_made texts candidate first moved rise at begin end not checkpoint can =
-    let sorted : List PartReading = shown_by_all candidate.texts.items in
-    let there : AreSameTexts (shown_by_all texts) sorted = same_texts_as texts candidate.texts.items moved in
+pub none_made : (texts : List KeptPart) (value : CheckpointValue) (first : KeptPart) → IsPermutation texts value.parts.items → IsNonDecreasingBy (λ (text : KeptPart). text.part) value.parts.items
+    → slice_get value.parts.items 0 ≡ Some first → value.begin ≡ first.begin → value.end ≡ first.end
+    → (MakeUp (shown_by_all value.parts.items) (checkpoint_in value) → ⊥) → MakeUpNone (shown_by_all texts)
+none_made texts value first moved rise at begin end not checkpoint can =
+    let sorted : List PartReading = shown_by_all value.parts.items in
+    let there : AreSameTexts (shown_by_all texts) sorted = same_texts_as texts value.parts.items moved in
     let same : AreSameTexts sorted can.ordered =
     IsPermutation-trans (map whole sorted) (map whole (shown_by_all texts)) (map whole can.ordered) (IsPermutation-sym (map whole (shown_by_all texts)) (map whole sorted) there) can.same in
     let ordered_are : AreNumbered can.ordered = are_numbered checkpoint (length can.ordered) can.ordered can.make_up.in_place in
-    let are : sorted ≡ can.ordered = same_texts sorted can.ordered (sorted_are_numbered candidate.texts.items can.ordered first rise ordered_are same) ordered_are same in
+    let are : sorted ≡ can.ordered = same_texts sorted can.ordered (sorted_are_numbered value.parts.items can.ordered first rise ordered_are same) ordered_are same in
     let make_up = subst (λ (xs : List PartReading). MakeUp xs checkpoint) (sym are) can.make_up in
-    let times = first_times checkpoint (length sorted) candidate.texts.items first at make_up.in_place in
+    let times = first_times checkpoint (length sorted) value.parts.items first at make_up.in_place in
     not (record {
       some = make_up.some;
-      in_place = in_place_of checkpoint (candidate_in candidate) (length sorted) 0 sorted (times.0 ∙ sym begin) (times.1 ∙ sym end) make_up.in_place;
+      in_place = in_place_of checkpoint (checkpoint_in value) (length sorted) 0 sorted (times.0 ∙ sym begin) (times.1 ∙ sym end) make_up.in_place;
       begins = omega (arith, make_up.begins, times.0, times.1, begin, end);
       all = refl;
       rise = subst EntriesRise make_up.all make_up.rise;
     })
 
 -- no texts make up no checkpoint
-pub none_of_none : (texts sorted : List PartText) → IsPermutation texts sorted → slice_get sorted 0 ≡ None → MakeUpNone (shown_by_all texts)
+pub none_of_none : (texts sorted : List KeptPart) → IsPermutation texts sorted → slice_get sorted 0 ≡ None → MakeUpNone (shown_by_all texts)
 none_of_none texts [] moved none checkpoint can =
     omega (arith, can.make_up.some, length_permutation texts [] moved, length-map texts shown_by, length-map (shown_by_all texts) whole, length-map can.ordered whole, length_permutation (map whole (shown_by_all texts)) (map whole can.ordered) can.same)
 none_of_none texts (x ∷ xs) moved none checkpoint can = cc
 
-pub made : (number : ℕ) (texts : List PartText) (candidate : Candidate) → candidate.number ≡ number → IsPermutation texts candidate.texts.items
-    → MakeUp (shown_by_all candidate.texts.items) (candidate_in candidate) → IsMadeOf number (shown_by_all texts) candidate
-made number texts candidate number_is moved make_up = record { number_is = number_is; same = same_texts_as texts candidate.texts.items moved; make_up = make_up }
+pub made : (number : ℕ) (texts : List KeptPart) (value : CheckpointValue) → value.number ≡ number → IsPermutation texts value.parts.items
+    → MakeUp (shown_by_all value.parts.items) (checkpoint_in value) → IsMadeOf number (shown_by_all texts) value
+made number texts value number_is moved make_up = record { number_is = number_is; same = same_texts_as texts value.parts.items moved; make_up = make_up }

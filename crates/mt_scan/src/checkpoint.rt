@@ -1,0 +1,77 @@
+//! Checkpoints by their parts.
+ghost use Rattle.std.specs.Prelude.{◌≡◌, ◌↔◌, length, IsTrue, MatchOption};
+ghost use Rattle.mt_scan.specs.PartScans.{shown_by, shown_by_all};
+ghost use Rattle.mt_scan.specs.Choice.{IsPartAt, AreInPlace, MakeUp, checkpoint_in};
+ghost use Rattle.mt_scan.specs.Checkpoints.{MakeUpNone, IsMadeOf};
+
+use crate::rising::do_entries_rise;
+use mt_record::{KeptEntries, PartText};
+
+/// A valid checkpoint.
+#[derive(Debug, Drop)]
+pub struct Checkpoint {
+    /// Its number.
+    pub number: u32,
+    /// The timestamp from which on logs are replayed over it.
+    pub begin: u64,
+    /// The timestamp at which it was complete.
+    pub end: u64,
+    /// Its parts, in order. Their entries, one part behind the other, have rising keys.
+    pub parts: Vec<PartText<KeptEntries>>,
+}
+
+impl Checkpoint {
+    /// The checkpoint of this number whose parts these are, in any order. None where they make up no valid one.
+    pub(crate) fn of(number: u32, parts: Vec<PartText<KeptEntries>>) -> Option<Checkpoint>
+        ensures { MatchOption result
+            (MakeUpNone (shown_by_all parts.items))
+            (IsMadeOf number (shown_by_all parts.items)) }
+    {
+        let mut parts = parts;
+        parts.sort_unstable_by_key(|text| text.part);
+        let first = parts.first()?;
+        let checkpoint = Checkpoint {
+            number,
+            begin: first.begin,
+            end: first.end,
+            parts,
+        };
+        if checkpoint.is_valid() {
+            Some(checkpoint)
+        } else {
+            None
+        }
+    }
+
+    /// Whether its parts make it up.
+    fn is_valid(&self) -> bool
+        ensures { IsTrue result ↔ MakeUp (shown_by_all self.now.parts.items) (checkpoint_in self.now) }
+    {
+        !self.parts.is_empty()
+            && self.begin <= self.end
+            && self.are_in_place()
+            && do_entries_rise(&self.parts)
+    }
+
+    /// Whether its parts stand one behind the other, and agree with it.
+    fn are_in_place(&self) -> bool
+        ensures { IsTrue result ↔ AreInPlace (checkpoint_in self.now) (length self.now.parts.items) 0 (shown_by_all self.now.parts.items) }
+    {
+        for (place, text) in self.parts.iter().enumerate() {
+            if !self.has_at(place, text) {
+                return false;
+            }
+        }
+        true
+    }
+
+    /// Whether this is its part at this place.
+    fn has_at(&self, place: usize, text: &PartText<KeptEntries>) -> bool
+        ensures { IsTrue result ↔ IsPartAt (checkpoint_in self.now) (length self.now.parts.items) place (shown_by text.now) }
+    {
+        usize::from(text.part) == place
+            && usize::from(text.parts) == self.parts.len()
+            && text.begin == self.begin
+            && text.end == self.end
+    }
+}
