@@ -14,7 +14,7 @@ use Rattle.mt_record.specs.Logs.{LogReading}
 use Rattle.mt_scan.specs.declared.log_scan.LogScan.{LogScan}
 use Rattle.mt_scan.specs.Cutoff.{IsCutoff, HaveNumbersOf}
 use Rattle.mt_scan.specs.PartScans.{KnownPart}
-use Rattle.mt_scan.specs.declared.choice.Checkpoint.{Checkpoint as Chosen}
+use Rattle.mt_scan.specs.declared.checkpoint.Checkpoint.{Checkpoint as Chosen}
 use Rattle.mt_scan.specs.Choice.{Checkpoint, IsChosenOf, checkpoint_in}
 use Rattle.mt_replay.specs.Survivors.{in_window, all_updates}
 use Rattle.mt_recover.specs.Survivors.{entry_updates, begin_of, survivors}

@@ -1,15 +1,16 @@
 -- Logs that were read or scanned one after the other.
-use Rattle.std.proofs.Common.{◌≡◌, ℕ, zero, suc, ◌+◌, ◌<◌, List, [], ◌∷◌, ◌++◌, length, get_or, map, take, Bor, Some, ap, ◌∙◌, subst, add-one, arith}
+use Rattle.std.proofs.Common.{◌≡◌, ℕ, zero, suc, ◌+◌, ◌<◌, List, [], ◌∷◌, ◌++◌, length, get_or, map, take, Bor, Some, sym, ap, ◌∙◌, subst, add-one, arith}
 use Rattle.std.specs.Prelude.{slice_get}
 use Rattle.std.specs.Option.{option_map}
 use Rattle.std.proofs.lemmas.Option.{slice_get-map, slice_get-get_or}
 use Rattle.std.proofs.lemmas.Slice.Zip.{all_zipped_more}
+use Rattle.mt_words.specs.declared.fault.Fault.{Fault}
 use Rattle.mt_record.specs.declared.read.FeedFault.{FeedFault}
 use Rattle.mt_record.specs.declared.read.FeedFault.TheVariants as of_log
 use Rattle.mt_record.specs.Logs.{LogReading, IsReading}
 use Rattle.mt_record.specs.LogFaults.{IsAnswered, fault_at}
 use Rattle.mt_scan.specs.declared.log_scan.LogScan.{LogScan}
-use Rattle.mt_scan.specs.Scans.{ShowsLog, IsScanOf}
+use Rattle.mt_scan.specs.Scans.{ShowsLog, IsScanOf, IsLogVerdict}
 use Rattle.mt_recover.specs.Verdict.{IsVerdictOrMemory}
 use Rattle.mt_recover.specs.LogScans.{ShowAll, AreScansOf}
 
@@ -47,8 +48,12 @@ pub log_at : (logs : List (Bor (List ℕ))) (i : ℕ) (d : Bor (List ℕ)) → i
 log_at logs i d lt = slice_get-map (λ log. log.now) logs i ∙ ap (option_map (λ log. log.now)) (slice_get-get_or logs i d lt)
 
 -- a log's fault, behind whole logs
-pub fault_behind : (logs : List (Bor (List ℕ))) (scans : List LogScan) (i : ℕ) (d : Bor (List ℕ)) (fault : FeedFault) (parts : List (List ℕ)) → i < length logs → AreScansOf (take i (map (λ log. log.now) logs)) scans
-    → IsAnswered (get_or logs i d).now fault → IsVerdictOrMemory (map (λ log. log.now) logs) parts (fault_at i fault)
-fault_behind logs scans i d of_log.Memory parts lt are is = tt
-fault_behind logs scans i d of_log.Header parts lt are is = record { readings = are.readings; before = are.read; bytes = (get_or logs i d).now; stands = log_at logs i d lt; is_fault = is }
-fault_behind logs scans i d (of_log.Record nth what) parts lt are is = record { readings = are.readings; before = are.read; bytes = (get_or logs i d).now; stands = log_at logs i d lt; is_fault = is }
+behind : (logs : List (List ℕ)) (scans : List LogScan) (i : ℕ) (bytes : List ℕ) (fault : FeedFault) (parts : List (List ℕ)) → slice_get logs i ≡ Some bytes → AreScansOf (take i logs) scans
+    → IsAnswered bytes fault → IsVerdictOrMemory logs parts (fault_at i fault)
+behind logs scans i bytes of_log.Memory parts at are is = tt
+behind logs scans i bytes of_log.Header parts at are is = record { readings = are.readings; before = are.read; bytes = bytes; stands = at; is_fault = is }
+behind logs scans i bytes (of_log.Record nth what) parts at are is = record { readings = are.readings; before = are.read; bytes = bytes; stands = at; is_fault = is }
+
+pub fault_behind : (logs : List (List ℕ)) (scans : List LogScan) (i : ℕ) (bytes : List ℕ) (fault : Fault) (parts : List (List ℕ)) → slice_get logs i ≡ Some bytes → AreScansOf (take i logs) scans
+    → IsLogVerdict i bytes fault → IsVerdictOrMemory logs parts fault
+fault_behind logs scans i bytes fault parts at are is = subst (IsVerdictOrMemory logs parts) (sym is.is) (behind logs scans i bytes is.of_bytes parts at are is.answered)

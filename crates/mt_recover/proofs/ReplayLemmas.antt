@@ -2,15 +2,19 @@
 use Rattle.std.proofs.Common.{◌≡◌, ◌⊎◌, inl, inr, Bool, true, false, List, [], ◌∷◌, ◌++◌, Contains, IsPermutation, refl, sym, ap, ◌∙◌, subst, append_assoc}
 use Rattle.std.specs.Prelude.{cond}
 use Rattle.std.specs.List.{filter}
-use Rattle.std.proofs.lemmas.List.{flat_map_more}
+use Rattle.std.proofs.lemmas.List.{flat_map_more, map-append, append-nil}
 use Rattle.std.proofs.lemmas.List.Elements.{filter-append, Contains-push, Contains-append_left, Contains-append_right}
 use Rattle.std.proofs.lemmas.List.Sorted.{IsPermutation-append}
 use Rattle.mt_words.specs.declared.update.Update.{Update}
+use Rattle.mt_words.specs.declared.update.Origin.TheVariants as origins
+use Rattle.mt_words.specs.Updates.{update_at}
+use Rattle.mt_scan.specs.PartScans.{KeptPart, shown_by_all}
+use Rattle.mt_scan.specs.Checkpoints.{entries_of}
 use Rattle.mt_scan.specs.declared.log_scan.LogScan.{LogScan}
 use Rattle.mt_scan.proofs.Elements.{no_element, head_or_tail}
 use Rattle.mt_replay.specs.declared.window.Window.{Window}
 use Rattle.mt_replay.specs.Runs.{together}
-use Rattle.mt_replay.specs.Survivors.{in_window}
+use Rattle.mt_replay.specs.Survivors.{in_window, wholes}
 use Rattle.mt_recover.specs.LogScans.{kept, kept_by, kept_in}
 
 -- the survivors of one more scan
@@ -49,3 +53,20 @@ cells_more window scans scan lists cells are one =
     subst (λ (us : List Update). IsPermutation us (together (lists ++ cells ∷ []))) (sym (scan_more window scans scan))
     (subst (IsPermutation (kept_in window scans ++ filter (in_window window) (kept_by scan))) (sym (together_more lists cells))
     (IsPermutation-append (kept_in window scans) (together lists) (filter (in_window window) (kept_by scan)) cells are one))
+
+-- the entries of one more part make its updates besides
+part_more : (parts : List KeptPart) (part : KeptPart) → wholes (entries_of (shown_by_all (parts ++ part ∷ []))) ≡ wholes (entries_of (shown_by_all parts)) ++ wholes part.entries
+part_more [] part = ap wholes (append-nil part.entries)
+part_more (p ∷ ps) part =
+    map-append (update_at origins.Checkpoint 0) p.entries (entries_of (shown_by_all (ps ++ part ∷ [])))
+    ∙ ap (λ (us : List Update). wholes p.entries ++ us) (part_more ps part)
+    ∙ sym (append_assoc (wholes p.entries) (wholes (entries_of (shown_by_all ps))) (wholes part.entries))
+    ∙ ap (λ (us : List Update). us ++ wholes part.entries) (sym (map-append (update_at origins.Checkpoint 0) p.entries (entries_of (shown_by_all ps))))
+
+-- the cells of one more part
+pub part_cells_more : (parts : List KeptPart) (part : KeptPart) (lists : List (List Update)) (cells : List Update) → IsPermutation (wholes (entries_of (shown_by_all parts))) (together lists)
+    → IsPermutation (wholes part.entries) cells → IsPermutation (wholes (entries_of (shown_by_all (parts ++ part ∷ [])))) (together (lists ++ cells ∷ []))
+part_cells_more parts part lists cells are one =
+    subst (λ (us : List Update). IsPermutation us (together (lists ++ cells ∷ []))) (sym (part_more parts part))
+    (subst (IsPermutation (wholes (entries_of (shown_by_all parts)) ++ wholes part.entries)) (sym (together_more lists cells))
+    (IsPermutation-append (wholes (entries_of (shown_by_all parts))) (together lists) (wholes part.entries) cells are one))

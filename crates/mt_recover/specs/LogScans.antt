@@ -2,6 +2,7 @@
 use Rattle.std.specs.Prelude.{ℕ, suc, List, [], ◌∷◌, filter}
 use Rattle.std.specs.List.{flat_map}
 use Rattle.mt_words.specs.declared.update.Update.{Update}
+use Rattle.mt_record.specs.Kept.{kept_updates}
 use Rattle.mt_record.specs.Logs.{LogReading}
 use Rattle.mt_scan.specs.declared.log_scan.LogScan.{LogScan}
 use Rattle.mt_scan.specs.Scans.{ShowsLog}
@@ -24,7 +25,7 @@ pub record AreScansOf (logs : List (List ℕ)) (scans : List LogScan) : Type 0 w
 
 -- the updates that a scan kept
 abbrev pub kept_by : LogScan → List Update
-kept_by scan = scan.updates.items
+kept_by scan = kept_updates scan.updates
 
 -- all updates of the scans
 abbrev pub kept : List LogScan → List Update

@@ -3,7 +3,7 @@ use Rattle.std.specs.Prelude.{◌≡◌, ℕ, List, ◌++◌}
 use Rattle.std.specs.Option.{option_map}
 use Rattle.mt_words.specs.declared.update.Update.{Update}
 use Rattle.mt_scan.specs.declared.log_scan.LogScan.{LogScan}
-use Rattle.mt_scan.specs.Choice.{Checkpoint, checkpoint_in}
+use Rattle.mt_scan.specs.Choice.{checkpoint_in}
 use Rattle.mt_replay.specs.declared.window.Window.{Window}
 use Rattle.mt_recover.specs.declared.start.Start.{Start}
 use Rattle.mt_recover.specs.Survivors.{begin_of, entry_updates}

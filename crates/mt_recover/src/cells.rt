@@ -8,7 +8,6 @@ ghost use Rattle.mt_recover.specs.Start.{surviving};
 ghost use Rattle.mt_recover.specs.Survivors.{entry_updates};
 
 use crate::start::Start;
-use mt_record::KeptEntries;
 use mt_replay::{LogCells, Window};
 use mt_scan::{Checkpoint, LogScan};
 use mt_words::Memory;
@@ -34,7 +33,7 @@ fn cells_of_logs(
 {
     let mut lists = Vec::with_capacity(alloc, scans.len())?;
     for scan in scans {
-        lists.push(LogCells::of(alloc, scan.updates, window)?)?;
+        lists.push(LogCells::of_log(alloc, &scan.updates, window)?)?;
     }
     Ok(lists)
 }
@@ -47,8 +46,8 @@ fn cells_of_parts(alloc: Global, chosen: Option<Checkpoint>) -> Result<Vec<LogCe
     let Some(checkpoint) = chosen else {
         return Ok(lists);
     };
-    for _entry in checkpoint.entries {
-        lists.push(LogCells::of_entries(alloc, &KeptEntries::new(alloc))?)?;
+    for part in checkpoint.parts {
+        lists.push(LogCells::of_entries(alloc, &part.entries)?)?;
     }
     Ok(lists)
 }
