@@ -11,11 +11,15 @@ mod feeding;
 #[cfg(test)]
 mod logs;
 #[cfg(test)]
+mod meeting;
+#[cfg(test)]
 mod parts;
 #[cfg(test)]
 mod printing;
 #[cfg(test)]
 mod refusals;
+#[cfg(test)]
+mod replaying;
 #[cfg(test)]
 mod scanning;
 #[cfg(test)]

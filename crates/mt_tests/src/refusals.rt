@@ -179,11 +179,11 @@ fn choose_among(alloc: Global, slot: &mut Slot) -> Result<Choice, Fault> {
     Ok(choose(alloc, scans, 5)?)
 }
 
-/// The choice is checkpoint 1 with its entry, or there is a want of memory.
+/// The choice is checkpoint 1 with its part, or there is a want of memory.
 fn assert_chosen<R: Abort>(rt: &R, choice: Result<Choice, Fault>) {
     match choice {
         Ok(choice) => {
-            let chosen = choice.chosen.map(|checkpoint| checkpoint.entries.len());
+            let chosen = choice.chosen.map(|checkpoint| checkpoint.parts.len());
             assert_same(rt, &(chosen, choice.nameless.len()), &(Some(1), 1));
         }
         Err(fault) => assert_same(rt, &fault, &Fault::Memory),
