@@ -5,7 +5,8 @@ ghost use Rattle.mt_words.specs.Limits.{widest};
 ghost use Rattle.mt_words.specs.Words.{AreColumns, CanFollow, NumbersRise, NumbersBelow};
 
 use crate::fault::Memory;
-use crate::limits::{GREATEST_COLUMN, LONGEST_VALUE, MOST_COLUMNS};
+use crate::limits::{GREATEST_COLUMN, LONGEST_VALUE};
+use crate::storage::{Inline, Kept, Storage};
 use arrayvec::ArrayVec;
 use std::alloc::Global;
 use std::default::MadeWith;
@@ -37,31 +38,74 @@ impl MadeWith<Global> for Column {
     }
 }
 
-/// The columns of one key, by strictly rising numbers. At most one for each number, in place: adding one takes no
-/// memory.
+/// The columns of one key, by strictly rising numbers, at most one for each. They are made in place, where adding one
+/// takes no memory; those that are to stay are kept, in no more room than they need.
 #[derive(Debug)]
-pub struct Columns {
-    columns: ArrayVec<Column, MOST_COLUMNS, Global>,
+pub struct Columns<S: Storage = Inline> {
+    storage: S,
 }
 
 /// In words and not by a derive: so what drops columns in another crate cites this call, and does not prove again, for
 /// each place, how an array of columns is dropped.
-impl Drop for Columns {
+impl<S: Storage> Drop for Columns<S> {
     fn drop(self) {
-        let Columns { columns: _ } = self;
+        let Columns { storage: _ } = self;
     }
 }
 
-impl Model for Columns {
+impl<S: Storage> Model for Columns<S> {
     ghost use Rattle.std.specs.Prelude.{List, ℕ};
     ghost use Rattle.mt_words.specs.Limits.{widest};
     ghost use Rattle.mt_words.specs.Words.{AreColumns};
 
     ghost Value = { List (ℕ × List ℕ) };
 
-    ghost view = { λ c. c.columns.items };
+    ghost view = { λ c. S.held c.storage };
 
-    ghost invariant = { λ c. AreColumns widest c.columns.items };
+    ghost invariant = { λ c. AreColumns widest (S.held c.storage) };
+}
+
+impl<S: Storage> Columns<S> {
+    /// How many columns there are.
+    pub fn len(&self) -> usize
+        ensures value { result ≡ length self.now }
+        ensures lawful { AreColumns widest self.now }
+    {
+        self.storage.as_slice().len()
+    }
+
+    /// Whether there is no column.
+    pub fn is_empty(&self) -> bool
+        ensures { IsTrue result ↔ (self.now ≡ []) }
+    {
+        self.storage.as_slice().is_empty()
+    }
+
+    /// The bytes of the column with this number, if there is one.
+    pub fn get(&self, number: u8) -> Option<&[u8]>
+        ensures { MatchOption result
+            ((bytes : List ℕ) → Contains self.now (number, bytes) → ⊥)
+            (λ bytes. Contains self.now (number, bytes.now)) }
+    {
+        value_of(self.storage.as_slice(), number)
+    }
+
+    /// The columns.
+    pub fn as_slice(&self) -> &[Column]
+        ensures value { result.now ≡ self.now }
+        ensures lawful { AreColumns widest self.now }
+    {
+        self.storage.as_slice()
+    }
+
+    /// Equal columns. Refuses only where memory was refused.
+    pub fn try_copy(&self) -> Result<Columns<S>, Memory>
+        ensures { IfOk result (λ columns. columns ≡ self.now) }
+    {
+        Ok(Columns {
+            storage: self.storage.try_copy()?,
+        })
+    }
 }
 
 impl Columns {
@@ -70,23 +114,10 @@ impl Columns {
         ensures { result ≡ [] }
     {
         Columns {
-            columns: ArrayVec::new_in(alloc),
+            storage: Inline {
+                columns: ArrayVec::new_in(alloc),
+            },
         }
-    }
-
-    /// How many columns there are.
-    pub fn len(&self) -> usize
-        ensures value { result ≡ length self.now }
-        ensures lawful { AreColumns widest self.now }
-    {
-        self.columns.len()
-    }
-
-    /// Whether there is no column.
-    pub fn is_empty(&self) -> bool
-        ensures { IsTrue result ↔ (self.now ≡ []) }
-    {
-        self.columns.is_empty()
     }
 
     /// Adds a column behind the others. A number above `GREATEST_COLUMN` or not above the last, and more than
@@ -97,28 +128,11 @@ impl Columns {
         ensures err { OnErr result (self.new ≡ self.old) }
         ensures handed_back { IfErr result (λ back. back ≡ bytes) }
     {
-        if !may_follow(self.columns.as_slice(), number) || bytes.len() > LONGEST_VALUE {
+        if !may_follow(self.storage.columns.as_slice(), number) || bytes.len() > LONGEST_VALUE {
             return Err(bytes);
         }
-        self.columns.push(Column { number, bytes });
+        self.storage.columns.push(Column { number, bytes });
         Ok(())
-    }
-
-    /// The bytes of the column with this number, if there is one.
-    pub fn get(&self, number: u8) -> Option<&[u8]>
-        ensures { MatchOption result
-            ((bytes : List ℕ) → Contains self.now (number, bytes) → ⊥)
-            (λ bytes. Contains self.now (number, bytes.now)) }
-    {
-        value_of(self.columns.as_slice(), number)
-    }
-
-    /// The columns.
-    pub fn as_slice(&self) -> &[Column]
-        ensures value { result.now ≡ self.now }
-        ensures lawful { AreColumns widest self.now }
-    {
-        self.columns.as_slice()
     }
 
     /// Takes the last column off.
@@ -127,30 +141,41 @@ impl Columns {
         ensures none { IfNone result ((self.old ≡ []) × (self.new ≡ [])) }
         ensures lawful { AreColumns widest self.old }
     {
-        self.columns.pop()
+        self.storage.columns.pop()
     }
 
-    /// Equal columns. Refuses only where memory was refused.
-    pub fn try_copy(&self) -> Result<Columns, Memory>
-        ensures { IfOk result (λ columns. columns ≡ self.now) }
+    /// The same columns, kept. Refuses only where memory was refused.
+    pub fn keep(self, alloc: Global) -> Result<Columns<Kept>, Memory>
+        ensures { IfOk result (λ kept. kept ≡ self) }
     {
-        let alloc = *self.columns.allocator();
-        let mut copy = ArrayVec::new_in(alloc);
-        for column in self.columns.as_slice() {
-            copy.push(copy_of(alloc, column)?);
-        }
-        Ok(Columns { columns: copy })
+        let Columns { storage } = self;
+        Ok(Columns {
+            storage: storage.keep(alloc)?,
+        })
     }
 }
 
-/// An equal column.
-fn copy_of(alloc: Global, column: &Column) -> Result<Column, Memory>
-    ensures { IfOk result (λ copy. copy ≡ column.now) }
-{
-    Ok(Column {
-        number: column.number,
-        bytes: Vec::from_slice(alloc, &column.bytes)?,
-    })
+impl Columns<Kept> {
+    /// No column, with room for so many: adding these takes no memory.
+    pub fn with_capacity(alloc: Global, count: usize) -> Result<Columns<Kept>, Memory>
+        ensures { IfOk result (λ columns. columns ≡ []) }
+    {
+        Ok(Columns {
+            storage: Kept {
+                columns: Vec::with_capacity(alloc, count)?,
+            },
+        })
+    }
+
+    /// Adds a column behind the others. Where memory was refused, nothing has changed.
+    pub fn add(&mut self, number: u8, bytes: Vec<u8>) -> Result<(), Memory>
+        requires { CanFollow widest self.old (number, bytes.items) }
+        ensures ok { OnOk result (self.new ≡ self.old ++ (number, bytes.items) ∷ []) }
+        ensures err { OnErr result (self.new ≡ self.old) }
+    {
+        self.storage.columns.push(Column { number, bytes })?;
+        Ok(())
+    }
 }
 
 /// The bytes of the column with this number, if there is one.

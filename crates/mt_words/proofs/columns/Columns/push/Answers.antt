@@ -7,10 +7,10 @@ pub push-requires : goal.push-requires
 push-requires c =
     let follows = c.may_follow.ensures.0 c.if-not-may_follow.false in
     let below = rw c.as_slice.ensures.value at follows in
-    (omega arith, omega (arith, rise_room 0 c.self.inside.columns.items c.args.number (omega arith) c.self.invariant.1 below.1))
+    (omega arith, omega (arith, rise_room 0 c.self.inside.storage.columns.items c.args.number (omega arith) c.self.invariant.1 below.1))
 
 pub invariant_of-self : goal.invariant_of-self
 invariant_of-self c =
     let follows = c.may_follow.ensures.0 c.if-not-may_follow.false in
     let below = rw c.as_slice.ensures.value at follows in
-    rw c.push.ensures.items (columns_push widest c.self.inside.columns.items (c.args.number, c.args.bytes.items) c.self.invariant ((below.0, omega arith), below.1))
+    rw c.push.ensures.items (columns_push widest c.self.inside.storage.columns.items (c.args.number, c.args.bytes.items) c.self.invariant ((below.0, omega arith), below.1))
