@@ -6,7 +6,7 @@ ghost use Rattle.mt_recover.specs.Dump.{dump_text, pair_text, column_text};
 
 use crate::store::Store;
 use itoa::Buffer;
-use mt_words::{Column, Columns, Key};
+use mt_words::{Column, Columns, Kept, Key};
 use std::io::{self, Write};
 
 /// Prints all pairs in order, a line each: the key in lower hexadecimal, a colon, and for each column a space, its
@@ -22,7 +22,7 @@ pub fn write_dump<W: Write>(store: &Store, out: &mut W) -> Result<(), io::Error>
 }
 
 /// Prints the line of a key.
-fn write_pair<W: Write>(pair: &(Key, Columns), out: &mut W) -> Result<(), io::Error>
+fn write_pair<W: Write>(pair: &(Key, Columns<Kept>), out: &mut W) -> Result<(), io::Error>
     ensures { OnOk result
         (Appends (W.contents out.old) (W.contents out.new) (pair_text pair.now)) }
 {

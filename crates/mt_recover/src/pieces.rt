@@ -5,11 +5,11 @@ ghost use Rattle.mt_replay.specs.Walk.{IsWalk, AreApart};
 ghost use Rattle.mt_replay.specs.Runs.{together};
 
 use mt_replay::{Cuts, LogCells, replay_piece};
-use mt_words::{Columns, Key, Memory};
+use mt_words::{Columns, Kept, Key, Memory};
 use std::alloc::Global;
 
 /// The walk of all updates, on one thread.
-pub(crate) fn replay_all(alloc: Global, lists: &[LogCells]) -> Result<Vec<(Key, Columns)>, Memory>
+pub(crate) fn replay_all(alloc: Global, lists: &[LogCells]) -> Result<Vec<(Key, Columns<Kept>)>, Memory>
     ensures map { IfOk result (λ pairs. IsMap pairs.items) }
     ensures walk { IfOk result (λ pairs. AreApart (together lists.now) → IsWalk (together lists.now) pairs.items) }
 {

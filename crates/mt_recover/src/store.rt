@@ -5,14 +5,14 @@ ghost use Rattle.std.specs.Cmp.Lexicographic.{slice_cmp};
 ghost use Rattle.mt_words.specs.Walks.{IsMap, KeysRise};
 ghost use Rattle.mt_replay.specs.Walk.{IsFound};
 
-use mt_words::{Columns, Key};
+use mt_words::{Columns, Kept, Key};
 use std::cmp::Ordering;
 use std::marker::Model;
 
 /// A store: keys in order, each with its columns. A contract sees it as the list of its pairs.
 #[derive(Debug)]
 pub struct Store {
-    pairs: Vec<(Key, Columns)>,
+    pairs: Vec<(Key, Columns<Kept>)>,
 }
 
 /// In words, as that of `Columns` is.
@@ -35,7 +35,7 @@ impl Model for Store {
 
 impl Store {
     /// The store of these pairs.
-    pub(crate) fn of(pairs: Vec<(Key, Columns)>) -> Store
+    pub(crate) fn of(pairs: Vec<(Key, Columns<Kept>)>) -> Store
         requires { IsMap pairs.items }
         ensures { result ≡ pairs.items }
     {
@@ -43,7 +43,7 @@ impl Store {
     }
 
     /// The columns of this key, if it is in the store. A key of any length may be asked for.
-    pub fn get(&self, key: &[u8]) -> Option<&Columns>
+    pub fn get(&self, key: &[u8]) -> Option<&Columns<Kept>>
         ensures { MatchOption result
             ((columns : List (ℕ × List ℕ)) → Contains self.now (key.now, columns) → ⊥)
             (λ found. Contains self.now (key.now, found.now)) }
@@ -55,7 +55,7 @@ impl Store {
     }
 
     /// The pairs in order.
-    pub(crate) fn pairs(&self) -> &[(Key, Columns)]
+    pub(crate) fn pairs(&self) -> &[(Key, Columns<Kept>)]
         ensures { result.now ≡ self.now }
     {
         &self.pairs
@@ -63,7 +63,7 @@ impl Store {
 }
 
 /// Where the pair of this key stands, or where it would.
-fn find(pairs: &[(Key, Columns)], key: &[u8]) -> Result<usize, usize>
+fn find(pairs: &[(Key, Columns<Kept>)], key: &[u8]) -> Result<usize, usize>
     requires { KeysRise pairs.now }
     ensures { IsFound pairs.now key.now result }
 {
@@ -71,7 +71,7 @@ fn find(pairs: &[(Key, Columns)], key: &[u8]) -> Result<usize, usize>
 }
 
 /// How the key of a pair stands to this one.
-fn compare_key(pair: &(Key, Columns), key: &[u8]) -> Ordering
+fn compare_key(pair: &(Key, Columns<Kept>), key: &[u8]) -> Ordering
     ensures { result ≡ slice_cmp nat_cmp pair.now.0 key.now }
 {
     pair.0.as_bytes().cmp(key)
