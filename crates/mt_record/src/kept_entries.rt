@@ -1,4 +1,4 @@
-//! The entries of a checkpoint, as bodies.
+//! Entries of a checkpoint, as bodies.
 ghost use Rattle.std.specs.Prelude.{◌≡◌, ◌<◌, [], length, slice_index_or};
 ghost use Rattle.mt_words.specs.declared.record.Change.{Change};
 ghost use Rattle.mt_words.specs.declared.update.Origin.TheVariants as origins;
@@ -16,7 +16,7 @@ use std::marker::Model;
 /// What the body of an entry has before its fields: the byte of its kind, and a timestamp of 0.
 const BEFORE_FIELDS: &[u8] = &[WHOLE, 0, 0, 0, 0, 0, 0, 0, 0];
 
-/// The entries of a checkpoint: their bodies, spelled as those of records of their kind would be. So they are lent as
+/// Entries of a checkpoint: their bodies, spelled as those of records of their kind would be. So they are lent as
 /// updates are.
 #[derive(Debug, Drop)]
 pub struct KeptEntries {
