@@ -5,3 +5,4 @@ pub mod Dump
 pub mod KeyWrites
 pub mod LogScans
 pub mod Inputs
+pub mod Sharing
