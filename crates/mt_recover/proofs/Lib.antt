@@ -10,3 +10,4 @@ pub mod DumpLemmas
 pub mod OneVerdict
 pub mod Worked
 pub mod PiecesLemmas
+pub mod SharingLemmas

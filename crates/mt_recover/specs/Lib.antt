@@ -5,3 +5,4 @@ pub mod Dump
 pub mod LogScans
 pub mod Start
 pub mod Inputs
+pub mod Sharing

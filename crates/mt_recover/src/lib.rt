@@ -1,6 +1,7 @@
 //! Recovery of a store from update logs and checkpoint parts, and its text.
 #![tactic(auto)]
 
+mod by_workers;
 mod cells;
 mod dump;
 mod laws;
