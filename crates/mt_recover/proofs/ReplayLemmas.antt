@@ -1,10 +1,11 @@
 -- The surviving updates, scan by scan.
-use Rattle.std.proofs.Common.{◌≡◌, ◌⊎◌, inl, inr, Bool, true, false, List, [], ◌∷◌, ◌++◌, Contains, IsPermutation, refl, sym, ap, ◌∙◌, subst, append_assoc}
+use Rattle.std.proofs.Common.{◌≡◌, ◌⊎◌, inl, inr, ℕ, ◌<◌, map, Result, Ok, IfOk, Bool, true, false, List, [], ◌∷◌, ◌++◌, Contains, IsPermutation, refl, sym, ap, ◌∙◌, subst, append_assoc}
 use Rattle.std.specs.Prelude.{cond}
-use Rattle.std.specs.List.{filter}
+use Rattle.std.specs.List.{filter, AllZip}
 use Rattle.std.proofs.lemmas.List.{flat_map_more, map-append, append-nil}
 use Rattle.std.proofs.lemmas.List.Elements.{filter-append, Contains-push, Contains-append_left, Contains-append_right}
-use Rattle.std.proofs.lemmas.List.Sorted.{IsPermutation-append}
+use Rattle.std.proofs.lemmas.List.Sorted.{IsPermutation-refl, IsPermutation-append}
+use Rattle.mt_words.specs.declared.fault.Memory.{Memory}
 use Rattle.mt_words.specs.declared.update.Update.{Update}
 use Rattle.mt_words.specs.declared.update.Origin.TheVariants as origins
 use Rattle.mt_words.specs.Updates.{update_at}
@@ -70,3 +71,40 @@ part_cells_more parts part lists cells are one =
     subst (λ (us : List Update). IsPermutation us (together (lists ++ cells ∷ []))) (sym (part_more parts part))
     (subst (IsPermutation (wholes (entries_of (shown_by_all parts)) ++ wholes part.entries)) (sym (together_more lists cells))
     (IsPermutation-append (wholes (entries_of (shown_by_all parts))) (together lists) (wholes part.entries) cells are one))
+
+-- ---- cells that workers made
+
+-- the answer of a job of which this is to hold, by some worker
+abbrev pub IsAnswerOf : {J X : Type 0} → (J → X → Type 0) → ℕ → J → Result X Memory → Type 0
+IsAnswerOf P count job answer = (worker : ℕ) × (worker < count) × IfOk answer (P job)
+
+done_of : {J X : Type 0} (P : J → X → Type 0) (count : ℕ) (jobs : List J) (done : List X) → AllZip (IsAnswerOf P count) jobs (map Ok done) → AllZip P jobs done
+done_of P count [] [] all = tt
+done_of P count [] (d ∷ ds) all = absurd all
+done_of P count (j ∷ js) [] all = absurd all
+done_of P count (j ∷ js) (d ∷ ds) all = (all.0.2, done_of P count js ds all.1)
+
+-- what is done of jobs, where none ran out of memory
+pub all_answered : {J X : Type 0} (P : J → X → Type 0) (count : ℕ) (jobs : List J) (answers : List (Result X Memory)) (done : List X)
+    → AllZip (IsAnswerOf P count) jobs answers → answers ≡ map Ok done → AllZip P jobs done
+all_answered P count jobs answers done all are = done_of P count jobs done (subst (AllZip (IsAnswerOf P count) jobs) are all)
+
+-- the cells of all scans
+pub cells_of_all : (window : Window) (scans : List LogScan) (lists : List (List Update)) → AllZip (λ scan cells. IsPermutation (filter (in_window window) (kept_by scan)) cells) scans lists
+    → IsPermutation (kept_in window scans) (together lists)
+cells_of_all window [] [] all = IsPermutation-refl []
+cells_of_all window [] (l ∷ ls) all = absurd all
+cells_of_all window (s ∷ ss) [] all = absurd all
+cells_of_all window (s ∷ ss) (l ∷ ls) all =
+    subst (λ (us : List Update). IsPermutation us (l ++ together ls)) (sym (filter-append (in_window window) (kept_by s) (kept ss)))
+    (IsPermutation-append (filter (in_window window) (kept_by s)) l (kept_in window ss) (together ls) all.0 (cells_of_all window ss ls all.1))
+
+-- the cells of all parts
+pub cells_of_all_parts : (parts : List KeptPart) (lists : List (List Update)) → AllZip (λ part cells. IsPermutation (wholes part.entries) cells) parts lists
+    → IsPermutation (wholes (entries_of (shown_by_all parts))) (together lists)
+cells_of_all_parts [] [] all = IsPermutation-refl []
+cells_of_all_parts [] (l ∷ ls) all = absurd all
+cells_of_all_parts (p ∷ ps) [] all = absurd all
+cells_of_all_parts (p ∷ ps) (l ∷ ls) all =
+    subst (λ (us : List Update). IsPermutation us (l ++ together ls)) (sym (map-append (update_at origins.Checkpoint 0) p.entries (entries_of (shown_by_all ps))))
+    (IsPermutation-append (wholes p.entries) l (wholes (entries_of (shown_by_all ps))) (together ls) all.0 (cells_of_all_parts ps ls all.1))

@@ -2,9 +2,9 @@ use Rattle.std.proofs.Common.{◌≡◌, ◌++◌, map, Ok}
 use Rattle.std.specs.Vec.Iter.{into_iter_items}
 use Rattle.mt_recover.proofs.by_workers.all_done.Given as goal
 
--- the parts so far are done
-abbrev pub invariant-loop-part : goal.invariant-loop-part
-invariant-loop-part g l = record {
-  rest : l.yielded ++ into_iter_items l.part-iterator ≡ l.fn.parts.items;
-  done : l.yielded ≡ map Ok l.answers.items;
+-- the answers so far are done
+abbrev pub invariant-loop-answer : goal.invariant-loop-answer
+invariant-loop-answer g l = record {
+  rest : l.yielded ++ into_iter_items l.answer-iterator ≡ l.fn.answers.items;
+  done : l.yielded ≡ map Ok l.done.items;
 }

@@ -1,0 +1,20 @@
+use Rattle.std.proofs.Common.{◌≡◌, ◌∙◌, ◌++◌, List, IsPermutation, sym, ap, subst}
+use Rattle.std.proofs.lemmas.List.Sorted.{IsPermutation-append}
+use Rattle.std.specs.Option.{option_map}
+use Rattle.mt_words.specs.declared.update.Update.{Update}
+use Rattle.mt_scan.specs.Choice.{checkpoint_in}
+use Rattle.mt_replay.specs.Runs.{together}
+use Rattle.mt_recover.specs.LogScans.{kept_in}
+use Rattle.mt_recover.specs.Start.{surviving}
+use Rattle.mt_recover.specs.Survivors.{entry_updates}
+use Rattle.mt_recover.proofs.ReplayLemmas.{together_append}
+use Rattle.mt_recover.proofs.cells.cells_by.Goals as goal
+
+pub returns : goal.returns
+returns g c =
+    let start = c.args.start in
+    let logs : List (List Update) = c.in_ok-lists.lists.items in
+    let parts : List (List Update) = c.in_ok-parts.parts.items in
+    subst (λ (lists : List (List Update)). IsPermutation (surviving start c.args.scans.items) (together lists)) (sym c.in_ok-append.ensures.items)
+    (subst (IsPermutation (surviving start c.args.scans.items)) (sym (together_append logs parts))
+    (IsPermutation-append (kept_in start.window c.args.scans.items) (together logs) (entry_updates (option_map checkpoint_in start.chosen)) (together parts) c.in_ok-lists.ensures c.in_ok-parts.ensures))
