@@ -100,11 +100,11 @@ fn do_share<J: Drop, X: Drop, F: Fn(u32, J) -> X>(
     Ok(answers)
 }
 
-/// The answers of all shares, where none ran out of memory.
-fn all_done<X: Drop>(
+/// All answers, where none ran out of memory.
+pub(crate) fn all_done<X: Drop>(
     alloc: Global,
-    parts: Vec<Result<Vec<X>, Memory>>,
-) -> Result<Vec<Vec<X>>, Memory>
+    parts: Vec<Result<X, Memory>>,
+) -> Result<Vec<X>, Memory>
     ensures { IfOk result (λ answers. parts.items ≡ map Ok answers.items) }
 {
     let mut answers = Vec::with_capacity(alloc, parts.len())?;
