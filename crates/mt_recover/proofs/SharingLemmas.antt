@@ -133,11 +133,12 @@ some_dealt {X} f count number turn rest parts part at within is some dealt =
 
 -- what is taken off a share is the next of those that are dealt
 pub next_gathered : {X Y : Type 0} (f : Y → List X) (count number turn : ℕ) (rest : List X) (parts : List Y) (part taken : Y) (answer : X) → turn ≡ number % count → turn < length parts → part ≡ slice_index_or parts turn part → 0 < length rest
-    → f part ≡ f taken ++ answer ∷ [] → AreDealt count number rest (map f parts) → (more : List X) × (rest ≡ answer ∷ more) × AreDealt count (suc number) more (map f (slice_set parts turn taken))
+    → f part ≡ f taken ++ answer ∷ [] → AreDealt count number rest (map f parts) → (more : List X) × (length rest ≡ suc (length more)) × (rest ≡ answer ∷ more) × AreDealt count (suc number) more (map f (slice_set parts turn taken))
 next_gathered {X} f count number turn rest parts part taken answer at within is some popped dealt =
     let next = next_dealt f count number turn rest parts part at within is some dealt in
     let same = same_from_push (f taken) next.2 answer next.0 (sym popped ∙ next.4) in (
       next.1,
+      ap length next.3,
       next.3 ∙ ap (λ (x : X). x ∷ next.1) (sym same.1),
       subst (AreDealt count (suc number) next.1) (ap (λ (l : List X). slice_set (map f parts) turn l) (sym same.0) ∙ sym (map-set f parts turn taken)) next.5,
     )

@@ -1,4 +1,4 @@
-use Rattle.std.proofs.Common.{◌≡◌, ◌∙◌, ◌+◌, ◌<◌, ◌%◌, ℕ, suc, List, length, map, refl, ap, subst, arith}
+use Rattle.std.proofs.Common.{◌≡◌, ◌∙◌, ◌+◌, ◌<◌, ◌%◌, ℕ, suc, List, length, map, refl, subst, arith}
 use Rattle.std.specs.Prelude.{slice_set}
 use Rattle.std.proofs.Math.Nat.{mod-lt}
 use Rattle.std.proofs.lemmas.List.{length-set}
@@ -42,14 +42,14 @@ loop-number-preserved g c =
       long = length-set parts turn c.pop.new.self ∙ I.long;
       some =
           let more = next I.some.0 I.some.1 I.some.2 in
-          (more.0, omega (arith, I.some.1, ap length more.1), subst (λ (n : ℕ). AreDealt (length c.args.parts.items) n more.0 after) step more.2);
+          (more.0, omega (arith, I.some.1, more.1), subst (λ (n : ℕ). AreDealt (length c.args.parts.items) n more.0 after) step more.3);
       same = λ answers long dealt.
           let old = I.same answers long dealt in
           let more = next old.0 old.2 old.3 in (
             more.0,
-            gathered_more answers c.loop-number.answers.items c.push.new.self.items old.0 more.0 c.in-Some.answer old.1 more.1 c.in_ok-push.ensures.items,
-            omega (arith, old.2, ap length more.1),
-            subst (λ (n : ℕ). AreDealt (length c.args.parts.items) n more.0 after) step more.2,
+            gathered_more answers c.loop-number.answers.items c.push.new.self.items old.0 more.0 c.in-Some.answer old.1 more.2 c.in_ok-push.ensures.items,
+            omega (arith, old.2, more.1),
+            subst (λ (n : ℕ). AreDealt (length c.args.parts.items) n more.0 after) step more.3,
           );
     }
 
