@@ -1,9 +1,16 @@
 -- Pieces as a walk.
-use Rattle.std.proofs.Common.{◌≡◌, ℕ, List, [], refl, subst}
+use Rattle.std.proofs.Common.{◌≡◌, ◌<◌, ℕ, List, [], ◌∷◌, length, map, Some, refl, sym, subst, arith}
+use Rattle.std.specs.Prelude.{slice_get, slice_index_or, Result, Vec, Ok, IfOk}
+use Rattle.std.specs.Global.{Global}
+use Rattle.std.specs.List.{AllZip}
+use Rattle.std.proofs.lemmas.Option.{get_or_from_slice_get}
+use Rattle.std.proofs.lemmas.Slice.Zip.{AllZip-long}
+use Rattle.mt_words.specs.declared.fault.Memory.{Memory}
 use Rattle.mt_words.specs.declared.update.Update.{Update}
 use Rattle.mt_words.specs.Walks.{Pair}
 use Rattle.mt_replay.specs.Walk.{IsWalk}
 use Rattle.mt_replay.specs.Pieces.{IsPiece}
+use Rattle.mt_recover.proofs.SharingLemmas.{zip_at}
 
 -- where nothing is cut, the one piece is the walk
 only_piece : (updates : List Update) (pairs : List Pair) → IsPiece updates [] 0 pairs → IsWalk updates pairs
@@ -14,3 +21,31 @@ only_piece updates pairs is = record {
 
 pub uncut_piece : (updates : List Update) (cuts : List (List ℕ)) (pairs : List Pair) → cuts ≡ [] → IsPiece updates cuts 0 pairs → IsWalk updates pairs
 uncut_piece updates cuts pairs none is = only_piece updates pairs (subst (λ (ks : List (List ℕ)). IsPiece updates ks 0 pairs) none is)
+
+-- ---- all pieces
+
+-- what the answers say, where all pieces are done
+done_zip : (Q : ℕ → List Pair → Type 0) (post : ℕ → ℕ → Result (Vec Pair Global) Memory → Type 0) (workers : ℕ) (numbers : List ℕ) (done : List (Vec Pair Global))
+    → ((worker number : ℕ) (answer : Result (Vec Pair Global) Memory) → post worker number answer → IfOk answer (λ pairs. Q number pairs.items))
+    → AllZip (λ number answer. (worker : ℕ) × (worker < workers) × post worker number answer) numbers (map Ok done) → AllZip Q numbers (map (λ piece. piece.items) done)
+done_zip Q post workers [] [] says zip = tt
+done_zip Q post workers [] (v ∷ vs) says zip = absurd zip
+done_zip Q post workers (n ∷ ns) [] says zip = absurd zip
+done_zip Q post workers (n ∷ ns) (v ∷ vs) says zip = (says zip.0.0 n (Ok v) zip.0.2, done_zip Q post workers ns vs says zip.1)
+
+each_piece : (Q : ℕ → List Pair → Type 0) (numbers : List ℕ) (pieces : List (List Pair)) → AllZip Q numbers pieces → ((i : ℕ) → i < length numbers → slice_get numbers i ≡ Some i)
+    → (i : ℕ) (d : List Pair) → i < length pieces → Q i (slice_index_or pieces i d)
+each_piece Q numbers pieces zip each i d within =
+    let at = zip_at Q numbers pieces i i zip (each i (omega (arith, within, AllZip-long Q numbers pieces zip))) in
+    subst (Q i) (sym (get_or_from_slice_get pieces i at.0 d at.1)) at.2
+
+-- the piece of each number is as its worker answered
+pub done_pieces : (Q : ℕ → List Pair → Type 0) (post : ℕ → ℕ → Result (Vec Pair Global) Memory → Type 0) (workers count : ℕ) (numbers : List ℕ) (answers : List (Result (Vec Pair Global) Memory)) (done : List (Vec Pair Global))
+    → length numbers ≡ count → ((i : ℕ) → i < count → slice_get numbers i ≡ Some i) → AllZip (λ number answer. (worker : ℕ) × (worker < workers) × post worker number answer) numbers answers → answers ≡ map Ok done
+    → ((worker number : ℕ) (answer : Result (Vec Pair Global) Memory) → post worker number answer → IfOk answer (λ pairs. Q number pairs.items))
+    → (length (map (λ (piece : Vec Pair Global). piece.items) done) ≡ count) × ((i : ℕ) (d : List Pair) → i < length (map (λ (piece : Vec Pair Global). piece.items) done) → Q i (slice_index_or (map (λ (piece : Vec Pair Global). piece.items) done) i d))
+done_pieces Q post workers count numbers answers done long each zip are says =
+    let R : ℕ → Result (Vec Pair Global) Memory → Type 0 = λ number answer. (worker : ℕ) × (worker < workers) × post worker number answer in
+    let pieces : List (List Pair) = map (λ (piece : Vec Pair Global). piece.items) done in
+    let zipped : AllZip Q numbers pieces = done_zip Q post workers numbers done says (subst (AllZip R numbers) are zip) in
+    (omega (arith, long, AllZip-long Q numbers pieces zipped), each_piece Q numbers pieces zipped (λ i lt. each i (omega (arith, lt, long))))

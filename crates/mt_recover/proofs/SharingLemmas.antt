@@ -7,7 +7,7 @@ use Rattle.std.specs.Fn.{Shared}
 use Rattle.std.specs.Fork.{GivesJobs}
 use Rattle.std.specs.List.{All, AllByRecursion, AllZip}
 use Rattle.std.proofs.lemmas.Slice.Zip.{AllZip-long}
-use Rattle.std.proofs.lemmas.List.{get_or-map, get_or-set_same, length-map, length-set, map-set, same_from_push, set-get_or, set-set, append-nil}
+use Rattle.std.proofs.lemmas.List.{get_or-map, get_or-set_same, length-append, length-map, length-set, map-set, same_from_push, set-get_or, set-set, append-nil}
 use Rattle.std.proofs.lemmas.List.Elements.{All-cons, All-head, All-nil, All-push, All-set, All-tail, All-weaker}
 use Rattle.std.proofs.lemmas.Option.{get_or_from_slice_get, slice_get-get_or, slice_get_within}
 use Rattle.mt_recover.specs.declared.by_workers.Share.{Share}
@@ -68,7 +68,7 @@ zip_last R [] job (x ∷ y ∷ ys) zip = absurd zip.1
 zip_last R (j ∷ js) job [] zip = absurd zip
 zip_last R (j ∷ js) job (x ∷ xs) zip = let r = zip_last R js job xs zip.1 in (x ∷ r.0, r.1, ap (λ l. x ∷ l) r.2, (zip.0, r.3), r.4)
 
-zip_at : {A B : Type 0} (Q : A → B → Type 0) (xs : List A) (ys : List B) (k : ℕ) (x : A) → AllZip Q xs ys → slice_get xs k ≡ Some x → (y : B) × (slice_get ys k ≡ Some y) × Q x y
+pub zip_at : {A B : Type 0} (Q : A → B → Type 0) (xs : List A) (ys : List B) (k : ℕ) (x : A) → AllZip Q xs ys → slice_get xs k ≡ Some x → (y : B) × (slice_get ys k ≡ Some y) × Q x y
 zip_at Q [] ys k x zip at = absurd cc
 zip_at Q (a ∷ us) [] k x zip at = absurd zip
 zip_at Q (a ∷ us) (b ∷ vs) zero x zip at = let same : a ≡ x = cc in (b, refl, subst (λ z. Q z b) same zip.0)
@@ -121,13 +121,24 @@ next_dealt {X} f count number turn (next ∷ more) parts part at within is some 
     let own : slice_index_or stacks turn (f part) ≡ f part = get_or-map f parts turn part (f part) within ∙ ap f (sym is) in
     (next, more, left, refl, sym own ∙ get_or_from_slice_get stacks turn (left ++ next ∷ []) (f part) both.0, both.1)
 
+-- where some are left, the share of the next is not empty
+pub some_dealt : {X Y : Type 0} (f : Y → List X) (count number turn : ℕ) (rest : List X) (parts : List Y) (part : Y) → turn ≡ number % count → turn < length parts → part ≡ slice_index_or parts turn part → 0 < length rest
+    → AreDealt count number rest (map f parts) → 0 < length (f part)
+some_dealt {X} f count number turn rest parts part at within is some dealt =
+    let next = next_dealt f count number turn rest parts part at within is some dealt in
+    let left : List X = next.2 in
+    let top : List X = next.0 ∷ [] in
+    let whole : f part ≡ left ++ top = next.4 in
+    omega (arith, ap length whole, length-append left top)
+
 -- what is taken off a share is the next of those that are dealt
 pub next_gathered : {X Y : Type 0} (f : Y → List X) (count number turn : ℕ) (rest : List X) (parts : List Y) (part taken : Y) (answer : X) → turn ≡ number % count → turn < length parts → part ≡ slice_index_or parts turn part → 0 < length rest
-    → f part ≡ f taken ++ answer ∷ [] → AreDealt count number rest (map f parts) → (more : List X) × (rest ≡ answer ∷ more) × AreDealt count (suc number) more (map f (slice_set parts turn taken))
+    → f part ≡ f taken ++ answer ∷ [] → AreDealt count number rest (map f parts) → (more : List X) × (length rest ≡ suc (length more)) × (rest ≡ answer ∷ more) × AreDealt count (suc number) more (map f (slice_set parts turn taken))
 next_gathered {X} f count number turn rest parts part taken answer at within is some popped dealt =
     let next = next_dealt f count number turn rest parts part at within is some dealt in
     let same = same_from_push (f taken) next.2 answer next.0 (sym popped ∙ next.4) in (
       next.1,
+      ap length next.3,
       next.3 ∙ ap (λ (x : X). x ∷ next.1) (sym same.1),
       subst (AreDealt count (suc number) next.1) (ap (λ (l : List X). slice_set (map f parts) turn l) (sym same.0) ∙ sym (map-set f parts turn taken)) next.5,
     )

@@ -1,9 +1,9 @@
-use Rattle.std.proofs.Common.{◌≡◌, ◌∙◌, ◌+◌, ◌<◌, ◌%◌, ◌∷◌, [], ℕ, suc, List, length, map, refl, ap, subst, arith}
+use Rattle.std.proofs.Common.{◌≡◌, ◌∙◌, ◌+◌, ◌<◌, ◌%◌, ℕ, suc, List, length, map, refl, subst, arith}
 use Rattle.std.specs.Prelude.{slice_set}
 use Rattle.std.proofs.Math.Nat.{mod-lt}
-use Rattle.std.proofs.lemmas.List.{length-append, length-set}
+use Rattle.std.proofs.lemmas.List.{length-set}
 use Rattle.mt_recover.specs.Sharing.{AreDealt}
-use Rattle.mt_recover.proofs.SharingLemmas.{next_dealt, next_gathered, gathered_more, gathered_all}
+use Rattle.mt_recover.proofs.SharingLemmas.{some_dealt, next_gathered, gathered_more, gathered_all}
 use Rattle.mt_recover.proofs.by_workers.gather.Goals as goal
 
 pub unreachable-requires : goal.unreachable-requires
@@ -15,8 +15,8 @@ unreachable-requires g c =
     let below : turn < c.len.result = mod-lt c.loop-number.number (omega (arith, count, c.requires.some)) in
     let part = c.index_mut.result.now in
     let empty : length part.items ≡ 0 = omega (arith, c.in_default.ensures.cases.0, part.ok.0) in
-    let next = next_dealt (λ part. part.items) (length c.args.parts.items) c.loop-number.number turn I.some.0 parts part (λ i. c.loop-number.number % count i) (omega (arith, below, count, I.long)) c.index_mut.ensures.value (omega (arith, I.some.1, c.loop-number-test.true)) I.some.2 in
-    absurd (omega (arith, empty, ap length next.4, length-append next.2 (next.0 ∷ [])))
+    let some = some_dealt (λ part. part.items) (length c.args.parts.items) c.loop-number.number turn I.some.0 parts part (λ i. c.loop-number.number % count i) (omega (arith, below, count, I.long)) c.index_mut.ensures.value (omega (arith, I.some.1, c.loop-number-test.true)) I.some.2 in
+    absurd (omega (arith, empty, some))
 
 pub loop-number-init : goal.loop-number-init
 loop-number-init g c = record {
@@ -42,14 +42,14 @@ loop-number-preserved g c =
       long = length-set parts turn c.pop.new.self ∙ I.long;
       some =
           let more = next I.some.0 I.some.1 I.some.2 in
-          (more.0, omega (arith, I.some.1, ap length more.1), subst (λ (n : ℕ). AreDealt (length c.args.parts.items) n more.0 after) step more.2);
+          (more.0, omega (arith, I.some.1, more.1), subst (λ (n : ℕ). AreDealt (length c.args.parts.items) n more.0 after) step more.3);
       same = λ answers long dealt.
           let old = I.same answers long dealt in
           let more = next old.0 old.2 old.3 in (
             more.0,
-            gathered_more answers c.loop-number.answers.items c.push.new.self.items old.0 more.0 c.in-Some.answer old.1 more.1 c.in_ok-push.ensures.items,
-            omega (arith, old.2, ap length more.1),
-            subst (λ (n : ℕ). AreDealt (length c.args.parts.items) n more.0 after) step more.2,
+            gathered_more answers c.loop-number.answers.items c.push.new.self.items old.0 more.0 c.in-Some.answer old.1 more.2 c.in_ok-push.ensures.items,
+            omega (arith, old.2, more.1),
+            subst (λ (n : ℕ). AreDealt (length c.args.parts.items) n more.0 after) step more.3,
           );
     }
 
