@@ -1,0 +1,5 @@
+use Rattle.std.proofs.Common.{[], refl}
+use Rattle.mt_replay.proofs.walker.Walker.begin.Goals as goal
+
+pub returns-clause-group : goal.returns-clause-group
+returns-clause-group c = c.see.ensures.group [] c.args.update.key refl (c.empty-self.ensures c.args.update.key)

@@ -1,0 +1,44 @@
+-- The walk of updates that come in the order of their keys.
+use Rattle.std.specs.Prelude.{◌≡◌, ℕ, ◌<◌, nat_lt, if◌then◌else◌, Option, Some, None, List, [], ◌∷◌, ◌++◌, length, All, Contains, IsPermutation}
+use Rattle.mt_words.specs.declared.update.Update.{Update}
+use Rattle.mt_words.specs.Words.{IsBelow}
+use Rattle.mt_words.specs.Walks.{Pair}
+use Rattle.mt_replay.specs.Walk.{IsWalk, AreApart}
+use Rattle.mt_replay.specs.Runs.{together}
+use Rattle.mt_replay.specs.Groups.{Group, IsSound, IsGroupOf, IsMapOf}
+
+-- the pairs with this one behind them, unless it has no column
+abbrev pub with_pair : List Pair → List ℕ → List (ℕ × List ℕ) → List Pair
+with_pair pairs key columns = if nat_lt 0 (length columns) then pairs ++ (key, columns) ∷ [] else pairs
+
+-- a map of these updates, which is their walk where they are apart
+pub record IsMade (updates : List Update) (pairs : List Pair) : Type 0 where
+  pub map : IsMapOf updates pairs
+  pub walk : AreApart updates → IsWalk updates pairs
+
+-- the updates of one key with their group, behind updates of lower keys
+pub record AreLast (before last : List Update) (key : List ℕ) (group : Group) : Type 0 where
+  pub some : 0 < length last
+  pub same_keys : (u : Update) → Contains last u → u.key ≡ key
+  pub below : (u : Update) → Contains before u → IsBelow u.key key
+  pub grouped : IsGroupOf last key group
+  pub sound : All IsSound last
+
+-- the updates of the last key, or none where there is no update
+abbrev pub IsInHand : List Update → List Update → Option Update → Group → Type 0
+IsInHand before last None group = (before ≡ []) × (last ≡ [])
+IsInHand before last (Some first) group = AreLast before last first.key group
+
+-- the pairs of all keys but the last, and the group of the last, whose first update is this one
+pub record IsWalkSoFar (updates : List Update) (pairs : List Pair) (first : Option Update) (group : Group) : Type 0 where
+  pub before : List Update
+  pub last : List Update
+  pub split : updates ≡ before ++ last
+  pub made : IsMade before pairs
+  pub in_hand : IsInHand before last first group
+
+-- what is made of the updates of runs
+pub record IsMadeOfRuns (runs : List (List Update)) (pairs : List Pair) : Type 0 where
+  pub merged : List Update
+  pub all : IsPermutation (together runs) merged
+  pub made : IsMade merged pairs
