@@ -24,6 +24,7 @@ use Rattle.mt_recover.specs.Verdict.{IsFirst, IsVerdict}
 use Rattle.mt_recover.specs.declared.start.Start.{Start}
 use Rattle.mt_recover.specs.LogScans.{ShowAll, AreScansOf, kept}
 use Rattle.mt_recover.specs.Start.{IsStartOf, surviving}
+use Rattle.mt_replay.specs.Runs.{together}
 use Rattle.mt_replay.proofs.StepLemmas.{same_column}
 use Rattle.mt_recover.proofs.SurvivorLemmas.{survivors_apart}
 
@@ -190,3 +191,10 @@ store_of logs parts scans start moved pairs is same walk =
       walk = walk_of all moved pairs (subst (λ (us : List Update). IsPermutation us moved) (same_survivors logs parts scans start is) same)
       (survivors_apart facts.known facts.cutoff facts.chosen (records_of facts.readings) facts.is_chosen) walk;
     }
+
+-- the same, where scans and cells were lent on the way
+pub store_from : (logs parts : List (List ℕ)) (scans lent : List LogScan) (start : Start) (lists shown : List (List Update)) (pairs : List Pair) → lent ≡ scans → shown ≡ lists
+    → IsStartOf logs parts lent start → IsPermutation (surviving start scans) (together lists) → (AreApart (together shown) → IsWalk (together shown) pairs) → IsStoreOf logs parts pairs
+store_from logs parts scans lent start lists shown pairs same are is moved walk =
+    store_of logs parts scans start (together lists) pairs (subst (λ (x : List LogScan). IsStartOf logs parts x start) same is) moved
+    (subst (λ (x : List (List Update)). AreApart (together x) → IsWalk (together x) pairs) are walk)

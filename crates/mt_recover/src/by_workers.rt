@@ -103,15 +103,15 @@ fn do_share<J: Drop, X: Drop, F: Fn(u32, J) -> X>(
 /// All answers, where none ran out of memory.
 pub(crate) fn all_done<X: Drop>(
     alloc: Global,
-    parts: Vec<Result<X, Memory>>,
+    answers: Vec<Result<X, Memory>>,
 ) -> Result<Vec<X>, Memory>
-    ensures { IfOk result (λ answers. parts.items ≡ map Ok answers.items) }
+    ensures { IfOk result (λ done. answers.items ≡ map Ok done.items) }
 {
-    let mut answers = Vec::with_capacity(alloc, parts.len())?;
-    for part in parts {
-        answers.push(part?)?;
+    let mut done = Vec::with_capacity(alloc, answers.len())?;
+    for answer in answers {
+        done.push(answer?)?;
     }
-    Ok(answers)
+    Ok(done)
 }
 
 /// The answers in the order of their numbers.

@@ -4,7 +4,7 @@ ghost use Rattle.std.specs.Io.KnownBytes.{Appends};
 ghost use Rattle.mt_recover.specs.Dump.{dump_text, IsStoreOfSome, IsPrinted, status_of};
 
 use crate::dump::write_dump;
-use crate::recover::{Recovered, recover_logs};
+use crate::recovery::{Recovered, recover_logs};
 use crate::store::Store;
 use mt_words::{Fault, Memory};
 use std::alloc::{AllocError, Global};

@@ -43,6 +43,13 @@ impl Model for Recovered {
 }
 
 impl Recovered {
+    /// What was recovered, where this is the store.
+    pub(crate) fn of(store: Store) -> Recovered
+        ensures { result.store ≡ store }
+    {
+        Recovered { store }
+    }
+
     /// The store.
     pub fn store(&self) -> &Store
         ensures { result.now ≡ self.now.store }
@@ -101,7 +108,5 @@ pub(crate) fn recover_scans(
     let start = Start::of(alloc, &scans, parts)?;
     let lists = cells_of(alloc, scans, start)?;
     let pairs = replay_all(alloc, &lists)?;
-    Ok(Recovered {
-        store: Store::of(pairs),
-    })
+    Ok(Recovered::of(Store::of(pairs)))
 }

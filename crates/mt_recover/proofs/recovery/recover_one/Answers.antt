@@ -3,7 +3,7 @@ use Rattle.std.proofs.lemmas.Result.{IfOk-weaker, IfErr-weaker, err_from_is_err_
 use Rattle.mt_recover.specs.Recovery.{IsStoreOf}
 use Rattle.mt_recover.specs.Inputs.{OfSources, IsAnsweredFrom, BlamesUnsteady}
 use Rattle.mt_recover.proofs.SourceLemmas.{some_logs, no_sources, some_sources, none_to_have, as_many_have, part_fault, answered_from, blames_none}
-use Rattle.mt_recover.proofs.recover.recover_one.Goals as goal
+use Rattle.mt_recover.proofs.recovery.recover_one.Goals as goal
 
 pub returns-then-is_empty-clause-fault : goal.returns-then-is_empty-clause-fault
 returns-then-is_empty-clause-fault g c =
