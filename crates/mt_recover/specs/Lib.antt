@@ -6,3 +6,4 @@ pub mod KeyWrites
 pub mod LogScans
 pub mod Inputs
 pub mod Sharing
+pub mod ScanJobs

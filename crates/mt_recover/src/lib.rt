@@ -11,6 +11,7 @@ mod program;
 mod read_logs;
 mod recover;
 mod replay;
+mod scan_all;
 mod scan_logs;
 mod scan_parts;
 mod store;
