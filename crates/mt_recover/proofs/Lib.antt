@@ -11,3 +11,4 @@ pub mod OneVerdict
 pub mod Worked
 pub mod PiecesLemmas
 pub mod SharingLemmas
+pub mod ScanLemmas

@@ -208,3 +208,17 @@ all_answers {J} {X} {M} post count workers jobs shares parts done long most with
     let same : count ≡ length done =
     omega (arith, long, length-map shares (λ (share : Share J). share.jobs.items), AllZip-long (AllZip R) stacks piles zipped, length-map done (λ (part : Vec X Global). part.items)) in
     (answers.0, answers.1, subst (λ (n : ℕ). AreDealt n 0 answers.0 piles) same answers.2)
+
+-- what the answers say, whoever gave them
+pub zip_says : {J X : Type 0} (R : J → X → Type 0) (post : ℕ → J → X → Type 0) (workers : ℕ) (jobs : List J) (answers : List X) → ((worker : ℕ) (job : J) (answer : X) → post worker job answer → R job answer)
+    → AllZip (λ job answer. (worker : ℕ) × (worker < workers) × post worker job answer) jobs answers → AllZip R jobs answers
+zip_says R post workers [] [] says zip = tt
+zip_says R post workers [] (x ∷ xs) says zip = absurd zip
+zip_says R post workers (j ∷ js) [] says zip = absurd zip
+zip_says R post workers (j ∷ js) (x ∷ xs) says zip = (says zip.0.0 j x zip.0.2, zip_says R post workers js xs says zip.1)
+
+-- answers of jobs behind one another
+pub zip_split : {A B : Type 0} (R : A → B → Type 0) (xs ys : List A) (all : List B) → AllZip R (xs ++ ys) all → (first : List B) × (last : List B) × (all ≡ first ++ last) × AllZip R xs first × AllZip R ys last
+zip_split R [] ys all zip = ([], all, refl, tt, zip)
+zip_split R (x ∷ xs) ys [] zip = absurd zip
+zip_split R (x ∷ xs) ys (b ∷ all) zip = let r = zip_split R xs ys all zip.1 in (b ∷ r.0, r.1, ap (λ l. b ∷ l) r.2, (zip.0, r.3), r.4)

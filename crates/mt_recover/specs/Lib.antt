@@ -6,3 +6,4 @@ pub mod LogScans
 pub mod Start
 pub mod Inputs
 pub mod Sharing
+pub mod ScanJobs

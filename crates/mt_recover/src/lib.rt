@@ -10,6 +10,7 @@ mod pieces;
 mod program;
 mod read_logs;
 mod recovery;
+mod scan_all;
 mod scan_logs;
 mod scan_parts;
 mod start;

@@ -1,0 +1,11 @@
+use Rattle.std.proofs.Common.{append_assoc, arith}
+use Rattle.mt_recover.specs.declared.scan_all.Job.TheVariants as jobs
+use Rattle.mt_recover.proofs.ScanLemmas.{next_job}
+use Rattle.mt_recover.proofs.scan_all.jobs_of_parts.Goals as goal
+
+pub loop-source-preserved : goal.loop-source-preserved
+loop-source-preserved g c = record {
+  rest = rw append_assoc (rw c.in-Some.ensures.steps.0 at c.loop-source.invariant.rest);
+  jobs = next_job (λ number source. jobs.Part number source) c.loop-source.jobs.items c.push.new.self.items c.loop-source.yielded c.in-Some.source c.len-part.result
+      c.loop-source.invariant.jobs (omega (arith, c.len-part.ensures, c.loop-source.jobs.ok.0)) c.in_ok-push.ensures.items;
+}

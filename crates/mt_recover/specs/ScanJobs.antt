@@ -1,0 +1,64 @@
+-- Sources to scan, and what their scans gave.
+use Rattle.std.specs.Prelude.{◌≡◌, ℕ, suc, IsTrue, List, [], ◌∷◌, Result, Ok, Err, IfOk, IfErr}
+use Rattle.mt_words.specs.declared.fault.Fault.{Fault}
+use Rattle.mt_scan.specs.declared.log_scan.LogScan.{LogScan}
+use Rattle.mt_scan.specs.declared.part_scan.PartScan.{PartScan}
+use Rattle.mt_scan.specs.Sources.{Seen}
+use Rattle.mt_scan.specs.Scans.{OfTold, IsScanOf, IsScanFault, failures_of}
+use Rattle.mt_scan.specs.PartScans.{IsKnown, known_by, IsPartScanFault}
+use Rattle.mt_recover.specs.declared.scan_all.Job.{Job}
+use Rattle.mt_recover.specs.declared.scan_all.Job.TheVariants as jobs
+use Rattle.mt_recover.specs.declared.scan_all.Scanned.{Scanned}
+use Rattle.mt_recover.specs.declared.scan_all.Scanned.TheVariants as scanned
+
+-- jobs of sources, which are numbered from this number on
+abbrev pub numbered : {S : Type 0} → (ℕ → S → Job S) → ℕ → List S → List (Job S)
+numbered job number [] = []
+numbered job number (source ∷ sources) = job number source ∷ numbered job (suc number) sources
+
+-- the jobs of logs
+abbrev pub log_jobs : {S : Type 0} → ℕ → List S → List (Job S)
+log_jobs number sources = numbered (λ log source. jobs.Log log source) number sources
+
+-- the jobs of parts
+abbrev pub part_jobs : {S : Type 0} → ℕ → List S → List (Job S)
+part_jobs number sources = numbered (λ part source. jobs.Part part source) number sources
+
+-- what the scan of a log answers
+pub record IsLogOutcome (seen : Seen) (log : ℕ) (outcome : Result LogScan Fault) : Type 0 where
+  pub scan : IfOk outcome (λ scan. OfTold seen.told (λ bytes. IsScanOf log bytes scan))
+  pub fault : IfErr outcome (λ fault. OfTold seen.told (λ bytes. IsScanFault log bytes fault))
+  pub steady : IsTrue seen.steady → failures_of outcome ≡ 0
+
+-- what the scan of a part answers
+pub record IsPartOutcome (seen : Seen) (part : ℕ) (outcome : Result PartScan Fault) : Type 0 where
+  pub scan : IfOk outcome (λ scan. OfTold seen.told (λ bytes. IsKnown bytes (known_by scan)))
+  pub fault : IfErr outcome (IsPartScanFault part)
+  pub steady : IsTrue seen.steady → failures_of outcome ≡ 0
+
+-- what the scan of a source answers
+abbrev pub IsScanned : {S : Type 0} → (S → Seen) → Job S → Scanned → Type 0
+IsScanned seen (jobs.Log log source) (scanned.Log outcome) = IsLogOutcome (seen source) log outcome
+IsScanned seen (jobs.Part part source) (scanned.Part outcome) = IsPartOutcome (seen source) part outcome
+IsScanned seen (jobs.Log log source) (scanned.Part outcome) = ⊥
+IsScanned seen (jobs.Part part source) (scanned.Log outcome) = ⊥
+
+-- what the scans of logs gave
+abbrev pub logs_in : List Scanned → List (Result LogScan Fault)
+logs_in [] = []
+logs_in (scanned.Log outcome ∷ outcomes) = outcome ∷ logs_in outcomes
+logs_in (scanned.Part outcome ∷ outcomes) = logs_in outcomes
+
+-- what the scans of parts gave
+abbrev pub parts_in : List Scanned → List (Result PartScan Fault)
+parts_in [] = []
+parts_in (scanned.Log outcome ∷ outcomes) = parts_in outcomes
+parts_in (scanned.Part outcome ∷ outcomes) = outcome ∷ parts_in outcomes
+
+-- the first fault that a scan gave
+abbrev pub IsFirstFault : List Scanned → Fault → Type 0
+IsFirstFault [] fault = ⊥
+IsFirstFault (scanned.Log (Ok scan) ∷ outcomes) fault = IsFirstFault outcomes fault
+IsFirstFault (scanned.Log (Err first) ∷ outcomes) fault = first ≡ fault
+IsFirstFault (scanned.Part (Ok scan) ∷ outcomes) fault = IsFirstFault outcomes fault
+IsFirstFault (scanned.Part (Err first) ∷ outcomes) fault = first ≡ fault

@@ -1,0 +1,140 @@
+//! Scans of all logs and checkpoint parts, by threads.
+ghost use Rattle.std.specs.Prelude.{◌≡◌, ◌⊎◌, ◌++◌, ◌<◌, List, ℕ, length, map, Ok, IfOk, IfErr};
+ghost use Rattle.std.specs.List.{AllZip};
+ghost use Rattle.mt_words.specs.declared.fault.Fault.TheVariants as faults;
+ghost use Rattle.mt_scan.specs.PartScans.{known_by};
+ghost use Rattle.mt_recover.specs.LogScans.{AreScansOf};
+ghost use Rattle.mt_recover.specs.Recovery.{AreKnown};
+ghost use Rattle.mt_recover.specs.Inputs.{MayHave, OfSources, IsAnsweredFrom, BlamesUnsteady};
+ghost use Rattle.mt_recover.specs.ScanJobs.{IsScanned, log_jobs, part_jobs, logs_in, parts_in, IsFirstFault};
+
+use crate::by_workers::by_workers;
+use crate::{Inputs, Workers};
+use mt_scan::{LogScan, PartScan, Source, scan_log, scan_part};
+use mt_words::{Fault, Memory};
+use std::alloc::Global;
+use std::thread::Threads;
+
+/// A source to scan.
+#[derive(Drop)]
+enum Job<S> {
+    /// That of the log of this number.
+    Log { log: usize, source: S },
+    /// That of the part of this number.
+    Part { part: usize, source: S },
+}
+
+/// What a scan gave.
+#[derive(Drop)]
+enum Scanned {
+    Log(Result<LogScan, Fault>),
+    Part(Result<PartScan, Fault>),
+}
+
+/// Scans the logs and the parts by so many threads; each source is dropped when it is scanned. An Err is the fault of
+/// the first log that has one; where none has, `PartSource` of the first part whose source failed; or `Memory`: whatever
+/// scan ended first.
+pub(crate) fn scan_all<R: Threads + Sync, S: Source + Send>(
+    rt: &R,
+    alloc: Global,
+    inputs: Inputs<S>,
+    workers: Workers,
+) -> Result<(Vec<LogScan>, Vec<PartScan>), Fault>
+    ensures logs { IfOk result (λ scans. (logs : List (List ℕ)) ×
+        MayHave S.seen inputs.logs.items logs × AreScansOf logs scans.0.items) }
+    ensures parts { IfOk result (λ scans. (parts : List (List ℕ)) ×
+        MayHave S.seen inputs.parts.items parts × AreKnown parts (map known_by scans.1.items)) }
+    ensures fault { IfErr result (λ fault. 0 < length inputs.logs.items → OfSources S.seen inputs.logs.items inputs.parts.items
+        (λ logs parts. IsAnsweredFrom logs parts fault)) }
+    ensures steady { IfErr result (BlamesUnsteady S.seen inputs.logs.items inputs.parts.items) }
+{
+    let jobs = jobs_of(alloc, inputs)?;
+    let outcomes = scan_jobs(rt, alloc, jobs, workers)?;
+    scans_of(alloc, outcomes)
+}
+
+/// Scans all sources, by so many threads.
+fn scan_jobs<R: Threads + Sync, S: Source + Send>(
+    rt: &R,
+    alloc: Global,
+    jobs: Vec<Job<S>>,
+    workers: Workers,
+) -> Result<Vec<Scanned>, Memory>
+    ensures { IfOk result (λ outcomes. AllZip (IsScanned S.seen) jobs.items outcomes.items) }
+{
+    by_workers(
+        rt,
+        alloc,
+        jobs,
+        workers,
+        &|_worker: u32, job: Job<S>| { scan_job(alloc, job) },
+    )
+}
+
+/// The jobs of all sources, logs before parts.
+fn jobs_of<S: Drop>(alloc: Global, inputs: Inputs<S>) -> Result<Vec<Job<S>>, Memory>
+    ensures { IfOk result (λ jobs. jobs.items ≡ log_jobs 0 inputs.logs.items ++ part_jobs 0 inputs.parts.items) }
+{
+    let Inputs { logs, parts } = inputs;
+    let mut jobs = jobs_of_logs(alloc, logs)?;
+    let mut others = jobs_of_parts(alloc, parts)?;
+    jobs.append(&mut others)?;
+    Ok(jobs)
+}
+
+/// The jobs of the logs.
+fn jobs_of_logs<S: Drop>(alloc: Global, sources: Vec<S>) -> Result<Vec<Job<S>>, Memory>
+    ensures { IfOk result (λ jobs. jobs.items ≡ log_jobs 0 sources.items) }
+{
+    let mut jobs = Vec::with_capacity(alloc, sources.len())?;
+    for source in sources {
+        let log = jobs.len();
+        jobs.push(Job::Log { log, source })?;
+    }
+    Ok(jobs)
+}
+
+/// The jobs of the parts.
+fn jobs_of_parts<S: Drop>(alloc: Global, sources: Vec<S>) -> Result<Vec<Job<S>>, Memory>
+    ensures { IfOk result (λ jobs. jobs.items ≡ part_jobs 0 sources.items) }
+{
+    let mut jobs = Vec::with_capacity(alloc, sources.len())?;
+    for source in sources {
+        let part = jobs.len();
+        jobs.push(Job::Part { part, source })?;
+    }
+    Ok(jobs)
+}
+
+/// Scans the source.
+fn scan_job<S: Source>(alloc: Global, job: Job<S>) -> Scanned
+    ensures { IsScanned S.seen job result }
+{
+    match job {
+        Job::Log { log, source } => {
+            let mut source = source;
+            Scanned::Log(scan_log(alloc, &mut source, log))
+        }
+        Job::Part { part, source } => {
+            let mut source = source;
+            Scanned::Part(scan_part(alloc, &mut source, part))
+        }
+    }
+}
+
+/// The scans, or the first fault.
+fn scans_of(alloc: Global, outcomes: Vec<Scanned>) -> Result<(Vec<LogScan>, Vec<PartScan>), Fault>
+    ensures logs { IfOk result (λ scans. logs_in outcomes.items ≡ map Ok scans.0.items) }
+    ensures parts { IfOk result (λ scans. parts_in outcomes.items ≡ map Ok scans.1.items) }
+    ensures fault { IfErr result (λ fault. (fault ≡ faults.Memory) ⊎ IsFirstFault outcomes.items fault) }
+{
+    let mut logs = Vec::new(alloc);
+    let mut parts = Vec::new(alloc);
+    for outcome in outcomes {
+        match outcome {
+            Scanned::Log(scan) => logs.push(scan?)?,
+            Scanned::Part(scan) => parts.push(scan?)?,
+        }
+    }
+    Ok((logs, parts))
+}
