@@ -1,5 +1,5 @@
 -- Keys whose slices differ are ordered as these.
-use Rattle.std.proofs.Common.{◌≡◌, ℕ, zero, suc, get_or, Fits, w8, ◌+◌, ◌*◌, ◌^◌, ◌<◌, ◌≤◌, List, [], ◌∷◌, drop, Ordering, refl, sym, ap, ◌∙◌, arith}
+use Rattle.std.proofs.Common.{◌≡◌, ◌≢◌, ℕ, zero, suc, get_or, Fits, w8, ◌+◌, ◌*◌, ◌^◌, ◌<◌, ◌≤◌, List, [], ◌∷◌, drop, Ordering, refl, sym, ap, ◌∙◌, arith}
 use Rattle.std.specs.declared.cmp.Ordering.TheVariants.{Less, Equal, Greater}
 use Rattle.std.specs.Cmp.{nat_cmp_is}
 use Rattle.std.specs.Ordering.{nat_cmp, ordering_then, MatchOrdering}
@@ -92,6 +92,16 @@ unfolding slice_in
 by_slices x y p q =
     by_fronts 8 x y p q
     ∙ (λ i. ordering_then (nat_cmp (sym (big_is_front 8 0 x) i) (sym (big_is_front 8 0 y) i)) (slice_cmp nat_cmp x y))
+
+-- slices that differ decide
+decided : (r q : Ordering) (m n : ℕ) → MatchOrdering r (m < n) (m ≡ n) (n < m) → m ≢ n → ordering_then r q ≡ r
+decided Less q m n h apart = refl
+decided Equal q m n h apart = absurd (apart h)
+decided Greater q m n h apart = refl
+
+pub by_unequal_slices : (x y : List ℕ) → AreBytes x → AreBytes y → slice_in x ≢ slice_in y → slice_cmp nat_cmp x y ≡ nat_cmp (slice_in x) (slice_in y)
+by_unequal_slices x y p q apart =
+    by_slices x y p q ∙ decided (nat_cmp (slice_in x) (slice_in y)) (slice_cmp nat_cmp x y) (slice_in x) (slice_in y) (ranked (slice_in x) (slice_in y) _ refl) apart
 
 -- what a program's bytes are known to be
 pub bytes_from_fits : (bytes : List ℕ) → ((i : ℕ) → Fits w8 (get_or bytes i 0)) → AreBytes bytes
