@@ -8,7 +8,7 @@ ghost use Rattle.mt_replay.specs.Cuts.{is_below, InKeyOrder};
 
 use crate::Window;
 use crate::bodies::Bodies;
-use crate::lents::{all_bodies, all_entries, sort_by_key, survivors};
+use crate::sliced::{Sliced, all_bodies, all_entries, sort_by_key, survivors};
 use crate::spelling::spell;
 use mt_record::{KeptEntries, Lent, Updates};
 use mt_words::{Memory, Update};
@@ -41,9 +41,9 @@ impl LogCells {
         ensures { IfOk result (λ cells. IsPermutation (filter (survives_in window) updates.items) cells) }
     {
         let bodies = spell(alloc, &updates, window)?;
-        let mut lents = all_bodies(alloc, &bodies)?;
-        sort_by_key(&mut lents);
-        gather(alloc, bodies.size(), &lents)
+        let mut sliced = all_bodies(alloc, &bodies)?;
+        sort_by_key(&mut sliced);
+        gather(alloc, bodies.size(), &sliced)
     }
 
     /// The updates of a log in the window.
@@ -51,18 +51,18 @@ impl LogCells {
         ensures { IfOk result (λ cells.
             IsPermutation (filter (in_window window) (kept_updates updates.now)) cells) }
     {
-        let mut lents = survivors(alloc, updates, window)?;
-        sort_by_key(&mut lents);
-        gather(alloc, updates.size(), &lents)
+        let mut sliced = survivors(alloc, updates, window)?;
+        sort_by_key(&mut sliced);
+        gather(alloc, updates.size(), &sliced)
     }
 
     /// The entries of a checkpoint: no window leaves one out.
     pub fn of_entries(alloc: Global, entries: &KeptEntries) -> Result<LogCells, Memory>
         ensures { IfOk result (λ cells. IsPermutation (wholes entries.now) cells) }
     {
-        let mut lents = all_entries(alloc, entries)?;
-        sort_by_key(&mut lents);
-        gather(alloc, entries.size(), &lents)
+        let mut sliced = all_entries(alloc, entries)?;
+        sort_by_key(&mut sliced);
+        gather(alloc, entries.size(), &sliced)
     }
 
     /// How many updates there are.
@@ -110,12 +110,13 @@ fn comes_before(first: &[u8], second: &[u8]) -> bool
 }
 
 /// Cells of these updates, whose bodies have so many bytes at the most.
-fn gather(alloc: Global, size: usize, updates: &[Lent<'_>]) -> Result<LogCells, Memory>
+fn gather(alloc: Global, size: usize, updates: &[Sliced<'_>]) -> Result<LogCells, Memory>
     requires { InKeyOrder updates.now }
     ensures { IfOk result (λ cells. cells ≡ updates.now) }
 {
     let mut bodies = Bodies::with_capacity(alloc, updates.len(), size)?;
-    for update in updates {
+    for sliced in updates {
+        let update = sliced.update();
         bodies.push(update.origin(), update.body())?;
     }
     Ok(LogCells { bodies })

@@ -4,3 +4,4 @@ pub mod Changes
 pub mod Stamps
 pub mod Updates
 pub mod Walks
+pub mod Slices

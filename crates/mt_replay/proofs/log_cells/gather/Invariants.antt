@@ -2,5 +2,5 @@ use Rattle.std.proofs.Common.{◌≡◌, take}
 use Rattle.mt_replay.proofs.log_cells.gather.Given as goal
 
 -- the first updates are gathered
-abbrev pub invariant-loop-update : goal.invariant-loop-update
-invariant-loop-update l = l.bodies ≡ take l.update-index l.updates
+abbrev pub invariant-loop-sliced : goal.invariant-loop-sliced
+invariant-loop-sliced l = l.bodies ≡ take l.sliced-index l.updates

@@ -11,5 +11,5 @@ gather-requires c = subst InKeyOrder (sym c.deref-2.ensures.value) c.sort_by_key
 
 pub returns : goal.returns
 returns c =
-    let moved = subst (λ (us : List Update). IsPermutation us c.sort_by_key.new.updates.items) (c.in_ok-lents.ensures ∙ c.in_ok-bodies.ensures ∙ ap (filter (survives c.args.window)) c.deref.ensures.value) c.sort_by_key.ensures.same in
+    let moved = subst (λ (us : List Update). IsPermutation us c.sort_by_key.new.updates.items) (c.in_ok-sliced.ensures ∙ c.in_ok-bodies.ensures ∙ ap (filter (survives c.args.window)) c.deref.ensures.value) c.sort_by_key.ensures.same in
     ok_then c.gather.result (λ cells same. subst (λ (us : List Update). IsPermutation (filter (survives c.args.window) c.args.updates.items) us) (sym (same ∙ c.deref-2.ensures.value)) moved) c.gather.ensures

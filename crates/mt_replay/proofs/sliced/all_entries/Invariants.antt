@@ -1,7 +1,7 @@
 use Rattle.std.proofs.Common.{◌≡◌, take}
 use Rattle.mt_replay.specs.Survivors.{wholes}
-use Rattle.mt_replay.proofs.lents.all_entries.Given as goal
+use Rattle.mt_replay.proofs.sliced.all_entries.Given as goal
 
 -- those of the first entries
 abbrev pub invariant-loop-number : goal.invariant-loop-number
-invariant-loop-number l = l.lents.items ≡ wholes (take l.number l.entries)
+invariant-loop-number l = l.sliced.items ≡ wholes (take l.number l.entries)

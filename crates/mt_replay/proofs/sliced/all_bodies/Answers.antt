@@ -1,10 +1,10 @@
 use Rattle.std.proofs.Common.{◌<◌, ◌++◌, ◌∷◌, [], length, sym, ◌∙◌, arith}
 use Rattle.std.proofs.lemmas.List.{take_more}
-use Rattle.mt_replay.proofs.lents.all_bodies.Goals as goal
+use Rattle.mt_replay.proofs.sliced.all_bodies.Goals as goal
 
 pub loop-at-preserved : goal.loop-at-preserved
 loop-at-preserved c =
     let below : c.loop-at.at < length c.args.bodies.now = omega arith in
     c.in_ok-push.ensures.items
-    ∙ (λ i. c.loop-at.invariant i ++ c.get.ensures c.get.result i ∷ [])
+    ∙ (λ i. c.loop-at.invariant i ++ (c.of.ensures ∙ c.get.ensures c.get.result) i ∷ [])
     ∙ sym (take_more c.args.bodies.now c.loop-at.at c.get.result below)

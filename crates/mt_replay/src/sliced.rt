@@ -1,0 +1,129 @@
+//! Updates that are lent from their bodies, each with the slice of its key: those that survive, and their order.
+ghost use Rattle.std.specs.Prelude.{◌≡◌, ◌++◌, IfOk, OnOk, IsPermutation, filter};
+ghost use Rattle.std.specs.Ordering.{nat_cmp};
+ghost use Rattle.std.specs.Cmp.Lexicographic.{slice_cmp};
+ghost use Rattle.mt_record.specs.Kept.{kept_updates, listed};
+ghost use Rattle.mt_replay.specs.Survivors.{in_window, wholes};
+ghost use Rattle.mt_replay.specs.Cuts.{InKeyOrder};
+
+use crate::Window;
+use crate::bodies::Bodies;
+use mt_record::{KeptEntries, Lent, Updates};
+use mt_words::{Memory, slice_of};
+use std::alloc::Global;
+use std::cmp::Ordering;
+use std::marker::Model;
+
+/// An update with the slice of its key. Most comparisons of keys are of slices alone, and so read no body.
+#[derive(Drop)]
+pub(crate) struct Sliced<'a> {
+    slice: u64,
+    update: Lent<'a>,
+}
+
+impl<'a> Model for Sliced<'a> {
+    ghost use Rattle.mt_words.specs.declared.update.Update.{Update};
+    ghost use Rattle.mt_replay.specs.Sliced.{IsSlice};
+
+    ghost Value = { Update };
+
+    ghost view = { λ s. s.update };
+
+    ghost invariant = { λ s. IsSlice s.slice s.update.key };
+}
+
+impl<'a> Sliced<'a> {
+    /// The update with its slice.
+    fn of(update: Lent<'a>) -> Sliced<'a>
+        ensures { result ≡ update.entry }
+    {
+        Sliced {
+            slice: slice_of(update.key()),
+            update,
+        }
+    }
+
+    /// The update.
+    pub(crate) fn update(&self) -> &Lent<'a>
+        ensures { result.now ≡ self.now }
+    {
+        &self.update
+    }
+
+    /// The order of their keys.
+    fn compare(&self, other: &Sliced<'_>) -> Ordering
+        ensures { result ≡ slice_cmp nat_cmp self.now.key other.now.key }
+    {
+        if self.slice != other.slice {
+            return self.slice.cmp(&other.slice);
+        }
+        self.update.key().cmp(other.update.key())
+    }
+}
+
+/// The updates in the window, in the order of their records.
+pub(crate) fn survivors<'a>(
+    alloc: Global,
+    updates: &'a Updates,
+    window: Window,
+) -> Result<Vec<Sliced<'a>>, Memory>
+    ensures { IfOk result (λ sliced. sliced.items ≡ filter (in_window window) (kept_updates updates.now)) }
+{
+    let mut sliced = Vec::with_capacity(alloc, updates.record_count())?;
+    for number in 0..updates.record_count() {
+        add_survivor(&mut sliced, updates.update(number), window)?;
+    }
+    Ok(sliced)
+}
+
+/// Adds an update, if there is one and it is in the window.
+fn add_survivor<'a>(
+    sliced: &mut Vec<Sliced<'a>>,
+    update: Option<Lent<'a>>,
+    window: Window,
+) -> Result<(), Memory>
+    ensures { OnOk result (sliced.new.items ≡ sliced.old.items ++ filter (in_window window) (listed update.entry)) }
+{
+    let Some(update) = update else {
+        return Ok(());
+    };
+    if !window.contains(update.timestamp()) {
+        return Ok(());
+    }
+    sliced.push(Sliced::of(update))?;
+    Ok(())
+}
+
+/// The updates of all entries.
+pub(crate) fn all_entries(alloc: Global, entries: &KeptEntries) -> Result<Vec<Sliced<'_>>, Memory>
+    ensures { IfOk result (λ sliced. sliced.items ≡ wholes entries.now) }
+{
+    let mut sliced = Vec::with_capacity(alloc, entries.len())?;
+    for number in 0..entries.len() {
+        sliced.push(Sliced::of(entries.update(number)))?;
+    }
+    Ok(sliced)
+}
+
+/// The updates of all bodies.
+pub(crate) fn all_bodies(alloc: Global, bodies: &Bodies) -> Result<Vec<Sliced<'_>>, Memory>
+    ensures { IfOk result (λ sliced. sliced.items ≡ bodies.now) }
+{
+    let mut sliced = Vec::with_capacity(alloc, bodies.len())?;
+    for at in 0..bodies.len() {
+        sliced.push(Sliced::of(bodies.get(at)))?;
+    }
+    Ok(sliced)
+}
+
+/// Sorts updates by their keys, those of one key in any order.
+pub(crate) fn sort_by_key(updates: &mut Vec<Sliced<'_>>)
+    ensures same { IsPermutation updates.old.items updates.new.items }
+    ensures in_order { InKeyOrder updates.new.items }
+{
+    updates.sort_unstable_by(
+        |a: &Sliced<'_>, b: &Sliced<'_>| -> Ordering
+            ensures { result ≡ slice_cmp nat_cmp a.now.key b.now.key }
+        { a.compare(b) },
+    );
+}

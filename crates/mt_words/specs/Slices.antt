@@ -1,0 +1,12 @@
+-- Slices of keys.
+use Rattle.std.specs.Prelude.{ℕ, ◌<◌, List}
+use Rattle.std.specs.List.{AllByRecursion}
+use Rattle.byteorder.specs.Endian.{big_number}
+
+-- each number of the list is a byte
+abbrev pub AreBytes : List ℕ → Type 0
+AreBytes bytes = AllByRecursion (λ byte. byte < 256) bytes
+
+-- the first eight bytes of a key as a number, the highest first; zeros stand for those that it lacks
+unfoldable pub slice_in : List ℕ → ℕ
+slice_in key = big_number 8 key
