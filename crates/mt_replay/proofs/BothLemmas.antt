@@ -1,0 +1,231 @@
+-- What two sets of updates of one key leave together.
+use Rattle.std.proofs.Common.{◌≡◌, ◌⊎◌, inl, inr, ◌↔◌, ℕ, ◌<◌, ◌+◌, List, ◌++◌, length, Option, Some, None, Contains, refl, sym, ◌∙◌, subst, arith}
+use Rattle.std.specs.Prelude.{slice_get, slice_set, slice_index_or}
+use Rattle.std.proofs.lemmas.List.Elements.{Contains-append_left, Contains-append_right, Contains-append_cases}
+use Rattle.std.proofs.lemmas.Bool.{cases_eq}
+use Rattle.mt_words.specs.declared.update.Stamp.{Stamp}
+use Rattle.mt_words.specs.declared.update.Update.{Update}
+use Rattle.mt_words.specs.Limits.{widest}
+use Rattle.mt_words.specs.Words.{IsColumn}
+use Rattle.mt_words.specs.Changes.{IsReset}
+use Rattle.mt_words.specs.Stamps.{IsAtMost}
+use Rattle.mt_replay.specs.Cells.{Written, Slots, IsNewer, IsNewestOf, IsGreatest, IsUnwritten, IsCellOf}
+use Rattle.mt_replay.specs.Groups.{Group, IsLatestOf, IsWriteOf, IsGreatestReset, IsResetOf, IsGroupOf}
+use Rattle.mt_replay.proofs.StampLemmas.{at_most_trans, older_or_not, not_newer}
+use Rattle.mt_replay.proofs.CellLemmas.{IsRight, decide, some_is, get_set_same, get_set_other}
+use Rattle.mt_replay.proofs.ColumnsLemmas.{IsLeft, left_more}
+use Rattle.std.proofs.lemmas.Option.{slice_get-get_or, slice_get_within}
+use Rattle.std.proofs.lemmas.List.{length-set}
+
+-- ---- the same writes in another order
+
+same_right : (writes others : List Written) (number : ℕ) (slot : Option Written) → ((w : Written) → Contains writes w ↔ Contains others w) → IsRight writes number slot → IsRight others number slot
+same_right writes others number None same none = λ w at. none w ((same w).1 at)
+same_right writes others number (Some g) same is = record {
+  stands = (same g).0 is.stands;
+  of_column = is.of_column;
+  greatest = λ w at of. is.greatest w ((same w).1 at) of;
+}
+
+-- a cell is one of any list of the same writes
+pub same_cell : (writes others : List Written) (slots : Slots) → ((w : Written) → Contains writes w ↔ Contains others w) → IsCellOf writes slots → IsCellOf others slots
+same_cell writes others slots same is = record {
+  within = λ w at. is.within w ((same w).1 at);
+  places = is.places;
+  each = λ number slot at. same_right writes others number slot same (is.each number slot at);
+}
+
+-- of three lists the last two change places
+swapped : (a b c : List Written) (w : Written) → Contains ((a ++ b) ++ c) w → Contains (a ++ (c ++ b)) w
+swapped a b c w at = elim (Contains-append_cases (a ++ b) c w at) as (λ _. Contains (a ++ (c ++ b)) w) [
+  | inl first ↦ elim (Contains-append_cases a b w first) as (λ _. Contains (a ++ (c ++ b)) w) [
+    | inl here ↦ Contains-append_left a (c ++ b) w here
+    | inr here ↦ Contains-append_right a (c ++ b) w (Contains-append_right c b w here)
+  ]
+  | inr here ↦ Contains-append_right a (c ++ b) w (Contains-append_left c b w here)
+]
+
+swapped_back : (a b c : List Written) (w : Written) → Contains (a ++ (c ++ b)) w → Contains ((a ++ b) ++ c) w
+swapped_back a b c w at = elim (Contains-append_cases a (c ++ b) w at) as (λ _. Contains ((a ++ b) ++ c) w) [
+  | inl here ↦ Contains-append_left (a ++ b) c w (Contains-append_left a b w here)
+  | inr later ↦ elim (Contains-append_cases c b w later) as (λ _. Contains ((a ++ b) ++ c) w) [
+    | inl here ↦ Contains-append_right (a ++ b) c w here
+    | inr here ↦ Contains-append_left (a ++ b) c w (Contains-append_right a b w here)
+  ]
+]
+
+-- writes that came last may stand before others
+pub cell_swapped : (a b c : List Written) (slots : Slots) → IsCellOf ((a ++ b) ++ c) slots → IsCellOf (a ++ (c ++ b)) slots
+cell_swapped a b c slots is = same_cell ((a ++ b) ++ c) (a ++ (c ++ b)) slots (λ w. (swapped a b c w, swapped_back a b c w)) is
+
+-- ---- the writes of both
+
+-- the others have no write of the column
+first_right : (writes others : List Written) (number : ℕ) (slot : Option Written) → IsUnwritten others number → IsRight writes number slot → IsRight (writes ++ others) number slot
+first_right writes others number None never none = λ w at of. elim (Contains-append_cases writes others w at) as (λ _. ⊥) [ inl here ↦ none w here of | inr there ↦ never w there of ]
+first_right writes others number (Some g) never is = record {
+  stands = Contains-append_left writes others g is.stands;
+  of_column = is.of_column;
+  greatest = λ w at of. elim (Contains-append_cases writes others w at) as (λ _. IsAtMost w.0 g.0) [ inl here ↦ is.greatest w here of | inr there ↦ absurd (never w there of) ];
+}
+
+-- no write of this column is greater
+below_newer : (writes : List Written) (number : ℕ) (old : Option Written) (g w : Written) → IsNewer old g → IsRight writes number old → Contains writes w → w.1.0 ≡ number → IsAtMost w.0 g.0
+below_newer writes number None g w newer none at of = absurd (none w at of)
+below_newer writes number (Some h) g w newer is at of = at_most_trans w.0 h.0 g.0 (is.greatest w at of) (inr newer)
+
+second_taken : (writes others : List Written) (number : ℕ) (old : Option Written) (g : Written) → IsNewer old g → IsRight writes number old → IsGreatest others number g → IsGreatest (writes ++ others) number g
+second_taken writes others number old g newer was is = record {
+  stands = Contains-append_right writes others g is.stands;
+  of_column = is.of_column;
+  greatest = λ w at of. elim (Contains-append_cases writes others w at) as (λ _. IsAtMost w.0 g.0) [ inl here ↦ below_newer writes number old g w newer was here of | inr there ↦ is.greatest w there of ];
+}
+
+first_stays : (writes others : List Written) (number : ℕ) (old : Option Written) (g : Written) → (IsNewer old g → ⊥) → IsRight writes number old → IsGreatest others number g → IsRight (writes ++ others) number old
+first_stays writes others number None g stays none is = absurd (stays tt)
+first_stays writes others number (Some h) g stays was is = elim (older_or_not h.0 g.0) as (λ _. IsGreatest (writes ++ others) number h) [
+  | inl older ↦ absurd (stays older)
+  | inr most ↦ record {
+    stands = Contains-append_left writes others h was.stands;
+    of_column = was.of_column;
+    greatest = λ w at of. elim (Contains-append_cases writes others w at) as (λ _. IsAtMost w.0 h.0) [ inl here ↦ was.greatest w here of | inr there ↦ at_most_trans w.0 g.0 h.0 (is.greatest w there of) most ];
+  }
+]
+
+-- the greater of the greatest writes of a column
+right_both : (writes others : List Written) (number : ℕ) (old add new : Option Written) → IsNewestOf old add new → IsRight writes number old → IsRight others number add → IsRight (writes ++ others) number new
+right_both writes others number old None new newest was none = subst (IsRight (writes ++ others) number) (sym newest) (first_right writes others number old none was)
+right_both writes others number old (Some g) new newest was is = elim (decide old g) as (λ _. IsRight (writes ++ others) number new) [
+  | inl newer ↦ subst (IsRight (writes ++ others) number) (sym (newest.0 newer)) (second_taken writes others number old g newer was is)
+  | inr stays ↦ subst (IsRight (writes ++ others) number) (sym (newest.1 stays)) (first_stays writes others number old g stays was is)
+]
+
+-- ---- the places, one by one
+
+-- the places below n of the old slots have taken in those of the added slots, and the others are as they were
+pub record AreBoth (old add : Slots) (n : ℕ) (new left : Slots) : Type 0 where
+  pub places : length new ≡ length old
+  pub places_left : length left ≡ length add
+  pub stays : IsLeft old n new
+  pub waits : IsLeft add n left
+  pub newest : (k : ℕ) (a b slot : Option Written) → k < n → slice_get old k ≡ Some a → slice_get add k ≡ Some b → slice_get new k ≡ Some slot → IsNewestOf a b slot
+
+pub both_none : (old add : Slots) → AreBoth old add 0 old add
+both_none old add = record {
+  places = refl;
+  places_left = refl;
+  stays = λ k le. refl;
+  waits = λ k le. refl;
+  newest = λ k a b slot lt was added at. absurd (omega arith);
+}
+
+-- what stands in an untouched place
+in_place : (slots left : Slots) (n : ℕ) (slot : Option Written) → n < length left → IsLeft slots n left → slice_get slots n ≡ Some slot → slice_index_or left n None ≡ slot
+in_place slots left n slot lt is at = some_is _ _ (sym (slice_get-get_or left n None lt) ∙ is n (omega arith) ∙ at)
+
+newest_here : (old add : Slots) (n k : ℕ) (new left : Slots) (x a b slot : Option Written) → n < length new → n < length left → IsNewestOf (slice_index_or new n None) (slice_index_or left n None) x → AreBoth old add n new left
+    → n ≡ k → slice_get old k ≡ Some a → slice_get add k ≡ Some b → slice_get (slice_set new n x) k ≡ Some slot → IsNewestOf a b slot
+newest_here old add n k new left x a b slot lt lt_left newest are same was added at =
+    let one : slice_index_or new n None ≡ a = in_place old new n a lt are.stays (subst (λ (j : ℕ). slice_get old j ≡ Some a) (sym same) was) in
+    let two : slice_index_or left n None ≡ b = in_place add left n b lt_left are.waits (subst (λ (j : ℕ). slice_get add j ≡ Some b) (sym same) added) in
+    let three : x ≡ slot = some_is _ _ (sym (get_set_same new n x lt) ∙ subst (λ (j : ℕ). slice_get (slice_set new n x) j ≡ Some slot) (sym same) at) in
+    subst (λ (s : Option Written). IsNewestOf a b s) three (subst (λ (s : Option Written). IsNewestOf a s x) two (subst (λ (s : Option Written). IsNewestOf s (slice_index_or left n None) x) one newest))
+
+-- one more place
+pub both_step : (old add : Slots) (n : ℕ) (new left : Slots) (x : Option Written) → n < length new → n < length left → IsNewestOf (slice_index_or new n None) (slice_index_or left n None) x
+    → AreBoth old add n new left → AreBoth old add (n + 1) (slice_set new n x) (slice_set left n None)
+both_step old add n new left x lt lt_left newest are = record {
+  places = length-set new n x ∙ are.places;
+  places_left = length-set left n None ∙ are.places_left;
+  stays = λ k le. get_set_other new n k x (λ e. omega arith) ∙ are.stays k (omega arith);
+  waits = left_more add left n are.waits;
+  newest = λ k a b slot below was added at. elim (cases_eq n k) as (λ _. IsNewestOf a b slot) [
+    | inl same ↦ newest_here old add n k new left x a b slot lt lt_left newest are same was added at
+    | inr apart ↦ are.newest k a b slot (omega arith) was added (sym (get_set_other new n k x apart) ∙ at)
+  ];
+}
+
+-- all places
+pub both_cells : (old add : Slots) (new left : Slots) (writes others : List Written) → AreBoth old add 16 new left → IsCellOf writes old → IsCellOf others add → IsCellOf (writes ++ others) new
+both_cells old add new left writes others are was is = record {
+  within = λ w at. elim (Contains-append_cases writes others w at) as (λ _. IsColumn widest w.1) [ inl here ↦ was.within w here | inr there ↦ is.within w there ];
+  places = are.places ∙ was.places;
+  each = λ number slot at.
+      let lt : number < length new = slice_get_within new number slot at in
+      let lt_old : number < length old = omega (arith, lt, are.places) in
+      let lt_add : number < length add = omega (arith, lt, are.places, was.places, is.places) in
+      let a = slice_index_or old number None in
+      let b = slice_index_or add number None in
+      let at_old : slice_get old number ≡ Some a = slice_get-get_or old number None lt_old in
+      let at_add : slice_get add number ≡ Some b = slice_get-get_or add number None lt_add in
+      let below : number < 16 = omega (arith, lt_old, was.places) in
+      right_both writes others number a b slot (are.newest number a b slot below at_old at_add at) (was.each number a at_old) (is.each number b at_add);
+}
+
+-- ---- the resets of both
+
+-- the greatest reset of the first updates is that of both
+first_reset : (updates others : List Update) (key : List ℕ) (stamp : Stamp) → ((u : Update) → Contains others u → u.key ≡ key → IsReset u.kind → IsAtMost u.stamp stamp)
+    → IsGreatestReset updates key stamp → IsGreatestReset (updates ++ others) key stamp
+first_reset updates others key stamp most is = record {
+  update = is.update;
+  stands = Contains-append_left updates others is.update is.stands;
+  of_key = is.of_key;
+  resets = is.resets;
+  at_stamp = is.at_stamp;
+  greatest = λ u at of_key resets. elim (Contains-append_cases updates others u at) as (λ _. IsAtMost u.stamp stamp) [ inl here ↦ is.greatest u here of_key resets | inr there ↦ most u there of_key resets ];
+}
+
+second_reset : (updates others : List Update) (key : List ℕ) (stamp : Stamp) → ((u : Update) → Contains updates u → u.key ≡ key → IsReset u.kind → IsAtMost u.stamp stamp)
+    → IsGreatestReset others key stamp → IsGreatestReset (updates ++ others) key stamp
+second_reset updates others key stamp most is = record {
+  update = is.update;
+  stands = Contains-append_right updates others is.update is.stands;
+  of_key = is.of_key;
+  resets = is.resets;
+  at_stamp = is.at_stamp;
+  greatest = λ u at of_key resets. elim (Contains-append_cases updates others u at) as (λ _. IsAtMost u.stamp stamp) [ inl here ↦ most u here of_key resets | inr there ↦ is.greatest u there of_key resets ];
+}
+
+-- the others do not reset the key
+reset_alone : (updates others : List Update) (key : List ℕ) (reset : Option Stamp) → IsResetOf others key None → IsResetOf updates key reset → IsResetOf (updates ++ others) key reset
+reset_alone updates others key None never none = λ u at of_key resets. elim (Contains-append_cases updates others u at) as (λ _. ⊥) [ inl here ↦ none u here of_key resets | inr there ↦ never u there of_key resets ]
+reset_alone updates others key (Some stamp) never is = first_reset updates others key stamp (λ u at of_key resets. absurd (never u at of_key resets)) is
+
+both_resets : (updates others : List Update) (key : List ℕ) (old add new : Option Stamp) → IsLatestOf old add new → IsResetOf updates key old → IsResetOf others key add → IsResetOf (updates ++ others) key new
+both_resets updates others key old None new same was never = subst (IsResetOf (updates ++ others) key) (sym same) (reset_alone updates others key old never was)
+both_resets updates others key None (Some stamp) new latest none is =
+    subst (IsResetOf (updates ++ others) key) (sym (latest.later tt)) (second_reset updates others key stamp (λ u at of_key resets. absurd (none u at of_key resets)) is)
+both_resets updates others key (Some reset) (Some stamp) new latest was is = elim (older_or_not reset stamp) as (λ _. IsResetOf (updates ++ others) key new) [
+  | inl older ↦ subst (IsResetOf (updates ++ others) key) (sym (latest.later older)) (second_reset updates others key stamp (λ u at of_key resets. at_most_trans u.stamp reset stamp (was.greatest u at of_key resets) (inr older)) is)
+  | inr most ↦ subst (IsResetOf (updates ++ others) key) (sym (latest.earlier (λ older. not_newer reset stamp most older))) (first_reset updates others key reset (λ u at of_key resets. at_most_trans u.stamp stamp reset (is.greatest u at of_key resets) most) was)
+]
+
+-- ---- the groups of both
+
+-- a write of the first updates, or of the others, is one of both
+of_both : (updates others : List Update) (key : List ℕ) (w : Written) → (IsWriteOf updates key w ⊎ IsWriteOf others key w) → IsWriteOf (updates ++ others) key w
+of_both updates others key w (inl is) = record { update = is.update; stands = Contains-append_left updates others is.update is.stands; of_key = is.of_key; stamp = is.stamp; writes = is.writes }
+of_both updates others key w (inr is) = record { update = is.update; stands = Contains-append_right updates others is.update is.stands; of_key = is.of_key; stamp = is.stamp; writes = is.writes }
+
+of_one : (updates others : List Update) (key : List ℕ) (w : Written) → IsWriteOf (updates ++ others) key w → IsWriteOf updates key w ⊎ IsWriteOf others key w
+of_one updates others key w is = elim (Contains-append_cases updates others is.update is.stands) as (λ _. IsWriteOf updates key w ⊎ IsWriteOf others key w) [
+  | inl here ↦ inl (record { update = is.update; stands = here; of_key = is.of_key; stamp = is.stamp; writes = is.writes })
+  | inr there ↦ inr (record { update = is.update; stands = there; of_key = is.of_key; stamp = is.stamp; writes = is.writes })
+]
+
+-- the group of two sets of updates
+pub both_groups : (updates others : List Update) (key : List ℕ) (old add new : Group) → IsLatestOf old.reset add.reset new.reset
+    → ((writes more : List Written) → IsCellOf writes old.slots → IsCellOf more add.slots → IsCellOf (writes ++ more) new.slots) → IsGroupOf updates key old → IsGroupOf others key add → IsGroupOf (updates ++ others) key new
+both_groups updates others key old add new latest cell was is = record {
+  writes = was.writes ++ is.writes;
+  cell = cell was.writes is.writes was.cell is.cell;
+  each = λ w. (
+    λ at. of_both updates others key w (elim (Contains-append_cases was.writes is.writes w at) as (λ _. IsWriteOf updates key w ⊎ IsWriteOf others key w) [ inl here ↦ inl ((was.each w).0 here) | inr there ↦ inr ((is.each w).0 there) ]),
+    λ write. elim (of_one updates others key w write) as (λ _. Contains (was.writes ++ is.writes) w) [
+      | inl here ↦ Contains-append_left was.writes is.writes w ((was.each w).1 here)
+      | inr there ↦ Contains-append_right was.writes is.writes w ((is.each w).1 there)
+    ],
+  );
+  reset = both_resets updates others key old.reset add.reset new.reset latest was.reset is.reset;
+}

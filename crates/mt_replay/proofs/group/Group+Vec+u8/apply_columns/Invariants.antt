@@ -1,0 +1,15 @@
+use Rattle.std.proofs.Common.{◌≡◌, ◌++◌, ℕ, List, length}
+use Rattle.mt_replay.specs.Cells.{Written, IsCellOf, written}
+use Rattle.mt_replay.proofs.group.Group+Vec+u8.apply_columns.Given as goal
+
+-- the columns that were taken off are taken in
+abbrev pub invariant-loop-column : goal.invariant-loop-column
+invariant-loop-column l = record {
+  seen : List (ℕ × List ℕ);
+  were : l.fn.columns ≡ l.rest ++ seen;
+  reset : l.self.reset ≡ l.fn.self.reset;
+  cell : (writes : List Written) → IsCellOf writes l.fn.self.slots → IsCellOf (writes ++ written l.stamp seen) l.self.slots;
+}
+
+abbrev pub decreases-loop-column : goal.decreases-loop-column
+decreases-loop-column l = length l.rest
