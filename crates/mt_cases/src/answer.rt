@@ -12,6 +12,7 @@ use mt_words::{Fault, Key};
 use std::alloc::Global;
 use std::fmt::Display;
 use std::io::{self, Write};
+use std::thread::Threads;
 
 /// Appends what recovery of the logs of these drafts answers from their bytes in memory.
 pub fn push_from_memory(
@@ -27,8 +28,8 @@ pub fn push_from_memory(
 }
 
 /// What so many workers answer, where the keys are cut so.
-pub fn recover_by(
-    rt: &HostRuntime,
+pub fn recover_by<R: AllocGlobal + Threads + Sync>(
+    rt: &R,
     inputs: Inputs<DraftSource<'_>>,
     workers: u32,
     cutting: Cutting,

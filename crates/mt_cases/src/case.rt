@@ -12,6 +12,7 @@ use mt_recover::{Cutting, Inputs, Pieces, Recovered, recover_one};
 use mt_scan::LONGEST_BUFFER;
 use mt_words::Fault;
 use std::alloc::Global;
+use std::thread::Threads;
 
 /// What the lines of a case say in one pass.
 #[derive(Drop)]
@@ -147,7 +148,11 @@ impl Case {
     }
 
     /// What comes in this way. All buffers are back then.
-    pub fn come(&self, rt: &HostRuntime, way: Way) -> Result<Vec<u8>, Mistake> {
+    pub fn come<R: AllocGlobal + Threads + Sync>(
+        &self,
+        rt: &R,
+        way: Way,
+    ) -> Result<Vec<u8>, Mistake> {
         let mut text = Vec::new(rt.alloc());
         if let Way::Memory = way {
             push_from_memory(rt.alloc(), &self.drafts, &mut text)?;
@@ -175,9 +180,9 @@ impl Case {
     }
 
     /// What recovery from sources answers in this way.
-    fn recover_from(
+    fn recover_from<R: AllocGlobal + Threads + Sync>(
         &self,
-        rt: &HostRuntime,
+        rt: &R,
         inputs: Inputs<DraftSource<'_>>,
         way: Way,
     ) -> Result<Result<Recovered, Fault>, Mistake> {

@@ -19,30 +19,24 @@ mod words;
 
 use crate::telling::{Counts, Teller};
 use std::io::{self, BufWriter, Write};
+use std::fs::Files;
 use std::process::ExitCode;
+use std::thread::Threads;
 use std::{env, fs};
 
 fn main(rt: HostRuntime) -> io::Result<ExitCode> {
-    let Counts { held, wrong, .. } = try_all(&rt)?;
+    let out = BufWriter::new(rt.alloc(), rt.stdout())?;
+    let mut teller = Teller::new(out, rt.stderr());
+    for name in case_files(&rt)? {
+        try_file(&rt, name.as_str(), &mut teller)?;
+    }
+    let Counts { held, wrong, .. } = teller.finish()?;
     Ok(ExitCode::from(u8::from(wrong > 0 || held == 0)))
 }
 
-/// Tries all files, and tells how many cases hold.
-fn try_all(rt: &HostRuntime) -> io::Result<Counts> {
-    let out = BufWriter::new(rt.alloc(), rt.stdout())?;
-    let mut teller = Teller::new(out, rt.stderr());
-    for name in case_files(rt)? {
-        try_file(rt, name.as_str(), &mut teller)?;
-    }
-    let Counts { held, not_held, .. } = teller.counts;
-    writeln!(teller.out, "{held} cases hold, {not_held} do not")?;
-    teller.out.flush()?;
-    Ok(teller.counts)
-}
-
 /// Tries the cases of a file.
-fn try_file<O: Write, E: Write>(
-    rt: &HostRuntime,
+fn try_file<R: AllocGlobal + Files + Threads + Sync, O: Write, E: Write>(
+    rt: &R,
     name: &str,
     teller: &mut Teller<O, E>,
 ) -> io::Result<()> {

@@ -5,6 +5,7 @@ use crate::mistake::Mistake;
 use crate::names::{Named, read_name};
 use crate::trying::{Difference, try_case};
 use std::io::{self, Write};
+use std::thread::Threads;
 
 /// What became of the cases so far. A line that is not understood, and a file that cannot be read, is a case that does
 /// not hold.
@@ -48,7 +49,12 @@ impl<O: Write, E: Write> Teller<O, E> {
     }
 
     /// Tries the cases of a file of this name and this text. Those behind a line `refused` are not to hold.
-    pub fn try_text(&mut self, rt: &HostRuntime, file: &str, text: &str) -> io::Result<()> {
+    pub fn try_text<R: AllocGlobal + Threads + Sync>(
+        &mut self,
+        rt: &R,
+        file: &str,
+        text: &str,
+    ) -> io::Result<()> {
         let Ok(blocks) = blocks_of(rt.alloc(), text) else {
             return self.tell_unread(file, "no memory");
         };
@@ -61,6 +67,14 @@ impl<O: Write, E: Write> Teller<O, E> {
         Ok(())
     }
 
+    /// Tells how many cases hold.
+    pub fn finish(&mut self) -> io::Result<Counts> {
+        let Counts { held, not_held, .. } = self.counts;
+        writeln!(self.out, "{held} cases hold, {not_held} do not")?;
+        self.out.flush()?;
+        Ok(self.counts)
+    }
+
     /// Tells that a file cannot be tried.
     pub fn tell_unread(&mut self, file: &str, why: &str) -> io::Result<()> {
         self.count(false, true);
@@ -68,9 +82,9 @@ impl<O: Write, E: Write> Teller<O, E> {
     }
 
     /// Adds a name, or tries a case; a head that is neither is told.
-    fn try_block<'a>(
+    fn try_block<'a, R: AllocGlobal + Threads + Sync>(
         &mut self,
-        rt: &HostRuntime,
+        rt: &R,
         file: &str,
         names: &mut Vec<Named<'a>>,
         block: &Block<'a>,
@@ -148,8 +162,8 @@ impl<O: Write, E: Write> Teller<O, E> {
 }
 
 /// Adds the name that a block gives, or tries its case. `at` is the line that was read last.
-fn trial_of<'a>(
-    rt: &HostRuntime,
+fn trial_of<'a, R: AllocGlobal + Threads + Sync>(
+    rt: &R,
     names: &mut Vec<Named<'a>>,
     block: &Block<'a>,
     at: &mut Line<'a>,

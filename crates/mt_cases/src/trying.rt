@@ -5,6 +5,7 @@ use crate::mistake::Mistake;
 use crate::names::Named;
 use crate::passes::{Passes, in_pass, passes_of};
 use std::alloc::Global;
+use std::thread::Threads;
 
 /// What came where another thing was expected.
 #[derive(Drop)]
@@ -16,8 +17,8 @@ pub struct Difference {
 }
 
 /// The first difference in a case, if there is one, in whatever pass and way. `at` is the line that was read last.
-pub fn try_case<'a>(
-    rt: &HostRuntime,
+pub fn try_case<'a, R: AllocGlobal + Threads + Sync>(
+    rt: &R,
     names: &[Named<'_>],
     block: &Block<'a>,
     at: &mut Line<'a>,
@@ -34,8 +35,8 @@ pub fn try_case<'a>(
 }
 
 /// The first difference in these passes.
-fn try_passes<'a>(
-    rt: &HostRuntime,
+fn try_passes<'a, R: AllocGlobal + Threads + Sync>(
+    rt: &R,
     names: &[Named<'_>],
     head: Line<'a>,
     lines: &[Line<'a>],
@@ -54,8 +55,8 @@ fn try_passes<'a>(
 }
 
 /// The first difference in a pass.
-fn try_pass<'a>(
-    rt: &HostRuntime,
+fn try_pass<'a, R: AllocGlobal + Threads + Sync>(
+    rt: &R,
     names: &[Named<'_>],
     head: Line<'a>,
     lines: &[Line<'a>],
@@ -84,8 +85,8 @@ fn read_line(
 }
 
 /// The first difference between what comes and what is expected.
-fn compare(
-    rt: &HostRuntime,
+fn compare<R: AllocGlobal + Threads + Sync>(
+    rt: &R,
     mut case: Case,
     pass: Option<u64>,
 ) -> Result<Option<Difference>, Mistake> {
