@@ -1,10 +1,10 @@
-use Rattle.std.proofs.Common.{◌≡◌, ℕ, subst, arith}
+use Rattle.std.proofs.Common.{◌≡◌, ◌∙◌, ℕ, sym, subst, arith}
 use Rattle.mt_replay.specs.Cells.{Slots}
 use Rattle.mt_replay.proofs.BothLemmas.{AreBoth, both_cells}
 use Rattle.mt_replay.proofs.group.keep_each.Goals as goal
 
-pub returns : goal.returns
-returns g c =
+pub returns-clause-cell : goal.returns-clause-cell
+returns-clause-cell g c =
     let old : Slots = c.args.kept.now in
     let add : Slots = c.args.writes in
     let new : Slots = c.loop-number.kept in
@@ -12,3 +12,6 @@ returns g c =
     let all : c.loop-number.number ≡ 16 = omega arith in
     let are : AreBoth old add 16 new left = subst (λ (n : ℕ). AreBoth old add n new left) all c.loop-number.invariant in
     λ seen others was is. both_cells old add new left seen others are was is
+
+pub returns-clause-free : goal.returns-clause-free
+returns-clause-free g c = λ free number slot above at. free number slot above (sym (c.loop-number.invariant.stays number (omega (arith, above))) ∙ at)

@@ -1,4 +1,4 @@
-use Rattle.std.proofs.Common.{sym, subst}
+use Rattle.std.proofs.Common.{sym, subst, arith}
 use Rattle.mt_replay.specs.Cells.{IsCellOf}
 use Rattle.mt_replay.specs.Groups.{Group, IsLatestOf}
 use Rattle.mt_replay.proofs.BothLemmas.{both_groups}
@@ -12,7 +12,13 @@ returns g c =
     let inside : IsLatestOf old.reset c.other.inside.reset new.reset = subst (λ (x : Group). IsLatestOf old.reset c.other.inside.reset x.reset) (sym c.merged.view_is) c.clear_by.ensures.reset in
     let latest : IsLatestOf old.reset add.reset new.reset = subst (λ (x : Group). IsLatestOf old.reset x.reset new.reset) c.other.view_is inside in
     λ updates others key was is. both_groups updates others key old add new latest
-    (λ seen more cell added. c.keep_each.ensures seen more
+    (λ seen more cell added. c.keep_each.ensures.cell seen more
     (subst (λ (x : Group). IsCellOf seen x.slots) (sym c.merged.view_is) (subst (IsCellOf seen) (sym c.clear_by.ensures.writes) cell))
     (subst (λ (x : Group). IsCellOf more x.slots) (sym c.other.view_is) added))
     was is
+
+pub invariant_of-merged : goal.invariant_of-merged
+invariant_of-merged g c = (
+    omega arith,
+    c.keep_each.ensures.free (λ number slot above is. c.merged.invariant.1 number slot (omega (arith, above, c.merged.invariant.0)) is),
+)
