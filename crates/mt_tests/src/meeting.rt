@@ -31,6 +31,7 @@ fn is_set_in_time(flag: &AtomicU64) -> bool {
 }
 
 /// Holds the first worker that enters until another one has entered.
+#[derive(Clone, Copy)]
 struct Meeting<'a> {
     /// The first worker, counted from 1 on; 0 before it.
     first: &'a AtomicU64,
@@ -128,7 +129,7 @@ impl Source for Waiting<'_> {
 }
 
 /// The log, as a source that waits.
-fn waiting<'a, R: Abort>(
+fn log_that_waits<'a, R: Abort>(
     rt: &R,
     bytes: &'a [u8],
     slot: &'a mut Slot,
@@ -154,9 +155,9 @@ fn two_scans_meet(rt: HostRuntime) {
     let (first, rest) = rack.slots().split_first_mut().expect(&rt, "a slot");
     let second = rest.first_mut().expect(&rt, "a slot");
     let mut logs = Vec::new(rt.alloc());
-    logs.push(waiting(&rt, &bytes, first, &one, &other, &met))
+    logs.push(log_that_waits(&rt, &bytes, first, &one, &other, &met))
         .expect(&rt, "memory");
-    logs.push(waiting(&rt, &bytes, second, &other, &one, &met))
+    logs.push(log_that_waits(&rt, &bytes, second, &other, &one, &met))
         .expect(&rt, "memory");
     let parts = Vec::new(rt.alloc());
     let cutting = Cutting::Even(Pieces::new(1).expect(&rt, "a piece"));
