@@ -4,11 +4,14 @@ use crate::asserting::{assert_bytes, assert_same};
 use mt_record::{
     FeedFault, LogFeed, PartFault, PartFeed, encode_log_header, encode_part, encode_record,
 };
-use mt_recover::{Inputs, Recovered, recover_logs, recover_one};
+use mt_recover::{
+    Cutting, Inputs, NoGate, Pieces, Recovered, Workers, recover, recover_logs, recover_one,
+};
 use mt_scan::{Choice, MemSource, PartScan, Rack, Slot, choose, scan_part};
 use mt_words::{Columns, Entry, Fault, Key, Memory, Record};
 use std::alloc::Global;
 use std::process::Abort;
+use std::thread::Threads;
 
 /// Two logs, each of a put and a mark.
 const LOGS: [&[u8]; 2] = [
@@ -24,6 +27,11 @@ const LOGS: [&[u8]; 2] = [
 const PART: &[u8] = b"MTC1\0\0\0\x01\0\0\0\0\0\0\0\x02\0\0\0\x01\
       \0\0\0\x10\0\0\0\0\0\0\0\x01\0\x01a\x01\0\0\x01o\0\0\0\x10\
       \0\0\0\0\0\0\0\0\0\0\0\x04\0\0\0\x01";
+
+/// A log from 2 on, of a put of key a at version 3 and a mark.
+const LATER_LOG: &[u8] = b"MTL1\0\0\0\0\0\0\0\x02\
+      \0\0\0\x19\x01\0\0\0\0\0\0\0\x05\0\0\0\0\0\0\0\x03\0\x01a\x01\0\0\x01n\0\0\0\x19\
+      \0\0\0\x09\x03\0\0\0\0\0\0\0\x0a\0\0\0\x09";
 
 /// The answer has this value in column 0 of this key, or is a want of memory.
 fn assert_value<R: Abort>(rt: &R, answer: Result<Recovered, Fault>, key: &[u8], value: &[u8]) {
@@ -62,6 +70,61 @@ fn recover_first(alloc: Global, slot: &mut Slot) -> Option<Result<Recovered, Fau
     logs.push(source).ok()?;
     let parts = Vec::new(alloc);
     Some(recover_one(alloc, Inputs { logs, parts }))
+}
+
+/// The texts as sources, so many logs and then parts. None where memory for them is refused.
+fn inputs_of<'a>(
+    alloc: Global,
+    texts: &[&'a [u8]],
+    log_count: usize,
+    rack: &'a mut Rack,
+) -> Option<Inputs<MemSource<'a>>> {
+    let mut logs = Vec::new(alloc);
+    let mut parts = Vec::new(alloc);
+    for (bytes, slot) in texts.iter().zip(rack.slots()) {
+        let source = MemSource::new(bytes, slot)?;
+        if logs.len() < log_count {
+            logs.push(source).ok()?;
+        } else {
+            parts.push(source).ok()?;
+        }
+    }
+    Some(Inputs { logs, parts })
+}
+
+/// What recovery of these texts by two workers in two pieces answers, unless memory for the sources is refused.
+fn recover_by_two<R: AllocGlobal + Threads + Sync>(
+    rt: &R,
+    texts: &[&[u8]],
+    log_count: usize,
+    rack: &mut Rack,
+) -> Option<Result<Recovered, Fault>> {
+    let inputs = inputs_of(rt.alloc(), texts, log_count, rack)?;
+    let cutting = Cutting::Even(Pieces::new(2)?);
+    let workers = Workers::new(2)?;
+    Some(recover(rt, rt.alloc(), inputs, workers, cutting, &NoGate))
+}
+
+#[test]
+fn a_refused_growth_of_recovery_by_two_workers_is_memory(rt: HostRuntime) {
+    let Ok(mut rack) = Rack::new(rt.alloc(), 2, 16) else {
+        return;
+    };
+    if let Some(answer) = recover_by_two(&rt, &LOGS, 2, &mut rack) {
+        assert_value(&rt, answer, b"b", b"y");
+    }
+    assert!(rt; rack.all_full());
+}
+
+#[test]
+fn a_refused_growth_of_recovery_by_two_workers_over_a_checkpoint_is_memory(rt: HostRuntime) {
+    let Ok(mut rack) = Rack::new(rt.alloc(), 2, 16) else {
+        return;
+    };
+    if let Some(answer) = recover_by_two(&rt, &[LATER_LOG, PART], 1, &mut rack) {
+        assert_value(&rt, answer, b"a", b"n");
+    }
+    assert!(rt; rack.all_full());
 }
 
 #[test]
