@@ -193,7 +193,8 @@ impl Case {
                 recover_by(rt, inputs, workers, cutting)
             }
             Way::At { workers, line } => {
-                let cuts = cuts_at(rt.alloc(), &self.cuts[line])?;
+                let keys = self.cuts.get(line).ok_or(Mistake::Line)?;
+                let cuts = cuts_at(rt.alloc(), keys)?;
                 recover_by(rt, inputs, workers, Cutting::At(cuts))
             }
         }
