@@ -72,7 +72,7 @@ impl Case {
         match words {
             ["log" | "part", ..] => Ok(self.drafts.push(begin_draft(alloc, names, words)?)?),
             ["buffers", size] => self.use_buffers(small_of::<usize>(size)?),
-            ["cuts", keys @ ..] => Ok(self.cuts.push(keys_of(alloc, keys)?)?),
+            ["cuts", keys @ ..] => self.cut_at(alloc, keys),
             ["choice", ..] => {
                 self.has_choice = true;
                 push_line(words, &mut self.expected)
@@ -90,6 +90,14 @@ impl Case {
         }
         self.size = Some(size);
         Ok(())
+    }
+
+    /// Has the case tried with its keys cut at these too.
+    fn cut_at(&mut self, alloc: Global, words: &[&str]) -> Result<(), Mistake> {
+        let keys = keys_of(alloc, words)?;
+        // Whether they are cuts shows here, where the line is known.
+        cuts_at(alloc, &keys)?;
+        Ok(self.cuts.push(keys)?)
     }
 
     /// Takes in a line of the last log or part.
