@@ -128,7 +128,11 @@ impl Cuts {
     ) -> Result<Cuts, Memory>
         ensures { IfOk result (IsEven (together lists.now) pieces) }
     {
-        let keys = distinct_keys(rt, alloc, lists)?;
+        // One piece has no cut, whatever the keys are.
+        if pieces.count == 1 {
+            return Ok(Cuts::none(alloc));
+        }
+        let keys = distinct_keys(alloc, lists)?;
         Cuts::even_of(alloc, &keys, pieces)
     }
 
