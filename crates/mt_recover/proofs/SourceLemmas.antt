@@ -3,7 +3,8 @@ use Rattle.std.proofs.Common.{◌≡◌, ◌∙◌, ℕ, zero, suc, ◌<◌, Boo
 use Rattle.std.proofs.lemmas.List.{length-append, nil_from_length, map-append, take_at}
 use Rattle.std.proofs.lemmas.Slice.Zip.{all_zipped_more, AllZip-long}
 use Rattle.std.proofs.lemmas.Bool.Decides.{nat_tests}
-use Rattle.std.specs.Prelude.{◌==◌, slice_get}
+use Rattle.std.proofs.lemmas.Result.{IfOk-weaker, IfErr-weaker}
+use Rattle.std.specs.Prelude.{◌==◌, slice_get, Result, IfOk, IfErr}
 use Rattle.mt_words.specs.declared.fault.Fault.{Fault}
 use Rattle.mt_words.specs.declared.fault.Fault.TheVariants as faults
 use Rattle.mt_record.specs.Logs.{LogReading, IsReading}
@@ -11,12 +12,12 @@ use Rattle.mt_scan.specs.declared.log_scan.LogScan.{LogScan}
 use Rattle.mt_scan.specs.declared.part_scan.PartScan.{PartScan}
 use Rattle.mt_scan.specs.Sources.{Seen, Agrees}
 use Rattle.mt_scan.specs.Scans.{IsScanFault, failures_of}
-use Rattle.mt_scan.specs.PartScans.{IsKnown, known_by, IsPartScanFault}
+use Rattle.mt_scan.specs.PartScans.{KnownPart, IsKnown, known_by, IsPartScanFault}
 use Rattle.mt_scan.proofs.Telling.{some_bytes}
-use Rattle.mt_recover.specs.Recovery.{AreReadings, AreKnown}
+use Rattle.mt_recover.specs.Recovery.{AreReadings, AreKnown, IsStoreOf, Outcome}
 use Rattle.mt_recover.specs.Verdict.{IsVerdictOrMemory}
 use Rattle.mt_recover.specs.LogScans.{ShowAll, AreScansOf}
-use Rattle.mt_recover.specs.Inputs.{MayHave, AreLogs, IsAnsweredFrom, BlamesUnsteady}
+use Rattle.mt_recover.specs.Inputs.{MayHave, OfSources, AreLogs, IsAnsweredFrom, BlamesUnsteady}
 
 -- ---- what sources may have
 
@@ -153,3 +154,35 @@ pub blames_none : {S : Type 0} (seen : S → Seen) (log_sources part_sources : L
 blames_none seen ls ps logs parts (faults.Source log) is = absurd is
 blames_none seen ls ps logs parts (faults.PartSource part) is = absurd is
 blames_none seen ls ps logs parts fault is = tt
+
+-- ---- recovery from what sources have
+
+-- the sources may have logs of which these are the scans
+abbrev pub HaveScans : {S : Type 0} → (S → Seen) → List S → List LogScan → Type 0
+HaveScans seen sources scans = (logs : List (List ℕ)) × MayHave seen sources logs × AreScansOf logs scans
+
+-- and parts of which this is known
+abbrev pub HaveKnown : {S : Type 0} → (S → Seen) → List S → List KnownPart → Type 0
+HaveKnown seen sources known = (parts : List (List ℕ)) × MayHave seen sources parts × AreKnown parts known
+
+-- what is said of all logs and parts that have these scans
+abbrev pub OfScans : List LogScan → List KnownPart → (List (List ℕ) → List (List ℕ) → Type 0) → Type 0
+OfScans scans known P = (logs parts : List (List ℕ)) → AreScansOf logs scans → AreKnown parts known → P logs parts
+
+-- the store of scans is that of their sources
+pub store_of_sources : {S : Type 0} (seen : S → Seen) (logs parts : List S) (scans : List LogScan) (known : List KnownPart) (result : Result Outcome Fault) → HaveScans seen logs scans → HaveKnown seen parts known
+    → OfScans scans known (λ ls ps. IfOk result (λ recovered. IsStoreOf ls ps recovered.store)) → IfOk result (λ recovered. OfSources seen logs parts (λ ls ps. IsStoreOf ls ps recovered.store))
+store_of_sources seen logs parts scans known result have knows says =
+    IfOk-weaker result _ (λ recovered. OfSources seen logs parts (λ ls ps. IsStoreOf ls ps recovered.store)) (λ recovered is. (have.0, knows.0, have.1, knows.1, is)) (says have.0 knows.0 have.2 knows.2)
+
+-- so is their fault
+pub fault_of_sources : {S : Type 0} (seen : S → Seen) (logs parts : List S) (scans : List LogScan) (known : List KnownPart) (result : Result Outcome Fault) → HaveScans seen logs scans → HaveKnown seen parts known
+    → OfScans scans known (λ ls ps. IfErr result (IsVerdictOrMemory ls ps)) → IfErr result (λ fault. OfSources seen logs parts (λ ls ps. IsAnsweredFrom ls ps fault))
+fault_of_sources seen logs parts scans known result have knows says =
+    IfErr-weaker result _ (λ fault. OfSources seen logs parts (λ ls ps. IsAnsweredFrom ls ps fault)) (λ fault is. (have.0, knows.0, have.1, knows.1, answered_from have.0 knows.0 fault is)) (says have.0 knows.0 have.2 knows.2)
+
+-- which blames no source
+pub none_blamed : {S : Type 0} (seen : S → Seen) (logs parts : List S) (scans : List LogScan) (known : List KnownPart) (result : Result Outcome Fault) → HaveScans seen logs scans → HaveKnown seen parts known
+    → OfScans scans known (λ ls ps. IfErr result (IsVerdictOrMemory ls ps)) → IfErr result (BlamesUnsteady seen logs parts)
+none_blamed seen logs parts scans known result have knows says =
+    IfErr-weaker result _ (BlamesUnsteady seen logs parts) (λ fault is. blames_none seen logs parts have.0 knows.0 fault is) (says have.0 knows.0 have.2 knows.2)

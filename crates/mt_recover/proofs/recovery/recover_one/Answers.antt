@@ -1,8 +1,7 @@
-use Rattle.std.proofs.Common.{[], ◌<◌, length, refl, arith}
-use Rattle.std.proofs.lemmas.Result.{IfOk-weaker, IfErr-weaker, err_from_is_err_and}
-use Rattle.mt_recover.specs.Recovery.{IsStoreOf}
-use Rattle.mt_recover.specs.Inputs.{OfSources, IsAnsweredFrom, BlamesUnsteady}
-use Rattle.mt_recover.proofs.SourceLemmas.{some_logs, no_sources, some_sources, none_to_have, as_many_have, part_fault, answered_from, blames_none}
+use Rattle.std.proofs.Common.{[], ◌<◌, length, map, refl, arith}
+use Rattle.std.proofs.lemmas.Result.{err_from_is_err_and}
+use Rattle.mt_scan.specs.PartScans.{known_by}
+use Rattle.mt_recover.proofs.SourceLemmas.{some_logs, no_sources, some_sources, none_to_have, as_many_have, part_fault, store_of_sources, fault_of_sources, none_blamed}
 use Rattle.mt_recover.proofs.recovery.recover_one.Goals as goal
 
 pub returns-then-is_empty-clause-fault : goal.returns-then-is_empty-clause-fault
@@ -42,25 +41,10 @@ returns-in_err-parts-clause-steady g c =
     rw (p.1, p.2) (c.in_err-parts.ensures.steady c.args.inputs.logs.items)
 
 pub returns-clause-store : goal.returns-clause-store
-returns-clause-store g c =
-    let seen = g.S.Source.seen in
-    let logs = c.in_ok-scans.ensures.scans in
-    let parts = c.in_ok-parts.ensures.scans in
-    IfOk-weaker c.recover_scans.result _ (λ recovered. OfSources seen c.args.inputs.logs.items c.args.inputs.parts.items (λ logs parts. IsStoreOf logs parts recovered.store))
-    (λ recovered is. (logs.0, parts.0, logs.1, parts.1, is)) (c.recover_scans.ensures.store logs.0 parts.0 logs.2 parts.2)
+returns-clause-store g c = store_of_sources g.S.Source.seen c.args.inputs.logs.items c.args.inputs.parts.items c.in_ok-scans.scans.items (map known_by c.in_ok-parts.parts.items) c.recover_scans.result c.in_ok-scans.ensures.scans c.in_ok-parts.ensures.scans c.recover_scans.ensures.store
 
 pub returns-clause-fault : goal.returns-clause-fault
-returns-clause-fault g c =
-    let seen = g.S.Source.seen in
-    let logs = c.in_ok-scans.ensures.scans in
-    let parts = c.in_ok-parts.ensures.scans in
-    IfErr-weaker c.recover_scans.result _ (λ fault. OfSources seen c.args.inputs.logs.items c.args.inputs.parts.items (λ logs parts. IsAnsweredFrom logs parts fault))
-    (λ fault is. (logs.0, parts.0, logs.1, parts.1, answered_from logs.0 parts.0 fault is)) (c.recover_scans.ensures.fault logs.0 parts.0 logs.2 parts.2)
+returns-clause-fault g c = fault_of_sources g.S.Source.seen c.args.inputs.logs.items c.args.inputs.parts.items c.in_ok-scans.scans.items (map known_by c.in_ok-parts.parts.items) c.recover_scans.result c.in_ok-scans.ensures.scans c.in_ok-parts.ensures.scans c.recover_scans.ensures.fault
 
 pub returns-clause-steady : goal.returns-clause-steady
-returns-clause-steady g c =
-    let seen = g.S.Source.seen in
-    let logs = c.in_ok-scans.ensures.scans in
-    let parts = c.in_ok-parts.ensures.scans in
-    IfErr-weaker c.recover_scans.result _ (BlamesUnsteady seen c.args.inputs.logs.items c.args.inputs.parts.items)
-    (λ fault is. blames_none seen c.args.inputs.logs.items c.args.inputs.parts.items logs.0 parts.0 fault is) (c.recover_scans.ensures.fault logs.0 parts.0 logs.2 parts.2)
+returns-clause-steady g c = none_blamed g.S.Source.seen c.args.inputs.logs.items c.args.inputs.parts.items c.in_ok-scans.scans.items (map known_by c.in_ok-parts.parts.items) c.recover_scans.result c.in_ok-scans.ensures.scans c.in_ok-parts.ensures.scans c.recover_scans.ensures.fault
