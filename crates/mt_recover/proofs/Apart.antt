@@ -8,7 +8,7 @@ use Rattle.mt_words.specs.declared.update.Stamp.{Stamp}
 use Rattle.mt_words.specs.declared.update.Update.{Update}
 use Rattle.mt_words.specs.Changes.{Logged}
 use Rattle.mt_words.specs.Updates.{update_at, update_by, update_of, updates_from}
-use Rattle.mt_scan.proofs.Elements.{no_element}
+use Rattle.mt_words.proofs.Elements.{no_element}
 use Rattle.mt_replay.specs.Survivors.{all_updates}
 
 -- ---- one record

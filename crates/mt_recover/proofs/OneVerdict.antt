@@ -19,7 +19,7 @@ use Rattle.mt_scan.specs.PartScans.{KnownPart, IsKnown}
 use Rattle.mt_scan.specs.Choice.{Checkpoint, IsChosenOf}
 use Rattle.mt_scan.proofs.OneChoice.{one_chosen}
 use Rattle.mt_scan.proofs.OneKnown.{one_known}
-use Rattle.mt_scan.proofs.Elements.{no_element}
+use Rattle.mt_words.proofs.Elements.{no_element}
 use Rattle.mt_recover.specs.Survivors.{begin_of, survivors}
 use Rattle.mt_replay.specs.Walk.{IsWalk}
 use Rattle.mt_recover.specs.Recovery.{AreReadings, Facts, IsGap, records_of, IsStoreOf}

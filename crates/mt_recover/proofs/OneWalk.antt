@@ -11,7 +11,7 @@ use Rattle.mt_words.specs.Words.{IsBelow, NumbersRise, AreColumns}
 use Rattle.mt_words.specs.Limits.{widest}
 use Rattle.mt_words.specs.Walks.{Pair, KeysRise, IsPair, IsMap, Holds}
 use Rattle.mt_words.specs.declared.update.Update.{Update}
-use Rattle.mt_scan.proofs.Elements.{no_element, head_or_tail, head_in}
+use Rattle.mt_words.proofs.Elements.{no_element, head_or_tail, head_in}
 use Rattle.mt_replay.specs.Walk.{IsWalk}
 
 -- ---- lists whose elements rise

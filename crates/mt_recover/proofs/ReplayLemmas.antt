@@ -12,7 +12,7 @@ use Rattle.mt_words.specs.Updates.{update_at}
 use Rattle.mt_scan.specs.PartScans.{KeptPart, shown_by_all}
 use Rattle.mt_scan.specs.Checkpoints.{entries_of}
 use Rattle.mt_scan.specs.declared.log_scan.LogScan.{LogScan}
-use Rattle.mt_scan.proofs.Elements.{no_element, head_or_tail}
+use Rattle.mt_words.proofs.Elements.{no_element, head_or_tail}
 use Rattle.mt_replay.specs.declared.window.Window.{Window}
 use Rattle.mt_replay.specs.Runs.{together}
 use Rattle.mt_replay.specs.Survivors.{in_window, wholes}

@@ -16,7 +16,7 @@ use Rattle.mt_record.specs.Logs.{LogReading}
 use Rattle.mt_record.specs.Parts.{PartReading}
 use Rattle.mt_scan.specs.PartScans.{KnownPart, whole, IsKnown}
 use Rattle.mt_scan.specs.Choice.{Checkpoint, EntriesRise, belongs_to, parts_of, IsValid, IsChosenOf}
-use Rattle.mt_scan.proofs.Elements.{no_element, head_or_tail, head_in}
+use Rattle.mt_words.proofs.Elements.{no_element, head_or_tail, head_in}
 use Rattle.mt_replay.specs.declared.window.Window.{Window}
 use Rattle.mt_replay.specs.Survivors.{in_window, log_updates, log_survivors, wholes}
 use Rattle.mt_recover.specs.Survivors.{entry_updates, begin_of, survivors}

@@ -2,7 +2,6 @@ pub mod Telling
 pub mod Shown
 pub mod Steps
 pub mod PartSteps
-pub mod Elements
 pub mod KeysInOrder
 pub mod LeastLast
 pub mod OneField
