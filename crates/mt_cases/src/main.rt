@@ -18,8 +18,8 @@ mod trying;
 mod words;
 
 use crate::telling::{Counts, Teller};
-use std::io::{self, BufWriter, Write};
 use std::fs::Files;
+use std::io::{self, BufWriter, Write};
 use std::process::ExitCode;
 use std::thread::Threads;
 use std::{env, fs};

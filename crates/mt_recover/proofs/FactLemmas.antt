@@ -189,7 +189,7 @@ store_of logs parts scans start moved pairs is same walk =
       facts = facts;
       no_gap = is.no_gap;
       walk = walk_of all moved pairs (subst (λ (us : List Update). IsPermutation us moved) (same_survivors logs parts scans start is) same)
-      (survivors_apart facts.known facts.cutoff facts.chosen (records_of facts.readings) facts.is_chosen) walk;
+          (survivors_apart facts.known facts.cutoff facts.chosen (records_of facts.readings) facts.is_chosen) walk;
     }
 
 -- the same, where scans and cells were lent on the way

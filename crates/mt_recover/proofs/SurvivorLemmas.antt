@@ -1,4 +1,4 @@
--- What survives of logs and of a chosen checkpoint: no two updates of a key have one stamp, 
+-- What survives of logs and of a chosen checkpoint: no two updates of a key have one stamp.
 use Rattle.std.proofs.Common.{◌≡◌, inl, inr, ℕ, List, [], ◌∷◌, ◌++◌, map, Option, Some, None, Contains, sym, ap, ◌∙◌, subst, append_assoc}
 use Rattle.std.specs.List.{AllByRecursion, flat_map}
 use Rattle.std.proofs.lemmas.List.{map-append}

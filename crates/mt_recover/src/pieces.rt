@@ -13,7 +13,10 @@ use std::alloc::Global;
 use std::thread::Threads;
 
 /// The walk of all updates, on one thread.
-pub(crate) fn replay_all(alloc: Global, lists: &[LogCells]) -> Result<Vec<(Key, Columns<Kept>)>, Memory>
+pub(crate) fn replay_all(
+    alloc: Global,
+    lists: &[LogCells],
+) -> Result<Vec<(Key, Columns<Kept>)>, Memory>
     ensures map { IfOk result (λ pairs. IsMap pairs.items) }
     ensures walk { IfOk result (λ pairs. AreApart (together lists.now) → IsWalk (together lists.now) pairs.items) }
 {

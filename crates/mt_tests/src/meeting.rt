@@ -3,9 +3,7 @@ ghost use Rattle.mt_scan.specs.Kinds.{seen_of_memory};
 
 use crate::asserting::{assert_bytes, assert_same};
 use crate::logs::{LOG_A, bytes_of, key_of};
-use mt_recover::{
-    Cuts, Cutting, Gate, Inputs, NoGate, Pieces, Workers, recover, write_dump,
-};
+use mt_recover::{Cuts, Cutting, Gate, Inputs, NoGate, Pieces, Workers, recover, write_dump};
 use mt_scan::{MemSource, Rack, Slot, Source, SourceFault};
 use std::process::Abort;
 use std::sync::atomic::{AtomicU64, Ordering};

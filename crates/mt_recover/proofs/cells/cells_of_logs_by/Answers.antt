@@ -15,5 +15,5 @@ returns g c =
     let scans : List LogScan = c.args.scans.items in
     IfOk-weaker c.all_done.result _ (λ lists. IsPermutation (kept_in window scans) (together lists.items))
     (λ lists is. cells_of_all window scans lists.items
-        (all_answered (λ (scan : LogScan) (cells : List Update). IsPermutation (filter (in_window window) (kept_by scan)) cells) c.args.workers scans c.in_ok-answers.answers.items lists.items c.in_ok-answers.ensures is))
+    (all_answered (λ (scan : LogScan) (cells : List Update). IsPermutation (filter (in_window window) (kept_by scan)) cells) c.args.workers scans c.in_ok-answers.answers.items lists.items c.in_ok-answers.ensures is))
     c.all_done.ensures

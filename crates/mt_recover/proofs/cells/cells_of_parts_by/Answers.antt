@@ -14,5 +14,5 @@ returns g c =
     rw c.in-Some.is
     (IfOk-weaker c.all_done.result _ (λ lists. IsPermutation (wholes (entries_of (shown_by_all parts))) (together lists.items))
     (λ lists is. cells_of_all_parts parts lists.items
-        (all_answered (λ (part : KeptPart) (cells : List Update). IsPermutation (wholes part.entries) cells) c.args.workers parts c.in_ok-answers.answers.items lists.items c.in_ok-answers.ensures is))
+    (all_answered (λ (part : KeptPart) (cells : List Update). IsPermutation (wholes part.entries) cells) c.args.workers parts c.in_ok-answers.answers.items lists.items c.in_ok-answers.ensures is))
     c.all_done.ensures)

@@ -19,6 +19,6 @@ returns g c =
 
 pub invariant_of-merged : goal.invariant_of-merged
 invariant_of-merged g c = (
-    omega arith,
-    c.keep_each.ensures.free (λ number slot above is. c.merged.invariant.1 number slot (omega (arith, above, c.merged.invariant.0)) is),
+  omega arith,
+  c.keep_each.ensures.free (λ number slot above is. c.merged.invariant.1 number slot (omega (arith, above, c.merged.invariant.0)) is),
 )
