@@ -1,27 +1,19 @@
 -- What survives of logs and of a chosen checkpoint: no two updates of a key have one stamp.
-use Rattle.std.proofs.Common.{◌≡◌, inl, inr, ℕ, List, [], ◌∷◌, ◌++◌, map, Option, Some, None, Contains, sym, ap, ◌∙◌, subst, append_assoc}
-use Rattle.std.specs.List.{AllByRecursion, flat_map}
-use Rattle.std.proofs.lemmas.List.{map-append}
+use Rattle.std.proofs.Common.{◌≡◌, inl, inr, ℕ, List, [], ◌∷◌, Option, Some, None, Contains, sym, ap, ◌∙◌}
 use Rattle.std.proofs.lemmas.List.Elements.{Contains-append_right, Contains-append_cases}
-use Rattle.std.proofs.lemmas.List.Sorted.{Contains-permutation, IsPermutation-sym}
 use Rattle.mt_words.specs.declared.record.Change.{Change}
 use Rattle.mt_words.specs.declared.update.Origin.TheVariants as origins
 use Rattle.mt_words.specs.declared.update.Update.{Update}
-use Rattle.mt_words.proofs.Formats.{entries_within}
-use Rattle.mt_words.specs.Limits.{widest}
 use Rattle.mt_words.specs.Words.{IsBelow}
-use Rattle.mt_words.specs.Changes.{Logged, AllowsKind, IsEntry}
+use Rattle.mt_words.specs.Changes.{Logged}
 use Rattle.mt_words.specs.Updates.{update_at}
-use Rattle.mt_record.specs.Logs.{LogReading}
-use Rattle.mt_record.specs.Parts.{PartReading}
-use Rattle.mt_scan.specs.PartScans.{KnownPart, whole, IsKnown}
-use Rattle.mt_scan.specs.Choice.{Checkpoint, EntriesRise, belongs_to, parts_of, IsValid, IsChosenOf}
+use Rattle.mt_scan.specs.PartScans.{KnownPart}
+use Rattle.mt_scan.specs.Choice.{Checkpoint, EntriesRise, IsChosenOf}
 use Rattle.mt_words.proofs.Elements.{no_element, head_or_tail, head_in}
 use Rattle.mt_replay.specs.declared.window.Window.{Window}
 use Rattle.mt_replay.specs.Survivors.{in_window, log_updates, log_survivors, wholes}
 use Rattle.mt_recover.specs.Survivors.{entry_updates, begin_of, survivors}
-use Rattle.mt_recover.specs.Recovery.{AreReadings, AreKnown, records_of}
-use Rattle.mt_replay.specs.Walk.{AreApart, AreLawful}
+use Rattle.mt_replay.specs.Walk.{AreApart}
 use Rattle.mt_recover.proofs.Apart.{of_logs, logs_apart}
 use Rattle.mt_recover.proofs.ReplayLemmas.{was_there}
 use Rattle.mt_recover.proofs.OneWalk.{of_each, not_below_itself}

@@ -4,7 +4,6 @@ use Rattle.std.specs.Option.{option_map}
 use Rattle.mt_words.specs.declared.update.Update.{Update}
 use Rattle.mt_scan.specs.declared.log_scan.LogScan.{LogScan}
 use Rattle.mt_scan.specs.Choice.{checkpoint_in}
-use Rattle.mt_replay.specs.declared.window.Window.{Window}
 use Rattle.mt_recover.specs.declared.start.Start.{Start}
 use Rattle.mt_recover.specs.Survivors.{begin_of, entry_updates}
 use Rattle.mt_recover.specs.Recovery.{Facts, IsGap}

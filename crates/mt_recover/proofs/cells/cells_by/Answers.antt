@@ -1,4 +1,4 @@
-use Rattle.std.proofs.Common.{◌≡◌, ◌∙◌, ◌++◌, List, IsPermutation, sym, ap, subst}
+use Rattle.std.proofs.Common.{List, IsPermutation, sym, subst}
 use Rattle.std.proofs.lemmas.List.Sorted.{IsPermutation-append}
 use Rattle.std.specs.Option.{option_map}
 use Rattle.mt_words.specs.declared.update.Update.{Update}
