@@ -9,36 +9,39 @@ ghost use Rattle.mt_replay.specs.Cuts.{InKeyOrder};
 use crate::Window;
 use crate::bodies::Bodies;
 use mt_record::{KeptEntries, Lent, Updates};
-use mt_words::{Memory, slice_of};
+use mt_words::{Memory, continuation_of, goes_on, slice_of};
 use std::alloc::Global;
 use std::cmp::Ordering;
 use std::marker::Model;
 
-/// An update with the slice of its key. Most comparisons of keys are of slices alone, and so read no body.
+/// An update with the slice of its key, and the continuation. To compare keys of at most 15 bytes no body is read.
 #[derive(Drop)]
 pub(crate) struct Sliced<'a> {
     slice: u64,
+    continuation: u64,
     update: Lent<'a>,
 }
 
 impl<'a> Model for Sliced<'a> {
     ghost use Rattle.mt_words.specs.declared.update.Update.{Update};
-    ghost use Rattle.mt_replay.specs.Sliced.{IsSlice};
+    ghost use Rattle.mt_replay.specs.Sliced.{IsSliced};
 
     ghost Value = { Update };
 
     ghost view = { λ s. s.update };
 
-    ghost invariant = { λ s. IsSlice s.slice s.update.key };
+    ghost invariant = { λ s. IsSliced s.slice s.continuation s.update.key };
 }
 
 impl<'a> Sliced<'a> {
-    /// The update with its slice.
+    /// The update, with what its key gives.
     fn of(update: Lent<'a>) -> Sliced<'a>
         ensures { result ≡ update.entry }
     {
+        let key = update.key();
         Sliced {
-            slice: slice_of(update.key()),
+            slice: slice_of(key),
+            continuation: continuation_of(key),
             update,
         }
     }
@@ -56,6 +59,12 @@ impl<'a> Sliced<'a> {
     {
         if self.slice != other.slice {
             return self.slice.cmp(&other.slice);
+        }
+        if self.continuation != other.continuation {
+            return self.continuation.cmp(&other.continuation);
+        }
+        if !goes_on(self.continuation) {
+            return Ordering::Equal;
         }
         self.update.key().cmp(other.update.key())
     }
