@@ -134,6 +134,10 @@ slice_is_front : (key : List ℕ) → slice_in key ≡ front 8 key
 unfolding slice_in
 slice_is_front key = big_is_front 8 0 key
 
+pub slice_of_none : slice_in [] ≡ 0
+unfolding slice_in
+slice_of_none = omega arith
+
 -- slices that differ decide
 pub by_slices : (x y : List ℕ) → AreBytes x → AreBytes y → slice_in x ≢ slice_in y → slice_cmp nat_cmp x y ≡ nat_cmp (slice_in x) (slice_in y)
 by_slices x y p q apart =
