@@ -1,9 +1,10 @@
--- Updates, each with the slice of its key.
-use Rattle.std.specs.Prelude.{◌≡◌, ℕ, List}
-use Rattle.mt_words.specs.Slices.{AreBytes, slice_in, continuation_in}
+-- Updates, each with the first two slices of its key.
+use Rattle.std.specs.Prelude.{◌≡◌, ℕ, List, length, drop}
+use Rattle.mt_words.specs.Slices.{AreBytes, slice_in}
 
--- the numbers are the slice and the continuation of the key
-pub record IsSliced (slice continuation : ℕ) (key : List ℕ) : Type 0 where
+-- the numbers are the first two slices of the key, and how many bytes it has
+pub record IsSliced (slice second size : ℕ) (key : List ℕ) : Type 0 where
   pub slice_is : slice ≡ slice_in key
-  pub continuation_is : continuation ≡ continuation_in key
+  pub second_is : second ≡ slice_in (drop 8 key)
+  pub length_is : size ≡ length key
   pub bytes : AreBytes key

@@ -1,5 +1,5 @@
 -- Slices of keys.
-use Rattle.std.specs.Prelude.{ℕ, ◌+◌, ◌*◌, ◌/◌, ◌<◌, min, List, length, drop}
+use Rattle.std.specs.Prelude.{ℕ, ◌<◌, List}
 use Rattle.std.specs.List.{AllByRecursion}
 use Rattle.byteorder.specs.Endian.{big_number}
 
@@ -10,7 +10,3 @@ AreBytes bytes = AllByRecursion (λ byte. byte < 256) bytes
 -- the first eight bytes of a key as a number, the highest first; zeros stand for those that it lacks
 unfoldable pub slice_in : List ℕ → ℕ
 slice_in key = big_number 8 key
-
--- the seven bytes behind the slice, and in the lowest byte the length of the key; 16 stands for all that are more than 15
-unfoldable pub continuation_in : List ℕ → ℕ
-continuation_in key = slice_in (drop 8 key) / 256 * 256 + min (length key) 16

@@ -11,7 +11,7 @@ ghost use Rattle.mt_words.specs.Words.{IsKey};
 
 use crate::fault::Memory;
 use crate::limits::LONGEST_KEY;
-use crate::slice::slice_of;
+use crate::slice::slice_at;
 use std::cmp::Ordering;
 use std::marker::Model;
 
@@ -65,10 +65,7 @@ impl Key {
     pub fn slice(&self, at: usize) -> u64
         ensures { result ≡ slice_in (drop at self.now) }
     {
-        if self.bytes.len() <= at {
-            return 0;
-        }
-        slice_of(&self.bytes[at..])
+        slice_at(&self.bytes, at)
     }
 
     /// An equal key. Refuses only where memory was refused.

@@ -1,6 +1,6 @@
 //! Slices of keys.
-ghost use Rattle.std.specs.Prelude.{◌≡◌, ◌%◌, not, nat_lt, slice_index};
-ghost use Rattle.mt_words.specs.Slices.{AreBytes, slice_in, continuation_in};
+ghost use Rattle.std.specs.Prelude.{◌≡◌, drop, slice_index};
+ghost use Rattle.mt_words.specs.Slices.{AreBytes, slice_in};
 
 use byteorder::{BigEndian, ByteOrder};
 
@@ -16,24 +16,14 @@ pub fn slice_of(key: &[u8]) -> u64
     BigEndian::read_u64(key)
 }
 
-/// The continuation of a key: the seven bytes behind its slice, and in the lowest byte its length, where 16 stands for
-/// all that are more than 15. Keys of one slice whose continuations differ are ordered as these, and keys of one slice
-/// and one continuation are equal, unless they go on.
-pub fn continuation_of(key: &[u8]) -> u64
-    ensures { result ≡ continuation_in key.now }
+/// The slice of what a key has from this place on.
+pub fn slice_at(key: &[u8], at: usize) -> u64
+    ensures { result ≡ slice_in (drop at key.now) }
 {
-    let length = key.len().min(16) as u64;
-    if key.len() <= 8 {
-        return length;
+    if key.len() <= at {
+        return 0;
     }
-    slice_of(&key[8..]) / 256 * 256 + length
-}
-
-/// Whether keys of this continuation may go on behind it.
-pub fn goes_on(continuation: u64) -> bool
-    ensures { result ≡ not (nat_lt (continuation % 256) 16) }
-{
-    continuation % 256 >= 16
+    slice_of(&key[at..])
 }
 
 /// The slice of a key that may have fewer bytes.

@@ -1,8 +1,7 @@
-use Rattle.std.proofs.Common.{◌%◌, ◌<◌, sym, nat_lt, ◌∙◌, arith}
+use Rattle.std.proofs.Common.{◌≤◌, length, sym, ◌∙◌, arith}
 use Rattle.std.specs.Ordering.{nat_cmp}
 use Rattle.std.specs.Cmp.Lexicographic.{slice_cmp}
-use Rattle.std.proofs.lemmas.Bool.{ltb-true, not-false}
-use Rattle.mt_words.proofs.SliceLemmas.{by_slices, by_continuations, equal_where_short}
+use Rattle.mt_words.proofs.SliceLemmas.{by_slices, by_second, by_length}
 use Rattle.mt_replay.proofs.sliced.Sliced.compare.Goals as goal
 
 pub returns-then-self-other : goal.returns-then-self-other
@@ -20,16 +19,19 @@ returns-then-self-other-2 c =
     let b = c.other.invariant in
     let slices = sym a.slice_is ∙ c.if-self-other.false ∙ b.slice_is in
     c.cmp-then-self-other-2.ensures
-    ∙ (λ i. nat_cmp (a.continuation_is i) (b.continuation_is i))
-    ∙ sym (by_continuations c.self.inside.update.key c.other.inside.update.key a.bytes b.bytes slices (λ e. c.if-self-other-2.true (a.continuation_is ∙ e ∙ sym b.continuation_is)))
+    ∙ (λ i. nat_cmp (a.second_is i) (b.second_is i))
+    ∙ sym (by_second c.self.inside.update.key c.other.inside.update.key a.bytes b.bytes slices (λ e. c.if-self-other-2.true (a.second_is ∙ e ∙ sym b.second_is)))
     ∙ (λ i. slice_cmp nat_cmp (c.self.view_is i).key (c.other.view_is i).key)
 
-pub returns-then-not-goes_on : goal.returns-then-not-goes_on
-returns-then-not-goes_on c =
+pub returns-then-other-le-TWO_SLICES : goal.returns-then-other-le-TWO_SLICES
+returns-then-other-le-TWO_SLICES c =
     let a = c.self.invariant in
     let b = c.other.invariant in
     let slices = sym a.slice_is ∙ c.if-self-other.false ∙ b.slice_is in
-    let continuations = sym a.continuation_is ∙ c.if-self-other-2.false ∙ b.continuation_is in
-    let ends : c.self.inside.continuation % 256 < 16 = ltb-true (c.self.inside.continuation % 256) 16 (not-false (nat_lt (c.self.inside.continuation % 256) 16) (sym c.goes_on.ensures ∙ c.if-not-goes_on.true)) in
-    sym (equal_where_short c.self.inside.update.key c.other.inside.update.key a.bytes b.bytes slices continuations (omega (arith, a.continuation_is, ends)))
+    let seconds = sym a.second_is ∙ c.if-self-other-2.false ∙ b.second_is in
+    let first_short : length c.self.inside.update.key ≤ 16 = omega (arith, a.length_is, c.if-self-le-TWO_SLICES.true) in
+    let other_short : length c.other.inside.update.key ≤ 16 = omega (arith, b.length_is, c.if-other-le-TWO_SLICES.true) in
+    c.cmp-then-other-le-TWO_SLICES.ensures
+    ∙ (λ i. nat_cmp (a.length_is i) (b.length_is i))
+    ∙ sym (by_length c.self.inside.update.key c.other.inside.update.key a.bytes b.bytes slices seconds first_short other_short)
     ∙ (λ i. slice_cmp nat_cmp (c.self.view_is i).key (c.other.view_is i).key)
