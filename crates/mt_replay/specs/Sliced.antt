@@ -1,8 +1,10 @@
--- Updates, each with the slice of its key.
-use Rattle.std.specs.Prelude.{◌≡◌, ℕ, List}
+-- Updates, each with the first two slices of its key.
+use Rattle.std.specs.Prelude.{◌≡◌, ℕ, List, length, drop}
 use Rattle.mt_words.specs.Slices.{AreBytes, slice_in}
 
--- the number is the slice of the key
-pub record IsSlice (slice : ℕ) (key : List ℕ) : Type 0 where
-  pub same : slice ≡ slice_in key
+-- the numbers are the first two slices of the key, and how many bytes it has
+pub record IsSliced (slice second size : ℕ) (key : List ℕ) : Type 0 where
+  pub slice_is : slice ≡ slice_in key
+  pub second_is : second ≡ slice_in (drop 8 key)
+  pub length_is : size ≡ length key
   pub bytes : AreBytes key

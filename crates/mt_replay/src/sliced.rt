@@ -1,4 +1,4 @@
-//! Updates that are lent from their bodies, each with the slice of its key: those that survive, and their order.
+//! Updates that are lent from their bodies, each with the slices of its key: those that survive, and their order.
 ghost use Rattle.std.specs.Prelude.{◌≡◌, ◌++◌, IfOk, OnOk, IsPermutation, filter};
 ghost use Rattle.std.specs.Ordering.{nat_cmp};
 ghost use Rattle.std.specs.Cmp.Lexicographic.{slice_cmp};
@@ -9,36 +9,45 @@ ghost use Rattle.mt_replay.specs.Cuts.{InKeyOrder};
 use crate::Window;
 use crate::bodies::Bodies;
 use mt_record::{KeptEntries, Lent, Updates};
-use mt_words::{Memory, slice_of};
+use mt_words::{Memory, slice_at, slice_of};
 use std::alloc::Global;
 use std::cmp::Ordering;
 use std::marker::Model;
 
-/// An update with the slice of its key. Most comparisons of keys are of slices alone, and so read no body.
+/// The bytes that two slices hold.
+const TWO_SLICES: usize = 16;
+
+/// An update with the first two slices of its key, and the length of the key. To compare keys of at most 16 bytes no
+/// body is read.
 #[derive(Drop)]
 pub(crate) struct Sliced<'a> {
     slice: u64,
+    second: u64,
+    length: usize,
     update: Lent<'a>,
 }
 
 impl<'a> Model for Sliced<'a> {
     ghost use Rattle.mt_words.specs.declared.update.Update.{Update};
-    ghost use Rattle.mt_replay.specs.Sliced.{IsSlice};
+    ghost use Rattle.mt_replay.specs.Sliced.{IsSliced};
 
     ghost Value = { Update };
 
     ghost view = { λ s. s.update };
 
-    ghost invariant = { λ s. IsSlice s.slice s.update.key };
+    ghost invariant = { λ s. IsSliced s.slice s.second s.length s.update.key };
 }
 
 impl<'a> Sliced<'a> {
-    /// The update with its slice.
+    /// The update, with what its key gives.
     fn of(update: Lent<'a>) -> Sliced<'a>
         ensures { result ≡ update.entry }
     {
+        let key = update.key();
         Sliced {
-            slice: slice_of(update.key()),
+            slice: slice_of(key),
+            second: slice_at(key, 8),
+            length: key.len(),
             update,
         }
     }
@@ -56,6 +65,12 @@ impl<'a> Sliced<'a> {
     {
         if self.slice != other.slice {
             return self.slice.cmp(&other.slice);
+        }
+        if self.second != other.second {
+            return self.second.cmp(&other.second);
+        }
+        if self.length <= TWO_SLICES && other.length <= TWO_SLICES {
+            return self.length.cmp(&other.length);
         }
         self.update.key().cmp(other.update.key())
     }

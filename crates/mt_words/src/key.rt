@@ -1,15 +1,17 @@
 //! Keys.
-ghost use Rattle.std.specs.Prelude.{◌≡◌, ◌↔◌, IsSome, IfSome, IfOk, nat_eq};
+ghost use Rattle.std.specs.Prelude.{◌≡◌, ◌↔◌, IsSome, IfSome, IfOk, drop, nat_eq};
 ghost use Rattle.std.specs.Ordering.{nat_cmp, as_partial_cmp};
 ghost use Rattle.std.specs.Cmp.{partial_equiv_from_equiv};
 ghost use Rattle.std.specs.Cmp.Lexicographic.{slice_cmp, pointwise, lists_ties, nat_list_cmp_total, nat_list_eq_equiv};
 ghost use Rattle.std.proofs.Common.{rules};
 ghost use Rattle.std.specs.Cmp.Rules.{comparing};
 ghost use Rattle.mt_words.specs.Limits.{widest};
+ghost use Rattle.mt_words.specs.Slices.{slice_in};
 ghost use Rattle.mt_words.specs.Words.{IsKey};
 
 use crate::fault::Memory;
 use crate::limits::LONGEST_KEY;
+use crate::slice::slice_at;
 use std::cmp::Ordering;
 use std::marker::Model;
 
@@ -57,6 +59,13 @@ impl Key {
         ensures lawful { IsKey widest self.now }
     {
         &self.bytes
+    }
+
+    /// The slice of what the key has from this place on.
+    pub fn slice(&self, at: usize) -> u64
+        ensures { result ≡ slice_in (drop at self.now) }
+    {
+        slice_at(&self.bytes, at)
     }
 
     /// An equal key. Refuses only where memory was refused.

@@ -1,5 +1,5 @@
 //! Slices of keys.
-ghost use Rattle.std.specs.Prelude.{◌≡◌, slice_index};
+ghost use Rattle.std.specs.Prelude.{◌≡◌, drop, slice_index};
 ghost use Rattle.mt_words.specs.Slices.{AreBytes, slice_in};
 
 use byteorder::{BigEndian, ByteOrder};
@@ -14,6 +14,16 @@ pub fn slice_of(key: &[u8]) -> u64
         return short_slice(key);
     }
     BigEndian::read_u64(key)
+}
+
+/// The slice of what a key has from this place on.
+pub fn slice_at(key: &[u8], at: usize) -> u64
+    ensures { result ≡ slice_in (drop at key.now) }
+{
+    if key.len() <= at {
+        return 0;
+    }
+    slice_of(&key[at..])
 }
 
 /// The slice of a key that may have fewer bytes.
