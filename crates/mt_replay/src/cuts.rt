@@ -9,6 +9,7 @@ ghost use Rattle.mt_replay.specs.Runs.{together};
 use crate::LogCells;
 use crate::copies::copy_key;
 use crate::distinct::distinct_keys;
+use crate::sample::sample;
 use mt_words::{Key, Memory};
 use std::alloc::Global;
 use std::marker::Model;
@@ -19,6 +20,9 @@ pub const MOST_CUTS: usize = 4095;
 
 /// The most pieces.
 const MOST_PIECES: u32 = 4096;
+
+/// The most pieces in which keys are looked for, each by a thread of its own.
+const ROUGH_PIECES: u32 = 16;
 
 /// Why keys are no cuts.
 #[derive(Clone, Copy, Debug, PartialEq, Eq)]
@@ -132,7 +136,22 @@ impl Cuts {
         if pieces.count == 1 {
             return Ok(Cuts::none(alloc));
         }
-        let keys = distinct_keys(alloc, lists)?;
+        let rough = Cuts::rough(rt, alloc, lists)?;
+        let keys = distinct_keys(rt, alloc, lists, &rough)?;
+        Cuts::even_of(alloc, &keys, pieces)
+    }
+
+    /// Cuts into pieces of very roughly as many updates, found among few of the keys. They only share out work: the keys
+    /// that are found are the same wherever they lie.
+    fn rough(
+        rt: &(impl Threads + Sync),
+        alloc: Global,
+        lists: &[LogCells],
+    ) -> Result<Cuts, Memory> {
+        let keys = sample(rt, alloc, lists)?;
+        let pieces = Pieces {
+            count: ROUGH_PIECES,
+        };
         Cuts::even_of(alloc, &keys, pieces)
     }
 
