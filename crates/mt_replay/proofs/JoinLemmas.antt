@@ -12,7 +12,8 @@ use Rattle.mt_words.specs.Words.{IsBelow}
 use Rattle.mt_replay.specs.Cuts.{is_below, is_after, is_before, in_piece, updates_in, AreRising, AreDistinctKeys, AreDistinctWhere}
 use Rattle.mt_replay.specs.Runs.{together, keys_in}
 use Rattle.mt_replay.proofs.KeyOrder.{below_by, below_trans}
-use Rattle.mt_replay.proofs.Members.{no_element, all_from, of_map, in_map, of_flat_map, in_flat_map, of_filter, in_filter}
+use Rattle.mt_words.proofs.Elements.{no_element}
+use Rattle.mt_replay.proofs.Members.{all_from, of_map, in_map, of_flat_map, in_flat_map, of_filter, in_filter}
 
 -- ---- a piece
 

@@ -4,7 +4,7 @@ use Rattle.std.proofs.lemmas.List.{map_more}
 use Rattle.std.proofs.lemmas.List.Elements.{All-push}
 use Rattle.mt_words.specs.declared.update.Update.{Update}
 use Rattle.mt_replay.specs.Cuts.{InKeyOrder, updates_in}
-use Rattle.mt_replay.proofs.distinct.parts_of.Goals as goal
+use Rattle.mt_replay.proofs.parts.runs_of.Goals as goal
 
 pub loop-cells-preserved : goal.loop-cells-preserved
 loop-cells-preserved c =
