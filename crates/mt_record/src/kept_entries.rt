@@ -37,7 +37,7 @@ impl Model for KeptEntries {
 
 impl KeptEntries {
     /// No entry.
-    pub fn new(alloc: Global) -> KeptEntries
+    pub(crate) fn new(alloc: Global) -> KeptEntries
         ensures { result ≡ [] }
     {
         KeptEntries {

@@ -37,7 +37,7 @@ impl Model for KeptRecords {
 
 impl KeptRecords {
     /// No record.
-    pub fn new(alloc: Global) -> KeptRecords
+    pub(crate) fn new(alloc: Global) -> KeptRecords
         ensures { result ≡ [] }
     {
         KeptRecords {
@@ -54,7 +54,7 @@ impl KeptRecords {
     }
 
     /// How many bytes their bodies have together.
-    pub fn size(&self) -> usize {
+    pub(crate) fn size(&self) -> usize {
         self.bodies.size()
     }
 
@@ -66,7 +66,7 @@ impl KeptRecords {
     }
 
     /// The body of the record of this number.
-    pub fn body(&self, number: usize) -> &[u8]
+    pub(crate) fn body(&self, number: usize) -> &[u8]
         requires { number < length self.now }
         ensures lawful { IsLawfulBody result.now }
         ensures body { IsBody result.now }

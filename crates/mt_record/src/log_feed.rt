@@ -8,6 +8,7 @@ ghost use Rattle.mt_record.specs.LogFeeding.{IsLogFed, ShowsNoFault, IsShown};
 
 use crate::feed::Feed;
 use crate::kept::Records;
+use crate::kept_records::KeptRecords;
 use crate::log_items::LogItems;
 use crate::read::{FeedFault, LogText};
 use mt_words::Record;
@@ -55,9 +56,19 @@ impl LogFeed {
     }
 }
 
+impl LogFeed<KeptRecords> {
+    /// A feed that was fed nothing, and keeps the bodies of records.
+    pub fn keeping(alloc: Global) -> LogFeed<KeptRecords>
+        ensures fed { IsLogFed result [] [] }
+        ensures sound { result.fault ≡ None }
+    {
+        LogFeed::filling(alloc, KeptRecords::new(alloc))
+    }
+}
+
 impl<R: Records> LogFeed<R> {
     /// A feed that was fed nothing, for records to be put into what is empty.
-    pub fn filling(alloc: Global, records: R) -> LogFeed<R>
+    fn filling(alloc: Global, records: R) -> LogFeed<R>
         requires { R.listed records ≡ [] }
         ensures fed { IsLogFed result [] [] }
         ensures sound { result.fault ≡ None }

@@ -7,6 +7,7 @@ ghost use Rattle.mt_record.specs.PartFeeding.{IsPartFed, ShowsNoPartFault, IsPar
 
 use crate::feed::Feed;
 use crate::kept::Entries;
+use crate::kept_entries::KeptEntries;
 use crate::part_items::PartItems;
 use crate::part_text::{PartFault, PartText};
 use mt_words::Entry;
@@ -40,9 +41,19 @@ impl PartFeed {
     }
 }
 
+impl PartFeed<KeptEntries> {
+    /// A feed that was fed nothing, and keeps the bodies of entries.
+    pub fn keeping(alloc: Global) -> PartFeed<KeptEntries>
+        ensures fed { IsPartFed result [] }
+        ensures sound { result.fault ≡ None }
+    {
+        PartFeed::filling(alloc, KeptEntries::new(alloc))
+    }
+}
+
 impl<E: Entries> PartFeed<E> {
     /// A feed that was fed nothing, for entries to be put into what is empty.
-    pub fn filling(alloc: Global, entries: E) -> PartFeed<E>
+    fn filling(alloc: Global, entries: E) -> PartFeed<E>
         requires { E.listed entries ≡ [] }
         ensures fed { IsPartFed result [] }
         ensures sound { result.fault ≡ None }

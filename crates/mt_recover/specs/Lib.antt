@@ -1,5 +1,6 @@
 pub mod Survivors
 pub mod Recovery
+pub mod Report
 pub mod Verdict
 pub mod Dump
 pub mod LogScans

@@ -41,7 +41,3 @@ pub record IsStoreOf (logs parts : List (List ℕ)) (pairs : List Pair) : Type 0
   pub facts : Facts logs parts
   pub no_gap : (i : ℕ) → IsGap (begin_of facts.chosen) facts.readings i → ⊥
   pub walk : IsWalk (survivors facts.cutoff facts.chosen (records_of facts.readings)) pairs
-
--- what recovery answers where it names no fault
-pub record Outcome : Type 0 where
-  pub store : List Pair

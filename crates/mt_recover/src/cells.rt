@@ -10,7 +10,6 @@ ghost use Rattle.mt_recover.specs.Survivors.{entry_updates};
 
 use crate::Workers;
 use crate::by_workers::{all_done, by_workers};
-use crate::start::Start;
 use mt_record::{KeptEntries, PartText};
 use mt_replay::{LogCells, Window};
 use mt_scan::{Checkpoint, LogScan};
@@ -19,11 +18,11 @@ use std::alloc::Global;
 use std::thread::Threads;
 
 /// The cells of each log, and of each part of the checkpoint: together what survives.
-pub fn cells_of(alloc: Global, scans: Vec<LogScan>, start: Start) -> Result<Vec<LogCells>, Memory>
-    ensures { IfOk result (λ lists. IsPermutation (surviving start scans.items) (together lists.items)) }
+pub fn cells_of(alloc: Global, scans: Vec<LogScan>, window: Window, chosen: Option<Checkpoint>) -> Result<Vec<LogCells>, Memory>
+    ensures { IfOk result (λ lists. IsPermutation (surviving window (option_map checkpoint_in chosen) scans.items) (together lists.items)) }
 {
-    let mut lists = cells_of_logs(alloc, scans, start.window)?;
-    let mut parts = cells_of_parts(alloc, start.chosen)?;
+    let mut lists = cells_of_logs(alloc, scans, window)?;
+    let mut parts = cells_of_parts(alloc, chosen)?;
     lists.append(&mut parts)?;
     Ok(lists)
 }
@@ -62,13 +61,14 @@ pub fn cells_by<R: Threads + Sync>(
     rt: &R,
     alloc: Global,
     scans: Vec<LogScan>,
-    start: Start,
+    window: Window,
+    chosen: Option<Checkpoint>,
     workers: Workers,
 ) -> Result<Vec<LogCells>, Memory>
-    ensures { IfOk result (λ lists. IsPermutation (surviving start scans.items) (together lists.items)) }
+    ensures { IfOk result (λ lists. IsPermutation (surviving window (option_map checkpoint_in chosen) scans.items) (together lists.items)) }
 {
-    let mut lists = cells_of_logs_by(rt, alloc, scans, start.window, workers)?;
-    let mut parts = cells_of_parts_by(rt, alloc, start.chosen, workers)?;
+    let mut lists = cells_of_logs_by(rt, alloc, scans, window, workers)?;
+    let mut parts = cells_of_parts_by(rt, alloc, chosen, workers)?;
     lists.append(&mut parts)?;
     Ok(lists)
 }

@@ -2,7 +2,8 @@
 ghost use Rattle.std.specs.Prelude.{List, ℕ, map, IfOk, IfErr};
 ghost use Rattle.mt_scan.specs.PartScans.{known_by};
 ghost use Rattle.mt_recover.specs.LogScans.{AreScansOf};
-ghost use Rattle.mt_recover.specs.Recovery.{AreKnown, IsStoreOf};
+ghost use Rattle.mt_recover.specs.Recovery.{AreKnown};
+ghost use Rattle.mt_recover.specs.Report.{IsRecoveredOf};
 ghost use Rattle.mt_recover.specs.Verdict.{IsVerdictOrMemory};
 ghost use Rattle.mt_recover.specs.Inputs.{OfSources, IsAnsweredFrom, BlamesUnsteady};
 
@@ -32,8 +33,8 @@ pub fn recover<R: Threads + Sync, S: Source + Send, G: Gate>(
     cutting: Cutting,
     gate: &G,
 ) -> Result<Recovered, Fault>
-    ensures store { IfOk result (λ recovered. OfSources S.seen inputs.logs.items inputs.parts.items
-        (λ logs parts. IsStoreOf logs parts recovered.store)) }
+    ensures recovered { IfOk result (λ recovered. OfSources S.seen inputs.logs.items inputs.parts.items
+        (λ logs parts. IsRecoveredOf logs parts recovered)) }
     ensures fault { IfErr result (λ fault. OfSources S.seen inputs.logs.items inputs.parts.items
         (λ logs parts. IsAnsweredFrom logs parts fault)) }
     ensures steady { IfErr result (BlamesUnsteady S.seen inputs.logs.items inputs.parts.items) }
@@ -55,16 +56,21 @@ fn recover_scans_by<R: Threads + Sync, G: Gate>(
     cutting: Cutting,
     gate: &G,
 ) -> Result<Recovered, Fault>
-    ensures store { (logs part_bytes : List (List ℕ)) → AreScansOf logs scans.items →
-        AreKnown part_bytes (map known_by parts.items) → IfOk result (λ recovered. IsStoreOf logs part_bytes recovered.store) }
+    ensures recovered { (logs part_bytes : List (List ℕ)) → AreScansOf logs scans.items →
+        AreKnown part_bytes (map known_by parts.items) → IfOk result (IsRecoveredOf logs part_bytes) }
     ensures fault { (logs part_bytes : List (List ℕ)) → AreScansOf logs scans.items →
         AreKnown part_bytes (map known_by parts.items) → IfErr result (IsVerdictOrMemory logs part_bytes) }
 {
-    let start = Start::of(alloc, &scans, parts)?;
-    let lists = cells_by(rt, alloc, scans, start, workers)?;
+    let Start {
+        window,
+        chosen,
+        report,
+    } = Start::of(alloc, &scans, parts)?;
+    let lists = cells_by(rt, alloc, scans, window, chosen, workers)?;
     let cuts = cuts_of(rt, alloc, &lists, cutting)?;
     let pairs = replay_pieces(rt, alloc, &lists, &cuts, workers, gate)?;
-    Ok(Recovered::of(Store::of(pairs)))
+    let report = report.ended(&lists, pairs.len());
+    Ok(Recovered::of(Store::of(pairs), report))
 }
 
 /// The cuts of the keys of these cells.

@@ -75,19 +75,14 @@ fn join_pieces(
 ) -> Result<Vec<(Key, Columns<Kept>)>, Memory>
     ensures { IfOk result (λ pairs. pairs.items ≡ joined (map (λ piece. piece.items) pieces.items)) }
 {
-    let mut pairs = Vec::with_capacity(alloc, pair_count(&pieces))?;
+    let count = pieces
+        .iter()
+        .map(|piece| piece.len())
+        .fold(0, usize::saturating_add);
+    let mut pairs = Vec::with_capacity(alloc, count)?;
     for piece in pieces {
         let mut piece = piece;
         pairs.append(&mut piece)?;
     }
     Ok(pairs)
-}
-
-/// How many pairs the pieces have.
-fn pair_count(pieces: &[Vec<(Key, Columns<Kept>)>]) -> usize {
-    let mut count = 0usize;
-    for piece in pieces {
-        count = count.saturating_add(piece.len());
-    }
-    count
 }

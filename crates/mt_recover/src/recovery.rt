@@ -2,13 +2,15 @@
 ghost use Rattle.std.specs.Prelude.{◌≡◌, [], List, ℕ, map, IfOk, IfErr};
 ghost use Rattle.mt_scan.specs.PartScans.{known_by};
 ghost use Rattle.mt_recover.specs.LogScans.{AreScansOf};
-ghost use Rattle.mt_recover.specs.Recovery.{AreKnown, IsStoreOf};
+ghost use Rattle.mt_recover.specs.Recovery.{AreKnown};
+ghost use Rattle.mt_recover.specs.Report.{IsRecoveredOf};
 ghost use Rattle.mt_recover.specs.Verdict.{IsVerdictOrMemory};
 ghost use Rattle.mt_recover.specs.Inputs.{OfSources, IsAnsweredFrom, BlamesUnsteady};
 
 use crate::cells::cells_of;
 use crate::pieces::replay_all;
 use crate::read_logs::read_logs;
+use crate::report::Report;
 use crate::scan_logs::scan_logs;
 use crate::scan_parts::scan_parts;
 use crate::start::Start;
@@ -32,22 +34,23 @@ pub struct Inputs<S> {
 #[derive(Debug, Drop)]
 pub struct Recovered {
     store: Store,
+    report: Report,
 }
 
 impl Model for Recovered {
-    ghost use Rattle.mt_recover.specs.Recovery.{Outcome};
+    ghost use Rattle.mt_recover.specs.Report.{Outcome};
 
     ghost Value = { Outcome };
 
-    ghost view = { λ r. record { store = r.store } };
+    ghost view = { λ r. record { store = r.store; report = r.report } };
 }
 
 impl Recovered {
-    /// What was recovered, where this is the store.
-    pub(crate) fn of(store: Store) -> Recovered
-        ensures { result.store ≡ store }
+    /// What was recovered, where this is the store and the report.
+    pub(crate) fn of(store: Store, report: Report) -> Recovered
+        ensures { result ≡ record { store = store; report = report } }
     {
-        Recovered { store }
+        Recovered { store, report }
     }
 
     /// The store.
@@ -55,6 +58,13 @@ impl Recovered {
         ensures { result.now ≡ self.now.store }
     {
         &self.store
+    }
+
+    /// The report.
+    pub fn report(&self) -> &Report
+        ensures { result.now ≡ self.now.report }
+    {
+        &self.report
     }
 }
 
@@ -68,8 +78,8 @@ impl Recovered {
 /// `Gap`; or `Memory` where a growth was refused. Of a source that does not tell its bytes no more is said than that it
 /// had some.
 pub fn recover_one<S: Source>(alloc: Global, inputs: Inputs<S>) -> Result<Recovered, Fault>
-    ensures store { IfOk result (λ recovered. OfSources S.seen inputs.logs.items inputs.parts.items
-        (λ logs parts. IsStoreOf logs parts recovered.store)) }
+    ensures recovered { IfOk result (λ recovered. OfSources S.seen inputs.logs.items inputs.parts.items
+        (λ logs parts. IsRecoveredOf logs parts recovered)) }
     ensures fault { IfErr result (λ fault. OfSources S.seen inputs.logs.items inputs.parts.items
         (λ logs parts. IsAnsweredFrom logs parts fault)) }
     ensures steady { IfErr result (BlamesUnsteady S.seen inputs.logs.items inputs.parts.items) }
@@ -86,7 +96,7 @@ pub fn recover_one<S: Source>(alloc: Global, inputs: Inputs<S>) -> Result<Recove
 /// The store of the logs whose bytes are these, without a checkpoint, on one thread. The position of a log in the
 /// list is its number. An Err is the one fault of the logs, or `Memory` where a growth was refused.
 pub fn recover_logs(alloc: Global, logs: &[&[u8]]) -> Result<Recovered, Fault>
-    ensures store { IfOk result (λ recovered. IsStoreOf (map (λ log. log.now) logs.now) [] recovered.store) }
+    ensures recovered { IfOk result (IsRecoveredOf (map (λ log. log.now) logs.now) []) }
     ensures fault { IfErr result (IsVerdictOrMemory (map (λ log. log.now) logs.now) []) }
 {
     let scans = read_logs(alloc, logs)?;
@@ -100,13 +110,18 @@ pub(crate) fn recover_scans(
     scans: Vec<LogScan>,
     parts: Vec<PartScan>,
 ) -> Result<Recovered, Fault>
-    ensures store { (logs part_bytes : List (List ℕ)) → AreScansOf logs scans.items →
-        AreKnown part_bytes (map known_by parts.items) → IfOk result (λ recovered. IsStoreOf logs part_bytes recovered.store) }
+    ensures recovered { (logs part_bytes : List (List ℕ)) → AreScansOf logs scans.items →
+        AreKnown part_bytes (map known_by parts.items) → IfOk result (IsRecoveredOf logs part_bytes) }
     ensures fault { (logs part_bytes : List (List ℕ)) → AreScansOf logs scans.items →
         AreKnown part_bytes (map known_by parts.items) → IfErr result (IsVerdictOrMemory logs part_bytes) }
 {
-    let start = Start::of(alloc, &scans, parts)?;
-    let lists = cells_of(alloc, scans, start)?;
+    let Start {
+        window,
+        chosen,
+        report,
+    } = Start::of(alloc, &scans, parts)?;
+    let lists = cells_of(alloc, scans, window, chosen)?;
     let pairs = replay_all(alloc, &lists)?;
-    Ok(Recovered::of(Store::of(pairs)))
+    let report = report.ended(&lists, pairs.len());
+    Ok(Recovered::of(Store::of(pairs), report))
 }

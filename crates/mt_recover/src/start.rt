@@ -9,6 +9,7 @@ ghost use Rattle.mt_recover.specs.Start.{IsStartOf};
 ghost use Rattle.mt_recover.specs.Survivors.{begin_of as begin_in};
 ghost use Rattle.mt_recover.specs.Verdict.{IsVerdictOrMemory};
 
+use crate::report::Report;
 use mt_replay::Window;
 use mt_scan::{Checkpoint, LogScan, PartScan, choose, cutoff};
 use mt_words::Fault;
@@ -21,6 +22,8 @@ pub struct Start {
     pub window: Window,
     /// The checkpoint over which they are replayed; None where there is none.
     pub chosen: Option<Checkpoint>,
+    /// The report, as far as it is known.
+    pub report: Report,
 }
 
 impl Start {
@@ -35,14 +38,17 @@ impl Start {
         let Some(cutoff) = cutoff(scans) else {
             return Err(Fault::NoLogs);
         };
-        let chosen = choose(alloc, parts, cutoff)?.chosen;
-        let begin = begin_of(&chosen);
+        let choice = choose(alloc, parts, cutoff)?;
+        let begin = begin_of(&choice.chosen);
         if let Some(log) = first_gap(scans, begin) {
             return Err(Fault::Gap { log });
         }
+        let window = Window { begin, cutoff };
+        let (report, chosen) = Report::begun(scans, window, choice);
         Ok(Start {
-            window: Window { begin, cutoff },
+            window,
             chosen,
+            report,
         })
     }
 }

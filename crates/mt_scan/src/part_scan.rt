@@ -33,7 +33,7 @@ pub fn scan_part<S: Source>(alloc: Global, source: &mut S, part: usize) -> Resul
     ensures failed { (S.seen source.new).failures ≡ (S.seen source.old).failures + failures_of result }
     ensures steady { IsTrue (S.seen source.old).steady → failures_of result ≡ 0 }
 {
-    let mut feed = PartFeed::filling(alloc, KeptEntries::new(alloc));
+    let mut feed = PartFeed::keeping(alloc);
     'pieces: while feed_piece(source, &mut feed, part)? {}
     match feed.finish() {
         Ok(text) => Ok(PartScan::Whole(text)),

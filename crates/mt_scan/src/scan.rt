@@ -19,7 +19,7 @@ pub fn scan_log<S: Source>(alloc: Global, source: &mut S, log: usize) -> Result<
     ensures failed { (S.seen source.new).failures ≡ (S.seen source.old).failures + failures_of result }
     ensures steady { IsTrue (S.seen source.old).steady → failures_of result ≡ 0 }
 {
-    let mut feed = LogFeed::filling(alloc, KeptRecords::new(alloc));
+    let mut feed = LogFeed::keeping(alloc);
     'pieces: while feed_piece(source, &mut feed, log)? {}
     match feed.finish() {
         Ok(text) => Ok(LogScan::of(log, text)),
@@ -57,7 +57,7 @@ pub fn scan_bytes(alloc: Global, bytes: &[u8], log: usize) -> Result<LogScan, Fa
     ensures scan { IfOk result (IsScanOf log bytes.now) }
     ensures fault { IfErr result (IsLogVerdict log bytes.now) }
 {
-    let mut feed = LogFeed::filling(alloc, KeptRecords::new(alloc));
+    let mut feed = LogFeed::keeping(alloc);
     if let Err(fault) = feed.feed(bytes) {
         return Err(fault.of_log(log));
     }

@@ -1,0 +1,61 @@
+-- What recovery reports: sizes of what it found, and of what became of it.
+use Rattle.std.specs.Prelude.{◌≡◌, ℕ, Bool, nat_lt, nat_le, List, length, filter}
+use Rattle.std.specs.List.{flat_map}
+use Rattle.std.specs.Option.{option_map}
+use Rattle.mt_words.specs.declared.update.Update.{Update}
+use Rattle.mt_words.specs.Changes.{Logged}
+use Rattle.mt_words.specs.Walks.{Pair}
+use Rattle.mt_record.specs.Kept.{is_mark}
+use Rattle.mt_record.specs.Logs.{LogReading}
+use Rattle.mt_scan.specs.Choice.{AreSkipped, AreNameless}
+use Rattle.mt_replay.specs.Survivors.{log_updates}
+use Rattle.mt_recover.specs.declared.report.Report.{Report}
+use Rattle.mt_recover.specs.Recovery.{Facts, IsStoreOf, records_of}
+use Rattle.mt_recover.specs.Survivors.{begin_of, survivors, entry_updates}
+
+-- the whole records of all logs
+abbrev pub all_records : List LogReading → List Logged
+all_records readings = flat_map (λ log. log.records) readings
+
+-- the puts and removes of all logs
+abbrev pub updates_in : List LogReading → List Update
+updates_in readings = log_updates (records_of readings)
+
+-- its timestamp lies below this one
+abbrev pub is_early : ℕ → Update → Bool
+is_early begin update = nat_lt update.timestamp begin
+
+-- its timestamp lies at or past the cutoff
+abbrev pub is_late : ℕ → Update → Bool
+is_late cutoff update = nat_le cutoff update.timestamp
+
+-- what was found in these logs and parts, before anything is replayed
+pub record IsFoundIn {logs parts : List (List ℕ)} (facts : Facts logs parts) (report : Report) : Type 0 where
+  pub logs : report.logs ≡ length logs
+  pub records : report.records ≡ length (all_records facts.readings)
+  pub marks : report.marks ≡ length (filter is_mark (all_records facts.readings))
+  pub torn : report.torn ≡ length (filter (λ log. log.torn) facts.readings)
+  pub cutoff : report.cutoff ≡ facts.cutoff
+  pub checkpoint : report.checkpoint ≡ option_map (λ checkpoint. checkpoint.number) facts.chosen
+  pub begin : report.begin ≡ begin_of facts.chosen
+  pub skipped : AreSkipped facts.known report.skipped.items
+  pub nameless : AreNameless facts.known report.nameless.items
+  pub entries : report.entries ≡ length (entry_updates facts.chosen)
+  pub early : report.early ≡ length (filter (is_early (begin_of facts.chosen)) (updates_in facts.readings))
+
+-- the report of what was found, of what survives and what comes too late, and of a store of these pairs
+pub record IsReportOf {logs parts : List (List ℕ)} (facts : Facts logs parts) (pairs : List Pair) (report : Report) : Type 0 where
+  pub found : IsFoundIn facts report
+  pub survivors : report.survivors ≡ length (survivors facts.cutoff facts.chosen (records_of facts.readings))
+  pub late : report.late ≡ length (filter (is_late facts.cutoff) (updates_in facts.readings))
+  pub keys : report.keys ≡ length pairs
+
+-- what recovery answers where it names no fault
+pub record Outcome : Type 0 where
+  pub store : List Pair
+  pub report : Report
+
+-- the outcome of logs and parts: their store, and the report of the facts from which it was made
+pub record IsRecoveredOf (logs parts : List (List ℕ)) (outcome : Outcome) : Type 0 where
+  pub store : IsStoreOf logs parts outcome.store
+  pub report : IsReportOf store.facts outcome.store outcome.report

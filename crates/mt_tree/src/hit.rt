@@ -1,0 +1,50 @@
+//! What a query of a range answers.
+ghost use Rattle.std.specs.Prelude.{◌≡◌, IfOk, filter};
+ghost use Rattle.mt_tree.specs.Range.{wants, hit_of};
+
+use crate::wanted::Wanted;
+use mt_words::{Columns, Kept, Key, Memory};
+use std::alloc::Global;
+
+/// A pair of a range, with those of its columns that are wanted, which may be none.
+#[derive(Debug, Drop)]
+pub struct Hit {
+    /// The key.
+    pub key: Key,
+    /// The columns that are wanted.
+    pub columns: Columns<Kept>,
+}
+
+impl Hit {
+    /// What a query answers of this pair.
+    pub fn of(
+        alloc: Global,
+        key: &Key,
+        columns: &Columns<Kept>,
+        wanted: Wanted,
+    ) -> Result<Hit, Memory>
+        ensures { IfOk result (λ hit. hit ≡ hit_of wanted (key.now, columns.now)) }
+    {
+        Ok(Hit {
+            key: key.try_copy()?,
+            columns: choose(alloc, columns, wanted)?,
+        })
+    }
+}
+
+/// Copies of the columns that are wanted.
+fn choose(
+    alloc: Global,
+    columns: &Columns<Kept>,
+    wanted: Wanted,
+) -> Result<Columns<Kept>, Memory>
+    ensures { IfOk result (λ chosen. chosen ≡ filter (wants wanted) columns.now) }
+{
+    let mut chosen = Columns::with_capacity(alloc, columns.len())?;
+    for column in columns.as_slice() {
+        if wanted.has(column.number) {
+            chosen.add(column.number, Vec::from_slice(alloc, &column.bytes)?)?;
+        }
+    }
+    Ok(chosen)
+}
