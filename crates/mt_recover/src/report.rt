@@ -88,16 +88,17 @@ impl Report {
     /// late.
     pub(crate) fn ended(self, lists: &[LogCells], keys: usize) -> Report
         requires marks { self.marks ≤ self.records }
-        requires rest { self.early + length (together lists.now) ≤ self.records - self.marks + self.entries }
+        requires entries { self.entries ≤ length (together lists.now) }
+        requires updates { self.early + (length (together lists.now) - self.entries) ≤ self.records - self.marks }
         ensures { result ≡ record self {
             survivors = length (together lists.now);
-            late = self.records - self.marks + self.entries - self.early - length (together lists.now);
+            late = self.records - self.marks - self.early - (length (together lists.now) - self.entries);
             keys = keys;
         } }
     {
         let survivors = survivor_count(lists);
         let updates = self.records - self.marks;
-        let late = updates + self.entries - self.early - survivors;
+        let late = updates - self.early - (survivors - self.entries);
         Report {
             survivors,
             late,
