@@ -11,6 +11,7 @@ mod program;
 mod read_logs;
 mod recovery;
 mod report;
+mod report_text;
 mod scan_all;
 mod scan_logs;
 mod scan_parts;
