@@ -1,6 +1,7 @@
 //! What recovery answers, in the words of a case.
 use crate::draft::Draft;
 use crate::mistake::Mistake;
+use crate::report::push_report;
 use crate::source::DraftSource;
 use mt_recover::{
     Cuts, Cutting, Inputs, NoGate, Recovered, Workers, recover, recover_logs, write_dump,
@@ -14,17 +15,16 @@ use std::fmt::Display;
 use std::io::{self, Write};
 use std::thread::Threads;
 
-/// Appends what recovery of the logs of these drafts answers from their bytes in memory.
-pub fn push_from_memory(
+/// What recovery of the logs of these drafts answers from their bytes in memory.
+pub fn recover_from_memory(
     alloc: Global,
     drafts: &[Draft],
-    text: &mut Vec<u8>,
-) -> Result<(), Mistake> {
+) -> Result<Result<Recovered, Fault>, Mistake> {
     let mut logs = Vec::new(alloc);
     for draft in drafts {
         logs.push(draft.bytes.as_slice())?;
     }
-    Ok(write_answer(recover_logs(alloc, &logs), text)?)
+    Ok(recover_logs(alloc, &logs))
 }
 
 /// What so many workers answer, where the keys are cut so.
@@ -72,14 +72,21 @@ pub fn inputs_of<'a>(
     Ok(Inputs { logs, parts })
 }
 
-/// Writes an answer of recovery: `store` and its pairs, or `fault` and the fault.
-pub fn write_answer<W: Write>(answer: Result<Recovered, Fault>, out: &mut W) -> io::Result<()> {
+/// Appends an answer of recovery: `store`, its pairs, and the lines of what is asked of its report; or `fault` and the
+/// fault.
+pub fn write_answer(
+    alloc: Global,
+    answer: Result<Recovered, Fault>,
+    asked: &[Vec<String>],
+    text: &mut Vec<u8>,
+) -> Result<(), Mistake> {
     match answer {
         Ok(recovered) => {
-            out.write_all(b"store\n")?;
-            write_dump(recovered.store(), out)
+            text.extend_from_slice(b"store\n")?;
+            write_dump(recovered.store(), text)?;
+            push_report(alloc, recovered.report(), asked, text)
         }
-        Err(fault) => writeln!(out, "fault {fault}"),
+        Err(fault) => Ok(writeln!(text, "fault {fault}")?),
     }
 }
 

@@ -1,11 +1,12 @@
 //! A case in one pass: what is recovered, and what is expected.
 use crate::answer::{
-    cuts_at, inputs_of, push_choice, push_from_memory, rack_for, recover_by, write_answer,
+    cuts_at, inputs_of, push_choice, rack_for, recover_by, recover_from_memory, write_answer,
 };
 use crate::draft::Draft;
 use crate::expected::push_line;
 use crate::mistake::Mistake;
 use crate::names::{Named, begin_draft};
+use crate::report::names_of;
 use crate::source::DraftSource;
 use crate::words::{bytes_of, small_of};
 use mt_recover::{Cutting, Inputs, Pieces, Recovered, recover_one};
@@ -26,6 +27,8 @@ pub struct Case {
     pub expected: Vec<u8>,
     /// Whether the choice among the parts is expected too.
     has_choice: bool,
+    /// The names of what is expected of the report, line by line.
+    report: Vec<Vec<String>>,
 }
 
 /// How a case is recovered.
@@ -59,6 +62,7 @@ impl Case {
             cuts: Vec::new(alloc),
             expected: Vec::new(alloc),
             has_choice: false,
+            report: Vec::new(alloc),
         }
     }
 
@@ -75,6 +79,10 @@ impl Case {
             ["cuts", keys @ ..] => self.cut_at(alloc, keys),
             ["choice", ..] => {
                 self.has_choice = true;
+                push_line(words, &mut self.expected)
+            }
+            ["report", fields @ ..] => {
+                self.report.push(names_of(alloc, fields)?)?;
                 push_line(words, &mut self.expected)
             }
             ["store"] | ["fault", ..] => push_line(words, &mut self.expected),
@@ -163,7 +171,8 @@ impl Case {
     ) -> Result<Vec<u8>, Mistake> {
         let mut text = Vec::new(rt.alloc());
         if let Way::Memory = way {
-            push_from_memory(rt.alloc(), &self.drafts, &mut text)?;
+            let answer = recover_from_memory(rt.alloc(), &self.drafts)?;
+            write_answer(rt.alloc(), answer, &self.report, &mut text)?;
             return Ok(text);
         }
         let mut rack = rack_for(rt.alloc(), &self.drafts, self.size_in(way))?;
@@ -172,7 +181,8 @@ impl Case {
             push_choice(rt.alloc(), inputs, &mut text)?;
         }
         let inputs = inputs_of(rt.alloc(), &self.drafts, rack.slots())?;
-        write_answer(self.recover_from(rt, inputs, way)?, &mut text)?;
+        let answer = self.recover_from(rt, inputs, way)?;
+        write_answer(rt.alloc(), answer, &self.report, &mut text)?;
         if !rack.all_full() {
             text.extend_from_slice(b"a buffer is not back\n")?;
         }

@@ -12,6 +12,7 @@ mod mistake;
 mod names;
 mod passes;
 mod records;
+mod report;
 mod source;
 mod telling;
 mod trying;
