@@ -1,7 +1,7 @@
 //! Cells, cuts and pieces, which no case can show one by one.
 use crate::asserting::{assert_bytes, assert_same, assert_same_in};
 use crate::logs::key_of;
-use mt_replay::{CutFault, Cuts, LogCells, Pieces, Window, replay_piece};
+use mt_replay::{Cell, CutFault, Cuts, LogCells, Pieces, Window, replay_piece};
 use mt_words::{Columns, Key, Kind, Origin, Stamp, Update};
 use std::process::Abort;
 use std::thread::Threads;
@@ -25,6 +25,36 @@ fn put_of<R: Abort + AllocGlobal>(rt: &R, key: u8, record: u64) -> Update {
         timestamp: 1,
         kind: Kind::Put(columns_of(rt)),
     }
+}
+
+/// The update of key k at this version.
+fn update_at<R: Abort + AllocGlobal>(rt: &R, version: u64, kind: Kind) -> Update {
+    let origin = Origin::Log { log: 0, record: 0 };
+    Update {
+        key: key_of(rt, b"k"),
+        stamp: Stamp { version, origin },
+        timestamp: 1,
+        kind,
+    }
+}
+
+/// The cell leaves so many columns.
+fn assert_left<R: Abort + AllocGlobal>(rt: &R, cell: &Cell, count: usize) {
+    let columns = cell.columns().expect(rt, "memory");
+    assert_same(rt, &columns.len(), &count);
+}
+
+#[test]
+fn a_cell_has_what_its_updates_leave(rt: HostRuntime) {
+    let mut early = Cell::empty(rt.alloc());
+    assert_left(&rt, &early, 0);
+    early.apply(update_at(&rt, 1, Kind::Put(columns_of(&rt))));
+    assert_left(&rt, &early, 1);
+    early.apply(update_at(&rt, 2, Kind::Remove));
+    assert_left(&rt, &early, 0);
+    let mut late = Cell::empty(rt.alloc());
+    late.apply(update_at(&rt, 3, Kind::Put(columns_of(&rt))));
+    assert_left(&rt, &early.merge(late), 1);
 }
 
 /// The cells of puts of these keys, each of one byte.

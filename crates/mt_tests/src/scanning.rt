@@ -3,6 +3,7 @@ ghost use Rattle.std.specs.Prelude.{[], Some, true, false};
 
 use crate::asserting::{assert_bytes, assert_same};
 use crate::logs::{LOG_A, PART, bytes_of, copy_of};
+use mt_record::Updates;
 use mt_recover::{Inputs, recover_one};
 use mt_scan::{LogScan, MemSource, Rack, ReaderSource, Slot, Source, SourceFault, scan_log};
 use mt_words::Fault;
@@ -108,12 +109,23 @@ fn without_a_log_no_part_is_read(rt: HostRuntime) {
 }
 
 /// The scan is that of LOG_A.
-fn assert_scan<R: Abort>(rt: &R, answer: Result<LogScan, Fault>) {
+fn assert_scan<R: Abort + AllocGlobal>(rt: &R, answer: Result<LogScan, Fault>) {
     let scan = answer.expect(rt, "a scan");
     let shown = (scan.from, scan.last, scan.whole, scan.marks);
     assert_same(rt, &shown, &(0, 5, 2, 1));
     let shown = (scan.updates.len(), scan.dropped, scan.torn);
     assert_same(rt, &shown, &(1, 0, false));
+    assert_update(rt, scan.updates);
+}
+
+/// The updates are that of LOG_A alone.
+fn assert_update<R: Abort + AllocGlobal>(rt: &R, updates: Updates) {
+    let updates = updates.into_vec(rt.alloc()).expect(rt, "memory");
+    assert_same(rt, &updates.len(), &1);
+    for update in &updates {
+        assert_bytes(rt, update.key.as_bytes(), b"a");
+        assert_same(rt, &update.timestamp, &3);
+    }
 }
 
 #[test]

@@ -26,6 +26,15 @@ fn copies_columns(rt: HostRuntime) {
     assert_same(&rt, &copy.len(), &1);
 }
 
+#[test]
+fn keeps_columns_and_copies_kept_ones(rt: HostRuntime) {
+    let kept = column_of(&rt, 3, b"x").keep(rt.alloc());
+    let kept = kept.expect(&rt, "memory");
+    let copy = kept.try_copy().expect(&rt, "memory");
+    assert_same(&rt, &copy.get(3), &Some(b"x".as_slice()));
+    assert_same(&rt, &copy.len(), &1);
+}
+
 /// The fault has this text.
 fn assert_text<R: Abort + AllocGlobal>(rt: &R, fault: Fault, text: &str) {
     let found = fault.to_string(rt.alloc()).expect(rt, "memory");
