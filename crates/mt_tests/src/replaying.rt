@@ -40,19 +40,19 @@ fn update_at<R: Abort + AllocGlobal>(rt: &R, version: u64, kind: Kind) -> Update
 
 /// The cell leaves so many columns.
 fn assert_left<R: Abort + AllocGlobal>(rt: &R, cell: &Cell, count: usize) {
-    let columns = cell.columns().expect(rt, "memory");
+    let columns = cell.columns(rt.alloc()).expect(rt, "memory");
     assert_same(rt, &columns.len(), &count);
 }
 
 #[test]
 fn a_cell_has_what_its_updates_leave(rt: HostRuntime) {
-    let mut early = Cell::empty(rt.alloc());
+    let mut early = Cell::empty();
     assert_left(&rt, &early, 0);
     early.apply(update_at(&rt, 1, Kind::Put(columns_of(&rt))));
     assert_left(&rt, &early, 1);
     early.apply(update_at(&rt, 2, Kind::Remove));
     assert_left(&rt, &early, 0);
-    let mut late = Cell::empty(rt.alloc());
+    let mut late = Cell::empty();
     late.apply(update_at(&rt, 3, Kind::Put(columns_of(&rt))));
     assert_left(&rt, &early.merge(late), 1);
 }
