@@ -4,6 +4,7 @@ pub mod OneWalk
 pub mod SurvivorLemmas
 pub mod ReadingLemmas
 pub mod SourceLemmas
+pub mod CountLemmas
 pub mod FactLemmas
 pub mod FindLemmas
 pub mod DumpLemmas

@@ -30,8 +30,8 @@ abbrev pub is_late : ℕ → Update → Bool
 is_late cutoff update = nat_le cutoff update.timestamp
 
 -- what was found in these logs and parts, before anything is replayed
-pub record IsFoundIn {logs parts : List (List ℕ)} (facts : Facts logs parts) (report : Report) : Type 0 where
-  pub logs : report.logs ≡ length logs
+pub record IsFoundIn {log_bytes part_bytes : List (List ℕ)} (facts : Facts log_bytes part_bytes) (report : Report) : Type 0 where
+  pub logs : report.logs ≡ length log_bytes
   pub records : report.records ≡ length (all_records facts.readings)
   pub marks : report.marks ≡ length (filter is_mark (all_records facts.readings))
   pub torn : report.torn ≡ length (filter (λ log. log.torn) facts.readings)
