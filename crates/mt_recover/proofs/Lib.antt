@@ -6,6 +6,7 @@ pub mod ReadingLemmas
 pub mod SourceLemmas
 pub mod FactLemmas
 pub mod FindLemmas
+pub mod RangeLemmas
 pub mod DumpLemmas
 pub mod OneVerdict
 pub mod Worked
