@@ -9,6 +9,7 @@ pub mod FactLemmas
 pub mod FindLemmas
 pub mod DumpLemmas
 pub mod OneVerdict
+pub mod OneReport
 pub mod Worked
 pub mod PiecesLemmas
 pub mod SharingLemmas
