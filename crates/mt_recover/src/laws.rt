@@ -38,7 +38,7 @@ pub fn one_verdict()
 /// update that is early, late or survives, and each entry of the chosen checkpoint survives. A law: it has nothing to
 /// run.
 pub fn one_report()
-    ensures one_report { (logs parts : List (List ℕ)) (outcome other : Outcome) →
+    ensures one { (logs parts : List (List ℕ)) (outcome other : Outcome) →
         IsRecoveredOf logs parts outcome → IsRecoveredOf logs parts other → SaysTheSame outcome.report other.report }
     ensures adds_up { (logs parts : List (List ℕ)) (outcome : Outcome) → IsRecoveredOf logs parts outcome →
         outcome.report.records + outcome.report.entries
