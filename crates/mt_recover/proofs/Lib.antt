@@ -12,3 +12,4 @@ pub mod Worked
 pub mod PiecesLemmas
 pub mod SharingLemmas
 pub mod ScanLemmas
+pub mod ReportLemmas
