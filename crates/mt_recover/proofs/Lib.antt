@@ -14,3 +14,4 @@ pub mod Worked
 pub mod PiecesLemmas
 pub mod SharingLemmas
 pub mod ScanLemmas
+pub mod ReportLemmas
