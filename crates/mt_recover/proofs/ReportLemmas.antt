@@ -1,23 +1,32 @@
 -- What a report counts, log by log and part by part.
-use Rattle.std.proofs.Common.{◌≡◌, ◌∙◌, ℕ, ◌+◌, ◌<◌, Bool, true, false, cond, Option, Some, None, MatchOption, List, [], ◌∷◌, ◌++◌, length, get_or, take, refl, sym, ap, arith}
+use Rattle.std.proofs.Common.{◌≡◌, ◌∙◌, ℕ, suc, ◌+◌, ◌<◌, Bool, true, false, cond, Option, Some, None, MatchOption, List, [], ◌∷◌, ◌++◌, length, get_or, take, refl, sym, ap, arith}
 use Rattle.std.specs.Prelude.{nat_lt}
-use Rattle.std.specs.List.{filter, flat_map, sum_by}
+use Rattle.std.specs.List.{filter, flat_map, sum_by, count_by}
+use Rattle.std.specs.Option.{option_map}
 use Rattle.std.proofs.lemmas.Bool.Decides.{nat_tests}
 use Rattle.std.proofs.lemmas.List.{length-append, length-map}
 use Rattle.std.proofs.lemmas.List.Concat.{length-flat_map}
 use Rattle.std.proofs.lemmas.List.Elements.{filter-append}
+use Rattle.std.proofs.lemmas.List.Sums.{sum_by-cons, length-filter}
 use Rattle.mt_words.specs.declared.record.Change.{Change}
 use Rattle.mt_words.specs.declared.update.Origin.TheVariants as origins
 use Rattle.mt_words.specs.declared.update.Update.{Update}
 use Rattle.mt_words.specs.Changes.{Logged, mark_of}
 use Rattle.mt_words.specs.Updates.{update_at, update_of, updates_from}
-use Rattle.mt_record.specs.Kept.{Kept, listed}
+use Rattle.mt_record.specs.Kept.{Kept, is_mark, listed}
+use Rattle.mt_record.specs.Logs.{LogReading}
 use Rattle.mt_record.proofs.RecordLemmas.{updates_step}
+use Rattle.mt_scan.specs.declared.checkpoint.Checkpoint.{Checkpoint as Chosen}
+use Rattle.mt_scan.specs.declared.log_scan.LogScan.{LogScan}
+use Rattle.mt_scan.specs.Scans.{HasNumbersOf}
 use Rattle.mt_scan.specs.PartScans.{KeptPart, shown_by_all}
+use Rattle.mt_scan.specs.Choice.{Checkpoint, checkpoint_in}
 use Rattle.mt_scan.specs.Checkpoints.{entries_of}
-use Rattle.mt_replay.specs.Survivors.{wholes}
+use Rattle.mt_replay.specs.Survivors.{all_updates, wholes}
 use Rattle.mt_replay.proofs.FilterLemmas.{filter_none}
-use Rattle.mt_recover.specs.Report.{is_early}
+use Rattle.mt_recover.specs.LogScans.{ShowAll, kept}
+use Rattle.mt_recover.specs.Recovery.{AreReadings, records_of}
+use Rattle.mt_recover.specs.Report.{all_records, is_early}
 
 -- ---- what a filter keeps of lists
 
@@ -79,3 +88,53 @@ not_below time begin zero = grind (arith, nat_tests)
 
 pub none_early : (begin : ℕ) (updates : List Update) → begin ≡ 0 → length (filter (is_early begin) updates) ≡ 0
 none_early begin updates zero = ap length (filter_none (is_early begin) updates (λ k d lt. not_below (get_or updates k d).timestamp begin zero))
+
+-- ---- scans and what their logs say
+
+-- there are as many logs as scans
+pub as_many : (logs : List (List ℕ)) (scans : List LogScan) (readings : List LogReading) (number : ℕ) → AreReadings logs readings → ShowAll number scans readings → length scans ≡ length logs
+as_many [] [] [] number read show = refl
+as_many [] [] (l ∷ ls) number read show = absurd read
+as_many [] (s ∷ ss) [] number read show = absurd show
+as_many [] (s ∷ ss) (l ∷ ls) number read show = absurd read
+as_many (b ∷ bs) scans [] number read show = absurd read
+as_many (b ∷ bs) [] (l ∷ ls) number read show = absurd show
+as_many (b ∷ bs) (s ∷ ss) (l ∷ ls) number read show = ap suc (as_many bs ss ls (suc number) read.1 show.1)
+
+-- a number of each scan that is one of its log
+same_sums : (of_scan : LogScan → ℕ) (of_log : LogReading → ℕ) → ((scan : LogScan) (log : LogReading) → HasNumbersOf scan log → of_scan scan ≡ of_log log)
+    → (number : ℕ) (scans : List LogScan) (readings : List LogReading) → ShowAll number scans readings → sum_by of_scan scans ≡ sum_by of_log readings
+same_sums of_scan of_log same number [] [] show = refl
+same_sums of_scan of_log same number [] (l ∷ ls) show = absurd show
+same_sums of_scan of_log same number (s ∷ ss) [] show = absurd show
+same_sums of_scan of_log same number (s ∷ ss) (l ∷ ls) show =
+    omega (arith, sum_by-cons of_scan s ss, sum_by-cons of_log l ls, same s l show.0.numbers, same_sums of_scan of_log same (suc number) ss ls show.1)
+
+pub records_counted : (scans : List LogScan) (readings : List LogReading) → ShowAll 0 scans readings → sum_by (λ (scan : LogScan). scan.whole) scans ≡ length (all_records readings)
+records_counted scans readings show =
+    same_sums (λ (scan : LogScan). scan.whole) (λ (log : LogReading). length log.records) (λ s l is. is.whole) 0 scans readings show
+    ∙ sym (length-flat_map (λ (log : LogReading). log.records) readings)
+
+pub marks_counted : (scans : List LogScan) (readings : List LogReading) → ShowAll 0 scans readings
+    → sum_by (λ (scan : LogScan). scan.marks) scans ≡ length (filter is_mark (all_records readings))
+marks_counted scans readings show =
+    same_sums (λ (scan : LogScan). scan.marks) (λ (log : LogReading). length (filter is_mark log.records)) (λ s l is. is.marks) 0 scans readings show
+    ∙ sym (length-filter_flat is_mark (λ (log : LogReading). log.records) readings)
+
+pub torn_counted : (scans : List LogScan) (readings : List LogReading) → ShowAll 0 scans readings
+    → count_by (λ (scan : LogScan). scan.torn) scans ≡ length (filter (λ (log : LogReading). log.torn) readings)
+torn_counted scans readings show =
+    same_sums (λ (scan : LogScan). one_if scan.torn) (λ (log : LogReading). one_if log.torn) (λ s l is. ap one_if is.torn) 0 scans readings show
+    ∙ sym (length-filter (λ (log : LogReading). log.torn) readings)
+
+-- what the scans kept are the updates of the logs
+pub same_updates : (number : ℕ) (scans : List LogScan) (readings : List LogReading) → ShowAll number scans readings → kept scans ≡ all_updates number (records_of readings)
+same_updates number [] [] show = refl
+same_updates number [] (l ∷ ls) show = absurd show
+same_updates number (s ∷ ss) [] show = absurd show
+same_updates number (s ∷ ss) (l ∷ ls) show = let rest = same_updates (suc number) ss ls show.1 in λ i. show.0.updates i ++ rest i
+
+-- a checkpoint in memory has the number of what it shows
+pub same_number : (chosen : Option Chosen) → option_map (λ (checkpoint : Chosen). checkpoint.number) chosen ≡ option_map (λ (checkpoint : Checkpoint). checkpoint.number) (option_map checkpoint_in chosen)
+same_number None = refl
+same_number (Some checkpoint) = refl

@@ -93,9 +93,9 @@ impl Report {
         requires entries { self.entries ≤ length (together lists.now) }
         requires updates { self.early + (length (together lists.now) - self.entries) ≤ self.records - self.marks }
         ensures { result ≡ record self {
-            survivors = length (together lists.now);
-            late = self.records - self.marks - self.early - (length (together lists.now) - self.entries);
-            keys = keys;
+          survivors = length (together lists.now);
+          late = self.records - self.marks - self.early - (length (together lists.now) - self.entries);
+          keys = keys;
         } }
     {
         let survivors = survivor_count(lists);
