@@ -1,12 +1,10 @@
 -- How many updates there are: of the records of logs, and by where their timestamps lie.
-use Rattle.std.proofs.Common.{◌≡◌, ◌∙◌, ℕ, suc, ◌+◌, ◌-◌, ◌≤◌, Bool, true, false, List, [], ◌∷◌, ◌++◌, length, map, Option, Some, None, refl, ap, arith}
-use Rattle.std.specs.Prelude.{◌&&◌, cond, nat_lt, nat_le, filter}
-use Rattle.std.specs.List.{flat_map}
+use Rattle.std.proofs.Common.{◌≡◌, ℕ, suc, ◌+◌, ◌-◌, ◌≤◌, Bool, true, false, List, [], ◌∷◌, length, Option, Some, None, refl, ap, arith}
+use Rattle.std.specs.Prelude.{cond, nat_lt, nat_le, filter}
 use Rattle.std.proofs.lemmas.Bool.Decides.{nat_tests}
 use Rattle.std.proofs.lemmas.List.{length-append}
 use Rattle.std.proofs.lemmas.List.Elements.{filter-append}
 use Rattle.mt_words.specs.declared.update.Update.{Update}
-use Rattle.mt_words.specs.Changes.{Logged}
 use Rattle.mt_words.specs.Updates.{updates_from}
 use Rattle.mt_record.specs.Kept.{is_mark}
 use Rattle.mt_record.specs.Logs.{LogReading}

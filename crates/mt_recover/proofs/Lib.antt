@@ -10,7 +10,9 @@ pub mod FindLemmas
 pub mod RangeLemmas
 pub mod DumpLemmas
 pub mod OneVerdict
+pub mod OneReport
 pub mod Worked
 pub mod PiecesLemmas
 pub mod SharingLemmas
 pub mod ScanLemmas
+pub mod ReportLemmas

@@ -59,3 +59,9 @@ pub record Outcome : Type 0 where
 pub record IsRecoveredOf (logs parts : List (List ℕ)) (outcome : Outcome) : Type 0 where
   pub store : IsStoreOf logs parts outcome.store
   pub report : IsReportOf store.facts outcome.store outcome.report
+
+-- two reports are the same but for where their lists lie
+pub record SaysTheSame (report other : Report) : Type 0 where
+  pub skipped : report.skipped.items ≡ other.skipped.items
+  pub nameless : report.nameless.items ≡ other.nameless.items
+  pub rest : report ≡ record other { skipped = report.skipped; nameless = report.nameless }
