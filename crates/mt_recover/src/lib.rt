@@ -18,9 +18,10 @@ mod start;
 mod store;
 mod workers;
 
-pub use dump::write_dump;
+pub use dump::{write_dump, write_pair};
 pub use laws::{one_verdict, one_walk};
 pub use mt_replay::{Cuts, Pieces};
+pub use mt_tree::{Hit, Wanted};
 pub use parallel::recover;
 pub use program::dump_files;
 pub use recovery::{Inputs, Recovered, recover_logs, recover_one};
