@@ -1,9 +1,9 @@
 //! The answer to a query of the recovered store.
 ghost use Rattle.std.specs.Prelude.{◌≤◌};
 
-use crate::command::{Command, Query};
 use crate::failure::Failure;
 use crate::report_text::write_report;
+use crate::request::{Command, Query};
 use mt_recover::{
     Cutting, Inputs, NoGate, Recovered, Store, Wanted, recover, write_dump, write_pair,
 };
@@ -38,12 +38,10 @@ fn recover_and_print<R: AllocGlobal + Threads + Sync, S: Source + Send, O: Write
 ) -> Result<(), Failure<'static>> {
     let cutting = Cutting::Even(command.pieces);
     let recovered = recover(rt, rt.alloc(), inputs, command.workers, cutting, &NoGate)?;
-    let mut out = BufWriter::new(rt.alloc(), out).map_err(|error| Failure::Output.or_memory(
-        &error,
-    ))?;
+    let mut out = BufWriter::new(rt.alloc(), out)?;
     print(&recovered, &command.query, &mut out)?;
-    out.flush()
-        .map_err(|error| Failure::Output.or_memory(&error))
+    out.flush()?;
+    Ok(())
 }
 
 /// Prints what the query asks for.
@@ -53,13 +51,13 @@ fn print<O: Write>(
     out: &mut O,
 ) -> Result<(), Failure<'static>> {
     let store = recovered.store();
-    let printed = match query {
-        Query::Report => write_report(recovered.report(), out),
-        Query::Get(key) => write_found(store, key, out),
-        Query::Range(start, count) => return print_range(store, start, *count, out),
-        Query::Dump => write_dump(store, out),
-    };
-    printed.map_err(|error| Failure::Output.or_memory(&error))
+    match query {
+        Query::Report => write_report(recovered.report(), out)?,
+        Query::Get(key) => write_found(store, key, out)?,
+        Query::Range(start, count) => print_range(store, start, *count, out)?,
+        Query::Dump => write_dump(store, out)?,
+    }
+    Ok(())
 }
 
 /// Prints the pair of the key, or that it is absent.
@@ -78,7 +76,7 @@ fn print_range<O: Write>(
     out: &mut O,
 ) -> Result<(), Failure<'static>> {
     for hit in store.getrange(start.as_bytes(), count as usize, Wanted::all())? {
-        write_pair(&hit.key, &hit.columns, out).map_err(|error| Failure::Output.or_memory(&error))?;
+        write_pair(&hit.key, &hit.columns, out)?;
     }
     Ok(())
 }

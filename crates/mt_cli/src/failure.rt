@@ -1,4 +1,6 @@
 //! Why the program did not do what its words ask, in texts and exit statuses.
+ghost use Rattle.std.specs.Prelude.{◌≤◌, IfErr};
+
 use mt_words::{Fault, Memory};
 use std::alloc::{AllocError, AllocFailed};
 use std::io::{self, ErrorKind, Write};
@@ -64,9 +66,26 @@ impl<'a> Failure<'a> {
     }
 }
 
+/// Prints the line of the failure, where it failed, and answers its status in its place.
+pub fn or_tell<T: Drop, E: Write>(outcome: Result<T, Failure<'_>>, err: &mut E) -> Result<T, u8>
+    ensures { IfErr result (λ status. status ≤ 3) }
+{
+    match outcome {
+        Ok(value) => Ok(value),
+        Err(failure) => Err(failure.tell(err)),
+    }
+}
+
 impl<'a> From<Fault> for Failure<'a> {
     fn from(fault: Fault) -> Failure<'a> {
         Failure::Recovery(fault)
+    }
+}
+
+/// Where no other failure is named, it is the output that failed.
+impl<'a> From<io::Error> for Failure<'a> {
+    fn from(error: io::Error) -> Failure<'a> {
+        Failure::Output.or_memory(&error)
     }
 }
 

@@ -4,7 +4,7 @@ use clap::{Arg, Command, arg};
 use std::alloc::{AllocError, Global};
 
 /// The words that the program takes.
-pub fn grammar(alloc: Global) -> Result<Command<'static>, AllocError> {
+pub fn grammar<'a>(alloc: Global) -> Result<Command<'a>, AllocError> {
     let program = Command::new(alloc, "mtrecover")
         .version("1.0")
         .about("Recovers the store of a folder of update logs and checkpoint parts")
@@ -16,7 +16,7 @@ pub fn grammar(alloc: Global) -> Result<Command<'static>, AllocError> {
 }
 
 /// The words of `report`.
-fn report(alloc: Global) -> Result<Command<'static>, AllocError> {
+fn report<'a>(alloc: Global) -> Result<Command<'a>, AllocError> {
     Ok(
         subcommand(alloc, "report")?
             .about("Prints what recovery found in the logs and parts, and what became of it")
@@ -25,7 +25,7 @@ fn report(alloc: Global) -> Result<Command<'static>, AllocError> {
 }
 
 /// The words of `get`.
-fn get(alloc: Global) -> Result<Command<'static>, AllocError> {
+fn get<'a>(alloc: Global) -> Result<Command<'a>, AllocError> {
     subcommand(alloc, "get")?
         .about("Prints the pair of a key, or `absent`")
         .after_help("Example: mtrecover get examples/store 6b6579")
@@ -33,7 +33,7 @@ fn get(alloc: Global) -> Result<Command<'static>, AllocError> {
 }
 
 /// The words of `range`.
-fn range(alloc: Global) -> Result<Command<'static>, AllocError> {
+fn range<'a>(alloc: Global) -> Result<Command<'a>, AllocError> {
     subcommand(alloc, "range")?
         .about("Prints the first pairs at or after a key")
         .after_help("Example: mtrecover range examples/store 6b 10")
@@ -47,7 +47,7 @@ fn range(alloc: Global) -> Result<Command<'static>, AllocError> {
 }
 
 /// The words of `dump`.
-fn dump(alloc: Global) -> Result<Command<'static>, AllocError> {
+fn dump<'a>(alloc: Global) -> Result<Command<'a>, AllocError> {
     Ok(
         subcommand(alloc, "dump")?
             .about("Prints all pairs")
@@ -56,7 +56,7 @@ fn dump(alloc: Global) -> Result<Command<'static>, AllocError> {
 }
 
 /// The words that each subcommand takes.
-fn subcommand(alloc: Global, name: &'static str) -> Result<Command<'static>, AllocError> {
+fn subcommand<'a>(alloc: Global, name: &'a str) -> Result<Command<'a>, AllocError> {
     Command::new(alloc, name)
         .arg(arg!(in alloc; <DIR> "The folder of logs (.mtl) and checkpoint parts (.mtc)"))?
         .arg(workers(alloc))?
@@ -64,19 +64,19 @@ fn subcommand(alloc: Global, name: &'static str) -> Result<Command<'static>, All
 }
 
 /// The word of the key.
-fn key(alloc: Global) -> Arg<'static> {
+fn key<'a>(alloc: Global) -> Arg<'a> {
     arg!(in alloc; <KEY> "The key in hexadecimal; the empty word is the empty key")
 }
 
 /// The option of the workers.
-fn workers(alloc: Global) -> Arg<'static> {
+fn workers<'a>(alloc: Global) -> Arg<'a> {
     arg!(in alloc; --workers <N> "How many threads recover: 1 to 64")
         .value_parser(ValueParser::unsigned(1, 64))
         .default_value("4")
 }
 
 /// The option of the pieces.
-fn pieces(alloc: Global) -> Arg<'static> {
+fn pieces<'a>(alloc: Global) -> Arg<'a> {
     arg!(in alloc; --pieces <P> "Into how many pieces the keys are cut: 1 to 4096")
         .value_parser(ValueParser::unsigned(1, 4096))
         .default_value("16")

@@ -2,19 +2,19 @@
 #![tactic(auto)]
 
 mod answering;
-mod command;
 mod failure;
 mod file_names;
 mod grammar;
 mod listing;
 mod opening;
 mod report_text;
+mod request;
 mod running;
 mod words;
 
 pub use answering::answer;
-pub use command::{Command, Query};
 pub use file_names::Names;
 pub use listing::names;
+pub use request::{Command, Query};
 pub use running::{run, run_words};
 pub use words::command;

@@ -1,7 +1,7 @@
 //! The files of a folder.
 ghost use Rattle.std.specs.Prelude.{◌≤◌, IfErr};
 
-use crate::failure::Failure;
+use crate::failure::{Failure, or_tell};
 use crate::file_names::Names;
 use std::fs::{self, Files};
 use std::io::Write;
@@ -18,7 +18,7 @@ pub fn names<R: AllocGlobal + Files + Clone + Drop, E: Write>(
 ) -> Result<Names, u8>
     ensures status { IfErr result (λ status. status ≤ 3) }
 {
-    list(rt, folder).map_err(|failure| failure.tell(err))
+    or_tell(list(rt, folder), err)
 }
 
 /// The logs and parts of the folder.
@@ -41,8 +41,10 @@ fn read_names<'a, R: AllocGlobal + Files + Clone + Drop>(
     folder: &'a str,
 ) -> Result<Names, Failure<'a>> {
     let mut names = Names::new(rt.alloc());
-    let entries = fs::read_dir(rt, folder);
-    for entry in entries.map_err(|error| Failure::List(folder).or_memory(&error))? {
+    let entries = fs::read_dir(rt, folder).map_err(|error| Failure::List(folder).or_memory(
+        &error,
+    ))?;
+    for entry in entries {
         let entry = entry.map_err(|error| Failure::List(folder).or_memory(&error))?;
         names.add(rt.alloc(), entry.file_name())?;
     }

@@ -2,11 +2,11 @@
 ghost use Rattle.std.specs.Prelude.{◌≤◌, OnOk, OnErr, IfErr, IfOk};
 
 use crate::answering::answer;
-use crate::command::Command;
-use crate::failure::Failure;
+use crate::failure::{Failure, or_tell};
 use crate::file_names::Names;
 use crate::listing::names;
 use crate::opening::open_all;
+use crate::request::Command;
 use crate::words::command;
 use mt_recover::Inputs;
 use mt_scan::{LONGEST_BUFFER, Rack, ReaderSource, Slot};
@@ -60,8 +60,8 @@ where
 {
     let command = command(rt, words, out, err)?;
     let names = names(rt, command.folder, err)?;
-    let mut rack = rack_of(rt, &names).map_err(|failure| failure.tell(err))?;
-    let inputs = open(rt, &command, &names, rack.slots()).map_err(|failure| failure.tell(err))?;
+    let mut rack = or_tell(rack_of(rt, &names), err)?;
+    let inputs = or_tell(open(rt, &command, &names, rack.slots()), err)?;
     Ok(answer(rt, &command, inputs, out, err))
 }
 
@@ -78,8 +78,9 @@ fn open<'a, 'b, R: AllocGlobal + Files>(
     names: &'a Names,
     slots: &'b mut [Slot],
 ) -> Result<Inputs<ReaderSource<'b, R::File>>, Failure<'a>> {
-    let (first, second) = slots.split_at_mut(names.logs.len().min(slots.len()));
-    let logs = open_all(rt, command.folder, &names.logs, first)?;
-    let parts = open_all(rt, command.folder, &names.parts, second)?;
+    let log_count = names.logs.len().min(slots.len());
+    let (log_slots, part_slots) = slots.split_at_mut(log_count);
+    let logs = open_all(rt, command.folder, &names.logs, log_slots)?;
+    let parts = open_all(rt, command.folder, &names.parts, part_slots)?;
     Ok(Inputs { logs, parts })
 }

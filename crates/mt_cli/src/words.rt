@@ -1,9 +1,9 @@
 //! Reading the words.
 ghost use Rattle.std.specs.Prelude.{◌≤◌, IfErr};
 
-use crate::command::{Command, Query};
-use crate::failure::Failure;
+use crate::failure::{Failure, or_tell};
 use crate::grammar::grammar;
+use crate::request::{Command, Query};
 use clap::ArgMatches;
 use clap::error::ErrorKind;
 use hex::FromHexError;
@@ -23,7 +23,7 @@ pub fn command<'a, R: AllocGlobal, O: Write, E: Write>(
     ensures status { IfErr result (λ status. status ≤ 3) }
 {
     match parse(rt.alloc(), words) {
-        Ok(matches) => read(rt.alloc(), &matches).map_err(|failure| failure.tell(err)),
+        Ok(matches) => or_tell(read(rt.alloc(), &matches), err),
         Err(error) => Err(tell(&error, out, err)),
     }
 }
