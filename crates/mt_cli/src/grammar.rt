@@ -28,7 +28,7 @@ fn report<'a>(alloc: Global) -> Result<Command<'a>, AllocError> {
 fn get<'a>(alloc: Global) -> Result<Command<'a>, AllocError> {
     subcommand(alloc, "get")?
         .about("Prints the pair of a key, or `absent`")
-        .after_help("Example: mtrecover get examples/store 6b6579")
+        .after_help("Example: mtrecover get examples/store 666967")
         .arg(key(alloc))
 }
 
@@ -36,7 +36,7 @@ fn get<'a>(alloc: Global) -> Result<Command<'a>, AllocError> {
 fn range<'a>(alloc: Global) -> Result<Command<'a>, AllocError> {
     subcommand(alloc, "range")?
         .about("Prints the first pairs at or after a key")
-        .after_help("Example: mtrecover range examples/store 6b 10")
+        .after_help("Example: mtrecover range examples/store 6b 2")
         .arg(key(alloc))?
         .arg(
             arg!(in alloc; <COUNT> "The most pairs to print").value_parser(ValueParser::unsigned(
