@@ -1,10 +1,10 @@
 -- From the scans of the logs to what recovery finds.
-use Rattle.std.proofs.Common.{◌≡◌, ℕ, zero, suc, ◌<◌, ◌≤◌, Bool, true, false, List, [], ◌∷◌, ◌++◌, length, get_or, Option, Some, None, Contains, IsPermutation, refl, sym, ap, subst, arith}
+use Rattle.std.proofs.Common.{◌≡◌, ℕ, zero, suc, ◌<◌, ◌≤◌, Bool, true, false, List, [], ◌∷◌, ◌++◌, length, get_or, Option, Some, None, Contains, IsPermutation, ◌∙◌, refl, sym, ap, subst, arith}
 use Rattle.std.specs.Prelude.{nat_lt, not, cond, filter}
 use Rattle.std.specs.List.{position, position_or_len}
 use Rattle.std.specs.Option.{option_map}
 use Rattle.std.proofs.lemmas.Bool.Decides.{nat_tests}
-use Rattle.std.proofs.lemmas.List.Sorted.{IsPermutation-sym, Contains-permutation}
+use Rattle.std.proofs.lemmas.List.Sorted.{IsPermutation-sym, Contains-permutation, length_permutation}
 use Rattle.std.proofs.lemmas.List.Sums.{prefix_len_passes}
 use Rattle.std.proofs.lemmas.List.Quantifiers.{position-Some}
 use Rattle.mt_words.specs.declared.fault.Fault.TheVariants.{Gap}
@@ -15,11 +15,15 @@ use Rattle.mt_scan.specs.declared.log_scan.LogScan.{LogScan}
 use Rattle.mt_scan.specs.Cutoff.{IsCutoff, HaveNumbersOf}
 use Rattle.mt_scan.specs.PartScans.{KnownPart}
 use Rattle.mt_scan.specs.declared.checkpoint.Checkpoint.{Checkpoint as Chosen}
-use Rattle.mt_scan.specs.Choice.{Checkpoint, IsChosenOf, checkpoint_in}
+use Rattle.mt_scan.specs.declared.choice.Choice.{Choice}
+use Rattle.mt_scan.specs.Choice.{Checkpoint, IsChosenOf, IsChoiceOf, AreSkipped, AreNameless, checkpoint_in}
+use Rattle.mt_replay.specs.declared.window.Window.{Window}
 use Rattle.mt_replay.specs.Survivors.{in_window, all_updates}
-use Rattle.mt_recover.specs.Survivors.{entry_updates, begin_of, survivors}
+use Rattle.mt_recover.specs.Survivors.{entry_updates, begin_of}
 use Rattle.mt_replay.specs.Walk.{AreApart, IsWalk}
-use Rattle.mt_recover.specs.Recovery.{AreReadings, AreKnown, Facts, IsGap, records_of, IsStoreOf}
+use Rattle.mt_recover.specs.Recovery.{AreReadings, AreKnown, Facts, IsGap, records_of}
+use Rattle.mt_recover.specs.Report.{IsFoundIn, IsRecoveredOf}
+use Rattle.mt_recover.specs.declared.report.Report.{Report}
 use Rattle.mt_recover.specs.Verdict.{IsFirst, IsVerdict}
 use Rattle.mt_recover.specs.declared.start.Start.{Start}
 use Rattle.mt_recover.specs.LogScans.{ShowAll, AreScansOf, kept}
@@ -27,6 +31,7 @@ use Rattle.mt_recover.specs.Start.{IsStartOf, surviving}
 use Rattle.mt_replay.specs.Runs.{together}
 use Rattle.mt_replay.proofs.StepLemmas.{same_column}
 use Rattle.mt_recover.proofs.SurvivorLemmas.{survivors_apart}
+use Rattle.mt_recover.proofs.CountLemmas.{survivors_in, ended, MayEnd, may_end, ended_is}
 
 -- ---- gaps
 
@@ -116,6 +121,12 @@ no_logs logs scans are e = empty logs are.readings are.read (none are.readings (
 
 -- ---- what recovery finds
 
+-- the report tells what is found where all scans show what logs say and the choice is made: what `begun` promises
+abbrev pub IsBegun : List LogScan → Window → Choice → Report → Type 0
+IsBegun scans window choice report = (logs parts : List (List ℕ)) (facts : Facts logs parts) → ShowAll 0 scans facts.readings
+    → window ≡ record { begin = begin_of facts.chosen; cutoff = facts.cutoff } → option_map checkpoint_in choice.chosen ≡ facts.chosen
+    → AreSkipped facts.known choice.skipped.items → AreNameless facts.known choice.nameless.items → IsFoundIn facts report
+
 -- the cutoff of all logs that have the numbers of these scans
 abbrev pub IsCutoffOf : List LogScan → ℕ → Type 0
 IsCutoffOf scans cutoff = (readings : List LogReading) → HaveNumbersOf scans readings → IsCutoff readings cutoff
@@ -144,26 +155,41 @@ gap_of logs parts scans known cutoff begin chosen i are know is of from e = (
 )
 
 -- recovery starts from there
-pub start_of : (logs parts : List (List ℕ)) (scans : List LogScan) (known : List KnownPart) (cutoff begin : ℕ) (chosen : Option Chosen)
-    → AreScansOf logs scans → AreKnown parts known → IsCutoffOf scans cutoff → IsChosenOf known cutoff (option_map checkpoint_in chosen)
-    → begin ≡ begin_of (option_map checkpoint_in chosen) → position (has_gap begin) scans ≡ None
-    → IsStartOf logs parts scans (record { window = record { begin = begin; cutoff = cutoff }; chosen = chosen })
-start_of logs parts scans known cutoff begin chosen are know is of from e = record {
-  facts = facts_of logs parts scans known cutoff (option_map checkpoint_in chosen) are know is of;
-  show = are.show;
-  no_gap = subst (λ (n : ℕ). (i : ℕ) → IsGap n are.readings i → ⊥) from (no_gap begin scans are.readings (numbers_of 0 scans are.readings are.show) e);
-  window = ap (λ (n : ℕ). record { begin = n; cutoff = cutoff }) from;
-  chosen = refl;
-}
+pub start_of : (logs parts : List (List ℕ)) (scans : List LogScan) (known : List KnownPart) (cutoff begin : ℕ) (choice : Choice) (report : Report) (chosen : Option Chosen)
+    → (are : AreScansOf logs scans) → AreKnown parts known → IsCutoffOf scans cutoff → IsChoiceOf known cutoff choice
+    → begin ≡ begin_of (option_map checkpoint_in choice.chosen) → position (has_gap begin) scans ≡ None
+    → chosen ≡ choice.chosen → IsBegun scans (record { begin = begin; cutoff = cutoff }) choice report
+    → IsStartOf logs parts scans (record { window = record { begin = begin; cutoff = cutoff }; chosen = chosen; report = report })
+start_of logs parts scans known cutoff begin choice report chosen are know is of from e same begun =
+    let facts : Facts logs parts = facts_of logs parts scans known cutoff (option_map checkpoint_in choice.chosen) are know is of.chosen in
+    let window = ap (λ (n : ℕ). record { begin = n; cutoff = cutoff }) from in
+    record {
+      facts = facts;
+      show = are.show;
+      no_gap = subst (λ (n : ℕ). (i : ℕ) → IsGap n are.readings i → ⊥) from (no_gap begin scans are.readings (numbers_of 0 scans are.readings are.show) e);
+      window = window;
+      chosen = ap (option_map checkpoint_in) same;
+      found = begun logs parts facts are.show window refl of.skipped of.nameless;
+    }
 
--- ---- the store
+-- ---- what is recovered
 
--- what survives of the scans is what survives of the logs and of the chosen checkpoint
+-- what survives of the scans, from this start on
+abbrev surviving_from : Start → List LogScan → List Update
+surviving_from start scans = surviving start.window (option_map checkpoint_in start.chosen) scans
+
+-- it is what survives of the logs and of the chosen checkpoint
 same_survivors : (logs parts : List (List ℕ)) (scans : List LogScan) (start : Start) (is : IsStartOf logs parts scans start)
-    → surviving start scans ≡ survivors is.facts.cutoff is.facts.chosen (records_of is.facts.readings)
+    → surviving_from start scans ≡ survivors_in is.facts
 same_survivors logs parts scans start is =
     let updates = same_updates 0 scans is.facts.readings is.show in
     λ i. filter (in_window (is.window i)) (updates i) ++ entry_updates (is.chosen i)
+
+-- there are as many cells
+same_count : (logs parts : List (List ℕ)) (scans : List LogScan) (start : Start) (moved : List Update) (is : IsStartOf logs parts scans start)
+    → IsPermutation (surviving_from start scans) moved → length moved ≡ length (survivors_in is.facts)
+same_count logs parts scans start moved is same =
+    length_permutation (surviving_from start scans) moved same ∙ ap length (same_survivors logs parts scans start is)
 
 -- the walk of updates in another order
 walk_of : (updates moved : List Update) (pairs : List Pair) → IsPermutation updates moved → AreApart updates → (AreApart moved → IsWalk moved pairs) → IsWalk updates pairs
@@ -179,22 +205,37 @@ walk_of updates moved pairs same apart walk =
       );
     }
 
--- the walk of what survives is the store
-pub store_of : (logs parts : List (List ℕ)) (scans : List LogScan) (start : Start) (moved : List Update) (pairs : List Pair) → IsStartOf logs parts scans start
-    → IsPermutation (surviving start scans) moved → (AreApart moved → IsWalk moved pairs) → IsStoreOf logs parts pairs
-store_of logs parts scans start moved pairs is same walk =
+-- the walk of what survives is the store, and the report is that of what was found
+recovered_of : (logs parts : List (List ℕ)) (scans : List LogScan) (start : Start) (moved : List Update) (pairs : List Pair) (keys : ℕ) → IsStartOf logs parts scans start
+    → IsPermutation (surviving_from start scans) moved → (AreApart moved → IsWalk moved pairs) → keys ≡ length pairs
+    → IsRecoveredOf logs parts (record { store = pairs; report = ended start.report (length moved) keys })
+recovered_of logs parts scans start moved pairs keys is same walk many =
     let facts = is.facts in
-    let all : List Update = survivors facts.cutoff facts.chosen (records_of facts.readings) in
     record {
-      facts = facts;
-      no_gap = is.no_gap;
-      walk = walk_of all moved pairs (subst (λ (us : List Update). IsPermutation us moved) (same_survivors logs parts scans start is) same)
-          (survivors_apart facts.known facts.cutoff facts.chosen (records_of facts.readings) facts.is_chosen) walk;
+      store = record {
+        facts = facts;
+        no_gap = is.no_gap;
+        walk = walk_of (survivors_in facts) moved pairs (subst (λ (us : List Update). IsPermutation us moved) (same_survivors logs parts scans start is) same)
+            (survivors_apart facts.known facts.cutoff facts.chosen (records_of facts.readings) facts.is_chosen) walk;
+      };
+      report = ended_is facts pairs start.report (length moved) keys is.found (same_count logs parts scans start moved is same) many;
     }
 
 -- the same, where scans and cells were lent on the way
-pub store_from : (logs parts : List (List ℕ)) (scans lent : List LogScan) (start : Start) (lists shown : List (List Update)) (pairs : List Pair) → lent ≡ scans → shown ≡ lists
-    → IsStartOf logs parts lent start → IsPermutation (surviving start scans) (together lists) → (AreApart (together shown) → IsWalk (together shown) pairs) → IsStoreOf logs parts pairs
-store_from logs parts scans lent start lists shown pairs same are is moved walk =
-    store_of logs parts scans start (together lists) pairs (subst (λ (x : List LogScan). IsStartOf logs parts x start) same is) moved
-    (subst (λ (x : List (List Update)). AreApart (together x) → IsWalk (together x) pairs) are walk)
+pub recovered_from : (logs parts : List (List ℕ)) (scans lent : List LogScan) (start : Start) (lists shown counted : List (List Update)) (pairs : List Pair) (keys : ℕ) → lent ≡ scans → shown ≡ lists
+    → counted ≡ lists → IsStartOf logs parts lent start → IsPermutation (surviving_from start scans) (together lists)
+    → (AreApart (together shown) → IsWalk (together shown) pairs) → keys ≡ length pairs
+    → IsRecoveredOf logs parts (record { store = pairs; report = ended start.report (length (together counted)) keys })
+recovered_from logs parts scans lent start lists shown counted pairs keys same are too is moved walk many =
+    subst (λ (x : List (List Update)). IsRecoveredOf logs parts (record { store = pairs; report = ended start.report (length (together x)) keys })) (sym too)
+    (recovered_of logs parts scans start (together lists) pairs keys (subst (λ (x : List LogScan). IsStartOf logs parts x start) same is) moved
+    (subst (λ (x : List (List Update)). AreApart (together x) → IsWalk (together x) pairs) are walk) many)
+
+-- and what was found may be ended
+pub may_end_from : (logs parts : List (List ℕ)) (scans lent : List LogScan) (start : Start) (lists counted : List (List Update)) → lent ≡ scans → counted ≡ lists
+    → IsStartOf logs parts lent start → IsPermutation (surviving_from start scans) (together lists)
+    → MayEnd start.report (length (together counted))
+may_end_from logs parts scans lent start lists counted same are is moved =
+    let there = subst (λ (x : List LogScan). IsStartOf logs parts x start) same is in
+    subst (λ (x : List (List Update)). MayEnd start.report (length (together x))) (sym are)
+    (subst (MayEnd start.report) (sym (same_count logs parts scans start (together lists) there moved)) (may_end there.facts start.report there.found))

@@ -4,11 +4,14 @@ pub mod OneWalk
 pub mod SurvivorLemmas
 pub mod ReadingLemmas
 pub mod SourceLemmas
+pub mod CountLemmas
 pub mod FactLemmas
 pub mod FindLemmas
 pub mod DumpLemmas
 pub mod OneVerdict
+pub mod OneReport
 pub mod Worked
 pub mod PiecesLemmas
 pub mod SharingLemmas
 pub mod ScanLemmas
+pub mod ReportLemmas

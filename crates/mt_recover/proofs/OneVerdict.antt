@@ -25,6 +25,7 @@ use Rattle.mt_replay.specs.Walk.{IsWalk}
 use Rattle.mt_recover.specs.Recovery.{AreReadings, Facts, IsGap, records_of, IsStoreOf}
 use Rattle.mt_recover.specs.Verdict.{IsFirst, IsFirstFault, IsVerdict}
 use Rattle.mt_recover.proofs.OneWalk.{one_walk}
+use Rattle.mt_recover.proofs.CountLemmas.{survivors_in}
 
 -- ---- readings
 
@@ -96,18 +97,14 @@ no_log_no_facts logs parts facts none =
 
 -- ---- stores
 
--- the updates that survive
-abbrev updates_in : (logs parts : List (List ℕ)) → Facts logs parts → List Update
-updates_in logs parts facts = survivors facts.cutoff facts.chosen (records_of facts.readings)
-
 -- logs and parts have one store
 pub one_store : (logs parts : List (List ℕ)) (pairs others : List Pair) → IsStoreOf logs parts pairs → IsStoreOf logs parts others
     → pairs ≡ others
 one_store logs parts pairs others is too =
     let same = same_facts logs parts is.facts too.facts in
-    let walk : IsWalk (updates_in logs parts too.facts) pairs =
+    let walk : IsWalk (survivors_in too.facts) pairs =
     subst (λ (x : List Update). IsWalk x pairs) (λ i. survivors (same.1 i) (same.3 i) (records_of (same.0 i))) is.walk in
-    one_walk (updates_in logs parts too.facts) pairs others walk too.walk
+    one_walk (survivors_in too.facts) pairs others walk too.walk
 
 -- ---- faults
 

@@ -17,7 +17,7 @@ use Rattle.mt_replay.specs.Walk.{IsWalk}
 -- ---- lists whose elements rise
 
 -- each element is before all that stand behind it
-abbrev Rises : {A : Type 0} → (A → A → Type 0) → List A → Type 0
+abbrev pub Rises : {A : Type 0} → (A → A → Type 0) → List A → Type 0
 Rises Before [] = Unit {0}
 Rises Before (x ∷ xs) = AllByRecursion (Before x) xs × Rises Before xs
 
@@ -48,7 +48,7 @@ in_tail Before one_way x y a xs ys same low at here = elim (head_or_tail y a ys 
 ]
 
 -- rising lists with the same elements are equal
-same_lists : {A : Type 0} (Before : A → A → Type 0) → ((a b : A) → Before a b → Before b a → ⊥) → (xs ys : List A)
+pub same_lists : {A : Type 0} (Before : A → A → Type 0) → ((a b : A) → Before a b → Before b a → ⊥) → (xs ys : List A)
     → Rises Before xs → Rises Before ys → ((a : A) → Contains xs a → Contains ys a) → ((a : A) → Contains ys a → Contains xs a) → xs ≡ ys
 same_lists Before one_way [] [] rise_x rise_y into from = refl
 same_lists Before one_way [] (y ∷ ys) rise_x rise_y into from = absurd (no_element y (from y (head_in y ys)))

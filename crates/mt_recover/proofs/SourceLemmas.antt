@@ -14,7 +14,8 @@ use Rattle.mt_scan.specs.Sources.{Seen, Agrees}
 use Rattle.mt_scan.specs.Scans.{IsScanFault, failures_of}
 use Rattle.mt_scan.specs.PartScans.{KnownPart, IsKnown, known_by, IsPartScanFault}
 use Rattle.mt_scan.proofs.Telling.{some_bytes}
-use Rattle.mt_recover.specs.Recovery.{AreReadings, AreKnown, IsStoreOf, Outcome}
+use Rattle.mt_recover.specs.Recovery.{AreReadings, AreKnown}
+use Rattle.mt_recover.specs.Report.{Outcome, IsRecoveredOf}
 use Rattle.mt_recover.specs.Verdict.{IsVerdictOrMemory}
 use Rattle.mt_recover.specs.LogScans.{ShowAll, AreScansOf}
 use Rattle.mt_recover.specs.Inputs.{MayHave, OfSources, AreLogs, IsAnsweredFrom, BlamesUnsteady}
@@ -169,11 +170,11 @@ HaveKnown seen sources known = (parts : List (List ℕ)) × MayHave seen sources
 abbrev pub OfScans : List LogScan → List KnownPart → (List (List ℕ) → List (List ℕ) → Type 0) → Type 0
 OfScans scans known P = (logs parts : List (List ℕ)) → AreScansOf logs scans → AreKnown parts known → P logs parts
 
--- the store of scans is that of their sources
-pub store_of_sources : {S : Type 0} (seen : S → Seen) (logs parts : List S) (scans : List LogScan) (known : List KnownPart) (result : Result Outcome Fault) → HaveScans seen logs scans → HaveKnown seen parts known
-    → OfScans scans known (λ ls ps. IfOk result (λ recovered. IsStoreOf ls ps recovered.store)) → IfOk result (λ recovered. OfSources seen logs parts (λ ls ps. IsStoreOf ls ps recovered.store))
-store_of_sources seen logs parts scans known result have knows says =
-    IfOk-weaker result _ (λ recovered. OfSources seen logs parts (λ ls ps. IsStoreOf ls ps recovered.store)) (λ recovered is. (have.0, knows.0, have.1, knows.1, is)) (says have.0 knows.0 have.2 knows.2)
+-- what is recovered from scans is what their sources have
+pub recovered_of_sources : {S : Type 0} (seen : S → Seen) (logs parts : List S) (scans : List LogScan) (known : List KnownPart) (result : Result Outcome Fault) → HaveScans seen logs scans → HaveKnown seen parts known
+    → OfScans scans known (λ ls ps. IfOk result (IsRecoveredOf ls ps)) → IfOk result (λ recovered. OfSources seen logs parts (λ ls ps. IsRecoveredOf ls ps recovered))
+recovered_of_sources seen logs parts scans known result have knows says =
+    IfOk-weaker result _ (λ recovered. OfSources seen logs parts (λ ls ps. IsRecoveredOf ls ps recovered)) (λ recovered is. (have.0, knows.0, have.1, knows.1, is)) (says have.0 knows.0 have.2 knows.2)
 
 -- so is their fault
 pub fault_of_sources : {S : Type 0} (seen : S → Seen) (logs parts : List S) (scans : List LogScan) (known : List KnownPart) (result : Result Outcome Fault) → HaveScans seen logs scans → HaveKnown seen parts known

@@ -30,8 +30,8 @@ abbrev pub is_late : ℕ → Update → Bool
 is_late cutoff update = nat_le cutoff update.timestamp
 
 -- what was found in these logs and parts, before anything is replayed
-pub record IsFoundIn {logs parts : List (List ℕ)} (facts : Facts logs parts) (report : Report) : Type 0 where
-  pub logs : report.logs ≡ length logs
+pub record IsFoundIn {log_bytes part_bytes : List (List ℕ)} (facts : Facts log_bytes part_bytes) (report : Report) : Type 0 where
+  pub logs : report.logs ≡ length log_bytes
   pub records : report.records ≡ length (all_records facts.readings)
   pub marks : report.marks ≡ length (filter is_mark (all_records facts.readings))
   pub torn : report.torn ≡ length (filter (λ log. log.torn) facts.readings)
@@ -59,3 +59,9 @@ pub record Outcome : Type 0 where
 pub record IsRecoveredOf (logs parts : List (List ℕ)) (outcome : Outcome) : Type 0 where
   pub store : IsStoreOf logs parts outcome.store
   pub report : IsReportOf store.facts outcome.store outcome.report
+
+-- two reports are the same but for where their lists lie
+pub record SaysTheSame (report other : Report) : Type 0 where
+  pub skipped : report.skipped.items ≡ other.skipped.items
+  pub nameless : report.nameless.items ≡ other.nameless.items
+  pub rest : report ≡ record other { skipped = report.skipped; nameless = report.nameless }

@@ -18,7 +18,12 @@ use std::alloc::Global;
 use std::thread::Threads;
 
 /// The cells of each log, and of each part of the checkpoint: together what survives.
-pub fn cells_of(alloc: Global, scans: Vec<LogScan>, window: Window, chosen: Option<Checkpoint>) -> Result<Vec<LogCells>, Memory>
+pub fn cells_of(
+    alloc: Global,
+    scans: Vec<LogScan>,
+    window: Window,
+    chosen: Option<Checkpoint>,
+) -> Result<Vec<LogCells>, Memory>
     ensures { IfOk result (λ lists. IsPermutation (surviving window (option_map checkpoint_in chosen) scans.items) (together lists.items)) }
 {
     let mut lists = cells_of_logs(alloc, scans, window)?;

@@ -1,5 +1,5 @@
 //! What holds of all logs and parts.
-ghost use Rattle.std.specs.Prelude.{◌≡◌, List, Option, ℕ, Contains};
+ghost use Rattle.std.specs.Prelude.{◌≡◌, ◌+◌, List, Option, ℕ, Contains};
 ghost use Rattle.mt_words.specs.declared.fault.Fault.{Fault};
 ghost use Rattle.mt_words.specs.declared.update.Update.{Update};
 ghost use Rattle.mt_words.specs.Changes.{Logged};
@@ -10,6 +10,7 @@ ghost use Rattle.mt_replay.specs.Survivors.{log_updates};
 ghost use Rattle.mt_recover.specs.Survivors.{survivors};
 ghost use Rattle.mt_replay.specs.Walk.{IsWalk, AreApart};
 ghost use Rattle.mt_recover.specs.Recovery.{IsStoreOf};
+ghost use Rattle.mt_recover.specs.Report.{Outcome, IsRecoveredOf, SaysTheSame};
 ghost use Rattle.mt_recover.specs.Verdict.{IsVerdict};
 
 /// The stamps of any logs' updates are apart, and so are those of what survives of a key, whatever checkpoint is chosen;
@@ -31,4 +32,15 @@ pub fn one_verdict()
         IsVerdict logs parts fault → IsVerdict logs parts other → fault ≡ other }
     ensures not_both { (logs parts : List (List ℕ)) (pairs : List Pair) (fault : Fault) →
         IsStoreOf logs parts pairs → IsVerdict logs parts fault → ⊥ }
+{}
+
+/// Logs and parts have one report, but for where its lists lie; and it adds up: each whole record is a mark, or an
+/// update that is early, late or survives, and each entry of the chosen checkpoint survives. A law: it has nothing to
+/// run.
+pub fn one_report()
+    ensures one { (logs parts : List (List ℕ)) (outcome other : Outcome) →
+        IsRecoveredOf logs parts outcome → IsRecoveredOf logs parts other → SaysTheSame outcome.report other.report }
+    ensures adds_up { (logs parts : List (List ℕ)) (outcome : Outcome) → IsRecoveredOf logs parts outcome →
+        outcome.report.records + outcome.report.entries
+        ≡ outcome.report.marks + outcome.report.early + outcome.report.late + outcome.report.survivors }
 {}

@@ -56,6 +56,8 @@ fn recover_scans_by<R: Threads + Sync, G: Gate>(
     cutting: Cutting,
     gate: &G,
 ) -> Result<Recovered, Fault>
+    requires scanned { (logs : List (List ℕ)) × AreScansOf logs scans.items }
+    requires known { (part_bytes : List (List ℕ)) × AreKnown part_bytes (map known_by parts.items) }
     ensures recovered { (logs part_bytes : List (List ℕ)) → AreScansOf logs scans.items →
         AreKnown part_bytes (map known_by parts.items) → IfOk result (IsRecoveredOf logs part_bytes) }
     ensures fault { (logs part_bytes : List (List ℕ)) → AreScansOf logs scans.items →

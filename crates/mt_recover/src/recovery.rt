@@ -68,10 +68,10 @@ impl Recovered {
     }
 }
 
-/// The store of the logs and checkpoint parts that the sources have, on one thread. Where there is a valid checkpoint
-/// that ends below the cutoff, the logs are replayed over the last such one, from where it begins; a broken part is no
-/// fault. Each log is scanned once, in the order of the list, and then each part; no source outlives the call. Without
-/// a log nothing is read.
+/// The store of the logs and checkpoint parts that the sources have, and its report, on one thread. Where there is a
+/// valid checkpoint that ends below the cutoff, the logs are replayed over the last such one, from where it begins; a
+/// broken part is no fault. Each log is scanned once, in the order of the list, and then each part; no source outlives
+/// the call. Without a log nothing is read.
 ///
 /// An Err is `NoLogs`; the fault of the first log that has one, or `Source` in its place where a source that is not
 /// steady failed; where no log has a fault, `PartSource` of the first part whose source, not a steady one, failed; then
@@ -93,8 +93,8 @@ pub fn recover_one<S: Source>(alloc: Global, inputs: Inputs<S>) -> Result<Recove
     recover_scans(alloc, scans, parts)
 }
 
-/// The store of the logs whose bytes are these, without a checkpoint, on one thread. The position of a log in the
-/// list is its number. An Err is the one fault of the logs, or `Memory` where a growth was refused.
+/// The store of the logs whose bytes are these, without a checkpoint, and its report, on one thread. The position of a
+/// log in the list is its number. An Err is the one fault of the logs, or `Memory` where a growth was refused.
 pub fn recover_logs(alloc: Global, logs: &[&[u8]]) -> Result<Recovered, Fault>
     ensures recovered { IfOk result (IsRecoveredOf (map (λ log. log.now) logs.now) []) }
     ensures fault { IfErr result (IsVerdictOrMemory (map (λ log. log.now) logs.now) []) }
@@ -103,13 +103,15 @@ pub fn recover_logs(alloc: Global, logs: &[&[u8]]) -> Result<Recovered, Fault>
     recover_scans(alloc, scans, Vec::new(alloc))
 }
 
-/// The store of the logs and parts whose scans are these, each in the order of their numbers. An Err is `NoLogs`, the
-/// least log with a gap, or `Memory`.
+/// The store of the logs and parts whose scans are these, each in the order of their numbers, and its report. An Err
+/// is `NoLogs`, the least log with a gap, or `Memory`.
 pub(crate) fn recover_scans(
     alloc: Global,
     scans: Vec<LogScan>,
     parts: Vec<PartScan>,
 ) -> Result<Recovered, Fault>
+    requires scanned { (logs : List (List ℕ)) × AreScansOf logs scans.items }
+    requires known { (part_bytes : List (List ℕ)) × AreKnown part_bytes (map known_by parts.items) }
     ensures recovered { (logs part_bytes : List (List ℕ)) → AreScansOf logs scans.items →
         AreKnown part_bytes (map known_by parts.items) → IfOk result (IsRecoveredOf logs part_bytes) }
     ensures fault { (logs part_bytes : List (List ℕ)) → AreScansOf logs scans.items →

@@ -1,12 +1,14 @@
 //! What recovery found in logs and parts, and what became of it.
-ghost use Rattle.std.specs.Prelude.{◌≡◌, ◌+◌, ◌-◌, ◌≤◌, List, ℕ, length};
+ghost use Rattle.std.specs.Prelude.{◌≡◌, ◌+◌, ◌-◌, ◌≤◌, List, ℕ, length, filter, sum_by};
+ghost use Rattle.std.specs.Fn.{FnReturnsAt};
 ghost use Rattle.std.specs.Option.{option_map};
+ghost use Rattle.mt_record.specs.Kept.{kept_updates};
 ghost use Rattle.mt_scan.specs.Choice.{checkpoint_in, AreSkipped, AreNameless};
 ghost use Rattle.mt_replay.specs.Runs.{together};
-ghost use Rattle.mt_recover.specs.LogScans.{ShowAll};
+ghost use Rattle.mt_recover.specs.LogScans.{ShowAll, kept};
 ghost use Rattle.mt_recover.specs.Recovery.{Facts};
-ghost use Rattle.mt_recover.specs.Report.{IsFoundIn};
-ghost use Rattle.mt_recover.specs.Survivors.{begin_of};
+ghost use Rattle.mt_recover.specs.Report.{IsFoundIn, is_early};
+ghost use Rattle.mt_recover.specs.Survivors.{begin_of, entry_updates};
 
 use mt_record::Updates;
 use mt_replay::{LogCells, Window};
@@ -67,11 +69,11 @@ impl Report {
         } = choice;
         let report = Report {
             logs: scans.len(),
-            records: total(scans, |scan: &LogScan| -> u64 { scan.whole }),
-            marks: total(scans, |scan: &LogScan| -> u64 { scan.marks }),
+            records: total(scans, |scan| scan.whole),
+            marks: total(scans, |scan| scan.marks),
             torn: scans.iter().filter(|scan| scan.torn).count(),
             cutoff: window.cutoff,
-            checkpoint: number_of(&chosen),
+            checkpoint: chosen.as_ref().map(|checkpoint| checkpoint.number),
             begin: window.begin,
             skipped,
             nameless,
@@ -91,9 +93,9 @@ impl Report {
         requires entries { self.entries ≤ length (together lists.now) }
         requires updates { self.early + (length (together lists.now) - self.entries) ≤ self.records - self.marks }
         ensures { result ≡ record self {
-            survivors = length (together lists.now);
-            late = self.records - self.marks - self.early - (length (together lists.now) - self.entries);
-            keys = keys;
+          survivors = length (together lists.now);
+          late = self.records - self.marks - self.early - (length (together lists.now) - self.entries);
+          keys = keys;
         } }
     {
         let survivors = survivor_count(lists);
@@ -108,66 +110,57 @@ impl Report {
     }
 }
 
-/// The sum of a number of each scan.
-fn total<F: Fn(&LogScan) -> u64>(scans: &[LogScan], number: F) -> u128 {
-    let mut sum = 0u128;
-    for scan in scans {
-        sum = sum.saturating_add(u128::from(number(scan)));
+/// The sum of a number of each item. It is exact: a slice has fewer than 2^64 items.
+fn total<T, F: Fn(&T) -> u64>(items: &[T], number: F) -> u128
+    requires { F.IsAlwaysCallable number }
+    ensures { (of : T → ℕ) → ((x : T) (n : ℕ) → FnReturnsAt F.Fn number x n → n ≡ of x) →
+        result ≡ sum_by of items.now }
+{
+    let mut sum = 0;
+    for item in items {
+        sum += u128::from(number(item));
     }
     sum
 }
 
-/// The number of the checkpoint.
-fn number_of(chosen: &Option<Checkpoint>) -> Option<u32> {
-    match chosen {
-        Some(checkpoint) => Some(checkpoint.number),
-        None => None,
-    }
-}
-
 /// The entries of the checkpoint.
-fn entry_count(chosen: &Option<Checkpoint>) -> u128 {
-    let Some(checkpoint) = chosen else {
-        return 0;
-    };
-    let mut count = 0u128;
-    for part in &checkpoint.parts {
-        count = count.saturating_add(part.entries.len() as u128);
+fn entry_count(chosen: &Option<Checkpoint>) -> u128
+    ensures { result ≡ length (entry_updates (option_map checkpoint_in chosen.now)) }
+{
+    match chosen {
+        Some(checkpoint) => total(&checkpoint.parts, |part| part.entries.len() as u64),
+        None => 0,
     }
-    count
 }
 
 /// The updates of all logs below this timestamp.
-fn early_count(scans: &[LogScan], begin: u64) -> u128 {
-    // Without a checkpoint no log is gone over.
+fn early_count(scans: &[LogScan], begin: u64) -> u128
+    ensures { result ≡ length (filter (is_early begin) (kept scans.now)) }
+{
+    // Nothing lies below 0, and without a checkpoint no log is gone over.
     if begin == 0 {
         return 0;
     }
-    let mut count = 0u128;
-    for scan in scans {
-        count = count.saturating_add(early_among(&scan.updates, begin) as u128);
-    }
-    count
+    total(scans, |scan| early_among(&scan.updates, begin) as u64)
 }
 
 /// The updates of a log below this timestamp.
-fn early_among(updates: &Updates, begin: u64) -> usize {
+fn early_among(updates: &Updates, begin: u64) -> usize
+    ensures { result ≡ length (filter (is_early begin) (kept_updates updates.now)) }
+{
     let mut count = 0;
     for number in 0..updates.record_count() {
-        if let Some(update) = updates.update(number) {
-            if update.timestamp() < begin {
-                count += 1;
-            }
+        let update = updates.update(number);
+        if update.is_some_and(|update| update.timestamp() < begin) {
+            count += 1;
         }
     }
     count
 }
 
 /// The updates of all cells.
-fn survivor_count(lists: &[LogCells]) -> u128 {
-    let mut count = 0u128;
-    for cells in lists {
-        count = count.saturating_add(cells.len() as u128);
-    }
-    count
+fn survivor_count(lists: &[LogCells]) -> u128
+    ensures { result ≡ length (together lists.now) }
+{
+    total(lists, |cells| cells.len() as u64)
 }

@@ -1,12 +1,12 @@
 -- What a scan gives: a function of the bytes of its log.
-use Rattle.std.specs.Prelude.{◌≡◌, ℕ, List, Option, Result, Ok, Err}
+use Rattle.std.specs.Prelude.{◌≡◌, ℕ, List, Option, Result, Ok, Err, length}
 use Rattle.std.specs.List.{filter}
 use Rattle.mt_words.specs.declared.fault.Fault.{Fault}
 use Rattle.mt_words.specs.declared.fault.Fault.TheVariants as faults
 use Rattle.mt_words.specs.Updates.{updates_from}
 use Rattle.mt_record.specs.declared.read.FeedFault.{FeedFault}
 use Rattle.mt_record.specs.declared.read.FeedFault.TheVariants as of_log
-use Rattle.mt_record.specs.Logs.{LogReading, IsReading, IsLast, count_of}
+use Rattle.mt_record.specs.Logs.{LogReading, IsReading, IsLast}
 use Rattle.mt_record.specs.LogFaults.{IsLogFault, IsAnswered, fault_at}
 use Rattle.mt_record.specs.Kept.{is_mark, kept_updates}
 use Rattle.mt_scan.specs.declared.log_scan.LogScan.{LogScan}
@@ -16,8 +16,8 @@ use Rattle.mt_scan.specs.Sources.{Agrees}
 pub record HasNumbersOf (scan : LogScan) (log : LogReading) : Type 0 where
   pub from : scan.from ≡ log.head.from
   pub last : IsLast log scan.last
-  pub whole : scan.whole ≡ count_of log.records
-  pub marks : scan.marks ≡ count_of (filter is_mark log.records)
+  pub whole : scan.whole ≡ length log.records
+  pub marks : scan.marks ≡ length (filter is_mark log.records)
   pub torn : scan.torn ≡ log.torn
 
 -- the scan shows what the log of this number says: its numbers, and all its updates

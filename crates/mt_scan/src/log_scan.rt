@@ -34,13 +34,14 @@ impl LogScan {
             from,
             last,
             records,
-            whole,
             torn,
+            ..
         } = text;
         LogScan {
             from,
             last,
-            whole,
+            // The count of the text stops at the greatest u64; fewer records than that lie in memory.
+            whole: records.len() as u64,
             marks: records.marks(),
             updates: Updates::of(log, records),
             dropped: 0,

@@ -1,6 +1,6 @@
 use Rattle.std.proofs.Common.{[], map, refl}
 use Rattle.mt_scan.specs.PartScans.{known_by}
-use Rattle.mt_recover.proofs.SourceLemmas.{some_logs, no_sources, none_to_have, store_of_sources, fault_of_sources, none_blamed}
+use Rattle.mt_recover.proofs.SourceLemmas.{some_logs, no_sources, none_to_have, recovered_of_sources, fault_of_sources, none_blamed}
 use Rattle.mt_recover.proofs.parallel.recover.Goals as goal
 
 pub returns-then-is_empty-clause-fault : goal.returns-then-is_empty-clause-fault
@@ -10,8 +10,8 @@ returns-then-is_empty-clause-fault g c =
     let some = some_logs seen c.args.inputs.parts.items in
     ([], some.0, none_to_have seen logs.items (no_sources logs.items _ c.is_empty.result c.is_empty.ensures logs.ok.0 c.if-is_empty.true), some.1, refl)
 
-pub returns-clause-store : goal.returns-clause-store
-returns-clause-store g c = store_of_sources g.S.Source.seen c.args.inputs.logs.items c.args.inputs.parts.items c.in_ok-scans.scans.items (map known_by c.in_ok-scans.parts.items) c.recover_scans_by.result c.in_ok-scans.ensures.logs c.in_ok-scans.ensures.parts c.recover_scans_by.ensures.store
+pub returns-clause-recovered : goal.returns-clause-recovered
+returns-clause-recovered g c = recovered_of_sources g.S.Source.seen c.args.inputs.logs.items c.args.inputs.parts.items c.in_ok-scans.scans.items (map known_by c.in_ok-scans.parts.items) c.recover_scans_by.result c.in_ok-scans.ensures.logs c.in_ok-scans.ensures.parts c.recover_scans_by.ensures.recovered
 
 pub returns-clause-fault : goal.returns-clause-fault
 returns-clause-fault g c = fault_of_sources g.S.Source.seen c.args.inputs.logs.items c.args.inputs.parts.items c.in_ok-scans.scans.items (map known_by c.in_ok-scans.parts.items) c.recover_scans_by.result c.in_ok-scans.ensures.logs c.in_ok-scans.ensures.parts c.recover_scans_by.ensures.fault

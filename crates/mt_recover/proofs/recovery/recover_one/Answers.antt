@@ -1,7 +1,7 @@
 use Rattle.std.proofs.Common.{[], ◌<◌, length, map, refl, arith}
 use Rattle.std.proofs.lemmas.Result.{err_from_is_err_and}
 use Rattle.mt_scan.specs.PartScans.{known_by}
-use Rattle.mt_recover.proofs.SourceLemmas.{some_logs, no_sources, some_sources, none_to_have, as_many_have, part_fault, store_of_sources, fault_of_sources, none_blamed}
+use Rattle.mt_recover.proofs.SourceLemmas.{some_logs, no_sources, some_sources, none_to_have, as_many_have, part_fault, recovered_of_sources, fault_of_sources, none_blamed}
 use Rattle.mt_recover.proofs.recovery.recover_one.Goals as goal
 
 pub returns-then-is_empty-clause-fault : goal.returns-then-is_empty-clause-fault
@@ -40,8 +40,8 @@ returns-in_err-parts-clause-steady g c =
     let p = err_from_is_err_and c.from_residual-in_err-parts.result c.from_residual-in_err-parts.ensures.1 in
     rw (p.1, p.2) (c.in_err-parts.ensures.steady c.args.inputs.logs.items)
 
-pub returns-clause-store : goal.returns-clause-store
-returns-clause-store g c = store_of_sources g.S.Source.seen c.args.inputs.logs.items c.args.inputs.parts.items c.in_ok-scans.scans.items (map known_by c.in_ok-parts.parts.items) c.recover_scans.result c.in_ok-scans.ensures.scans c.in_ok-parts.ensures.scans c.recover_scans.ensures.store
+pub returns-clause-recovered : goal.returns-clause-recovered
+returns-clause-recovered g c = recovered_of_sources g.S.Source.seen c.args.inputs.logs.items c.args.inputs.parts.items c.in_ok-scans.scans.items (map known_by c.in_ok-parts.parts.items) c.recover_scans.result c.in_ok-scans.ensures.scans c.in_ok-parts.ensures.scans c.recover_scans.ensures.recovered
 
 pub returns-clause-fault : goal.returns-clause-fault
 returns-clause-fault g c = fault_of_sources g.S.Source.seen c.args.inputs.logs.items c.args.inputs.parts.items c.in_ok-scans.scans.items (map known_by c.in_ok-parts.parts.items) c.recover_scans.result c.in_ok-scans.ensures.scans c.in_ok-parts.ensures.scans c.recover_scans.ensures.fault

@@ -10,12 +10,12 @@ pub returns-in-Some-first_gap-clause-fault : goal.returns-in-Some-first_gap-clau
 returns-in-Some-first_gap-clause-fault c =
     let known = map known_by c.args.parts.items in
     λ logs bytes are know.
-    gap_of logs bytes c.args.scans.now known c.in-Some.cutoff c.begin_of-begin.result _ c.in-Some-first_gap.log are know c.in-Some.ensures.found c.in_ok-chosen.ensures.chosen c.begin_of-begin.ensures
+    gap_of logs bytes c.args.scans.now known c.in-Some.cutoff c.begin_of-begin.result _ c.in-Some-first_gap.log are know c.in-Some.ensures.found c.in_ok-choice.ensures.chosen c.begin_of-begin.ensures
     (sym c.in-Some-first_gap.ensures)
 
 pub returns-clause-start : goal.returns-clause-start
 returns-clause-start c =
     let known = map known_by c.args.parts.items in
     λ logs bytes are know.
-    start_of logs bytes c.args.scans.now known c.in-Some.cutoff c.begin_of-begin.result c.in_ok-chosen.field-0.chosen are know c.in-Some.ensures.found c.in_ok-chosen.ensures.chosen c.begin_of-begin.ensures
-    (sym c.in_default-first_gap.ensures)
+    start_of logs bytes c.args.scans.now known c.in-Some.cutoff c.begin_of-begin.result c.in_ok-choice.choice c.begun-report.result.0 c.begun-report.result.1 are know c.in-Some.ensures.found c.in_ok-choice.ensures
+    c.begin_of-begin.ensures (sym c.in_default-first_gap.ensures) c.begun-report.ensures.chosen c.begun-report.ensures.found

@@ -1,0 +1,139 @@
+-- How many updates there are: of the records of logs, and by where their timestamps lie.
+use Rattle.std.proofs.Common.{◌≡◌, ℕ, suc, ◌+◌, ◌-◌, ◌≤◌, Bool, true, false, List, [], ◌∷◌, length, Option, Some, None, refl, ap, arith}
+use Rattle.std.specs.Prelude.{cond, nat_lt, nat_le, filter}
+use Rattle.std.proofs.lemmas.Bool.Decides.{nat_tests}
+use Rattle.std.proofs.lemmas.List.{length-append}
+use Rattle.std.proofs.lemmas.List.Elements.{filter-append}
+use Rattle.mt_words.specs.declared.update.Update.{Update}
+use Rattle.mt_words.specs.Updates.{updates_from}
+use Rattle.mt_record.specs.Kept.{is_mark}
+use Rattle.mt_record.specs.Logs.{LogReading}
+use Rattle.mt_record.proofs.RecordLemmas.{marks_and_updates}
+use Rattle.mt_scan.specs.PartScans.{KnownPart}
+use Rattle.mt_scan.specs.Choice.{Checkpoint, IsChosenOf}
+use Rattle.mt_replay.specs.declared.window.Window.{Window}
+use Rattle.mt_words.specs.Walks.{Pair}
+use Rattle.mt_replay.specs.Survivors.{all_updates, in_window, is_within}
+use Rattle.mt_recover.specs.declared.report.Report.{Report}
+use Rattle.mt_recover.specs.Recovery.{Facts, records_of}
+use Rattle.mt_recover.specs.Report.{all_records, updates_in, is_early, is_late, IsFoundIn, IsReportOf}
+use Rattle.mt_recover.specs.Survivors.{begin_of, survivors, entry_updates}
+
+-- ---- the records of logs
+
+-- each is a mark or makes an update
+pub records_split : (log : ℕ) (readings : List LogReading)
+    → length (all_updates log (records_of readings)) + length (filter is_mark (all_records readings)) ≡ length (all_records readings)
+records_split log [] = refl
+records_split log (l ∷ ls) = omega (
+  arith,
+  marks_and_updates log 0 l.records,
+  records_split (suc log) ls,
+  length-append (updates_from log 0 l.records) (all_updates (suc log) (records_of ls)),
+  length-append l.records (all_records ls),
+  length-append (filter is_mark l.records) (filter is_mark (all_records ls)),
+  ap length (filter-append is_mark l.records (all_records ls)),
+)
+
+-- ---- timestamps
+
+-- one more element, which passes or does not
+length_by : {A : Type 0} (b : Bool) (x : A) (xs : List A) → length (cond b (x ∷ xs) xs) ≡ cond b 1 0 + length xs
+length_by true x xs = omega arith
+length_by false x xs = omega arith
+
+-- a timestamp lies before the window, in it or behind it
+lies_once : (window : Window) (time : ℕ) → window.begin ≤ window.cutoff
+    → cond (nat_lt time window.begin) 1 0 + (cond (is_within window time) 1 0 + cond (nat_le window.cutoff time) 1 0) ≡ 1
+lies_once window time in_order = grind (arith, nat_tests)
+
+-- so all updates are those before the window, those in it and those behind it
+pub updates_split : (window : Window) (updates : List Update) → window.begin ≤ window.cutoff
+    → length (filter (is_early window.begin) updates) + (length (filter (in_window window) updates) + length (filter (is_late window.cutoff) updates)) ≡ length updates
+updates_split window [] in_order = refl
+updates_split window (u ∷ us) in_order = omega (
+  arith,
+  length_by (is_early window.begin u) u (filter (is_early window.begin) us),
+  length_by (in_window window u) u (filter (in_window window) us),
+  length_by (is_late window.cutoff u) u (filter (is_late window.cutoff) us),
+  lies_once window u.timestamp in_order,
+  updates_split window us in_order,
+)
+
+-- a chosen checkpoint begins below the cutoff
+pub begins_below : (known : List KnownPart) (cutoff : ℕ) (chosen : Option Checkpoint) → IsChosenOf known cutoff chosen → begin_of chosen ≤ cutoff
+begins_below known cutoff None is = omega arith
+begins_below known cutoff (Some checkpoint) is = omega (arith, is.0.ends_below, is.0.valid.make_up.begins)
+
+-- ---- what was found
+
+-- each record of a log is a mark, or an update that is early, survives or is late; and each entry survives
+pub record AddsUp (report : Report) (survivors late : ℕ) : Type 0 where
+  pub marks : report.marks ≤ report.records
+  pub entries : report.entries ≤ survivors
+  pub all : report.marks + (report.early + (late + survivors)) ≡ report.records + report.entries
+
+-- what survives of the facts
+abbrev pub survivors_in : {logs parts : List (List ℕ)} → Facts logs parts → List Update
+survivors_in facts = survivors facts.cutoff facts.chosen (records_of facts.readings)
+
+-- what comes too late
+abbrev pub late_in : {logs parts : List (List ℕ)} → Facts logs parts → List Update
+late_in facts = filter (is_late facts.cutoff) (updates_in facts.readings)
+
+pub adds_up : {logs parts : List (List ℕ)} (facts : Facts logs parts) (report : Report) → IsFoundIn facts report
+    → AddsUp report (length (survivors_in facts)) (length (late_in facts))
+adds_up facts report found =
+    let window : Window = record { begin = begin_of facts.chosen; cutoff = facts.cutoff } in
+    let records = records_split 0 facts.readings in
+    let both = length-append (filter (in_window window) (updates_in facts.readings)) (entry_updates facts.chosen) in
+    let times = updates_split window (updates_in facts.readings) (begins_below facts.known facts.cutoff facts.chosen facts.is_chosen) in
+    record {
+      marks = omega (arith, found.marks, found.records, records);
+      entries = omega (arith, found.entries, both);
+      all = omega (arith, found.marks, found.records, found.entries, found.early, records, both, times);
+    }
+
+-- ---- what recovery reports
+
+-- what `ended` makes of a report
+abbrev pub ended : Report → ℕ → ℕ → Report
+ended report survivors keys = record report {
+  survivors = survivors;
+  late = report.records - report.marks - report.early - (survivors - report.entries);
+  keys = keys;
+}
+
+-- what it asks
+abbrev pub MayEnd : Report → ℕ → Type 0
+MayEnd report survivors =
+    (report.marks ≤ report.records) × (report.entries ≤ survivors) × (report.early + (survivors - report.entries) ≤ report.records - report.marks)
+
+pub may_end : {logs parts : List (List ℕ)} (facts : Facts logs parts) (report : Report) → IsFoundIn facts report → MayEnd report (length (survivors_in facts))
+may_end facts report found =
+    let adds = adds_up facts report found in
+    (adds.marks, adds.entries, omega (arith, adds.marks, adds.entries, adds.all))
+
+-- its report is that of the facts
+pub ended_is : {logs parts : List (List ℕ)} (facts : Facts logs parts) (pairs : List Pair) (report : Report) (survivors keys : ℕ)
+    → IsFoundIn facts report → survivors ≡ length (survivors_in facts) → keys ≡ length pairs → IsReportOf facts pairs (ended report survivors keys)
+ended_is facts pairs report survivors keys found same many =
+    let adds = adds_up facts report found in
+    record {
+      found = record {
+        logs = found.logs;
+        records = found.records;
+        marks = found.marks;
+        torn = found.torn;
+        cutoff = found.cutoff;
+        checkpoint = found.checkpoint;
+        begin = found.begin;
+        skipped = found.skipped;
+        nameless = found.nameless;
+        entries = found.entries;
+        early = found.early;
+      };
+      survivors = same;
+      late = omega (arith, same, adds.marks, adds.entries, adds.all);
+      keys = many;
+    }

@@ -1,0 +1,91 @@
+-- Logs and parts have one report, but for where its lists lie.
+use Rattle.std.proofs.Common.{◌≡◌, ◌∙◌, ℕ, ◌+◌, ◌<◌, suc, Option, List, [], ◌∷◌, length, Contains, sym, ap, subst, arith}
+use Rattle.std.specs.Prelude.{filter}
+use Rattle.std.specs.Option.{option_map}
+use Rattle.std.specs.List.{AllPairs}
+use Rattle.std.specs.List.Sorted.{IsStrictlyIncreasing}
+use Rattle.std.proofs.lemmas.List.Elements.{recursion_from_All}
+use Rattle.std.proofs.lemmas.List.Kept.{AllPairs-from_increasing}
+use Rattle.mt_record.specs.Kept.{is_mark}
+use Rattle.mt_record.specs.Logs.{LogReading}
+use Rattle.mt_scan.specs.PartScans.{KnownPart}
+use Rattle.mt_scan.specs.Choice.{Checkpoint, AreSkipped, AreNameless}
+use Rattle.mt_recover.specs.Recovery.{records_of}
+use Rattle.mt_recover.specs.Report.{all_records, updates_in, is_early, is_late, Outcome, IsRecoveredOf, SaysTheSame}
+use Rattle.mt_recover.specs.Survivors.{begin_of, entry_updates, survivors}
+use Rattle.mt_recover.proofs.OneVerdict.{same_facts, one_store}
+use Rattle.mt_recover.proofs.OneWalk.{Rises, same_lists}
+use Rattle.mt_recover.proofs.CountLemmas.{adds_up}
+
+-- ---- rising numbers
+
+rises : (xs : List ℕ) → AllPairs (λ a b. a < b) xs → Rises (λ (a b : ℕ). a < b) xs
+rises [] pairs = tt
+rises (x ∷ xs) pairs = (
+  recursion_from_All (λ y. x < y) xs (λ i d within. pairs 0 (suc i) d (omega arith) (omega (arith, within))),
+  rises xs (λ i j d lt within. pairs (suc i) (suc j) d (omega (arith, lt)) (omega (arith, within))),
+)
+
+-- numbers that rise are told by which they are
+same_numbers : (xs ys : List ℕ) → IsStrictlyIncreasing xs → IsStrictlyIncreasing ys → ((n : ℕ) → Contains xs n → Contains ys n)
+    → ((n : ℕ) → Contains ys n → Contains xs n) → xs ≡ ys
+same_numbers xs ys rise_x rise_y into from = same_lists (λ (a b : ℕ). a < b) (λ a b lt gt. omega (arith, lt, gt)) xs ys
+    (rises xs (AllPairs-from_increasing xs rise_x)) (rises ys (AllPairs-from_increasing ys rise_y)) into from
+
+one_skipped : (parts others : List KnownPart) (xs ys : List ℕ) → parts ≡ others → AreSkipped parts xs → AreSkipped others ys → xs ≡ ys
+one_skipped parts others xs ys same is too =
+    let is : AreSkipped others xs = subst (λ (x : List KnownPart). AreSkipped x xs) same is in
+    same_numbers xs ys is.rise too.rise (λ n at. (too.exact n).1 ((is.exact n).0 at)) (λ n at. (is.exact n).1 ((too.exact n).0 at))
+
+one_nameless : (parts others : List KnownPart) (xs ys : List ℕ) → parts ≡ others → AreNameless parts xs → AreNameless others ys → xs ≡ ys
+one_nameless parts others xs ys same is too =
+    let is : AreNameless others xs = subst (λ (x : List KnownPart). AreNameless x xs) same is in
+    same_numbers xs ys is.rise too.rise (λ n at. (too.exact n).1 ((is.exact n).0 at)) (λ n at. (is.exact n).1 ((too.exact n).0 at))
+
+-- ---- reports
+
+pub one_report : (logs parts : List (List ℕ)) (outcome other : Outcome) → IsRecoveredOf logs parts outcome → IsRecoveredOf logs parts other
+    → SaysTheSame outcome.report other.report
+one_report logs parts outcome other is too =
+    let a = is.report.found in
+    let b = too.report.found in
+    let same = same_facts logs parts is.store.facts too.store.facts in
+    let records = a.records ∙ ap (λ (x : List LogReading). length (all_records x)) same.0 ∙ sym b.records in
+    let marks = a.marks ∙ ap (λ (x : List LogReading). length (filter is_mark (all_records x))) same.0 ∙ sym b.marks in
+    let torn = a.torn ∙ ap (λ (x : List LogReading). length (filter (λ (log : LogReading). log.torn) x)) same.0 ∙ sym b.torn in
+    let cutoff = a.cutoff ∙ same.1 ∙ sym b.cutoff in
+    let checkpoint = a.checkpoint ∙ ap (option_map (λ (x : Checkpoint). x.number)) same.3 ∙ sym b.checkpoint in
+    let begin = a.begin ∙ ap begin_of same.3 ∙ sym b.begin in
+    let entries = a.entries ∙ ap (λ (x : Option Checkpoint). length (entry_updates x)) same.3 ∙ sym b.entries in
+    let survive = is.report.survivors ∙ (λ i. length (survivors (same.1 i) (same.3 i) (records_of (same.0 i)))) ∙ sym too.report.survivors in
+    let early = a.early ∙ (λ i. length (filter (is_early (begin_of (same.3 i))) (updates_in (same.0 i)))) ∙ sym b.early in
+    let late = is.report.late ∙ (λ i. length (filter (is_late (same.1 i)) (updates_in (same.0 i)))) ∙ sym too.report.late in
+    let store = one_store logs parts outcome.store other.store is.store too.store in
+    let keys = is.report.keys ∙ ap length store ∙ sym too.report.keys in
+    record {
+      skipped = one_skipped is.store.facts.known too.store.facts.known outcome.report.skipped.items other.report.skipped.items same.2 a.skipped b.skipped;
+      nameless = one_nameless is.store.facts.known too.store.facts.known outcome.report.nameless.items other.report.nameless.items same.2 a.nameless b.nameless;
+      rest = λ i. record {
+        logs = (a.logs ∙ sym b.logs) i;
+        records = records i;
+        marks = marks i;
+        torn = torn i;
+        cutoff = cutoff i;
+        checkpoint = checkpoint i;
+        begin = begin i;
+        skipped = outcome.report.skipped;
+        nameless = outcome.report.nameless;
+        entries = entries i;
+        survivors = survive i;
+        early = early i;
+        late = late i;
+        keys = keys i;
+      };
+    }
+
+pub report_adds_up : (logs parts : List (List ℕ)) (outcome : Outcome) → IsRecoveredOf logs parts outcome
+    → outcome.report.records + outcome.report.entries
+    ≡ outcome.report.marks + outcome.report.early + outcome.report.late + outcome.report.survivors
+report_adds_up logs parts outcome is =
+    let adds = adds_up is.store.facts outcome.report is.report.found in
+    omega (arith, adds.all, is.report.survivors, is.report.late)

@@ -1,0 +1,140 @@
+-- What a report counts, log by log and part by part.
+use Rattle.std.proofs.Common.{◌≡◌, ◌∙◌, ℕ, suc, ◌+◌, ◌<◌, Bool, true, false, cond, Option, Some, None, MatchOption, List, [], ◌∷◌, ◌++◌, length, get_or, take, refl, sym, ap, arith}
+use Rattle.std.specs.Prelude.{nat_lt}
+use Rattle.std.specs.List.{filter, flat_map, sum_by, count_by}
+use Rattle.std.specs.Option.{option_map}
+use Rattle.std.proofs.lemmas.Bool.Decides.{nat_tests}
+use Rattle.std.proofs.lemmas.List.{length-append, length-map}
+use Rattle.std.proofs.lemmas.List.Concat.{length-flat_map}
+use Rattle.std.proofs.lemmas.List.Elements.{filter-append}
+use Rattle.std.proofs.lemmas.List.Sums.{sum_by-cons, length-filter}
+use Rattle.mt_words.specs.declared.record.Change.{Change}
+use Rattle.mt_words.specs.declared.update.Origin.TheVariants as origins
+use Rattle.mt_words.specs.declared.update.Update.{Update}
+use Rattle.mt_words.specs.Changes.{Logged, mark_of}
+use Rattle.mt_words.specs.Updates.{update_at, update_of, updates_from}
+use Rattle.mt_record.specs.Kept.{Kept, is_mark, listed}
+use Rattle.mt_record.specs.Logs.{LogReading}
+use Rattle.mt_record.proofs.RecordLemmas.{updates_step}
+use Rattle.mt_scan.specs.declared.checkpoint.Checkpoint.{Checkpoint as Chosen}
+use Rattle.mt_scan.specs.declared.log_scan.LogScan.{LogScan}
+use Rattle.mt_scan.specs.Scans.{HasNumbersOf}
+use Rattle.mt_scan.specs.PartScans.{KeptPart, shown_by_all}
+use Rattle.mt_scan.specs.Choice.{Checkpoint, checkpoint_in}
+use Rattle.mt_scan.specs.Checkpoints.{entries_of}
+use Rattle.mt_replay.specs.Survivors.{all_updates, wholes}
+use Rattle.mt_replay.proofs.FilterLemmas.{filter_none}
+use Rattle.mt_recover.specs.LogScans.{ShowAll, kept}
+use Rattle.mt_recover.specs.Recovery.{AreReadings, records_of}
+use Rattle.mt_recover.specs.Report.{all_records, is_early}
+
+-- ---- what a filter keeps of lists
+
+filter_flat : {A B : Type 0} (test : B → Bool) (f : A → List B) (xs : List A) → filter test (flat_map f xs) ≡ flat_map (λ x. filter test (f x)) xs
+filter_flat test f [] = refl
+filter_flat test f (x ∷ xs) = filter-append test (f x) (flat_map f xs) ∙ ap (λ (ys : List _). filter test (f x) ++ ys) (filter_flat test f xs)
+
+-- what a filter keeps of all lists is counted list by list
+pub length-filter_flat : {A B : Type 0} (test : B → Bool) (f : A → List B) (xs : List A) → length (filter test (flat_map f xs)) ≡ sum_by (λ x. length (filter test (f x))) xs
+length-filter_flat test f xs = ap length (filter_flat test f xs) ∙ length-flat_map (λ x. filter test (f x)) xs
+
+-- ---- entries
+
+all_entries : (parts : List KeptPart) → entries_of (shown_by_all parts) ≡ flat_map (λ (part : KeptPart). part.entries) parts
+all_entries [] = refl
+all_entries (p ∷ ps) = ap (λ (es : List Change). p.entries ++ es) (all_entries ps)
+
+-- the updates of entries are counted part by part
+pub entries_counted : (parts : List KeptPart) → sum_by (λ (part : KeptPart). length part.entries) parts ≡ length (wholes (entries_of (shown_by_all parts)))
+entries_counted parts =
+    sym (length-flat_map (λ (part : KeptPart). part.entries) parts)
+    ∙ ap length (sym (all_entries parts))
+    ∙ sym (length-map (entries_of (shown_by_all parts)) (update_at origins.Checkpoint 0))
+
+-- ---- early updates
+
+-- how many updates of the first records are early
+abbrev pub early_of_first : ℕ → Kept → ℕ → ℕ
+early_of_first begin kept count = length (filter (is_early begin) (updates_from kept.log 0 (take count kept.records)))
+
+-- those of one record more
+pub early_step : (begin : ℕ) (kept : Kept) (i : ℕ) (more : List Update) → i < length kept.records → ((d : Logged) → more ≡ update_of kept.log i (get_or kept.records i d))
+    → early_of_first begin kept (i + 1) ≡ early_of_first begin kept i + length (filter (is_early begin) more)
+early_step begin kept i more below is =
+    let r : Logged = get_or kept.records i (mark_of 0) in
+    let before : List Update = updates_from kept.log 0 (take i kept.records) in
+    let grown = updates_step kept i before (before ++ more) r below refl refl (ap (λ (us : List Update). before ++ us) (is (mark_of 0))) in
+    sym (ap (λ (us : List Update). length (filter (is_early begin) us)) grown)
+    ∙ ap length (filter-append (is_early begin) before more)
+    ∙ length-append (filter (is_early begin) before) (filter (is_early begin) more)
+
+-- what a test adds to a count
+abbrev pub one_if : Bool → ℕ
+one_if test = cond test 1 0
+
+-- one update counts where its test says so
+pub early_one : (begin : ℕ) (update : Option Update) (early : Bool) → MatchOption update (early ≡ false) (λ u. early ≡ is_early begin u)
+    → length (filter (is_early begin) (listed update)) ≡ one_if early
+early_one begin None early is = ap one_if (sym is)
+early_one begin (Some u) early is = counted (is_early begin u) u ∙ ap one_if (sym is)
+  where
+    counted : (b : Bool) (u : Update) → length (cond b (u ∷ []) []) ≡ one_if b
+    counted true u = refl
+    counted false u = refl
+
+-- nothing lies below 0
+not_below : (time begin : ℕ) → begin ≡ 0 → nat_lt time begin ≡ false
+not_below time begin zero = grind (arith, nat_tests)
+
+pub none_early : (begin : ℕ) (updates : List Update) → begin ≡ 0 → length (filter (is_early begin) updates) ≡ 0
+none_early begin updates zero = ap length (filter_none (is_early begin) updates (λ k d lt. not_below (get_or updates k d).timestamp begin zero))
+
+-- ---- scans and what their logs say
+
+-- there are as many logs as scans
+pub as_many : (logs : List (List ℕ)) (scans : List LogScan) (readings : List LogReading) (number : ℕ) → AreReadings logs readings → ShowAll number scans readings → length scans ≡ length logs
+as_many [] [] [] number read show = refl
+as_many [] [] (l ∷ ls) number read show = absurd read
+as_many [] (s ∷ ss) [] number read show = absurd show
+as_many [] (s ∷ ss) (l ∷ ls) number read show = absurd read
+as_many (b ∷ bs) scans [] number read show = absurd read
+as_many (b ∷ bs) [] (l ∷ ls) number read show = absurd show
+as_many (b ∷ bs) (s ∷ ss) (l ∷ ls) number read show = ap suc (as_many bs ss ls (suc number) read.1 show.1)
+
+-- a number of each scan that is one of its log
+same_sums : (of_scan : LogScan → ℕ) (of_log : LogReading → ℕ) → ((scan : LogScan) (log : LogReading) → HasNumbersOf scan log → of_scan scan ≡ of_log log)
+    → (number : ℕ) (scans : List LogScan) (readings : List LogReading) → ShowAll number scans readings → sum_by of_scan scans ≡ sum_by of_log readings
+same_sums of_scan of_log same number [] [] show = refl
+same_sums of_scan of_log same number [] (l ∷ ls) show = absurd show
+same_sums of_scan of_log same number (s ∷ ss) [] show = absurd show
+same_sums of_scan of_log same number (s ∷ ss) (l ∷ ls) show =
+    omega (arith, sum_by-cons of_scan s ss, sum_by-cons of_log l ls, same s l show.0.numbers, same_sums of_scan of_log same (suc number) ss ls show.1)
+
+pub records_counted : (scans : List LogScan) (readings : List LogReading) → ShowAll 0 scans readings → sum_by (λ (scan : LogScan). scan.whole) scans ≡ length (all_records readings)
+records_counted scans readings show =
+    same_sums (λ (scan : LogScan). scan.whole) (λ (log : LogReading). length log.records) (λ s l is. is.whole) 0 scans readings show
+    ∙ sym (length-flat_map (λ (log : LogReading). log.records) readings)
+
+pub marks_counted : (scans : List LogScan) (readings : List LogReading) → ShowAll 0 scans readings
+    → sum_by (λ (scan : LogScan). scan.marks) scans ≡ length (filter is_mark (all_records readings))
+marks_counted scans readings show =
+    same_sums (λ (scan : LogScan). scan.marks) (λ (log : LogReading). length (filter is_mark log.records)) (λ s l is. is.marks) 0 scans readings show
+    ∙ sym (length-filter_flat is_mark (λ (log : LogReading). log.records) readings)
+
+pub torn_counted : (scans : List LogScan) (readings : List LogReading) → ShowAll 0 scans readings
+    → count_by (λ (scan : LogScan). scan.torn) scans ≡ length (filter (λ (log : LogReading). log.torn) readings)
+torn_counted scans readings show =
+    same_sums (λ (scan : LogScan). one_if scan.torn) (λ (log : LogReading). one_if log.torn) (λ s l is. ap one_if is.torn) 0 scans readings show
+    ∙ sym (length-filter (λ (log : LogReading). log.torn) readings)
+
+-- what the scans kept are the updates of the logs
+pub same_updates : (number : ℕ) (scans : List LogScan) (readings : List LogReading) → ShowAll number scans readings → kept scans ≡ all_updates number (records_of readings)
+same_updates number [] [] show = refl
+same_updates number [] (l ∷ ls) show = absurd show
+same_updates number (s ∷ ss) [] show = absurd show
+same_updates number (s ∷ ss) (l ∷ ls) show = let rest = same_updates (suc number) ss ls show.1 in λ i. show.0.updates i ++ rest i
+
+-- a checkpoint in memory has the number of what it shows
+pub same_number : (chosen : Option Chosen) → option_map (λ (checkpoint : Chosen). checkpoint.number) chosen ≡ option_map (λ (checkpoint : Checkpoint). checkpoint.number) (option_map checkpoint_in chosen)
+same_number None = refl
+same_number (Some checkpoint) = refl
