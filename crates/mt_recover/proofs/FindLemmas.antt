@@ -18,7 +18,7 @@ use Rattle.mt_replay.specs.Walk.{IsFound}
 abbrev pub beside : List ℕ → Pair → Ordering
 beside key row = slice_cmp nat_cmp row.0 key
 
-is_less : (o : Ordering) → is_lt o ≡ true → o ≡ Less
+pub is_less : (o : Ordering) → is_lt o ≡ true → o ≡ Less
 is_less Less e = refl
 is_less Equal e = absurd cc
 is_less Greater e = absurd cc
@@ -46,7 +46,8 @@ row_at P [] j d lt all = absurd (omega arith)
 row_at P (r ∷ rs) zero d lt all = all.0
 row_at P (r ∷ rs) (suc j) d lt all = row_at P rs j d (omega arith) all.1
 
-keys_at : (key : List ℕ) (rows : List Pair) (i j : ℕ) (d : Pair) → KeysRise rows → i ≤ j → j < length rows → ordering_index (beside key (get_or rows i d)) ≤ ordering_index (beside key (get_or rows j d))
+-- where keys rise, they rise beside any key
+pub keys_at : (key : List ℕ) (rows : List Pair) (i j : ℕ) (d : Pair) → KeysRise rows → i ≤ j → j < length rows → ordering_index (beside key (get_or rows i d)) ≤ ordering_index (beside key (get_or rows j d))
 keys_at key [] i j d rise le lt = absurd (omega arith)
 keys_at key (r ∷ rs) zero zero d rise le lt = omega arith
 keys_at key (r ∷ rs) zero (suc j) d rise le lt =

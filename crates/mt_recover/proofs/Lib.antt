@@ -7,6 +7,7 @@ pub mod SourceLemmas
 pub mod CountLemmas
 pub mod FactLemmas
 pub mod FindLemmas
+pub mod RangeLemmas
 pub mod DumpLemmas
 pub mod OneVerdict
 pub mod OneReport

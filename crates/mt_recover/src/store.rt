@@ -1,11 +1,13 @@
 //! The recovered store.
-ghost use Rattle.std.specs.Prelude.{◌≡◌, List, ℕ, MatchOption, Contains};
+ghost use Rattle.std.specs.Prelude.{◌≡◌, List, ℕ, MatchOption, Contains, IfOk};
 ghost use Rattle.std.specs.Ordering.{nat_cmp};
 ghost use Rattle.std.specs.Cmp.Lexicographic.{slice_cmp};
 ghost use Rattle.mt_words.specs.Walks.{IsMap, KeysRise};
 ghost use Rattle.mt_replay.specs.Walk.{IsFound};
+ghost use Rattle.mt_tree.specs.Range.{hits, range as range_of};
 
-use mt_words::{Columns, Kept, Key};
+use mt_tree::{Hit, Wanted};
+use mt_words::{Columns, Kept, Key, Memory};
 use std::cmp::Ordering;
 use std::marker::Model;
 
@@ -54,6 +56,20 @@ impl Store {
         }
     }
 
+    /// The first `n` pairs whose key is at or after `start`, in order, each with those of its columns that are wanted,
+    /// which may be none. The start may have any length.
+    pub fn getrange(&self, start: &[u8], n: usize, wanted: Wanted) -> Result<Vec<Hit>, Memory>
+        ensures { IfOk result (λ found. found.items ≡ hits wanted self.now start.now n) }
+    {
+        let alloc = *self.pairs.allocator();
+        let pairs = range(&self.pairs, start, n);
+        let mut found = Vec::with_capacity(alloc, pairs.len())?;
+        for (key, columns) in pairs {
+            found.push(Hit::of(alloc, key, columns, wanted)?)?;
+        }
+        Ok(found)
+    }
+
     /// The pairs in order.
     pub(crate) fn pairs(&self) -> &[(Key, Columns<Kept>)]
         ensures { result.now ≡ self.now }
@@ -68,6 +84,20 @@ fn find(pairs: &[(Key, Columns<Kept>)], key: &[u8]) -> Result<usize, usize>
     ensures { IsFound pairs.now key.now result }
 {
     pairs.binary_search_by(|pair| compare_key(pair, key))
+}
+
+/// The first `n` pairs whose key is at or after `start`.
+fn range<'a>(
+    pairs: &'a [(Key, Columns<Kept>)],
+    start: &[u8],
+    n: usize,
+) -> &'a [(Key, Columns<Kept>)]
+    requires { KeysRise pairs.now }
+    ensures { result.now ≡ range_of pairs.now start.now n }
+{
+    let first = pairs.partition_point(|pair| compare_key(pair, start).is_lt());
+    let rest = &pairs[first..];
+    &rest[..n.min(rest.len())]
 }
 
 /// How the key of a pair stands to this one.

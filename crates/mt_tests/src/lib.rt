@@ -27,6 +27,8 @@ mod parts;
 #[cfg(test)]
 mod printing;
 #[cfg(test)]
+mod ranges;
+#[cfg(test)]
 mod refusals;
 #[cfg(test)]
 mod replaying;

@@ -2,18 +2,11 @@
 ghost use Rattle.mt_scan.specs.Kinds.{seen_of_memory};
 
 use crate::asserting::{assert_bytes, assert_same};
-use crate::logs::{LOG_A, bytes_of, key_of};
+use crate::logs::{LOG_A, LOG_OF_THREE, bytes_of, key_of};
 use mt_recover::{Cuts, Cutting, Gate, Inputs, NoGate, Pieces, Workers, recover, write_dump};
 use mt_scan::{MemSource, Rack, Slot, Source, SourceFault};
 use std::process::Abort;
 use std::sync::atomic::{AtomicU64, Ordering};
-
-/// Puts of keys b, d and f, and a mark above them.
-const LOG_OF_THREE: &str = "4d544c31 0000000000000000
-    00000019 01 0000000000000001 0000000000000001 0001 62 01 00 0001 31 00000019
-    00000019 01 0000000000000002 0000000000000001 0001 64 01 00 0001 32 00000019
-    00000019 01 0000000000000003 0000000000000001 0001 66 01 00 0001 33 00000019
-    00000009 03 0000000000000009 00000009";
 
 /// How often one looks for the other, at the most.
 const TURNS: u32 = 50_000_000;

@@ -13,13 +13,17 @@ is_from start pair = not (is_lt (slice_cmp nat_cmp pair.0 start))
 abbrev pub range : List Pair → List ℕ → ℕ → List Pair
 range walk start n = take n (filter (is_from start) walk)
 
--- whether the flags, one for each number, want this column
-abbrev pub wants : List Bool → ℕ × List ℕ → Bool
-wants flags column = slice_index_or flags column.0 false
+-- whether the flags, one for each number, want this number
+abbrev pub wants : List Bool → ℕ → Bool
+wants flags number = slice_index_or flags number false
+
+-- the columns that are wanted
+abbrev pub wanted_of : List Bool → List (ℕ × List ℕ) → List (ℕ × List ℕ)
+wanted_of flags columns = filter (λ column. wants flags column.0) columns
 
 -- the pair with the columns that are wanted, which may be none
 abbrev pub hit_of : List Bool → Pair → Hit
-hit_of flags pair = record { key = pair.0; columns = filter (wants flags) pair.1 }
+hit_of flags pair = record { key = pair.0; columns = wanted_of flags pair.1 }
 
 -- the hits of a range: a pair counts also where it has none of the columns
 abbrev pub hits : List Bool → List Pair → List ℕ → ℕ → List Hit

@@ -1,6 +1,6 @@
 //! What a query of a range answers.
-ghost use Rattle.std.specs.Prelude.{◌≡◌, IfOk, filter};
-ghost use Rattle.mt_tree.specs.Range.{wants, hit_of};
+ghost use Rattle.std.specs.Prelude.{◌≡◌, IfOk};
+ghost use Rattle.mt_tree.specs.Range.{wanted_of, hit_of};
 
 use crate::wanted::Wanted;
 use mt_words::{Columns, Kept, Key, Memory};
@@ -27,24 +27,24 @@ impl Hit {
     {
         Ok(Hit {
             key: key.try_copy()?,
-            columns: choose(alloc, columns, wanted)?,
+            columns: copy_wanted(alloc, columns, wanted)?,
         })
     }
 }
 
 /// Copies of the columns that are wanted.
-fn choose(
+fn copy_wanted(
     alloc: Global,
     columns: &Columns<Kept>,
     wanted: Wanted,
 ) -> Result<Columns<Kept>, Memory>
-    ensures { IfOk result (λ chosen. chosen ≡ filter (wants wanted) columns.now) }
+    ensures { IfOk result (λ copies. copies ≡ wanted_of wanted columns.now) }
 {
-    let mut chosen = Columns::with_capacity(alloc, columns.len())?;
+    let mut copies = Columns::with_capacity(alloc, columns.len())?;
     for column in columns.as_slice() {
         if wanted.has(column.number) {
-            chosen.add(column.number, Vec::from_slice(alloc, &column.bytes)?)?;
+            copies.add(column.number, Vec::from_slice(alloc, &column.bytes)?)?;
         }
     }
-    Ok(chosen)
+    Ok(copies)
 }

@@ -1,8 +1,10 @@
 //! Which columns a query wants.
-ghost use Rattle.std.specs.Prelude.{◌≡◌, ◌≤◌, ◌↔◌, ℕ, IsSome, IfSome, true};
+ghost use Rattle.std.specs.Prelude.{◌≡◌, ◌≤◌, ◌↔◌, ℕ, List, IsSome, IfSome, true, nat_eq};
 ghost use Rattle.std.specs.List.{AllByRecursion, list_any};
-ghost use Rattle.std.specs.Prelude.{nat_eq, slice_index_or, false};
 ghost use Rattle.mt_words.specs.declared.limits.TheConstants.{GREATEST_COLUMN};
+ghost use Rattle.mt_words.specs.Limits.{widest};
+ghost use Rattle.mt_words.specs.Words.{AreColumns};
+ghost use Rattle.mt_tree.specs.Range.{wants, wanted_of};
 
 use mt_words::{GREATEST_COLUMN, MOST_COLUMNS};
 use std::marker::Model;
@@ -27,7 +29,9 @@ impl Model for Wanted {
 impl Wanted {
     /// All columns.
     pub fn all() -> Wanted
-        ensures { (number : ℕ) → number ≤ GREATEST_COLUMN → slice_index_or result number false ≡ true }
+        ensures value { (number : ℕ) → number ≤ GREATEST_COLUMN → wants result number ≡ true }
+        ensures whole { (columns : List (ℕ × List ℕ)) → AreColumns widest columns →
+            wanted_of result columns ≡ columns }
     {
         Wanted {
             flags: [true; MOST_COLUMNS],
@@ -38,7 +42,7 @@ impl Wanted {
     pub fn only(numbers: &[u8]) -> Option<Wanted>
         ensures accepted { IsSome result ↔ AllByRecursion (λ number. number ≤ GREATEST_COLUMN) numbers.now }
         ensures value { IfSome result (λ wanted. (number : ℕ) →
-            slice_index_or wanted number false ≡ list_any (nat_eq number) numbers.now) }
+            wants wanted number ≡ list_any (nat_eq number) numbers.now) }
     {
         let mut flags = [false; MOST_COLUMNS];
         for number in numbers {
@@ -52,8 +56,8 @@ impl Wanted {
 
     /// Whether the column of this number is wanted.
     pub(crate) fn has(self, number: u8) -> bool
-        ensures { result ≡ slice_index_or self number false }
+        ensures { result ≡ wants self number }
     {
-        usize::from(number) < MOST_COLUMNS && self.flags[number as usize]
+        number <= GREATEST_COLUMN && self.flags[number as usize]
     }
 }
