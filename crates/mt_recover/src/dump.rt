@@ -15,14 +15,18 @@ pub fn write_dump<W: Write>(store: &Store, out: &mut W) -> Result<(), io::Error>
     ensures { OnOk result
         (Appends (W.contents out.old) (W.contents out.new) (dump_text store.now)) }
 {
-    for (key, columns) in store.pairs() {
-        write_pair(key, columns, out)?;
+    for pair in store.pairs() {
+        write_pair(&pair.0, &pair.1, out)?;
     }
     Ok(())
 }
 
 /// Prints the line of a pair as `write_dump` does.
-pub fn write_pair<W: Write>(key: &Key, columns: &Columns<Kept>, out: &mut W) -> Result<(), io::Error>
+pub fn write_pair<W: Write>(
+    key: &Key,
+    columns: &Columns<Kept>,
+    out: &mut W,
+) -> Result<(), io::Error>
     ensures { OnOk result
         (Appends (W.contents out.old) (W.contents out.new) (pair_text (key.now, columns.now))) }
 {
