@@ -16,19 +16,23 @@ pub fn write_dump<W: Write>(store: &Store, out: &mut W) -> Result<(), io::Error>
         (Appends (W.contents out.old) (W.contents out.new) (dump_text store.now)) }
 {
     for pair in store.pairs() {
-        write_pair(pair, out)?;
+        write_pair(&pair.0, &pair.1, out)?;
     }
     Ok(())
 }
 
-/// Prints the line of a key.
-fn write_pair<W: Write>(pair: &(Key, Columns<Kept>), out: &mut W) -> Result<(), io::Error>
+/// Prints the line of a pair as `write_dump` does.
+pub fn write_pair<W: Write>(
+    key: &Key,
+    columns: &Columns<Kept>,
+    out: &mut W,
+) -> Result<(), io::Error>
     ensures { OnOk result
-        (Appends (W.contents out.old) (W.contents out.new) (pair_text pair.now)) }
+        (Appends (W.contents out.old) (W.contents out.new) (pair_text (key.now, columns.now))) }
 {
-    write_hex(pair.0.as_bytes(), out)?;
+    write_hex(key.as_bytes(), out)?;
     out.write_all(b":")?;
-    for column in pair.1.as_slice() {
+    for column in columns.as_slice() {
         write_column(column, out)?;
     }
     out.write_all(b"\n")

@@ -19,7 +19,7 @@ mod start;
 mod store;
 mod workers;
 
-pub use dump::write_dump;
+pub use dump::{write_dump, write_pair};
 pub use laws::{one_report, one_verdict, one_walk};
 pub use mt_replay::{Cuts, Pieces};
 pub use mt_tree::{Hit, Wanted};

@@ -3,11 +3,21 @@
 #![tactic(auto)]
 
 #[cfg(test)]
+mod answering;
+#[cfg(test)]
 mod asserting;
+#[cfg(test)]
+mod commands;
+#[cfg(test)]
+mod devices;
 #[cfg(test)]
 mod example;
 #[cfg(test)]
 mod feeding;
+#[cfg(test)]
+mod folders;
+#[cfg(test)]
+mod listing;
 #[cfg(test)]
 mod logs;
 #[cfg(test)]

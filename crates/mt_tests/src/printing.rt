@@ -1,39 +1,12 @@
 //! The program: texts and exit statuses.
 use crate::asserting::{assert_bytes, assert_same};
+use crate::devices::{Full, Unflushed};
 use crate::logs::{HEADER, LATE_HEADER, LOG_A, LOG_B, bytes_of};
 use mt_recover::dump_files;
 use std::env::{Env, temp_dir};
 use std::fs::{self, Files, OpenFile};
-use std::io::{self, ErrorKind, Write};
+use std::io::Write;
 use std::process::Abort;
-
-/// A full device: it takes no byte.
-#[derive(Drop)]
-struct Full;
-
-impl Write for Full {
-    fn write(&mut self, _bytes: &[u8]) -> io::Result<usize> {
-        Err(io::Error::from(ErrorKind::StorageFull))
-    }
-
-    fn flush(&mut self) -> io::Result<()> {
-        Ok(())
-    }
-}
-
-/// A device that is full once its buffer is written.
-#[derive(Drop)]
-struct Unflushed;
-
-impl Write for Unflushed {
-    fn write(&mut self, bytes: &[u8]) -> io::Result<usize> {
-        Ok(bytes.len())
-    }
-
-    fn flush(&mut self) -> io::Result<()> {
-        Err(io::Error::from(ErrorKind::StorageFull))
-    }
-}
 
 /// A name for a file of this process, in the folder for such files.
 fn path_of<R: Abort + AllocGlobal + Env>(rt: &R, id: u32, name: &str) -> String {

@@ -7,4 +7,4 @@ use Rattle.mt_recover.specs.Dump.{column_text}
 use Rattle.mt_recover.proofs.dump.write_pair.Given as goal
 
 abbrev pub invariant-loop-column : goal.invariant-loop-column
-invariant-loop-column g l = let contents = g.W.Write.contents in Appends (contents l.fn.out) (contents l.out) ((encode_lower l.pair.0 ++ codes ":") ++ flat_map column_text (take l.column-index l.column-items))
+invariant-loop-column g l = let contents = g.W.Write.contents in Appends (contents l.fn.out) (contents l.out) ((encode_lower l.key ++ codes ":") ++ flat_map column_text (take l.column-index l.column-items))

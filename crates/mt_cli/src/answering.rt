@@ -1,0 +1,82 @@
+//! The answer to a query of the recovered store.
+ghost use Rattle.std.specs.Prelude.{◌≤◌};
+
+use crate::failure::Failure;
+use crate::report_text::write_report;
+use crate::request::{Command, Query};
+use mt_recover::{
+    Cutting, Inputs, NoGate, Recovered, Store, Wanted, recover, write_dump, write_pair,
+};
+use mt_scan::Source;
+use mt_words::Key;
+use std::io::{self, BufWriter, Write};
+use std::thread::Threads;
+
+/// Recovers the store of the sources, prints what the command asks for, and answers the exit status: 0 where it is
+/// printed, else that of the failure whose line is printed on `err`. The output goes through a buffer.
+pub fn answer<R: AllocGlobal + Threads + Sync, S: Source + Send, O: Write, E: Write>(
+    rt: &R,
+    command: &Command<'_>,
+    inputs: Inputs<S>,
+    out: &mut O,
+    err: &mut E,
+) -> u8
+    ensures status { result ≤ 3 }
+{
+    match recover_and_print(rt, command, inputs, out) {
+        Ok(()) => 0,
+        Err(failure) => failure.tell(err),
+    }
+}
+
+/// Recovers the store, and prints what the command asks for.
+fn recover_and_print<R: AllocGlobal + Threads + Sync, S: Source + Send, O: Write>(
+    rt: &R,
+    command: &Command<'_>,
+    inputs: Inputs<S>,
+    out: &mut O,
+) -> Result<(), Failure<'static>> {
+    let cutting = Cutting::Even(command.pieces);
+    let recovered = recover(rt, rt.alloc(), inputs, command.workers, cutting, &NoGate)?;
+    let mut out = BufWriter::new(rt.alloc(), out)?;
+    print(&recovered, &command.query, &mut out)?;
+    out.flush()?;
+    Ok(())
+}
+
+/// Prints what the query asks for.
+fn print<O: Write>(
+    recovered: &Recovered,
+    query: &Query,
+    out: &mut O,
+) -> Result<(), Failure<'static>> {
+    let store = recovered.store();
+    match query {
+        Query::Report => write_report(recovered.report(), out)?,
+        Query::Get(key) => write_found(store, key, out)?,
+        Query::Range(start, count) => print_range(store, start, *count, out)?,
+        Query::Dump => write_dump(store, out)?,
+    }
+    Ok(())
+}
+
+/// Prints the pair of the key, or that it is absent.
+fn write_found<O: Write>(store: &Store, key: &Key, out: &mut O) -> io::Result<()> {
+    match store.get(key.as_bytes()) {
+        Some(columns) => write_pair(key, columns, out),
+        None => out.write_all(b"absent\n"),
+    }
+}
+
+/// Prints so many pairs from this key on, with all columns.
+fn print_range<O: Write>(
+    store: &Store,
+    start: &Key,
+    count: u32,
+    out: &mut O,
+) -> Result<(), Failure<'static>> {
+    for hit in store.getrange(start.as_bytes(), count as usize, Wanted::all())? {
+        write_pair(&hit.key, &hit.columns, out)?;
+    }
+    Ok(())
+}

@@ -1,0 +1,34 @@
+//! Names of logs and parts.
+use std::alloc::{AllocError, Global};
+
+/// The names of the logs and parts of a folder, each kind in byte order.
+#[derive(Debug, Drop)]
+pub struct Names {
+    /// Those that end in `.mtl`.
+    pub logs: Vec<String>,
+    /// Those that end in `.mtc`.
+    pub parts: Vec<String>,
+}
+
+impl Names {
+    /// No names.
+    pub(crate) fn new(alloc: Global) -> Names {
+        Names {
+            logs: Vec::new(alloc),
+            parts: Vec::new(alloc),
+        }
+    }
+
+    /// Adds the name of a log or a part. Any other is ignored.
+    pub(crate) fn add(&mut self, alloc: Global, name: &str) -> Result<(), AllocError> {
+        let kind = if name.ends_with(".mtl") {
+            &mut self.logs
+        } else if name.ends_with(".mtc") {
+            &mut self.parts
+        } else {
+            return Ok(());
+        };
+        kind.push(String::from_str(alloc, name)?)?;
+        Ok(())
+    }
+}

@@ -1,0 +1,52 @@
+//! The files of a folder.
+ghost use Rattle.std.specs.Prelude.{◌≤◌, IfErr};
+
+use crate::failure::{Failure, or_tell};
+use crate::file_names::Names;
+use std::fs::{self, Files};
+use std::io::Write;
+
+/// The most logs and parts of a folder together.
+const MOST_FILES: usize = 512;
+
+/// The logs and parts of the folder, by the endings of their names alone. An Err is the exit status, where its line is
+/// printed.
+pub fn names<R: AllocGlobal + Files + Clone + Drop, E: Write>(
+    rt: &R,
+    folder: &str,
+    err: &mut E,
+) -> Result<Names, u8>
+    ensures status { IfErr result (λ status. status ≤ 3) }
+{
+    or_tell(list(rt, folder), err)
+}
+
+/// The logs and parts of the folder.
+fn list<'a, R: AllocGlobal + Files + Clone + Drop>(
+    rt: &R,
+    folder: &'a str,
+) -> Result<Names, Failure<'a>> {
+    let mut names = read_names(rt, folder)?;
+    if names.logs.len().saturating_add(names.parts.len()) > MOST_FILES {
+        return Err(Failure::TooManyFiles);
+    }
+    names.logs.sort_unstable();
+    names.parts.sort_unstable();
+    Ok(names)
+}
+
+/// The logs and parts of the folder, in no order.
+fn read_names<'a, R: AllocGlobal + Files + Clone + Drop>(
+    rt: &R,
+    folder: &'a str,
+) -> Result<Names, Failure<'a>> {
+    let mut names = Names::new(rt.alloc());
+    let entries = fs::read_dir(rt, folder).map_err(|error| Failure::List(folder).or_memory(
+        &error,
+    ))?;
+    for entry in entries {
+        let entry = entry.map_err(|error| Failure::List(folder).or_memory(&error))?;
+        names.add(rt.alloc(), entry.file_name())?;
+    }
+    Ok(names)
+}

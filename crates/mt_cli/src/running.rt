@@ -1,0 +1,86 @@
+//! The program as a whole.
+ghost use Rattle.std.specs.Prelude.{◌≤◌, OnOk, OnErr, IfErr, IfOk};
+
+use crate::answering::answer;
+use crate::failure::{Failure, or_tell};
+use crate::file_names::Names;
+use crate::listing::names;
+use crate::opening::open_all;
+use crate::request::Command;
+use crate::words::command;
+use mt_recover::Inputs;
+use mt_scan::{LONGEST_BUFFER, Rack, ReaderSource, Slot};
+use std::env::{self, Env};
+use std::fs::Files;
+use std::io::{self, Write};
+use std::thread::Threads;
+
+/// Does what the words of the process ask, and answers its exit status.
+pub fn run<R, O: Write, E: Write>(rt: &R, out: &mut O, err: &mut E) -> u8
+where
+    R: AllocGlobal + Clone + Drop + Env + Files + Threads + Sync,
+    R::File: Send,
+    ensures status { result ≤ 3 }
+{
+    match words_of_process(rt) {
+        Ok(words) => run_words(rt, &words, out, err),
+        Err(error) => Failure::Words.or_memory(&error).tell(err),
+    }
+}
+
+/// The words of the process, the first of which is its name.
+fn words_of_process<R: AllocGlobal + Env>(rt: &R) -> io::Result<Vec<String>> {
+    Ok(env::args(rt)?.collect(rt.alloc())?)
+}
+
+/// Does what these words ask, the first of which is the program's name, and answers the exit status.
+pub fn run_words<R, O: Write, E: Write>(rt: &R, words: &[String], out: &mut O, err: &mut E) -> u8
+where
+    R: AllocGlobal + Clone + Drop + Files + Threads + Sync,
+    R::File: Send,
+    ensures status { result ≤ 3 }
+{
+    match try_words(rt, words, out, err) {
+        Ok(status) | Err(status) => status,
+    }
+}
+
+/// The exit status, as an Err where nothing was recovered.
+fn try_words<R, O: Write, E: Write>(
+    rt: &R,
+    words: &[String],
+    out: &mut O,
+    err: &mut E,
+) -> Result<u8, u8>
+where
+    R: AllocGlobal + Clone + Drop + Files + Threads + Sync,
+    R::File: Send,
+    ensures answered { IfOk result (λ status. status ≤ 3) }
+    ensures not { IfErr result (λ status. status ≤ 3) }
+{
+    let command = command(rt, words, out, err)?;
+    let names = names(rt, command.folder, err)?;
+    let mut rack = or_tell(rack_of(rt, &names), err)?;
+    let inputs = or_tell(open(rt, &command, &names, rack.slots()), err)?;
+    Ok(answer(rt, &command, inputs, out, err))
+}
+
+/// A buffer for each file.
+fn rack_of<R: AllocGlobal>(rt: &R, names: &Names) -> Result<Rack, Failure<'static>> {
+    let count = names.logs.len().saturating_add(names.parts.len());
+    Ok(Rack::new(rt.alloc(), count, LONGEST_BUFFER)?)
+}
+
+/// The sources of the logs, and then those of the parts.
+fn open<'a, 'b, R: AllocGlobal + Files>(
+    rt: &R,
+    command: &Command<'_>,
+    names: &'a Names,
+    slots: &'b mut [Slot],
+) -> Result<Inputs<ReaderSource<'b, R::File>>, Failure<'a>> {
+    let log_count = names.logs.len().min(slots.len());
+    let (log_slots, part_slots) = slots.split_at_mut(log_count);
+    let logs = open_all(rt, command.folder, &names.logs, log_slots)?;
+    let parts = open_all(rt, command.folder, &names.parts, part_slots)?;
+    Ok(Inputs { logs, parts })
+}

@@ -1,0 +1,93 @@
+//! Reading the words.
+ghost use Rattle.std.specs.Prelude.{◌≤◌, IfErr};
+
+use crate::failure::{Failure, or_tell};
+use crate::grammar::grammar;
+use crate::request::{Command, Query};
+use clap::ArgMatches;
+use clap::error::ErrorKind;
+use hex::FromHexError;
+use mt_recover::{Pieces, Workers};
+use mt_words::{Fault, Key};
+use std::alloc::Global;
+use std::io::Write;
+
+/// What the words ask for, the first of which is the program's name. An Err is the exit status, where what there is to
+/// say is printed: help and the version on `out`, a fault of the words on `err`.
+pub fn command<'a, R: AllocGlobal, O: Write, E: Write>(
+    rt: &R,
+    words: &'a [String],
+    out: &mut O,
+    err: &mut E,
+) -> Result<Command<'a>, u8>
+    ensures status { IfErr result (λ status. status ≤ 3) }
+{
+    match parse(rt.alloc(), words) {
+        Ok(matches) => or_tell(read(rt.alloc(), &matches), err),
+        Err(error) => Err(tell(&error, out, err)),
+    }
+}
+
+/// The words by their names.
+fn parse<'a>(alloc: Global, words: &'a [String]) -> Result<ArgMatches<'a>, clap::Error> {
+    grammar(alloc)?.try_get_matches_from(words)
+}
+
+/// Prints what the parser of the words says, and answers the status.
+fn tell<O: Write, E: Write>(error: &clap::Error, out: &mut O, err: &mut E) -> u8
+    ensures { result ≤ 3 }
+{
+    if error.kind() == ErrorKind::OutOfMemory {
+        return Failure::from(Fault::Memory).tell(err);
+    }
+    if error.use_stderr() {
+        // A text that cannot be written changes no status.
+        let _ = write!(err, "{error}");
+        return 2;
+    }
+    if write!(out, "{error}").is_err() || out.flush().is_err() {
+        return Failure::Output.tell(err);
+    }
+    0
+}
+
+/// What the words ask for.
+fn read<'a>(alloc: Global, matches: &ArgMatches<'a>) -> Result<Command<'a>, Failure<'static>> {
+    let (name, matches) = matches.subcommand().ok_or(Failure::Words)?;
+    let folder = matches.get_str("DIR").ok_or(Failure::Words)?;
+    let workers = Workers::new(number(matches, "workers")?).ok_or(Failure::Words)?;
+    let pieces = Pieces::new(number(matches, "pieces")?).ok_or(Failure::Words)?;
+    let query = query(alloc, name, matches)?;
+    Ok(Command {
+        folder,
+        workers,
+        pieces,
+        query,
+    })
+}
+
+/// What the subcommand of this name is to print.
+fn query(alloc: Global, name: &str, matches: &ArgMatches<'_>) -> Result<Query, Failure<'static>> {
+    match name {
+        "report" => Ok(Query::Report),
+        "get" => Ok(Query::Get(key(alloc, matches)?)),
+        "range" => Ok(Query::Range(key(alloc, matches)?, number(matches, "COUNT")?)),
+        "dump" => Ok(Query::Dump),
+        _ => Err(Failure::Words),
+    }
+}
+
+/// The number of this name.
+fn number(matches: &ArgMatches<'_>, name: &str) -> Result<u32, Failure<'static>> {
+    matches.get_one(name).ok_or(Failure::Words)
+}
+
+/// The key, which is looked at once all words are accepted.
+fn key(alloc: Global, matches: &ArgMatches<'_>) -> Result<Key, Failure<'static>> {
+    let digits = matches.get_str("KEY").ok_or(Failure::Words)?;
+    match hex::decode(alloc, digits) {
+        Ok(bytes) => Key::new(bytes).ok_or(Failure::Key),
+        Err(FromHexError::OutOfMemory) => Err(Failure::from(Fault::Memory)),
+        Err(_) => Err(Failure::Key),
+    }
+}
