@@ -2,7 +2,6 @@
 ghost use Rattle.std.specs.Prelude.{◌≤◌};
 
 use crate::failure::Failure;
-use crate::report_text::write_report;
 use crate::request::{Command, Query};
 use mt_recover::{
     Cutting, Inputs, NoGate, Recovered, Store, Wanted, recover, write_dump, write_pair,
@@ -10,10 +9,12 @@ use mt_recover::{
 use mt_scan::Source;
 use mt_words::Key;
 use std::io::{self, BufWriter, Write};
+use std::mem;
 use std::thread::Threads;
 
 /// Recovers the store of the sources, prints what the command asks for, and answers the exit status: 0 where it is
-/// printed, else that of the failure whose line is printed on `err`. The output goes through a buffer.
+/// printed, else that of the failure whose line is printed on `err`. The output goes through a buffer. The store is
+/// not freed: a process ends with its answer, and to free a great store key by key takes a tenth of its recovery.
 pub fn answer<R: AllocGlobal + Threads + Sync, S: Source + Send, O: Write, E: Write>(
     rt: &R,
     command: &Command<'_>,
@@ -41,6 +42,7 @@ fn recover_and_print<R: AllocGlobal + Threads + Sync, S: Source + Send, O: Write
     let mut out = BufWriter::new(rt.alloc(), out)?;
     print(&recovered, &command.query, &mut out)?;
     out.flush()?;
+    mem::forget(recovered);
     Ok(())
 }
 
@@ -52,7 +54,7 @@ fn print<O: Write>(
 ) -> Result<(), Failure<'static>> {
     let store = recovered.store();
     match query {
-        Query::Report => write_report(recovered.report(), out)?,
+        Query::Report => write!(out, "{}", recovered.report())?,
         Query::Get(key) => write_found(store, key, out)?,
         Query::Range(start, count) => print_range(store, start, *count, out)?,
         Query::Dump => write_dump(store, out)?,

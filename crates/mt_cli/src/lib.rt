@@ -7,7 +7,6 @@ mod file_names;
 mod grammar;
 mod listing;
 mod opening;
-mod report_text;
 mod request;
 mod running;
 mod words;

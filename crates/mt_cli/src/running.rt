@@ -28,12 +28,12 @@ where
     }
 }
 
-/// The words of the process, the first of which is its name.
+/// The words of the process behind its name.
 fn words_of_process<R: AllocGlobal + Env>(rt: &R) -> io::Result<Vec<String>> {
-    Ok(env::args(rt)?.collect(rt.alloc())?)
+    Ok(env::args(rt)?.skip(1).collect(rt.alloc())?)
 }
 
-/// Does what these words ask, the first of which is the program's name, and answers the exit status.
+/// Does what these words behind the program's name ask, and answers the exit status.
 pub fn run_words<R, O: Write, E: Write>(rt: &R, words: &[String], out: &mut O, err: &mut E) -> u8
 where
     R: AllocGlobal + Clone + Drop + Files + Threads + Sync,

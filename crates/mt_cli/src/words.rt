@@ -12,8 +12,8 @@ use mt_words::{Fault, Key};
 use std::alloc::Global;
 use std::io::Write;
 
-/// What the words ask for, the first of which is the program's name. An Err is the exit status, where what there is to
-/// say is printed: help and the version on `out`, a fault of the words on `err`.
+/// What the words behind the program's name ask for. An Err is the exit status, where what there is to say is printed:
+/// help and the version on `out`, a fault of the words on `err`.
 pub fn command<'a, R: AllocGlobal, O: Write, E: Write>(
     rt: &R,
     words: &'a [String],

@@ -9,10 +9,10 @@ fn words_of<R: Abort + AllocGlobal>(rt: &R, line: &str) -> Vec<String> {
     words_on(rt, line, "F")
 }
 
-/// The words of a line with this folder for the word F.
+/// The words of a line behind the program's name, with this folder for the word F.
 pub fn words_on<R: Abort + AllocGlobal>(rt: &R, line: &str, folder: &str) -> Vec<String> {
     let mut words = Vec::new(rt.alloc());
-    for word in line.split(' ') {
+    for word in line.split(' ').skip(1) {
         let word = if word == "F" { folder } else { word };
         let word = String::from_str(rt.alloc(), word).expect(rt, "memory");
         words.push(word).expect(rt, "memory");
