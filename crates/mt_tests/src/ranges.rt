@@ -1,5 +1,5 @@
 //! Ranges of a recovered store, and what is wanted of their pairs.
-use crate::asserting::{assert_bytes, assert_same, assert_same_in};
+use crate::asserting::{assert_bytes, assert_same_in};
 use crate::logs::{LOG_OF_THREE, bytes_of};
 use mt_recover::{Hit, Recovered, Wanted, recover_logs};
 use std::process::Abort;
@@ -75,5 +75,5 @@ fn columns_are_wanted_up_to_fifteen(rt: HostRuntime) {
 fn keys_past_the_longest_are_not_found(rt: HostRuntime) {
     let recovered = three(&rt);
     let found = recovered.store().get([b'b'; 1025].as_slice());
-    assert_same(&rt, &found.is_none(), &true);
+    assert!(rt; found.is_none());
 }
