@@ -1,7 +1,7 @@
 -- What a report counts, log by log and part by part.
-use Rattle.std.proofs.Common.{◌≡◌, ◌∙◌, ℕ, suc, ◌+◌, ◌<◌, Bool, true, false, cond, Option, Some, None, MatchOption, List, [], ◌∷◌, ◌++◌, length, get_or, take, refl, sym, ap, arith}
-use Rattle.std.specs.Prelude.{nat_lt}
-use Rattle.std.specs.List.{filter, flat_map, sum_by, count_by}
+use Rattle.std.proofs.Common.{◌≡◌, ◌∙◌, ℕ, suc, ◌+◌, ◌<◌, Bool, true, false, cond, Option, Some, None, List, [], ◌∷◌, ◌++◌, length, get_or, take, refl, sym, ap, arith}
+use Rattle.std.specs.Prelude.{nat_lt, ◌||◌}
+use Rattle.std.specs.List.{filter, flat_map, sum_by, count_by, list_any}
 use Rattle.std.specs.Option.{option_map}
 use Rattle.std.proofs.lemmas.Bool.Decides.{nat_tests}
 use Rattle.std.proofs.lemmas.List.{length-append, length-map}
@@ -72,15 +72,14 @@ early_step begin kept i more below is =
 abbrev pub one_if : Bool → ℕ
 one_if test = cond test 1 0
 
--- one update counts where its test says so
-pub early_one : (begin : ℕ) (update : Option Update) (early : Bool) → MatchOption update (early ≡ false) (λ u. early ≡ is_early begin u)
-    → length (filter (is_early begin) (listed update)) ≡ one_if early
-early_one begin None early is = ap one_if (sym is)
-early_one begin (Some u) early is = counted (is_early begin u) u ∙ ap one_if (sym is)
-  where
-    counted : (b : Bool) (u : Update) → length (cond b (u ∷ []) []) ≡ one_if b
-    counted true u = refl
-    counted false u = refl
+-- one update counts where it is early
+counted : (u : Update) (b : Bool) → length (cond b (u ∷ []) []) ≡ one_if (b || false)
+counted u true = refl
+counted u false = refl
+
+pub early_one : (begin : ℕ) (update : Option Update) → length (filter (is_early begin) (listed update)) ≡ one_if (list_any (is_early begin) (listed update))
+early_one begin None = refl
+early_one begin (Some u) = counted u (is_early begin u)
 
 -- nothing lies below 0
 not_below : (time begin : ℕ) → begin ≡ 0 → nat_lt time begin ≡ false

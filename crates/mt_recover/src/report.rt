@@ -1,8 +1,9 @@
 //! What recovery found in logs and parts, and what became of it.
 ghost use Rattle.std.specs.Prelude.{◌≡◌, ◌+◌, ◌-◌, ◌≤◌, List, ℕ, length, filter, sum_by};
 ghost use Rattle.std.specs.Fn.{FnReturnsAt};
+ghost use Rattle.std.specs.List.{list_any};
 ghost use Rattle.std.specs.Option.{option_map};
-ghost use Rattle.mt_record.specs.Kept.{kept_updates};
+ghost use Rattle.mt_record.specs.Kept.{kept_updates, listed};
 ghost use Rattle.mt_scan.specs.Choice.{checkpoint_in, AreSkipped, AreNameless};
 ghost use Rattle.mt_replay.specs.Runs.{together};
 ghost use Rattle.mt_recover.specs.LogScans.{ShowAll, kept};
@@ -10,7 +11,7 @@ ghost use Rattle.mt_recover.specs.Recovery.{Facts};
 ghost use Rattle.mt_recover.specs.Report.{IsFoundIn, is_early};
 ghost use Rattle.mt_recover.specs.Survivors.{begin_of, entry_updates};
 
-use mt_record::Updates;
+use mt_record::{Lent, Updates};
 use mt_replay::{LogCells, Window};
 use mt_scan::{Checkpoint, Choice, LogScan};
 
@@ -150,12 +151,18 @@ fn early_among(updates: &Updates, begin: u64) -> usize
 {
     let mut count = 0;
     for number in 0..updates.record_count() {
-        let update = updates.update(number);
-        if update.is_some_and(|update| update.timestamp() < begin) {
+        if comes_early(updates.update(number), begin) {
             count += 1;
         }
     }
     count
+}
+
+/// Whether this is an update below this timestamp.
+fn comes_early(update: Option<Lent<'_>>, begin: u64) -> bool
+    ensures { result ≡ list_any (is_early begin) (listed update.entry) }
+{
+    update.is_some_and(|update| update.timestamp() < begin)
 }
 
 /// The updates of all cells.
