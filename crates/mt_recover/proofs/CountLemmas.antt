@@ -6,13 +6,13 @@ use Rattle.std.proofs.lemmas.List.{length-append}
 use Rattle.std.proofs.lemmas.List.Elements.{filter-append}
 use Rattle.mt_words.specs.declared.update.Update.{Update}
 use Rattle.mt_words.specs.Updates.{updates_from}
+use Rattle.mt_words.specs.Walks.{Pair}
 use Rattle.mt_record.specs.Kept.{is_mark}
 use Rattle.mt_record.specs.Logs.{LogReading}
 use Rattle.mt_record.proofs.RecordLemmas.{marks_and_updates}
 use Rattle.mt_scan.specs.PartScans.{KnownPart}
 use Rattle.mt_scan.specs.Choice.{Checkpoint, IsChosenOf}
 use Rattle.mt_replay.specs.declared.window.Window.{Window}
-use Rattle.mt_words.specs.Walks.{Pair}
 use Rattle.mt_replay.specs.Survivors.{all_updates, in_window, is_within}
 use Rattle.mt_recover.specs.declared.report.Report.{Report}
 use Rattle.mt_recover.specs.Recovery.{Facts, records_of}

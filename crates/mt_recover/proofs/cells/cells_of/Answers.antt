@@ -16,6 +16,6 @@ returns c =
     let chosen = option_map checkpoint_in c.args.chosen in
     let logs : List (List Update) = c.in_ok-lists.lists.items in
     let parts : List (List Update) = c.in_ok-parts.parts.items in
-    subst (λ (lists : List (List Update)). IsPermutation (surviving window chosen c.args.scans.items) (together lists)) (sym c.in_ok-append.ensures.items)
+    subst (λ (lists : List (List Update)). IsPermutation (surviving window chosen c.args.scans.items) (together lists)) (sym {A = List (List Update)} c.in_ok-append.ensures.items)
     (subst (IsPermutation (surviving window chosen c.args.scans.items)) (sym (together_append logs parts))
     (IsPermutation-append (kept_in window c.args.scans.items) (together logs) (entry_updates chosen) (together parts) c.in_ok-lists.ensures c.in_ok-parts.ensures))

@@ -12,7 +12,7 @@ use Rattle.mt_recover.proofs.cells.cells_of_logs.Goals as goal
 pub loop-scan-preserved : goal.loop-scan-preserved
 loop-scan-preserved c =
     let window = c.args.window in
-    subst (λ (lists : List (List Update)). IsPermutation (kept_in window (c.loop-scan.yielded ++ c.in-Some.scan ∷ [])) (together lists)) (sym c.in_ok-push.ensures.items)
+    subst (λ (lists : List (List Update)). IsPermutation (kept_in window (c.loop-scan.yielded ++ c.in-Some.scan ∷ [])) (together lists)) (sym {A = List (List Update)} c.in_ok-push.ensures.items)
     (cells_more window c.loop-scan.yielded c.in-Some.scan c.loop-scan.lists.items c.in_ok-of_log.field-0 c.loop-scan.invariant c.in_ok-of_log.ensures)
 
 pub returns : goal.returns
