@@ -18,47 +18,46 @@ pub fn grammar<'a>(alloc: Global) -> Result<Command<'a>, AllocError> {
 
 /// The words of `report`.
 fn report<'a>(alloc: Global) -> Result<Command<'a>, AllocError> {
-    Ok(
-        subcommand(alloc, "report")?
-            .about("Prints what recovery found in the logs and parts, and what became of it")
-            .after_help("Example: mtrecover report examples/store"),
-    )
+    let about = "Prints what recovery found in the logs and parts, and what became of it";
+    let example = "Example: mtrecover report examples/store";
+    subcommand(alloc, "report", about, example)
 }
 
 /// The words of `get`.
 fn get<'a>(alloc: Global) -> Result<Command<'a>, AllocError> {
-    subcommand(alloc, "get")?
-        .about("Prints the pair of a key, or `absent`")
-        .after_help("Example: mtrecover get examples/store 666967")
-        .arg(key(alloc))
+    let about = "Prints the pair of a key, or `absent`";
+    let example = "Example: mtrecover get examples/store 666967";
+    subcommand(alloc, "get", about, example)?.arg(key(alloc))
 }
 
 /// The words of `range`.
 fn range<'a>(alloc: Global) -> Result<Command<'a>, AllocError> {
-    subcommand(alloc, "range")?
-        .about("Prints the first pairs at or after a key")
-        .after_help("Example: mtrecover range examples/store 6b 2")
+    let about = "Prints the first pairs at or after a key";
+    let example = "Example: mtrecover range examples/store 6b 2";
+    let count = arg!(in alloc; <COUNT> "The most pairs to print").value_parser(
+        ValueParser::unsigned(0, u64::from(u32::MAX)),
+    );
+    subcommand(alloc, "range", about, example)?
         .arg(key(alloc))?
-        .arg(
-            arg!(in alloc; <COUNT> "The most pairs to print").value_parser(ValueParser::unsigned(
-                0,
-                4_294_967_295,
-            )),
-        )
+        .arg(count)
 }
 
 /// The words of `dump`.
 fn dump<'a>(alloc: Global) -> Result<Command<'a>, AllocError> {
-    Ok(
-        subcommand(alloc, "dump")?
-            .about("Prints all pairs")
-            .after_help("Example: mtrecover dump examples/store --workers 8"),
-    )
+    let example = "Example: mtrecover dump examples/store --workers 8";
+    subcommand(alloc, "dump", "Prints all pairs", example)
 }
 
 /// The words that each subcommand takes.
-fn subcommand<'a>(alloc: Global, name: &'a str) -> Result<Command<'a>, AllocError> {
+fn subcommand<'a>(
+    alloc: Global,
+    name: &'a str,
+    about: &'a str,
+    example: &'a str,
+) -> Result<Command<'a>, AllocError> {
     Command::new(alloc, name)
+        .about(about)
+        .after_help(example)
         .arg(arg!(in alloc; <DIR> "The folder of logs (.mtl) and checkpoint parts (.mtc)"))?
         .arg(workers(alloc))?
         .arg(pieces(alloc))

@@ -1,5 +1,5 @@
 //! The program as a whole.
-ghost use Rattle.std.specs.Prelude.{◌≤◌, OnOk, OnErr, IfErr, IfOk};
+ghost use Rattle.std.specs.Prelude.{◌≤◌, IfErr, IfOk};
 
 use crate::answering::answer;
 use crate::failure::{Failure, or_tell};

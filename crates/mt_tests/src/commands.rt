@@ -41,11 +41,13 @@ fn takes_the_words_of_each_subcommand(rt: HostRuntime) {
         ),
         (
             "mtrecover get F 6aB0 --workers 1 --pieces 1",
-            "Command { folder: \"F\", workers: Workers { count: 1 }, pieces: Pieces { count: 1 }, query: Get(Key { bytes: [106, 176] }) }",
+            "Command { folder: \"F\", workers: Workers { count: 1 }, pieces: Pieces { count: 1 }, \
+             query: Get(Key { bytes: [106, 176] }) }",
         ),
         (
             "mtrecover range F  4294967295 --workers 64 --pieces 4096",
-            "Command { folder: \"F\", workers: Workers { count: 64 }, pieces: Pieces { count: 4096 }, query: Range(Key { bytes: [] }, 4294967295) }",
+            "Command { folder: \"F\", workers: Workers { count: 64 }, pieces: Pieces { count: 4096 }, \
+             query: Range(Key { bytes: [] }, 4294967295) }",
         ),
         (
             "mtrecover dump  --pieces 2",
