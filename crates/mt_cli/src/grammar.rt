@@ -9,6 +9,7 @@ pub fn grammar<'a>(alloc: Global) -> Result<Command<'a>, AllocError> {
         .version("1.0")
         .about("Recovers the store of a folder of update logs and checkpoint parts")
         .no_binary_name(true)
+        .bin_name("mtrecover")?
         .arg_required_else_help(true)
         .subcommand_required(true)
         .subcommand(report(alloc)?)?

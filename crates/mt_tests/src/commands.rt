@@ -150,7 +150,10 @@ fn prints_help_and_the_version(rt: HostRuntime) {
     for (line, output) in [
         ("mtrecover --help", "Recovers the store"),
         ("mtrecover help range", "Prints the first pairs"),
-        ("mtrecover get --help", "Prints the pair of a key"),
+        (
+            "mtrecover get --help",
+            "Prints the pair of a key, or `absent`\n\nUsage: mtrecover get [OPTIONS] <DIR> <KEY>\n",
+        ),
         ("mtrecover --version", "mtrecover 1.0\n"),
     ] {
         assert_refused(&rt, line, 0, output, "");
