@@ -26,7 +26,11 @@ impl Display for Report {
 }
 
 /// Writes the line of a list.
-fn write_list<T: Display, W: Write>(f: &mut Formatter<W>, name: &str, numbers: &[T]) -> fmt::Result {
+fn write_list<T: Display, W: Write>(
+    f: &mut Formatter<W>,
+    name: &str,
+    numbers: &[T],
+) -> fmt::Result {
     write!(f, "{name}=")?;
     let Some((first, others)) = numbers.split_first() else {
         return writeln!(f, "none");
