@@ -55,7 +55,7 @@ few_bytes cs are = omega (arith, columns_length widest cs are.0, few_columns cs 
 -- ---- adding
 
 -- bytes added one after the other
-adds_both : {Z : Type 0} (a b c : Vec ℕ Z) (xs ys : List ℕ) → Adds xs a b → Adds ys b c → Adds (xs ++ ys) a c
+pub adds_both : {Z : Type 0} (a b c : Vec ℕ Z) (xs ys : List ℕ) → Adds xs a b → Adds ys b c → Adds (xs ++ ys) a c
 adds_both a b c xs ys first then = record {
   items = then.items ∙ ap (λ (x : List ℕ). x ++ ys) first.items ∙ append_assoc a.items xs ys;
   len = omega (arith, first.len, then.len, length-append xs ys);

@@ -1,9 +1,11 @@
 -- What a feed has read when more bytes follow, whatever its items are.
-use Rattle.std.proofs.Common.{◌≡◌, ℕ, ◌+◌, ◌-◌, ◌*◌, ◌<◌, List, [], ◌∷◌, ◌++◌, length, drop, refl, sym, ap, ◌∙◌, subst, arith, true, Bool}
+use Rattle.std.proofs.Common.{◌≡◌, ℕ, ◌+◌, ◌-◌, ◌*◌, ◌<◌, Result, Ok, Err, Option, Some, None, List, [], ◌∷◌, ◌++◌, length, drop, refl, sym, ap, ◌∙◌, subst, arith, true, Bool}
 use Rattle.std.proofs.lemmas.List.{length-append, append-nil, nil_from_length}
 use Rattle.std.proofs.lemmas.Bool.Decides.{Decides-eqb}
+use Rattle.std.proofs.lemmas.Option.{none-some}
 use Rattle.std.specs.Prelude.{◌==◌}
-use Rattle.mt_record.specs.Feeding.{HoldsUpTo, HoldsAll, Tops}
+use Rattle.std.specs.Result.{OnOk, IfErr}
+use Rattle.mt_record.specs.Feeding.{HoldsUpTo, HoldsAll, IsFedBy, Tops}
 
 -- what was read is the same when more bytes follow
 abbrev pub GoesOn : {I : Type 0} → (I → List ℕ → List ℕ → Type 0) → Type 0
@@ -54,3 +56,23 @@ none_held reads is_left on items held text rest holds none =
 
 pub nil_if_empty : (xs : List ℕ) (len : ℕ) (empty : Bool) → len ≡ length xs → empty ≡ (len == 0) → empty ≡ true → xs ≡ []
 nil_if_empty xs len empty number test outcome = nil_from_length xs (sym number ∙ (Decides-eqb len 0).0 (sym test ∙ outcome))
+
+-- ---- feeds
+
+-- a feed that was fed nothing
+pub fed_nothing : {I F : Type 0} (reads : I → List ℕ → List ℕ → Type 0) (is_left : I → List ℕ → Type 0) (fails : I → F → List ℕ → Type 0) (items fresh : I) (held : List ℕ) (answered : Option F)
+    → items ≡ fresh → held ≡ [] → answered ≡ None → HoldsAll reads is_left fresh [] [] → IsFedBy reads is_left fails items held answered []
+fed_nothing {I} reads is_left fails items fresh held answered same none sound holds = (
+  λ _. subst (λ (p : I × List ℕ). HoldsAll reads is_left p.0 p.1 []) (λ i. (sym same i, sym none i)) holds,
+  λ fault is. absurd (none-some fault (sym sound ∙ is)),
+)
+
+-- what follows of an answer without a fault
+pub on_ok : {A F P Q : Type 0} (answer : Result A F) → (P → Q) → OnOk answer P → OnOk answer Q
+on_ok (Ok x) then is = then is
+on_ok (Err e) then is = tt
+
+-- and of one with a fault
+pub if_err : {A F : Type 0} {P Q : F → Type 0} (answer : Result A F) → ((fault : F) → P fault → Q fault) → IfErr answer P → IfErr answer Q
+if_err (Ok x) then is = tt
+if_err (Err e) then is = then e is

@@ -20,7 +20,6 @@ pub mod PartBeginnings
 pub mod PartItems
 pub mod Feeds
 pub mod LogFeeds
-pub mod PartFeeds
 pub mod TextLemmas
 pub mod Decodes
 pub mod RecordLemmas

@@ -5,7 +5,7 @@ use Rattle.std.specs.Prelude.{◌==◌, Bool, not, codes, IfOk, OnErr, MatchOpti
 use Rattle.std.specs.Borrow.{Bor}
 use Rattle.std.specs.List.{flat_map}
 use Rattle.byteorder.specs.Endian.{big_bytes}
-use Rattle.std.specs.Result.{OnOk, IfErr}
+use Rattle.std.specs.Result.{IfErr}
 use Rattle.mt_words.specs.declared.fault.What.{What}
 use Rattle.mt_words.specs.declared.limits.Format.TheVariants.{One}
 use Rattle.mt_words.specs.Limits.{limits_of, magic}
@@ -20,10 +20,9 @@ use Rattle.mt_record.specs.Logs.{latest, IsLog, LogReading, IsLast, IsTextIn}
 use Rattle.mt_record.specs.LogFaults.{RestFault, HasFault, IsAnswered}
 use Rattle.mt_record.specs.Fronts.{BeginsAlike}
 use Rattle.mt_record.specs.Bodies.{IsNext}
-use Rattle.mt_record.specs.declared.feed.Feed.{Feed}
-use Rattle.mt_record.specs.Feeding.{Reads, ReadsStep, IsFedBy}
-use Rattle.mt_record.specs.LogFeeding.{FedLog, LogSoFar, ShowsNoHeader, IsShown, ShowsNoFault, AreRead, HasRead, ReadsNoHeader, IsCutHeader, IsLeft, IsLogLeft, HasFailed, IsLogFed}
-use Rattle.mt_record.specs.LogPieces.{fed_log, so_far, ReadsLog, HasReadItems, IsLeftOfItems, ReadsNext, IsNextFault}
+use Rattle.mt_record.specs.Feeding.{Reads, HoldsAll}
+use Rattle.mt_record.specs.LogFeeding.{LogSoFar, ShowsNoHeader, IsShown, ShowsNoFault, AreRead, HasRead, ReadsNoHeader, IsCutHeader, IsLeft, IsLogLeft, HasFailed}
+use Rattle.mt_record.specs.LogPieces.{so_far, ReadsLog, HasReadItems, IsLeftOfItems, StepsLog, ReadsNext, IsNextFault}
 use Rattle.mt_record.specs.LogLaws.{begins_by}
 use Rattle.mt_record.proofs.Records.{records_push, latest_push, spelled_push, last_is, tells_torn}
 use Rattle.mt_record.proofs.OneReading.{not_both}
@@ -126,47 +125,28 @@ record_failed (faults.Record nth what) old ready head taken text rest some k e r
 record_failed faults.Memory old ready head taken text rest some k e reads =
     rw e (begins_by old.head (taken ++ old.ready) old.latest old.whole text rest reads)
 
--- a step behind the header
-pub step_by : {R : Type 0} (listed : R → List Logged) (old new : LogItems R) (head : Head) (bytes : List ℕ) (outcome : Result (Option (Bor (List ℕ))) FeedFault) → old.head ≡ Some head
-    → IfOk outcome (λ next. MatchOption next ((new ≡ old) × IsLeft (limits_of head.format) bytes) (λ after. ReadsNext head (so_far listed old) bytes (so_far listed new) after.now))
-    → IfOk outcome (ReadsStep (HasReadItems listed) IsLeftOfItems old new bytes)
-step_by listed old new head bytes (Ok None) some stays = (stays.0, λ taken text reads. records_left (so_far listed old) head bytes some stays.1)
-step_by listed old new head bytes (Ok (Some after)) some next =
+-- one step behind the header
+pub steps_by : {R : Type 0} (listed : R → List Logged) (old new : LogItems R) (head : Head) (bytes : List ℕ) (answer : Result (Option (Bor (List ℕ))) FeedFault) → old.head ≡ Some head
+    → IfOk answer (λ next. MatchOption next ((new ≡ old) × IsLeft (limits_of head.format) bytes) (λ after. ReadsNext head (so_far listed old) bytes (so_far listed new) after.now))
+    → IfErr answer (IsNextFault head (so_far listed old) bytes) → OnErr answer (listed new.ready ≡ listed old.ready) → StepsLog listed old new bytes answer
+steps_by listed old new head bytes (Ok None) some stays failed kept =
+    record { next = (stays.0, λ taken text reads. records_left (so_far listed old) head bytes some stays.1); fault = λ taken text reads. tt }
+steps_by listed old new head bytes (Ok (Some after)) some next failed kept =
     let read = record_read (so_far listed old) (so_far listed new) head bytes after.now some next in
-    (record { items = read.0.items; joins = read.0.joins; on = read.0.on }, read.1)
-step_by listed old new head bytes (Err fault) some next = tt
-
--- a fault behind the header
-pub fault_by : {R : Type 0} (listed : R → List Logged) (old new : LogItems R) (head : Head) (bytes : List ℕ) (outcome : Result (Option (Bor (List ℕ))) FeedFault) (taken : List Logged) (text : List ℕ)
-    → old.head ≡ Some head → IfErr outcome (IsNextFault head (so_far listed old) bytes) → OnErr outcome (listed new.ready ≡ listed old.ready) → HasReadItems listed taken old text bytes
-    → IfErr outcome (λ fault. HasFailed fault text (taken ++ listed new.ready))
-fault_by listed old new head bytes (Ok next) taken text some failed kept reads = tt
-fault_by listed old new head bytes (Err fault) taken text some failed kept reads =
-    record_failed fault (so_far listed old) (listed new.ready) head taken text bytes some failed kept reads
+    record { next = (record { items = read.0.items; joins = read.0.joins; on = read.0.on }, read.1); fault = λ taken text reads. tt }
+steps_by listed old new head bytes (Err fault) some next failed kept =
+    record { next = tt; fault = λ taken text reads. record_failed fault (so_far listed old) (listed new.ready) head taken text bytes some failed kept reads }
 
 -- ---- the beginning
 
--- what the feed of a log is, by its items
-abbrev pub fed_with : LogSoFar → List ℕ → Option FeedFault → FedLog
-fed_with items held fault = record { head = items.head; held = held; ready = items.ready; latest = items.latest; whole = items.whole; fault = fault }
-
 -- nothing was read of nothing
-nothing_read : (items : LogSoFar) (held : List ℕ) → items.head ≡ None → items.ready ≡ [] → items.latest ≡ 0 → items.whole ≡ 0 → held ≡ []
-    → ReadsLog [] items [] held × IsLogLeft items.head held
-nothing_read items held head ready time count none =
-    subst (λ (p : Option Head × List Logged × ℕ × ℕ × List ℕ). HasRead p.0 p.1 p.2 p.3 [] p.4 × IsLogLeft p.0 p.4)
-    (λ i. (sym head i, sym ready i, sym time i, sym count i, sym none i)) (
-      record { none = refl; latest = refl; whole = refl; all = refl },
-      cut_front IsHead head_bytes [] (part_alike IsHead head_bytes (codes "MTL") 8 log_whole One [] (magic (codes "MTL") One) refl)
-          (λ other more is e. let whole = ap length e in omega (arith, whole, length-append (head_bytes other) more, head_length other)),
-    )
-
--- a feed that was fed nothing
-pub fed_nothing : {R : Type 0} (listed : R → List Logged) (feed : Feed (LogItems R) FeedFault) (items : LogItems R) → feed.items ≡ items → feed.held.items ≡ [] → feed.fault ≡ None → items.head ≡ None
-    → listed items.ready ≡ [] → items.latest ≡ 0 → items.whole ≡ 0 → IsLogFed (fed_log listed feed) [] []
-fed_nothing listed feed items same held sound head ready time count =
-    let nothing = nothing_read (so_far listed items) feed.held.items head ready time count held in
-    subst (λ (p : LogSoFar × Option FeedFault). IsLogFed (fed_with p.0 feed.held.items p.1) [] []) (λ i. (so_far listed (sym same i), sym sound i)) nothing
+pub nothing_read : {R : Type 0} (listed : R → List Logged) (records : R) → listed records ≡ []
+    → HoldsAll (HasReadItems listed []) IsLeftOfItems (record { head = None; ready = records; latest = 0; whole = 0 }) [] []
+nothing_read listed records none = (
+  record { none = none; latest = refl; whole = refl; all = refl },
+  cut_front IsHead head_bytes [] (part_alike IsHead head_bytes (codes "MTL") 8 log_whole One [] (magic (codes "MTL") One) refl)
+      (λ other more is e. let whole = ap length e in omega (arith, whole, length-append (head_bytes other) more, head_length other)),
+)
 
 -- ---- the end
 
@@ -233,7 +213,7 @@ log_shows_none bytes tail head records log (faults.Record nth what) h = not_both
 log_shows_none bytes tail head records log faults.Memory h = h
 
 -- a feed in good order shows no fault
-order_shows_none : (o : Option Head) (rs : List Logged) (t n : ℕ) (bytes held : List ℕ) → HasRead o rs t n bytes held → IsLogLeft o held → ShowsNoFault bytes
+pub order_shows_none : (o : Option Head) (rs : List Logged) (t n : ℕ) (bytes held : List ℕ) → HasRead o rs t n bytes held → IsLogLeft o held → ShowsNoFault bytes
 order_shows_none None rs t n bytes held reads cut = subst ShowsNoFault (sym reads.all) (begins_shows_none held cut.1 cut.0 cut.2 cut.4 cut.3)
 order_shows_none (Some head) rs t n bytes held reads left =
     log_shows_none bytes held head rs (record { spelled = reads.spelled; is_head = reads.is_head; lawful = reads.lawful; ends = left })
@@ -241,7 +221,7 @@ order_shows_none (Some head) rs t n bytes held reads left =
 -- ---- feeds
 
 -- the fault of a feed that failed is shown
-failed_shown : (fault : FeedFault) (bytes : List ℕ) (records : List Logged) → HasFailed fault bytes records → IsShown bytes fault
+pub failed_shown : (fault : FeedFault) (bytes : List ℕ) (records : List Logged) → HasFailed fault bytes records → IsShown bytes fault
 failed_shown faults.Header bytes records h = h.0
 failed_shown (faults.Record nth what) bytes records h = (records, h.0, h.1)
 failed_shown faults.Memory bytes records h = tt
@@ -251,68 +231,3 @@ pub shown_answered : (fault : FeedFault) (bytes : List ℕ) → IsShown bytes fa
 shown_answered faults.Header bytes h = h.0
 shown_answered (faults.Record nth what) bytes h = h
 shown_answered faults.Memory bytes h = tt
-
--- what the generic feed says of these items
-abbrev pub IsFedItems : List Logged → LogSoFar → List ℕ → Option FeedFault → List ℕ → Type 0
-IsFedItems taken items held fault text = IsFedBy (ReadsLog taken) (λ items rest. IsLogLeft items.head rest) (λ items fault text. HasFailed fault text (taken ++ items.ready)) items held fault text
-
--- is what is said of the feed of a log
-to_items : (items : LogSoFar) (held : List ℕ) (fault : Option FeedFault) (bytes : List ℕ) (taken : List Logged) → IsLogFed (fed_with items held fault) bytes taken
-    → IsFedItems taken items held fault bytes
-to_items items held None bytes taken fed = fed
-to_items items held (Some fault) bytes taken fed = fed
-
-from_items : (items : LogSoFar) (held : List ℕ) (fault : Option FeedFault) (bytes : List ℕ) (taken : List Logged) → IsFedItems taken items held fault bytes
-    → IsLogFed (fed_with items held fault) bytes taken
-from_items items held None bytes taken fed = fed
-from_items items held (Some fault) bytes taken fed = fed
-
--- where a feed answers no fault, none is shown
-ok_shows_none : (items : LogSoFar) (held : List ℕ) (fault : Option FeedFault) (outcome : Result (Unit {0}) FeedFault) (bytes : List ℕ) (taken : List Logged)
-    → IsFedItems taken items held fault bytes → OnOk outcome (fault ≡ None) → OnOk outcome (ShowsNoFault bytes)
-ok_shows_none items held fault (Ok u) bytes taken fed none =
-    let read = subst (λ (o : Option FeedFault). IsFedItems taken items held o bytes) none fed in
-    order_shows_none items.head (taken ++ items.ready) items.latest items.whole bytes held read.0 read.1
-ok_shows_none items held fault (Err e) bytes taken fed none = tt
-
--- and where it answers one, that is
-err_is_shown : (items : LogSoFar) (held : List ℕ) (fault : Option FeedFault) (outcome : Result (Unit {0}) FeedFault) (bytes : List ℕ) (taken : List Logged)
-    → IsFedItems taken items held fault bytes → IfErr outcome (λ e. fault ≡ Some e) → IfErr outcome (IsShown bytes)
-err_is_shown items held fault (Ok u) bytes taken fed kept = tt
-err_is_shown items held fault (Err e) bytes taken fed kept =
-    failed_shown e bytes (taken ++ items.ready) (subst (λ (o : Option FeedFault). IsFedItems taken items held o bytes) kept fed)
-
--- what a feed was fed after a piece, and what its answer says
-pub record AfterPiece (feed : FedLog) (outcome : Result (Unit {0}) FeedFault) (bytes : List ℕ) (taken : List Logged) : Type 0 where
-  pub fed : IsLogFed feed bytes taken
-  pub ok : OnOk outcome (ShowsNoFault bytes)
-  pub fault : IfErr outcome (IsShown bytes)
-
--- what the feed of a log says of its items
-abbrev pub IsFedWith : {R : Type 0} → (R → List Logged) → List Logged → Feed (LogItems R) FeedFault → List ℕ → Type 0
-IsFedWith listed taken feed text =
-    IsFedBy (HasReadItems listed taken) IsLeftOfItems (λ items fault text. HasFailed fault text (taken ++ listed items.ready)) feed.items feed.held.items feed.fault text
-
--- in other words
-with_items : {R : Type 0} (listed : R → List Logged) (taken : List Logged) (items : LogItems R) (held : List ℕ) (fault : Option FeedFault) (text : List ℕ) → IsFedItems taken (so_far listed items) held fault text
-    → IsFedBy (HasReadItems listed taken) IsLeftOfItems (λ items fault text. HasFailed fault text (taken ++ listed items.ready)) items held fault text
-with_items listed taken items held None text fed = fed
-with_items listed taken items held (Some fault) text fed = fed
-
-of_items : {R : Type 0} (listed : R → List Logged) (taken : List Logged) (items : LogItems R) (held : List ℕ) (fault : Option FeedFault) (text : List ℕ)
-    → IsFedBy (HasReadItems listed taken) IsLeftOfItems (λ items fault text. HasFailed fault text (taken ++ listed items.ready)) items held fault text
-    → IsFedItems taken (so_far listed items) held fault text
-of_items listed taken items held None text fed = fed
-of_items listed taken items held (Some fault) text fed = fed
-
-pub after_piece : {R : Type 0} (listed : R → List Logged) (old new : Feed (LogItems R) FeedFault) (view : FedLog) (outcome : Result (Unit {0}) FeedFault) (bytes piece : List ℕ) (taken : List Logged) → fed_log listed old ≡ view
-    → IsLogFed view bytes taken → (IsFedWith listed taken old bytes → IsFedWith listed taken new (bytes ++ piece)) → OnOk outcome (new.fault ≡ None) → IfErr outcome (λ e. new.fault ≡ Some e)
-    → AfterPiece (fed_log listed new) outcome (bytes ++ piece) taken
-after_piece listed old new view outcome bytes piece taken same fed step sound kept =
-    let before = to_items (so_far listed old.items) old.held.items old.fault bytes taken (subst (λ (f : FedLog). IsLogFed f bytes taken) (sym same) fed) in
-    let after = of_items listed taken new.items new.held.items new.fault (bytes ++ piece) (step (with_items listed taken old.items old.held.items old.fault bytes before)) in
-    record {
-      fed = from_items (so_far listed new.items) new.held.items new.fault (bytes ++ piece) taken after;
-      ok = ok_shows_none (so_far listed new.items) new.held.items new.fault outcome (bytes ++ piece) taken after sound;
-      fault = err_is_shown (so_far listed new.items) new.held.items new.fault outcome (bytes ++ piece) taken after kept;
-    }

@@ -19,7 +19,8 @@ use Rattle.mt_record.specs.Bodies.{IsNextEntry}
 use Rattle.mt_record.specs.Parts.{part_head_bytes, IsPartHead, entry_spelling, footer_bytes, part_bytes}
 use Rattle.mt_record.specs.PartFaults.{BeginsPart, HasNoPartHeader}
 use Rattle.mt_record.specs.PartFeeding.{ShowsNoPartHeader, ShowsNoEntry, ShowsNoPart, ShowsBroken, PartSoFar, ReadsNothing, ReadsPart, ReadsUpTo, IsPartLeft}
-use Rattle.mt_record.specs.PartPieces.{so_far}
+use Rattle.mt_record.specs.PartPieces.{HasReadItems, IsLeftOfItems}
+use Rattle.mt_record.specs.Feeding.{HoldsAll}
 use Rattle.mt_record.specs.Fronts.{BeginsAlike}
 use Rattle.mt_record.proofs.Beginnings.{cut_front, part_alike}
 use Rattle.mt_record.proofs.PartBeginnings.{part_whole}
@@ -163,12 +164,10 @@ entry_goes_on s entries part bytes fields after head next some not_ended added r
     subst (λ (x : PartSoFar). ReadsUpTo x part after) to one_more
 
 -- nothing was read of nothing
-pub nothing_read : {E : Type 0} (listed : E → List Change) (reader : PartItems E) (held : List ℕ) → reader.head ≡ None → listed reader.entries ≡ [] → reader.end ≡ None → held ≡ []
-    → ReadsUpTo (so_far listed reader) [] held × IsPartLeft (so_far listed reader) held
-nothing_read listed reader held head entries end none =
-    let start : (record { head = None; entries = []; end = None }) ≡ so_far listed reader = λ i. record { head = sym head i; entries = sym entries i; end = sym end i } in
-    subst (λ (p : PartSoFar × List ℕ). ReadsUpTo p.0 [] p.1 × IsPartLeft p.0 p.1) (λ i. (start i, sym none i)) (
-      record { none = refl; no_end = refl; all = refl },
-      cut_front IsPartHead part_head_bytes [] (part_alike IsPartHead part_head_bytes (codes "MTC") 16 part_whole One [] (magic (codes "MTC") One) refl)
-          (λ other more is e. let whole = ap length e in omega (arith, whole)),
-    )
+pub nothing_read : {E : Type 0} (listed : E → List Change) (entries : E) → listed entries ≡ []
+    → HoldsAll (HasReadItems listed tt) (IsLeftOfItems listed) (record { head = None; entries = entries; end = None }) [] []
+nothing_read listed entries none = (
+  record { none = none; no_end = refl; all = refl },
+  cut_front IsPartHead part_head_bytes [] (part_alike IsPartHead part_head_bytes (codes "MTC") 16 part_whole One [] (magic (codes "MTC") One) refl)
+      (λ other more is e. let whole = ap length e in omega (arith, whole)),
+)

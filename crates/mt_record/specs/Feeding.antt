@@ -1,5 +1,5 @@
 -- A text in pieces, whatever its items are.
-use Rattle.std.specs.Prelude.{◌≡◌, ℕ, ◌+◌, ◌*◌, ◌<◌, min, max, Option, Some, None, List, ◌++◌, length}
+use Rattle.std.specs.Prelude.{◌≡◌, ℕ, ◌+◌, ◌*◌, ◌<◌, min, max, Option, Some, None, Result, IfOk, IfErr, List, ◌++◌, length}
 use Rattle.std.specs.Borrow.{Bor}
 
 -- ---- items
@@ -15,16 +15,21 @@ abbrev pub ReadsStep : {T I : Type 0} → (T → I → List ℕ → List ℕ →
 ReadsStep {T} reads is_left old new bytes None = (new ≡ old) × ((taken : T) (text : List ℕ) → reads taken old text bytes → is_left old bytes)
 ReadsStep reads is_left old new bytes (Some after) = Reads reads old new bytes after.now × (length after.now < length bytes)
 
+-- a step by its answer: it is one, or the bytes show a fault
+pub record Steps {T I F : Type 0} (reads : T → I → List ℕ → List ℕ → Type 0) (is_left : I → List ℕ → Type 0) (fails : T → I → F → List ℕ → Type 0) (old new : I) (bytes : List ℕ)
+    (answer : Result (Option (Bor (List ℕ))) F) : Type 0 where
+  pub next : IfOk answer (ReadsStep reads is_left old new bytes)
+  pub fault : (taken : T) (text : List ℕ) → reads taken old text bytes → IfErr answer (λ fault. fails taken new fault text)
+
 -- ---- feeds
 
 -- the text is what was read and what is held back, from which nothing more can be read
 abbrev pub HoldsAll : {I : Type 0} → (I → List ℕ → List ℕ → Type 0) → (I → List ℕ → Type 0) → I → List ℕ → List ℕ → Type 0
 HoldsAll reads is_left items held text = reads items text held × is_left items held
 
--- a feed that was fed this text: all of it is read or held back, or there is a fault
+-- a feed that was fed this text: without a fault all of it is read or held back, and a fault is one that it shows
 abbrev pub IsFedBy : {I F : Type 0} → (I → List ℕ → List ℕ → Type 0) → (I → List ℕ → Type 0) → (I → F → List ℕ → Type 0) → I → List ℕ → Option F → List ℕ → Type 0
-IsFedBy reads is_left fails items held None text = HoldsAll reads is_left items held text
-IsFedBy reads is_left fails items held (Some fault) text = fails items fault text
+IsFedBy {F = F} reads is_left fails items held answered text = (answered ≡ None → HoldsAll reads is_left items held text) × ((fault : F) → answered ≡ Some fault → fails items fault text)
 
 -- the text is read and held back but for a rest of the piece
 pub record HoldsUpTo {I : Type 0} (reads : I → List ℕ → List ℕ → Type 0) (is_left : I → List ℕ → Type 0) (items : I) (held text rest : List ℕ) : Type 0 where

@@ -93,10 +93,7 @@ HasFailed faults.Header bytes records = ShowsNoHeader bytes × (records ≡ [])
 HasFailed (faults.Record nth what) bytes records = HasFault bytes records what × (nth ≡ count_of records)
 HasFailed faults.Memory bytes records = BeginLog bytes records
 
--- a feed that was fed these bytes, and from which these records were taken
+-- a feed that was fed these bytes, and from which these records were taken: without a fault all bytes are read or held back, and a fault is one that they show
 abbrev pub IsLogFed : FedLog → List ℕ → List Logged → Type 0
-IsLogFed feed bytes taken = by feed.fault
-  where
-    by : Option FeedFault → Type 0
-    by None = HasRead feed.head (taken ++ feed.ready) feed.latest feed.whole bytes feed.held × IsLogLeft feed.head feed.held
-    by (Some fault) = HasFailed fault bytes (taken ++ feed.ready)
+IsLogFed feed bytes taken = (feed.fault ≡ None → HasRead feed.head (taken ++ feed.ready) feed.latest feed.whole bytes feed.held × IsLogLeft feed.head feed.held)
+    × ((fault : FeedFault) → feed.fault ≡ Some fault → HasFailed fault bytes (taken ++ feed.ready))

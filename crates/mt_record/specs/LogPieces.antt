@@ -1,5 +1,6 @@
 -- What the steps of reading a log in pieces give.
-use Rattle.std.specs.Prelude.{◌≡◌, ℕ, ◌+◌, ◌-◌, ◌^◌, min, List, [], ◌∷◌, ◌++◌}
+use Rattle.std.specs.Prelude.{◌≡◌, ℕ, ◌+◌, ◌-◌, ◌^◌, min, Option, Result, List, [], ◌∷◌, ◌++◌}
+use Rattle.std.specs.Borrow.{Bor}
 use Rattle.mt_words.specs.Limits.{limits_of}
 use Rattle.mt_words.specs.Changes.{Logged}
 use Rattle.mt_record.specs.declared.read.FeedFault.{FeedFault}
@@ -9,7 +10,8 @@ use Rattle.mt_record.specs.declared.feed.Feed.{Feed}
 use Rattle.mt_record.specs.declared.head.Head.{Head}
 use Rattle.mt_record.specs.LogFaults.{RestFault}
 use Rattle.mt_record.specs.Bodies.{IsNext}
-use Rattle.mt_record.specs.LogFeeding.{FedLog, LogSoFar, HasRead, IsLogLeft}
+use Rattle.mt_record.specs.LogFeeding.{FedLog, LogSoFar, HasRead, IsLogLeft, HasFailed}
+use Rattle.mt_record.specs.Feeding.{Steps}
 
 -- one record more was read
 pub record HasOneMore (old : LogSoFar) (r : Logged) (new : LogSoFar) : Type 0 where
@@ -46,6 +48,14 @@ HasReadItems listed taken items text rest = ReadsLog taken (so_far listed items)
 -- a rest from which nothing more can be read
 abbrev pub IsLeftOfItems : {R : Type 0} → LogItems R → List ℕ → Type 0
 IsLeftOfItems items rest = IsLogLeft items.head rest
+
+-- the bytes show the fault, behind the records taken and ready
+abbrev pub HasFailedItems : {R : Type 0} → (R → List Logged) → List Logged → LogItems R → FeedFault → List ℕ → Type 0
+HasFailedItems listed taken items fault text = HasFailed fault text (taken ++ listed items.ready)
+
+-- one step of reading a log
+abbrev pub StepsLog : {R : Type 0} → (R → List Logged) → LogItems R → LogItems R → List ℕ → Result (Option (Bor (List ℕ))) FeedFault → Type 0
+StepsLog listed old new bytes answer = Steps (HasReadItems listed) IsLeftOfItems (HasFailedItems listed) old new bytes answer
 
 -- what the feed of a log holds
 abbrev pub fed_log : {R : Type 0} → (R → List Logged) → Feed (LogItems R) FeedFault → FedLog

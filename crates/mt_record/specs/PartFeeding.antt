@@ -13,6 +13,7 @@ use Rattle.mt_record.specs.LogFaults.{HasLengthFault}
 use Rattle.mt_record.specs.Parts.{part_head_bytes, IsPartHead, entry_spelling, footer_bytes, IsEntryLength, IsPart}
 use Rattle.mt_record.specs.Fronts.{ShowsNone, IsCutFront}
 use Rattle.mt_record.specs.PartFaults.{BeginsPart}
+use Rattle.mt_record.specs.Feeding.{IsFedBy}
 
 -- ---- faults that are shown
 
@@ -124,8 +125,4 @@ pub record FedPart : Type 0 where
 
 -- a feed that was fed these bytes
 abbrev pub IsPartFed : FedPart → List ℕ → Type 0
-IsPartFed feed bytes = by feed.fault
-  where
-    by : Option PartFault → Type 0
-    by None = ReadsUpTo feed.so_far bytes feed.held × IsPartLeft feed.so_far feed.held
-    by (Some fault) = IsPartShown bytes fault
+IsPartFed feed bytes = IsFedBy ReadsUpTo IsPartLeft (λ so_far fault text. IsPartShown text fault) feed.so_far feed.held feed.fault bytes

@@ -1,16 +1,16 @@
 //! Logs written as bytes. The room for all bytes is made first: where it is refused, nothing was written.
-ghost use Rattle.std.specs.Prelude.{◌≡◌, ◌<◌, ◌++◌, length, OnOk, OnErr};
+ghost use Rattle.std.specs.Prelude.{◌≡◌, ◌<◌, ◌^◌, ◌++◌, length, OnOk, OnErr};
 ghost use Rattle.mt_words.specs.Limits.{widest};
 ghost use Rattle.mt_words.specs.Words.{AreColumns};
-ghost use Rattle.mt_words.specs.Changes.{IsLawfulChange};
 ghost use Rattle.mt_words.specs.declared.update.Kind.TheVariants.{Put};
 ghost use Rattle.mt_record.specs.Heads.{head_of, head_bytes};
 ghost use Rattle.mt_record.specs.Spelling.{code_of as code_of_kind, column_bytes, kind_bytes, change_bytes, body, spelling, IsRecordLength};
+ghost use Rattle.mt_record.specs.Decoding.{columns_of};
 ghost use Rattle.mt_record.specs.Adding.{HasRoom, Adds};
 
 use crate::body::{MARK, PUT, REMOVE, WHOLE};
-use crate::head::{HEADER_BYTES, Head, LOG};
-use crate::put::{put_bytes, put_column, put_counted, put_magic, put_u32, put_u64};
+use crate::head::{HEADER_BYTES, LOG};
+use crate::put::{put_bytes, put_column, put_counted, put_magic};
 use mt_words::{Change, Column, Format, Kind, Memory, Record};
 
 /// Appends the header of a log from which updates below `from` may be missing. On an Err nothing is appended.
@@ -18,18 +18,9 @@ pub fn encode_log_header(from: u64, out: &mut Vec<u8>) -> Result<(), Memory>
     ensures ok { OnOk result (out.new.items ≡ out.old.items ++ head_bytes (head_of from)) }
     ensures err { OnErr result (out.new.items ≡ out.old.items) }
 {
-    let format = Format::One;
-    append_header(Head { format, from }, out)
-}
-
-/// Appends the header. On an Err nothing is appended.
-fn append_header(head: Head, out: &mut Vec<u8>) -> Result<(), Memory>
-    ensures ok { OnOk result (out.new.items ≡ out.old.items ++ head_bytes head) }
-    ensures err { OnErr result (out.new.items ≡ out.old.items) }
-{
     out.reserve(HEADER_BYTES)?;
-    put_magic(LOG, head.format, out);
-    put_u64(head.from, out);
+    put_magic(LOG, Format::One, out);
+    put_bytes(&from.to_be_bytes(), out);
     Ok(())
 }
 
@@ -38,11 +29,11 @@ pub fn encode_record(record: &Record, out: &mut Vec<u8>) -> Result<(), Memory>
     ensures ok { OnOk result (out.new.items ≡ out.old.items ++ spelling «record».now) }
     ensures err { OnErr result (out.new.items ≡ out.old.items) }
 {
-    let length = body_length(record);
-    out.reserve(4 + length + 4)?;
-    put_u32(length as u32, out);
+    let length = body_length(record) as u32;
+    out.reserve(4 + length as usize + 4)?;
+    put_bytes(&length.to_be_bytes(), out);
     put_body(record, out);
-    put_u32(length as u32, out);
+    put_bytes(&length.to_be_bytes(), out);
     Ok(())
 }
 
@@ -59,15 +50,19 @@ fn body_length(record: &Record) -> usize
 
 /// How many bytes the version, the key and the columns take.
 pub fn change_length(change: &Change) -> usize
-    requires { IsLawfulChange widest change.now }
     ensures { result ≡ length (change_bytes change.now) }
 {
-    let key = change.key.as_bytes();
-    match &change.kind {
-        Kind::Put(columns) | Kind::Whole(columns) => {
-            10 + key.len() + columns_length(columns.as_slice())
-        }
-        Kind::Remove => 10 + key.len(),
+    10 + change.key.as_bytes().len() + kind_length(&change.kind)
+}
+
+/// How many bytes take what the kind carries.
+pub fn kind_length(kind: &Kind) -> usize
+    ensures value { result ≡ length (kind_bytes kind.now) }
+    ensures few { result < 2 ^ 25 }
+{
+    match kind {
+        Kind::Put(columns) | Kind::Whole(columns) => columns_length(columns.as_slice()),
+        Kind::Remove => 0,
     }
 }
 
@@ -98,18 +93,18 @@ fn put_body(record: &Record, out: &mut Vec<u8>)
     match record.change() {
         None => {
             put_bytes(&[MARK], out);
-            put_u64(record.timestamp(), out);
+            put_bytes(&record.timestamp().to_be_bytes(), out);
         }
         Some(change) => {
             put_bytes(&[code_of(&change.kind)], out);
-            put_u64(record.timestamp(), out);
+            put_bytes(&record.timestamp().to_be_bytes(), out);
             put_change(change, out);
         }
     }
 }
 
 /// The byte of the kind.
-fn code_of(kind: &Kind) -> u8
+pub fn code_of(kind: &Kind) -> u8
     ensures { result ≡ code_of_kind kind.now }
 {
     match kind {
@@ -121,13 +116,21 @@ fn code_of(kind: &Kind) -> u8
 
 /// Appends the version, the key and what the kind carries.
 pub fn put_change(change: &Change, out: &mut Vec<u8>)
-    requires lawful { IsLawfulChange widest change.now }
-    requires room { HasRoom (length (change_bytes change.now)) out.old }
+    requires { HasRoom (length (change_bytes change.now)) out.old }
     ensures { Adds (change_bytes change.now) out.old out.new }
 {
-    put_u64(change.version, out);
+    put_bytes(&change.version.to_be_bytes(), out);
     put_counted(change.key.as_bytes(), out);
-    match &change.kind {
+    put_kind(&change.kind, out);
+}
+
+/// Appends what the kind carries.
+pub fn put_kind(kind: &Kind, out: &mut Vec<u8>)
+    requires { HasRoom (length (kind_bytes kind.now)) out.old }
+    ensures added { Adds (kind_bytes kind.now) out.old out.new }
+    ensures lawful { AreColumns widest (columns_of kind.now) }
+{
+    match kind {
         Kind::Put(columns) | Kind::Whole(columns) => put_columns(columns.as_slice(), out),
         Kind::Remove => {}
     }

@@ -10,7 +10,7 @@ ghost use Rattle.mt_record.specs.Parts.{part_head, part_head_bytes, part_bytes, 
 use crate::encode::{change_length, put_change};
 use crate::part_head::{FOOTER_BYTES, PART, PART_HEADER_BYTES};
 use crate::part_text::PartHead;
-use crate::put::{put_magic, put_u16, put_u32, put_u64};
+use crate::put::{put_bytes, put_magic};
 use mt_words::{Entry, Format, Memory};
 
 /// Appends a part of the checkpoint of this number, from its timestamp `begin` to its timestamp `end`: the part of
@@ -53,10 +53,10 @@ fn append_header(head: PartHead, out: &mut Vec<u8>) -> Result<(), Memory>
 {
     out.reserve(PART_HEADER_BYTES)?;
     put_magic(PART, head.format, out);
-    put_u32(head.number, out);
-    put_u64(head.begin, out);
-    put_u16(head.part, out);
-    put_u16(head.parts, out);
+    put_bytes(&head.number.to_be_bytes(), out);
+    put_bytes(&head.begin.to_be_bytes(), out);
+    put_bytes(&head.part.to_be_bytes(), out);
+    put_bytes(&head.parts.to_be_bytes(), out);
     Ok(())
 }
 
@@ -78,12 +78,11 @@ fn append_entry(entry: &Entry, out: &mut Vec<u8>) -> Result<(), Memory>
     ensures ok { OnOk result (out.new.items ≡ out.old.items ++ entry_spelling entry.now) }
     ensures err { OnErr result (out.new.items ≡ out.old.items) }
 {
-    let change = entry.change();
-    let length = entry_length(entry);
-    out.reserve(4 + length + 4)?;
-    put_u32(length as u32, out);
-    put_change(change, out);
-    put_u32(length as u32, out);
+    let length = entry_length(entry) as u32;
+    out.reserve(4 + length as usize + 4)?;
+    put_bytes(&length.to_be_bytes(), out);
+    put_change(entry.change(), out);
+    put_bytes(&length.to_be_bytes(), out);
     Ok(())
 }
 
@@ -101,8 +100,8 @@ fn append_footer(end: u64, count: u32, out: &mut Vec<u8>) -> Result<(), Memory>
     ensures err { OnErr result (out.new.items ≡ out.old.items) }
 {
     out.reserve(FOOTER_BYTES)?;
-    put_u32(0, out);
-    put_u64(end, out);
-    put_u32(count, out);
+    put_bytes(&[0; 4], out);
+    put_bytes(&end.to_be_bytes(), out);
+    put_bytes(&count.to_be_bytes(), out);
     Ok(())
 }

@@ -7,7 +7,7 @@ use mt_words::Memory;
 use std::alloc::Global;
 
 /// What the pieces so far said, and what they leave over.
-#[derive(Debug, Drop)]
+#[derive(Drop)]
 pub struct Feed<I: Items> {
     pub items: I,
     /// The beginning of an item, which the next pieces complete.

@@ -7,7 +7,7 @@ use crate::magic::format_at;
 use mt_words::Format;
 
 /// The header of a log.
-#[derive(Clone, Copy, Debug)]
+#[derive(Clone, Copy)]
 pub struct Head {
     pub format: Format,
     /// Updates below this timestamp may be missing.

@@ -1,7 +1,7 @@
 //! What stands one behind the other in a text.
-ghost use Rattle.std.specs.Prelude.{◌++◌, ◌≡◌, List, ℕ, IfOk, IfErr};
+ghost use Rattle.std.specs.Prelude.{◌++◌, ◌≡◌, List, ℕ};
 ghost use Rattle.mt_words.specs.declared.fault.Memory.{Memory as MemoryValue};
-ghost use Rattle.mt_record.specs.Feeding.{ReadsStep};
+ghost use Rattle.mt_record.specs.Feeding.{Steps};
 
 use mt_words::Memory;
 
@@ -25,9 +25,7 @@ pub trait Items {
 
     /// Reads the item at the front, and gives the bytes after it; None where it is not whole.
     fn read_next<'a>(&mut self, bytes: &'a [u8]) -> Result<Option<&'a [u8]>, Self::Fault>
-        ensures next { IfOk result (ReadsStep reads is_left self.old self.new bytes.now) }
-        ensures fault { (taken : Taken) (text : List ℕ) → reads taken self.old text bytes.now →
-            IfErr result (λ fault. fails taken self.new fault text) };
+        ensures { Steps reads is_left fails self.old self.new bytes.now result };
 
     /// How many bytes the beginning that is held back asks for. It only says how far to go before the next try: no
     /// answer of it is wrong.

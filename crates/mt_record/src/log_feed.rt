@@ -19,7 +19,7 @@ use std::mem;
 /// Reads a log that comes in pieces of any size, and puts its records into an `R`. It holds back no more than the
 /// beginning of the header or of one record, and copies each byte of a key or value once where its record lies whole in
 /// a piece. Its work is linear in the bytes, however they are cut.
-#[derive(Debug, Drop)]
+#[derive(Drop)]
 pub struct LogFeed<R: Records = Vec<Record>> {
     feed: Feed<LogItems<R>>,
 }
@@ -73,8 +73,14 @@ impl<R: Records> LogFeed<R> {
         ensures fed { IsLogFed result [] [] }
         ensures sound { result.fault ≡ None }
     {
+        let items = LogItems {
+            head: None,
+            ready: records,
+            latest: 0,
+            whole: 0,
+        };
         LogFeed {
-            feed: Feed::new(alloc, LogItems::new(records)),
+            feed: Feed::new(alloc, items),
         }
     }
 

@@ -4,9 +4,8 @@ ghost use Rattle.mt_words.specs.Limits.{limits_of};
 ghost use Rattle.mt_words.specs.Changes.{Logged};
 ghost use Rattle.mt_record.specs.Logs.{IsTextIn};
 ghost use Rattle.mt_record.specs.LogFaults.{IsAnswered};
-ghost use Rattle.mt_record.specs.Feeding.{ReadsStep};
-ghost use Rattle.mt_record.specs.LogFeeding.{IsLeft, HasFailed};
-ghost use Rattle.mt_record.specs.LogPieces.{so_far, ReadsLog, HasReadItems, IsLeftOfItems, ReadsNext, IsNextFault};
+ghost use Rattle.mt_record.specs.LogFeeding.{IsLeft};
+ghost use Rattle.mt_record.specs.LogPieces.{so_far, ReadsLog, HasReadItems, IsLeftOfItems, HasFailedItems, StepsLog, ReadsNext, IsNextFault};
 ghost use Rattle.mt_record.specs.LogLaws.{reads_on, reads_front, failed_on, refused_failed};
 
 use crate::fields::u32_at;
@@ -18,7 +17,7 @@ use crate::magic::goes_with_magic;
 use crate::read::{FeedFault, LogText};
 
 /// What was read of a log so far.
-#[derive(Debug, Drop)]
+#[derive(Drop)]
 pub struct LogItems<R: Records> {
     /// Its header, once that is whole.
     pub head: Option<Head>,
@@ -39,7 +38,7 @@ impl<R: Records> Items for LogItems<R> {
 
     ghost is_left = { IsLeftOfItems };
 
-    ghost fails = { λ taken items fault text. HasFailed fault text (taken ++ R.listed items.ready) };
+    ghost fails = { HasFailedItems R.listed };
 
     fn read_next<'a>(&mut self, bytes: &'a [u8]) -> Result<Option<&'a [u8]>, FeedFault> {
         let Some(head) = self.head else {
@@ -72,27 +71,10 @@ impl<R: Records> Items for LogItems<R> {
 }
 
 impl<R: Records> LogItems<R> {
-    /// What was read of nothing, for records to be put into what is empty.
-    pub fn new(ready: R) -> LogItems<R>
-        ensures head { result.head ≡ None }
-        ensures ready { result.ready ≡ ready }
-        ensures latest { result.latest ≡ 0 }
-        ensures whole { result.whole ≡ 0 }
-    {
-        LogItems {
-            head: None,
-            ready,
-            latest: 0,
-            whole: 0,
-        }
-    }
-
     /// Reads the header.
     fn read_header<'a>(&mut self, bytes: &'a [u8]) -> Result<Option<&'a [u8]>, FeedFault>
         requires { self.old.head ≡ None }
-        ensures next { IfOk result (ReadsStep (HasReadItems R.listed) IsLeftOfItems self.old self.new bytes.now) }
-        ensures fault { (taken : List Logged) (text : List ℕ) → HasReadItems R.listed taken self.old text bytes.now →
-            IfErr result (λ fault. HasFailed fault text (taken ++ R.listed self.new.ready)) }
+        ensures { StepsLog R.listed self.old self.new bytes.now result }
     {
         if !goes_with_magic(LOG, bytes) {
             return Err(FeedFault::Header);

@@ -17,7 +17,7 @@ use std::marker::Model;
 /// Reads a part of a checkpoint that comes in pieces of any size. It holds back no more than the beginning of the
 /// header, of one entry or of the footer, and copies each byte of a key or value once where its entry lies whole in a
 /// piece. Its work is linear in the bytes, however they are cut. `E` is what the entries are put into.
-#[derive(Debug, Drop)]
+#[derive(Drop)]
 pub struct PartFeed<E: Entries = Vec<Entry>> {
     feed: Feed<PartItems<E>>,
 }
@@ -58,8 +58,13 @@ impl<E: Entries> PartFeed<E> {
         ensures fed { IsPartFed result [] }
         ensures sound { result.fault ≡ None }
     {
+        let items = PartItems {
+            head: None,
+            entries,
+            end: None,
+        };
         PartFeed {
-            feed: Feed::new(alloc, PartItems::new(entries)),
+            feed: Feed::new(alloc, items),
         }
     }
 

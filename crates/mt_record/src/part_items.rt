@@ -4,9 +4,8 @@ ghost use Rattle.byteorder.specs.Endian.{big_bytes};
 ghost use Rattle.mt_record.specs.declared.part_text.PartFault.TheVariants.{Broken};
 ghost use Rattle.mt_record.specs.Parts.{IsPartText};
 ghost use Rattle.mt_record.specs.PartFaults.{IsPartAnswered};
-ghost use Rattle.mt_record.specs.Feeding.{ReadsStep};
-ghost use Rattle.mt_record.specs.PartFeeding.{ReadsUpTo, IsPartLeft, IsPartShown};
-ghost use Rattle.mt_record.specs.PartPieces.{so_far, HasReadItems, IsLeftOfItems};
+ghost use Rattle.mt_record.specs.PartFeeding.{ReadsUpTo, IsPartLeft};
+ghost use Rattle.mt_record.specs.PartPieces.{so_far, HasReadItems, IsLeftOfItems, IsShownOfItems, StepsPart};
 ghost use Rattle.mt_record.specs.PartLaws.{reads_on, reads_front, shown_on, refused_shown};
 
 use crate::fields::{u32_at, u64_at};
@@ -18,7 +17,7 @@ use crate::part_head::{FOOTER_BYTES, PART, PART_HEADER_BYTES, part_header_at};
 use crate::part_text::{PartFault, PartHead, PartText};
 
 /// What was read of a part so far.
-#[derive(Debug, Drop)]
+#[derive(Drop)]
 pub struct PartItems<E: Entries> {
     /// Its header, once that is whole.
     pub head: Option<PartHead>,
@@ -37,7 +36,7 @@ impl<E: Entries> Items for PartItems<E> {
 
     ghost is_left = { IsLeftOfItems E.listed };
 
-    ghost fails = { λ _ _ fault text. IsPartShown text fault };
+    ghost fails = { IsShownOfItems };
 
     fn read_next<'a>(&mut self, bytes: &'a [u8]) -> Result<Option<&'a [u8]>, PartFault> {
         let Some(head) = self.head else {
@@ -74,24 +73,10 @@ impl<E: Entries> Items for PartItems<E> {
 }
 
 impl<E: Entries> PartItems<E> {
-    /// What was read of nothing, for entries to be put into what is empty.
-    pub fn new(entries: E) -> PartItems<E>
-        ensures head { result.head ≡ None }
-        ensures entries { result.entries ≡ entries }
-        ensures end { result.end ≡ None }
-    {
-        PartItems {
-            head: None,
-            entries,
-            end: None,
-        }
-    }
-
     /// Reads the header.
     fn read_header<'a>(&mut self, bytes: &'a [u8]) -> Result<Option<&'a [u8]>, PartFault>
         requires { self.old.head ≡ None }
-        ensures next { IfOk result (ReadsStep (HasReadItems E.listed) (IsLeftOfItems E.listed) self.old self.new bytes.now) }
-        ensures fault { (text : List ℕ) → ReadsUpTo (so_far E.listed self.old) text bytes.now → IfErr result (IsPartShown text) }
+        ensures { StepsPart E.listed self.old self.new bytes.now result }
     {
         if !goes_with_magic(PART, bytes) {
             return Err(PartFault::Header);
@@ -111,8 +96,7 @@ impl<E: Entries> PartItems<E> {
     ) -> Result<Option<&'a [u8]>, PartFault>
         requires head { self.old.head ≡ Some head }
         requires open { self.old.end ≡ None }
-        ensures next { IfOk result (ReadsStep (HasReadItems E.listed) (IsLeftOfItems E.listed) self.old self.new bytes.now) }
-        ensures fault { (text : List ℕ) → ReadsUpTo (so_far E.listed self.old) text bytes.now → IfErr result (IsPartShown text) }
+        ensures { StepsPart E.listed self.old self.new bytes.now result }
     {
         let Some((length, rest)) = u32_at(bytes) else {
             return Ok(None);
@@ -132,8 +116,7 @@ impl<E: Entries> PartItems<E> {
         requires head { self.old.head ≡ Some head }
         requires open { self.old.end ≡ None }
         requires entry { (more : List ℕ) → bytes.now ≢ big_bytes 4 0 ++ more }
-        ensures next { IfOk result (ReadsStep (HasReadItems E.listed) (IsLeftOfItems E.listed) self.old self.new bytes.now) }
-        ensures fault { (text : List ℕ) → ReadsUpTo (so_far E.listed self.old) text bytes.now → IfErr result (IsPartShown text) }
+        ensures { StepsPart E.listed self.old self.new bytes.now result }
     {
         match next_entry(head.format, bytes) {
             Ok(Some((fields, after))) => {
@@ -153,9 +136,7 @@ impl<E: Entries> PartItems<E> {
     ) -> Result<Option<&'a [u8]>, PartFault>
         requires head { self.old.head ≡ Some head }
         requires open { self.old.end ≡ None }
-        ensures next { IfOk result (ReadsStep (HasReadItems E.listed) (IsLeftOfItems E.listed) self.old self.new (big_bytes 4 0 ++ bytes.now)) }
-        ensures fault { (text : List ℕ) → ReadsUpTo (so_far E.listed self.old) text (big_bytes 4 0 ++ bytes.now) →
-            IfErr result (IsPartShown text) }
+        ensures { StepsPart E.listed self.old self.new (big_bytes 4 0 ++ bytes.now) result }
     {
         let Some((end, rest)) = u64_at(bytes) else {
             return Ok(None);

@@ -1,11 +1,9 @@
 //! Fields at the end of bytes, in room that was made before. Each is copied once.
 ghost use Rattle.std.specs.Prelude.{◌<◌, ◌^◌, length};
-ghost use Rattle.byteorder.specs.Endian.{big_bytes};
 ghost use Rattle.mt_words.specs.Limits.{magic};
 ghost use Rattle.mt_record.specs.Spelling.{counted, column_bytes, FitsColumn};
 ghost use Rattle.mt_record.specs.Adding.{HasRoom, Adds};
 
-use byteorder::{BigEndian, ByteOrder};
 use mt_words::{Column, Format};
 
 /// Bytes.
@@ -27,43 +25,14 @@ pub fn put_magic(letters: &[u8], format: Format, out: &mut Vec<u8>)
     put_bytes(&[format.limits().digit], out);
 }
 
-/// A number of two bytes.
-pub fn put_u16(number: u16, out: &mut Vec<u8>)
-    requires { HasRoom 2 out.old }
-    ensures { Adds (big_bytes 2 number) out.old out.new }
-{
-    let mut bytes = [0; 2];
-    BigEndian::write_u16(&mut bytes, number);
-    put_bytes(&bytes, out);
-}
-
-/// A number of four bytes.
-pub fn put_u32(number: u32, out: &mut Vec<u8>)
-    requires { HasRoom 4 out.old }
-    ensures { Adds (big_bytes 4 number) out.old out.new }
-{
-    let mut bytes = [0; 4];
-    BigEndian::write_u32(&mut bytes, number);
-    put_bytes(&bytes, out);
-}
-
-/// A number of eight bytes.
-pub fn put_u64(number: u64, out: &mut Vec<u8>)
-    requires { HasRoom 8 out.old }
-    ensures { Adds (big_bytes 8 number) out.old out.new }
-{
-    let mut bytes = [0; 8];
-    BigEndian::write_u64(&mut bytes, number);
-    put_bytes(&bytes, out);
-}
-
 /// Bytes behind their length.
 pub fn put_counted(bytes: &[u8], out: &mut Vec<u8>)
     requires short { length bytes.now < 2 ^ 16 }
     requires room { HasRoom (length (counted bytes.now)) out.old }
     ensures { Adds (counted bytes.now) out.old out.new }
 {
-    put_u16(bytes.len() as u16, out);
+    let length = bytes.len() as u16;
+    put_bytes(&length.to_be_bytes(), out);
     put_bytes(bytes, out);
 }
 

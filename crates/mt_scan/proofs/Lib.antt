@@ -1,7 +1,5 @@
 pub mod Telling
-pub mod Shown
 pub mod Steps
-pub mod PartSteps
 pub mod KeysInOrder
 pub mod LeastLast
 pub mod OneField

@@ -22,12 +22,6 @@ goes_on (Some told) None last front piece h k = absurd h
 goes_on (Some told) (Some left) None front piece h k = absurd k
 goes_on (Some told) (Some left) (Some rest) front piece h k = h ∙ ap (λ (x : List ℕ). front ++ x) k ∙ sym (append_assoc front piece rest)
 
--- what a source may have behind its beginning is what it may have
-pub from_front : (before after : Option (List ℕ)) (front rest : List ℕ) → Consumes before after front → Agrees after rest → Agrees before (front ++ rest)
-from_front None after front rest h a = tt
-from_front (Some told) None front rest h a = absurd h
-from_front (Some told) (Some left) front rest h a = h ∙ ap (λ (x : List ℕ). front ++ x) a
-
 -- at the end all was handed out
 pub all_handed_out : (before after : Option (List ℕ)) (bytes : List ℕ) → Consumes before after bytes → IsAtEnd after → Agrees before bytes
 all_handed_out None after bytes h e = tt

@@ -11,7 +11,7 @@ use std::alloc::Global;
 use std::collections::BTreeMap;
 
 /// The parts of one checkpoint.
-#[derive(Debug, Drop)]
+#[derive(Drop)]
 pub enum Group {
     /// They are whole, and stand in any order.
     Whole(Vec<PartText<KeptEntries>>),

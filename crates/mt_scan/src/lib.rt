@@ -6,6 +6,7 @@ mod buffer;
 mod checkpoint;
 mod choice;
 mod fault_source;
+mod feeding;
 mod group;
 mod log_scan;
 mod mem_source;

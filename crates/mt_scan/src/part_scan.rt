@@ -1,10 +1,9 @@
 //! Scans of checkpoint parts.
-ghost use Rattle.std.specs.Prelude.{◌≡◌, ◌+◌, List, ℕ, IfOk, IfErr, IsTrue};
+ghost use Rattle.std.specs.Prelude.{◌≡◌, ◌+◌, IfOk, IfErr, IsTrue};
 ghost use Rattle.mt_scan.specs.Scans.{OfTold, failures_of};
 ghost use Rattle.mt_scan.specs.PartScans.{IsKnown, known_by, IsPartScanFault};
-ghost use Rattle.mt_scan.specs.Keeping.{FeedsPartPiece};
-ghost use Rattle.mt_record.specs.PartFeeding.{IsPartFed};
 
+use crate::feeding::feed_all;
 use crate::source::Source;
 use mt_record::{KeptEntries, PartFault, PartFeed, PartText};
 use mt_words::Fault;
@@ -34,32 +33,13 @@ pub fn scan_part<S: Source>(alloc: Global, source: &mut S, part: usize) -> Resul
     ensures steady { IsTrue (S.seen source.old).steady → failures_of result ≡ 0 }
 {
     let mut feed = PartFeed::keeping(alloc);
-    'pieces: while feed_piece(source, &mut feed, part)? {}
+    let Ok(()) = feed_all(source, &mut feed) else {
+        return Err(Fault::PartSource { part });
+    };
     match feed.finish() {
         Ok(text) => Ok(PartScan::Whole(text)),
         Err(PartFault::Broken { number, entries: _ }) => Ok(PartScan::Broken { number }),
         Err(PartFault::Header) => Ok(PartScan::Nameless),
         Err(PartFault::Memory) => Err(Fault::Memory),
-    }
-}
-
-/// Feeds the next piece of the part, if there is one; false at the end, and after a fault of the bytes, which the feed
-/// keeps.
-fn feed_piece<S: Source>(
-    source: &mut S,
-    feed: &mut PartFeed<KeptEntries>,
-    part: usize,
-) -> Result<bool, Fault>
-    ensures fed { (bytes : List ℕ) → IsPartFed feed.old bytes →
-        IfOk result (FeedsPartPiece (S.seen source.old) (S.seen source.new) feed.new bytes) }
-    ensures fault { IfErr result (IsPartScanFault part) }
-    ensures failed { (S.seen source.new).failures ≡ (S.seen source.old).failures + failures_of result }
-    ensures steady { IsTrue (S.seen source.old).steady →
-        (failures_of result ≡ 0) × IsTrue (S.seen source.new).steady }
-{
-    match source.advance() {
-        Ok(0) => Ok(false),
-        Ok(_) => Ok(feed.feed(source.piece()).is_ok()),
-        Err(_) => Err(Fault::PartSource { part }),
     }
 }

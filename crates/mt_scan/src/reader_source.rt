@@ -13,7 +13,7 @@ use crate::tally::Tally;
 use std::io::Read;
 
 /// How far the reader came.
-#[derive(Clone, Copy, Debug, PartialEq, Eq)]
+#[derive(Clone, Copy)]
 pub enum Progress {
     /// It may have more bytes.
     Open,

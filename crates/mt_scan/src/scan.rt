@@ -1,9 +1,9 @@
 //! Scans of logs.
-ghost use Rattle.std.specs.Prelude.{◌≡◌, ◌+◌, ◌++◌, [], List, ℕ, IfOk, IfErr, IsTrue};
+ghost use Rattle.std.specs.Prelude.{◌≡◌, ◌+◌, [], List, ℕ, IfOk, IfErr, IsTrue};
 ghost use Rattle.mt_record.specs.LogFeeding.{IsLogFed};
 ghost use Rattle.mt_scan.specs.Scans.{IsScanOf, IsScanFault, IsLogVerdict, OfTold, failures_of};
-ghost use Rattle.mt_scan.specs.Keeping.{FeedsPiece};
 
+use crate::feeding::{Fed, feed_all};
 use crate::log_scan::LogScan;
 use crate::source::Source;
 use mt_record::{KeptRecords, LogFeed};
@@ -20,33 +20,8 @@ pub fn scan_log<S: Source>(alloc: Global, source: &mut S, log: usize) -> Result<
     ensures steady { IsTrue (S.seen source.old).steady → failures_of result ≡ 0 }
 {
     let mut feed = LogFeed::keeping(alloc);
-    'pieces: while feed_piece(source, &mut feed, log)? {}
-    match feed.finish() {
-        Ok(text) => Ok(LogScan::of(log, text)),
-        Err(fault) => Err(fault.of_log(log)),
-    }
-}
-
-/// Feeds the next piece of the log, if there is one.
-fn feed_piece<S: Source>(
-    source: &mut S,
-    feed: &mut LogFeed<KeptRecords>,
-    log: usize,
-) -> Result<bool, Fault>
-    ensures fed { (bytes : List ℕ) → IsLogFed feed.old bytes [] →
-        IfOk result (FeedsPiece (S.seen source.old) (S.seen source.new) feed.new bytes) }
-    ensures fault { (bytes : List ℕ) → IsLogFed feed.old bytes [] →
-        IfErr result (λ fault. OfTold (S.seen source.old).told (λ rest. IsScanFault log (bytes ++ rest) fault)) }
-    ensures failed { (S.seen source.new).failures ≡ (S.seen source.old).failures + failures_of result }
-    ensures steady { IsTrue (S.seen source.old).steady →
-        (failures_of result ≡ 0) × IsTrue (S.seen source.new).steady }
-{
-    match source.advance() {
-        Ok(0) => Ok(false),
-        Ok(_) => match feed.feed(source.piece()) {
-            Ok(()) => Ok(true),
-            Err(fault) => Err(fault.of_log(log)),
-        },
+    match feed_all(source, &mut feed) {
+        Ok(()) => finish(feed, log),
         Err(_) => Err(Fault::Source { log }),
     }
 }
@@ -58,9 +33,16 @@ pub fn scan_bytes(alloc: Global, bytes: &[u8], log: usize) -> Result<LogScan, Fa
     ensures fault { IfErr result (IsLogVerdict log bytes.now) }
 {
     let mut feed = LogFeed::keeping(alloc);
-    if let Err(fault) = feed.feed(bytes) {
-        return Err(fault.of_log(log));
-    }
+    feed.feed_next(bytes);
+    finish(feed, log)
+}
+
+/// The scan of the log of this number that was fed, or its fault.
+fn finish(feed: LogFeed<KeptRecords>, log: usize) -> Result<LogScan, Fault>
+    ensures scan { (bytes : List ℕ) → IsLogFed feed bytes [] → IfOk result (IsScanOf log bytes) }
+    ensures fault { (bytes : List ℕ) → IsLogFed feed bytes [] → IfErr result (IsLogVerdict log bytes) }
+    ensures no_source { failures_of result ≡ 0 }
+{
     match feed.finish() {
         Ok(text) => Ok(LogScan::of(log, text)),
         Err(fault) => Err(fault.of_log(log)),

@@ -11,7 +11,7 @@ use std::alloc::Global;
 use std::collections::BTreeMap;
 
 /// What was found among the checkpoints so far, which come by rising numbers.
-#[derive(Debug, Drop)]
+#[derive(Drop)]
 pub struct Selection {
     /// Of the valid ones that end below the cutoff the one with the greatest end, and then the greatest number.
     pub best: Option<Checkpoint>,

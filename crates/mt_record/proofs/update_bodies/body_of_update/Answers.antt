@@ -1,29 +1,23 @@
-use Rattle.std.proofs.Common.{◌≡◌, ◌++◌, ◌∷◌, [], List, ℕ, ap, append_assoc, ◌∙◌, arith}
+use Rattle.std.proofs.Common.{◌≡◌, ◌++◌, ◌∷◌, List, ap, ◌∙◌, arith}
+use Rattle.mt_record.specs.Spelling.{code_of, change_bytes}
 use Rattle.byteorder.specs.Endian.{big_bytes}
-use Rattle.mt_record.specs.Spelling.{code_of, counted, kind_bytes}
 use Rattle.mt_record.specs.Decoding.{IsSound}
+use Rattle.mt_words.specs.declared.record.Change.{Change}
+use Rattle.mt_record.proofs.Encoding.{adds_both}
 use Rattle.mt_record.proofs.Decodes.{update_says}
 use Rattle.mt_record.proofs.update_bodies.body_of_update.Goals as goal
 
-regrouped : (x t v key kind : List ℕ) → (((x ++ t) ++ v) ++ key) ++ kind ≡ x ++ (t ++ (v ++ (key ++ kind)))
-regrouped x t v key kind = simp append_assoc
-
--- what was appended, one after the other
-appended : (none a b c d e t v key kind : List ℕ) (code : ℕ) → none ≡ [] → a ≡ none ++ code ∷ [] → b ≡ a ++ t → c ≡ b ++ v → d ≡ c ++ key → e ≡ d ++ kind
-    → e ≡ code ∷ (t ++ (v ++ (key ++ kind)))
-appended none a b c d e t v key kind code en ea eb ec ed ee =
-    ee
-    ∙ ap (λ (x : List ℕ). x ++ kind) (ed ∙ ap (λ (x : List ℕ). x ++ key) (ec ∙ ap (λ (x : List ℕ). x ++ v) (eb ∙ ap (λ (x : List ℕ). x ++ t) (ea ∙ ap (λ (x : List ℕ). x ++ code ∷ []) en))))
-    ∙ regrouped (code ∷ []) t v key kind
-
 pub returns : goal.returns
 returns c =
-    let key = ap counted c.as_bytes.ensures.value in
-    let spelled = appended c.new-body.result.items c.push.new.self.items c.push_u64.new.out.items c.push_u64-2.new.out.items c.push_counted.new.out.items c.push_kind.new.out.items
-    (big_bytes 8 c.args.update.now.timestamp) (big_bytes 8 c.args.update.now.stamp.version) (counted c.args.update.now.key) (kind_bytes c.args.update.now.kind) (code_of c.args.update.now.kind)
-    c.new-body.ensures.items (c.in_ok-push.ensures.items ∙ ap (λ (code : ℕ). c.new-body.result.items ++ code ∷ []) c.byte_of.ensures) c.in_ok-push_u64.ensures c.in_ok-push_u64-2.ensures
-    (c.in_ok-push_counted.ensures ∙ ap (λ (x : List ℕ). c.push_u64-2.new.out.items ++ x) key) c.in_ok-push_kind.ensures.added in
-    let sound : IsSound (record { version = c.args.update.now.stamp.version; key = c.args.update.now.key; kind = c.args.update.now.kind }) =
-    record { version = omega arith; key = c.as_bytes.ensures.lawful; columns = c.push_kind.ensures.sound } in
-    let is = update_says c.push_kind.new.out.items c.args.update.now (omega arith) sound spelled in
+    let update = c.args.update.now in
+    let change : Change = record { version = update.stamp.version; key = update.key; kind = update.kind } in
+    let code = rw c.code_of.ensures at c.put_bytes.ensures in
+    let time = rw c.to_be_bytes.ensures at c.put_bytes-2.ensures in
+    let version = rw c.to_be_bytes-2.ensures at c.put_bytes-3.ensures in
+    let key = rw c.as_bytes-key.ensures.value at c.put_counted.ensures in
+    let all = adds_both _ _ _ _ _ (adds_both _ _ _ _ _ (adds_both _ _ _ _ _ (adds_both _ _ _ _ _ code time) version) key) c.put_kind.ensures.added in
+    let spelled : c.put_kind.new.out.items ≡ code_of update.kind ∷ (big_bytes 8 update.timestamp ++ change_bytes change) =
+    all.items ∙ ap (λ (x : List _). x ++ code_of update.kind ∷ (big_bytes 8 update.timestamp ++ change_bytes change)) c.in_ok-body.ensures.items in
+    let sound : IsSound change = record { version = omega arith; key = c.as_bytes-key.ensures.lawful; columns = c.put_kind.ensures.lawful } in
+    let is = update_says c.put_kind.new.out.items update (omega arith) sound spelled in
     record { lawful = is.0; says = is.1 }

@@ -8,29 +8,31 @@ use Rattle.mt_record.proofs.Beginnings.{shows_none, alike, log_whole, log_magic}
 use Rattle.mt_record.proofs.LogFeeds.{header_failed, header_cut, header_read}
 use Rattle.mt_record.proofs.log_items.LogItems.read_header.Goals as goal
 
-pub returns-then-not-goes_with_magic-clause-fault : goal.returns-then-not-goes_with_magic-clause-fault
-returns-then-not-goes_with_magic-clause-fault g c = λ taken text reads.
+pub returns-then-not-goes_with_magic : goal.returns-then-not-goes_with_magic
+returns-then-not-goes_with_magic g c =
     let no_magic = rw c.if-not-goes_with_magic.true at c.goes_with_magic.ensures in
     let none = shows_none IsHead head_bytes (codes "MTL") (λ (head : Head). head.format) log_magic c.args.bytes.now no_magic in
-    header_failed (so_far g.R.Records.listed c.args.self.now) taken text c.args.bytes.now c.requires reads none
+    record { next = tt; fault = λ taken text reads. header_failed (so_far g.R.Records.listed c.args.self.now) taken text c.args.bytes.now c.requires reads none }
 
-pub returns-in_default-clause-next : goal.returns-in_default-clause-next
-returns-in_default-clause-next g c = (
-  refl,
-  λ taken text reads.
-      let goes = rw c.if-not-goes_with_magic.false at c.goes_with_magic.ensures in
-      let begins = alike IsHead head_bytes (codes "MTL") 8 log_whole c.args.bytes.now goes (λ i. omega (arith, c.type_inv.bytes i)) in
-      header_cut (so_far g.R.Records.listed c.args.self.now) c.args.bytes.now c.requires begins c.in_default.ensures.none,
-)
+pub returns-in_default : goal.returns-in_default
+returns-in_default g c =
+    let goes = rw c.if-not-goes_with_magic.false at c.goes_with_magic.ensures in
+    let begins = alike IsHead head_bytes (codes "MTL") 8 log_whole c.args.bytes.now goes (λ i. omega (arith, c.type_inv.bytes i)) in
+    let cut = header_cut (so_far g.R.Records.listed c.args.self.now) c.args.bytes.now c.requires begins c.in_default.ensures.none in
+    record { next = (refl, λ taken text reads. cut); fault = λ taken text reads. tt }
 
-pub returns-clause-next : goal.returns-clause-next
-returns-clause-next g c =
+pub returns : goal.returns
+returns g c =
     let after = c.in-Some.after.now in
-    let found = c.in-Some.ensures.found in (
-      record {
-        items = head_bytes c.in-Some.head;
-        joins = found.1;
-        on = λ taken text reads. header_read (so_far g.R.Records.listed c.args.self.now) c.in-Some.head taken text c.args.bytes.now after c.requires reads found.0 found.1;
-      },
-      omega (arith, ap length found.1, length-append (head_bytes c.in-Some.head) after),
-    )
+    let found = c.in-Some.ensures.found in
+    record {
+      next = (
+        record {
+          items = head_bytes c.in-Some.head;
+          joins = found.1;
+          on = λ taken text reads. header_read (so_far g.R.Records.listed c.args.self.now) c.in-Some.head taken text c.args.bytes.now after c.requires reads found.0 found.1;
+        },
+        omega (arith, ap length found.1, length-append (head_bytes c.in-Some.head) after),
+      );
+      fault = λ taken text reads. tt;
+    }

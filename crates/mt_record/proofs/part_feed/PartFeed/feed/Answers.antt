@@ -1,17 +1,18 @@
-use Rattle.mt_record.proofs.PartFeeds.{after_piece}
+use Rattle.std.proofs.Common.{◌++◌, sym, subst}
+use Rattle.mt_record.specs.PartFeeding.{FedPart, IsPartFed}
+use Rattle.mt_record.specs.PartPieces.{so_far}
+use Rattle.mt_record.proofs.Feeds.{on_ok, if_err}
+use Rattle.mt_record.proofs.OnePartFault.{order_shows_none}
 use Rattle.mt_record.proofs.part_feed.PartFeed.feed.Goals as goal
 
 pub returns-clause-fed : goal.returns-clause-fed
-returns-clause-fed g c bytes fed =
-    let feed = c.feed in
-    (after_piece g.E.Entries.listed c.self.inside.feed feed.new.self c.args.self.now feed.result bytes c.args.piece.now c.self.view_is fed (feed.ensures.fed tt bytes) feed.ensures.sound feed.ensures.kept).fed
+returns-clause-fed g c bytes fed = c.feed.ensures.fed tt bytes (subst (λ (f : FedPart). IsPartFed f bytes) (sym c.self.view_is) fed)
 
 pub returns-clause-ok : goal.returns-clause-ok
 returns-clause-ok g c bytes fed =
-    let feed = c.feed in
-    (after_piece g.E.Entries.listed c.self.inside.feed feed.new.self c.args.self.now feed.result bytes c.args.piece.now c.self.view_is fed (feed.ensures.fed tt bytes) feed.ensures.sound feed.ensures.kept).ok
+    let after = c.feed.ensures.fed tt bytes (subst (λ (f : FedPart). IsPartFed f bytes) (sym c.self.view_is) fed) in
+    let feed = c.feed.new.self in
+    on_ok c.feed.result (λ none. order_shows_none (so_far g.E.Entries.listed feed.items) (bytes ++ c.args.piece.now) feed.held.items (after.0 none).0 (after.0 none).1) c.feed.ensures.sound
 
 pub returns-clause-fault : goal.returns-clause-fault
-returns-clause-fault g c bytes fed =
-    let feed = c.feed in
-    (after_piece g.E.Entries.listed c.self.inside.feed feed.new.self c.args.self.now feed.result bytes c.args.piece.now c.self.view_is fed (feed.ensures.fed tt bytes) feed.ensures.sound feed.ensures.kept).fault
+returns-clause-fault g c bytes fed = if_err c.feed.result (c.feed.ensures.fed tt bytes (subst (λ (f : FedPart). IsPartFed f bytes) (sym c.self.view_is) fed)).1 c.feed.ensures.kept

@@ -10,8 +10,8 @@ use Rattle.mt_record.proofs.Copying.{entry_within}
 use Rattle.mt_record.proofs.PartItems.{reads_entries, broken_at, entry_shown, entry_goes_on}
 use Rattle.mt_record.proofs.part_items.PartItems.read_entry.Goals as goal
 
-pub returns-in_ok-put_entry-in-Ok-Some-clause-next : goal.returns-in_ok-put_entry-in-Ok-Some-clause-next
-returns-in_ok-put_entry-in-Ok-Some-clause-next g c =
+pub returns-in_ok-put_entry-in-Ok-Some : goal.returns-in_ok-put_entry-in-Ok-Some
+returns-in_ok-put_entry-in-Ok-Some g c =
     let old = c.args.self.now in
     let bytes = c.args.bytes.now in
     let fields = c.in-Ok-Some.fields.now in
@@ -26,13 +26,21 @@ returns-in_ok-put_entry-in-Ok-Some-clause-next g c =
       joins = next.spelled;
       on = λ taken part reads. entry_goes_on (so_far g.E.Entries.listed old) (g.E.Entries.listed c.put_entry.new.self) part bytes fields after c.args.head next c.requires.head c.requires.open added reads;
     } in
-    subst (λ (x : Bor (List ℕ)). Reads (HasReadItems g.E.Entries.listed) old new bytes x.now × (length x.now < length bytes)) (sym c.in-Ok-Some.after-is)
-    (reads, omega (arith, ap length next.spelled, length-append (framed fields) after))
+    record {
+      next = subst (λ (x : Bor (List ℕ)). Reads (HasReadItems g.E.Entries.listed) old new bytes x.now × (length x.now < length bytes)) (sym c.in-Ok-Some.after-is)
+          (reads, omega (arith, ap length next.spelled, length-append (framed fields) after));
+      fault = λ taken part reads. tt;
+    }
 
-pub returns-in-Err-clause-fault : goal.returns-in-Err-clause-fault
-returns-in-Err-clause-fault g c = λ part reads.
+pub returns-in-Err : goal.returns-in-Err
+returns-in-Err g c =
     let old = c.args.self.now in
     let bytes = c.args.bytes.now in
-    let begins = reads_entries (so_far g.E.Entries.listed old) part bytes c.args.head c.requires.head c.requires.open reads in
-    rw c.broken.ensures (broken_at part bytes c.args.head (g.E.Entries.listed old.entries) begins
-    (entry_shown (limits_of c.args.head.format) (length (g.E.Entries.listed old.entries)) bytes c.in-Err.ensures.fault c.requires.entry))
+    let count = length (g.E.Entries.listed old.entries) in
+    let shown = entry_shown (limits_of c.args.head.format) count bytes c.in-Err.ensures.fault c.requires.entry in
+    record {
+      next = tt;
+      fault = λ taken part reads.
+          let begins = reads_entries (so_far g.E.Entries.listed old) part bytes c.args.head c.requires.head c.requires.open reads in
+          rw c.broken.ensures (broken_at part bytes c.args.head (g.E.Entries.listed old.entries) begins shown);
+    }

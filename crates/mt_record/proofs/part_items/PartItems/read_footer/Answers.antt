@@ -5,31 +5,41 @@ use Rattle.mt_record.specs.PartPieces.{so_far}
 use Rattle.mt_record.proofs.PartItems.{reads_entries, broken_at, footer_shown, footer_read, ended}
 use Rattle.mt_record.proofs.part_items.PartItems.read_footer.Goals as goal
 
-pub returns-then-count-clause-fault : goal.returns-then-count-clause-fault
-returns-then-count-clause-fault g c = λ part reads.
+pub returns-then-count : goal.returns-then-count
+returns-then-count g c =
     let old = c.args.self.now in
     let bytes = c.args.bytes.now in
     let end = c.in-Some.ensures.found in
     let count = c.in-Some-u32_at.ensures.found in
-    let begins = reads_entries (so_far g.E.Entries.listed old) part (big_bytes 4 0 ++ bytes) c.args.head c.requires.head c.requires.open reads in
-    rw c.broken.ensures (broken_at part (big_bytes 4 0 ++ bytes) c.args.head (g.E.Entries.listed old.entries) begins
-    (footer_shown (limits_of c.args.head.format) bytes c.in-Some.rest.now c.in-Some-u32_at.after.now c.in-Some.end c.in-Some-u32_at.count (length (g.E.Entries.listed old.entries)) end.1 count.0 count.1 (λ e. c.if-count.true (omega (arith, e, c.count.ensures)))))
+    let so_many = length (g.E.Entries.listed old.entries) in
+    let shown = footer_shown (limits_of c.args.head.format) bytes c.in-Some.rest.now c.in-Some-u32_at.after.now c.in-Some.end c.in-Some-u32_at.count so_many
+    end.1 count.0 count.1 (λ e. c.if-count.true (omega (arith, e, c.count.ensures))) in
+    record {
+      next = tt;
+      fault = λ taken part reads.
+          let begins = reads_entries (so_far g.E.Entries.listed old) part (big_bytes 4 0 ++ bytes) c.args.head c.requires.head c.requires.open reads in
+          rw c.broken.ensures (broken_at part (big_bytes 4 0 ++ bytes) c.args.head (g.E.Entries.listed old.entries) begins shown);
+    }
 
-pub returns-clause-next : goal.returns-clause-next
-returns-clause-next g c =
+pub returns : goal.returns
+returns g c =
     let old = c.args.self.now in
     let bytes = c.args.bytes.now in
     let after = c.in-Some-u32_at.after.now in
     let end = c.in-Some.ensures.found in
     let count = c.in-Some-u32_at.ensures.found in
-    let so_many : c.in-Some-u32_at.count ≡ length (g.E.Entries.listed old.entries) = omega (arith, c.if-count.false, c.count.ensures) in (
-      record {
-        items = big_bytes 4 0 ++ (big_bytes 8 c.in-Some.end ++ big_bytes 4 c.in-Some-u32_at.count);
-        joins = ap (λ (x : List ℕ). big_bytes 4 0 ++ x) (end.1 ∙ ap (λ (x : List ℕ). big_bytes 8 c.in-Some.end ++ x) count.1);
-        on = λ taken part reads.
-            let begins = reads_entries (so_far g.E.Entries.listed old) part (big_bytes 4 0 ++ bytes) c.args.head c.requires.head c.requires.open reads in
-            ended (so_far g.E.Entries.listed old) part after c.args.head c.in-Some.end c.requires.head
-            (footer_read part bytes c.in-Some.rest.now after c.args.head (g.E.Entries.listed old.entries) c.in-Some.end c.in-Some-u32_at.count begins end.0 end.1 count.0 count.1 so_many);
-      },
-      omega (arith, ap length end.1, ap length count.1),
-    )
+    let so_many : c.in-Some-u32_at.count ≡ length (g.E.Entries.listed old.entries) = omega (arith, c.if-count.false, c.count.ensures) in
+    record {
+      next = (
+        record {
+          items = big_bytes 4 0 ++ (big_bytes 8 c.in-Some.end ++ big_bytes 4 c.in-Some-u32_at.count);
+          joins = ap (λ (x : List ℕ). big_bytes 4 0 ++ x) (end.1 ∙ ap (λ (x : List ℕ). big_bytes 8 c.in-Some.end ++ x) count.1);
+          on = λ taken part reads.
+              let begins = reads_entries (so_far g.E.Entries.listed old) part (big_bytes 4 0 ++ bytes) c.args.head c.requires.head c.requires.open reads in
+              ended (so_far g.E.Entries.listed old) part after c.args.head c.in-Some.end c.requires.head
+              (footer_read part bytes c.in-Some.rest.now after c.args.head (g.E.Entries.listed old.entries) c.in-Some.end c.in-Some-u32_at.count begins end.0 end.1 count.0 count.1 so_many);
+        },
+        omega (arith, ap length end.1, ap length count.1),
+      );
+      fault = λ taken part reads. tt;
+    }

@@ -9,29 +9,31 @@ use Rattle.mt_record.proofs.PartBeginnings.{part_whole, part_magic}
 use Rattle.mt_record.proofs.PartItems.{header_failed, header_cut, header_read}
 use Rattle.mt_record.proofs.part_items.PartItems.read_header.Goals as goal
 
-pub returns-then-not-goes_with_magic-clause-fault : goal.returns-then-not-goes_with_magic-clause-fault
-returns-then-not-goes_with_magic-clause-fault g c = λ part reads.
+pub returns-then-not-goes_with_magic : goal.returns-then-not-goes_with_magic
+returns-then-not-goes_with_magic g c =
     let no_magic = rw c.if-not-goes_with_magic.true at c.goes_with_magic.ensures in
     let none = shows_none IsPartHead part_head_bytes (codes "MTC") (λ (head : PartHead). head.format) part_magic c.args.bytes.now no_magic in
-    header_failed (so_far g.E.Entries.listed c.args.self.now) part c.args.bytes.now c.requires reads none
+    record { next = tt; fault = λ taken part reads. header_failed (so_far g.E.Entries.listed c.args.self.now) part c.args.bytes.now c.requires reads none }
 
-pub returns-in_default-clause-next : goal.returns-in_default-clause-next
-returns-in_default-clause-next g c = (
-  refl,
-  λ taken part reads.
-      let goes = rw c.if-not-goes_with_magic.false at c.goes_with_magic.ensures in
-      let begins = alike IsPartHead part_head_bytes (codes "MTC") 16 part_whole c.args.bytes.now goes (λ i. omega (arith, c.type_inv.bytes i)) in
-      header_cut (so_far g.E.Entries.listed c.args.self.now) c.args.bytes.now c.requires begins c.in_default.ensures.none,
-)
+pub returns-in_default : goal.returns-in_default
+returns-in_default g c =
+    let goes = rw c.if-not-goes_with_magic.false at c.goes_with_magic.ensures in
+    let begins = alike IsPartHead part_head_bytes (codes "MTC") 16 part_whole c.args.bytes.now goes (λ i. omega (arith, c.type_inv.bytes i)) in
+    let cut = header_cut (so_far g.E.Entries.listed c.args.self.now) c.args.bytes.now c.requires begins c.in_default.ensures.none in
+    record { next = (refl, λ taken part reads. cut); fault = λ taken part reads. tt }
 
-pub returns-clause-next : goal.returns-clause-next
-returns-clause-next g c =
+pub returns : goal.returns
+returns g c =
     let after = c.in-Some.after.now in
-    let found = c.in-Some.ensures.found in (
-      record {
-        items = part_head_bytes c.in-Some.head;
-        joins = found.1;
-        on = λ taken part reads. header_read (so_far g.E.Entries.listed c.args.self.now) part c.args.bytes.now after c.in-Some.head c.requires reads found.0 found.1;
-      },
-      omega (arith, ap length found.1, length-append (part_head_bytes c.in-Some.head) after),
-    )
+    let found = c.in-Some.ensures.found in
+    record {
+      next = (
+        record {
+          items = part_head_bytes c.in-Some.head;
+          joins = found.1;
+          on = λ taken part reads. header_read (so_far g.E.Entries.listed c.args.self.now) part c.args.bytes.now after c.in-Some.head c.requires reads found.0 found.1;
+        },
+        omega (arith, ap length found.1, length-append (part_head_bytes c.in-Some.head) after),
+      );
+      fault = λ taken part reads. tt;
+    }

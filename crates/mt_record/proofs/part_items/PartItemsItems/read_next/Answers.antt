@@ -2,6 +2,9 @@ use Rattle.mt_record.specs.PartPieces.{so_far}
 use Rattle.mt_record.proofs.PartItems.{behind_end}
 use Rattle.mt_record.proofs.part_items.PartItemsItems.read_next.Goals as goal
 
-pub returns-clause-fault : goal.returns-clause-fault
-returns-clause-fault g c = λ taken part reads.
-    rw c.broken.ensures (behind_end (so_far g.E.Entries.listed c.args.self.now) part c.args.bytes.now c.in-Some.head c.in-Some.is c.if-is_none.ensures c.if-is_empty.ensures reads)
+pub returns : goal.returns
+returns g c = record {
+  next = tt;
+  fault = λ taken part reads.
+      rw c.broken.ensures (behind_end (so_far g.E.Entries.listed c.args.self.now) part c.args.bytes.now c.in-Some.head c.in-Some.is c.if-is_none.ensures c.if-is_empty.ensures reads);
+}
