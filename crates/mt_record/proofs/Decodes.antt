@@ -1,5 +1,5 @@
 -- A body says the record that it spells.
-use Rattle.std.proofs.Common.{◌≡◌, ◌↔◌, ◌||◌, IsTrue, ℕ, suc, ◌^◌, ◌<◌, ◌≤◌, ◌+◌, ◌-◌, List, [], ◌∷◌, ◌++◌, length, take, drop, Option, Some, None, Bool, true, false, refl, sym, ap, subst, ◌∙◌, append_assoc, arith}
+use Rattle.std.proofs.Common.{◌≡◌, ◌↔◌, ◌||◌, IsTrue, ℕ, suc, eqb, ◌^◌, ◌<◌, ◌≤◌, ◌+◌, ◌-◌, List, [], ◌∷◌, ◌++◌, length, take, drop, Option, Some, None, Bool, true, false, refl, sym, ap, subst, ◌∙◌, append_assoc, arith}
 use Rattle.std.proofs.Math.Seq.{take-append_seam, drop-append_seam}
 use Rattle.std.proofs.lemmas.List.{append-nil, length-append, take_rest, drop-drop}
 use Rattle.std.proofs.lemmas.Bool.{false≢true}
@@ -19,7 +19,7 @@ use Rattle.mt_record.specs.Spelling.{counted, column_bytes, code_of, kind_bytes,
 use Rattle.mt_record.proofs.Lawful.{key_room, put_fits}
 use Rattle.mt_record.specs.Bodies.{AreSpelled}
 use Rattle.mt_record.proofs.Unique.{same_column}
-use Rattle.mt_record.specs.Decoding.{columns_from, columns_counted, columns_carried, columns_of, kind_from, is_mark_in, is_remove_in, is_whole_in, time_in, version_in, key_length_in, key_in, carried_in, kind_in, change_in, update_in, change_unless, decode, IsSound, IsBody, IsChangeBody, IsEntryBody, IsCarried, AreLent, AreCounted}
+use Rattle.mt_record.specs.Decoding.{columns_from, columns_counted, columns_carried, columns_of, kind_from, change_unless, is_mark_in, is_remove_in, is_whole_in, time_in, version_in, key_length_in, key_in, carried_in, kind_in, change_in, update_in, change_unless, decode, IsSound, IsBody, IsChangeBody, IsEntryBody, IsCarried, AreLent, AreCounted}
 
 -- ---- fields
 
@@ -81,36 +81,15 @@ mark_back : (t : ℕ) → t < 2 ^ 64 → decode (body_of t None) ≡ record { ti
 unfolding is_mark_in
 mark_back t below = λ i. record { timestamp = time_back 3 t [] below i; change = None }
 
-put_back : (t v : ℕ) (key : List ℕ) (cs : List (ℕ × List ℕ)) → t < 2 ^ 64 → v < 2 ^ 64 → length key < 2 ^ 16 → AllByRecursion FitsColumn cs
-    → decode (body_of t (Some (record { version = v; key = key; kind = Put cs }))) ≡ record { timestamp = t; change = Some (record { version = v; key = key; kind = Put cs }) }
+-- a change of the kind of this byte, which carries what the kind is made of
+changed_back : (byte t v : ℕ) (key carried : List ℕ) (kind : Kind) → eqb byte 3 ≡ false → kind_from (eqb byte 2) (eqb byte 0) carried ≡ kind → t < 2 ^ 64 → v < 2 ^ 64 → length key < 2 ^ 16
+    → decode (change_body byte t key v carried) ≡ changed t (record { version = v; key = key; kind = kind })
 unfolding is_mark_in is_remove_in is_whole_in
-put_back t v key cs fits_t fits_v fits_key fits =
-    let carried = carried_back 1 t v key (kind_bytes (Put cs)) fits_key in
-    let columns = some_back cs fits in
-    let kind : kind_from false false (carried_in (change_body 1 t key v (kind_bytes (Put cs)))) ≡ Put cs = ap (kind_from false false) carried ∙ ap Put columns in
+changed_back byte t v key carried kind no_mark is fits_t fits_v fits_key =
+    let made = ap (kind_from (eqb byte 2) (eqb byte 0)) (carried_back byte t v key carried fits_key) ∙ is in
     λ i. record {
-      timestamp = time_back 1 t (big_bytes 8 v ++ (counted key ++ kind_bytes (Put cs))) fits_t i;
-      change = Some (record { version = version_back 1 t v key (kind_bytes (Put cs)) fits_v i; key = key_back 1 t v key (kind_bytes (Put cs)) fits_key i; kind = kind i });
-    }
-
-remove_back : (t v : ℕ) (key : List ℕ) → t < 2 ^ 64 → v < 2 ^ 64 → length key < 2 ^ 16
-    → decode (body_of t (Some (record { version = v; key = key; kind = Remove }))) ≡ record { timestamp = t; change = Some (record { version = v; key = key; kind = Remove }) }
-unfolding is_mark_in is_remove_in is_whole_in
-remove_back t v key fits_t fits_v fits_key = λ i. record {
-  timestamp = time_back 2 t (big_bytes 8 v ++ (counted key ++ [])) fits_t i;
-  change = Some (record { version = version_back 2 t v key [] fits_v i; key = key_back 2 t v key [] fits_key i; kind = Remove });
-}
-
-whole_back : (t v : ℕ) (key : List ℕ) (cs : List (ℕ × List ℕ)) → t < 2 ^ 64 → v < 2 ^ 64 → length key < 2 ^ 16 → AllByRecursion FitsColumn cs
-    → decode (body_of t (Some (record { version = v; key = key; kind = Whole cs }))) ≡ record { timestamp = t; change = Some (record { version = v; key = key; kind = Whole cs }) }
-unfolding is_mark_in is_remove_in is_whole_in
-whole_back t v key cs fits_t fits_v fits_key fits =
-    let carried = carried_back 0 t v key (kind_bytes (Whole cs)) fits_key in
-    let columns = some_back cs fits in
-    let kind : kind_from false true (carried_in (change_body 0 t key v (kind_bytes (Whole cs)))) ≡ Whole cs = ap (kind_from false true) carried ∙ ap Whole columns in
-    λ i. record {
-      timestamp = time_back 0 t (big_bytes 8 v ++ (counted key ++ kind_bytes (Whole cs))) fits_t i;
-      change = Some (record { version = version_back 0 t v key (kind_bytes (Whole cs)) fits_v i; key = key_back 0 t v key (kind_bytes (Whole cs)) fits_key i; kind = kind i });
+      timestamp = time_back byte t (big_bytes 8 v ++ (counted key ++ carried)) fits_t i;
+      change = change_unless (no_mark i) (record { version = version_back byte t v key carried fits_v i; key = key_back byte t v key carried fits_key i; kind = made i });
     }
 
 change_back : (t : ℕ) (change : Change) → t < 2 ^ 64 → FitsChange change → decode (body_of t (Some change)) ≡ changed t change
@@ -118,9 +97,9 @@ change_back t change fits_t fits = by_kind change.kind fits.2
   where
     by_kind : (kind : Kind) → FitsKind kind
         → decode (body_of t (Some (record { version = change.version; key = change.key; kind = kind }))) ≡ changed t (record { version = change.version; key = change.key; kind = kind })
-    by_kind (Put cs) fit = put_back t change.version change.key cs fits_t fits.0 fits.1 fit.1
-    by_kind Remove fit = remove_back t change.version change.key fits_t fits.0 fits.1
-    by_kind (Whole cs) fit = whole_back t change.version change.key cs fits_t fits.0 fits.1 fit.1
+    by_kind (Put cs) fit = changed_back 1 t change.version change.key (kind_bytes (Put cs)) (Put cs) refl (ap Put (some_back cs fit.1)) fits_t fits.0 fits.1
+    by_kind Remove fit = changed_back 2 t change.version change.key [] Remove refl refl fits_t fits.0 fits.1
+    by_kind (Whole cs) fit = changed_back 0 t change.version change.key (kind_bytes (Whole cs)) (Whole cs) refl (ap Whole (some_back cs fit.1)) fits_t fits.0 fits.1
 
 -- ---- a record
 

@@ -1,11 +1,11 @@
 -- What a feed has read when more bytes follow, whatever its items are.
-use Rattle.std.proofs.Common.{◌≡◌, ℕ, ◌+◌, ◌-◌, ◌*◌, ◌<◌, Result, Ok, Err, Option, Some, None, List, [], ◌∷◌, ◌++◌, length, drop, refl, sym, ap, ◌∙◌, subst, arith, true, Bool}
+use Rattle.std.proofs.Common.{◌≡◌, ℕ, ◌+◌, ◌-◌, ◌*◌, ◌<◌, Result, Ok, Err, Option, Some, None, List, [], ◌∷◌, ◌++◌, length, drop, refl, sym, ap, ◌∙◌, subst, append_assoc, arith, true, Bool}
 use Rattle.std.proofs.lemmas.List.{length-append, append-nil, nil_from_length}
 use Rattle.std.proofs.lemmas.Bool.Decides.{Decides-eqb}
 use Rattle.std.proofs.lemmas.Option.{none-some}
 use Rattle.std.specs.Prelude.{◌==◌}
 use Rattle.std.specs.Result.{OnOk, IfErr}
-use Rattle.mt_record.specs.Feeding.{HoldsUpTo, HoldsAll, IsFedBy, Tops}
+use Rattle.mt_record.specs.Feeding.{Reads, HoldsUpTo, HoldsAll, IsFedBy, Tops}
 
 -- what was read is the same when more bytes follow
 abbrev pub GoesOn : {I : Type 0} → (I → List ℕ → List ℕ → Type 0) → Type 0
@@ -14,6 +14,15 @@ GoesOn {I} reads = (items : I) (text rest more : List ℕ) → reads items text 
 -- and up to bytes that end before the rest does
 abbrev pub HasFront : {I : Type 0} → (I → List ℕ → List ℕ → Type 0) → Type 0
 HasFront {I} reads = (items : I) (text a b : List ℕ) → reads items text (a ++ b) → (front : List ℕ) × (front ++ b ≡ text) × reads items front a
+
+-- items read one after the other
+pub then_read : {T I : Type 0} (reads : T → I → List ℕ → List ℕ → Type 0) (old middle new : I) (bytes rest after : List ℕ) → Reads reads old middle bytes rest → Reads reads middle new rest after
+    → Reads reads old new bytes after
+then_read reads old middle new bytes rest after first next = record {
+  items = first.items ++ next.items;
+  joins = first.joins ∙ ap (λ (x : List ℕ). first.items ++ x) next.joins ∙ sym (append_assoc first.items next.items after);
+  on = λ taken text is. next.on taken text (first.on taken text is);
+}
 
 -- bytes moved from the piece to those held leave what was read as it is
 pub topped : {I : Type 0} (reads : I → List ℕ → List ℕ → Type 0) → GoesOn reads → HasFront reads → (items : I) (front held piece new rest text : List ℕ)

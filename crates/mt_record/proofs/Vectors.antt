@@ -4,16 +4,16 @@ use Rattle.std.specs.List.{flat_map}
 use Rattle.mt_words.specs.declared.limits.Format.TheVariants.{One}
 use Rattle.mt_words.specs.Limits.{limits_of}
 use Rattle.mt_words.specs.Changes.{mark_of, put_of, remove_of, entry_of}
-use Rattle.mt_record.specs.Spelling.{spelling, longest_record}
+use Rattle.mt_record.specs.Spelling.{spelling, longest_record, longest_change}
 use Rattle.mt_record.specs.Heads.{head_of, head_bytes}
-use Rattle.mt_record.specs.Parts.{longest_entry, part_head, part_bytes}
+use Rattle.mt_record.specs.Parts.{part_head, part_bytes}
 
 -- the greatest body of the format has so many bytes
 longest_is_number : longest_record (limits_of One) ≡ 1049652
 longest_is_number = refl
 
-longest_entry_is_number : longest_entry (limits_of One) ≡ 1049643
-longest_entry_is_number = refl
+longest_change_is_number : longest_change (limits_of One) ≡ 1049643
+longest_change_is_number = refl
 
 -- a log of no record, from 4 on
 header_alone : head_bytes (head_of 4) ≡ 77 ∷ 84 ∷ 76 ∷ 49 ∷ 0 ∷ 0 ∷ 0 ∷ 0 ∷ 0 ∷ 0 ∷ 0 ∷ 4 ∷ []

@@ -2,7 +2,6 @@
 use Rattle.std.specs.Prelude.{◌≡◌, ℕ, suc, ◌+◌, ◌*◌, ◌≤◌, ◌<◌, ◌^◌, List, ◌++◌, length, codes}
 use Rattle.std.specs.List.{flat_map, AllByRecursion}
 use Rattle.byteorder.specs.Endian.{big_bytes}
-use Rattle.mt_words.specs.declared.limits.TheConstants.{LONGEST_VALUE}
 use Rattle.mt_words.specs.declared.record.Change.{Change}
 use Rattle.mt_words.specs.declared.limits.Limits.{Limits}
 use Rattle.mt_words.specs.Limits.{limits_of, magic}
@@ -10,7 +9,7 @@ use Rattle.mt_words.specs.declared.limits.Format.{Format}
 use Rattle.mt_words.specs.Changes.{IsEntry}
 use Rattle.mt_record.specs.declared.part_text.PartHead.{PartHead}
 use Rattle.mt_record.specs.declared.part_text.PartText.{PartText}
-use Rattle.mt_record.specs.Spelling.{change_bytes, framed}
+use Rattle.mt_record.specs.Spelling.{change_bytes, framed, longest_change}
 
 -- the header of a part: the number of its checkpoint, where that begins, the part's own number, and how many parts there are
 abbrev pub part_head : Format → ℕ → ℕ → ℕ → ℕ → PartHead
@@ -29,13 +28,9 @@ pub record IsPartHead (head : PartHead) : Type 0 where
 abbrev pub entry_spelling : Change → List ℕ
 entry_spelling change = framed (change_bytes change)
 
--- the length of the greatest entry: the longest key and all columns, each as long as can be
-abbrev pub longest_entry : Limits → ℕ
-longest_entry limits = 11 + limits.key + suc limits.column * (3 + LONGEST_VALUE)
-
 -- the length that an entry may have: from that of the empty key with an empty column on
 abbrev pub IsEntryLength : Limits → ℕ → Type 0
-IsEntryLength limits n = (14 ≤ n) × (n ≤ longest_entry limits)
+IsEntryLength limits n = (14 ≤ n) × (n ≤ longest_change limits)
 
 -- what ends a part: a length of zero, where its checkpoint ends, and how many entries the part has
 abbrev pub footer_bytes : ℕ → ℕ → List ℕ

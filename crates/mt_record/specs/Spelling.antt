@@ -49,9 +49,13 @@ framed bytes = big_bytes 4 (length bytes) ++ (bytes ++ big_bytes 4 (length bytes
 abbrev pub spelling : Logged → List ℕ
 spelling r = framed (body r)
 
--- the length of the greatest body: a put of the longest key and of all columns, each as long as can be
+-- the length of the greatest change: a put of the longest key and of all columns, each as long as can be
+abbrev pub longest_change : Limits → ℕ
+longest_change limits = 11 + limits.key + suc limits.column * (3 + LONGEST_VALUE)
+
+-- and of its body: the byte of the kind and the timestamp stand before it
 abbrev pub longest_record : Limits → ℕ
-longest_record limits = 20 + limits.key + suc limits.column * (3 + LONGEST_VALUE)
+longest_record limits = 9 + longest_change limits
 
 -- the length that a body may have: from that of a mark on
 abbrev pub IsRecordLength : Limits → ℕ → Type 0

@@ -2,10 +2,10 @@
 ghost use Rattle.std.specs.Prelude.{◌≡◌, ◌<◌, ◌^◌, ◌⊎◌, ◌+◌, ◌*◌, suc, [], length, IfOk, IfErr, OnErr, MatchOption};
 ghost use Rattle.mt_words.specs.declared.limits.TheConstants.{LONGEST_VALUE};
 ghost use Rattle.mt_words.specs.Limits.{limits_of};
-ghost use Rattle.mt_record.specs.Spelling.{longest_record as longest_record_of};
+ghost use Rattle.mt_record.specs.Spelling.{longest_change as longest_change_of};
 ghost use Rattle.mt_record.specs.Logs.{IsTorn, IsCut};
 ghost use Rattle.mt_record.specs.LogFaults.{RestFault};
-ghost use Rattle.mt_record.specs.Parts.{longest_entry as longest_entry_of, IsEntryLength};
+ghost use Rattle.mt_record.specs.Parts.{IsEntryLength};
 ghost use Rattle.mt_record.specs.PartFeeding.{ShowsNoEntry};
 ghost use Rattle.mt_record.specs.Bodies.{IsNextBody, IsNextEntry, IsWithin, IsFrame, IsFrameFault};
 
@@ -13,8 +13,11 @@ use crate::check::{check_body, check_entry};
 use crate::fields::u32_at;
 use mt_words::{Format, LONGEST_VALUE, What};
 
+/// The number of bytes of a body before its change: the byte of its kind, and its timestamp.
+const BEFORE_CHANGE: usize = 9;
+
 /// The least length of a body: that of a mark.
-const SHORTEST_RECORD: usize = 9;
+const SHORTEST_RECORD: usize = BEFORE_CHANGE;
 
 /// The least length of an entry: that of the empty key with one empty column.
 const SHORTEST_ENTRY: usize = 14;
@@ -31,7 +34,7 @@ pub fn next_record(
         (λ x. IsNextBody (limits_of format) latest bytes.now x.0 x.1.now x.2.now)) }
     ensures fault { IfErr result (λ what. RestFault what (limits_of format) latest bytes.now) }
 {
-    let Some((text, after)) = next_frame(bytes, SHORTEST_RECORD, longest_record(format))? else {
+    let Some((text, after)) = next_frame(bytes, SHORTEST_RECORD, BEFORE_CHANGE + longest_change(format))? else {
         return Ok(None);
     };
     let timestamp = check_body(format, latest, text)?;
@@ -45,26 +48,18 @@ pub fn next_entry(format: Format, bytes: &[u8]) -> Result<Option<(&[u8], &[u8])>
         (λ x. IsNextEntry (limits_of format) bytes.now x.0.now x.1.now)) }
     ensures fault { OnErr result (ShowsNoEntry (limits_of format) bytes.now) }
 {
-    let Some((text, after)) = next_frame(bytes, SHORTEST_ENTRY, longest_entry(format))? else {
+    let Some((text, after)) = next_frame(bytes, SHORTEST_ENTRY, longest_change(format))? else {
         return Ok(None);
     };
     check_entry(format, text)?;
     Ok(Some((text, after)))
 }
 
-/// The greatest length of a body: that of a put of the longest key and of all columns, each as long as can be.
-fn longest_record(format: Format) -> usize
-    ensures value { result ≡ longest_record_of (limits_of format) }
-    ensures fits { result < 2 ^ 32 }
-{
-    let limits = format.limits();
-    20 + limits.key + (limits.column as usize + 1) * (3 + LONGEST_VALUE)
-}
-
-/// The greatest length of an entry: that of the longest key and of all columns, each as long as can be.
-fn longest_entry(format: Format) -> usize
-    ensures value { result ≡ longest_entry_of (limits_of format) }
-    ensures fits { result < 2 ^ 32 }
+/// The greatest length of a change, and so of an entry: that of the longest key and of all columns, each as long as can
+/// be.
+fn longest_change(format: Format) -> usize
+    ensures value { result ≡ longest_change_of (limits_of format) }
+    ensures fits { result < 2 ^ 31 }
 {
     let limits = format.limits();
     11 + limits.key + (limits.column as usize + 1) * (3 + LONGEST_VALUE)

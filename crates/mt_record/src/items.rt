@@ -5,6 +5,9 @@ ghost use Rattle.mt_record.specs.Feeding.{Steps};
 
 use mt_words::Memory;
 
+/// What one step gives: the bytes behind the item that was read, or None where it is not whole.
+pub type Step<'a, Fault> = Result<Option<&'a [u8]>, Fault>;
+
 /// What was read so far of a text whose items, of any kinds, stand one behind the other. That of a log are its header
 /// and its records; that of a part its header, its entries and its footer.
 pub trait Items {
@@ -23,8 +26,8 @@ pub trait Items {
     /// The bytes so far show the fault, however they go on, behind what was taken and what is here.
     ghost fails: { Taken → Self → Self.Fault → List ℕ → Type 0 };
 
-    /// Reads the item at the front, and gives the bytes after it; None where it is not whole.
-    fn read_next<'a>(&mut self, bytes: &'a [u8]) -> Result<Option<&'a [u8]>, Self::Fault>
+    /// Reads the item at the front.
+    fn read_next<'a>(&mut self, bytes: &'a [u8]) -> Step<'a, Self::Fault>
         ensures { Steps reads is_left fails self.old self.new bytes.now result };
 
     /// How many bytes the beginning that is held back asks for. It only says how far to go before the next try: no

@@ -11,7 +11,7 @@ ghost use Rattle.mt_record.specs.LogLaws.{reads_on, reads_front, failed_on, refu
 use crate::fields::u32_at;
 use crate::frame::next_record;
 use crate::head::{HEADER_BYTES, Head, LOG, header_at};
-use crate::items::Items;
+use crate::items::{Items, Step};
 use crate::kept::Records;
 use crate::magic::goes_with_magic;
 use crate::read::{FeedFault, LogText};
@@ -40,7 +40,7 @@ impl<R: Records> Items for LogItems<R> {
 
     ghost fails = { HasFailedItems R.listed };
 
-    fn read_next<'a>(&mut self, bytes: &'a [u8]) -> Result<Option<&'a [u8]>, FeedFault> {
+    fn read_next<'a>(&mut self, bytes: &'a [u8]) -> Step<'a, FeedFault> {
         let Some(head) = self.head else {
             return self.read_header(bytes);
         };
@@ -72,7 +72,7 @@ impl<R: Records> Items for LogItems<R> {
 
 impl<R: Records> LogItems<R> {
     /// Reads the header.
-    fn read_header<'a>(&mut self, bytes: &'a [u8]) -> Result<Option<&'a [u8]>, FeedFault>
+    fn read_header<'a>(&mut self, bytes: &'a [u8]) -> Step<'a, FeedFault>
         requires { self.old.head ≡ None }
         ensures { StepsLog R.listed self.old self.new bytes.now result }
     {
@@ -87,11 +87,7 @@ impl<R: Records> LogItems<R> {
     }
 
     /// Reads a record.
-    fn read_record<'a>(
-        &mut self,
-        head: Head,
-        bytes: &'a [u8],
-    ) -> Result<Option<&'a [u8]>, FeedFault>
+    fn read_record<'a>(&mut self, head: Head, bytes: &'a [u8]) -> Step<'a, FeedFault>
         requires { self.old.head ≡ Some head }
         ensures next { IfOk result (λ next. MatchOption next
             ((self.new ≡ self.old) × IsLeft (limits_of head.format) bytes.now)

@@ -10,7 +10,7 @@ ghost use Rattle.mt_record.specs.PartLaws.{reads_on, reads_front, shown_on, refu
 
 use crate::fields::{u32_at, u64_at};
 use crate::frame::next_entry;
-use crate::items::Items;
+use crate::items::{Items, Step};
 use crate::kept::Entries;
 use crate::magic::goes_with_magic;
 use crate::part_head::{FOOTER_BYTES, PART, PART_HEADER_BYTES, part_header_at};
@@ -38,7 +38,7 @@ impl<E: Entries> Items for PartItems<E> {
 
     ghost fails = { IsShownOfItems };
 
-    fn read_next<'a>(&mut self, bytes: &'a [u8]) -> Result<Option<&'a [u8]>, PartFault> {
+    fn read_next<'a>(&mut self, bytes: &'a [u8]) -> Step<'a, PartFault> {
         let Some(head) = self.head else {
             return self.read_header(bytes);
         };
@@ -74,7 +74,7 @@ impl<E: Entries> Items for PartItems<E> {
 
 impl<E: Entries> PartItems<E> {
     /// Reads the header.
-    fn read_header<'a>(&mut self, bytes: &'a [u8]) -> Result<Option<&'a [u8]>, PartFault>
+    fn read_header<'a>(&mut self, bytes: &'a [u8]) -> Step<'a, PartFault>
         requires { self.old.head ≡ None }
         ensures { StepsPart E.listed self.old self.new bytes.now result }
     {
@@ -89,11 +89,7 @@ impl<E: Entries> PartItems<E> {
     }
 
     /// Reads an entry, or the footer, which begins with a length of zero.
-    fn read_item<'a>(
-        &mut self,
-        head: PartHead,
-        bytes: &'a [u8],
-    ) -> Result<Option<&'a [u8]>, PartFault>
+    fn read_item<'a>(&mut self, head: PartHead, bytes: &'a [u8]) -> Step<'a, PartFault>
         requires head { self.old.head ≡ Some head }
         requires open { self.old.end ≡ None }
         ensures { StepsPart E.listed self.old self.new bytes.now result }
@@ -108,11 +104,7 @@ impl<E: Entries> PartItems<E> {
     }
 
     /// Reads an entry.
-    fn read_entry<'a>(
-        &mut self,
-        head: PartHead,
-        bytes: &'a [u8],
-    ) -> Result<Option<&'a [u8]>, PartFault>
+    fn read_entry<'a>(&mut self, head: PartHead, bytes: &'a [u8]) -> Step<'a, PartFault>
         requires head { self.old.head ≡ Some head }
         requires open { self.old.end ≡ None }
         requires entry { (more : List ℕ) → bytes.now ≢ big_bytes 4 0 ++ more }
@@ -129,11 +121,7 @@ impl<E: Entries> PartItems<E> {
     }
 
     /// Reads the footer, of which this follows its length of zero.
-    fn read_footer<'a>(
-        &mut self,
-        head: PartHead,
-        bytes: &'a [u8],
-    ) -> Result<Option<&'a [u8]>, PartFault>
+    fn read_footer<'a>(&mut self, head: PartHead, bytes: &'a [u8]) -> Step<'a, PartFault>
         requires head { self.old.head ≡ Some head }
         requires open { self.old.end ≡ None }
         ensures { StepsPart E.listed self.old self.new (big_bytes 4 0 ++ bytes.now) result }

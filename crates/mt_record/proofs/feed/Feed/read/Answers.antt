@@ -34,7 +34,7 @@ returns-clause-ok g c = λ taken text read.
     let before = none_held (g.I.Items.reads taken) g.I.Items.is_left (g.met.I.Items.goes_on taken) c.held.self.items c.held.self.held.items (text ++ piece) c.held.rest.now up none in
     let new = c.read_whole.new.items in
     let rest = c.in_ok-rest-2.rest.now in
-    let same : rest ≡ c.append.new.held.items = sym (c.in_ok-append.ensures ∙ ap (λ (x : List ℕ). x ++ rest) none) in (
+    let same : rest ≡ c.append.new.held.items = sym {A = List ℕ} (c.in_ok-append.ensures ∙ ap (λ (x : List ℕ). x ++ rest) none) in (
       subst (λ (x : List ℕ). g.I.Items.reads taken new (text ++ piece) x) same (c.in_ok-rest-2.ensures.rest.on taken (text ++ piece) before),
       subst (λ (x : List ℕ). g.I.Items.is_left new x) same (c.in_ok-rest-2.ensures.ends taken (text ++ piece) before),
     )
