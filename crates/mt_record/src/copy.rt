@@ -1,7 +1,6 @@
 //! Checked bodies copied: the key and the values once, each straight to where it will stay.
 ghost use Rattle.std.specs.Prelude.{◌≡◌, ℕ, List, IfOk};
 ghost use Rattle.mt_words.specs.Limits.{widest};
-ghost use Rattle.mt_words.specs.Words.{IsKey};
 ghost use Rattle.mt_record.specs.Bodies.{IsLawfulBody, IsBodyOf, AreFields, AreFieldsOf, CarriesColumns};
 
 use crate::body::{MARK, REMOVE, fields_at};
@@ -26,7 +25,7 @@ pub fn copy_record(alloc: Global, bytes: &[u8]) -> Result<Record, Memory>
     let Some(fields) = fields_at(rest) else {
         unreachable!();
     };
-    let key = copy_key(alloc, fields.key)?;
+    let key = Key::copy_of(alloc, fields.key)?;
     let record = if *code == REMOVE {
         Record::remove(timestamp, fields.version, key)
     } else {
@@ -47,23 +46,12 @@ pub fn copy_entry(alloc: Global, bytes: &[u8]) -> Result<Entry, Memory>
     let Some(fields) = fields_at(bytes) else {
         unreachable!();
     };
-    let key = copy_key(alloc, fields.key)?;
+    let key = Key::copy_of(alloc, fields.key)?;
     let columns = copy_columns(alloc, fields.carried)?;
     let Some(entry) = Entry::new(fields.version, key, columns) else {
         unreachable!();
     };
     Ok(entry)
-}
-
-/// The key of these bytes.
-fn copy_key(alloc: Global, bytes: &[u8]) -> Result<Key, Memory>
-    requires { IsKey widest bytes.now }
-    ensures { IfOk result (λ key. key ≡ bytes.now) }
-{
-    let Some(key) = Key::new(Vec::from_slice(alloc, bytes)?) else {
-        unreachable!();
-    };
-    Ok(key)
 }
 
 /// The columns that the bytes are, behind their number.

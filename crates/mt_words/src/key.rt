@@ -12,6 +12,7 @@ ghost use Rattle.mt_words.specs.Words.{IsKey};
 use crate::fault::Memory;
 use crate::limits::LONGEST_KEY;
 use crate::slice::slice_at;
+use std::alloc::Global;
 use std::cmp::Ordering;
 use std::marker::Model;
 
@@ -53,6 +54,16 @@ impl Key {
         Some(Key { bytes })
     }
 
+    /// The key of a copy of these bytes. Refuses only where memory was refused.
+    pub fn copy_of(alloc: Global, bytes: &[u8]) -> Result<Key, Memory>
+        requires { IsKey widest bytes.now }
+        ensures { IfOk result (λ key. key ≡ bytes.now) }
+    {
+        Ok(Key {
+            bytes: Vec::from_slice(alloc, bytes)?,
+        })
+    }
+
     /// The bytes of the key.
     pub fn as_bytes(&self) -> &[u8]
         ensures value { result.now ≡ self.now }
@@ -72,10 +83,7 @@ impl Key {
     pub fn try_copy(&self) -> Result<Key, Memory>
         ensures { IfOk result (λ key. key ≡ self.now) }
     {
-        let alloc = *self.bytes.allocator();
-        Ok(Key {
-            bytes: Vec::from_slice(alloc, &self.bytes)?,
-        })
+        Key::copy_of(*self.bytes.allocator(), &self.bytes)
     }
 }
 
