@@ -1,6 +1,6 @@
-use Rattle.std.proofs.Common.{◌∷◌, [], List, ap, subst}
+use Rattle.std.proofs.Common.{◌∷◌, [], ap, subst}
 use Rattle.mt_words.specs.declared.update.Update.{Update}
-use Rattle.mt_replay.specs.Groups.{IsSound, IsGroupOf}
+use Rattle.mt_replay.specs.Groups.{IsGroupOf}
 use Rattle.mt_replay.proofs.walker.Walker.begin.Goals as goal
 
 pub returns-clause-group : goal.returns-clause-group
