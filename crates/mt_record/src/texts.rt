@@ -73,7 +73,15 @@ impl Texts {
         ensures ok { OnOk result (self.new ≡ self.old ++ text.now ∷ []) }
         ensures err { OnErr result (self.new ≡ self.old) }
     {
-        self.push_joined(&[], text)
+        // A text is added whole or not at all: so all room is made first.
+        self.ends.reserve(1)?;
+        self.bytes.reserve(text.len())?;
+        put_bytes(text, &mut self.bytes);
+        let end = self.bytes.len();
+        let Ok(()) = self.ends.push(end) else {
+            unreachable!();
+        };
+        Ok(())
     }
 
     /// Adds a text that comes in two pieces behind the others.
@@ -81,7 +89,6 @@ impl Texts {
         ensures ok { OnOk result (self.new ≡ self.old ++ (front.now ++ rest.now) ∷ []) }
         ensures err { OnErr result (self.new ≡ self.old) }
     {
-        // A text is added whole or not at all: so all room is made first.
         self.ends.reserve(1)?;
         self.bytes.reserve(front.len() + rest.len())?;
         put_bytes(front, &mut self.bytes);

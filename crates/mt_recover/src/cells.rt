@@ -56,7 +56,7 @@ fn cells_of_parts(alloc: Global, chosen: Option<Checkpoint>) -> Result<Vec<LogCe
         return Ok(lists);
     };
     for part in checkpoint.parts {
-        lists.push(LogCells::of_entries(alloc, &part.entries)?)?;
+        lists.push(LogCells::of_entries(alloc, part.entries)?)?;
     }
     Ok(lists)
 }
@@ -119,7 +119,7 @@ fn cells_of_parts_by<R: Threads + Sync>(
         workers,
         &|_worker: u32, part: PartText<KeptEntries>| -> Result<LogCells, Memory>
             ensures { IfOk result (λ cells. IsPermutation (wholes part.entries) cells) }
-        { LogCells::of_entries(alloc, &part.entries) },
+        { LogCells::of_entries(alloc, part.entries) },
     )?;
     all_done(alloc, answers)
 }

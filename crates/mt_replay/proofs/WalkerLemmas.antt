@@ -89,13 +89,13 @@ so_far_made updates (Some first) group old new so_far adds =
 
 -- ---- whether it is of the last key
 
-pub at_key : (first : Option Update) (key other : List ℕ) → key ≡ other → MatchOption first (true ≡ false) (λ f. IsTrue true ↔ (f.key ≡ key)) → MatchOption first (true ≡ false) (λ f. f.key ≡ other)
-at_key None key other same is = is
-at_key (Some f) key other same is = is.0 refl ∙ same
+pub at_key : (first : Option Update) (key : List ℕ) → MatchOption first (true ≡ false) (λ f. IsTrue true ↔ (f.key ≡ key)) → MatchOption first (true ≡ false) (λ f. f.key ≡ key)
+at_key None key is = is
+at_key (Some f) key is = is.0 refl
 
-pub not_at_key : (first : Option Update) (key other : List ℕ) → key ≡ other → MatchOption first (false ≡ false) (λ f. IsTrue false ↔ (f.key ≡ key)) → MatchOption first (Unit {0}) (λ f. f.key ≡ other → ⊥)
-not_at_key None key other same is = tt
-not_at_key (Some f) key other same is = λ e. true≢false (sym (is.1 (e ∙ sym same)))
+pub not_at_key : (first : Option Update) (key : List ℕ) → MatchOption first (false ≡ false) (λ f. IsTrue false ↔ (f.key ≡ key)) → MatchOption first (Unit {0}) (λ f. f.key ≡ key → ⊥)
+not_at_key None key is = tt
+not_at_key (Some f) key is = λ e. true≢false (sym (is.1 e))
 
 -- ---- one update more
 

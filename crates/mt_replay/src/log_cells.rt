@@ -1,5 +1,5 @@
 //! The surviving updates of a log, by rising key.
-ghost use Rattle.std.specs.Prelude.{◌≡◌, ◌≤◌, ◌<◌, true, false, IfOk, IsPermutation, List, length, filter, slice_index_or};
+ghost use Rattle.std.specs.Prelude.{◌≡◌, ◌≤◌, ◌<◌, true, false, IsTrue, IfOk, IsPermutation, List, length, filter, slice_index_or};
 ghost use Rattle.std.specs.List.Sorted.{IsPartitionPoint};
 ghost use Rattle.mt_words.specs.declared.update.Update.{Update as UpdateValue};
 ghost use Rattle.mt_record.specs.Kept.{kept_updates};
@@ -15,23 +15,33 @@ use mt_words::{Memory, Update};
 use std::alloc::Global;
 use std::marker::Model;
 
+/// Where the updates of cells lie.
+#[derive(Drop)]
+enum Held {
+    /// In bodies that were put in order.
+    Sorted(Bodies),
+    /// In entries, as they were read.
+    Read(KeptEntries),
+}
+
 /// The surviving updates of a log, or the entries of the chosen checkpoint, by rising key. Their bodies lie in that
 /// order too, so that to go over them is to go over memory.
 #[derive(Drop)]
 pub struct LogCells {
-    bodies: Bodies,
+    held: Held,
 }
 
 impl Model for LogCells {
     ghost use Rattle.std.specs.Prelude.{List};
     ghost use Rattle.mt_words.specs.declared.update.Update.{Update};
     ghost use Rattle.mt_replay.specs.Cuts.{InKeyOrder};
+    ghost use Rattle.mt_replay.specs.LogCells.{held_in};
 
     ghost Value = { List Update };
 
-    ghost view = { λ c. c.bodies };
+    ghost view = { λ c. held_in c.held };
 
-    ghost invariant = { λ c. InKeyOrder c.bodies };
+    ghost invariant = { λ c. InKeyOrder (held_in c.held) };
 }
 
 impl LogCells {
@@ -56,11 +66,16 @@ impl LogCells {
         gather(alloc, updates.size(), &sliced)
     }
 
-    /// The entries of a checkpoint: no window leaves one out.
-    pub fn of_entries(alloc: Global, entries: &KeptEntries) -> Result<LogCells, Memory>
-        ensures { IfOk result (λ cells. IsPermutation (wholes entries.now) cells) }
+    /// The entries of a checkpoint: no window leaves one out. Where their keys rise already, as those of a valid
+    /// checkpoint do, they stay where they are.
+    pub fn of_entries(alloc: Global, entries: KeptEntries) -> Result<LogCells, Memory>
+        ensures { IfOk result (λ cells. IsPermutation (wholes entries) cells) }
     {
-        let mut sliced = all_entries(alloc, entries)?;
+        if are_in_order(&entries) {
+            let held = Held::Read(entries);
+            return Ok(LogCells { held });
+        }
+        let mut sliced = all_entries(alloc, &entries)?;
         sort_by_key(&mut sliced);
         gather(alloc, entries.size(), &sliced)
     }
@@ -70,7 +85,10 @@ impl LogCells {
         ensures value { result ≡ length self.now }
         ensures in_order { InKeyOrder self.now }
     {
-        self.bodies.len()
+        match &self.held {
+            Held::Sorted(bodies) => bodies.len(),
+            Held::Read(entries) => entries.len(),
+        }
     }
 
     /// The update at this place.
@@ -78,7 +96,10 @@ impl LogCells {
         requires { at < length self.now }
         ensures { (d : UpdateValue) → result ≡ slice_index_or self.now at d }
     {
-        self.bodies.get(at)
+        match &self.held {
+            Held::Sorted(bodies) => bodies.get(at),
+            Held::Read(entries) => entries.update(at),
+        }
     }
 
     /// How many updates have keys below this one.
@@ -109,6 +130,20 @@ fn comes_before(first: &[u8], second: &[u8]) -> bool
     first.cmp(second).is_lt()
 }
 
+/// Whether no entry's key lies below that of the entry before it.
+fn are_in_order(entries: &KeptEntries) -> bool
+    ensures { IsTrue result → InKeyOrder (wholes entries.now) }
+{
+    for number in 1..entries.len() {
+        let key = entries.key(number);
+        let before = entries.key(number - 1);
+        if comes_before(key, before) {
+            return false;
+        }
+    }
+    true
+}
+
 /// Cells of these updates, whose bodies have so many bytes at the most.
 fn gather(alloc: Global, size: usize, updates: &[Sliced<'_>]) -> Result<LogCells, Memory>
     requires { InKeyOrder updates.now }
@@ -119,5 +154,6 @@ fn gather(alloc: Global, size: usize, updates: &[Sliced<'_>]) -> Result<LogCells
         let update = sliced.update();
         bodies.push(update.origin(), update.body())?;
     }
-    Ok(LogCells { bodies })
+    let held = Held::Sorted(bodies);
+    Ok(LogCells { held })
 }

@@ -2,6 +2,8 @@
 ghost use Rattle.std.specs.Prelude.{◌≡◌, ◌++◌, IfOk, OnOk, IsPermutation, filter};
 ghost use Rattle.std.specs.Ordering.{nat_cmp};
 ghost use Rattle.std.specs.Cmp.Lexicographic.{slice_cmp};
+ghost use Rattle.mt_words.specs.Limits.{widest};
+ghost use Rattle.mt_words.specs.Words.{IsKey};
 ghost use Rattle.mt_record.specs.Kept.{kept_updates, listed};
 ghost use Rattle.mt_replay.specs.Survivors.{in_window, wholes};
 ghost use Rattle.mt_replay.specs.Cuts.{InKeyOrder};
@@ -40,7 +42,7 @@ impl<'a> Model for Sliced<'a> {
 
 impl<'a> Sliced<'a> {
     /// The update, with what its key gives.
-    fn of(update: Lent<'a>) -> Sliced<'a>
+    pub(crate) fn of(update: Lent<'a>) -> Sliced<'a>
         ensures { result ≡ update.entry }
     {
         let key = update.key();
@@ -59,8 +61,16 @@ impl<'a> Sliced<'a> {
         &self.update
     }
 
+    /// The key that it changes.
+    pub(crate) fn key(&self) -> &'a [u8]
+        ensures value { result.now ≡ self.now.key }
+        ensures lawful { IsKey widest self.now.key }
+    {
+        self.update.key()
+    }
+
     /// The order of their keys.
-    fn compare(&self, other: &Sliced<'_>) -> Ordering
+    pub(crate) fn compare(&self, other: &Sliced<'_>) -> Ordering
         ensures { result ≡ slice_cmp nat_cmp self.now.key other.now.key }
     {
         if self.slice != other.slice {
@@ -72,7 +82,7 @@ impl<'a> Sliced<'a> {
         if self.length <= TWO_SLICES && other.length <= TWO_SLICES {
             return self.length.cmp(&other.length);
         }
-        self.update.key().cmp(other.update.key())
+        self.key().cmp(other.key())
     }
 }
 

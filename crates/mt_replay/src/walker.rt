@@ -9,7 +9,7 @@ ghost use Rattle.mt_replay.specs.Walker.{with_pair, IsMade, IsWalkSoFar};
 
 use crate::copies::copy_key;
 use crate::group::Group;
-use mt_record::Lent;
+use crate::sliced::Sliced;
 use mt_words::{Columns, Kept, Key, Memory};
 use std::alloc::Global;
 
@@ -17,7 +17,7 @@ use std::alloc::Global;
 #[derive(Drop)]
 pub(crate) struct Walker<'a> {
     pairs: Vec<(Key, Columns<Kept>)>,
-    first: Option<Lent<'a>>,
+    first: Option<Sliced<'a>>,
     group: Group<&'a [u8]>,
 }
 
@@ -34,13 +34,13 @@ impl<'a> Walker<'a> {
     }
 
     /// Goes on by an update.
-    pub(crate) fn see(&mut self, alloc: Global, update: Lent<'a>) -> Result<(), Memory>
+    pub(crate) fn see(&mut self, alloc: Global, update: Sliced<'a>) -> Result<(), Memory>
         ensures { OnOk result ((updates : List UpdateValue) → InKeyOrder (updates ++ update.entry ∷ []) →
             IsWalkSoFar updates self.old.pairs.items self.old.first self.old.group →
             IsWalkSoFar (updates ++ update.entry ∷ []) self.new.pairs.items self.new.first self.new.group) }
     {
-        if self.is_at(update.key()) {
-            self.group.see(&update);
+        if self.is_at(&update) {
+            self.group.see(update.update());
             return Ok(());
         }
         self.close(alloc)?;
@@ -59,25 +59,25 @@ impl<'a> Walker<'a> {
         Ok(pairs)
     }
 
-    /// Whether this is the last key.
-    fn is_at(&self, key: &[u8]) -> bool
-        ensures { MatchOption self.now.first (result ≡ false) (λ first. IsTrue result ↔ (first.key ≡ key.now)) }
+    /// Whether the update is of the last key.
+    fn is_at(&self, update: &Sliced<'_>) -> bool
+        ensures { MatchOption self.now.first (result ≡ false) (λ first. IsTrue result ↔ (first.key ≡ update.now.key)) }
     {
         match &self.first {
             None => false,
-            Some(first) => first.key() == key,
+            Some(first) => first.compare(update).is_eq(),
         }
     }
 
     /// Begins the group of the key of an update, which is its first.
-    fn begin(&mut self, update: Lent<'a>)
+    fn begin(&mut self, update: Sliced<'a>)
         ensures pairs { self.new.pairs.items ≡ self.old.pairs.items }
         ensures first { self.new.first ≡ Some update.entry }
         ensures group { IsGroupOf (update.entry ∷ []) update.entry.key self.new.group }
         ensures sound { IsSound update.entry }
     {
-        self.group = Group::empty();
-        self.group.see(&update);
+        self.group.clear();
+        self.group.see(update.update());
         self.first = Some(update);
     }
 

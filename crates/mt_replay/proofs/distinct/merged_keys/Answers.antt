@@ -10,24 +10,24 @@ use Rattle.mt_replay.proofs.WalkerLemmas.{front_in_order}
 use Rattle.mt_replay.proofs.DistinctLemmas.{of_moved}
 use Rattle.mt_replay.proofs.distinct.merged_keys.Goals as goal
 
-pub loop-lent-preserved : goal.loop-lent-preserved
-loop-lent-preserved c = record {
-  distinct = λ order. c.in_ok-see_key.ensures.distinct c.loop-lent.yielded order (c.loop-lent.invariant.distinct (front_in_order c.loop-lent.yielded c.in-Some.lent order));
-  lawful = c.in_ok-see_key.ensures.lawful c.loop-lent.invariant.lawful;
+pub loop-sliced-preserved : goal.loop-sliced-preserved
+loop-sliced-preserved c = record {
+  distinct = λ order. c.in_ok-see_key.ensures.distinct c.loop-sliced.yielded order (c.loop-sliced.invariant.distinct (front_in_order c.loop-sliced.yielded c.in-Some.sliced order));
+  lawful = c.in_ok-see_key.ensures.lawful c.loop-sliced.invariant.lawful;
 }
 
 pub returns-clause-distinct : goal.returns-clause-distinct
 returns-clause-distinct c =
-    let items = c.in_ok-lent-items.ensures.items in
-    let order = c.in_ok-lent-items.ensures.in_order in
+    let items = c.in_ok-sliced-items.ensures.items in
+    let order = c.in_ok-sliced-items.ensures.in_order in
     let same : items.0.items ≡ c.args.runs.items = (c.into_iter.ensures.runs items.0 items.0.seen).4 items.2 ∙ ap (λ it. it.rest.items) items.1 ∙ c.into_iter.ensures.rest in
     let ordered : order.0.items ≡ c.args.runs.items = (c.into_iter.ensures.runs order.0 order.0.seen).4 order.2 ∙ ap (λ it. it.rest.items) order.1 ∙ c.into_iter.ensures.rest in
-    let by = rw c.into_iter-lent-iterator.ensures.into_iter_gives at c.loop-lent.yielded_by in
-    let end = c.loop-lent.lent-iterator in
-    let merged : List Update = c.loop-lent.yielded in
+    let by = rw c.into_iter-sliced-iterator.ensures.into_iter_gives at c.loop-sliced.yielded_by in
+    let end = c.loop-sliced.sliced-iterator in
+    let merged : List Update = c.loop-sliced.yielded in
     let r = items.3 items.0.items (runs_give (λ s r. r ≡ s) (λ u j h. h) items.0.items) merged true (end, by, λ _. (end, c.in-None.ensures.steps)) in
     let all : IsPermutation (together items.0.items) merged = subst (λ (xs : List Update). IsPermutation (together items.0.items) xs) (append-nil merged) (subst (λ (rest : List Update). IsPermutation (together items.0.items) (merged ++ rest)) (r.2 refl) r.1) in
     let rise : All InKeyOrder order.0.items = subst (λ (runs : List (List Update)). All InKeyOrder runs) (sym ordered) c.requires in
     let up : InKeyOrder merged = order.3 key_below refl key_order order.0.items (runs_give (λ s r. r ≡ s) (λ u j h. h) order.0.items) rise merged true (end, by, λ _. (end, c.in-None.ensures.steps)) in
     let moved : IsPermutation (together c.args.runs.items) merged = subst (λ (runs : List (List Update)). IsPermutation (together runs) merged) same all in
-    of_moved (together c.args.runs.items) merged (map (λ key. key.now) c.loop-lent.keys.items) moved (c.loop-lent.invariant.distinct up)
+    of_moved (together c.args.runs.items) merged (map (λ key. key.now) c.loop-sliced.keys.items) moved (c.loop-sliced.invariant.distinct up)

@@ -7,8 +7,8 @@ use Rattle.mt_replay.specs.Runs.{keys_in}
 use Rattle.mt_replay.proofs.distinct.merged_keys.Given as goal
 
 -- each key of what came so far
-abbrev pub invariant-loop-lent : goal.invariant-loop-lent
-invariant-loop-lent l = record {
+abbrev pub invariant-loop-sliced : goal.invariant-loop-sliced
+invariant-loop-sliced l = record {
   distinct : InKeyOrder l.yielded → AreDistinctKeys (keys_in l.yielded) (map (λ key. key.now) l.keys.items);
   lawful : All (IsKey widest) (map (λ key. key.now) l.keys.items);
 }

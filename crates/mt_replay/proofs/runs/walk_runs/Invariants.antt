@@ -3,5 +3,5 @@ use Rattle.mt_replay.specs.Walker.{IsWalkSoFar}
 use Rattle.mt_replay.proofs.runs.walk_runs.Given as goal
 
 -- the walk of what came so far
-abbrev pub invariant-loop-lent : goal.invariant-loop-lent
-invariant-loop-lent l = InKeyOrder l.yielded → IsWalkSoFar l.yielded l.walker.pairs.items l.walker.first l.walker.group
+abbrev pub invariant-loop-sliced : goal.invariant-loop-sliced
+invariant-loop-sliced l = InKeyOrder l.yielded → IsWalkSoFar l.yielded l.walker.pairs.items l.walker.first l.walker.group

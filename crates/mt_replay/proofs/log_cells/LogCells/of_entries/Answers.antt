@@ -12,4 +12,4 @@ gather-requires c = subst InKeyOrder (sym c.deref.ensures.value) c.sort_by_key.e
 pub returns : goal.returns
 returns c =
     let moved = subst (λ (us : List Update). IsPermutation us c.sort_by_key.new.updates.items) c.in_ok-sliced.ensures c.sort_by_key.ensures.same in
-    ok_then c.gather.result (λ cells same. subst (λ (us : List Update). IsPermutation (wholes c.args.entries.now) us) (sym (same ∙ c.deref.ensures.value)) moved) c.gather.ensures
+    ok_then c.gather.result (λ cells same. subst (λ (us : List Update). IsPermutation (wholes c.args.entries) us) (sym (same ∙ c.deref.ensures.value)) moved) c.gather.ensures

@@ -1,0 +1,11 @@
+-- Where the updates of cells lie.
+use Rattle.std.specs.Prelude.{List}
+use Rattle.mt_words.specs.declared.update.Update.{Update}
+use Rattle.mt_replay.specs.declared.log_cells.Held.{Held}
+use Rattle.mt_replay.specs.declared.log_cells.Held.TheVariants.{Sorted, Read}
+use Rattle.mt_replay.specs.Survivors.{wholes}
+
+-- the updates that are held
+abbrev pub held_in : Held → List Update
+held_in (Sorted updates) = updates
+held_in (Read entries) = wholes entries
