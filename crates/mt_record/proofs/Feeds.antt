@@ -4,8 +4,9 @@ use Rattle.std.proofs.lemmas.List.{length-append, append-nil, nil_from_length}
 use Rattle.std.proofs.lemmas.Bool.Decides.{Decides-eqb}
 use Rattle.std.proofs.lemmas.Option.{none-some}
 use Rattle.std.specs.Prelude.{◌==◌}
+use Rattle.std.specs.Borrow.{Bor}
 use Rattle.std.specs.Result.{OnOk, IfErr}
-use Rattle.mt_record.specs.Feeding.{Reads, HoldsUpTo, HoldsAll, IsFedBy, Tops}
+use Rattle.mt_record.specs.Feeding.{Reads, Steps, HoldsUpTo, HoldsAll, IsFedBy, Tops}
 
 -- what was read is the same when more bytes follow
 abbrev pub GoesOn : {I : Type 0} → (I → List ℕ → List ℕ → Type 0) → Type 0
@@ -65,6 +66,15 @@ none_held reads is_left on items held text rest holds none =
 
 pub nil_if_empty : (xs : List ℕ) (len : ℕ) (empty : Bool) → len ≡ length xs → empty ≡ (len == 0) → empty ≡ true → xs ≡ []
 nil_if_empty xs len empty number test outcome = nil_from_length xs (sym number ∙ (Decides-eqb len 0).0 (sym test ∙ outcome))
+
+-- what stands at the front is read
+pub front_read : {T I F : Type 0} (reads : T → I → List ℕ → List ℕ → Type 0) (is_left : I → List ℕ → Type 0) (fails : T → I → F → List ℕ → Type 0) (old new : I) (front bytes : List ℕ)
+    (after : Bor (List ℕ)) → bytes ≡ front ++ after.now → 0 < length front → ((taken : T) (text : List ℕ) → reads taken old text bytes → reads taken new text after.now)
+    → Steps reads is_left fails old new bytes (Ok (Some after))
+front_read reads is_left fails old new front bytes after joins some on = record {
+  next = (record { items = front; joins = joins; on = on }, omega (arith, ap length joins, length-append front after.now, some));
+  fault = λ taken text is. tt;
+}
 
 -- ---- feeds
 

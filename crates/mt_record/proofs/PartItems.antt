@@ -13,7 +13,6 @@ use Rattle.mt_words.specs.Limits.{limits_of, magic}
 use Rattle.mt_words.specs.Changes.{IsEntry}
 use Rattle.mt_words.proofs.Rising.{all_push}
 use Rattle.mt_record.specs.declared.part_text.PartHead.{PartHead}
-use Rattle.mt_record.specs.declared.part_items.PartItems.{PartItems}
 use Rattle.mt_record.specs.Spelling.{framed}
 use Rattle.mt_record.specs.Bodies.{IsNextEntry}
 use Rattle.mt_record.specs.Parts.{part_head_bytes, IsPartHead, entry_spelling, footer_bytes, part_bytes}

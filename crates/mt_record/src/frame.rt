@@ -34,7 +34,12 @@ pub fn next_record(
         (λ x. IsNextBody (limits_of format) latest bytes.now x.0 x.1.now x.2.now)) }
     ensures fault { IfErr result (λ what. RestFault what (limits_of format) latest bytes.now) }
 {
-    let Some((text, after)) = next_frame(bytes, SHORTEST_RECORD, BEFORE_CHANGE + longest_change(format))? else {
+    let Some((text, after)) = next_frame(
+        bytes,
+        SHORTEST_RECORD,
+        BEFORE_CHANGE + longest_change(format),
+    )?
+    else {
         return Ok(None);
     };
     let timestamp = check_body(format, latest, text)?;

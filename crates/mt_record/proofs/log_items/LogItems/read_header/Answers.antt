@@ -1,10 +1,10 @@
-use Rattle.std.proofs.Common.{length, ap, refl, arith}
+use Rattle.std.proofs.Common.{Some, refl, arith}
 use Rattle.std.specs.Prelude.{codes}
-use Rattle.std.proofs.lemmas.List.{length-append}
 use Rattle.mt_record.specs.declared.head.Head.{Head}
 use Rattle.mt_record.specs.Heads.{IsHead, head_bytes}
-use Rattle.mt_record.specs.LogPieces.{so_far}
+use Rattle.mt_record.specs.LogPieces.{so_far, HasReadItems, IsLeftOfItems, HasFailedItems}
 use Rattle.mt_record.proofs.Beginnings.{shows_none, alike, log_whole, log_magic}
+use Rattle.mt_record.proofs.Feeds.{front_read}
 use Rattle.mt_record.proofs.LogFeeds.{header_failed, header_cut, header_read}
 use Rattle.mt_record.proofs.log_items.LogItems.read_header.Goals as goal
 
@@ -23,16 +23,9 @@ returns-in_default g c =
 
 pub returns : goal.returns
 returns g c =
-    let after = c.in-Some.after.now in
+    let listed = g.R.Records.listed in
+    let old = c.args.self.now in
+    let head = c.in-Some.head in
     let found = c.in-Some.ensures.found in
-    record {
-      next = (
-        record {
-          items = head_bytes c.in-Some.head;
-          joins = found.1;
-          on = λ taken text reads. header_read (so_far g.R.Records.listed c.args.self.now) c.in-Some.head taken text c.args.bytes.now after c.requires reads found.0 found.1;
-        },
-        omega (arith, ap length found.1, length-append (head_bytes c.in-Some.head) after),
-      );
-      fault = λ taken text reads. tt;
-    }
+    front_read (HasReadItems listed) IsLeftOfItems (HasFailedItems listed) old (record old { head = Some head }) (head_bytes head) c.args.bytes.now c.in-Some.after found.1 (omega arith)
+    (λ taken text reads. header_read (so_far listed old) head taken text c.args.bytes.now c.in-Some.after.now c.requires reads found.0 found.1)

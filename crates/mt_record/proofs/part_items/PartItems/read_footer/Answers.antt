@@ -1,7 +1,9 @@
-use Rattle.std.proofs.Common.{◌≡◌, List, ℕ, ◌++◌, length, ap, ◌∙◌, arith}
+use Rattle.std.proofs.Common.{◌≡◌, Some, List, ℕ, ◌++◌, length, ap, ◌∙◌, arith}
 use Rattle.byteorder.specs.Endian.{big_bytes}
 use Rattle.mt_words.specs.Limits.{limits_of}
-use Rattle.mt_record.specs.PartPieces.{so_far}
+use Rattle.mt_record.specs.PartPieces.{so_far, HasReadItems, IsLeftOfItems, IsShownOfItems}
+use Rattle.mt_record.specs.Parts.{footer_bytes}
+use Rattle.mt_record.proofs.Feeds.{front_read}
 use Rattle.mt_record.proofs.PartItems.{reads_entries, broken_at, footer_shown, footer_read, ended}
 use Rattle.mt_record.proofs.part_items.PartItems.read_footer.Goals as goal
 
@@ -29,17 +31,11 @@ returns g c =
     let end = c.in-Some.ensures.found in
     let count = c.in-Some-u32_at.ensures.found in
     let so_many : c.in-Some-u32_at.count ≡ length (g.E.Entries.listed old.entries) = omega (arith, c.if-count.false, c.count.ensures) in
-    record {
-      next = (
-        record {
-          items = big_bytes 4 0 ++ (big_bytes 8 c.in-Some.end ++ big_bytes 4 c.in-Some-u32_at.count);
-          joins = ap (λ (x : List ℕ). big_bytes 4 0 ++ x) (end.1 ∙ ap (λ (x : List ℕ). big_bytes 8 c.in-Some.end ++ x) count.1);
-          on = λ taken part reads.
-              let begins = reads_entries (so_far g.E.Entries.listed old) part (big_bytes 4 0 ++ bytes) c.args.head c.requires.head c.requires.open reads in
-              ended (so_far g.E.Entries.listed old) part after c.args.head c.in-Some.end c.requires.head
-              (footer_read part bytes c.in-Some.rest.now after c.args.head (g.E.Entries.listed old.entries) c.in-Some.end c.in-Some-u32_at.count begins end.0 end.1 count.0 count.1 so_many);
-        },
-        omega (arith, ap length end.1, ap length count.1),
-      );
-      fault = λ taken part reads. tt;
-    }
+    let spelled = ap (λ (x : List ℕ). big_bytes 4 0 ++ x) (end.1 ∙ ap (λ (x : List ℕ). big_bytes 8 c.in-Some.end ++ x) count.1) in
+    let listed = g.E.Entries.listed in
+    front_read (HasReadItems listed) (IsLeftOfItems listed) IsShownOfItems old (record old { end = Some c.in-Some.end }) (footer_bytes c.in-Some.end c.in-Some-u32_at.count) (big_bytes 4 0 ++ bytes)
+    c.in-Some-u32_at.after spelled (omega arith)
+    (λ taken part reads.
+    let begins = reads_entries (so_far listed old) part (big_bytes 4 0 ++ bytes) c.args.head c.requires.head c.requires.open reads in
+    ended (so_far listed old) part after c.args.head c.in-Some.end c.requires.head
+    (footer_read part bytes c.in-Some.rest.now after c.args.head (listed old.entries) c.in-Some.end c.in-Some-u32_at.count begins end.0 end.1 count.0 count.1 so_many))

@@ -1,11 +1,11 @@
-use Rattle.std.proofs.Common.{length, ap, refl, arith}
+use Rattle.std.proofs.Common.{Some, refl, arith}
 use Rattle.std.specs.Prelude.{codes}
-use Rattle.std.proofs.lemmas.List.{length-append}
 use Rattle.mt_record.specs.declared.part_text.PartHead.{PartHead}
 use Rattle.mt_record.specs.Parts.{IsPartHead, part_head_bytes}
-use Rattle.mt_record.specs.PartPieces.{so_far}
+use Rattle.mt_record.specs.PartPieces.{so_far, HasReadItems, IsLeftOfItems, IsShownOfItems}
 use Rattle.mt_record.proofs.Beginnings.{shows_none, alike}
 use Rattle.mt_record.proofs.PartBeginnings.{part_whole, part_magic}
+use Rattle.mt_record.proofs.Feeds.{front_read}
 use Rattle.mt_record.proofs.PartItems.{header_failed, header_cut, header_read}
 use Rattle.mt_record.proofs.part_items.PartItems.read_header.Goals as goal
 
@@ -24,16 +24,9 @@ returns-in_default g c =
 
 pub returns : goal.returns
 returns g c =
-    let after = c.in-Some.after.now in
+    let listed = g.E.Entries.listed in
+    let old = c.args.self.now in
+    let head = c.in-Some.head in
     let found = c.in-Some.ensures.found in
-    record {
-      next = (
-        record {
-          items = part_head_bytes c.in-Some.head;
-          joins = found.1;
-          on = λ taken part reads. header_read (so_far g.E.Entries.listed c.args.self.now) part c.args.bytes.now after c.in-Some.head c.requires reads found.0 found.1;
-        },
-        omega (arith, ap length found.1, length-append (part_head_bytes c.in-Some.head) after),
-      );
-      fault = λ taken part reads. tt;
-    }
+    front_read (HasReadItems listed) (IsLeftOfItems listed) IsShownOfItems old (record old { head = Some head }) (part_head_bytes head) c.args.bytes.now c.in-Some.after found.1 (omega arith)
+    (λ taken part reads. header_read (so_far listed old) part c.args.bytes.now c.in-Some.after.now head c.requires reads found.0 found.1)
