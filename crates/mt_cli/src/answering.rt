@@ -8,6 +8,7 @@ use mt_recover::{
 };
 use mt_scan::Source;
 use mt_words::Key;
+use std::alloc::Global;
 use std::io::{self, BufWriter, Write};
 use std::mem;
 use std::thread::Threads;
@@ -39,11 +40,21 @@ fn recover_and_print<R: AllocGlobal + Threads + Sync, S: Source + Send, O: Write
 ) -> Result<(), Failure<'static>> {
     let cutting = Cutting::Even(command.pieces);
     let recovered = recover(rt, rt.alloc(), inputs, command.workers, cutting, &NoGate)?;
-    let mut out = BufWriter::new(rt.alloc(), out)?;
-    print(&recovered, &command.query, &mut out)?;
-    out.flush()?;
+    print_all(rt.alloc(), &recovered, &command.query, out)?;
     mem::forget(recovered);
     Ok(())
+}
+
+/// Prints what the query asks for, through a buffer.
+fn print_all<O: Write>(
+    alloc: Global,
+    recovered: &Recovered,
+    query: &Query,
+    out: &mut O,
+) -> Result<(), Failure<'static>> {
+    let mut out = BufWriter::new(alloc, out)?;
+    print(recovered, query, &mut out)?;
+    Ok(out.flush()?)
 }
 
 /// Prints what the query asks for.

@@ -5,15 +5,25 @@ use std::alloc::{AllocError, Global};
 
 /// The words that the program takes.
 pub fn grammar<'a>(alloc: Global) -> Result<Command<'a>, AllocError> {
+    let program = program(alloc)?
+        .subcommand(report(alloc)?)?
+        .subcommand(get(alloc)?)?;
+    with_many(alloc, program)
+}
+
+/// The program without its subcommands.
+fn program<'a>(alloc: Global) -> Result<Command<'a>, AllocError> {
     let program = Command::new(alloc, "mtrecover")
         .version("1.0")
         .about("Recovers the store of a folder of update logs and checkpoint parts")
         .no_binary_name(true)
-        .bin_name("mtrecover")?
         .arg_required_else_help(true)
-        .subcommand_required(true)
-        .subcommand(report(alloc)?)?
-        .subcommand(get(alloc)?)?;
+        .subcommand_required(true);
+    program.bin_name("mtrecover")
+}
+
+/// The program with the subcommands that print many pairs.
+fn with_many<'a>(alloc: Global, program: Command<'a>) -> Result<Command<'a>, AllocError> {
     program.subcommand(range(alloc)?)?.subcommand(dump(alloc)?)
 }
 
@@ -35,12 +45,9 @@ fn get<'a>(alloc: Global) -> Result<Command<'a>, AllocError> {
 fn range<'a>(alloc: Global) -> Result<Command<'a>, AllocError> {
     let about = "Prints the first pairs at or after a key";
     let example = "Example: mtrecover range examples/store 6b 2";
-    let count = arg!(in alloc; <COUNT> "The most pairs to print").value_parser(
-        ValueParser::unsigned(0, u64::from(u32::MAX)),
-    );
     subcommand(alloc, "range", about, example)?
         .arg(key(alloc))?
-        .arg(count)
+        .arg(count(alloc))
 }
 
 /// The words of `dump`.
@@ -59,14 +66,27 @@ fn subcommand<'a>(
     Command::new(alloc, name)
         .about(about)
         .after_help(example)
-        .arg(arg!(in alloc; <DIR> "The folder of logs (.mtl) and checkpoint parts (.mtc)"))?
+        .arg(folder(alloc))?
         .arg(workers(alloc))?
         .arg(pieces(alloc))
+}
+
+/// The word of the folder.
+fn folder<'a>(alloc: Global) -> Arg<'a> {
+    arg!(in alloc; <DIR> "The folder of logs (.mtl) and checkpoint parts (.mtc)")
 }
 
 /// The word of the key.
 fn key<'a>(alloc: Global) -> Arg<'a> {
     arg!(in alloc; <KEY> "The key in hexadecimal; the empty word is the empty key")
+}
+
+/// The word of how many pairs.
+fn count<'a>(alloc: Global) -> Arg<'a> {
+    arg!(in alloc; <COUNT> "The most pairs to print").value_parser(ValueParser::unsigned(
+        0,
+        u64::from(u32::MAX),
+    ))
 }
 
 /// The option of the workers.

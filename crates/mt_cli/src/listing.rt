@@ -4,7 +4,7 @@ ghost use Rattle.std.specs.Prelude.{◌≤◌, IfErr};
 use crate::failure::{Failure, or_tell};
 use crate::file_names::Names;
 use std::fs::{self, Files};
-use std::io::Write;
+use std::io::{self, Write};
 
 /// The most logs and parts of a folder together.
 const MOST_FILES: usize = 512;
@@ -26,7 +26,9 @@ fn list<'a, R: AllocGlobal + Files + Clone + Drop>(
     rt: &R,
     folder: &'a str,
 ) -> Result<Names, Failure<'a>> {
-    let mut names = read_names(rt, folder)?;
+    let mut names = read_names(rt, folder).map_err(|error| Failure::List(folder).or_memory(
+        &error,
+    ))?;
     if names.logs.len().saturating_add(names.parts.len()) > MOST_FILES {
         return Err(Failure::TooManyFiles);
     }
@@ -36,17 +38,10 @@ fn list<'a, R: AllocGlobal + Files + Clone + Drop>(
 }
 
 /// The logs and parts of the folder, in no order.
-fn read_names<'a, R: AllocGlobal + Files + Clone + Drop>(
-    rt: &R,
-    folder: &'a str,
-) -> Result<Names, Failure<'a>> {
+fn read_names<R: AllocGlobal + Files + Clone + Drop>(rt: &R, folder: &str) -> io::Result<Names> {
     let mut names = Names::new(rt.alloc());
-    let entries = fs::read_dir(rt, folder).map_err(|error| Failure::List(folder).or_memory(
-        &error,
-    ))?;
-    for entry in entries {
-        let entry = entry.map_err(|error| Failure::List(folder).or_memory(&error))?;
-        names.add(rt.alloc(), entry.file_name())?;
+    for entry in fs::read_dir(rt, folder)? {
+        names.add(rt.alloc(), entry?.file_name())?;
     }
     Ok(names)
 }

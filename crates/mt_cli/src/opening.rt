@@ -2,6 +2,7 @@
 use crate::failure::Failure;
 use mt_scan::{ReaderSource, Slot};
 use std::fs::{File, Files, OpenFile};
+use std::io;
 use std::path::Path;
 
 /// The most bytes of a file.
@@ -16,20 +17,25 @@ pub fn open_all<'a, 'b, R: AllocGlobal + Files>(
 ) -> Result<Vec<ReaderSource<'b, R::File>>, Failure<'a>> {
     let mut sources = Vec::with_capacity(rt.alloc(), names.len())?;
     for (name, slot) in names.iter().zip(slots) {
-        let file = open(rt, folder, name.as_str())?;
-        // None only where the slot is empty, which no slot of a new rack is.
-        let source = ReaderSource::new(file, MOST_BYTES, slot);
-        sources.push(source.ok_or(Failure::Open(name.as_str()))?)?;
+        sources.push(open_source(rt, folder, name.as_str(), slot)?)?;
     }
     Ok(sources)
 }
 
-/// The file of this name in the folder.
-fn open<'a, R: AllocGlobal + Files>(
+/// The file of this name in the folder as a source.
+fn open_source<'a, 'b, R: AllocGlobal + Files>(
     rt: &R,
     folder: &str,
     name: &'a str,
-) -> Result<R::File, Failure<'a>> {
+    slot: &'b mut Slot,
+) -> Result<ReaderSource<'b, R::File>, Failure<'a>> {
+    let file = open(rt, folder, name).map_err(|error| Failure::Open(name).or_memory(&error))?;
+    // None only where the slot is empty, which no slot of a new rack is.
+    ReaderSource::new(file, MOST_BYTES, slot).ok_or(Failure::Open(name))
+}
+
+/// The file of this name in the folder.
+fn open<R: AllocGlobal + Files>(rt: &R, folder: &str, name: &str) -> io::Result<R::File> {
     let path = Path::new(folder).join(rt.alloc(), name)?;
-    File::open(rt, &path).map_err(|error| Failure::Open(name).or_memory(&error))
+    File::open(rt, &path)
 }

@@ -60,9 +60,26 @@ where
 {
     let command = command(rt, words, out, err)?;
     let names = names(rt, command.folder, err)?;
-    let mut rack = or_tell(rack_of(rt, &names), err)?;
-    let inputs = or_tell(open(rt, &command, &names, rack.slots()), err)?;
-    Ok(answer(rt, &command, inputs, out, err))
+    answer_files(rt, &command, &names, out, err)
+}
+
+/// The exit status where these are the names of the files, as an Err where they cannot be opened.
+fn answer_files<R, O: Write, E: Write>(
+    rt: &R,
+    command: &Command<'_>,
+    names: &Names,
+    out: &mut O,
+    err: &mut E,
+) -> Result<u8, u8>
+where
+    R: AllocGlobal + Files + Threads + Sync,
+    R::File: Send,
+    ensures answered { IfOk result (λ status. status ≤ 3) }
+    ensures not { IfErr result (λ status. status ≤ 3) }
+{
+    let mut rack = or_tell(rack_of(rt, names), err)?;
+    let inputs = or_tell(open(rt, command, names, rack.slots()), err)?;
+    Ok(answer(rt, command, inputs, out, err))
 }
 
 /// A buffer for each file.

@@ -54,16 +54,17 @@ fn tell<O: Write, E: Write>(error: &clap::Error, out: &mut O, err: &mut E) -> u8
 /// What the words ask for.
 fn read<'a>(alloc: Global, matches: &ArgMatches<'a>) -> Result<Command<'a>, Failure<'static>> {
     let (name, matches) = matches.subcommand().ok_or(Failure::Words)?;
-    let folder = matches.get_str("DIR").ok_or(Failure::Words)?;
-    let workers = Workers::new(number(matches, "workers")?).ok_or(Failure::Words)?;
-    let pieces = Pieces::new(number(matches, "pieces")?).ok_or(Failure::Words)?;
-    let query = query(alloc, name, matches)?;
     Ok(Command {
-        folder,
-        workers,
-        pieces,
-        query,
+        folder: found(matches.get_str("DIR"))?,
+        workers: found(Workers::new(number(matches, "workers")?))?,
+        pieces: found(Pieces::new(number(matches, "pieces")?))?,
+        query: query(alloc, name, matches)?,
     })
+}
+
+/// What the grammar has the parser find in the words.
+fn found<T>(value: Option<T>) -> Result<T, Failure<'static>> {
+    value.ok_or(Failure::Words)
 }
 
 /// What the subcommand of this name is to print.
@@ -79,12 +80,12 @@ fn query(alloc: Global, name: &str, matches: &ArgMatches<'_>) -> Result<Query, F
 
 /// The number of this name.
 fn number(matches: &ArgMatches<'_>, name: &str) -> Result<u32, Failure<'static>> {
-    matches.get_one(name).ok_or(Failure::Words)
+    found(matches.get_one(name))
 }
 
 /// The key, which is looked at once all words are accepted.
 fn key(alloc: Global, matches: &ArgMatches<'_>) -> Result<Key, Failure<'static>> {
-    let digits = matches.get_str("KEY").ok_or(Failure::Words)?;
+    let digits = found(matches.get_str("KEY"))?;
     match hex::decode(alloc, digits) {
         Ok(bytes) => Key::new(bytes).ok_or(Failure::Key),
         Err(FromHexError::OutOfMemory) => Err(Failure::from(Fault::Memory)),

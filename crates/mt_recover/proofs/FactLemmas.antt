@@ -18,7 +18,7 @@ use Rattle.mt_scan.specs.declared.checkpoint.Checkpoint.{Checkpoint as Chosen}
 use Rattle.mt_scan.specs.declared.choice.Choice.{Choice}
 use Rattle.mt_scan.specs.Choice.{Checkpoint, IsChosenOf, IsChoiceOf, AreSkipped, AreNameless, checkpoint_in}
 use Rattle.mt_replay.specs.declared.window.Window.{Window}
-use Rattle.mt_replay.specs.Survivors.{in_window, all_updates}
+use Rattle.mt_replay.specs.Survivors.{in_window}
 use Rattle.mt_recover.specs.Survivors.{entry_updates, begin_of}
 use Rattle.mt_replay.specs.Walk.{AreApart, IsWalk}
 use Rattle.mt_recover.specs.Recovery.{AreReadings, AreKnown, Facts, IsGap, records_of}
@@ -26,11 +26,12 @@ use Rattle.mt_recover.specs.Report.{IsFoundIn, IsRecoveredOf}
 use Rattle.mt_recover.specs.declared.report.Report.{Report}
 use Rattle.mt_recover.specs.Verdict.{IsFirst, IsVerdict}
 use Rattle.mt_recover.specs.declared.start.Start.{Start}
-use Rattle.mt_recover.specs.LogScans.{ShowAll, AreScansOf, kept}
+use Rattle.mt_recover.specs.LogScans.{ShowAll, AreScansOf}
 use Rattle.mt_recover.specs.Start.{IsStartOf, surviving}
 use Rattle.mt_replay.specs.Runs.{together}
 use Rattle.mt_replay.proofs.StepLemmas.{same_column}
 use Rattle.mt_recover.proofs.SurvivorLemmas.{survivors_apart}
+use Rattle.mt_recover.proofs.ReportLemmas.{same_updates}
 use Rattle.mt_recover.proofs.CountLemmas.{survivors_in, ended, MayEnd, may_end, ended_is}
 
 -- ---- gaps
@@ -99,13 +100,6 @@ numbers_of number [] [] show = tt
 numbers_of number [] (l ∷ ls) show = absurd show
 numbers_of number (s ∷ ss) [] show = absurd show
 numbers_of number (s ∷ ss) (l ∷ ls) show = (show.0.numbers, numbers_of (suc number) ss ls show.1)
-
--- their updates are those of the logs
-same_updates : (number : ℕ) (scans : List LogScan) (readings : List LogReading) → ShowAll number scans readings → kept scans ≡ all_updates number (records_of readings)
-same_updates number [] [] show = refl
-same_updates number [] (l ∷ ls) show = absurd show
-same_updates number (s ∷ ss) [] show = absurd show
-same_updates number (s ∷ ss) (l ∷ ls) show = let rest = same_updates (suc number) ss ls show.1 in λ i. show.0.updates i ++ rest i
 
 pub no_logs : (logs : List (List ℕ)) (scans : List LogScan) → AreScansOf logs scans → scans ≡ [] → logs ≡ []
 no_logs logs scans are e = empty logs are.readings are.read (none are.readings (subst (λ (x : List LogScan). ShowAll 0 x are.readings) e are.show))

@@ -1,6 +1,9 @@
 //! Recovery by any number of workers.
 ghost use Rattle.std.specs.Prelude.{List, ℕ, map, IfOk, IfErr};
+ghost use Rattle.mt_words.specs.Walks.{IsMap};
 ghost use Rattle.mt_scan.specs.PartScans.{known_by};
+ghost use Rattle.mt_replay.specs.Runs.{together};
+ghost use Rattle.mt_replay.specs.Walk.{AreApart, IsWalk};
 ghost use Rattle.mt_recover.specs.LogScans.{AreScansOf};
 ghost use Rattle.mt_recover.specs.Recovery.{AreKnown};
 ghost use Rattle.mt_recover.specs.Report.{IsRecoveredOf};
@@ -16,7 +19,7 @@ use crate::store::Store;
 use crate::workers::{Cutting, Gate, Workers};
 use mt_replay::{Cuts, LogCells};
 use mt_scan::{LogScan, PartScan, Source};
-use mt_words::{Fault, Memory};
+use mt_words::{Columns, Fault, Kept, Key, Memory};
 use std::alloc::Global;
 use std::thread::Threads;
 
@@ -69,21 +72,26 @@ fn recover_scans_by<R: Threads + Sync, G: Gate>(
         report,
     } = Start::of(alloc, &scans, parts)?;
     let lists = cells_by(rt, alloc, scans, window, chosen, workers)?;
-    let cuts = cuts_of(rt, alloc, &lists, cutting)?;
-    let pairs = replay_pieces(rt, alloc, &lists, &cuts, workers, gate)?;
+    let pairs = replay_cut(rt, alloc, &lists, cutting, workers, gate)?;
     let report = report.ended(&lists, pairs.len());
     Ok(Recovered::of(Store::of(pairs), report))
 }
 
-/// The cuts of the keys of these cells.
-fn cuts_of<R: Threads + Sync>(
+/// The walk of all updates of these cells, with the keys cut so.
+fn replay_cut<R: Threads + Sync, G: Gate>(
     rt: &R,
     alloc: Global,
     lists: &[LogCells],
     cutting: Cutting,
-) -> Result<Cuts, Memory> {
-    match cutting {
-        Cutting::Even(pieces) => Cuts::even(rt, alloc, lists, pieces),
-        Cutting::At(cuts) => Ok(cuts),
-    }
+    workers: Workers,
+    gate: &G,
+) -> Result<Vec<(Key, Columns<Kept>)>, Memory>
+    ensures map { IfOk result (λ pairs. IsMap pairs.items) }
+    ensures walk { IfOk result (λ pairs. AreApart (together lists.now) → IsWalk (together lists.now) pairs.items) }
+{
+    let cuts = match cutting {
+        Cutting::Even(pieces) => Cuts::even(rt, alloc, lists, pieces)?,
+        Cutting::At(cuts) => cuts,
+    };
+    replay_pieces(rt, alloc, lists, &cuts, workers, gate)
 }

@@ -19,7 +19,7 @@ const MOST_FILES: usize = 512;
 const MOST_BYTES: u64 = 1_073_741_824;
 
 /// Why nothing was printed.
-#[derive(Debug, Drop)]
+#[derive(Drop)]
 enum Failure<'a> {
     /// No word was given.
     NoFiles,
@@ -139,7 +139,7 @@ fn read_files<'a, R: Files + AllocGlobal>(
 }
 
 /// Why the bytes of a file are not there.
-#[derive(Debug, Drop)]
+#[derive(Drop)]
 enum Unread {
     /// A growth was refused.
     Memory,

@@ -5,24 +5,35 @@ use std::fmt::{self, Display, Formatter, Write};
 /// A line for each number, `name=value`, in the order of the fields. A list is its numbers between commas, or `none`.
 impl Display for Report {
     fn fmt<W: Write>(&self, f: &mut Formatter<W>) -> fmt::Result {
-        writeln!(f, "logs={}", self.logs)?;
-        writeln!(f, "records={}", self.records)?;
-        writeln!(f, "marks={}", self.marks)?;
-        writeln!(f, "torn={}", self.torn)?;
-        writeln!(f, "cutoff={}", self.cutoff)?;
-        match self.checkpoint {
-            Some(number) => writeln!(f, "checkpoint={number}")?,
-            None => writeln!(f, "checkpoint=none")?,
-        }
-        writeln!(f, "begin={}", self.begin)?;
+        let logs = [
+            ("logs", self.logs as u128),
+            ("records", self.records),
+            ("marks", self.marks),
+            ("torn", self.torn as u128),
+            ("cutoff", u128::from(self.cutoff)),
+        ];
+        let updates = [
+            ("entries", self.entries),
+            ("survivors", self.survivors),
+            ("early", self.early),
+            ("late", self.late),
+            ("keys", self.keys as u128),
+        ];
+        write_lines(f, &logs)?;
+        write_list(f, "checkpoint", self.checkpoint.as_slice())?;
+        write_lines(f, &[("begin", u128::from(self.begin))])?;
         write_list(f, "skipped", &self.skipped)?;
         write_list(f, "nameless", &self.nameless)?;
-        writeln!(f, "entries={}", self.entries)?;
-        writeln!(f, "survivors={}", self.survivors)?;
-        writeln!(f, "early={}", self.early)?;
-        writeln!(f, "late={}", self.late)?;
-        writeln!(f, "keys={}", self.keys)
+        write_lines(f, &updates)
     }
+}
+
+/// Writes a line for each number.
+fn write_lines<W: Write>(f: &mut Formatter<W>, numbers: &[(&str, u128)]) -> fmt::Result {
+    for (name, number) in numbers {
+        writeln!(f, "{name}={number}")?;
+    }
+    Ok(())
 }
 
 /// Writes the line of a list.
@@ -31,13 +42,14 @@ fn write_list<T: Display, W: Write>(
     name: &str,
     numbers: &[T],
 ) -> fmt::Result {
-    write!(f, "{name}=")?;
-    let Some((first, others)) = numbers.split_first() else {
-        return writeln!(f, "none");
-    };
-    write!(f, "{first}")?;
-    for number in others {
-        write!(f, ",{number}")?;
+    f.write_str(name)?;
+    if numbers.is_empty() {
+        return f.write_str("=none\n");
     }
-    writeln!(f)
+    let mut sign = '=';
+    for number in numbers {
+        write!(f, "{sign}{number}")?;
+        sign = ',';
+    }
+    f.write_str("\n")
 }

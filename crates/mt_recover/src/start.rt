@@ -16,7 +16,7 @@ use mt_words::Fault;
 use std::alloc::Global;
 
 /// What recovery knows when it begins to replay.
-#[derive(Debug, Drop)]
+#[derive(Drop)]
 pub struct Start {
     /// The timestamps at which updates of logs survive.
     pub window: Window,

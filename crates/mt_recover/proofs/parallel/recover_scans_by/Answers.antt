@@ -13,12 +13,12 @@ returns-in_err-window-clause-fault g c = λ logs bytes are know.
     rw (p.1, p.2) (c.in_err-window.ensures.fault logs bytes (subst (AreScansOf logs) (sym c.deref.ensures.value) are) know)
 
 -- what was found may be ended
-may : (g : _) (c : goal.After-len g) → MayEnd c.in_ok-window.field-0.report (length (together c.deref-4.result.now))
+may : (g : _) (c : goal.After-len g) → MayEnd c.in_ok-window.field-0.report (length (together c.deref-3.result.now))
 may g c =
     let logs = c.requires.scanned in
     let parts = c.requires.known in
     let start = c.in_ok-window.ensures.start logs.0 parts.0 (subst (AreScansOf logs.0) (sym c.deref.ensures.value) logs.1) parts.1 in
-    may_end_from logs.0 parts.0 c.args.scans.items c.deref.result.now c.in_ok-window.field-0 c.in_ok-lists.lists.items c.deref-4.result.now c.deref.ensures.value c.deref-4.ensures.value start c.in_ok-lists.ensures
+    may_end_from logs.0 parts.0 c.args.scans.items c.deref.result.now c.in_ok-window.field-0 c.in_ok-lists.lists.items c.deref-3.result.now c.deref.ensures.value c.deref-3.ensures.value start c.in_ok-lists.ensures
 
 pub ended-report-requires-clause-marks : goal.ended-report-requires-clause-marks
 ended-report-requires-clause-marks g c = (may g c).0
@@ -33,5 +33,5 @@ pub returns-clause-recovered : goal.returns-clause-recovered
 returns-clause-recovered g c = λ logs bytes are know.
     let start = c.in_ok-window.ensures.start logs bytes (subst (AreScansOf logs) (sym c.deref.ensures.value) are) know in
     subst (IsRecoveredOf logs bytes) (sym (c.of-3.ensures ∙ (λ i. record { store = c.of-2.ensures i; report = c.ended-report.ensures i })))
-    (recovered_from logs bytes c.args.scans.items c.deref.result.now c.in_ok-window.field-0 c.in_ok-lists.lists.items c.deref-3.result.now c.deref-4.result.now c.in_ok-pairs.pairs.items c.len.result
-    c.deref.ensures.value c.deref-3.ensures.value c.deref-4.ensures.value start c.in_ok-lists.ensures c.in_ok-pairs.ensures.walk (c.len.ensures ∙ c.in_ok-pairs.pairs.ok.0))
+    (recovered_from logs bytes c.args.scans.items c.deref.result.now c.in_ok-window.field-0 c.in_ok-lists.lists.items c.deref-2.result.now c.deref-3.result.now c.in_ok-pairs.pairs.items c.len.result
+    c.deref.ensures.value c.deref-2.ensures.value c.deref-3.ensures.value start c.in_ok-lists.ensures c.in_ok-pairs.ensures.walk (c.len.ensures ∙ c.in_ok-pairs.pairs.ok.0))
