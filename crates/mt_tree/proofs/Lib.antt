@@ -1,1 +1,17 @@
+pub mod Joins
+pub mod Finds
+pub mod Cuts
+pub mod Levels
+pub mod Orders
+pub mod Ranged
+pub mod Counts
+pub mod Lights
 pub mod WantedLemmas
+pub mod Ranks
+pub mod Uniques
+pub mod Collects
+pub mod CutUps
+pub mod Seams
+pub mod Meets
+pub mod Ends
+pub mod EdgeBorders

@@ -1,0 +1,12 @@
+use Rattle.std.proofs.Common.{arith}
+use Rattle.mt_tree.proofs.Levels.{interior_of, parent_is_node, heads_done}
+use Rattle.mt_tree.proofs.finish.parent.Goals as goal
+
+pub invariant_of-result : goal.invariant_of-result
+invariant_of-result c = (
+  interior_of _ _ c.requires.level c.requires.two c.requires.most (heads_done _ _ c.args.children.items c.loop-at.at c.loop-at.invariant.heads (omega arith)),
+  parent_is_node _ _ c.requires.level (omega arith),
+)
+
+pub returns-clause-lawful : goal.returns-clause-lawful
+returns-clause-lawful c = parent_is_node _ _ c.requires.level (omega arith)

@@ -1,0 +1,258 @@
+//! A layer under construction: a list of places.
+ghost use Rattle.std.specs.Prelude.{◌≡◌, ◌≤◌, ◌+◌, MatchBool, ◌<◌, ◌++◌, ◌∷◌, ◌↔◌, [], length, IfOk, IsTrue};
+ghost use Rattle.mt_tree.specs.Layer.{FitsAfter, IsLayer, walk, pairs_at, put_before, length_at, IsPlace, HasNoEmptyKey, AllKeysBelow, Meet};
+ghost use Rattle.mt_words.specs.Walks.{KeysRise};
+ghost use Rattle.mt_tree.specs.Seen.{spot_of, spots, border_spots};
+ghost use Rattle.mt_tree.specs.Nodes.{joined, IsBorder};
+ghost use Rattle.mt_tree.specs.Borders.{AreBorders, layer_walk, SameEnds};
+ghost use Rattle.mt_words.specs.Slices.{slice_bytes};
+
+use crate::cut::cut;
+use mt_words::{Columns, Kept, Key, Memory, slice_of};
+use std::alloc::Global;
+use std::marker::Model;
+
+#[cycle(layer)]
+#[derive(Drop)]
+pub(crate) struct Layer {
+    pub(crate) borders: Vec<Border>,
+}
+
+/// One to fifteen places: all places of each of its slices.
+#[cycle(layer)]
+#[derive(Drop)]
+pub(crate) struct Border {
+    pub(crate) places: Vec<Place>,
+}
+
+#[cycle(layer)]
+#[derive(Drop)]
+pub(crate) struct Place {
+    pub(crate) slice: u64,
+    pub(crate) content: Content,
+}
+
+#[cycle(layer)]
+#[derive(Drop)]
+pub(crate) enum Content {
+    Short(u8, Columns<Kept>),
+    Suffix(Vec<u8>, Columns<Kept>),
+    Link(Layer),
+}
+
+impl Model for Layer {
+    ghost use Rattle.std.specs.Prelude.{List};
+    ghost use Rattle.mt_tree.specs.Layer.{Spot, weight};
+    ghost use Rattle.mt_tree.specs.Borders.{AreBorders, layer_walk};
+
+    ghost Value = { List (List Spot) };
+
+    ghost use Rattle.mt_tree.specs.Seen.{border_spots};
+
+    ghost view = { λ a. border_spots a.borders.items };
+
+    ghost invariant = { λ a. AreBorders (border_spots a.borders.items) };
+
+    ghost size = { λ v. weight (layer_walk v) };
+
+    ghost use Rattle.std.proofs.Common.{arith};
+    ghost use Rattle.mt_tree.specs.Falls.{borders_fall};
+
+    ghost size_decreases = { λ a h. omega (arith, borders_fall a.borders.items h.2) };
+}
+
+/// The place of a lone key.
+fn place_for(alloc: Global, key: Vec<u8>, columns: Columns<Kept>) -> Result<Place, Memory>
+    ensures lawful { IfOk result (λ p. IsPlace (spot_of p)) }
+    ensures pairs { IfOk result (λ p. pairs_at (spot_of p) ≡ (key.items, columns) ∷ []) }
+{
+    let slice = slice_of(&key);
+    let len = key.len();
+    if len <= 8 {
+        return Ok(Place {
+            slice,
+            content: Content::Short(len as u8, columns),
+        });
+    }
+    let suffix = Vec::from_slice(alloc, &key[8..])?;
+    Ok(Place {
+        slice,
+        content: Content::Suffix(suffix, columns),
+    })
+}
+
+impl Place {
+    fn is_long(&self) -> bool
+        requires { IsPlace (spot_of self.now) }
+        ensures { IsTrue result ↔ (length_at (spot_of self.now) ≡ 9) }
+    {
+        match &self.content {
+            Content::Short(_, _) => false,
+            Content::Suffix(_, _) => true,
+            Content::Link(_) => true,
+        }
+    }
+
+    /// Whether both hold keys longer than 8 bytes of one slice.
+    fn meets(&self, other: &Place) -> bool
+        requires lawful { IsPlace (spot_of self.now) }
+        requires other_lawful { IsPlace (spot_of other.now) }
+        ensures { IsTrue result ↔ Meet (spot_of self.now) (spot_of other.now) }
+    {
+        self.slice == other.slice && self.is_long() && other.is_long()
+    }
+}
+
+/// Two neighbouring lists of places: where the last place of the first and the first of the second hold longer keys of one slice, one link takes their place.
+#[cycle(join)]
+fn meet(
+    alloc: Global,
+    left: Vec<Place>,
+    right: Vec<Place>,
+) -> Result<(Vec<Place>, Vec<Place>), Memory>
+    requires left_lawful { IsLayer (spots left.items) }
+    requires right_lawful { IsLayer (spots right.items) }
+    requires some { (1 ≤ length left.items) × (1 ≤ length right.items) }
+    requires below { AllKeysBelow (walk (spots left.items)) (walk (spots right.items)) }
+    ensures pairs { IfOk result (λ r. walk (spots r.0.items ++ spots r.1.items) ≡ walk (spots left.items) ++ walk (spots right.items)) }
+    ensures lawful { IfOk result (λ r. IsLayer (spots r.0.items ++ spots r.1.items)) }
+    ensures same { IfOk result (λ r. length r.0.items ≡ length left.items) }
+    ensures fewer { IfOk result (λ r. length r.1.items ≤ length right.items) }
+    ensures slices { IfOk result (λ r. SameEnds (spots left.items) (spots right.items) (spots r.0.items ++ spots r.1.items)) }
+{
+    let mut places = left;
+    let mut rest = right;
+    let Some(last) = places.pop() else {
+        unreachable!()
+    };
+    if last.meets(&rest[0]) {
+        let first = rest.remove(0);
+        let slice = last.slice;
+        let upper = Layer::below(alloc, last)?;
+        let lower = Layer::below(alloc, first)?;
+        let joined = Layer::join(alloc, upper, lower)?;
+        places.push(Place {
+            slice,
+            content: Content::Link(joined),
+        })?;
+    } else {
+        places.push(last)?;
+    }
+    Ok((places, rest))
+}
+
+/// The borders of two neighbouring lists of places. Most often each stays as it is, or both go into one.
+fn close(alloc: Global, left: Vec<Place>, right: Vec<Place>) -> Result<Vec<Border>, Memory>
+    requires lawful { IsLayer (spots left.items ++ spots right.items) }
+    requires some { IsBorder (spots left.items) }
+    requires few { length right.items ≤ 15 }
+    ensures same { IfOk result (λ bs. joined (border_spots bs.items) ≡ spots left.items ++ spots right.items) }
+    ensures lawful { IfOk result (λ bs. AreBorders (border_spots bs.items)) }
+{
+    let mut borders = Vec::new(alloc);
+    let mut left = left;
+    let mut right = right;
+    if left.len() + right.len() > 15 {
+        if left[left.len() - 1].slice == right[0].slice {
+            left.append(&mut right)?;
+            return cut(alloc, left);
+        }
+        borders.push(Border { places: left })?;
+        borders.push(Border { places: right })?;
+        return Ok(borders);
+    }
+    left.append(&mut right)?;
+    borders.push(Border { places: left })?;
+    Ok(borders)
+}
+
+impl Layer {
+    pub(crate) fn new(alloc: Global) -> Layer
+        ensures { result ≡ [] }
+    {
+        Layer {
+            borders: Vec::new(alloc),
+        }
+    }
+
+    pub(crate) fn allocator(&self) -> Global {
+        *self.borders.allocator()
+    }
+
+    pub(crate) fn is_empty(&self) -> bool
+        ensures { MatchBool result (self.now ≡ []) (1 ≤ length self.now) }
+    {
+        self.borders.is_empty()
+    }
+
+    /// The layer of one key.
+    pub(crate) fn single(
+        alloc: Global,
+        key: Vec<u8>,
+        columns: Columns<Kept>,
+    ) -> Result<Layer, Memory>
+        ensures { IfOk result (λ l. layer_walk l ≡ (key.items, columns) ∷ []) }
+    {
+        let place = place_for(alloc, key, columns)?;
+        let mut places = Vec::new(alloc);
+        places.push(place)?;
+        let mut borders = Vec::new(alloc);
+        borders.push(Border { places })?;
+        Ok(Layer { borders })
+    }
+
+    /// What lies below a place of longer keys.
+    fn below(alloc: Global, place: Place) -> Result<Layer, Memory>
+        requires lawful { IsPlace (spot_of place) }
+        requires long { length_at (spot_of place) ≡ 9 }
+        ensures pairs { IfOk result (λ l. put_before (slice_bytes place.slice) (layer_walk l) ≡ pairs_at (spot_of place)) }
+        ensures some { IfOk result (λ l. 0 < length (layer_walk l)) }
+        ensures no_empty_key { IfOk result (λ l. HasNoEmptyKey (layer_walk l)) }
+    {
+        match place.content {
+            Content::Short(_, _) => unreachable!(),
+            Content::Suffix(suffix, columns) => Layer::single(alloc, suffix, columns),
+            Content::Link(layer) => Ok(layer),
+        }
+    }
+
+    /// One layer of two, where all keys of the first are below all keys of the second. Only the borders at the seam are opened.
+    #[cycle(join)]
+    pub(crate) fn join(alloc: Global, left: Layer, right: Layer) -> Result<Layer, Memory>
+        requires { AllKeysBelow (layer_walk left) (layer_walk right) }
+        ensures pairs { IfOk result (λ l. layer_walk l ≡ layer_walk left ++ layer_walk right) }
+        ensures lawful { IfOk result AreBorders }
+    {
+        let mut borders = left.borders;
+        let mut rest = right.borders;
+        let Some(last) = borders.pop() else {
+            return Ok(Layer { borders: rest });
+        };
+        if rest.is_empty() {
+            borders.push(last)?;
+            return Ok(Layer { borders });
+        }
+        let first = rest.remove(0);
+        let (last, first) = meet(alloc, last.places, first.places)?;
+        let mut seam = close(alloc, last, first)?;
+        borders.append(&mut seam)?;
+        borders.append(&mut rest)?;
+        Ok(Layer { borders })
+    }
+
+    /// The layer of pairs with strictly rising keys.
+    pub(crate) fn build(alloc: Global, pairs: Vec<(Key, Columns<Kept>)>) -> Result<Layer, Memory>
+        requires { KeysRise pairs.items }
+        ensures pairs { IfOk result (λ l. layer_walk l ≡ pairs.items) }
+        ensures lawful { IfOk result AreBorders }
+        ensures short { IfOk result (λ l. FitsAfter 0 (layer_walk l)) }
+    {
+        let mut layer = Layer::new(alloc);
+        for (key, columns) in pairs {
+            let one = Layer::single(alloc, key.into_bytes(), columns)?;
+            layer = Layer::join(alloc, layer, one)?;
+        }
+        let Layer { borders } = layer;
+        Ok(Layer { borders })
+    }
+}
