@@ -84,7 +84,7 @@ went_on all done border s p left run before c e f =
     (subst (λ k. IsCutUp all done border (spots before ++ spot_of p ∷ []) k left) f (run_on all done border (spots before) s (spot_of p) left c (slice_at-spot p ∙ sym f)))
 
 -- ---- two neighbours
-alone : (b : List Spot) → IsBorder b → IsLayer b → AreBorders (b ∷ [])
+pub alone : (b : List Spot) → IsBorder b → IsLayer b → AreBorders (b ∷ [])
 alone b h l = ((h, tt), (cut_nil b, tt), subst IsLayer (sym (append-nil b)) l)
 
 -- between two slices a cut may stand

@@ -15,3 +15,5 @@ pub mod Seams
 pub mod Meets
 pub mod Ends
 pub mod EdgeBorders
+pub mod Behind
+pub mod Lasts

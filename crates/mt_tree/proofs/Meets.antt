@@ -54,7 +54,7 @@ ends_kept l r places rest h k e f =
       last = ap last_slice_of same ∙ last_kept (spots l) (spots r) (omega (arith, length-map r spot_of));
     }
 
-first_merged : (xs rest : List Spot) (p m : Spot) → slice_at m ≡ slice_at p → first_slice_of (xs ++ m ∷ rest) ≡ first_slice_of (xs ++ p ∷ [])
+pub first_merged : (xs rest : List Spot) (p m : Spot) → slice_at m ≡ slice_at p → first_slice_of (xs ++ m ∷ rest) ≡ first_slice_of (xs ++ p ∷ [])
 first_merged [] rest p m e = e
 first_merged (x ∷ xs) rest p m e = refl
 

@@ -113,3 +113,10 @@ seam_are fs l f bs seam left right h some seam_some ends =
     first_kept : (xs ys : List Spot) → 1 ≤ length xs → first_slice_of (xs ++ ys) ≡ first_slice_of xs
     first_kept [] ys k = absurd (omega arith)
     first_kept (x ∷ xs) ys k = refl
+
+-- the last border gives way to others that begin as it does
+pub behind_are : (fs : List (List Spot)) (l : List Spot) (parts : List (List Spot)) → AreBorders (fs ++ l ∷ []) → AreBorders parts → 1 ≤ length l → first_slice_of (joined parts) ≡ first_slice_of l → AreBorders (fs ++ parts)
+behind_are fs l parts left are some first =
+    let front = front_apart fs l left.1 in
+    let fs_are : AreBorders fs = (all_front IsBorder fs (l ∷ []) left.0, front.0, layer_front 0 (joined fs) (joined (l ∷ [])) (subst IsLayer (joined-append fs (l ∷ [])) left.2)) in
+    are_append fs parts fs_are are (each_over fs l (joined parts) some first are.2 front.1)

@@ -1,14 +1,14 @@
 //! A layer under construction: a list of places.
-ghost use Rattle.std.specs.Prelude.{◌≡◌, ◌≤◌, ◌+◌, MatchBool, ◌<◌, ◌++◌, ◌∷◌, ◌↔◌, [], length, IfOk, IsTrue};
+ghost use Rattle.std.specs.Prelude.{◌≡◌, ◌≤◌, ◌+◌, MatchBool, ◌<◌, ◌++◌, ◌∷◌, ◌↔◌, [], length, take, drop, IfOk, IsTrue};
 ghost use Rattle.mt_tree.specs.Layer.{FitsAfter, IsLayer, walk, pairs_at, put_before, length_at, IsPlace, HasNoEmptyKey, AllKeysBelow, Meet};
 ghost use Rattle.mt_words.specs.Walks.{KeysRise};
 ghost use Rattle.mt_tree.specs.Seen.{spot_of, spots, border_spots};
-ghost use Rattle.mt_tree.specs.Nodes.{joined, IsBorder};
-ghost use Rattle.mt_tree.specs.Borders.{AreBorders, layer_walk, SameEnds};
+ghost use Rattle.mt_tree.specs.Nodes.{joined, IsBorder, SlicesBelow, SlicesFrom};
+ghost use Rattle.mt_tree.specs.Borders.{AreBorders, layer_walk, SameEnds, first_slice_of};
 ghost use Rattle.mt_words.specs.Slices.{slice_bytes};
 
 use crate::cut::cut;
-use mt_words::{Columns, Kept, Key, Memory, slice_of};
+use mt_words::{Columns, Kept, Memory, slice_of};
 use std::alloc::Global;
 use std::marker::Model;
 
@@ -62,11 +62,11 @@ impl Model for Layer {
 }
 
 /// The place of a lone key.
-fn place_for(alloc: Global, key: Vec<u8>, columns: Columns<Kept>) -> Result<Place, Memory>
+fn place_for(alloc: Global, key: &[u8], columns: Columns<Kept>) -> Result<Place, Memory>
     ensures lawful { IfOk result (λ p. IsPlace (spot_of p)) }
-    ensures pairs { IfOk result (λ p. pairs_at (spot_of p) ≡ (key.items, columns) ∷ []) }
+    ensures pairs { IfOk result (λ p. pairs_at (spot_of p) ≡ (key.now, columns) ∷ []) }
 {
-    let slice = slice_of(&key);
+    let slice = slice_of(key);
     let len = key.len();
     if len <= 8 {
         return Ok(Place {
@@ -93,6 +93,14 @@ impl Place {
         }
     }
 
+    /// Whether a key of this slice and length has its place here, below the slice.
+    fn meets_key(&self, slice: u64, len: usize) -> bool
+        requires { IsPlace (spot_of self.now) }
+        ensures { IsTrue result ↔ ((self.now.slice ≡ slice) × (length_at (spot_of self.now) ≡ 9) × (8 < len)) }
+    {
+        self.slice == slice && self.is_long() && len > 8
+    }
+
     /// Whether both hold keys longer than 8 bytes of one slice.
     fn meets(&self, other: &Place) -> bool
         requires lawful { IsPlace (spot_of self.now) }
@@ -101,6 +109,77 @@ impl Place {
     {
         self.slice == other.slice && self.is_long() && other.is_long()
     }
+}
+
+/// The places of a border, and a pair behind them: a place of its own, or below the last place, where that is the pair's too.
+#[cycle(push)]
+fn follow(
+    alloc: Global,
+    places: Vec<Place>,
+    key: &[u8],
+    columns: Columns<Kept>,
+) -> Result<Vec<Place>, Memory>
+    requires lawful { IsLayer (spots places.items) }
+    requires some { 1 ≤ length places.items }
+    requires below { AllKeysBelow (walk (spots places.items)) ((key.now, columns) ∷ []) }
+    ensures pairs { IfOk result (λ r. walk (spots r.items) ≡ walk (spots places.items) ++ (key.now, columns) ∷ []) }
+    ensures lawful { IfOk result (λ r. IsLayer (spots r.items)) }
+    ensures first { IfOk result (λ r. first_slice_of (spots r.items) ≡ first_slice_of (spots places.items)) }
+    ensures some { IfOk result (λ r. 1 ≤ length r.items) }
+    ensures more { IfOk result (λ r. length r.items ≤ length places.items + 1) }
+{
+    let mut places = places;
+    let slice = slice_of(key);
+    if !places[places.len() - 1].meets_key(slice, key.len()) {
+        places.push(place_for(alloc, key, columns)?)?;
+        return Ok(places);
+    }
+    let Some(last) = places.pop() else {
+        unreachable!()
+    };
+    let upper = Layer::below(alloc, last)?;
+    let joined = Layer::push(alloc, upper, &key[8..], columns)?;
+    places.push(Place {
+        slice,
+        content: Content::Link(joined),
+    })?;
+    Ok(places)
+}
+
+/// How many of these places have a slice below this one.
+fn count_below(places: &[Place], slice: u64) -> usize
+    requires { IsLayer (spots places.now) }
+    ensures few { result ≤ length places.now }
+    ensures below { SlicesBelow slice (spots (take result places.now)) }
+    ensures from { SlicesFrom slice (spots (drop result places.now)) }
+{
+    for (at, place) in places.iter().enumerate() {
+        if place.slice >= slice {
+            return at;
+        }
+    }
+    places.len()
+}
+
+/// A border of up to 15 places. Sixteen are cut before the last slice, of which there are at most ten.
+fn cut_last(alloc: Global, places: Vec<Place>) -> Result<Vec<Border>, Memory>
+    requires lawful { IsLayer (spots places.items) }
+    requires some { 1 ≤ length places.items }
+    requires most { length places.items ≤ 16 }
+    ensures same { IfOk result (λ bs. joined (border_spots bs.items) ≡ spots places.items) }
+    ensures lawful { IfOk result (λ bs. AreBorders (border_spots bs.items)) }
+{
+    let mut borders = Vec::new(alloc);
+    let mut places = places;
+    if places.len() > 15 {
+        let start = count_below(&places, places[places.len() - 1].slice);
+        let last = places.split_off(start)?;
+        borders.push(Border { places })?;
+        borders.push(Border { places: last })?;
+        return Ok(borders);
+    }
+    borders.push(Border { places })?;
+    Ok(borders)
 }
 
 /// Two neighbouring lists of places: where the last place of the first and the first of the second hold longer keys of one slice, one link takes their place.
@@ -186,12 +265,9 @@ impl Layer {
     }
 
     /// The layer of one key.
-    pub(crate) fn single(
-        alloc: Global,
-        key: Vec<u8>,
-        columns: Columns<Kept>,
-    ) -> Result<Layer, Memory>
-        ensures { IfOk result (λ l. layer_walk l ≡ (key.items, columns) ∷ []) }
+    fn single(alloc: Global, key: &[u8], columns: Columns<Kept>) -> Result<Layer, Memory>
+        ensures pairs { IfOk result (λ l. layer_walk l ≡ (key.now, columns) ∷ []) }
+        ensures lawful { IfOk result AreBorders }
     {
         let place = place_for(alloc, key, columns)?;
         let mut places = Vec::new(alloc);
@@ -211,7 +287,7 @@ impl Layer {
     {
         match place.content {
             Content::Short(_, _) => unreachable!(),
-            Content::Suffix(suffix, columns) => Layer::single(alloc, suffix, columns),
+            Content::Suffix(suffix, columns) => Layer::single(alloc, &suffix, columns),
             Content::Link(layer) => Ok(layer),
         }
     }
@@ -240,19 +316,25 @@ impl Layer {
         Ok(Layer { borders })
     }
 
-    /// The layer of pairs with strictly rising keys.
-    pub(crate) fn build(alloc: Global, pairs: Vec<(Key, Columns<Kept>)>) -> Result<Layer, Memory>
-        requires { KeysRise pairs.items }
-        ensures pairs { IfOk result (λ l. layer_walk l ≡ pairs.items) }
+    /// One more pair, whose key is above all keys of the layer. Only its last border is opened.
+    #[cycle(push)]
+    pub(crate) fn push(
+        alloc: Global,
+        layer: Layer,
+        key: &[u8],
+        columns: Columns<Kept>,
+    ) -> Result<Layer, Memory>
+        requires { AllKeysBelow (layer_walk layer) ((key.now, columns) ∷ []) }
+        ensures pairs { IfOk result (λ l. layer_walk l ≡ layer_walk layer ++ (key.now, columns) ∷ []) }
         ensures lawful { IfOk result AreBorders }
-        ensures short { IfOk result (λ l. FitsAfter 0 (layer_walk l)) }
     {
-        let mut layer = Layer::new(alloc);
-        for (key, columns) in pairs {
-            let one = Layer::single(alloc, key.into_bytes(), columns)?;
-            layer = Layer::join(alloc, layer, one)?;
-        }
-        let Layer { borders } = layer;
+        let mut borders = layer.borders;
+        let Some(last) = borders.pop() else {
+            return Layer::single(alloc, key, columns);
+        };
+        let places = follow(alloc, last.places, key, columns)?;
+        let mut parts = cut_last(alloc, places)?;
+        borders.append(&mut parts)?;
         Ok(Layer { borders })
     }
 }

@@ -1,5 +1,5 @@
 //! Drafts and trees.
-ghost use Rattle.std.specs.Prelude.{ℕ, ◌≡◌, ◌↔◌, ◌++◌, ◌<◌, List, min, ◌^◌, ◌-◌, Contains, MatchOption, IfOk, IsTrue};
+ghost use Rattle.std.specs.Prelude.{ℕ, ◌≡◌, ◌↔◌, ◌++◌, ◌∷◌, [], ◌<◌, List, min, ◌^◌, ◌-◌, Contains, MatchOption, IfOk, OnOk, OnErr, IsTrue};
 ghost use Rattle.mt_tree.specs.Layer.{find_key, AllKeysBelow};
 ghost use Rattle.mt_words.specs.Walks.{KeysRise};
 ghost use Rattle.mt_tree.specs.Borders.{AreBorders, layer_walk};
@@ -16,6 +16,7 @@ use crate::wanted::Wanted;
 use mt_words::{Columns, Kept, Key, Memory};
 use std::alloc::Global;
 use std::marker::Model;
+use std::mem;
 
 /// A layered tree under construction: lists of places, which join at their seams.
 #[derive(Drop)]
@@ -57,14 +58,39 @@ impl Model for Tree {
 }
 
 impl Draft {
+    /// No pair.
+    pub fn new(alloc: Global) -> Draft
+        ensures { result ≡ [] }
+    {
+        Draft {
+            layer: Layer::new(alloc),
+        }
+    }
+
+    /// Adds a pair whose key is above all keys of the draft. Where memory was refused the draft is empty.
+    pub fn push(&mut self, key: Key, columns: Columns<Kept>) -> Result<(), Memory>
+        requires { AllKeysBelow (layer_walk self.old) ((key, columns) ∷ []) }
+        ensures pairs { OnOk result (layer_walk self.new ≡ layer_walk self.old ++ (key, columns) ∷ []) }
+        ensures lawful { OnOk result (AreBorders self.new) }
+        ensures refused { OnErr result (self.new ≡ []) }
+    {
+        let alloc = self.layer.allocator();
+        let layer = mem::replace(&mut self.layer, Layer::new(alloc));
+        self.layer = Layer::push(alloc, layer, key.as_bytes(), columns)?;
+        Ok(())
+    }
+
     /// The draft of pairs with strictly rising keys.
     pub fn build(alloc: Global, pairs: Vec<(Key, Columns<Kept>)>) -> Result<Draft, Memory>
         requires { KeysRise pairs.items }
         ensures pairs { IfOk result (λ d. layer_walk d ≡ pairs.items) }
         ensures lawful { IfOk result AreBorders }
     {
-        let layer = Layer::build(alloc, pairs)?;
-        Ok(Draft { layer })
+        let mut draft = Draft::new(alloc);
+        for (key, columns) in pairs {
+            draft.push(key, columns)?;
+        }
+        Ok(draft)
     }
 
     /// One draft of two, where all keys of the first lie below all keys of the second.

@@ -1,4 +1,4 @@
-use Rattle.std.proofs.Common.{◌≡◌, ℕ, ◌-◌, ◌≤◌, length, List, take, drop, ◌++◌, [], ◌∷◌, ap, sym, ◌∙◌, arith, length-drop}
+use Rattle.std.proofs.Common.{◌≡◌, ℕ, ◌-◌, ◌≤◌, length, List, take, drop, ◌++◌, [], ◌∷◌, ap, refl, arith, length-drop}
 use Rattle.std.proofs.lemmas.List.{take_all}
 use Rattle.mt_words.specs.Slices.{AreBytes, slice_in, slice_bytes}
 use Rattle.mt_words.proofs.SliceBytes.{slice_bytes-short, slice_bytes-past, slice_bytes-long, bytes_take}
@@ -22,14 +22,13 @@ long_key key suffix slice bytes e long f =
 
 pub returns-then-len-le8-clause-lawful : goal.returns-then-len-le8-clause-lawful
 returns-then-len-le8-clause-lawful c =
-    (c.slice_of-slice.type_inv, c.if-len-le8.true, zeros_past c.deref.result.now _ _ c.slice_of-slice.ensures.bytes c.slice_of-slice.ensures.value (c.len-len.ensures ∙ sym c.deref.ensures.len) c.if-len-le8.true)
+    (c.slice_of-slice.type_inv, c.if-len-le8.true, zeros_past c.args.key.now _ _ c.slice_of-slice.ensures.bytes c.slice_of-slice.ensures.value refl c.if-len-le8.true)
 
 pub returns-then-len-le8-clause-pairs : goal.returns-then-len-le8-clause-pairs
 returns-then-len-le8-clause-pairs c =
-    ap (λ (k : List ℕ). (k, c.args.columns) ∷ []) (short_key c.deref.result.now _ _ c.slice_of-slice.ensures.bytes c.slice_of-slice.ensures.value (c.len-len.ensures ∙ sym c.deref.ensures.len) c.if-len-le8.true ∙ c.deref.ensures.value)
+    ap (λ (k : List ℕ). (k, c.args.columns) ∷ []) (short_key c.args.key.now _ _ c.slice_of-slice.ensures.bytes c.slice_of-slice.ensures.value refl c.if-len-le8.true)
 
 pub returns-clause-pairs : goal.returns-clause-pairs
 returns-clause-pairs c =
-    let same : c.deref-2.result.now ≡ c.deref.result.now = c.deref-2.ensures.value ∙ sym c.deref.ensures.value in
-    let long : 8 ≤ length c.deref.result.now = omega (arith, c.len-len.ensures, c.deref.ensures.len, c.if-len-le8.false) in
-    ap (λ (k : List ℕ). (k, c.args.columns) ∷ []) (long_key c.deref.result.now _ _ c.slice_of-slice.ensures.bytes c.slice_of-slice.ensures.value long (c.in_ok-suffix.ensures.items ∙ ap (λ (k : List ℕ). take (length k - 8) (drop 8 k)) same) ∙ c.deref.ensures.value)
+    let long : 8 ≤ length c.args.key.now = omega (arith, c.if-len-le8.false) in
+    ap (λ (k : List ℕ). (k, c.args.columns) ∷ []) (long_key c.args.key.now _ _ c.slice_of-slice.ensures.bytes c.slice_of-slice.ensures.value long c.in_ok-suffix.ensures.items)
