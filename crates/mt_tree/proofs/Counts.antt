@@ -19,6 +19,7 @@ use Rattle.mt_tree.specs.Nodes.{NodeSeen, places, joined, borders_of}
 use Rattle.mt_tree.specs.NodeSeen.{spot_of_held, slots, seen, IsKind}
 use Rattle.std.proofs.Common.{Vec, Global}
 use Rattle.arrayvec.specs.declared.array_vec.ArrayVec.{ArrayVec}
+use Rattle.std.specs.Global.{Box}
 use Rattle.mt_tree.specs.declared.node.Slot.{Slot}
 use Rattle.mt_tree.specs.declared.node.Kind.{Kind}
 use Rattle.mt_tree.specs.declared.node.Kind.TheVariants.{Border, Interior}
@@ -282,7 +283,7 @@ kind_borders k v b xs x e f g a =
     ap slots (take_all (length xs) xs (omega arith) ∙ g) ∙ sym (append-nil (slots b.items)) ∙ ap (λ (z : Kind). places (seen z)) (sym f) ∙ ap places e in
     subst (λ (z : List Spot). CountsLinks z x) whole a
 
-pub kind_children : (k : Kind) (v : NodeSeen) (ss : ArrayVec ℕ 15 (Unit {0})) (ks : Vec NodeSeen Global) (xs : List NodeSeen) (x : ℕ) → seen k ≡ v → k ≡ Interior ss ks → xs ≡ ks.items → CountsLinks (joined (borders_of (take (length xs) xs))) x → CountsLinks (places v) x
+pub kind_children : (k : Kind) (v : NodeSeen) (ss : Box (ArrayVec ℕ 15 (Unit {0}))) (ks : Vec NodeSeen Global) (xs : List NodeSeen) (x : ℕ) → seen k ≡ v → k ≡ Interior ss ks → xs ≡ ks.items → CountsLinks (joined (borders_of (take (length xs) xs))) x → CountsLinks (places v) x
 kind_children k v ss ks xs x e f g a =
     let whole : joined (borders_of (take (length xs) xs)) ≡ places v =
     ap (λ (z : List NodeSeen). joined (borders_of z)) (take_all (length xs) xs (omega arith) ∙ g) ∙ ap (λ (z : Kind). places (seen z)) (sym f) ∙ ap places e in

@@ -18,6 +18,7 @@ use Rattle.mt_tree.specs.Nodes.{NodeSeen, places, joined, borders_of, IsNode, Ar
 use Rattle.mt_tree.specs.NodeFalls.{joined-append}
 use Rattle.std.proofs.Common.{Vec, Global, Bor}
 use Rattle.arrayvec.specs.declared.array_vec.ArrayVec.{ArrayVec}
+use Rattle.std.specs.Global.{Box}
 use Rattle.mt_tree.specs.Nodes.{IsInterior}
 use Rattle.std.specs.List.{All}
 use Rattle.std.proofs.lemmas.List.Elements.{recursion_from_All}
@@ -190,10 +191,10 @@ border_walk k v b e f = ap (λ (n : NodeSeen). walk (places n)) (sym e ∙ ap se
 pub border_layer : (k : Kind) (b : Vec Slot Global) → IsKind k → k ≡ Border b → IsLayer (slots b.items)
 border_layer k b h f = subst IsLayer (append-nil (slots b.items)) (subst IsKind f h).3
 
-pub interior_is : (k : Kind) (ss : ArrayVec ℕ 15 (Unit {0})) (ks : Vec NodeSeen Global) → IsKind k → k ≡ Interior ss ks → IsInterior ss.items ks.items
+pub interior_is : (k : Kind) (ss : Box (ArrayVec ℕ 15 (Unit {0}))) (ks : Vec NodeSeen Global) → IsKind k → k ≡ Interior ss ks → IsInterior ss.value.items ks.items
 interior_is k ss ks h f = (subst IsKind f h).0
 
-pub interior_walk : (k : Kind) (v : NodeSeen) (ss : ArrayVec ℕ 15 (Unit {0})) (ks : Vec NodeSeen Global) → seen k ≡ v → k ≡ Interior ss ks → walk (places v) ≡ walk (joined (borders_of ks.items))
+pub interior_walk : (k : Kind) (v : NodeSeen) (ss : Box (ArrayVec ℕ 15 (Unit {0}))) (ks : Vec NodeSeen Global) → seen k ≡ v → k ≡ Interior ss ks → walk (places v) ≡ walk (joined (borders_of ks.items))
 interior_walk k v ss ks e f = ap (λ (n : NodeSeen). walk (places n)) (sym e ∙ ap seen f)
 
 -- ---- what a border's place answers

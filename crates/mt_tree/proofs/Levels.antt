@@ -12,6 +12,7 @@ use Rattle.mt_tree.specs.NodeFalls.{joined-append}
 use Rattle.mt_tree.proofs.Joins.{all_append, walk-append, below_lighter}
 use Rattle.mt_tree.proofs.Cuts.{all_back, all_front, all_weaker, layer_back, layer_front, slices_from, borders_of-append, level_is}
 use Rattle.arrayvec.specs.declared.array_vec.ArrayVec.{ArrayVec}
+use Rattle.std.specs.Global.{Box}
 use Rattle.mt_tree.specs.NodeSeen.{seen, IsKind}
 use Rattle.mt_tree.specs.declared.node.Kind.{Kind}
 use Rattle.mt_tree.specs.declared.node.Kind.TheVariants.{Interior}
@@ -120,10 +121,10 @@ interior_of separators (n ∷ ns) l two most e = record {
   separated = subst (λ z. AreSeparated z (n ∷ ns)) (sym e) (separated n.height n ns l);
 }
 
-pub first_is : (k : Kind) (v : NodeSeen) (ss : ArrayVec ℕ 15 (Unit {0})) (ks : Vec NodeSeen Global) (n : NodeSeen) → IsKind k → seen k ≡ v → k ≡ Interior ss ks → n ≡ get_or ks.items 0 n → first_of n ≡ first_of v
+pub first_is : (k : Kind) (v : NodeSeen) (ss : Box (ArrayVec ℕ 15 (Unit {0}))) (ks : Vec NodeSeen Global) (n : NodeSeen) → IsKind k → seen k ≡ v → k ≡ Interior ss ks → n ≡ get_or ks.items 0 n → first_of n ≡ first_of v
 first_is k v ss ks n h e f g = by ks.items refl
   where
-    inner : IsInterior ss.items ks.items
+    inner : IsInterior ss.value.items ks.items
     inner = (subst IsKind f h).0
 
     by : (ns : List NodeSeen) → ks.items ≡ ns → first_of n ≡ first_of v

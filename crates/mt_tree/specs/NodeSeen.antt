@@ -25,4 +25,4 @@ seen (Interior ss ks) = record { borders = borders_of ks.items; height = suc (le
 
 abbrev pub IsKind : Kind → Type 0
 IsKind (Border b) = IsNode (seen (Border b))
-IsKind (Interior ss ks) = IsInterior ss.items ks.items × IsNode (seen (Interior ss ks))
+IsKind (Interior ss ks) = IsInterior ss.value.items ks.items × IsNode (seen (Interior ss ks))

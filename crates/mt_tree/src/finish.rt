@@ -13,20 +13,20 @@ use std::alloc::Global;
 use std::mem;
 
 /// The node above these.
-fn parent(children: Vec<Node>) -> Node
+fn parent(alloc: Global, children: Vec<Node>) -> Result<Node, Memory>
     requires level { IsLevel children.items }
     requires two { 2 ≤ length children.items }
     requires most { length children.items ≤ 16 }
-    ensures value { result ≡ parent_node children.items }
-    ensures lawful { IsNode result }
+    ensures value { IfOk result (λ node. node ≡ parent_node children.items) }
+    ensures lawful { IfOk result (λ node. IsNode node) }
 {
     let mut separators = ArrayVec::new();
     for at in 1..children.len() {
         separators.push(children[at].first_slice());
     }
-    Node {
-        kind: Kind::Interior(separators, children),
-    }
+    Ok(Node {
+        kind: Kind::Interior(Box::new(alloc, separators)?, children),
+    })
 }
 
 /// Whether so many children get their parent, where so many nodes are left: a single node is never left over.
@@ -52,7 +52,8 @@ fn level_up(alloc: Global, nodes: Vec<Node>) -> Result<Vec<Node>, Memory>
         children.push(node)?;
         left -= 1;
         if closes(children.len(), left) {
-            upper.push(parent(mem::replace(&mut children, Vec::new(alloc))))?;
+            let node = parent(alloc, mem::replace(&mut children, Vec::new(alloc)))?;
+            upper.push(node)?;
         }
     }
     Ok(upper)
@@ -82,7 +83,7 @@ pub(crate) fn finish(alloc: Global, layer: Layer) -> Result<Node, Memory>
     ensures same { IfOk result (λ node. node.borders ≡ layer) }
     ensures lawful { IfOk result (λ node. IsNode node) }
 {
-    let mut nodes = Vec::new(alloc);
+    let mut nodes = Vec::with_capacity(alloc, layer.borders.len())?;
     for border in layer.borders {
         let node = finish_border(alloc, border)?;
         nodes.push(node)?;
@@ -97,7 +98,7 @@ fn finish_border(alloc: Global, border: Border) -> Result<Node, Memory>
     ensures same { IfOk result (λ node. node ≡ border_node (spots border.places.items)) }
     ensures lawful { IfOk result (λ node. IsNode node) }
 {
-    let mut all = Vec::new(alloc);
+    let mut all = Vec::with_capacity(alloc, border.places.len())?;
     for place in border.places {
         let slot = finish_place(alloc, place)?;
         all.push(slot)?;

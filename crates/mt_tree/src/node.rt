@@ -21,8 +21,8 @@ pub(crate) struct Node {
 #[derive(Drop)]
 pub(crate) enum Kind {
     Border(Vec<Slot>),
-    /// Separators, children.
-    Interior(ArrayVec<u64, 15>, Vec<Node>),
+    /// Separators and children. Boxed, the separators do not make a border larger.
+    Interior(Box<ArrayVec<u64, 15>>, Vec<Node>),
 }
 
 #[cycle(node)]

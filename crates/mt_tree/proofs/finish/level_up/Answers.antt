@@ -40,8 +40,8 @@ fewer_left left kids count up all new empty some e many pair fewer f g = by (cas
     by (inl k) = omega arith
     by (inr k) = let alone : left ≢ 1 = pair (omega arith) in let enough : 15 ≤ count = many (λ z. alone (omega arith)) in omega arith
 
-pub loop-node-preserved-in-Continue-branch-2 : goal.loop-node-preserved-in-Continue-branch-2
-loop-node-preserved-in-Continue-branch-2 c =
+pub loop-node-preserved-in-Continue-branch-3 : goal.loop-node-preserved-in-Continue-branch-3
+loop-node-preserved-in-Continue-branch-3 c =
     let h = level_height c.args.nodes.items in
     let given = ap (λ v. v.items) c.replace.ensures.value in
     let level = with_next h _ _ _ _ _ _ c.loop-node.invariant.level c.in-Some.ensures.steps.0 c.in_ok-push.ensures.items given in
@@ -50,7 +50,7 @@ loop-node-preserved-in-Continue-branch-2 c =
     let empty : c.replace.new.dest.items ≡ [] = ap (λ v. v.items) c.replace.ensures.after ∙ c.new.ensures.items in
     let count : length kids ≡ length c.loop-node.children.items + 1 = ap (λ (z : List NodeSeen). length z) (given ∙ c.in_ok-push.ensures.items) ∙ length-append c.loop-node.children.items (c.in-Some.node ∷ []) in
     let left : c.loop-node.left ≡ suc (length next) = c.loop-node.invariant.left ∙ ap (λ (z : List NodeSeen). length z) c.in-Some.ensures.steps.0 in
-    let node : c.parent.result ≡ parent_node kids = c.parent.ensures.value in
+    let node : c.in_ok-node.node ≡ parent_node kids = c.in_ok-node.ensures.value in
     let up : c.push-then-closes.new.self.items ≡ c.loop-node.upper.items ++ parent_node kids ∷ [] = c.in_ok-push-2.ensures.items ∙ ap (λ (n : NodeSeen). c.loop-node.upper.items ++ n ∷ []) node in
     let whole = under_parent c.loop-node.upper.items kids next _ (gathered_whole c.loop-node.upper.items _ _ _ _ _ _ _ c.loop-node.invariant.whole c.in-Some.ensures.steps.0 c.in_ok-push.ensures.items given) in
     let height : level_height kids ≡ h = height_of h kids next level (omega arith) in
@@ -63,7 +63,7 @@ loop-node-preserved-in-Continue-branch-2 c =
     record {
       level = subst (λ (z : List NodeSeen). IsLevelAt h (z ++ next)) (sym empty) (level_back h kids next level);
       whole = (λ i. borders_of (up i) ++ borders_of (empty i ++ next)) ∙ whole;
-      above = subst (AllByRecursion (IsNodeAt (suc h))) (sym up) (all_append (IsNodeAt (suc h)) c.loop-node.upper.items (parent_node kids ∷ []) c.loop-node.invariant.above ((ap (λ n. suc n) height, subst IsNode node c.parent.ensures.lawful), tt));
+      above = subst (AllByRecursion (IsNodeAt (suc h))) (sym up) (all_append (IsNodeAt (suc h)) c.loop-node.upper.items (parent_node kids ∷ []) c.loop-node.invariant.above ((ap (λ n. suc n) height, subst IsNode node c.in_ok-node.ensures.lawful), tt));
       left = omega arith;
       few = omega arith;
       some_left = λ e. absurd (omega arith);

@@ -14,6 +14,7 @@ use Rattle.mt_tree.proofs.Finds.{slot_lawful, layer_lawful, border_layer, border
 use Rattle.mt_tree.proofs.Lights.{kid_lighter, slot_light, held_lighter}
 use Rattle.mt_tree.proofs.Ranged.{place_gone}
 use Rattle.mt_tree.proofs.Collects.{not_before, is_before, short_pairs, suffix_pairs, link_pairs, fits_link, hits_none, hits_one, hits_suffix, hits_unreached, hits_link, few_hits, later_kid, fits_kid, fits_slot, kids_then, slots_then, kids_done, kids_from}
+use Rattle.arrayvec.specs.declared.array_vec.ArrayVec.{ArrayVec}
 use Rattle.mt_tree.proofs.node.+collect.Goals as goal
 
 -- ---- a place
@@ -95,8 +96,8 @@ Node::collect-collect-requires t c =
     let h = interior_is _ _ _ c.self.invariant c.in-Interior.is in
     let ks = c.in-Interior.children.items in
     let at = c.child_at-at.result in
-    let between : length c.in-Interior.separators.items + 1 ≡ length ks = h.between in
-    let bound : at ≤ length c.in-Interior.separators.items = subst (λ (z : List ℕ). at ≤ length z) c.as_slice.ensures.value c.child_at-at.ensures.bound in
+    let between : length c.in-Interior.separators.value.items + 1 ≡ length ks = h.between in
+    let bound : at ≤ length c.in-Interior.separators.value.items = subst (λ (z : List ℕ). at ≤ length z) (c.as_slice.ensures.value ∙ ap (λ (z : ArrayVec ℕ 15 (Unit {0})). z.items) c.deref.ensures) c.child_at-at.ensures.bound in
     let inside : at < length ks = omega (arith, between, bound) in
     let lighter : weight (walk (places c.index.result.now)) < all_weight ks = subst (λ (z : NodeSeen). weight (walk (places z)) < all_weight ks) (sym c.index.ensures) (kid_lighter ks at c.index.result.now h.two h.nodes inside) in
     let is : walk (places c.args.self.now) ≡ walk (joined (borders_of ks)) = interior_walk _ _ _ _ c.self.view_is c.in-Interior.is in
@@ -109,21 +110,21 @@ pub Node::collect-collect-requires-in-loop-child : goal.Node::collect-collect-re
 Node::collect-collect-requires-in-loop-child t c =
     let h = interior_is _ _ _ c.self.invariant c.in-Interior.is in
     let ks = c.in-Interior.children.items in
-    let items : c.deref.result.now ≡ ks = c.deref.ensures.value in
-    let two : 2 ≤ length c.deref.result.now = subst (λ (z : List NodeSeen). 2 ≤ length z) (sym items) h.two in
-    let nodes : AllByRecursion IsNode c.deref.result.now = subst (AllByRecursion IsNode) (sym items) h.nodes in
+    let items : c.deref-in-Interior.result.now ≡ ks = c.deref-in-Interior.ensures.value in
+    let two : 2 ≤ length c.deref-in-Interior.result.now = subst (λ (z : List NodeSeen). 2 ≤ length z) (sym items) h.two in
+    let nodes : AllByRecursion IsNode c.deref-in-Interior.result.now = subst (AllByRecursion IsNode) (sym items) h.nodes in
     let is : walk (places c.args.self.now) ≡ walk (joined (borders_of ks)) = interior_walk _ _ _ _ c.self.view_is c.in-Interior.is in
     let whole = ap weight is in
     let same = ap all_weight items in
-    let at = later_kid c.deref.result.now (c.child_at-at.result + 1) c.loop-child.child-index c.child-item.result c.loop-child-test.true c.child-item.is in
-    let lighter : weight (walk (places c.child-item.result)) < all_weight c.deref.result.now =
-    subst (λ (z : NodeSeen). weight (walk (places z)) < all_weight c.deref.result.now) (sym at.1) (kid_lighter c.deref.result.now (c.child_at-at.result + 1 + c.loop-child.child-index) c.child-item.result two nodes at.0) in
-    let fits : FitsAfter (length c.args.prefix.now.items) (walk (joined (borders_of c.deref.result.now))) =
+    let at = later_kid c.deref-in-Interior.result.now (c.child_at-at.result + 1) c.loop-child.child-index c.child-item.result c.loop-child-test.true c.child-item.is in
+    let lighter : weight (walk (places c.child-item.result)) < all_weight c.deref-in-Interior.result.now =
+    subst (λ (z : NodeSeen). weight (walk (places z)) < all_weight c.deref-in-Interior.result.now) (sym at.1) (kid_lighter c.deref-in-Interior.result.now (c.child_at-at.result + 1 + c.loop-child.child-index) c.child-item.result two nodes at.0) in
+    let fits : FitsAfter (length c.args.prefix.now.items) (walk (joined (borders_of c.deref-in-Interior.result.now))) =
     subst (FitsAfter (length c.args.prefix.now.items)) (is ∙ ap (λ (z : List NodeSeen). walk (joined (borders_of z))) (sym items)) c.requires.fits in (
       omega (arith, lighter, whole, same, c.decreases),
       (
         subst (λ (k : ℕ). FitsAfter k (walk (places c.child-item.result))) (sym (ap (λ (z : List ℕ). length z) c.loop-child.invariant.prefix))
-            (subst (λ (z : NodeSeen). FitsAfter (length c.args.prefix.now.items) (walk (places z))) (sym at.1) (fits_kid _ c.deref.result.now (c.child_at-at.result + 1 + c.loop-child.child-index) c.child-item.result fits at.0)),
+            (subst (λ (z : NodeSeen). FitsAfter (length c.args.prefix.now.items) (walk (places z))) (sym at.1) (fits_kid _ c.deref-in-Interior.result.now (c.child_at-at.result + 1 + c.loop-child.child-index) c.child-item.result fits at.0)),
         c.loop-child.invariant.few,
       ),
     )
@@ -140,9 +141,9 @@ pub Node::collect-returns-after-loop-child-clause-hits : goal.Node::collect-retu
 Node::collect-returns-after-loop-child-clause-hits t c =
     let h = interior_is _ _ _ c.self.invariant c.in-Interior.is in
     let ks = c.in-Interior.children.items in
-    let separators = c.in-Interior.separators.items in
-    let same : c.as_slice.result.now ≡ separators = c.as_slice.ensures.value in
-    let items : c.deref.result.now ≡ ks = c.deref.ensures.value in
+    let separators = c.in-Interior.separators.value.items in
+    let same : c.as_slice.result.now ≡ separators = c.as_slice.ensures.value ∙ ap (λ (z : ArrayVec ℕ 15 (Unit {0})). z.items) c.deref.ensures in
+    let items : c.deref-in-Interior.result.now ≡ ks = c.deref-in-Interior.ensures.value in
     let slice = c.slice_of.ensures.value in
     let bound : c.child_at-at.result ≤ length separators = subst (λ (z : List ℕ). c.child_at-at.result ≤ length z) same c.child_at-at.ensures.bound in
     let before : (k : ℕ) → k < c.child_at-at.result → get_or separators k 0 ≤ slice_in c.args.start.now =
@@ -151,8 +152,8 @@ Node::collect-returns-after-loop-child-clause-hits t c =
     λ l. subst (λ (n : ℕ). n < get_or separators c.child_at-at.result 0) slice (subst (λ (z : List ℕ). c.slice_of.result < get_or z c.child_at-at.result 0) same (c.child_at-at.ensures.after (subst (λ (z : List ℕ). c.child_at-at.result < length z) (sym same) l))) in
     let is : walk (places c.args.self.now) ≡ walk (joined (borders_of ks)) = interior_walk _ _ _ _ c.self.view_is c.in-Interior.is in
     let parts = kids_from c.args.start.now separators ks c.child_at-at.result c.index.result.now c.slice_of.ensures.bytes h.nodes h.separated h.between bound before after in
-    let whole : from c.args.start.now (walk (places c.args.self.now)) ≡ from c.args.start.now (walk (places c.index.result.now)) ++ walk (joined (borders_of (drop (suc c.child_at-at.result) c.deref.result.now))) =
+    let whole : from c.args.start.now (walk (places c.args.self.now)) ≡ from c.args.start.now (walk (places c.index.result.now)) ++ walk (joined (borders_of (drop (suc c.child_at-at.result) c.deref-in-Interior.result.now))) =
     ap (from c.args.start.now) is ∙ parts
     ∙ (λ i. from c.args.start.now (walk (places (sym c.index.ensures i))) ++ walk (joined (borders_of (drop (suc c.child_at-at.result) (sym items i))))) in
-    kids_done c.args.n c.args.hits.now.items c.collect.new.hits.items c.loop-child.hits.items c.args.prefix.now.items c.args.start.now c.args.wanted _ c.deref.result.now c.index.result.now c.child_at-at.result c.loop-child.child-index
+    kids_done c.args.n c.args.hits.now.items c.collect.new.hits.items c.loop-child.hits.items c.args.prefix.now.items c.args.start.now c.args.wanted _ c.deref-in-Interior.result.now c.index.result.now c.child_at-at.result c.loop-child.child-index
     whole c.loop-child-test.false c.in_ok-collect-in-Interior.ensures.hits c.loop-child.invariant.hits
