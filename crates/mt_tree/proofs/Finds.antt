@@ -12,9 +12,9 @@ use Rattle.mt_words.specs.Slices.{AreBytes, slice_in, slice_bytes}
 use Rattle.mt_tree.specs.Layer.{key_rank}
 use Rattle.mt_words.proofs.SliceBytes.{slice_in-append, slice_in-take, slice_bytes-short, slice_bytes-long, bytes_take}
 use Rattle.mt_words.proofs.SliceBytes.{slice_bytes-length}
-use Rattle.mt_tree.specs.Layer.{Spot, short, long, link, slice_at, length_at, rank_at, pairs_at, put_before, walk, IsPlace, HasNoEmptyKey, IsLayerFrom, IsLayer, find_key}
+use Rattle.mt_tree.specs.Layer.{PlaceView, short, long, link, slice_at, length_at, rank_at, pairs_at, put_before, walk, IsPlace, HasNoEmptyKey, IsLayerFrom, IsLayer, find_key}
 use Rattle.mt_words.specs.Walks.{Pair}
-use Rattle.mt_tree.specs.Nodes.{NodeSeen, places, joined, borders_of, IsNode, AreSeparated, SlicesFrom}
+use Rattle.mt_tree.specs.Nodes.{NodeView, places, joined, borders_of, IsNode, AreSeparated, SlicesFrom}
 use Rattle.mt_tree.specs.NodeFalls.{joined-append}
 use Rattle.std.proofs.Common.{Vec, Global, Bor}
 use Rattle.arrayvec.specs.declared.array_vec.ArrayVec.{ArrayVec}
@@ -22,12 +22,12 @@ use Rattle.std.specs.Global.{Box}
 use Rattle.mt_tree.specs.Nodes.{IsInterior}
 use Rattle.std.specs.List.{All}
 use Rattle.std.proofs.lemmas.List.Elements.{recursion_from_All}
-use Rattle.mt_tree.specs.NodeSeen.{slots, spot_of_slot, spot_of_held, seen, IsKind}
-use Rattle.mt_tree.specs.declared.node.Held.{Held}
-use Rattle.mt_tree.specs.declared.node.Held.TheVariants.{Short, Suffix, Link}
-use Rattle.mt_tree.specs.declared.node.Slot.{Slot}
-use Rattle.mt_tree.specs.declared.node.Kind.{Kind}
-use Rattle.mt_tree.specs.declared.node.Kind.TheVariants.{Border, Interior}
+use Rattle.mt_tree.specs.NodeViews.{views, view_of, view_of_content, node_view, IsNodeKind}
+use Rattle.mt_tree.specs.declared.node.Content.{Content}
+use Rattle.mt_tree.specs.declared.node.Content.TheVariants.{Short, Suffix, Link}
+use Rattle.mt_tree.specs.declared.node.Place.{Place}
+use Rattle.mt_tree.specs.declared.node.NodeKind.{NodeKind}
+use Rattle.mt_tree.specs.declared.node.NodeKind.TheVariants.{Border, Interior}
 use Rattle.mt_tree.proofs.Joins.{walk-append}
 
 unequal : (k x : List ℕ) → (k ≡ x → ⊥) → pointwise nat_eq k x ≡ false
@@ -64,7 +64,7 @@ pub link_ranks : (s : ℕ) (w : List Pair) → s < 2 ^ 64 → HasNoEmptyKey w �
 link_ranks s [] h k = tt
 link_ranks s (p ∷ w) h k = (long_rank s p.0 h k.0, link_ranks s w h k.1)
 
-pub pairs_rank : (p : Spot) → IsPlace p → PairsRank (rank_at p) (pairs_at p)
+pub pairs_rank : (p : PlaceView) → IsPlace p → PairsRank (rank_at p) (pairs_at p)
 pairs_rank (short s l c) h =
     let fits : l ≤ 8 = h.1 in
     let len : length (take l (slice_bytes s)) ≡ l = length-take-le l (slice_bytes s) (omega (arith, slice_bytes-length s)) in
@@ -76,27 +76,27 @@ rank_miss : (k : List ℕ) (r : ℕ) (w : List Pair) → PairsRank r w → key_r
 rank_miss k r [] h n = refl
 rank_miss k r (p ∷ w) h n = ap (λ b. if b then Some p.1 else find_key k w) (unequal k p.0 (λ e. n (ap key_rank e ∙ h.0))) ∙ rank_miss k r w h.1 n
 
-place_miss : (k : List ℕ) (p : Spot) → IsPlace p → key_rank k ≢ rank_at p → find_key k (pairs_at p) ≡ None
+place_miss : (k : List ℕ) (p : PlaceView) → IsPlace p → key_rank k ≢ rank_at p → find_key k (pairs_at p) ≡ None
 place_miss k p h n = rank_miss k (rank_at p) (pairs_at p) (pairs_rank p h) n
 
-above_miss : (k : List ℕ) (low : ℕ) (ps : List Spot) → IsLayerFrom low ps → key_rank k < low → find_key k (walk ps) ≡ None
+above_miss : (k : List ℕ) (low : ℕ) (ps : List PlaceView) → IsLayerFrom low ps → key_rank k < low → find_key k (walk ps) ≡ None
 above_miss k low [] h l = refl
 above_miss k low (p ∷ ps) h l =
     let le : low ≤ rank_at p = h.1 in
     find-back k (pairs_at p) (walk ps) (place_miss k p h.0 (λ e. omega arith)) ∙ above_miss k (suc (rank_at p)) ps h.2 (omega arith)
 
-pub walk_absent : (k : List ℕ) (low : ℕ) (ps : List Spot) → IsLayerFrom low ps → AllByRecursion (λ p. rank_at p ≢ key_rank k) ps → find_key k (walk ps) ≡ None
+pub walk_absent : (k : List ℕ) (low : ℕ) (ps : List PlaceView) → IsLayerFrom low ps → AllByRecursion (λ p. rank_at p ≢ key_rank k) ps → find_key k (walk ps) ≡ None
 walk_absent k low [] h n = refl
 walk_absent k low (p ∷ ps) h n =
     find-back k (pairs_at p) (walk ps) (place_miss k p h.0 (λ e. n.0 (sym e))) ∙ walk_absent k (suc (rank_at p)) ps h.2 n.1
 
-rank_from : (low : ℕ) (ps : List Spot) (i : ℕ) (d : Spot) → IsLayerFrom low ps → i < length ps → low ≤ rank_at (get_or ps i d)
+rank_from : (low : ℕ) (ps : List PlaceView) (i : ℕ) (d : PlaceView) → IsLayerFrom low ps → i < length ps → low ≤ rank_at (get_or ps i d)
 rank_from low [] i d h l = absurd (omega arith)
 rank_from low (p ∷ ps) zero d h l = h.1
 rank_from low (p ∷ ps) (suc i) d h l = let le : low ≤ rank_at p = h.1 in omega (arith, rank_from (suc (rank_at p)) ps i d h.2 (omega arith))
 
 -- the whole walk is searched at one place
-pub walk_find : (k : List ℕ) (low : ℕ) (ps : List Spot) (i : ℕ) (d : Spot) → IsLayerFrom low ps → i < length ps → rank_at (get_or ps i d) ≡ key_rank k → find_key k (walk ps) ≡ find_key k (pairs_at (get_or ps i d))
+pub walk_find : (k : List ℕ) (low : ℕ) (ps : List PlaceView) (i : ℕ) (d : PlaceView) → IsLayerFrom low ps → i < length ps → rank_at (get_or ps i d) ≡ key_rank k → find_key k (walk ps) ≡ find_key k (pairs_at (get_or ps i d))
 walk_find k low [] i d h l e = absurd (omega arith)
 walk_find k low (p ∷ ps) zero d h l e = find-front k (pairs_at p) (walk ps) (above_miss k (suc (rank_at p)) ps h.2 (omega arith))
 walk_find k low (p ∷ ps) (suc i) d h l e =
@@ -134,12 +134,12 @@ pub long_hit : (k : List ℕ) (s : ℕ) (t : List ℕ) (c : List (ℕ × List �
 long_hit k s t c bytes e = link_hit k s ((t, c) ∷ []) bytes e
 
 -- ---- among the children
-slices_miss : (k : List ℕ) (low : ℕ) (ps : List Spot) → IsLayerFrom low ps → AllByRecursion (λ p. slice_at p ≢ slice_in k) ps → find_key k (walk ps) ≡ None
+slices_miss : (k : List ℕ) (low : ℕ) (ps : List PlaceView) → IsLayerFrom low ps → AllByRecursion (λ p. slice_at p ≢ slice_in k) ps → find_key k (walk ps) ≡ None
 slices_miss k low [] h n = refl
 slices_miss k low (p ∷ ps) h n =
     find-back k (pairs_at p) (walk ps) (place_miss k p h.0 (λ e. n.0 (let f = at_most p h.0 in omega arith))) ∙ slices_miss k (suc (rank_at p)) ps h.2 n.1
   where
-    at_most : (p : Spot) → IsPlace p → length_at p ≤ 9
+    at_most : (p : PlaceView) → IsPlace p → length_at p ≤ 9
     at_most (short s l c) h = let fits : l ≤ 8 = h.1 in omega arith
     at_most (long s t c) h = omega arith
     at_most (link s w) h = omega arith
@@ -148,17 +148,17 @@ weaker : {X : Type 0} (P Q : X → Type 0) → ((x : X) → P x → Q x) → (xs
 weaker P Q f [] h = tt
 weaker P Q f (x ∷ xs) h = (f x h.0, weaker P Q f xs h.1)
 
-kids_walk : (n : NodeSeen) (ns : List NodeSeen) → walk (joined (borders_of (n ∷ ns))) ≡ walk (places n) ++ walk (joined (borders_of ns))
+kids_walk : (n : NodeView) (ns : List NodeView) → walk (joined (borders_of (n ∷ ns))) ≡ walk (places n) ++ walk (joined (borders_of ns))
 kids_walk n ns = ap walk (joined-append n.borders (borders_of ns)) ∙ walk-append (places n) (joined (borders_of ns))
 
-kids_miss : (k : List ℕ) (s : ℕ) (ns : List NodeSeen) → AllByRecursion IsNode ns → AllByRecursion (λ n. SlicesFrom s (places n)) ns → slice_in k < s → find_key k (walk (joined (borders_of ns))) ≡ None
+kids_miss : (k : List ℕ) (s : ℕ) (ns : List NodeView) → AllByRecursion IsNode ns → AllByRecursion (λ n. SlicesFrom s (places n)) ns → slice_in k < s → find_key k (walk (joined (borders_of ns))) ≡ None
 kids_miss k s [] h f l = refl
 kids_miss k s (n ∷ ns) h f l =
     ap (find_key k) (kids_walk n ns)
     ∙ find-back k (walk (places n)) (walk (joined (borders_of ns))) (slices_miss k 0 (places n) h.0.3 (weaker (λ p. s ≤ slice_at p) (λ p. slice_at p ≢ slice_in k) (λ p le e. omega arith) (places n) f.0))
     ∙ kids_miss k s ns h.1 f.1 l
 
-pub kids_find : (k : List ℕ) (ss : List ℕ) (ns : List NodeSeen) (i : ℕ) (d : NodeSeen) → AllByRecursion IsNode ns → AreSeparated ss ns → length ss + 1 ≡ length ns → i ≤ length ss
+pub kids_find : (k : List ℕ) (ss : List ℕ) (ns : List NodeView) (i : ℕ) (d : NodeView) → AllByRecursion IsNode ns → AreSeparated ss ns → length ss + 1 ≡ length ns → i ≤ length ss
     → ((j : ℕ) → j < i → get_or ss j 0 ≤ slice_in k) → (i < length ss → slice_in k < get_or ss i 0) → find_key k (walk (joined (borders_of ns))) ≡ find_key k (walk (places (get_or ns i d)))
 kids_find k ss [] i d h a e l before after = absurd (omega arith)
 kids_find k [] (n ∷ []) zero d h a e l before after = ap (find_key k) (kids_walk n []) ∙ ap (find_key k) (append-nil (walk (places n)))
@@ -172,80 +172,80 @@ kids_find k (s ∷ ss) (n ∷ ns) (suc i) d h a e l before after =
     ∙ find-back k (walk (places n)) (walk (joined (borders_of ns))) (slices_miss k 0 (places n) h.0.3 (weaker (λ p. slice_at p < s) (λ p. slice_at p ≢ slice_in k) (λ p lt f. omega arith) (places n) a.0))
     ∙ kids_find k ss ns i d h.1 a.2 (omega arith) (omega arith) (λ j lt. before (suc j) (omega arith)) (λ lt. after (omega arith))
 
--- ---- slots
-pub slot_lawful : (xs : List Slot) (i : ℕ) (d : Slot) → AllByRecursion IsPlace (slots xs) → i < length xs → IsPlace (spot_of_slot (get_or xs i d))
-slot_lawful [] i d h l = absurd (omega arith)
-slot_lawful (x ∷ xs) zero d h l = h.0
-slot_lawful (x ∷ xs) (suc i) d h l = slot_lawful xs i d h.1 (omega arith)
+-- ---- views
+pub view_lawful : (xs : List Place) (i : ℕ) (d : Place) → AllByRecursion IsPlace (views xs) → i < length xs → IsPlace (view_of (get_or xs i d))
+view_lawful [] i d h l = absurd (omega arith)
+view_lawful (x ∷ xs) zero d h l = h.0
+view_lawful (x ∷ xs) (suc i) d h l = view_lawful xs i d h.1 (omega arith)
 
-pub slot_at : (xs : List Slot) (i : ℕ) (x : Slot) (d : Spot) → i < length xs → x ≡ get_or xs i x → get_or (slots xs) i d ≡ spot_of_slot x
-slot_at xs i x d l e = get_or-map spot_of_slot xs i x d l ∙ ap spot_of_slot (sym e)
+pub view_at : (xs : List Place) (i : ℕ) (x : Place) (d : PlaceView) → i < length xs → x ≡ get_or xs i x → get_or (views xs) i d ≡ view_of x
+view_at xs i x d l e = get_or-map view_of xs i x d l ∙ ap view_of (sym e)
 
-pub layer_lawful : (low : ℕ) (ps : List Spot) → IsLayerFrom low ps → AllByRecursion IsPlace ps
+pub layer_lawful : (low : ℕ) (ps : List PlaceView) → IsLayerFrom low ps → AllByRecursion IsPlace ps
 layer_lawful low [] h = tt
 layer_lawful low (p ∷ ps) h = (h.0, layer_lawful (suc (rank_at p)) ps h.2)
 
-pub border_walk : (k : Kind) (v : NodeSeen) (b : Vec Slot Global) → seen k ≡ v → k ≡ Border b → walk (places v) ≡ walk (slots b.items)
-border_walk k v b e f = ap (λ (n : NodeSeen). walk (places n)) (sym e ∙ ap seen f) ∙ ap walk (append-nil (slots b.items))
+pub border_walk : (k : NodeKind) (v : NodeView) (b : Vec Place Global) → node_view k ≡ v → k ≡ Border b → walk (places v) ≡ walk (views b.items)
+border_walk k v b e f = ap (λ (n : NodeView). walk (places n)) (sym e ∙ ap node_view f) ∙ ap walk (append-nil (views b.items))
 
-pub border_layer : (k : Kind) (b : Vec Slot Global) → IsKind k → k ≡ Border b → IsLayer (slots b.items)
-border_layer k b h f = subst IsLayer (append-nil (slots b.items)) (subst IsKind f h).3
+pub border_layer : (k : NodeKind) (b : Vec Place Global) → IsNodeKind k → k ≡ Border b → IsLayer (views b.items)
+border_layer k b h f = subst IsLayer (append-nil (views b.items)) (subst IsNodeKind f h).3
 
-pub interior_is : (k : Kind) (ss : Box (ArrayVec ℕ 15 (Unit {0}))) (ks : Vec NodeSeen Global) → IsKind k → k ≡ Interior ss ks → IsInterior ss.value.items ks.items
-interior_is k ss ks h f = (subst IsKind f h).0
+pub interior_is : (k : NodeKind) (ss : Box (ArrayVec ℕ 15 (Unit {0}))) (ks : Vec NodeView Global) → IsNodeKind k → k ≡ Interior ss ks → IsInterior ss.value.items ks.items
+interior_is k ss ks h f = (subst IsNodeKind f h).0
 
-pub interior_walk : (k : Kind) (v : NodeSeen) (ss : Box (ArrayVec ℕ 15 (Unit {0}))) (ks : Vec NodeSeen Global) → seen k ≡ v → k ≡ Interior ss ks → walk (places v) ≡ walk (joined (borders_of ks.items))
-interior_walk k v ss ks e f = ap (λ (n : NodeSeen). walk (places n)) (sym e ∙ ap seen f)
+pub interior_walk : (k : NodeKind) (v : NodeView) (ss : Box (ArrayVec ℕ 15 (Unit {0}))) (ks : Vec NodeView Global) → node_view k ≡ v → k ≡ Interior ss ks → walk (places v) ≡ walk (joined (borders_of ks.items))
+interior_walk k v ss ks e f = ap (λ (n : NodeView). walk (places n)) (sym e ∙ ap node_view f)
 
 -- ---- what a border's place answers
-pub record FoundAt (k : List ℕ) (w : List Pair) (x : Slot) : Type 0 where
-  pub lawful : IsPlace (spot_of_slot x)
-  pub ranks : rank_at (spot_of_slot x) ≡ key_rank k
-  pub is : find_key k w ≡ find_key k (pairs_at (spot_of_slot x))
+pub record FoundAt (k : List ℕ) (w : List Pair) (x : Place) : Type 0 where
+  pub lawful : IsPlace (view_of x)
+  pub ranks : rank_at (view_of x) ≡ key_rank k
+  pub is : find_key k w ≡ find_key k (pairs_at (view_of x))
 
-pub found_at : (k : List ℕ) (w : List Pair) (xs ys : List Slot) (i s : ℕ) (x : Slot) → w ≡ walk (slots xs) → IsLayer (slots xs) → ys ≡ xs → i < length ys
-    → ((d : Spot) → rank_at (get_or (slots ys) i d) ≡ s * 10 + min (length k) 9) → s ≡ slice_in k → x ≡ get_or xs i x → FoundAt k w x
+pub found_at : (k : List ℕ) (w : List Pair) (xs ys : List Place) (i s : ℕ) (x : Place) → w ≡ walk (views xs) → IsLayer (views xs) → ys ≡ xs → i < length ys
+    → ((d : PlaceView) → rank_at (get_or (views ys) i d) ≡ s * 10 + min (length k) 9) → s ≡ slice_in k → x ≡ get_or xs i x → FoundAt k w x
 found_at k w xs ys i s x e layer same lt rank slice is =
-    let inside : i < length xs = omega (arith, ap (λ (z : List Slot). length z) same) in
-    let spot : get_or (slots xs) i (spot_of_slot x) ≡ spot_of_slot x = slot_at xs i x (spot_of_slot x) inside is in
-    let r : rank_at (get_or (slots xs) i (spot_of_slot x)) ≡ key_rank k = ap (λ (z : List Slot). rank_at (get_or (slots z) i (spot_of_slot x))) (sym same) ∙ rank (spot_of_slot x) ∙ ap (λ n. n * 10 + min (length k) 9) slice in
+    let inside : i < length xs = omega (arith, ap (λ (z : List Place). length z) same) in
+    let spot : get_or (views xs) i (view_of x) ≡ view_of x = view_at xs i x (view_of x) inside is in
+    let r : rank_at (get_or (views xs) i (view_of x)) ≡ key_rank k = ap (λ (z : List Place). rank_at (get_or (views z) i (view_of x))) (sym same) ∙ rank (view_of x) ∙ ap (λ n. n * 10 + min (length k) 9) slice in
     record {
-      lawful = subst (λ (z : Slot). IsPlace (spot_of_slot z)) (sym is) (slot_lawful xs i x (layer_lawful 0 (slots xs) layer) inside);
+      lawful = subst (λ (z : Place). IsPlace (view_of z)) (sym is) (view_lawful xs i x (layer_lawful 0 (views xs) layer) inside);
       ranks = ap rank_at (sym spot) ∙ r;
-      is = ap (find_key k) e ∙ walk_find k 0 (slots xs) i (spot_of_slot x) layer (omega (arith, length-map xs spot_of_slot)) r ∙ ap (λ (z : Spot). find_key k (pairs_at z)) spot;
+      is = ap (find_key k) e ∙ walk_find k 0 (views xs) i (view_of x) layer (omega (arith, length-map xs view_of)) r ∙ ap (λ (z : PlaceView). find_key k (pairs_at z)) spot;
     }
 
-module _ (k : List ℕ) (w : List Pair) (x : Slot) (f : FoundAt k w x) (bytes : AreBytes k) where
-  at_held : (h : Held) → x.held ≡ h → IsPlace (spot_of_held x.slice h) × (rank_at (spot_of_held x.slice h) ≡ key_rank k) × (find_key k w ≡ find_key k (pairs_at (spot_of_held x.slice h)))
-  at_held h e = subst (λ (z : Held). IsPlace (spot_of_held x.slice z) × (rank_at (spot_of_held x.slice z) ≡ key_rank k) × (find_key k w ≡ find_key k (pairs_at (spot_of_held x.slice z)))) e (f.lawful, f.ranks, f.is)
+module _ (k : List ℕ) (w : List Pair) (x : Place) (f : FoundAt k w x) (bytes : AreBytes k) where
+  at_held : (h : Content) → x.content ≡ h → IsPlace (view_of_content x.slice h) × (rank_at (view_of_content x.slice h) ≡ key_rank k) × (find_key k w ≡ find_key k (pairs_at (view_of_content x.slice h)))
+  at_held h e = subst (λ (z : Content). IsPlace (view_of_content x.slice z) × (rank_at (view_of_content x.slice z) ≡ key_rank k) × (find_key k w ≡ find_key k (pairs_at (view_of_content x.slice z)))) e (f.lawful, f.ranks, f.is)
 
-  pub short_case : (l : ℕ) (c : List (ℕ × List ℕ)) → x.held ≡ Short l c → find_key k w ≡ Some c
+  pub short_case : (l : ℕ) (c : List (ℕ × List ℕ)) → x.content ≡ Short l c → find_key k w ≡ Some c
   short_case l c e = let g = at_held (Short l c) e in g.2 ∙ short_hit k x.slice l c bytes g.0.1 g.1
 
-  pub suffix_long : (t : Vec ℕ Global) (c : List (ℕ × List ℕ)) → x.held ≡ Suffix t c → 8 ≤ length k
+  pub suffix_long : (t : Vec ℕ Global) (c : List (ℕ × List ℕ)) → x.content ≡ Suffix t c → 8 ≤ length k
   suffix_long t c e = let g = at_held (Suffix t c) e in omega (arith, (long_is k x.slice bytes g.1).0)
 
-  pub suffix_true : (t : Vec ℕ Global) (c : List (ℕ × List ℕ)) → x.held ≡ Suffix t c → t.items ≡ drop 8 k → find_key k w ≡ Some c
+  pub suffix_true : (t : Vec ℕ Global) (c : List (ℕ × List ℕ)) → x.content ≡ Suffix t c → t.items ≡ drop 8 k → find_key k w ≡ Some c
   suffix_true t c e same = let g = at_held (Suffix t c) e in
       g.2 ∙ long_hit k x.slice t.items c bytes g.1 ∙ ap (λ b. if b then Some c else None) (equal (drop 8 k) t.items (sym same))
 
-  pub suffix_false : (t : Vec ℕ Global) (c : List (ℕ × List ℕ)) → x.held ≡ Suffix t c → (t.items ≡ drop 8 k → ⊥) → find_key k w ≡ None
+  pub suffix_false : (t : Vec ℕ Global) (c : List (ℕ × List ℕ)) → x.content ≡ Suffix t c → (t.items ≡ drop 8 k → ⊥) → find_key k w ≡ None
   suffix_false t c e other = let g = at_held (Suffix t c) e in
       g.2 ∙ long_hit k x.slice t.items c bytes g.1 ∙ ap (λ b. if b then Some c else None) (unequal (drop 8 k) t.items (λ s. other (sym s)))
 
-  pub link_long : (n : NodeSeen) → x.held ≡ Link n → 8 ≤ length k
+  pub link_long : (n : NodeView) → x.content ≡ Link n → 8 ≤ length k
   link_long n e = let g = at_held (Link n) e in omega (arith, (long_is k x.slice bytes g.1).0)
 
-  pub link_case : (n : NodeSeen) → x.held ≡ Link n → find_key k w ≡ find_key (drop 8 k) (walk (places n))
+  pub link_case : (n : NodeView) → x.content ≡ Link n → find_key k w ≡ find_key (drop 8 k) (walk (places n))
   link_case n e = let g = at_held (Link n) e in g.2 ∙ link_hit k x.slice (walk (places n)) bytes g.1
 
 -- a key that no place of the border has
-pub not_found : (k : List ℕ) (w : List Pair) (xs ys : List Slot) (s : ℕ) → w ≡ walk (slots xs) → IsLayer (slots xs) → ys ≡ xs → s ≡ slice_in k
-    → All (λ p. rank_at p ≡ s * 10 + min (length k) 9 → ⊥) (slots ys) → find_key k w ≡ None
+pub not_found : (k : List ℕ) (w : List Pair) (xs ys : List Place) (s : ℕ) → w ≡ walk (views xs) → IsLayer (views xs) → ys ≡ xs → s ≡ slice_in k
+    → All (λ p. rank_at p ≡ s * 10 + min (length k) 9 → ⊥) (views ys) → find_key k w ≡ None
 not_found k w xs ys s e layer same slice none =
-    let each : AllByRecursion (λ p. rank_at p ≡ key_rank k → ⊥) (slots xs) =
-    recursion_from_All (λ p. rank_at p ≡ key_rank k → ⊥) (slots xs) (λ i d lt f. subst (λ (z : List Slot). All (λ p. rank_at p ≡ s * 10 + min (length k) 9 → ⊥) (slots z)) same none i d lt (f ∙ ap (λ n. n * 10 + min (length k) 9) (sym slice))) in
-    ap (find_key k) e ∙ walk_absent k 0 (slots xs) layer each
+    let each : AllByRecursion (λ p. rank_at p ≡ key_rank k → ⊥) (views xs) =
+    recursion_from_All (λ p. rank_at p ≡ key_rank k → ⊥) (views xs) (λ i d lt f. subst (λ (z : List Place). All (λ p. rank_at p ≡ s * 10 + min (length k) 9 → ⊥) (views z)) same none i d lt (f ∙ ap (λ n. n * 10 + min (length k) 9) (sym slice))) in
+    ap (find_key k) e ∙ walk_absent k 0 (views xs) layer each
 
 pub rest_is : (k : List ℕ) → take (length k - 8) (drop 8 k) ≡ drop 8 k
 rest_is k = take_all (length k - 8) (drop 8 k) (omega (arith, length-drop 8 k))

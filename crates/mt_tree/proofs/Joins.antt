@@ -8,14 +8,14 @@ use Rattle.mt_words.proofs.SliceBytes.{below-unprefixed}
 use Rattle.mt_words.proofs.SliceBytes.{slice_bytes-bytes, slice_in-append, slice_in-take, bytes_take}
 use Rattle.mt_tree.proofs.Ranks.{ranks_of_less, IsBelowAt}
 use Rattle.mt_words.proofs.SliceBytes.{slice_bytes-length}
-use Rattle.mt_tree.specs.Layer.{Spot, short, long, link, slice_at, length_at, rank_at, pairs_at, put_before, walk, IsPlace, HasNoEmptyKey, IsLayerFrom, IsLayer, AllKeysBelow, Meet, weight}
+use Rattle.mt_tree.specs.Layer.{PlaceView, short, long, link, slice_at, length_at, rank_at, pairs_at, put_before, walk, IsPlace, HasNoEmptyKey, IsLayerFrom, IsLayer, AllKeysBelow, Meet, weight}
 use Rattle.mt_words.specs.Walks.{Pair, KeysRise}
 use Rattle.mt_words.specs.Words.{IsBelow}
-use Rattle.mt_tree.specs.Seen.{spots, spot_of, spot_of_content}
-use Rattle.mt_tree.specs.declared.layer.Content.{Content}
-use Rattle.mt_tree.specs.declared.layer.Content.TheVariants.{Short, Suffix, Link}
+use Rattle.mt_tree.specs.DraftViews.{draft_views, draft_view, draft_view_of}
+use Rattle.mt_tree.specs.declared.layer.DraftContent.{DraftContent}
+use Rattle.mt_tree.specs.declared.layer.DraftContent.TheVariants.{Short, Suffix, Link}
 use Rattle.mt_tree.specs.Falls.{weight-append, weight-put_before}
-use Rattle.mt_tree.specs.declared.layer.Place.{Place}
+use Rattle.mt_tree.specs.declared.layer.DraftPlace.{DraftPlace}
 
 -- ---- keys below keys
 pub all_back : {X : Type 0} (P : X → Type 0) (xs ys : List X) → AllByRecursion P (xs ++ ys) → AllByRecursion P ys
@@ -61,7 +61,7 @@ long_bytes s t h = subst AreBytes (sym (take_at (slice_bytes s) t 8 (slice_bytes
 long_rank : (s : ℕ) (t : List ℕ) → s < 2 ^ 64 → 0 < length t → key_rank (slice_bytes s ++ t) ≡ s * 10 + 9
 long_rank s t h some = omega (arith, slice_in-append s t h, length-append (slice_bytes s) t, slice_bytes-length s)
 
-first_pair : (p : Spot) → IsPlace p → FirstPair (pairs_at p) (rank_at p)
+first_pair : (p : PlaceView) → IsPlace p → FirstPair (pairs_at p) (rank_at p)
 first_pair (short s l c) h =
     let below : s < 2 ^ 64 = h.0 in
     let fits : l ≤ 8 = h.1 in
@@ -78,13 +78,13 @@ first_pair (long s t c) h = record { key = slice_bytes s ++ t; columns = c; rest
 first_pair (link s []) h = absurd (let two : 2 ≤ 0 = h.1 in omega arith)
 first_pair (link s (p ∷ w)) h = record { key = slice_bytes s ++ p.0; columns = p.1; rest = put_before (slice_bytes s) w; is = refl; bytes = long_bytes s p.0 h.0; ranks = long_rank s p.0 h.0 h.2.0 }
 
-length_at-le : (p : Spot) → IsPlace p → length_at p ≤ 9
+length_at-le : (p : PlaceView) → IsPlace p → length_at p ≤ 9
 length_at-le (short s l c) h = let fits : l ≤ 8 = h.1 in omega arith
 length_at-le (long s t c) h = omega arith
 length_at-le (link s w) h = omega arith
 
 -- places whose keys lie below one another rise, or meet
-pub ranks_seam : (p q : Spot) → IsPlace p → IsPlace q → AllKeysBelow (pairs_at p) (pairs_at q) → (rank_at p < rank_at q) ⊎ Meet p q
+pub ranks_seam : (p q : PlaceView) → IsPlace p → IsPlace q → AllKeysBelow (pairs_at p) (pairs_at q) → (rank_at p < rank_at q) ⊎ Meet p q
 ranks_seam p q hp hq below = by (first_pair p hp) (first_pair q hq)
   where
     decide : (x y : List ℕ) → key_rank x ≡ rank_at p → key_rank y ≡ rank_at q → (key_rank x < key_rank y) ⊎ IsBelowAt x y → (rank_at p < rank_at q) ⊎ Meet p q
@@ -102,78 +102,78 @@ ranks_seam p q hp hq below = by (first_pair p hp) (first_pair q hq)
         decide f.key g.key f.ranks g.ranks (ranks_of_less f.key g.key f.bytes g.bytes less)
 
 -- ---- layers
-pub walk-append : (xs ys : List Spot) → walk (xs ++ ys) ≡ walk xs ++ walk ys
+pub walk-append : (xs ys : List PlaceView) → walk (xs ++ ys) ≡ walk xs ++ walk ys
 walk-append [] ys = refl
 walk-append (x ∷ xs) ys = ap (λ w. pairs_at x ++ w) (walk-append xs ys) ∙ sym (append_assoc (pairs_at x) (walk xs) (walk ys))
 
 -- the last place gives way to one of its rank or a higher one, and what follows
-pub layer_seam : (low : ℕ) (xs : List Spot) (p q : Spot) (ys : List Spot) → IsLayerFrom low (xs ++ p ∷ []) → IsPlace q → rank_at p ≤ rank_at q → IsLayerFrom (suc (rank_at q)) ys → IsLayerFrom low (xs ++ q ∷ ys)
+pub layer_seam : (low : ℕ) (xs : List PlaceView) (p q : PlaceView) (ys : List PlaceView) → IsLayerFrom low (xs ++ p ∷ []) → IsPlace q → rank_at p ≤ rank_at q → IsLayerFrom (suc (rank_at q)) ys → IsLayerFrom low (xs ++ q ∷ ys)
 layer_seam low [] p q ys h k le rest = let from : low ≤ rank_at p = h.1 in (k, omega arith, rest)
 layer_seam low (x ∷ xs) p q ys h k le rest = (h.0, h.1, layer_seam (suc (rank_at x)) xs p q ys h.2 k le rest)
 
-pub last_place : (low : ℕ) (xs : List Spot) (p : Spot) → IsLayerFrom low (xs ++ p ∷ []) → IsPlace p
+pub last_place : (low : ℕ) (xs : List PlaceView) (p : PlaceView) → IsLayerFrom low (xs ++ p ∷ []) → IsPlace p
 last_place low [] p h = h.0
 last_place low (x ∷ xs) p h = last_place (suc (rank_at x)) xs p h.2
 
 -- ---- the seam of two layers of places
-spots-append : (xs ys : List Place) → spots (xs ++ ys) ≡ spots xs ++ spots ys
-spots-append = map-append spot_of
+views-append : (xs ys : List DraftPlace) → draft_views (xs ++ ys) ≡ draft_views xs ++ draft_views ys
+views-append = map-append draft_view
 
 -- what is left of a place's list once its last was taken, or its first
-pub record Seam (xs : List Place) (p q : Place) (ys : List Place) : Type 0 where
-  pub left : IsLayer (spots (xs ++ p ∷ []))
-  pub right : IsLayer (spots (q ∷ ys))
-  pub below : AllKeysBelow (walk (spots (xs ++ p ∷ []))) (walk (spots (q ∷ ys)))
+pub record Seam (xs : List DraftPlace) (p q : DraftPlace) (ys : List DraftPlace) : Type 0 where
+  pub left : IsLayer (draft_views (xs ++ p ∷ []))
+  pub right : IsLayer (draft_views (q ∷ ys))
+  pub below : AllKeysBelow (walk (draft_views (xs ++ p ∷ []))) (walk (draft_views (q ∷ ys)))
 
-module _ (xs : List Place) (p q : Place) (ys : List Place) (s : Seam xs p q ys) where
-  left_layer : IsLayer (spots xs ++ spot_of p ∷ [])
-  left_layer = subst IsLayer (spots-append xs (p ∷ [])) s.left
+module _ (xs : List DraftPlace) (p q : DraftPlace) (ys : List DraftPlace) (s : Seam xs p q ys) where
+  left_layer : IsLayer (draft_views xs ++ draft_view p ∷ [])
+  left_layer = subst IsLayer (views-append xs (p ∷ [])) s.left
 
-  pub last_lawful : IsPlace (spot_of p)
-  last_lawful = last_place 0 (spots xs) (spot_of p) left_layer
+  pub last_lawful : IsPlace (draft_view p)
+  last_lawful = last_place 0 (draft_views xs) (draft_view p) left_layer
 
-  pub first_lawful : IsPlace (spot_of q)
+  pub first_lawful : IsPlace (draft_view q)
   first_lawful = s.right.0
 
-  left_walk : walk (spots (xs ++ p ∷ [])) ≡ walk (spots xs) ++ pairs_at (spot_of p)
-  left_walk = ap walk (spots-append xs (p ∷ [])) ∙ walk-append (spots xs) (spot_of p ∷ []) ∙ ap (λ w. walk (spots xs) ++ w) (append-nil (pairs_at (spot_of p)))
+  left_walk : walk (draft_views (xs ++ p ∷ [])) ≡ walk (draft_views xs) ++ pairs_at (draft_view p)
+  left_walk = ap walk (views-append xs (p ∷ [])) ∙ walk-append (draft_views xs) (draft_view p ∷ []) ∙ ap (λ w. walk (draft_views xs) ++ w) (append-nil (pairs_at (draft_view p)))
 
-  pub below_at_seam : AllKeysBelow (pairs_at (spot_of p)) (pairs_at (spot_of q))
+  pub below_at_seam : AllKeysBelow (pairs_at (draft_view p)) (pairs_at (draft_view q))
   below_at_seam =
-      below_first (pairs_at (spot_of p)) (pairs_at (spot_of q)) (walk (spots ys))
-      (all_back _ (walk (spots xs)) (pairs_at (spot_of p)) (subst (λ v. AllKeysBelow v (walk (spots (q ∷ ys)))) left_walk s.below))
+      below_first (pairs_at (draft_view p)) (pairs_at (draft_view q)) (walk (draft_views ys))
+      (all_back _ (walk (draft_views xs)) (pairs_at (draft_view p)) (subst (λ v. AllKeysBelow v (walk (draft_views (q ∷ ys)))) left_walk s.below))
 
   -- apart, both stay as they are
-  pub apart_layer : (Meet (spot_of p) (spot_of q) → ⊥) → IsLayer (spots (xs ++ p ∷ q ∷ ys))
-  apart_layer apart = subst IsLayer (sym (spots-append xs (p ∷ q ∷ ys))) (by (ranks_seam (spot_of p) (spot_of q) last_lawful first_lawful below_at_seam))
+  pub apart_layer : (Meet (draft_view p) (draft_view q) → ⊥) → IsLayer (draft_views (xs ++ p ∷ q ∷ ys))
+  apart_layer apart = subst IsLayer (sym (views-append xs (p ∷ q ∷ ys))) (by (ranks_seam (draft_view p) (draft_view q) last_lawful first_lawful below_at_seam))
     where
-      by : (rank_at (spot_of p) < rank_at (spot_of q)) ⊎ Meet (spot_of p) (spot_of q) → IsLayer (spots xs ++ spot_of p ∷ spot_of q ∷ spots ys)
-      by (inl h) = layer_seam 0 (spots xs) (spot_of p) (spot_of p) (spot_of q ∷ spots ys) left_layer last_lawful (omega arith) (first_lawful, h, s.right.2)
+      by : (rank_at (draft_view p) < rank_at (draft_view q)) ⊎ Meet (draft_view p) (draft_view q) → IsLayer (draft_views xs ++ draft_view p ∷ draft_view q ∷ draft_views ys)
+      by (inl h) = layer_seam 0 (draft_views xs) (draft_view p) (draft_view p) (draft_view q ∷ draft_views ys) left_layer last_lawful (omega arith) (first_lawful, h, s.right.2)
       by (inr m) = absurd (apart m)
 
-  pub apart_walk : walk (spots (xs ++ p ∷ q ∷ ys)) ≡ walk (spots (xs ++ p ∷ [])) ++ walk (spots (q ∷ ys))
-  apart_walk = ap walk (spots-append xs (p ∷ q ∷ ys)) ∙ walk-append (spots xs) (spots (p ∷ q ∷ ys)) ∙ sym (append_assoc (walk (spots xs)) (pairs_at (spot_of p)) (walk (spots (q ∷ ys)))) ∙ ap (λ v. v ++ walk (spots (q ∷ ys))) (sym left_walk)
+  pub apart_walk : walk (draft_views (xs ++ p ∷ q ∷ ys)) ≡ walk (draft_views (xs ++ p ∷ [])) ++ walk (draft_views (q ∷ ys))
+  apart_walk = ap walk (views-append xs (p ∷ q ∷ ys)) ∙ walk-append (draft_views xs) (draft_views (p ∷ q ∷ ys)) ∙ sym (append_assoc (walk (draft_views xs)) (pairs_at (draft_view p)) (walk (draft_views (q ∷ ys)))) ∙ ap (λ v. v ++ walk (draft_views (q ∷ ys))) (sym left_walk)
 
   -- where they meet, one place takes the place of both
-  pub merged_layer : (m : Place) → Meet (spot_of p) (spot_of q) → IsPlace (spot_of m) → rank_at (spot_of m) ≡ rank_at (spot_of p) → IsLayer (spots (xs ++ m ∷ ys))
+  pub merged_layer : (m : DraftPlace) → Meet (draft_view p) (draft_view q) → IsPlace (draft_view m) → rank_at (draft_view m) ≡ rank_at (draft_view p) → IsLayer (draft_views (xs ++ m ∷ ys))
   merged_layer m meet lawful same =
-      let e : slice_at (spot_of p) ≡ slice_at (spot_of q) = meet.0 in
-      let f : length_at (spot_of p) ≡ 9 = meet.1 in
-      let g : length_at (spot_of q) ≡ 9 = meet.2 in
-      let ranks : rank_at (spot_of q) ≡ rank_at (spot_of m) = omega arith in
-      subst IsLayer (sym (spots-append xs (m ∷ ys))) (layer_seam 0 (spots xs) (spot_of p) (spot_of m) (spots ys) left_layer lawful (omega arith) (subst (λ r. IsLayerFrom (suc r) (spots ys)) ranks s.right.2))
+      let e : slice_at (draft_view p) ≡ slice_at (draft_view q) = meet.0 in
+      let f : length_at (draft_view p) ≡ 9 = meet.1 in
+      let g : length_at (draft_view q) ≡ 9 = meet.2 in
+      let ranks : rank_at (draft_view q) ≡ rank_at (draft_view m) = omega arith in
+      subst IsLayer (sym (views-append xs (m ∷ ys))) (layer_seam 0 (draft_views xs) (draft_view p) (draft_view m) (draft_views ys) left_layer lawful (omega arith) (subst (λ r. IsLayerFrom (suc r) (draft_views ys)) ranks s.right.2))
 
-  pub merged_walk : (m : Place) → pairs_at (spot_of m) ≡ pairs_at (spot_of p) ++ pairs_at (spot_of q) → walk (spots (xs ++ m ∷ ys)) ≡ walk (spots (xs ++ p ∷ [])) ++ walk (spots (q ∷ ys))
+  pub merged_walk : (m : DraftPlace) → pairs_at (draft_view m) ≡ pairs_at (draft_view p) ++ pairs_at (draft_view q) → walk (draft_views (xs ++ m ∷ ys)) ≡ walk (draft_views (xs ++ p ∷ [])) ++ walk (draft_views (q ∷ ys))
   merged_walk m e =
-      ap walk (spots-append xs (m ∷ ys)) ∙ walk-append (spots xs) (spots (m ∷ ys))
-      ∙ ap (λ w. walk (spots xs) ++ (w ++ walk (spots ys))) e
-      ∙ ap (λ w. walk (spots xs) ++ w) (append_assoc (pairs_at (spot_of p)) (pairs_at (spot_of q)) (walk (spots ys)))
-      ∙ sym (append_assoc (walk (spots xs)) (pairs_at (spot_of p)) (walk (spots (q ∷ ys))))
-      ∙ ap (λ v. v ++ walk (spots (q ∷ ys))) (sym left_walk)
+      ap walk (views-append xs (m ∷ ys)) ∙ walk-append (draft_views xs) (draft_views (m ∷ ys))
+      ∙ ap (λ w. walk (draft_views xs) ++ (w ++ walk (draft_views ys))) e
+      ∙ ap (λ w. walk (draft_views xs) ++ w) (append_assoc (pairs_at (draft_view p)) (pairs_at (draft_view q)) (walk (draft_views ys)))
+      ∙ sym (append_assoc (walk (draft_views xs)) (pairs_at (draft_view p)) (walk (draft_views (q ∷ ys))))
+      ∙ ap (λ v. v ++ walk (draft_views (q ∷ ys))) (sym left_walk)
 
   -- what lies below the last place is lighter than its layer
-  pub last_weight : weight (pairs_at (spot_of p)) ≤ weight (walk (spots (xs ++ p ∷ [])))
-  last_weight = omega (arith, ap weight left_walk, weight-append (walk (spots xs)) (pairs_at (spot_of p)))
+  pub last_weight : weight (pairs_at (draft_view p)) ≤ weight (walk (draft_views (xs ++ p ∷ [])))
+  last_weight = omega (arith, ap weight left_walk, weight-append (walk (draft_views xs)) (pairs_at (draft_view p)))
 
 -- the first element that was taken from a list
 pub first_removed : {X : Type 0} (xs : List X) (x : X) (rest : List X) → 0 < length xs → x ≡ get_or xs 0 x → rest ≡ remove xs 0 → xs ≡ x ∷ rest
@@ -189,64 +189,64 @@ below_lighter b w e h =
     let eight : length b * length w ≡ 8 * length w = ap (λ n. n * length w) e in
     omega (arith, weight-put_before b w, eight)
 
-pub seam_from : (l r xs ys : List Place) (p q : Place) (vl vr : List Spot) → spots l ≡ vl → spots r ≡ vr → IsLayer (spots l) → IsLayer (spots r) → AllKeysBelow (walk vl) (walk vr) → l ≡ xs ++ p ∷ [] → r ≡ q ∷ ys → Seam xs p q ys
+pub seam_from : (l r xs ys : List DraftPlace) (p q : DraftPlace) (vl vr : List PlaceView) → draft_views l ≡ vl → draft_views r ≡ vr → IsLayer (draft_views l) → IsLayer (draft_views r) → AllKeysBelow (walk vl) (walk vr) → l ≡ xs ++ p ∷ [] → r ≡ q ∷ ys → Seam xs p q ys
 seam_from l r xs ys p q vl vr el er hl hr below dl dr = record {
-  left = subst (λ z. IsLayer (spots z)) dl hl;
-  right = subst (λ z. IsLayer (spots z)) dr hr;
-  below = subst (λ z. AllKeysBelow (walk (spots z)) (walk (spots (q ∷ ys)))) dl (subst (λ z. AllKeysBelow (walk (spots l)) (walk (spots z))) dr (subst (λ z. AllKeysBelow (walk (spots l)) (walk z)) (sym er) (subst (λ z. AllKeysBelow (walk z) (walk vr)) (sym el) below)));
+  left = subst (λ z. IsLayer (draft_views z)) dl hl;
+  right = subst (λ z. IsLayer (draft_views z)) dr hr;
+  below = subst (λ z. AllKeysBelow (walk (draft_views z)) (walk (draft_views (q ∷ ys)))) dl (subst (λ z. AllKeysBelow (walk (draft_views l)) (walk (draft_views z))) dr (subst (λ z. AllKeysBelow (walk (draft_views l)) (walk z)) (sym er) (subst (λ z. AllKeysBelow (walk z) (walk vr)) (sym el) below)));
 }
 
-slice_content : (s : ℕ) (c : Content) → slice_at (spot_of_content s c) ≡ s
+slice_content : (s : ℕ) (c : DraftContent) → slice_at (draft_view_of s c) ≡ s
 slice_content s (Short l c) = refl
 slice_content s (Suffix t c) = refl
 slice_content s (Link l) = refl
 
-pub slice_at-spot : (p : Place) → slice_at (spot_of p) ≡ p.slice
-slice_at-spot p = slice_content p.slice p.content
+pub slice_at-draft : (p : DraftPlace) → slice_at (draft_view p) ≡ p.slice
+slice_at-draft p = slice_content p.slice p.content
 
-pub slice_at-lt : (p : Spot) → IsPlace p → slice_at p < 2 ^ 64
+pub slice_at-lt : (p : PlaceView) → IsPlace p → slice_at p < 2 ^ 64
 slice_at-lt (short s l c) h = h.0
 slice_at-lt (long s t c) h = h.0
 slice_at-lt (link s w) h = h.0
 
 -- the walks below two places that meet, and the joined one
-pub record Merging (p q : Place) (upper lower joined : List Pair) : Type 0 where
-  pub meet : Meet (spot_of p) (spot_of q)
-  pub upper_is : put_before (slice_bytes p.slice) upper ≡ pairs_at (spot_of p)
-  pub lower_is : put_before (slice_bytes q.slice) lower ≡ pairs_at (spot_of q)
+pub record Merging (p q : DraftPlace) (upper lower joined : List Pair) : Type 0 where
+  pub meet : Meet (draft_view p) (draft_view q)
+  pub upper_is : put_before (slice_bytes p.slice) upper ≡ pairs_at (draft_view p)
+  pub lower_is : put_before (slice_bytes q.slice) lower ≡ pairs_at (draft_view q)
   pub upper_some : 0 < length upper
   pub lower_some : 0 < length lower
   pub upper_keys : HasNoEmptyKey upper
   pub lower_keys : HasNoEmptyKey lower
   pub is : joined ≡ upper ++ lower
 
-pub same_slice : (p q : Place) → Meet (spot_of p) (spot_of q) → p.slice ≡ q.slice
-same_slice p q meet = sym (slice_at-spot p) ∙ meet.0 ∙ slice_at-spot q
+pub same_slice : (p q : DraftPlace) → Meet (draft_view p) (draft_view q) → p.slice ≡ q.slice
+same_slice p q meet = sym (slice_at-draft p) ∙ meet.0 ∙ slice_at-draft q
 
-module _ (p q : Place) (upper lower joined : List Pair) (m : Merging p q upper lower joined) where
-  pub merged_lawful : IsPlace (spot_of p) → IsPlace (link p.slice joined)
+module _ (p q : DraftPlace) (upper lower joined : List Pair) (m : Merging p q upper lower joined) where
+  pub merged_lawful : IsPlace (draft_view p) → IsPlace (link p.slice joined)
   merged_lawful h =
-      let low : p.slice < 2 ^ 64 = subst (λ s. s < 2 ^ 64) (slice_at-spot p) (slice_at-lt (spot_of p) h) in
+      let low : p.slice < 2 ^ 64 = subst (λ s. s < 2 ^ 64) (slice_at-draft p) (slice_at-lt (draft_view p) h) in
       let two : 2 ≤ length joined = omega (arith, ap (λ (w : List Pair). length w) m.is, length-append upper lower, m.upper_some, m.lower_some) in
       (low, two, subst HasNoEmptyKey (sym m.is) (all_append _ upper lower m.upper_keys m.lower_keys))
 
-  pub merged_pairs : pairs_at (link p.slice joined) ≡ pairs_at (spot_of p) ++ pairs_at (spot_of q)
+  pub merged_pairs : pairs_at (link p.slice joined) ≡ pairs_at (draft_view p) ++ pairs_at (draft_view q)
   merged_pairs =
       ap (put_before (slice_bytes p.slice)) m.is
       ∙ put_before-append (slice_bytes p.slice) upper lower
       ∙ ap (λ s. put_before (slice_bytes p.slice) upper ++ put_before (slice_bytes s) lower) (same_slice p q m.meet)
       ∙ (λ i. m.upper_is i ++ m.lower_is i)
 
-  pub merged_rank : rank_at (link p.slice joined) ≡ rank_at (spot_of p)
-  merged_rank = let e : length_at (spot_of p) ≡ 9 = m.meet.1 in omega (arith, slice_at-spot p, e)
+  pub merged_rank : rank_at (link p.slice joined) ≡ rank_at (draft_view p)
+  merged_rank = let e : length_at (draft_view p) ≡ 9 = m.meet.1 in omega (arith, slice_at-draft p, e)
 
 -- keys below the place that both share
-pub below_shared : (p q : Place) (upper lower : List Pair) → Meet (spot_of p) (spot_of q) → put_before (slice_bytes p.slice) upper ≡ pairs_at (spot_of p) → put_before (slice_bytes q.slice) lower ≡ pairs_at (spot_of q)
-    → AllKeysBelow (pairs_at (spot_of p)) (pairs_at (spot_of q)) → AllKeysBelow upper lower
+pub below_shared : (p q : DraftPlace) (upper lower : List Pair) → Meet (draft_view p) (draft_view q) → put_before (slice_bytes p.slice) upper ≡ pairs_at (draft_view p) → put_before (slice_bytes q.slice) lower ≡ pairs_at (draft_view q)
+    → AllKeysBelow (pairs_at (draft_view p)) (pairs_at (draft_view q)) → AllKeysBelow upper lower
 below_shared p q upper lower meet eu el below =
     below_unprefixed (slice_bytes p.slice) upper lower
     (subst (λ s. AllKeysBelow (put_before (slice_bytes p.slice) upper) (put_before (slice_bytes s) lower)) (sym (same_slice p q meet))
-    (subst (λ w. AllKeysBelow (put_before (slice_bytes p.slice) upper) w) (sym el) (subst (λ w. AllKeysBelow w (pairs_at (spot_of q))) (sym eu) below)))
+    (subst (λ w. AllKeysBelow (put_before (slice_bytes p.slice) upper) w) (sym el) (subst (λ w. AllKeysBelow w (pairs_at (draft_view q))) (sym eu) below)))
 
 -- what the pushes and the append leave
 pub put_one : {X : Type 0} (whole most front rest : List X) (m : X) → whole ≡ most ++ rest → most ≡ front ++ m ∷ [] → whole ≡ front ++ m ∷ rest

@@ -7,7 +7,7 @@ use Rattle.mt_tree.specs.Layer.{key_rank}
 use Rattle.mt_words.proofs.SliceBytes.{slice_bytes-bytes, slice_bytes-long, bytes_take}
 use Rattle.mt_tree.proofs.Ranks.{ranks_of_less, less_of_ranks, IsBelowAt}
 use Rattle.mt_words.proofs.SliceBytes.{slice_bytes-length}
-use Rattle.mt_tree.specs.Layer.{Spot, short, long, link, rank_at, pairs_at, put_before, walk, IsPlace, IsLayerFrom, IsLayer, AllKeysBelow, weight}
+use Rattle.mt_tree.specs.Layer.{PlaceView, short, long, link, rank_at, pairs_at, put_before, walk, IsPlace, IsLayerFrom, IsLayer, AllKeysBelow, weight}
 use Rattle.mt_words.specs.Walks.{Pair}
 use Rattle.mt_words.specs.Words.{IsBelow}
 use Rattle.mt_tree.specs.Edges.{PlaceEdge, LastEdge, FirstEdge, HasBytes}
@@ -18,8 +18,8 @@ use Rattle.mt_tree.proofs.Cuts.{all_front, all_back, all_weaker, length_at-le, l
 use Rattle.mt_words.proofs.SliceBytes.{below-prefixed}
 use Rattle.std.proofs.lemmas.List.{take_at}
 use Rattle.std.specs.Prelude.{slice_get, Some}
-use Rattle.mt_tree.specs.Seen.{spots, spot_of}
-use Rattle.mt_tree.specs.declared.layer.Place.{Place}
+use Rattle.mt_tree.specs.DraftViews.{draft_views, draft_view}
+use Rattle.mt_tree.specs.declared.layer.DraftPlace.{DraftPlace}
 
 -- ---- bytes of places
 long_bytes : (s : ℕ) (t : List ℕ) → s < 2 ^ 64 → AreBytes (take 8 (slice_bytes s ++ t))
@@ -29,22 +29,22 @@ pub link_bytes : (s : ℕ) (w : List Pair) → s < 2 ^ 64 → HasBytes (put_befo
 link_bytes s [] h = tt
 link_bytes s (p ∷ w) h = (long_bytes s p.0 h, link_bytes s w h)
 
-pub pairs_bytes : (p : Spot) → IsPlace p → HasBytes (pairs_at p)
+pub pairs_bytes : (p : PlaceView) → IsPlace p → HasBytes (pairs_at p)
 pairs_bytes (short s l c) h = (bytes_take 8 _ (bytes_take l _ (slice_bytes-bytes s h.0)), tt)
 pairs_bytes (long s t c) h = (long_bytes s t h.0, tt)
 pairs_bytes (link s w) h = link_bytes s w h.0
 
-pub walk_bytes : (low : ℕ) (ps : List Spot) → IsLayerFrom low ps → HasBytes (walk ps)
+pub walk_bytes : (low : ℕ) (ps : List PlaceView) → IsLayerFrom low ps → HasBytes (walk ps)
 walk_bytes low [] h = tt
 walk_bytes low (p ∷ ps) h = all_append _ (pairs_at p) (walk ps) (pairs_bytes p h.0) (walk_bytes (suc (rank_at p)) ps h.2)
 
-pairs_some : (p : Spot) → IsPlace p → 0 < length (pairs_at p)
+pairs_some : (p : PlaceView) → IsPlace p → 0 < length (pairs_at p)
 pairs_some (short s l c) h = omega arith
 pairs_some (long s t c) h = omega arith
 pairs_some (link s w) h = let two : 2 ≤ length w = h.1 in omega (arith, length-map {B = Pair} w (λ p. (slice_bytes s ++ p.0, p.1)))
 
 -- ---- ranks of walks
-pub walk_from : (low : ℕ) (ps : List Spot) → IsLayerFrom low ps → AllByRecursion (λ p. low ≤ key_rank p.0) (walk ps)
+pub walk_from : (low : ℕ) (ps : List PlaceView) → IsLayerFrom low ps → AllByRecursion (λ p. low ≤ key_rank p.0) (walk ps)
 walk_from low [] h = tt
 walk_from low (p ∷ ps) h =
     let from : low ≤ rank_at p = h.1 in
@@ -52,7 +52,7 @@ walk_from low (p ∷ ps) h =
     (all_weaker (λ q. key_rank q.0 ≡ rank_at p) (λ q. low ≤ key_rank q.0) (λ q e. omega arith) (pairs_at p) (pairs_rank p h.0))
     (all_weaker (λ q. suc (rank_at p) ≤ key_rank q.0) (λ q. low ≤ key_rank q.0) (λ q e. omega arith) (walk ps) (walk_from (suc (rank_at p)) ps h.2))
 
-pub walk_before : (low : ℕ) (xs : List Spot) (p : Spot) (ys : List Spot) → IsLayerFrom low (xs ++ p ∷ ys) → AllByRecursion (λ q. key_rank q.0 < rank_at p) (walk xs)
+pub walk_before : (low : ℕ) (xs : List PlaceView) (p : PlaceView) (ys : List PlaceView) → IsLayerFrom low (xs ++ p ∷ ys) → AllByRecursion (λ q. key_rank q.0 < rank_at p) (walk xs)
 walk_before low [] p ys h = tt
 walk_before low (x ∷ xs) p ys h =
     let rest = layer_back (suc (rank_at x)) xs (p ∷ ys) h.2 in
@@ -61,7 +61,7 @@ walk_before low (x ∷ xs) p ys h =
     (all_weaker (λ q. key_rank q.0 ≡ rank_at x) (λ q. key_rank q.0 < rank_at p) (λ q e. omega arith) (pairs_at x) (pairs_rank x h.0))
     (walk_before (suc (rank_at x)) xs p ys h.2)
 
-pub last_edge : (xs : List Spot) (p : Spot) (s m : ℕ) (below : List Pair) → IsLayer (xs ++ p ∷ []) → PlaceEdge p s m below → LastEdge (walk (xs ++ p ∷ [])) s m below
+pub last_edge : (xs : List PlaceView) (p : PlaceView) (s m : ℕ) (below : List Pair) → IsLayer (xs ++ p ∷ []) → PlaceEdge p s m below → LastEdge (walk (xs ++ p ∷ [])) s m below
 last_edge xs p s m below h e =
     let place = (layer_back 0 xs (p ∷ []) h).0 in
     let rank : rank_at p ≡ s * 10 + m = omega (arith, e.slices, e.lengths) in
@@ -77,7 +77,7 @@ last_edge xs p s m below h e =
       rests = e.rests;
     }
 
-pub first_edge : (p : Spot) (ys : List Spot) (s m : ℕ) (below : List Pair) → IsLayer (p ∷ ys) → PlaceEdge p s m below → FirstEdge (walk (p ∷ ys)) s m below
+pub first_edge : (p : PlaceView) (ys : List PlaceView) (s m : ℕ) (below : List Pair) → IsLayer (p ∷ ys) → PlaceEdge p s m below → FirstEdge (walk (p ∷ ys)) s m below
 first_edge p ys s m below h e =
     let rank : rank_at p ≡ s * 10 + m = omega (arith, e.slices, e.lengths) in
     record {
@@ -266,34 +266,34 @@ module _ (v w b d : List Pair) (s m t n : ℕ) (f : LastEdge v s m b) (g : First
       (edges_up v w b d s m t n f g same nine nine', edges_down v w b d s m t n f g same nine nine')
 
 -- ---- the ends of a stored layer
-last_front : (xs : List Place) (x : Place) (i : ℕ) → i + 1 ≡ length xs → Some x ≡ slice_get xs i → (front : List Place) × (xs ≡ front ++ x ∷ [])
+last_front : (xs : List DraftPlace) (x : DraftPlace) (i : ℕ) → i + 1 ≡ length xs → Some x ≡ slice_get xs i → (front : List DraftPlace) × (xs ≡ front ++ x ∷ [])
 last_front [] x i e f = absurd (omega arith)
-last_front (y ∷ []) x zero e f = ([], ap (λ (z : Place). z ∷ []) (let same : y ≡ x = cc f in same))
+last_front (y ∷ []) x zero e f = ([], ap (λ (z : DraftPlace). z ∷ []) (let same : y ≡ x = cc f in same))
 last_front (y ∷ []) x (suc i) e f = absurd (omega arith)
 last_front (y ∷ z ∷ zs) x zero e f = absurd (omega arith)
-last_front (y ∷ z ∷ zs) x (suc i) e f = let rest = last_front (z ∷ zs) x i (omega arith) f in (y ∷ rest.0, ap (λ (k : List Place). y ∷ k) rest.1)
+last_front (y ∷ z ∷ zs) x (suc i) e f = let rest = last_front (z ∷ zs) x i (omega arith) f in (y ∷ rest.0, ap (λ (k : List DraftPlace). y ∷ k) rest.1)
 
-pub last_of : (xs : List Place) (x : Place) → Some x ≡ slice_get xs (length xs - 1) → (front : List Place) × (xs ≡ front ++ x ∷ [])
+pub last_of : (xs : List DraftPlace) (x : DraftPlace) → Some x ≡ slice_get xs (length xs - 1) → (front : List DraftPlace) × (xs ≡ front ++ x ∷ [])
 last_of [] x e = cc e
 last_of (y ∷ ys) x e = let at : length (y ∷ ys) - 1 ≡ length ys = omega arith in last_front (y ∷ ys) x (length ys) (omega arith) (e ∙ ap (slice_get (y ∷ ys)) at)
 
-pub first_of : (xs : List Place) (x : Place) → Some x ≡ slice_get xs 0 → (rest : List Place) × (xs ≡ x ∷ rest)
+pub first_of : (xs : List DraftPlace) (x : DraftPlace) → Some x ≡ slice_get xs 0 → (rest : List DraftPlace) × (xs ≡ x ∷ rest)
 first_of [] x e = cc e
-first_of (y ∷ ys) x e = (ys, ap (λ (z : Place). z ∷ ys) (let same : y ≡ x = cc e in same))
+first_of (y ∷ ys) x e = (ys, ap (λ (z : DraftPlace). z ∷ ys) (let same : y ≡ x = cc e in same))
 
-pub last_lawful : (ps qs : List Place) (x : Place) → IsLayer (spots ps) → qs ≡ ps → Some x ≡ slice_get qs (length qs - 1) → IsPlace (spot_of x)
+pub last_lawful : (ps qs : List DraftPlace) (x : DraftPlace) → IsLayer (draft_views ps) → qs ≡ ps → Some x ≡ slice_get qs (length qs - 1) → IsPlace (draft_view x)
 last_lawful ps qs x h e f =
     let l = last_of qs x f in
-    (layer_back 0 (spots l.0) (spot_of x ∷ []) (subst IsLayer (ap spots (sym e ∙ l.1) ∙ map-append spot_of l.0 (x ∷ [])) h)).0
+    (layer_back 0 (draft_views l.0) (draft_view x ∷ []) (subst IsLayer (ap draft_views (sym e ∙ l.1) ∙ map-append draft_view l.0 (x ∷ [])) h)).0
 
-pub last_of_layer : (w : List Pair) (v : List Spot) (ps qs : List Place) (x : Place) (s m : ℕ) (below : List Pair) → w ≡ walk v → spots ps ≡ v → IsLayer (spots ps) → qs ≡ ps → Some x ≡ slice_get qs (length qs - 1) → PlaceEdge (spot_of x) s m below → LastEdge w s m below
+pub last_of_layer : (w : List Pair) (v : List PlaceView) (ps qs : List DraftPlace) (x : DraftPlace) (s m : ℕ) (below : List Pair) → w ≡ walk v → draft_views ps ≡ v → IsLayer (draft_views ps) → qs ≡ ps → Some x ≡ slice_get qs (length qs - 1) → PlaceEdge (draft_view x) s m below → LastEdge w s m below
 last_of_layer w v ps qs x s m below is view h e f edge =
     let l = last_of qs x f in
-    let layer : spots ps ≡ spots l.0 ++ spot_of x ∷ [] = ap spots (sym e ∙ l.1) ∙ map-append spot_of l.0 (x ∷ []) in
-    subst (λ z. LastEdge z s m below) (ap walk (sym layer ∙ view) ∙ sym is) (last_edge (spots l.0) (spot_of x) s m below (subst IsLayer layer h) edge)
+    let layer : draft_views ps ≡ draft_views l.0 ++ draft_view x ∷ [] = ap draft_views (sym e ∙ l.1) ∙ map-append draft_view l.0 (x ∷ []) in
+    subst (λ z. LastEdge z s m below) (ap walk (sym layer ∙ view) ∙ sym is) (last_edge (draft_views l.0) (draft_view x) s m below (subst IsLayer layer h) edge)
 
-pub first_of_layer : (w : List Pair) (v : List Spot) (ps qs : List Place) (x : Place) (s m : ℕ) (below : List Pair) → w ≡ walk v → spots ps ≡ v → IsLayer (spots ps) → qs ≡ ps → Some x ≡ slice_get qs 0 → PlaceEdge (spot_of x) s m below → FirstEdge w s m below
+pub first_of_layer : (w : List Pair) (v : List PlaceView) (ps qs : List DraftPlace) (x : DraftPlace) (s m : ℕ) (below : List Pair) → w ≡ walk v → draft_views ps ≡ v → IsLayer (draft_views ps) → qs ≡ ps → Some x ≡ slice_get qs 0 → PlaceEdge (draft_view x) s m below → FirstEdge w s m below
 first_of_layer w v ps qs x s m below is view h e f edge =
     let l = first_of qs x f in
-    let layer : spots ps ≡ spot_of x ∷ spots l.0 = ap spots (sym e ∙ l.1) in
-    subst (λ z. FirstEdge z s m below) (ap walk (sym layer ∙ view) ∙ sym is) (first_edge (spot_of x) (spots l.0) s m below (subst IsLayer layer h) edge)
+    let layer : draft_views ps ≡ draft_view x ∷ draft_views l.0 = ap draft_views (sym e ∙ l.1) in
+    subst (λ z. FirstEdge z s m below) (ap walk (sym layer ∙ view) ∙ sym is) (first_edge (draft_view x) (draft_views l.0) s m below (subst IsLayer layer h) edge)

@@ -19,7 +19,7 @@ use Rattle.mt_tree.proofs.Cuts.{all_weaker}
 use Rattle.mt_tree.proofs.Finds.{pairs_rank, link_ranks, long_is}
 use Rattle.mt_tree.proofs.Orders.{pairs_bytes, link_bytes}
 use Rattle.mt_tree.specs.Layer.{short, HasNoEmptyKey}
-use Rattle.mt_tree.specs.Layer.{Spot, put_before, pairs_at, rank_at, IsPlace}
+use Rattle.mt_tree.specs.Layer.{PlaceView, put_before, pairs_at, rank_at, IsPlace}
 use Rattle.mt_words.specs.Walks.{Pair}
 use Rattle.mt_tree.specs.Edges.{HasBytes}
 use Rattle.mt_tree.specs.Ranging.{from, found}
@@ -164,6 +164,6 @@ module _ (start : List ℕ) (bytes : AreBytes start) where
           let whole : start ≡ slice_bytes s ++ rest = (long_is start s bytes same).1 ∙ ap (λ (z : List ℕ). slice_bytes s ++ z) (sym (here same)) in
           ap (λ (z : List ℕ). from z (put_before (slice_bytes s) w)) whole ∙ from_prefixed (slice_bytes s) rest w
 
-  pub place_gone : (p : Spot) → IsPlace p → rank_at p < key_rank start → from start (pairs_at p) ≡ []
+  pub place_gone : (p : PlaceView) → IsPlace p → rank_at p < key_rank start → from start (pairs_at p) ≡ []
   place_gone p h lt = from_gone start (pairs_at p) (bytes_take 8 start bytes) (pairs_bytes p h)
       (all_weaker (λ q. key_rank q.0 ≡ rank_at p) (λ q. key_rank q.0 < key_rank start) (λ q e. omega arith) (pairs_at p) (pairs_rank p h))

@@ -3,11 +3,11 @@ use Rattle.std.specs.Prelude.{ℕ, ◌+◌, ◌*◌, ◌<◌, ◌≤◌, ◌≡�
 use Rattle.std.specs.List.{AllByRecursion}
 use Rattle.mt_words.specs.Slices.{AreBytes, slice_bytes}
 use Rattle.mt_tree.specs.Layer.{key_rank}
-use Rattle.mt_tree.specs.Layer.{Spot, slice_at, length_at, pairs_at, put_before}
+use Rattle.mt_tree.specs.Layer.{PlaceView, slice_at, length_at, pairs_at, put_before}
 use Rattle.mt_words.specs.Walks.{Pair}
 
 -- a place has this slice and length, and where it is longer than 8 these pairs lie below it
-pub record PlaceEdge (p : Spot) (slice len : ℕ) (below : List Pair) : Type 0 where
+pub record PlaceEdge (p : PlaceView) (slice len : ℕ) (below : List Pair) : Type 0 where
   pub slices : slice ≡ slice_at p
   pub lengths : len ≡ length_at p
   pub rests : len ≡ 9 → put_before (slice_bytes slice) below ≡ pairs_at p

@@ -2,7 +2,7 @@
 use Rattle.std.specs.Prelude.{◌≡◌, ◌↔◌, ℕ, ◌+◌, ◌-◌, ◌^◌, ◌≤◌, ◌&&◌, Bool, min, List, [], ◌∷◌, length, take, drop, map, filter, nat_eq, nat_lt, Contains, ⊤}
 use Rattle.std.specs.Cmp.Lexicographic.{pointwise}
 use Rattle.std.specs.List.{AllByRecursion}
-use Rattle.mt_tree.specs.Layer.{Spot, short, long, link}
+use Rattle.mt_tree.specs.Layer.{PlaceView, short, long, link}
 use Rattle.mt_words.specs.Walks.{Pair}
 use Rattle.mt_words.specs.Words.{IsBelow}
 
@@ -42,13 +42,13 @@ pub record CountsLayers (w : List Pair) (r : ℕ) : Type 0 where
   pub stops : r ≡ min number (2 ^ 64 - 1)
 
 -- the numbers of trees below the links of these places, in sum
-abbrev pub SumsLinks : List Spot → ℕ → Type 0
+abbrev pub SumsLinks : List PlaceView → ℕ → Type 0
 SumsLinks [] n = n ≡ 0
 SumsLinks (short s l c ∷ ps) n = SumsLinks ps n
 SumsLinks (long s t c ∷ ps) n = SumsLinks ps n
 SumsLinks (link s w ∷ ps) n = (a : ℕ) × (b : ℕ) × IsLayers w a × SumsLinks ps b × (n ≡ a + b)
 
-pub record CountsLinks (ps : List Spot) (r : ℕ) : Type 0 where
+pub record CountsLinks (ps : List PlaceView) (r : ℕ) : Type 0 where
   pub number : ℕ
   pub is : SumsLinks ps number
   pub stops : r ≡ min number (2 ^ 64 - 1)

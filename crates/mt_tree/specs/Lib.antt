@@ -1,9 +1,9 @@
 pub mod Layer
 pub mod Borders
-pub mod Seen
+pub mod DraftViews
 pub mod Falls
 pub mod Nodes
-pub mod NodeSeen
+pub mod NodeViews
 pub mod NodeFalls
 pub mod Layers
 pub mod Edges

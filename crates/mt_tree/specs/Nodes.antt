@@ -1,55 +1,55 @@
 -- The tree of a layer: its borders in order, and its height.
 use Rattle.std.specs.Prelude.{ℕ, suc, ◌+◌, ◌<◌, ◌≤◌, ◌≡◌, List, [], ◌∷◌, ◌++◌, length, ⊤}
 use Rattle.std.specs.List.{AllByRecursion, flat_map}
-use Rattle.mt_tree.specs.Layer.{Spot, slice_at, IsLayer}
+use Rattle.mt_tree.specs.Layer.{PlaceView, slice_at, IsLayer}
 
-pub record NodeSeen : Type 0 where
-  pub borders : List (List Spot)
+pub record NodeView : Type 0 where
+  pub borders : List (List PlaceView)
   pub height : ℕ
 
 -- the lists, one after another
-abbrev pub joined : List (List Spot) → List Spot
+abbrev pub joined : List (List PlaceView) → List PlaceView
 joined = flat_map (λ b. b)
 
-abbrev pub places : NodeSeen → List Spot
+abbrev pub places : NodeView → List PlaceView
 places n = joined n.borders
 
 -- each slice of the first places is below each slice of the others
-abbrev pub SlicesBelow : ℕ → List Spot → Type 0
+abbrev pub SlicesBelow : ℕ → List PlaceView → Type 0
 SlicesBelow s = AllByRecursion (λ p. slice_at p < s)
 
-abbrev pub SlicesFrom : ℕ → List Spot → Type 0
+abbrev pub SlicesFrom : ℕ → List PlaceView → Type 0
 SlicesFrom s = AllByRecursion (λ p. s ≤ slice_at p)
 
 -- a border holds 1 to 15 places
-abbrev pub IsBorder : List Spot → Type 0
+abbrev pub IsBorder : List PlaceView → Type 0
 IsBorder b = (1 ≤ length b) × (length b ≤ 15)
 
 -- no slice stands in two borders
-abbrev pub SlicesApart : List (List Spot) → Type 0
+abbrev pub SlicesApart : List (List PlaceView) → Type 0
 SlicesApart [] = ⊤
 SlicesApart (b ∷ bs) = AllByRecursion (λ p. SlicesFrom (suc (slice_at p)) (joined bs)) b × SlicesApart bs
 
 -- what holds of each node, by its borders
-abbrev pub IsNode : NodeSeen → Type 0
+abbrev pub IsNode : NodeView → Type 0
 IsNode n = (1 ≤ length n.borders) × AllByRecursion IsBorder n.borders × SlicesApart n.borders × IsLayer (places n)
 
 -- slices left of a separator are below it, slices right of it are at or above it
-abbrev pub AreSeparated : List ℕ → List NodeSeen → Type 0
+abbrev pub AreSeparated : List ℕ → List NodeView → Type 0
 AreSeparated [] ks = ⊤
 AreSeparated (s ∷ ss) [] = ⊤
 AreSeparated (s ∷ ss) (k ∷ ks) = SlicesBelow s (places k) × AllByRecursion (λ n. SlicesFrom s (places n)) ks × AreSeparated ss ks
 
-abbrev pub borders_of : List NodeSeen → List (List Spot)
+abbrev pub borders_of : List NodeView → List (List PlaceView)
 borders_of = flat_map (λ n. n.borders)
 
 -- the height of nodes of one height
-abbrev pub level_height : List NodeSeen → ℕ
+abbrev pub level_height : List NodeView → ℕ
 level_height [] = 0
 level_height (n ∷ ns) = n.height
 
 -- an interior node has 2 to 16 children of one height, and one separator between each two
-pub record IsInterior (separators : List ℕ) (children : List NodeSeen) : Type 0 where
+pub record IsInterior (separators : List ℕ) (children : List NodeView) : Type 0 where
   pub two : 2 ≤ length children
   pub most : length children ≤ 16
   pub between : length separators + 1 ≡ length children
@@ -58,42 +58,42 @@ pub record IsInterior (separators : List ℕ) (children : List NodeSeen) : Type 
   pub separated : AreSeparated separators children
 
 -- a node of this height
-abbrev pub IsNodeAt : ℕ → NodeSeen → Type 0
+abbrev pub IsNodeAt : ℕ → NodeView → Type 0
 IsNodeAt h n = (n.height ≡ h) × IsNode n
 
-abbrev pub head_slice : List Spot → ℕ
+abbrev pub head_slice : List PlaceView → ℕ
 head_slice [] = 0
 head_slice (p ∷ ps) = slice_at p
 
 -- the least slice of a node's places
-abbrev pub first_of : NodeSeen → ℕ
+abbrev pub first_of : NodeView → ℕ
 first_of n = head_slice (places n)
 
 -- the node above these
-abbrev pub parent_node : List NodeSeen → NodeSeen
+abbrev pub parent_node : List NodeView → NodeView
 parent_node ns = record { borders = borders_of ns; height = suc (level_height ns) }
 
 -- nodes of one height that hold the borders of a lawful layer, in order
-pub record IsLevelAt (h : ℕ) (ns : List NodeSeen) : Type 0 where
+pub record IsLevelAt (h : ℕ) (ns : List NodeView) : Type 0 where
   pub nodes : AllByRecursion (IsNodeAt h) ns
   pub apart : SlicesApart (borders_of ns)
   pub layer : IsLayer (joined (borders_of ns))
 
-abbrev pub IsLevel : List NodeSeen → Type 0
+abbrev pub IsLevel : List NodeView → Type 0
 IsLevel ns = IsLevelAt (level_height ns) ns
 
 -- each slice of the first places is below each slice of the others
-abbrev pub CutAt : List Spot → List Spot → Type 0
+abbrev pub CutAt : List PlaceView → List PlaceView → Type 0
 CutAt xs ys = AllByRecursion (λ p. SlicesFrom (suc (slice_at p)) ys) xs
 
-abbrev pub OfSlice : ℕ → List Spot → Type 0
+abbrev pub OfSlice : ℕ → List PlaceView → Type 0
 OfSlice s = AllByRecursion (λ p. slice_at p ≡ s)
 
-abbrev pub border_node : List Spot → NodeSeen
+abbrev pub border_node : List PlaceView → NodeView
 border_node b = record { borders = b ∷ []; height = 0 }
 
 -- how far places are cut into borders: closed borders, an open border, a run of places of one slice, and those to come
-pub record IsCut (all : List Spot) (done : List NodeSeen) (border run : List Spot) (slice : ℕ) (left : List Spot) : Type 0 where
+pub record IsCut (all : List PlaceView) (done : List NodeView) (border run : List PlaceView) (slice : ℕ) (left : List PlaceView) : Type 0 where
   pub whole : joined (borders_of done) ++ (border ++ (run ++ left)) ≡ all
   pub nodes : AllByRecursion (IsNodeAt 0) done
   pub fits : length border ≤ 15

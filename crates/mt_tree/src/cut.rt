@@ -1,11 +1,11 @@
 //! Places are cut into borders between slices.
 ghost use Rattle.std.specs.Prelude.{◌≡◌, ◌≤◌, ◌++◌, ◌∷◌, [], List, length, IfOk};
-ghost use Rattle.mt_tree.specs.Layer.{Spot, IsLayer};
+ghost use Rattle.mt_tree.specs.Layer.{PlaceView, IsLayer};
 ghost use Rattle.mt_tree.specs.Nodes.{joined, CutAt, OfSlice};
 ghost use Rattle.mt_tree.specs.Borders.{AreBorders, IsCutUp};
-ghost use Rattle.mt_tree.specs.Seen.{spot_of, spots, border_spots};
+ghost use Rattle.mt_tree.specs.DraftViews.{draft_view, draft_views, border_views};
 
-use crate::layer::{Border, Place};
+use crate::layer::{Border, DraftPlace};
 use mt_words::Memory;
 use std::alloc::Global;
 
@@ -15,18 +15,18 @@ struct Cutting {
     /// The borders that are closed.
     borders: Vec<Border>,
     /// The open border: whole slices.
-    border: Vec<Place>,
+    border: Vec<DraftPlace>,
     /// The places of the last slice.
-    run: Vec<Place>,
+    run: Vec<DraftPlace>,
     slice: u64,
 }
 
 /// The run joins the open border, or opens the next one.
 fn close_run(alloc: Global, cutting: Cutting) -> Result<Cutting, Memory>
     requires fits { length cutting.border.items ≤ 15 }
-    requires one { OfSlice cutting.slice (spots cutting.run.items) }
-    requires lawful { IsLayer (spots cutting.border.items ++ spots cutting.run.items) }
-    ensures cut { IfOk result (λ r. (all left : List Spot) → IsLayer all → IsCutUp all (border_spots cutting.borders.items) (spots cutting.border.items) (spots cutting.run.items) cutting.slice left → CutAt (spots cutting.run.items) left → IsCutUp all (border_spots r.borders.items) (spots r.border.items) [] r.slice left) }
+    requires one { OfSlice cutting.slice (draft_views cutting.run.items) }
+    requires lawful { IsLayer (draft_views cutting.border.items ++ draft_views cutting.run.items) }
+    ensures cut { IfOk result (λ r. (all left : List PlaceView) → IsLayer all → IsCutUp all (border_views cutting.borders.items) (draft_views cutting.border.items) (draft_views cutting.run.items) cutting.slice left → CutAt (draft_views cutting.run.items) left → IsCutUp all (border_views r.borders.items) (draft_views r.border.items) [] r.slice left) }
     ensures some { IfOk result (λ r. 1 ≤ length cutting.run.items → 1 ≤ length r.border.items) }
     ensures empty { IfOk result (λ r. r.run.items ≡ []) }
     ensures fits { IfOk result (λ r. length r.border.items ≤ 15) }
@@ -56,11 +56,11 @@ fn close_run(alloc: Global, cutting: Cutting) -> Result<Cutting, Memory>
 }
 
 /// One more place.
-fn add(alloc: Global, cutting: Cutting, place: Place) -> Result<Cutting, Memory>
+fn add(alloc: Global, cutting: Cutting, place: DraftPlace) -> Result<Cutting, Memory>
     requires fits { length cutting.border.items ≤ 15 }
-    requires one { OfSlice cutting.slice (spots cutting.run.items) }
-    requires lawful { IsLayer (spots cutting.border.items ++ spots cutting.run.items) }
-    ensures cut { IfOk result (λ r. (all left : List Spot) → IsLayer all → IsCutUp all (border_spots cutting.borders.items) (spots cutting.border.items) (spots cutting.run.items) cutting.slice (spot_of place ∷ left) → IsCutUp all (border_spots r.borders.items) (spots r.border.items) (spots r.run.items) r.slice left) }
+    requires one { OfSlice cutting.slice (draft_views cutting.run.items) }
+    requires lawful { IsLayer (draft_views cutting.border.items ++ draft_views cutting.run.items) }
+    ensures cut { IfOk result (λ r. (all left : List PlaceView) → IsLayer all → IsCutUp all (border_views cutting.borders.items) (draft_views cutting.border.items) (draft_views cutting.run.items) cutting.slice (draft_view place ∷ left) → IsCutUp all (border_views r.borders.items) (draft_views r.border.items) (draft_views r.run.items) r.slice left) }
     ensures some { IfOk result (λ r. 1 ≤ length r.run.items) }
 {
     let slice = place.slice;
@@ -95,11 +95,11 @@ fn add(alloc: Global, cutting: Cutting, place: Place) -> Result<Cutting, Memory>
 }
 
 /// Borders of at most 15 places, each slice in one.
-pub(crate) fn cut(alloc: Global, all: Vec<Place>) -> Result<Vec<Border>, Memory>
-    requires lawful { IsLayer (spots all.items) }
+pub(crate) fn cut(alloc: Global, all: Vec<DraftPlace>) -> Result<Vec<Border>, Memory>
+    requires lawful { IsLayer (draft_views all.items) }
     requires some { 1 ≤ length all.items }
-    ensures same { IfOk result (λ bs. joined (border_spots bs.items) ≡ spots all.items) }
-    ensures lawful { IfOk result (λ bs. AreBorders (border_spots bs.items)) }
+    ensures same { IfOk result (λ bs. joined (border_views bs.items) ≡ draft_views all.items) }
+    ensures lawful { IfOk result (λ bs. AreBorders (border_views bs.items)) }
 {
     let mut cutting = Cutting {
         borders: Vec::new(alloc),

@@ -1,12 +1,12 @@
 //! A finished layer is cut into borders, and nodes are stacked on them.
 ghost use Rattle.std.specs.Prelude.{◌≡◌, ◌≢◌, MatchBool, ◌<◌, ◌≤◌, ◌+◌, ◌++◌, ◌∷◌, [], suc, List, length, IfOk};
-ghost use Rattle.mt_tree.specs.Layer.{Spot, IsLayer, IsPlace};
+ghost use Rattle.mt_tree.specs.Layer.{PlaceView, IsLayer, IsPlace};
 ghost use Rattle.mt_tree.specs.Nodes.{places, joined, borders_of, level_height, IsNode, IsNodeAt, IsLevel, IsLevelAt, IsBorder, border_node, first_of, parent_node};
-ghost use Rattle.mt_tree.specs.Seen.{spot_of, spots};
-ghost use Rattle.mt_tree.specs.NodeSeen.{slots, spot_of_slot};
+ghost use Rattle.mt_tree.specs.DraftViews.{draft_view, draft_views};
+ghost use Rattle.mt_tree.specs.NodeViews.{views, view_of};
 
-use crate::layer::{Border, Content, Layer, Place};
-use crate::node::{Held, Kind, Node, Slot};
+use crate::layer::{Border, DraftContent, DraftPlace, Layer};
+use crate::node::{Content, Node, NodeKind, Place};
 use arrayvec::ArrayVec;
 use mt_words::Memory;
 use std::alloc::Global;
@@ -25,7 +25,7 @@ fn parent(alloc: Global, children: Vec<Node>) -> Result<Node, Memory>
         separators.push(children[at].first_slice());
     }
     Ok(Node {
-        kind: Kind::Interior(Box::new(alloc, separators)?, children),
+        kind: NodeKind::Interior(Box::new(alloc, separators)?, children),
     })
 }
 
@@ -93,41 +93,41 @@ pub(crate) fn finish(alloc: Global, layer: Layer) -> Result<Node, Memory>
 
 #[cycle(finish)]
 fn finish_border(alloc: Global, border: Border) -> Result<Node, Memory>
-    requires some { IsBorder (spots border.places.items) }
-    requires lawful { IsLayer (spots border.places.items) }
-    ensures same { IfOk result (λ node. node ≡ border_node (spots border.places.items)) }
+    requires some { IsBorder (draft_views border.places.items) }
+    requires lawful { IsLayer (draft_views border.places.items) }
+    ensures same { IfOk result (λ node. node ≡ border_node (draft_views border.places.items)) }
     ensures lawful { IfOk result (λ node. IsNode node) }
 {
     let mut all = Vec::with_capacity(alloc, border.places.len())?;
     for place in border.places {
-        let slot = finish_place(alloc, place)?;
-        all.push(slot)?;
+        let finished = finish_place(alloc, place)?;
+        all.push(finished)?;
     }
     Ok(Node {
-        kind: Kind::Border(all),
+        kind: NodeKind::Border(all),
     })
 }
 
 #[cycle(finish)]
-fn finish_place(alloc: Global, place: Place) -> Result<Slot, Memory>
-    requires lawful { IsPlace (spot_of place) }
-    ensures { IfOk result (λ slot. spot_of_slot slot ≡ spot_of place) }
+fn finish_place(alloc: Global, place: DraftPlace) -> Result<Place, Memory>
+    requires lawful { IsPlace (draft_view place) }
+    ensures { IfOk result (λ made. view_of made ≡ draft_view place) }
 {
     let slice = place.slice;
     match place.content {
-        Content::Short(len, columns) => Ok(Slot {
+        DraftContent::Short(len, columns) => Ok(Place {
             slice,
-            held: Held::Short(len, columns),
+            content: Content::Short(len, columns),
         }),
-        Content::Suffix(suffix, columns) => Ok(Slot {
+        DraftContent::Suffix(suffix, columns) => Ok(Place {
             slice,
-            held: Held::Suffix(suffix, columns),
+            content: Content::Suffix(suffix, columns),
         }),
-        Content::Link(layer) => {
+        DraftContent::Link(layer) => {
             let below = finish(alloc, layer)?;
-            Ok(Slot {
+            Ok(Place {
                 slice,
-                held: Held::Link(below),
+                content: Content::Link(below),
             })
         }
     }

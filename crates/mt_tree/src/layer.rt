@@ -2,7 +2,7 @@
 ghost use Rattle.std.specs.Prelude.{◌≡◌, ◌≤◌, ◌+◌, MatchBool, ◌<◌, ◌++◌, ◌∷◌, ◌↔◌, [], length, take, drop, IfOk, IsTrue};
 ghost use Rattle.mt_tree.specs.Layer.{FitsAfter, IsLayer, walk, pairs_at, put_before, length_at, IsPlace, HasNoEmptyKey, AllKeysBelow, Meet};
 ghost use Rattle.mt_words.specs.Walks.{KeysRise};
-ghost use Rattle.mt_tree.specs.Seen.{spot_of, spots, border_spots};
+ghost use Rattle.mt_tree.specs.DraftViews.{draft_view, draft_views, border_views};
 ghost use Rattle.mt_tree.specs.Nodes.{joined, IsBorder, SlicesBelow, SlicesFrom};
 ghost use Rattle.mt_tree.specs.Borders.{AreBorders, layer_walk, SameEnds, first_slice_of};
 ghost use Rattle.mt_words.specs.Slices.{slice_bytes};
@@ -22,19 +22,19 @@ pub(crate) struct Layer {
 #[cycle(layer)]
 #[derive(Drop)]
 pub(crate) struct Border {
-    pub(crate) places: Vec<Place>,
+    pub(crate) places: Vec<DraftPlace>,
 }
 
 #[cycle(layer)]
 #[derive(Drop)]
-pub(crate) struct Place {
+pub(crate) struct DraftPlace {
     pub(crate) slice: u64,
-    pub(crate) content: Content,
+    pub(crate) content: DraftContent,
 }
 
 #[cycle(layer)]
 #[derive(Drop)]
-pub(crate) enum Content {
+pub(crate) enum DraftContent {
     Short(u8, Columns<Kept>),
     Suffix(Vec<u8>, Columns<Kept>),
     Link(Layer),
@@ -42,16 +42,16 @@ pub(crate) enum Content {
 
 impl Model for Layer {
     ghost use Rattle.std.specs.Prelude.{List};
-    ghost use Rattle.mt_tree.specs.Layer.{Spot, weight};
+    ghost use Rattle.mt_tree.specs.Layer.{PlaceView, weight};
     ghost use Rattle.mt_tree.specs.Borders.{AreBorders, layer_walk};
 
-    ghost Value = { List (List Spot) };
+    ghost Value = { List (List PlaceView) };
 
-    ghost use Rattle.mt_tree.specs.Seen.{border_spots};
+    ghost use Rattle.mt_tree.specs.DraftViews.{border_views};
 
-    ghost view = { λ a. border_spots a.borders.items };
+    ghost view = { λ a. border_views a.borders.items };
 
-    ghost invariant = { λ a. AreBorders (border_spots a.borders.items) };
+    ghost invariant = { λ a. AreBorders (border_views a.borders.items) };
 
     ghost size = { λ v. weight (layer_walk v) };
 
@@ -62,50 +62,50 @@ impl Model for Layer {
 }
 
 /// The place of a lone key.
-fn place_for(alloc: Global, key: &[u8], columns: Columns<Kept>) -> Result<Place, Memory>
-    ensures lawful { IfOk result (λ p. IsPlace (spot_of p)) }
-    ensures pairs { IfOk result (λ p. pairs_at (spot_of p) ≡ (key.now, columns) ∷ []) }
+fn place_for(alloc: Global, key: &[u8], columns: Columns<Kept>) -> Result<DraftPlace, Memory>
+    ensures lawful { IfOk result (λ p. IsPlace (draft_view p)) }
+    ensures pairs { IfOk result (λ p. pairs_at (draft_view p) ≡ (key.now, columns) ∷ []) }
 {
     let slice = slice_of(key);
     let len = key.len();
     if len <= 8 {
-        return Ok(Place {
+        return Ok(DraftPlace {
             slice,
-            content: Content::Short(len as u8, columns),
+            content: DraftContent::Short(len as u8, columns),
         });
     }
     let suffix = Vec::from_slice(alloc, &key[8..])?;
-    Ok(Place {
+    Ok(DraftPlace {
         slice,
-        content: Content::Suffix(suffix, columns),
+        content: DraftContent::Suffix(suffix, columns),
     })
 }
 
-impl Place {
+impl DraftPlace {
     fn is_long(&self) -> bool
-        requires { IsPlace (spot_of self.now) }
-        ensures { IsTrue result ↔ (length_at (spot_of self.now) ≡ 9) }
+        requires { IsPlace (draft_view self.now) }
+        ensures { IsTrue result ↔ (length_at (draft_view self.now) ≡ 9) }
     {
         match &self.content {
-            Content::Short(_, _) => false,
-            Content::Suffix(_, _) => true,
-            Content::Link(_) => true,
+            DraftContent::Short(_, _) => false,
+            DraftContent::Suffix(_, _) => true,
+            DraftContent::Link(_) => true,
         }
     }
 
     /// Whether a key of this slice and length has its place here, below the slice.
     fn meets_key(&self, slice: u64, len: usize) -> bool
-        requires { IsPlace (spot_of self.now) }
-        ensures { IsTrue result ↔ ((self.now.slice ≡ slice) × (length_at (spot_of self.now) ≡ 9) × (8 < len)) }
+        requires { IsPlace (draft_view self.now) }
+        ensures { IsTrue result ↔ ((self.now.slice ≡ slice) × (length_at (draft_view self.now) ≡ 9) × (8 < len)) }
     {
         self.slice == slice && self.is_long() && len > 8
     }
 
     /// Whether both hold keys longer than 8 bytes of one slice.
-    fn meets(&self, other: &Place) -> bool
-        requires lawful { IsPlace (spot_of self.now) }
-        requires other_lawful { IsPlace (spot_of other.now) }
-        ensures { IsTrue result ↔ Meet (spot_of self.now) (spot_of other.now) }
+    fn meets(&self, other: &DraftPlace) -> bool
+        requires lawful { IsPlace (draft_view self.now) }
+        requires other_lawful { IsPlace (draft_view other.now) }
+        ensures { IsTrue result ↔ Meet (draft_view self.now) (draft_view other.now) }
     {
         self.slice == other.slice && self.is_long() && other.is_long()
     }
@@ -115,16 +115,16 @@ impl Place {
 #[cycle(push)]
 fn follow(
     alloc: Global,
-    places: Vec<Place>,
+    places: Vec<DraftPlace>,
     key: &[u8],
     columns: Columns<Kept>,
-) -> Result<Vec<Place>, Memory>
-    requires lawful { IsLayer (spots places.items) }
+) -> Result<Vec<DraftPlace>, Memory>
+    requires lawful { IsLayer (draft_views places.items) }
     requires some { 1 ≤ length places.items }
-    requires below { AllKeysBelow (walk (spots places.items)) ((key.now, columns) ∷ []) }
-    ensures pairs { IfOk result (λ r. walk (spots r.items) ≡ walk (spots places.items) ++ (key.now, columns) ∷ []) }
-    ensures lawful { IfOk result (λ r. IsLayer (spots r.items)) }
-    ensures first { IfOk result (λ r. first_slice_of (spots r.items) ≡ first_slice_of (spots places.items)) }
+    requires below { AllKeysBelow (walk (draft_views places.items)) ((key.now, columns) ∷ []) }
+    ensures pairs { IfOk result (λ r. walk (draft_views r.items) ≡ walk (draft_views places.items) ++ (key.now, columns) ∷ []) }
+    ensures lawful { IfOk result (λ r. IsLayer (draft_views r.items)) }
+    ensures first { IfOk result (λ r. first_slice_of (draft_views r.items) ≡ first_slice_of (draft_views places.items)) }
     ensures some { IfOk result (λ r. 1 ≤ length r.items) }
     ensures more { IfOk result (λ r. length r.items ≤ length places.items + 1) }
 {
@@ -139,19 +139,19 @@ fn follow(
     };
     let upper = Layer::below(alloc, last)?;
     let joined = Layer::push(alloc, upper, &key[8..], columns)?;
-    places.push(Place {
+    places.push(DraftPlace {
         slice,
-        content: Content::Link(joined),
+        content: DraftContent::Link(joined),
     })?;
     Ok(places)
 }
 
 /// How many of these places have a slice below this one.
-fn count_below(places: &[Place], slice: u64) -> usize
-    requires { IsLayer (spots places.now) }
+fn count_below(places: &[DraftPlace], slice: u64) -> usize
+    requires { IsLayer (draft_views places.now) }
     ensures few { result ≤ length places.now }
-    ensures below { SlicesBelow slice (spots (take result places.now)) }
-    ensures from { SlicesFrom slice (spots (drop result places.now)) }
+    ensures below { SlicesBelow slice (draft_views (take result places.now)) }
+    ensures from { SlicesFrom slice (draft_views (drop result places.now)) }
 {
     for (at, place) in places.iter().enumerate() {
         if place.slice >= slice {
@@ -162,12 +162,12 @@ fn count_below(places: &[Place], slice: u64) -> usize
 }
 
 /// A border of up to 15 places. Sixteen are cut before the last slice, of which there are at most ten.
-fn cut_last(alloc: Global, places: Vec<Place>) -> Result<Vec<Border>, Memory>
-    requires lawful { IsLayer (spots places.items) }
+fn cut_last(alloc: Global, places: Vec<DraftPlace>) -> Result<Vec<Border>, Memory>
+    requires lawful { IsLayer (draft_views places.items) }
     requires some { 1 ≤ length places.items }
     requires most { length places.items ≤ 16 }
-    ensures same { IfOk result (λ bs. joined (border_spots bs.items) ≡ spots places.items) }
-    ensures lawful { IfOk result (λ bs. AreBorders (border_spots bs.items)) }
+    ensures same { IfOk result (λ bs. joined (border_views bs.items) ≡ draft_views places.items) }
+    ensures lawful { IfOk result (λ bs. AreBorders (border_views bs.items)) }
 {
     let mut borders = Vec::new(alloc);
     let mut places = places;
@@ -186,18 +186,18 @@ fn cut_last(alloc: Global, places: Vec<Place>) -> Result<Vec<Border>, Memory>
 #[cycle(join)]
 fn meet(
     alloc: Global,
-    left: Vec<Place>,
-    right: Vec<Place>,
-) -> Result<(Vec<Place>, Vec<Place>), Memory>
-    requires left_lawful { IsLayer (spots left.items) }
-    requires right_lawful { IsLayer (spots right.items) }
+    left: Vec<DraftPlace>,
+    right: Vec<DraftPlace>,
+) -> Result<(Vec<DraftPlace>, Vec<DraftPlace>), Memory>
+    requires left_lawful { IsLayer (draft_views left.items) }
+    requires right_lawful { IsLayer (draft_views right.items) }
     requires some { (1 ≤ length left.items) × (1 ≤ length right.items) }
-    requires below { AllKeysBelow (walk (spots left.items)) (walk (spots right.items)) }
-    ensures pairs { IfOk result (λ r. walk (spots r.0.items ++ spots r.1.items) ≡ walk (spots left.items) ++ walk (spots right.items)) }
-    ensures lawful { IfOk result (λ r. IsLayer (spots r.0.items ++ spots r.1.items)) }
+    requires below { AllKeysBelow (walk (draft_views left.items)) (walk (draft_views right.items)) }
+    ensures pairs { IfOk result (λ r. walk (draft_views r.0.items ++ draft_views r.1.items) ≡ walk (draft_views left.items) ++ walk (draft_views right.items)) }
+    ensures lawful { IfOk result (λ r. IsLayer (draft_views r.0.items ++ draft_views r.1.items)) }
     ensures same { IfOk result (λ r. length r.0.items ≡ length left.items) }
     ensures fewer { IfOk result (λ r. length r.1.items ≤ length right.items) }
-    ensures slices { IfOk result (λ r. SameEnds (spots left.items) (spots right.items) (spots r.0.items ++ spots r.1.items)) }
+    ensures slices { IfOk result (λ r. SameEnds (draft_views left.items) (draft_views right.items) (draft_views r.0.items ++ draft_views r.1.items)) }
 {
     let mut places = left;
     let mut rest = right;
@@ -210,9 +210,9 @@ fn meet(
         let upper = Layer::below(alloc, last)?;
         let lower = Layer::below(alloc, first)?;
         let joined = Layer::join(alloc, upper, lower)?;
-        places.push(Place {
+        places.push(DraftPlace {
             slice,
-            content: Content::Link(joined),
+            content: DraftContent::Link(joined),
         })?;
     } else {
         places.push(last)?;
@@ -221,12 +221,16 @@ fn meet(
 }
 
 /// The borders of two neighbouring lists of places. Most often each stays as it is, or both go into one.
-fn close(alloc: Global, left: Vec<Place>, right: Vec<Place>) -> Result<Vec<Border>, Memory>
-    requires lawful { IsLayer (spots left.items ++ spots right.items) }
-    requires some { IsBorder (spots left.items) }
+fn close(
+    alloc: Global,
+    left: Vec<DraftPlace>,
+    right: Vec<DraftPlace>,
+) -> Result<Vec<Border>, Memory>
+    requires lawful { IsLayer (draft_views left.items ++ draft_views right.items) }
+    requires some { IsBorder (draft_views left.items) }
     requires few { length right.items ≤ 15 }
-    ensures same { IfOk result (λ bs. joined (border_spots bs.items) ≡ spots left.items ++ spots right.items) }
-    ensures lawful { IfOk result (λ bs. AreBorders (border_spots bs.items)) }
+    ensures same { IfOk result (λ bs. joined (border_views bs.items) ≡ draft_views left.items ++ draft_views right.items) }
+    ensures lawful { IfOk result (λ bs. AreBorders (border_views bs.items)) }
 {
     let mut borders = Vec::new(alloc);
     let mut left = left;
@@ -278,17 +282,17 @@ impl Layer {
     }
 
     /// What lies below a place of longer keys.
-    fn below(alloc: Global, place: Place) -> Result<Layer, Memory>
-        requires lawful { IsPlace (spot_of place) }
-        requires long { length_at (spot_of place) ≡ 9 }
-        ensures pairs { IfOk result (λ l. put_before (slice_bytes place.slice) (layer_walk l) ≡ pairs_at (spot_of place)) }
+    fn below(alloc: Global, place: DraftPlace) -> Result<Layer, Memory>
+        requires lawful { IsPlace (draft_view place) }
+        requires long { length_at (draft_view place) ≡ 9 }
+        ensures pairs { IfOk result (λ l. put_before (slice_bytes place.slice) (layer_walk l) ≡ pairs_at (draft_view place)) }
         ensures some { IfOk result (λ l. 0 < length (layer_walk l)) }
         ensures no_empty_key { IfOk result (λ l. HasNoEmptyKey (layer_walk l)) }
     {
         match place.content {
-            Content::Short(_, _) => unreachable!(),
-            Content::Suffix(suffix, columns) => Layer::single(alloc, &suffix, columns),
-            Content::Link(layer) => Ok(layer),
+            DraftContent::Short(_, _) => unreachable!(),
+            DraftContent::Suffix(suffix, columns) => Layer::single(alloc, &suffix, columns),
+            DraftContent::Link(layer) => Ok(layer),
         }
     }
 

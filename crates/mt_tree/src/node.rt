@@ -2,9 +2,9 @@
 ghost use Rattle.std.specs.Prelude.{◌≡◌, ◌≢◌, ◌↔◌, ◌∷◌, [], ℕ, ◌+◌, ◌*◌, ◌<◌, ◌≤◌, min, length, slice_index, slice_index_or, IsTrue, IfSome, IfNone, All};
 ghost use Rattle.std.specs.List.{AllByRecursion};
 ghost use Rattle.std.specs.Option.{option_copied};
-ghost use Rattle.mt_tree.specs.Layer.{Spot, walk, find_key, rank_at, length_at, IsPlace, IsLayer};
+ghost use Rattle.mt_tree.specs.Layer.{PlaceView, walk, find_key, rank_at, length_at, IsPlace, IsLayer};
 ghost use Rattle.mt_tree.specs.Nodes.{places, first_of};
-ghost use Rattle.mt_tree.specs.NodeSeen.{slots, spot_of_slot};
+ghost use Rattle.mt_tree.specs.NodeViews.{views, view_of};
 ghost use Rattle.mt_tree.specs.Layers.{CountsLinks};
 
 use arrayvec::ArrayVec;
@@ -14,27 +14,27 @@ use std::marker::Model;
 #[cycle(node)]
 #[derive(Drop)]
 pub(crate) struct Node {
-    pub(crate) kind: Kind,
+    pub(crate) kind: NodeKind,
 }
 
 #[cycle(node)]
 #[derive(Drop)]
-pub(crate) enum Kind {
-    Border(Vec<Slot>),
+pub(crate) enum NodeKind {
+    Border(Vec<Place>),
     /// Separators and children. Boxed, the separators do not make a border larger.
     Interior(Box<ArrayVec<u64, 15>>, Vec<Node>),
 }
 
 #[cycle(node)]
 #[derive(Drop)]
-pub(crate) struct Slot {
+pub(crate) struct Place {
     pub(crate) slice: u64,
-    pub(crate) held: Held,
+    pub(crate) content: Content,
 }
 
 #[cycle(node)]
 #[derive(Drop)]
-pub(crate) enum Held {
+pub(crate) enum Content {
     Short(u8, Columns<Kept>),
     Suffix(Vec<u8>, Columns<Kept>),
     Link(Node),
@@ -42,15 +42,15 @@ pub(crate) enum Held {
 
 impl Model for Node {
     ghost use Rattle.mt_tree.specs.Layer.{walk, weight};
-    ghost use Rattle.mt_tree.specs.Nodes.{NodeSeen, places};
+    ghost use Rattle.mt_tree.specs.Nodes.{NodeView, places};
 
-    ghost Value = { NodeSeen };
+    ghost Value = { NodeView };
 
-    ghost use Rattle.mt_tree.specs.NodeSeen.{seen, IsKind};
+    ghost use Rattle.mt_tree.specs.NodeViews.{node_view, IsNodeKind};
 
-    ghost view = { λ a. seen a.kind };
+    ghost view = { λ a. node_view a.kind };
 
-    ghost invariant = { λ a. IsKind a.kind };
+    ghost invariant = { λ a. IsNodeKind a.kind };
 
     ghost size = { λ v. weight (walk (places v)) };
 
@@ -66,17 +66,17 @@ impl Node {
         ensures { result ≡ first_of self.now }
     {
         match &self.kind {
-            Kind::Border(slots) => slots[0].slice,
-            Kind::Interior(_, children) => children[0].first_slice(),
+            NodeKind::Border(places) => places[0].slice,
+            NodeKind::Interior(_, children) => children[0].first_slice(),
         }
     }
 }
 
-impl Slot {
+impl Place {
     /// Whether this place stands before that of a key of this slice and length.
     pub(crate) fn lies_before(&self, slice: u64, len: usize) -> bool
-        requires { IsPlace (spot_of_slot self.now) }
-        ensures { IsTrue result ↔ (rank_at (spot_of_slot self.now) < slice * 10 + min len 9) }
+        requires { IsPlace (view_of self.now) }
+        ensures { IsTrue result ↔ (rank_at (view_of self.now) < slice * 10 + min len 9) }
     {
         let here = self.length();
         self.slice < slice || self.slice == slice && here < len.min(9)
@@ -84,35 +84,35 @@ impl Slot {
 
     /// The length of its keys in this layer, where 9 is longer than 8.
     fn length(&self) -> usize
-        requires { IsPlace (spot_of_slot self.now) }
-        ensures value { result ≡ length_at (spot_of_slot self.now) }
+        requires { IsPlace (view_of self.now) }
+        ensures value { result ≡ length_at (view_of self.now) }
         ensures few { result ≤ 9 }
     {
-        match &self.held {
-            Held::Short(own, _) => *own as usize,
-            Held::Suffix(_, _) => 9,
-            Held::Link(_) => 9,
+        match &self.content {
+            Content::Short(own, _) => *own as usize,
+            Content::Suffix(_, _) => 9,
+            Content::Link(_) => 9,
         }
     }
 
     /// Whether a key of this slice and length has its place here.
     pub(crate) fn is_place_of(&self, slice: u64, len: usize) -> bool
-        requires { IsPlace (spot_of_slot self.now) }
-        ensures { IsTrue result ↔ (rank_at (spot_of_slot self.now) ≡ slice * 10 + min len 9) }
+        requires { IsPlace (view_of self.now) }
+        ensures { IsTrue result ↔ (rank_at (view_of self.now) ≡ slice * 10 + min len 9) }
     {
         self.slice == slice && self.length() == len.min(9)
     }
 }
 
 /// The place of a key of this slice and length.
-fn find_slot(places: &[Slot], slice: u64, len: usize) -> Option<usize>
-    requires { AllByRecursion IsPlace (slots places.now) }
+fn find_place(places: &[Place], slice: u64, len: usize) -> Option<usize>
+    requires { AllByRecursion IsPlace (views places.now) }
     ensures found { IfSome result (λ at. at < length places.now) }
-    ensures here { IfSome result (λ at. (d : Spot) → rank_at (slice_index_or (slots places.now) at d) ≡ slice * 10 + min len 9) }
-    ensures absent { IfNone result (All (λ p. rank_at p ≢ slice * 10 + min len 9) (slots places.now)) }
+    ensures here { IfSome result (λ at. (d : PlaceView) → rank_at (slice_index_or (views places.now) at d) ≡ slice * 10 + min len 9) }
+    ensures absent { IfNone result (All (λ p. rank_at p ≢ slice * 10 + min len 9) (views places.now)) }
 {
-    for (at, slot) in places.iter().enumerate() {
-        if slot.is_place_of(slice, len) {
+    for (at, place) in places.iter().enumerate() {
+        if place.is_place_of(slice, len) {
             return Some(at);
         }
     }
@@ -126,22 +126,22 @@ impl Node {
     {
         let slice = slice_of(key);
         match &self.kind {
-            Kind::Interior(separators, children) => {
+            NodeKind::Interior(separators, children) => {
                 let at = child_at(separators.as_slice(), slice);
                 children[at].get(key)
             }
-            Kind::Border(slots) => {
-                let at = find_slot(slots, slice, key.len())?;
-                match &slots[at].held {
-                    Held::Short(_, columns) => Some(columns),
-                    Held::Suffix(suffix, columns) => {
+            NodeKind::Border(places) => {
+                let at = find_place(places, slice, key.len())?;
+                match &places[at].content {
+                    Content::Short(_, columns) => Some(columns),
+                    Content::Suffix(suffix, columns) => {
                         if suffix.as_slice() == &key[8..] {
                             Some(columns)
                         } else {
                             None
                         }
                     }
-                    Held::Link(below) => below.get(&key[8..]),
+                    Content::Link(below) => below.get(&key[8..]),
                 }
             }
         }
@@ -170,17 +170,17 @@ impl Node {
         ensures lawful { IsLayer (places self.now) }
     {
         match &self.kind {
-            Kind::Interior(_, children) => {
+            NodeKind::Interior(_, children) => {
                 let mut sum = 0u64;
                 for child in children {
                     sum = sum.saturating_add(child.links_below());
                 }
                 sum
             }
-            Kind::Border(slots) => {
+            NodeKind::Border(places) => {
                 let mut sum = 0u64;
-                for slot in slots {
-                    sum = sum.saturating_add(slot.links_below());
+                for place in places {
+                    sum = sum.saturating_add(place.links_below());
                 }
                 sum
             }
@@ -188,15 +188,15 @@ impl Node {
     }
 }
 
-impl Slot {
+impl Place {
     /// The number of trees below its link, if it has one.
     #[cycle(links_below)]
     fn links_below(&self) -> u64
-        requires { IsPlace (spot_of_slot self.now) }
-        ensures { CountsLinks (spot_of_slot self.now ∷ []) result }
+        requires { IsPlace (view_of self.now) }
+        ensures { CountsLinks (view_of self.now ∷ []) result }
     {
-        match &self.held {
-            Held::Link(below) => below.links_below().saturating_add(1),
+        match &self.content {
+            Content::Link(below) => below.links_below().saturating_add(1),
             _ => 0,
         }
     }

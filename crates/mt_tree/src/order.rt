@@ -2,11 +2,11 @@
 ghost use Rattle.std.specs.Prelude.{◌≡◌, ◌↔◌, [], ◌∷◌, IsTrue, IfSome, IfNone};
 ghost use Rattle.mt_tree.specs.Layer.{AllKeysBelow, IsPlace};
 ghost use Rattle.mt_tree.specs.Borders.{layer_walk};
-ghost use Rattle.mt_tree.specs.Seen.{spot_of};
+ghost use Rattle.mt_tree.specs.DraftViews.{draft_view};
 ghost use Rattle.mt_tree.specs.Edges.{PlaceEdge, LastEdge, FirstEdge};
 ghost use Rattle.mt_tree.specs.Sides.{side_walk};
 
-use crate::layer::{Content, Layer, Place};
+use crate::layer::{DraftContent, DraftPlace, Layer};
 use mt_words::{Columns, Kept, slice_of};
 
 /// One pair, or the pairs of a layer.
@@ -35,23 +35,23 @@ fn edge_of_pair<'a>(key: &'a [u8], columns: &'a Columns<Kept>) -> Edge<'a>
     }
 }
 
-fn edge_of_place<'a>(place: &'a Place) -> Edge<'a>
-    requires { IsPlace (spot_of place.now) }
-    ensures { PlaceEdge (spot_of place.now) result.slice result.length (side_walk result.below) }
+fn edge_of_place<'a>(place: &'a DraftPlace) -> Edge<'a>
+    requires { IsPlace (draft_view place.now) }
+    ensures { PlaceEdge (draft_view place.now) result.slice result.length (side_walk result.below) }
 {
     let slice = place.slice;
     match &place.content {
-        Content::Short(length, columns) => Edge {
+        DraftContent::Short(length, columns) => Edge {
             slice,
             length: *length as usize,
             below: Side::Lone(&[], columns),
         },
-        Content::Suffix(suffix, columns) => Edge {
+        DraftContent::Suffix(suffix, columns) => Edge {
             slice,
             length: 9,
             below: Side::Lone(suffix, columns),
         },
-        Content::Link(layer) => Edge {
+        DraftContent::Link(layer) => Edge {
             slice,
             length: 9,
             below: Side::Whole(layer),

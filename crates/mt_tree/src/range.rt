@@ -7,11 +7,11 @@ ghost use Rattle.mt_words.specs.Slices.{slice_in};
 ghost use Rattle.mt_tree.specs.Layer.{key_rank};
 ghost use Rattle.mt_tree.specs.Layer.{walk, pairs_at, rank_at, put_before, IsPlace, FitsAfter};
 ghost use Rattle.mt_tree.specs.Nodes.{places};
-ghost use Rattle.mt_tree.specs.NodeSeen.{spot_of_slot};
+ghost use Rattle.mt_tree.specs.NodeViews.{view_of};
 ghost use Rattle.mt_tree.specs.Ranging.{from, found};
 
 use crate::hit::{Hit, copy_wanted};
-use crate::node::{Held, Kind, Node, Slot, child_at};
+use crate::node::{Content, Node, NodeKind, Place, child_at};
 use crate::wanted::Wanted;
 use mt_words::{Columns, Kept, Key, Memory, slice_bytes, slice_of};
 
@@ -44,13 +44,13 @@ fn reaches(key: &[u8], start: &[u8]) -> bool
     !key.cmp(start).is_lt()
 }
 
-impl Slot {
+impl Place {
     /// Where the start has its place here, its bytes past the slice decide; else all that stands here comes after it.
     fn rest_of<'a>(&self, start: &'a [u8], slice: u64) -> &'a [u8]
-        requires lawful { IsPlace (spot_of_slot self.now) }
+        requires lawful { IsPlace (view_of self.now) }
         requires slice { slice ≡ slice_in start.now }
-        ensures here { rank_at (spot_of_slot self.now) ≡ key_rank start.now → result.now ≡ drop 8 start.now }
-        ensures past { rank_at (spot_of_slot self.now) ≢ key_rank start.now → result.now ≡ [] }
+        ensures here { rank_at (view_of self.now) ≡ key_rank start.now → result.now ≡ drop 8 start.now }
+        ensures past { rank_at (view_of self.now) ≢ key_rank start.now → result.now ≡ [] }
     {
         if self.is_place_of(slice, start.len()) {
             &start[start.len().min(8)..]
@@ -69,11 +69,11 @@ impl Slot {
         prefix: &mut Vec<u8>,
         hits: &mut Vec<Hit>,
     ) -> Result<(), Memory>
-        requires lawful { IsPlace (spot_of_slot self.now) }
-        requires fits { FitsAfter (length prefix.old.items) (pairs_at (spot_of_slot self.now)) }
+        requires lawful { IsPlace (view_of self.now) }
+        requires fits { FitsAfter (length prefix.old.items) (pairs_at (view_of self.now)) }
         requires few { length hits.old.items ≤ n }
         ensures prefix { OnOk result (prefix.new.items ≡ prefix.old.items) }
-        ensures hits { OnOk result (hits.new.items ≡ take n (hits.old.items ++ found prefix.old.items wanted (from start.now (pairs_at (spot_of_slot self.now))))) }
+        ensures hits { OnOk result (hits.new.items ≡ take n (hits.old.items ++ found prefix.old.items wanted (from start.now (pairs_at (view_of self.now))))) }
     {
         let slice = slice_of(start);
         if hits.len() >= n {
@@ -85,18 +85,18 @@ impl Slot {
         let rest = self.rest_of(start, slice);
         let bytes = slice_bytes(self.slice);
         let before = prefix.len();
-        match &self.held {
-            Held::Short(len, columns) => {
+        match &self.content {
+            Content::Short(len, columns) => {
                 emit(prefix, &bytes[..*len as usize], columns, wanted, hits)?;
             }
-            Held::Suffix(suffix, columns) => {
+            Content::Suffix(suffix, columns) => {
                 if reaches(suffix, rest) {
                     prefix.extend_from_slice(&bytes)?;
                     emit(prefix, suffix, columns, wanted, hits)?;
                     prefix.truncate(before);
                 }
             }
-            Held::Link(below) => {
+            Content::Link(below) => {
                 prefix.extend_from_slice(&bytes)?;
                 below.collect(rest, n, wanted, prefix, hits)?;
                 prefix.truncate(before);
@@ -127,16 +127,16 @@ impl Node {
             return Ok(());
         }
         match &self.kind {
-            Kind::Interior(separators, children) => {
+            NodeKind::Interior(separators, children) => {
                 let at = child_at(separators.as_slice(), slice_of(start));
                 children[at].collect(start, n, wanted, prefix, hits)?;
                 for child in &children[at + 1..] {
                     child.collect(&start[..0], n, wanted, prefix, hits)?;
                 }
             }
-            Kind::Border(slots) => {
-                for slot in slots {
-                    slot.collect(start, n, wanted, prefix, hits)?;
+            NodeKind::Border(places) => {
+                for place in places {
+                    place.collect(start, n, wanted, prefix, hits)?;
                 }
             }
         }

@@ -26,11 +26,11 @@ pub struct Draft {
 
 impl Model for Draft {
     ghost use Rattle.std.specs.Prelude.{List};
-    ghost use Rattle.mt_tree.specs.Layer.{Spot};
+    ghost use Rattle.mt_tree.specs.Layer.{PlaceView};
     ghost use Rattle.mt_tree.specs.Layer.{FitsAfter};
     ghost use Rattle.mt_tree.specs.Borders.{AreBorders, layer_walk};
 
-    ghost Value = { List (List Spot) };
+    ghost Value = { List (List PlaceView) };
 
     ghost view = { λ d. d.layer };
 
@@ -46,11 +46,11 @@ pub struct Tree {
 
 impl Model for Tree {
     ghost use Rattle.std.specs.Prelude.{Option};
-    ghost use Rattle.mt_tree.specs.Nodes.{NodeSeen};
+    ghost use Rattle.mt_tree.specs.Nodes.{NodeView};
     ghost use Rattle.mt_tree.specs.Trees.{tree_walk, IsTree};
     ghost use Rattle.mt_tree.specs.Layer.{FitsAfter};
 
-    ghost Value = { Option NodeSeen };
+    ghost Value = { Option NodeView };
 
     ghost view = { λ t. t.root };
 

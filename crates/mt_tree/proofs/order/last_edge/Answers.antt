@@ -1,5 +1,5 @@
 use Rattle.std.proofs.Common.{◌≤◌, List, length, ap, sym, subst}
-use Rattle.mt_tree.specs.declared.layer.Place.{Place}
+use Rattle.mt_tree.specs.declared.layer.DraftPlace.{DraftPlace}
 use Rattle.mt_tree.specs.Sides.{side_walk}
 use Rattle.mt_tree.proofs.EdgeBorders.{last_border_lawful, last_of_borders, last_border_some, never_none}
 use Rattle.mt_tree.proofs.order.last_edge.Goals as goal
@@ -14,4 +14,4 @@ returns-in_ok-place-in-Whole-clause-some c =
 pub returns-in_err-place-in-Whole-clause-none : goal.returns-in_err-place-in-Whole-clause-none
 returns-in_err-place-in-Whole-clause-none c =
     let some = last_border_some _ _ _ c.layer.invariant c.deref.ensures.value c.in_ok-border-in-Whole.ensures.value in
-    absurd (never_none c.deref-in-Whole.result.now (subst (λ (z : List Place). 1 ≤ length z) (sym c.deref-in-Whole.ensures.value) some) (sym c.in_err-place-in-Whole.ensures.value))
+    absurd (never_none c.deref-in-Whole.result.now (subst (λ (z : List DraftPlace). 1 ≤ length z) (sym c.deref-in-Whole.ensures.value) some) (sym c.in_err-place-in-Whole.ensures.value))

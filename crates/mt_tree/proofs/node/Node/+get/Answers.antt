@@ -3,13 +3,13 @@ use Rattle.std.specs.Cmp.Lexicographic.{bytes_decides}
 use Rattle.mt_tree.specs.Layer.{walk, find_key}
 use Rattle.std.specs.Option.{option_copied}
 use Rattle.mt_words.specs.Slices.{slice_in}
-use Rattle.mt_tree.specs.Nodes.{NodeSeen, places}
+use Rattle.mt_tree.specs.Nodes.{NodeView, places}
 use Rattle.mt_tree.proofs.Finds.{border_walk, border_layer, interior_is, interior_walk, layer_lawful, found_at, not_found, short_case, suffix_long, suffix_true, suffix_false, link_long, link_case, kids_find, rest_is}
 use Rattle.arrayvec.specs.declared.array_vec.ArrayVec.{ArrayVec}
 use Rattle.mt_tree.proofs.node.Node.+get.Goals as goal
 
-pub find_slot-requires : goal.find_slot-requires
-find_slot-requires t c = rw c.deref-in-Border.ensures.value (layer_lawful 0 _ (border_layer _ _ c.self.invariant c.in-Border.is))
+pub find_place-requires : goal.find_place-requires
+find_place-requires t c = rw c.deref-in-Border.ensures.value (layer_lawful 0 _ (border_layer _ _ c.self.invariant c.in-Border.is))
 
 pub returns-in-Short : goal.returns-in-Short
 returns-in-Short t c =
@@ -72,6 +72,6 @@ returns-in-Interior t c =
     let after : c.child_at-at.result < length separators → slice_in c.args.key.now < get_or separators c.child_at-at.result 0 =
     λ l. subst (λ (n : ℕ). n < get_or separators c.child_at-at.result 0) slice (subst (λ (z : List ℕ). c.slice_of-slice.result < get_or z c.child_at-at.result 0) same (c.child_at-at.ensures.after (subst (λ (z : List ℕ). c.child_at-at.result < length z) (sym same) l))) in
     c.get.ensures
-    ∙ ap (λ (n : NodeSeen). find_key c.args.key.now (walk (places n))) c.index.ensures
+    ∙ ap (λ (n : NodeView). find_key c.args.key.now (walk (places n))) c.index.ensures
     ∙ sym (kids_find c.args.key.now separators c.in-Interior.children.items c.child_at-at.result c.index.result.now h.nodes h.separated h.between bound before after)
     ∙ sym (ap (find_key c.args.key.now) (interior_walk _ _ _ _ c.self.view_is c.in-Interior.is))
