@@ -3,7 +3,8 @@ use Rattle.std.proofs.Common.{◌≡◌, ◌≢◌, ℕ, suc, ◌+◌, ◌≤◌
 use Rattle.std.proofs.lemmas.List.{append-nil, map-append, length-map}
 use Rattle.mt_tree.specs.Layer.{PlaceView, slice_at, rank_at, IsLayer, IsLayerFrom}
 use Rattle.mt_tree.specs.Nodes.{joined, SlicesFrom, SlicesApart, IsBorder, CutAt, OfSlice}
-use Rattle.mt_tree.specs.Borders.{AreBorders, IsCutUp, first_slice_of, last_slice_of}
+use Rattle.mt_tree.specs.Borders.{AreBorders, IsCutUp, last_slice_of}
+use Rattle.mt_tree.specs.Nodes.{first_slice_of}
 use Rattle.mt_tree.specs.DraftViews.{draft_views, draft_view, border_views}
 use Rattle.mt_tree.specs.declared.layer.Border.{Border}
 use Rattle.mt_tree.specs.declared.layer.DraftPlace.{DraftPlace}

@@ -207,12 +207,12 @@ pub found_at : (k : List ℕ) (w : List Pair) (xs ys : List Place) (i s : ℕ) (
     → ((d : PlaceView) → rank_at (get_or (views ys) i d) ≡ s * 10 + min (length k) 9) → s ≡ slice_in k → x ≡ get_or xs i x → FoundAt k w x
 found_at k w xs ys i s x e layer same lt rank slice is =
     let inside : i < length xs = omega (arith, ap (λ (z : List Place). length z) same) in
-    let spot : get_or (views xs) i (view_of x) ≡ view_of x = view_at xs i x (view_of x) inside is in
+    let here_is : get_or (views xs) i (view_of x) ≡ view_of x = view_at xs i x (view_of x) inside is in
     let r : rank_at (get_or (views xs) i (view_of x)) ≡ key_rank k = ap (λ (z : List Place). rank_at (get_or (views z) i (view_of x))) (sym same) ∙ rank (view_of x) ∙ ap (λ n. n * 10 + min (length k) 9) slice in
     record {
       lawful = subst (λ (z : Place). IsPlace (view_of z)) (sym is) (view_lawful xs i x (layer_lawful 0 (views xs) layer) inside);
-      ranks = ap rank_at (sym spot) ∙ r;
-      is = ap (find_key k) e ∙ walk_find k 0 (views xs) i (view_of x) layer (omega (arith, length-map xs view_of)) r ∙ ap (λ (z : PlaceView). find_key k (pairs_at z)) spot;
+      ranks = ap rank_at (sym here_is) ∙ r;
+      is = ap (find_key k) e ∙ walk_find k 0 (views xs) i (view_of x) layer (omega (arith, length-map xs view_of)) r ∙ ap (λ (z : PlaceView). find_key k (pairs_at z)) here_is;
     }
 
 module _ (k : List ℕ) (w : List Pair) (x : Place) (f : FoundAt k w x) (bytes : AreBytes k) where

@@ -189,13 +189,6 @@ below_lighter b w e h =
     let eight : length b * length w ≡ 8 * length w = ap (λ n. n * length w) e in
     omega (arith, weight-put_before b w, eight)
 
-pub seam_from : (l r xs ys : List DraftPlace) (p q : DraftPlace) (vl vr : List PlaceView) → draft_views l ≡ vl → draft_views r ≡ vr → IsLayer (draft_views l) → IsLayer (draft_views r) → AllKeysBelow (walk vl) (walk vr) → l ≡ xs ++ p ∷ [] → r ≡ q ∷ ys → Seam xs p q ys
-seam_from l r xs ys p q vl vr el er hl hr below dl dr = record {
-  left = subst (λ z. IsLayer (draft_views z)) dl hl;
-  right = subst (λ z. IsLayer (draft_views z)) dr hr;
-  below = subst (λ z. AllKeysBelow (walk (draft_views z)) (walk (draft_views (q ∷ ys)))) dl (subst (λ z. AllKeysBelow (walk (draft_views l)) (walk (draft_views z))) dr (subst (λ z. AllKeysBelow (walk (draft_views l)) (walk z)) (sym er) (subst (λ z. AllKeysBelow (walk z) (walk vr)) (sym el) below)));
-}
-
 slice_content : (s : ℕ) (c : DraftContent) → slice_at (draft_view_of s c) ≡ s
 slice_content s (Short l c) = refl
 slice_content s (Suffix t c) = refl
@@ -247,13 +240,6 @@ below_shared p q upper lower meet eu el below =
     below_unprefixed (slice_bytes p.slice) upper lower
     (subst (λ s. AllKeysBelow (put_before (slice_bytes p.slice) upper) (put_before (slice_bytes s) lower)) (sym (same_slice p q meet))
     (subst (λ w. AllKeysBelow (put_before (slice_bytes p.slice) upper) w) (sym el) (subst (λ w. AllKeysBelow w (pairs_at (draft_view q))) (sym eu) below)))
-
--- what the pushes and the append leave
-pub put_one : {X : Type 0} (whole most front rest : List X) (m : X) → whole ≡ most ++ rest → most ≡ front ++ m ∷ [] → whole ≡ front ++ m ∷ rest
-put_one whole most front rest m e f = e ∙ ap (λ z. z ++ rest) f ∙ append_assoc front (m ∷ []) rest
-
-pub put_two : {X : Type 0} (whole most mid front rest : List X) (p q : X) → whole ≡ most ++ rest → most ≡ mid ++ q ∷ [] → mid ≡ front ++ p ∷ [] → whole ≡ front ++ p ∷ q ∷ rest
-put_two whole most mid front rest p q e f g = put_one whole most mid rest q e f ∙ ap (λ z. z ++ q ∷ rest) g ∙ append_assoc front (p ∷ []) (q ∷ rest)
 
 -- of a rising walk, what comes before a pair is below it
 pub rising_middle : (v : List Pair) (p : Pair) (w : List Pair) → KeysRise (v ++ p ∷ w) → AllKeysBelow v (p ∷ [])

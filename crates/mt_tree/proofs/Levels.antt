@@ -7,7 +7,7 @@ use Rattle.mt_words.proofs.SliceBytes.{slice_bytes-length}
 use Rattle.mt_tree.specs.Falls.{weight-append}
 use Rattle.mt_tree.specs.Layer.{walk, weight, pairs_at, PlaceView, link, slice_at, rank_at, IsPlace, IsLayerFrom, IsLayer}
 use Rattle.mt_words.specs.Walks.{Pair}
-use Rattle.mt_tree.specs.Nodes.{NodeView, places, joined, borders_of, SlicesFrom, SlicesBelow, SlicesApart, IsBorder, IsNode, IsNodeAt, IsLevelAt, IsLevel, IsInterior, AreSeparated, level_height, CutAt, head_slice, first_of, parent_node}
+use Rattle.mt_tree.specs.Nodes.{NodeView, places, joined, borders_of, SlicesFrom, SlicesBelow, SlicesApart, IsBorder, IsNode, IsNodeAt, IsLevelAt, IsLevel, IsInterior, AreSeparated, level_height, CutAt, first_slice_of, first_of, parent_node}
 use Rattle.mt_tree.specs.NodeFalls.{joined-append}
 use Rattle.mt_tree.proofs.Joins.{all_append, walk-append, below_lighter}
 use Rattle.mt_tree.proofs.Cuts.{all_back, all_front, all_weaker, layer_back, layer_front, slices_from, borders_of-append, level_is}
@@ -59,14 +59,14 @@ joined_some (b ∷ bs) h a = let some : 1 ≤ length b = a.0.0 in omega (arith, 
 pub node_some : (n : NodeView) → IsNode n → 1 ≤ length (places n)
 node_some n h = joined_some n.borders h.0 h.1
 
-pub head_front : (xs ys : List PlaceView) → 1 ≤ length xs → head_slice (xs ++ ys) ≡ head_slice xs
+pub head_front : (xs ys : List PlaceView) → 1 ≤ length xs → first_slice_of (xs ++ ys) ≡ first_slice_of xs
 head_front [] ys h = absurd (omega arith)
 head_front (x ∷ xs) ys h = refl
 
-pub first_kid : (n : NodeView) (ns : List NodeView) → IsNode n → head_slice (joined (borders_of (n ∷ ns))) ≡ first_of n
-first_kid n ns h = ap head_slice (joined-append n.borders (borders_of ns)) ∙ head_front (places n) (joined (borders_of ns)) (node_some n h)
+pub first_kid : (n : NodeView) (ns : List NodeView) → IsNode n → first_slice_of (joined (borders_of (n ∷ ns))) ≡ first_of n
+first_kid n ns h = ap first_slice_of (joined-append n.borders (borders_of ns)) ∙ head_front (places n) (joined (borders_of ns)) (node_some n h)
 
-head_least : (low : ℕ) (ps : List PlaceView) → IsLayerFrom low ps → SlicesFrom (head_slice ps) ps
+head_least : (low : ℕ) (ps : List PlaceView) → IsLayerFrom low ps → SlicesFrom (first_slice_of ps) ps
 head_least low [] h = tt
 head_least low (p ∷ ps) h = (omega arith, slices_from (suc (rank_at p)) (slice_at p) ps (omega arith) h.2)
 
@@ -76,7 +76,7 @@ slices_apiece s (n ∷ ns) h =
     let k = subst (SlicesFrom s) (joined-append n.borders (borders_of ns)) h in
     (all_front (λ q. s ≤ slice_at q) (places n) (joined (borders_of ns)) k, slices_apiece s ns (all_back (λ q. s ≤ slice_at q) (places n) (joined (borders_of ns)) k))
 
-below_head : (xs ys : List PlaceView) → 1 ≤ length ys → CutAt xs ys → SlicesBelow (head_slice ys) xs
+below_head : (xs ys : List PlaceView) → 1 ≤ length ys → CutAt xs ys → SlicesBelow (first_slice_of ys) xs
 below_head xs [] h c = absurd (omega arith)
 below_head xs (y ∷ ys) h c = all_weaker (λ p. SlicesFrom (suc (slice_at p)) (y ∷ ys)) (λ p. slice_at p < slice_at y) (λ p k. k.0) xs c
 
@@ -132,7 +132,7 @@ first_is k v ss ks n h e f g = by ks.items refl
     by (m ∷ ms) same =
         let nodes : AllByRecursion IsNode (m ∷ ms) = subst (AllByRecursion IsNode) same inner.nodes in
         let is : n ≡ m = g ∙ ap (λ (z : List NodeView). get_or z 0 n) same in
-        ap first_of is ∙ sym (first_kid m ms nodes.0) ∙ ap (λ (z : List NodeView). head_slice (joined (borders_of z))) (sym same) ∙ ap first_of (sym (ap node_view f) ∙ e)
+        ap first_of is ∙ sym (first_kid m ms nodes.0) ∙ ap (λ (z : List NodeView). first_slice_of (joined (borders_of z))) (sym same) ∙ ap first_of (sym (ap node_view f) ∙ e)
 
 -- a child's first slice comes off what is still to be read
 pub one_head : (ns : List NodeView) (i : ℕ) (n : NodeView) (done next heads : List ℕ) (s : ℕ) → done ++ map first_of (drop i ns) ≡ heads → i < length ns → n ≡ get_or ns i n → next ≡ done ++ s ∷ [] → s ≡ first_of n → next ++ map first_of (drop (i + 1) ns) ≡ heads

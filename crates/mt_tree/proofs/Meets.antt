@@ -7,7 +7,8 @@ use Rattle.mt_words.specs.Walks.{Pair}
 use Rattle.mt_tree.specs.Falls.{weight-append}
 use Rattle.mt_tree.specs.Nodes.{joined, IsBorder}
 use Rattle.mt_tree.specs.NodeFalls.{joined-append}
-use Rattle.mt_tree.specs.Borders.{AreBorders, SameEnds, layer_walk, first_slice_of, last_slice_of}
+use Rattle.mt_tree.specs.Borders.{AreBorders, SameEnds, layer_walk, last_slice_of}
+use Rattle.mt_tree.specs.Nodes.{first_slice_of}
 use Rattle.mt_tree.specs.DraftViews.{draft_views, draft_view, border_views}
 use Rattle.mt_tree.specs.declared.layer.Border.{Border}
 use Rattle.mt_tree.specs.declared.layer.DraftPlace.{DraftPlace}

@@ -285,15 +285,3 @@ pub last_lawful : (ps qs : List DraftPlace) (x : DraftPlace) → IsLayer (draft_
 last_lawful ps qs x h e f =
     let l = last_of qs x f in
     (layer_back 0 (draft_views l.0) (draft_view x ∷ []) (subst IsLayer (ap draft_views (sym e ∙ l.1) ∙ map-append draft_view l.0 (x ∷ [])) h)).0
-
-pub last_of_layer : (w : List Pair) (v : List PlaceView) (ps qs : List DraftPlace) (x : DraftPlace) (s m : ℕ) (below : List Pair) → w ≡ walk v → draft_views ps ≡ v → IsLayer (draft_views ps) → qs ≡ ps → Some x ≡ slice_get qs (length qs - 1) → PlaceEdge (draft_view x) s m below → LastEdge w s m below
-last_of_layer w v ps qs x s m below is view h e f edge =
-    let l = last_of qs x f in
-    let layer : draft_views ps ≡ draft_views l.0 ++ draft_view x ∷ [] = ap draft_views (sym e ∙ l.1) ∙ map-append draft_view l.0 (x ∷ []) in
-    subst (λ z. LastEdge z s m below) (ap walk (sym layer ∙ view) ∙ sym is) (last_edge (draft_views l.0) (draft_view x) s m below (subst IsLayer layer h) edge)
-
-pub first_of_layer : (w : List Pair) (v : List PlaceView) (ps qs : List DraftPlace) (x : DraftPlace) (s m : ℕ) (below : List Pair) → w ≡ walk v → draft_views ps ≡ v → IsLayer (draft_views ps) → qs ≡ ps → Some x ≡ slice_get qs 0 → PlaceEdge (draft_view x) s m below → FirstEdge w s m below
-first_of_layer w v ps qs x s m below is view h e f edge =
-    let l = first_of qs x f in
-    let layer : draft_views ps ≡ draft_view x ∷ draft_views l.0 = ap draft_views (sym e ∙ l.1) in
-    subst (λ z. FirstEdge z s m below) (ap walk (sym layer ∙ view) ∙ sym is) (first_edge (draft_view x) (draft_views l.0) s m below (subst IsLayer layer h) edge)

@@ -5,7 +5,8 @@ use Rattle.std.proofs.lemmas.List.{append-nil}
 use Rattle.mt_tree.specs.Layer.{PlaceView, slice_at, rank_at, IsLayer, IsLayerFrom}
 use Rattle.mt_tree.specs.Nodes.{joined, SlicesFrom, SlicesApart, IsBorder, CutAt}
 use Rattle.mt_tree.specs.NodeFalls.{joined-append}
-use Rattle.mt_tree.specs.Borders.{AreBorders, SameEnds, first_slice_of, last_slice_of}
+use Rattle.mt_tree.specs.Borders.{AreBorders, SameEnds, last_slice_of}
+use Rattle.mt_tree.specs.Nodes.{first_slice_of}
 use Rattle.mt_tree.proofs.Joins.{all_append}
 use Rattle.mt_tree.proofs.Cuts.{all_weaker, all_front, all_back, length_at-le, layer_back, layer_front, slices_from}
 

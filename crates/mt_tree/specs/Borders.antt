@@ -3,13 +3,13 @@ use Rattle.std.specs.Prelude.{ℕ, ◌≤◌, ◌≡◌, List, [], ◌∷◌, �
 use Rattle.std.specs.List.{AllByRecursion}
 use Rattle.mt_tree.specs.Layer.{PlaceView, slice_at, IsLayer, walk}
 use Rattle.mt_words.specs.Walks.{Pair}
-use Rattle.mt_tree.specs.Nodes.{joined, IsBorder, SlicesApart, CutAt, OfSlice}
+use Rattle.mt_tree.specs.Nodes.{joined, IsBorder, SlicesApart, CutAt, OfSlice, first_slice_of}
 
 -- the walk of a list of borders
 abbrev pub layer_walk : List (List PlaceView) → List Pair
 layer_walk bs = walk (joined bs)
 
--- borders of 1 to 15 places, no slice in two of them, whose places are a lawful layer
+-- the law of a draft: borders of 1 to 15 places, no slice in two of them, whose places are a lawful layer
 abbrev pub AreBorders : List (List PlaceView) → Type 0
 AreBorders bs = AllByRecursion IsBorder bs × SlicesApart bs × IsLayer (joined bs)
 
@@ -22,10 +22,7 @@ pub record IsCutUp (all : List PlaceView) (done : List (List PlaceView)) (border
   pub cut : CutAt border (run ++ left)
   pub apart : SlicesApart (done ++ (border ++ (run ++ left)) ∷ [])
 
-abbrev pub first_slice_of : List PlaceView → ℕ
-first_slice_of [] = 0
-first_slice_of (p ∷ ps) = slice_at p
-
+-- the slice of the last place
 abbrev pub last_slice_of : List PlaceView → ℕ
 last_slice_of [] = 0
 last_slice_of (p ∷ []) = slice_at p

@@ -1,4 +1,4 @@
--- A layer of the tree as a list of places, each of which is node_view with the pairs that it stands for.
+-- A layer of the tree as a list of places, in each of which contracts see the pairs that it stands for.
 use Rattle.std.specs.Prelude.{ℕ, suc, ◌+◌, ◌*◌, ◌^◌, ◌<◌, ◌≤◌, ◌≡◌, List, [], ◌∷◌, ◌++◌, length, take, drop, map, min, ⊤, Option, Some, None, if◌then◌else◌, nat_eq}
 use Rattle.std.specs.List.{AllByRecursion, flat_map}
 use Rattle.std.specs.Cmp.Lexicographic.{pointwise}
@@ -7,7 +7,7 @@ use Rattle.mt_words.specs.Slices.{slice_in, slice_bytes}
 use Rattle.mt_words.specs.Walks.{Pair}
 use Rattle.mt_words.specs.Words.{IsBelow}
 
--- a place of a layer: its slice, and what it holds
+-- what contracts see of a place of a layer: its slice, and what it holds; of a linked layer they see the walk
 pub data PlaceView : Type 0 where
   short : ℕ → ℕ → List (ℕ × List ℕ) → PlaceView  -- slice, length, columns
   long : ℕ → List ℕ → List (ℕ × List ℕ) → PlaceView  -- slice, suffix, columns
@@ -36,6 +36,7 @@ key_rank key = slice_in key * 10 + min (length key) 9
 abbrev pub put_before : List ℕ → List Pair → List Pair
 put_before bytes w = map (λ p. (bytes ++ p.0, p.1)) w
 
+-- the pairs that a place stands for: the slice's first bytes, or all eight and what stands below them
 abbrev pub pairs_at : PlaceView → List Pair
 pairs_at (short s l c) = (take l (slice_bytes s), c) ∷ []
 pairs_at (long s t c) = (slice_bytes s ++ t, c) ∷ []
@@ -45,9 +46,11 @@ pairs_at (link s w) = put_before (slice_bytes s) w
 abbrev pub walk : List PlaceView → List Pair
 walk = flat_map pairs_at
 
+-- so length 0 stands in the outermost layer alone
 abbrev pub HasNoEmptyKey : List Pair → Type 0
 HasNoEmptyKey = AllByRecursion (λ p. 0 < length p.0)
 
+-- a place: a slice that is zero past its length, a suffix of at least one byte, or a link to at least two pairs
 abbrev pub IsPlace : PlaceView → Type 0
 IsPlace (short s l c) = (s < 2 ^ 64) × (l ≤ 8) × AllByRecursion (λ b. b ≡ 0) (drop l (slice_bytes s))
 IsPlace (long s t c) = (s < 2 ^ 64) × (0 < length t)
@@ -58,6 +61,7 @@ abbrev pub IsLayerFrom : ℕ → List PlaceView → Type 0
 IsLayerFrom low [] = ⊤
 IsLayerFrom low (p ∷ ps) = IsPlace p × (low ≤ rank_at p) × IsLayerFrom (suc (rank_at p)) ps
 
+-- the law of a layer: lawful places that strictly rise by slice, then by length
 abbrev pub IsLayer : List PlaceView → Type 0
 IsLayer = IsLayerFrom 0
 
@@ -79,6 +83,6 @@ abbrev pub find_key : List ℕ → List Pair → Option (List (ℕ × List ℕ))
 find_key key [] = None
 find_key key (p ∷ w) = (if pointwise nat_eq key p.0 then Some p.1 else find_key key w)
 
--- so many bytes before them, the keys are not too long
+-- with so many bytes before them, the keys are still keys
 abbrev pub FitsAfter : ℕ → List Pair → Type 0
 FitsAfter n = AllByRecursion (λ p. n + length p.0 ≤ widest.key)

@@ -48,6 +48,7 @@ SumsLinks (short s l c ∷ ps) n = SumsLinks ps n
 SumsLinks (long s t c ∷ ps) n = SumsLinks ps n
 SumsLinks (link s w ∷ ps) n = (a : ℕ) × (b : ℕ) × IsLayers w a × SumsLinks ps b × (n ≡ a + b)
 
+-- that sum, or the greatest number that a machine word holds
 pub record CountsLinks (ps : List PlaceView) (r : ℕ) : Type 0 where
   pub number : ℕ
   pub is : SumsLinks ps number

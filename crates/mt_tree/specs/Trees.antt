@@ -9,9 +9,11 @@ abbrev pub tree_places : Option NodeView → List PlaceView
 tree_places None = []
 tree_places (Some n) = places n
 
+-- the walk of a tree is that of its outermost layer
 abbrev pub tree_walk : Option NodeView → List Pair
 tree_walk t = walk (tree_places t)
 
+-- the law of a tree
 abbrev pub IsTree : Option NodeView → Type 0
 IsTree None = ⊤
 IsTree (Some n) = IsNode n

@@ -4,7 +4,8 @@ ghost use Rattle.mt_tree.specs.Layer.{FitsAfter, IsLayer, walk, pairs_at, put_be
 ghost use Rattle.mt_words.specs.Walks.{KeysRise};
 ghost use Rattle.mt_tree.specs.DraftViews.{draft_view, draft_views, border_views};
 ghost use Rattle.mt_tree.specs.Nodes.{joined, IsBorder, SlicesBelow, SlicesFrom};
-ghost use Rattle.mt_tree.specs.Borders.{AreBorders, layer_walk, SameEnds, first_slice_of};
+ghost use Rattle.mt_tree.specs.Borders.{AreBorders, layer_walk, SameEnds};
+ghost use Rattle.mt_tree.specs.Nodes.{first_slice_of};
 ghost use Rattle.mt_words.specs.Slices.{slice_bytes};
 
 use crate::cut::cut;

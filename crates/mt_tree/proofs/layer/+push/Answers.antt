@@ -1,6 +1,7 @@
 use Rattle.std.proofs.Common.{◌≡◌, ◌≤◌, ◌-◌, ℕ, [], ◌∷◌, length, get_or, refl, sym, ap, subst, ◌∙◌, arith, rules}
 use Rattle.std.proofs.lemmas.List.{length-map, take_rest}
-use Rattle.mt_tree.specs.Borders.{AreBorders, first_slice_of}
+use Rattle.mt_tree.specs.Borders.{AreBorders}
+use Rattle.mt_tree.specs.Nodes.{first_slice_of}
 use Rattle.mt_tree.specs.DraftViews.{draft_view, draft_views, border_views}
 use Rattle.mt_tree.proofs.CutUps.{borders-append}
 use Rattle.mt_tree.proofs.Seams.{behind_are}

@@ -1,7 +1,8 @@
 use Rattle.std.proofs.Common.{ℕ, ◌-◌, get_or, ◌≡◌, ◌≢◌, ◌≤◌, ◌++◌, ◌∷◌, [], List, length, sym, ap, ◌∙◌, arith, rules}
 use Rattle.std.proofs.lemmas.List.{length-map}
 use Rattle.mt_tree.specs.DraftViews.{draft_views, draft_view, border_views}
-use Rattle.mt_tree.specs.Borders.{first_slice_of, last_slice_of}
+use Rattle.mt_tree.specs.Borders.{last_slice_of}
+use Rattle.mt_tree.specs.Nodes.{first_slice_of}
 use Rattle.mt_tree.specs.declared.layer.Border.{Border}
 use Rattle.mt_tree.proofs.CutUps.{close_one, close_two, last_slice_is, first_slice_is}
 use Rattle.mt_tree.proofs.layer.close.Goals as goal
