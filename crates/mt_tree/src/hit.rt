@@ -33,7 +33,7 @@ impl Hit {
 }
 
 /// Copies of the columns that are wanted.
-fn copy_wanted(
+pub(crate) fn copy_wanted(
     alloc: Global,
     columns: &Columns<Kept>,
     wanted: Wanted,

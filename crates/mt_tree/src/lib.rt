@@ -1,8 +1,16 @@
-//! Queries of a store: which columns are wanted, and what is answered.
+//! The layered tree over keys, and queries of it.
 #![tactic(auto)]
 
+mod cut;
+mod finish;
 mod hit;
+mod layer;
+mod node;
+mod order;
+mod range;
+mod tree;
 mod wanted;
 
 pub use hit::Hit;
+pub use tree::{Draft, Tree, above};
 pub use wanted::Wanted;

@@ -1,5 +1,6 @@
 -- Slices of keys.
 use Rattle.std.specs.Prelude.{ℕ, ◌<◌, List}
+use Rattle.std.specs.Int.{w64, to_be_bytes}
 use Rattle.std.specs.List.{AllByRecursion}
 use Rattle.byteorder.specs.Endian.{big_number}
 
@@ -10,3 +11,7 @@ AreBytes bytes = AllByRecursion (λ byte. byte < 256) bytes
 -- the first eight bytes of a key as a number, the highest first; zeros stand for those that it lacks
 unfoldable pub slice_in : List ℕ → ℕ
 slice_in key = big_number 8 key
+
+-- the eight bytes of a slice, the highest first
+unfoldable pub slice_bytes : ℕ → List ℕ
+slice_bytes slice = to_be_bytes w64 slice

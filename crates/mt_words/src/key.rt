@@ -72,6 +72,15 @@ impl Key {
         &self.bytes
     }
 
+    /// The bytes of the key, moved out.
+    pub fn into_bytes(self) -> Vec<u8>
+        ensures value { result.items ≡ self }
+        ensures lawful { IsKey widest self }
+    {
+        let Key { bytes } = self;
+        bytes
+    }
+
     /// The slice of what the key has from this place on.
     pub fn slice(&self, at: usize) -> u64
         ensures { result ≡ slice_in (drop at self.now) }

@@ -17,6 +17,6 @@ pub use fault::{Fault, Memory, What};
 pub use key::Key;
 pub use limits::{Format, GREATEST_COLUMN, LONGEST_KEY, LONGEST_VALUE, Limits, MOST_COLUMNS};
 pub use record::{Change, Record};
-pub use slice::{slice_at, slice_of};
+pub use slice::{slice_at, slice_bytes, slice_of};
 pub use storage::{Inline, Kept};
 pub use update::{Kind, Origin, Stamp, Update};

@@ -1,6 +1,6 @@
 //! Slices of keys.
 ghost use Rattle.std.specs.Prelude.{◌≡◌, drop, slice_index};
-ghost use Rattle.mt_words.specs.Slices.{AreBytes, slice_in};
+ghost use Rattle.mt_words.specs.Slices.{AreBytes, slice_in, slice_bytes};
 
 use byteorder::{BigEndian, ByteOrder};
 
@@ -24,6 +24,13 @@ pub fn slice_at(key: &[u8], at: usize) -> u64
         return 0;
     }
     slice_of(&key[at..])
+}
+
+/// The eight bytes of a slice, the highest first.
+pub fn slice_bytes(slice: u64) -> [u8; 8]
+    ensures { result ≡ slice_bytes slice }
+{
+    slice.to_be_bytes()
 }
 
 /// The slice of a key that may have fewer bytes.

@@ -1,0 +1,208 @@
+-- What a node and a place add to the hits of a range.
+use Rattle.std.proofs.Common.{◌≡◌, ◌≢◌, ℕ, zero, suc, ◌+◌, ◌-◌, ◌*◌, ◌<◌, ◌≤◌, min, Bool, true, false, List, [], ◌∷◌, ◌++◌, length, take, drop, get_or, sym, refl, ap, ◌∙◌, subst, arith, length-append, length-drop}
+use Rattle.std.specs.Prelude.{not}
+use Rattle.std.specs.Ordering.{nat_cmp, is_lt}
+use Rattle.std.specs.Cmp.Lexicographic.{slice_cmp}
+use Rattle.std.specs.List.{AllByRecursion}
+use Rattle.std.proofs.Common.{Vec, Global}
+use Rattle.std.proofs.Common.{inl, inr, ◌⊎◌}
+use Rattle.std.proofs.lemmas.Bool.{cases_lt}
+use Rattle.std.proofs.lemmas.List.{append-nil, take_all, take_rest, get_or-drop, take-map}
+use Rattle.mt_words.specs.Slices.{AreBytes, slice_in, slice_bytes}
+use Rattle.mt_tree.specs.Layer.{key_rank}
+use Rattle.mt_words.proofs.SliceBytes.{bytes_take}
+use Rattle.mt_tree.specs.Layer.{PlaceView, long, link, slice_at, rank_at, pairs_at, put_before, walk, IsPlace, IsLayerFrom, FitsAfter}
+use Rattle.mt_words.specs.Walks.{Pair}
+use Rattle.mt_tree.specs.Nodes.{NodeView, places, joined, borders_of, IsNode, AreSeparated, SlicesFrom}
+use Rattle.mt_tree.specs.NodeFalls.{joined-append}
+use Rattle.mt_tree.specs.NodeViews.{views, view_of, view_of_content}
+use Rattle.mt_tree.specs.Ranging.{from, found}
+use Rattle.mt_tree.specs.Range.{wanted_of}
+use Rattle.mt_tree.specs.declared.hit.Hit.{Hit}
+use Rattle.mt_tree.specs.declared.node.Place.{Place}
+use Rattle.mt_tree.specs.declared.node.Content.{Content}
+use Rattle.mt_tree.specs.declared.node.Content.TheVariants.{Short, Suffix, Link}
+use Rattle.mt_tree.proofs.Joins.{walk-append}
+use Rattle.mt_tree.proofs.Cuts.{all_weaker, all_front, all_back, length_at-le}
+use Rattle.mt_tree.proofs.Finds.{pairs_rank}
+use Rattle.mt_tree.proofs.Orders.{pairs_bytes}
+use Rattle.mt_tree.proofs.Lights.{kids_more, views_more}
+use Rattle.mt_tree.proofs.Ranged.{take_few, then_found, from-append, found-append, from_kept, from_empty, found-put_before, one_tested, short_from, below_from, place_gone}
+
+-- ---- what a place's test says
+pub not_before : (rank s : ℕ) (start : List ℕ) (r : Bool) → s ≡ slice_in start → r ≡ false → (rank < s * 10 + min (length start) 9 → r ≡ true) → key_rank start ≤ rank
+not_before rank s start r e f g = by (cases_lt rank (s * 10 + min (length start) 9))
+  where
+    by : (rank < s * 10 + min (length start) 9) ⊎ (s * 10 + min (length start) 9 ≤ rank) → key_rank start ≤ rank
+    by (inl lt) = absurd (let t : true ≡ false = sym (g lt) ∙ f in cc)
+    by (inr le) = omega arith
+
+pub is_before : (rank s : ℕ) (start : List ℕ) (r : Bool) → s ≡ slice_in start → r ≡ true → (r ≡ true → rank < s * 10 + min (length start) 9) → rank < key_rank start
+is_before rank s start r e f g = let lt : rank < s * 10 + min (length start) 9 = g f in omega arith
+
+-- ---- one place
+module _ (start : List ℕ) (s : ℕ) (h : Content) (bytes : AreBytes start) (lawful : IsPlace (view_of_content s h)) (le : key_rank start ≤ rank_at (view_of_content s h)) where
+  pub short_pairs : (l : ℕ) (c : List (ℕ × List ℕ)) → h ≡ Short l c → from start (pairs_at (view_of_content s h)) ≡ (take l (slice_bytes s), c) ∷ []
+  short_pairs l c e =
+      ap (λ (z : Content). from start (pairs_at (view_of_content s z))) e
+      ∙ short_from start bytes s l c (subst (λ (z : Content). IsPlace (view_of_content s z)) e lawful) (subst (λ (z : Content). key_rank start ≤ rank_at (view_of_content s z)) e le)
+
+  pub suffix_pairs : (t : Vec ℕ Global) (c : List (ℕ × List ℕ)) (rest : List ℕ) → h ≡ Suffix t c → (rank_at (view_of_content s h) ≡ key_rank start → rest ≡ drop 8 start) → (rank_at (view_of_content s h) ≢ key_rank start → rest ≡ [])
+      → from start (pairs_at (view_of_content s h)) ≡ put_before (slice_bytes s) (from rest ((t.items, c) ∷ []))
+  suffix_pairs t c rest e here past =
+      let place : IsPlace (long s t.items c) = subst (λ (z : Content). IsPlace (view_of_content s z)) e lawful in
+      let same : rank_at (view_of_content s h) ≡ s * 10 + 9 = ap (λ (z : Content). rank_at (view_of_content s z)) e in
+      ap (λ (z : Content). from start (pairs_at (view_of_content s z))) e
+      ∙ below_from start bytes s ((t.items, c) ∷ []) rest place.0 (place.1, tt) (omega arith) (λ r. here (same ∙ r)) (λ n. past (λ r. n (sym same ∙ r)))
+
+  pub link_pairs : (n : NodeView) (rest : List ℕ) → h ≡ Link n → (rank_at (view_of_content s h) ≡ key_rank start → rest ≡ drop 8 start) → (rank_at (view_of_content s h) ≢ key_rank start → rest ≡ [])
+      → from start (pairs_at (view_of_content s h)) ≡ put_before (slice_bytes s) (from rest (walk (places n)))
+  link_pairs n rest e here past =
+      let place : IsPlace (link s (walk (places n))) = subst (λ (z : Content). IsPlace (view_of_content s z)) e lawful in
+      let same : rank_at (view_of_content s h) ≡ s * 10 + 9 = ap (λ (z : Content). rank_at (view_of_content s z)) e in
+      ap (λ (z : Content). from start (pairs_at (view_of_content s z))) e
+      ∙ below_from start bytes s (walk (places n)) rest place.0 place.2 (omega arith) (λ r. here (same ∙ r)) (λ m. past (λ r. m (sym same ∙ r)))
+
+fits_below : (k : ℕ) (b : List ℕ) (w : List Pair) → FitsAfter k (put_before b w) → FitsAfter (k + length b) w
+fits_below k b [] h = tt
+fits_below k b (p ∷ w) h = (let le = h.0 in omega (arith, length-append b p.0), fits_below k b w h.1)
+
+pub fits_link : (s : ℕ) (h : Content) (n : NodeView) (before bytes after : List ℕ) → h ≡ Link n → after ≡ before ++ bytes → bytes ≡ slice_bytes s → FitsAfter (length before) (pairs_at (view_of_content s h)) → FitsAfter (length after) (walk (places n))
+fits_link s h n before bytes after e f g a =
+    let len : length before + length (slice_bytes s) ≡ length after = sym (ap length f ∙ ap (λ (z : List ℕ). length (before ++ z)) g ∙ length-append before (slice_bytes s)) in
+    subst (λ (j : ℕ). FitsAfter j (walk (places n))) len (fits_below (length before) (slice_bytes s) (walk (places n)) (subst (λ (z : Content). FitsAfter (length before) (pairs_at (view_of_content s z))) e a))
+
+-- ---- hits
+pub hits_none : (n : ℕ) (old : List Hit) (prefix : List ℕ) (w : List Bool) (v : List Pair) → length old ≤ n → v ≡ [] → old ≡ take n (old ++ found prefix w v)
+hits_none n old prefix w v le e = sym (ap (λ (z : List Pair). take n (old ++ found prefix w z)) e ∙ ap (take n) (append-nil old) ∙ take_all n old le)
+
+pub hits_one : (n : ℕ) (old new : List Hit) (prefix k : List ℕ) (c : List (ℕ × List ℕ)) (w : List Bool) (v : List Pair) → length old < n → new ≡ old ++ found prefix w ((k, c) ∷ []) → v ≡ (k, c) ∷ [] → new ≡ take n (old ++ found prefix w v)
+hits_one n old new prefix k c w v lt e f =
+    e ∙ sym (ap (λ (z : List Pair). take n (old ++ found prefix w z)) f ∙ take_all n (old ++ found prefix w ((k, c) ∷ [])) (omega (arith, length-append old (found prefix w ((k, c) ∷ [])))))
+
+-- one hit below the bytes of a slice
+pub hits_suffix : (n : ℕ) (old new : List Hit) (prefix long_prefix b bytes t rest : List ℕ) (c : List (ℕ × List ℕ)) (w : List Bool) (v : List Pair) (r : Bool) → length old < n → long_prefix ≡ prefix ++ bytes → bytes ≡ b
+    → new ≡ old ++ found long_prefix w ((t, c) ∷ []) → v ≡ put_before b (from rest ((t, c) ∷ [])) → r ≡ not (is_lt (slice_cmp nat_cmp t rest)) → r ≡ true → new ≡ take n (old ++ found prefix w v)
+hits_suffix n old new prefix long_prefix b bytes t rest c w v r lt p q e f g h =
+    let tested : from rest ((t, c) ∷ []) ≡ (t, c) ∷ [] = one_tested rest t c true (sym h ∙ g) in
+    hits_one n old new prefix (b ++ t) c w v lt
+    (e ∙ ap (λ (z : List ℕ). old ++ found z w ((t, c) ∷ [])) (p ∙ ap (λ (z : List ℕ). prefix ++ z) q) ∙ ap (λ (z : List Hit). old ++ z) (found-put_before prefix b w ((t, c) ∷ [])))
+    (f ∙ ap (put_before b) tested)
+
+pub hits_unreached : (n : ℕ) (old : List Hit) (prefix b t rest : List ℕ) (c : List (ℕ × List ℕ)) (w : List Bool) (v : List Pair) (r : Bool) → length old ≤ n → v ≡ put_before b (from rest ((t, c) ∷ [])) → r ≡ not (is_lt (slice_cmp nat_cmp t rest)) → r ≡ false → old ≡ take n (old ++ found prefix w v)
+hits_unreached n old prefix b t rest c w v r le f g h = hits_none n old prefix w v le (f ∙ ap (put_before b) (one_tested rest t c false (sym h ∙ g)))
+
+pub hits_link : (n : ℕ) (old new : List Hit) (prefix long_prefix b bytes rest : List ℕ) (w : List Bool) (u v : List Pair) → long_prefix ≡ prefix ++ bytes → bytes ≡ b
+    → new ≡ take n (old ++ found long_prefix w (from rest u)) → v ≡ put_before b (from rest u) → new ≡ take n (old ++ found prefix w v)
+hits_link n old new prefix long_prefix b bytes rest w u v p q e f =
+    e ∙ ap (λ (z : List ℕ). take n (old ++ found z w (from rest u))) (p ∙ ap (λ (z : List ℕ). prefix ++ z) q)
+    ∙ ap (λ (z : List Hit). take n (old ++ z)) (found-put_before prefix b w (from rest u) ∙ ap (found prefix w) (sym f))
+
+pub few_hits : (n : ℕ) (new xs : List Hit) → new ≡ take n xs → length new ≤ n
+few_hits n new xs e = omega (arith, ap (λ (z : List Hit). length z) e, take_few n xs)
+
+-- ---- among the children
+slices_gone : (start : List ℕ) (low : ℕ) (ps : List PlaceView) → AreBytes start → IsLayerFrom low ps → AllByRecursion (λ p. slice_at p < slice_in start) ps → from start (walk ps) ≡ []
+slices_gone start low [] b h l = refl
+slices_gone start low (p ∷ ps) b h l =
+    let lt : slice_at p < slice_in start = l.0 in
+    from-append start (pairs_at p) (walk ps)
+    ∙ (λ i. place_gone start b p h.0 (omega (arith, length_at-le p h.0)) i ++ slices_gone start (suc (rank_at p)) ps b h.2 l.1 i)
+
+place_kept : (start : List ℕ) (p : PlaceView) → AreBytes start → IsPlace p → key_rank start < rank_at p → from start (pairs_at p) ≡ pairs_at p
+place_kept start p b h lt = from_kept start (pairs_at p) (bytes_take 8 start b) (pairs_bytes p h)
+    (all_weaker (λ q. key_rank q.0 ≡ rank_at p) (λ q. key_rank start < key_rank q.0) (λ q e. omega arith) (pairs_at p) (pairs_rank p h))
+
+slices_kept : (start : List ℕ) (low : ℕ) (ps : List PlaceView) → AreBytes start → IsLayerFrom low ps → AllByRecursion (λ p. slice_in start < slice_at p) ps → from start (walk ps) ≡ walk ps
+slices_kept start low [] b h l = refl
+slices_kept start low (p ∷ ps) b h l =
+    let lt : slice_in start < slice_at p = l.0 in
+    from-append start (pairs_at p) (walk ps)
+    ∙ (λ i. place_kept start p b h.0 (omega arith) i ++ slices_kept start (suc (rank_at p)) ps b h.2 l.1 i)
+
+kids_walk : (n : NodeView) (ns : List NodeView) → walk (joined (borders_of (n ∷ ns))) ≡ walk (places n) ++ walk (joined (borders_of ns))
+kids_walk n ns = ap walk (joined-append n.borders (borders_of ns)) ∙ walk-append (places n) (joined (borders_of ns))
+
+kids_from-cons : (start : List ℕ) (n : NodeView) (ns : List NodeView) → from start (walk (joined (borders_of (n ∷ ns)))) ≡ from start (walk (places n)) ++ from start (walk (joined (borders_of ns)))
+kids_from-cons start n ns = ap (from start) (kids_walk n ns) ∙ from-append start (walk (places n)) (walk (joined (borders_of ns)))
+
+kids_kept : (start : List ℕ) (s : ℕ) (ns : List NodeView) → AreBytes start → AllByRecursion IsNode ns → AllByRecursion (λ n. SlicesFrom s (places n)) ns → slice_in start < s → from start (walk (joined (borders_of ns))) ≡ walk (joined (borders_of ns))
+kids_kept start s [] b h f l = refl
+kids_kept start s (n ∷ ns) b h f l =
+    kids_from-cons start n ns
+    ∙ (λ i. slices_kept start 0 (places n) b h.0.3 (all_weaker (λ p. s ≤ slice_at p) (λ p. slice_in start < slice_at p) (λ p le. omega arith) (places n) f.0) i ++ kids_kept start s ns b h.1 f.1 l i)
+    ∙ sym (kids_walk n ns)
+
+-- the child at the start, and all later ones whole
+pub kids_from : (start : List ℕ) (ss : List ℕ) (ns : List NodeView) (i : ℕ) (d : NodeView) → AreBytes start → AllByRecursion IsNode ns → AreSeparated ss ns → length ss + 1 ≡ length ns → i ≤ length ss
+    → ((j : ℕ) → j < i → get_or ss j 0 ≤ slice_in start) → (i < length ss → slice_in start < get_or ss i 0)
+    → from start (walk (joined (borders_of ns))) ≡ from start (walk (places (get_or ns i d))) ++ walk (joined (borders_of (drop (suc i) ns)))
+kids_from start ss [] i d b h a e l before after = absurd (omega arith)
+kids_from start [] (n ∷ []) zero d b h a e l before after = kids_from-cons start n []
+kids_from start [] (n ∷ m ∷ ns) i d b h a e l before after = absurd (omega arith)
+kids_from start [] (n ∷ []) (suc i) d b h a e l before after = absurd (omega arith)
+kids_from start (s ∷ ss) (n ∷ ns) zero d b h a e l before after =
+    kids_from-cons start n ns ∙ ap (λ (z : List Pair). from start (walk (places n)) ++ z) (kids_kept start s ns b h.1 a.1 (after (omega arith)))
+kids_from start (s ∷ ss) (n ∷ ns) (suc i) d b h a e l before after =
+    let le : s ≤ slice_in start = before 0 (omega arith) in
+    kids_from-cons start n ns
+    ∙ ap (λ (z : List Pair). z ++ from start (walk (joined (borders_of ns)))) (slices_gone start 0 (places n) b h.0.3 (all_weaker (λ p. slice_at p < s) (λ p. slice_at p < slice_in start) (λ p lt. omega arith) (places n) a.0))
+    ∙ kids_from start ss ns i d b h.1 a.2 (omega arith) (omega arith) (λ j lt. before (suc j) (omega arith)) (λ lt. after (omega arith))
+
+-- ---- the loops
+pub later_kid : (ks : List NodeView) (m i : ℕ) (x : NodeView) → i < length (take (length ks - m) (drop m ks)) → x ≡ get_or (take (length ks - m) (drop m ks)) i x → (m + i < length ks) × (x ≡ get_or ks (m + i) x)
+later_kid ks m i x l e =
+    let same : take (length ks - m) (drop m ks) ≡ drop m ks = take_rest ks m in
+    let len : length (take (length ks - m) (drop m ks)) ≡ length (drop m ks) = ap length same in
+    (omega (arith, len, length-drop m ks), e ∙ ap (λ (z : List NodeView). get_or z i x) same ∙ get_or-drop m ks i x)
+
+pub fits_kid : (k : ℕ) (ks : List NodeView) (i : ℕ) (d : NodeView) → FitsAfter k (walk (joined (borders_of ks))) → i < length ks → FitsAfter k (walk (places (get_or ks i d)))
+fits_kid k [] i d h l = absurd (omega arith)
+fits_kid k (n ∷ ns) zero d h l = all_front (λ p. k + length p.0 ≤ 1024) (walk (places n)) (walk (joined (borders_of ns))) (subst (FitsAfter k) (kids_walk n ns) h)
+fits_kid k (n ∷ ns) (suc i) d h l = fits_kid k ns i d (all_back (λ p. k + length p.0 ≤ 1024) (walk (places n)) (walk (joined (borders_of ns))) (subst (FitsAfter k) (kids_walk n ns) h)) (omega arith)
+
+pub fits_view : (k : ℕ) (xs : List Place) (i : ℕ) (d : Place) → FitsAfter k (walk (views xs)) → i < length xs → FitsAfter k (pairs_at (view_of (get_or xs i d)))
+fits_view k [] i d h l = absurd (omega arith)
+fits_view k (x ∷ xs) zero d h l = all_front (λ p. k + length p.0 ≤ 1024) (pairs_at (view_of x)) (walk (views xs)) h
+fits_view k (x ∷ xs) (suc i) d h l = fits_view k xs i d (all_back (λ p. k + length p.0 ≤ 1024) (pairs_at (view_of x)) (walk (views xs)) h) (omega arith)
+
+pub kids_then : (n : ℕ) (old mid new : List Hit) (prefix own : List ℕ) (w : List Bool) (ys : List NodeView) (i : ℕ) (x : NodeView) → own ≡ prefix → i < length ys → x ≡ get_or ys i x
+    → mid ≡ take n (old ++ found prefix w (walk (joined (borders_of (take i ys))))) → new ≡ take n (mid ++ found own w (from [] (walk (places x))))
+    → new ≡ take n (old ++ found prefix w (walk (joined (borders_of (take (i + 1) ys)))))
+kids_then n old mid new prefix own w ys i x p l at e f =
+    let before = walk (joined (borders_of (take i ys))) in
+    then_found n old mid new (found prefix w before) (found prefix w (walk (places x))) e (f ∙ (λ j. take n (mid ++ found (p j) w (from_empty (walk (places x)) j))))
+    ∙ ap (λ (z : List Hit). take n (old ++ z)) (sym (found-append prefix w before (walk (places x))))
+    ∙ ap (λ (z : List Pair). take n (old ++ found prefix w z)) (sym (ap walk (kids_more ys i x l at) ∙ walk-append (joined (borders_of (take i ys))) (places x)))
+
+pub views_then : (n : ℕ) (old mid new : List Hit) (prefix own start : List ℕ) (w : List Bool) (ys : List Place) (i : ℕ) (x : Place) → own ≡ prefix → i < length ys → x ≡ get_or ys i x
+    → mid ≡ take n (old ++ found prefix w (from start (walk (views (take i ys))))) → new ≡ take n (mid ++ found own w (from start (pairs_at (view_of x))))
+    → new ≡ take n (old ++ found prefix w (from start (walk (views (take (i + 1) ys)))))
+views_then n old mid new prefix own start w ys i x p l at e f =
+    let before = walk (views (take i ys)) in
+    let here = pairs_at (view_of x) in
+    then_found n old mid new (found prefix w (from start before)) (found prefix w (from start here)) e (f ∙ ap (λ (z : List ℕ). take n (mid ++ found z w (from start here))) p)
+    ∙ ap (λ (z : List Hit). take n (old ++ z)) (sym (found-append prefix w (from start before) (from start here)))
+    ∙ ap (λ (z : List Pair). take n (old ++ found prefix w z)) (sym (from-append start before here))
+    ∙ ap (λ (z : List Pair). take n (old ++ found prefix w (from start z)))
+    (sym (ap walk (views_more ys i x l at) ∙ walk-append (views (take i ys)) (view_of x ∷ []) ∙ ap (λ (z : List Pair). before ++ z) (append-nil here)))
+
+-- all children: the one at the start, then the later ones
+pub kids_done : (n : ℕ) (old mid new : List Hit) (prefix start : List ℕ) (w : List Bool) (whole : List Pair) (ks : List NodeView) (x : NodeView) (at i : ℕ)
+    → whole ≡ from start (walk (places x)) ++ walk (joined (borders_of (drop (suc at) ks))) → length (take (length ks - (at + 1)) (drop (at + 1) ks)) ≤ i
+    → mid ≡ take n (old ++ found prefix w (from start (walk (places x))))
+    → new ≡ take n (mid ++ found prefix w (walk (joined (borders_of (take i (take (length ks - (at + 1)) (drop (at + 1) ks)))))))
+    → new ≡ take n (old ++ found prefix w whole)
+kids_done n old mid new prefix start w whole ks x at i is l e f =
+    let here = from start (walk (places x)) in
+    let later = walk (joined (borders_of (drop (suc at) ks))) in
+    let next : at + 1 ≡ suc at = omega arith in
+    let all_later : take i (take (length ks - (at + 1)) (drop (at + 1) ks)) ≡ drop (suc at) ks = take_all i _ l ∙ take_rest ks (at + 1) ∙ ap (λ (z : ℕ). drop z ks) next in
+    then_found n old mid new (found prefix w here) (found prefix w later) e (f ∙ ap (λ (z : List NodeView). take n (mid ++ found prefix w (walk (joined (borders_of z))))) all_later)
+    ∙ ap (λ (z : List Hit). take n (old ++ z)) (sym (found-append prefix w here later))
+    ∙ ap (λ (z : List Pair). take n (old ++ found prefix w z)) (sym is)
+
+-- ---- the whole tree
+pub all_found : (n : ℕ) (old new : List Hit) (prefix start : List ℕ) (w : List Bool) (v : List Pair) → old ≡ [] → prefix ≡ [] → new ≡ take n (old ++ found prefix w (from start v)) → new ≡ found [] w (take n (from start v))
+all_found n old new prefix start w v e f g =
+    g ∙ (λ i. take n (e i ++ found (f i) w (from start v))) ∙ take-map (λ p. record { key = [] ++ p.0; columns = wanted_of w p.1 }) n (from start v)

@@ -1,0 +1,118 @@
+-- The places of a layer are cut into borders between slices.
+use Rattle.std.proofs.Common.{◌≡◌, ◌≢◌, ℕ, suc, ◌+◌, ◌*◌, ◌≤◌, List, [], ◌∷◌, ◌++◌, length, sym, refl, ap, ◌∙◌, subst, arith, append_assoc}
+use Rattle.std.specs.List.{AllByRecursion}
+use Rattle.std.proofs.lemmas.List.{append-nil}
+use Rattle.mt_tree.specs.Layer.{PlaceView, short, long, link, slice_at, length_at, rank_at, IsPlace, IsLayerFrom, IsLayer}
+use Rattle.mt_tree.specs.Nodes.{NodeView, joined, borders_of, SlicesFrom, SlicesApart, IsNode, IsLevelAt, IsLevel, CutAt, OfSlice, border_node}
+use Rattle.mt_tree.specs.NodeFalls.{joined-append}
+use Rattle.mt_tree.specs.NodeViews.{view_of, view_of_content}
+use Rattle.mt_tree.specs.declared.node.Content.{Content}
+use Rattle.mt_tree.specs.declared.node.Content.TheVariants.{Short, Suffix, Link}
+use Rattle.mt_tree.specs.declared.node.Place.{Place}
+
+pub length_at-le : (p : PlaceView) → IsPlace p → length_at p ≤ 9
+length_at-le (short s l c) h = let fits : l ≤ 8 = h.1 in omega arith
+length_at-le (long s t c) h = omega arith
+length_at-le (link s w) h = omega arith
+
+pub all_back : {X : Type 0} (P : X → Type 0) (xs ys : List X) → AllByRecursion P (xs ++ ys) → AllByRecursion P ys
+all_back P [] ys h = h
+all_back P (x ∷ xs) ys h = all_back P xs ys h.1
+
+pub all_front : {X : Type 0} (P : X → Type 0) (xs ys : List X) → AllByRecursion P (xs ++ ys) → AllByRecursion P xs
+all_front P [] ys h = tt
+all_front P (x ∷ xs) ys h = (h.0, all_front P xs ys h.1)
+
+pub all_weaker : {X : Type 0} (P Q : X → Type 0) → ((x : X) → P x → Q x) → (xs : List X) → AllByRecursion P xs → AllByRecursion Q xs
+all_weaker P Q f [] h = tt
+all_weaker P Q f (x ∷ xs) h = (f x h.0, all_weaker P Q f xs h.1)
+
+-- ---- layers and their parts
+pub layer_weaker : (low least : ℕ) (ps : List PlaceView) → least ≤ low → IsLayerFrom low ps → IsLayerFrom least ps
+layer_weaker low least [] le h = tt
+layer_weaker low least (p ∷ ps) le h = let from : low ≤ rank_at p = h.1 in (h.0, omega arith, h.2)
+
+pub layer_back : (low : ℕ) (xs ys : List PlaceView) → IsLayerFrom low (xs ++ ys) → IsLayerFrom low ys
+layer_back low [] ys h = h
+layer_back low (x ∷ xs) ys h = let from : low ≤ rank_at x = h.1 in layer_weaker (suc (rank_at x)) low ys (omega arith) (layer_back (suc (rank_at x)) xs ys h.2)
+
+pub layer_front : (low : ℕ) (xs ys : List PlaceView) → IsLayerFrom low (xs ++ ys) → IsLayerFrom low xs
+layer_front low [] ys h = tt
+layer_front low (x ∷ xs) ys h = (h.0, h.1, layer_front (suc (rank_at x)) xs ys h.2)
+
+-- slices of places from a rank on
+pub slices_from : (low s : ℕ) (ps : List PlaceView) → s * 10 ≤ low → IsLayerFrom low ps → SlicesFrom s ps
+slices_from low s [] le h = tt
+slices_from low s (p ∷ ps) le h =
+    let from : low ≤ rank_at p = h.1 in
+    (omega (arith, length_at-le p h.0), slices_from (suc (rank_at p)) s ps (omega arith) h.2)
+
+-- a slice has ten ranks
+run_room : (low s : ℕ) (ps : List PlaceView) → IsLayerFrom low ps → OfSlice s ps → low ≤ s * 10 + 10 → low + length ps ≤ s * 10 + 10
+run_room low s [] h o le = omega arith
+run_room low s (p ∷ ps) h o le =
+    let from : low ≤ rank_at p = h.1 in
+    let same : slice_at p ≡ s = o.0 in
+    let few = length_at-le p h.0 in
+    omega (arith, run_room (suc (rank_at p)) s ps h.2 o.1 (omega arith))
+
+pub run_few : (s : ℕ) (ps : List PlaceView) → IsLayer ps → OfSlice s ps → length ps ≤ 10
+run_few s [] h o = omega arith
+run_few s (p ∷ ps) h o =
+    let same : slice_at p ≡ s = o.0 in
+    let few = length_at-le p h.0 in
+    omega (arith, run_room (suc (rank_at p)) s ps h.2 o.1 (omega arith))
+
+-- where a slice ends, a cut may stand
+pub cut_run : (low s : ℕ) (run : List PlaceView) (p : PlaceView) (left : List PlaceView) → IsLayerFrom low (run ++ p ∷ left) → OfSlice s run → slice_at p ≢ s → CutAt run (p ∷ left)
+cut_run low s [] p left h o n = tt
+cut_run low s (r ∷ run) p left h o n =
+    let rest = layer_back (suc (rank_at r)) run (p ∷ left) h.2 in
+    let from : suc (rank_at r) ≤ rank_at p = rest.1 in
+    let same : slice_at r ≡ s = o.0 in
+    let few = length_at-le p rest.0 in
+    let other : slice_at p ≢ s = n in
+    let above : suc (slice_at r) ≤ slice_at p = omega arith in
+    ((above, slices_from (suc (rank_at p)) (suc (slice_at r)) left (omega arith) rest.2), cut_run (suc (rank_at r)) s run p left h.2 o.1 n)
+
+pub cut_nil : (xs : List PlaceView) → CutAt xs []
+cut_nil [] = tt
+cut_nil (x ∷ xs) = (tt, cut_nil xs)
+
+pub cut_back : (xs ys zs : List PlaceView) → CutAt xs (ys ++ zs) → CutAt xs zs
+cut_back xs ys zs h = all_weaker (λ p. SlicesFrom (suc (slice_at p)) (ys ++ zs)) (λ p. SlicesFrom (suc (slice_at p)) zs) (λ p k. all_back (λ q. suc (slice_at p) ≤ slice_at q) ys zs k) xs h
+
+-- ---- a border as a node
+pub border_is_node : (b : List PlaceView) → 1 ≤ length b → length b ≤ 15 → IsLayer b → IsNode (border_node b)
+border_is_node b some fits h = (omega arith, ((some, fits), tt), (cut_nil b, tt), subst IsLayer (sym (append-nil b)) h)
+
+pub borders_of-append : (ns ms : List NodeView) → borders_of (ns ++ ms) ≡ borders_of ns ++ borders_of ms
+borders_of-append [] ms = refl
+borders_of-append (n ∷ ns) ms = ap (λ z. n.borders ++ z) (borders_of-append ns ms) ∙ sym (append_assoc n.borders (borders_of ns) (borders_of ms))
+
+pub joined-one : (bs : List (List PlaceView)) (b rest : List PlaceView) → joined (bs ++ b ∷ []) ++ rest ≡ joined bs ++ (b ++ rest)
+joined-one bs b rest = ap (λ z. z ++ rest) (joined-append bs (b ∷ []) ∙ ap (λ z. joined bs ++ z) (append-nil b)) ∙ append_assoc (joined bs) b rest
+
+pub apart_split : (bs : List (List PlaceView)) (xs ys : List PlaceView) → SlicesApart (bs ++ (xs ++ ys) ∷ []) → CutAt xs ys → SlicesApart ((bs ++ xs ∷ []) ++ ys ∷ [])
+apart_split [] xs ys h cut = (subst (CutAt xs) (sym (append-nil ys)) cut, (cut_nil ys, tt))
+apart_split (b ∷ bs) xs ys h cut = (subst (CutAt b) same h.0, apart_split bs xs ys h.1 cut)
+  where
+    same : joined (bs ++ (xs ++ ys) ∷ []) ≡ joined ((bs ++ xs ∷ []) ++ ys ∷ [])
+    same =
+        joined-append bs ((xs ++ ys) ∷ [])
+        ∙ ap (λ z. joined bs ++ z) (append-nil (xs ++ ys))
+        ∙ sym (joined-one bs xs ys)
+        ∙ ap (λ z. joined (bs ++ xs ∷ []) ++ z) (sym (append-nil ys))
+        ∙ sym (joined-append (bs ++ xs ∷ []) (ys ∷ []))
+
+pub level_is : (h : ℕ) (ns : List NodeView) → IsLevelAt h ns → IsLevel ns
+level_is h [] l = record { nodes = tt; apart = tt; layer = tt }
+level_is h (n ∷ ns) l = subst (λ k. IsLevelAt k (n ∷ ns)) (sym (l.nodes.0.0)) l
+
+slice_content_of : (s : ℕ) (h : Content) → slice_at (view_of_content s h) ≡ s
+slice_content_of s (Short l c) = refl
+slice_content_of s (Suffix t c) = refl
+slice_content_of s (Link l) = refl
+
+pub slice_at-place : (p : Place) → slice_at (view_of p) ≡ p.slice
+slice_at-place p = slice_content_of p.slice p.content

@@ -1,0 +1,37 @@
+-- Borders are finished one by one.
+use Rattle.std.proofs.Common.{◌≡◌, ℕ, ◌≤◌, List, [], ◌∷◌, ◌++◌, length, sym, ap, ◌∙◌, subst, arith}
+use Rattle.mt_tree.specs.Layer.{PlaceView, link, IsPlace, IsLayer, walk, weight}
+use Rattle.mt_tree.specs.Falls.{weight-append}
+use Rattle.mt_tree.specs.Nodes.{joined, IsBorder, IsNode, border_node}
+use Rattle.mt_tree.specs.NodeFalls.{joined-append}
+use Rattle.mt_tree.specs.Borders.{AreBorders, layer_walk}
+use Rattle.mt_tree.specs.NodeViews.{views}
+use Rattle.mt_tree.specs.declared.node.Place.{Place}
+use Rattle.mt_tree.proofs.Joins.{walk-append}
+use Rattle.mt_tree.proofs.Cuts.{all_back, layer_back, layer_front, border_is_node}
+
+pub record Middle (l : List PlaceView) (all : List (List PlaceView)) : Type 0 where
+  pub border : IsBorder l
+  pub layer : IsLayer l
+  pub light : weight (walk l) ≤ weight (layer_walk all)
+
+pub middle : (fs bs left all : List (List PlaceView)) (l : List PlaceView) → fs ++ left ≡ all → left ≡ l ∷ bs → AreBorders all → Middle l all
+middle fs bs left all l e f h =
+    let is : fs ++ l ∷ bs ≡ all = ap (λ (z : List (List PlaceView)). fs ++ z) (sym f) ∙ e in
+    let are : AreBorders (fs ++ l ∷ bs) = subst AreBorders (sym is) h in
+    let places : joined all ≡ joined fs ++ (l ++ joined bs) = ap joined (sym is) ∙ joined-append fs (l ∷ bs) in
+    let whole = ap (λ (z : List PlaceView). weight (walk z)) places in
+    let one = ap weight (walk-append (joined fs) (l ++ joined bs)) in
+    let two = ap weight (walk-append l (joined bs)) in
+    record {
+      border = (all_back IsBorder fs (l ∷ bs) are.0).0;
+      layer = layer_front 0 l (joined bs) (layer_back 0 (joined fs) (l ++ joined bs) (subst IsLayer places h.2));
+      light = omega (arith, whole, one, two, weight-append (walk (joined fs)) (walk (l ++ joined bs)), weight-append (walk l) (walk (joined bs)));
+    }
+
+pub link_some : (s : ℕ) (bs : List (List PlaceView)) → IsPlace (link s (layer_walk bs)) → 1 ≤ length bs
+link_some s [] h = absurd (let two : 2 ≤ 0 = h.1 in omega arith)
+link_some s (b ∷ bs) h = omega arith
+
+pub border_done : (xs : List Place) (b : List PlaceView) → views xs ≡ b → IsBorder b → IsLayer b → IsNode (border_node (views xs))
+border_done xs b e h l = subst (λ (z : List PlaceView). IsNode (border_node z)) (sym e) (border_is_node b h.0 h.1 l)

@@ -1,0 +1,247 @@
+-- Two layers are joined at their seam.
+use Rattle.std.proofs.Common.{◌≡◌, ℕ, suc, ◌+◌, ◌*◌, ◌^◌, ◌<◌, ◌≤◌, List, [], ◌∷◌, ◌++◌, length, take, get_or, sym, refl, ap, ◌∙◌, subst, inl, inr, ◌⊎◌, arith, append_assoc, length-append}
+use Rattle.std.specs.List.{AllByRecursion, remove}
+use Rattle.std.proofs.lemmas.List.{append-nil, take_at, map-append, length-take-le}
+use Rattle.mt_words.specs.Slices.{AreBytes, slice_bytes}
+use Rattle.mt_tree.specs.Layer.{key_rank}
+use Rattle.mt_words.proofs.SliceBytes.{below-unprefixed}
+use Rattle.mt_words.proofs.SliceBytes.{slice_bytes-bytes, slice_in-append, slice_in-take, bytes_take}
+use Rattle.mt_tree.proofs.Ranks.{ranks_of_less, IsBelowAt}
+use Rattle.mt_words.proofs.SliceBytes.{slice_bytes-length}
+use Rattle.mt_tree.specs.Layer.{PlaceView, short, long, link, slice_at, length_at, rank_at, pairs_at, put_before, walk, IsPlace, HasNoEmptyKey, IsLayerFrom, IsLayer, AllKeysBelow, Meet, weight}
+use Rattle.mt_words.specs.Walks.{Pair, KeysRise}
+use Rattle.mt_words.specs.Words.{IsBelow}
+use Rattle.mt_tree.specs.DraftViews.{draft_views, draft_view, draft_view_of}
+use Rattle.mt_tree.specs.declared.layer.DraftContent.{DraftContent}
+use Rattle.mt_tree.specs.declared.layer.DraftContent.TheVariants.{Short, Suffix, Link}
+use Rattle.mt_tree.specs.Falls.{weight-append, weight-put_before}
+use Rattle.mt_tree.specs.declared.layer.DraftPlace.{DraftPlace}
+
+-- ---- keys below keys
+pub all_back : {X : Type 0} (P : X → Type 0) (xs ys : List X) → AllByRecursion P (xs ++ ys) → AllByRecursion P ys
+all_back P [] ys h = h
+all_back P (x ∷ xs) ys h = all_back P xs ys h.1
+
+all_front : {X : Type 0} (P : X → Type 0) (xs ys : List X) → AllByRecursion P (xs ++ ys) → AllByRecursion P xs
+all_front P [] ys h = tt
+all_front P (x ∷ xs) ys h = (h.0, all_front P xs ys h.1)
+
+all_weaker : {X : Type 0} (P Q : X → Type 0) → ((x : X) → P x → Q x) → (xs : List X) → AllByRecursion P xs → AllByRecursion Q xs
+all_weaker P Q f [] h = tt
+all_weaker P Q f (x ∷ xs) h = (f x h.0, all_weaker P Q f xs h.1)
+
+pub all_append : {X : Type 0} (P : X → Type 0) (xs ys : List X) → AllByRecursion P xs → AllByRecursion P ys → AllByRecursion P (xs ++ ys)
+all_append P [] ys h k = k
+all_append P (x ∷ xs) ys h k = (h.0, all_append P xs ys h.1 k)
+
+pub below_first : (v w w' : List Pair) → AllKeysBelow v (w ++ w') → AllKeysBelow v w
+below_first v w w' h = all_weaker (λ p. AllByRecursion (λ q. IsBelow p.0 q.0) (w ++ w')) (λ p. AllByRecursion (λ q. IsBelow p.0 q.0) w) (λ p k. all_front (λ q. IsBelow p.0 q.0) w w' k) v h
+
+one_unprefixed : (b : List ℕ) (key : List ℕ) (w : List Pair) → AllByRecursion (λ q. IsBelow (b ++ key) q.0) (put_before b w) → AllByRecursion (λ q. IsBelow key q.0) w
+one_unprefixed b key [] h = tt
+one_unprefixed b key (q ∷ w) h = (below-unprefixed b key q.0 h.0, one_unprefixed b key w h.1)
+
+pub below_unprefixed : (b : List ℕ) (v w : List Pair) → AllKeysBelow (put_before b v) (put_before b w) → AllKeysBelow v w
+below_unprefixed b [] w h = tt
+below_unprefixed b (p ∷ v) w h = (one_unprefixed b p.0 w h.0, below_unprefixed b v w h.1)
+
+-- ---- the rank of a place is that of its keys
+record FirstPair (w : List Pair) (rank : ℕ) : Type 0 where
+  key : List ℕ
+  columns : List (ℕ × List ℕ)
+  rest : List Pair
+  is : w ≡ (key, columns) ∷ rest
+  bytes : AreBytes (take 8 key)
+  ranks : key_rank key ≡ rank
+
+-- a key longer than 8 bytes that begins with the bytes of a slice
+long_bytes : (s : ℕ) (t : List ℕ) → s < 2 ^ 64 → AreBytes (take 8 (slice_bytes s ++ t))
+long_bytes s t h = subst AreBytes (sym (take_at (slice_bytes s) t 8 (slice_bytes-length s))) (slice_bytes-bytes s h)
+
+long_rank : (s : ℕ) (t : List ℕ) → s < 2 ^ 64 → 0 < length t → key_rank (slice_bytes s ++ t) ≡ s * 10 + 9
+long_rank s t h some = omega (arith, slice_in-append s t h, length-append (slice_bytes s) t, slice_bytes-length s)
+
+first_pair : (p : PlaceView) → IsPlace p → FirstPair (pairs_at p) (rank_at p)
+first_pair (short s l c) h =
+    let below : s < 2 ^ 64 = h.0 in
+    let fits : l ≤ 8 = h.1 in
+    let len : length (take l (slice_bytes s)) ≡ l = length-take-le l (slice_bytes s) (omega (arith, slice_bytes-length s)) in
+    record {
+      key = take l (slice_bytes s);
+      columns = c;
+      rest = [];
+      is = refl;
+      bytes = bytes_take 8 _ (bytes_take l _ (slice_bytes-bytes s below));
+      ranks = omega (arith, slice_in-take s l below h.2, len);
+    }
+first_pair (long s t c) h = record { key = slice_bytes s ++ t; columns = c; rest = []; is = refl; bytes = long_bytes s t h.0; ranks = long_rank s t h.0 h.1 }
+first_pair (link s []) h = absurd (let two : 2 ≤ 0 = h.1 in omega arith)
+first_pair (link s (p ∷ w)) h = record { key = slice_bytes s ++ p.0; columns = p.1; rest = put_before (slice_bytes s) w; is = refl; bytes = long_bytes s p.0 h.0; ranks = long_rank s p.0 h.0 h.2.0 }
+
+length_at-le : (p : PlaceView) → IsPlace p → length_at p ≤ 9
+length_at-le (short s l c) h = let fits : l ≤ 8 = h.1 in omega arith
+length_at-le (long s t c) h = omega arith
+length_at-le (link s w) h = omega arith
+
+-- places whose keys lie below one another rise, or meet
+pub ranks_seam : (p q : PlaceView) → IsPlace p → IsPlace q → AllKeysBelow (pairs_at p) (pairs_at q) → (rank_at p < rank_at q) ⊎ Meet p q
+ranks_seam p q hp hq below = by (first_pair p hp) (first_pair q hq)
+  where
+    decide : (x y : List ℕ) → key_rank x ≡ rank_at p → key_rank y ≡ rank_at q → (key_rank x < key_rank y) ⊎ IsBelowAt x y → (rank_at p < rank_at q) ⊎ Meet p q
+    decide x y e f (inl h) = inl (omega arith)
+    decide x y e f (inr h) =
+        let same : key_rank x ≡ key_rank y = h.same_rank in
+        let above : 8 < length x = h.long in
+        let lp = length_at-le p hp in
+        let lq = length_at-le q hq in
+        inr (omega arith, omega arith, omega arith)
+
+    by : FirstPair (pairs_at p) (rank_at p) → FirstPair (pairs_at q) (rank_at q) → (rank_at p < rank_at q) ⊎ Meet p q
+    by f g =
+        let less : IsBelow f.key g.key = (subst (λ w. AllKeysBelow ((f.key, f.columns) ∷ f.rest) w) g.is (subst (λ v. AllKeysBelow v (pairs_at q)) f.is below)).0.0 in
+        decide f.key g.key f.ranks g.ranks (ranks_of_less f.key g.key f.bytes g.bytes less)
+
+-- ---- layers
+pub walk-append : (xs ys : List PlaceView) → walk (xs ++ ys) ≡ walk xs ++ walk ys
+walk-append [] ys = refl
+walk-append (x ∷ xs) ys = ap (λ w. pairs_at x ++ w) (walk-append xs ys) ∙ sym (append_assoc (pairs_at x) (walk xs) (walk ys))
+
+-- the last place gives way to one of its rank or a higher one, and what follows
+pub layer_seam : (low : ℕ) (xs : List PlaceView) (p q : PlaceView) (ys : List PlaceView) → IsLayerFrom low (xs ++ p ∷ []) → IsPlace q → rank_at p ≤ rank_at q → IsLayerFrom (suc (rank_at q)) ys → IsLayerFrom low (xs ++ q ∷ ys)
+layer_seam low [] p q ys h k le rest = let from : low ≤ rank_at p = h.1 in (k, omega arith, rest)
+layer_seam low (x ∷ xs) p q ys h k le rest = (h.0, h.1, layer_seam (suc (rank_at x)) xs p q ys h.2 k le rest)
+
+pub last_place : (low : ℕ) (xs : List PlaceView) (p : PlaceView) → IsLayerFrom low (xs ++ p ∷ []) → IsPlace p
+last_place low [] p h = h.0
+last_place low (x ∷ xs) p h = last_place (suc (rank_at x)) xs p h.2
+
+-- ---- the seam of two layers of places
+views-append : (xs ys : List DraftPlace) → draft_views (xs ++ ys) ≡ draft_views xs ++ draft_views ys
+views-append = map-append draft_view
+
+-- what is left of a place's list once its last was taken, or its first
+pub record Seam (xs : List DraftPlace) (p q : DraftPlace) (ys : List DraftPlace) : Type 0 where
+  pub left : IsLayer (draft_views (xs ++ p ∷ []))
+  pub right : IsLayer (draft_views (q ∷ ys))
+  pub below : AllKeysBelow (walk (draft_views (xs ++ p ∷ []))) (walk (draft_views (q ∷ ys)))
+
+module _ (xs : List DraftPlace) (p q : DraftPlace) (ys : List DraftPlace) (s : Seam xs p q ys) where
+  left_layer : IsLayer (draft_views xs ++ draft_view p ∷ [])
+  left_layer = subst IsLayer (views-append xs (p ∷ [])) s.left
+
+  pub last_lawful : IsPlace (draft_view p)
+  last_lawful = last_place 0 (draft_views xs) (draft_view p) left_layer
+
+  pub first_lawful : IsPlace (draft_view q)
+  first_lawful = s.right.0
+
+  left_walk : walk (draft_views (xs ++ p ∷ [])) ≡ walk (draft_views xs) ++ pairs_at (draft_view p)
+  left_walk = ap walk (views-append xs (p ∷ [])) ∙ walk-append (draft_views xs) (draft_view p ∷ []) ∙ ap (λ w. walk (draft_views xs) ++ w) (append-nil (pairs_at (draft_view p)))
+
+  pub below_at_seam : AllKeysBelow (pairs_at (draft_view p)) (pairs_at (draft_view q))
+  below_at_seam =
+      below_first (pairs_at (draft_view p)) (pairs_at (draft_view q)) (walk (draft_views ys))
+      (all_back _ (walk (draft_views xs)) (pairs_at (draft_view p)) (subst (λ v. AllKeysBelow v (walk (draft_views (q ∷ ys)))) left_walk s.below))
+
+  -- apart, both stay as they are
+  pub apart_layer : (Meet (draft_view p) (draft_view q) → ⊥) → IsLayer (draft_views (xs ++ p ∷ q ∷ ys))
+  apart_layer apart = subst IsLayer (sym (views-append xs (p ∷ q ∷ ys))) (by (ranks_seam (draft_view p) (draft_view q) last_lawful first_lawful below_at_seam))
+    where
+      by : (rank_at (draft_view p) < rank_at (draft_view q)) ⊎ Meet (draft_view p) (draft_view q) → IsLayer (draft_views xs ++ draft_view p ∷ draft_view q ∷ draft_views ys)
+      by (inl h) = layer_seam 0 (draft_views xs) (draft_view p) (draft_view p) (draft_view q ∷ draft_views ys) left_layer last_lawful (omega arith) (first_lawful, h, s.right.2)
+      by (inr m) = absurd (apart m)
+
+  pub apart_walk : walk (draft_views (xs ++ p ∷ q ∷ ys)) ≡ walk (draft_views (xs ++ p ∷ [])) ++ walk (draft_views (q ∷ ys))
+  apart_walk = ap walk (views-append xs (p ∷ q ∷ ys)) ∙ walk-append (draft_views xs) (draft_views (p ∷ q ∷ ys)) ∙ sym (append_assoc (walk (draft_views xs)) (pairs_at (draft_view p)) (walk (draft_views (q ∷ ys)))) ∙ ap (λ v. v ++ walk (draft_views (q ∷ ys))) (sym left_walk)
+
+  -- where they meet, one place takes the place of both
+  pub merged_layer : (m : DraftPlace) → Meet (draft_view p) (draft_view q) → IsPlace (draft_view m) → rank_at (draft_view m) ≡ rank_at (draft_view p) → IsLayer (draft_views (xs ++ m ∷ ys))
+  merged_layer m meet lawful same =
+      let e : slice_at (draft_view p) ≡ slice_at (draft_view q) = meet.0 in
+      let f : length_at (draft_view p) ≡ 9 = meet.1 in
+      let g : length_at (draft_view q) ≡ 9 = meet.2 in
+      let ranks : rank_at (draft_view q) ≡ rank_at (draft_view m) = omega arith in
+      subst IsLayer (sym (views-append xs (m ∷ ys))) (layer_seam 0 (draft_views xs) (draft_view p) (draft_view m) (draft_views ys) left_layer lawful (omega arith) (subst (λ r. IsLayerFrom (suc r) (draft_views ys)) ranks s.right.2))
+
+  pub merged_walk : (m : DraftPlace) → pairs_at (draft_view m) ≡ pairs_at (draft_view p) ++ pairs_at (draft_view q) → walk (draft_views (xs ++ m ∷ ys)) ≡ walk (draft_views (xs ++ p ∷ [])) ++ walk (draft_views (q ∷ ys))
+  merged_walk m e =
+      ap walk (views-append xs (m ∷ ys)) ∙ walk-append (draft_views xs) (draft_views (m ∷ ys))
+      ∙ ap (λ w. walk (draft_views xs) ++ (w ++ walk (draft_views ys))) e
+      ∙ ap (λ w. walk (draft_views xs) ++ w) (append_assoc (pairs_at (draft_view p)) (pairs_at (draft_view q)) (walk (draft_views ys)))
+      ∙ sym (append_assoc (walk (draft_views xs)) (pairs_at (draft_view p)) (walk (draft_views (q ∷ ys))))
+      ∙ ap (λ v. v ++ walk (draft_views (q ∷ ys))) (sym left_walk)
+
+  -- what lies below the last place is lighter than its layer
+  pub last_weight : weight (pairs_at (draft_view p)) ≤ weight (walk (draft_views (xs ++ p ∷ [])))
+  last_weight = omega (arith, ap weight left_walk, weight-append (walk (draft_views xs)) (pairs_at (draft_view p)))
+
+-- the first element that was taken from a list
+pub first_removed : {X : Type 0} (xs : List X) (x : X) (rest : List X) → 0 < length xs → x ≡ get_or xs 0 x → rest ≡ remove xs 0 → xs ≡ x ∷ rest
+first_removed [] x rest h e f = absurd (omega arith)
+first_removed (y ∷ ys) x rest h e f = λ i. sym e i ∷ sym f i
+
+pub put_before-append : (b : List ℕ) (v w : List Pair) → put_before b (v ++ w) ≡ put_before b v ++ put_before b w
+put_before-append b v w = map-append (λ p. (b ++ p.0, p.1)) v w
+
+-- the weight of what has 8 bytes put before each key
+pub below_lighter : (b : List ℕ) (w : List Pair) → length b ≡ 8 → 0 < length w → weight w < weight (put_before b w)
+below_lighter b w e h =
+    let eight : length b * length w ≡ 8 * length w = ap (λ n. n * length w) e in
+    omega (arith, weight-put_before b w, eight)
+
+slice_content : (s : ℕ) (c : DraftContent) → slice_at (draft_view_of s c) ≡ s
+slice_content s (Short l c) = refl
+slice_content s (Suffix t c) = refl
+slice_content s (Link l) = refl
+
+pub slice_at-draft : (p : DraftPlace) → slice_at (draft_view p) ≡ p.slice
+slice_at-draft p = slice_content p.slice p.content
+
+pub slice_at-lt : (p : PlaceView) → IsPlace p → slice_at p < 2 ^ 64
+slice_at-lt (short s l c) h = h.0
+slice_at-lt (long s t c) h = h.0
+slice_at-lt (link s w) h = h.0
+
+-- the walks below two places that meet, and the joined one
+pub record Merging (p q : DraftPlace) (upper lower joined : List Pair) : Type 0 where
+  pub meet : Meet (draft_view p) (draft_view q)
+  pub upper_is : put_before (slice_bytes p.slice) upper ≡ pairs_at (draft_view p)
+  pub lower_is : put_before (slice_bytes q.slice) lower ≡ pairs_at (draft_view q)
+  pub upper_some : 0 < length upper
+  pub lower_some : 0 < length lower
+  pub upper_keys : HasNoEmptyKey upper
+  pub lower_keys : HasNoEmptyKey lower
+  pub is : joined ≡ upper ++ lower
+
+pub same_slice : (p q : DraftPlace) → Meet (draft_view p) (draft_view q) → p.slice ≡ q.slice
+same_slice p q meet = sym (slice_at-draft p) ∙ meet.0 ∙ slice_at-draft q
+
+module _ (p q : DraftPlace) (upper lower joined : List Pair) (m : Merging p q upper lower joined) where
+  pub merged_lawful : IsPlace (draft_view p) → IsPlace (link p.slice joined)
+  merged_lawful h =
+      let low : p.slice < 2 ^ 64 = subst (λ s. s < 2 ^ 64) (slice_at-draft p) (slice_at-lt (draft_view p) h) in
+      let two : 2 ≤ length joined = omega (arith, ap (λ (w : List Pair). length w) m.is, length-append upper lower, m.upper_some, m.lower_some) in
+      (low, two, subst HasNoEmptyKey (sym m.is) (all_append _ upper lower m.upper_keys m.lower_keys))
+
+  pub merged_pairs : pairs_at (link p.slice joined) ≡ pairs_at (draft_view p) ++ pairs_at (draft_view q)
+  merged_pairs =
+      ap (put_before (slice_bytes p.slice)) m.is
+      ∙ put_before-append (slice_bytes p.slice) upper lower
+      ∙ ap (λ s. put_before (slice_bytes p.slice) upper ++ put_before (slice_bytes s) lower) (same_slice p q m.meet)
+      ∙ (λ i. m.upper_is i ++ m.lower_is i)
+
+  pub merged_rank : rank_at (link p.slice joined) ≡ rank_at (draft_view p)
+  merged_rank = let e : length_at (draft_view p) ≡ 9 = m.meet.1 in omega (arith, slice_at-draft p, e)
+
+-- keys below the place that both share
+pub below_shared : (p q : DraftPlace) (upper lower : List Pair) → Meet (draft_view p) (draft_view q) → put_before (slice_bytes p.slice) upper ≡ pairs_at (draft_view p) → put_before (slice_bytes q.slice) lower ≡ pairs_at (draft_view q)
+    → AllKeysBelow (pairs_at (draft_view p)) (pairs_at (draft_view q)) → AllKeysBelow upper lower
+below_shared p q upper lower meet eu el below =
+    below_unprefixed (slice_bytes p.slice) upper lower
+    (subst (λ s. AllKeysBelow (put_before (slice_bytes p.slice) upper) (put_before (slice_bytes s) lower)) (sym (same_slice p q meet))
+    (subst (λ w. AllKeysBelow (put_before (slice_bytes p.slice) upper) w) (sym el) (subst (λ w. AllKeysBelow w (pairs_at (draft_view q))) (sym eu) below)))
+
+-- of a rising walk, what comes before a pair is below it
+pub rising_middle : (v : List Pair) (p : Pair) (w : List Pair) → KeysRise (v ++ p ∷ w) → AllKeysBelow v (p ∷ [])
+rising_middle [] p w h = tt
+rising_middle (x ∷ v) p w h = (((all_back _ v (p ∷ w) h.0).0, tt), rising_middle v p w h.1)

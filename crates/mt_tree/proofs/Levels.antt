@@ -1,0 +1,196 @@
+-- Nodes of one height are gathered under nodes one level up.
+use Rattle.std.proofs.Common.{◌≡◌, ℕ, zero, suc, ◌+◌, ◌<◌, ◌≤◌, List, [], ◌∷◌, ◌++◌, length, map, drop, get_or, sym, refl, ap, ◌∙◌, subst, arith, append_assoc, length-append, Vec, Global}
+use Rattle.std.specs.List.{AllByRecursion}
+use Rattle.std.proofs.lemmas.List.{append-nil, length-map, drop_all}
+use Rattle.mt_words.specs.Slices.{slice_bytes}
+use Rattle.mt_words.proofs.SliceBytes.{slice_bytes-length}
+use Rattle.mt_tree.specs.Falls.{weight-append}
+use Rattle.mt_tree.specs.Layer.{walk, weight, pairs_at, PlaceView, link, slice_at, rank_at, IsPlace, IsLayerFrom, IsLayer}
+use Rattle.mt_words.specs.Walks.{Pair}
+use Rattle.mt_tree.specs.Nodes.{NodeView, places, joined, borders_of, SlicesFrom, SlicesBelow, SlicesApart, IsBorder, IsNode, IsNodeAt, IsLevelAt, IsLevel, IsInterior, AreSeparated, level_height, CutAt, first_slice_of, first_of, parent_node}
+use Rattle.mt_tree.specs.NodeFalls.{joined-append}
+use Rattle.mt_tree.proofs.Joins.{all_append, walk-append, below_lighter}
+use Rattle.mt_tree.proofs.Cuts.{all_back, all_front, all_weaker, layer_back, layer_front, slices_from, borders_of-append, level_is}
+use Rattle.arrayvec.specs.declared.array_vec.ArrayVec.{ArrayVec}
+use Rattle.std.specs.Global.{Box}
+use Rattle.mt_tree.specs.NodeViews.{node_view, IsNodeKind}
+use Rattle.mt_tree.specs.declared.node.NodeKind.{NodeKind}
+use Rattle.mt_tree.specs.declared.node.NodeKind.TheVariants.{Interior}
+
+-- ---- parts of a level
+apart_back : (bs cs : List (List PlaceView)) → SlicesApart (bs ++ cs) → SlicesApart cs
+apart_back [] cs h = h
+apart_back (b ∷ bs) cs h = apart_back bs cs h.1
+
+apart_front : (bs cs : List (List PlaceView)) → SlicesApart (bs ++ cs) → SlicesApart bs
+apart_front [] cs h = tt
+apart_front (b ∷ bs) cs h =
+    (all_weaker (λ p. SlicesFrom (suc (slice_at p)) (joined (bs ++ cs))) (λ p. SlicesFrom (suc (slice_at p)) (joined bs)) (λ p k. all_front (λ q. suc (slice_at p) ≤ slice_at q) (joined bs) (joined cs) (subst (SlicesFrom (suc (slice_at p))) (joined-append bs cs) k)) b h.0, apart_front bs cs h.1)
+
+apart_between : (bs cs : List (List PlaceView)) → SlicesApart (bs ++ cs) → CutAt (joined bs) (joined cs)
+apart_between [] cs h = tt
+apart_between (b ∷ bs) cs h =
+    all_append _ b (joined bs)
+    (all_weaker (λ p. SlicesFrom (suc (slice_at p)) (joined (bs ++ cs))) (λ p. SlicesFrom (suc (slice_at p)) (joined cs)) (λ p k. all_back (λ q. suc (slice_at p) ≤ slice_at q) (joined bs) (joined cs) (subst (SlicesFrom (suc (slice_at p))) (joined-append bs cs) k)) b h.0)
+    (apart_between bs cs h.1)
+
+joined_of-append : (xs ys : List NodeView) → joined (borders_of (xs ++ ys)) ≡ joined (borders_of xs) ++ joined (borders_of ys)
+joined_of-append xs ys = ap joined (borders_of-append xs ys) ∙ joined-append (borders_of xs) (borders_of ys)
+
+pub level_back : (h : ℕ) (xs ys : List NodeView) → IsLevelAt h (xs ++ ys) → IsLevelAt h ys
+level_back h xs ys l = record {
+  nodes = all_back (IsNodeAt h) xs ys l.nodes;
+  apart = apart_back (borders_of xs) (borders_of ys) (subst SlicesApart (borders_of-append xs ys) l.apart);
+  layer = layer_back 0 (joined (borders_of xs)) (joined (borders_of ys)) (subst IsLayer (joined_of-append xs ys) l.layer);
+}
+
+pub level_front : (h : ℕ) (xs ys : List NodeView) → IsLevelAt h (xs ++ ys) → IsLevelAt h xs
+level_front h xs ys l = record {
+  nodes = all_front (IsNodeAt h) xs ys l.nodes;
+  apart = apart_front (borders_of xs) (borders_of ys) (subst SlicesApart (borders_of-append xs ys) l.apart);
+  layer = layer_front 0 (joined (borders_of xs)) (joined (borders_of ys)) (subst IsLayer (joined_of-append xs ys) l.layer);
+}
+
+-- ---- the first slice
+joined_some : (bs : List (List PlaceView)) → 1 ≤ length bs → AllByRecursion IsBorder bs → 1 ≤ length (joined bs)
+joined_some [] h a = absurd (omega arith)
+joined_some (b ∷ bs) h a = let some : 1 ≤ length b = a.0.0 in omega (arith, length-append b (joined bs))
+
+pub node_some : (n : NodeView) → IsNode n → 1 ≤ length (places n)
+node_some n h = joined_some n.borders h.0 h.1
+
+pub head_front : (xs ys : List PlaceView) → 1 ≤ length xs → first_slice_of (xs ++ ys) ≡ first_slice_of xs
+head_front [] ys h = absurd (omega arith)
+head_front (x ∷ xs) ys h = refl
+
+pub first_kid : (n : NodeView) (ns : List NodeView) → IsNode n → first_slice_of (joined (borders_of (n ∷ ns))) ≡ first_of n
+first_kid n ns h = ap first_slice_of (joined-append n.borders (borders_of ns)) ∙ head_front (places n) (joined (borders_of ns)) (node_some n h)
+
+head_least : (low : ℕ) (ps : List PlaceView) → IsLayerFrom low ps → SlicesFrom (first_slice_of ps) ps
+head_least low [] h = tt
+head_least low (p ∷ ps) h = (omega arith, slices_from (suc (rank_at p)) (slice_at p) ps (omega arith) h.2)
+
+slices_apiece : (s : ℕ) (ns : List NodeView) → SlicesFrom s (joined (borders_of ns)) → AllByRecursion (λ n. SlicesFrom s (places n)) ns
+slices_apiece s [] h = tt
+slices_apiece s (n ∷ ns) h =
+    let k = subst (SlicesFrom s) (joined-append n.borders (borders_of ns)) h in
+    (all_front (λ q. s ≤ slice_at q) (places n) (joined (borders_of ns)) k, slices_apiece s ns (all_back (λ q. s ≤ slice_at q) (places n) (joined (borders_of ns)) k))
+
+below_head : (xs ys : List PlaceView) → 1 ≤ length ys → CutAt xs ys → SlicesBelow (first_slice_of ys) xs
+below_head xs [] h c = absurd (omega arith)
+below_head xs (y ∷ ys) h c = all_weaker (λ p. SlicesFrom (suc (slice_at p)) (y ∷ ys)) (λ p. slice_at p < slice_at y) (λ p k. k.0) xs c
+
+-- the first slices of all nodes but the first separate them
+pub separated : (h : ℕ) (k : NodeView) (ks : List NodeView) → IsLevelAt h (k ∷ ks) → AreSeparated (map first_of ks) (k ∷ ks)
+separated h k [] l = tt
+separated h k (m ∷ ms) l =
+    let rest = level_back h (k ∷ []) (m ∷ ms) l in
+    let head = first_kid m ms rest.nodes.0.1 in
+    let between : CutAt (places k) (joined (borders_of (m ∷ ms))) = apart_between k.borders (borders_of (m ∷ ms)) l.apart in
+    let some : 1 ≤ length (joined (borders_of (m ∷ ms))) = omega (arith, node_some m rest.nodes.0.1, ap (λ z. length z) (joined-append m.borders (borders_of ms)), length-append (places m) (joined (borders_of ms))) in (
+      subst (λ s. SlicesBelow s (places k)) head (below_head (places k) _ some between),
+      slices_apiece (first_of m) (m ∷ ms) (subst (λ s. SlicesFrom s (joined (borders_of (m ∷ ms)))) head (head_least 0 _ rest.layer)),
+      separated h m ms rest,
+    )
+
+all_heights : (h : ℕ) (ns : List NodeView) → AllByRecursion (IsNodeAt h) ns → AllByRecursion (λ n. n.height ≡ h) ns
+all_heights h ns a = all_weaker (IsNodeAt h) (λ n. n.height ≡ h) (λ n k. k.0) ns a
+
+pub all_nodes : (h : ℕ) (ns : List NodeView) → AllByRecursion (IsNodeAt h) ns → AllByRecursion IsNode ns
+all_nodes h ns a = all_weaker (IsNodeAt h) IsNode (λ n k. k.1) ns a
+
+borders_some : (h : ℕ) (ns : List NodeView) → AllByRecursion (IsNodeAt h) ns → 1 ≤ length ns → 1 ≤ length (borders_of ns)
+borders_some h [] a some = absurd (omega arith)
+borders_some h (n ∷ ns) a some = let one : 1 ≤ length n.borders = a.0.1.0 in omega (arith, length-append n.borders (borders_of ns))
+
+borders_lawful : (h : ℕ) (ns : List NodeView) → AllByRecursion (IsNodeAt h) ns → AllByRecursion IsBorder (borders_of ns)
+borders_lawful h [] a = tt
+borders_lawful h (n ∷ ns) a = all_append IsBorder n.borders (borders_of ns) a.0.1.1 (borders_lawful h ns a.1)
+
+pub parent_is_node : (h : ℕ) (ns : List NodeView) → IsLevelAt h ns → 1 ≤ length ns → IsNode (parent_node ns)
+parent_is_node h ns l some = (borders_some h ns l.nodes some, borders_lawful h ns l.nodes, l.apart, l.layer)
+
+pub interior_of : (separators : List ℕ) (ns : List NodeView) → IsLevel ns → 2 ≤ length ns → length ns ≤ 16 → separators ≡ map first_of (drop 1 ns) → IsInterior separators ns
+interior_of separators [] l two most e = absurd (omega arith)
+interior_of separators (n ∷ ns) l two most e = record {
+  two = two;
+  most = most;
+  between = omega (arith, ap (λ (z : List ℕ). length z) e, length-map ns first_of);
+  level = all_heights n.height (n ∷ ns) l.nodes;
+  nodes = all_nodes n.height (n ∷ ns) l.nodes;
+  separated = subst (λ z. AreSeparated z (n ∷ ns)) (sym e) (separated n.height n ns l);
+}
+
+pub first_is : (k : NodeKind) (v : NodeView) (ss : Box (ArrayVec ℕ 15 (Unit {0}))) (ks : Vec NodeView Global) (n : NodeView) → IsNodeKind k → node_view k ≡ v → k ≡ Interior ss ks → n ≡ get_or ks.items 0 n → first_of n ≡ first_of v
+first_is k v ss ks n h e f g = by ks.items refl
+  where
+    inner : IsInterior ss.value.items ks.items
+    inner = (subst IsNodeKind f h).0
+
+    by : (ns : List NodeView) → ks.items ≡ ns → first_of n ≡ first_of v
+    by [] same = let two : 2 ≤ length ks.items = inner.two in absurd (omega (arith, ap (λ (z : List NodeView). length z) same))
+    by (m ∷ ms) same =
+        let nodes : AllByRecursion IsNode (m ∷ ms) = subst (AllByRecursion IsNode) same inner.nodes in
+        let is : n ≡ m = g ∙ ap (λ (z : List NodeView). get_or z 0 n) same in
+        ap first_of is ∙ sym (first_kid m ms nodes.0) ∙ ap (λ (z : List NodeView). first_slice_of (joined (borders_of z))) (sym same) ∙ ap first_of (sym (ap node_view f) ∙ e)
+
+-- a child's first slice comes off what is still to be read
+pub one_head : (ns : List NodeView) (i : ℕ) (n : NodeView) (done next heads : List ℕ) (s : ℕ) → done ++ map first_of (drop i ns) ≡ heads → i < length ns → n ≡ get_or ns i n → next ≡ done ++ s ∷ [] → s ≡ first_of n → next ++ map first_of (drop (i + 1) ns) ≡ heads
+one_head ns i n done next heads s e lt g f same =
+    let cut : drop i ns ≡ n ∷ drop (i + 1) ns = drop_one ns i n lt g in
+    ap (λ (z : List ℕ). z ++ map first_of (drop (i + 1) ns)) f
+    ∙ append_assoc done (s ∷ []) (map first_of (drop (i + 1) ns))
+    ∙ ap (λ (k : ℕ). done ++ k ∷ map first_of (drop (i + 1) ns)) same
+    ∙ ap (λ (z : List NodeView). done ++ map first_of z) (sym cut)
+    ∙ e
+  where
+    drop_one : (xs : List NodeView) (i : ℕ) (n : NodeView) → i < length xs → n ≡ get_or xs i n → drop i xs ≡ n ∷ drop (i + 1) xs
+    drop_one [] i n lt g = absurd (omega arith)
+    drop_one (x ∷ xs) zero n lt g = ap (λ (z : NodeView). z ∷ xs) (sym g)
+    drop_one (x ∷ xs) (suc i) n lt g = let e : suc i + 1 ≡ suc (i + 1) = omega arith in rw e (drop_one xs i n (omega arith) g)
+
+-- ---- one level up
+-- the children that get their parent, and what is left
+pub level_children : (h : ℕ) (kids rest : List NodeView) → IsLevelAt h (kids ++ rest) → IsLevel kids
+level_children h kids rest l = level_is h kids (level_front h kids rest l)
+
+pub height_of : (h : ℕ) (kids rest : List NodeView) → IsLevelAt h (kids ++ rest) → 1 ≤ length kids → level_height kids ≡ h
+height_of h [] rest l some = absurd (omega arith)
+height_of h (k ∷ kids) rest l some = l.nodes.0.0
+
+pub upper_level : (h : ℕ) (upper nodes : List NodeView) → AllByRecursion (IsNodeAt h) upper → borders_of upper ≡ borders_of nodes → IsLevel nodes → IsLevel upper
+upper_level h upper nodes a e l = level_is h upper (record {
+  nodes = a;
+  apart = subst SlicesApart (sym e) l.apart;
+  layer = subst (λ z. IsLayer (joined z)) (sym e) l.layer;
+})
+
+-- a parent stands for its children
+pub under_parent : (upper kids rest : List NodeView) (all : List (List PlaceView)) → borders_of upper ++ borders_of (kids ++ rest) ≡ all → borders_of (upper ++ parent_node kids ∷ []) ++ borders_of rest ≡ all
+under_parent upper kids rest all e =
+    ap (λ z. z ++ borders_of rest) (borders_of-append upper (parent_node kids ∷ []) ∙ ap (λ z. borders_of upper ++ z) (append-nil (borders_of kids)))
+    ∙ append_assoc (borders_of upper) (borders_of kids) (borders_of rest)
+    ∙ ap (λ z. borders_of upper ++ z) (sym (borders_of-append kids rest))
+    ∙ e
+
+pub heads_done : (separators heads : List ℕ) (ns : List NodeView) (at : ℕ) → separators ++ map first_of (drop at ns) ≡ heads → length ns ≤ at → separators ≡ heads
+heads_done separators heads ns at e le = sym (append-nil separators) ∙ ap (λ (z : List NodeView). separators ++ map first_of z) (sym (drop_all at ns le)) ∙ e
+
+pub moved : (kids rest next : List NodeView) (node : NodeView) → rest ≡ node ∷ next → kids ++ rest ≡ (kids ++ node ∷ []) ++ next
+moved kids rest next node e = ap (λ z. kids ++ z) e ∙ sym (append_assoc kids (node ∷ []) next)
+
+-- ---- a layer's places one by one
+pub place_weight : (before left all : List PlaceView) (p : PlaceView) (next : List PlaceView) → before ++ left ≡ all → left ≡ p ∷ next → weight (pairs_at p) ≤ weight (walk all)
+place_weight before left all p next e f =
+    let whole : walk all ≡ walk before ++ (pairs_at p ++ walk next) = ap walk (sym e ∙ ap (λ z. before ++ z) f) ∙ walk-append before (p ∷ next) in
+    omega (arith, ap weight whole, weight-append (walk before) (pairs_at p ++ walk next), weight-append (pairs_at p) (walk next))
+
+pub place_lawful : (before left all : List PlaceView) (p : PlaceView) (next : List PlaceView) → before ++ left ≡ all → left ≡ p ∷ next → IsLayer all → IsPlace p
+place_lawful before left all p next e f h = (layer_back 0 before (p ∷ next) (subst IsLayer (sym e ∙ ap (λ z. before ++ z) f) h)).0
+
+pub link_some : (s : ℕ) (l : List PlaceView) → IsPlace (link s (walk l)) → 1 ≤ length l
+link_some s [] h = absurd (let two : 2 ≤ 0 = h.1 in omega arith)
+link_some s (p ∷ l) h = omega arith
+
+pub link_lighter : (s : ℕ) (w : List Pair) → IsPlace (link s w) → weight w < weight (pairs_at (link s w))
+link_lighter s w h = let two : 2 ≤ length w = h.1 in below_lighter (slice_bytes s) w (slice_bytes-length s) (omega arith)

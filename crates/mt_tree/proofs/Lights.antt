@@ -1,0 +1,54 @@
+-- What lies below weighs less.
+use Rattle.std.proofs.Common.{◌≡◌, ℕ, zero, suc, ◌+◌, ◌<◌, ◌≤◌, List, [], ◌∷◌, ◌++◌, length, take, get_or, sym, ap, ◌∙◌, subst, arith, append_assoc}
+use Rattle.std.specs.List.{AllByRecursion}
+use Rattle.std.proofs.lemmas.List.{append-nil, take_more, map_more}
+use Rattle.mt_tree.specs.Layer.{PlaceView, link, pairs_at, walk, weight, IsPlace}
+use Rattle.mt_tree.specs.Falls.{weight-append}
+use Rattle.mt_tree.specs.Nodes.{NodeView, places, joined, borders_of, IsNode}
+use Rattle.mt_tree.specs.NodeFalls.{node_some, all_weight, all_weight-cons, joined-append}
+use Rattle.mt_tree.specs.NodeViews.{views, view_of, view_of_content}
+use Rattle.mt_tree.specs.declared.node.Place.{Place}
+use Rattle.mt_tree.specs.declared.node.Content.{Content}
+use Rattle.mt_tree.specs.declared.node.Content.TheVariants.{Link}
+use Rattle.mt_tree.proofs.Levels.{link_lighter}
+
+-- ---- children
+kid_light : (ks : List NodeView) (i : ℕ) (d : NodeView) → i < length ks → weight (walk (places (get_or ks i d))) ≤ all_weight ks
+kid_light [] i d l = absurd (omega arith)
+kid_light (k ∷ ks) zero d l = omega (arith, all_weight-cons k ks)
+kid_light (k ∷ ks) (suc i) d l = omega (arith, all_weight-cons k ks, kid_light ks i d (omega arith))
+
+pub kid_lighter : (ks : List NodeView) (i : ℕ) (d : NodeView) → 2 ≤ length ks → AllByRecursion IsNode ks → i < length ks → weight (walk (places (get_or ks i d))) < all_weight ks
+kid_lighter [] i d h a l = absurd (omega arith)
+kid_lighter (k ∷ []) i d h a l = absurd (omega arith)
+kid_lighter (k ∷ m ∷ ks) zero d h a l = omega (arith, all_weight-cons k (m ∷ ks), all_weight-cons m ks, node_some m a.1.0)
+kid_lighter (k ∷ m ∷ ks) (suc i) d h a l = omega (arith, all_weight-cons k (m ∷ ks), node_some k a.0, kid_light (m ∷ ks) i d (omega arith))
+
+-- ---- places of a border
+pub view_light : (xs : List Place) (i : ℕ) (d : Place) → i < length xs → weight (pairs_at (view_of (get_or xs i d))) ≤ weight (walk (views xs))
+view_light [] i d l = absurd (omega arith)
+view_light (x ∷ xs) zero d l = omega (arith, weight-append (pairs_at (view_of x)) (walk (views xs)))
+view_light (x ∷ xs) (suc i) d l = omega (arith, weight-append (pairs_at (view_of x)) (walk (views xs)), view_light xs i d (omega arith))
+
+-- ---- a place's link
+pub content_lighter : (s : ℕ) (h : Content) (n : NodeView) → IsPlace (view_of_content s h) → h ≡ Link n → weight (walk (places n)) < weight (pairs_at (view_of_content s h))
+content_lighter s h n lawful e =
+    let same : weight (pairs_at (view_of_content s h)) ≡ weight (pairs_at (link s (walk (places n)))) = ap (λ (z : Content). weight (pairs_at (view_of_content s z))) e in
+    let link_lawful : IsPlace (link s (walk (places n))) = subst (λ (z : Content). IsPlace (view_of_content s z)) e lawful in
+    omega (arith, same, link_lighter s (walk (places n)) link_lawful)
+
+-- ---- one more
+kids-push : (ks : List NodeView) (k : NodeView) → joined (borders_of (ks ++ k ∷ [])) ≡ joined (borders_of ks) ++ places k
+kids-push [] k = ap joined (append-nil k.borders)
+kids-push (m ∷ ks) k =
+    joined-append m.borders (borders_of (ks ++ k ∷ []))
+    ∙ ap (λ (z : List PlaceView). places m ++ z) (kids-push ks k)
+    ∙ sym (append_assoc (places m) (joined (borders_of ks)) (places k))
+    ∙ ap (λ (z : List PlaceView). z ++ places k) (sym (joined-append m.borders (borders_of ks)))
+
+pub kids_more : (ks : List NodeView) (i : ℕ) (k : NodeView) → i < length ks → k ≡ get_or ks i k → joined (borders_of (take (i + 1) ks)) ≡ joined (borders_of (take i ks)) ++ places k
+kids_more ks i k l e =
+    ap (λ (z : List NodeView). joined (borders_of z)) (take_more ks i k l ∙ ap (λ (z : NodeView). take i ks ++ z ∷ []) (sym e)) ∙ kids-push (take i ks) k
+
+pub views_more : (xs : List Place) (i : ℕ) (x : Place) → i < length xs → x ≡ get_or xs i x → views (take (i + 1) xs) ≡ views (take i xs) ++ view_of x ∷ []
+views_more xs i x l e = map_more view_of xs i x l ∙ ap (λ (z : Place). views (take i xs) ++ view_of z ∷ []) (sym e)

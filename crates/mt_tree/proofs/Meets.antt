@@ -1,0 +1,115 @@
+-- Two lists of places meet.
+use Rattle.std.proofs.Common.{◌≡◌, ◌<◌, ◌≤◌, List, [], ◌∷◌, ◌++◌, get_or, length, sym, refl, ap, ◌∙◌, subst, arith, append_assoc}
+use Rattle.std.specs.List.{AllByRecursion, remove}
+use Rattle.std.proofs.lemmas.List.{append-nil, map-append, length-map}
+use Rattle.mt_tree.specs.Layer.{PlaceView, slice_at, IsLayer, walk, weight, AllKeysBelow}
+use Rattle.mt_words.specs.Walks.{Pair}
+use Rattle.mt_tree.specs.Falls.{weight-append}
+use Rattle.mt_tree.specs.Nodes.{joined, IsBorder}
+use Rattle.mt_tree.specs.NodeFalls.{joined-append}
+use Rattle.mt_tree.specs.Borders.{AreBorders, SameEnds, layer_walk, last_slice_of}
+use Rattle.mt_tree.specs.Nodes.{first_slice_of}
+use Rattle.mt_tree.specs.DraftViews.{draft_views, draft_view, border_views}
+use Rattle.mt_tree.specs.declared.layer.Border.{Border}
+use Rattle.mt_tree.specs.declared.layer.DraftPlace.{DraftPlace}
+use Rattle.mt_tree.proofs.Joins.{Seam, all_back, below_first, walk-append, first_removed, slice_at-draft}
+use Rattle.mt_tree.proofs.Cuts.{layer_back, layer_front}
+use Rattle.mt_tree.proofs.CutUps.{borders-push}
+
+pub seam_of : (l r xs : List DraftPlace) (p q : DraftPlace) → IsLayer (draft_views l) → IsLayer (draft_views r) → AllKeysBelow (walk (draft_views l)) (walk (draft_views r)) → l ≡ xs ++ p ∷ [] → 1 ≤ length r → q ≡ get_or r 0 q → Seam xs p q (remove r 0)
+seam_of l r xs p q hl hr below dl some dq =
+    let dr : r ≡ q ∷ remove r 0 = first_removed r q (remove r 0) (omega arith) dq refl in
+    record {
+      left = subst (λ (z : List DraftPlace). IsLayer (draft_views z)) dl hl;
+      right = subst (λ (z : List DraftPlace). IsLayer (draft_views z)) dr hr;
+      below = subst (λ (z : List DraftPlace). AllKeysBelow (walk (draft_views z)) (walk (draft_views (q ∷ remove r 0)))) dl (subst (λ (z : List DraftPlace). AllKeysBelow (walk (draft_views l)) (walk (draft_views z))) dr below);
+    }
+
+pub same_first : (r : List DraftPlace) (x y : DraftPlace) → 1 ≤ length r → x ≡ get_or r 0 x → y ≡ get_or r 0 y → x ≡ y
+same_first [] x y h e f = absurd (omega arith)
+same_first (z ∷ r) x y h e f = e ∙ sym f
+
+-- lists on both sides of a place
+glued : (xs places rest ys : List DraftPlace) (p : DraftPlace) → places ≡ xs ++ p ∷ [] → rest ≡ ys → draft_views places ++ draft_views rest ≡ draft_views (xs ++ p ∷ ys)
+glued xs places rest ys p e f = (λ i. draft_views (e i) ++ draft_views (f i)) ∙ sym (map-append draft_view (xs ++ p ∷ []) ys) ∙ ap draft_views (append_assoc xs (p ∷ []) ys)
+
+pub glued_layer : (xs places rest ys : List DraftPlace) (p : DraftPlace) → places ≡ xs ++ p ∷ [] → rest ≡ ys → IsLayer (draft_views (xs ++ p ∷ ys)) → IsLayer (draft_views places ++ draft_views rest)
+glued_layer xs places rest ys p e f h = subst IsLayer (sym (glued xs places rest ys p e f)) h
+
+first_kept : (xs ys : List PlaceView) → 1 ≤ length xs → first_slice_of (xs ++ ys) ≡ first_slice_of xs
+first_kept [] ys k = absurd (omega arith)
+first_kept (x ∷ xs) ys k = refl
+
+last_kept : (xs ys : List PlaceView) → 1 ≤ length ys → last_slice_of (xs ++ ys) ≡ last_slice_of ys
+last_kept [] ys h = refl
+last_kept (x ∷ []) [] h = absurd (omega arith)
+last_kept (x ∷ []) (y ∷ ys) h = refl
+last_kept (x ∷ z ∷ xs) ys h = last_kept (z ∷ xs) ys h
+
+-- both lists stayed as they are
+pub ends_kept : (l r places rest : List DraftPlace) → 1 ≤ length l → 1 ≤ length r → places ≡ l → rest ≡ r → SameEnds (draft_views l) (draft_views r) (draft_views places ++ draft_views rest)
+ends_kept l r places rest h k e f =
+    let same : draft_views places ++ draft_views rest ≡ draft_views l ++ draft_views r = (λ i. draft_views (e i) ++ draft_views (f i)) in
+    record {
+      first = ap first_slice_of same ∙ first_kept (draft_views l) (draft_views r) (omega (arith, length-map l draft_view));
+      last = ap last_slice_of same ∙ last_kept (draft_views l) (draft_views r) (omega (arith, length-map r draft_view));
+    }
+
+pub first_merged : (xs rest : List PlaceView) (p m : PlaceView) → slice_at m ≡ slice_at p → first_slice_of (xs ++ m ∷ rest) ≡ first_slice_of (xs ++ p ∷ [])
+first_merged [] rest p m e = e
+first_merged (x ∷ xs) rest p m e = refl
+
+last_merged : (xs ys : List PlaceView) (m q : PlaceView) → slice_at m ≡ slice_at q → last_slice_of (xs ++ m ∷ ys) ≡ last_slice_of (q ∷ ys)
+last_merged xs [] m q e = last_kept xs (m ∷ []) (omega arith) ∙ e
+last_merged xs (y ∷ ys) m q e = last_kept xs (m ∷ y ∷ ys) (omega arith)
+
+-- one place took the place of two
+pub ends_merged : (l r xs ys places rest : List DraftPlace) (p q m : DraftPlace) → l ≡ xs ++ p ∷ [] → r ≡ q ∷ ys → places ≡ xs ++ m ∷ [] → rest ≡ ys → m.slice ≡ p.slice → p.slice ≡ q.slice → SameEnds (draft_views l) (draft_views r) (draft_views places ++ draft_views rest)
+ends_merged l r xs ys places rest p q m dl dr e f s t =
+    let whole : draft_views places ++ draft_views rest ≡ draft_views xs ++ draft_view m ∷ draft_views ys = glued xs places rest ys m e f ∙ map-append draft_view xs (m ∷ ys) in
+    let left : draft_views l ≡ draft_views xs ++ draft_view p ∷ [] = ap draft_views dl ∙ map-append draft_view xs (p ∷ []) in
+    let mp : slice_at (draft_view m) ≡ slice_at (draft_view p) = slice_at-draft m ∙ s ∙ sym (slice_at-draft p) in
+    let mq : slice_at (draft_view m) ≡ slice_at (draft_view q) = slice_at-draft m ∙ s ∙ t ∙ sym (slice_at-draft q) in
+    record {
+      first = ap first_slice_of whole ∙ first_merged (draft_views xs) (draft_views ys) (draft_view p) (draft_view m) mp ∙ sym (ap first_slice_of left);
+      last = ap last_slice_of whole ∙ last_merged (draft_views xs) (draft_views ys) (draft_view m) (draft_view q) mq ∙ sym (ap last_slice_of (ap draft_views dr));
+    }
+
+-- ---- two lists of borders
+pub record Sides (fs bs : List (List PlaceView)) (l f : List PlaceView) (vl : List (List PlaceView)) : Type 0 where
+  pub left : AreBorders (fs ++ l ∷ [])
+  pub right : AreBorders (f ∷ bs)
+  pub below : AllKeysBelow (walk l) (walk f)
+  pub light : weight (walk l) ≤ weight (layer_walk vl)
+
+pub sides : (lb rb fs bs : List Border) (l f : Border) (vl vr : List (List PlaceView)) → border_views lb ≡ vl → border_views rb ≡ vr → AreBorders (border_views lb) → AreBorders (border_views rb) → AllKeysBelow (layer_walk vl) (layer_walk vr)
+    → lb ≡ fs ++ l ∷ [] → 0 < length rb → f ≡ get_or rb 0 f → bs ≡ remove rb 0 → Sides (border_views fs) (border_views bs) (draft_views l.places.items) (draft_views f.places.items) vl
+sides lb rb fs bs l f vl vr el er hl hr below dl some df db =
+    let ls = draft_views l.places.items in
+    let front = border_views fs in
+    let is : vl ≡ front ++ ls ∷ [] = sym el ∙ ap border_views dl ∙ borders-push fs l in
+    let ir : vr ≡ draft_views f.places.items ∷ border_views bs = sym er ∙ ap border_views (first_removed rb f bs some df db) in
+    let wl : layer_walk vl ≡ walk (joined front) ++ walk ls = ap layer_walk is ∙ ap walk (joined-append front (ls ∷ []) ∙ ap (λ (z : List PlaceView). joined front ++ z) (append-nil ls)) ∙ walk-append (joined front) ls in
+    let wr : layer_walk vr ≡ walk (draft_views f.places.items) ++ layer_walk (border_views bs) = ap layer_walk ir ∙ walk-append (draft_views f.places.items) (joined (border_views bs)) in
+    let both : AllKeysBelow (walk (joined front) ++ walk ls) (walk (draft_views f.places.items) ++ layer_walk (border_views bs)) =
+    subst (λ (z : List Pair). AllKeysBelow z (walk (draft_views f.places.items) ++ layer_walk (border_views bs))) wl (subst (λ (z : List Pair). AllKeysBelow (layer_walk vl) z) wr below) in
+    record {
+      left = subst AreBorders (el ∙ is) hl;
+      right = subst AreBorders (er ∙ ir) hr;
+      below = below_first (walk ls) (walk (draft_views f.places.items)) (layer_walk (border_views bs)) (all_back _ (walk (joined front)) (walk ls) both);
+      light = omega (arith, ap weight wl, weight-append (walk (joined front)) (walk ls));
+    }
+
+module _ (fs bs : List (List PlaceView)) (l f : List PlaceView) (vl : List (List PlaceView)) (s : Sides fs bs l f vl) where
+  pub left_layer : IsLayer l
+  left_layer = subst IsLayer (append-nil l) (layer_back 0 (joined fs) (joined (l ∷ [])) (subst IsLayer (joined-append fs (l ∷ [])) s.left.2))
+
+  pub right_layer : IsLayer f
+  right_layer = layer_front 0 f (joined bs) s.right.2
+
+  pub last_border : IsBorder l
+  last_border = last fs s.left.0
+    where
+      last : (gs : List (List PlaceView)) → AllByRecursion IsBorder (gs ++ l ∷ []) → IsBorder l
+      last [] h = h.0
+      last (g ∷ gs) h = last gs h.1

@@ -1,0 +1,287 @@
+-- Where walks lie below one another, by their edges.
+use Rattle.std.proofs.Common.{◌≡◌, ◌≢◌, ℕ, zero, suc, ◌+◌, ◌-◌, ◌*◌, ◌^◌, ◌<◌, ◌≤◌, min, List, [], ◌∷◌, ◌++◌, length, take, drop, sym, refl, ap, ◌∙◌, subst, inl, inr, ◌⊎◌, arith}
+use Rattle.std.specs.List.{AllByRecursion}
+use Rattle.std.proofs.lemmas.List.{append-nil, length-map, map-append}
+use Rattle.mt_words.specs.Slices.{AreBytes, slice_in, slice_bytes}
+use Rattle.mt_tree.specs.Layer.{key_rank}
+use Rattle.mt_words.proofs.SliceBytes.{slice_bytes-bytes, slice_bytes-long, bytes_take}
+use Rattle.mt_tree.proofs.Ranks.{ranks_of_less, less_of_ranks, IsBelowAt}
+use Rattle.mt_words.proofs.SliceBytes.{slice_bytes-length}
+use Rattle.mt_tree.specs.Layer.{PlaceView, short, long, link, rank_at, pairs_at, put_before, walk, IsPlace, IsLayerFrom, IsLayer, AllKeysBelow, weight}
+use Rattle.mt_words.specs.Walks.{Pair}
+use Rattle.mt_words.specs.Words.{IsBelow}
+use Rattle.mt_tree.specs.Edges.{PlaceEdge, LastEdge, FirstEdge, HasBytes}
+use Rattle.mt_tree.specs.Falls.{weight-append}
+use Rattle.mt_tree.proofs.Joins.{walk-append, all_append, below_unprefixed, below_lighter}
+use Rattle.mt_tree.proofs.Finds.{pairs_rank, rest_is}
+use Rattle.mt_tree.proofs.Cuts.{all_front, all_back, all_weaker, length_at-le, layer_back}
+use Rattle.mt_words.proofs.SliceBytes.{below-prefixed}
+use Rattle.std.proofs.lemmas.List.{take_at}
+use Rattle.std.specs.Prelude.{slice_get, Some}
+use Rattle.mt_tree.specs.DraftViews.{draft_views, draft_view}
+use Rattle.mt_tree.specs.declared.layer.DraftPlace.{DraftPlace}
+
+-- ---- bytes of places
+long_bytes : (s : ℕ) (t : List ℕ) → s < 2 ^ 64 → AreBytes (take 8 (slice_bytes s ++ t))
+long_bytes s t h = subst AreBytes (sym (take_at (slice_bytes s) t 8 (slice_bytes-length s))) (slice_bytes-bytes s h)
+
+pub link_bytes : (s : ℕ) (w : List Pair) → s < 2 ^ 64 → HasBytes (put_before (slice_bytes s) w)
+link_bytes s [] h = tt
+link_bytes s (p ∷ w) h = (long_bytes s p.0 h, link_bytes s w h)
+
+pub pairs_bytes : (p : PlaceView) → IsPlace p → HasBytes (pairs_at p)
+pairs_bytes (short s l c) h = (bytes_take 8 _ (bytes_take l _ (slice_bytes-bytes s h.0)), tt)
+pairs_bytes (long s t c) h = (long_bytes s t h.0, tt)
+pairs_bytes (link s w) h = link_bytes s w h.0
+
+pub walk_bytes : (low : ℕ) (ps : List PlaceView) → IsLayerFrom low ps → HasBytes (walk ps)
+walk_bytes low [] h = tt
+walk_bytes low (p ∷ ps) h = all_append _ (pairs_at p) (walk ps) (pairs_bytes p h.0) (walk_bytes (suc (rank_at p)) ps h.2)
+
+pairs_some : (p : PlaceView) → IsPlace p → 0 < length (pairs_at p)
+pairs_some (short s l c) h = omega arith
+pairs_some (long s t c) h = omega arith
+pairs_some (link s w) h = let two : 2 ≤ length w = h.1 in omega (arith, length-map {B = Pair} w (λ p. (slice_bytes s ++ p.0, p.1)))
+
+-- ---- ranks of walks
+pub walk_from : (low : ℕ) (ps : List PlaceView) → IsLayerFrom low ps → AllByRecursion (λ p. low ≤ key_rank p.0) (walk ps)
+walk_from low [] h = tt
+walk_from low (p ∷ ps) h =
+    let from : low ≤ rank_at p = h.1 in
+    all_append _ (pairs_at p) (walk ps)
+    (all_weaker (λ q. key_rank q.0 ≡ rank_at p) (λ q. low ≤ key_rank q.0) (λ q e. omega arith) (pairs_at p) (pairs_rank p h.0))
+    (all_weaker (λ q. suc (rank_at p) ≤ key_rank q.0) (λ q. low ≤ key_rank q.0) (λ q e. omega arith) (walk ps) (walk_from (suc (rank_at p)) ps h.2))
+
+pub walk_before : (low : ℕ) (xs : List PlaceView) (p : PlaceView) (ys : List PlaceView) → IsLayerFrom low (xs ++ p ∷ ys) → AllByRecursion (λ q. key_rank q.0 < rank_at p) (walk xs)
+walk_before low [] p ys h = tt
+walk_before low (x ∷ xs) p ys h =
+    let rest = layer_back (suc (rank_at x)) xs (p ∷ ys) h.2 in
+    let less : suc (rank_at x) ≤ rank_at p = rest.1 in
+    all_append _ (pairs_at x) (walk xs)
+    (all_weaker (λ q. key_rank q.0 ≡ rank_at x) (λ q. key_rank q.0 < rank_at p) (λ q e. omega arith) (pairs_at x) (pairs_rank x h.0))
+    (walk_before (suc (rank_at x)) xs p ys h.2)
+
+pub last_edge : (xs : List PlaceView) (p : PlaceView) (s m : ℕ) (below : List Pair) → IsLayer (xs ++ p ∷ []) → PlaceEdge p s m below → LastEdge (walk (xs ++ p ∷ [])) s m below
+last_edge xs p s m below h e =
+    let place = (layer_back 0 xs (p ∷ []) h).0 in
+    let rank : rank_at p ≡ s * 10 + m = omega (arith, e.slices, e.lengths) in
+    record {
+      before = walk xs;
+      top = pairs_at p;
+      is = walk-append xs (p ∷ []) ∙ ap (λ w. walk xs ++ w) (append-nil (pairs_at p));
+      bytes = walk_bytes 0 (xs ++ p ∷ []) h;
+      fits = omega (arith, e.lengths, length_at-le p place);
+      some = pairs_some p place;
+      lower = all_weaker (λ q. key_rank q.0 < rank_at p) (λ q. key_rank q.0 < s * 10 + m) (λ q l. omega arith) (walk xs) (walk_before 0 xs p [] h);
+      ranks = all_weaker (λ q. key_rank q.0 ≡ rank_at p) (λ q. key_rank q.0 ≡ s * 10 + m) (λ q l. l ∙ rank) (pairs_at p) (pairs_rank p place);
+      rests = e.rests;
+    }
+
+pub first_edge : (p : PlaceView) (ys : List PlaceView) (s m : ℕ) (below : List Pair) → IsLayer (p ∷ ys) → PlaceEdge p s m below → FirstEdge (walk (p ∷ ys)) s m below
+first_edge p ys s m below h e =
+    let rank : rank_at p ≡ s * 10 + m = omega (arith, e.slices, e.lengths) in
+    record {
+      after = walk ys;
+      top = pairs_at p;
+      is = refl;
+      bytes = walk_bytes 0 (p ∷ ys) h;
+      fits = omega (arith, e.lengths, length_at-le p h.0);
+      some = pairs_some p h.0;
+      higher = all_weaker (λ q. suc (rank_at p) ≤ key_rank q.0) (λ q. s * 10 + m < key_rank q.0) (λ q l. omega arith) (walk ys) (walk_from (suc (rank_at p)) ys h.2);
+      ranks = all_weaker (λ q. key_rank q.0 ≡ rank_at p) (λ q. key_rank q.0 ≡ s * 10 + m) (λ q l. l ∙ rank) (pairs_at p) (pairs_rank p h.0);
+      rests = e.rests;
+    }
+
+-- ---- what the edges decide
+
+below_ranks : (a b : ℕ) (v w : List Pair) → a < b → HasBytes v → HasBytes w → AllByRecursion (λ p. key_rank p.0 ≤ a) v → AllByRecursion (λ q. b ≤ key_rank q.0) w → AllKeysBelow v w
+below_ranks a b [] w l hv hw rv rw' = tt
+below_ranks a b (p ∷ v) w l hv hw rv rw' = (one w hw rw', below_ranks a b v w l hv.1 hw rv.1 rw')
+  where
+    one : (w : List Pair) → HasBytes w → AllByRecursion (λ q. b ≤ key_rank q.0) w → AllByRecursion (λ q. IsBelow p.0 q.0) w
+    one [] h r = tt
+    one (q ∷ w) h r =
+        let low : key_rank p.0 ≤ a = rv.0 in
+        let high : b ≤ key_rank q.0 = r.0 in
+        (less_of_ranks p.0 q.0 hv.0 h.0 (omega arith), one w h.1 r.1)
+
+-- a pair of either side's edge
+first_pair_ranks : (a b : ℕ) (v w : List Pair) → 0 < length v → 0 < length w → HasBytes v → HasBytes w → AllByRecursion (λ p. key_rank p.0 ≡ a) v → AllByRecursion (λ q. key_rank q.0 ≡ b) w → AllKeysBelow v w
+    → (a < b) ⊎ ((a ≡ b) × ((n : ℕ) (s : ℕ) → a ≡ s * 10 + n → n ≤ 9 → n ≡ 9))
+first_pair_ranks a b [] w sv sw hv hw rv rw' below = absurd (omega arith)
+first_pair_ranks a b (p ∷ v) [] sv sw hv hw rv rw' below = absurd (omega arith)
+first_pair_ranks a b (p ∷ v) (q ∷ w) sv sw hv hw rv rw' below =
+    let ra : key_rank p.0 ≡ a = rv.0 in
+    let rb : key_rank q.0 ≡ b = rw'.0 in
+    by ra rb (ranks_of_less p.0 q.0 hv.0 hw.0 below.0.0)
+  where
+    by : key_rank p.0 ≡ a → key_rank q.0 ≡ b → (key_rank p.0 < key_rank q.0) ⊎ IsBelowAt p.0 q.0 → (a < b) ⊎ ((a ≡ b) × ((n : ℕ) (s : ℕ) → a ≡ s * 10 + n → n ≤ 9 → n ≡ 9))
+    by ra rb (inl l) = inl (omega arith)
+    by ra rb (inr h) =
+        let same : key_rank p.0 ≡ key_rank q.0 = h.same_rank in
+        let long : 8 < length p.0 = h.long in
+        inr (omega arith, λ n s e le. omega arith)
+
+module _ (v w b d : List Pair) (s m t n : ℕ) (f : LastEdge v s m b) (g : FirstEdge w t n d) where
+  v_low : AllByRecursion (λ p. key_rank p.0 ≤ s * 10 + m) v
+  v_low = subst (AllByRecursion (λ p. key_rank p.0 ≤ s * 10 + m)) (sym f.is)
+      (all_append _ f.before f.top
+      (all_weaker (λ p. key_rank p.0 < s * 10 + m) (λ p. key_rank p.0 ≤ s * 10 + m) (λ p l. omega arith) f.before f.lower)
+      (all_weaker (λ p. key_rank p.0 ≡ s * 10 + m) (λ p. key_rank p.0 ≤ s * 10 + m) (λ p l. omega arith) f.top f.ranks))
+
+  w_high : AllByRecursion (λ p. t * 10 + n ≤ key_rank p.0) w
+  w_high = subst (AllByRecursion (λ p. t * 10 + n ≤ key_rank p.0)) (sym g.is)
+      (all_append _ g.top g.after
+      (all_weaker (λ p. key_rank p.0 ≡ t * 10 + n) (λ p. t * 10 + n ≤ key_rank p.0) (λ p l. omega arith) g.top g.ranks)
+      (all_weaker (λ p. t * 10 + n < key_rank p.0) (λ p. t * 10 + n ≤ key_rank p.0) (λ p l. omega arith) g.after g.higher))
+
+  pub edges_less : s * 10 + m < t * 10 + n → AllKeysBelow v w
+  edges_less l = below_ranks (s * 10 + m) (t * 10 + n) v w l f.bytes g.bytes v_low w_high
+
+  top_bytes : HasBytes f.top
+  top_bytes = all_back _ f.before f.top (subst HasBytes f.is f.bytes)
+
+  top_bytes' : HasBytes g.top
+  top_bytes' = all_front _ g.top g.after (subst HasBytes g.is g.bytes)
+
+  tops_below : AllKeysBelow v w → AllKeysBelow f.top g.top
+  tops_below h =
+      all_weaker (λ p. AllByRecursion (λ q. IsBelow p.0 q.0) w) (λ p. AllByRecursion (λ q. IsBelow p.0 q.0) g.top)
+      (λ p k. all_front (λ q. IsBelow p.0 q.0) g.top g.after (subst (AllByRecursion (λ q. IsBelow p.0 q.0)) g.is k)) f.top
+      (all_back _ f.before f.top (subst (λ z. AllKeysBelow z w) f.is h))
+
+  pub edges_order : AllKeysBelow v w → (s * 10 + m < t * 10 + n) ⊎ ((s * 10 + m ≡ t * 10 + n) × ((k : ℕ) (r : ℕ) → s * 10 + m ≡ r * 10 + k → k ≤ 9 → k ≡ 9))
+  edges_order h = first_pair_ranks (s * 10 + m) (t * 10 + n) f.top g.top f.some g.some top_bytes top_bytes' f.ranks g.ranks (tops_below h)
+
+  -- both longer than 8, and of one slice: what lies below decides
+  pub edges_down : s ≡ t → m ≡ 9 → n ≡ 9 → AllKeysBelow v w → AllKeysBelow b d
+  edges_down e k l h =
+      below_unprefixed (slice_bytes s) b d
+      (subst (λ z. AllKeysBelow (put_before (slice_bytes s) b) z) (sym (ap (λ z. put_before (slice_bytes z) d) e ∙ g.rests l)) (subst (λ z. AllKeysBelow z g.top) (sym (f.rests k)) (tops_below h)))
+
+  pub edges_up : s ≡ t → m ≡ 9 → n ≡ 9 → AllKeysBelow b d → AllKeysBelow v w
+  edges_up e k l h =
+      subst (λ z. AllKeysBelow z w) (sym f.is) (subst (AllKeysBelow (f.before ++ f.top)) (sym g.is)
+      (all_append _ f.before f.top
+      (below_ranks' f.before (g.top ++ g.after) (all_front _ f.before f.top (subst HasBytes f.is f.bytes)) (subst HasBytes g.is g.bytes) f.lower (subst (AllByRecursion (λ p. t * 10 + n ≤ key_rank p.0)) g.is w_high))
+      (right_append f.top g.top g.after
+      (subst (λ z. AllKeysBelow f.top z) (ap (λ z. put_before (slice_bytes z) d) e ∙ g.rests l) (subst (λ z. AllKeysBelow z (put_before (slice_bytes s) d)) (f.rests k) (below_prefixed (slice_bytes s) b d h)))
+      (below_ranks (s * 10 + m) (suc (t * 10 + n)) f.top g.after (omega arith) top_bytes (all_back _ g.top g.after (subst HasBytes g.is g.bytes))
+      (all_weaker (λ p. key_rank p.0 ≡ s * 10 + m) (λ p. key_rank p.0 ≤ s * 10 + m) (λ p q. omega arith) f.top f.ranks)
+      (all_weaker (λ p. t * 10 + n < key_rank p.0) (λ p. suc (t * 10 + n) ≤ key_rank p.0) (λ p q. omega arith) g.after g.higher)))))
+    where
+      below_ranks' : (x y : List Pair) → HasBytes x → HasBytes y → AllByRecursion (λ p. key_rank p.0 < s * 10 + m) x → AllByRecursion (λ p. t * 10 + n ≤ key_rank p.0) y → AllKeysBelow x y
+      below_ranks' [] y hx hy rx ry = tt
+      below_ranks' (p ∷ x) y hx hy rx ry = (one y hy ry, below_ranks' x y hx.1 hy rx.1 ry)
+        where
+          one : (y : List Pair) → HasBytes y → AllByRecursion (λ p. t * 10 + n ≤ key_rank p.0) y → AllByRecursion (λ q. IsBelow p.0 q.0) y
+          one [] h' r = tt
+          one (q ∷ y) h' r =
+              let low : key_rank p.0 < s * 10 + m = rx.0 in
+              let high : t * 10 + n ≤ key_rank q.0 = r.0 in
+              (less_of_ranks p.0 q.0 hx.0 h'.0 (omega arith), one y h'.1 r.1)
+
+      right_append : (x y z : List Pair) → AllKeysBelow x y → AllKeysBelow x z → AllKeysBelow x (y ++ z)
+      right_append [] y z hy hz = tt
+      right_append (p ∷ x) y z hy hz = (all_append _ y z hy.0 hz.0, right_append x y z hy.1 hz.1)
+
+      one_prefixed : (c key : List ℕ) (y : List Pair) → AllByRecursion (λ q. IsBelow key q.0) y → AllByRecursion (λ q. IsBelow (c ++ key) q.0) (put_before c y)
+      one_prefixed c key [] h' = tt
+      one_prefixed c key (q ∷ y) h' = (below-prefixed c key q.0 h'.0, one_prefixed c key y h'.1)
+
+      below_prefixed : (c : List ℕ) (x y : List Pair) → AllKeysBelow x y → AllKeysBelow (put_before c x) (put_before c y)
+      below_prefixed c [] y h' = tt
+      below_prefixed c (p ∷ x) y h' = (one_prefixed c p.0 y h'.0, below_prefixed c x y h'.1)
+
+-- what lies below the last place is lighter
+pub edge_falls : (v b : List Pair) (s m : ℕ) → LastEdge v s m b → m ≡ 9 → weight b < weight v
+edge_falls v b s m f e =
+    let top = f.rests e in
+    let some : 0 < length b = omega (arith, f.some, ap (λ (z : List Pair). length z) top, length-map {B = Pair} b (λ p. (slice_bytes s ++ p.0, p.1))) in
+    omega (arith, below_lighter (slice_bytes s) b (slice_bytes-length s) some, ap weight top, ap weight f.is, weight-append f.before f.top)
+
+-- ---- the edges of one pair
+pair_rests : (key : List ℕ) (c : List (ℕ × List ℕ)) → AreBytes key → min (length key) 9 ≡ 9 → put_before (slice_bytes (slice_in key)) ((drop 8 key, c) ∷ []) ≡ (key, c) ∷ []
+pair_rests key c bytes e = ap (λ (k : List ℕ). (k, c) ∷ []) (slice_bytes-long key (omega arith) (bytes_take 8 key bytes))
+
+pub pair_last : (key rest : List ℕ) (c : List (ℕ × List ℕ)) (s m : ℕ) → AreBytes key → s ≡ slice_in key → m ≡ min (length key) 9 → (m ≡ 9 → rest ≡ drop 8 key) → LastEdge ((key, c) ∷ []) s m ((rest, c) ∷ [])
+pair_last key rest c s m bytes e f g = record {
+  before = [];
+  top = (key, c) ∷ [];
+  is = refl;
+  bytes = (bytes_take 8 key bytes, tt);
+  fits = omega arith;
+  some = omega arith;
+  lower = tt;
+  ranks = (omega arith, tt);
+  rests = λ h. ap (λ z. put_before (slice_bytes z) ((rest, c) ∷ [])) e ∙ ap (λ (z : List ℕ). put_before (slice_bytes (slice_in key)) ((z, c) ∷ [])) (g h) ∙ pair_rests key c bytes (sym f ∙ h);
+}
+
+pub pair_first : (key rest : List ℕ) (c : List (ℕ × List ℕ)) (s m : ℕ) → AreBytes key → s ≡ slice_in key → m ≡ min (length key) 9 → (m ≡ 9 → rest ≡ drop 8 key) → FirstEdge ((key, c) ∷ []) s m ((rest, c) ∷ [])
+pair_first key rest c s m bytes e f g = record {
+  after = [];
+  top = (key, c) ∷ [];
+  is = refl;
+  bytes = (bytes_take 8 key bytes, tt);
+  fits = omega arith;
+  some = omega arith;
+  higher = tt;
+  ranks = (omega arith, tt);
+  rests = λ h. ap (λ z. put_before (slice_bytes z) ((rest, c) ∷ [])) e ∙ ap (λ (z : List ℕ). put_before (slice_bytes (slice_in key)) ((z, c) ∷ [])) (g h) ∙ pair_rests key c bytes (sym f ∙ h);
+}
+
+pub rest_past : (key : List ℕ) (k m : ℕ) → k ≡ min (length key) 8 → m ≡ min (length key) 9 → m ≡ 9 → take (length key - k) (drop k key) ≡ drop 8 key
+rest_past key k m e f h = let is : k ≡ 8 = omega arith in rw is (rest_is key)
+
+module _ (v w b d : List Pair) (s m t n : ℕ) (f : LastEdge v s m b) (g : FirstEdge w t n d) where
+  order : AllKeysBelow v w → (s * 10 + m < t * 10 + n) ⊎ ((s * 10 + m ≡ t * 10 + n) × ((k : ℕ) (r : ℕ) → s * 10 + m ≡ r * 10 + k → k ≤ 9 → k ≡ 9))
+  order h = edges_order v w b d s m t n f g h
+
+  pub by_slices : s ≢ t → (s < t → AllKeysBelow v w) × (AllKeysBelow v w → s < t)
+  by_slices other = (λ l. edges_less v w b d s m t n f g (let few = f.fits in omega arith), λ h. from (order h))
+    where
+      from : (s * 10 + m < t * 10 + n) ⊎ ((s * 10 + m ≡ t * 10 + n) × ((k : ℕ) (r : ℕ) → s * 10 + m ≡ r * 10 + k → k ≤ 9 → k ≡ 9)) → s < t
+      from (inl l) = let few = f.fits in let few' = g.fits in let o : s ≢ t = other in omega arith
+      from (inr e) = let few = f.fits in let few' = g.fits in let same : s * 10 + m ≡ t * 10 + n = e.0 in absurd (other (omega arith))
+
+  pub by_lengths : s ≡ t → m ≢ n → (m < n → AllKeysBelow v w) × (AllKeysBelow v w → m < n)
+  by_lengths same other = (λ l. edges_less v w b d s m t n f g (omega arith), λ h. from (order h))
+    where
+      from : (s * 10 + m < t * 10 + n) ⊎ ((s * 10 + m ≡ t * 10 + n) × ((k : ℕ) (r : ℕ) → s * 10 + m ≡ r * 10 + k → k ≤ 9 → k ≡ 9)) → m < n
+      from (inl l) = omega arith
+      from (inr e) = let even : s * 10 + m ≡ t * 10 + n = e.0 in absurd (other (omega arith))
+
+  pub by_short : s ≡ t → m ≡ n → m < 9 → AllKeysBelow v w → ⊥
+  by_short same even few8 h = from (order h)
+    where
+      from : (s * 10 + m < t * 10 + n) ⊎ ((s * 10 + m ≡ t * 10 + n) × ((k : ℕ) (r : ℕ) → s * 10 + m ≡ r * 10 + k → k ≤ 9 → k ≡ 9)) → ⊥
+      from (inl l) = omega arith
+      from (inr e) = let nine : m ≡ 9 = e.1 m s refl (omega arith) in omega arith
+
+  pub by_below : s ≡ t → m ≡ n → 9 ≤ m → (AllKeysBelow b d → AllKeysBelow v w) × (AllKeysBelow v w → AllKeysBelow b d)
+  by_below same even nine_on =
+      let few = f.fits in
+      let nine : m ≡ 9 = omega arith in
+      let nine' : n ≡ 9 = omega arith in
+      (edges_up v w b d s m t n f g same nine nine', edges_down v w b d s m t n f g same nine nine')
+
+-- ---- the ends of a stored layer
+last_front : (xs : List DraftPlace) (x : DraftPlace) (i : ℕ) → i + 1 ≡ length xs → Some x ≡ slice_get xs i → (front : List DraftPlace) × (xs ≡ front ++ x ∷ [])
+last_front [] x i e f = absurd (omega arith)
+last_front (y ∷ []) x zero e f = ([], ap (λ (z : DraftPlace). z ∷ []) (let same : y ≡ x = cc f in same))
+last_front (y ∷ []) x (suc i) e f = absurd (omega arith)
+last_front (y ∷ z ∷ zs) x zero e f = absurd (omega arith)
+last_front (y ∷ z ∷ zs) x (suc i) e f = let rest = last_front (z ∷ zs) x i (omega arith) f in (y ∷ rest.0, ap (λ (k : List DraftPlace). y ∷ k) rest.1)
+
+pub last_of : (xs : List DraftPlace) (x : DraftPlace) → Some x ≡ slice_get xs (length xs - 1) → (front : List DraftPlace) × (xs ≡ front ++ x ∷ [])
+last_of [] x e = cc e
+last_of (y ∷ ys) x e = let at : length (y ∷ ys) - 1 ≡ length ys = omega arith in last_front (y ∷ ys) x (length ys) (omega arith) (e ∙ ap (slice_get (y ∷ ys)) at)
+
+pub first_of : (xs : List DraftPlace) (x : DraftPlace) → Some x ≡ slice_get xs 0 → (rest : List DraftPlace) × (xs ≡ x ∷ rest)
+first_of [] x e = cc e
+first_of (y ∷ ys) x e = (ys, ap (λ (z : DraftPlace). z ∷ ys) (let same : y ≡ x = cc e in same))
+
+pub last_lawful : (ps qs : List DraftPlace) (x : DraftPlace) → IsLayer (draft_views ps) → qs ≡ ps → Some x ≡ slice_get qs (length qs - 1) → IsPlace (draft_view x)
+last_lawful ps qs x h e f =
+    let l = last_of qs x f in
+    (layer_back 0 (draft_views l.0) (draft_view x ∷ []) (subst IsLayer (ap draft_views (sym e ∙ l.1) ∙ map-append draft_view l.0 (x ∷ [])) h)).0

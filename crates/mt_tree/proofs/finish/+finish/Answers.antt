@@ -1,0 +1,43 @@
+use Rattle.std.proofs.Common.{◌≡◌, ◌≤◌, ◌<◌, ◌++◌, List, [], ap, sym, subst, ◌∙◌, arith}
+use Rattle.std.proofs.lemmas.List.{append-nil, nil_from_length}
+use Rattle.std.specs.Vec.Iter.{into_iter_items}
+use Rattle.mt_tree.specs.Layer.{PlaceView, link, IsPlace, weight, walk, pairs_at}
+use Rattle.mt_tree.specs.Borders.{AreBorders, layer_walk}
+use Rattle.mt_tree.specs.DraftViews.{draft_view, draft_views, draft_view_of, border_views}
+use Rattle.mt_tree.specs.declared.layer.DraftContent.{DraftContent}
+use Rattle.mt_tree.specs.declared.layer.DraftPlace.{DraftPlace}
+use Rattle.mt_tree.proofs.Levels.{place_weight, place_lawful, link_lighter}
+use Rattle.mt_tree.proofs.Ends.{middle, link_some, border_done}
+use Rattle.mt_tree.proofs.finish.+finish.Goals as goal
+
+pub finish-finish_border-requires : goal.finish-finish_border-requires
+finish-finish_border-requires t c =
+    let m = middle _ _ _ c.args.layer (draft_views c.in-Some.border.places.items) c.loop-border.invariant.whole (ap border_views c.in-Some.ensures.steps.0) (subst AreBorders c.layer.view_is c.layer.invariant) in
+    (omega (arith, m.light, c.decreases), (m.border, m.layer))
+
+pub finish_border-finish_place-requires : goal.finish_border-finish_place-requires
+finish_border-finish_place-requires t c =
+    let next = ap draft_views c.in-Some.ensures.steps.0 in
+    let light : weight (pairs_at (draft_view c.in-Some.place)) ≤ weight (walk (draft_views c.args.border.places.items)) = place_weight _ _ (draft_views c.args.border.places.items) (draft_view c.in-Some.place) _ c.loop-place.invariant next in
+    (omega (arith, light, c.decreases), place_lawful _ _ (draft_views c.args.border.places.items) (draft_view c.in-Some.place) _ c.loop-place.invariant next c.requires.lawful)
+
+all_done : (views_so left_views all : List PlaceView) (left : List DraftPlace) → views_so ++ draft_views left ≡ all → left ≡ [] → views_so ≡ all
+all_done views_so left_views all left e f = sym (append-nil views_so) ∙ ap (λ (z : List DraftPlace). views_so ++ draft_views z) (sym f) ∙ e
+
+pub finish_border-invariant_of-result : goal.finish_border-invariant_of-result
+finish_border-invariant_of-result t c =
+    let none : into_iter_items c.loop-place.place-iterator ≡ [] = nil_from_length (into_iter_items c.loop-place.place-iterator) (omega (arith, c.in-None.ensures.steps.0)) in
+    border_done _ (draft_views c.args.border.places.items) (all_done _ [] _ _ c.loop-place.invariant none) c.requires.some c.requires.lawful
+
+pub finish_border-returns-clause-lawful : goal.finish_border-returns-clause-lawful
+finish_border-returns-clause-lawful t c =
+    let none : into_iter_items c.loop-place.place-iterator ≡ [] = nil_from_length (into_iter_items c.loop-place.place-iterator) (omega (arith, c.in-None.ensures.steps.0)) in
+    border_done _ (draft_views c.args.border.places.items) (all_done _ [] _ _ c.loop-place.invariant none) c.requires.some c.requires.lawful
+
+pub finish_place-finish-requires : goal.finish_place-finish-requires
+finish_place-finish-requires t c =
+    let lawful : IsPlace (link c.args.place.slice (layer_walk c.in-Link.layer)) = subst (λ (z : DraftContent). IsPlace (draft_view_of c.args.place.slice z)) c.in-Link.is c.requires.lawful in
+    let same = ap (λ (z : DraftContent). weight (pairs_at (draft_view_of c.args.place.slice z))) c.in-Link.is in
+    let light : weight (layer_walk c.in-Link.layer) < weight (pairs_at (link c.args.place.slice (layer_walk c.in-Link.layer))) = link_lighter _ _ lawful in
+    let some = link_some _ c.in-Link.layer lawful in
+    rw c.in-Link.layer-is (omega (arith, light, same, c.decreases), some)

@@ -1,0 +1,129 @@
+use Rattle.std.proofs.Common.{◌≡◌, ◌≤◌, ◌<◌, length, List, ◌++◌, refl, ap, sym, subst, ◌∙◌, arith, rules, append_assoc, length-append}
+use Rattle.std.proofs.lemmas.List.{length-map}
+use Rattle.mt_words.specs.Slices.{slice_bytes}
+use Rattle.mt_words.proofs.SliceBytes.{slice_bytes-length}
+use Rattle.mt_tree.specs.Layer.{PlaceView, walk, weight, pairs_at, Meet}
+use Rattle.mt_words.specs.Walks.{Pair}
+use Rattle.mt_tree.specs.Borders.{AreBorders, SameEnds, layer_walk}
+use Rattle.mt_tree.specs.Nodes.{joined, IsBorder}
+use Rattle.mt_tree.specs.DraftViews.{draft_view, draft_views, border_views}
+use Rattle.mt_tree.specs.declared.layer.DraftPlace.{DraftPlace}
+use Rattle.mt_tree.specs.declared.layer.Border.{Border}
+use Rattle.mt_tree.proofs.Joins.{first_removed, last_lawful, below_at_seam, apart_layer, merged_layer, last_weight, below_lighter, below_shared, Merging, merged_lawful, merged_rank, same_slice}
+use Rattle.mt_tree.proofs.CutUps.{borders-append}
+use Rattle.mt_tree.proofs.Seams.{seam_are}
+use Rattle.mt_tree.proofs.Meets.{seam_of, same_first, glued_layer, ends_kept, ends_merged, sides, left_layer, right_layer, last_border}
+use Rattle.mt_tree.proofs.layer.+join.Goals as goal
+use Rattle.mt_tree.proofs.layer.+join.Goals.{meet-then-meets+in_ok-upper+in_ok-lower+in_ok-joined+in_ok-push, meet-else-meets+in_ok-push-2}
+
+pub meet-meets-requires-clause-lawful : goal.meet-meets-requires-clause-lawful
+meet-meets-requires-clause-lawful t c = last_lawful _ _ _ _ (seam_of _ _ _ _ _ c.requires.left_lawful c.requires.right_lawful c.requires.below c.in-Some.ensures.items c.requires.some.1 c.index.ensures)
+
+pub meet-below-requires-clause-lawful : goal.meet-below-requires-clause-lawful
+meet-below-requires-clause-lawful t c = last_lawful _ _ _ _ (seam_of _ _ _ _ _ c.requires.left_lawful c.requires.right_lawful c.requires.below c.in-Some.ensures.items c.requires.some.1 c.index.ensures)
+
+pub meet-join-requires : goal.meet-join-requires
+meet-join-requires t c =
+    let s = seam_of _ _ _ _ _ c.requires.left_lawful c.requires.right_lawful c.requires.below c.in-Some.ensures.items c.requires.some.1 c.remove-first.ensures.value in
+    let first : c.index.result.now ≡ c.remove-first.result = same_first _ _ _ c.requires.some.1 c.index.ensures c.remove-first.ensures.value in
+    let here : Meet (draft_view c.in-Some.last) (draft_view c.index.result.now) = search rules in
+    let meet : Meet (draft_view c.in-Some.last) (draft_view c.remove-first.result) = subst (λ (z : DraftPlace). Meet (draft_view c.in-Some.last) (draft_view z)) first here in
+    let light : weight (layer_walk c.in_ok-upper.upper) < weight (pairs_at (draft_view c.in-Some.last)) =
+    subst (λ (w : List Pair). weight (layer_walk c.in_ok-upper.upper) < weight w) c.in_ok-upper.ensures.pairs (below_lighter (slice_bytes c.in-Some.last.slice) (layer_walk c.in_ok-upper.upper) (slice_bytes-length c.in-Some.last.slice) c.in_ok-upper.ensures.some) in
+    let heavy = last_weight _ _ _ _ s in
+    let left = ap (λ (z : List DraftPlace). weight (walk (draft_views z))) c.in-Some.ensures.items in
+    (omega (arith, left, heavy, light, c.decreases), below_shared _ _ _ _ meet c.in_ok-upper.ensures.pairs c.in_ok-lower.ensures.pairs (below_at_seam _ _ _ _ s))
+
+pub Layer::join-meet-requires : goal.Layer::join-meet-requires
+Layer::join-meet-requires t c =
+    let some : 0 < length c.right.inside.borders.items = search rules in
+    let s = sides _ _ _ _ _ _ _ _ c.left.view_is c.right.view_is c.left.invariant c.right.invariant c.requires c.in-Some.ensures.items some c.remove-first.ensures.value c.remove-first.ensures.items in
+    let l_some : 1 ≤ length (draft_views c.in-Some.last.places.items) = (last_border _ _ _ _ _ s).0 in
+    let f_some : 1 ≤ length (draft_views c.remove-first.result.places.items) = s.right.0.0.0 in (
+      omega (arith, s.light, c.decreases),
+      (
+        left_layer _ _ _ _ _ s,
+        (
+          right_layer _ _ _ _ _ s,
+          ((omega (arith, length-map c.in-Some.last.places.items draft_view), omega (arith, length-map c.remove-first.result.places.items draft_view)), s.below),
+        ),
+      ),
+    )
+
+pub meet-returns-clause-lawful : goal.meet-returns-clause-lawful
+meet-returns-clause-lawful t c =
+    elim c.if-meets.branch [
+      | meet-then-meets+in_ok-upper+in_ok-lower+in_ok-joined+in_ok-push w ↦
+          let s = seam_of _ _ _ _ _ c.requires.left_lawful c.requires.right_lawful c.requires.below c.in-Some.ensures.items c.requires.some.1 w.remove-first.ensures.value in
+          let first : c.index.result.now ≡ w.remove-first.result = same_first _ _ _ c.requires.some.1 c.index.ensures w.remove-first.ensures.value in
+          let here : Meet (draft_view c.in-Some.last) (draft_view c.index.result.now) = search (rules, w.if-meets) in
+          let meet : Meet (draft_view c.in-Some.last) (draft_view w.remove-first.result) = subst (λ (z : DraftPlace). Meet (draft_view c.in-Some.last) (draft_view z)) first here in
+          let m : Merging c.in-Some.last w.remove-first.result (layer_walk w.in_ok-upper.upper) (layer_walk w.in_ok-lower.lower) (layer_walk w.in_ok-joined.joined) = record {
+            meet = meet;
+            upper_is = w.in_ok-upper.ensures.pairs;
+            lower_is = w.in_ok-lower.ensures.pairs;
+            upper_some = w.in_ok-upper.ensures.some;
+            lower_some = w.in_ok-lower.ensures.some;
+            upper_keys = w.in_ok-upper.ensures.no_empty_key;
+            lower_keys = w.in_ok-lower.ensures.no_empty_key;
+            is = w.in_ok-joined.ensures.pairs;
+          } in
+          glued_layer _ _ _ _ _ (ap (λ v. v.items) w.places-is ∙ w.in_ok-push.ensures.items) (ap (λ v. v.items) w.rest-is ∙ w.remove-first.ensures.items)
+          (merged_layer _ _ _ _ s _ meet (merged_lawful _ _ _ _ _ m (last_lawful _ _ _ _ s)) (merged_rank _ _ _ _ _ m))
+      | meet-else-meets+in_ok-push-2 w ↦
+          let s = seam_of _ _ _ _ _ c.requires.left_lawful c.requires.right_lawful c.requires.below c.in-Some.ensures.items c.requires.some.1 c.index.ensures in
+          let apart : Meet (draft_view c.in-Some.last) (draft_view c.index.result.now) → ⊥ = search (rules, w.if-meets) in
+          glued_layer _ _ _ _ _ (ap (λ v. v.items) w.places-is ∙ w.in_ok-push-2.ensures.items) (ap (λ v. v.items) w.rest-is ∙ first_removed _ _ _ c.requires.some.1 c.index.ensures refl) (apart_layer _ _ _ _ s apart)
+    ]
+
+pub meet-returns-clause-slices : goal.meet-returns-clause-slices
+meet-returns-clause-slices t c =
+    elim c.if-meets.branch [
+      | meet-then-meets+in_ok-upper+in_ok-lower+in_ok-joined+in_ok-push w ↦
+          let first : c.index.result.now ≡ w.remove-first.result = same_first _ _ _ c.requires.some.1 c.index.ensures w.remove-first.ensures.value in
+          let here : Meet (draft_view c.in-Some.last) (draft_view c.index.result.now) = search (rules, w.if-meets) in
+          let meet : Meet (draft_view c.in-Some.last) (draft_view w.remove-first.result) = subst (λ (z : DraftPlace). Meet (draft_view c.in-Some.last) (draft_view z)) first here in
+          ends_merged _ _ _ _ _ _ _ _ _ c.in-Some.ensures.items (first_removed _ _ _ c.requires.some.1 w.remove-first.ensures.value refl) (ap (λ v. v.items) w.places-is ∙ w.in_ok-push.ensures.items) (ap (λ v. v.items) w.rest-is ∙ w.remove-first.ensures.items) refl (same_slice _ _ meet)
+      | meet-else-meets+in_ok-push-2 w ↦
+          ends_kept _ _ _ _ c.requires.some.0 c.requires.some.1 (ap (λ v. v.items) w.places-is ∙ w.in_ok-push-2.ensures.items ∙ sym c.in-Some.ensures.items) (ap (λ v. v.items) w.rest-is)
+    ]
+
+pub Layer::join-close-requires-clause-some : goal.Layer::join-close-requires-clause-some
+Layer::join-close-requires-clause-some t c =
+    let some : 0 < length c.right.inside.borders.items = search rules in
+    let s = sides _ _ _ _ _ _ _ _ c.left.view_is c.right.view_is c.left.invariant c.right.invariant c.requires c.in-Some.ensures.items some c.remove-first.ensures.value c.remove-first.ensures.items in
+    let b : IsBorder (draft_views c.in-Some.last.places.items) = last_border _ _ _ _ _ s in
+    let low : 1 ≤ length (draft_views c.in-Some.last.places.items) = b.0 in
+    let high : length (draft_views c.in-Some.last.places.items) ≤ 15 = b.1 in
+    let same = c.in_ok-last.ensures.same in
+    let x = length-map c.in-Some.last.places.items draft_view in
+    let y = length-map c.in_ok-last.last.items draft_view in
+    (omega (arith, x, y, same), omega (arith, x, y, same))
+
+joined_borders : (whole most seam rest fs : List Border) → whole ≡ most ++ rest → most ≡ fs ++ seam → border_views whole ≡ border_views fs ++ (border_views seam ++ border_views rest)
+joined_borders whole most seam rest fs e f =
+    ap border_views (e ∙ ap (λ (z : List Border). z ++ rest) f ∙ append_assoc fs seam rest) ∙ borders-append fs (seam ++ rest) ∙ ap (λ (z : List (List PlaceView)). border_views fs ++ z) (borders-append seam rest)
+
+pub Layer::join-invariant_of-result-2 : goal.Layer::join-invariant_of-result-2
+Layer::join-invariant_of-result-2 t c =
+    let some : 0 < length c.right.inside.borders.items = search rules in
+    let s = sides _ _ _ _ _ _ _ _ c.left.view_is c.right.view_is c.left.invariant c.right.invariant c.requires c.in-Some.ensures.items some c.remove-first.ensures.value c.remove-first.ensures.items in
+    let b : IsBorder (draft_views c.in-Some.last.places.items) = last_border _ _ _ _ _ s in
+    let low : 1 ≤ length (draft_views c.in-Some.last.places.items) = b.0 in
+    let seam_is = c.in_ok-seam.ensures.same in
+    let kept : 1 ≤ length (joined (border_views c.in_ok-seam.seam.items)) =
+    omega (arith, ap (λ (z : List PlaceView). length z) seam_is, length-append (draft_views c.in_ok-last.last.items) (draft_views c.in_ok-last.first.items), length-map c.in-Some.last.places.items draft_view, length-map c.in_ok-last.last.items draft_view, c.in_ok-last.ensures.same) in
+    let ends = subst (SameEnds (draft_views c.in-Some.last.places.items) (draft_views c.remove-first.result.places.items)) (sym seam_is) c.in_ok-last.ensures.slices in
+    subst AreBorders (sym (joined_borders _ _ _ _ _ c.in_ok-append-2.ensures.items c.in_ok-append.ensures.items)) (seam_are _ _ _ _ _ s.left s.right c.in_ok-seam.ensures.lawful low kept ends)
+
+pub Layer::join-returns-clause-lawful : goal.Layer::join-returns-clause-lawful
+Layer::join-returns-clause-lawful t c =
+    let some : 0 < length c.right.inside.borders.items = search rules in
+    let s = sides _ _ _ _ _ _ _ _ c.left.view_is c.right.view_is c.left.invariant c.right.invariant c.requires c.in-Some.ensures.items some c.remove-first.ensures.value c.remove-first.ensures.items in
+    let b : IsBorder (draft_views c.in-Some.last.places.items) = last_border _ _ _ _ _ s in
+    let low : 1 ≤ length (draft_views c.in-Some.last.places.items) = b.0 in
+    let seam_is = c.in_ok-seam.ensures.same in
+    let kept : 1 ≤ length (joined (border_views c.in_ok-seam.seam.items)) =
+    omega (arith, ap (λ (z : List PlaceView). length z) seam_is, length-append (draft_views c.in_ok-last.last.items) (draft_views c.in_ok-last.first.items), length-map c.in-Some.last.places.items draft_view, length-map c.in_ok-last.last.items draft_view, c.in_ok-last.ensures.same) in
+    let ends = subst (SameEnds (draft_views c.in-Some.last.places.items) (draft_views c.remove-first.result.places.items)) (sym seam_is) c.in_ok-last.ensures.slices in
+    subst AreBorders (sym (joined_borders _ _ _ _ _ c.in_ok-append-2.ensures.items c.in_ok-append.ensures.items)) (seam_are _ _ _ _ _ s.left s.right c.in_ok-seam.ensures.lawful low kept ends)

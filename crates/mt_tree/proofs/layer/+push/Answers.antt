@@ -1,0 +1,78 @@
+use Rattle.std.proofs.Common.{◌≡◌, ◌≤◌, ◌-◌, ℕ, [], ◌∷◌, length, get_or, refl, sym, ap, subst, ◌∙◌, arith, rules}
+use Rattle.std.proofs.lemmas.List.{length-map, take_rest}
+use Rattle.mt_tree.specs.Borders.{AreBorders}
+use Rattle.mt_tree.specs.Nodes.{first_slice_of}
+use Rattle.mt_tree.specs.DraftViews.{draft_view, draft_views, border_views}
+use Rattle.mt_tree.proofs.CutUps.{borders-append}
+use Rattle.mt_tree.proofs.Seams.{behind_are}
+use Rattle.mt_tree.proofs.Behind.{popped_lawful, last_lawful, own_layer, deeper, deeper_below, deeper_light, deeper_layer, deeper_walk, deeper_first, opened, opened_layer, opened_border, opened_below, opened_light}
+use Rattle.mt_tree.proofs.layer.+push.Goals as goal
+
+-- ---- the last border
+pub Layer::push-follow-requires : goal.Layer::push-follow-requires
+Layer::push-follow-requires t c =
+    let o = opened _ _ _ _ c.layer.view_is c.layer.invariant c.in-Some.ensures.items in
+    let some : 1 ≤ length (draft_views c.in-Some.last.places.items) = (opened_border _ _ _ o).0 in
+    let light = opened_light _ _ _ o in
+    (omega (arith, light, c.decreases), (opened_layer _ _ _ o, (omega (arith, length-map c.in-Some.last.places.items draft_view), opened_below _ _ _ o ((c.args.key.now, c.args.columns) ∷ []) c.requires)))
+
+pub Layer::push-cut_last-requires-clause-most : goal.Layer::push-cut_last-requires-clause-most
+Layer::push-cut_last-requires-clause-most t c =
+    let o = opened _ _ _ _ c.layer.view_is c.layer.invariant c.in-Some.ensures.items in
+    let most : length (draft_views c.in-Some.last.places.items) ≤ 15 = (opened_border _ _ _ o).1 in
+    omega (arith, most, length-map c.in-Some.last.places.items draft_view, c.in_ok-places.ensures.more)
+
+pub Layer::push-invariant_of-result : goal.Layer::push-invariant_of-result
+Layer::push-invariant_of-result t c =
+    let o = opened _ _ _ _ c.layer.view_is c.layer.invariant c.in-Some.ensures.items in
+    let some : 1 ≤ length (draft_views c.in-Some.last.places.items) = (opened_border _ _ _ o).0 in
+    subst AreBorders (sym (ap border_views c.in_ok-append.ensures.items ∙ borders-append _ _))
+    (behind_are _ _ _ o.are c.in_ok-parts.ensures.lawful some (ap first_slice_of c.in_ok-parts.ensures.same ∙ c.in_ok-places.ensures.first))
+
+pub Layer::push-returns-clause-lawful : goal.Layer::push-returns-clause-lawful
+Layer::push-returns-clause-lawful t c =
+    let o = opened _ _ _ _ c.layer.view_is c.layer.invariant c.in-Some.ensures.items in
+    let some : 1 ≤ length (draft_views c.in-Some.last.places.items) = (opened_border _ _ _ o).0 in
+    subst AreBorders (sym (ap border_views c.in_ok-append.ensures.items ∙ borders-append _ _))
+    (behind_are _ _ _ o.are c.in_ok-parts.ensures.lawful some (ap first_slice_of c.in_ok-parts.ensures.same ∙ c.in_ok-places.ensures.first))
+
+-- ---- a place of its own
+pub follow-meets_key-requires : goal.follow-meets_key-requires
+follow-meets_key-requires t c =
+    let whole : c.len.result ≡ length c.args.places.items = search rules in
+    last_lawful _ _ c.requires.lawful c.requires.some (c.index.ensures ∙ ap (λ (k : ℕ). get_or c.args.places.items (k - 1) c.index.result.now) whole)
+
+pub follow-returns-then-not-meets_key-clause-lawful : goal.follow-returns-then-not-meets_key-clause-lawful
+follow-returns-then-not-meets_key-clause-lawful t c =
+    let whole : c.len.result ≡ length c.args.places.items = search rules in
+    own_layer _ _ _ _ _ _ _ c.requires.lawful c.requires.some (c.index.ensures ∙ ap (λ (k : ℕ). get_or c.args.places.items (k - 1) c.index.result.now) whole)
+    c.requires.below c.slice_of-slice.ensures.value (search (rules, c.if-not-meets_key)) c.in_ok-place_for.ensures.lawful c.in_ok-place_for.ensures.pairs c.in_ok-push.ensures.items
+
+-- ---- below the last place
+pub follow-below-requires-clause-lawful : goal.follow-below-requires-clause-lawful
+follow-below-requires-clause-lawful t c = popped_lawful _ _ _ c.requires.lawful c.in-Some.ensures.items
+
+pub follow-push-requires-2 : goal.follow-push-requires-2
+follow-push-requires-2 t c =
+    let d = deeper _ _ _ _ _ _ _ c.args.columns _ c.requires.lawful c.in-Some.ensures.items c.index.ensures (search rules) (search (rules, c.if-not-meets_key)) c.slice_of-slice.ensures.value c.slice_of-slice.ensures.bytes
+    c.in_ok-upper.ensures.pairs c.in_ok-upper.ensures.some c.in_ok-upper.ensures.no_empty_key in
+    let light = deeper_light _ _ _ _ _ d _ _ c.in-Some.ensures.items in
+    (omega (arith, light, c.decreases), deeper_below _ _ _ _ _ d _ _ _ c.in-Some.ensures.items (take_rest c.args.key.now 8) c.requires.below)
+
+pub follow-returns-clause-pairs : goal.follow-returns-clause-pairs
+follow-returns-clause-pairs t c =
+    let d = deeper _ _ _ _ _ _ _ c.args.columns _ c.requires.lawful c.in-Some.ensures.items c.index.ensures (search rules) (search (rules, c.if-not-meets_key)) c.slice_of-slice.ensures.value c.slice_of-slice.ensures.bytes
+    c.in_ok-upper.ensures.pairs c.in_ok-upper.ensures.some c.in_ok-upper.ensures.no_empty_key in
+    deeper_walk _ _ _ _ _ d _ _ c.in_ok-joined.ensures.pairs (take_rest c.args.key.now 8) _ _ _ _ c.in-Some.ensures.items c.in_ok-push-2.ensures.items refl
+
+pub follow-returns-clause-lawful : goal.follow-returns-clause-lawful
+follow-returns-clause-lawful t c =
+    let d = deeper _ _ _ _ _ _ _ c.args.columns _ c.requires.lawful c.in-Some.ensures.items c.index.ensures (search rules) (search (rules, c.if-not-meets_key)) c.slice_of-slice.ensures.value c.slice_of-slice.ensures.bytes
+    c.in_ok-upper.ensures.pairs c.in_ok-upper.ensures.some c.in_ok-upper.ensures.no_empty_key in
+    deeper_layer _ _ _ _ _ d _ _ c.in_ok-joined.ensures.pairs (take_rest c.args.key.now 8) _ _ _ _ c.requires.lawful c.in-Some.ensures.items c.in_ok-push-2.ensures.items refl
+
+pub follow-returns-clause-first : goal.follow-returns-clause-first
+follow-returns-clause-first t c =
+    let d = deeper _ _ _ _ _ _ _ c.args.columns _ c.requires.lawful c.in-Some.ensures.items c.index.ensures (search rules) (search (rules, c.if-not-meets_key)) c.slice_of-slice.ensures.value c.slice_of-slice.ensures.bytes
+    c.in_ok-upper.ensures.pairs c.in_ok-upper.ensures.some c.in_ok-upper.ensures.no_empty_key in
+    deeper_first _ _ _ _ _ d _ _ _ _ c.in-Some.ensures.items c.in_ok-push-2.ensures.items refl

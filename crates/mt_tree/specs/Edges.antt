@@ -1,0 +1,40 @@
+-- The first and the last place of a walk.
+use Rattle.std.specs.Prelude.{ℕ, ◌+◌, ◌*◌, ◌<◌, ◌≤◌, ◌≡◌, List, ◌++◌, length, take}
+use Rattle.std.specs.List.{AllByRecursion}
+use Rattle.mt_words.specs.Slices.{AreBytes, slice_bytes}
+use Rattle.mt_tree.specs.Layer.{key_rank}
+use Rattle.mt_tree.specs.Layer.{PlaceView, slice_at, length_at, pairs_at, put_before}
+use Rattle.mt_words.specs.Walks.{Pair}
+
+-- a place has this slice and length, and where it is longer than 8 these pairs lie below it
+pub record PlaceEdge (p : PlaceView) (slice len : ℕ) (below : List Pair) : Type 0 where
+  pub slices : slice ≡ slice_at p
+  pub lengths : len ≡ length_at p
+  pub rests : len ≡ 9 → put_before (slice_bytes slice) below ≡ pairs_at p
+
+abbrev pub HasBytes : List Pair → Type 0
+HasBytes = AllByRecursion (λ p. AreBytes (take 8 p.0))
+
+-- the last pairs of a walk are those of one slice and length, and all others have lower ones
+pub record LastEdge (w : List Pair) (slice len : ℕ) (below : List Pair) : Type 0 where
+  pub before : List Pair
+  pub top : List Pair
+  pub is : w ≡ before ++ top
+  pub bytes : HasBytes w
+  pub fits : len ≤ 9
+  pub some : 0 < length top
+  pub lower : AllByRecursion (λ p. key_rank p.0 < slice * 10 + len) before
+  pub ranks : AllByRecursion (λ p. key_rank p.0 ≡ slice * 10 + len) top
+  pub rests : len ≡ 9 → put_before (slice_bytes slice) below ≡ top
+
+-- likewise the first
+pub record FirstEdge (w : List Pair) (slice len : ℕ) (below : List Pair) : Type 0 where
+  pub after : List Pair
+  pub top : List Pair
+  pub is : w ≡ top ++ after
+  pub bytes : HasBytes w
+  pub fits : len ≤ 9
+  pub some : 0 < length top
+  pub higher : AllByRecursion (λ p. slice * 10 + len < key_rank p.0) after
+  pub ranks : AllByRecursion (λ p. key_rank p.0 ≡ slice * 10 + len) top
+  pub rests : len ≡ 9 → put_before (slice_bytes slice) below ≡ top

@@ -1,0 +1,55 @@
+-- How many trees a walk needs: its own, and one for each 8 bytes that begin two or more longer keys.
+use Rattle.std.specs.Prelude.{◌≡◌, ◌↔◌, ℕ, ◌+◌, ◌-◌, ◌^◌, ◌≤◌, ◌&&◌, Bool, min, List, [], ◌∷◌, length, take, drop, map, filter, nat_eq, nat_lt, Contains, ⊤}
+use Rattle.std.specs.Cmp.Lexicographic.{pointwise}
+use Rattle.std.specs.List.{AllByRecursion}
+use Rattle.mt_tree.specs.Layer.{PlaceView, short, long, link}
+use Rattle.mt_words.specs.Walks.{Pair}
+use Rattle.mt_words.specs.Words.{IsBelow}
+
+-- the key is longer than 8 bytes and begins with these
+abbrev pub lies_under : List ℕ → List ℕ → Bool
+lies_under q key = nat_lt 8 (length key) && pointwise nat_eq q (take 8 key)
+
+-- the pairs under 8 bytes, with those taken off their keys
+abbrev pub under : List ℕ → List Pair → List Pair
+under q w = map (λ p. (drop 8 p.0, p.1)) (filter (λ p. lies_under q p.0) w)
+
+-- strictly rising lists of bytes, so that each stands there once
+abbrev pub AreRising : List (List ℕ) → Type 0
+AreRising [] = ⊤
+AreRising (q ∷ qs) = AllByRecursion (IsBelow q) qs × AreRising qs
+
+-- the lists of 8 bytes that begin two or more keys longer than 8 bytes
+pub record AreHeads (w : List Pair) (qs : List (List ℕ)) : Type 0 where
+  pub rising : AreRising qs
+  pub each : (q : List ℕ) → Contains qs q ↔ (2 ≤ length (under q w))
+
+-- one, and the numbers of trees of what lies under each of these heads
+pub data CountsFrom : List Pair → List (List ℕ) → ℕ → Type 0 where
+  own : {w : List Pair} → CountsFrom w [] 1
+  more : {w : List Pair} {q : List ℕ} {qs rs : List (List ℕ)} {m n : ℕ} → AreHeads (under q w) rs → CountsFrom (under q w) rs m → CountsFrom w qs n → CountsFrom w (q ∷ qs) (m + n)
+
+-- the number of trees of a walk
+pub record IsLayers (w : List Pair) (n : ℕ) : Type 0 where
+  pub heads : List (List ℕ)
+  pub are : AreHeads w heads
+  pub counts : CountsFrom w heads n
+
+-- the number of trees, or the greatest number that a machine word holds
+pub record CountsLayers (w : List Pair) (r : ℕ) : Type 0 where
+  pub number : ℕ
+  pub is : IsLayers w number
+  pub stops : r ≡ min number (2 ^ 64 - 1)
+
+-- the numbers of trees below the links of these places, in sum
+abbrev pub SumsLinks : List PlaceView → ℕ → Type 0
+SumsLinks [] n = n ≡ 0
+SumsLinks (short s l c ∷ ps) n = SumsLinks ps n
+SumsLinks (long s t c ∷ ps) n = SumsLinks ps n
+SumsLinks (link s w ∷ ps) n = (a : ℕ) × (b : ℕ) × IsLayers w a × SumsLinks ps b × (n ≡ a + b)
+
+-- that sum, or the greatest number that a machine word holds
+pub record CountsLinks (ps : List PlaceView) (r : ℕ) : Type 0 where
+  pub number : ℕ
+  pub is : SumsLinks ps number
+  pub stops : r ≡ min number (2 ^ 64 - 1)

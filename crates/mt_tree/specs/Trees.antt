@@ -1,0 +1,24 @@
+-- What a whole tree is.
+use Rattle.std.specs.Prelude.{List, [], Option, Some, None, ⊤}
+use Rattle.mt_tree.specs.Layer.{PlaceView, walk}
+use Rattle.mt_words.specs.Walks.{Pair}
+use Rattle.mt_tree.specs.Nodes.{NodeView, places, IsNode}
+
+-- the places of the outermost layer; the tree of no pairs has no node
+abbrev pub tree_places : Option NodeView → List PlaceView
+tree_places None = []
+tree_places (Some n) = places n
+
+-- the walk of a tree is that of its outermost layer
+abbrev pub tree_walk : Option NodeView → List Pair
+tree_walk t = walk (tree_places t)
+
+-- the law of a tree
+abbrev pub IsTree : Option NodeView → Type 0
+IsTree None = ⊤
+IsTree (Some n) = IsNode n
+
+-- the borders of the outermost layer
+abbrev pub tree_borders : Option NodeView → List (List PlaceView)
+tree_borders None = []
+tree_borders (Some n) = n.borders

@@ -1,0 +1,134 @@
+//! A finished layer is cut into borders, and nodes are stacked on them.
+ghost use Rattle.std.specs.Prelude.{◌≡◌, ◌≢◌, MatchBool, ◌<◌, ◌≤◌, ◌+◌, ◌++◌, ◌∷◌, [], suc, List, length, IfOk};
+ghost use Rattle.mt_tree.specs.Layer.{PlaceView, IsLayer, IsPlace};
+ghost use Rattle.mt_tree.specs.Nodes.{places, joined, borders_of, level_height, IsNode, IsNodeAt, IsLevel, IsLevelAt, IsBorder, border_node, first_of, parent_node};
+ghost use Rattle.mt_tree.specs.DraftViews.{draft_view, draft_views};
+ghost use Rattle.mt_tree.specs.NodeViews.{views, view_of};
+
+use crate::layer::{Border, DraftContent, DraftPlace, Layer};
+use crate::node::{Content, Node, NodeKind, Place};
+use arrayvec::ArrayVec;
+use mt_words::Memory;
+use std::alloc::Global;
+use std::mem;
+
+/// The node above these.
+fn parent(alloc: Global, children: Vec<Node>) -> Result<Node, Memory>
+    requires level { IsLevel children.items }
+    requires two { 2 ≤ length children.items }
+    requires most { length children.items ≤ 16 }
+    ensures value { IfOk result (λ node. node ≡ parent_node children.items) }
+    ensures lawful { IfOk result (λ node. IsNode node) }
+{
+    let mut separators = ArrayVec::new();
+    for at in 1..children.len() {
+        separators.push(children[at].first_slice());
+    }
+    Ok(Node {
+        kind: NodeKind::Interior(Box::new(alloc, separators)?, children),
+    })
+}
+
+/// Whether so many children get their parent, where so many nodes are left: a single node is never left over.
+fn closes(count: usize, left: usize) -> bool
+    ensures { MatchBool result ((left ≢ 0 → 15 ≤ count) × (count ≡ 15 → left ≢ 0 → left ≡ 2)) ((left ≢ 0) × (count ≢ 16) × (count ≡ 15 → left ≢ 2)) }
+{
+    left == 0 || count == 16 || count == 15 && left == 2
+}
+
+/// The nodes one level up, of 2 to 16 children each.
+fn level_up(alloc: Global, nodes: Vec<Node>) -> Result<Vec<Node>, Memory>
+    requires lawful { IsLevel nodes.items }
+    requires two { 2 ≤ length nodes.items }
+    ensures same { IfOk result (λ upper. borders_of upper.items ≡ borders_of nodes.items) }
+    ensures lawful { IfOk result (λ upper. IsLevel upper.items) }
+    ensures fewer { IfOk result (λ upper. length upper.items < length nodes.items) }
+    ensures some { IfOk result (λ upper. 1 ≤ length upper.items) }
+{
+    let mut upper = Vec::new(alloc);
+    let mut left = nodes.len();
+    let mut children: Vec<Node> = Vec::new(alloc);
+    for node in nodes {
+        children.push(node)?;
+        left -= 1;
+        if closes(children.len(), left) {
+            let node = parent(alloc, mem::replace(&mut children, Vec::new(alloc)))?;
+            upper.push(node)?;
+        }
+    }
+    Ok(upper)
+}
+
+/// The tree over these nodes.
+fn stack(alloc: Global, borders: Vec<Node>) -> Result<Node, Memory>
+    requires lawful { IsLevelAt 0 borders.items }
+    requires some { 1 ≤ length borders.items }
+    ensures same { IfOk result (λ node. node.borders ≡ borders_of borders.items) }
+    ensures lawful { IfOk result (λ node. IsNode node) }
+{
+    let mut nodes = borders;
+    while nodes.len() > 1 {
+        nodes = level_up(alloc, nodes)?;
+    }
+    let Some(root) = nodes.pop() else {
+        unreachable!()
+    };
+    Ok(root)
+}
+
+/// The tree of a layer: interiors are put over its borders.
+#[cycle(finish)]
+pub(crate) fn finish(alloc: Global, layer: Layer) -> Result<Node, Memory>
+    requires some { 1 ≤ length layer }
+    ensures same { IfOk result (λ node. node.borders ≡ layer) }
+    ensures lawful { IfOk result (λ node. IsNode node) }
+{
+    let mut nodes = Vec::with_capacity(alloc, layer.borders.len())?;
+    for border in layer.borders {
+        let node = finish_border(alloc, border)?;
+        nodes.push(node)?;
+    }
+    stack(alloc, nodes)
+}
+
+#[cycle(finish)]
+fn finish_border(alloc: Global, border: Border) -> Result<Node, Memory>
+    requires some { IsBorder (draft_views border.places.items) }
+    requires lawful { IsLayer (draft_views border.places.items) }
+    ensures same { IfOk result (λ node. node ≡ border_node (draft_views border.places.items)) }
+    ensures lawful { IfOk result (λ node. IsNode node) }
+{
+    let mut all = Vec::with_capacity(alloc, border.places.len())?;
+    for place in border.places {
+        let finished = finish_place(alloc, place)?;
+        all.push(finished)?;
+    }
+    Ok(Node {
+        kind: NodeKind::Border(all),
+    })
+}
+
+#[cycle(finish)]
+fn finish_place(alloc: Global, place: DraftPlace) -> Result<Place, Memory>
+    requires lawful { IsPlace (draft_view place) }
+    ensures { IfOk result (λ made. view_of made ≡ draft_view place) }
+{
+    let slice = place.slice;
+    match place.content {
+        DraftContent::Short(len, columns) => Ok(Place {
+            slice,
+            content: Content::Short(len, columns),
+        }),
+        DraftContent::Suffix(suffix, columns) => Ok(Place {
+            slice,
+            content: Content::Suffix(suffix, columns),
+        }),
+        DraftContent::Link(layer) => {
+            let below = finish(alloc, layer)?;
+            Ok(Place {
+                slice,
+                content: Content::Link(below),
+            })
+        }
+    }
+}

@@ -1,0 +1,345 @@
+//! A layer under construction: a list of places.
+ghost use Rattle.std.specs.Prelude.{◌≡◌, ◌≤◌, ◌+◌, MatchBool, ◌<◌, ◌++◌, ◌∷◌, ◌↔◌, [], length, take, drop, IfOk, IsTrue};
+ghost use Rattle.mt_tree.specs.Layer.{FitsAfter, IsLayer, walk, pairs_at, put_before, length_at, IsPlace, HasNoEmptyKey, AllKeysBelow, Meet};
+ghost use Rattle.mt_words.specs.Walks.{KeysRise};
+ghost use Rattle.mt_tree.specs.DraftViews.{draft_view, draft_views, border_views};
+ghost use Rattle.mt_tree.specs.Nodes.{joined, IsBorder, SlicesBelow, SlicesFrom};
+ghost use Rattle.mt_tree.specs.Borders.{AreBorders, layer_walk, SameEnds};
+ghost use Rattle.mt_tree.specs.Nodes.{first_slice_of};
+ghost use Rattle.mt_words.specs.Slices.{slice_bytes};
+
+use crate::cut::cut;
+use mt_words::{Columns, Kept, Memory, slice_of};
+use std::alloc::Global;
+use std::marker::Model;
+
+#[cycle(layer)]
+#[derive(Drop)]
+pub(crate) struct Layer {
+    pub(crate) borders: Vec<Border>,
+}
+
+/// One to fifteen places: all places of each of its slices.
+#[cycle(layer)]
+#[derive(Drop)]
+pub(crate) struct Border {
+    pub(crate) places: Vec<DraftPlace>,
+}
+
+#[cycle(layer)]
+#[derive(Drop)]
+pub(crate) struct DraftPlace {
+    pub(crate) slice: u64,
+    pub(crate) content: DraftContent,
+}
+
+#[cycle(layer)]
+#[derive(Drop)]
+pub(crate) enum DraftContent {
+    Short(u8, Columns<Kept>),
+    Suffix(Vec<u8>, Columns<Kept>),
+    Link(Layer),
+}
+
+impl Model for Layer {
+    ghost use Rattle.std.specs.Prelude.{List};
+    ghost use Rattle.mt_tree.specs.Layer.{PlaceView, weight};
+    ghost use Rattle.mt_tree.specs.Borders.{AreBorders, layer_walk};
+
+    ghost Value = { List (List PlaceView) };
+
+    ghost use Rattle.mt_tree.specs.DraftViews.{border_views};
+
+    ghost view = { λ a. border_views a.borders.items };
+
+    ghost invariant = { λ a. AreBorders (border_views a.borders.items) };
+
+    ghost size = { λ v. weight (layer_walk v) };
+
+    ghost use Rattle.std.proofs.Common.{arith};
+    ghost use Rattle.mt_tree.specs.Falls.{borders_fall};
+
+    ghost size_decreases = { λ a h. omega (arith, borders_fall a.borders.items h.2) };
+}
+
+/// The place of a lone key.
+fn place_for(alloc: Global, key: &[u8], columns: Columns<Kept>) -> Result<DraftPlace, Memory>
+    ensures lawful { IfOk result (λ p. IsPlace (draft_view p)) }
+    ensures pairs { IfOk result (λ p. pairs_at (draft_view p) ≡ (key.now, columns) ∷ []) }
+{
+    let slice = slice_of(key);
+    let len = key.len();
+    if len <= 8 {
+        return Ok(DraftPlace {
+            slice,
+            content: DraftContent::Short(len as u8, columns),
+        });
+    }
+    let suffix = Vec::from_slice(alloc, &key[8..])?;
+    Ok(DraftPlace {
+        slice,
+        content: DraftContent::Suffix(suffix, columns),
+    })
+}
+
+impl DraftPlace {
+    fn is_long(&self) -> bool
+        requires { IsPlace (draft_view self.now) }
+        ensures { IsTrue result ↔ (length_at (draft_view self.now) ≡ 9) }
+    {
+        match &self.content {
+            DraftContent::Short(_, _) => false,
+            DraftContent::Suffix(_, _) => true,
+            DraftContent::Link(_) => true,
+        }
+    }
+
+    /// Whether a key of this slice and length has its place here, below the slice.
+    fn meets_key(&self, slice: u64, len: usize) -> bool
+        requires { IsPlace (draft_view self.now) }
+        ensures { IsTrue result ↔ ((self.now.slice ≡ slice) × (length_at (draft_view self.now) ≡ 9) × (8 < len)) }
+    {
+        self.slice == slice && self.is_long() && len > 8
+    }
+
+    /// Whether both hold keys longer than 8 bytes of one slice.
+    fn meets(&self, other: &DraftPlace) -> bool
+        requires lawful { IsPlace (draft_view self.now) }
+        requires other_lawful { IsPlace (draft_view other.now) }
+        ensures { IsTrue result ↔ Meet (draft_view self.now) (draft_view other.now) }
+    {
+        self.slice == other.slice && self.is_long() && other.is_long()
+    }
+}
+
+/// The places of a border, and a pair behind them: a place of its own, or below the last place, where that is the pair's too.
+#[cycle(push)]
+fn follow(
+    alloc: Global,
+    places: Vec<DraftPlace>,
+    key: &[u8],
+    columns: Columns<Kept>,
+) -> Result<Vec<DraftPlace>, Memory>
+    requires lawful { IsLayer (draft_views places.items) }
+    requires some { 1 ≤ length places.items }
+    requires below { AllKeysBelow (walk (draft_views places.items)) ((key.now, columns) ∷ []) }
+    ensures pairs { IfOk result (λ r. walk (draft_views r.items) ≡ walk (draft_views places.items) ++ (key.now, columns) ∷ []) }
+    ensures lawful { IfOk result (λ r. IsLayer (draft_views r.items)) }
+    ensures first { IfOk result (λ r. first_slice_of (draft_views r.items) ≡ first_slice_of (draft_views places.items)) }
+    ensures some { IfOk result (λ r. 1 ≤ length r.items) }
+    ensures more { IfOk result (λ r. length r.items ≤ length places.items + 1) }
+{
+    let mut places = places;
+    let slice = slice_of(key);
+    if !places[places.len() - 1].meets_key(slice, key.len()) {
+        places.push(place_for(alloc, key, columns)?)?;
+        return Ok(places);
+    }
+    let Some(last) = places.pop() else {
+        unreachable!()
+    };
+    let upper = Layer::below(alloc, last)?;
+    let joined = Layer::push(alloc, upper, &key[8..], columns)?;
+    places.push(DraftPlace {
+        slice,
+        content: DraftContent::Link(joined),
+    })?;
+    Ok(places)
+}
+
+/// How many of these places have a slice below this one.
+fn count_below(places: &[DraftPlace], slice: u64) -> usize
+    requires { IsLayer (draft_views places.now) }
+    ensures few { result ≤ length places.now }
+    ensures below { SlicesBelow slice (draft_views (take result places.now)) }
+    ensures from { SlicesFrom slice (draft_views (drop result places.now)) }
+{
+    for (at, place) in places.iter().enumerate() {
+        if place.slice >= slice {
+            return at;
+        }
+    }
+    places.len()
+}
+
+/// A border of up to 15 places. Sixteen are cut before the last slice, of which there are at most ten.
+fn cut_last(alloc: Global, places: Vec<DraftPlace>) -> Result<Vec<Border>, Memory>
+    requires lawful { IsLayer (draft_views places.items) }
+    requires some { 1 ≤ length places.items }
+    requires most { length places.items ≤ 16 }
+    ensures same { IfOk result (λ bs. joined (border_views bs.items) ≡ draft_views places.items) }
+    ensures lawful { IfOk result (λ bs. AreBorders (border_views bs.items)) }
+{
+    let mut borders = Vec::new(alloc);
+    let mut places = places;
+    if places.len() > 15 {
+        let start = count_below(&places, places[places.len() - 1].slice);
+        let last = places.split_off(start)?;
+        borders.push(Border { places })?;
+        borders.push(Border { places: last })?;
+        return Ok(borders);
+    }
+    borders.push(Border { places })?;
+    Ok(borders)
+}
+
+/// Two neighbouring lists of places: where the last place of the first and the first of the second hold longer keys of one slice, one link takes their place.
+#[cycle(join)]
+fn meet(
+    alloc: Global,
+    left: Vec<DraftPlace>,
+    right: Vec<DraftPlace>,
+) -> Result<(Vec<DraftPlace>, Vec<DraftPlace>), Memory>
+    requires left_lawful { IsLayer (draft_views left.items) }
+    requires right_lawful { IsLayer (draft_views right.items) }
+    requires some { (1 ≤ length left.items) × (1 ≤ length right.items) }
+    requires below { AllKeysBelow (walk (draft_views left.items)) (walk (draft_views right.items)) }
+    ensures pairs { IfOk result (λ r. walk (draft_views r.0.items ++ draft_views r.1.items) ≡ walk (draft_views left.items) ++ walk (draft_views right.items)) }
+    ensures lawful { IfOk result (λ r. IsLayer (draft_views r.0.items ++ draft_views r.1.items)) }
+    ensures same { IfOk result (λ r. length r.0.items ≡ length left.items) }
+    ensures fewer { IfOk result (λ r. length r.1.items ≤ length right.items) }
+    ensures slices { IfOk result (λ r. SameEnds (draft_views left.items) (draft_views right.items) (draft_views r.0.items ++ draft_views r.1.items)) }
+{
+    let mut places = left;
+    let mut rest = right;
+    let Some(last) = places.pop() else {
+        unreachable!()
+    };
+    if last.meets(&rest[0]) {
+        let first = rest.remove(0);
+        let slice = last.slice;
+        let upper = Layer::below(alloc, last)?;
+        let lower = Layer::below(alloc, first)?;
+        let joined = Layer::join(alloc, upper, lower)?;
+        places.push(DraftPlace {
+            slice,
+            content: DraftContent::Link(joined),
+        })?;
+    } else {
+        places.push(last)?;
+    }
+    Ok((places, rest))
+}
+
+/// The borders of two neighbouring lists of places. Most often each stays as it is, or both go into one.
+fn close(
+    alloc: Global,
+    left: Vec<DraftPlace>,
+    right: Vec<DraftPlace>,
+) -> Result<Vec<Border>, Memory>
+    requires lawful { IsLayer (draft_views left.items ++ draft_views right.items) }
+    requires some { IsBorder (draft_views left.items) }
+    requires few { length right.items ≤ 15 }
+    ensures same { IfOk result (λ bs. joined (border_views bs.items) ≡ draft_views left.items ++ draft_views right.items) }
+    ensures lawful { IfOk result (λ bs. AreBorders (border_views bs.items)) }
+{
+    let mut borders = Vec::new(alloc);
+    let mut left = left;
+    let mut right = right;
+    if left.len() + right.len() > 15 {
+        if left[left.len() - 1].slice == right[0].slice {
+            left.append(&mut right)?;
+            return cut(alloc, left);
+        }
+        borders.push(Border { places: left })?;
+        borders.push(Border { places: right })?;
+        return Ok(borders);
+    }
+    left.append(&mut right)?;
+    borders.push(Border { places: left })?;
+    Ok(borders)
+}
+
+impl Layer {
+    pub(crate) fn new(alloc: Global) -> Layer
+        ensures { result ≡ [] }
+    {
+        Layer {
+            borders: Vec::new(alloc),
+        }
+    }
+
+    pub(crate) fn allocator(&self) -> Global {
+        *self.borders.allocator()
+    }
+
+    pub(crate) fn is_empty(&self) -> bool
+        ensures { MatchBool result (self.now ≡ []) (1 ≤ length self.now) }
+    {
+        self.borders.is_empty()
+    }
+
+    /// The layer of one key.
+    fn single(alloc: Global, key: &[u8], columns: Columns<Kept>) -> Result<Layer, Memory>
+        ensures pairs { IfOk result (λ l. layer_walk l ≡ (key.now, columns) ∷ []) }
+        ensures lawful { IfOk result AreBorders }
+    {
+        let place = place_for(alloc, key, columns)?;
+        let mut places = Vec::new(alloc);
+        places.push(place)?;
+        let mut borders = Vec::new(alloc);
+        borders.push(Border { places })?;
+        Ok(Layer { borders })
+    }
+
+    /// What lies below a place of longer keys.
+    fn below(alloc: Global, place: DraftPlace) -> Result<Layer, Memory>
+        requires lawful { IsPlace (draft_view place) }
+        requires long { length_at (draft_view place) ≡ 9 }
+        ensures pairs { IfOk result (λ l. put_before (slice_bytes place.slice) (layer_walk l) ≡ pairs_at (draft_view place)) }
+        ensures some { IfOk result (λ l. 0 < length (layer_walk l)) }
+        ensures no_empty_key { IfOk result (λ l. HasNoEmptyKey (layer_walk l)) }
+    {
+        match place.content {
+            DraftContent::Short(_, _) => unreachable!(),
+            DraftContent::Suffix(suffix, columns) => Layer::single(alloc, &suffix, columns),
+            DraftContent::Link(layer) => Ok(layer),
+        }
+    }
+
+    /// One layer of two, where all keys of the first are below all keys of the second. Only the borders at the seam are opened.
+    #[cycle(join)]
+    pub(crate) fn join(alloc: Global, left: Layer, right: Layer) -> Result<Layer, Memory>
+        requires { AllKeysBelow (layer_walk left) (layer_walk right) }
+        ensures pairs { IfOk result (λ l. layer_walk l ≡ layer_walk left ++ layer_walk right) }
+        ensures lawful { IfOk result AreBorders }
+    {
+        let mut borders = left.borders;
+        let mut rest = right.borders;
+        let Some(last) = borders.pop() else {
+            return Ok(Layer { borders: rest });
+        };
+        if rest.is_empty() {
+            borders.push(last)?;
+            return Ok(Layer { borders });
+        }
+        let first = rest.remove(0);
+        let (last, first) = meet(alloc, last.places, first.places)?;
+        let mut seam = close(alloc, last, first)?;
+        borders.append(&mut seam)?;
+        borders.append(&mut rest)?;
+        Ok(Layer { borders })
+    }
+
+    /// One more pair, whose key is above all keys of the layer. Only its last border is opened.
+    #[cycle(push)]
+    pub(crate) fn push(
+        alloc: Global,
+        layer: Layer,
+        key: &[u8],
+        columns: Columns<Kept>,
+    ) -> Result<Layer, Memory>
+        requires { AllKeysBelow (layer_walk layer) ((key.now, columns) ∷ []) }
+        ensures pairs { IfOk result (λ l. layer_walk l ≡ layer_walk layer ++ (key.now, columns) ∷ []) }
+        ensures lawful { IfOk result AreBorders }
+    {
+        let mut borders = layer.borders;
+        let Some(last) = borders.pop() else {
+            return Layer::single(alloc, key, columns);
+        };
+        let places = follow(alloc, last.places, key, columns)?;
+        let mut parts = cut_last(alloc, places)?;
+        borders.append(&mut parts)?;
+        Ok(Layer { borders })
+    }
+}

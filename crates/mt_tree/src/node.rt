@@ -1,0 +1,203 @@
+//! The nodes of a finished tree.
+ghost use Rattle.std.specs.Prelude.{◌≡◌, ◌≢◌, ◌↔◌, ◌∷◌, [], ℕ, ◌+◌, ◌*◌, ◌<◌, ◌≤◌, min, length, slice_index, slice_index_or, IsTrue, IfSome, IfNone, All};
+ghost use Rattle.std.specs.List.{AllByRecursion};
+ghost use Rattle.std.specs.Option.{option_copied};
+ghost use Rattle.mt_tree.specs.Layer.{PlaceView, walk, find_key, rank_at, length_at, IsPlace, IsLayer};
+ghost use Rattle.mt_tree.specs.Nodes.{places, first_of};
+ghost use Rattle.mt_tree.specs.NodeViews.{views, view_of};
+ghost use Rattle.mt_tree.specs.Layers.{CountsLinks};
+
+use arrayvec::ArrayVec;
+use mt_words::{Columns, Kept, slice_of};
+use std::marker::Model;
+
+#[cycle(node)]
+#[derive(Drop)]
+pub(crate) struct Node {
+    pub(crate) kind: NodeKind,
+}
+
+#[cycle(node)]
+#[derive(Drop)]
+pub(crate) enum NodeKind {
+    Border(Vec<Place>),
+    /// Separators and children. Boxed, the separators do not make a border larger.
+    Interior(Box<ArrayVec<u64, 15>>, Vec<Node>),
+}
+
+#[cycle(node)]
+#[derive(Drop)]
+pub(crate) struct Place {
+    pub(crate) slice: u64,
+    pub(crate) content: Content,
+}
+
+#[cycle(node)]
+#[derive(Drop)]
+pub(crate) enum Content {
+    Short(u8, Columns<Kept>),
+    Suffix(Vec<u8>, Columns<Kept>),
+    Link(Node),
+}
+
+impl Model for Node {
+    ghost use Rattle.mt_tree.specs.Layer.{walk, weight};
+    ghost use Rattle.mt_tree.specs.Nodes.{NodeView, places};
+
+    ghost Value = { NodeView };
+
+    ghost use Rattle.mt_tree.specs.NodeViews.{node_view, IsNodeKind};
+
+    ghost view = { λ a. node_view a.kind };
+
+    ghost invariant = { λ a. IsNodeKind a.kind };
+
+    ghost size = { λ v. weight (walk (places v)) };
+
+    ghost use Rattle.std.proofs.Common.{arith};
+    ghost use Rattle.mt_tree.specs.NodeFalls.{kind_falls};
+
+    ghost size_decreases = { λ a h. omega (arith, kind_falls a.kind h) };
+}
+
+impl Node {
+    /// The least slice of its places.
+    pub(crate) fn first_slice(&self) -> u64
+        ensures { result ≡ first_of self.now }
+    {
+        match &self.kind {
+            NodeKind::Border(places) => places[0].slice,
+            NodeKind::Interior(_, children) => children[0].first_slice(),
+        }
+    }
+}
+
+impl Place {
+    /// Whether this place stands before that of a key of this slice and length.
+    pub(crate) fn lies_before(&self, slice: u64, len: usize) -> bool
+        requires { IsPlace (view_of self.now) }
+        ensures { IsTrue result ↔ (rank_at (view_of self.now) < slice * 10 + min len 9) }
+    {
+        let here = self.length();
+        self.slice < slice || self.slice == slice && here < len.min(9)
+    }
+
+    /// The length of its keys in this layer, where 9 is longer than 8.
+    fn length(&self) -> usize
+        requires { IsPlace (view_of self.now) }
+        ensures value { result ≡ length_at (view_of self.now) }
+        ensures few { result ≤ 9 }
+    {
+        match &self.content {
+            Content::Short(own, _) => *own as usize,
+            Content::Suffix(_, _) => 9,
+            Content::Link(_) => 9,
+        }
+    }
+
+    /// Whether a key of this slice and length has its place here.
+    pub(crate) fn is_place_of(&self, slice: u64, len: usize) -> bool
+        requires { IsPlace (view_of self.now) }
+        ensures { IsTrue result ↔ (rank_at (view_of self.now) ≡ slice * 10 + min len 9) }
+    {
+        self.slice == slice && self.length() == len.min(9)
+    }
+}
+
+/// The place of a key of this slice and length.
+fn find_place(places: &[Place], slice: u64, len: usize) -> Option<usize>
+    requires { AllByRecursion IsPlace (views places.now) }
+    ensures found { IfSome result (λ at. at < length places.now) }
+    ensures here { IfSome result (λ at. (d : PlaceView) → rank_at (slice_index_or (views places.now) at d) ≡ slice * 10 + min len 9) }
+    ensures absent { IfNone result (All (λ p. rank_at p ≢ slice * 10 + min len 9) (views places.now)) }
+{
+    for (at, place) in places.iter().enumerate() {
+        if place.is_place_of(slice, len) {
+            return Some(at);
+        }
+    }
+    None
+}
+
+impl Node {
+    /// The columns of a key.
+    pub(crate) fn get(&self, key: &[u8]) -> Option<&Columns<Kept>>
+        ensures { option_copied result ≡ find_key key.now (walk (places self.now)) }
+    {
+        let slice = slice_of(key);
+        match &self.kind {
+            NodeKind::Interior(separators, children) => {
+                let at = child_at(separators.as_slice(), slice);
+                children[at].get(key)
+            }
+            NodeKind::Border(places) => {
+                let at = find_place(places, slice, key.len())?;
+                match &places[at].content {
+                    Content::Short(_, columns) => Some(columns),
+                    Content::Suffix(suffix, columns) => {
+                        if suffix.as_slice() == &key[8..] {
+                            Some(columns)
+                        } else {
+                            None
+                        }
+                    }
+                    Content::Link(below) => below.get(&key[8..]),
+                }
+            }
+        }
+    }
+}
+
+/// The child whose slices the slice is among.
+pub(crate) fn child_at(separators: &[u64], slice: u64) -> usize
+    ensures bound { result ≤ length separators.now }
+    ensures before { (k : ℕ) → k < result → slice_index separators.now k ≤ slice }
+    ensures after { result < length separators.now → slice < slice_index separators.now result }
+{
+    for (at, separator) in separators.iter().enumerate() {
+        if slice < *separator {
+            return at;
+        }
+    }
+    separators.len()
+}
+
+impl Node {
+    /// The number of trees below its links, which stops at the greatest number.
+    #[cycle(links_below)]
+    pub(crate) fn links_below(&self) -> u64
+        ensures counts { CountsLinks (places self.now) result }
+        ensures lawful { IsLayer (places self.now) }
+    {
+        match &self.kind {
+            NodeKind::Interior(_, children) => {
+                let mut sum = 0u64;
+                for child in children {
+                    sum = sum.saturating_add(child.links_below());
+                }
+                sum
+            }
+            NodeKind::Border(places) => {
+                let mut sum = 0u64;
+                for place in places {
+                    sum = sum.saturating_add(place.links_below());
+                }
+                sum
+            }
+        }
+    }
+}
+
+impl Place {
+    /// The number of trees below its link, if it has one.
+    #[cycle(links_below)]
+    fn links_below(&self) -> u64
+        requires { IsPlace (view_of self.now) }
+        ensures { CountsLinks (view_of self.now ∷ []) result }
+    {
+        match &self.content {
+            Content::Link(below) => below.links_below().saturating_add(1),
+            _ => 0,
+        }
+    }
+}

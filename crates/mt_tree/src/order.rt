@@ -1,0 +1,116 @@
+//! Whether all keys of a layer lie below all keys of another.
+ghost use Rattle.std.specs.Prelude.{◌≡◌, ◌↔◌, [], ◌∷◌, IsTrue, IfSome, IfNone};
+ghost use Rattle.mt_tree.specs.Layer.{AllKeysBelow, IsPlace};
+ghost use Rattle.mt_tree.specs.Borders.{layer_walk};
+ghost use Rattle.mt_tree.specs.DraftViews.{draft_view};
+ghost use Rattle.mt_tree.specs.Edges.{PlaceEdge, LastEdge, FirstEdge};
+ghost use Rattle.mt_tree.specs.Sides.{side_walk};
+
+use crate::layer::{DraftContent, DraftPlace, Layer};
+use mt_words::{Columns, Kept, slice_of};
+
+/// One pair, or the pairs of a layer.
+#[derive(Clone, Copy)]
+pub(crate) enum Side<'a> {
+    Lone(&'a [u8], &'a Columns<Kept>),
+    Whole(&'a Layer),
+}
+
+/// The first or the last place of a side: its slice, its length, where 9 is longer than 8, and then the pairs below it.
+#[derive(Clone, Copy)]
+pub(crate) struct Edge<'a> {
+    slice: u64,
+    length: usize,
+    below: Side<'a>,
+}
+
+fn edge_of_pair<'a>(key: &'a [u8], columns: &'a Columns<Kept>) -> Edge<'a>
+    ensures last { LastEdge ((key.now, columns.now) ∷ []) result.slice result.length (side_walk result.below) }
+    ensures first { FirstEdge ((key.now, columns.now) ∷ []) result.slice result.length (side_walk result.below) }
+{
+    Edge {
+        slice: slice_of(key),
+        length: key.len().min(9),
+        below: Side::Lone(&key[key.len().min(8)..], columns),
+    }
+}
+
+fn edge_of_place<'a>(place: &'a DraftPlace) -> Edge<'a>
+    requires { IsPlace (draft_view place.now) }
+    ensures { PlaceEdge (draft_view place.now) result.slice result.length (side_walk result.below) }
+{
+    let slice = place.slice;
+    match &place.content {
+        DraftContent::Short(length, columns) => Edge {
+            slice,
+            length: *length as usize,
+            below: Side::Lone(&[], columns),
+        },
+        DraftContent::Suffix(suffix, columns) => Edge {
+            slice,
+            length: 9,
+            below: Side::Lone(suffix, columns),
+        },
+        DraftContent::Link(layer) => Edge {
+            slice,
+            length: 9,
+            below: Side::Whole(layer),
+        },
+    }
+}
+
+fn last_edge<'a>(side: Side<'a>) -> Option<Edge<'a>>
+    ensures some { IfSome result (λ e. LastEdge (side_walk side.entry) e.slice e.length (side_walk e.below)) }
+    ensures none { IfNone result (side_walk side.entry ≡ []) }
+{
+    match side {
+        Side::Lone(key, columns) => Some(edge_of_pair(key, columns)),
+        Side::Whole(layer) => {
+            let border = layer.borders.last()?;
+            let place = border.places.last()?;
+            Some(edge_of_place(place))
+        }
+    }
+}
+
+fn first_edge<'a>(side: Side<'a>) -> Option<Edge<'a>>
+    ensures some { IfSome result (λ e. FirstEdge (side_walk side.entry) e.slice e.length (side_walk e.below)) }
+    ensures none { IfNone result (side_walk side.entry ≡ []) }
+{
+    match side {
+        Side::Lone(key, columns) => Some(edge_of_pair(key, columns)),
+        Side::Whole(layer) => {
+            let border = layer.borders.first()?;
+            let place = border.places.first()?;
+            Some(edge_of_place(place))
+        }
+    }
+}
+
+fn lies_below(left: Side, right: Side) -> bool
+    ensures { IsTrue result ↔ AllKeysBelow (side_walk left.entry) (side_walk right.entry) }
+{
+    let Some(last) = last_edge(left) else {
+        return true;
+    };
+    let Some(first) = first_edge(right) else {
+        return true;
+    };
+    if last.slice != first.slice {
+        return last.slice < first.slice;
+    }
+    if last.length != first.length {
+        return last.length < first.length;
+    }
+    if last.length < 9 {
+        return false;
+    }
+    lies_below(last.below, first.below)
+}
+
+/// Whether all keys of the first layer lie below all keys of the second.
+pub(crate) fn lies_above(left: &Layer, right: &Layer) -> bool
+    ensures { IsTrue result ↔ AllKeysBelow (layer_walk left.now) (layer_walk right.now) }
+{
+    lies_below(Side::Whole(left), Side::Whole(right))
+}

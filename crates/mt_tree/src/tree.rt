@@ -1,0 +1,167 @@
+//! Drafts and trees.
+ghost use Rattle.std.specs.Prelude.{ℕ, ◌≡◌, ◌↔◌, ◌++◌, ◌∷◌, [], ◌<◌, List, min, ◌^◌, ◌-◌, Contains, MatchOption, IfOk, OnOk, OnErr, IsTrue};
+ghost use Rattle.mt_tree.specs.Layer.{find_key, AllKeysBelow};
+ghost use Rattle.mt_words.specs.Walks.{KeysRise};
+ghost use Rattle.mt_tree.specs.Borders.{AreBorders, layer_walk};
+ghost use Rattle.mt_tree.specs.Trees.{tree_walk, tree_borders, IsTree};
+ghost use Rattle.mt_tree.specs.Range.{hits};
+ghost use Rattle.mt_tree.specs.Layers.{CountsLayers, IsLayers};
+
+use crate::finish::finish;
+use crate::hit::Hit;
+use crate::layer::Layer;
+use crate::node::Node;
+use crate::order::lies_above;
+use crate::wanted::Wanted;
+use mt_words::{Columns, Kept, Key, Memory};
+use std::alloc::Global;
+use std::marker::Model;
+use std::mem;
+
+/// A layered tree under construction: lists of places, which join at their seams.
+#[derive(Drop)]
+pub struct Draft {
+    layer: Layer,
+}
+
+impl Model for Draft {
+    ghost use Rattle.std.specs.Prelude.{List};
+    ghost use Rattle.mt_tree.specs.Layer.{PlaceView};
+    ghost use Rattle.mt_tree.specs.Layer.{FitsAfter};
+    ghost use Rattle.mt_tree.specs.Borders.{AreBorders, layer_walk};
+
+    ghost Value = { List (List PlaceView) };
+
+    ghost view = { λ d. d.layer };
+
+    ghost invariant = { λ d. AreBorders d.layer × FitsAfter 0 (layer_walk d.layer) };
+}
+
+/// A layered tree: nodes with what they hold.
+#[derive(Drop)]
+pub struct Tree {
+    alloc: Global,
+    root: Option<Node>,
+}
+
+impl Model for Tree {
+    ghost use Rattle.std.specs.Prelude.{Option};
+    ghost use Rattle.mt_tree.specs.Nodes.{NodeView};
+    ghost use Rattle.mt_tree.specs.Trees.{tree_walk, IsTree};
+    ghost use Rattle.mt_tree.specs.Layer.{FitsAfter};
+
+    ghost Value = { Option NodeView };
+
+    ghost view = { λ t. t.root };
+
+    ghost invariant = { λ t. IsTree t.root × FitsAfter 0 (tree_walk t.root) };
+}
+
+impl Draft {
+    /// No pair.
+    pub fn new(alloc: Global) -> Draft
+        ensures { result ≡ [] }
+    {
+        Draft {
+            layer: Layer::new(alloc),
+        }
+    }
+
+    /// Adds a pair whose key is above all keys of the draft. Where memory was refused the draft is empty.
+    pub fn push(&mut self, key: Key, columns: Columns<Kept>) -> Result<(), Memory>
+        requires { AllKeysBelow (layer_walk self.old) ((key, columns) ∷ []) }
+        ensures pairs { OnOk result (layer_walk self.new ≡ layer_walk self.old ++ (key, columns) ∷ []) }
+        ensures lawful { OnOk result (AreBorders self.new) }
+        ensures refused { OnErr result (self.new ≡ []) }
+    {
+        let alloc = self.layer.allocator();
+        let layer = mem::replace(&mut self.layer, Layer::new(alloc));
+        self.layer = Layer::push(alloc, layer, key.as_bytes(), columns)?;
+        Ok(())
+    }
+
+    /// The draft of pairs with strictly rising keys.
+    pub fn build(alloc: Global, pairs: Vec<(Key, Columns<Kept>)>) -> Result<Draft, Memory>
+        requires { KeysRise pairs.items }
+        ensures pairs { IfOk result (λ d. layer_walk d ≡ pairs.items) }
+        ensures lawful { IfOk result AreBorders }
+    {
+        let mut draft = Draft::new(alloc);
+        for (key, columns) in pairs {
+            draft.push(key, columns)?;
+        }
+        Ok(draft)
+    }
+
+    /// One draft of two, where all keys of the first lie below all keys of the second.
+    pub fn join(left: Draft, right: Draft) -> Result<Draft, Memory>
+        requires { AllKeysBelow (layer_walk left) (layer_walk right) }
+        ensures pairs { IfOk result (λ d. layer_walk d ≡ layer_walk left ++ layer_walk right) }
+        ensures lawful { IfOk result AreBorders }
+    {
+        let alloc = left.layer.allocator();
+        let layer = Layer::join(alloc, left.layer, right.layer)?;
+        Ok(Draft { layer })
+    }
+
+    /// The tree of a draft.
+    pub fn finish(self) -> Result<Tree, Memory>
+        ensures borders { IfOk result (λ t. tree_borders t ≡ self) }
+        ensures lawful { IfOk result IsTree }
+    {
+        let alloc = self.layer.allocator();
+        if self.layer.is_empty() {
+            return Ok(Tree { alloc, root: None });
+        }
+        let root = finish(alloc, self.layer)?;
+        Ok(Tree {
+            alloc,
+            root: Some(root),
+        })
+    }
+}
+
+/// Whether all keys of the first draft lie below all keys of the second.
+pub fn above(left: &Draft, right: &Draft) -> bool
+    ensures { IsTrue result ↔ AllKeysBelow (layer_walk left.now) (layer_walk right.now) }
+{
+    lies_above(&left.layer, &right.layer)
+}
+
+impl Tree {
+    /// The columns of a key.
+    pub fn get(&self, key: &[u8]) -> Option<&Columns<Kept>>
+        ensures { MatchOption result
+            ((columns : List (ℕ × List ℕ)) → Contains (tree_walk self.now) (key.now, columns) → ⊥)
+            (λ found. Contains (tree_walk self.now) (key.now, found.now)) }
+    {
+        match &self.root {
+            None => None,
+            Some(root) => root.get(key),
+        }
+    }
+
+    /// The first n pairs whose key is at or after the start, with the columns that are wanted.
+    pub fn getrange(&self, start: &[u8], n: usize, wanted: Wanted) -> Result<Vec<Hit>, Memory>
+        ensures { IfOk result (λ found. found.items ≡ hits wanted (tree_walk self.now) start.now n) }
+    {
+        let mut hits = Vec::new(self.alloc);
+        let Some(root) = &self.root else {
+            return Ok(hits);
+        };
+        let mut prefix = Vec::new(self.alloc);
+        root.collect(start, n, wanted, &mut prefix, &mut hits)?;
+        Ok(hits)
+    }
+
+    /// The number of trees, which stops at the greatest number.
+    pub fn layers(&self) -> u64
+        ensures counts { CountsLayers (tree_walk self.now) result }
+        ensures exact { (n : ℕ) → IsLayers (tree_walk self.now) n → result ≡ min n (2 ^ 64 - 1) }
+    {
+        match &self.root {
+            None => 1,
+            Some(root) => root.links_below().saturating_add(1),
+        }
+    }
+}
