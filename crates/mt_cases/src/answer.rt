@@ -118,20 +118,30 @@ fn choose_from(alloc: Global, inputs: Inputs<DraftSource<'_>>) -> Result<Choice,
 fn scan_all_logs(alloc: Global, logs: Vec<DraftSource<'_>>) -> Result<Vec<LogScan>, Fault> {
     let mut scans = Vec::new(alloc);
     for source in logs {
-        let mut source = source;
-        scans.push(scan_log(alloc, &mut source, scans.len())?)?;
+        scans.push(scan_of_log(alloc, source, scans.len())?)?;
     }
     Ok(scans)
+}
+
+/// The scan of the log of this number.
+fn scan_of_log(alloc: Global, source: DraftSource<'_>, log: usize) -> Result<LogScan, Fault> {
+    let mut source = source;
+    scan_log(alloc, &mut source, log)
 }
 
 /// The scans of all parts, in order; the first fault ends them.
 fn scan_all_parts(alloc: Global, parts: Vec<DraftSource<'_>>) -> Result<Vec<PartScan>, Fault> {
     let mut scans = Vec::new(alloc);
     for source in parts {
-        let mut source = source;
-        scans.push(scan_part(alloc, &mut source, scans.len())?)?;
+        scans.push(scan_of_part(alloc, source, scans.len())?)?;
     }
     Ok(scans)
+}
+
+/// The scan of the part of this number.
+fn scan_of_part(alloc: Global, source: DraftSource<'_>, part: usize) -> Result<PartScan, Fault> {
+    let mut source = source;
+    scan_part(alloc, &mut source, part)
 }
 
 /// Writes a choice.

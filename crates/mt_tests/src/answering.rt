@@ -1,6 +1,6 @@
 //! What `mtrecover` answers where sources or outputs fail.
 use crate::asserting::{assert_bytes, assert_same};
-use crate::devices::{Full, Unflushed};
+use crate::devices::{FULL, UNFLUSHED};
 use crate::logs::{HEADER, LOG_A, LOG_B, PART, bytes_of};
 use mt_cli::{Command, Query, answer};
 use mt_recover::{Inputs, Pieces, Workers};
@@ -56,11 +56,8 @@ fn assert_answer<R: Abort + AllocGlobal + Threads + Sync, O: Write>(
     let mut rack = Rack::new(rt.alloc(), read.len(), 16).expect(rt, "memory");
     let inputs = inputs_of(rt, &read, rack.slots());
     let mut err = Vec::new(rt.alloc());
-    assert_same(
-        rt,
-        &answer(rt, &dump_of(rt), inputs, out, &mut err),
-        &status,
-    );
+    let found = answer(rt, &dump_of(rt), inputs, out, &mut err);
+    assert_same(rt, &found, &status);
     assert_bytes(rt, &err, errors);
     assert!(rt; rack.all_full());
 }
@@ -86,12 +83,12 @@ fn a_failing_output_of_an_answer_has_a_status(rt: HostRuntime) {
     assert_answer(&rt, files, &mut out, 0, b"");
     assert_bytes(&rt, &out, b"61: 0=6f 1=70\n62: 0=79\n");
     let errors = b"mtrecover: output failed\n";
-    assert_answer(&rt, files, &mut Full, 3, errors);
-    assert_answer(&rt, files, &mut Unflushed, 3, errors);
+    assert_answer(&rt, files, &mut FULL, 3, errors);
+    assert_answer(&rt, files, &mut UNFLUSHED, 3, errors);
 }
 
 #[test]
 fn an_empty_answer_writes_nothing(rt: HostRuntime) {
     let files = [(HEADER, NEVER), (LOG_B, NEVER), ("00", NEVER)];
-    assert_answer(&rt, files, &mut Full, 0, b"");
+    assert_answer(&rt, files, &mut FULL, 0, b"");
 }

@@ -1,35 +1,36 @@
 //! The words of `mtrecover`: what they ask for, and what is said of those that cannot be taken.
 use crate::asserting::{assert_bytes, assert_same_in};
-use crate::devices::Full;
+use crate::devices::FULL;
 use mt_cli::command;
 use std::process::Abort;
 
-/// The words of a line. Two spaces beside each other hold the empty word.
-fn words_of<R: Abort + AllocGlobal>(rt: &R, line: &str) -> Vec<String> {
-    words_on(rt, line, "F")
-}
-
-/// The words of a line behind the program's name, with this folder for the word F.
+/// The words of a line behind the program's name, with this folder for an F that begins one. Two spaces beside each other
+/// hold the empty word.
 pub fn words_on<R: Abort + AllocGlobal>(rt: &R, line: &str, folder: &str) -> Vec<String> {
     let mut words = Vec::new(rt.alloc());
     for word in line.split(' ').skip(1) {
-        let word = if word == "F" { folder } else { word };
-        let word = String::from_str(rt.alloc(), word).expect(rt, "memory");
-        words.push(word).expect(rt, "memory");
+        words.push(word_on(rt, word, folder)).expect(rt, "memory");
     }
     words
 }
 
+/// The word, with this folder for an F that begins it.
+fn word_on<R: Abort + AllocGlobal>(rt: &R, word: &str, folder: &str) -> String {
+    let (folder, rest) = match word.strip_prefix("F") {
+        Some(rest) => (folder, rest),
+        None => ("", word),
+    };
+    format!(in rt.alloc(); "{folder}{rest}").expect(rt, "memory")
+}
+
 /// The words are taken so.
 fn assert_taken<R: Abort + AllocGlobal>(rt: &R, line: &str, taken: &str) {
-    let words = words_of(rt, line);
+    let words = words_on(rt, line, "F");
     let mut out = Vec::new(rt.alloc());
-    let mut err = Vec::new(rt.alloc());
-    let command = command(rt, &words, &mut out, &mut err).expect(rt, "a command");
+    let command = command(rt, &words, &mut out, &mut FULL).expect(rt, "a command");
     let text = format!(in rt.alloc(); "{command:?}").expect(rt, "memory");
     assert_same_in(rt, &line, &text.as_str(), &taken);
     assert_bytes(rt, &out, b"");
-    assert_bytes(rt, &err, b"");
 }
 
 #[test]
@@ -59,20 +60,14 @@ fn takes_the_words_of_each_subcommand(rt: HostRuntime) {
 }
 
 /// The words are not taken: the status, and what begins what is printed on each output.
-fn assert_refused<R: Abort + AllocGlobal>(
-    rt: &R,
-    line: &str,
-    status: u8,
-    output: &str,
-    errors: &str,
-) {
-    let words = words_of(rt, line);
+fn assert_refused<R: Abort + AllocGlobal>(rt: &R, line: &str, status: u8, texts: (&str, &str)) {
+    let words = words_on(rt, line, "F");
     let mut out = Vec::new(rt.alloc());
     let mut err = Vec::new(rt.alloc());
     let refused = command(rt, &words, &mut out, &mut err).err();
     assert_same_in(rt, &line, &refused, &Some(status));
-    assert_begins(rt, &out, output);
-    assert_begins(rt, &err, errors);
+    assert_begins(rt, &out, texts.0);
+    assert_begins(rt, &err, texts.1);
 }
 
 /// The bytes begin so, or there are none where nothing is to be there.
@@ -128,21 +123,8 @@ fn refuses_words_with_a_status_and_a_text(rt: HostRuntime) {
         ("mtrecover get F 6", "mtrecover: bad key\n"),
         ("mtrecover range F 6g 1", "mtrecover: bad key\n"),
     ] {
-        assert_refused(&rt, line, 2, "", errors);
+        assert_refused(&rt, line, 2, ("", errors));
     }
-}
-
-#[test]
-fn takes_a_key_of_the_greatest_length_and_none_past_it(rt: HostRuntime) {
-    let mut line = String::from_str(rt.alloc(), "mtrecover get F ").expect(&rt, "memory");
-    for _ in 0..1024 {
-        line.push_str("6b").expect(&rt, "memory");
-    }
-    let words = words_of(&rt, line.as_str());
-    let mut out = Vec::new(rt.alloc());
-    assert!(rt; command(&rt, &words, &mut out, &mut Full).is_ok());
-    line.push_str("00").expect(&rt, "memory");
-    assert_refused(&rt, line.as_str(), 2, "", "mtrecover: bad key\n");
 }
 
 #[test]
@@ -156,20 +138,38 @@ fn prints_help_and_the_version(rt: HostRuntime) {
         ),
         ("mtrecover --version", "mtrecover 1.0\n"),
     ] {
-        assert_refused(&rt, line, 0, output, "");
+        assert_refused(&rt, line, 0, (output, ""));
     }
 }
 
 #[test]
-fn texts_that_cannot_be_printed_have_a_status(rt: HostRuntime) {
-    let words = words_of(&rt, "mtrecover --help");
-    let mut err = Vec::new(rt.alloc());
-    assert!(rt; command(&rt, &words, &mut Full, &mut err).err() == Some(3));
-    assert_bytes(&rt, &err, b"mtrecover: output failed\n");
-    // A fault of the words that cannot be printed changes no status.
-    for line in ["mtrecover get F 6", "mtrecover"] {
-        let words = words_of(&rt, line);
-        let mut out = Vec::new(rt.alloc());
-        assert!(rt; command(&rt, &words, &mut out, &mut Full).err() == Some(2));
+fn takes_a_key_of_the_greatest_length_and_none_past_it(rt: HostRuntime) {
+    let digits = "6b".repeat(rt.alloc(), 1024).expect(&rt, "memory");
+    for (more, refused) in [("", None), ("00", Some(2))] {
+        let line = format!(in rt.alloc(); "mtrecover get F {digits}{more}").expect(&rt, "memory");
+        assert_unprinted(&rt, line.as_str(), refused);
     }
+}
+
+/// The words are taken or refused so, where nothing can be printed.
+fn assert_unprinted<R: Abort + AllocGlobal>(rt: &R, line: &str, refused: Option<u8>) {
+    let words = words_on(rt, line, "F");
+    let found = command(rt, &words, &mut FULL, &mut FULL).err();
+    assert_same_in(rt, &line, &found, &refused);
+}
+
+#[test]
+fn texts_that_cannot_be_printed_have_a_status(rt: HostRuntime) {
+    // A fault of the words that cannot be printed changes no status.
+    for (line, status) in [
+        ("mtrecover --help", 3),
+        ("mtrecover get F 6", 2),
+        ("mtrecover", 2),
+    ] {
+        assert_unprinted(&rt, line, Some(status));
+    }
+    let words = words_on(&rt, "mtrecover --version", "F");
+    let mut err = Vec::new(rt.alloc());
+    assert!(rt; command(&rt, &words, &mut FULL, &mut err).is_err());
+    assert_bytes(&rt, &err, b"mtrecover: output failed\n");
 }

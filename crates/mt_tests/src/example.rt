@@ -1,7 +1,8 @@
 //! The example of the README: recovery over files.
 use crate::asserting::assert_bytes;
+use crate::commands::words_on;
+use crate::folders::{folder_with, remove};
 use crate::logs::{LOG_A, PART};
-use crate::printing::{file_of, one, remove_files};
 use mt_recover::{Inputs, Recovered, recover_one, write_dump};
 use mt_scan::{LONGEST_BUFFER, Rack, ReaderSource, Slot};
 use mt_words::Fault;
@@ -57,11 +58,11 @@ fn print_store<R: AllocGlobal + Files, W: Write>(
 #[test]
 fn recovers_from_files(rt: HostRuntime) {
     let id = std::process::id(rt.process());
-    let logs = one(&rt, file_of(&rt, id, "example-log", LOG_A));
-    let parts = one(&rt, file_of(&rt, id, "example-part", PART));
+    let folder = folder_with(&rt, id, "example", &[("a.mtl", LOG_A), ("b.mtc", PART)]);
+    let logs = words_on(&rt, "logs F/a.mtl", folder.as_str());
+    let parts = words_on(&rt, "parts F/b.mtc", folder.as_str());
     let mut out = Vec::new(rt.alloc());
     print_store(&rt, &logs, &parts, &mut out).expect(&rt, "the files");
     assert_bytes(&rt, &out, b"61: 0=6f 1=70\n");
-    remove_files(&rt, &logs);
-    remove_files(&rt, &parts);
+    remove(&rt, folder.as_str());
 }

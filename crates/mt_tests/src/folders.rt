@@ -1,10 +1,13 @@
-//! Runs of `mtrecover` on folders.
+//! Runs of both programs on files and folders.
 use crate::asserting::assert_same_in;
 use crate::commands::words_on;
-use crate::logs::{LATE_HEADER, LOG_A, LOG_B, PART, bytes_of};
+use crate::devices::{FULL, UNFLUSHED};
+use crate::logs::{HEADER, LATE_HEADER, LOG_A, LOG_B, PART, bytes_of};
 use mt_cli::run_words;
+use mt_recover::dump_files;
 use std::env::{Env, temp_dir};
-use std::fs::{self, Files};
+use std::fs::{self, Files, OpenFile};
+use std::io::Write;
 use std::os::unix::fs::symlink;
 use std::process::Abort;
 use std::thread::Threads;
@@ -18,32 +21,38 @@ fn folder_of<R: Abort + AllocGlobal + Env + Files>(rt: &R, id: u32, name: &str) 
     path
 }
 
-/// The path of an entry of the folder.
-fn path_of<R: Abort + AllocGlobal>(rt: &R, folder: &str, name: &str) -> String {
-    format!(in rt.alloc(); "{folder}/{name}").expect(rt, "memory")
+/// Makes an entry of the folder: a folder or a link where the text says so, else a file of the bytes that it spells.
+fn make_entry<R: Abort + AllocGlobal + Files>(rt: &R, folder: &str, name: &str, text: &str) {
+    let path = format!(in rt.alloc(); "{folder}/{name}").expect(rt, "memory");
+    let path = path.as_str();
+    let made = match text {
+        "folder" => fs::create_dir(rt, path),
+        "dead link" => symlink(rt, "no-such-file", path),
+        _ => fs::write(rt, path, bytes_of(rt, text)),
+    };
+    made.expect(rt, "an entry");
 }
 
-/// Makes a folder of files with these names and bytes.
-fn folder_with<R: Abort + AllocGlobal + Env + Files>(
+/// Makes a folder of entries with these names and texts.
+pub fn folder_with<R: Abort + AllocGlobal + Env + Files>(
     rt: &R,
     id: u32,
     name: &str,
-    files: &[(&str, &str)],
+    entries: &[(&str, &str)],
 ) -> String {
     let folder = folder_of(rt, id, name);
-    for (file, text) in files {
-        let path = path_of(rt, folder.as_str(), file);
-        fs::write(rt, path.as_str(), bytes_of(rt, text)).expect(rt, "a file");
+    for (entry, text) in entries {
+        make_entry(rt, folder.as_str(), entry, text);
     }
     folder
 }
 
 /// Removes the folder.
-fn remove<R: Abort + Alloc + Files>(rt: &R, folder: &str) {
+pub fn remove<R: Abort + Alloc + Files>(rt: &R, folder: &str) {
     fs::remove_dir_all(rt, folder).expect(rt, "the folder");
 }
 
-/// The run on these words, with the folder for the word F, ends with this status, output and error output.
+/// The run on these words, with the folder for the letter F, ends with this status, output and error output.
 fn assert_run<R>(rt: &R, folder: &str, line: &str, expected: (u8, &str, &str))
 where
     R: Abort + AllocGlobal + Clone + Drop + Files + Threads + Sync,
@@ -52,13 +61,13 @@ where
     let words = words_on(rt, line, folder);
     let mut out = Vec::new(rt.alloc());
     let mut err = Vec::new(rt.alloc());
-    let (status, output, errors) = expected;
-    assert_same_in(
-        rt,
-        &line,
-        &run_words(rt, &words, &mut out, &mut err),
-        &status,
-    );
+    let status = if line.starts_with("mtdump") {
+        dump_files(rt, &words, &mut out, &mut err)
+    } else {
+        run_words(rt, &words, &mut out, &mut err)
+    };
+    let (expected, output, errors) = expected;
+    assert_same_in(rt, &line, &status, &expected);
     assert_same_in(rt, &line, &out.as_slice(), &output.as_bytes());
     assert_same_in(rt, &line, &err.as_slice(), &errors.as_bytes());
 }
@@ -92,27 +101,25 @@ fn answers_queries_of_a_folder(rt: HostRuntime) {
             "mtrecover get no-such-folder 6",
             (2, "", "mtrecover: bad key\n"),
         ),
+        // Each file is read before the next is opened, and all before any is recovered.
+        ("mtdump", (2, "", "mtdump: no files\n")),
+        (
+            "mtdump F no-such-file.mtl",
+            (1, "", "mtdump: log 0: source failed\n"),
+        ),
+        (
+            "mtdump F/c.txt no-such-file.mtl",
+            (3, "", "mtdump: cannot open no-such-file.mtl\n"),
+        ),
+        (
+            "mtdump F/c.txt --help",
+            (3, "", "mtdump: cannot open --help\n"),
+        ),
+        ("mtdump F/c.txt ", (3, "", "mtdump: cannot open \n")),
+        ("mtdump F/a.mtl F/c.txt", (1, "", "mtdump: log 1: header\n")),
     ] {
         assert_run(&rt, folder.as_str(), line, expected);
     }
-    remove(&rt, folder.as_str());
-}
-
-#[test]
-fn reports_what_was_found(rt: HostRuntime) {
-    let id = std::process::id(rt.process());
-    let files = [
-        ("log.mtl", TORN_LOG),
-        ("a.mtc", "00"),
-        ("b.mtc", "4d544331 00000005 0000000000000000 0000 0001"),
-        ("c.mtc", PART),
-        ("d.mtc", "4d544331 00000003 0000000000000000 0000 0001"),
-        ("e.mtc", ""),
-    ];
-    let folder = folder_with(&rt, id, "report", &files);
-    let text = "logs=1\nrecords=4\nmarks=1\ntorn=1\ncutoff=5\ncheckpoint=1\nbegin=2\nskipped=3,5\n\
-                nameless=0,4\nentries=1\nsurvivors=2\nearly=1\nlate=1\nkeys=1\n";
-    assert_run(&rt, folder.as_str(), "mtrecover report F", (0, text, ""));
     remove(&rt, folder.as_str());
 }
 
@@ -123,56 +130,131 @@ const TORN_LOG: &str = "4d544c31 0000000000000000
     00000014 02 0000000000000005 0000000000000002 0001 62 00000014
     00000009 03 0000000000000005 00000009 000000";
 
+/// The entries of a folder with something of all that a report counts.
+const REPORTED: &[(&str, &str)] = &[
+    ("log.mtl", TORN_LOG),
+    ("a.mtc", "00"),
+    ("b.mtc", "4d544331 00000005 0000000000000000 0000 0001"),
+    ("c.mtc", PART),
+    ("d.mtc", "4d544331 00000003 0000000000000000 0000 0001"),
+    ("e.mtc", ""),
+];
+
+const REPORT: &str =
+    "logs=1\nrecords=4\nmarks=1\ntorn=1\ncutoff=5\ncheckpoint=1\nbegin=2\nskipped=3,5\n\
+     nameless=0,4\nentries=1\nsurvivors=2\nearly=1\nlate=1\nkeys=1\n";
+
 #[test]
-fn names_what_is_wrong_with_the_files(rt: HostRuntime) {
+fn tells_what_was_found_and_what_is_wrong(rt: HostRuntime) {
     let id = std::process::id(rt.process());
-    for (name, files, errors) in [
-        ("empty", [].as_slice(), "mtrecover: no logs\n"),
-        ("parts", &[("a.mtc", PART)], "mtrecover: no logs\n"),
+    for (name, entries, expected) in [
+        ("report", REPORTED, (0, REPORT, "")),
+        ("empty", &[], (1, "", "mtrecover: no logs\n")),
+        ("parts", &[("a.mtc", PART)], (1, "", "mtrecover: no logs\n")),
         (
             "header",
             &[("a.mtl", LOG_A), ("b.mtl", "00")],
-            "mtrecover: log 1: header\n",
+            (1, "", "mtrecover: log 1: header\n"),
         ),
         (
             "gap",
             &[("a.mtl", LATE_HEADER), ("b.mtl", LOG_A)],
-            "mtrecover: log 0: gap\n",
+            (1, "", "mtrecover: log 0: gap\n"),
+        ),
+        (
+            "folder-log",
+            &[("a.mtl", LOG_A), ("x.mtl", "folder")],
+            (1, "", "mtrecover: log 1: source failed\n"),
+        ),
+        (
+            "folder-part",
+            &[("a.mtl", LOG_A), ("x.mtc", "folder")],
+            (1, "", "mtrecover: part 0: source failed\n"),
+        ),
+        // All files are opened before any is read.
+        (
+            "dead-log",
+            &[("a.mtl", "00"), ("dead.mtl", "dead link")],
+            (3, "", "mtrecover: cannot open dead.mtl\n"),
+        ),
+        (
+            "dead-part",
+            &[("a.mtl", "00"), ("dead.mtc", "dead link")],
+            (3, "", "mtrecover: cannot open dead.mtc\n"),
         ),
     ] {
-        let folder = folder_with(&rt, id, name, files);
-        assert_run(&rt, folder.as_str(), "mtrecover dump F", (1, "", errors));
+        let folder = folder_with(&rt, id, name, entries);
+        assert_run(&rt, folder.as_str(), "mtrecover report F", expected);
         remove(&rt, folder.as_str());
     }
 }
 
-#[test]
-fn a_folder_with_the_name_of_a_file_is_a_failed_source(rt: HostRuntime) {
-    let id = std::process::id(rt.process());
-    for (name, errors) in [
-        ("x.mtl", "mtrecover: log 1: source failed\n"),
-        ("x.mtc", "mtrecover: part 0: source failed\n"),
-    ] {
-        let folder = folder_with(&rt, id, name, &[("a.mtl", LOG_A)]);
-        let path = path_of(&rt, folder.as_str(), name);
-        fs::create_dir(&rt, path.as_str()).expect(&rt, "a new folder");
-        assert_run(&rt, folder.as_str(), "mtrecover dump F", (1, "", errors));
-        remove(&rt, folder.as_str());
-    }
+/// `mtdump` on these words, with this device for its output, ends with this status and this error output.
+fn assert_dump<R: Abort + AllocGlobal + Files, O: Write>(
+    rt: &R,
+    words: &[String],
+    output: &mut O,
+    (status, errors): (u8, &str),
+) {
+    let mut err = Vec::new(rt.alloc());
+    let found = dump_files(rt, words, output, &mut err);
+    assert_same_in(rt, &errors, &found, &status);
+    assert_same_in(rt, &errors, &err.as_slice(), &errors.as_bytes());
 }
 
 #[test]
-fn names_the_entry_that_cannot_be_opened(rt: HostRuntime) {
+fn a_failing_output_of_mtdump_has_a_status(rt: HostRuntime) {
     let id = std::process::id(rt.process());
-    for (name, errors) in [
-        ("dead.mtl", "mtrecover: cannot open dead.mtl\n"),
-        ("dead.mtc", "mtrecover: cannot open dead.mtc\n"),
+    let folder = folder_with(&rt, id, "output", &[("a.mtl", LOG_A), ("b.mtl", HEADER)]);
+    for (line, device, expected) in [
+        ("mtdump F/a.mtl", FULL, (3, "mtdump: output failed\n")),
+        ("mtdump F/a.mtl", UNFLUSHED, (3, "mtdump: output failed\n")),
+        // No write of no bytes is made.
+        ("mtdump F/b.mtl", FULL, (0, "")),
     ] {
-        // A file with a fault of its own: all files are opened before any is read.
-        let folder = folder_with(&rt, id, name, &[("a.mtl", "00")]);
-        let path = path_of(&rt, folder.as_str(), name);
-        symlink(&rt, "no-such-file", path.as_str()).expect(&rt, "a link");
-        assert_run(&rt, folder.as_str(), "mtrecover report F", (3, "", errors));
-        remove(&rt, folder.as_str());
+        let words = words_on(&rt, line, folder.as_str());
+        let mut output = device;
+        assert_dump(&rt, &words, &mut output, expected);
+    }
+    // A line that cannot be written changes no status.
+    assert!(rt; dump_files(&rt, &[], &mut FULL, &mut FULL) == 2);
+    remove(&rt, folder.as_str());
+}
+
+#[test]
+fn a_file_of_the_greatest_size_is_read_and_none_past_it(rt: HostRuntime) {
+    let id = std::process::id(rt.process());
+    let folder = folder_with(&rt, id, "large", &[("a.mtl", "00")]);
+    let words = words_on(&rt, "mtdump F/a.mtl", folder.as_str());
+    // Zeros alone: once such a file is read, its header is a fault.
+    for (size, errors) in [
+        (1_073_741_824, "mtdump: log 0: header\n"),
+        (1_073_741_825, "mtdump: log 0: source failed\n"),
+    ] {
+        resize(&rt, &words, size);
+        assert_dump(&rt, &words, &mut FULL, (1, errors));
+    }
+    remove(&rt, folder.as_str());
+}
+
+/// Makes the first file as long as this.
+fn resize<R: Abort + Files>(rt: &R, names: &[String], size: u64) {
+    let name = names.first().expect(rt, "a name");
+    let mut options = fs::OpenOptions::new();
+    let file = options.write(true).open(rt, name.as_str());
+    file.expect(rt, "the file")
+        .set_len(size)
+        .expect(rt, "a long file");
+}
+
+#[test]
+fn takes_512_files_and_no_more(rt: HostRuntime) {
+    for (count, errors) in [
+        (512, "mtdump: cannot open none\n"),
+        (513, "mtdump: too many files\n"),
+    ] {
+        let line = " none".repeat(rt.alloc(), count).expect(&rt, "memory");
+        let words = words_on(&rt, line.as_str(), "");
+        assert_dump(&rt, &words, &mut FULL, (3, errors));
     }
 }

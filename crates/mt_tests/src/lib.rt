@@ -23,10 +23,6 @@ mod logs;
 #[cfg(test)]
 mod meeting;
 #[cfg(test)]
-mod parts;
-#[cfg(test)]
-mod printing;
-#[cfg(test)]
 mod ranges;
 #[cfg(test)]
 mod refusals;

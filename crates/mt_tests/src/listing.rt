@@ -146,12 +146,14 @@ fn logs_and_parts_are_told_by_the_endings_of_names(rt: HostRuntime) {
 
 #[test]
 fn folders_that_are_not_taken_have_a_text(rt: HostRuntime) {
-    for (names, times, end, expected) in [
-        (MIXED, 257, None, TOO_MANY),
-        (UNREADABLE, 1, None, UNLISTED),
+    for (names, times, end, status, expected) in [
+        (MIXED, 257, None, 3, TOO_MANY),
+        (UNREADABLE, 1, None, 3, UNLISTED),
         // A name that is not UTF-8 comes before the number of files, whatever its ending.
-        (UNREADABLE, 600, None, UNLISTED),
-        (MIXED, 600, Some(ErrorKind::TimedOut), UNLISTED),
+        (UNREADABLE, 600, None, 3, UNLISTED),
+        (MIXED, 600, Some(ErrorKind::TimedOut), 3, UNLISTED),
+        // Want of memory of the system is named so.
+        (&[], 1, Some(ErrorKind::OutOfMemory), 1, NO_MEMORY),
     ] {
         let folder = Folder {
             alloc: rt.alloc(),
@@ -159,7 +161,7 @@ fn folders_that_are_not_taken_have_a_text(rt: HostRuntime) {
             times,
             end,
         };
-        assert_unlisted(&rt, &folder, 3, expected);
+        assert_unlisted(&rt, &folder, status, expected);
     }
 }
 
@@ -172,6 +174,8 @@ const UNREADABLE: &[&[u8]] = &[b"a.mtl\0", b"\xff\0"];
 const TOO_MANY: &[u8] = b"mtrecover: too many files\n";
 
 const UNLISTED: &[u8] = b"mtrecover: cannot list F\n";
+
+const NO_MEMORY: &[u8] = b"mtrecover: no memory\n";
 
 /// The folder is not taken, with this status and this text.
 fn assert_unlisted<R: Abort + AllocGlobal>(rt: &R, folder: &Folder, status: u8, expected: &[u8]) {
@@ -192,15 +196,4 @@ fn takes_512_files_of_both_kinds(rt: HostRuntime) {
     let found = names(&folder, "F", &mut err).expect(&rt, "the names");
     assert_same_in(&rt, &"logs", &found.logs.len(), &256);
     assert_same_in(&rt, &"parts", &found.parts.len(), &256);
-}
-
-#[test]
-fn want_of_memory_of_the_system_is_named_so(rt: HostRuntime) {
-    let folder = Folder {
-        alloc: rt.alloc(),
-        names: &[],
-        times: 1,
-        end: Some(ErrorKind::OutOfMemory),
-    };
-    assert_unlisted(&rt, &folder, 1, b"mtrecover: no memory\n");
 }

@@ -1,28 +1,17 @@
-//! Sources, scans of logs over them, and recovery from sources of a test's own.
+//! Sources of a test's own, and scans and recovery from them.
 ghost use Rattle.std.specs.Prelude.{[], Some, true, false};
 
-use crate::asserting::{assert_bytes, assert_same};
-use crate::logs::{LOG_A, PART, bytes_of, copy_of};
-use mt_record::Updates;
+use crate::asserting::assert_same;
+use crate::logs::{LOG_A, PART, bytes_of};
 use mt_recover::{Inputs, recover_one};
-use mt_scan::{LogScan, MemSource, Rack, ReaderSource, Slot, Source, SourceFault, scan_log};
+use mt_scan::{Rack, ReaderSource, Slot, Source, SourceFault, scan_log};
 use mt_words::Fault;
 use std::io::{self, Cursor, ErrorKind, Read};
 use std::process::Abort;
 
-/// A rack of one slot with a buffer of 16 bytes.
-fn rack_of<R: Abort + AllocGlobal>(rt: &R) -> Rack {
-    Rack::new(rt.alloc(), 1, 16).expect(rt, "memory")
-}
-
 /// The first slot of the rack.
 fn slot_of<'a, R: Abort>(rt: &R, rack: &'a mut Rack) -> &'a mut Slot {
     rack.slots().first_mut().expect(rt, "a slot")
-}
-
-/// The bytes as a source.
-fn memory_of<'a, R: Abort>(rt: &R, bytes: &'a [u8], slot: &'a mut Slot) -> MemSource<'a> {
-    MemSource::new(bytes, slot).expect(rt, "a full slot")
 }
 
 /// The reader as a source with this limit.
@@ -33,32 +22,6 @@ fn reader_of<'a, R: Abort, I: Read + Drop>(
     slot: &'a mut Slot,
 ) -> ReaderSource<'a, I> {
     ReaderSource::new(reader, limit, slot).expect(rt, "a full slot")
-}
-
-/// The next call gives this answer, and a piece as long as it says or none.
-fn assert_advance<R: Abort, S: Source>(rt: &R, source: &mut S, answer: Result<usize, SourceFault>) {
-    assert_same(rt, &source.advance(), &answer);
-    assert_same(rt, &source.piece().len(), &answer.unwrap_or(0));
-}
-
-#[test]
-fn memory_comes_in_pieces_as_long_as_the_buffer(rt: HostRuntime) {
-    let bytes = bytes_of(&rt, LOG_A);
-    let mut rack = rack_of(&rt);
-    let source = memory_of(&rt, &bytes, slot_of(&rt, &mut rack));
-    assert_pieces(&rt, source, &bytes);
-    assert!(rt; rack.all_full());
-}
-
-/// The source gives these 62 bytes in pieces of 16.
-fn assert_pieces<R: Abort + AllocGlobal, S: Source>(rt: &R, mut source: S, bytes: &[u8]) {
-    assert_same(rt, &source.piece().len(), &0);
-    let mut read = Vec::new(rt.alloc());
-    for count in [16, 16, 16, 14, 0, 0] {
-        assert_advance(rt, &mut source, Ok(count));
-        read.extend_from_slice(source.piece()).expect(rt, "memory");
-    }
-    assert_bytes(rt, &read, bytes);
 }
 
 /// A source without bytes, which borrows nothing.
@@ -87,8 +50,7 @@ impl Source for Nothing {
 #[test]
 fn a_boxed_source_is_a_source(rt: HostRuntime) {
     let boxed: Box<dyn Source + Send> = Box::new(rt.alloc(), Nothing).expect(&rt, "memory");
-    let mut logs = Vec::new(rt.alloc());
-    logs.push(boxed).expect(&rt, "memory");
+    let logs = vec![in rt.alloc(); boxed].expect(&rt, "memory");
     let parts = Vec::new(rt.alloc());
     let answer = recover_one(rt.alloc(), Inputs { logs, parts });
     assert_same(&rt, &answer.err(), &Some(Fault::Header { log: 0 }));
@@ -96,9 +58,8 @@ fn a_boxed_source_is_a_source(rt: HostRuntime) {
 
 #[test]
 fn without_a_log_no_part_is_read(rt: HostRuntime) {
-    let bytes = bytes_of(&rt, PART);
-    let mut reader = Cursor::new(copy_of(&rt, &bytes));
-    let mut rack = rack_of(&rt);
+    let mut reader = Cursor::new(bytes_of(&rt, PART));
+    let mut rack = Rack::new(rt.alloc(), 1, 16).expect(&rt, "memory");
     let mut parts = Vec::new(rt.alloc());
     let source = reader_of(&rt, &mut reader, 64, slot_of(&rt, &mut rack));
     parts.push(source).expect(&rt, "memory");
@@ -106,26 +67,6 @@ fn without_a_log_no_part_is_read(rt: HostRuntime) {
     let answer = recover_one(rt.alloc(), Inputs { logs, parts });
     assert_same(&rt, &answer.err(), &Some(Fault::NoLogs));
     assert_same(&rt, &reader.position(), &0);
-}
-
-/// The scan is that of LOG_A.
-fn assert_scan<R: Abort + AllocGlobal>(rt: &R, answer: Result<LogScan, Fault>) {
-    let scan = answer.expect(rt, "a scan");
-    let shown = (scan.from, scan.last, scan.whole, scan.marks);
-    assert_same(rt, &shown, &(0, 5, 2, 1));
-    let shown = (scan.updates.len(), scan.dropped, scan.torn);
-    assert_same(rt, &shown, &(1, 0, false));
-    assert_update(rt, scan.updates);
-}
-
-/// The updates are that of LOG_A alone.
-fn assert_update<R: Abort + AllocGlobal>(rt: &R, updates: Updates) {
-    let updates = updates.into_vec(rt.alloc()).expect(rt, "memory");
-    assert_same(rt, &updates.len(), &1);
-    for update in &updates {
-        assert_bytes(rt, update.key.as_bytes(), b"a");
-        assert_same(rt, &update.timestamp, &3);
-    }
 }
 
 #[test]
@@ -142,8 +83,10 @@ fn a_reader_may_have_as_many_bytes_as_its_limit(rt: HostRuntime) {
 /// LOG_A is read up to its limit.
 fn assert_read<R: Abort + AllocGlobal>(rt: &R, bytes: &[u8], slot: &mut Slot) {
     let mut source = reader_of(rt, bytes, 62, slot);
-    assert_scan(rt, scan_log(rt.alloc(), &mut source, 0));
-    assert_same(rt, &source.advance(), &Ok(0));
+    let scan = scan_log(rt.alloc(), &mut source, 0).expect(rt, "a scan");
+    assert_same(rt, &(scan.last, scan.whole, scan.marks), &(5, 2, 1));
+    let updates = scan.updates.into_vec(rt.alloc()).expect(rt, "memory");
+    assert_same(rt, &updates.len(), &1);
 }
 
 /// LOG_A is longer than its limit.
@@ -151,44 +94,22 @@ fn assert_too_long<R: Abort + AllocGlobal>(rt: &R, bytes: &[u8], slot: &mut Slot
     let mut source = reader_of(rt, bytes, 61, slot);
     let fault = scan_log(rt.alloc(), &mut source, 0).err();
     assert_same(rt, &fault, &Some(Fault::Source { log: 0 }));
-    assert_advance(rt, &mut source, Err(SourceFault::TooLong));
+    assert_same(rt, &source.advance(), &Err(SourceFault::TooLong));
 }
 
-/// A reader that is interrupted once before its bytes, and has a byte more behind its end.
+/// A reader that is interrupted.
 #[derive(Drop)]
-struct Restless {
-    reads: u64,
-}
+struct Restless;
 
 impl Read for Restless {
-    fn read(&mut self, bytes: &mut [u8]) -> io::Result<usize> {
-        self.reads = self.reads.saturating_add(1);
-        match (self.reads, bytes.first_mut()) {
-            (1, _) => Err(io::Error::from(ErrorKind::Interrupted)),
-            (3, _) | (_, None) => Ok(0),
-            (_, Some(first)) => {
-                *first = 7;
-                Ok(1)
-            }
-        }
+    fn read(&mut self, _bytes: &mut [u8]) -> io::Result<usize> {
+        Err(io::Error::from(ErrorKind::Interrupted))
     }
 }
 
 #[test]
 fn an_interrupted_read_is_a_failure(rt: HostRuntime) {
-    let mut rack = rack_of(&rt);
-    let reader = Restless { reads: 0 };
-    let mut source = reader_of(&rt, reader, 62, slot_of(&rt, &mut rack));
+    let mut rack = Rack::new(rt.alloc(), 1, 16).expect(&rt, "memory");
+    let mut source = reader_of(&rt, Restless, 62, slot_of(&rt, &mut rack));
     assert_same(&rt, &source.advance(), &Err(SourceFault::Device));
-    assert_same(&rt, &source.advance(), &Err(SourceFault::Device));
-}
-
-#[test]
-fn a_reader_stays_at_its_end(rt: HostRuntime) {
-    let mut rack = rack_of(&rt);
-    let reader = Restless { reads: 1 };
-    let mut source = reader_of(&rt, reader, 62, slot_of(&rt, &mut rack));
-    for count in [1, 0, 0, 0] {
-        assert_advance(&rt, &mut source, Ok(count));
-    }
 }
