@@ -6,7 +6,7 @@ use Rattle.mt_words.specs.Slices.{AreBytes, slice_in, slice_bytes}
 use Rattle.mt_words.specs.Walks.{Pair}
 use Rattle.mt_words.proofs.SliceBytes.{slice_bytes-length, slice_bytes-long, bytes_take}
 use Rattle.mt_tree.specs.Layer.{PlaceView, link, slice_at, length_at, rank_at, key_rank, pairs_at, put_before, walk, weight, IsPlace, HasNoEmptyKey, IsLayer, AllKeysBelow, Meet}
-use Rattle.mt_tree.specs.Falls.{weight-append}
+use Rattle.mt_tree.specs.Falls.{weight-append, walk-append, layer_back}
 use Rattle.mt_tree.specs.Nodes.{joined, IsBorder}
 use Rattle.mt_tree.specs.NodeFalls.{joined-append}
 use Rattle.mt_tree.specs.Borders.{AreBorders, layer_walk}
@@ -14,9 +14,8 @@ use Rattle.mt_tree.specs.Nodes.{first_slice_of}
 use Rattle.mt_tree.specs.DraftViews.{draft_views, draft_view, border_views}
 use Rattle.mt_tree.specs.declared.layer.Border.{Border}
 use Rattle.mt_tree.specs.declared.layer.DraftPlace.{DraftPlace}
-use Rattle.mt_tree.proofs.Joins.{Seam, apart_layer, layer_seam, last_place, walk-append, put_before-append, below_unprefixed, below_lighter, slice_at-draft, slice_at-lt, all_append, all_back}
+use Rattle.mt_tree.proofs.Joins.{Seam, apart_layer, layer_seam, last_place, put_before-append, below_unprefixed, below_lighter, slice_at-draft, slice_at-lt, all_append, all_back, length_at-le}
 use Rattle.mt_tree.proofs.Finds.{pairs_rank}
-use Rattle.mt_tree.proofs.Cuts.{layer_back, length_at-le}
 use Rattle.mt_tree.proofs.CutUps.{borders-push}
 use Rattle.mt_tree.proofs.Meets.{first_merged}
 

@@ -22,12 +22,12 @@ use Rattle.mt_tree.specs.declared.hit.Hit.{Hit}
 use Rattle.mt_tree.specs.declared.node.Place.{Place}
 use Rattle.mt_tree.specs.declared.node.Content.{Content}
 use Rattle.mt_tree.specs.declared.node.Content.TheVariants.{Short, Suffix, Link}
-use Rattle.mt_tree.proofs.Joins.{walk-append}
-use Rattle.mt_tree.proofs.Cuts.{all_weaker, all_front, all_back, length_at-le}
 use Rattle.mt_tree.proofs.Finds.{pairs_rank}
 use Rattle.mt_tree.proofs.Orders.{pairs_bytes}
 use Rattle.mt_tree.proofs.Lights.{kids_more, views_more}
 use Rattle.mt_tree.proofs.Ranged.{take_few, then_found, from-append, found-append, from_kept, from_empty, found-put_before, one_tested, short_from, below_from, place_gone}
+use Rattle.mt_tree.specs.Falls.{walk-append}
+use Rattle.mt_tree.proofs.Joins.{all_weaker, all_front, all_back, length_at-le}
 
 -- ---- what a place's test says
 pub not_before : (rank s : ℕ) (start : List ℕ) (r : Bool) → s ≡ slice_in start → r ≡ false → (rank < s * 10 + min (length start) 9 → r ≡ true) → key_rank start ≤ rank

@@ -26,8 +26,7 @@ use Rattle.mt_tree.specs.declared.node.NodeKind.TheVariants.{Border, Interior}
 use Rattle.mt_tree.specs.declared.node.Content.{Content}
 use Rattle.mt_tree.specs.declared.node.Content.TheVariants.{Short, Suffix, Link}
 use Rattle.mt_tree.proofs.Finds.{pairs_rank}
-use Rattle.mt_tree.proofs.Cuts.{all_weaker}
-use Rattle.mt_tree.proofs.Joins.{all_append}
+use Rattle.mt_tree.proofs.Joins.{all_append, all_weaker}
 
 -- ---- what lies under 8 bytes
 under_step : (q : List ℕ) (p : Pair) (w : List Pair) (b : Bool) → lies_under q p.0 ≡ b → under q (p ∷ w) ≡ (elim b [ true ↦ (drop 8 p.0, p.1) ∷ under q w | false ↦ under q w ])

@@ -8,8 +8,9 @@ use Rattle.mt_tree.specs.Nodes.{first_slice_of}
 use Rattle.mt_tree.specs.DraftViews.{draft_views, draft_view, border_views}
 use Rattle.mt_tree.specs.declared.layer.Border.{Border}
 use Rattle.mt_tree.specs.declared.layer.DraftPlace.{DraftPlace}
-use Rattle.mt_tree.proofs.Joins.{all_append, slice_at-draft}
-use Rattle.mt_tree.proofs.Cuts.{all_weaker, length_at-le, slices_from, cut_back, cut_nil, joined-one, apart_split, run_few, layer_back, layer_front}
+use Rattle.mt_tree.proofs.Joins.{all_append, slice_at-draft, all_weaker, length_at-le}
+use Rattle.mt_tree.proofs.Cuts.{slices_from, cut_back, cut_nil, joined-one, apart_split, run_few}
+use Rattle.mt_tree.specs.Falls.{layer_back, layer_front}
 
 pub borders-push : (bs : List Border) (b : Border) → border_views (bs ++ b ∷ []) ≡ border_views bs ++ draft_views b.places.items ∷ []
 borders-push bs b = map-append (λ (z : Border). draft_views z.places.items) bs (b ∷ [])

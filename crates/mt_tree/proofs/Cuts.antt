@@ -1,45 +1,17 @@
 -- The places of a layer are cut into borders between slices.
 use Rattle.std.proofs.Common.{◌≡◌, ◌≢◌, ℕ, suc, ◌+◌, ◌*◌, ◌≤◌, List, [], ◌∷◌, ◌++◌, length, sym, refl, ap, ◌∙◌, subst, arith, append_assoc}
-use Rattle.std.specs.List.{AllByRecursion}
 use Rattle.std.proofs.lemmas.List.{append-nil}
-use Rattle.mt_tree.specs.Layer.{PlaceView, short, long, link, slice_at, length_at, rank_at, IsPlace, IsLayerFrom, IsLayer}
+use Rattle.mt_tree.specs.Layer.{PlaceView, slice_at, rank_at, IsLayerFrom, IsLayer}
 use Rattle.mt_tree.specs.Nodes.{NodeView, joined, borders_of, SlicesFrom, SlicesApart, IsNode, IsLevelAt, IsLevel, CutAt, OfSlice, border_node}
 use Rattle.mt_tree.specs.NodeFalls.{joined-append}
 use Rattle.mt_tree.specs.NodeViews.{view_of, view_of_content}
 use Rattle.mt_tree.specs.declared.node.Content.{Content}
 use Rattle.mt_tree.specs.declared.node.Content.TheVariants.{Short, Suffix, Link}
 use Rattle.mt_tree.specs.declared.node.Place.{Place}
-
-pub length_at-le : (p : PlaceView) → IsPlace p → length_at p ≤ 9
-length_at-le (short s l c) h = let fits : l ≤ 8 = h.1 in omega arith
-length_at-le (long s t c) h = omega arith
-length_at-le (link s w) h = omega arith
-
-pub all_back : {X : Type 0} (P : X → Type 0) (xs ys : List X) → AllByRecursion P (xs ++ ys) → AllByRecursion P ys
-all_back P [] ys h = h
-all_back P (x ∷ xs) ys h = all_back P xs ys h.1
-
-pub all_front : {X : Type 0} (P : X → Type 0) (xs ys : List X) → AllByRecursion P (xs ++ ys) → AllByRecursion P xs
-all_front P [] ys h = tt
-all_front P (x ∷ xs) ys h = (h.0, all_front P xs ys h.1)
-
-pub all_weaker : {X : Type 0} (P Q : X → Type 0) → ((x : X) → P x → Q x) → (xs : List X) → AllByRecursion P xs → AllByRecursion Q xs
-all_weaker P Q f [] h = tt
-all_weaker P Q f (x ∷ xs) h = (f x h.0, all_weaker P Q f xs h.1)
+use Rattle.mt_tree.specs.Falls.{layer_back}
+use Rattle.mt_tree.proofs.Joins.{all_weaker, length_at-le, all_back}
 
 -- ---- layers and their parts
-pub layer_weaker : (low least : ℕ) (ps : List PlaceView) → least ≤ low → IsLayerFrom low ps → IsLayerFrom least ps
-layer_weaker low least [] le h = tt
-layer_weaker low least (p ∷ ps) le h = let from : low ≤ rank_at p = h.1 in (h.0, omega arith, h.2)
-
-pub layer_back : (low : ℕ) (xs ys : List PlaceView) → IsLayerFrom low (xs ++ ys) → IsLayerFrom low ys
-layer_back low [] ys h = h
-layer_back low (x ∷ xs) ys h = let from : low ≤ rank_at x = h.1 in layer_weaker (suc (rank_at x)) low ys (omega arith) (layer_back (suc (rank_at x)) xs ys h.2)
-
-pub layer_front : (low : ℕ) (xs ys : List PlaceView) → IsLayerFrom low (xs ++ ys) → IsLayerFrom low xs
-layer_front low [] ys h = tt
-layer_front low (x ∷ xs) ys h = (h.0, h.1, layer_front (suc (rank_at x)) xs ys h.2)
-
 -- slices of places from a rank on
 pub slices_from : (low s : ℕ) (ps : List PlaceView) → s * 10 ≤ low → IsLayerFrom low ps → SlicesFrom s ps
 slices_from low s [] le h = tt

@@ -1,5 +1,5 @@
 -- The ends of a layer that is a list of borders.
-use Rattle.std.proofs.Common.{◌≡◌, ℕ, zero, suc, ◌+◌, ◌-◌, ◌≤◌, List, [], ◌∷◌, ◌++◌, length, sym, ap, ◌∙◌, subst, arith, append_assoc}
+use Rattle.std.proofs.Common.{◌≡◌, ℕ, suc, ◌-◌, ◌≤◌, List, [], ◌∷◌, ◌++◌, length, sym, ap, ◌∙◌, subst, arith, append_assoc}
 use Rattle.std.specs.Prelude.{slice_get, Some, None}
 use Rattle.std.specs.List.{AllByRecursion}
 use Rattle.std.proofs.lemmas.List.{append-nil, map-append, length-map}
@@ -12,29 +12,15 @@ use Rattle.mt_tree.specs.Edges.{PlaceEdge, LastEdge, FirstEdge}
 use Rattle.mt_tree.specs.DraftViews.{draft_views, draft_view, border_views}
 use Rattle.mt_tree.specs.declared.layer.Border.{Border}
 use Rattle.mt_tree.specs.declared.layer.DraftPlace.{DraftPlace}
-use Rattle.mt_tree.proofs.Cuts.{all_back, layer_back}
 use Rattle.mt_tree.proofs.Orders.{last_of, first_of, last_edge, first_edge}
 use Rattle.mt_tree.proofs.CutUps.{borders-append}
-
-last_border_front : (xs : List Border) (x : Border) (i : ℕ) → i + 1 ≡ length xs → Some x ≡ slice_get xs i → (front : List Border) × (xs ≡ front ++ x ∷ [])
-last_border_front [] x i e f = absurd (omega arith)
-last_border_front (y ∷ []) x zero e f = ([], ap (λ (z : Border). z ∷ []) (let same : y ≡ x = cc f in same))
-last_border_front (y ∷ []) x (suc i) e f = absurd (omega arith)
-last_border_front (y ∷ z ∷ zs) x zero e f = absurd (omega arith)
-last_border_front (y ∷ z ∷ zs) x (suc i) e f = let rest = last_border_front (z ∷ zs) x i (omega arith) f in (y ∷ rest.0, ap (λ (k : List Border). y ∷ k) rest.1)
-
-pub last_border_of : (xs : List Border) (x : Border) → Some x ≡ slice_get xs (length xs - 1) → (front : List Border) × (xs ≡ front ++ x ∷ [])
-last_border_of [] x e = cc e
-last_border_of (y ∷ ys) x e = let at : length (y ∷ ys) - 1 ≡ length ys = omega arith in last_border_front (y ∷ ys) x (length ys) (omega arith) (e ∙ ap (slice_get (y ∷ ys)) at)
-
-pub first_border_of : (xs : List Border) (x : Border) → Some x ≡ slice_get xs 0 → (rest : List Border) × (xs ≡ x ∷ rest)
-first_border_of [] x e = cc e
-first_border_of (y ∷ ys) x e = (ys, ap (λ (z : Border). z ∷ ys) (let same : y ≡ x = cc e in same))
+use Rattle.mt_tree.specs.Falls.{layer_back}
+use Rattle.mt_tree.proofs.Joins.{all_back}
 
 -- the places up to the last one
 last_places : (ps qs : List Border) (b : Border) (rs : List DraftPlace) (x : DraftPlace) → qs ≡ ps → Some b ≡ slice_get qs (length qs - 1) → rs ≡ b.places.items → Some x ≡ slice_get rs (length rs - 1) → (front : List PlaceView) × (joined (border_views ps) ≡ front ++ draft_view x ∷ [])
 last_places ps qs b rs x e f g k =
-    let l = last_border_of qs b f in
+    let l = last_of qs b f in
     let m = last_of rs x k in
     let places : draft_views b.places.items ≡ draft_views m.0 ++ draft_view x ∷ [] = ap draft_views (sym g ∙ m.1) ∙ map-append draft_view m.0 (x ∷ []) in (
       joined (border_views l.0) ++ draft_views m.0,
@@ -54,7 +40,7 @@ last_of_borders w v ps qs b rs x s m below is view h e f g k edge =
 pub first_of_borders : (w : List Pair) (v : List (List PlaceView)) (ps qs : List Border) (b : Border) (rs : List DraftPlace) (x : DraftPlace) (s m : ℕ) (below : List Pair) → w ≡ layer_walk v → border_views ps ≡ v → AreBorders (border_views ps) → qs ≡ ps → Some b ≡ slice_get qs 0 → rs ≡ b.places.items → Some x ≡ slice_get rs 0
     → PlaceEdge (draft_view x) s m below → FirstEdge w s m below
 first_of_borders w v ps qs b rs x s m below is view h e f g k edge =
-    let l = first_border_of qs b f in
+    let l = first_of qs b f in
     let n = first_of rs x k in
     let places : joined (border_views ps) ≡ draft_view x ∷ (draft_views n.0 ++ joined (border_views l.0)) =
     ap (λ (z : List Border). joined (border_views z)) (sym e ∙ l.1) ∙ ap (λ (z : List DraftPlace). draft_views z ++ joined (border_views l.0)) (sym g ∙ n.1) in
@@ -63,7 +49,7 @@ first_of_borders w v ps qs b rs x s m below is view h e f g k edge =
 -- a border is not empty
 pub last_border_some : (ps qs : List Border) (b : Border) → AreBorders (border_views ps) → qs ≡ ps → Some b ≡ slice_get qs (length qs - 1) → 1 ≤ length b.places.items
 last_border_some ps qs b h e f =
-    let l = last_border_of qs b f in
+    let l = last_of qs b f in
     let each : AllByRecursion IsBorder (border_views l.0 ++ draft_views b.places.items ∷ []) = subst (AllByRecursion IsBorder) (ap border_views (sym e ∙ l.1) ∙ borders-append l.0 (b ∷ [])) h.0 in
     let some : 1 ≤ length (draft_views b.places.items) = (all_back IsBorder (border_views l.0) (draft_views b.places.items ∷ []) each).0.0 in
     omega (arith, length-map b.places.items draft_view)

@@ -1,14 +1,14 @@
 -- Borders are finished one by one.
 use Rattle.std.proofs.Common.{◌≡◌, ℕ, ◌≤◌, List, [], ◌∷◌, ◌++◌, length, sym, ap, ◌∙◌, subst, arith}
 use Rattle.mt_tree.specs.Layer.{PlaceView, link, IsPlace, IsLayer, walk, weight}
-use Rattle.mt_tree.specs.Falls.{weight-append}
+use Rattle.mt_tree.specs.Falls.{weight-append, walk-append, layer_back, layer_front}
 use Rattle.mt_tree.specs.Nodes.{joined, IsBorder, IsNode, border_node}
 use Rattle.mt_tree.specs.NodeFalls.{joined-append}
 use Rattle.mt_tree.specs.Borders.{AreBorders, layer_walk}
 use Rattle.mt_tree.specs.NodeViews.{views}
 use Rattle.mt_tree.specs.declared.node.Place.{Place}
-use Rattle.mt_tree.proofs.Joins.{walk-append}
-use Rattle.mt_tree.proofs.Cuts.{all_back, layer_back, layer_front, border_is_node}
+use Rattle.mt_tree.proofs.Cuts.{border_is_node}
+use Rattle.mt_tree.proofs.Joins.{all_back}
 
 pub record Middle (l : List PlaceView) (all : List (List PlaceView)) : Type 0 where
   pub border : IsBorder l

@@ -1,5 +1,5 @@
 -- A key is found at its place.
-use Rattle.std.proofs.Common.{◌≡◌, ◌≢◌, ℕ, zero, suc, ◌+◌, ◌*◌, ◌^◌, ◌<◌, ◌≤◌, min, Bool, true, false, Option, Some, None, List, [], ◌∷◌, ◌++◌, length, take, drop, get_or, sym, refl, ap, ◌∙◌, subst, inl, inr, ◌⊎◌, arith, ◌-◌, length-append, length-drop}
+use Rattle.std.proofs.Common.{◌≡◌, ◌≢◌, ℕ, zero, suc, ◌+◌, ◌*◌, ◌^◌, ◌<◌, ◌≤◌, min, Bool, true, false, Option, Some, None, List, [], ◌∷◌, ◌++◌, length, take, drop, get_or, sym, refl, ap, ◌∙◌, subst, inl, inr, ◌⊎◌, arith, ◌-◌, length-drop}
 use Rattle.std.specs.Prelude.{Contains, MatchOption}
 use Rattle.std.specs.Option.{option_copied}
 use Rattle.mt_words.proofs.Elements.{no_element, head_or_tail, head_in, tail_in}
@@ -10,7 +10,7 @@ use Rattle.std.proofs.lemmas.List.{append-nil, length-take-le, get_or-map, lengt
 use Rattle.std.proofs.lemmas.Bool.{eq-eqb}
 use Rattle.mt_words.specs.Slices.{AreBytes, slice_in, slice_bytes}
 use Rattle.mt_tree.specs.Layer.{key_rank}
-use Rattle.mt_words.proofs.SliceBytes.{slice_in-append, slice_in-take, slice_bytes-short, slice_bytes-long, bytes_take}
+use Rattle.mt_words.proofs.SliceBytes.{slice_in-take, slice_bytes-short, slice_bytes-long, bytes_take}
 use Rattle.mt_words.proofs.SliceBytes.{slice_bytes-length}
 use Rattle.mt_tree.specs.Layer.{PlaceView, short, long, link, slice_at, length_at, rank_at, pairs_at, put_before, walk, IsPlace, HasNoEmptyKey, IsLayerFrom, IsLayer, find_key}
 use Rattle.mt_words.specs.Walks.{Pair}
@@ -28,7 +28,8 @@ use Rattle.mt_tree.specs.declared.node.Content.TheVariants.{Short, Suffix, Link}
 use Rattle.mt_tree.specs.declared.node.Place.{Place}
 use Rattle.mt_tree.specs.declared.node.NodeKind.{NodeKind}
 use Rattle.mt_tree.specs.declared.node.NodeKind.TheVariants.{Border, Interior}
-use Rattle.mt_tree.proofs.Joins.{walk-append}
+use Rattle.mt_tree.specs.Falls.{walk-append}
+use Rattle.mt_tree.proofs.Joins.{long_rank}
 
 unequal : (k x : List ℕ) → (k ≡ x → ⊥) → pointwise nat_eq k x ≡ false
 unequal k x n = by (pointwise nat_eq k x) refl
@@ -56,9 +57,6 @@ find-front k (p ∷ v) w h = ap (λ (r : Option (List (ℕ × List ℕ))). if po
 -- ---- all pairs of a place have its rank
 abbrev PairsRank : ℕ → List Pair → Type 0
 PairsRank r = AllByRecursion (λ p. key_rank p.0 ≡ r)
-
-long_rank : (s : ℕ) (t : List ℕ) → s < 2 ^ 64 → 0 < length t → key_rank (slice_bytes s ++ t) ≡ s * 10 + 9
-long_rank s t h some = omega (arith, slice_in-append s t h, length-append (slice_bytes s) t, slice_bytes-length s)
 
 pub link_ranks : (s : ℕ) (w : List Pair) → s < 2 ^ 64 → HasNoEmptyKey w → PairsRank (s * 10 + 9) (put_before (slice_bytes s) w)
 link_ranks s [] h k = tt

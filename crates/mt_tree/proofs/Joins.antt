@@ -14,7 +14,7 @@ use Rattle.mt_words.specs.Words.{IsBelow}
 use Rattle.mt_tree.specs.DraftViews.{draft_views, draft_view, draft_view_of}
 use Rattle.mt_tree.specs.declared.layer.DraftContent.{DraftContent}
 use Rattle.mt_tree.specs.declared.layer.DraftContent.TheVariants.{Short, Suffix, Link}
-use Rattle.mt_tree.specs.Falls.{weight-append, weight-put_before}
+use Rattle.mt_tree.specs.Falls.{weight-append, weight-put_before, walk-append}
 use Rattle.mt_tree.specs.declared.layer.DraftPlace.{DraftPlace}
 
 -- ---- keys below keys
@@ -22,11 +22,11 @@ pub all_back : {X : Type 0} (P : X → Type 0) (xs ys : List X) → AllByRecursi
 all_back P [] ys h = h
 all_back P (x ∷ xs) ys h = all_back P xs ys h.1
 
-all_front : {X : Type 0} (P : X → Type 0) (xs ys : List X) → AllByRecursion P (xs ++ ys) → AllByRecursion P xs
+pub all_front : {X : Type 0} (P : X → Type 0) (xs ys : List X) → AllByRecursion P (xs ++ ys) → AllByRecursion P xs
 all_front P [] ys h = tt
 all_front P (x ∷ xs) ys h = (h.0, all_front P xs ys h.1)
 
-all_weaker : {X : Type 0} (P Q : X → Type 0) → ((x : X) → P x → Q x) → (xs : List X) → AllByRecursion P xs → AllByRecursion Q xs
+pub all_weaker : {X : Type 0} (P Q : X → Type 0) → ((x : X) → P x → Q x) → (xs : List X) → AllByRecursion P xs → AllByRecursion Q xs
 all_weaker P Q f [] h = tt
 all_weaker P Q f (x ∷ xs) h = (f x h.0, all_weaker P Q f xs h.1)
 
@@ -55,10 +55,10 @@ record FirstPair (w : List Pair) (rank : ℕ) : Type 0 where
   ranks : key_rank key ≡ rank
 
 -- a key longer than 8 bytes that begins with the bytes of a slice
-long_bytes : (s : ℕ) (t : List ℕ) → s < 2 ^ 64 → AreBytes (take 8 (slice_bytes s ++ t))
+pub long_bytes : (s : ℕ) (t : List ℕ) → s < 2 ^ 64 → AreBytes (take 8 (slice_bytes s ++ t))
 long_bytes s t h = subst AreBytes (sym (take_at (slice_bytes s) t 8 (slice_bytes-length s))) (slice_bytes-bytes s h)
 
-long_rank : (s : ℕ) (t : List ℕ) → s < 2 ^ 64 → 0 < length t → key_rank (slice_bytes s ++ t) ≡ s * 10 + 9
+pub long_rank : (s : ℕ) (t : List ℕ) → s < 2 ^ 64 → 0 < length t → key_rank (slice_bytes s ++ t) ≡ s * 10 + 9
 long_rank s t h some = omega (arith, slice_in-append s t h, length-append (slice_bytes s) t, slice_bytes-length s)
 
 first_pair : (p : PlaceView) → IsPlace p → FirstPair (pairs_at p) (rank_at p)
@@ -78,7 +78,7 @@ first_pair (long s t c) h = record { key = slice_bytes s ++ t; columns = c; rest
 first_pair (link s []) h = absurd (let two : 2 ≤ 0 = h.1 in omega arith)
 first_pair (link s (p ∷ w)) h = record { key = slice_bytes s ++ p.0; columns = p.1; rest = put_before (slice_bytes s) w; is = refl; bytes = long_bytes s p.0 h.0; ranks = long_rank s p.0 h.0 h.2.0 }
 
-length_at-le : (p : PlaceView) → IsPlace p → length_at p ≤ 9
+pub length_at-le : (p : PlaceView) → IsPlace p → length_at p ≤ 9
 length_at-le (short s l c) h = let fits : l ≤ 8 = h.1 in omega arith
 length_at-le (long s t c) h = omega arith
 length_at-le (link s w) h = omega arith
@@ -102,10 +102,6 @@ ranks_seam p q hp hq below = by (first_pair p hp) (first_pair q hq)
         decide f.key g.key f.ranks g.ranks (ranks_of_less f.key g.key f.bytes g.bytes less)
 
 -- ---- layers
-pub walk-append : (xs ys : List PlaceView) → walk (xs ++ ys) ≡ walk xs ++ walk ys
-walk-append [] ys = refl
-walk-append (x ∷ xs) ys = ap (λ w. pairs_at x ++ w) (walk-append xs ys) ∙ sym (append_assoc (pairs_at x) (walk xs) (walk ys))
-
 -- the last place gives way to one of its rank or a higher one, and what follows
 pub layer_seam : (low : ℕ) (xs : List PlaceView) (p q : PlaceView) (ys : List PlaceView) → IsLayerFrom low (xs ++ p ∷ []) → IsPlace q → rank_at p ≤ rank_at q → IsLayerFrom (suc (rank_at q)) ys → IsLayerFrom low (xs ++ q ∷ ys)
 layer_seam low [] p q ys h k le rest = let from : low ≤ rank_at p = h.1 in (k, omega arith, rest)

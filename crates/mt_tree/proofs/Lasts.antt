@@ -7,8 +7,9 @@ use Rattle.mt_tree.specs.Nodes.{joined, SlicesBelow, SlicesFrom, CutAt, OfSlice}
 use Rattle.mt_tree.specs.Borders.{AreBorders}
 use Rattle.mt_tree.specs.DraftViews.{draft_views, draft_view}
 use Rattle.mt_tree.specs.declared.layer.DraftPlace.{DraftPlace}
-use Rattle.mt_tree.proofs.Joins.{slice_at-draft}
-use Rattle.mt_tree.proofs.Cuts.{all_weaker, all_back, layer_back, length_at-le, slices_from, run_few, cut_nil}
+use Rattle.mt_tree.proofs.Joins.{slice_at-draft, all_weaker, all_back, length_at-le}
+use Rattle.mt_tree.proofs.Cuts.{slices_from, run_few, cut_nil}
+use Rattle.mt_tree.specs.Falls.{layer_back}
 
 -- from the first place on whose slice is not below
 pub from_here : (low s : ℕ) (ps : List DraftPlace) (i : ℕ) (x : DraftPlace) → IsLayerFrom low (draft_views ps) → i < length ps → x ≡ get_or ps i x → s ≤ x.slice → SlicesFrom s (draft_views (drop i ps))

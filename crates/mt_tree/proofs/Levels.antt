@@ -4,13 +4,13 @@ use Rattle.std.specs.List.{AllByRecursion}
 use Rattle.std.proofs.lemmas.List.{append-nil, length-map, drop_all}
 use Rattle.mt_words.specs.Slices.{slice_bytes}
 use Rattle.mt_words.proofs.SliceBytes.{slice_bytes-length}
-use Rattle.mt_tree.specs.Falls.{weight-append}
+use Rattle.mt_tree.specs.Falls.{weight-append, walk-append, layer_back, layer_front}
 use Rattle.mt_tree.specs.Layer.{walk, weight, pairs_at, PlaceView, link, slice_at, rank_at, IsPlace, IsLayerFrom, IsLayer}
 use Rattle.mt_words.specs.Walks.{Pair}
 use Rattle.mt_tree.specs.Nodes.{NodeView, places, joined, borders_of, SlicesFrom, SlicesBelow, SlicesApart, IsBorder, IsNode, IsNodeAt, IsLevelAt, IsLevel, IsInterior, AreSeparated, level_height, CutAt, first_slice_of, first_of, parent_node}
 use Rattle.mt_tree.specs.NodeFalls.{joined-append}
-use Rattle.mt_tree.proofs.Joins.{all_append, walk-append, below_lighter}
-use Rattle.mt_tree.proofs.Cuts.{all_back, all_front, all_weaker, layer_back, layer_front, slices_from, borders_of-append, level_is}
+use Rattle.mt_tree.proofs.Joins.{all_append, below_lighter, all_back, all_front, all_weaker}
+use Rattle.mt_tree.proofs.Cuts.{slices_from, borders_of-append, level_is}
 use Rattle.arrayvec.specs.declared.array_vec.ArrayVec.{ArrayVec}
 use Rattle.std.specs.Global.{Box}
 use Rattle.mt_tree.specs.NodeViews.{node_view, IsNodeKind}

@@ -4,7 +4,7 @@ use Rattle.std.specs.List.{AllByRecursion, remove}
 use Rattle.std.proofs.lemmas.List.{append-nil, map-append, length-map}
 use Rattle.mt_tree.specs.Layer.{PlaceView, slice_at, IsLayer, walk, weight, AllKeysBelow}
 use Rattle.mt_words.specs.Walks.{Pair}
-use Rattle.mt_tree.specs.Falls.{weight-append}
+use Rattle.mt_tree.specs.Falls.{weight-append, walk-append, layer_back, layer_front}
 use Rattle.mt_tree.specs.Nodes.{joined, IsBorder}
 use Rattle.mt_tree.specs.NodeFalls.{joined-append}
 use Rattle.mt_tree.specs.Borders.{AreBorders, SameEnds, layer_walk, last_slice_of}
@@ -12,8 +12,7 @@ use Rattle.mt_tree.specs.Nodes.{first_slice_of}
 use Rattle.mt_tree.specs.DraftViews.{draft_views, draft_view, border_views}
 use Rattle.mt_tree.specs.declared.layer.Border.{Border}
 use Rattle.mt_tree.specs.declared.layer.DraftPlace.{DraftPlace}
-use Rattle.mt_tree.proofs.Joins.{Seam, all_back, below_first, walk-append, first_removed, slice_at-draft}
-use Rattle.mt_tree.proofs.Cuts.{layer_back, layer_front}
+use Rattle.mt_tree.proofs.Joins.{Seam, all_back, below_first, first_removed, slice_at-draft}
 use Rattle.mt_tree.proofs.CutUps.{borders-push}
 
 pub seam_of : (l r xs : List DraftPlace) (p q : DraftPlace) → IsLayer (draft_views l) → IsLayer (draft_views r) → AllKeysBelow (walk (draft_views l)) (walk (draft_views r)) → l ≡ xs ++ p ∷ [] → 1 ≤ length r → q ≡ get_or r 0 q → Seam xs p q (remove r 0)

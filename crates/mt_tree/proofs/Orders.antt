@@ -11,20 +11,15 @@ use Rattle.mt_tree.specs.Layer.{PlaceView, short, long, link, rank_at, pairs_at,
 use Rattle.mt_words.specs.Walks.{Pair}
 use Rattle.mt_words.specs.Words.{IsBelow}
 use Rattle.mt_tree.specs.Edges.{PlaceEdge, LastEdge, FirstEdge, HasBytes}
-use Rattle.mt_tree.specs.Falls.{weight-append}
-use Rattle.mt_tree.proofs.Joins.{walk-append, all_append, below_unprefixed, below_lighter}
+use Rattle.mt_tree.specs.Falls.{weight-append, walk-append, layer_back}
+use Rattle.mt_tree.proofs.Joins.{all_append, below_unprefixed, below_lighter, all_front, all_back, all_weaker, length_at-le, long_bytes}
 use Rattle.mt_tree.proofs.Finds.{pairs_rank, rest_is}
-use Rattle.mt_tree.proofs.Cuts.{all_front, all_back, all_weaker, length_at-le, layer_back}
 use Rattle.mt_words.proofs.SliceBytes.{below-prefixed}
-use Rattle.std.proofs.lemmas.List.{take_at}
 use Rattle.std.specs.Prelude.{slice_get, Some}
 use Rattle.mt_tree.specs.DraftViews.{draft_views, draft_view}
 use Rattle.mt_tree.specs.declared.layer.DraftPlace.{DraftPlace}
 
 -- ---- bytes of places
-long_bytes : (s : ℕ) (t : List ℕ) → s < 2 ^ 64 → AreBytes (take 8 (slice_bytes s ++ t))
-long_bytes s t h = subst AreBytes (sym (take_at (slice_bytes s) t 8 (slice_bytes-length s))) (slice_bytes-bytes s h)
-
 pub link_bytes : (s : ℕ) (w : List Pair) → s < 2 ^ 64 → HasBytes (put_before (slice_bytes s) w)
 link_bytes s [] h = tt
 link_bytes s (p ∷ w) h = (long_bytes s p.0 h, link_bytes s w h)
@@ -266,20 +261,20 @@ module _ (v w b d : List Pair) (s m t n : ℕ) (f : LastEdge v s m b) (g : First
       (edges_up v w b d s m t n f g same nine nine', edges_down v w b d s m t n f g same nine nine')
 
 -- ---- the ends of a stored layer
-last_front : (xs : List DraftPlace) (x : DraftPlace) (i : ℕ) → i + 1 ≡ length xs → Some x ≡ slice_get xs i → (front : List DraftPlace) × (xs ≡ front ++ x ∷ [])
+last_front : {X : Type 0} (xs : List X) (x : X) (i : ℕ) → i + 1 ≡ length xs → Some x ≡ slice_get xs i → (front : List X) × (xs ≡ front ++ x ∷ [])
 last_front [] x i e f = absurd (omega arith)
-last_front (y ∷ []) x zero e f = ([], ap (λ (z : DraftPlace). z ∷ []) (let same : y ≡ x = cc f in same))
+last_front (y ∷ []) x zero e f = ([], ap (λ z. z ∷ []) (let same : y ≡ x = cc f in same))
 last_front (y ∷ []) x (suc i) e f = absurd (omega arith)
 last_front (y ∷ z ∷ zs) x zero e f = absurd (omega arith)
-last_front (y ∷ z ∷ zs) x (suc i) e f = let rest = last_front (z ∷ zs) x i (omega arith) f in (y ∷ rest.0, ap (λ (k : List DraftPlace). y ∷ k) rest.1)
+last_front (y ∷ z ∷ zs) x (suc i) e f = let rest = last_front (z ∷ zs) x i (omega arith) f in (y ∷ rest.0, ap (λ k. y ∷ k) rest.1)
 
-pub last_of : (xs : List DraftPlace) (x : DraftPlace) → Some x ≡ slice_get xs (length xs - 1) → (front : List DraftPlace) × (xs ≡ front ++ x ∷ [])
+pub last_of : {X : Type 0} (xs : List X) (x : X) → Some x ≡ slice_get xs (length xs - 1) → (front : List X) × (xs ≡ front ++ x ∷ [])
 last_of [] x e = cc e
 last_of (y ∷ ys) x e = let at : length (y ∷ ys) - 1 ≡ length ys = omega arith in last_front (y ∷ ys) x (length ys) (omega arith) (e ∙ ap (slice_get (y ∷ ys)) at)
 
-pub first_of : (xs : List DraftPlace) (x : DraftPlace) → Some x ≡ slice_get xs 0 → (rest : List DraftPlace) × (xs ≡ x ∷ rest)
+pub first_of : {X : Type 0} (xs : List X) (x : X) → Some x ≡ slice_get xs 0 → (rest : List X) × (xs ≡ x ∷ rest)
 first_of [] x e = cc e
-first_of (y ∷ ys) x e = (ys, ap (λ (z : DraftPlace). z ∷ ys) (let same : y ≡ x = cc e in same))
+first_of (y ∷ ys) x e = (ys, ap (λ z. z ∷ ys) (let same : y ≡ x = cc e in same))
 
 pub last_lawful : (ps qs : List DraftPlace) (x : DraftPlace) → IsLayer (draft_views ps) → qs ≡ ps → Some x ≡ slice_get qs (length qs - 1) → IsPlace (draft_view x)
 last_lawful ps qs x h e f =

@@ -15,7 +15,6 @@ use Rattle.std.proofs.lemmas.Bool.{cases_lt}
 use Rattle.std.specs.Ordering.{ordering_reverse}
 use Rattle.std.specs.Cmp.Lexicographic.{nat_list_cmp_total}
 use Rattle.mt_words.proofs.SliceBytes.{slice_bytes-short}
-use Rattle.mt_tree.proofs.Cuts.{all_weaker}
 use Rattle.mt_tree.proofs.Finds.{pairs_rank, link_ranks, long_is}
 use Rattle.mt_tree.proofs.Orders.{pairs_bytes, link_bytes}
 use Rattle.mt_tree.specs.Layer.{short, HasNoEmptyKey}
@@ -25,6 +24,7 @@ use Rattle.mt_tree.specs.Edges.{HasBytes}
 use Rattle.mt_tree.specs.Ranging.{from, found}
 use Rattle.mt_tree.specs.Range.{wanted_of}
 use Rattle.mt_tree.specs.declared.hit.Hit.{Hit}
+use Rattle.mt_tree.proofs.Joins.{all_weaker}
 
 -- ---- enough hits
 pub take_take-append : {X : Type 0} (n : ℕ) (a b : List X) → take n (take n a ++ b) ≡ take n (a ++ b)

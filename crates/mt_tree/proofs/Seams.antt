@@ -7,8 +7,9 @@ use Rattle.mt_tree.specs.Nodes.{joined, SlicesFrom, SlicesApart, IsBorder, CutAt
 use Rattle.mt_tree.specs.NodeFalls.{joined-append}
 use Rattle.mt_tree.specs.Borders.{AreBorders, SameEnds, last_slice_of}
 use Rattle.mt_tree.specs.Nodes.{first_slice_of}
-use Rattle.mt_tree.proofs.Joins.{all_append}
-use Rattle.mt_tree.proofs.Cuts.{all_weaker, all_front, all_back, length_at-le, layer_back, layer_front, slices_from}
+use Rattle.mt_tree.proofs.Joins.{all_append, all_weaker, all_front, all_back, length_at-le}
+use Rattle.mt_tree.proofs.Cuts.{slices_from}
+use Rattle.mt_tree.specs.Falls.{layer_back, layer_front}
 
 -- lists of borders, one after the other
 apart_append : (fs bs : List (List PlaceView)) → SlicesApart fs → SlicesApart bs → AllByRecursion (λ a. CutAt a (joined bs)) fs → SlicesApart (fs ++ bs)

@@ -31,7 +31,7 @@ content_falls s (Link l) h =
     let eight : length (slice_bytes s) * length (layer_walk l) ≡ 8 * length (layer_walk l) = ap (λ n. n * length (layer_walk l)) (slice_bytes-length s) in
     omega (arith, weight-put_before (slice_bytes s) (layer_walk l), eight)
 
-walk-append : (xs ys : List PlaceView) → walk (xs ++ ys) ≡ walk xs ++ walk ys
+pub walk-append : (xs ys : List PlaceView) → walk (xs ++ ys) ≡ walk xs ++ walk ys
 walk-append [] ys = refl
 walk-append (x ∷ xs) ys = ap (λ w. pairs_at x ++ w) (walk-append xs ys) ∙ sym (append_assoc (pairs_at x) (walk xs) (walk ys))
 
@@ -40,15 +40,15 @@ places_fall low [] h = omega arith
 places_fall low (p ∷ ps) h =
     omega (arith, content_falls p.slice p.content h.0, places_fall (suc (rank_at (draft_view p))) ps h.2, weight-append (pairs_at (draft_view p)) (walk (draft_views ps)))
 
-layer_weaker : (low least : ℕ) (ps : List PlaceView) → least ≤ low → IsLayerFrom low ps → IsLayerFrom least ps
+pub layer_weaker : (low least : ℕ) (ps : List PlaceView) → least ≤ low → IsLayerFrom low ps → IsLayerFrom least ps
 layer_weaker low least [] le h = tt
 layer_weaker low least (p ∷ ps) le h = let from : low ≤ rank_at p = h.1 in (h.0, omega arith, h.2)
 
-layer_front : (low : ℕ) (xs ys : List PlaceView) → IsLayerFrom low (xs ++ ys) → IsLayerFrom low xs
+pub layer_front : (low : ℕ) (xs ys : List PlaceView) → IsLayerFrom low (xs ++ ys) → IsLayerFrom low xs
 layer_front low [] ys h = tt
 layer_front low (x ∷ xs) ys h = (h.0, h.1, layer_front (suc (rank_at x)) xs ys h.2)
 
-layer_back : (low : ℕ) (xs ys : List PlaceView) → IsLayerFrom low (xs ++ ys) → IsLayerFrom low ys
+pub layer_back : (low : ℕ) (xs ys : List PlaceView) → IsLayerFrom low (xs ++ ys) → IsLayerFrom low ys
 layer_back low [] ys h = h
 layer_back low (x ∷ xs) ys h = let from : low ≤ rank_at x = h.1 in layer_weaker (suc (rank_at x)) low ys (omega arith) (layer_back (suc (rank_at x)) xs ys h.2)
 

@@ -7,7 +7,7 @@ use denote.Param.Weighed.{most}
 use Rattle.mt_words.specs.Slices.{slice_bytes}
 use Rattle.mt_words.proofs.SliceBytes.{slice_bytes-length}
 use Rattle.mt_tree.specs.Layer.{PlaceView, short, long, link, pairs_at, walk, weight, IsLayerFrom, IsLayer, IsPlace, rank_at}
-use Rattle.mt_tree.specs.Falls.{weight-append, weight-put_before}
+use Rattle.mt_tree.specs.Falls.{weight-append, weight-put_before, walk-append}
 use Rattle.mt_tree.specs.Nodes.{NodeView, places, joined, borders_of, IsNode, IsBorder}
 use Rattle.mt_tree.specs.NodeViews.{views, view_of, view_of_content, node_view, IsNodeKind}
 use Rattle.mt_tree.specs.declared.node.Place.{Place}
@@ -29,10 +29,6 @@ views_fall : (low : ℕ) (ps : List Place) → IsLayerFrom low (views ps) → mo
 views_fall low [] h = omega arith
 views_fall low (p ∷ ps) h =
     omega (arith, content_falls_below p.slice p.content h.0, views_fall (suc (rank_at (view_of p))) ps h.2, weight-append (pairs_at (view_of p)) (walk (views ps)))
-
-walk-append : (xs ys : List PlaceView) → walk (xs ++ ys) ≡ walk xs ++ walk ys
-walk-append [] ys = refl
-walk-append (x ∷ xs) ys = ap (λ w. pairs_at x ++ w) (walk-append xs ys) ∙ sym (append_assoc (pairs_at x) (walk xs) (walk ys))
 
 pub joined-append : (cs bs : List (List PlaceView)) → joined (cs ++ bs) ≡ joined cs ++ joined bs
 joined-append [] bs = refl

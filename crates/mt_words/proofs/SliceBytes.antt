@@ -1,5 +1,5 @@
 -- The order of keys, as lists of bytes, is that of their slices, then their lengths, then their rests.
-use Rattle.std.proofs.Common.{◌≡◌, ℕ, zero, suc, ◌+◌, ◌-◌, ◌*◌, ◌/◌, ◌%◌, ◌^◌, ◌<◌, ◌≤◌, min, List, [], ◌∷◌, ◌++◌, length, take, drop, Ordering, sym, refl, ap, ◌∙◌, subst, inl, inr, ◌⊎◌, arith, length-append, get_or, w64, true, false, Bool}
+use Rattle.std.proofs.Common.{◌≡◌, ℕ, zero, suc, ◌+◌, ◌*◌, ◌/◌, ◌%◌, ◌^◌, ◌<◌, ◌≤◌, min, List, [], ◌∷◌, ◌++◌, length, take, drop, Ordering, sym, refl, ap, ◌∙◌, subst, arith, get_or, w64}
 use Rattle.std.specs.declared.cmp.Ordering.TheVariants.{Less, Equal, Greater}
 use Rattle.std.specs.Cmp.{nat_cmp_is}
 use Rattle.std.specs.Ordering.{nat_cmp, ordering_then, MatchOrdering}
@@ -8,8 +8,7 @@ use Rattle.std.proofs.lemmas.Cmp.{ranked}
 use Rattle.std.proofs.lemmas.Nat.{div-mul-add, mod-mul-add, div-add-mod'}
 use Rattle.std.proofs.Math.Nat.{pow-suc, one-le-pow, mul-le-mul_right, mod-lt, div-lt_iff_lt-mul}
 use Rattle.std.specs.List.{AllByRecursion}
-use Rattle.std.proofs.lemmas.List.{take-append-drop, take_all, drop_all}
-use Rattle.std.proofs.lemmas.Bool.{cases_lt}
+use Rattle.std.proofs.lemmas.List.{take-append-drop}
 use Rattle.std.specs.Ordering.{is_lt}
 use Rattle.std.specs.Int.{from_be_bytes}
 use Rattle.std.proofs.lemmas.Nat.{be_bytes_8}
@@ -206,8 +205,6 @@ front_number-take (suc n) (suc l) v h z =
     let rest = front_number-take n l (v % 256 ^ n) (mod-lt v (power_pos n)) z in
     let whole = div-add-mod' v (256 ^ n) in
     omega (arith, rest, whole)
-
-
 
 -- ---- slices, and the bytes of a slice
 front_behind : (n k b : ℕ) (x : List ℕ) → big_from (suc k) n (b ∷ x) ≡ big_from k n x

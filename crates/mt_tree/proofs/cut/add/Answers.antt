@@ -2,7 +2,8 @@ use Rattle.std.proofs.Common.{◌∷◌, sym, ◌∙◌}
 use Rattle.mt_tree.specs.DraftViews.{draft_views, draft_view}
 use Rattle.mt_tree.proofs.CutUps.{opened, cut_layer}
 use Rattle.mt_tree.proofs.Joins.{slice_at-draft}
-use Rattle.mt_tree.proofs.Cuts.{cut_run, layer_back}
+use Rattle.mt_tree.proofs.Cuts.{cut_run}
+use Rattle.mt_tree.specs.Falls.{layer_back}
 use Rattle.mt_tree.proofs.cut.add.Goals as goal
 
 pub returns-clause-cut : goal.returns-clause-cut
