@@ -31,4 +31,6 @@ mod replaying;
 #[cfg(test)]
 mod scanning;
 #[cfg(test)]
+mod tree;
+#[cfg(test)]
 mod words;
