@@ -1,6 +1,7 @@
 -- The walk of updates that come in the order of their keys.
 use Rattle.std.proofs.Common.{◌≡◌, inl, inr, ℕ, ◌+◌, ◌<◌, List, [], ◌∷◌, ◌++◌, length, Option, Some, None, Contains, MatchOption, true, false, true≢false, ◌↔◌, refl, sym, ap, subst, ◌∙◌, append_assoc, arith}
-use Rattle.std.specs.Prelude.{slice_index_or, IsTrue}
+use Rattle.std.specs.Prelude.{slice_index_or, IsTrue, if◌then◌else◌, nat_lt}
+use Rattle.std.proofs.lemmas.Bool.{lt-ltb}
 use Rattle.std.proofs.lemmas.List.{append-nil, get_or_append_left, length-append}
 use Rattle.std.proofs.Math.Seq.{get_or-append_seam}
 use Rattle.std.proofs.lemmas.List.Elements.{All-push, Contains-append_cases, Contains-append_left, Contains-append_right, Contains-push_cases}
@@ -8,7 +9,7 @@ use Rattle.std.proofs.lemmas.List.Sorted.{sorted_far}
 use Rattle.mt_words.specs.declared.update.Update.{Update}
 use Rattle.mt_words.specs.Limits.{widest}
 use Rattle.mt_words.specs.Words.{IsKey, IsBelow, AreColumns}
-use Rattle.mt_words.specs.Walks.{Pair}
+use Rattle.mt_words.specs.Walks.{Pair, KeysRise}
 use Rattle.mt_replay.specs.Walk.{IsWalk, AreApart}
 use Rattle.mt_replay.specs.Cuts.{is_below, key_below, InKeyOrder}
 use Rattle.mt_replay.specs.Cells.{Written, IsCellOf, IsColumnsOf}
@@ -17,7 +18,7 @@ use Rattle.mt_replay.specs.Walker.{with_pair, IsMade, AreLast, IsWalkSoFar}
 use Rattle.mt_words.proofs.Elements.{no_element, head_in}
 use Rattle.mt_replay.proofs.KeyOrder.{key_order}
 use Rattle.mt_replay.proofs.ExactLemmas.{group_columns}
-use Rattle.mt_replay.proofs.StepLemmas.{AddsPair, map_more, walk_more, strictly}
+use Rattle.mt_replay.proofs.StepLemmas.{AddsPair, map_more, rises_above, walk_more, strictly}
 
 -- ---- updates in the order of their keys
 
@@ -86,6 +87,19 @@ so_far_made updates None group old new so_far same = subst (λ (pairs : List Pai
 so_far_made updates (Some first) group old new so_far adds =
     subst (λ (us : List Update). IsMade us new) (sym so_far.split)
     (close_some so_far.before so_far.last first.key group adds.1 old new so_far.made so_far.in_hand adds.0 adds.2 adds.3 adds.4)
+
+-- the pair of the last key stands above all others
+pub next_rises : (updates : List Update) (first : Update) (group : Group) (old : List Pair) (columns : List (ℕ × List ℕ)) → IsWalkSoFar updates old (Some first) group → KeysRise (old ++ (first.key, columns) ∷ [])
+next_rises updates first group old columns so_far =
+    let are : AreLast so_far.before so_far.last first.key group = so_far.in_hand in
+    rises_above so_far.before first.key columns old are.below so_far.made.map
+
+-- the pair of a key with columns is added, that of one without is not
+pub some_added : (pairs : List Pair) (key : List ℕ) (columns : List (ℕ × List ℕ)) → 0 < length columns → pairs ++ (key, columns) ∷ [] ≡ with_pair pairs key columns
+some_added pairs key columns some = ap (λ b. if b then pairs ++ (key, columns) ∷ [] else pairs) (sym (lt-ltb 0 (length columns) some))
+
+pub none_added : (pairs : List Pair) (key : List ℕ) (columns : List (ℕ × List ℕ)) → length columns ≡ 0 → pairs ≡ with_pair pairs key columns
+none_added pairs key columns none = ap (λ n. if nat_lt 0 n then pairs ++ (key, columns) ∷ [] else pairs) (sym none)
 
 -- ---- whether it is of the last key
 

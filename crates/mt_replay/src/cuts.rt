@@ -7,7 +7,6 @@ ghost use Rattle.mt_replay.specs.Even.{IsEven};
 ghost use Rattle.mt_replay.specs.Runs.{together};
 
 use crate::LogCells;
-use crate::copies::copy_key;
 use crate::distinct::distinct_keys;
 use crate::sample::sample;
 use mt_words::{Key, Memory};
@@ -177,7 +176,7 @@ fn even_keys(alloc: Global, keys: &[&[u8]], pieces: usize) -> Result<Vec<Key>, M
     let mut cuts = Vec::new(alloc);
     for cut in 1..pieces {
         let place = (cut as u128 * keys.len() as u128 / pieces as u128) as usize;
-        cuts.push(copy_key(alloc, keys[place])?)?;
+        cuts.push(Key::copy_of(alloc, keys[place])?)?;
     }
     Ok(cuts)
 }

@@ -1,33 +1,31 @@
 //! The walk of updates that come in the order of their keys.
 ghost use Rattle.std.specs.Prelude.{◌≡◌, ◌↔◌, ◌++◌, [], ◌∷◌, List, ℕ, None, Some, false, IsTrue, MatchOption, IfOk, OnOk};
 ghost use Rattle.mt_words.specs.declared.update.Update.{Update as UpdateValue};
-ghost use Rattle.mt_words.specs.Limits.{widest};
-ghost use Rattle.mt_words.specs.Words.{IsKey};
 ghost use Rattle.mt_replay.specs.Cuts.{InKeyOrder};
 ghost use Rattle.mt_replay.specs.Groups.{IsSound, IsGroupOf};
-ghost use Rattle.mt_replay.specs.Walker.{with_pair, IsMade, IsWalkSoFar};
+ghost use Rattle.mt_replay.specs.Walker.{IsMade, IsWalkSoFar};
 
-use crate::copies::copy_key;
 use crate::group::Group;
 use crate::sliced::Sliced;
-use mt_words::{Columns, Kept, Key, Memory};
+use mt_words::{Memory, PairSink};
 use std::alloc::Global;
 
 /// The walk of the updates so far: the pairs of all keys but the last, and of the last the first update and the group.
 #[derive(Drop)]
-pub(crate) struct Walker<'a> {
-    pairs: Vec<(Key, Columns<Kept>)>,
+pub(crate) struct Walker<'a, S> {
+    sink: S,
     first: Option<Sliced<'a>>,
     group: Group<&'a [u8]>,
 }
 
-impl<'a> Walker<'a> {
-    /// The walk of no update.
-    pub(crate) fn new(alloc: Global) -> Walker<'a>
-        ensures { IsWalkSoFar [] result.pairs.items result.first result.group }
+impl<'a, S: PairSink> Walker<'a, S> {
+    /// The walk of no update, into a sink that holds no pair.
+    pub(crate) fn new(sink: S) -> Walker<'a, S>
+        requires { S.pairs sink ≡ [] }
+        ensures { IsWalkSoFar [] (S.pairs result.sink) result.first result.group }
     {
         Walker {
-            pairs: Vec::new(alloc),
+            sink,
             first: None,
             group: Group::empty(),
         }
@@ -35,9 +33,10 @@ impl<'a> Walker<'a> {
 
     /// Goes on by an update.
     pub(crate) fn see(&mut self, alloc: Global, update: Sliced<'a>) -> Result<(), Memory>
+        requires { (updates : List UpdateValue) × IsWalkSoFar updates (S.pairs self.old.sink) self.old.first self.old.group }
         ensures { OnOk result ((updates : List UpdateValue) → InKeyOrder (updates ++ update.entry ∷ []) →
-            IsWalkSoFar updates self.old.pairs.items self.old.first self.old.group →
-            IsWalkSoFar (updates ++ update.entry ∷ []) self.new.pairs.items self.new.first self.new.group) }
+            IsWalkSoFar updates (S.pairs self.old.sink) self.old.first self.old.group →
+            IsWalkSoFar (updates ++ update.entry ∷ []) (S.pairs self.new.sink) self.new.first self.new.group) }
     {
         if self.is_at(&update) {
             self.group.see(update.update());
@@ -49,14 +48,15 @@ impl<'a> Walker<'a> {
     }
 
     /// The walk of all updates that it has seen.
-    pub(crate) fn into_pairs(self, alloc: Global) -> Result<Vec<(Key, Columns<Kept>)>, Memory>
-        ensures { IfOk result (λ pairs. (updates : List UpdateValue) →
-            IsWalkSoFar updates self.entry.pairs.items self.entry.first self.entry.group → IsMade updates pairs.items) }
+    pub(crate) fn into_sink(self, alloc: Global) -> Result<S, Memory>
+        requires { (updates : List UpdateValue) × IsWalkSoFar updates (S.pairs self.sink) self.first self.group }
+        ensures { IfOk result (λ sink. (updates : List UpdateValue) →
+            IsWalkSoFar updates (S.pairs self.entry.sink) self.entry.first self.entry.group → IsMade updates (S.pairs sink)) }
     {
         let mut walker = self;
         walker.close(alloc)?;
-        let Walker { pairs, .. } = walker;
-        Ok(pairs)
+        let Walker { sink, .. } = walker;
+        Ok(sink)
     }
 
     /// Whether the update is of the last key.
@@ -71,7 +71,7 @@ impl<'a> Walker<'a> {
 
     /// Begins the group of the key of an update, which is its first.
     fn begin(&mut self, update: Sliced<'a>)
-        ensures pairs { self.new.pairs.items ≡ self.old.pairs.items }
+        ensures sink { self.new.sink ≡ self.old.sink }
         ensures first { self.new.first ≡ Some update.entry }
         ensures group { IsGroupOf (update.entry ∷ []) update.entry.key self.new.group }
         ensures sound { IsSound update.entry }
@@ -81,32 +81,21 @@ impl<'a> Walker<'a> {
         self.first = Some(update);
     }
 
-    /// Adds the pair of the last key.
+    /// Adds the pair of the last key, if it has any column.
     fn close(&mut self, alloc: Global) -> Result<(), Memory>
+        requires { (updates : List UpdateValue) × IsWalkSoFar updates (S.pairs self.old.sink) self.old.first self.old.group }
         ensures { OnOk result ((updates : List UpdateValue) →
-            IsWalkSoFar updates self.old.pairs.items self.old.first self.old.group →
-            IsMade updates self.new.pairs.items) }
+            IsWalkSoFar updates (S.pairs self.old.sink) self.old.first self.old.group →
+            IsMade updates (S.pairs self.new.sink)) }
     {
         let Some(first) = &self.first else {
             return Ok(());
         };
+        let key = first.key();
         let columns = self.group.columns(alloc)?;
-        add_pair(alloc, &mut self.pairs, first.key(), columns)
+        if columns.len() == 0 {
+            return Ok(());
+        }
+        self.sink.push_pair(key, columns)
     }
-}
-
-/// Adds a key with its columns, if it has any.
-fn add_pair(
-    alloc: Global,
-    pairs: &mut Vec<(Key, Columns<Kept>)>,
-    key: &[u8],
-    columns: Columns<Kept>,
-) -> Result<(), Memory>
-    requires { IsKey widest key.now }
-    ensures { OnOk result (pairs.new.items ≡ with_pair pairs.old.items key.now columns) }
-{
-    if columns.len() > 0 {
-        pairs.push((copy_key(alloc, key)?, columns))?;
-    }
-    Ok(())
 }

@@ -7,7 +7,7 @@ use Rattle.mt_replay.proofs.StepLemmas.{same_key, is_own_key}
 use Rattle.mt_replay.proofs.walker.Walker.is_at.Goals as goal
 
 pub returns-in-Some : goal.returns-in-Some
-returns-in-Some c =
+returns-in-Some g c =
     let first : List ℕ = c.in-Some.first.key in
     let key : List ℕ = c.args.update.now.key in
     let is : c.is_eq.result ≡ is_eq (slice_cmp nat_cmp first key) = c.is_eq.ensures ∙ ap is_eq c.compare.ensures in
