@@ -1,7 +1,9 @@
 //! Drafts and trees.
 ghost use Rattle.std.specs.Prelude.{ℕ, ◌≡◌, ◌↔◌, ◌++◌, ◌∷◌, [], ◌<◌, List, min, ◌^◌, ◌-◌, Contains, MatchOption, IfOk, OnOk, OnErr, IsTrue};
 ghost use Rattle.mt_tree.specs.Layer.{find_key, AllKeysBelow};
+ghost use Rattle.mt_words.specs.Limits.{widest};
 ghost use Rattle.mt_words.specs.Walks.{KeysRise};
+ghost use Rattle.mt_words.specs.Words.{IsKey};
 ghost use Rattle.mt_tree.specs.Borders.{AreBorders, layer_walk};
 ghost use Rattle.mt_tree.specs.Trees.{tree_walk, tree_borders, IsTree};
 ghost use Rattle.mt_tree.specs.Range.{hits};
@@ -13,7 +15,7 @@ use crate::layer::Layer;
 use crate::node::Node;
 use crate::order::lies_above;
 use crate::wanted::Wanted;
-use mt_words::{Columns, Kept, Key, Memory};
+use mt_words::{Columns, Kept, Key, Memory, PairSink};
 use std::alloc::Global;
 use std::marker::Model;
 use std::mem;
@@ -68,15 +70,16 @@ impl Draft {
     }
 
     /// Adds a pair whose key is above all keys of the draft. Where memory was refused the draft is empty.
-    pub fn push(&mut self, key: Key, columns: Columns<Kept>) -> Result<(), Memory>
-        requires { AllKeysBelow (layer_walk self.old) ((key, columns) ∷ []) }
-        ensures pairs { OnOk result (layer_walk self.new ≡ layer_walk self.old ++ (key, columns) ∷ []) }
+    pub fn push(&mut self, key: &[u8], columns: Columns<Kept>) -> Result<(), Memory>
+        requires lawful { IsKey widest key.now }
+        requires rises { KeysRise (layer_walk self.old ++ (key.now, columns) ∷ []) }
+        ensures pairs { OnOk result (layer_walk self.new ≡ layer_walk self.old ++ (key.now, columns) ∷ []) }
         ensures lawful { OnOk result (AreBorders self.new) }
         ensures refused { OnErr result (self.new ≡ []) }
     {
         let alloc = self.layer.allocator();
         let layer = mem::replace(&mut self.layer, Layer::new(alloc));
-        self.layer = Layer::push(alloc, layer, key.as_bytes(), columns)?;
+        self.layer = Layer::push(alloc, layer, key, columns)?;
         Ok(())
     }
 
@@ -88,7 +91,7 @@ impl Draft {
     {
         let mut draft = Draft::new(alloc);
         for (key, columns) in pairs {
-            draft.push(key, columns)?;
+            draft.push(key.as_bytes(), columns)?;
         }
         Ok(draft)
     }
@@ -118,6 +121,14 @@ impl Draft {
             alloc,
             root: Some(root),
         })
+    }
+}
+
+impl PairSink for Draft {
+    ghost pairs = { λ d. layer_walk d };
+
+    fn push_pair(&mut self, key: &[u8], columns: Columns<Kept>) -> Result<(), Memory> {
+        self.push(key, columns)
     }
 }
 
