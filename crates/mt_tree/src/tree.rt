@@ -14,7 +14,9 @@ use crate::hit::Hit;
 use crate::layer::Layer;
 use crate::node::Node;
 use crate::order::lies_above;
+use crate::visit::Visitor;
 use crate::wanted::Wanted;
+use arrayvec::ArrayVec;
 use mt_words::{Columns, Kept, Key, Memory, PairSink};
 use std::alloc::Global;
 use std::marker::Model;
@@ -163,6 +165,16 @@ impl Tree {
         let mut prefix = Vec::new(self.alloc);
         root.collect(start, n, wanted, &mut prefix, &mut hits)?;
         Ok(hits)
+    }
+
+    /// Shows all pairs in order, and takes no memory. After an Err of the visitor no further pair is shown.
+    pub fn visit<T, V: Visitor<T>>(&self, visitor: &V, target: &mut T) -> Result<(), V::Error>
+        ensures { OnOk result (V.shown target.old target.new (tree_walk self.now)) }
+    {
+        match &self.root {
+            None => Ok(()),
+            Some(root) => root.visit(&mut ArrayVec::new(), visitor, target),
+        }
     }
 
     /// The number of trees, which stops at the greatest number.
