@@ -241,3 +241,8 @@ below_shared p q upper lower meet eu el below =
 pub rising_middle : (v : List Pair) (p : Pair) (w : List Pair) → KeysRise (v ++ p ∷ w) → AllKeysBelow v (p ∷ [])
 rising_middle [] p w h = tt
 rising_middle (x ∷ v) p w h = (((all_back _ v (p ∷ w) h.0).0, tt), rising_middle v p w h.1)
+
+-- and what stands at the front rises
+pub rising_front : (v w : List Pair) → KeysRise (v ++ w) → KeysRise v
+rising_front [] w h = tt
+rising_front (x ∷ v) w h = (all_front (λ q. IsBelow x.0 q.0) v w h.0, rising_front v w h.1)

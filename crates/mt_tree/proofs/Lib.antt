@@ -17,3 +17,4 @@ pub mod Ends
 pub mod EdgeBorders
 pub mod Behind
 pub mod Lasts
+pub mod Visits

@@ -9,8 +9,10 @@ mod node;
 mod order;
 mod range;
 mod tree;
+mod visit;
 mod wanted;
 
 pub use hit::Hit;
 pub use tree::{Draft, Tree, above};
+pub use visit::Visitor;
 pub use wanted::Wanted;

@@ -1,7 +1,9 @@
 //! Drafts and trees.
 ghost use Rattle.std.specs.Prelude.{ℕ, ◌≡◌, ◌↔◌, ◌++◌, ◌∷◌, [], ◌<◌, List, min, ◌^◌, ◌-◌, Contains, MatchOption, IfOk, OnOk, OnErr, IsTrue};
 ghost use Rattle.mt_tree.specs.Layer.{find_key, AllKeysBelow};
+ghost use Rattle.mt_words.specs.Limits.{widest};
 ghost use Rattle.mt_words.specs.Walks.{KeysRise};
+ghost use Rattle.mt_words.specs.Words.{IsKey};
 ghost use Rattle.mt_tree.specs.Borders.{AreBorders, layer_walk};
 ghost use Rattle.mt_tree.specs.Trees.{tree_walk, tree_borders, IsTree};
 ghost use Rattle.mt_tree.specs.Range.{hits};
@@ -12,8 +14,10 @@ use crate::hit::Hit;
 use crate::layer::Layer;
 use crate::node::Node;
 use crate::order::lies_above;
+use crate::visit::Visitor;
 use crate::wanted::Wanted;
-use mt_words::{Columns, Kept, Key, Memory};
+use arrayvec::ArrayVec;
+use mt_words::{Columns, Kept, Key, Memory, PairSink};
 use std::alloc::Global;
 use std::marker::Model;
 use std::mem;
@@ -68,15 +72,16 @@ impl Draft {
     }
 
     /// Adds a pair whose key is above all keys of the draft. Where memory was refused the draft is empty.
-    pub fn push(&mut self, key: Key, columns: Columns<Kept>) -> Result<(), Memory>
-        requires { AllKeysBelow (layer_walk self.old) ((key, columns) ∷ []) }
-        ensures pairs { OnOk result (layer_walk self.new ≡ layer_walk self.old ++ (key, columns) ∷ []) }
+    pub fn push(&mut self, key: &[u8], columns: Columns<Kept>) -> Result<(), Memory>
+        requires lawful { IsKey widest key.now }
+        requires rises { KeysRise (layer_walk self.old ++ (key.now, columns) ∷ []) }
+        ensures pairs { OnOk result (layer_walk self.new ≡ layer_walk self.old ++ (key.now, columns) ∷ []) }
         ensures lawful { OnOk result (AreBorders self.new) }
         ensures refused { OnErr result (self.new ≡ []) }
     {
         let alloc = self.layer.allocator();
         let layer = mem::replace(&mut self.layer, Layer::new(alloc));
-        self.layer = Layer::push(alloc, layer, key.as_bytes(), columns)?;
+        self.layer = Layer::push(alloc, layer, key, columns)?;
         Ok(())
     }
 
@@ -88,7 +93,7 @@ impl Draft {
     {
         let mut draft = Draft::new(alloc);
         for (key, columns) in pairs {
-            draft.push(key, columns)?;
+            draft.push(key.as_bytes(), columns)?;
         }
         Ok(draft)
     }
@@ -118,6 +123,14 @@ impl Draft {
             alloc,
             root: Some(root),
         })
+    }
+}
+
+impl PairSink for Draft {
+    ghost pairs = { λ d. layer_walk d };
+
+    fn push_pair(&mut self, key: &[u8], columns: Columns<Kept>) -> Result<(), Memory> {
+        self.push(key, columns)
     }
 }
 
@@ -152,6 +165,16 @@ impl Tree {
         let mut prefix = Vec::new(self.alloc);
         root.collect(start, n, wanted, &mut prefix, &mut hits)?;
         Ok(hits)
+    }
+
+    /// Shows all pairs in order, and takes no memory. After an Err of the visitor no further pair is shown.
+    pub fn visit<T, V: Visitor<T>>(&self, visitor: &V, target: &mut T) -> Result<(), V::Error>
+        ensures { OnOk result (V.shown target.old target.new (tree_walk self.now)) }
+    {
+        match &self.root {
+            None => Ok(()),
+            Some(root) => root.visit(&mut ArrayVec::new(), visitor, target),
+        }
     }
 
     /// The number of trees, which stops at the greatest number.

@@ -1,0 +1,51 @@
+-- A walk shows the pairs of places and children under the bytes that stand before them.
+use Rattle.std.proofs.Common.{◌≡◌, ℕ, ◌+◌, ◌≤◌, List, [], ◌∷◌, ◌++◌, length, take, refl, sym, ap, ◌∙◌, subst, arith, append_assoc, length-append, Vec, Global}
+use Rattle.mt_words.specs.Limits.{widest}
+use Rattle.mt_words.specs.Slices.{slice_bytes}
+use Rattle.mt_words.specs.Walks.{Pair}
+use Rattle.mt_tree.specs.Layer.{pairs_at, put_before, walk, link, IsPlace, FitsAfter}
+use Rattle.mt_tree.specs.Nodes.{NodeView, places}
+use Rattle.mt_tree.specs.NodeViews.{view_of_content}
+use Rattle.mt_tree.specs.declared.node.Content.{Content}
+use Rattle.mt_tree.specs.declared.node.Content.TheVariants.{Short, Suffix, Link}
+
+put_deeper : (a b : List ℕ) (w : List Pair) → put_before (a ++ b) w ≡ put_before a (put_before b w)
+put_deeper a b [] = refl
+put_deeper a b (p ∷ w) = λ i. (append_assoc a b p.0 i, p.1) ∷ put_deeper a b w i
+
+pub put_none : (prefix : List ℕ) (w : List Pair) → prefix ≡ [] → put_before prefix w ≡ w
+put_none prefix w e = ap (λ (z : List ℕ). put_before z w) e ∙ same w
+  where
+    same : (v : List Pair) → put_before [] v ≡ v
+    same [] = refl
+    same (p ∷ v) = ap (λ (z : List Pair). p ∷ z) (same v)
+
+module _ (s : ℕ) (h : Content) (before bytes : List ℕ) (is_bytes : bytes ≡ slice_bytes s) where
+  pub short_shown : (l : ℕ) (c : List (ℕ × List ℕ)) → h ≡ Short l c → put_before before ((take l bytes, c) ∷ []) ≡ put_before before (pairs_at (view_of_content s h))
+  short_shown l c e = ap (λ (z : List ℕ). put_before before ((take l z, c) ∷ [])) is_bytes ∙ ap (λ (z : Content). put_before before (pairs_at (view_of_content s z))) (sym e)
+
+  module _ (prefix : List ℕ) (longer : prefix ≡ before ++ bytes) where
+    deeper_shown : (w : List Pair) → put_before prefix w ≡ put_before before (put_before (slice_bytes s) w)
+    deeper_shown w = ap (λ (z : List ℕ). put_before z w) (longer ∙ ap (λ (z : List ℕ). before ++ z) is_bytes) ∙ put_deeper before (slice_bytes s) w
+
+    pub suffix_shown : (t : Vec ℕ Global) (c : List (ℕ × List ℕ)) (tail : List ℕ) → h ≡ Suffix t c → tail ≡ t.items → put_before prefix ((tail, c) ∷ []) ≡ put_before before (pairs_at (view_of_content s h))
+    suffix_shown t c tail e f =
+        deeper_shown ((tail, c) ∷ []) ∙ ap (λ (z : List ℕ). put_before before (put_before (slice_bytes s) ((z, c) ∷ []))) f
+        ∙ ap (λ (z : Content). put_before before (pairs_at (view_of_content s z))) (sym e)
+
+    pub link_shown : (n : NodeView) → h ≡ Link n → put_before prefix (walk (places n)) ≡ put_before before (pairs_at (view_of_content s h))
+    link_shown n e = deeper_shown (walk (places n)) ∙ ap (λ (z : Content). put_before before (pairs_at (view_of_content s z))) (sym e)
+
+-- there is room for the bytes of a slice that links
+room_before : (n : ℕ) (bytes : List ℕ) (w : List Pair) → 2 ≤ length w → FitsAfter n (put_before bytes w) → n + length bytes ≤ widest.key
+room_before n bytes [] some fits = absurd (omega arith)
+room_before n bytes (p ∷ w) some fits = let le = fits.0 in omega (arith, length-append bytes p.0)
+
+pub link_room : (s n : ℕ) (h : Content) (below : NodeView) (bytes : List ℕ) → h ≡ Link below → bytes ≡ slice_bytes s → IsPlace (view_of_content s h) → FitsAfter n (pairs_at (view_of_content s h)) → n + length bytes ≤ widest.key
+link_room s n h below bytes e f place fits =
+    let lawful : IsPlace (link s (walk (places below))) = subst (λ (z : Content). IsPlace (view_of_content s z)) e place in
+    subst (λ (z : List ℕ). n + length z ≤ widest.key) (sym f) (room_before n (slice_bytes s) (walk (places below)) lawful.1 (subst (λ (z : Content). FitsAfter n (pairs_at (view_of_content s z))) e fits))
+
+-- the same pairs, at the same state
+pub moved : {A : Type 0} (shown : A → A → List Pair → Type 0) (a b c : A) (v w : List Pair) → c ≡ b → v ≡ w → shown a b v → shown a c w
+moved {A} shown a b c v w e f s = subst (λ (x : A). shown a x w) (sym e) (subst (shown a b) f s)
