@@ -130,7 +130,7 @@ kids_kept : (start : List ℕ) (s : ℕ) (ns : List NodeView) → AreBytes start
 kids_kept start s [] b h f l = refl
 kids_kept start s (n ∷ ns) b h f l =
     kids_from-cons start n ns
-    ∙ (λ i. slices_kept start 0 (places n) b h.0.3 (all_weaker (λ p. s ≤ slice_at p) (λ p. slice_in start < slice_at p) (λ p le. omega arith) (places n) f.0) i ++ kids_kept start s ns b h.1 f.1 l i)
+    ∙ (λ i. slices_kept start 0 (places n) b h.0.layer (all_weaker (λ p. s ≤ slice_at p) (λ p. slice_in start < slice_at p) (λ p le. omega arith) (places n) f.0) i ++ kids_kept start s ns b h.1 f.1 l i)
     ∙ sym (kids_walk n ns)
 
 -- the child at the start, and all later ones whole
@@ -146,7 +146,7 @@ kids_from start (s ∷ ss) (n ∷ ns) zero d b h a e l before after =
 kids_from start (s ∷ ss) (n ∷ ns) (suc i) d b h a e l before after =
     let le : s ≤ slice_in start = before 0 (omega arith) in
     kids_from-cons start n ns
-    ∙ ap (λ (z : List Pair). z ++ from start (walk (joined (borders_of ns)))) (slices_gone start 0 (places n) b h.0.3 (all_weaker (λ p. slice_at p < s) (λ p. slice_at p < slice_in start) (λ p lt. omega arith) (places n) a.0))
+    ∙ ap (λ (z : List Pair). z ++ from start (walk (joined (borders_of ns)))) (slices_gone start 0 (places n) b h.0.layer (all_weaker (λ p. slice_at p < s) (λ p. slice_at p < slice_in start) (λ p lt. omega arith) (places n) a.0))
     ∙ kids_from start ss ns i d b h.1 a.2 (omega arith) (omega arith) (λ j lt. before (suc j) (omega arith)) (λ lt. after (omega arith))
 
 -- ---- the loops

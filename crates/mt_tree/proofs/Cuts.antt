@@ -56,7 +56,7 @@ cut_back xs ys zs h = all_weaker (λ p. SlicesFrom (suc (slice_at p)) (ys ++ zs)
 
 -- ---- a border as a node
 pub border_is_node : (b : List PlaceView) → 1 ≤ length b → length b ≤ 15 → IsLayer b → IsNode (border_node b)
-border_is_node b some fits h = (omega arith, ((some, fits), tt), (cut_nil b, tt), subst IsLayer (sym (append-nil b)) h)
+border_is_node b some fits h = record { some = omega arith; each = ((some, fits), tt); apart = (cut_nil b, tt); layer = subst IsLayer (sym (append-nil b)) h }
 
 pub borders_of-append : (ns ms : List NodeView) → borders_of (ns ++ ms) ≡ borders_of ns ++ borders_of ms
 borders_of-append [] ms = refl

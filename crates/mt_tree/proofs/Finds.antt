@@ -153,7 +153,7 @@ kids_miss : (k : List ℕ) (s : ℕ) (ns : List NodeView) → AllByRecursion IsN
 kids_miss k s [] h f l = refl
 kids_miss k s (n ∷ ns) h f l =
     ap (find_key k) (kids_walk n ns)
-    ∙ find-back k (walk (places n)) (walk (joined (borders_of ns))) (slices_miss k 0 (places n) h.0.3 (weaker (λ p. s ≤ slice_at p) (λ p. slice_at p ≢ slice_in k) (λ p le e. omega arith) (places n) f.0))
+    ∙ find-back k (walk (places n)) (walk (joined (borders_of ns))) (slices_miss k 0 (places n) h.0.layer (weaker (λ p. s ≤ slice_at p) (λ p. slice_at p ≢ slice_in k) (λ p le e. omega arith) (places n) f.0))
     ∙ kids_miss k s ns h.1 f.1 l
 
 pub kids_find : (k : List ℕ) (ss : List ℕ) (ns : List NodeView) (i : ℕ) (d : NodeView) → AllByRecursion IsNode ns → AreSeparated ss ns → length ss + 1 ≡ length ns → i ≤ length ss
@@ -167,7 +167,7 @@ kids_find k (s ∷ ss) (n ∷ ns) zero d h a e l before after =
 kids_find k (s ∷ ss) (n ∷ ns) (suc i) d h a e l before after =
     let le : s ≤ slice_in k = before 0 (omega arith) in
     ap (find_key k) (kids_walk n ns)
-    ∙ find-back k (walk (places n)) (walk (joined (borders_of ns))) (slices_miss k 0 (places n) h.0.3 (weaker (λ p. slice_at p < s) (λ p. slice_at p ≢ slice_in k) (λ p lt f. omega arith) (places n) a.0))
+    ∙ find-back k (walk (places n)) (walk (joined (borders_of ns))) (slices_miss k 0 (places n) h.0.layer (weaker (λ p. slice_at p < s) (λ p. slice_at p ≢ slice_in k) (λ p lt f. omega arith) (places n) a.0))
     ∙ kids_find k ss ns i d h.1 a.2 (omega arith) (omega arith) (λ j lt. before (suc j) (omega arith)) (λ lt. after (omega arith))
 
 -- ---- views
@@ -187,7 +187,7 @@ pub border_walk : (k : NodeKind) (v : NodeView) (b : Vec Place Global) → node_
 border_walk k v b e f = ap (λ (n : NodeView). walk (places n)) (sym e ∙ ap node_view f) ∙ ap walk (append-nil (views b.items))
 
 pub border_layer : (k : NodeKind) (b : Vec Place Global) → IsNodeKind k → k ≡ Border b → IsLayer (views b.items)
-border_layer k b h f = subst IsLayer (append-nil (views b.items)) (subst IsNodeKind f h).3
+border_layer k b h f = subst IsLayer (append-nil (views b.items)) (subst IsNodeKind f h).layer
 
 pub interior_is : (k : NodeKind) (ss : Box (ArrayVec ℕ 15 (Unit {0}))) (ks : Vec NodeView Global) → IsNodeKind k → k ≡ Interior ss ks → IsInterior ss.value.items ks.items
 interior_is k ss ks h f = (subst IsNodeKind f h).0

@@ -57,7 +57,7 @@ joined_some [] h a = absurd (omega arith)
 joined_some (b ∷ bs) h a = let some : 1 ≤ length b = a.0.0 in omega (arith, length-append b (joined bs))
 
 pub node_some : (n : NodeView) → IsNode n → 1 ≤ length (places n)
-node_some n h = joined_some n.borders h.0 h.1
+node_some n h = joined_some n.borders h.some h.each
 
 pub head_front : (xs ys : List PlaceView) → 1 ≤ length xs → first_slice_of (xs ++ ys) ≡ first_slice_of xs
 head_front [] ys h = absurd (omega arith)
@@ -101,14 +101,14 @@ all_nodes h ns a = all_weaker (IsNodeAt h) IsNode (λ n k. k.1) ns a
 
 borders_some : (h : ℕ) (ns : List NodeView) → AllByRecursion (IsNodeAt h) ns → 1 ≤ length ns → 1 ≤ length (borders_of ns)
 borders_some h [] a some = absurd (omega arith)
-borders_some h (n ∷ ns) a some = let one : 1 ≤ length n.borders = a.0.1.0 in omega (arith, length-append n.borders (borders_of ns))
+borders_some h (n ∷ ns) a some = let one : 1 ≤ length n.borders = a.0.1.some in omega (arith, length-append n.borders (borders_of ns))
 
 borders_lawful : (h : ℕ) (ns : List NodeView) → AllByRecursion (IsNodeAt h) ns → AllByRecursion IsBorder (borders_of ns)
 borders_lawful h [] a = tt
-borders_lawful h (n ∷ ns) a = all_append IsBorder n.borders (borders_of ns) a.0.1.1 (borders_lawful h ns a.1)
+borders_lawful h (n ∷ ns) a = all_append IsBorder n.borders (borders_of ns) a.0.1.each (borders_lawful h ns a.1)
 
 pub parent_is_node : (h : ℕ) (ns : List NodeView) → IsLevelAt h ns → 1 ≤ length ns → IsNode (parent_node ns)
-parent_is_node h ns l some = (borders_some h ns l.nodes some, borders_lawful h ns l.nodes, l.apart, l.layer)
+parent_is_node h ns l some = record { some = borders_some h ns l.nodes some; each = borders_lawful h ns l.nodes; apart = l.apart; layer = l.layer }
 
 pub interior_of : (separators : List ℕ) (ns : List NodeView) → IsLevel ns → 2 ≤ length ns → length ns ≤ 16 → separators ≡ map first_of (drop 1 ns) → IsInterior separators ns
 interior_of separators [] l two most e = absurd (omega arith)

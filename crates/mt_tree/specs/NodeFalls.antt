@@ -50,7 +50,7 @@ joined_some [] h a = absurd (omega arith)
 joined_some (b ∷ bs) h a = let some : 1 ≤ length b = a.0.0 in omega (arith, length-append b (joined bs))
 
 pub node_some : (n : NodeView) → IsNode n → 1 ≤ weight (walk (places n))
-node_some n h = layer_some (places n) (joined_some n.borders h.0 h.1) h.3
+node_some n h = layer_some (places n) (joined_some n.borders h.some h.each) h.layer
 
 abbrev pub all_weight : List NodeView → ℕ
 all_weight ks = weight (walk (joined (borders_of ks)))
@@ -73,6 +73,6 @@ kids_fall (k ∷ l ∷ ks) h a =
 pub kind_falls : (k : NodeKind) → IsNodeKind k → deep-NodeKind k ≤ weight (walk (places (node_view k)))
 kind_falls (Border b) h =
     let alone : weight (walk (views b.items ++ [])) ≡ weight (walk (views b.items)) = ap (λ (z : List PlaceView). weight (walk z)) (append-nil (views b.items)) in
-    let layer : IsLayer (views b.items) = subst IsLayer (append-nil (views b.items)) h.3 in
+    let layer : IsLayer (views b.items) = subst IsLayer (append-nil (views b.items)) h.layer in
     omega (arith, alone, views_fall 0 b.items layer)
 kind_falls (Interior ss ks) h = let two : 2 ≤ length ks.items = h.0.two in omega (arith, kids_fall ks.items two h.0.nodes)

@@ -34,8 +34,11 @@ SlicesApart [] = ⊤
 SlicesApart (b ∷ bs) = AllByRecursion (λ p. SlicesFrom (suc (slice_at p)) (joined bs)) b × SlicesApart bs
 
 -- the law of nodes by their borders: 1 to 15 places in each, no slice in two of them, and the places are a lawful layer
-abbrev pub IsNode : NodeView → Type 0
-IsNode n = (1 ≤ length n.borders) × AllByRecursion IsBorder n.borders × SlicesApart n.borders × IsLayer (places n)
+pub record IsNode (n : NodeView) : Type 0 where
+  pub some : 1 ≤ length n.borders
+  pub each : AllByRecursion IsBorder n.borders
+  pub apart : SlicesApart n.borders
+  pub layer : IsLayer (places n)
 
 -- slices left of a separator are below it, slices right of it are at or above it
 abbrev pub AreSeparated : List ℕ → List NodeView → Type 0
