@@ -13,7 +13,7 @@ use Rattle.mt_tree.specs.Layer.{key_rank}
 use Rattle.mt_words.proofs.SliceBytes.{bytes_take}
 use Rattle.mt_tree.specs.Layer.{PlaceView, long, link, slice_at, rank_at, pairs_at, put_before, walk, IsPlace, IsLayerFrom, FitsAfter}
 use Rattle.mt_words.specs.Walks.{Pair}
-use Rattle.mt_tree.specs.Nodes.{NodeView, places, joined, borders_of, IsNode, AreSeparated, SlicesFrom}
+use Rattle.mt_tree.specs.Nodes.{NodeView, places, joined, borders_of, branches, IsNode, AreSeparated, SlicesFrom}
 use Rattle.mt_tree.specs.NodeFalls.{joined-append}
 use Rattle.mt_tree.specs.NodeViews.{views, view_of, view_of_content}
 use Rattle.mt_tree.specs.Ranging.{from, found}
@@ -121,20 +121,20 @@ slices_kept start low (p ∷ ps) b h l =
     ∙ (λ i. place_kept start p b h.0 (omega arith) i ++ slices_kept start (suc (rank_at p)) ps b h.2 l.1 i)
 
 kids_walk : (n : NodeView) (ns : List NodeView) → walk (joined (borders_of (n ∷ ns))) ≡ walk (places n) ++ walk (joined (borders_of ns))
-kids_walk n ns = ap walk (joined-append n.borders (borders_of ns)) ∙ walk-append (places n) (joined (borders_of ns))
+kids_walk n ns = ap walk (joined-append n.tree.borders (borders_of ns)) ∙ walk-append (places n) (joined (borders_of ns))
 
 kids_from-cons : (start : List ℕ) (n : NodeView) (ns : List NodeView) → from start (walk (joined (borders_of (n ∷ ns)))) ≡ from start (walk (places n)) ++ from start (walk (joined (borders_of ns)))
 kids_from-cons start n ns = ap (from start) (kids_walk n ns) ∙ from-append start (walk (places n)) (walk (joined (borders_of ns)))
 
-kids_kept : (start : List ℕ) (s : ℕ) (ns : List NodeView) → AreBytes start → AllByRecursion IsNode ns → AllByRecursion (λ n. SlicesFrom s (places n)) ns → slice_in start < s → from start (walk (joined (borders_of ns))) ≡ walk (joined (borders_of ns))
+kids_kept : (start : List ℕ) (s : ℕ) (ns : List NodeView) → AreBytes start → AllByRecursion IsNode ns → AllByRecursion (λ b. SlicesFrom s (joined b.borders)) (branches ns) → slice_in start < s → from start (walk (joined (borders_of ns))) ≡ walk (joined (borders_of ns))
 kids_kept start s [] b h f l = refl
 kids_kept start s (n ∷ ns) b h f l =
     kids_from-cons start n ns
-    ∙ (λ i. slices_kept start 0 (places n) b h.0.3 (all_weaker (λ p. s ≤ slice_at p) (λ p. slice_in start < slice_at p) (λ p le. omega arith) (places n) f.0) i ++ kids_kept start s ns b h.1 f.1 l i)
+    ∙ (λ i. slices_kept start 0 (places n) b h.0.tree.layer (all_weaker (λ p. s ≤ slice_at p) (λ p. slice_in start < slice_at p) (λ p le. omega arith) (places n) f.0) i ++ kids_kept start s ns b h.1 f.1 l i)
     ∙ sym (kids_walk n ns)
 
 -- the child at the start, and all later ones whole
-pub kids_from : (start : List ℕ) (ss : List ℕ) (ns : List NodeView) (i : ℕ) (d : NodeView) → AreBytes start → AllByRecursion IsNode ns → AreSeparated ss ns → length ss + 1 ≡ length ns → i ≤ length ss
+pub kids_from : (start : List ℕ) (ss : List ℕ) (ns : List NodeView) (i : ℕ) (d : NodeView) → AreBytes start → AllByRecursion IsNode ns → AreSeparated ss (branches ns) → length ss + 1 ≡ length ns → i ≤ length ss
     → ((j : ℕ) → j < i → get_or ss j 0 ≤ slice_in start) → (i < length ss → slice_in start < get_or ss i 0)
     → from start (walk (joined (borders_of ns))) ≡ from start (walk (places (get_or ns i d))) ++ walk (joined (borders_of (drop (suc i) ns)))
 kids_from start ss [] i d b h a e l before after = absurd (omega arith)
@@ -146,7 +146,7 @@ kids_from start (s ∷ ss) (n ∷ ns) zero d b h a e l before after =
 kids_from start (s ∷ ss) (n ∷ ns) (suc i) d b h a e l before after =
     let le : s ≤ slice_in start = before 0 (omega arith) in
     kids_from-cons start n ns
-    ∙ ap (λ (z : List Pair). z ++ from start (walk (joined (borders_of ns)))) (slices_gone start 0 (places n) b h.0.3 (all_weaker (λ p. slice_at p < s) (λ p. slice_at p < slice_in start) (λ p lt. omega arith) (places n) a.0))
+    ∙ ap (λ (z : List Pair). z ++ from start (walk (joined (borders_of ns)))) (slices_gone start 0 (places n) b h.0.tree.layer (all_weaker (λ p. slice_at p < s) (λ p. slice_at p < slice_in start) (λ p lt. omega arith) (places n) a.0))
     ∙ kids_from start ss ns i d b h.1 a.2 (omega arith) (omega arith) (λ j lt. before (suc j) (omega arith)) (λ lt. after (omega arith))
 
 -- ---- the loops

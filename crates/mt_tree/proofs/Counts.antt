@@ -273,8 +273,8 @@ held_none s (Link n) other = absurd (other n refl)
 
 -- ---- nodes
 pub kind_layer : (k : NodeKind) (v : NodeView) → IsNodeKind k → node_view k ≡ v → IsLayer (places v)
-kind_layer (Border b) v h e = subst (λ (n : NodeView). IsLayer (places n)) e h.3
-kind_layer (Interior ss ks) v h e = subst (λ (n : NodeView). IsLayer (places n)) e h.1.3
+kind_layer (Border b) v h e = subst (λ (n : NodeView). IsLayer (places n)) e h.tree.layer
+kind_layer (Interior ss ks) v h e = subst (λ (n : NodeView). IsLayer (places n)) e h.1.tree.layer
 
 pub kind_borders : (k : NodeKind) (v : NodeView) (b : Vec Place Global) (xs : List Place) (x : ℕ) → node_view k ≡ v → k ≡ Border b → xs ≡ b.items → CountsLinks (views (take (length xs) xs)) x → CountsLinks (places v) x
 kind_borders k v b xs x e f g a =

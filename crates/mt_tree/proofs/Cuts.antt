@@ -2,7 +2,7 @@
 use Rattle.std.proofs.Common.{◌≡◌, ◌≢◌, ℕ, suc, ◌+◌, ◌*◌, ◌≤◌, List, [], ◌∷◌, ◌++◌, length, sym, refl, ap, ◌∙◌, subst, arith, append_assoc}
 use Rattle.std.proofs.lemmas.List.{append-nil}
 use Rattle.mt_tree.specs.Layer.{PlaceView, slice_at, rank_at, IsLayerFrom, IsLayer}
-use Rattle.mt_tree.specs.Nodes.{NodeView, joined, borders_of, SlicesFrom, SlicesApart, IsNode, IsLevelAt, IsLevel, CutAt, OfSlice, border_node}
+use Rattle.mt_tree.specs.Nodes.{NodeView, joined, borders_of, SlicesFrom, SlicesApart, IsLayerTree, IsLevelAt, IsLevel, CutAt, OfSlice, border_tree}
 use Rattle.mt_tree.specs.NodeFalls.{joined-append}
 use Rattle.mt_tree.specs.NodeViews.{view_of, view_of_content}
 use Rattle.mt_tree.specs.declared.node.Content.{Content}
@@ -54,13 +54,13 @@ cut_nil (x ∷ xs) = (tt, cut_nil xs)
 pub cut_back : (xs ys zs : List PlaceView) → CutAt xs (ys ++ zs) → CutAt xs zs
 cut_back xs ys zs h = all_weaker (λ p. SlicesFrom (suc (slice_at p)) (ys ++ zs)) (λ p. SlicesFrom (suc (slice_at p)) zs) (λ p k. all_back (λ q. suc (slice_at p) ≤ slice_at q) ys zs k) xs h
 
--- ---- a border as a node
-pub border_is_node : (b : List PlaceView) → 1 ≤ length b → length b ≤ 15 → IsLayer b → IsNode (border_node b)
-border_is_node b some fits h = (omega arith, ((some, fits), tt), (cut_nil b, tt), subst IsLayer (sym (append-nil b)) h)
+-- ---- a border as a tree
+pub border_is_tree : (b : List PlaceView) → 1 ≤ length b → length b ≤ 15 → IsLayer b → IsLayerTree (border_tree b)
+border_is_tree b some fits h = record { some = omega arith; each = ((some, fits), tt); apart = (cut_nil b, tt); layer = subst IsLayer (sym (append-nil b)) h; interiors = tt }
 
 pub borders_of-append : (ns ms : List NodeView) → borders_of (ns ++ ms) ≡ borders_of ns ++ borders_of ms
 borders_of-append [] ms = refl
-borders_of-append (n ∷ ns) ms = ap (λ z. n.borders ++ z) (borders_of-append ns ms) ∙ sym (append_assoc n.borders (borders_of ns) (borders_of ms))
+borders_of-append (n ∷ ns) ms = ap (λ z. n.tree.borders ++ z) (borders_of-append ns ms) ∙ sym (append_assoc n.tree.borders (borders_of ns) (borders_of ms))
 
 pub joined-one : (bs : List (List PlaceView)) (b rest : List PlaceView) → joined (bs ++ b ∷ []) ++ rest ≡ joined bs ++ (b ++ rest)
 joined-one bs b rest = ap (λ z. z ++ rest) (joined-append bs (b ∷ []) ∙ ap (λ z. joined bs ++ z) (append-nil b)) ∙ append_assoc (joined bs) b rest

@@ -1,13 +1,14 @@
 -- Borders are finished one by one.
 use Rattle.std.proofs.Common.{◌≡◌, ℕ, ◌≤◌, List, [], ◌∷◌, ◌++◌, length, sym, ap, ◌∙◌, subst, arith}
+use Rattle.std.specs.List.{AllByRecursion}
 use Rattle.mt_tree.specs.Layer.{PlaceView, link, IsPlace, IsLayer, walk, weight}
 use Rattle.mt_tree.specs.Falls.{weight-append, walk-append, layer_back, layer_front}
-use Rattle.mt_tree.specs.Nodes.{joined, IsBorder, IsNode, border_node}
+use Rattle.mt_tree.specs.Nodes.{joined, IsBorder, IsLayerTree, IsNode, border_tree}
 use Rattle.mt_tree.specs.NodeFalls.{joined-append}
 use Rattle.mt_tree.specs.Borders.{AreBorders, layer_walk}
-use Rattle.mt_tree.specs.NodeViews.{views}
+use Rattle.mt_tree.specs.NodeViews.{views, trees_of, border_node}
 use Rattle.mt_tree.specs.declared.node.Place.{Place}
-use Rattle.mt_tree.proofs.Cuts.{border_is_node}
+use Rattle.mt_tree.proofs.Cuts.{border_is_tree}
 use Rattle.mt_tree.proofs.Joins.{all_back}
 
 pub record Middle (l : List PlaceView) (all : List (List PlaceView)) : Type 0 where
@@ -33,5 +34,5 @@ pub link_some : (s : ℕ) (bs : List (List PlaceView)) → IsPlace (link s (laye
 link_some s [] h = absurd (let two : 2 ≤ 0 = h.1 in omega arith)
 link_some s (b ∷ bs) h = omega arith
 
-pub border_done : (xs : List Place) (b : List PlaceView) → views xs ≡ b → IsBorder b → IsLayer b → IsNode (border_node (views xs))
-border_done xs b e h l = subst (λ (z : List PlaceView). IsNode (border_node z)) (sym e) (border_is_node b h.0 h.1 l)
+pub border_done : (xs : List Place) (b : List PlaceView) → views xs ≡ b → IsBorder b → IsLayer b → AllByRecursion IsLayerTree (trees_of xs) → IsNode (border_node xs)
+border_done xs b e h l t = record { tree = subst (λ (z : List PlaceView). IsLayerTree (border_tree z)) (sym e) (border_is_tree b h.0 h.1 l); below = t }

@@ -14,12 +14,11 @@ use Rattle.mt_words.proofs.SliceBytes.{slice_in-take, slice_bytes-short, slice_b
 use Rattle.mt_words.proofs.SliceBytes.{slice_bytes-length}
 use Rattle.mt_tree.specs.Layer.{PlaceView, short, long, link, slice_at, length_at, rank_at, pairs_at, put_before, walk, IsPlace, HasNoEmptyKey, IsLayerFrom, IsLayer, find_key}
 use Rattle.mt_words.specs.Walks.{Pair}
-use Rattle.mt_tree.specs.Nodes.{NodeView, places, joined, borders_of, IsNode, AreSeparated, SlicesFrom}
-use Rattle.mt_tree.specs.NodeFalls.{joined-append}
+use Rattle.mt_tree.specs.Nodes.{NodeView, places, joined, borders_of, branches, IsNode, AreSeparated, SlicesFrom}
+use Rattle.mt_tree.specs.NodeFalls.{joined-append, branches_length}
 use Rattle.std.proofs.Common.{Vec, Global, Bor}
 use Rattle.arrayvec.specs.declared.array_vec.ArrayVec.{ArrayVec}
 use Rattle.std.specs.Global.{Box}
-use Rattle.mt_tree.specs.Nodes.{IsInterior}
 use Rattle.std.specs.List.{All}
 use Rattle.std.proofs.lemmas.List.Elements.{recursion_from_All}
 use Rattle.mt_tree.specs.NodeViews.{views, view_of, view_of_content, node_view, IsNodeKind}
@@ -147,16 +146,16 @@ weaker P Q f [] h = tt
 weaker P Q f (x ∷ xs) h = (f x h.0, weaker P Q f xs h.1)
 
 kids_walk : (n : NodeView) (ns : List NodeView) → walk (joined (borders_of (n ∷ ns))) ≡ walk (places n) ++ walk (joined (borders_of ns))
-kids_walk n ns = ap walk (joined-append n.borders (borders_of ns)) ∙ walk-append (places n) (joined (borders_of ns))
+kids_walk n ns = ap walk (joined-append n.tree.borders (borders_of ns)) ∙ walk-append (places n) (joined (borders_of ns))
 
-kids_miss : (k : List ℕ) (s : ℕ) (ns : List NodeView) → AllByRecursion IsNode ns → AllByRecursion (λ n. SlicesFrom s (places n)) ns → slice_in k < s → find_key k (walk (joined (borders_of ns))) ≡ None
+kids_miss : (k : List ℕ) (s : ℕ) (ns : List NodeView) → AllByRecursion IsNode ns → AllByRecursion (λ b. SlicesFrom s (joined b.borders)) (branches ns) → slice_in k < s → find_key k (walk (joined (borders_of ns))) ≡ None
 kids_miss k s [] h f l = refl
 kids_miss k s (n ∷ ns) h f l =
     ap (find_key k) (kids_walk n ns)
-    ∙ find-back k (walk (places n)) (walk (joined (borders_of ns))) (slices_miss k 0 (places n) h.0.3 (weaker (λ p. s ≤ slice_at p) (λ p. slice_at p ≢ slice_in k) (λ p le e. omega arith) (places n) f.0))
+    ∙ find-back k (walk (places n)) (walk (joined (borders_of ns))) (slices_miss k 0 (places n) h.0.tree.layer (weaker (λ p. s ≤ slice_at p) (λ p. slice_at p ≢ slice_in k) (λ p le e. omega arith) (places n) f.0))
     ∙ kids_miss k s ns h.1 f.1 l
 
-pub kids_find : (k : List ℕ) (ss : List ℕ) (ns : List NodeView) (i : ℕ) (d : NodeView) → AllByRecursion IsNode ns → AreSeparated ss ns → length ss + 1 ≡ length ns → i ≤ length ss
+pub kids_find : (k : List ℕ) (ss : List ℕ) (ns : List NodeView) (i : ℕ) (d : NodeView) → AllByRecursion IsNode ns → AreSeparated ss (branches ns) → length ss + 1 ≡ length ns → i ≤ length ss
     → ((j : ℕ) → j < i → get_or ss j 0 ≤ slice_in k) → (i < length ss → slice_in k < get_or ss i 0) → find_key k (walk (joined (borders_of ns))) ≡ find_key k (walk (places (get_or ns i d)))
 kids_find k ss [] i d h a e l before after = absurd (omega arith)
 kids_find k [] (n ∷ []) zero d h a e l before after = ap (find_key k) (kids_walk n []) ∙ ap (find_key k) (append-nil (walk (places n)))
@@ -167,7 +166,7 @@ kids_find k (s ∷ ss) (n ∷ ns) zero d h a e l before after =
 kids_find k (s ∷ ss) (n ∷ ns) (suc i) d h a e l before after =
     let le : s ≤ slice_in k = before 0 (omega arith) in
     ap (find_key k) (kids_walk n ns)
-    ∙ find-back k (walk (places n)) (walk (joined (borders_of ns))) (slices_miss k 0 (places n) h.0.3 (weaker (λ p. slice_at p < s) (λ p. slice_at p ≢ slice_in k) (λ p lt f. omega arith) (places n) a.0))
+    ∙ find-back k (walk (places n)) (walk (joined (borders_of ns))) (slices_miss k 0 (places n) h.0.tree.layer (weaker (λ p. slice_at p < s) (λ p. slice_at p ≢ slice_in k) (λ p lt f. omega arith) (places n) a.0))
     ∙ kids_find k ss ns i d h.1 a.2 (omega arith) (omega arith) (λ j lt. before (suc j) (omega arith)) (λ lt. after (omega arith))
 
 -- ---- views
@@ -187,10 +186,26 @@ pub border_walk : (k : NodeKind) (v : NodeView) (b : Vec Place Global) → node_
 border_walk k v b e f = ap (λ (n : NodeView). walk (places n)) (sym e ∙ ap node_view f) ∙ ap walk (append-nil (views b.items))
 
 pub border_layer : (k : NodeKind) (b : Vec Place Global) → IsNodeKind k → k ≡ Border b → IsLayer (views b.items)
-border_layer k b h f = subst IsLayer (append-nil (views b.items)) (subst IsNodeKind f h).3
+border_layer k b h f = subst IsLayer (append-nil (views b.items)) (subst IsNodeKind f h).tree.layer
 
-pub interior_is : (k : NodeKind) (ss : Box (ArrayVec ℕ 15 (Unit {0}))) (ks : Vec NodeView Global) → IsNodeKind k → k ≡ Interior ss ks → IsInterior ss.value.items ks.items
-interior_is k ss ks h f = (subst IsNodeKind f h).0
+-- the children of an interior node
+pub record AreChildren (ss : List ℕ) (ks : List NodeView) : Type 0 where
+  pub two : 2 ≤ length ks
+  pub between : length ss + 1 ≡ length ks
+  pub nodes : AllByRecursion IsNode ks
+  pub separated : AreSeparated ss (branches ks)
+
+pub interior_is : (k : NodeKind) (ss : Box (ArrayVec ℕ 15 (Unit {0}))) (ks : Vec NodeView Global) → IsNodeKind k → k ≡ Interior ss ks → AreChildren ss.value.items ks.items
+interior_is k ss ks h f =
+    let here : IsNodeKind (Interior ss ks) = subst IsNodeKind f h in
+    let n = here.1.tree.interiors.0 in
+    let count = branches_length ks.items in
+    record {
+      two = omega (arith, n.two, count);
+      between = omega (arith, n.between, count);
+      nodes = here.0;
+      separated = n.separated;
+    }
 
 pub interior_walk : (k : NodeKind) (v : NodeView) (ss : Box (ArrayVec ℕ 15 (Unit {0}))) (ks : Vec NodeView Global) → node_view k ≡ v → k ≡ Interior ss ks → walk (places v) ≡ walk (joined (borders_of ks.items))
 interior_walk k v ss ks e f = ap (λ (n : NodeView). walk (places n)) (sym e ∙ ap node_view f)

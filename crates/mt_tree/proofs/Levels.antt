@@ -1,14 +1,15 @@
 -- Nodes of one height are gathered under nodes one level up.
 use Rattle.std.proofs.Common.{◌≡◌, ℕ, zero, suc, ◌+◌, ◌<◌, ◌≤◌, List, [], ◌∷◌, ◌++◌, length, map, drop, get_or, sym, refl, ap, ◌∙◌, subst, arith, append_assoc, length-append, Vec, Global}
-use Rattle.std.specs.List.{AllByRecursion}
+use Rattle.std.specs.List.{AllByRecursion, flat_map}
 use Rattle.std.proofs.lemmas.List.{append-nil, length-map, drop_all}
 use Rattle.mt_words.specs.Slices.{slice_bytes}
 use Rattle.mt_words.proofs.SliceBytes.{slice_bytes-length}
 use Rattle.mt_tree.specs.Falls.{weight-append, walk-append, layer_back, layer_front}
 use Rattle.mt_tree.specs.Layer.{walk, weight, pairs_at, PlaceView, link, slice_at, rank_at, IsPlace, IsLayerFrom, IsLayer}
 use Rattle.mt_words.specs.Walks.{Pair}
-use Rattle.mt_tree.specs.Nodes.{NodeView, places, joined, borders_of, SlicesFrom, SlicesBelow, SlicesApart, IsBorder, IsNode, IsNodeAt, IsLevelAt, IsLevel, IsInterior, AreSeparated, level_height, CutAt, first_slice_of, first_of, parent_node}
-use Rattle.mt_tree.specs.NodeFalls.{joined-append}
+use Rattle.mt_tree.specs.Nodes.{NodeView, places, joined, borders_of, SlicesFrom, SlicesBelow, SlicesApart, IsBorder, IsNode, IsNodeAt, IsLevelAt, IsLevel, IsInterior, IsLayerTree, AreSeparated, level_height, branches, CutAt, first_slice_of, first_of, interior_node, parent_node}
+use Rattle.mt_tree.specs.NodeFalls.{joined-append, branches_length}
+use Rattle.mt_tree.proofs.Finds.{AreChildren, interior_is}
 use Rattle.mt_tree.proofs.Joins.{all_append, below_lighter, all_back, all_front, all_weaker}
 use Rattle.mt_tree.proofs.Cuts.{slices_from, borders_of-append, level_is}
 use Rattle.arrayvec.specs.declared.array_vec.ArrayVec.{ArrayVec}
@@ -57,23 +58,23 @@ joined_some [] h a = absurd (omega arith)
 joined_some (b ∷ bs) h a = let some : 1 ≤ length b = a.0.0 in omega (arith, length-append b (joined bs))
 
 pub node_some : (n : NodeView) → IsNode n → 1 ≤ length (places n)
-node_some n h = joined_some n.borders h.0 h.1
+node_some n h = joined_some n.tree.borders h.tree.some h.tree.each
 
 pub head_front : (xs ys : List PlaceView) → 1 ≤ length xs → first_slice_of (xs ++ ys) ≡ first_slice_of xs
 head_front [] ys h = absurd (omega arith)
 head_front (x ∷ xs) ys h = refl
 
 pub first_kid : (n : NodeView) (ns : List NodeView) → IsNode n → first_slice_of (joined (borders_of (n ∷ ns))) ≡ first_of n
-first_kid n ns h = ap first_slice_of (joined-append n.borders (borders_of ns)) ∙ head_front (places n) (joined (borders_of ns)) (node_some n h)
+first_kid n ns h = ap first_slice_of (joined-append n.tree.borders (borders_of ns)) ∙ head_front (places n) (joined (borders_of ns)) (node_some n h)
 
 head_least : (low : ℕ) (ps : List PlaceView) → IsLayerFrom low ps → SlicesFrom (first_slice_of ps) ps
 head_least low [] h = tt
 head_least low (p ∷ ps) h = (omega arith, slices_from (suc (rank_at p)) (slice_at p) ps (omega arith) h.2)
 
-slices_apiece : (s : ℕ) (ns : List NodeView) → SlicesFrom s (joined (borders_of ns)) → AllByRecursion (λ n. SlicesFrom s (places n)) ns
+slices_apiece : (s : ℕ) (ns : List NodeView) → SlicesFrom s (joined (borders_of ns)) → AllByRecursion (λ b. SlicesFrom s (joined b.borders)) (branches ns)
 slices_apiece s [] h = tt
 slices_apiece s (n ∷ ns) h =
-    let k = subst (SlicesFrom s) (joined-append n.borders (borders_of ns)) h in
+    let k = subst (SlicesFrom s) (joined-append n.tree.borders (borders_of ns)) h in
     (all_front (λ q. s ≤ slice_at q) (places n) (joined (borders_of ns)) k, slices_apiece s ns (all_back (λ q. s ≤ slice_at q) (places n) (joined (borders_of ns)) k))
 
 below_head : (xs ys : List PlaceView) → 1 ≤ length ys → CutAt xs ys → SlicesBelow (first_slice_of ys) xs
@@ -81,51 +82,62 @@ below_head xs [] h c = absurd (omega arith)
 below_head xs (y ∷ ys) h c = all_weaker (λ p. SlicesFrom (suc (slice_at p)) (y ∷ ys)) (λ p. slice_at p < slice_at y) (λ p k. k.0) xs c
 
 -- the first slices of all nodes but the first separate them
-pub separated : (h : ℕ) (k : NodeView) (ks : List NodeView) → IsLevelAt h (k ∷ ks) → AreSeparated (map first_of ks) (k ∷ ks)
+pub separated : (h : ℕ) (k : NodeView) (ks : List NodeView) → IsLevelAt h (k ∷ ks) → AreSeparated (map first_of ks) (branches (k ∷ ks))
 separated h k [] l = tt
 separated h k (m ∷ ms) l =
     let rest = level_back h (k ∷ []) (m ∷ ms) l in
     let head = first_kid m ms rest.nodes.0.1 in
-    let between : CutAt (places k) (joined (borders_of (m ∷ ms))) = apart_between k.borders (borders_of (m ∷ ms)) l.apart in
-    let some : 1 ≤ length (joined (borders_of (m ∷ ms))) = omega (arith, node_some m rest.nodes.0.1, ap (λ z. length z) (joined-append m.borders (borders_of ms)), length-append (places m) (joined (borders_of ms))) in (
+    let between : CutAt (places k) (joined (borders_of (m ∷ ms))) = apart_between k.tree.borders (borders_of (m ∷ ms)) l.apart in
+    let some : 1 ≤ length (joined (borders_of (m ∷ ms))) = omega (arith, node_some m rest.nodes.0.1, ap (λ z. length z) (joined-append m.tree.borders (borders_of ms)), length-append (places m) (joined (borders_of ms))) in (
       subst (λ s. SlicesBelow s (places k)) head (below_head (places k) _ some between),
       slices_apiece (first_of m) (m ∷ ms) (subst (λ s. SlicesFrom s (joined (borders_of (m ∷ ms)))) head (head_least 0 _ rest.layer)),
       separated h m ms rest,
     )
 
-all_heights : (h : ℕ) (ns : List NodeView) → AllByRecursion (IsNodeAt h) ns → AllByRecursion (λ n. n.height ≡ h) ns
-all_heights h ns a = all_weaker (IsNodeAt h) (λ n. n.height ≡ h) (λ n k. k.0) ns a
+all_heights : (h : ℕ) (ns : List NodeView) → AllByRecursion (IsNodeAt h) ns → AllByRecursion (λ b. b.height ≡ h) (branches ns)
+all_heights h [] a = tt
+all_heights h (n ∷ ns) a = (a.0.0, all_heights h ns a.1)
 
 pub all_nodes : (h : ℕ) (ns : List NodeView) → AllByRecursion (IsNodeAt h) ns → AllByRecursion IsNode ns
 all_nodes h ns a = all_weaker (IsNodeAt h) IsNode (λ n k. k.1) ns a
 
 borders_some : (h : ℕ) (ns : List NodeView) → AllByRecursion (IsNodeAt h) ns → 1 ≤ length ns → 1 ≤ length (borders_of ns)
 borders_some h [] a some = absurd (omega arith)
-borders_some h (n ∷ ns) a some = let one : 1 ≤ length n.borders = a.0.1.0 in omega (arith, length-append n.borders (borders_of ns))
+borders_some h (n ∷ ns) a some = let one : 1 ≤ length n.tree.borders = a.0.1.tree.some in omega (arith, length-append n.tree.borders (borders_of ns))
 
-borders_lawful : (h : ℕ) (ns : List NodeView) → AllByRecursion (IsNodeAt h) ns → AllByRecursion IsBorder (borders_of ns)
-borders_lawful h [] a = tt
-borders_lawful h (n ∷ ns) a = all_append IsBorder n.borders (borders_of ns) a.0.1.1 (borders_lawful h ns a.1)
+-- what holds of each part of each node
+all_parts : {X : Type 0} (P : X → Type 0) (f : NodeView → List X) (h : ℕ) (ns : List NodeView) → ((n : NodeView) → IsNode n → AllByRecursion P (f n)) → AllByRecursion (IsNodeAt h) ns → AllByRecursion P (flat_map f ns)
+all_parts P f h [] g a = tt
+all_parts P f h (n ∷ ns) g a = all_append P (f n) (flat_map f ns) (g n a.0.1) (all_parts P f h ns g a.1)
 
-pub parent_is_node : (h : ℕ) (ns : List NodeView) → IsLevelAt h ns → 1 ≤ length ns → IsNode (parent_node ns)
-parent_is_node h ns l some = (borders_some h ns l.nodes some, borders_lawful h ns l.nodes, l.apart, l.layer)
-
-pub interior_of : (separators : List ℕ) (ns : List NodeView) → IsLevel ns → 2 ≤ length ns → length ns ≤ 16 → separators ≡ map first_of (drop 1 ns) → IsInterior separators ns
+pub interior_of : (separators : List ℕ) (ns : List NodeView) → IsLevel ns → 2 ≤ length ns → length ns ≤ 16 → separators ≡ map first_of (drop 1 ns) → IsInterior (record { separators = separators; children = branches ns })
 interior_of separators [] l two most e = absurd (omega arith)
 interior_of separators (n ∷ ns) l two most e = record {
-  two = two;
-  most = most;
-  between = omega (arith, ap (λ (z : List ℕ). length z) e, length-map ns first_of);
-  level = all_heights n.height (n ∷ ns) l.nodes;
-  nodes = all_nodes n.height (n ∷ ns) l.nodes;
-  separated = subst (λ z. AreSeparated z (n ∷ ns)) (sym e) (separated n.height n ns l);
+  two = omega (arith, branches_length (n ∷ ns));
+  most = omega (arith, branches_length (n ∷ ns));
+  between = omega (arith, ap (λ (z : List ℕ). length z) e, length-map ns first_of, branches_length (n ∷ ns));
+  height = n.tree.height;
+  level = all_heights n.tree.height (n ∷ ns) l.nodes;
+  separated = subst (λ z. AreSeparated z (branches (n ∷ ns))) (sym e) (separated n.tree.height n ns l);
+}
+
+pub parent_is_node : (ss : List ℕ) (ns : List NodeView) → IsLevel ns → 2 ≤ length ns → length ns ≤ 16 → ss ≡ map first_of (drop 1 ns) → IsNode (interior_node ss ns)
+parent_is_node ss ns l two most e = record {
+  tree = record {
+    some = borders_some (level_height ns) ns l.nodes (omega arith);
+    each = all_parts IsBorder (λ n. n.tree.borders) (level_height ns) ns (λ n k. k.tree.each) l.nodes;
+    apart = l.apart;
+    layer = l.layer;
+    interiors = (interior_of ss ns l two most e, all_parts IsInterior (λ n. n.tree.interiors) (level_height ns) ns (λ n k. k.tree.interiors) l.nodes);
+  };
+  below = all_parts IsLayerTree (λ n. n.below) (level_height ns) ns (λ n k. k.below) l.nodes;
 }
 
 pub first_is : (k : NodeKind) (v : NodeView) (ss : Box (ArrayVec ℕ 15 (Unit {0}))) (ks : Vec NodeView Global) (n : NodeView) → IsNodeKind k → node_view k ≡ v → k ≡ Interior ss ks → n ≡ get_or ks.items 0 n → first_of n ≡ first_of v
 first_is k v ss ks n h e f g = by ks.items refl
   where
-    inner : IsInterior ss.value.items ks.items
-    inner = (subst IsNodeKind f h).0
+    inner : AreChildren ss.value.items ks.items
+    inner = interior_is k ss ks h f
 
     by : (ns : List NodeView) → ks.items ≡ ns → first_of n ≡ first_of v
     by [] same = let two : 2 ≤ length ks.items = inner.two in absurd (omega (arith, ap (λ (z : List NodeView). length z) same))

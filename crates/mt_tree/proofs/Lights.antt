@@ -39,12 +39,12 @@ content_lighter s h n lawful e =
 
 -- ---- one more
 kids-push : (ks : List NodeView) (k : NodeView) → joined (borders_of (ks ++ k ∷ [])) ≡ joined (borders_of ks) ++ places k
-kids-push [] k = ap joined (append-nil k.borders)
+kids-push [] k = ap joined (append-nil k.tree.borders)
 kids-push (m ∷ ks) k =
-    joined-append m.borders (borders_of (ks ++ k ∷ []))
+    joined-append m.tree.borders (borders_of (ks ++ k ∷ []))
     ∙ ap (λ (z : List PlaceView). places m ++ z) (kids-push ks k)
     ∙ sym (append_assoc (places m) (joined (borders_of ks)) (places k))
-    ∙ ap (λ (z : List PlaceView). z ++ places k) (sym (joined-append m.borders (borders_of ks)))
+    ∙ ap (λ (z : List PlaceView). z ++ places k) (sym (joined-append m.tree.borders (borders_of ks)))
 
 pub kids_more : (ks : List NodeView) (i : ℕ) (k : NodeView) → i < length ks → k ≡ get_or ks i k → joined (borders_of (take (i + 1) ks)) ≡ joined (borders_of (take i ks)) ++ places k
 kids_more ks i k l e =

@@ -2,13 +2,13 @@
 use Rattle.std.specs.Prelude.{◌≡◌, ℕ, suc, ◌+◌, ◌*◌, ◌≤◌, List, [], ◌∷◌, ◌++◌, length}
 use Rattle.std.specs.List.{AllByRecursion}
 use Rattle.std.proofs.Common.{arith, ap, sym, subst, ◌∙◌, refl, append_assoc, length-append}
-use Rattle.std.proofs.lemmas.List.{append-nil}
+use Rattle.std.proofs.lemmas.List.{append-nil, length-map}
 use denote.Param.Weighed.{most}
 use Rattle.mt_words.specs.Slices.{slice_bytes}
 use Rattle.mt_words.proofs.SliceBytes.{slice_bytes-length}
 use Rattle.mt_tree.specs.Layer.{PlaceView, short, long, link, pairs_at, walk, weight, IsLayerFrom, IsLayer, IsPlace, rank_at}
 use Rattle.mt_tree.specs.Falls.{weight-append, weight-put_before, walk-append}
-use Rattle.mt_tree.specs.Nodes.{NodeView, places, joined, borders_of, IsNode, IsBorder}
+use Rattle.mt_tree.specs.Nodes.{NodeView, places, joined, borders_of, branches, IsNode, IsBorder}
 use Rattle.mt_tree.specs.NodeViews.{views, view_of, view_of_content, node_view, IsNodeKind}
 use Rattle.mt_tree.specs.declared.node.Place.{Place}
 use Rattle.mt_tree.specs.declared.node.Content.{Content}
@@ -50,14 +50,14 @@ joined_some [] h a = absurd (omega arith)
 joined_some (b ∷ bs) h a = let some : 1 ≤ length b = a.0.0 in omega (arith, length-append b (joined bs))
 
 pub node_some : (n : NodeView) → IsNode n → 1 ≤ weight (walk (places n))
-node_some n h = layer_some (places n) (joined_some n.borders h.0 h.1) h.3
+node_some n h = layer_some (places n) (joined_some n.tree.borders h.tree.some h.tree.each) h.tree.layer
 
 abbrev pub all_weight : List NodeView → ℕ
 all_weight ks = weight (walk (joined (borders_of ks)))
 
 pub all_weight-cons : (k : NodeView) (ks : List NodeView) → all_weight (k ∷ ks) ≡ weight (walk (places k)) + all_weight ks
 all_weight-cons k ks =
-    ap (λ (z : List PlaceView). weight (walk z)) (joined-append k.borders (borders_of ks))
+    ap (λ (z : List PlaceView). weight (walk z)) (joined-append k.tree.borders (borders_of ks))
     ∙ ap weight (walk-append (places k) (joined (borders_of ks))) ∙ weight-append (walk (places k)) (walk (joined (borders_of ks)))
 
 kids_near : (ks : List NodeView) → most (λ y. weight (walk (places y)) + 1) ks ≤ all_weight ks + 1
@@ -70,9 +70,12 @@ kids_fall (k ∷ []) h a = absurd (omega arith)
 kids_fall (k ∷ l ∷ ks) h a =
     omega (arith, node_some k a.0, node_some l a.1.0, kids_near (l ∷ ks), all_weight-cons k (l ∷ ks), all_weight-cons l ks)
 
+pub branches_length : (ks : List NodeView) → length (branches ks) ≡ length ks
+branches_length ks = length-map ks _
+
 pub kind_falls : (k : NodeKind) → IsNodeKind k → deep-NodeKind k ≤ weight (walk (places (node_view k)))
 kind_falls (Border b) h =
     let alone : weight (walk (views b.items ++ [])) ≡ weight (walk (views b.items)) = ap (λ (z : List PlaceView). weight (walk z)) (append-nil (views b.items)) in
-    let layer : IsLayer (views b.items) = subst IsLayer (append-nil (views b.items)) h.3 in
+    let layer : IsLayer (views b.items) = subst IsLayer (append-nil (views b.items)) h.tree.layer in
     omega (arith, alone, views_fall 0 b.items layer)
-kind_falls (Interior ss ks) h = let two : 2 ≤ length ks.items = h.0.two in omega (arith, kids_fall ks.items two h.0.nodes)
+kind_falls (Interior ss ks) h = let two : 2 ≤ length ks.items = omega (arith, h.1.tree.interiors.0.two, branches_length ks.items) in omega (arith, kids_fall ks.items two h.0)

@@ -1,7 +1,8 @@
 -- What a stored node is node_view as.
-use Rattle.std.specs.Prelude.{ℕ, suc, List, [], ◌∷◌, map}
+use Rattle.std.specs.Prelude.{ℕ, List, [], ◌∷◌, map}
+use Rattle.std.specs.List.{AllByRecursion, flat_map}
 use Rattle.mt_tree.specs.Layer.{PlaceView, short, long, link, walk}
-use Rattle.mt_tree.specs.Nodes.{NodeView, places, borders_of, level_height, IsNode, IsInterior}
+use Rattle.mt_tree.specs.Nodes.{NodeView, LayerView, places, interior_node, border_tree, IsNode}
 use Rattle.mt_tree.specs.declared.node.Place.{Place}
 use Rattle.mt_tree.specs.declared.node.Content.{Content}
 use Rattle.mt_tree.specs.declared.node.Content.TheVariants.{Short, Suffix, Link}
@@ -19,10 +20,22 @@ view_of p = view_of_content p.slice p.content
 abbrev pub views : List Place → List PlaceView
 views = map view_of
 
+-- the trees below a place's link, the linked one first
+abbrev pub trees_of_content : Content → List LayerView
+trees_of_content (Short l c) = []
+trees_of_content (Suffix t c) = []
+trees_of_content (Link n) = n.tree ∷ n.below
+
+abbrev pub trees_of : List Place → List LayerView
+trees_of = flat_map (λ p. trees_of_content p.content)
+
+abbrev pub border_node : List Place → NodeView
+border_node ps = record { tree = border_tree (views ps); below = trees_of ps }
+
 abbrev pub node_view : NodeKind → NodeView
-node_view (Border b) = record { borders = views b.items ∷ []; height = 0 }
-node_view (Interior ss ks) = record { borders = borders_of ks.items; height = suc (level_height ks.items) }
+node_view (Border b) = border_node b.items
+node_view (Interior ss ks) = interior_node ss.value.items ks.items
 
 abbrev pub IsNodeKind : NodeKind → Type 0
 IsNodeKind (Border b) = IsNode (node_view (Border b))
-IsNodeKind (Interior ss ks) = IsInterior ss.value.items ks.items × IsNode (node_view (Interior ss ks))
+IsNodeKind (Interior ss ks) = AllByRecursion IsNode ks.items × IsNode (node_view (Interior ss ks))

@@ -1,12 +1,28 @@
--- The tree of a layer: its borders in order, and its height.
-use Rattle.std.specs.Prelude.{ℕ, suc, ◌+◌, ◌<◌, ◌≤◌, ◌≡◌, List, [], ◌∷◌, length, ⊤}
+-- The tree of a layer: its borders in order, its height and its interior nodes; and the trees below its links.
+use Rattle.std.specs.Prelude.{ℕ, suc, ◌+◌, ◌<◌, ◌≤◌, ◌≡◌, List, [], ◌∷◌, length, map, drop, ⊤}
 use Rattle.std.specs.List.{AllByRecursion, flat_map}
 use Rattle.mt_tree.specs.Layer.{PlaceView, slice_at, IsLayer}
 
--- what contracts see of a node: its borders in order, and how many levels lie below it
-pub record NodeView : Type 0 where
+-- what contracts see of a child: its borders in order, and how many levels lie below it
+pub record BranchView : Type 0 where
   pub borders : List (List PlaceView)
   pub height : ℕ
+
+-- what contracts see of an interior node: its separators and its children
+pub record InteriorView : Type 0 where
+  pub separators : List ℕ
+  pub children : List BranchView
+
+-- what contracts see of the tree of one layer: its borders in order, how many levels lie below its root, and its interior nodes, each before those below it
+pub record LayerView : Type 0 where
+  pub borders : List (List PlaceView)
+  pub height : ℕ
+  pub interiors : List InteriorView
+
+-- what contracts see of a node: the tree that it is the root of, and the trees below the links of its places, each before those below its own links
+pub record NodeView : Type 0 where
+  pub tree : LayerView
+  pub below : List LayerView
 
 -- the lists, one after another
 abbrev pub joined : List (List PlaceView) → List PlaceView
@@ -14,7 +30,7 @@ joined = flat_map (λ b. b)
 
 -- the places of a node's borders, in order
 abbrev pub places : NodeView → List PlaceView
-places n = joined n.borders
+places n = joined n.tree.borders
 
 -- the slices of these places are below this one
 abbrev pub SlicesBelow : ℕ → List PlaceView → Type 0
@@ -33,37 +49,50 @@ abbrev pub SlicesApart : List (List PlaceView) → Type 0
 SlicesApart [] = ⊤
 SlicesApart (b ∷ bs) = AllByRecursion (λ p. SlicesFrom (suc (slice_at p)) (joined bs)) b × SlicesApart bs
 
--- the law of nodes by their borders: 1 to 15 places in each, no slice in two of them, and the places are a lawful layer
-abbrev pub IsNode : NodeView → Type 0
-IsNode n = (1 ≤ length n.borders) × AllByRecursion IsBorder n.borders × SlicesApart n.borders × IsLayer (places n)
-
 -- slices left of a separator are below it, slices right of it are at or above it
-abbrev pub AreSeparated : List ℕ → List NodeView → Type 0
+abbrev pub AreSeparated : List ℕ → List BranchView → Type 0
 AreSeparated [] ks = ⊤
 AreSeparated (s ∷ ss) [] = ⊤
-AreSeparated (s ∷ ss) (k ∷ ks) = SlicesBelow s (places k) × AllByRecursion (λ n. SlicesFrom s (places n)) ks × AreSeparated ss ks
+AreSeparated (s ∷ ss) (k ∷ ks) = SlicesBelow s (joined k.borders) × AllByRecursion (λ b. SlicesFrom s (joined b.borders)) ks × AreSeparated ss ks
+
+-- an interior node has 2 to 16 children of one height, so that all borders are equally deep, and one separator between each two neighbours
+pub record IsInterior (n : InteriorView) : Type 0 where
+  pub two : 2 ≤ length n.children
+  pub most : length n.children ≤ 16
+  pub between : length n.separators + 1 ≡ length n.children
+  pub height : ℕ
+  pub level : AllByRecursion (λ b. b.height ≡ height) n.children
+  pub separated : AreSeparated n.separators n.children
+
+-- the law of the tree of one layer: 1 to 15 places in each border, no slice in two of them, the places are a lawful layer, and each interior node is lawful
+pub record IsLayerTree (t : LayerView) : Type 0 where
+  pub some : 1 ≤ length t.borders
+  pub each : AllByRecursion IsBorder t.borders
+  pub apart : SlicesApart t.borders
+  pub layer : IsLayer (joined t.borders)
+  pub interiors : AllByRecursion IsInterior t.interiors
+
+-- the law of a node: its own tree is lawful, and so is each tree below a link, at any depth
+pub record IsNode (n : NodeView) : Type 0 where
+  pub tree : IsLayerTree n.tree
+  pub below : AllByRecursion IsLayerTree n.below
 
 -- the borders of these nodes, in order
 abbrev pub borders_of : List NodeView → List (List PlaceView)
-borders_of = flat_map (λ n. n.borders)
+borders_of = flat_map (λ n. n.tree.borders)
+
+-- the nodes as children
+abbrev pub branches : List NodeView → List BranchView
+branches = map (λ n. record { borders = n.tree.borders; height = n.tree.height })
 
 -- the height of nodes of one height
 abbrev pub level_height : List NodeView → ℕ
 level_height [] = 0
-level_height (n ∷ ns) = n.height
-
--- an interior node has 2 to 16 children of one height, so that all borders are equally deep, and one separator between each two neighbours
-pub record IsInterior (separators : List ℕ) (children : List NodeView) : Type 0 where
-  pub two : 2 ≤ length children
-  pub most : length children ≤ 16
-  pub between : length separators + 1 ≡ length children
-  pub level : AllByRecursion (λ n. n.height ≡ level_height children) children
-  pub nodes : AllByRecursion IsNode children
-  pub separated : AreSeparated separators children
+level_height (n ∷ ns) = n.tree.height
 
 -- a node of this height
 abbrev pub IsNodeAt : ℕ → NodeView → Type 0
-IsNodeAt h n = (n.height ≡ h) × IsNode n
+IsNodeAt h n = (n.tree.height ≡ h) × IsNode n
 
 -- the slice of the first place
 abbrev pub first_slice_of : List PlaceView → ℕ
@@ -74,9 +103,20 @@ first_slice_of (p ∷ ps) = slice_at p
 abbrev pub first_of : NodeView → ℕ
 first_of n = first_slice_of (places n)
 
--- the node above these
+-- the node of these separators and children
+abbrev pub interior_node : List ℕ → List NodeView → NodeView
+interior_node ss ns = record {
+  tree = record {
+    borders = borders_of ns;
+    height = suc (level_height ns);
+    interiors = record { separators = ss; children = branches ns } ∷ flat_map (λ n. n.tree.interiors) ns;
+  };
+  below = flat_map (λ n. n.below) ns;
+}
+
+-- the node above these: their first slices, but for the first one's, separate them
 abbrev pub parent_node : List NodeView → NodeView
-parent_node ns = record { borders = borders_of ns; height = suc (level_height ns) }
+parent_node ns = interior_node (map first_of (drop 1 ns)) ns
 
 -- nodes of one height that hold the borders of a lawful layer, in order
 pub record IsLevelAt (h : ℕ) (ns : List NodeView) : Type 0 where
@@ -96,6 +136,6 @@ CutAt xs ys = AllByRecursion (λ p. SlicesFrom (suc (slice_at p)) ys) xs
 abbrev pub OfSlice : ℕ → List PlaceView → Type 0
 OfSlice s = AllByRecursion (λ p. slice_at p ≡ s)
 
--- the node of one border
-abbrev pub border_node : List PlaceView → NodeView
-border_node b = record { borders = b ∷ []; height = 0 }
+-- the tree of one border
+abbrev pub border_tree : List PlaceView → LayerView
+border_tree b = record { borders = b ∷ []; height = 0; interiors = [] }

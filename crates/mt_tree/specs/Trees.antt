@@ -13,7 +13,7 @@ tree_places (Some n) = places n
 abbrev pub tree_walk : Option NodeView → List Pair
 tree_walk t = walk (tree_places t)
 
--- the law of a tree
+-- the law of a tree: that of the outermost layer is lawful, and so is each tree below a link, at any depth
 abbrev pub IsTree : Option NodeView → Type 0
 IsTree None = ⊤
 IsTree (Some n) = IsNode n
@@ -21,4 +21,4 @@ IsTree (Some n) = IsNode n
 -- the borders of the outermost layer
 abbrev pub tree_borders : Option NodeView → List (List PlaceView)
 tree_borders None = []
-tree_borders (Some n) = n.borders
+tree_borders (Some n) = n.tree.borders

@@ -1,9 +1,10 @@
 //! A finished layer is cut into borders, and nodes are stacked on them.
 ghost use Rattle.std.specs.Prelude.{◌≡◌, ◌≢◌, MatchBool, ◌<◌, ◌≤◌, ◌+◌, ◌++◌, ◌∷◌, [], suc, List, length, IfOk};
+ghost use Rattle.std.specs.List.{AllByRecursion};
 ghost use Rattle.mt_tree.specs.Layer.{PlaceView, IsLayer, IsPlace};
-ghost use Rattle.mt_tree.specs.Nodes.{places, joined, borders_of, level_height, IsNode, IsNodeAt, IsLevel, IsLevelAt, IsBorder, border_node, first_of, parent_node};
+ghost use Rattle.mt_tree.specs.Nodes.{places, joined, borders_of, level_height, IsNode, IsNodeAt, IsLevel, IsLevelAt, IsBorder, IsLayerTree, border_tree, first_of, parent_node};
 ghost use Rattle.mt_tree.specs.DraftViews.{draft_view, draft_views};
-ghost use Rattle.mt_tree.specs.NodeViews.{views, view_of};
+ghost use Rattle.mt_tree.specs.NodeViews.{views, view_of, trees_of_content};
 
 use crate::layer::{Border, DraftContent, DraftPlace, Layer};
 use crate::node::{Content, Node, NodeKind, Place};
@@ -63,7 +64,7 @@ fn level_up(alloc: Global, nodes: Vec<Node>) -> Result<Vec<Node>, Memory>
 fn stack(alloc: Global, borders: Vec<Node>) -> Result<Node, Memory>
     requires lawful { IsLevelAt 0 borders.items }
     requires some { 1 ≤ length borders.items }
-    ensures same { IfOk result (λ node. node.borders ≡ borders_of borders.items) }
+    ensures same { IfOk result (λ node. node.tree.borders ≡ borders_of borders.items) }
     ensures lawful { IfOk result (λ node. IsNode node) }
 {
     let mut nodes = borders;
@@ -80,7 +81,7 @@ fn stack(alloc: Global, borders: Vec<Node>) -> Result<Node, Memory>
 #[cycle(finish)]
 pub(crate) fn finish(alloc: Global, layer: Layer) -> Result<Node, Memory>
     requires some { 1 ≤ length layer }
-    ensures same { IfOk result (λ node. node.borders ≡ layer) }
+    ensures same { IfOk result (λ node. node.tree.borders ≡ layer) }
     ensures lawful { IfOk result (λ node. IsNode node) }
 {
     let mut nodes = Vec::with_capacity(alloc, layer.borders.len())?;
@@ -95,7 +96,7 @@ pub(crate) fn finish(alloc: Global, layer: Layer) -> Result<Node, Memory>
 fn finish_border(alloc: Global, border: Border) -> Result<Node, Memory>
     requires some { IsBorder (draft_views border.places.items) }
     requires lawful { IsLayer (draft_views border.places.items) }
-    ensures same { IfOk result (λ node. node ≡ border_node (draft_views border.places.items)) }
+    ensures same { IfOk result (λ node. node.tree ≡ border_tree (draft_views border.places.items)) }
     ensures lawful { IfOk result (λ node. IsNode node) }
 {
     let mut all = Vec::with_capacity(alloc, border.places.len())?;
@@ -111,7 +112,8 @@ fn finish_border(alloc: Global, border: Border) -> Result<Node, Memory>
 #[cycle(finish)]
 fn finish_place(alloc: Global, place: DraftPlace) -> Result<Place, Memory>
     requires lawful { IsPlace (draft_view place) }
-    ensures { IfOk result (λ made. view_of made ≡ draft_view place) }
+    ensures same { IfOk result (λ made. view_of made ≡ draft_view place) }
+    ensures below { IfOk result (λ made. AllByRecursion IsLayerTree (trees_of_content made.content)) }
 {
     let slice = place.slice;
     match place.content {

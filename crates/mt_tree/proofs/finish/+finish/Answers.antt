@@ -18,8 +18,8 @@ finish-finish_border-requires t c =
 pub finish_border-finish_place-requires : goal.finish_border-finish_place-requires
 finish_border-finish_place-requires t c =
     let next = ap draft_views c.in-Some.ensures.steps.0 in
-    let light : weight (pairs_at (draft_view c.in-Some.place)) ≤ weight (walk (draft_views c.args.border.places.items)) = place_weight _ _ (draft_views c.args.border.places.items) (draft_view c.in-Some.place) _ c.loop-place.invariant next in
-    (omega (arith, light, c.decreases), place_lawful _ _ (draft_views c.args.border.places.items) (draft_view c.in-Some.place) _ c.loop-place.invariant next c.requires.lawful)
+    let light : weight (pairs_at (draft_view c.in-Some.place)) ≤ weight (walk (draft_views c.args.border.places.items)) = place_weight _ _ (draft_views c.args.border.places.items) (draft_view c.in-Some.place) _ c.loop-place.invariant.same next in
+    (omega (arith, light, c.decreases), place_lawful _ _ (draft_views c.args.border.places.items) (draft_view c.in-Some.place) _ c.loop-place.invariant.same next c.requires.lawful)
 
 all_done : (views_so left_views all : List PlaceView) (left : List DraftPlace) → views_so ++ draft_views left ≡ all → left ≡ [] → views_so ≡ all
 all_done views_so left_views all left e f = sym (append-nil views_so) ∙ ap (λ (z : List DraftPlace). views_so ++ draft_views z) (sym f) ∙ e
@@ -27,12 +27,12 @@ all_done views_so left_views all left e f = sym (append-nil views_so) ∙ ap (λ
 pub finish_border-invariant_of-result : goal.finish_border-invariant_of-result
 finish_border-invariant_of-result t c =
     let none : into_iter_items c.loop-place.place-iterator ≡ [] = nil_from_length (into_iter_items c.loop-place.place-iterator) (omega (arith, c.in-None.ensures.steps.0)) in
-    border_done _ (draft_views c.args.border.places.items) (all_done _ [] _ _ c.loop-place.invariant none) c.requires.some c.requires.lawful
+    border_done _ (draft_views c.args.border.places.items) (all_done _ [] _ _ c.loop-place.invariant.same none) c.requires.some c.requires.lawful c.loop-place.invariant.below
 
 pub finish_border-returns-clause-lawful : goal.finish_border-returns-clause-lawful
 finish_border-returns-clause-lawful t c =
     let none : into_iter_items c.loop-place.place-iterator ≡ [] = nil_from_length (into_iter_items c.loop-place.place-iterator) (omega (arith, c.in-None.ensures.steps.0)) in
-    border_done _ (draft_views c.args.border.places.items) (all_done _ [] _ _ c.loop-place.invariant none) c.requires.some c.requires.lawful
+    border_done _ (draft_views c.args.border.places.items) (all_done _ [] _ _ c.loop-place.invariant.same none) c.requires.some c.requires.lawful c.loop-place.invariant.below
 
 pub finish_place-finish-requires : goal.finish_place-finish-requires
 finish_place-finish-requires t c =
