@@ -1,5 +1,5 @@
 -- What a whole tree is.
-use Rattle.std.specs.Prelude.{List, [], Option, Some, None, ⊤}
+use Rattle.std.specs.Prelude.{◌≡◌, ℕ, ◌-◌, ◌^◌, min, length, List, [], Option, Some, None, ⊤}
 use Rattle.mt_tree.specs.Layer.{PlaceView, walk}
 use Rattle.mt_words.specs.Walks.{Pair}
 use Rattle.mt_tree.specs.Nodes.{NodeView, places, IsNode}
@@ -22,3 +22,7 @@ IsTree (Some n) = IsNode n
 abbrev pub tree_borders : Option NodeView → List (List PlaceView)
 tree_borders None = []
 tree_borders (Some n) = n.tree.borders
+
+-- how many pairs a walk has, or the greatest number that a machine word of 128 bits holds
+abbrev pub IsCount : List Pair → ℕ → Type 0
+IsCount w count = count ≡ min (length w) (2 ^ 128 - 1)

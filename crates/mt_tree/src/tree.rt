@@ -5,7 +5,7 @@ ghost use Rattle.mt_words.specs.Limits.{widest};
 ghost use Rattle.mt_words.specs.Walks.{KeysRise};
 ghost use Rattle.mt_words.specs.Words.{IsKey};
 ghost use Rattle.mt_tree.specs.Borders.{AreBorders, layer_walk};
-ghost use Rattle.mt_tree.specs.Trees.{tree_walk, tree_borders, IsTree};
+ghost use Rattle.mt_tree.specs.Trees.{tree_walk, tree_borders, IsTree, IsCount};
 ghost use Rattle.mt_tree.specs.Range.{hits};
 ghost use Rattle.mt_tree.specs.Layers.{CountsLayers, IsLayers};
 
@@ -26,6 +26,8 @@ use std::mem;
 #[derive(Drop)]
 pub struct Draft {
     layer: Layer,
+    /// How many pairs there are.
+    count: u128,
 }
 
 impl Model for Draft {
@@ -38,7 +40,9 @@ impl Model for Draft {
 
     ghost view = { λ d. d.layer };
 
-    ghost invariant = { λ d. AreBorders d.layer × FitsAfter 0 (layer_walk d.layer) };
+    ghost use Rattle.mt_tree.specs.Trees.{IsCount};
+
+    ghost invariant = { λ d. AreBorders d.layer × FitsAfter 0 (layer_walk d.layer) × IsCount (layer_walk d.layer) d.count };
 }
 
 /// A layered tree: nodes with what they hold.
@@ -68,7 +72,15 @@ impl Draft {
     {
         Draft {
             layer: Layer::new(alloc),
+            count: 0,
         }
+    }
+
+    /// How many pairs there are, which stops at the greatest number.
+    pub fn len(&self) -> u128
+        ensures { IsCount (layer_walk self.now) result }
+    {
+        self.count
     }
 
     /// Adds a pair whose key is above all keys of the draft. Where memory was refused the draft is empty.
@@ -80,8 +92,10 @@ impl Draft {
         ensures refused { OnErr result (self.new ≡ []) }
     {
         let alloc = self.layer.allocator();
-        let layer = mem::replace(&mut self.layer, Layer::new(alloc));
-        self.layer = Layer::push(alloc, layer, key, columns)?;
+        let Draft { layer, count } = mem::replace(self, Draft::new(alloc));
+        let layer = Layer::push(alloc, layer, key, columns)?;
+        let count = count.saturating_add(1);
+        *self = Draft { layer, count };
         Ok(())
     }
 
@@ -105,8 +119,9 @@ impl Draft {
         ensures lawful { IfOk result AreBorders }
     {
         let alloc = left.layer.allocator();
+        let count = left.count.saturating_add(right.count);
         let layer = Layer::join(alloc, left.layer, right.layer)?;
-        Ok(Draft { layer })
+        Ok(Draft { layer, count })
     }
 
     /// The tree of a draft.
