@@ -1,12 +1,12 @@
 -- How many updates there are: of the records of logs, and by where their timestamps lie.
-use Rattle.std.proofs.Common.{◌≡◌, ℕ, suc, ◌+◌, ◌-◌, ◌≤◌, Bool, true, false, List, [], ◌∷◌, length, Option, Some, None, refl, ap, arith}
+use Rattle.std.proofs.Common.{◌≡◌, ◌∙◌, inl, inr, zero, sym, subst, Contains, ◌++◌, ℕ, suc, ◌+◌, ◌-◌, ◌≤◌, Bool, true, false, List, [], ◌∷◌, length, Option, Some, None, refl, ap, arith}
 use Rattle.std.specs.Prelude.{cond, nat_lt, nat_le, filter}
 use Rattle.std.proofs.lemmas.Bool.Decides.{nat_tests}
 use Rattle.std.proofs.lemmas.List.{length-append}
-use Rattle.std.proofs.lemmas.List.Elements.{filter-append}
+use Rattle.std.proofs.lemmas.List.Elements.{filter-append, Contains-append_cases, Contains-append_left, Contains-append_right}
 use Rattle.mt_words.specs.declared.update.Update.{Update}
 use Rattle.mt_words.specs.Updates.{updates_from}
-use Rattle.mt_words.specs.Walks.{Pair}
+use Rattle.mt_words.specs.Walks.{Pair, KeysRise}
 use Rattle.mt_record.specs.Kept.{is_mark}
 use Rattle.mt_record.specs.Logs.{LogReading}
 use Rattle.mt_record.proofs.RecordLemmas.{marks_and_updates}
@@ -17,6 +17,13 @@ use Rattle.mt_replay.specs.Survivors.{all_updates, in_window, is_within}
 use Rattle.mt_recover.specs.declared.report.Report.{Report}
 use Rattle.mt_recover.specs.Recovery.{Facts, records_of}
 use Rattle.mt_recover.specs.Report.{all_records, updates_in, is_early, is_late, IsFoundIn, IsReportOf}
+use Rattle.mt_recover.specs.Start.{MayEnd, ended}
+use Rattle.mt_tree.specs.Layers.{CountsLayers}
+use Rattle.mt_replay.specs.Walk.{IsWalk}
+use Rattle.mt_replay.proofs.StepLemmas.{key_of_pair, below_itself}
+use Rattle.mt_replay.proofs.Members.{of_each}
+use Rattle.mt_words.proofs.Elements.{no_element, head_in, tail_in, head_or_tail}
+use Rattle.mt_words.specs.Words.{IsBelow}
 use Rattle.mt_recover.specs.Survivors.{begin_of, survivors, entry_updates}
 
 -- ---- the records of logs
@@ -96,28 +103,16 @@ adds_up facts report found =
 
 -- ---- what recovery reports
 
--- what `ended` makes of a report
-abbrev pub ended : Report → ℕ → ℕ → Report
-ended report survivors keys = record report {
-  survivors = survivors;
-  late = report.records - report.marks - report.early - (survivors - report.entries);
-  keys = keys;
-}
-
--- what it asks
-abbrev pub MayEnd : Report → ℕ → Type 0
-MayEnd report survivors =
-    (report.marks ≤ report.records) × (report.entries ≤ survivors) × (report.early + (survivors - report.entries) ≤ report.records - report.marks)
-
 pub may_end : {logs parts : List (List ℕ)} (facts : Facts logs parts) (report : Report) → IsFoundIn facts report → MayEnd report (length (survivors_in facts))
 may_end facts report found =
     let adds = adds_up facts report found in
-    (adds.marks, adds.entries, omega (arith, adds.marks, adds.entries, adds.all))
+    record { marks = adds.marks; entries = adds.entries; updates = omega (arith, adds.marks, adds.entries, adds.all) }
 
 -- its report is that of the facts
-pub ended_is : {logs parts : List (List ℕ)} (facts : Facts logs parts) (pairs : List Pair) (report : Report) (survivors keys : ℕ)
-    → IsFoundIn facts report → survivors ≡ length (survivors_in facts) → keys ≡ length pairs → IsReportOf facts pairs (ended report survivors keys)
-ended_is facts pairs report survivors keys found same many =
+pub ended_is : {logs parts : List (List ℕ)} (facts : Facts logs parts) (pairs : List Pair) (report : Report) (survivors keys layers : ℕ)
+    → IsFoundIn facts report → survivors ≡ length (survivors_in facts) → keys ≡ length pairs → CountsLayers pairs layers
+    → IsReportOf facts pairs (record (ended report survivors keys) { layers = layers })
+ended_is facts pairs report survivors keys layers found same many counts =
     let adds = adds_up facts report found in
     record {
       found = record {
@@ -136,4 +131,34 @@ ended_is facts pairs report survivors keys found same many =
       survivors = same;
       late = omega (arith, same, adds.marks, adds.entries, adds.all);
       keys = many;
+      layers = counts;
     }
+
+-- ---- the keys of a walk
+
+-- an element, and those on both sides of it
+around : {X : Type 0} (xs : List X) (x : X) → Contains xs x → (front : List X) × (back : List X) × (xs ≡ front ++ x ∷ back)
+around [] x at = absurd (no_element x at)
+around (y ∷ ys) x (zero, lt, e) = ([], ys, ap (λ z. z ∷ ys) e)
+around (y ∷ ys) x (suc i, lt, e) = let rest = around ys x (i, omega (arith, lt), e) in (y ∷ rest.0, rest.1, ap (λ zs. y ∷ zs) rest.2)
+
+-- rising keys of updates are no more than the updates
+keys_few : (pairs : List Pair) (updates : List Update) → KeysRise pairs → ((p : Pair) → Contains pairs p → (u : Update) × Contains updates u × (u.key ≡ p.0))
+    → length pairs ≤ length updates
+keys_few [] updates rise has = omega arith
+keys_few (p ∷ ps) updates rise has =
+    let own = has p (head_in p ps) in
+    let split = around updates own.0 own.1 in
+    let others : (q : Pair) → Contains ps q → (u : Update) × Contains (split.0 ++ split.1) u × (u.key ≡ q.0) = λ q at.
+    let other = has q (tail_in p ps q at) in
+    (other.0, elim (Contains-append_cases split.0 (own.0 ∷ split.1) other.0 (subst (λ us. Contains us other.0) split.2 other.1)) as (λ _. Contains (split.0 ++ split.1) other.0) [
+      | inl front ↦ Contains-append_left split.0 split.1 other.0 front
+      | inr rest ↦ Contains-append_right split.0 split.1 other.0 (elim (head_or_tail own.0 other.0 split.1 rest) as (λ _. Contains split.1 other.0) [
+          | inl e ↦ absurd (below_itself p.0 (subst (IsBelow p.0) (sym other.2 ∙ sym (ap (λ (u : Update). u.key) e) ∙ own.2) (of_each (λ (o : Pair). IsBelow p.0 o.0) ps q rise.0 at)))
+          | inr behind ↦ behind
+        ])
+    ], other.2) in
+    omega (arith, keys_few ps (split.0 ++ split.1) rise.1 others, ap length split.2, length-append split.0 (own.0 ∷ split.1), length-append split.0 split.1)
+
+pub walk_few : (updates : List Update) (pairs : List Pair) → IsWalk updates pairs → length pairs ≤ length updates
+walk_few updates pairs walk = keys_few pairs updates walk.map.0 (λ p at. key_of_pair updates pairs p walk at)

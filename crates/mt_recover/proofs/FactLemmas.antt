@@ -32,7 +32,10 @@ use Rattle.mt_replay.specs.Runs.{together}
 use Rattle.mt_replay.proofs.StepLemmas.{same_column}
 use Rattle.mt_recover.proofs.SurvivorLemmas.{survivors_apart}
 use Rattle.mt_recover.proofs.ReportLemmas.{same_updates}
-use Rattle.mt_recover.proofs.CountLemmas.{survivors_in, ended, MayEnd, may_end, ended_is}
+use Rattle.mt_recover.specs.Start.{MayEnd, ended, IsFinishOf}
+use Rattle.mt_recover.specs.Report.{Outcome}
+use Rattle.mt_tree.specs.Trees.{IsCount}
+use Rattle.mt_recover.proofs.CountLemmas.{survivors_in, may_end, ended_is, walk_few}
 
 -- ---- gaps
 
@@ -200,30 +203,30 @@ walk_of updates moved pairs same apart walk =
     }
 
 -- the walk of what survives is the store, and the report is that of what was found
-recovered_of : (logs parts : List (List ℕ)) (scans : List LogScan) (start : Start) (moved : List Update) (pairs : List Pair) (keys : ℕ) → IsStartOf logs parts scans start
-    → IsPermutation (surviving_from start scans) moved → (AreApart moved → IsWalk moved pairs) → keys ≡ length pairs
-    → IsRecoveredOf logs parts (record { store = pairs; report = ended start.report (length moved) keys })
-recovered_of logs parts scans start moved pairs keys is same walk many =
+recovered_of : (logs parts : List (List ℕ)) (scans : List LogScan) (start : Start) (moved : List Update) (pairs : List Pair) (keys : ℕ) (outcome : Outcome) → IsStartOf logs parts scans start
+    → IsPermutation (surviving_from start scans) moved → (AreApart moved → IsWalk moved pairs) → length moved < 2 ^ 128 → IsCount pairs keys
+    → IsFinishOf pairs (ended start.report (length moved) keys) outcome → IsRecoveredOf logs parts outcome
+recovered_of logs parts scans start moved pairs keys outcome is same walk fits count finish =
     let facts = is.facts in
-    record {
-      store = record {
-        facts = facts;
-        no_gap = is.no_gap;
-        walk = walk_of (survivors_in facts) moved pairs (subst (λ (us : List Update). IsPermutation us moved) (same_survivors logs parts scans start is) same)
-            (survivors_apart facts.known facts.cutoff facts.chosen (records_of facts.readings) facts.is_chosen) walk;
-      };
-      report = ended_is facts pairs start.report (length moved) keys is.found (same_count logs parts scans start moved is same) many;
-    }
+    let many = same_count logs parts scans start moved is same in
+    let walk : IsWalk (survivors_in facts) pairs = walk_of (survivors_in facts) moved pairs (subst (λ (us : List Update). IsPermutation us moved) (same_survivors logs parts scans start is) same)
+            (survivors_apart facts.known facts.cutoff facts.chosen (records_of facts.readings) facts.is_chosen) walk in
+    let keys_are : keys ≡ length pairs = omega (arith, count, fits, many, walk_few (survivors_in facts) pairs walk) in
+    subst (IsRecoveredOf logs parts) (sym finish.is) (record {
+      store = record { facts = facts; no_gap = is.no_gap; walk = walk };
+      report = ended_is facts pairs start.report (length moved) keys outcome.report.layers is.found many keys_are finish.layers;
+    })
 
 -- the same, where scans and cells were lent on the way
-pub recovered_from : (logs parts : List (List ℕ)) (scans lent : List LogScan) (start : Start) (lists shown counted : List (List Update)) (pairs : List Pair) (keys : ℕ) → lent ≡ scans → shown ≡ lists
+pub recovered_from : (logs parts : List (List ℕ)) (scans lent : List LogScan) (start : Start) (lists shown counted : List (List Update)) (pairs : List Pair) (keys : ℕ) (outcome : Outcome) → lent ≡ scans → shown ≡ lists
     → counted ≡ lists → IsStartOf logs parts lent start → IsPermutation (surviving_from start scans) (together lists)
-    → (AreApart (together shown) → IsWalk (together shown) pairs) → keys ≡ length pairs
-    → IsRecoveredOf logs parts (record { store = pairs; report = ended start.report (length (together counted)) keys })
-recovered_from logs parts scans lent start lists shown counted pairs keys same are too is moved walk many =
-    subst (λ (x : List (List Update)). IsRecoveredOf logs parts (record { store = pairs; report = ended start.report (length (together x)) keys })) (sym too)
-    (recovered_of logs parts scans start (together lists) pairs keys (subst (λ (x : List LogScan). IsStartOf logs parts x start) same is) moved
-    (subst (λ (x : List (List Update)). AreApart (together x) → IsWalk (together x) pairs) are walk) many)
+    → (AreApart (together shown) → IsWalk (together shown) pairs) → length (together counted) < 2 ^ 128 → IsCount pairs keys
+    → IsFinishOf pairs (ended start.report (length (together counted)) keys) outcome → IsRecoveredOf logs parts outcome
+recovered_from logs parts scans lent start lists shown counted pairs keys outcome same are too is moved walk fits count finish =
+    recovered_of logs parts scans start (together lists) pairs keys outcome (subst (λ (x : List LogScan). IsStartOf logs parts x start) same is) moved
+    (subst (λ (x : List (List Update)). AreApart (together x) → IsWalk (together x) pairs) are walk)
+    (subst (λ (x : List (List Update)). length (together x) < 2 ^ 128) too fits) count
+    (subst (λ (x : List (List Update)). IsFinishOf pairs (ended start.report (length (together x)) keys) outcome) too finish)
 
 -- and what was found may be ended
 pub may_end_from : (logs parts : List (List ℕ)) (scans lent : List LogScan) (start : Start) (lists counted : List (List Update)) → lent ≡ scans → counted ≡ lists

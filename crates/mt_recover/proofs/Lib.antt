@@ -6,8 +6,6 @@ pub mod ReadingLemmas
 pub mod SourceLemmas
 pub mod CountLemmas
 pub mod FactLemmas
-pub mod FindLemmas
-pub mod RangeLemmas
 pub mod DumpLemmas
 pub mod OneVerdict
 pub mod OneReport

@@ -13,6 +13,8 @@ use Rattle.mt_scan.specs.Choice.{Checkpoint, AreSkipped, AreNameless}
 use Rattle.mt_recover.specs.Recovery.{records_of}
 use Rattle.mt_recover.specs.Report.{all_records, updates_in, is_early, is_late, Outcome, IsRecoveredOf, SaysTheSame}
 use Rattle.mt_recover.specs.Survivors.{begin_of, entry_updates, survivors}
+use Rattle.mt_tree.specs.Layers.{CountsLayers}
+use Rattle.mt_tree.proofs.Uniques.{one_count}
 use Rattle.mt_recover.proofs.OneVerdict.{same_facts, one_store}
 use Rattle.mt_recover.proofs.OneWalk.{Rises, same_lists}
 use Rattle.mt_recover.proofs.CountLemmas.{adds_up}
@@ -62,6 +64,7 @@ one_report logs parts outcome other is too =
     let late = is.report.late ∙ (λ i. length (filter (is_late (same.1 i)) (updates_in (same.0 i)))) ∙ sym too.report.late in
     let store = one_store logs parts outcome.store other.store is.store too.store in
     let keys = is.report.keys ∙ ap length store ∙ sym too.report.keys in
+    let layers = one_count outcome.store outcome.report.layers other.report.layers is.report.layers (subst (λ (w : List Pair). CountsLayers w other.report.layers) (sym store) too.report.layers) in
     record {
       skipped = one_skipped is.store.facts.known too.store.facts.known outcome.report.skipped.items other.report.skipped.items same.2 a.skipped b.skipped;
       nameless = one_nameless is.store.facts.known too.store.facts.known outcome.report.nameless.items other.report.nameless.items same.2 a.nameless b.nameless;
@@ -80,6 +83,7 @@ one_report logs parts outcome other is too =
         early = early i;
         late = late i;
         keys = keys i;
+        layers = layers i;
       };
     }
 

@@ -7,7 +7,11 @@ use Rattle.std.proofs.lemmas.Option.{get_or_from_slice_get}
 use Rattle.std.proofs.lemmas.Slice.Zip.{AllZip-long}
 use Rattle.mt_words.specs.declared.fault.Memory.{Memory}
 use Rattle.mt_words.specs.declared.update.Update.{Update}
-use Rattle.mt_words.specs.Walks.{Pair}
+use Rattle.std.specs.List.{AllByRecursion}
+use Rattle.mt_words.specs.Walks.{Pair, KeysRise}
+use Rattle.mt_words.specs.Words.{IsBelow}
+use Rattle.mt_tree.specs.Layer.{AllKeysBelow}
+use Rattle.mt_tree.proofs.Joins.{all_back}
 use Rattle.mt_replay.specs.Walk.{IsWalk}
 use Rattle.mt_replay.specs.Pieces.{IsPiece}
 use Rattle.mt_recover.proofs.SharingLemmas.{zip_at}
@@ -25,13 +29,13 @@ uncut_piece updates cuts pairs none is = only_piece updates pairs (subst (λ (ks
 -- ---- all pieces
 
 -- what the answers say, where all pieces are done
-done_zip : (Q : ℕ → List Pair → Type 0) (post : ℕ → ℕ → Result (Vec Pair Global) Memory → Type 0) (workers : ℕ) (numbers : List ℕ) (done : List (Vec Pair Global))
-    → ((worker number : ℕ) (answer : Result (Vec Pair Global) Memory) → post worker number answer → IfOk answer (λ pairs. Q number pairs.items))
-    → AllZip (λ number answer. (worker : ℕ) × (worker < workers) × post worker number answer) numbers (map Ok done) → AllZip Q numbers (map (λ piece. piece.items) done)
-done_zip Q post workers [] [] says zip = tt
-done_zip Q post workers [] (v ∷ vs) says zip = absurd zip
-done_zip Q post workers (n ∷ ns) [] says zip = absurd zip
-done_zip Q post workers (n ∷ ns) (v ∷ vs) says zip = (says zip.0.0 n (Ok v) zip.0.2, done_zip Q post workers ns vs says zip.1)
+done_zip : {X : Type 0} (of : X → List Pair) (Q : ℕ → List Pair → Type 0) (post : ℕ → ℕ → Result X Memory → Type 0) (workers : ℕ) (numbers : List ℕ) (done : List X)
+    → ((worker number : ℕ) (answer : Result X Memory) → post worker number answer → IfOk answer (λ x. Q number (of x)))
+    → AllZip (λ number answer. (worker : ℕ) × (worker < workers) × post worker number answer) numbers (map Ok done) → AllZip Q numbers (map of done)
+done_zip of Q post workers [] [] says zip = tt
+done_zip of Q post workers [] (v ∷ vs) says zip = absurd zip
+done_zip of Q post workers (n ∷ ns) [] says zip = absurd zip
+done_zip of Q post workers (n ∷ ns) (v ∷ vs) says zip = (says zip.0.0 n (Ok v) zip.0.2, done_zip of Q post workers ns vs says zip.1)
 
 each_piece : (Q : ℕ → List Pair → Type 0) (numbers : List ℕ) (pieces : List (List Pair)) → AllZip Q numbers pieces → ((i : ℕ) → i < length numbers → slice_get numbers i ≡ Some i)
     → (i : ℕ) (d : List Pair) → i < length pieces → Q i (slice_index_or pieces i d)
@@ -40,12 +44,19 @@ each_piece Q numbers pieces zip each i d within =
     subst (Q i) (sym (get_or_from_slice_get pieces i at.0 d at.1)) at.2
 
 -- the piece of each number is as its worker answered
-pub done_pieces : (Q : ℕ → List Pair → Type 0) (post : ℕ → ℕ → Result (Vec Pair Global) Memory → Type 0) (workers count : ℕ) (numbers : List ℕ) (answers : List (Result (Vec Pair Global) Memory)) (done : List (Vec Pair Global))
+pub done_pieces : {X : Type 0} (of : X → List Pair) (Q : ℕ → List Pair → Type 0) (post : ℕ → ℕ → Result X Memory → Type 0) (workers count : ℕ) (numbers : List ℕ) (answers : List (Result X Memory)) (done : List X)
     → length numbers ≡ count → ((i : ℕ) → i < count → slice_get numbers i ≡ Some i) → AllZip (λ number answer. (worker : ℕ) × (worker < workers) × post worker number answer) numbers answers → answers ≡ map Ok done
-    → ((worker number : ℕ) (answer : Result (Vec Pair Global) Memory) → post worker number answer → IfOk answer (λ pairs. Q number pairs.items))
-    → (length (map (λ (piece : Vec Pair Global). piece.items) done) ≡ count) × ((i : ℕ) (d : List Pair) → i < length (map (λ (piece : Vec Pair Global). piece.items) done) → Q i (slice_index_or (map (λ (piece : Vec Pair Global). piece.items) done) i d))
-done_pieces Q post workers count numbers answers done long each zip are says =
-    let R : ℕ → Result (Vec Pair Global) Memory → Type 0 = λ number answer. (worker : ℕ) × (worker < workers) × post worker number answer in
-    let pieces : List (List Pair) = map (λ (piece : Vec Pair Global). piece.items) done in
-    let zipped : AllZip Q numbers pieces = done_zip Q post workers numbers done says (subst (AllZip R numbers) are zip) in
+    → ((worker number : ℕ) (answer : Result X Memory) → post worker number answer → IfOk answer (λ x. Q number (of x)))
+    → (length (map of done) ≡ count) × ((i : ℕ) (d : List Pair) → i < length (map of done) → Q i (slice_index_or (map of done) i d))
+done_pieces {X} of Q post workers count numbers answers done long each zip are says =
+    let R : ℕ → Result X Memory → Type 0 = λ number answer. (worker : ℕ) × (worker < workers) × post worker number answer in
+    let pieces : List (List Pair) = map of done in
+    let zipped : AllZip Q numbers pieces = done_zip of Q post workers numbers done says (subst (AllZip R numbers) are zip) in
     (omega (arith, long, AllZip-long Q numbers pieces zipped), each_piece Q numbers pieces zipped (λ i lt. each i (omega (arith, lt, long))))
+
+-- ---- drafts in order
+
+-- keys that rise through both lists are below each other
+pub front_below : (v w : List Pair) → KeysRise (v ++ w) → AllKeysBelow v w
+front_below [] w rise = tt
+front_below (p ∷ v) w rise = (all_back (λ (q : Pair). IsBelow p.0 q.0) v w rise.0, front_below v w rise.1)

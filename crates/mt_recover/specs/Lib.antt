@@ -8,3 +8,4 @@ pub mod Start
 pub mod Inputs
 pub mod Sharing
 pub mod ScanJobs
+pub mod DumpLaws

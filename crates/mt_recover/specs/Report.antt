@@ -9,6 +9,7 @@ use Rattle.mt_record.specs.Kept.{is_mark}
 use Rattle.mt_record.specs.Logs.{LogReading}
 use Rattle.mt_scan.specs.Choice.{AreSkipped, AreNameless}
 use Rattle.mt_replay.specs.Survivors.{log_updates}
+use Rattle.mt_tree.specs.Layers.{CountsLayers}
 use Rattle.mt_recover.specs.declared.report.Report.{Report}
 use Rattle.mt_recover.specs.Recovery.{Facts, IsStoreOf, records_of}
 use Rattle.mt_recover.specs.Survivors.{begin_of, survivors, entry_updates}
@@ -49,6 +50,7 @@ pub record IsReportOf {logs parts : List (List ℕ)} (facts : Facts logs parts) 
   pub survivors : report.survivors ≡ length (survivors facts.cutoff facts.chosen (records_of facts.readings))
   pub late : report.late ≡ length (filter (is_late facts.cutoff) (updates_in facts.readings))
   pub keys : report.keys ≡ length pairs
+  pub layers : CountsLayers pairs report.layers
 
 -- what recovery answers where it names no fault
 pub record Outcome : Type 0 where

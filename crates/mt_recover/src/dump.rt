@@ -3,10 +3,12 @@ ghost use Rattle.std.specs.Prelude.{◌≤◌, length, OnOk};
 ghost use Rattle.std.specs.Io.KnownBytes.{Appends};
 ghost use Rattle.hex.specs.Hex.{encode_lower};
 ghost use Rattle.mt_recover.specs.Dump.{dump_text, pair_text, column_text};
+ghost use Rattle.mt_recover.specs.DumpLaws.{nothing, lines_then};
 
 use crate::store::Store;
 use itoa::Buffer;
-use mt_words::{Column, Columns, Kept, Key};
+use mt_tree::Visitor;
+use mt_words::{Column, Columns, Kept};
 use std::io::{self, Write};
 
 /// Prints all pairs in order, a line each: the key in lower hexadecimal, a colon, and for each column a space, its
@@ -15,22 +17,37 @@ pub fn write_dump<W: Write>(store: &Store, out: &mut W) -> Result<(), io::Error>
     ensures { OnOk result
         (Appends (W.contents out.old) (W.contents out.new) (dump_text store.now)) }
 {
-    for pair in store.pairs() {
-        write_pair(&pair.0, &pair.1, out)?;
+    store.visit(&Lines, out)
+}
+
+/// Prints the line of each pair.
+#[derive(Clone, Copy)]
+struct Lines;
+
+impl<W: Write> Visitor<W> for Lines {
+    type Error = io::Error;
+
+    ghost shown = { λ old new pairs. Appends (W.contents old) (W.contents new) (dump_text pairs) };
+
+    fn visit(&self, out: &mut W, key: &[u8], columns: &Columns<Kept>) -> Result<(), io::Error> {
+        write_pair(key, columns, out)
     }
-    Ok(())
+
+    ghost none = { λ out. nothing (W.contents out) };
+
+    ghost more = { λ a b c v w. lines_then (W.contents a) (W.contents b) (W.contents c) v w };
 }
 
 /// Prints the line of a pair as `write_dump` does.
 pub fn write_pair<W: Write>(
-    key: &Key,
+    key: &[u8],
     columns: &Columns<Kept>,
     out: &mut W,
 ) -> Result<(), io::Error>
     ensures { OnOk result
         (Appends (W.contents out.old) (W.contents out.new) (pair_text (key.now, columns.now))) }
 {
-    write_hex(key.as_bytes(), out)?;
+    write_hex(key, out)?;
     out.write_all(b":")?;
     for column in columns.as_slice() {
         write_column(column, out)?;

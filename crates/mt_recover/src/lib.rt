@@ -22,7 +22,7 @@ mod workers;
 pub use dump::{write_dump, write_pair};
 pub use laws::{one_report, one_verdict, one_walk};
 pub use mt_replay::{Cuts, Pieces};
-pub use mt_tree::{Hit, Wanted};
+pub use mt_tree::{Hit, Visitor, Wanted};
 pub use parallel::recover;
 pub use program::dump_files;
 pub use recovery::{Inputs, Recovered, recover_logs, recover_one};

@@ -1,9 +1,6 @@
 //! Recovery by any number of workers.
 ghost use Rattle.std.specs.Prelude.{List, ℕ, map, IfOk, IfErr};
-ghost use Rattle.mt_words.specs.Walks.{IsMap};
 ghost use Rattle.mt_scan.specs.PartScans.{known_by};
-ghost use Rattle.mt_replay.specs.Runs.{together};
-ghost use Rattle.mt_replay.specs.Walk.{AreApart, IsWalk};
 ghost use Rattle.mt_recover.specs.LogScans.{AreScansOf};
 ghost use Rattle.mt_recover.specs.Recovery.{AreKnown};
 ghost use Rattle.mt_recover.specs.Report.{IsRecoveredOf};
@@ -15,11 +12,10 @@ use crate::pieces::replay_pieces;
 use crate::recovery::{Inputs, Recovered};
 use crate::scan_all::scan_all;
 use crate::start::Start;
-use crate::store::Store;
 use crate::workers::{Cutting, Gate, Workers};
 use mt_replay::{Cuts, LogCells};
 use mt_scan::{LogScan, PartScan, Source};
-use mt_words::{Columns, Fault, Kept, Key, Memory};
+use mt_words::{Fault, Memory};
 use std::alloc::Global;
 use std::thread::Threads;
 
@@ -72,26 +68,22 @@ fn recover_scans_by<R: Threads + Sync, G: Gate>(
         report,
     } = Start::of(alloc, &scans, parts)?;
     let lists = cells_by(rt, alloc, scans, window, chosen, workers)?;
-    let pairs = replay_cut(rt, alloc, &lists, cutting, workers, gate)?;
-    let report = report.ended(&lists, pairs.len());
-    Ok(Recovered::of(Store::of(pairs), report))
+    let cuts = cuts_of(rt, alloc, &lists, cutting)?;
+    let draft = replay_pieces(rt, alloc, &lists, &cuts, workers, gate)?;
+    let report = report.ended(&lists, draft.len());
+    drop(lists);
+    Ok(Recovered::finish(draft, report)?)
 }
 
-/// The walk of all updates of these cells, with the keys cut so.
-fn replay_cut<R: Threads + Sync, G: Gate>(
+/// Where the keys of these cells are cut.
+fn cuts_of<R: Threads + Sync>(
     rt: &R,
     alloc: Global,
     lists: &[LogCells],
     cutting: Cutting,
-    workers: Workers,
-    gate: &G,
-) -> Result<Vec<(Key, Columns<Kept>)>, Memory>
-    ensures map { IfOk result (λ pairs. IsMap pairs.items) }
-    ensures walk { IfOk result (λ pairs. AreApart (together lists.now) → IsWalk (together lists.now) pairs.items) }
-{
-    let cuts = match cutting {
-        Cutting::Even(pieces) => Cuts::even(rt, alloc, lists, pieces)?,
-        Cutting::At(cuts) => cuts,
-    };
-    replay_pieces(rt, alloc, lists, &cuts, workers, gate)
+) -> Result<Cuts, Memory> {
+    match cutting {
+        Cutting::Even(pieces) => Cuts::even(rt, alloc, lists, pieces),
+        Cutting::At(cuts) => Ok(cuts),
+    }
 }

@@ -1,30 +1,29 @@
-//! The walk of the updates of cells, piece by piece.
+//! The draft of the walk of the updates of cells, piece by piece.
 ghost use Rattle.std.specs.Prelude.{◌≡◌, ◌<◌, ◌+◌, Some, ℕ, slice_get, map, length, IfOk};
-ghost use Rattle.mt_words.specs.Walks.{IsMap};
+ghost use Rattle.mt_words.specs.Walks.{IsMap, KeysRise};
 ghost use Rattle.mt_replay.specs.Walk.{IsWalk, AreApart};
 ghost use Rattle.mt_replay.specs.Pieces.{IsPiece, IsMapIn, joined};
 ghost use Rattle.mt_replay.specs.Runs.{together};
+ghost use Rattle.mt_tree.specs.Borders.{layer_walk};
 
 use crate::by_workers::{all_done, by_workers};
 use crate::{Gate, Workers};
-use mt_replay::{Cuts, LogCells, pieces_make_the_walk, replay_piece};
-use mt_words::{Columns, Kept, Key, Memory};
+use mt_replay::{Cuts, LogCells, pieces_make_the_walk, replay_into};
+use mt_tree::Draft;
+use mt_words::Memory;
 use std::alloc::Global;
 use std::thread::Threads;
 
-/// The walk of all updates, on one thread.
-pub(crate) fn replay_all(
-    alloc: Global,
-    lists: &[LogCells],
-) -> Result<Vec<(Key, Columns<Kept>)>, Memory>
-    ensures map { IfOk result (λ pairs. IsMap pairs.items) }
-    ensures walk { IfOk result (λ pairs. AreApart (together lists.now) → IsWalk (together lists.now) pairs.items) }
+/// The draft of the walk of all updates, on one thread.
+pub(crate) fn replay_all(alloc: Global, lists: &[LogCells]) -> Result<Draft, Memory>
+    ensures map { IfOk result (λ draft. IsMap (layer_walk draft)) }
+    ensures walk { IfOk result (λ draft. AreApart (together lists.now) → IsWalk (together lists.now) (layer_walk draft)) }
 {
-    replay_piece(alloc, lists, &Cuts::none(alloc), 0)
+    replay_into(alloc, lists, &Cuts::none(alloc), 0, Draft::new(alloc))
 }
 
-/// The walk of all updates, by so many threads. Each piece is replayed by one worker, which enters it at the gate
-/// before.
+/// The draft of the walk of all updates, by so many threads. Each piece is replayed by one worker into a draft of its
+/// own, and is entered at the gate before.
 pub(crate) fn replay_pieces<R: Threads + Sync, G: Gate>(
     rt: &R,
     alloc: Global,
@@ -32,28 +31,28 @@ pub(crate) fn replay_pieces<R: Threads + Sync, G: Gate>(
     cuts: &Cuts,
     workers: Workers,
     gate: &G,
-) -> Result<Vec<(Key, Columns<Kept>)>, Memory>
-    ensures map { IfOk result (λ pairs. IsMap pairs.items) }
-    ensures walk { IfOk result (λ pairs. AreApart (together lists.now) → IsWalk (together lists.now) pairs.items) }
+) -> Result<Draft, Memory>
+    ensures map { IfOk result (λ draft. IsMap (layer_walk draft)) }
+    ensures walk { IfOk result (λ draft. AreApart (together lists.now) → IsWalk (together lists.now) (layer_walk draft)) }
 {
     let numbers = numbers_below(alloc, cuts.pieces())?;
-    let pieces = by_workers(
+    let drafts = by_workers(
         rt,
         alloc,
         numbers,
         workers,
-        &|worker: u32, piece: u32| -> Result<Vec<(Key, Columns<Kept>)>, Memory>
+        &|worker: u32, piece: u32| -> Result<Draft, Memory>
             requires { piece < length cuts.now + 1 }
-            ensures map { IfOk result (λ pairs. IsMapIn cuts.entry.now piece pairs.items) }
-            ensures walk { IfOk result (λ pairs. AreApart (together lists.entry.now) →
-                IsPiece (together lists.entry.now) cuts.entry.now piece pairs.items) }
+            ensures map { IfOk result (λ draft. IsMapIn cuts.entry.now piece (layer_walk draft)) }
+            ensures walk { IfOk result (λ draft. AreApart (together lists.entry.now) →
+                IsPiece (together lists.entry.now) cuts.entry.now piece (layer_walk draft)) }
         {
             gate.enter(worker, piece);
-            replay_piece(alloc, lists, cuts, piece)
+            replay_into(alloc, lists, cuts, piece, Draft::new(alloc))
         },
     )?;
     pieces_make_the_walk();
-    join_pieces(alloc, all_done(alloc, pieces)?)
+    join_all(alloc, all_done(alloc, drafts)?)
 }
 
 /// The numbers from 0 on, so many.
@@ -68,21 +67,14 @@ fn numbers_below(alloc: Global, count: u32) -> Result<Vec<u32>, Memory>
     Ok(numbers)
 }
 
-/// The pairs of all pieces.
-fn join_pieces(
-    alloc: Global,
-    pieces: Vec<Vec<(Key, Columns<Kept>)>>,
-) -> Result<Vec<(Key, Columns<Kept>)>, Memory>
-    ensures { IfOk result (λ pairs. pairs.items ≡ joined (map (λ piece. piece.items) pieces.items)) }
+/// One draft of all, in their order.
+fn join_all(alloc: Global, drafts: Vec<Draft>) -> Result<Draft, Memory>
+    requires { KeysRise (joined (map layer_walk drafts.items)) }
+    ensures { IfOk result (λ whole. layer_walk whole ≡ joined (map layer_walk drafts.items)) }
 {
-    let count = pieces
-        .iter()
-        .map(|piece| piece.len())
-        .fold(0, usize::saturating_add);
-    let mut pairs = Vec::with_capacity(alloc, count)?;
-    for piece in pieces {
-        let mut piece = piece;
-        pairs.append(&mut piece)?;
+    let mut whole = Draft::new(alloc);
+    for draft in drafts {
+        whole = Draft::join(whole, draft)?;
     }
-    Ok(pairs)
+    Ok(whole)
 }

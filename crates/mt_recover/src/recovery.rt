@@ -1,7 +1,10 @@
 //! Recovery from sources, and from logs in memory.
 ghost use Rattle.std.specs.Prelude.{◌≡◌, [], List, ℕ, map, IfOk, IfErr};
+ghost use Rattle.mt_words.specs.Walks.{IsMap};
 ghost use Rattle.mt_scan.specs.PartScans.{known_by};
+ghost use Rattle.mt_tree.specs.Borders.{layer_walk};
 ghost use Rattle.mt_recover.specs.LogScans.{AreScansOf};
+ghost use Rattle.mt_recover.specs.Start.{IsFinishOf};
 ghost use Rattle.mt_recover.specs.Recovery.{AreKnown};
 ghost use Rattle.mt_recover.specs.Report.{IsRecoveredOf};
 ghost use Rattle.mt_recover.specs.Verdict.{IsVerdictOrMemory};
@@ -16,7 +19,8 @@ use crate::scan_parts::scan_parts;
 use crate::start::Start;
 use crate::store::Store;
 use mt_scan::{LogScan, PartScan, Source};
-use mt_words::Fault;
+use mt_tree::Draft;
+use mt_words::{Fault, Memory};
 use std::alloc::Global;
 use std::marker::Model;
 
@@ -31,7 +35,7 @@ pub struct Inputs<S> {
 }
 
 /// What was recovered.
-#[derive(Debug, Drop)]
+#[derive(Drop)]
 pub struct Recovered {
     store: Store,
     report: Report,
@@ -46,11 +50,18 @@ impl Model for Recovered {
 }
 
 impl Recovered {
-    /// What was recovered, where this is the store and the report.
-    pub(crate) fn of(store: Store, report: Report) -> Recovered
-        ensures { result ≡ record { store = store; report = report } }
+    /// What was recovered, where this is the draft of the store, and the report but for its layers.
+    pub(crate) fn finish(draft: Draft, report: Report) -> Result<Recovered, Memory>
+        requires { IsMap (layer_walk draft) }
+        ensures { IfOk result (IsFinishOf (layer_walk draft) report) }
     {
-        Recovered { store, report }
+        let tree = draft.finish()?;
+        let report = Report {
+            layers: tree.layers(),
+            ..report
+        };
+        let store = Store::of(tree);
+        Ok(Recovered { store, report })
     }
 
     /// The store.
@@ -123,7 +134,8 @@ pub(crate) fn recover_scans(
         report,
     } = Start::of(alloc, &scans, parts)?;
     let lists = cells_of(alloc, scans, window, chosen)?;
-    let pairs = replay_all(alloc, &lists)?;
-    let report = report.ended(&lists, pairs.len());
-    Ok(Recovered::of(Store::of(pairs), report))
+    let draft = replay_all(alloc, &lists)?;
+    let report = report.ended(&lists, draft.len());
+    drop(lists);
+    Ok(Recovered::finish(draft, report)?)
 }

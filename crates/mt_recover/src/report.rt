@@ -1,5 +1,5 @@
 //! What recovery found in logs and parts, and what became of it.
-ghost use Rattle.std.specs.Prelude.{◌≡◌, ◌+◌, ◌-◌, ◌≤◌, List, ℕ, length, filter, sum_by};
+ghost use Rattle.std.specs.Prelude.{◌≡◌, ◌<◌, ◌^◌, List, ℕ, length, filter, sum_by};
 ghost use Rattle.std.specs.Fn.{FnReturnsAt};
 ghost use Rattle.std.specs.List.{list_any};
 ghost use Rattle.std.specs.Option.{option_map};
@@ -8,6 +8,7 @@ ghost use Rattle.mt_scan.specs.Choice.{checkpoint_in, AreSkipped, AreNameless};
 ghost use Rattle.mt_replay.specs.Runs.{together};
 ghost use Rattle.mt_recover.specs.LogScans.{ShowAll, kept};
 ghost use Rattle.mt_recover.specs.Recovery.{Facts};
+ghost use Rattle.mt_recover.specs.Start.{MayEnd, ended};
 ghost use Rattle.mt_recover.specs.Report.{IsFoundIn, is_early};
 ghost use Rattle.mt_recover.specs.Survivors.{begin_of, entry_updates};
 
@@ -46,11 +47,14 @@ pub struct Report {
     /// The updates at or past the cutoff.
     pub late: u128,
     /// The keys of the store.
-    pub keys: usize,
+    pub keys: u128,
+    /// The layers of its tree: one, and one for each 8 bytes, or 16, 24 and so on, that begin two or more longer keys.
+    /// It stops at 2^64 - 1.
+    pub layers: u64,
 }
 
 impl Report {
-    /// What is known before anything is replayed: all but `survivors`, `late` and `keys`, which are 0.
+    /// What is known before anything is replayed: all but `survivors`, `late`, `keys` and `layers`, which are 0.
     pub(crate) fn begun(
         scans: &[LogScan],
         window: Window,
@@ -83,21 +87,17 @@ impl Report {
             early: early_count(scans, window.begin),
             late: 0,
             keys: 0,
+            layers: 0,
         };
         (report, chosen)
     }
 
     /// The report where the cells have these updates and the store so many keys. What is neither early nor survives is
     /// late.
-    pub(crate) fn ended(self, lists: &[LogCells], keys: usize) -> Report
-        requires marks { self.marks ≤ self.records }
-        requires entries { self.entries ≤ length (together lists.now) }
-        requires updates { self.early + (length (together lists.now) - self.entries) ≤ self.records - self.marks }
-        ensures { result ≡ record self {
-          survivors = length (together lists.now);
-          late = self.records - self.marks - self.early - (length (together lists.now) - self.entries);
-          keys = keys;
-        } }
+    pub(crate) fn ended(self, lists: &[LogCells], keys: u128) -> Report
+        requires { MayEnd self (length (together lists.now)) }
+        ensures value { result ≡ ended self (length (together lists.now)) keys }
+        ensures fits { length (together lists.now) < 2 ^ 128 }
     {
         let survivors = survivor_count(lists);
         let updates = self.records - self.marks;

@@ -17,7 +17,8 @@ impl Display for Report {
             ("survivors", self.survivors),
             ("early", self.early),
             ("late", self.late),
-            ("keys", self.keys as u128),
+            ("keys", self.keys),
+            ("layers", u128::from(self.layers)),
         ];
         write_lines(f, &logs)?;
         write_list(f, "checkpoint", self.checkpoint.as_slice())?;

@@ -70,3 +70,6 @@ layers_one w m n a b = counts_one a.counts n (subst (λ (z : List (List ℕ)). C
 
 pub stops_once : (w : List Pair) (r n : ℕ) → CountsLayers w r → IsLayers w n → r ≡ min n (2 ^ 64 - 1)
 stops_once w r n a b = a.stops ∙ ap (λ (z : ℕ). min z (2 ^ 64 - 1)) (layers_one w a.number n a.is b)
+
+pub one_count : (w : List Pair) (r s : ℕ) → CountsLayers w r → CountsLayers w s → r ≡ s
+one_count w r s a b = stops_once w r b.number a b.is ∙ sym b.stops
