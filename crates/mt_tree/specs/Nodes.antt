@@ -1,7 +1,8 @@
 -- The tree of a layer: its borders in order, its height and its interior nodes; and the trees below its links.
 use Rattle.std.specs.Prelude.{ℕ, suc, ◌+◌, ◌<◌, ◌≤◌, ◌≡◌, List, [], ◌∷◌, ◌++◌, length, map, drop, ⊤}
 use Rattle.std.specs.List.{AllByRecursion, flat_map}
-use Rattle.mt_tree.specs.Layer.{PlaceView, short, long, link, slice_at, walk, IsLayer}
+use Rattle.mt_tree.specs.Layer.{PlaceView, slice_at, walk, IsLayer}
+use Rattle.mt_tree.specs.Layers.{linked_walks}
 use Rattle.mt_words.specs.Walks.{Pair}
 
 -- what contracts see of a child: its borders in order, and how many levels lie below it
@@ -83,13 +84,6 @@ pub record IsLayerTree (t : LayerView) : Type 0 where
   pub layer : IsLayer (joined t.borders)
   pub interiors : AllByRecursion IsInterior t.interiors
   pub shape : HaveInteriors (as_branch t ∷ []) t.interiors
-
--- the walks of the layers that these places link to
-abbrev pub linked_walks : List PlaceView → List (List Pair)
-linked_walks [] = []
-linked_walks (short s l c ∷ ps) = linked_walks ps
-linked_walks (long s t c ∷ ps) = linked_walks ps
-linked_walks (link s w ∷ ps) = w ∷ linked_walks ps
 
 -- these trees have these walks, in order, where each tree comes before those below its own links
 abbrev pub AreLinked : List (List Pair) → List LayerView → Type 0

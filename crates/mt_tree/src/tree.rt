@@ -3,7 +3,7 @@ ghost use Rattle.std.specs.Prelude.{ℕ, ◌≡◌, ◌↔◌, ◌++◌, ◌∷�
 ghost use Rattle.mt_tree.specs.Layer.{find_key, AllKeysBelow};
 ghost use Rattle.mt_words.specs.Walks.{KeysRise};
 ghost use Rattle.mt_tree.specs.Borders.{AreBorders, layer_walk};
-ghost use Rattle.mt_tree.specs.Trees.{tree_walk, tree_borders, IsTree};
+ghost use Rattle.mt_tree.specs.Trees.{tree_walk, tree_borders, tree_count, IsTree};
 ghost use Rattle.mt_tree.specs.Range.{hits};
 ghost use Rattle.mt_tree.specs.Layers.{CountsLayers, IsLayers};
 
@@ -158,6 +158,7 @@ impl Tree {
     pub fn layers(&self) -> u64
         ensures counts { CountsLayers (tree_walk self.now) result }
         ensures exact { (n : ℕ) → IsLayers (tree_walk self.now) n → result ≡ min n (2 ^ 64 - 1) }
+        ensures trees { result ≡ min (tree_count self.now) (2 ^ 64 - 1) }
     {
         match &self.root {
             None => 1,
