@@ -1,5 +1,5 @@
 -- How many trees a layer needs, by its links.
-use Rattle.std.proofs.Common.{◌≡◌, ◌≢◌, ℕ, zero, suc, ◌+◌, ◌-◌, ◌*◌, ◌^◌, ◌<◌, ◌≤◌, min, Bool, true, false, List, [], ◌∷◌, ◌++◌, length, take, drop, sym, refl, ap, ◌∙◌, subst, arith, append_assoc, length-append}
+use Rattle.std.proofs.Common.{◌≡◌, ◌≢◌, ℕ, zero, suc, ◌+◌, ◌-◌, ◌*◌, ◌^◌, ◌<◌, ◌≤◌, min, Bool, true, false, Option, Some, None, List, [], ◌∷◌, ◌++◌, length, take, drop, sym, refl, ap, ◌∙◌, subst, arith, append_assoc, length-append}
 use Rattle.std.specs.Prelude.{Contains, nat_eq, nat_lt, ◌&&◌}
 use Rattle.std.specs.List.{AllByRecursion}
 use Rattle.std.specs.Cmp.Lexicographic.{pointwise, bytes_decides}
@@ -14,8 +14,9 @@ use Rattle.mt_tree.specs.Layer.{PlaceView, short, long, link, rank_at, pairs_at,
 use Rattle.mt_words.specs.Walks.{Pair}
 use Rattle.mt_words.specs.Words.{IsBelow}
 use Rattle.mt_tree.specs.Layers.{under, lies_under}
-use Rattle.mt_tree.specs.Layers.{AreRising, AreHeads, CountsFrom, own, more, IsLayers, SumsLinks, CountsLinks, CountsLayers}
-use Rattle.mt_tree.specs.Nodes.{NodeView, places, joined, borders_of}
+use Rattle.mt_tree.specs.Layers.{AreRising, AreHeads, CountsFrom, own, more, IsLayers, linked_walks, SumsLayers, SumsLinks, CountsLinks, CountsLayers}
+use Rattle.mt_tree.specs.Nodes.{NodeView, LayerView, places, joined, borders_of, IsLayerTree, AreLinked}
+use Rattle.mt_tree.specs.Trees.{tree_walk, tree_count, IsTree}
 use Rattle.mt_tree.specs.NodeViews.{view_of_content, views, node_view, IsNodeKind}
 use Rattle.std.proofs.Common.{Vec, Global}
 use Rattle.arrayvec.specs.declared.array_vec.ArrayVec.{ArrayVec}
@@ -287,3 +288,28 @@ kind_children k v ss ks xs x e f g a =
     let whole : joined (borders_of (take (length xs) xs)) ≡ places v =
     ap (λ (z : List NodeView). joined (borders_of z)) (take_all (length xs) xs (omega arith) ∙ g) ∙ ap (λ (z : NodeKind). places (node_view z)) (sym f) ∙ ap places e in
     subst (λ (z : List PlaceView). CountsLinks z x) whole a
+
+-- ---- the trees of a node
+sums_split : (vs ws : List (List Pair)) (n : ℕ) → SumsLayers (vs ++ ws) n → (a : ℕ) × (b : ℕ) × SumsLayers vs a × SumsLayers ws b × (n ≡ a + b)
+sums_split [] ws n s = (0, n, refl, s, omega arith)
+sums_split (v ∷ vs) ws n s =
+    let rest = sums_split vs ws s.1 s.3 in
+    (s.0 + rest.0, rest.1, (s.0, rest.0, s.2, rest.2, refl), rest.3, let e : n ≡ s.0 + s.1 = s.4 in let f : s.1 ≡ rest.0 + rest.1 = rest.4 in omega arith)
+
+sums_linked : (ws : List (List Pair)) (ts : List LayerView) → AllByRecursion IsLayerTree ts → AreLinked ws ts → SumsLayers ws (length ts)
+sums_linked [] [] h k = refl
+sums_linked (w ∷ ws) [] h k = absurd (let never : w ∷ ws ≡ [] = k in cc)
+sums_linked [] (t ∷ ts) h k = absurd k
+sums_linked (w ∷ ws) (t ∷ ts) h k =
+    let own_links = linked_walks (joined t.borders) in
+    let parts = sums_split own_links ws (length ts) (sums_linked (own_links ++ ws) ts h.1 k.1) in (
+      parts.0 + 1,
+      parts.1,
+      subst (λ (z : List Pair). IsLayers z (parts.0 + 1)) (sym k.0) (layers_are (joined t.borders) parts.0 h.0.layer parts.2),
+      parts.3,
+      let e : length ts ≡ parts.0 + parts.1 = parts.4 in omega arith,
+    )
+
+pub tree_layers : (t : Option NodeView) → IsTree t → IsLayers (tree_walk t) (tree_count t)
+tree_layers None h = layers_are [] 0 tt refl
+tree_layers (Some n) h = layers_are (places n) (length n.below) h.tree.layer (sums_linked (linked_walks (places n)) n.below h.below.lawful h.below.linked)

@@ -2,7 +2,7 @@
 use Rattle.std.proofs.Common.{◌≡◌, ◌≢◌, ℕ, suc, ◌+◌, ◌*◌, ◌≤◌, List, [], ◌∷◌, ◌++◌, length, sym, refl, ap, ◌∙◌, subst, arith, append_assoc}
 use Rattle.std.proofs.lemmas.List.{append-nil}
 use Rattle.mt_tree.specs.Layer.{PlaceView, slice_at, rank_at, IsLayerFrom, IsLayer}
-use Rattle.mt_tree.specs.Nodes.{NodeView, joined, borders_of, SlicesFrom, SlicesApart, IsLayerTree, IsLevelAt, IsLevel, CutAt, OfSlice, border_tree}
+use Rattle.mt_tree.specs.Nodes.{NodeView, border, none, joined, borders_of, SlicesFrom, SlicesApart, IsLayerTree, IsLevelAt, IsLevel, CutAt, OfSlice, border_tree}
 use Rattle.mt_tree.specs.NodeFalls.{joined-append}
 use Rattle.mt_tree.specs.NodeViews.{view_of, view_of_content}
 use Rattle.mt_tree.specs.declared.node.Content.{Content}
@@ -56,7 +56,7 @@ cut_back xs ys zs h = all_weaker (λ p. SlicesFrom (suc (slice_at p)) (ys ++ zs)
 
 -- ---- a border as a tree
 pub border_is_tree : (b : List PlaceView) → 1 ≤ length b → length b ≤ 15 → IsLayer b → IsLayerTree (border_tree b)
-border_is_tree b some fits h = record { some = omega arith; each = ((some, fits), tt); apart = (cut_nil b, tt); layer = subst IsLayer (sym (append-nil b)) h; interiors = tt }
+border_is_tree b some fits h = record { some = omega arith; each = ((some, fits), tt); apart = (cut_nil b, tt); layer = subst IsLayer (sym (append-nil b)) h; interiors = tt; shape = border none }
 
 pub borders_of-append : (ns ms : List NodeView) → borders_of (ns ++ ms) ≡ borders_of ns ++ borders_of ms
 borders_of-append [] ms = refl

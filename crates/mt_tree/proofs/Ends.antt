@@ -1,12 +1,14 @@
 -- Borders are finished one by one.
 use Rattle.std.proofs.Common.{◌≡◌, ℕ, ◌≤◌, List, [], ◌∷◌, ◌++◌, length, sym, ap, ◌∙◌, subst, arith}
-use Rattle.std.specs.List.{AllByRecursion}
+use Rattle.std.proofs.lemmas.List.{append-nil, map-append}
+use Rattle.std.proofs.lemmas.Grind.{flat_map-append}
+use Rattle.mt_tree.proofs.Levels.{below-append}
 use Rattle.mt_tree.specs.Layer.{PlaceView, link, IsPlace, IsLayer, walk, weight}
 use Rattle.mt_tree.specs.Falls.{weight-append, walk-append, layer_back, layer_front}
-use Rattle.mt_tree.specs.Nodes.{joined, IsBorder, IsLayerTree, IsNode, border_tree}
+use Rattle.mt_tree.specs.Nodes.{joined, IsBorder, LayerView, IsLayerTree, IsNode, border_tree, AreBelow}
 use Rattle.mt_tree.specs.NodeFalls.{joined-append}
 use Rattle.mt_tree.specs.Borders.{AreBorders, layer_walk}
-use Rattle.mt_tree.specs.NodeViews.{views, trees_of, border_node}
+use Rattle.mt_tree.specs.NodeViews.{views, view_of, trees_of, trees_of_content, border_node}
 use Rattle.mt_tree.specs.declared.node.Place.{Place}
 use Rattle.mt_tree.proofs.Cuts.{border_is_tree}
 use Rattle.mt_tree.proofs.Joins.{all_back}
@@ -34,5 +36,17 @@ pub link_some : (s : ℕ) (bs : List (List PlaceView)) → IsPlace (link s (laye
 link_some s [] h = absurd (let two : 2 ≤ 0 = h.1 in omega arith)
 link_some s (b ∷ bs) h = omega arith
 
-pub border_done : (xs : List Place) (b : List PlaceView) → views xs ≡ b → IsBorder b → IsLayer b → AllByRecursion IsLayerTree (trees_of xs) → IsNode (border_node xs)
-border_done xs b e h l t = record { tree = subst (λ (z : List PlaceView). IsLayerTree (border_tree z)) (sym e) (border_is_tree b h.0 h.1 l); below = t }
+-- ---- the places of a border
+pub border_done : (xs : List Place) (b : List PlaceView) → views xs ≡ b → IsBorder b → IsLayer b → AreBelow (views xs) (trees_of xs) → IsNode (border_node xs)
+border_done xs b e h l below = record {
+  tree = subst (λ (z : List PlaceView). IsLayerTree (border_tree z)) (sym e) (border_is_tree b h.0 h.1 l);
+  below = subst (λ (z : List PlaceView). AreBelow z (trees_of xs)) (sym (append-nil (views xs))) below;
+}
+
+pub below_push : (xs ys : List Place) (p : Place) → AreBelow (views xs) (trees_of xs) → AreBelow (view_of p ∷ []) (trees_of_content p.content) → ys ≡ xs ++ p ∷ [] → AreBelow (views ys) (trees_of ys)
+below_push xs ys p h k e =
+    let seen : views ys ≡ views xs ++ view_of p ∷ [] = ap views e ∙ map-append view_of xs (p ∷ []) in
+    let trees : trees_of ys ≡ trees_of xs ++ trees_of_content p.content =
+    ap trees_of e ∙ flat_map-append (λ (q : Place). trees_of_content q.content) xs (p ∷ []) ∙ ap (λ (z : List LayerView). trees_of xs ++ z) (append-nil (trees_of_content p.content)) in
+    subst (λ (z : List PlaceView). AreBelow z (trees_of ys)) (sym seen)
+    (subst (AreBelow (views xs ++ view_of p ∷ [])) (sym trees) (below-append (views xs) (view_of p ∷ []) (trees_of xs) (trees_of_content p.content) h k))

@@ -2,12 +2,14 @@
 use Rattle.std.proofs.Common.{◌≡◌, ℕ, zero, suc, ◌+◌, ◌<◌, ◌≤◌, List, [], ◌∷◌, ◌++◌, length, map, drop, get_or, sym, refl, ap, ◌∙◌, subst, arith, append_assoc, length-append, Vec, Global}
 use Rattle.std.specs.List.{AllByRecursion, flat_map}
 use Rattle.std.proofs.lemmas.List.{append-nil, length-map, drop_all}
+use Rattle.std.proofs.lemmas.List.Folds.{flat_map-map}
 use Rattle.mt_words.specs.Slices.{slice_bytes}
 use Rattle.mt_words.proofs.SliceBytes.{slice_bytes-length}
 use Rattle.mt_tree.specs.Falls.{weight-append, walk-append, layer_back, layer_front}
-use Rattle.mt_tree.specs.Layer.{walk, weight, pairs_at, PlaceView, link, slice_at, rank_at, IsPlace, IsLayerFrom, IsLayer}
+use Rattle.mt_tree.specs.Layer.{walk, weight, pairs_at, PlaceView, short, long, link, slice_at, rank_at, IsPlace, IsLayerFrom, IsLayer}
 use Rattle.mt_words.specs.Walks.{Pair}
-use Rattle.mt_tree.specs.Nodes.{NodeView, places, joined, borders_of, SlicesFrom, SlicesBelow, SlicesApart, IsBorder, IsNode, IsNodeAt, IsLevelAt, IsLevel, IsInterior, IsLayerTree, AreSeparated, level_height, branches, CutAt, first_slice_of, first_of, interior_node, parent_node}
+use Rattle.mt_tree.specs.Nodes.{NodeView, BranchView, InteriorView, LayerView, HaveInteriors, as_branch, none, border, interior, AreLinked, AreBelow, places, joined, borders_of, interiors_of, below_of, SlicesFrom, SlicesBelow, SlicesApart, IsBorder, IsNode, IsNodeAt, IsLevelAt, IsLevel, IsInterior, IsLayerTree, AreSeparated, level_height, branches, CutAt, first_slice_of, first_of, interior_node, parent_node}
+use Rattle.mt_tree.specs.Layers.{linked_walks}
 use Rattle.mt_tree.specs.NodeFalls.{joined-append, branches_length}
 use Rattle.mt_tree.proofs.Finds.{AreChildren, interior_is}
 use Rattle.mt_tree.proofs.Joins.{all_append, below_lighter, all_back, all_front, all_weaker}
@@ -110,14 +112,57 @@ all_parts : {X : Type 0} (P : X → Type 0) (f : NodeView → List X) (h : ℕ) 
 all_parts P f h [] g a = tt
 all_parts P f h (n ∷ ns) g a = all_append P (f n) (flat_map f ns) (g n a.0.1) (all_parts P f h ns g a.1)
 
+-- ---- the shape of a tree
+have-append : (ks ls : List BranchView) (ns ms : List InteriorView) → HaveInteriors ks ns → HaveInteriors ls ms → HaveInteriors (ks ++ ls) (ns ++ ms)
+have-append ks ls ns ms none k = k
+have-append ks ls ns ms (border {ks = rest} h) k = border (have-append rest ls ns ms h k)
+have-append ks ls ns ms (interior {n = n} {ks = rest} {ns = later} level h) k =
+    interior level (subst (λ z. HaveInteriors z (later ++ ms)) (append_assoc n.children rest ls) (have-append (n.children ++ rest) ls later ms h k))
+
+have_interiors : (h : ℕ) (ns : List NodeView) → AllByRecursion (IsNodeAt h) ns → HaveInteriors (branches ns) (interiors_of ns)
+have_interiors h [] a = none
+have_interiors h (n ∷ ns) a = have-append (as_branch n.tree ∷ []) (branches ns) n.tree.interiors (interiors_of ns) a.0.1.tree.shape (have_interiors h ns a.1)
+
+stands_over : (ss : List ℕ) (h : ℕ) (ns : List NodeView) → AllByRecursion (IsNodeAt h) ns
+    → HaveInteriors (record { borders = borders_of ns; height = suc h } ∷ []) (record { separators = ss; children = branches ns } ∷ interiors_of ns)
+stands_over ss h ns a =
+    let n : InteriorView = record { separators = ss; children = branches ns } in
+    let rest : HaveInteriors (n.children ++ []) (interiors_of ns) = subst (λ z. HaveInteriors z (interiors_of ns)) (sym (append-nil (branches ns))) (have_interiors h ns a) in
+    subst (λ (z : List (List PlaceView)). HaveInteriors (record { borders = z; height = suc h } ∷ []) (n ∷ interiors_of ns)) (flat_map-map (λ (b : BranchView). b.borders) (λ (n : NodeView). as_branch n.tree) ns)
+    (interior {n = n} (all_heights h ns a) rest)
+
+-- ---- links
+linked_walks-append : (ps qs : List PlaceView) → linked_walks (ps ++ qs) ≡ linked_walks ps ++ linked_walks qs
+linked_walks-append [] qs = refl
+linked_walks-append (short s l c ∷ ps) qs = linked_walks-append ps qs
+linked_walks-append (long s t c ∷ ps) qs = linked_walks-append ps qs
+linked_walks-append (link s w ∷ ps) qs = ap (λ (z : List (List Pair)). w ∷ z) (linked_walks-append ps qs)
+
+linked-append : (vs ws : List (List Pair)) (ts us : List LayerView) → AreLinked vs ts → AreLinked ws us → AreLinked (vs ++ ws) (ts ++ us)
+linked-append [] ws [] us h k = k
+linked-append (v ∷ vs) ws [] us h k = absurd (let never : v ∷ vs ≡ [] = h in cc)
+linked-append [] ws (t ∷ ts) us h k = absurd h
+linked-append (v ∷ vs) ws (t ∷ ts) us h k = (h.0, subst (λ z. AreLinked z (ts ++ us)) (append_assoc (linked_walks (joined t.borders)) vs ws) (linked-append (linked_walks (joined t.borders) ++ vs) ws ts us h.1 k))
+
+pub below-append : (ps qs : List PlaceView) (ts us : List LayerView) → AreBelow ps ts → AreBelow qs us → AreBelow (ps ++ qs) (ts ++ us)
+below-append ps qs ts us h k = record {
+  lawful = all_append IsLayerTree ts us h.lawful k.lawful;
+  linked = subst (λ z. AreLinked z (ts ++ us)) (sym (linked_walks-append ps qs)) (linked-append (linked_walks ps) (linked_walks qs) ts us h.linked k.linked);
+}
+
+below_level : (h : ℕ) (ns : List NodeView) → AllByRecursion (IsNodeAt h) ns → AreBelow (joined (borders_of ns)) (below_of ns)
+below_level h [] a = record { lawful = tt; linked = refl }
+below_level h (n ∷ ns) a =
+    subst (λ z. AreBelow z (n.below ++ below_of ns)) (sym (joined-append n.tree.borders (borders_of ns)))
+    (below-append (places n) (joined (borders_of ns)) n.below (below_of ns) a.0.1.below (below_level h ns a.1))
+
+-- ---- a parent
 pub interior_of : (separators : List ℕ) (ns : List NodeView) → IsLevel ns → 2 ≤ length ns → length ns ≤ 16 → separators ≡ map first_of (drop 1 ns) → IsInterior (record { separators = separators; children = branches ns })
 interior_of separators [] l two most e = absurd (omega arith)
 interior_of separators (n ∷ ns) l two most e = record {
   two = omega (arith, branches_length (n ∷ ns));
   most = omega (arith, branches_length (n ∷ ns));
   between = omega (arith, ap (λ (z : List ℕ). length z) e, length-map ns first_of, branches_length (n ∷ ns));
-  height = n.tree.height;
-  level = all_heights n.tree.height (n ∷ ns) l.nodes;
   separated = subst (λ z. AreSeparated z (branches (n ∷ ns))) (sym e) (separated n.tree.height n ns l);
 }
 
@@ -129,8 +174,9 @@ parent_is_node ss ns l two most e = record {
     apart = l.apart;
     layer = l.layer;
     interiors = (interior_of ss ns l two most e, all_parts IsInterior (λ n. n.tree.interiors) (level_height ns) ns (λ n k. k.tree.interiors) l.nodes);
+    shape = stands_over ss (level_height ns) ns l.nodes;
   };
-  below = all_parts IsLayerTree (λ n. n.below) (level_height ns) ns (λ n k. k.below) l.nodes;
+  below = below_level (level_height ns) ns l.nodes;
 }
 
 pub first_is : (k : NodeKind) (v : NodeView) (ss : Box (ArrayVec ℕ 15 (Unit {0}))) (ks : Vec NodeView Global) (n : NodeView) → IsNodeKind k → node_view k ≡ v → k ≡ Interior ss ks → n ≡ get_or ks.items 0 n → first_of n ≡ first_of v

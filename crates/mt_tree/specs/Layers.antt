@@ -41,12 +41,21 @@ pub record CountsLayers (w : List Pair) (r : ℕ) : Type 0 where
   pub is : IsLayers w number
   pub stops : r ≡ min number (2 ^ 64 - 1)
 
+-- the walks of the layers that these places link to
+abbrev pub linked_walks : List PlaceView → List (List Pair)
+linked_walks [] = []
+linked_walks (short s l c ∷ ps) = linked_walks ps
+linked_walks (long s t c ∷ ps) = linked_walks ps
+linked_walks (link s w ∷ ps) = w ∷ linked_walks ps
+
+-- the numbers of trees of these walks, in sum
+abbrev pub SumsLayers : List (List Pair) → ℕ → Type 0
+SumsLayers [] n = n ≡ 0
+SumsLayers (w ∷ ws) n = (a : ℕ) × (b : ℕ) × IsLayers w a × SumsLayers ws b × (n ≡ a + b)
+
 -- the numbers of trees below the links of these places, in sum
 abbrev pub SumsLinks : List PlaceView → ℕ → Type 0
-SumsLinks [] n = n ≡ 0
-SumsLinks (short s l c ∷ ps) n = SumsLinks ps n
-SumsLinks (long s t c ∷ ps) n = SumsLinks ps n
-SumsLinks (link s w ∷ ps) n = (a : ℕ) × (b : ℕ) × IsLayers w a × SumsLinks ps b × (n ≡ a + b)
+SumsLinks ps = SumsLayers (linked_walks ps)
 
 -- that sum, or the greatest number that a machine word holds
 pub record CountsLinks (ps : List PlaceView) (r : ℕ) : Type 0 where

@@ -1,4 +1,4 @@
--- What a stored node is node_view as.
+-- What contracts see of a stored node.
 use Rattle.std.specs.Prelude.{ℕ, List, [], ◌∷◌, map}
 use Rattle.std.specs.List.{AllByRecursion, flat_map}
 use Rattle.mt_tree.specs.Layer.{PlaceView, short, long, link, walk}

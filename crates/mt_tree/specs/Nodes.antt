@@ -1,7 +1,9 @@
 -- The tree of a layer: its borders in order, its height and its interior nodes; and the trees below its links.
-use Rattle.std.specs.Prelude.{ℕ, suc, ◌+◌, ◌<◌, ◌≤◌, ◌≡◌, List, [], ◌∷◌, length, map, drop, ⊤}
+use Rattle.std.specs.Prelude.{ℕ, suc, ◌+◌, ◌<◌, ◌≤◌, ◌≡◌, List, [], ◌∷◌, ◌++◌, length, map, drop, ⊤}
 use Rattle.std.specs.List.{AllByRecursion, flat_map}
-use Rattle.mt_tree.specs.Layer.{PlaceView, slice_at, IsLayer}
+use Rattle.mt_tree.specs.Layer.{PlaceView, slice_at, walk, IsLayer}
+use Rattle.mt_tree.specs.Layers.{linked_walks}
+use Rattle.mt_words.specs.Walks.{Pair}
 
 -- what contracts see of a child: its borders in order, and how many levels lie below it
 pub record BranchView : Type 0 where
@@ -55,35 +57,65 @@ AreSeparated [] ks = ⊤
 AreSeparated (s ∷ ss) [] = ⊤
 AreSeparated (s ∷ ss) (k ∷ ks) = SlicesBelow s (joined k.borders) × AllByRecursion (λ b. SlicesFrom s (joined b.borders)) ks × AreSeparated ss ks
 
--- an interior node has 2 to 16 children of one height, so that all borders are equally deep, and one separator between each two neighbours
+-- an interior node has 2 to 16 children, and one separator between each two neighbours
 pub record IsInterior (n : InteriorView) : Type 0 where
   pub two : 2 ≤ length n.children
   pub most : length n.children ≤ 16
   pub between : length n.separators + 1 ≡ length n.children
-  pub height : ℕ
-  pub level : AllByRecursion (λ b. b.height ≡ height) n.children
   pub separated : AreSeparated n.separators n.children
 
--- the law of the tree of one layer: 1 to 15 places in each border, no slice in two of them, the places are a lawful layer, and each interior node is lawful
+-- these branches have these interior nodes, each before those below it: a branch of height 0 is one border,
+-- and a higher one has an interior node whose children, all one level lower, hold its borders; so all borders are equally deep
+pub data HaveInteriors : List BranchView → List InteriorView → Type 0 where
+  none : HaveInteriors [] []
+  border : {b : List PlaceView} {ks : List BranchView} {ns : List InteriorView} → HaveInteriors ks ns → HaveInteriors (record { borders = b ∷ []; height = 0 } ∷ ks) ns
+  interior : {n : InteriorView} {h : ℕ} {ks : List BranchView} {ns : List InteriorView} → AllByRecursion (λ b. b.height ≡ h) n.children → HaveInteriors (n.children ++ ks) ns
+      → HaveInteriors (record { borders = flat_map (λ b. b.borders) n.children; height = suc h } ∷ ks) (n ∷ ns)
+
+-- a tree as the node above sees it
+abbrev pub as_branch : LayerView → BranchView
+as_branch t = record { borders = t.borders; height = t.height }
+
+-- the law of the tree of one layer: 1 to 15 places in each border, no slice in two of them, the places are a lawful layer, and above the borders stand lawful interior nodes
 pub record IsLayerTree (t : LayerView) : Type 0 where
   pub some : 1 ≤ length t.borders
   pub each : AllByRecursion IsBorder t.borders
   pub apart : SlicesApart t.borders
   pub layer : IsLayer (joined t.borders)
   pub interiors : AllByRecursion IsInterior t.interiors
+  pub shape : HaveInteriors (as_branch t ∷ []) t.interiors
+
+-- these trees have these walks, in order, where each tree comes before those below its own links
+abbrev pub AreLinked : List (List Pair) → List LayerView → Type 0
+AreLinked ws [] = ws ≡ []
+AreLinked [] (t ∷ ts) = ⊥
+AreLinked (w ∷ ws) (t ∷ ts) = (w ≡ walk (joined t.borders)) × AreLinked (linked_walks (joined t.borders) ++ ws) ts
+
+-- the trees of the links of these places, each before those below its own links, all lawful
+pub record AreBelow (ps : List PlaceView) (ts : List LayerView) : Type 0 where
+  pub lawful : AllByRecursion IsLayerTree ts
+  pub linked : AreLinked (linked_walks ps) ts
 
 -- the law of a node: its own tree is lawful, and so is each tree below a link, at any depth
 pub record IsNode (n : NodeView) : Type 0 where
   pub tree : IsLayerTree n.tree
-  pub below : AllByRecursion IsLayerTree n.below
+  pub below : AreBelow (places n) n.below
 
 -- the borders of these nodes, in order
 abbrev pub borders_of : List NodeView → List (List PlaceView)
 borders_of = flat_map (λ n. n.tree.borders)
 
+-- the interior nodes of their trees
+abbrev pub interiors_of : List NodeView → List InteriorView
+interiors_of = flat_map (λ n. n.tree.interiors)
+
+-- the trees below their links
+abbrev pub below_of : List NodeView → List LayerView
+below_of = flat_map (λ n. n.below)
+
 -- the nodes as children
 abbrev pub branches : List NodeView → List BranchView
-branches = map (λ n. record { borders = n.tree.borders; height = n.tree.height })
+branches = map (λ n. as_branch n.tree)
 
 -- the height of nodes of one height
 abbrev pub level_height : List NodeView → ℕ
@@ -109,9 +141,9 @@ interior_node ss ns = record {
   tree = record {
     borders = borders_of ns;
     height = suc (level_height ns);
-    interiors = record { separators = ss; children = branches ns } ∷ flat_map (λ n. n.tree.interiors) ns;
+    interiors = record { separators = ss; children = branches ns } ∷ interiors_of ns;
   };
-  below = flat_map (λ n. n.below) ns;
+  below = below_of ns;
 }
 
 -- the node above these: their first slices, but for the first one's, separate them

@@ -1,5 +1,5 @@
 -- What a whole tree is.
-use Rattle.std.specs.Prelude.{◌≡◌, ℕ, ◌-◌, ◌^◌, min, length, List, [], Option, Some, None, ⊤}
+use Rattle.std.specs.Prelude.{◌≡◌, ℕ, ◌+◌, ◌-◌, ◌^◌, min, length, List, [], Option, Some, None, ⊤}
 use Rattle.mt_tree.specs.Layer.{PlaceView, walk}
 use Rattle.mt_words.specs.Walks.{Pair}
 use Rattle.mt_tree.specs.Nodes.{NodeView, places, IsNode}
@@ -17,6 +17,11 @@ tree_walk t = walk (tree_places t)
 abbrev pub IsTree : Option NodeView → Type 0
 IsTree None = ⊤
 IsTree (Some n) = IsNode n
+
+-- the number of trees: the outermost layer's, and those below links
+abbrev pub tree_count : Option NodeView → ℕ
+tree_count None = 1
+tree_count (Some n) = length n.below + 1
 
 -- the borders of the outermost layer
 abbrev pub tree_borders : Option NodeView → List (List PlaceView)

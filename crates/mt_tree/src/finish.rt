@@ -1,8 +1,7 @@
 //! A finished layer is cut into borders, and nodes are stacked on them.
 ghost use Rattle.std.specs.Prelude.{◌≡◌, ◌≢◌, MatchBool, ◌<◌, ◌≤◌, ◌+◌, ◌++◌, ◌∷◌, [], suc, List, length, IfOk};
-ghost use Rattle.std.specs.List.{AllByRecursion};
 ghost use Rattle.mt_tree.specs.Layer.{PlaceView, IsLayer, IsPlace};
-ghost use Rattle.mt_tree.specs.Nodes.{places, joined, borders_of, level_height, IsNode, IsNodeAt, IsLevel, IsLevelAt, IsBorder, IsLayerTree, border_tree, first_of, parent_node};
+ghost use Rattle.mt_tree.specs.Nodes.{places, joined, borders_of, level_height, IsNode, IsNodeAt, IsLevel, IsLevelAt, IsBorder, border_tree, AreBelow, first_of, parent_node};
 ghost use Rattle.mt_tree.specs.DraftViews.{draft_view, draft_views};
 ghost use Rattle.mt_tree.specs.NodeViews.{views, view_of, trees_of_content};
 
@@ -113,7 +112,7 @@ fn finish_border(alloc: Global, border: Border) -> Result<Node, Memory>
 fn finish_place(alloc: Global, place: DraftPlace) -> Result<Place, Memory>
     requires lawful { IsPlace (draft_view place) }
     ensures same { IfOk result (λ made. view_of made ≡ draft_view place) }
-    ensures below { IfOk result (λ made. AllByRecursion IsLayerTree (trees_of_content made.content)) }
+    ensures below { IfOk result (λ made. AreBelow (view_of made ∷ []) (trees_of_content made.content)) }
 {
     let slice = place.slice;
     match place.content {

@@ -5,7 +5,7 @@ ghost use Rattle.mt_words.specs.Limits.{widest};
 ghost use Rattle.mt_words.specs.Walks.{KeysRise};
 ghost use Rattle.mt_words.specs.Words.{IsKey};
 ghost use Rattle.mt_tree.specs.Borders.{AreBorders, layer_walk};
-ghost use Rattle.mt_tree.specs.Trees.{tree_walk, tree_borders, IsTree, IsCount};
+ghost use Rattle.mt_tree.specs.Trees.{tree_walk, tree_borders, tree_count, IsTree, IsCount};
 ghost use Rattle.mt_tree.specs.Range.{hits};
 ghost use Rattle.mt_tree.specs.Layers.{CountsLayers, IsLayers};
 
@@ -196,6 +196,7 @@ impl Tree {
     pub fn layers(&self) -> u64
         ensures counts { CountsLayers (tree_walk self.now) result }
         ensures exact { (n : ℕ) → IsLayers (tree_walk self.now) n → result ≡ min n (2 ^ 64 - 1) }
+        ensures trees { result ≡ min (tree_count self.now) (2 ^ 64 - 1) }
     {
         match &self.root {
             None => 1,

@@ -1,13 +1,15 @@
-use Rattle.std.proofs.Common.{◌≡◌, ◌≤◌, ◌<◌, ◌++◌, List, [], ap, sym, subst, ◌∙◌, arith}
-use Rattle.std.proofs.lemmas.List.{append-nil, nil_from_length}
+use Rattle.std.proofs.Common.{◌≡◌, ◌≤◌, ◌<◌, ◌++◌, List, [], ap, sym, subst, ◌∙◌, arith, ◌∷◌, append_assoc}
+use Rattle.std.proofs.lemmas.List.{append-nil, map-append, nil_from_length}
 use Rattle.std.specs.Vec.Iter.{into_iter_items}
 use Rattle.mt_tree.specs.Layer.{PlaceView, link, IsPlace, weight, walk, pairs_at}
 use Rattle.mt_tree.specs.Borders.{AreBorders, layer_walk}
 use Rattle.mt_tree.specs.DraftViews.{draft_view, draft_views, draft_view_of, border_views}
 use Rattle.mt_tree.specs.declared.layer.DraftContent.{DraftContent}
 use Rattle.mt_tree.specs.declared.layer.DraftPlace.{DraftPlace}
+use Rattle.mt_tree.specs.declared.node.Place.{Place}
+use Rattle.mt_tree.specs.NodeViews.{views, view_of}
 use Rattle.mt_tree.proofs.Levels.{place_weight, place_lawful, link_lighter}
-use Rattle.mt_tree.proofs.Ends.{middle, link_some, border_done}
+use Rattle.mt_tree.proofs.Ends.{middle, link_some, border_done, below_push}
 use Rattle.mt_tree.proofs.finish.+finish.Goals as goal
 
 pub finish-finish_border-requires : goal.finish-finish_border-requires
@@ -41,3 +43,17 @@ finish_place-finish-requires t c =
     let light : weight (layer_walk c.in-Link.layer) < weight (pairs_at (link c.args.place.slice (layer_walk c.in-Link.layer))) = link_lighter _ _ lawful in
     let some = link_some _ c.in-Link.layer lawful in
     rw c.in-Link.layer-is (omega (arith, light, same, c.decreases), some)
+
+place_moved : (xs ys : List Place) (left next : List DraftPlace) (d : DraftPlace) (p : Place) (all : List PlaceView) → views xs ++ draft_views left ≡ all → left ≡ d ∷ next → view_of p ≡ draft_view d → ys ≡ xs ++ p ∷ [] → views ys ++ draft_views next ≡ all
+place_moved xs ys left next d p all e f g h =
+    ap (λ (z : List PlaceView). z ++ draft_views next) (ap views h ∙ map-append view_of xs (p ∷ []))
+    ∙ append_assoc (views xs) (view_of p ∷ []) (draft_views next)
+    ∙ ap (λ (z : PlaceView). views xs ++ z ∷ draft_views next) g
+    ∙ ap (λ (z : List DraftPlace). views xs ++ draft_views z) (sym f)
+    ∙ e
+
+pub finish_border-loop-place-preserved : goal.finish_border-loop-place-preserved
+finish_border-loop-place-preserved t c = record {
+  same = place_moved _ _ _ _ _ _ _ c.loop-place.invariant.same c.in-Some.ensures.steps.0 c.in_ok-finished.ensures.same c.in_ok-push.ensures.items;
+  below = below_push _ _ _ c.loop-place.invariant.below c.in_ok-finished.ensures.below c.in_ok-push.ensures.items;
+}
