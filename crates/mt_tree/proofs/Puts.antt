@@ -52,14 +52,14 @@ put_then xs ys a b c p q cut =
     }
 
 -- ---- where a cut may stand
-pub cut_at : (s : ℕ) (xs ys : List PlaceView) → SlicesBelow s xs → SlicesFrom s ys → CutAt xs ys
+cut_at : (s : ℕ) (xs ys : List PlaceView) → SlicesBelow s xs → SlicesFrom s ys → CutAt xs ys
 cut_at s [] ys below from = tt
 cut_at s (x ∷ xs) ys below from =
     let lt : slice_at x < s = below.0 in
     (all_weaker (λ q. s ≤ slice_at q) (λ q. suc (slice_at x) ≤ slice_at q) (λ q le. omega arith) ys from, cut_at s xs ys below.1 from)
 
 -- between two slices
-pub cut_between : (low : ℕ) (xs ys : List PlaceView) → IsLayerFrom low (xs ++ ys) → 1 ≤ length xs → 1 ≤ length ys → last_slice_of xs ≢ first_slice_of ys → CutAt xs ys
+cut_between : (low : ℕ) (xs ys : List PlaceView) → IsLayerFrom low (xs ++ ys) → 1 ≤ length xs → 1 ≤ length ys → last_slice_of xs ≢ first_slice_of ys → CutAt xs ys
 cut_between low [] ys h a b n = tt
 cut_between low (p ∷ []) [] h a b n = absurd (omega arith)
 cut_between low (p ∷ []) (y ∷ ys) h a b n =
@@ -94,14 +94,24 @@ behind_some s ps xs [] some last e below =
 behind_some s ps xs (y ∷ ys) some last e below = omega arith
 
 -- sixteen places, cut before their last slice
-pub sixteen : (s : ℕ) (ps xs ys : List PlaceView) → IsLayer ps → length ps ≡ 16 → last_slice_of ps ≡ s → xs ++ ys ≡ ps → SlicesBelow s xs → SlicesFrom s ys → (length xs ≤ 15) × (length ys ≤ 15)
+pub record Halves (all xs ys : List PlaceView) : Type 0 where
+  pub whole : xs ++ ys ≡ all
+  pub first : IsLayer xs × (length xs ≤ 15)
+  pub second : IsLayer ys × (length ys ≤ 15)
+  pub cut : CutAt xs ys
+
+sixteen : (s : ℕ) (ps xs ys : List PlaceView) → IsLayer ps → length ps ≡ 16 → last_slice_of ps ≡ s → xs ++ ys ≡ ps → SlicesBelow s xs → SlicesFrom s ys → Halves ps xs ys
 sixteen s ps xs ys h many last e below from =
+    let layer : IsLayer (xs ++ ys) = subst IsLayer (sym e) h in
     let some = behind_some s ps xs ys (omega arith) last e below in
     let upto : AllByRecursion (λ p. slice_at p ≤ s) ps = subst (λ (n : ℕ). AllByRecursion (λ p. slice_at p ≤ n) ps) last (up_to_last 0 ps h) in
     let here : AllByRecursion (λ p. slice_at p ≤ s) ys = all_back (λ p. slice_at p ≤ s) xs ys (subst (AllByRecursion (λ p. slice_at p ≤ s)) (sym e) upto) in
-    let few = run_short s ys (layer_back 0 xs ys (subst IsLayer (sym e) h)) from here in
+    let few = run_short s ys (layer_back 0 xs ys layer) from here in
     let count : length xs + length ys ≡ 16 = sym (length-append xs ys) ∙ ap (λ (z : List PlaceView). length z) e ∙ many in
-    (omega arith, omega arith)
+    record { whole = e; first = (layer_front 0 xs ys layer, omega arith); second = (layer_back 0 xs ys layer, omega arith); cut = cut_at s xs ys below from }
+
+pub put_halves : (all xs ys : List PlaceView) (a b c : List (List PlaceView)) → Halves all xs ys → PutBehind xs a b → PutBehind ys b c → PutBehind all a c
+put_halves all xs ys a b c h p q = subst (λ (z : List PlaceView). PutBehind z a c) h.whole (put_then xs ys a b c p q h.cut)
 
 few_below : (s : ℕ) (xs zs ls rs : List PlaceView) → xs ++ zs ≡ ls ++ rs → SlicesBelow s xs → SlicesFrom s rs → length xs ≤ length ls
 few_below s [] zs ls rs e below from = omega arith
@@ -123,7 +133,7 @@ pub record Thirds (all xs run ys : List PlaceView) : Type 0 where
   pub before : CutAt xs (run ++ ys)
   pub behind : CutAt run ys
 
-pub thirds : (s next : ℕ) (left right xs rest run ys : List PlaceView) → IsLayer (left ++ right) → IsBorder left → IsBorder right → last_slice_of left ≡ s → first_slice_of right ≡ s → next ≡ min (s + 1) (2 ^ 64 - 1)
+thirds : (s next : ℕ) (left right xs rest run ys : List PlaceView) → IsLayer (left ++ right) → IsBorder left → IsBorder right → last_slice_of left ≡ s → first_slice_of right ≡ s → next ≡ min (s + 1) (2 ^ 64 - 1)
     → xs ++ rest ≡ left ++ right → run ++ ys ≡ rest → SlicesBelow s xs → SlicesFrom s rest → SlicesBelow next run → SlicesFrom next ys → Thirds (left ++ right) xs run ys
 thirds s next left right xs rest run ys h l r last first is e f below from_rest run_below ys_from =
     let l_few : length left ≤ 15 = l.1 in
@@ -175,13 +185,49 @@ put_thirds all xs run ys a b c d t p q r =
     subst (λ (z : List PlaceView). PutBehind z a d) t.whole (put_then xs (run ++ ys) a b d p (put_then run ys b c d q r t.behind) t.before)
 
 -- ---- the slices at the ends
-pub last_slice_is : (xs : List DraftPlace) (x : DraftPlace) → 1 ≤ length xs → x ≡ get_or xs (length xs - 1) x → last_slice_of (draft_views xs) ≡ x.slice
+last_slice_is : (xs : List DraftPlace) (x : DraftPlace) → 1 ≤ length xs → x ≡ get_or xs (length xs - 1) x → last_slice_of (draft_views xs) ≡ x.slice
 last_slice_is [] x h e = absurd (omega arith)
 last_slice_is (y ∷ []) x h e = let first : length (y ∷ []) - 1 ≡ 0 = omega arith in slice_at-draft y ∙ ap (λ (z : DraftPlace). z.slice) (sym (e ∙ ap (λ (k : ℕ). get_or (y ∷ []) k x) first))
 last_slice_is (y ∷ z ∷ xs) x h e =
     let next : length (y ∷ z ∷ xs) - 1 ≡ suc (length (z ∷ xs) - 1) = omega arith in
     last_slice_is (z ∷ xs) x (omega arith) (e ∙ ap (λ (k : ℕ). get_or (y ∷ z ∷ xs) k x) next)
 
-pub first_slice_is : (xs : List DraftPlace) (x : DraftPlace) → 1 ≤ length xs → x ≡ get_or xs 0 x → first_slice_of (draft_views xs) ≡ x.slice
+first_slice_is : (xs : List DraftPlace) (x : DraftPlace) → 1 ≤ length xs → x ≡ get_or xs 0 x → first_slice_of (draft_views xs) ≡ x.slice
 first_slice_is [] x h e = absurd (omega arith)
 first_slice_is (y ∷ xs) x h e = slice_at-draft y ∙ ap (λ (z : DraftPlace). z.slice) (sym e)
+
+-- of places that are more than one border holds
+pub seam_slices : (left right : List DraftPlace) (x y : DraftPlace) (n : ℕ) → IsBorder (draft_views left) → 15 < length left + length right → x ≡ get_or left (n - 1) x → n ≡ length left → y ≡ get_or right 0 y
+    → (last_slice_of (draft_views left) ≡ x.slice) × (first_slice_of (draft_views right) ≡ y.slice)
+seam_slices left right x y n b many last whole first =
+    let some : 1 ≤ length (draft_views left) = b.0 in
+    let most : length (draft_views left) ≤ 15 = b.1 in
+    let count = length-map left draft_view in
+    (last_slice_is left x (omega arith) (last ∙ ap (λ (k : ℕ). get_or left (k - 1) x) whole), first_slice_is right y (omega arith) first)
+
+pub cut_apart : (left right : List DraftPlace) → IsLayer (draft_views left ++ draft_views right) → IsBorder (draft_views left) → 15 < length left + length right → last_slice_of (draft_views left) ≢ first_slice_of (draft_views right) → CutAt (draft_views left) (draft_views right)
+cut_apart left right h b many other =
+    let most : length (draft_views left) ≤ 15 = b.1 in
+    cut_between 0 (draft_views left) (draft_views right) h b.0 (omega (arith, length-map left draft_view, length-map right draft_view)) other
+
+-- ---- stored places
+pub few_places : (ps : List DraftPlace) → length (draft_views ps) ≤ 15 → length ps ≤ 15
+few_places ps few = omega (arith, length-map ps draft_view)
+
+pub halves : (ps xs ys : List DraftPlace) (x : DraftPlace) (n : ℕ) → IsLayer (draft_views ps) → length ps ≡ 16 → x ≡ get_or ps (n - 1) x → n ≡ length ps
+    → draft_views xs ++ draft_views ys ≡ draft_views ps → SlicesBelow x.slice (draft_views xs) → SlicesFrom x.slice (draft_views ys) → Halves (draft_views ps) (draft_views xs) (draft_views ys)
+halves ps xs ys x n h many last whole e below from =
+    sixteen x.slice (draft_views ps) (draft_views xs) (draft_views ys) h (length-map ps draft_view ∙ many) (last_slice_is ps x (omega arith) (last ∙ ap (λ (k : ℕ). get_or ps (k - 1) x) whole)) e below from
+
+pub all_rest : (left right whole xs rest : List DraftPlace) → whole ≡ left ++ right → draft_views xs ++ draft_views rest ≡ draft_views whole → draft_views xs ++ draft_views rest ≡ draft_views left ++ draft_views right
+all_rest left right whole xs rest e f = f ∙ ap draft_views e ∙ map-append draft_view left right
+
+pub around : (left right whole xs rest run ys : List DraftPlace) (x : DraftPlace) (next : ℕ) → IsLayer (draft_views left ++ draft_views right) → IsBorder (draft_views left) → IsBorder (draft_views right)
+    → last_slice_of (draft_views left) ≡ first_slice_of (draft_views right) → x ≡ get_or right 0 x → next ≡ min (x.slice + 1) (2 ^ 64 - 1)
+    → whole ≡ left ++ right → draft_views xs ++ draft_views rest ≡ draft_views whole → draft_views run ++ draft_views ys ≡ draft_views rest
+    → SlicesBelow x.slice (draft_views xs) → SlicesFrom x.slice (draft_views rest) → SlicesBelow next (draft_views run) → SlicesFrom next (draft_views ys)
+    → Thirds (draft_views left ++ draft_views right) (draft_views xs) (draft_views run) (draft_views ys)
+around left right whole xs rest run ys x next h l r met at is e f g below from run_below ys_from =
+    let some : 1 ≤ length (draft_views right) = r.0 in
+    let first = first_slice_is right x (omega (arith, length-map right draft_view)) at in
+    thirds x.slice next (draft_views left) (draft_views right) (draft_views xs) (draft_views rest) (draft_views run) (draft_views ys) h l r (met ∙ first) first is (all_rest left right whole xs rest e f) g below from run_below ys_from
