@@ -9,14 +9,15 @@ use Rattle.mt_tree.specs.Layer.{PlaceView, link, slice_at, length_at, rank_at, k
 use Rattle.mt_tree.specs.Falls.{weight-append, walk-append, layer_back}
 use Rattle.mt_tree.specs.Nodes.{joined, IsBorder}
 use Rattle.mt_tree.specs.NodeFalls.{joined-append}
-use Rattle.mt_tree.specs.Borders.{AreBorders, layer_walk}
+use Rattle.mt_tree.specs.Borders.{AreBorders, PutBehind, layer_walk}
 use Rattle.mt_tree.specs.Nodes.{first_slice_of}
 use Rattle.mt_tree.specs.DraftViews.{draft_views, draft_view, border_views}
 use Rattle.mt_tree.specs.declared.layer.Border.{Border}
 use Rattle.mt_tree.specs.declared.layer.DraftPlace.{DraftPlace}
 use Rattle.mt_tree.proofs.Joins.{Seam, apart_layer, layer_seam, last_place, put_before-append, below_unprefixed, below_lighter, slice_at-draft, slice_at-lt, all_append, all_back, length_at-le}
 use Rattle.mt_tree.proofs.Finds.{pairs_rank}
-use Rattle.mt_tree.proofs.CutUps.{borders-push}
+use Rattle.mt_tree.proofs.Puts.{borders-push}
+use Rattle.mt_tree.proofs.Seams.{behind_are}
 use Rattle.mt_tree.proofs.Meets.{first_merged}
 
 -- ---- the last place
@@ -187,7 +188,12 @@ module _ (fs : List (List PlaceView)) (l : List PlaceView) (v : List (List Place
   pub opened_light : weight (walk l) ≤ weight (layer_walk v)
   opened_light = omega (arith, ap weight o.is, weight-append (walk (joined fs)) (walk l))
 
-  pub opened_walk : (parts : List (List PlaceView)) (p : Pair) → walk (joined parts) ≡ walk l ++ p ∷ [] → layer_walk (fs ++ parts) ≡ layer_walk v ++ p ∷ []
-  opened_walk parts p e =
-      ap walk (joined-append fs parts) ∙ walk-append (joined fs) (joined parts) ∙ ap (λ (w : List Pair). walk (joined fs) ++ w) e
-      ∙ sym (append_assoc (walk (joined fs)) (walk l) (p ∷ [])) ∙ ap (λ (w : List Pair). w ++ p ∷ []) (sym o.is)
+  -- more borders in its place, which begin as it does
+  pub opened_put : (places : List PlaceView) (new : List (List PlaceView)) (p : Pair) → PutBehind places fs new → walk places ≡ walk l ++ p ∷ [] → first_slice_of places ≡ first_slice_of l → AreBorders new × (layer_walk new ≡ layer_walk v ++ p ∷ [])
+  opened_put places new p put pairs first =
+      let some : 1 ≤ length l = opened_border.0 in
+      let whole : walk (joined put.more) ≡ walk l ++ p ∷ [] = ap walk put.same ∙ pairs in (
+        subst AreBorders (sym put.behind) (behind_are fs l put.more o.are put.lawful some (ap first_slice_of put.same ∙ first)),
+        ap layer_walk put.behind ∙ ap walk (joined-append fs put.more) ∙ walk-append (joined fs) (joined put.more) ∙ ap (λ (w : List Pair). walk (joined fs) ++ w) whole
+            ∙ sym (append_assoc (walk (joined fs)) (walk l) (p ∷ [])) ∙ ap (λ (w : List Pair). w ++ p ∷ []) (sym o.is),
+      )

@@ -13,7 +13,7 @@ use Rattle.mt_tree.specs.DraftViews.{draft_views, draft_view, border_views}
 use Rattle.mt_tree.specs.declared.layer.Border.{Border}
 use Rattle.mt_tree.specs.declared.layer.DraftPlace.{DraftPlace}
 use Rattle.mt_tree.proofs.Orders.{last_of, first_of, last_edge, first_edge}
-use Rattle.mt_tree.proofs.CutUps.{borders-append}
+use Rattle.mt_tree.proofs.Puts.{borders-append}
 use Rattle.mt_tree.specs.Falls.{layer_back}
 use Rattle.mt_tree.proofs.Joins.{all_back}
 

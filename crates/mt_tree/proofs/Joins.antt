@@ -1,5 +1,5 @@
 -- Two layers are joined at their seam.
-use Rattle.std.proofs.Common.{◌≡◌, ℕ, suc, ◌+◌, ◌*◌, ◌^◌, ◌<◌, ◌≤◌, List, [], ◌∷◌, ◌++◌, length, take, get_or, sym, refl, ap, ◌∙◌, subst, inl, inr, ◌⊎◌, arith, append_assoc, length-append}
+use Rattle.std.proofs.Common.{◌≡◌, ℕ, suc, ◌+◌, ◌*◌, ◌^◌, ◌<◌, ◌≤◌, List, [], ◌∷◌, ◌++◌, length, take, get_or, sym, refl, ap, ◌∙◌, subst, inl, inr, ◌⊎◌, arith, length-append}
 use Rattle.std.specs.List.{AllByRecursion, remove}
 use Rattle.std.proofs.lemmas.List.{append-nil, take_at, map-append, length-take-le}
 use Rattle.mt_words.specs.Slices.{AreBytes, slice_bytes}
@@ -147,9 +147,6 @@ module _ (xs : List DraftPlace) (p q : DraftPlace) (ys : List DraftPlace) (s : S
       by (inl h) = layer_seam 0 (draft_views xs) (draft_view p) (draft_view p) (draft_view q ∷ draft_views ys) left_layer last_lawful (omega arith) (first_lawful, h, s.right.2)
       by (inr m) = absurd (apart m)
 
-  pub apart_walk : walk (draft_views (xs ++ p ∷ q ∷ ys)) ≡ walk (draft_views (xs ++ p ∷ [])) ++ walk (draft_views (q ∷ ys))
-  apart_walk = ap walk (views-append xs (p ∷ q ∷ ys)) ∙ walk-append (draft_views xs) (draft_views (p ∷ q ∷ ys)) ∙ sym (append_assoc (walk (draft_views xs)) (pairs_at (draft_view p)) (walk (draft_views (q ∷ ys)))) ∙ ap (λ v. v ++ walk (draft_views (q ∷ ys))) (sym left_walk)
-
   -- where they meet, one place takes the place of both
   pub merged_layer : (m : DraftPlace) → Meet (draft_view p) (draft_view q) → IsPlace (draft_view m) → rank_at (draft_view m) ≡ rank_at (draft_view p) → IsLayer (draft_views (xs ++ m ∷ ys))
   merged_layer m meet lawful same =
@@ -158,14 +155,6 @@ module _ (xs : List DraftPlace) (p q : DraftPlace) (ys : List DraftPlace) (s : S
       let g : length_at (draft_view q) ≡ 9 = meet.2 in
       let ranks : rank_at (draft_view q) ≡ rank_at (draft_view m) = omega arith in
       subst IsLayer (sym (views-append xs (m ∷ ys))) (layer_seam 0 (draft_views xs) (draft_view p) (draft_view m) (draft_views ys) left_layer lawful (omega arith) (subst (λ r. IsLayerFrom (suc r) (draft_views ys)) ranks s.right.2))
-
-  pub merged_walk : (m : DraftPlace) → pairs_at (draft_view m) ≡ pairs_at (draft_view p) ++ pairs_at (draft_view q) → walk (draft_views (xs ++ m ∷ ys)) ≡ walk (draft_views (xs ++ p ∷ [])) ++ walk (draft_views (q ∷ ys))
-  merged_walk m e =
-      ap walk (views-append xs (m ∷ ys)) ∙ walk-append (draft_views xs) (draft_views (m ∷ ys))
-      ∙ ap (λ w. walk (draft_views xs) ++ (w ++ walk (draft_views ys))) e
-      ∙ ap (λ w. walk (draft_views xs) ++ w) (append_assoc (pairs_at (draft_view p)) (pairs_at (draft_view q)) (walk (draft_views ys)))
-      ∙ sym (append_assoc (walk (draft_views xs)) (pairs_at (draft_view p)) (walk (draft_views (q ∷ ys))))
-      ∙ ap (λ v. v ++ walk (draft_views (q ∷ ys))) (sym left_walk)
 
   -- what lies below the last place is lighter than its layer
   pub last_weight : weight (pairs_at (draft_view p)) ≤ weight (walk (draft_views (xs ++ p ∷ [])))
@@ -218,13 +207,6 @@ module _ (p q : DraftPlace) (upper lower joined : List Pair) (m : Merging p q up
       let low : p.slice < 2 ^ 64 = subst (λ s. s < 2 ^ 64) (slice_at-draft p) (slice_at-lt (draft_view p) h) in
       let two : 2 ≤ length joined = omega (arith, ap (λ (w : List Pair). length w) m.is, length-append upper lower, m.upper_some, m.lower_some) in
       (low, two, subst HasNoEmptyKey (sym m.is) (all_append _ upper lower m.upper_keys m.lower_keys))
-
-  pub merged_pairs : pairs_at (link p.slice joined) ≡ pairs_at (draft_view p) ++ pairs_at (draft_view q)
-  merged_pairs =
-      ap (put_before (slice_bytes p.slice)) m.is
-      ∙ put_before-append (slice_bytes p.slice) upper lower
-      ∙ ap (λ s. put_before (slice_bytes p.slice) upper ++ put_before (slice_bytes s) lower) (same_slice p q m.meet)
-      ∙ (λ i. m.upper_is i ++ m.lower_is i)
 
   pub merged_rank : rank_at (link p.slice joined) ≡ rank_at (draft_view p)
   merged_rank = let e : length_at (draft_view p) ≡ 9 = m.meet.1 in omega (arith, slice_at-draft p, e)

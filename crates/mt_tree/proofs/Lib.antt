@@ -10,11 +10,11 @@ pub mod WantedLemmas
 pub mod Ranks
 pub mod Uniques
 pub mod Collects
-pub mod CutUps
 pub mod Seams
 pub mod Meets
 pub mod Ends
 pub mod EdgeBorders
 pub mod Behind
 pub mod Lasts
+pub mod Puts
 pub mod Visits

@@ -1,5 +1,5 @@
 -- Two lists of places meet.
-use Rattle.std.proofs.Common.{◌≡◌, ◌<◌, ◌≤◌, List, [], ◌∷◌, ◌++◌, get_or, length, sym, refl, ap, ◌∙◌, subst, arith, append_assoc}
+use Rattle.std.proofs.Common.{◌≡◌, ◌<◌, ◌≤◌, List, [], ◌∷◌, ◌++◌, get_or, length, sym, refl, ap, ◌∙◌, subst, arith, append_assoc, length-append}
 use Rattle.std.specs.List.{AllByRecursion, remove}
 use Rattle.std.proofs.lemmas.List.{append-nil, map-append, length-map}
 use Rattle.mt_tree.specs.Layer.{PlaceView, slice_at, IsLayer, walk, weight, AllKeysBelow}
@@ -7,13 +7,14 @@ use Rattle.mt_words.specs.Walks.{Pair}
 use Rattle.mt_tree.specs.Falls.{weight-append, walk-append, layer_back, layer_front}
 use Rattle.mt_tree.specs.Nodes.{joined, IsBorder}
 use Rattle.mt_tree.specs.NodeFalls.{joined-append}
-use Rattle.mt_tree.specs.Borders.{AreBorders, SameEnds, layer_walk, last_slice_of}
+use Rattle.mt_tree.specs.Borders.{AreBorders, PutBehind, SameEnds, layer_walk, last_slice_of}
 use Rattle.mt_tree.specs.Nodes.{first_slice_of}
 use Rattle.mt_tree.specs.DraftViews.{draft_views, draft_view, border_views}
 use Rattle.mt_tree.specs.declared.layer.Border.{Border}
 use Rattle.mt_tree.specs.declared.layer.DraftPlace.{DraftPlace}
 use Rattle.mt_tree.proofs.Joins.{Seam, all_back, below_first, first_removed, slice_at-draft}
-use Rattle.mt_tree.proofs.CutUps.{borders-push}
+use Rattle.mt_tree.proofs.Puts.{borders-push, borders-append}
+use Rattle.mt_tree.proofs.Seams.{seam_are}
 
 pub seam_of : (l r xs : List DraftPlace) (p q : DraftPlace) → IsLayer (draft_views l) → IsLayer (draft_views r) → AllKeysBelow (walk (draft_views l)) (walk (draft_views r)) → l ≡ xs ++ p ∷ [] → 1 ≤ length r → q ≡ get_or r 0 q → Seam xs p q (remove r 0)
 seam_of l r xs p q hl hr below dl some dq =
@@ -112,3 +113,15 @@ module _ (fs bs : List (List PlaceView)) (l f : List PlaceView) (vl : List (List
       last : (gs : List (List PlaceView)) → AllByRecursion IsBorder (gs ++ l ∷ []) → IsBorder l
       last [] h = h.0
       last (g ∷ gs) h = last gs h.1
+
+-- what is put in place of the borders at the seam
+pub seam_put : (fs bs seam whole : List Border) (l f left right : List DraftPlace) (vl : List (List PlaceView)) → Sides (border_views fs) (border_views bs) (draft_views l) (draft_views f) vl
+    → PutBehind (draft_views left ++ draft_views right) (border_views fs) (border_views seam) → whole ≡ seam ++ bs → length left ≡ length l → SameEnds (draft_views l) (draft_views f) (draft_views left ++ draft_views right) → AreBorders (border_views whole)
+seam_put fs bs seam whole l f left right vl s put e same ends =
+    let some : 1 ≤ length (draft_views l) = (last_border _ _ _ _ _ s).0 in
+    let kept : 1 ≤ length (joined put.more) =
+    omega (arith, ap (λ (z : List PlaceView). length z) put.same, length-append (draft_views left) (draft_views right), length-map left draft_view, length-map l draft_view) in
+    let is : border_views whole ≡ border_views fs ++ (put.more ++ border_views bs) =
+    ap border_views e ∙ borders-append seam bs ∙ ap (λ (z : List (List PlaceView)). z ++ border_views bs) put.behind ∙ append_assoc (border_views fs) put.more (border_views bs) in
+    subst AreBorders (sym is)
+    (seam_are (border_views fs) (draft_views l) (draft_views f) (border_views bs) put.more s.left s.right put.lawful some kept (subst (SameEnds (draft_views l) (draft_views f)) (sym put.same) ends))

@@ -25,7 +25,11 @@ apart_append (a ∷ fs) bs h k c =
 from_first : (low : ℕ) (p : PlaceView) (ps : List PlaceView) → IsLayerFrom low (p ∷ ps) → SlicesFrom (slice_at p) (p ∷ ps)
 from_first low p ps h = (omega arith, slices_from (suc (rank_at p)) (slice_at p) ps (omega arith) h.2)
 
-up_to_last : (low : ℕ) (ps : List PlaceView) → IsLayerFrom low ps → AllByRecursion (λ p. slice_at p ≤ last_slice_of ps) ps
+pub from_first_slice : (low : ℕ) (ps : List PlaceView) → IsLayerFrom low ps → SlicesFrom (first_slice_of ps) ps
+from_first_slice low [] h = tt
+from_first_slice low (p ∷ ps) h = from_first low p ps h
+
+pub up_to_last : (low : ℕ) (ps : List PlaceView) → IsLayerFrom low ps → AllByRecursion (λ p. slice_at p ≤ last_slice_of ps) ps
 up_to_last low [] h = tt
 up_to_last low (p ∷ []) h = (omega arith, tt)
 up_to_last low (p ∷ q ∷ ps) h =
@@ -73,6 +77,10 @@ pub are_append : (fs bs : List (List PlaceView)) → AreBorders fs → AreBorder
 are_append fs bs h k c =
     (all_append IsBorder fs bs h.0 k.0, apart_append fs bs h.1 k.1 c, subst IsLayer (sym (joined-append fs bs)) (layer_append (joined fs) (joined bs) h.2 k.2 (cut_joined fs (joined bs) c)))
 
+pub cut_each : (cs : List (List PlaceView)) (ys : List PlaceView) → CutAt (joined cs) ys → AllByRecursion (λ a. CutAt a ys) cs
+cut_each [] ys h = tt
+cut_each (c ∷ cs) ys h = (all_front (λ p. SlicesFrom (suc (slice_at p)) ys) c (joined cs) h, cut_each cs ys (all_back (λ p. SlicesFrom (suc (slice_at p)) ys) c (joined cs) h))
+
 -- a list of borders without its last one
 front_apart : (fs : List (List PlaceView)) (l : List PlaceView) → SlicesApart (fs ++ l ∷ []) → SlicesApart fs × AllByRecursion (λ a. CutAt a l) fs
 front_apart [] l h = (tt, tt)
@@ -104,14 +112,10 @@ seam_are fs l f bs seam left right h some seam_some ends =
     let f_some : 1 ≤ length f = right.0.0.0 in
     let after : SlicesFrom (suc (last_slice_of (joined seam))) (joined bs) = subst (λ (k : ℕ). SlicesFrom (suc k) (joined bs)) (sym ends.last) (last_cut f (joined bs) f_some right.1.0) in
     let seam_cut : CutAt (joined seam) (joined bs) = cut_under (last_slice_of (joined seam)) (joined seam) (joined bs) (up_to_last 0 (joined seam) h.2) after in
-    let rest : AreBorders (seam ++ bs) = are_append seam bs h bs_are (split seam seam_cut) in
+    let rest : AreBorders (seam ++ bs) = are_append seam bs h bs_are (cut_each seam (joined bs) seam_cut) in
     let head : first_slice_of (joined (seam ++ bs)) ≡ first_slice_of l = ap first_slice_of (joined-append seam bs) ∙ first_kept (joined seam) (joined bs) seam_some ∙ ends.first in
     are_append fs (seam ++ bs) as_are rest (each_over fs l (joined (seam ++ bs)) some head rest.2 front.1)
   where
-    split : (cs : List (List PlaceView)) → CutAt (joined cs) (joined bs) → AllByRecursion (λ c. CutAt c (joined bs)) cs
-    split [] c = tt
-    split (x ∷ cs) c = (all_front (λ p. SlicesFrom (suc (slice_at p)) (joined bs)) x (joined cs) c, split cs (all_back (λ p. SlicesFrom (suc (slice_at p)) (joined bs)) x (joined cs) c))
-
     first_kept : (xs ys : List PlaceView) → 1 ≤ length xs → first_slice_of (xs ++ ys) ≡ first_slice_of xs
     first_kept [] ys k = absurd (omega arith)
     first_kept (x ∷ xs) ys k = refl

@@ -1,9 +1,9 @@
 -- A layer under construction: a list of borders, each with all places of its slices.
-use Rattle.std.specs.Prelude.{ℕ, ◌≤◌, ◌≡◌, List, [], ◌∷◌, ◌++◌, length}
+use Rattle.std.specs.Prelude.{ℕ, ◌≡◌, List, [], ◌∷◌, ◌++◌}
 use Rattle.std.specs.List.{AllByRecursion}
 use Rattle.mt_tree.specs.Layer.{PlaceView, slice_at, IsLayer, walk}
 use Rattle.mt_words.specs.Walks.{Pair}
-use Rattle.mt_tree.specs.Nodes.{joined, IsBorder, SlicesApart, CutAt, OfSlice, first_slice_of}
+use Rattle.mt_tree.specs.Nodes.{joined, IsBorder, SlicesApart, first_slice_of}
 
 -- the walk of a list of borders
 abbrev pub layer_walk : List (List PlaceView) → List Pair
@@ -13,14 +13,12 @@ layer_walk bs = walk (joined bs)
 abbrev pub AreBorders : List (List PlaceView) → Type 0
 AreBorders bs = AllByRecursion IsBorder bs × SlicesApart bs × IsLayer (joined bs)
 
--- how far places are cut into borders: closed borders, an open border, a run of places of one slice, and those to come
-pub record IsCutUp (all : List PlaceView) (done : List (List PlaceView)) (border run : List PlaceView) (slice : ℕ) (left : List PlaceView) : Type 0 where
-  pub whole : joined done ++ (border ++ (run ++ left)) ≡ all
-  pub each : AllByRecursion IsBorder done
-  pub fits : length border ≤ 15
-  pub one : OfSlice slice run
-  pub cut : CutAt border (run ++ left)
-  pub apart : SlicesApart (done ++ (border ++ (run ++ left)) ∷ [])
+-- behind the borders stand more, of these places
+pub record PutBehind (places : List PlaceView) (old new : List (List PlaceView)) : Type 0 where
+  pub more : List (List PlaceView)
+  pub behind : new ≡ old ++ more
+  pub same : joined more ≡ places
+  pub lawful : AreBorders more
 
 -- the slice of the last place
 abbrev pub last_slice_of : List PlaceView → ℕ

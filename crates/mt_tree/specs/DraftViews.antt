@@ -1,4 +1,4 @@
--- What a stored layer is node_view as.
+-- What contracts see of a stored layer.
 use Rattle.std.specs.Prelude.{ℕ, List, map}
 use Rattle.mt_tree.specs.Layer.{PlaceView, short, long, link}
 use Rattle.mt_tree.specs.Borders.{layer_walk}

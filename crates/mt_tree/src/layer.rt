@@ -1,14 +1,12 @@
-//! A layer under construction: a list of places.
-ghost use Rattle.std.specs.Prelude.{◌≡◌, ◌≤◌, ◌+◌, MatchBool, ◌<◌, ◌++◌, ◌∷◌, ◌↔◌, [], length, take, drop, IfOk, IsTrue};
+//! A layer under construction: a list of borders, each of them a list of places.
+ghost use Rattle.std.specs.Prelude.{◌≡◌, ◌≤◌, ◌+◌, MatchBool, ◌<◌, ◌++◌, ◌∷◌, ◌↔◌, [], length, take, drop, IfOk, OnOk, IsTrue};
 ghost use Rattle.mt_tree.specs.Layer.{FitsAfter, IsLayer, walk, pairs_at, put_before, length_at, IsPlace, HasNoEmptyKey, AllKeysBelow, Meet};
 ghost use Rattle.mt_words.specs.Walks.{KeysRise};
 ghost use Rattle.mt_tree.specs.DraftViews.{draft_view, draft_views, border_views};
-ghost use Rattle.mt_tree.specs.Nodes.{joined, IsBorder, SlicesBelow, SlicesFrom};
-ghost use Rattle.mt_tree.specs.Borders.{AreBorders, layer_walk, SameEnds};
-ghost use Rattle.mt_tree.specs.Nodes.{first_slice_of};
+ghost use Rattle.mt_tree.specs.Nodes.{IsBorder, SlicesBelow, SlicesFrom, first_slice_of};
+ghost use Rattle.mt_tree.specs.Borders.{AreBorders, PutBehind, layer_walk, SameEnds, last_slice_of};
 ghost use Rattle.mt_words.specs.Slices.{slice_bytes};
 
-use crate::cut::cut;
 use mt_words::{Columns, Kept, Memory, slice_of};
 use std::alloc::Global;
 use std::marker::Model;
@@ -162,25 +160,45 @@ fn count_below(places: &[DraftPlace], slice: u64) -> usize
     places.len()
 }
 
-/// A border of up to 15 places. Sixteen are cut before the last slice, of which there are at most ten.
-fn cut_last(alloc: Global, places: Vec<DraftPlace>) -> Result<Vec<Border>, Memory>
+/// Takes off the places from this slice on.
+fn split_before(places: &mut Vec<DraftPlace>, slice: u64) -> Result<Vec<DraftPlace>, Memory>
+    requires { IsLayer (draft_views places.old.items) }
+    ensures same { IfOk result (λ rest. draft_views places.new.items ++ draft_views rest.items ≡ draft_views places.old.items) }
+    ensures below { OnOk result (SlicesBelow slice (draft_views places.new.items)) }
+    ensures from { IfOk result (λ rest. SlicesFrom slice (draft_views rest.items)) }
+{
+    let start = count_below(places, slice);
+    Ok(places.split_off(start)?)
+}
+
+/// Puts these places behind the borders, as one more where there are any.
+fn push_border(borders: &mut Vec<Border>, places: Vec<DraftPlace>) -> Result<(), Memory>
+    requires lawful { IsLayer (draft_views places.items) }
+    requires few { length places.items ≤ 15 }
+    ensures { OnOk result (PutBehind (draft_views places.items) (border_views borders.old.items) (border_views borders.new.items)) }
+{
+    if places.is_empty() {
+        return Ok(());
+    }
+    borders.push(Border { places })?;
+    Ok(())
+}
+
+/// Puts up to 16 places behind the borders. Sixteen are cut before the last slice, of which there are at most ten.
+fn push_cut(borders: &mut Vec<Border>, places: Vec<DraftPlace>) -> Result<(), Memory>
     requires lawful { IsLayer (draft_views places.items) }
     requires some { 1 ≤ length places.items }
     requires most { length places.items ≤ 16 }
-    ensures same { IfOk result (λ bs. joined (border_views bs.items) ≡ draft_views places.items) }
-    ensures lawful { IfOk result (λ bs. AreBorders (border_views bs.items)) }
+    ensures { OnOk result (PutBehind (draft_views places.items) (border_views borders.old.items) (border_views borders.new.items)) }
 {
-    let mut borders = Vec::new(alloc);
     let mut places = places;
     if places.len() > 15 {
-        let start = count_below(&places, places[places.len() - 1].slice);
-        let last = places.split_off(start)?;
-        borders.push(Border { places })?;
-        borders.push(Border { places: last })?;
-        return Ok(borders);
+        let slice = places[places.len() - 1].slice;
+        let last = split_before(&mut places, slice)?;
+        push_border(borders, places)?;
+        return push_border(borders, last);
     }
-    borders.push(Border { places })?;
-    Ok(borders)
+    push_border(borders, places)
 }
 
 /// Two neighbouring lists of places: where the last place of the first and the first of the second hold longer keys of one slice, one link takes their place.
@@ -221,33 +239,52 @@ fn meet(
     Ok((places, rest))
 }
 
-/// The borders of two neighbouring lists of places. Most often each stays as it is, or both go into one.
-fn close(
-    alloc: Global,
+/// Puts two neighbouring lists of places behind the borders, where one slice ends the first and begins the second. Its places, at most ten, get a border of their own.
+fn push_around(
+    borders: &mut Vec<Border>,
     left: Vec<DraftPlace>,
     right: Vec<DraftPlace>,
-) -> Result<Vec<Border>, Memory>
+) -> Result<(), Memory>
+    requires lawful { IsLayer (draft_views left.items ++ draft_views right.items) }
+    requires left_some { IsBorder (draft_views left.items) }
+    requires right_some { IsBorder (draft_views right.items) }
+    requires met { last_slice_of (draft_views left.items) ≡ first_slice_of (draft_views right.items) }
+    ensures { OnOk result (PutBehind (draft_views left.items ++ draft_views right.items) (border_views borders.old.items) (border_views borders.new.items)) }
+{
+    let mut places = left;
+    let mut right = right;
+    let slice = right[0].slice;
+    places.append(&mut right)?;
+    let mut run = split_before(&mut places, slice)?;
+    // Nothing lies above the greatest slice: its places are then those above, and the run has none.
+    let above = split_before(&mut run, slice.saturating_add(1))?;
+    push_border(borders, places)?;
+    push_border(borders, run)?;
+    push_border(borders, above)
+}
+
+/// Puts two neighbouring lists of places behind the borders. Most often each stays as it is, or both go into one border.
+fn push_both(
+    borders: &mut Vec<Border>,
+    left: Vec<DraftPlace>,
+    right: Vec<DraftPlace>,
+) -> Result<(), Memory>
     requires lawful { IsLayer (draft_views left.items ++ draft_views right.items) }
     requires some { IsBorder (draft_views left.items) }
     requires few { length right.items ≤ 15 }
-    ensures same { IfOk result (λ bs. joined (border_views bs.items) ≡ draft_views left.items ++ draft_views right.items) }
-    ensures lawful { IfOk result (λ bs. AreBorders (border_views bs.items)) }
+    ensures { OnOk result (PutBehind (draft_views left.items ++ draft_views right.items) (border_views borders.old.items) (border_views borders.new.items)) }
 {
-    let mut borders = Vec::new(alloc);
     let mut left = left;
     let mut right = right;
     if left.len() + right.len() > 15 {
         if left[left.len() - 1].slice == right[0].slice {
-            left.append(&mut right)?;
-            return cut(alloc, left);
+            return push_around(borders, left, right);
         }
-        borders.push(Border { places: left })?;
-        borders.push(Border { places: right })?;
-        return Ok(borders);
+        push_border(borders, left)?;
+        return push_border(borders, right);
     }
     left.append(&mut right)?;
-    borders.push(Border { places: left })?;
-    Ok(borders)
+    push_border(borders, left)
 }
 
 impl Layer {
@@ -269,15 +306,15 @@ impl Layer {
         self.borders.is_empty()
     }
 
-    /// The layer of one key.
+    /// The layer of one key, to which another is soon added.
     fn single(alloc: Global, key: &[u8], columns: Columns<Kept>) -> Result<Layer, Memory>
         ensures pairs { IfOk result (λ l. layer_walk l ≡ (key.now, columns) ∷ []) }
         ensures lawful { IfOk result AreBorders }
     {
         let place = place_for(alloc, key, columns)?;
-        let mut places = Vec::new(alloc);
+        let mut places = Vec::with_capacity(alloc, 2)?;
         places.push(place)?;
-        let mut borders = Vec::new(alloc);
+        let mut borders = Vec::with_capacity(alloc, 1)?;
         borders.push(Border { places })?;
         Ok(Layer { borders })
     }
@@ -315,8 +352,7 @@ impl Layer {
         }
         let first = rest.remove(0);
         let (last, first) = meet(alloc, last.places, first.places)?;
-        let mut seam = close(alloc, last, first)?;
-        borders.append(&mut seam)?;
+        push_both(&mut borders, last, first)?;
         borders.append(&mut rest)?;
         Ok(Layer { borders })
     }
@@ -338,8 +374,7 @@ impl Layer {
             return Layer::single(alloc, key, columns);
         };
         let places = follow(alloc, last.places, key, columns)?;
-        let mut parts = cut_last(alloc, places)?;
-        borders.append(&mut parts)?;
+        push_cut(&mut borders, places)?;
         Ok(Layer { borders })
     }
 }

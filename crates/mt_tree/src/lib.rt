@@ -1,7 +1,6 @@
 //! The layered tree over keys, and queries of it.
 #![tactic(auto)]
 
-mod cut;
 mod finish;
 mod hit;
 mod layer;

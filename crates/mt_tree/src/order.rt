@@ -1,7 +1,6 @@
 //! Whether all keys of a layer lie below all keys of another.
 ghost use Rattle.std.specs.Prelude.{◌≡◌, ◌↔◌, [], ◌∷◌, IsTrue, IfSome, IfNone};
 ghost use Rattle.mt_tree.specs.Layer.{AllKeysBelow, IsPlace};
-ghost use Rattle.mt_tree.specs.Borders.{layer_walk};
 ghost use Rattle.mt_tree.specs.DraftViews.{draft_view};
 ghost use Rattle.mt_tree.specs.Edges.{PlaceEdge, LastEdge, FirstEdge};
 ghost use Rattle.mt_tree.specs.Sides.{side_walk};
@@ -87,7 +86,8 @@ fn first_edge<'a>(side: Side<'a>) -> Option<Edge<'a>>
     }
 }
 
-fn lies_below(left: Side, right: Side) -> bool
+/// Whether all keys of the left side lie below all keys of the right side.
+pub(crate) fn lies_below(left: Side, right: Side) -> bool
     ensures { IsTrue result ↔ AllKeysBelow (side_walk left.entry) (side_walk right.entry) }
 {
     let Some(last) = last_edge(left) else {
@@ -106,11 +106,4 @@ fn lies_below(left: Side, right: Side) -> bool
         return false;
     }
     lies_below(last.below, first.below)
-}
-
-/// Whether all keys of the first layer lie below all keys of the second.
-pub(crate) fn lies_above(left: &Layer, right: &Layer) -> bool
-    ensures { IsTrue result ↔ AllKeysBelow (layer_walk left.now) (layer_walk right.now) }
-{
-    lies_below(Side::Whole(left), Side::Whole(right))
 }

@@ -13,7 +13,7 @@ use crate::finish::finish;
 use crate::hit::Hit;
 use crate::layer::Layer;
 use crate::node::Node;
-use crate::order::lies_above;
+use crate::order::{Side, lies_below};
 use crate::visit::Visitor;
 use crate::wanted::Wanted;
 use arrayvec::ArrayVec;
@@ -22,7 +22,7 @@ use std::alloc::Global;
 use std::marker::Model;
 use std::mem;
 
-/// A layered tree under construction: lists of places, which join at their seams.
+/// A layered tree under construction: lists of borders, which join at their seams.
 #[derive(Drop)]
 pub struct Draft {
     layer: Layer,
@@ -32,8 +32,7 @@ pub struct Draft {
 
 impl Model for Draft {
     ghost use Rattle.std.specs.Prelude.{List};
-    ghost use Rattle.mt_tree.specs.Layer.{PlaceView};
-    ghost use Rattle.mt_tree.specs.Layer.{FitsAfter};
+    ghost use Rattle.mt_tree.specs.Layer.{PlaceView, FitsAfter};
     ghost use Rattle.mt_tree.specs.Borders.{AreBorders, layer_walk};
 
     ghost Value = { List (List PlaceView) };
@@ -153,7 +152,7 @@ impl PairSink for Draft {
 pub fn above(left: &Draft, right: &Draft) -> bool
     ensures { IsTrue result ↔ AllKeysBelow (layer_walk left.now) (layer_walk right.now) }
 {
-    lies_above(&left.layer, &right.layer)
+    lies_below(Side::Whole(&left.layer), Side::Whole(&right.layer))
 }
 
 impl Tree {

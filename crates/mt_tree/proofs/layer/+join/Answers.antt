@@ -1,18 +1,15 @@
-use Rattle.std.proofs.Common.{◌≡◌, ◌≤◌, ◌<◌, length, List, ◌++◌, refl, ap, sym, subst, ◌∙◌, arith, rules, append_assoc, length-append}
+use Rattle.std.proofs.Common.{◌≡◌, ◌≤◌, ◌<◌, length, List, refl, ap, sym, subst, ◌∙◌, arith, rules}
 use Rattle.std.proofs.lemmas.List.{length-map}
 use Rattle.mt_words.specs.Slices.{slice_bytes}
 use Rattle.mt_words.proofs.SliceBytes.{slice_bytes-length}
-use Rattle.mt_tree.specs.Layer.{PlaceView, walk, weight, pairs_at, Meet}
+use Rattle.mt_tree.specs.Layer.{walk, weight, pairs_at, Meet}
 use Rattle.mt_words.specs.Walks.{Pair}
-use Rattle.mt_tree.specs.Borders.{AreBorders, SameEnds, layer_walk}
-use Rattle.mt_tree.specs.Nodes.{joined, IsBorder}
-use Rattle.mt_tree.specs.DraftViews.{draft_view, draft_views, border_views}
+use Rattle.mt_tree.specs.Borders.{layer_walk}
+use Rattle.mt_tree.specs.Nodes.{IsBorder}
+use Rattle.mt_tree.specs.DraftViews.{draft_view, draft_views}
 use Rattle.mt_tree.specs.declared.layer.DraftPlace.{DraftPlace}
-use Rattle.mt_tree.specs.declared.layer.Border.{Border}
 use Rattle.mt_tree.proofs.Joins.{first_removed, last_lawful, below_at_seam, apart_layer, merged_layer, last_weight, below_lighter, below_shared, Merging, merged_lawful, merged_rank, same_slice}
-use Rattle.mt_tree.proofs.CutUps.{borders-append}
-use Rattle.mt_tree.proofs.Seams.{seam_are}
-use Rattle.mt_tree.proofs.Meets.{seam_of, same_first, glued_layer, ends_kept, ends_merged, sides, left_layer, right_layer, last_border}
+use Rattle.mt_tree.proofs.Meets.{seam_of, same_first, glued_layer, ends_kept, ends_merged, sides, left_layer, right_layer, last_border, seam_put}
 use Rattle.mt_tree.proofs.layer.+join.Goals as goal
 use Rattle.mt_tree.proofs.layer.+join.Goals.{meet-then-meets+in_ok-upper+in_ok-lower+in_ok-joined+in_ok-push, meet-else-meets+in_ok-push-2}
 
@@ -88,8 +85,8 @@ meet-returns-clause-slices t c =
           ends_kept _ _ _ _ c.requires.some.0 c.requires.some.1 (ap (λ v. v.items) w.places-is ∙ w.in_ok-push-2.ensures.items ∙ sym c.in-Some.ensures.items) (ap (λ v. v.items) w.rest-is)
     ]
 
-pub Layer::join-close-requires-clause-some : goal.Layer::join-close-requires-clause-some
-Layer::join-close-requires-clause-some t c =
+pub Layer::join-push_both-requires-clause-some : goal.Layer::join-push_both-requires-clause-some
+Layer::join-push_both-requires-clause-some t c =
     let some : 0 < length c.right.inside.borders.items = search rules in
     let s = sides _ _ _ _ _ _ _ _ c.left.view_is c.right.view_is c.left.invariant c.right.invariant c.requires c.in-Some.ensures.items some c.remove-first.ensures.value c.remove-first.ensures.items in
     let b : IsBorder (draft_views c.in-Some.last.places.items) = last_border _ _ _ _ _ s in
@@ -100,30 +97,14 @@ Layer::join-close-requires-clause-some t c =
     let y = length-map c.in_ok-last.last.items draft_view in
     (omega (arith, x, y, same), omega (arith, x, y, same))
 
-joined_borders : (whole most seam rest fs : List Border) → whole ≡ most ++ rest → most ≡ fs ++ seam → border_views whole ≡ border_views fs ++ (border_views seam ++ border_views rest)
-joined_borders whole most seam rest fs e f =
-    ap border_views (e ∙ ap (λ (z : List Border). z ++ rest) f ∙ append_assoc fs seam rest) ∙ borders-append fs (seam ++ rest) ∙ ap (λ (z : List (List PlaceView)). border_views fs ++ z) (borders-append seam rest)
-
 pub Layer::join-invariant_of-result-2 : goal.Layer::join-invariant_of-result-2
 Layer::join-invariant_of-result-2 t c =
     let some : 0 < length c.right.inside.borders.items = search rules in
     let s = sides _ _ _ _ _ _ _ _ c.left.view_is c.right.view_is c.left.invariant c.right.invariant c.requires c.in-Some.ensures.items some c.remove-first.ensures.value c.remove-first.ensures.items in
-    let b : IsBorder (draft_views c.in-Some.last.places.items) = last_border _ _ _ _ _ s in
-    let low : 1 ≤ length (draft_views c.in-Some.last.places.items) = b.0 in
-    let seam_is = c.in_ok-seam.ensures.same in
-    let kept : 1 ≤ length (joined (border_views c.in_ok-seam.seam.items)) =
-    omega (arith, ap (λ (z : List PlaceView). length z) seam_is, length-append (draft_views c.in_ok-last.last.items) (draft_views c.in_ok-last.first.items), length-map c.in-Some.last.places.items draft_view, length-map c.in_ok-last.last.items draft_view, c.in_ok-last.ensures.same) in
-    let ends = subst (SameEnds (draft_views c.in-Some.last.places.items) (draft_views c.remove-first.result.places.items)) (sym seam_is) c.in_ok-last.ensures.slices in
-    subst AreBorders (sym (joined_borders _ _ _ _ _ c.in_ok-append-2.ensures.items c.in_ok-append.ensures.items)) (seam_are _ _ _ _ _ s.left s.right c.in_ok-seam.ensures.lawful low kept ends)
+    seam_put _ _ _ _ _ _ _ _ _ s c.in_ok-push_both.ensures c.in_ok-append.ensures.items c.in_ok-last.ensures.same c.in_ok-last.ensures.slices
 
 pub Layer::join-returns-clause-lawful : goal.Layer::join-returns-clause-lawful
 Layer::join-returns-clause-lawful t c =
     let some : 0 < length c.right.inside.borders.items = search rules in
     let s = sides _ _ _ _ _ _ _ _ c.left.view_is c.right.view_is c.left.invariant c.right.invariant c.requires c.in-Some.ensures.items some c.remove-first.ensures.value c.remove-first.ensures.items in
-    let b : IsBorder (draft_views c.in-Some.last.places.items) = last_border _ _ _ _ _ s in
-    let low : 1 ≤ length (draft_views c.in-Some.last.places.items) = b.0 in
-    let seam_is = c.in_ok-seam.ensures.same in
-    let kept : 1 ≤ length (joined (border_views c.in_ok-seam.seam.items)) =
-    omega (arith, ap (λ (z : List PlaceView). length z) seam_is, length-append (draft_views c.in_ok-last.last.items) (draft_views c.in_ok-last.first.items), length-map c.in-Some.last.places.items draft_view, length-map c.in_ok-last.last.items draft_view, c.in_ok-last.ensures.same) in
-    let ends = subst (SameEnds (draft_views c.in-Some.last.places.items) (draft_views c.remove-first.result.places.items)) (sym seam_is) c.in_ok-last.ensures.slices in
-    subst AreBorders (sym (joined_borders _ _ _ _ _ c.in_ok-append-2.ensures.items c.in_ok-append.ensures.items)) (seam_are _ _ _ _ _ s.left s.right c.in_ok-seam.ensures.lawful low kept ends)
+    seam_put _ _ _ _ _ _ _ _ _ s c.in_ok-push_both.ensures c.in_ok-append.ensures.items c.in_ok-last.ensures.same c.in_ok-last.ensures.slices

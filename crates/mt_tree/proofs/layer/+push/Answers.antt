@@ -1,11 +1,7 @@
-use Rattle.std.proofs.Common.{◌≡◌, ◌≤◌, ◌-◌, ℕ, [], ◌∷◌, length, get_or, refl, sym, ap, subst, ◌∙◌, arith, rules}
+use Rattle.std.proofs.Common.{◌≡◌, ◌≤◌, ◌-◌, ℕ, [], ◌∷◌, length, get_or, refl, ap, ◌∙◌, arith, rules}
 use Rattle.std.proofs.lemmas.List.{length-map, take_rest}
-use Rattle.mt_tree.specs.Borders.{AreBorders}
-use Rattle.mt_tree.specs.Nodes.{first_slice_of}
-use Rattle.mt_tree.specs.DraftViews.{draft_view, draft_views, border_views}
-use Rattle.mt_tree.proofs.CutUps.{borders-append}
-use Rattle.mt_tree.proofs.Seams.{behind_are}
-use Rattle.mt_tree.proofs.Behind.{popped_lawful, last_lawful, own_layer, deeper, deeper_below, deeper_light, deeper_layer, deeper_walk, deeper_first, opened, opened_layer, opened_border, opened_below, opened_light}
+use Rattle.mt_tree.specs.DraftViews.{draft_view, draft_views}
+use Rattle.mt_tree.proofs.Behind.{popped_lawful, last_lawful, own_layer, deeper, deeper_below, deeper_light, deeper_layer, deeper_walk, deeper_first, opened, opened_layer, opened_border, opened_below, opened_light, opened_put}
 use Rattle.mt_tree.proofs.layer.+push.Goals as goal
 
 -- ---- the last border
@@ -16,8 +12,8 @@ Layer::push-follow-requires t c =
     let light = opened_light _ _ _ o in
     (omega (arith, light, c.decreases), (opened_layer _ _ _ o, (omega (arith, length-map c.in-Some.last.places.items draft_view), opened_below _ _ _ o ((c.args.key.now, c.args.columns) ∷ []) c.requires)))
 
-pub Layer::push-cut_last-requires-clause-most : goal.Layer::push-cut_last-requires-clause-most
-Layer::push-cut_last-requires-clause-most t c =
+pub Layer::push-push_cut-requires-clause-most : goal.Layer::push-push_cut-requires-clause-most
+Layer::push-push_cut-requires-clause-most t c =
     let o = opened _ _ _ _ c.layer.view_is c.layer.invariant c.in-Some.ensures.items in
     let most : length (draft_views c.in-Some.last.places.items) ≤ 15 = (opened_border _ _ _ o).1 in
     omega (arith, most, length-map c.in-Some.last.places.items draft_view, c.in_ok-places.ensures.more)
@@ -25,16 +21,17 @@ Layer::push-cut_last-requires-clause-most t c =
 pub Layer::push-invariant_of-result : goal.Layer::push-invariant_of-result
 Layer::push-invariant_of-result t c =
     let o = opened _ _ _ _ c.layer.view_is c.layer.invariant c.in-Some.ensures.items in
-    let some : 1 ≤ length (draft_views c.in-Some.last.places.items) = (opened_border _ _ _ o).0 in
-    subst AreBorders (sym (ap border_views c.in_ok-append.ensures.items ∙ borders-append _ _))
-    (behind_are _ _ _ o.are c.in_ok-parts.ensures.lawful some (ap first_slice_of c.in_ok-parts.ensures.same ∙ c.in_ok-places.ensures.first))
+    (opened_put _ _ _ o _ _ _ c.in_ok-push_cut.ensures c.in_ok-places.ensures.pairs c.in_ok-places.ensures.first).0
 
 pub Layer::push-returns-clause-lawful : goal.Layer::push-returns-clause-lawful
 Layer::push-returns-clause-lawful t c =
     let o = opened _ _ _ _ c.layer.view_is c.layer.invariant c.in-Some.ensures.items in
-    let some : 1 ≤ length (draft_views c.in-Some.last.places.items) = (opened_border _ _ _ o).0 in
-    subst AreBorders (sym (ap border_views c.in_ok-append.ensures.items ∙ borders-append _ _))
-    (behind_are _ _ _ o.are c.in_ok-parts.ensures.lawful some (ap first_slice_of c.in_ok-parts.ensures.same ∙ c.in_ok-places.ensures.first))
+    (opened_put _ _ _ o _ _ _ c.in_ok-push_cut.ensures c.in_ok-places.ensures.pairs c.in_ok-places.ensures.first).0
+
+pub Layer::push-returns-clause-pairs : goal.Layer::push-returns-clause-pairs
+Layer::push-returns-clause-pairs t c =
+    let o = opened _ _ _ _ c.layer.view_is c.layer.invariant c.in-Some.ensures.items in
+    (opened_put _ _ _ o _ _ _ c.in_ok-push_cut.ensures c.in_ok-places.ensures.pairs c.in_ok-places.ensures.first).1
 
 -- ---- a place of its own
 pub follow-meets_key-requires : goal.follow-meets_key-requires

@@ -1,0 +1,233 @@
+-- Places are put behind borders, as borders that are cut between slices.
+use Rattle.std.proofs.Common.{◌≡◌, ◌≢◌, ℕ, suc, ◌+◌, ◌-◌, ◌^◌, ◌<◌, ◌≤◌, min, List, [], ◌∷◌, ◌++◌, get_or, length, take, drop, sym, ap, ◌∙◌, subst, inl, inr, ◌⊎◌, arith, append_assoc, length-append}
+use Rattle.std.specs.List.{AllByRecursion}
+use Rattle.std.proofs.lemmas.Bool.{cases_lt}
+use Rattle.std.proofs.lemmas.List.{append-nil, map-append, length-map, take-append-drop}
+use Rattle.mt_tree.specs.Layer.{PlaceView, slice_at, rank_at, IsLayer, IsLayerFrom}
+use Rattle.mt_tree.specs.Nodes.{joined, SlicesBelow, SlicesFrom, IsBorder, CutAt, OfSlice, first_slice_of}
+use Rattle.mt_tree.specs.NodeFalls.{joined-append}
+use Rattle.mt_tree.specs.Borders.{PutBehind, AreBorders, last_slice_of}
+use Rattle.mt_tree.specs.DraftViews.{draft_views, draft_view, border_views}
+use Rattle.mt_tree.specs.declared.layer.Border.{Border}
+use Rattle.mt_tree.specs.declared.layer.DraftPlace.{DraftPlace}
+use Rattle.mt_tree.proofs.Joins.{slice_at-draft, slice_at-lt, all_weaker, all_front, all_back, length_at-le}
+use Rattle.mt_tree.proofs.Cuts.{slices_from, cut_nil, run_few}
+use Rattle.mt_tree.proofs.Seams.{are_append, cut_each, up_to_last, from_first_slice}
+use Rattle.mt_tree.specs.Falls.{layer_back, layer_front}
+
+pub borders-push : (bs : List Border) (b : Border) → border_views (bs ++ b ∷ []) ≡ border_views bs ++ draft_views b.places.items ∷ []
+borders-push bs b = map-append (λ (z : Border). draft_views z.places.items) bs (b ∷ [])
+
+pub borders-append : (bs ds : List Border) → border_views (bs ++ ds) ≡ border_views bs ++ border_views ds
+borders-append bs ds = map-append (λ (z : Border). draft_views z.places.items) bs ds
+
+pub parted : (ps xs ys : List DraftPlace) (i : ℕ) → xs ≡ take i ps → ys ≡ drop i ps → draft_views xs ++ draft_views ys ≡ draft_views ps
+parted ps xs ys i e f = sym (map-append draft_view xs ys) ∙ ap draft_views ((λ j. e j ++ f j) ∙ take-append-drop i ps)
+
+-- ---- borders put behind others
+pub put_none : (old : List (List PlaceView)) (places : List DraftPlace) → places ≡ [] → PutBehind (draft_views places) old old
+put_none old places e = record { more = []; behind = sym (append-nil old); same = sym (ap draft_views e); lawful = (tt, tt, tt) }
+
+pub alone : (b : List PlaceView) → IsBorder b → IsLayer b → AreBorders (b ∷ [])
+alone b h l = ((h, tt), (cut_nil b, tt), subst IsLayer (sym (append-nil b)) l)
+
+pub put_one : (old new : List Border) (b : Border) → new ≡ old ++ b ∷ [] → IsLayer (draft_views b.places.items) → 1 ≤ length b.places.items → length b.places.items ≤ 15 → PutBehind (draft_views b.places.items) (border_views old) (border_views new)
+put_one old new b e h some few =
+    let len = length-map b.places.items draft_view in
+    record {
+      more = draft_views b.places.items ∷ [];
+      behind = ap border_views e ∙ borders-push old b;
+      same = append-nil (draft_views b.places.items);
+      lawful = alone (draft_views b.places.items) (omega arith, omega arith) h;
+    }
+
+pub put_then : (xs ys : List PlaceView) (a b c : List (List PlaceView)) → PutBehind xs a b → PutBehind ys b c → CutAt xs ys → PutBehind (xs ++ ys) a c
+put_then xs ys a b c p q cut =
+    let apart : CutAt (joined p.more) (joined q.more) = subst (λ (z : List PlaceView). CutAt z (joined q.more)) (sym p.same) (subst (CutAt xs) (sym q.same) cut) in
+    record {
+      more = p.more ++ q.more;
+      behind = q.behind ∙ ap (λ (z : List (List PlaceView)). z ++ q.more) p.behind ∙ append_assoc a p.more q.more;
+      same = joined-append p.more q.more ∙ (λ i. p.same i ++ q.same i);
+      lawful = are_append p.more q.more p.lawful q.lawful (cut_each p.more (joined q.more) apart);
+    }
+
+-- ---- where a cut may stand
+cut_at : (s : ℕ) (xs ys : List PlaceView) → SlicesBelow s xs → SlicesFrom s ys → CutAt xs ys
+cut_at s [] ys below from = tt
+cut_at s (x ∷ xs) ys below from =
+    let lt : slice_at x < s = below.0 in
+    (all_weaker (λ q. s ≤ slice_at q) (λ q. suc (slice_at x) ≤ slice_at q) (λ q le. omega arith) ys from, cut_at s xs ys below.1 from)
+
+-- between two slices
+cut_between : (low : ℕ) (xs ys : List PlaceView) → IsLayerFrom low (xs ++ ys) → 1 ≤ length xs → 1 ≤ length ys → last_slice_of xs ≢ first_slice_of ys → CutAt xs ys
+cut_between low [] ys h a b n = tt
+cut_between low (p ∷ []) [] h a b n = absurd (omega arith)
+cut_between low (p ∷ []) (y ∷ ys) h a b n =
+    let from : suc (rank_at p) ≤ rank_at y = h.2.1 in
+    let few = length_at-le y h.2.0 in
+    let other : slice_at p ≢ slice_at y = n in
+    let above : suc (slice_at p) ≤ slice_at y = omega arith in
+    ((above, slices_from (suc (rank_at y)) (suc (slice_at p)) ys (omega arith) h.2.2), tt)
+cut_between low (p ∷ q ∷ xs) ys h a b n =
+    let rest = cut_between (suc (rank_at p)) (q ∷ xs) ys h.2 (omega arith) b n in
+    let from : suc (rank_at p) ≤ rank_at q = h.2.1 in
+    let few = length_at-le q h.2.0 in
+    (all_weaker (λ y. suc (slice_at q) ≤ slice_at y) (λ y. suc (slice_at p) ≤ slice_at y) (λ y le. omega arith) ys rest.0, rest)
+
+-- ---- at most 15 places on each side of a cut
+of_slice : (s : ℕ) (ys : List PlaceView) → SlicesFrom s ys → AllByRecursion (λ p. slice_at p ≤ s) ys → OfSlice s ys
+of_slice s [] from upto = tt
+of_slice s (y ∷ ys) from upto = let le : s ≤ slice_at y = from.0 in let up : slice_at y ≤ s = upto.0 in (omega arith, of_slice s ys from.1 upto.1)
+
+-- places from a slice on, none of which is above it
+run_short : (s : ℕ) (ys : List PlaceView) → IsLayer ys → SlicesFrom s ys → AllByRecursion (λ p. slice_at p ≤ s) ys → length ys ≤ 10
+run_short s ys h from upto = run_few s ys h (of_slice s ys from upto)
+
+last_below : (s : ℕ) (ps : List PlaceView) → 1 ≤ length ps → SlicesBelow s ps → last_slice_of ps < s
+last_below s [] some h = absurd (omega arith)
+last_below s (p ∷ []) some h = h.0
+last_below s (p ∷ q ∷ ps) some h = last_below s (q ∷ ps) (omega arith) h.1
+
+behind_some : (s : ℕ) (ps xs ys : List PlaceView) → 1 ≤ length ps → last_slice_of ps ≡ s → xs ++ ys ≡ ps → SlicesBelow s xs → 1 ≤ length ys
+behind_some s ps xs [] some last e below =
+    let lt = last_below s ps some (subst (SlicesBelow s) (sym (append-nil xs) ∙ e) below) in absurd (omega arith)
+behind_some s ps xs (y ∷ ys) some last e below = omega arith
+
+-- sixteen places, cut before their last slice
+pub record Halves (all xs ys : List PlaceView) : Type 0 where
+  pub whole : xs ++ ys ≡ all
+  pub first : IsLayer xs × (length xs ≤ 15)
+  pub second : IsLayer ys × (length ys ≤ 15)
+  pub cut : CutAt xs ys
+
+sixteen : (s : ℕ) (ps xs ys : List PlaceView) → IsLayer ps → length ps ≡ 16 → last_slice_of ps ≡ s → xs ++ ys ≡ ps → SlicesBelow s xs → SlicesFrom s ys → Halves ps xs ys
+sixteen s ps xs ys h many last e below from =
+    let layer : IsLayer (xs ++ ys) = subst IsLayer (sym e) h in
+    let some = behind_some s ps xs ys (omega arith) last e below in
+    let upto : AllByRecursion (λ p. slice_at p ≤ s) ps = subst (λ (n : ℕ). AllByRecursion (λ p. slice_at p ≤ n) ps) last (up_to_last 0 ps h) in
+    let here : AllByRecursion (λ p. slice_at p ≤ s) ys = all_back (λ p. slice_at p ≤ s) xs ys (subst (AllByRecursion (λ p. slice_at p ≤ s)) (sym e) upto) in
+    let few = run_short s ys (layer_back 0 xs ys layer) from here in
+    let count : length xs + length ys ≡ 16 = sym (length-append xs ys) ∙ ap (λ (z : List PlaceView). length z) e ∙ many in
+    record { whole = e; first = (layer_front 0 xs ys layer, omega arith); second = (layer_back 0 xs ys layer, omega arith); cut = cut_at s xs ys below from }
+
+pub put_halves : (all xs ys : List PlaceView) (a b c : List (List PlaceView)) → Halves all xs ys → PutBehind xs a b → PutBehind ys b c → PutBehind all a c
+put_halves all xs ys a b c h p q = subst (λ (z : List PlaceView). PutBehind z a c) h.whole (put_then xs ys a b c p q h.cut)
+
+few_below : (s : ℕ) (xs zs ls rs : List PlaceView) → xs ++ zs ≡ ls ++ rs → SlicesBelow s xs → SlicesFrom s rs → length xs ≤ length ls
+few_below s [] zs ls rs e below from = omega arith
+few_below s (x ∷ xs) zs [] rs e below from =
+    let lt : slice_at x < s = below.0 in
+    let le : s ≤ slice_at x = (subst (SlicesFrom s) (sym e) from).0 in absurd (omega arith)
+few_below s (x ∷ xs) zs (l ∷ ls) rs e below from = omega (arith, few_below s xs zs ls rs (ap (drop 1) e) below.1 from)
+
+slices_fit : (low : ℕ) (ps : List PlaceView) → IsLayerFrom low ps → AllByRecursion (λ p. slice_at p < 2 ^ 64) ps
+slices_fit low [] h = tt
+slices_fit low (p ∷ ps) h = (slice_at-lt p h.0, slices_fit (suc (rank_at p)) ps h.2)
+
+-- two borders that share a slice, cut before it and behind it
+pub record Thirds (all xs run ys : List PlaceView) : Type 0 where
+  pub whole : xs ++ (run ++ ys) ≡ all
+  pub first : IsLayer xs × (length xs ≤ 15)
+  pub second : IsLayer run × (length run ≤ 15)
+  pub third : IsLayer ys × (length ys ≤ 15)
+  pub before : CutAt xs (run ++ ys)
+  pub behind : CutAt run ys
+
+thirds : (s next : ℕ) (left right xs rest run ys : List PlaceView) → IsLayer (left ++ right) → IsBorder left → IsBorder right → last_slice_of left ≡ s → first_slice_of right ≡ s → next ≡ min (s + 1) (2 ^ 64 - 1)
+    → xs ++ rest ≡ left ++ right → run ++ ys ≡ rest → SlicesBelow s xs → SlicesFrom s rest → SlicesBelow next run → SlicesFrom next ys → Thirds (left ++ right) xs run ys
+thirds s next left right xs rest run ys h l r last first is e f below from_rest run_below ys_from =
+    let l_few : length left ≤ 15 = l.1 in
+    let right_from : SlicesFrom s right = subst (λ (n : ℕ). SlicesFrom n right) first (from_first_slice 0 right (layer_back 0 left right h)) in
+    let run_upto : AllByRecursion (λ p. slice_at p ≤ s) run = all_weaker (λ p. slice_at p < next) (λ p. slice_at p ≤ s) (λ p lt. omega arith) run run_below in
+    let few = run_short s run run_layer (all_front (λ p. s ≤ slice_at p) run ys from) run_upto in
+    let fewer = few_below s xs (run ++ ys) left right whole below right_from in
+    record {
+      whole = whole;
+      first = (layer_front 0 xs (run ++ ys) all_layer, omega arith);
+      second = (run_layer, omega arith);
+      third = (ys_layer, by (cases_lt (s + 1) (2 ^ 64)));
+      before = cut_at s xs (run ++ ys) below from;
+      behind = cut_at next run ys run_below ys_from;
+    }
+  where
+    whole : xs ++ (run ++ ys) ≡ left ++ right
+    whole = ap (λ (z : List PlaceView). xs ++ z) f ∙ e
+
+    from : SlicesFrom s (run ++ ys)
+    from = subst (SlicesFrom s) (sym f) from_rest
+
+    all_layer : IsLayer (xs ++ (run ++ ys))
+    all_layer = subst IsLayer (sym whole) h
+
+    run_layer : IsLayer run
+    run_layer = layer_front 0 run ys (layer_back 0 xs (run ++ ys) all_layer)
+
+    ys_layer : IsLayer ys
+    ys_layer = layer_back 0 run ys (layer_back 0 xs (run ++ ys) all_layer)
+
+    by : (s + 1 < 2 ^ 64) ⊎ (2 ^ 64 ≤ s + 1) → length ys ≤ 15
+    by (inl lt) =
+        let r_few : length right ≤ 15 = r.1 in
+        let upto : AllByRecursion (λ p. slice_at p ≤ s) left = subst (λ (n : ℕ). AllByRecursion (λ p. slice_at p ≤ n) left) last (up_to_last 0 left (layer_front 0 left right h)) in
+        let left_below : SlicesBelow next left = all_weaker (λ p. slice_at p ≤ s) (λ p. slice_at p < next) (λ p le. omega arith) left upto in
+        let parts : left ++ right ≡ (xs ++ run) ++ ys = sym whole ∙ sym (append_assoc xs run ys) in
+        let fewer = few_below next left right (xs ++ run) ys parts left_below ys_from in
+        let count : length left + length right ≡ length (xs ++ run) + length ys = sym (length-append left right) ∙ ap (λ (z : List PlaceView). length z) parts ∙ length-append (xs ++ run) ys in
+        omega arith
+    by (inr ge) =
+        let upto : AllByRecursion (λ p. slice_at p ≤ s) ys = all_weaker (λ p. slice_at p < 2 ^ 64) (λ p. slice_at p ≤ s) (λ p lt. omega arith) ys (slices_fit 0 ys ys_layer) in
+        let few = run_short s ys ys_layer (all_back (λ p. s ≤ slice_at p) run ys from) upto in
+        omega arith
+
+-- and put behind borders in three
+pub put_thirds : (all xs run ys : List PlaceView) (a b c d : List (List PlaceView)) → Thirds all xs run ys → PutBehind xs a b → PutBehind run b c → PutBehind ys c d → PutBehind all a d
+put_thirds all xs run ys a b c d t p q r =
+    subst (λ (z : List PlaceView). PutBehind z a d) t.whole (put_then xs (run ++ ys) a b d p (put_then run ys b c d q r t.behind) t.before)
+
+-- ---- the slices at the ends
+last_slice_is : (xs : List DraftPlace) (x : DraftPlace) → 1 ≤ length xs → x ≡ get_or xs (length xs - 1) x → last_slice_of (draft_views xs) ≡ x.slice
+last_slice_is [] x h e = absurd (omega arith)
+last_slice_is (y ∷ []) x h e = let first : length (y ∷ []) - 1 ≡ 0 = omega arith in slice_at-draft y ∙ ap (λ (z : DraftPlace). z.slice) (sym (e ∙ ap (λ (k : ℕ). get_or (y ∷ []) k x) first))
+last_slice_is (y ∷ z ∷ xs) x h e =
+    let next : length (y ∷ z ∷ xs) - 1 ≡ suc (length (z ∷ xs) - 1) = omega arith in
+    last_slice_is (z ∷ xs) x (omega arith) (e ∙ ap (λ (k : ℕ). get_or (y ∷ z ∷ xs) k x) next)
+
+first_slice_is : (xs : List DraftPlace) (x : DraftPlace) → 1 ≤ length xs → x ≡ get_or xs 0 x → first_slice_of (draft_views xs) ≡ x.slice
+first_slice_is [] x h e = absurd (omega arith)
+first_slice_is (y ∷ xs) x h e = slice_at-draft y ∙ ap (λ (z : DraftPlace). z.slice) (sym e)
+
+-- of places that are more than one border holds
+pub seam_slices : (left right : List DraftPlace) (x y : DraftPlace) (n : ℕ) → IsBorder (draft_views left) → 15 < length left + length right → x ≡ get_or left (n - 1) x → n ≡ length left → y ≡ get_or right 0 y
+    → (last_slice_of (draft_views left) ≡ x.slice) × (first_slice_of (draft_views right) ≡ y.slice)
+seam_slices left right x y n b many last whole first =
+    let some : 1 ≤ length (draft_views left) = b.0 in
+    let most : length (draft_views left) ≤ 15 = b.1 in
+    let count = length-map left draft_view in
+    (last_slice_is left x (omega arith) (last ∙ ap (λ (k : ℕ). get_or left (k - 1) x) whole), first_slice_is right y (omega arith) first)
+
+pub cut_apart : (left right : List DraftPlace) → IsLayer (draft_views left ++ draft_views right) → IsBorder (draft_views left) → 15 < length left + length right → last_slice_of (draft_views left) ≢ first_slice_of (draft_views right) → CutAt (draft_views left) (draft_views right)
+cut_apart left right h b many other =
+    let most : length (draft_views left) ≤ 15 = b.1 in
+    cut_between 0 (draft_views left) (draft_views right) h b.0 (omega (arith, length-map left draft_view, length-map right draft_view)) other
+
+-- ---- stored places
+pub few_places : (ps : List DraftPlace) → length (draft_views ps) ≤ 15 → length ps ≤ 15
+few_places ps few = omega (arith, length-map ps draft_view)
+
+pub halves : (ps xs ys : List DraftPlace) (x : DraftPlace) (n : ℕ) → IsLayer (draft_views ps) → length ps ≡ 16 → x ≡ get_or ps (n - 1) x → n ≡ length ps
+    → draft_views xs ++ draft_views ys ≡ draft_views ps → SlicesBelow x.slice (draft_views xs) → SlicesFrom x.slice (draft_views ys) → Halves (draft_views ps) (draft_views xs) (draft_views ys)
+halves ps xs ys x n h many last whole e below from =
+    sixteen x.slice (draft_views ps) (draft_views xs) (draft_views ys) h (length-map ps draft_view ∙ many) (last_slice_is ps x (omega arith) (last ∙ ap (λ (k : ℕ). get_or ps (k - 1) x) whole)) e below from
+
+pub all_rest : (left right whole xs rest : List DraftPlace) → whole ≡ left ++ right → draft_views xs ++ draft_views rest ≡ draft_views whole → draft_views xs ++ draft_views rest ≡ draft_views left ++ draft_views right
+all_rest left right whole xs rest e f = f ∙ ap draft_views e ∙ map-append draft_view left right
+
+pub around : (left right whole xs rest run ys : List DraftPlace) (x : DraftPlace) (next : ℕ) → IsLayer (draft_views left ++ draft_views right) → IsBorder (draft_views left) → IsBorder (draft_views right)
+    → last_slice_of (draft_views left) ≡ first_slice_of (draft_views right) → x ≡ get_or right 0 x → next ≡ min (x.slice + 1) (2 ^ 64 - 1)
+    → whole ≡ left ++ right → draft_views xs ++ draft_views rest ≡ draft_views whole → draft_views run ++ draft_views ys ≡ draft_views rest
+    → SlicesBelow x.slice (draft_views xs) → SlicesFrom x.slice (draft_views rest) → SlicesBelow next (draft_views run) → SlicesFrom next (draft_views ys)
+    → Thirds (draft_views left ++ draft_views right) (draft_views xs) (draft_views run) (draft_views ys)
+around left right whole xs rest run ys x next h l r met at is e f g below from run_below ys_from =
+    let some : 1 ≤ length (draft_views right) = r.0 in
+    let first = first_slice_is right x (omega (arith, length-map right draft_view)) at in
+    thirds x.slice next (draft_views left) (draft_views right) (draft_views xs) (draft_views rest) (draft_views run) (draft_views ys) h l r (met ∙ first) first is (all_rest left right whole xs rest e f) g below from run_below ys_from
