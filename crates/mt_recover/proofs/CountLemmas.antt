@@ -1,5 +1,5 @@
 -- How many updates there are: of the records of logs, and by where their timestamps lie.
-use Rattle.std.proofs.Common.{◌≡◌, ◌∙◌, inl, inr, zero, sym, subst, Contains, ◌++◌, ℕ, suc, ◌+◌, ◌-◌, ◌≤◌, Bool, true, false, List, [], ◌∷◌, length, Option, Some, None, refl, ap, arith}
+use Rattle.std.proofs.Common.{◌≡◌, ◌∙◌, inl, inr, zero, sym, subst, Contains, ◌++◌, ℕ, suc, ◌+◌, ◌≤◌, Bool, true, false, List, [], ◌∷◌, length, Option, Some, None, refl, ap, arith}
 use Rattle.std.specs.Prelude.{cond, nat_lt, nat_le, filter}
 use Rattle.std.proofs.lemmas.Bool.Decides.{nat_tests}
 use Rattle.std.proofs.lemmas.List.{length-append}
@@ -150,14 +150,17 @@ keys_few (p ∷ ps) updates rise has =
     let own = has p (head_in p ps) in
     let split = around updates own.0 own.1 in
     let others : (q : Pair) → Contains ps q → (u : Update) × Contains (split.0 ++ split.1) u × (u.key ≡ q.0) = λ q at.
-    let other = has q (tail_in p ps q at) in
-    (other.0, elim (Contains-append_cases split.0 (own.0 ∷ split.1) other.0 (subst (λ us. Contains us other.0) split.2 other.1)) as (λ _. Contains (split.0 ++ split.1) other.0) [
-      | inl front ↦ Contains-append_left split.0 split.1 other.0 front
-      | inr rest ↦ Contains-append_right split.0 split.1 other.0 (elim (head_or_tail own.0 other.0 split.1 rest) as (λ _. Contains split.1 other.0) [
+    let other = has q (tail_in p q ps at) in (
+      other.0,
+      elim (Contains-append_cases split.0 (own.0 ∷ split.1) other.0 (subst (λ us. Contains us other.0) split.2 other.1)) as (λ _. Contains (split.0 ++ split.1) other.0) [
+        | inl front ↦ Contains-append_left split.0 split.1 other.0 front
+        | inr rest ↦ Contains-append_right split.0 split.1 other.0 (elim (head_or_tail own.0 other.0 split.1 rest) as (λ _. Contains split.1 other.0) [
           | inl e ↦ absurd (below_itself p.0 (subst (IsBelow p.0) (sym other.2 ∙ sym (ap (λ (u : Update). u.key) e) ∙ own.2) (of_each (λ (o : Pair). IsBelow p.0 o.0) ps q rise.0 at)))
           | inr behind ↦ behind
         ])
-    ], other.2) in
+      ],
+      other.2,
+    ) in
     omega (arith, keys_few ps (split.0 ++ split.1) rise.1 others, ap length split.2, length-append split.0 (own.0 ∷ split.1), length-append split.0 split.1)
 
 pub walk_few : (updates : List Update) (pairs : List Pair) → IsWalk updates pairs → length pairs ≤ length updates

@@ -1,5 +1,5 @@
 -- From the scans of the logs to what recovery finds.
-use Rattle.std.proofs.Common.{◌≡◌, ℕ, zero, suc, ◌<◌, ◌≤◌, Bool, true, false, List, [], ◌∷◌, ◌++◌, length, get_or, Option, Some, None, Contains, IsPermutation, ◌∙◌, refl, sym, ap, subst, arith}
+use Rattle.std.proofs.Common.{◌≡◌, ◌^◌, ℕ, zero, suc, ◌<◌, ◌≤◌, Bool, true, false, List, [], ◌∷◌, ◌++◌, length, get_or, Option, Some, None, Contains, IsPermutation, ◌∙◌, refl, sym, ap, subst, arith}
 use Rattle.std.specs.Prelude.{nat_lt, not, cond, filter}
 use Rattle.std.specs.List.{position, position_or_len}
 use Rattle.std.specs.Option.{option_map}
@@ -210,7 +210,7 @@ recovered_of logs parts scans start moved pairs keys outcome is same walk fits c
     let facts = is.facts in
     let many = same_count logs parts scans start moved is same in
     let walk : IsWalk (survivors_in facts) pairs = walk_of (survivors_in facts) moved pairs (subst (λ (us : List Update). IsPermutation us moved) (same_survivors logs parts scans start is) same)
-            (survivors_apart facts.known facts.cutoff facts.chosen (records_of facts.readings) facts.is_chosen) walk in
+    (survivors_apart facts.known facts.cutoff facts.chosen (records_of facts.readings) facts.is_chosen) walk in
     let keys_are : keys ≡ length pairs = omega (arith, count, fits, many, walk_few (survivors_in facts) pairs walk) in
     subst (IsRecoveredOf logs parts) (sym finish.is) (record {
       store = record { facts = facts; no_gap = is.no_gap; walk = walk };

@@ -64,7 +64,7 @@ one_report logs parts outcome other is too =
     let late = is.report.late ∙ (λ i. length (filter (is_late (same.1 i)) (updates_in (same.0 i)))) ∙ sym too.report.late in
     let store = one_store logs parts outcome.store other.store is.store too.store in
     let keys = is.report.keys ∙ ap length store ∙ sym too.report.keys in
-    let layers = one_count outcome.store outcome.report.layers other.report.layers is.report.layers (subst (λ (w : List Pair). CountsLayers w other.report.layers) (sym store) too.report.layers) in
+    let layers = one_count outcome.store outcome.report.layers other.report.layers is.report.layers (subst (λ w. CountsLayers w other.report.layers) (sym store) too.report.layers) in
     record {
       skipped = one_skipped is.store.facts.known too.store.facts.known outcome.report.skipped.items other.report.skipped.items same.2 a.skipped b.skipped;
       nameless = one_nameless is.store.facts.known too.store.facts.known outcome.report.nameless.items other.report.nameless.items same.2 a.nameless b.nameless;

@@ -1,19 +1,18 @@
 -- Pieces as a walk.
-use Rattle.std.proofs.Common.{◌≡◌, ◌<◌, ℕ, List, [], ◌∷◌, length, map, Some, refl, sym, subst, arith}
-use Rattle.std.specs.Prelude.{slice_get, slice_index_or, Result, Vec, Ok, IfOk}
-use Rattle.std.specs.Global.{Global}
+use Rattle.std.proofs.Common.{◌≡◌, ◌∙◌, ◌++◌, ◌<◌, ap, append_assoc, ℕ, List, [], ◌∷◌, length, map, Some, refl, sym, subst, arith}
+use Rattle.std.specs.Prelude.{slice_get, slice_index_or, Result, Ok, IfOk}
 use Rattle.std.specs.List.{AllZip}
+use Rattle.std.proofs.lemmas.List.{append-nil}
 use Rattle.std.proofs.lemmas.Option.{get_or_from_slice_get}
 use Rattle.std.proofs.lemmas.Slice.Zip.{AllZip-long}
 use Rattle.mt_words.specs.declared.fault.Memory.{Memory}
 use Rattle.mt_words.specs.declared.update.Update.{Update}
-use Rattle.std.specs.List.{AllByRecursion}
 use Rattle.mt_words.specs.Walks.{Pair, KeysRise}
 use Rattle.mt_words.specs.Words.{IsBelow}
 use Rattle.mt_tree.specs.Layer.{AllKeysBelow}
-use Rattle.mt_tree.proofs.Joins.{all_back}
+use Rattle.mt_tree.proofs.Joins.{all_front, all_back}
 use Rattle.mt_replay.specs.Walk.{IsWalk}
-use Rattle.mt_replay.specs.Pieces.{IsPiece}
+use Rattle.mt_replay.specs.Pieces.{IsPiece, joined}
 use Rattle.mt_recover.proofs.SharingLemmas.{zip_at}
 
 -- where nothing is cut, the one piece is the walk
@@ -56,7 +55,27 @@ done_pieces {X} of Q post workers count numbers answers done long each zip are s
 
 -- ---- drafts in order
 
--- keys that rise through both lists are below each other
-pub front_below : (v w : List Pair) → KeysRise (v ++ w) → AllKeysBelow v w
+-- keys that rise through two lists are below each other
+front_below : (v w : List Pair) → KeysRise (v ++ w) → AllKeysBelow v w
 front_below [] w rise = tt
 front_below (p ∷ v) w rise = (all_back (λ (q : Pair). IsBelow p.0 q.0) v w rise.0, front_below v w rise.1)
+
+below_front : (v b c : List Pair) → AllKeysBelow v (b ++ c) → AllKeysBelow v b
+below_front [] b c below = tt
+below_front (p ∷ v) b c below = (all_front (λ (q : Pair). IsBelow p.0 q.0) b c below.0, below_front v b c below.1)
+
+joined_more : {X : Type 0} (of : X → List Pair) (done rest : List X) → joined (map of (done ++ rest)) ≡ joined (map of done) ++ joined (map of rest)
+joined_more of [] rest = refl
+joined_more of (x ∷ xs) rest = ap (λ w. of x ++ w) (joined_more of xs rest) ∙ sym (append_assoc (of x) (joined (map of xs)) (joined (map of rest)))
+
+-- what is joined so far lies below the next
+pub next_above : {X : Type 0} (of : X → List Pair) (done left : List X) (x : X) (rest all : List X) (whole : List Pair) → done ++ left ≡ all → left ≡ x ∷ rest → whole ≡ joined (map of done)
+    → KeysRise (joined (map of all)) → AllKeysBelow whole (of x)
+next_above of done left x rest all whole parts next is rise =
+    let split = ap (λ xs. joined (map of xs)) (sym parts ∙ ap (λ xs. done ++ xs) next) ∙ joined_more of done (x ∷ rest) in
+    let below = front_below (joined (map of done)) (of x ++ joined (map of rest)) (subst KeysRise split rise) in
+    subst (λ w. AllKeysBelow w (of x)) (sym is) (below_front (joined (map of done)) (of x) (joined (map of rest)) below)
+
+-- what is joined with the next
+pub join_next : {X : Type 0} (of : X → List Pair) (done : List X) (x : X) (whole new : List Pair) → whole ≡ joined (map of done) → new ≡ whole ++ of x → new ≡ joined (map of (done ++ x ∷ []))
+join_next of done x whole new is more = more ∙ (λ i. is i ++ sym (append-nil (of x)) i) ∙ sym (joined_more of done (x ∷ []))

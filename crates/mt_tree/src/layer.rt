@@ -1,7 +1,6 @@
 //! A layer under construction: a list of borders, each of them a list of places.
 ghost use Rattle.std.specs.Prelude.{◌≡◌, ◌≤◌, ◌+◌, MatchBool, ◌<◌, ◌++◌, ◌∷◌, ◌↔◌, [], length, take, drop, IfOk, OnOk, IsTrue};
-ghost use Rattle.mt_tree.specs.Layer.{FitsAfter, IsLayer, walk, pairs_at, put_before, length_at, IsPlace, HasNoEmptyKey, AllKeysBelow, Meet};
-ghost use Rattle.mt_words.specs.Walks.{KeysRise};
+ghost use Rattle.mt_tree.specs.Layer.{IsLayer, walk, pairs_at, put_before, length_at, IsPlace, HasNoEmptyKey, AllKeysBelow, Meet};
 ghost use Rattle.mt_tree.specs.DraftViews.{draft_view, draft_views, border_views};
 ghost use Rattle.mt_tree.specs.Nodes.{IsBorder, SlicesBelow, SlicesFrom, first_slice_of};
 ghost use Rattle.mt_tree.specs.Borders.{AreBorders, PutBehind, layer_walk, SameEnds, last_slice_of};

@@ -1,10 +1,10 @@
 //! Ranges of keys.
-ghost use Rattle.std.specs.Prelude.{◌≡◌, ◌≢◌, ◌≤◌, ◌<◌, ◌+◌, ◌*◌, ◌↔◌, ◌++◌, ◌∷◌, [], length, take, drop, min, not, OnOk, IfOk, IsTrue};
+ghost use Rattle.std.specs.Prelude.{◌≡◌, ◌≢◌, ◌≤◌, ◌<◌, ◌+◌, ◌*◌, ◌++◌, ◌∷◌, [], length, take, drop, min, not, OnOk};
 ghost use Rattle.std.specs.Ordering.{nat_cmp, is_lt};
 ghost use Rattle.std.specs.Cmp.Lexicographic.{slice_cmp};
 ghost use Rattle.mt_words.specs.Limits.{widest};
 ghost use Rattle.mt_words.specs.Slices.{slice_in};
-ghost use Rattle.mt_tree.specs.Layer.{key_rank, walk, pairs_at, rank_at, put_before, IsPlace, FitsAfter};
+ghost use Rattle.mt_tree.specs.Layer.{key_rank, walk, pairs_at, rank_at, IsPlace, FitsAfter};
 ghost use Rattle.mt_tree.specs.Nodes.{places};
 ghost use Rattle.mt_tree.specs.NodeViews.{view_of};
 ghost use Rattle.mt_tree.specs.Ranging.{from, found};

@@ -1,6 +1,6 @@
 //! Drafts and trees.
 ghost use Rattle.std.specs.Prelude.{ℕ, ◌≡◌, ◌↔◌, ◌++◌, ◌∷◌, [], ◌<◌, List, min, ◌^◌, ◌-◌, Contains, MatchOption, IfOk, OnOk, OnErr, IsTrue};
-ghost use Rattle.mt_tree.specs.Layer.{find_key, AllKeysBelow};
+ghost use Rattle.mt_tree.specs.Layer.{AllKeysBelow};
 ghost use Rattle.mt_words.specs.Limits.{widest};
 ghost use Rattle.mt_words.specs.Walks.{KeysRise};
 ghost use Rattle.mt_words.specs.Words.{IsKey};

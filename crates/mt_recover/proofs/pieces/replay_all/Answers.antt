@@ -5,5 +5,5 @@ use Rattle.mt_recover.proofs.PiecesLemmas.{uncut_piece}
 use Rattle.mt_recover.proofs.pieces.replay_all.Goals as goal
 
 pub returns-clause-walk : goal.returns-clause-walk
-returns-clause-walk c = IfOk-weaker c.replay_into.result _ _
-    (λ draft is apart. uncut_piece (together c.args.lists.now) c.none.result (layer_walk draft) c.none.ensures (is apart)) c.replay_into.ensures.walk
+returns-clause-walk c = IfOk-weaker c.replay_into-2.result _ _
+    (λ draft is apart. uncut_piece (together c.args.lists.now) c.none.result (layer_walk draft) c.none.ensures (is apart)) c.replay_into-2.ensures.walk

@@ -1,9 +1,9 @@
 use Rattle.std.proofs.Common.{◌≡◌, ◌+◌, ℕ, List, length, map, sym, subst, rules, arith}
 use Rattle.std.proofs.lemmas.Result.{IfOk-weaker}
 use Rattle.mt_words.specs.declared.update.Update.{Update}
-use Rattle.mt_words.specs.Walks.{Pair, IsMap}
+use Rattle.mt_words.specs.Walks.{IsMap}
 use Rattle.mt_replay.specs.Walk.{IsWalk, AreApart}
-use Rattle.mt_replay.specs.Pieces.{IsPiece, IsMapIn, ArePieces, AreMapsIn, joined}
+use Rattle.mt_replay.specs.Pieces.{IsPiece, IsMapIn, AreMapsIn, joined}
 use Rattle.mt_replay.specs.Runs.{together}
 use Rattle.mt_tree.specs.Borders.{layer_walk}
 use Rattle.mt_recover.proofs.PiecesLemmas.{done_pieces}
@@ -25,7 +25,7 @@ pub join_all-requires : goal.join_all-requires
 join_all-requires g c = (is_map g c).0
 
 pub returns-clause-map : goal.returns-clause-map
-returns-clause-map g c = IfOk-weaker c.join_all.result _ _ (λ draft joined. subst IsMap (sym joined) (is_map g c)) c.join_all.ensures
+returns-clause-map g c = IfOk-weaker c.join_all.result _ _ (λ draft joined. subst IsMap (sym joined) (is_map g c.before)) c.join_all.ensures
 
 pub returns-clause-walk : goal.returns-clause-walk
 returns-clause-walk g c =

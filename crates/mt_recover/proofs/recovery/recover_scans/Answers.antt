@@ -1,8 +1,6 @@
-use Rattle.std.proofs.Common.{◌∙◌, length, sym, subst}
+use Rattle.std.proofs.Common.{sym, subst}
 use Rattle.std.proofs.lemmas.Result.{err_from_is_err_and}
-use Rattle.mt_replay.specs.Runs.{together}
 use Rattle.mt_recover.specs.LogScans.{AreScansOf}
-use Rattle.mt_recover.specs.Report.{IsRecoveredOf}
 use Rattle.mt_tree.specs.Borders.{layer_walk}
 use Rattle.mt_recover.specs.Start.{IsFinishOf}
 use Rattle.mt_recover.proofs.FactLemmas.{may_end_from, recovered_from}
