@@ -9,14 +9,14 @@ use Rattle.mt_tree.specs.Layer.{PlaceView, link, slice_at, length_at, rank_at, k
 use Rattle.mt_tree.specs.Falls.{weight-append, walk-append, layer_back}
 use Rattle.mt_tree.specs.Nodes.{joined, IsBorder}
 use Rattle.mt_tree.specs.NodeFalls.{joined-append}
-use Rattle.mt_tree.specs.Borders.{AreBorders, PutBehind, layer_walk}
+use Rattle.mt_tree.specs.Borders.{DraftView, IsBorderList, borders_walk}
 use Rattle.mt_tree.specs.Nodes.{first_slice_of}
-use Rattle.mt_tree.specs.DraftViews.{draft_views, draft_view, border_views}
+use Rattle.mt_tree.specs.DraftViews.{draft_views, draft_view, border_views, draft_of, IsStored, PutBehind}
 use Rattle.mt_tree.specs.declared.layer.Border.{Border}
 use Rattle.mt_tree.specs.declared.layer.DraftPlace.{DraftPlace}
 use Rattle.mt_tree.proofs.Joins.{Seam, apart_layer, layer_seam, last_place, put_before-append, below_unprefixed, below_lighter, slice_at-draft, slice_at-lt, all_append, all_back, length_at-le}
 use Rattle.mt_tree.proofs.Finds.{pairs_rank}
-use Rattle.mt_tree.proofs.Puts.{borders-push}
+use Rattle.mt_tree.proofs.Puts.{borders-push, borders-append, joined_views}
 use Rattle.mt_tree.proofs.Seams.{behind_are}
 use Rattle.mt_tree.proofs.Meets.{first_merged}
 
@@ -162,17 +162,18 @@ module _ (p : DraftPlace) (slice : ℕ) (key : List ℕ) (c : List (ℕ × List 
 
 -- ---- the last border
 pub record Opened (fs : List (List PlaceView)) (l : List PlaceView) (v : List (List PlaceView)) : Type 0 where
-  pub are : AreBorders (fs ++ l ∷ [])
-  pub is : layer_walk v ≡ walk (joined fs) ++ walk l
+  pub are : IsBorderList (fs ++ l ∷ [])
+  pub is : borders_walk v ≡ walk (joined fs) ++ walk l
 
-pub opened : (lb fs : List Border) (l : Border) (v : List (List PlaceView)) → border_views lb ≡ v → AreBorders (border_views lb) → lb ≡ fs ++ l ∷ [] → Opened (border_views fs) (draft_views l.places.items) v
-opened lb fs l v view are e =
+pub opened : (lb fs : List Border) (l : Border) (d : DraftView) → draft_of lb ≡ d → IsStored lb → lb ≡ fs ++ l ∷ [] → Opened (border_views fs) (draft_views l.places.items) d.borders
+opened lb fs l d seen stored e =
+    let view : border_views lb ≡ d.borders = ap (λ (z : DraftView). z.borders) seen in
     let ls = draft_views l.places.items in
     let front = border_views fs in
     let same : border_views lb ≡ front ++ ls ∷ [] = ap border_views e ∙ borders-push fs l in
     record {
-      are = subst AreBorders same are;
-      is = ap layer_walk (sym view ∙ same) ∙ ap walk (joined-append front (ls ∷ []) ∙ ap (λ (z : List PlaceView). joined front ++ z) (append-nil ls)) ∙ walk-append (joined front) ls;
+      are = subst IsBorderList same stored.own;
+      is = ap borders_walk (sym view ∙ same) ∙ ap walk (joined-append front (ls ∷ []) ∙ ap (λ (z : List PlaceView). joined front ++ z) (append-nil ls)) ∙ walk-append (joined front) ls;
     }
 
 module _ (fs : List (List PlaceView)) (l : List PlaceView) (v : List (List PlaceView)) (o : Opened fs l v) where
@@ -182,18 +183,23 @@ module _ (fs : List (List PlaceView)) (l : List PlaceView) (v : List (List Place
   pub opened_border : IsBorder l
   opened_border = (all_back IsBorder fs (l ∷ []) o.are.0).0
 
-  pub opened_below : (w : List Pair) → AllKeysBelow (layer_walk v) w → AllKeysBelow (walk l) w
+  pub opened_below : (w : List Pair) → AllKeysBelow (borders_walk v) w → AllKeysBelow (walk l) w
   opened_below w below = all_back _ (walk (joined fs)) (walk l) (subst (λ (z : List Pair). AllKeysBelow z w) o.is below)
 
-  pub opened_light : weight (walk l) ≤ weight (layer_walk v)
+  pub opened_light : weight (walk l) ≤ weight (borders_walk v)
   opened_light = omega (arith, ap weight o.is, weight-append (walk (joined fs)) (walk l))
 
-  -- more borders in its place, which begin as it does
-  pub opened_put : (places : List PlaceView) (new : List (List PlaceView)) (p : Pair) → PutBehind places fs new → walk places ≡ walk l ++ p ∷ [] → first_slice_of places ≡ first_slice_of l → AreBorders new × (layer_walk new ≡ layer_walk v ++ p ∷ [])
-  opened_put places new p put pairs first =
-      let some : 1 ≤ length l = opened_border.0 in
-      let whole : walk (joined put.more) ≡ walk l ++ p ∷ [] = ap walk put.same ∙ pairs in (
-        subst AreBorders (sym put.behind) (behind_are fs l put.more o.are put.lawful some (ap first_slice_of put.same ∙ first)),
-        ap layer_walk put.behind ∙ ap walk (joined-append fs put.more) ∙ walk-append (joined fs) (joined put.more) ∙ ap (λ (w : List Pair). walk (joined fs) ++ w) whole
-            ∙ sym (append_assoc (walk (joined fs)) (walk l) (p ∷ [])) ∙ ap (λ (w : List Pair). w ++ p ∷ []) (sym o.is),
-      )
+-- more borders in its place, which begin as it does
+pub opened_put : (fs : List Border) (l : List PlaceView) (v : List (List PlaceView)) → Opened (border_views fs) l v → (places : List DraftPlace) (new : List Border) (p : Pair) → PutBehind places fs new
+    → walk (draft_views places) ≡ walk l ++ p ∷ [] → first_slice_of (draft_views places) ≡ first_slice_of l → IsBorderList (border_views new) × (borders_walk (border_views new) ≡ borders_walk v ++ p ∷ [])
+opened_put fs l v o places new p put pairs first =
+    let front = border_views fs in
+    let more = border_views put.more in
+    let seen : joined more ≡ draft_views places = joined_views put.more ∙ ap draft_views put.same in
+    let behind : border_views new ≡ front ++ more = ap border_views put.behind ∙ borders-append fs put.more in
+    let some : 1 ≤ length l = (opened_border front l v o).0 in
+    let whole : walk (joined more) ≡ walk l ++ p ∷ [] = ap walk seen ∙ pairs in (
+      subst IsBorderList (sym behind) (behind_are front l more o.are put.lawful some (ap first_slice_of seen ∙ first)),
+      ap borders_walk behind ∙ ap walk (joined-append front more) ∙ walk-append (joined front) (joined more) ∙ ap (λ (w : List Pair). walk (joined front) ++ w) whole
+          ∙ sym (append_assoc (walk (joined front)) (walk l) (p ∷ [])) ∙ ap (λ (w : List Pair). w ++ p ∷ []) (sym o.is),
+    )

@@ -15,7 +15,7 @@ use Rattle.mt_words.specs.Walks.{Pair}
 use Rattle.mt_words.specs.Words.{IsBelow}
 use Rattle.mt_tree.specs.Layers.{under, lies_under}
 use Rattle.mt_tree.specs.Layers.{AreRising, AreHeads, CountsFrom, own, more, IsLayers, linked_walks, SumsLayers, SumsLinks, CountsLinks, CountsLayers}
-use Rattle.mt_tree.specs.Nodes.{NodeView, LayerView, places, joined, borders_of, IsLayerTree, AreLinked}
+use Rattle.mt_tree.specs.Nodes.{NodeView, LayerView, places, joined, borders_of, IsLayerTree, AreLinked, each_borders}
 use Rattle.mt_tree.specs.Trees.{tree_walk, tree_count, IsTree}
 use Rattle.mt_tree.specs.NodeViews.{view_of_content, views, node_view, IsNodeKind}
 use Rattle.std.proofs.Common.{Vec, Global}
@@ -296,7 +296,7 @@ sums_split (v ∷ vs) ws n s =
     let rest = sums_split vs ws s.1 s.3 in
     (s.0 + rest.0, rest.1, (s.0, rest.0, s.2, rest.2, refl), rest.3, let e : n ≡ s.0 + s.1 = s.4 in let f : s.1 ≡ rest.0 + rest.1 = rest.4 in omega arith)
 
-sums_linked : (ws : List (List Pair)) (ts : List LayerView) → AllByRecursion IsLayerTree ts → AreLinked ws ts → SumsLayers ws (length ts)
+sums_linked : (ws : List (List Pair)) (ts : List LayerView) → AllByRecursion IsLayerTree ts → AreLinked ws (each_borders ts) → SumsLayers ws (length ts)
 sums_linked [] [] h k = refl
 sums_linked (w ∷ ws) [] h k = absurd (let never : w ∷ ws ≡ [] = k in cc)
 sums_linked [] (t ∷ ts) h k = absurd k

@@ -7,9 +7,9 @@ use Rattle.mt_tree.specs.Layer.{PlaceView, walk, IsPlace, IsLayer}
 use Rattle.mt_words.specs.Walks.{Pair}
 use Rattle.mt_tree.specs.Nodes.{joined, IsBorder}
 use Rattle.mt_tree.specs.NodeFalls.{joined-append}
-use Rattle.mt_tree.specs.Borders.{AreBorders, layer_walk}
+use Rattle.mt_tree.specs.Borders.{DraftView, layer_walk}
 use Rattle.mt_tree.specs.Edges.{PlaceEdge, LastEdge, FirstEdge}
-use Rattle.mt_tree.specs.DraftViews.{draft_views, draft_view, border_views}
+use Rattle.mt_tree.specs.DraftViews.{draft_views, draft_view, border_views, draft_of, IsStored}
 use Rattle.mt_tree.specs.declared.layer.Border.{Border}
 use Rattle.mt_tree.specs.declared.layer.DraftPlace.{DraftPlace}
 use Rattle.mt_tree.proofs.Orders.{last_of, first_of, last_edge, first_edge}
@@ -28,29 +28,29 @@ last_places ps qs b rs x e f g k =
           ∙ ap (λ (z : List PlaceView). joined (border_views l.0) ++ z) (append-nil (draft_views b.places.items) ∙ places) ∙ sym (append_assoc (joined (border_views l.0)) (draft_views m.0) (draft_view x ∷ [])),
     )
 
-pub last_border_lawful : (ps qs : List Border) (b : Border) (rs : List DraftPlace) (x : DraftPlace) → AreBorders (border_views ps) → qs ≡ ps → Some b ≡ slice_get qs (length qs - 1) → rs ≡ b.places.items → Some x ≡ slice_get rs (length rs - 1) → IsPlace (draft_view x)
-last_border_lawful ps qs b rs x h e f g k = let l = last_places ps qs b rs x e f g k in (layer_back 0 l.0 (draft_view x ∷ []) (subst IsLayer l.1 h.2)).0
+pub last_border_lawful : (ps qs : List Border) (b : Border) (rs : List DraftPlace) (x : DraftPlace) → IsStored ps → qs ≡ ps → Some b ≡ slice_get qs (length qs - 1) → rs ≡ b.places.items → Some x ≡ slice_get rs (length rs - 1) → IsPlace (draft_view x)
+last_border_lawful ps qs b rs x h e f g k = let l = last_places ps qs b rs x e f g k in (layer_back 0 l.0 (draft_view x ∷ []) (subst IsLayer l.1 h.own.2)).0
 
-pub last_of_borders : (w : List Pair) (v : List (List PlaceView)) (ps qs : List Border) (b : Border) (rs : List DraftPlace) (x : DraftPlace) (s m : ℕ) (below : List Pair) → w ≡ layer_walk v → border_views ps ≡ v → AreBorders (border_views ps) → qs ≡ ps → Some b ≡ slice_get qs (length qs - 1) → rs ≡ b.places.items → Some x ≡ slice_get rs (length rs - 1)
+pub last_of_borders : (w : List Pair) (d : DraftView) (ps qs : List Border) (b : Border) (rs : List DraftPlace) (x : DraftPlace) (s m : ℕ) (below : List Pair) → w ≡ layer_walk d → draft_of ps ≡ d → IsStored ps → qs ≡ ps → Some b ≡ slice_get qs (length qs - 1) → rs ≡ b.places.items → Some x ≡ slice_get rs (length rs - 1)
     → PlaceEdge (draft_view x) s m below → LastEdge w s m below
-last_of_borders w v ps qs b rs x s m below is view h e f g k edge =
+last_of_borders w d ps qs b rs x s m below is view h e f g k edge =
     let l = last_places ps qs b rs x e f g k in
-    subst (λ (z : List Pair). LastEdge z s m below) (ap walk (sym l.1) ∙ ap layer_walk view ∙ sym is) (last_edge l.0 (draft_view x) s m below (subst IsLayer l.1 h.2) edge)
+    subst (λ (z : List Pair). LastEdge z s m below) (ap walk (sym l.1) ∙ ap layer_walk view ∙ sym is) (last_edge l.0 (draft_view x) s m below (subst IsLayer l.1 h.own.2) edge)
 
-pub first_of_borders : (w : List Pair) (v : List (List PlaceView)) (ps qs : List Border) (b : Border) (rs : List DraftPlace) (x : DraftPlace) (s m : ℕ) (below : List Pair) → w ≡ layer_walk v → border_views ps ≡ v → AreBorders (border_views ps) → qs ≡ ps → Some b ≡ slice_get qs 0 → rs ≡ b.places.items → Some x ≡ slice_get rs 0
+pub first_of_borders : (w : List Pair) (d : DraftView) (ps qs : List Border) (b : Border) (rs : List DraftPlace) (x : DraftPlace) (s m : ℕ) (below : List Pair) → w ≡ layer_walk d → draft_of ps ≡ d → IsStored ps → qs ≡ ps → Some b ≡ slice_get qs 0 → rs ≡ b.places.items → Some x ≡ slice_get rs 0
     → PlaceEdge (draft_view x) s m below → FirstEdge w s m below
-first_of_borders w v ps qs b rs x s m below is view h e f g k edge =
+first_of_borders w d ps qs b rs x s m below is view h e f g k edge =
     let l = first_of qs b f in
     let n = first_of rs x k in
     let places : joined (border_views ps) ≡ draft_view x ∷ (draft_views n.0 ++ joined (border_views l.0)) =
     ap (λ (z : List Border). joined (border_views z)) (sym e ∙ l.1) ∙ ap (λ (z : List DraftPlace). draft_views z ++ joined (border_views l.0)) (sym g ∙ n.1) in
-    subst (λ (z : List Pair). FirstEdge z s m below) (ap walk (sym places) ∙ ap layer_walk view ∙ sym is) (first_edge (draft_view x) (draft_views n.0 ++ joined (border_views l.0)) s m below (subst IsLayer places h.2) edge)
+    subst (λ (z : List Pair). FirstEdge z s m below) (ap walk (sym places) ∙ ap layer_walk view ∙ sym is) (first_edge (draft_view x) (draft_views n.0 ++ joined (border_views l.0)) s m below (subst IsLayer places h.own.2) edge)
 
 -- a border is not empty
-pub last_border_some : (ps qs : List Border) (b : Border) → AreBorders (border_views ps) → qs ≡ ps → Some b ≡ slice_get qs (length qs - 1) → 1 ≤ length b.places.items
+pub last_border_some : (ps qs : List Border) (b : Border) → IsStored ps → qs ≡ ps → Some b ≡ slice_get qs (length qs - 1) → 1 ≤ length b.places.items
 last_border_some ps qs b h e f =
     let l = last_of qs b f in
-    let each : AllByRecursion IsBorder (border_views l.0 ++ draft_views b.places.items ∷ []) = subst (AllByRecursion IsBorder) (ap border_views (sym e ∙ l.1) ∙ borders-append l.0 (b ∷ [])) h.0 in
+    let each : AllByRecursion IsBorder (border_views l.0 ++ draft_views b.places.items ∷ []) = subst (AllByRecursion IsBorder) (ap border_views (sym e ∙ l.1) ∙ borders-append l.0 (b ∷ [])) h.own.0 in
     let some : 1 ≤ length (draft_views b.places.items) = (all_back IsBorder (border_views l.0) (draft_views b.places.items ∷ []) each).0.0 in
     omega (arith, length-map b.places.items draft_view)
 

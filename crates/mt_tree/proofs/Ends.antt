@@ -1,14 +1,18 @@
 -- Borders are finished one by one.
-use Rattle.std.proofs.Common.{◌≡◌, ℕ, ◌≤◌, List, [], ◌∷◌, ◌++◌, length, sym, ap, ◌∙◌, subst, arith}
+use Rattle.std.proofs.Common.{◌≡◌, ℕ, ◌≤◌, List, [], ◌∷◌, ◌++◌, length, refl, sym, ap, append_assoc, ◌∙◌, subst, arith}
 use Rattle.std.proofs.lemmas.List.{append-nil, map-append}
 use Rattle.std.proofs.lemmas.Grind.{flat_map-append}
 use Rattle.mt_tree.proofs.Levels.{below-append}
 use Rattle.mt_tree.specs.Layer.{PlaceView, link, IsPlace, IsLayer, walk, weight}
 use Rattle.mt_tree.specs.Falls.{weight-append, walk-append, layer_back, layer_front}
-use Rattle.mt_tree.specs.Nodes.{joined, IsBorder, LayerView, IsLayerTree, IsNode, border_tree, AreBelow}
+use Rattle.mt_tree.specs.Nodes.{joined, each_borders, IsBorder, LayerView, IsLayerTree, IsNode, border_tree, AreBelow}
 use Rattle.mt_tree.specs.NodeFalls.{joined-append}
-use Rattle.mt_tree.specs.Borders.{AreBorders, layer_walk}
+use Rattle.mt_tree.specs.Borders.{DraftView, IsBorderList, borders_walk, layer_walk}
 use Rattle.mt_tree.specs.NodeViews.{views, view_of, trees_of, trees_of_content, border_node}
+use Rattle.std.specs.List.{flat_map}
+use Rattle.mt_tree.specs.DraftViews.{layers_of, layers_of_content, all_places}
+use Rattle.mt_tree.specs.declared.layer.Border.{Border}
+use Rattle.mt_tree.specs.declared.layer.DraftPlace.{DraftPlace}
 use Rattle.mt_tree.specs.declared.node.Place.{Place}
 use Rattle.mt_tree.proofs.Cuts.{border_is_tree}
 use Rattle.mt_tree.proofs.Joins.{all_back}
@@ -16,12 +20,12 @@ use Rattle.mt_tree.proofs.Joins.{all_back}
 pub record Middle (l : List PlaceView) (all : List (List PlaceView)) : Type 0 where
   pub border : IsBorder l
   pub layer : IsLayer l
-  pub light : weight (walk l) ≤ weight (layer_walk all)
+  pub light : weight (walk l) ≤ weight (borders_walk all)
 
-pub middle : (fs bs left all : List (List PlaceView)) (l : List PlaceView) → fs ++ left ≡ all → left ≡ l ∷ bs → AreBorders all → Middle l all
+pub middle : (fs bs left all : List (List PlaceView)) (l : List PlaceView) → fs ++ left ≡ all → left ≡ l ∷ bs → IsBorderList all → Middle l all
 middle fs bs left all l e f h =
     let is : fs ++ l ∷ bs ≡ all = ap (λ (z : List (List PlaceView)). fs ++ z) (sym f) ∙ e in
-    let are : AreBorders (fs ++ l ∷ bs) = subst AreBorders (sym is) h in
+    let are : IsBorderList (fs ++ l ∷ bs) = subst IsBorderList (sym is) h in
     let places : joined all ≡ joined fs ++ (l ++ joined bs) = ap joined (sym is) ∙ joined-append fs (l ∷ bs) in
     let whole = ap (λ (z : List PlaceView). weight (walk z)) places in
     let one = ap weight (walk-append (joined fs) (l ++ joined bs)) in
@@ -32,9 +36,12 @@ middle fs bs left all l e f h =
       light = omega (arith, whole, one, two, weight-append (walk (joined fs)) (walk (l ++ joined bs)), weight-append (walk l) (walk (joined bs)));
     }
 
-pub link_some : (s : ℕ) (bs : List (List PlaceView)) → IsPlace (link s (layer_walk bs)) → 1 ≤ length bs
-link_some s [] h = absurd (let two : 2 ≤ 0 = h.1 in omega arith)
-link_some s (b ∷ bs) h = omega arith
+borders_some : (s : ℕ) (bs : List (List PlaceView)) → IsPlace (link s (borders_walk bs)) → 1 ≤ length bs
+borders_some s [] h = absurd (let two : 2 ≤ 0 = h.1 in omega arith)
+borders_some s (b ∷ bs) h = omega arith
+
+pub link_some : (s : ℕ) (d : DraftView) → IsPlace (link s (layer_walk d)) → 1 ≤ length d.borders
+link_some s d h = borders_some s d.borders h
 
 -- ---- the places of a border
 pub border_done : (xs : List Place) (b : List PlaceView) → views xs ≡ b → IsBorder b → IsLayer b → AreBelow (views xs) (trees_of xs) → IsNode (border_node xs)
@@ -50,3 +57,23 @@ below_push xs ys p h k e =
     ap trees_of e ∙ flat_map-append (λ (q : Place). trees_of_content q.content) xs (p ∷ []) ∙ ap (λ (z : List LayerView). trees_of xs ++ z) (append-nil (trees_of_content p.content)) in
     subst (λ (z : List PlaceView). AreBelow z (trees_of ys)) (sym seen)
     (subst (AreBelow (views xs ++ view_of p ∷ [])) (sym trees) (below-append (views xs) (view_of p ∷ []) (trees_of xs) (trees_of_content p.content) h k))
+
+-- ---- the layers below links, one by one
+-- the next element is carried from what is left to what is done
+pub carried : {X Y Z : Type 0} (f : X → List Z) (g : Y → List Z) (xs ys : List X) (left next : List Y) (x : X) (y : Y) (all : List Z) → flat_map f xs ++ flat_map g left ≡ all → left ≡ y ∷ next → f x ≡ g y → ys ≡ xs ++ x ∷ [] → flat_map f ys ++ flat_map g next ≡ all
+carried f g xs ys left next x y all e k same h =
+    ap (λ z. z ++ flat_map g next) (ap (flat_map f) h ∙ flat_map-append f xs (x ∷ []) ∙ ap (λ z. flat_map f xs ++ z) (append-nil (f x) ∙ same))
+    ∙ append_assoc (flat_map f xs) (g y) (flat_map g next)
+    ∙ ap (λ z. flat_map f xs ++ flat_map g z) (sym k)
+    ∙ e
+
+pub all_carried : {X Y Z : Type 0} (f : X → List Z) (g : Y → List Z) (xs : List X) (left : List Y) (all : List Z) → flat_map f xs ++ flat_map g left ≡ all → left ≡ [] → flat_map f xs ≡ all
+all_carried f g xs left all e none = sym (append-nil (flat_map f xs)) ∙ ap (λ z. flat_map f xs ++ flat_map g z) (sym none) ∙ e
+
+pub each_flat : {X : Type 0} (f : X → List LayerView) (xs : List X) → flat_map (λ x. each_borders (f x)) xs ≡ each_borders (flat_map f xs)
+each_flat f [] = refl
+each_flat f (x ∷ xs) = ap (λ z. each_borders (f x) ++ z) (each_flat f xs) ∙ sym (map-append (λ (t : LayerView). t.borders) (f x) (flat_map f xs))
+
+pub layers_flat : (bs : List Border) → flat_map (λ (b : Border). layers_of b.places.items) bs ≡ layers_of (all_places bs)
+layers_flat [] = refl
+layers_flat (b ∷ bs) = ap (λ z. layers_of b.places.items ++ z) (layers_flat bs) ∙ sym (flat_map-append (λ (p : DraftPlace). layers_of_content p.content) b.places.items (all_places bs))

@@ -1,14 +1,15 @@
 -- Nodes of one height are gathered under nodes one level up.
 use Rattle.std.proofs.Common.{◌≡◌, ℕ, zero, suc, ◌+◌, ◌<◌, ◌≤◌, List, [], ◌∷◌, ◌++◌, length, map, drop, get_or, sym, refl, ap, ◌∙◌, subst, arith, append_assoc, length-append, Vec, Global}
 use Rattle.std.specs.List.{AllByRecursion, flat_map}
-use Rattle.std.proofs.lemmas.List.{append-nil, length-map, drop_all}
+use Rattle.std.proofs.lemmas.List.{append-nil, map-append, length-map, drop_all}
+use Rattle.std.proofs.lemmas.Grind.{flat_map-append}
 use Rattle.std.proofs.lemmas.List.Folds.{flat_map-map}
 use Rattle.mt_words.specs.Slices.{slice_bytes}
 use Rattle.mt_words.proofs.SliceBytes.{slice_bytes-length}
 use Rattle.mt_tree.specs.Falls.{weight-append, walk-append, layer_back, layer_front}
 use Rattle.mt_tree.specs.Layer.{walk, weight, pairs_at, PlaceView, short, long, link, slice_at, rank_at, IsPlace, IsLayerFrom, IsLayer}
 use Rattle.mt_words.specs.Walks.{Pair}
-use Rattle.mt_tree.specs.Nodes.{NodeView, BranchView, InteriorView, LayerView, HaveInteriors, as_branch, none, border, interior, AreLinked, AreBelow, places, joined, borders_of, interiors_of, below_of, SlicesFrom, SlicesBelow, SlicesApart, IsBorder, IsNode, IsNodeAt, IsLevelAt, IsLevel, IsInterior, IsLayerTree, AreSeparated, level_height, branches, CutAt, first_slice_of, first_of, interior_node, parent_node}
+use Rattle.mt_tree.specs.Nodes.{NodeView, BranchView, InteriorView, LayerView, HaveInteriors, as_branch, none, border, interior, AreLinked, AreBelow, each_borders, places, joined, borders_of, interiors_of, below_of, SlicesFrom, SlicesBelow, SlicesApart, IsBorder, IsNode, IsNodeAt, IsLevelAt, IsLevel, IsInterior, IsLayerTree, AreSeparated, level_height, branches, CutAt, first_slice_of, first_of, interior_node, parent_node}
 use Rattle.mt_tree.specs.Layers.{linked_walks}
 use Rattle.mt_tree.specs.NodeFalls.{joined-append, branches_length}
 use Rattle.mt_tree.proofs.Finds.{AreChildren, interior_is}
@@ -138,16 +139,17 @@ linked_walks-append (short s l c ∷ ps) qs = linked_walks-append ps qs
 linked_walks-append (long s t c ∷ ps) qs = linked_walks-append ps qs
 linked_walks-append (link s w ∷ ps) qs = ap (λ (z : List (List Pair)). w ∷ z) (linked_walks-append ps qs)
 
-linked-append : (vs ws : List (List Pair)) (ts us : List LayerView) → AreLinked vs ts → AreLinked ws us → AreLinked (vs ++ ws) (ts ++ us)
+pub linked-append : (vs ws : List (List Pair)) (ts us : List (List (List PlaceView))) → AreLinked vs ts → AreLinked ws us → AreLinked (vs ++ ws) (ts ++ us)
 linked-append [] ws [] us h k = k
 linked-append (v ∷ vs) ws [] us h k = absurd (let never : v ∷ vs ≡ [] = h in cc)
 linked-append [] ws (t ∷ ts) us h k = absurd h
-linked-append (v ∷ vs) ws (t ∷ ts) us h k = (h.0, subst (λ z. AreLinked z (ts ++ us)) (append_assoc (linked_walks (joined t.borders)) vs ws) (linked-append (linked_walks (joined t.borders) ++ vs) ws ts us h.1 k))
+linked-append (v ∷ vs) ws (t ∷ ts) us h k = (h.0, subst (λ z. AreLinked z (ts ++ us)) (append_assoc (linked_walks (joined t)) vs ws) (linked-append (linked_walks (joined t) ++ vs) ws ts us h.1 k))
 
 pub below-append : (ps qs : List PlaceView) (ts us : List LayerView) → AreBelow ps ts → AreBelow qs us → AreBelow (ps ++ qs) (ts ++ us)
 below-append ps qs ts us h k = record {
   lawful = all_append IsLayerTree ts us h.lawful k.lawful;
-  linked = subst (λ z. AreLinked z (ts ++ us)) (sym (linked_walks-append ps qs)) (linked-append (linked_walks ps) (linked_walks qs) ts us h.linked k.linked);
+  linked = subst (λ z. AreLinked z (each_borders (ts ++ us))) (sym (linked_walks-append ps qs))
+      (subst (AreLinked (linked_walks ps ++ linked_walks qs)) (sym (map-append (λ (t : LayerView). t.borders) ts us)) (linked-append (linked_walks ps) (linked_walks qs) (each_borders ts) (each_borders us) h.linked k.linked));
 }
 
 below_level : (h : ℕ) (ns : List NodeView) → AllByRecursion (IsNodeAt h) ns → AreBelow (joined (borders_of ns)) (below_of ns)
@@ -224,11 +226,12 @@ upper_level h upper nodes a e l = level_is h upper (record {
 })
 
 -- a parent stands for its children
-pub under_parent : (upper kids rest : List NodeView) (all : List (List PlaceView)) → borders_of upper ++ borders_of (kids ++ rest) ≡ all → borders_of (upper ++ parent_node kids ∷ []) ++ borders_of rest ≡ all
-under_parent upper kids rest all e =
-    ap (λ z. z ++ borders_of rest) (borders_of-append upper (parent_node kids ∷ []) ∙ ap (λ z. borders_of upper ++ z) (append-nil (borders_of kids)))
-    ∙ append_assoc (borders_of upper) (borders_of kids) (borders_of rest)
-    ∙ ap (λ z. borders_of upper ++ z) (sym (borders_of-append kids rest))
+pub under_parent : {X : Type 0} (f : NodeView → List X) (upper kids rest : List NodeView) (all : List X) → f (parent_node kids) ≡ flat_map f kids
+    → flat_map f upper ++ flat_map f (kids ++ rest) ≡ all → flat_map f (upper ++ parent_node kids ∷ []) ++ flat_map f rest ≡ all
+under_parent f upper kids rest all has e =
+    ap (λ z. z ++ flat_map f rest) (flat_map-append f upper (parent_node kids ∷ []) ∙ ap (λ z. flat_map f upper ++ z) (append-nil (f (parent_node kids)) ∙ has))
+    ∙ append_assoc (flat_map f upper) (flat_map f kids) (flat_map f rest)
+    ∙ ap (λ z. flat_map f upper ++ z) (sym (flat_map-append f kids rest))
     ∙ e
 
 pub heads_done : (separators heads : List ℕ) (ns : List NodeView) (at : ℕ) → separators ++ map first_of (drop at ns) ≡ heads → length ns ≤ at → separators ≡ heads

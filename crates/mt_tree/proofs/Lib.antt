@@ -18,3 +18,4 @@ pub mod Behind
 pub mod Lasts
 pub mod Puts
 pub mod Visits
+pub mod Links

@@ -1,13 +1,13 @@
 -- Places are put behind borders, as borders that are cut between slices.
-use Rattle.std.proofs.Common.{◌≡◌, ◌≢◌, ℕ, suc, ◌+◌, ◌-◌, ◌^◌, ◌<◌, ◌≤◌, min, List, [], ◌∷◌, ◌++◌, get_or, length, take, drop, sym, ap, ◌∙◌, subst, inl, inr, ◌⊎◌, arith, append_assoc, length-append}
+use Rattle.std.proofs.Common.{◌≡◌, ◌≢◌, ℕ, suc, ◌+◌, ◌-◌, ◌^◌, ◌<◌, ◌≤◌, min, List, [], ◌∷◌, ◌++◌, get_or, length, take, drop, sym, refl, ap, ◌∙◌, subst, inl, inr, ◌⊎◌, arith, append_assoc, length-append}
 use Rattle.std.specs.List.{AllByRecursion}
 use Rattle.std.proofs.lemmas.Bool.{cases_lt}
 use Rattle.std.proofs.lemmas.List.{append-nil, map-append, length-map, take-append-drop}
 use Rattle.mt_tree.specs.Layer.{PlaceView, slice_at, rank_at, IsLayer, IsLayerFrom}
 use Rattle.mt_tree.specs.Nodes.{joined, SlicesBelow, SlicesFrom, IsBorder, CutAt, OfSlice, first_slice_of}
-use Rattle.mt_tree.specs.NodeFalls.{joined-append}
-use Rattle.mt_tree.specs.Borders.{PutBehind, AreBorders, last_slice_of}
-use Rattle.mt_tree.specs.DraftViews.{draft_views, draft_view, border_views}
+use Rattle.mt_tree.specs.Borders.{IsBorderList, last_slice_of}
+use Rattle.std.proofs.lemmas.Grind.{flat_map-append}
+use Rattle.mt_tree.specs.DraftViews.{draft_views, draft_view, border_views, all_places, PutBehind}
 use Rattle.mt_tree.specs.declared.layer.Border.{Border}
 use Rattle.mt_tree.specs.declared.layer.DraftPlace.{DraftPlace}
 use Rattle.mt_tree.proofs.Joins.{slice_at-draft, slice_at-lt, all_weaker, all_front, all_back, length_at-le}
@@ -21,34 +21,48 @@ borders-push bs b = map-append (λ (z : Border). draft_views z.places.items) bs 
 pub borders-append : (bs ds : List Border) → border_views (bs ++ ds) ≡ border_views bs ++ border_views ds
 borders-append bs ds = map-append (λ (z : Border). draft_views z.places.items) bs ds
 
-pub parted : (ps xs ys : List DraftPlace) (i : ℕ) → xs ≡ take i ps → ys ≡ drop i ps → draft_views xs ++ draft_views ys ≡ draft_views ps
-parted ps xs ys i e f = sym (map-append draft_view xs ys) ∙ ap draft_views ((λ j. e j ++ f j) ∙ take-append-drop i ps)
+pub parted : (ps xs ys : List DraftPlace) (i : ℕ) → xs ≡ take i ps → ys ≡ drop i ps → xs ++ ys ≡ ps
+parted ps xs ys i e f = (λ j. e j ++ f j) ∙ take-append-drop i ps
+
+pub places-append : (bs ds : List Border) → all_places (bs ++ ds) ≡ all_places bs ++ all_places ds
+places-append bs ds = flat_map-append (λ (b : Border). b.places.items) bs ds
+
+-- the places of borders as they are seen
+pub joined_views : (bs : List Border) → joined (border_views bs) ≡ draft_views (all_places bs)
+joined_views [] = refl
+joined_views (b ∷ bs) = ap (λ (z : List PlaceView). draft_views b.places.items ++ z) (joined_views bs) ∙ sym (map-append draft_view b.places.items (all_places bs))
+
+-- parts of places as they are seen
+pub views_parted : (xs ys ps : List DraftPlace) → xs ++ ys ≡ ps → draft_views xs ++ draft_views ys ≡ draft_views ps
+views_parted xs ys ps e = sym (map-append draft_view xs ys) ∙ ap draft_views e
 
 -- ---- borders put behind others
-pub put_none : (old : List (List PlaceView)) (places : List DraftPlace) → places ≡ [] → PutBehind (draft_views places) old old
-put_none old places e = record { more = []; behind = sym (append-nil old); same = sym (ap draft_views e); lawful = (tt, tt, tt) }
+pub put_none : (old : List Border) (places : List DraftPlace) → places ≡ [] → PutBehind places old old
+put_none old places e = record { more = []; behind = sym (append-nil old); same = sym e; lawful = (tt, tt, tt) }
 
-pub alone : (b : List PlaceView) → IsBorder b → IsLayer b → AreBorders (b ∷ [])
+pub alone : (b : List PlaceView) → IsBorder b → IsLayer b → IsBorderList (b ∷ [])
 alone b h l = ((h, tt), (cut_nil b, tt), subst IsLayer (sym (append-nil b)) l)
 
-pub put_one : (old new : List Border) (b : Border) → new ≡ old ++ b ∷ [] → IsLayer (draft_views b.places.items) → 1 ≤ length b.places.items → length b.places.items ≤ 15 → PutBehind (draft_views b.places.items) (border_views old) (border_views new)
+pub put_one : (old new : List Border) (b : Border) → new ≡ old ++ b ∷ [] → IsLayer (draft_views b.places.items) → 1 ≤ length b.places.items → length b.places.items ≤ 15 → PutBehind b.places.items old new
 put_one old new b e h some few =
     let len = length-map b.places.items draft_view in
     record {
-      more = draft_views b.places.items ∷ [];
-      behind = ap border_views e ∙ borders-push old b;
-      same = append-nil (draft_views b.places.items);
+      more = b ∷ [];
+      behind = e;
+      same = append-nil b.places.items;
       lawful = alone (draft_views b.places.items) (omega arith, omega arith) h;
     }
 
-pub put_then : (xs ys : List PlaceView) (a b c : List (List PlaceView)) → PutBehind xs a b → PutBehind ys b c → CutAt xs ys → PutBehind (xs ++ ys) a c
+pub put_then : (xs ys : List DraftPlace) (a b c : List Border) → PutBehind xs a b → PutBehind ys b c → CutAt (draft_views xs) (draft_views ys) → PutBehind (xs ++ ys) a c
 put_then xs ys a b c p q cut =
-    let apart : CutAt (joined p.more) (joined q.more) = subst (λ (z : List PlaceView). CutAt z (joined q.more)) (sym p.same) (subst (CutAt xs) (sym q.same) cut) in
+    let front : joined (border_views p.more) ≡ draft_views xs = joined_views p.more ∙ ap draft_views p.same in
+    let back : joined (border_views q.more) ≡ draft_views ys = joined_views q.more ∙ ap draft_views q.same in
+    let apart : CutAt (joined (border_views p.more)) (joined (border_views q.more)) = subst (λ (z : List PlaceView). CutAt z (joined (border_views q.more))) (sym front) (subst (CutAt (draft_views xs)) (sym back) cut) in
     record {
       more = p.more ++ q.more;
-      behind = q.behind ∙ ap (λ (z : List (List PlaceView)). z ++ q.more) p.behind ∙ append_assoc a p.more q.more;
-      same = joined-append p.more q.more ∙ (λ i. p.same i ++ q.same i);
-      lawful = are_append p.more q.more p.lawful q.lawful (cut_each p.more (joined q.more) apart);
+      behind = q.behind ∙ ap (λ (z : List Border). z ++ q.more) p.behind ∙ append_assoc a p.more q.more;
+      same = places-append p.more q.more ∙ (λ i. p.same i ++ q.same i);
+      lawful = subst IsBorderList (sym (borders-append p.more q.more)) (are_append (border_views p.more) (border_views q.more) p.lawful q.lawful (cut_each (border_views p.more) (joined (border_views q.more)) apart));
     }
 
 -- ---- where a cut may stand
@@ -110,8 +124,8 @@ sixteen s ps xs ys h many last e below from =
     let count : length xs + length ys ≡ 16 = sym (length-append xs ys) ∙ ap (λ (z : List PlaceView). length z) e ∙ many in
     record { whole = e; first = (layer_front 0 xs ys layer, omega arith); second = (layer_back 0 xs ys layer, omega arith); cut = cut_at s xs ys below from }
 
-pub put_halves : (all xs ys : List PlaceView) (a b c : List (List PlaceView)) → Halves all xs ys → PutBehind xs a b → PutBehind ys b c → PutBehind all a c
-put_halves all xs ys a b c h p q = subst (λ (z : List PlaceView). PutBehind z a c) h.whole (put_then xs ys a b c p q h.cut)
+pub put_halves : (all xs ys : List DraftPlace) (a b c : List Border) → xs ++ ys ≡ all → Halves (draft_views all) (draft_views xs) (draft_views ys) → PutBehind xs a b → PutBehind ys b c → PutBehind all a c
+put_halves all xs ys a b c e h p q = subst (λ (z : List DraftPlace). PutBehind z a c) e (put_then xs ys a b c p q h.cut)
 
 few_below : (s : ℕ) (xs zs ls rs : List PlaceView) → xs ++ zs ≡ ls ++ rs → SlicesBelow s xs → SlicesFrom s rs → length xs ≤ length ls
 few_below s [] zs ls rs e below from = omega arith
@@ -180,9 +194,12 @@ thirds s next left right xs rest run ys h l r last first is e f below from_rest 
         omega arith
 
 -- and put behind borders in three
-pub put_thirds : (all xs run ys : List PlaceView) (a b c d : List (List PlaceView)) → Thirds all xs run ys → PutBehind xs a b → PutBehind run b c → PutBehind ys c d → PutBehind all a d
-put_thirds all xs run ys a b c d t p q r =
-    subst (λ (z : List PlaceView). PutBehind z a d) t.whole (put_then xs (run ++ ys) a b d p (put_then run ys b c d q r t.behind) t.before)
+pub put_thirds : (left right whole xs rest run ys : List DraftPlace) (a b c d : List Border) → whole ≡ left ++ right → xs ++ rest ≡ whole → run ++ ys ≡ rest → Thirds (draft_views left ++ draft_views right) (draft_views xs) (draft_views run) (draft_views ys)
+    → PutBehind xs a b → PutBehind run b c → PutBehind ys c d → PutBehind (left ++ right) a d
+put_thirds left right whole xs rest run ys a b c d e f g t p q r =
+    let is : xs ++ (run ++ ys) ≡ left ++ right = ap (λ (z : List DraftPlace). xs ++ z) g ∙ f ∙ e in
+    let before : CutAt (draft_views xs) (draft_views (run ++ ys)) = subst (CutAt (draft_views xs)) (sym (map-append draft_view run ys)) t.before in
+    subst (λ (z : List DraftPlace). PutBehind z a d) is (put_then xs (run ++ ys) a b d p (put_then run ys b c d q r t.behind) before)
 
 -- ---- the slices at the ends
 last_slice_is : (xs : List DraftPlace) (x : DraftPlace) → 1 ≤ length xs → x ≡ get_or xs (length xs - 1) x → last_slice_of (draft_views xs) ≡ x.slice
@@ -215,19 +232,19 @@ pub few_places : (ps : List DraftPlace) → length (draft_views ps) ≤ 15 → l
 few_places ps few = omega (arith, length-map ps draft_view)
 
 pub halves : (ps xs ys : List DraftPlace) (x : DraftPlace) (n : ℕ) → IsLayer (draft_views ps) → length ps ≡ 16 → x ≡ get_or ps (n - 1) x → n ≡ length ps
-    → draft_views xs ++ draft_views ys ≡ draft_views ps → SlicesBelow x.slice (draft_views xs) → SlicesFrom x.slice (draft_views ys) → Halves (draft_views ps) (draft_views xs) (draft_views ys)
+    → xs ++ ys ≡ ps → SlicesBelow x.slice (draft_views xs) → SlicesFrom x.slice (draft_views ys) → Halves (draft_views ps) (draft_views xs) (draft_views ys)
 halves ps xs ys x n h many last whole e below from =
-    sixteen x.slice (draft_views ps) (draft_views xs) (draft_views ys) h (length-map ps draft_view ∙ many) (last_slice_is ps x (omega arith) (last ∙ ap (λ (k : ℕ). get_or ps (k - 1) x) whole)) e below from
+    sixteen x.slice (draft_views ps) (draft_views xs) (draft_views ys) h (length-map ps draft_view ∙ many) (last_slice_is ps x (omega arith) (last ∙ ap (λ (k : ℕ). get_or ps (k - 1) x) whole)) (views_parted xs ys ps e) below from
 
-pub all_rest : (left right whole xs rest : List DraftPlace) → whole ≡ left ++ right → draft_views xs ++ draft_views rest ≡ draft_views whole → draft_views xs ++ draft_views rest ≡ draft_views left ++ draft_views right
-all_rest left right whole xs rest e f = f ∙ ap draft_views e ∙ map-append draft_view left right
+pub all_rest : (left right whole xs rest : List DraftPlace) → whole ≡ left ++ right → xs ++ rest ≡ whole → draft_views xs ++ draft_views rest ≡ draft_views left ++ draft_views right
+all_rest left right whole xs rest e f = views_parted xs rest whole f ∙ ap draft_views e ∙ map-append draft_view left right
 
 pub around : (left right whole xs rest run ys : List DraftPlace) (x : DraftPlace) (next : ℕ) → IsLayer (draft_views left ++ draft_views right) → IsBorder (draft_views left) → IsBorder (draft_views right)
     → last_slice_of (draft_views left) ≡ first_slice_of (draft_views right) → x ≡ get_or right 0 x → next ≡ min (x.slice + 1) (2 ^ 64 - 1)
-    → whole ≡ left ++ right → draft_views xs ++ draft_views rest ≡ draft_views whole → draft_views run ++ draft_views ys ≡ draft_views rest
+    → whole ≡ left ++ right → xs ++ rest ≡ whole → run ++ ys ≡ rest
     → SlicesBelow x.slice (draft_views xs) → SlicesFrom x.slice (draft_views rest) → SlicesBelow next (draft_views run) → SlicesFrom next (draft_views ys)
     → Thirds (draft_views left ++ draft_views right) (draft_views xs) (draft_views run) (draft_views ys)
 around left right whole xs rest run ys x next h l r met at is e f g below from run_below ys_from =
     let some : 1 ≤ length (draft_views right) = r.0 in
     let first = first_slice_is right x (omega (arith, length-map right draft_view)) at in
-    thirds x.slice next (draft_views left) (draft_views right) (draft_views xs) (draft_views rest) (draft_views run) (draft_views ys) h l r (met ∙ first) first is (all_rest left right whole xs rest e f) g below from run_below ys_from
+    thirds x.slice next (draft_views left) (draft_views right) (draft_views xs) (draft_views rest) (draft_views run) (draft_views ys) h l r (met ∙ first) first is (all_rest left right whole xs rest e f) (views_parted run ys rest g) below from run_below ys_from

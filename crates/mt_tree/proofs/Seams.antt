@@ -5,7 +5,7 @@ use Rattle.std.proofs.lemmas.List.{append-nil}
 use Rattle.mt_tree.specs.Layer.{PlaceView, slice_at, rank_at, IsLayer, IsLayerFrom}
 use Rattle.mt_tree.specs.Nodes.{joined, SlicesFrom, SlicesApart, IsBorder, CutAt}
 use Rattle.mt_tree.specs.NodeFalls.{joined-append}
-use Rattle.mt_tree.specs.Borders.{AreBorders, SameEnds, last_slice_of}
+use Rattle.mt_tree.specs.Borders.{IsBorderList, SameEnds, last_slice_of}
 use Rattle.mt_tree.specs.Nodes.{first_slice_of}
 use Rattle.mt_tree.proofs.Joins.{all_append, all_weaker, all_front, all_back, length_at-le}
 use Rattle.mt_tree.proofs.Cuts.{slices_from}
@@ -73,7 +73,7 @@ cut_joined : (fs : List (List PlaceView)) (ys : List PlaceView) → AllByRecursi
 cut_joined [] ys h = tt
 cut_joined (a ∷ fs) ys h = all_append (λ x. SlicesFrom (suc (slice_at x)) ys) a (joined fs) h.0 (cut_joined fs ys h.1)
 
-pub are_append : (fs bs : List (List PlaceView)) → AreBorders fs → AreBorders bs → AllByRecursion (λ a. CutAt a (joined bs)) fs → AreBorders (fs ++ bs)
+pub are_append : (fs bs : List (List PlaceView)) → IsBorderList fs → IsBorderList bs → AllByRecursion (λ a. CutAt a (joined bs)) fs → IsBorderList (fs ++ bs)
 are_append fs bs h k c =
     (all_append IsBorder fs bs h.0 k.0, apart_append fs bs h.1 k.1 c, subst IsLayer (sym (joined-append fs bs)) (layer_append (joined fs) (joined bs) h.2 k.2 (cut_joined fs (joined bs) c)))
 
@@ -104,15 +104,15 @@ each_over (a ∷ fs) l ps some e h c =
     (cut_over a ps h (all_weaker (λ x. suc (slice_at x) ≤ first_slice_of l) (λ x. suc (slice_at x) ≤ first_slice_of ps) (λ x le. omega arith) a (first_over a l some c.0)), each_over fs l ps some e h c.1)
 
 -- the seam of two lists of borders is opened and closed again
-pub seam_are : (fs : List (List PlaceView)) (l f : List PlaceView) (bs seam : List (List PlaceView)) → AreBorders (fs ++ l ∷ []) → AreBorders (f ∷ bs) → AreBorders seam → 1 ≤ length l → 1 ≤ length (joined seam) → SameEnds l f (joined seam) → AreBorders (fs ++ (seam ++ bs))
+pub seam_are : (fs : List (List PlaceView)) (l f : List PlaceView) (bs seam : List (List PlaceView)) → IsBorderList (fs ++ l ∷ []) → IsBorderList (f ∷ bs) → IsBorderList seam → 1 ≤ length l → 1 ≤ length (joined seam) → SameEnds l f (joined seam) → IsBorderList (fs ++ (seam ++ bs))
 seam_are fs l f bs seam left right h some seam_some ends =
     let front = front_apart fs l left.1 in
-    let as_are : AreBorders fs = (all_front IsBorder fs (l ∷ []) left.0, front.0, layer_front 0 (joined fs) (joined (l ∷ [])) (subst IsLayer (joined-append fs (l ∷ [])) left.2)) in
-    let bs_are : AreBorders bs = (right.0.1, right.1.1, layer_back 0 f (joined bs) right.2) in
+    let as_are : IsBorderList fs = (all_front IsBorder fs (l ∷ []) left.0, front.0, layer_front 0 (joined fs) (joined (l ∷ [])) (subst IsLayer (joined-append fs (l ∷ [])) left.2)) in
+    let bs_are : IsBorderList bs = (right.0.1, right.1.1, layer_back 0 f (joined bs) right.2) in
     let f_some : 1 ≤ length f = right.0.0.0 in
     let after : SlicesFrom (suc (last_slice_of (joined seam))) (joined bs) = subst (λ (k : ℕ). SlicesFrom (suc k) (joined bs)) (sym ends.last) (last_cut f (joined bs) f_some right.1.0) in
     let seam_cut : CutAt (joined seam) (joined bs) = cut_under (last_slice_of (joined seam)) (joined seam) (joined bs) (up_to_last 0 (joined seam) h.2) after in
-    let rest : AreBorders (seam ++ bs) = are_append seam bs h bs_are (cut_each seam (joined bs) seam_cut) in
+    let rest : IsBorderList (seam ++ bs) = are_append seam bs h bs_are (cut_each seam (joined bs) seam_cut) in
     let head : first_slice_of (joined (seam ++ bs)) ≡ first_slice_of l = ap first_slice_of (joined-append seam bs) ∙ first_kept (joined seam) (joined bs) seam_some ∙ ends.first in
     are_append fs (seam ++ bs) as_are rest (each_over fs l (joined (seam ++ bs)) some head rest.2 front.1)
   where
@@ -121,8 +121,8 @@ seam_are fs l f bs seam left right h some seam_some ends =
     first_kept (x ∷ xs) ys k = refl
 
 -- the last border gives way to others that begin as it does
-pub behind_are : (fs : List (List PlaceView)) (l : List PlaceView) (parts : List (List PlaceView)) → AreBorders (fs ++ l ∷ []) → AreBorders parts → 1 ≤ length l → first_slice_of (joined parts) ≡ first_slice_of l → AreBorders (fs ++ parts)
+pub behind_are : (fs : List (List PlaceView)) (l : List PlaceView) (parts : List (List PlaceView)) → IsBorderList (fs ++ l ∷ []) → IsBorderList parts → 1 ≤ length l → first_slice_of (joined parts) ≡ first_slice_of l → IsBorderList (fs ++ parts)
 behind_are fs l parts left are some first =
     let front = front_apart fs l left.1 in
-    let fs_are : AreBorders fs = (all_front IsBorder fs (l ∷ []) left.0, front.0, layer_front 0 (joined fs) (joined (l ∷ [])) (subst IsLayer (joined-append fs (l ∷ [])) left.2)) in
+    let fs_are : IsBorderList fs = (all_front IsBorder fs (l ∷ []) left.0, front.0, layer_front 0 (joined fs) (joined (l ∷ [])) (subst IsLayer (joined-append fs (l ∷ [])) left.2)) in
     are_append fs parts fs_are are (each_over fs l (joined parts) some first are.2 front.1)

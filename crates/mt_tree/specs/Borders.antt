@@ -1,24 +1,37 @@
--- A layer under construction: a list of borders, each with all places of its slices.
-use Rattle.std.specs.Prelude.{ℕ, ◌≡◌, List, [], ◌∷◌, ◌++◌}
+-- A draft: each of its layers is a list of borders, each with all places of its slices.
+use Rattle.std.specs.Prelude.{ℕ, ◌≡◌, List, [], ◌∷◌}
 use Rattle.std.specs.List.{AllByRecursion}
 use Rattle.mt_tree.specs.Layer.{PlaceView, slice_at, IsLayer, walk}
 use Rattle.mt_words.specs.Walks.{Pair}
-use Rattle.mt_tree.specs.Nodes.{joined, IsBorder, SlicesApart, first_slice_of}
+use Rattle.mt_tree.specs.Layers.{linked_walks}
+use Rattle.mt_tree.specs.Nodes.{joined, IsBorder, SlicesApart, AreLinked, first_slice_of}
 
 -- the walk of a list of borders
-abbrev pub layer_walk : List (List PlaceView) → List Pair
-layer_walk bs = walk (joined bs)
+abbrev pub borders_walk : List (List PlaceView) → List Pair
+borders_walk bs = walk (joined bs)
 
--- the law of a draft: borders of 1 to 15 places, no slice in two of them, whose places are a lawful layer
-abbrev pub AreBorders : List (List PlaceView) → Type 0
-AreBorders bs = AllByRecursion IsBorder bs × SlicesApart bs × IsLayer (joined bs)
+-- the law of one layer's borders: 1 to 15 places in each, no slice in two of them, and their places are a lawful layer
+abbrev pub IsBorderList : List (List PlaceView) → Type 0
+IsBorderList bs = AllByRecursion IsBorder bs × SlicesApart bs × IsLayer (joined bs)
 
--- behind the borders stand more, of these places
-pub record PutBehind (places : List PlaceView) (old new : List (List PlaceView)) : Type 0 where
-  pub more : List (List PlaceView)
-  pub behind : new ≡ old ++ more
-  pub same : joined more ≡ places
-  pub lawful : AreBorders more
+-- what contracts see of a draft: the borders of its outermost layer, in order, and those of the layers below the links of its places, each layer before those below its own links
+pub record DraftView : Type 0 where
+  pub borders : List (List PlaceView)
+  pub below : List (List (List PlaceView))
+
+-- the draft of no pairs
+abbrev pub empty_draft : DraftView
+empty_draft = record { borders = []; below = [] }
+
+-- the walk of a draft is that of its outermost layer
+abbrev pub layer_walk : DraftView → List Pair
+layer_walk d = borders_walk d.borders
+
+-- the law of a draft: the borders of its outermost layer are lawful, and so are those of each layer below a link, at any depth
+pub record AreBorders (d : DraftView) : Type 0 where
+  pub own : IsBorderList d.borders
+  pub below : AllByRecursion IsBorderList d.below
+  pub linked : AreLinked (linked_walks (joined d.borders)) d.below
 
 -- the slice of the last place
 abbrev pub last_slice_of : List PlaceView → ℕ

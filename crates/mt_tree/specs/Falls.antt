@@ -5,7 +5,7 @@ use denote.Param.Weighed.{most}
 use Rattle.mt_tree.specs.Layer.{PlaceView, pairs_at, walk, weight, put_before, IsLayerFrom, IsPlace, rank_at}
 use Rattle.mt_words.specs.Walks.{Pair}
 use Rattle.mt_tree.specs.DraftViews.{draft_views, draft_view, draft_view_of, border_views}
-use Rattle.mt_tree.specs.Borders.{layer_walk}
+use Rattle.mt_tree.specs.Borders.{layer_walk, borders_walk}
 use Rattle.mt_tree.specs.Nodes.{joined}
 use Rattle.mt_tree.specs.declared.layer.Border.{Border}
 use Rattle.mt_tree.specs.declared.layer.DraftPlace.{DraftPlace}
@@ -52,7 +52,7 @@ pub layer_back : (low : ℕ) (xs ys : List PlaceView) → IsLayerFrom low (xs ++
 layer_back low [] ys h = h
 layer_back low (x ∷ xs) ys h = let from : low ≤ rank_at x = h.1 in layer_weaker (suc (rank_at x)) low ys (omega arith) (layer_back (suc (rank_at x)) xs ys h.2)
 
-pub borders_fall : (bs : List Border) → IsLayerFrom 0 (joined (border_views bs)) → most deep-Border bs ≤ weight (layer_walk (border_views bs))
+pub borders_fall : (bs : List Border) → IsLayerFrom 0 (joined (border_views bs)) → most deep-Border bs ≤ weight (borders_walk (border_views bs))
 borders_fall [] h = omega arith
 borders_fall (b ∷ bs) h =
     let here = draft_views b.places.items in

@@ -85,16 +85,20 @@ pub record IsLayerTree (t : LayerView) : Type 0 where
   pub interiors : AllByRecursion IsInterior t.interiors
   pub shape : HaveInteriors (as_branch t ∷ []) t.interiors
 
--- these trees have these walks, in order, where each tree comes before those below its own links
-abbrev pub AreLinked : List (List Pair) → List LayerView → Type 0
+-- these layers, each of them a list of borders, have these walks, in order, where each layer comes before those below its own links
+abbrev pub AreLinked : List (List Pair) → List (List (List PlaceView)) → Type 0
 AreLinked ws [] = ws ≡ []
-AreLinked [] (t ∷ ts) = ⊥
-AreLinked (w ∷ ws) (t ∷ ts) = (w ≡ walk (joined t.borders)) × AreLinked (linked_walks (joined t.borders) ++ ws) ts
+AreLinked [] (l ∷ ls) = ⊥
+AreLinked (w ∷ ws) (l ∷ ls) = (w ≡ walk (joined l)) × AreLinked (linked_walks (joined l) ++ ws) ls
+
+-- the borders of each of these trees
+abbrev pub each_borders : List LayerView → List (List (List PlaceView))
+each_borders = map (λ t. t.borders)
 
 -- the trees of the links of these places, each before those below its own links, all lawful
 pub record AreBelow (ps : List PlaceView) (ts : List LayerView) : Type 0 where
   pub lawful : AllByRecursion IsLayerTree ts
-  pub linked : AreLinked (linked_walks ps) ts
+  pub linked : AreLinked (linked_walks ps) (each_borders ts)
 
 -- the law of a node: its own tree is lawful, and so is each tree below a link, at any depth
 pub record IsNode (n : NodeView) : Type 0 where

@@ -2,7 +2,7 @@
 use Rattle.std.specs.Prelude.{◌≡◌, ℕ, ◌+◌, ◌-◌, ◌^◌, min, length, List, [], Option, Some, None, ⊤}
 use Rattle.mt_tree.specs.Layer.{PlaceView, walk}
 use Rattle.mt_words.specs.Walks.{Pair}
-use Rattle.mt_tree.specs.Nodes.{NodeView, places, IsNode}
+use Rattle.mt_tree.specs.Nodes.{NodeView, places, each_borders, IsNode}
 
 -- the places of the outermost layer; the tree of no pairs has no node
 abbrev pub tree_places : Option NodeView → List PlaceView
@@ -27,6 +27,11 @@ tree_count (Some n) = length n.below + 1
 abbrev pub tree_borders : Option NodeView → List (List PlaceView)
 tree_borders None = []
 tree_borders (Some n) = n.tree.borders
+
+-- the borders of each layer below a link
+abbrev pub tree_below : Option NodeView → List (List (List PlaceView))
+tree_below None = []
+tree_below (Some n) = each_borders n.below
 
 -- how many pairs a walk has, or the greatest number that a machine word of 128 bits holds
 abbrev pub IsCount : List Pair → ℕ → Type 0

@@ -1,8 +1,8 @@
 //! A finished layer is cut into borders, and nodes are stacked on them.
 ghost use Rattle.std.specs.Prelude.{◌≡◌, ◌≢◌, MatchBool, ◌<◌, ◌≤◌, ◌+◌, ◌++◌, ◌∷◌, [], suc, List, length, IfOk};
 ghost use Rattle.mt_tree.specs.Layer.{PlaceView, IsLayer, IsPlace};
-ghost use Rattle.mt_tree.specs.Nodes.{places, joined, borders_of, level_height, IsNode, IsNodeAt, IsLevel, IsLevelAt, IsBorder, border_tree, AreBelow, first_of, parent_node};
-ghost use Rattle.mt_tree.specs.DraftViews.{draft_view, draft_views};
+ghost use Rattle.mt_tree.specs.Nodes.{places, joined, borders_of, below_of, each_borders, level_height, IsNode, IsNodeAt, IsLevel, IsLevelAt, IsBorder, border_tree, AreBelow, first_of, parent_node};
+ghost use Rattle.mt_tree.specs.DraftViews.{draft_view, draft_views, layers_of, layers_of_content};
 ghost use Rattle.mt_tree.specs.NodeViews.{views, view_of, trees_of_content};
 
 use crate::layer::{Border, DraftContent, DraftPlace, Layer};
@@ -41,6 +41,7 @@ fn level_up(alloc: Global, nodes: Vec<Node>) -> Result<Vec<Node>, Memory>
     requires lawful { IsLevel nodes.items }
     requires two { 2 ≤ length nodes.items }
     ensures same { IfOk result (λ upper. borders_of upper.items ≡ borders_of nodes.items) }
+    ensures below { IfOk result (λ upper. below_of upper.items ≡ below_of nodes.items) }
     ensures lawful { IfOk result (λ upper. IsLevel upper.items) }
     ensures fewer { IfOk result (λ upper. length upper.items < length nodes.items) }
     ensures some { IfOk result (λ upper. 1 ≤ length upper.items) }
@@ -64,6 +65,7 @@ fn stack(alloc: Global, borders: Vec<Node>) -> Result<Node, Memory>
     requires lawful { IsLevelAt 0 borders.items }
     requires some { 1 ≤ length borders.items }
     ensures same { IfOk result (λ node. node.tree.borders ≡ borders_of borders.items) }
+    ensures below { IfOk result (λ node. node.below ≡ below_of borders.items) }
     ensures lawful { IfOk result (λ node. IsNode node) }
 {
     let mut nodes = borders;
@@ -79,8 +81,9 @@ fn stack(alloc: Global, borders: Vec<Node>) -> Result<Node, Memory>
 /// The tree of a layer: interiors are put over its borders.
 #[cycle(finish)]
 pub(crate) fn finish(alloc: Global, layer: Layer) -> Result<Node, Memory>
-    requires some { 1 ≤ length layer }
-    ensures same { IfOk result (λ node. node.tree.borders ≡ layer) }
+    requires some { 1 ≤ length layer.borders }
+    ensures same { IfOk result (λ node. node.tree.borders ≡ layer.borders) }
+    ensures below { IfOk result (λ node. each_borders node.below ≡ layer.below) }
     ensures lawful { IfOk result (λ node. IsNode node) }
 {
     let mut nodes = Vec::with_capacity(alloc, layer.borders.len())?;
@@ -96,6 +99,7 @@ fn finish_border(alloc: Global, border: Border) -> Result<Node, Memory>
     requires some { IsBorder (draft_views border.places.items) }
     requires lawful { IsLayer (draft_views border.places.items) }
     ensures same { IfOk result (λ node. node.tree ≡ border_tree (draft_views border.places.items)) }
+    ensures below { IfOk result (λ node. each_borders node.below ≡ layers_of border.places.items) }
     ensures lawful { IfOk result (λ node. IsNode node) }
 {
     let mut all = Vec::with_capacity(alloc, border.places.len())?;
@@ -112,6 +116,7 @@ fn finish_border(alloc: Global, border: Border) -> Result<Node, Memory>
 fn finish_place(alloc: Global, place: DraftPlace) -> Result<Place, Memory>
     requires lawful { IsPlace (draft_view place) }
     ensures same { IfOk result (λ made. view_of made ≡ draft_view place) }
+    ensures layers { IfOk result (λ made. each_borders (trees_of_content made.content) ≡ layers_of_content place.content) }
     ensures below { IfOk result (λ made. AreBelow (view_of made ∷ []) (trees_of_content made.content)) }
 {
     let slice = place.slice;

@@ -1,9 +1,9 @@
 //! A layer under construction: a list of borders, each of them a list of places.
 ghost use Rattle.std.specs.Prelude.{◌≡◌, ◌≤◌, ◌+◌, MatchBool, ◌<◌, ◌++◌, ◌∷◌, ◌↔◌, [], length, take, drop, IfOk, OnOk, IsTrue};
 ghost use Rattle.mt_tree.specs.Layer.{IsLayer, walk, pairs_at, put_before, length_at, IsPlace, HasNoEmptyKey, AllKeysBelow, Meet};
-ghost use Rattle.mt_tree.specs.DraftViews.{draft_view, draft_views, border_views};
+ghost use Rattle.mt_tree.specs.DraftViews.{draft_view, draft_views, IsLawfulLink, HaveLawfulLinks, PutBehind};
 ghost use Rattle.mt_tree.specs.Nodes.{IsBorder, SlicesBelow, SlicesFrom, first_slice_of};
-ghost use Rattle.mt_tree.specs.Borders.{AreBorders, PutBehind, layer_walk, SameEnds, last_slice_of};
+ghost use Rattle.mt_tree.specs.Borders.{AreBorders, empty_draft, layer_walk, SameEnds, last_slice_of};
 ghost use Rattle.mt_words.specs.Slices.{slice_bytes};
 
 use mt_words::{Columns, Kept, Memory, slice_of};
@@ -39,29 +39,29 @@ pub(crate) enum DraftContent {
 }
 
 impl Model for Layer {
-    ghost use Rattle.std.specs.Prelude.{List};
-    ghost use Rattle.mt_tree.specs.Layer.{PlaceView, weight};
-    ghost use Rattle.mt_tree.specs.Borders.{AreBorders, layer_walk};
+    ghost use Rattle.mt_tree.specs.Layer.{weight};
+    ghost use Rattle.mt_tree.specs.Borders.{DraftView, layer_walk};
 
-    ghost Value = { List (List PlaceView) };
+    ghost Value = { DraftView };
 
-    ghost use Rattle.mt_tree.specs.DraftViews.{border_views};
+    ghost use Rattle.mt_tree.specs.DraftViews.{draft_of, IsStored};
 
-    ghost view = { λ a. border_views a.borders.items };
+    ghost view = { λ a. draft_of a.borders.items };
 
-    ghost invariant = { λ a. AreBorders (border_views a.borders.items) };
+    ghost invariant = { λ a. IsStored a.borders.items };
 
     ghost size = { λ v. weight (layer_walk v) };
 
     ghost use Rattle.std.proofs.Common.{arith};
     ghost use Rattle.mt_tree.specs.Falls.{borders_fall};
 
-    ghost size_decreases = { λ a h. omega (arith, borders_fall a.borders.items h.2) };
+    ghost size_decreases = { λ a h. omega (arith, borders_fall a.borders.items h.own.2) };
 }
 
 /// The place of a lone key.
 fn place_for(alloc: Global, key: &[u8], columns: Columns<Kept>) -> Result<DraftPlace, Memory>
     ensures lawful { IfOk result (λ p. IsPlace (draft_view p)) }
+    ensures links { IfOk result (λ p. IsLawfulLink p.content) }
     ensures pairs { IfOk result (λ p. pairs_at (draft_view p) ≡ (key.now, columns) ∷ []) }
 {
     let slice = slice_of(key);
@@ -119,9 +119,11 @@ fn follow(
 ) -> Result<Vec<DraftPlace>, Memory>
     requires lawful { IsLayer (draft_views places.items) }
     requires some { 1 ≤ length places.items }
+    requires links { HaveLawfulLinks places.items }
     requires below { AllKeysBelow (walk (draft_views places.items)) ((key.now, columns) ∷ []) }
     ensures pairs { IfOk result (λ r. walk (draft_views r.items) ≡ walk (draft_views places.items) ++ (key.now, columns) ∷ []) }
     ensures lawful { IfOk result (λ r. IsLayer (draft_views r.items)) }
+    ensures links { IfOk result (λ r. HaveLawfulLinks r.items) }
     ensures first { IfOk result (λ r. first_slice_of (draft_views r.items) ≡ first_slice_of (draft_views places.items)) }
     ensures some { IfOk result (λ r. 1 ≤ length r.items) }
     ensures more { IfOk result (λ r. length r.items ≤ length places.items + 1) }
@@ -162,7 +164,7 @@ fn count_below(places: &[DraftPlace], slice: u64) -> usize
 /// Takes off the places from this slice on.
 fn split_before(places: &mut Vec<DraftPlace>, slice: u64) -> Result<Vec<DraftPlace>, Memory>
     requires { IsLayer (draft_views places.old.items) }
-    ensures same { IfOk result (λ rest. draft_views places.new.items ++ draft_views rest.items ≡ draft_views places.old.items) }
+    ensures same { IfOk result (λ rest. places.new.items ++ rest.items ≡ places.old.items) }
     ensures below { OnOk result (SlicesBelow slice (draft_views places.new.items)) }
     ensures from { IfOk result (λ rest. SlicesFrom slice (draft_views rest.items)) }
 {
@@ -174,7 +176,7 @@ fn split_before(places: &mut Vec<DraftPlace>, slice: u64) -> Result<Vec<DraftPla
 fn push_border(borders: &mut Vec<Border>, places: Vec<DraftPlace>) -> Result<(), Memory>
     requires lawful { IsLayer (draft_views places.items) }
     requires few { length places.items ≤ 15 }
-    ensures { OnOk result (PutBehind (draft_views places.items) (border_views borders.old.items) (border_views borders.new.items)) }
+    ensures { OnOk result (PutBehind places.items borders.old.items borders.new.items) }
 {
     if places.is_empty() {
         return Ok(());
@@ -188,7 +190,7 @@ fn push_cut(borders: &mut Vec<Border>, places: Vec<DraftPlace>) -> Result<(), Me
     requires lawful { IsLayer (draft_views places.items) }
     requires some { 1 ≤ length places.items }
     requires most { length places.items ≤ 16 }
-    ensures { OnOk result (PutBehind (draft_views places.items) (border_views borders.old.items) (border_views borders.new.items)) }
+    ensures { OnOk result (PutBehind places.items borders.old.items borders.new.items) }
 {
     let mut places = places;
     if places.len() > 15 {
@@ -210,9 +212,11 @@ fn meet(
     requires left_lawful { IsLayer (draft_views left.items) }
     requires right_lawful { IsLayer (draft_views right.items) }
     requires some { (1 ≤ length left.items) × (1 ≤ length right.items) }
+    requires links { HaveLawfulLinks left.items × HaveLawfulLinks right.items }
     requires below { AllKeysBelow (walk (draft_views left.items)) (walk (draft_views right.items)) }
     ensures pairs { IfOk result (λ r. walk (draft_views r.0.items ++ draft_views r.1.items) ≡ walk (draft_views left.items) ++ walk (draft_views right.items)) }
     ensures lawful { IfOk result (λ r. IsLayer (draft_views r.0.items ++ draft_views r.1.items)) }
+    ensures links { IfOk result (λ r. HaveLawfulLinks (r.0.items ++ r.1.items)) }
     ensures same { IfOk result (λ r. length r.0.items ≡ length left.items) }
     ensures fewer { IfOk result (λ r. length r.1.items ≤ length right.items) }
     ensures slices { IfOk result (λ r. SameEnds (draft_views left.items) (draft_views right.items) (draft_views r.0.items ++ draft_views r.1.items)) }
@@ -248,7 +252,7 @@ fn push_around(
     requires left_some { IsBorder (draft_views left.items) }
     requires right_some { IsBorder (draft_views right.items) }
     requires met { last_slice_of (draft_views left.items) ≡ first_slice_of (draft_views right.items) }
-    ensures { OnOk result (PutBehind (draft_views left.items ++ draft_views right.items) (border_views borders.old.items) (border_views borders.new.items)) }
+    ensures { OnOk result (PutBehind (left.items ++ right.items) borders.old.items borders.new.items) }
 {
     let mut places = left;
     let mut right = right;
@@ -271,7 +275,7 @@ fn push_both(
     requires lawful { IsLayer (draft_views left.items ++ draft_views right.items) }
     requires some { IsBorder (draft_views left.items) }
     requires few { length right.items ≤ 15 }
-    ensures { OnOk result (PutBehind (draft_views left.items ++ draft_views right.items) (border_views borders.old.items) (border_views borders.new.items)) }
+    ensures { OnOk result (PutBehind (left.items ++ right.items) borders.old.items borders.new.items) }
 {
     let mut left = left;
     let mut right = right;
@@ -288,7 +292,7 @@ fn push_both(
 
 impl Layer {
     pub(crate) fn new(alloc: Global) -> Layer
-        ensures { result ≡ [] }
+        ensures { result ≡ empty_draft }
     {
         Layer {
             borders: Vec::new(alloc),
@@ -300,7 +304,7 @@ impl Layer {
     }
 
     pub(crate) fn is_empty(&self) -> bool
-        ensures { MatchBool result (self.now ≡ []) (1 ≤ length self.now) }
+        ensures { MatchBool result (self.now ≡ empty_draft) (1 ≤ length self.now.borders) }
     {
         self.borders.is_empty()
     }

@@ -4,8 +4,8 @@ ghost use Rattle.mt_tree.specs.Layer.{AllKeysBelow};
 ghost use Rattle.mt_words.specs.Limits.{widest};
 ghost use Rattle.mt_words.specs.Walks.{KeysRise};
 ghost use Rattle.mt_words.specs.Words.{IsKey};
-ghost use Rattle.mt_tree.specs.Borders.{AreBorders, layer_walk};
-ghost use Rattle.mt_tree.specs.Trees.{tree_walk, tree_borders, tree_count, IsTree, IsCount};
+ghost use Rattle.mt_tree.specs.Borders.{AreBorders, empty_draft, layer_walk};
+ghost use Rattle.mt_tree.specs.Trees.{tree_walk, tree_borders, tree_below, tree_count, IsTree, IsCount};
 ghost use Rattle.mt_tree.specs.Range.{hits};
 ghost use Rattle.mt_tree.specs.Layers.{CountsLayers, IsLayers};
 
@@ -31,11 +31,10 @@ pub struct Draft {
 }
 
 impl Model for Draft {
-    ghost use Rattle.std.specs.Prelude.{List};
-    ghost use Rattle.mt_tree.specs.Layer.{PlaceView, FitsAfter};
-    ghost use Rattle.mt_tree.specs.Borders.{AreBorders, layer_walk};
+    ghost use Rattle.mt_tree.specs.Layer.{FitsAfter};
+    ghost use Rattle.mt_tree.specs.Borders.{DraftView, AreBorders, layer_walk};
 
-    ghost Value = { List (List PlaceView) };
+    ghost Value = { DraftView };
 
     ghost view = { λ d. d.layer };
 
@@ -73,7 +72,7 @@ impl Model for Tree {
 impl Draft {
     /// No pair.
     pub fn new(alloc: Global) -> Draft
-        ensures { result ≡ [] }
+        ensures { result ≡ empty_draft }
     {
         Draft {
             layer: Layer::new(alloc),
@@ -94,7 +93,7 @@ impl Draft {
         requires rises { KeysRise (layer_walk self.old ++ (key.now, columns) ∷ []) }
         ensures pairs { OnOk result (layer_walk self.new ≡ layer_walk self.old ++ (key.now, columns) ∷ []) }
         ensures lawful { OnOk result (AreBorders self.new) }
-        ensures refused { OnErr result (self.new ≡ []) }
+        ensures refused { OnErr result (self.new ≡ empty_draft) }
     {
         let alloc = self.layer.allocator();
         let Draft { layer, count } = mem::replace(self, Draft::new(alloc));
@@ -131,7 +130,8 @@ impl Draft {
 
     /// The tree of a draft.
     pub fn finish(self) -> Result<Tree, Memory>
-        ensures borders { IfOk result (λ t. tree_borders t ≡ self) }
+        ensures borders { IfOk result (λ t. tree_borders t ≡ self.borders) }
+        ensures below { IfOk result (λ t. tree_below t ≡ self.below) }
         ensures lawful { IfOk result IsTree }
     {
         let alloc = self.layer.allocator();

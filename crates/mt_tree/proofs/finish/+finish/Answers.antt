@@ -1,20 +1,48 @@
-use Rattle.std.proofs.Common.{◌≡◌, ◌≤◌, ◌<◌, ◌++◌, List, [], ap, sym, subst, ◌∙◌, arith, ◌∷◌, append_assoc}
+use Rattle.std.proofs.Common.{◌≡◌, ◌≤◌, ◌<◌, ◌++◌, List, [], ap, sym, subst, ◌∙◌, arith, rules, ◌∷◌, append_assoc}
 use Rattle.std.proofs.lemmas.List.{append-nil, map-append, nil_from_length}
 use Rattle.std.specs.Vec.Iter.{into_iter_items}
 use Rattle.mt_tree.specs.Layer.{PlaceView, link, IsPlace, weight, walk, pairs_at}
-use Rattle.mt_tree.specs.Borders.{AreBorders, layer_walk}
-use Rattle.mt_tree.specs.DraftViews.{draft_view, draft_views, draft_view_of, border_views}
+use Rattle.mt_tree.specs.Borders.{DraftView, IsBorderList, layer_walk}
+use Rattle.mt_tree.specs.DraftViews.{draft_view, draft_views, draft_view_of, border_views, layers_of, layers_of_content}
 use Rattle.mt_tree.specs.declared.layer.DraftContent.{DraftContent}
 use Rattle.mt_tree.specs.declared.layer.DraftPlace.{DraftPlace}
 use Rattle.mt_tree.specs.declared.node.Place.{Place}
-use Rattle.mt_tree.specs.NodeViews.{views, view_of}
+use Rattle.mt_tree.specs.NodeViews.{views, view_of, trees_of_content}
 use Rattle.mt_tree.proofs.Levels.{place_weight, place_lawful, link_lighter}
-use Rattle.mt_tree.proofs.Ends.{middle, link_some, border_done, below_push}
+use Rattle.std.specs.List.{AllByRecursion, flat_map}
+use Rattle.std.proofs.lemmas.Result.{IfOk-weaker}
+use Rattle.mt_tree.specs.declared.layer.Border.{Border}
+use Rattle.mt_tree.specs.Nodes.{NodeView, IsNodeAt, borders_of, below_of, each_borders}
+use Rattle.mt_tree.proofs.Ends.{middle, link_some, border_done, below_push, carried, all_carried, each_flat, layers_flat}
 use Rattle.mt_tree.proofs.finish.+finish.Goals as goal
+
+pub finish-loop-border-init : goal.finish-loop-border-init
+finish-loop-border-init t c =
+    let none = c.in_ok-nodes.ensures.items in
+    let given : into_iter_items c.into_iter-border-iterator.result ≡ c.layer.inside.borders.items = search rules in
+    record {
+      whole = (λ i. borders_of (none i) ++ border_views (given i)) ∙ ap (λ (d : DraftView). d.borders) c.layer.view_is;
+      layers = (λ i. flat_map (λ (n : NodeView). each_borders n.below) (none i) ++ flat_map (λ (b : Border). layers_of b.places.items) (given i)) ∙ layers_flat c.layer.inside.borders.items ∙ ap (λ (d : DraftView). d.below) c.layer.view_is;
+      nodes = subst (AllByRecursion (IsNodeAt 0)) (sym none) tt;
+    }
+
+pub finish-returns-clause-below : goal.finish-returns-clause-below
+finish-returns-clause-below t c =
+    let none : into_iter_items c.loop-border.border-iterator ≡ [] = nil_from_length (into_iter_items c.loop-border.border-iterator) (omega (arith, c.in-None.ensures.steps.0)) in
+    let nodes = c.loop-border.nodes.items in
+    let layers : each_borders (below_of nodes) ≡ c.args.layer.below =
+    sym (each_flat (λ (n : NodeView). n.below) nodes) ∙ all_carried (λ (n : NodeView). each_borders n.below) (λ (b : Border). layers_of b.places.items) nodes _ _ c.loop-border.invariant.layers none in
+    IfOk-weaker c.stack.result _ _ (λ node is. ap each_borders is ∙ layers) c.stack.ensures.below
+
+pub finish_border-returns-clause-below : goal.finish_border-returns-clause-below
+finish_border-returns-clause-below t c =
+    let none : into_iter_items c.loop-place.place-iterator ≡ [] = nil_from_length (into_iter_items c.loop-place.place-iterator) (omega (arith, c.in-None.ensures.steps.0)) in
+    sym (each_flat (λ (p : Place). trees_of_content p.content) c.loop-place.all.items)
+    ∙ all_carried (λ (p : Place). each_borders (trees_of_content p.content)) (λ (p : DraftPlace). layers_of_content p.content) c.loop-place.all.items _ _ c.loop-place.invariant.layers none
 
 pub finish-finish_border-requires : goal.finish-finish_border-requires
 finish-finish_border-requires t c =
-    let m = middle _ _ _ c.args.layer (draft_views c.in-Some.border.places.items) c.loop-border.invariant.whole (ap border_views c.in-Some.ensures.steps.0) (subst AreBorders c.layer.view_is c.layer.invariant) in
+    let m = middle _ _ _ c.args.layer.borders (draft_views c.in-Some.border.places.items) c.loop-border.invariant.whole (ap border_views c.in-Some.ensures.steps.0) (subst IsBorderList (ap (λ (d : DraftView). d.borders) c.layer.view_is) c.layer.invariant.own) in
     (omega (arith, m.light, c.decreases), (m.border, m.layer))
 
 pub finish_border-finish_place-requires : goal.finish_border-finish_place-requires
@@ -55,5 +83,6 @@ place_moved xs ys left next d p all e f g h =
 pub finish_border-loop-place-preserved : goal.finish_border-loop-place-preserved
 finish_border-loop-place-preserved t c = record {
   same = place_moved _ _ _ _ _ _ _ c.loop-place.invariant.same c.in-Some.ensures.steps.0 c.in_ok-finished.ensures.same c.in_ok-push.ensures.items;
+  layers = carried (λ (p : Place). each_borders (trees_of_content p.content)) (λ (p : DraftPlace). layers_of_content p.content) _ _ _ _ _ _ _ c.loop-place.invariant.layers c.in-Some.ensures.steps.0 c.in_ok-finished.ensures.layers c.in_ok-push.ensures.items;
   below = below_push _ _ _ c.loop-place.invariant.below c.in_ok-finished.ensures.below c.in_ok-push.ensures.items;
 }

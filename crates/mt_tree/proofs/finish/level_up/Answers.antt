@@ -1,8 +1,9 @@
-use Rattle.std.proofs.Common.{◌≡◌, ◌≢◌, ◌≤◌, ◌+◌, ◌-◌, ◌*◌, ℕ, suc, List, [], ◌∷◌, ◌++◌, length, ap, sym, subst, ◌∙◌, ◌<◌, inl, inr, ◌⊎◌, arith, length-append}
+use Rattle.std.proofs.Common.{◌≡◌, ◌≢◌, ◌≤◌, ◌+◌, ◌-◌, ◌*◌, ℕ, suc, List, [], ◌∷◌, ◌++◌, length, ap, refl, sym, subst, ◌∙◌, ◌<◌, inl, inr, ◌⊎◌, arith, length-append}
 use Rattle.std.proofs.lemmas.Bool.{cases_lt}
-use Rattle.std.specs.List.{AllByRecursion}
+use Rattle.std.specs.List.{AllByRecursion, flat_map}
+use Rattle.mt_tree.specs.Layer.{PlaceView}
 use Rattle.std.specs.Vec.Iter.{into_iter_items}
-use Rattle.mt_tree.specs.Nodes.{NodeView, level_height, IsNodeAt, IsLevelAt, IsNode, parent_node, borders_of}
+use Rattle.mt_tree.specs.Nodes.{NodeView, LayerView, below_of, level_height, IsNodeAt, IsLevelAt, IsNode, parent_node, borders_of}
 use Rattle.mt_tree.proofs.Joins.{all_append}
 use Rattle.mt_tree.proofs.Levels.{moved, level_back, level_children, height_of, under_parent}
 use Rattle.mt_tree.proofs.finish.level_up.Goals as goal
@@ -16,9 +17,10 @@ pub parent-requires-clause-level : goal.parent-requires-clause-level
 parent-requires-clause-level c =
     level_children _ _ _ (with_next _ _ _ _ _ _ _ c.loop-node.invariant.level c.in-Some.ensures.steps.0 c.in_ok-push.ensures.items (ap (λ v. v.items) c.replace.ensures.value))
 
-gathered_whole : (upper kids rest next gathered given : List NodeView) (node : NodeView) (all : _) → borders_of upper ++ borders_of (kids ++ rest) ≡ all → rest ≡ node ∷ next → gathered ≡ kids ++ node ∷ [] → given ≡ gathered → borders_of upper ++ borders_of (given ++ next) ≡ all
-gathered_whole upper kids rest next gathered given node all w e f g =
-    ap (λ (z : List NodeView). borders_of upper ++ borders_of z) (sym (moved kids rest next node e ∙ ap (λ (z : List NodeView). z ++ next) (sym f ∙ sym g))) ∙ w
+gathered_whole : {X : Type 0} (part : NodeView → List X) (upper kids rest next gathered given : List NodeView) (node : NodeView) (all : List X) → flat_map part upper ++ flat_map part (kids ++ rest) ≡ all → rest ≡ node ∷ next
+    → gathered ≡ kids ++ node ∷ [] → given ≡ gathered → flat_map part upper ++ flat_map part (given ++ next) ≡ all
+gathered_whole part upper kids rest next gathered given node all w e f g =
+    ap (λ (z : List NodeView). flat_map part upper ++ flat_map part z) (sym (moved kids rest next node e ∙ ap (λ (z : List NodeView). z ++ next) (sym f ∙ sym g))) ∙ w
 
 pair_kept : (left kids count : ℕ) → kids ≤ 15 → 1 ≤ left → count ≡ kids + 1 → (left - 1 ≢ 0 → 15 ≤ count) → (count ≡ 15 → left - 1 ≢ 0 → left - 1 ≡ 2) → (kids ≡ 15 → left ≢ 2) → left - 1 ≡ 1 → ⊥
 pair_kept left kids count few some e many two full k =
@@ -52,7 +54,10 @@ loop-node-preserved-in-Continue-branch-3 c =
     let left : c.loop-node.left ≡ suc (length next) = c.loop-node.invariant.left ∙ ap (λ (z : List NodeView). length z) c.in-Some.ensures.steps.0 in
     let node : c.in_ok-node.node ≡ parent_node kids = c.in_ok-node.ensures.value in
     let up : c.push-then-closes.new.self.items ≡ c.loop-node.upper.items ++ parent_node kids ∷ [] = c.in_ok-push-2.ensures.items ∙ ap (λ (n : NodeView). c.loop-node.upper.items ++ n ∷ []) node in
-    let whole = under_parent c.loop-node.upper.items kids next _ (gathered_whole c.loop-node.upper.items _ _ _ _ _ _ _ c.loop-node.invariant.whole c.in-Some.ensures.steps.0 c.in_ok-push.ensures.items given) in
+    let borders : NodeView → List (List PlaceView) = λ n. n.tree.borders in
+    let whole = under_parent borders c.loop-node.upper.items kids next _ refl (gathered_whole borders c.loop-node.upper.items _ _ _ _ _ _ _ c.loop-node.invariant.whole c.in-Some.ensures.steps.0 c.in_ok-push.ensures.items given) in
+    let trees : NodeView → List LayerView = λ n. n.below in
+    let below = under_parent trees c.loop-node.upper.items kids next _ refl (gathered_whole trees c.loop-node.upper.items _ _ _ _ _ _ _ c.loop-node.invariant.below c.in-Some.ensures.steps.0 c.in_ok-push.ensures.items given) in
     let height : level_height kids ≡ h = height_of h kids next level (omega arith) in
     let none : length c.replace.new.dest.items ≡ 0 = ap (λ (z : List NodeView). length z) empty in
     let more : length c.push-then-closes.new.self.items ≡ length c.loop-node.upper.items + 1 = ap (λ (z : List NodeView). length z) up ∙ length-append c.loop-node.upper.items (parent_node kids ∷ []) in
@@ -63,6 +68,7 @@ loop-node-preserved-in-Continue-branch-3 c =
     record {
       level = subst (λ (z : List NodeView). IsLevelAt h (z ++ next)) (sym empty) (level_back h kids next level);
       whole = (λ i. borders_of (up i) ++ borders_of (empty i ++ next)) ∙ whole;
+      below = (λ i. below_of (up i) ++ below_of (empty i ++ next)) ∙ below;
       above = subst (AllByRecursion (IsNodeAt (suc h))) (sym up) (all_append (IsNodeAt (suc h)) c.loop-node.upper.items (parent_node kids ∷ []) c.loop-node.invariant.above ((ap (λ n. suc n) height, subst IsNode node c.in_ok-node.ensures.lawful), tt));
       left = omega arith;
       few = omega arith;

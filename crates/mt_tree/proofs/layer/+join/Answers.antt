@@ -6,10 +6,11 @@ use Rattle.mt_tree.specs.Layer.{walk, weight, pairs_at, Meet}
 use Rattle.mt_words.specs.Walks.{Pair}
 use Rattle.mt_tree.specs.Borders.{layer_walk}
 use Rattle.mt_tree.specs.Nodes.{IsBorder}
-use Rattle.mt_tree.specs.DraftViews.{draft_view, draft_views}
+use Rattle.mt_tree.specs.DraftViews.{draft_view, draft_views, IsStored}
 use Rattle.mt_tree.specs.declared.layer.DraftPlace.{DraftPlace}
 use Rattle.mt_tree.proofs.Joins.{first_removed, last_lawful, below_at_seam, apart_layer, merged_layer, last_weight, below_lighter, below_shared, Merging, merged_lawful, merged_rank, same_slice}
-use Rattle.mt_tree.proofs.Meets.{seam_of, same_first, glued_layer, ends_kept, ends_merged, sides, left_layer, right_layer, last_border, seam_put}
+use Rattle.mt_tree.proofs.Meets.{seam_of, same_first, glued_layer, ends_kept, ends_merged, sides, left_layer, right_layer, last_border, seam_put, seam_walk}
+use Rattle.mt_tree.proofs.Links.{stored_are, links_parted, links_first, seam_stored, links_merged, links_kept}
 use Rattle.mt_tree.proofs.layer.+join.Goals as goal
 use Rattle.mt_tree.proofs.layer.+join.Goals.{meet-then-meets+in_ok-upper+in_ok-lower+in_ok-joined+in_ok-push, meet-else-meets+in_ok-push-2}
 
@@ -42,7 +43,10 @@ Layer::join-meet-requires t c =
         left_layer _ _ _ _ _ s,
         (
           right_layer _ _ _ _ _ s,
-          ((omega (arith, length-map c.in-Some.last.places.items draft_view), omega (arith, length-map c.remove-first.result.places.items draft_view)), s.below),
+          (
+            (omega (arith, length-map c.in-Some.last.places.items draft_view), omega (arith, length-map c.remove-first.result.places.items draft_view)),
+            (((links_parted _ _ _ c.left.invariant.links c.in-Some.ensures.items).1, (links_first _ _ _ c.right.invariant.links (first_removed _ _ _ some c.remove-first.ensures.value c.remove-first.ensures.items)).0), s.below),
+          ),
         ),
       ),
     )
@@ -101,10 +105,38 @@ pub Layer::join-invariant_of-result-2 : goal.Layer::join-invariant_of-result-2
 Layer::join-invariant_of-result-2 t c =
     let some : 0 < length c.right.inside.borders.items = search rules in
     let s = sides _ _ _ _ _ _ _ _ c.left.view_is c.right.view_is c.left.invariant c.right.invariant c.requires c.in-Some.ensures.items some c.remove-first.ensures.value c.remove-first.ensures.items in
-    seam_put _ _ _ _ _ _ _ _ _ s c.in_ok-push_both.ensures c.in_ok-append.ensures.items c.in_ok-last.ensures.same c.in_ok-last.ensures.slices
+    let own = seam_put _ _ _ _ _ _ _ _ _ s c.in_ok-push_both.ensures c.in_ok-append.ensures.items c.in_ok-last.ensures.same c.in_ok-last.ensures.slices in
+    let cut = first_removed _ _ _ some c.remove-first.ensures.value c.remove-first.ensures.items in
+    seam_stored _ _ _ _ _ _ _ _ _ own c.left.invariant.links c.right.invariant.links c.in-Some.ensures.items cut c.in_ok-last.ensures.links c.in_ok-push_both.ensures c.in_ok-append.ensures.items
 
 pub Layer::join-returns-clause-lawful : goal.Layer::join-returns-clause-lawful
 Layer::join-returns-clause-lawful t c =
     let some : 0 < length c.right.inside.borders.items = search rules in
     let s = sides _ _ _ _ _ _ _ _ c.left.view_is c.right.view_is c.left.invariant c.right.invariant c.requires c.in-Some.ensures.items some c.remove-first.ensures.value c.remove-first.ensures.items in
-    seam_put _ _ _ _ _ _ _ _ _ s c.in_ok-push_both.ensures c.in_ok-append.ensures.items c.in_ok-last.ensures.same c.in_ok-last.ensures.slices
+    let own = seam_put _ _ _ _ _ _ _ _ _ s c.in_ok-push_both.ensures c.in_ok-append.ensures.items c.in_ok-last.ensures.same c.in_ok-last.ensures.slices in
+    let cut = first_removed _ _ _ some c.remove-first.ensures.value c.remove-first.ensures.items in
+    stored_are _ (seam_stored _ _ _ _ _ _ _ _ _ own c.left.invariant.links c.right.invariant.links c.in-Some.ensures.items cut c.in_ok-last.ensures.links c.in_ok-push_both.ensures c.in_ok-append.ensures.items)
+
+-- one of the two has no borders
+pub Layer::join-returns-in_default-clause-lawful : goal.Layer::join-returns-in_default-clause-lawful
+Layer::join-returns-in_default-clause-lawful t c = stored_are _ c.right.invariant
+
+pub Layer::join-returns-then-is_empty-clause-lawful : goal.Layer::join-returns-then-is_empty-clause-lawful
+Layer::join-returns-then-is_empty-clause-lawful t c = stored_are _ (subst IsStored (c.in-Some.ensures.items ∙ sym c.in_ok-push.ensures.items) c.left.invariant)
+
+pub Layer::join-returns-clause-pairs : goal.Layer::join-returns-clause-pairs
+Layer::join-returns-clause-pairs t c =
+    let some : 0 < length c.right.inside.borders.items = search rules in
+    let cut = first_removed _ _ _ some c.remove-first.ensures.value c.remove-first.ensures.items in
+    seam_walk _ _ _ _ _ _ _ _ c.in_ok-last.last.items c.in_ok-last.first.items _ _ c.left.view_is c.right.view_is c.in-Some.ensures.items cut c.in_ok-push_both.ensures c.in_ok-append.ensures.items c.in_ok-last.ensures.pairs
+
+-- ---- links
+pub meet-returns-clause-links : goal.meet-returns-clause-links
+meet-returns-clause-links t c =
+    elim c.if-meets.branch [
+      | meet-then-meets+in_ok-upper+in_ok-lower+in_ok-joined+in_ok-push w ↦
+          links_merged _ _ _ _ _ _ _ _ _ c.requires.links.0 c.requires.links.1 c.in-Some.ensures.items (first_removed _ _ _ c.requires.some.1 w.remove-first.ensures.value refl) w.in_ok-joined.ensures.lawful
+          (ap (λ v. v.items) w.places-is ∙ w.in_ok-push.ensures.items) (ap (λ v. v.items) w.rest-is ∙ w.remove-first.ensures.items)
+      | meet-else-meets+in_ok-push-2 w ↦
+          links_kept _ _ _ _ c.requires.links.0 c.requires.links.1 (ap (λ v. v.items) w.places-is ∙ w.in_ok-push-2.ensures.items ∙ sym c.in-Some.ensures.items) (ap (λ v. v.items) w.rest-is)
+    ]

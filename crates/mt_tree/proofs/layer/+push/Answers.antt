@@ -2,6 +2,7 @@ use Rattle.std.proofs.Common.{◌≡◌, ◌≤◌, ◌-◌, ℕ, [], ◌∷◌,
 use Rattle.std.proofs.lemmas.List.{length-map, take_rest}
 use Rattle.mt_tree.specs.DraftViews.{draft_view, draft_views}
 use Rattle.mt_tree.proofs.Behind.{popped_lawful, last_lawful, own_layer, deeper, deeper_below, deeper_light, deeper_layer, deeper_walk, deeper_first, opened, opened_layer, opened_border, opened_below, opened_light, opened_put}
+use Rattle.mt_tree.proofs.Links.{stored_are, links_parted, put_stored, links_then, links_changed}
 use Rattle.mt_tree.proofs.layer.+push.Goals as goal
 
 -- ---- the last border
@@ -10,7 +11,7 @@ Layer::push-follow-requires t c =
     let o = opened _ _ _ _ c.layer.view_is c.layer.invariant c.in-Some.ensures.items in
     let some : 1 ≤ length (draft_views c.in-Some.last.places.items) = (opened_border _ _ _ o).0 in
     let light = opened_light _ _ _ o in
-    (omega (arith, light, c.decreases), (opened_layer _ _ _ o, (omega (arith, length-map c.in-Some.last.places.items draft_view), opened_below _ _ _ o ((c.args.key.now, c.args.columns) ∷ []) c.requires)))
+    (omega (arith, light, c.decreases), (opened_layer _ _ _ o, (omega (arith, length-map c.in-Some.last.places.items draft_view), ((links_parted _ _ _ c.layer.invariant.links c.in-Some.ensures.items).1, opened_below _ _ _ o ((c.args.key.now, c.args.columns) ∷ []) c.requires))))
 
 pub Layer::push-push_cut-requires-clause-most : goal.Layer::push-push_cut-requires-clause-most
 Layer::push-push_cut-requires-clause-most t c =
@@ -21,12 +22,14 @@ Layer::push-push_cut-requires-clause-most t c =
 pub Layer::push-invariant_of-result : goal.Layer::push-invariant_of-result
 Layer::push-invariant_of-result t c =
     let o = opened _ _ _ _ c.layer.view_is c.layer.invariant c.in-Some.ensures.items in
-    (opened_put _ _ _ o _ _ _ c.in_ok-push_cut.ensures c.in_ok-places.ensures.pairs c.in_ok-places.ensures.first).0
+    let own = (opened_put _ _ _ o _ _ _ c.in_ok-push_cut.ensures c.in_ok-places.ensures.pairs c.in_ok-places.ensures.first).0 in
+    put_stored _ _ _ _ _ own c.layer.invariant.links c.in-Some.ensures.items c.in_ok-places.ensures.links c.in_ok-push_cut.ensures
 
 pub Layer::push-returns-clause-lawful : goal.Layer::push-returns-clause-lawful
 Layer::push-returns-clause-lawful t c =
     let o = opened _ _ _ _ c.layer.view_is c.layer.invariant c.in-Some.ensures.items in
-    (opened_put _ _ _ o _ _ _ c.in_ok-push_cut.ensures c.in_ok-places.ensures.pairs c.in_ok-places.ensures.first).0
+    let own = (opened_put _ _ _ o _ _ _ c.in_ok-push_cut.ensures c.in_ok-places.ensures.pairs c.in_ok-places.ensures.first).0 in
+    stored_are _ (put_stored _ _ _ _ _ own c.layer.invariant.links c.in-Some.ensures.items c.in_ok-places.ensures.links c.in_ok-push_cut.ensures)
 
 pub Layer::push-returns-clause-pairs : goal.Layer::push-returns-clause-pairs
 Layer::push-returns-clause-pairs t c =
@@ -45,7 +48,13 @@ follow-returns-then-not-meets_key-clause-lawful t c =
     own_layer _ _ _ _ _ _ _ c.requires.lawful c.requires.some (c.index.ensures ∙ ap (λ (k : ℕ). get_or c.args.places.items (k - 1) c.index.result.now) whole)
     c.requires.below c.slice_of-slice.ensures.value (search (rules, c.if-not-meets_key)) c.in_ok-place_for.ensures.lawful c.in_ok-place_for.ensures.pairs c.in_ok-push.ensures.items
 
+pub follow-returns-then-not-meets_key-clause-links : goal.follow-returns-then-not-meets_key-clause-links
+follow-returns-then-not-meets_key-clause-links t c = links_then _ _ _ c.requires.links c.in_ok-place_for.ensures.links c.in_ok-push.ensures.items
+
 -- ---- below the last place
+pub follow-returns-clause-links : goal.follow-returns-clause-links
+follow-returns-clause-links t c = links_changed _ _ _ _ _ c.requires.links c.in-Some.ensures.items c.in_ok-joined.ensures.lawful c.in_ok-push-2.ensures.items
+
 pub follow-below-requires-clause-lawful : goal.follow-below-requires-clause-lawful
 follow-below-requires-clause-lawful t c = popped_lawful _ _ _ c.requires.lawful c.in-Some.ensures.items
 

@@ -32,4 +32,4 @@ pub returns : goal.returns
 returns c =
     let t = around _ _ _ _ _ _ _ _ _ c.requires.lawful c.requires.left_some c.requires.right_some c.requires.met c.index.ensures c.saturating_add.ensures c.in_ok-append.ensures.items c.in_ok-run.ensures.same c.in_ok-above.ensures.same
     c.in_ok-run.ensures.below c.in_ok-run.ensures.from c.in_ok-above.ensures.below c.in_ok-above.ensures.from in
-    on_ok_weaker _ (λ put. put_thirds _ _ _ _ _ _ _ _ t c.in_ok-push_border.ensures c.in_ok-push_border-2.ensures put) c.push_border-3.ensures
+    on_ok_weaker _ (λ put. put_thirds _ _ _ _ _ _ _ _ _ _ _ c.in_ok-append.ensures.items c.in_ok-run.ensures.same c.in_ok-above.ensures.same t c.in_ok-push_border.ensures c.in_ok-push_border-2.ensures put) c.push_border-3.ensures

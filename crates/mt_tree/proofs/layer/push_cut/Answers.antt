@@ -16,4 +16,4 @@ push_border-requires-then-len-gt15 c =
 pub returns-then-len-gt15 : goal.returns-then-len-gt15
 returns-then-len-gt15 c =
     let h = halves _ _ _ _ c.len-then-len-gt15.result c.requires.lawful (omega arith) c.index.ensures (search rules) c.in_ok-last.ensures.same c.in_ok-last.ensures.below c.in_ok-last.ensures.from in
-    on_ok_weaker _ (λ put. put_halves _ _ _ _ _ _ h c.in_ok-push_border.ensures put) c.push_border-then-len-gt15.ensures
+    on_ok_weaker _ (λ put. put_halves _ _ _ _ _ _ c.in_ok-last.ensures.same h c.in_ok-push_border.ensures put) c.push_border-then-len-gt15.ensures
