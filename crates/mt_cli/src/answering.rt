@@ -76,7 +76,7 @@ fn print<O: Write>(
 /// Prints the pair of the key, or that it is absent.
 fn write_found<O: Write>(store: &Store, key: &Key, out: &mut O) -> io::Result<()> {
     match store.get(key.as_bytes()) {
-        Some(columns) => write_pair(key, columns, out),
+        Some(columns) => write_pair(key.as_bytes(), columns, out),
         None => out.write_all(b"absent\n"),
     }
 }
@@ -89,7 +89,7 @@ fn print_range<O: Write>(
     out: &mut O,
 ) -> Result<(), Failure<'static>> {
     for hit in store.getrange(start.as_bytes(), count as usize, Wanted::all())? {
-        write_pair(&hit.key, &hit.columns, out)?;
+        write_pair(hit.key.as_bytes(), &hit.columns, out)?;
     }
     Ok(())
 }

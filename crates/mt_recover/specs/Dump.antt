@@ -1,6 +1,9 @@
 -- The text of a store.
 use Rattle.std.specs.Prelude.{◌≡◌, ℕ, Option, List, [], ◌++◌, length, codes, decimal}
 use Rattle.std.specs.List.{flat_map}
+use Rattle.std.proofs.Common.{sym, subst}
+use Rattle.std.proofs.KnownBytes.{Appends-trans}
+use Rattle.std.proofs.lemmas.List.Concat.{flat_map-append}
 use Rattle.hex.specs.Hex.{encode_lower}
 use Rattle.std.specs.Io.KnownBytes.{Appends}
 use Rattle.mt_words.specs.Walks.{Pair}
@@ -18,6 +21,10 @@ pair_text pair = encode_lower pair.0 ++ (codes ":" ++ (flat_map column_text pair
 
 abbrev pub dump_text : List Pair → List ℕ
 dump_text pairs = flat_map pair_text pairs
+
+-- two dumps printed one behind the other are the dump of both
+pub dump_both : (a b c : Option (List ℕ)) (v w : List Pair) → Appends a b (dump_text v) → Appends b c (dump_text w) → Appends a c (dump_text (v ++ w))
+dump_both a b c v w first second = subst (Appends a c) (sym (flat_map-append pair_text v w)) (Appends-trans a b c (dump_text v) (dump_text w) first second)
 
 -- the store of so many logs
 pub record IsStoreOfSome (count : ℕ) (pairs : List Pair) : Type 0 where

@@ -8,4 +8,3 @@ pub mod Start
 pub mod Inputs
 pub mod Sharing
 pub mod ScanJobs
-pub mod DumpLaws

@@ -2,8 +2,8 @@
 ghost use Rattle.std.specs.Prelude.{◌≤◌, length, OnOk};
 ghost use Rattle.std.specs.Io.KnownBytes.{Appends};
 ghost use Rattle.hex.specs.Hex.{encode_lower};
-ghost use Rattle.mt_recover.specs.Dump.{dump_text, pair_text, column_text};
-ghost use Rattle.mt_recover.specs.DumpLaws.{nothing, lines_then};
+ghost use Rattle.mt_recover.specs.Dump.{dump_text, pair_text, column_text, dump_both};
+ghost use Rattle.std.proofs.KnownBytes.{Appends-nil};
 
 use crate::store::Store;
 use itoa::Buffer;
@@ -33,9 +33,9 @@ impl<W: Write> Visitor<W> for Lines {
         write_pair(key, columns, out)
     }
 
-    ghost none = { λ out. nothing (W.contents out) };
+    ghost none = { λ out. Appends-nil (W.contents out) };
 
-    ghost more = { λ a b c v w. lines_then (W.contents a) (W.contents b) (W.contents c) v w };
+    ghost more = { λ a b c v w. dump_both (W.contents a) (W.contents b) (W.contents c) v w };
 }
 
 /// Prints the line of a pair as `write_dump` does.

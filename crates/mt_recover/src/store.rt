@@ -9,9 +9,15 @@ use mt_words::{Columns, Kept, Memory};
 use std::marker::Model;
 
 /// A store: keys in order, each with its columns, in a layered tree. A contract sees it as the list of its pairs.
-#[derive(Drop)]
 pub struct Store {
     tree: Tree,
+}
+
+/// In words, as that of `Columns` is.
+impl Drop for Store {
+    fn drop(self) {
+        let Store { tree: _ } = self;
+    }
 }
 
 impl Model for Store {

@@ -1,6 +1,6 @@
 //! What a query of a range answers.
 ghost use Rattle.std.specs.Prelude.{◌≡◌, IfOk};
-ghost use Rattle.mt_tree.specs.Range.{wanted_of, hit_of};
+ghost use Rattle.mt_tree.specs.Range.{wanted_of};
 
 use crate::wanted::Wanted;
 use mt_words::{Columns, Kept, Key, Memory};
@@ -13,23 +13,6 @@ pub struct Hit {
     pub key: Key,
     /// The columns that are wanted.
     pub columns: Columns<Kept>,
-}
-
-impl Hit {
-    /// What a query answers of this pair.
-    pub fn of(
-        alloc: Global,
-        key: &Key,
-        columns: &Columns<Kept>,
-        wanted: Wanted,
-    ) -> Result<Hit, Memory>
-        ensures { IfOk result (λ hit. hit ≡ hit_of wanted (key.now, columns.now)) }
-    {
-        Ok(Hit {
-            key: key.try_copy()?,
-            columns: copy_wanted(alloc, columns, wanted)?,
-        })
-    }
 }
 
 /// Copies of the columns that are wanted.

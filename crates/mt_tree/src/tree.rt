@@ -45,10 +45,16 @@ impl Model for Draft {
 }
 
 /// A layered tree: nodes with what they hold.
-#[derive(Drop)]
 pub struct Tree {
     alloc: Global,
     root: Option<Node>,
+}
+
+/// In words, as that of `Columns` is.
+impl Drop for Tree {
+    fn drop(self) {
+        let Tree { alloc: _, root: _ } = self;
+    }
 }
 
 impl Model for Tree {
