@@ -33,41 +33,50 @@ fn assert_taken<R: Abort + AllocGlobal>(rt: &R, line: &str, taken: &str) {
     assert_bytes(rt, &out, b"");
 }
 
+/// Lines that are taken, and what they ask for.
+const TAKEN: &[(&str, &str)] = &[
+    (
+        "mtrecover report F",
+        "Command { folder: \"F\", workers: Workers { count: 4 }, pieces: Pieces { count: 16 }, query: Report }",
+    ),
+    (
+        "mtrecover get F 6aB0 --workers 1 --pieces 1",
+        "Command { folder: \"F\", workers: Workers { count: 1 }, pieces: Pieces { count: 1 }, \
+         query: Get(Key { bytes: [106, 176] }) }",
+    ),
+    (
+        "mtrecover range F  4294967295 --workers 64 --pieces 4096",
+        "Command { folder: \"F\", workers: Workers { count: 64 }, pieces: Pieces { count: 4096 }, \
+         query: Range(Key { bytes: [] }, 4294967295) }",
+    ),
+    (
+        "mtrecover dump  --pieces 2",
+        "Command { folder: \"\", workers: Workers { count: 4 }, pieces: Pieces { count: 2 }, query: Dump }",
+    ),
+];
+
 #[test]
 fn takes_the_words_of_each_subcommand(rt: HostRuntime) {
-    for (line, taken) in [
-        (
-            "mtrecover report F",
-            "Command { folder: \"F\", workers: Workers { count: 4 }, pieces: Pieces { count: 16 }, query: Report }",
-        ),
-        (
-            "mtrecover get F 6aB0 --workers 1 --pieces 1",
-            "Command { folder: \"F\", workers: Workers { count: 1 }, pieces: Pieces { count: 1 }, \
-             query: Get(Key { bytes: [106, 176] }) }",
-        ),
-        (
-            "mtrecover range F  4294967295 --workers 64 --pieces 4096",
-            "Command { folder: \"F\", workers: Workers { count: 64 }, pieces: Pieces { count: 4096 }, \
-             query: Range(Key { bytes: [] }, 4294967295) }",
-        ),
-        (
-            "mtrecover dump  --pieces 2",
-            "Command { folder: \"\", workers: Workers { count: 4 }, pieces: Pieces { count: 2 }, query: Dump }",
-        ),
-    ] {
+    for (line, taken) in TAKEN {
         assert_taken(&rt, line, taken);
     }
 }
 
 /// The words are not taken: the status, and what begins what is printed on each output.
-fn assert_refused<R: Abort + AllocGlobal>(rt: &R, line: &str, status: u8, texts: (&str, &str)) {
+fn assert_untaken<R: Abort + AllocGlobal>(
+    rt: &R,
+    line: &str,
+    status: u8,
+    output: &str,
+    errors: &str,
+) {
     let words = words_on(rt, line, "F");
     let mut out = Vec::new(rt.alloc());
     let mut err = Vec::new(rt.alloc());
     let refused = command(rt, &words, &mut out, &mut err).err();
     assert_same_in(rt, &line, &refused, &Some(status));
-    assert_begins(rt, &out, texts.0);
-    assert_begins(rt, &err, texts.1);
+    assert_begins(rt, &out, output);
+    assert_begins(rt, &err, errors);
 }
 
 /// The bytes begin so, or there are none where nothing is to be there.
@@ -76,69 +85,86 @@ fn assert_begins<R: Abort>(rt: &R, bytes: &[u8], beginning: &str) {
     assert!(rt; bytes.is_empty() == beginning.is_empty());
 }
 
-#[test]
-fn refuses_words_with_a_status_and_a_text(rt: HostRuntime) {
-    for (line, errors) in [
-        ("mtrecover", "Recovers the store"),
-        (
-            "mtrecover keep F",
-            "error: unrecognized subcommand 'keep'\n",
-        ),
-        (
-            "mtrecover report",
-            "error: the following required arguments were not provided:\n  <DIR>\n",
-        ),
-        (
-            "mtrecover report F --all",
-            "error: unexpected argument '--all' found\n",
-        ),
-        (
-            "mtrecover --workers 2 report F",
-            "error: unexpected argument '--workers' found\n",
-        ),
-        (
-            "mtrecover report F --workers 0",
-            "error: invalid value '0' for '--workers <N>': 0 is not in 1..=64\n",
-        ),
-        (
-            "mtrecover report F --workers 65",
-            "error: invalid value '65' for '--workers <N>': 65 is not in 1..=64\n",
-        ),
-        (
-            "mtrecover dump F --pieces 0",
-            "error: invalid value '0' for '--pieces <P>': 0 is not in 1..=4096\n",
-        ),
-        (
-            "mtrecover dump F --pieces 4097",
-            "error: invalid value '4097' for '--pieces <P>': 4097 is not in 1..=4096\n",
-        ),
-        (
-            "mtrecover range F 6 4294967296",
-            "error: invalid value '4294967296' for '<COUNT>': 4294967296 is not in 0..=4294967295\n",
-        ),
-        (
-            "mtrecover range F 6 -1",
-            "error: unexpected argument '-1' found\n",
-        ),
-        ("mtrecover get F 6", "mtrecover: bad key\n"),
-        ("mtrecover range F 6g 1", "mtrecover: bad key\n"),
-    ] {
-        assert_refused(&rt, line, 2, ("", errors));
-    }
-}
+/// Lines that are not taken: the status, and what begins what is printed and what is said of a fault.
+const UNTAKEN: &[(&str, u8, &str, &str)] = &[
+    ("mtrecover", 2, "", "Recovers the store"),
+    (
+        "mtrecover keep F",
+        2,
+        "",
+        "error: unrecognized subcommand 'keep'\n",
+    ),
+    (
+        "mtrecover report",
+        2,
+        "",
+        "error: the following required arguments were not provided:\n  <DIR>\n",
+    ),
+    (
+        "mtrecover report F --all",
+        2,
+        "",
+        "error: unexpected argument '--all' found\n",
+    ),
+    (
+        "mtrecover --workers 2 report F",
+        2,
+        "",
+        "error: unexpected argument '--workers' found\n",
+    ),
+    (
+        "mtrecover report F --workers 0",
+        2,
+        "",
+        "error: invalid value '0' for '--workers <N>': 0 is not in 1..=64\n",
+    ),
+    (
+        "mtrecover report F --workers 65",
+        2,
+        "",
+        "error: invalid value '65' for '--workers <N>': 65 is not in 1..=64\n",
+    ),
+    (
+        "mtrecover dump F --pieces 0",
+        2,
+        "",
+        "error: invalid value '0' for '--pieces <P>': 0 is not in 1..=4096\n",
+    ),
+    (
+        "mtrecover dump F --pieces 4097",
+        2,
+        "",
+        "error: invalid value '4097' for '--pieces <P>': 4097 is not in 1..=4096\n",
+    ),
+    (
+        "mtrecover range F 6 4294967296",
+        2,
+        "",
+        "error: invalid value '4294967296' for '<COUNT>': 4294967296 is not in 0..=4294967295\n",
+    ),
+    (
+        "mtrecover range F 6 -1",
+        2,
+        "",
+        "error: unexpected argument '-1' found\n",
+    ),
+    ("mtrecover get F 6", 2, "", "mtrecover: bad key\n"),
+    ("mtrecover range F 6g 1", 2, "", "mtrecover: bad key\n"),
+    ("mtrecover --help", 0, "Recovers the store", ""),
+    ("mtrecover help range", 0, "Prints the first pairs", ""),
+    (
+        "mtrecover get --help",
+        0,
+        "Prints the pair of a key, or `absent`\n\nUsage: mtrecover get [OPTIONS] <DIR> <KEY>\n",
+        "",
+    ),
+    ("mtrecover --version", 0, "mtrecover 1.0\n", ""),
+];
 
 #[test]
-fn prints_help_and_the_version(rt: HostRuntime) {
-    for (line, output) in [
-        ("mtrecover --help", "Recovers the store"),
-        ("mtrecover help range", "Prints the first pairs"),
-        (
-            "mtrecover get --help",
-            "Prints the pair of a key, or `absent`\n\nUsage: mtrecover get [OPTIONS] <DIR> <KEY>\n",
-        ),
-        ("mtrecover --version", "mtrecover 1.0\n"),
-    ] {
-        assert_refused(&rt, line, 0, (output, ""));
+fn prints_help_and_the_faults_of_words(rt: HostRuntime) {
+    for (line, status, output, errors) in UNTAKEN {
+        assert_untaken(&rt, line, *status, output, errors);
     }
 }
 

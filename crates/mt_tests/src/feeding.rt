@@ -1,12 +1,12 @@
 //! Logs and parts in pieces.
 use crate::asserting::assert_same;
-use crate::logs::{LOG_A, PART, bytes_of};
+use crate::logs::{LOG_A, PART};
 use mt_record::{LogFeed, PartFeed};
 
 #[test]
 fn gives_the_records_before_the_log_ends(rt: HostRuntime) {
     let mut feed = LogFeed::new(rt.alloc());
-    for (piece, count) in bytes_of(&rt, LOG_A).chunks(45).zip([1, 1]) {
+    for (piece, count) in LOG_A.chunks(45).zip([1, 1]) {
         feed.feed(piece).expect(&rt, "no fault");
         assert_same(&rt, &feed.take().len(), &count);
     }
@@ -17,7 +17,7 @@ fn gives_the_records_before_the_log_ends(rt: HostRuntime) {
 #[test]
 fn gives_the_entries_of_a_part(rt: HostRuntime) {
     let mut feed = PartFeed::new(rt.alloc());
-    for piece in bytes_of(&rt, PART).chunks(45) {
+    for piece in PART.chunks(45) {
         feed.feed(piece).expect(&rt, "no fault");
     }
     let text = feed.finish().expect(&rt, "a part");

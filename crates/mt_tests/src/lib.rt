@@ -31,6 +31,8 @@ mod replaying;
 #[cfg(test)]
 mod scanning;
 #[cfg(test)]
+mod sources;
+#[cfg(test)]
 mod tree;
 #[cfg(test)]
 mod words;

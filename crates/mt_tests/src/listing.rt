@@ -146,24 +146,27 @@ fn logs_and_parts_are_told_by_the_endings_of_names(rt: HostRuntime) {
 
 #[test]
 fn folders_that_are_not_taken_have_a_text(rt: HostRuntime) {
-    for (names, times, end, status, expected) in [
-        (MIXED, 257, None, 3, TOO_MANY),
-        (UNREADABLE, 1, None, 3, UNLISTED),
-        // A name that is not UTF-8 comes before the number of files, whatever its ending.
-        (UNREADABLE, 600, None, 3, UNLISTED),
-        (MIXED, 600, Some(ErrorKind::TimedOut), 3, UNLISTED),
-        // Want of memory of the system is named so.
-        (&[], 1, Some(ErrorKind::OutOfMemory), 1, NO_MEMORY),
-    ] {
+    for (names, times, end, status, expected) in UNTAKEN {
         let folder = Folder {
             alloc: rt.alloc(),
             names,
-            times,
-            end,
+            times: *times,
+            end: *end,
         };
-        assert_unlisted(&rt, &folder, status, expected);
+        assert_unlisted(&rt, &folder, *status, expected);
     }
 }
+
+/// Folders by their names, how often each stands there and how the listing ends, with the status and the text.
+const UNTAKEN: &[(&[&[u8]], usize, Option<ErrorKind>, u8, &[u8])] = &[
+    (MIXED, 257, None, 3, TOO_MANY),
+    (UNREADABLE, 1, None, 3, UNLISTED),
+    // A name that is not UTF-8 comes before the number of files, whatever its ending.
+    (UNREADABLE, 600, None, 3, UNLISTED),
+    (MIXED, 600, Some(ErrorKind::TimedOut), 3, UNLISTED),
+    // Want of memory of the system is named so.
+    (&[], 1, Some(ErrorKind::OutOfMemory), 1, NO_MEMORY),
+];
 
 /// A log and a part.
 const MIXED: &[&[u8]] = &[b"a.mtl\0", b"b.mtc\0"];

@@ -1,32 +1,21 @@
 //! Want of memory. As they stand these tests see no refusal. `.ci/refuse_growths` runs them with one growth after the other
 //! refused: it then sees that a refused growth gives `Memory` and nothing else.
 use crate::asserting::assert_same;
-use mt_recover::{Cutting, Inputs, NoGate, Pieces, Recovered, Workers, recover, recover_logs};
-use mt_scan::{MemSource, Rack};
-use mt_words::Fault;
+use crate::logs::{LOG_A, LOG_B, PART};
+use crate::sources::{NEVER, Text, inputs_of};
+use crate::tree::draft_of;
+use mt_recover::{Cutting, NoGate, Pieces, Recovered, Workers, recover, recover_logs};
+use mt_scan::Rack;
+use mt_tree::{Tree, Wanted};
+use mt_words::{Fault, Memory};
 use std::alloc::Global;
 use std::process::Abort;
 use std::thread::Threads;
 
-/// Two logs, each of a put and a mark.
-const LOGS: [&[u8]; 2] = [
-    b"MTL1\0\0\0\0\0\0\0\0\
-      \0\0\0\x19\x01\0\0\0\0\0\0\0\x03\0\0\0\0\0\0\0\x01\0\x01a\x01\0\0\x01x\0\0\0\x19\
-      \0\0\0\x09\x03\0\0\0\0\0\0\0\x05\0\0\0\x09",
-    b"MTL1\0\0\0\0\0\0\0\0\
-      \0\0\0\x19\x01\0\0\0\0\0\0\0\x04\0\0\0\0\0\0\0\x01\0\x01b\x01\0\0\x01y\0\0\0\x19\
-      \0\0\0\x09\x03\0\0\0\0\0\0\0\x06\0\0\0\x09",
-];
-
-/// A log from 2 on, of a put of key a at version 3 and a mark, and a part of checkpoint 1 with one entry.
-const LOG_AND_PART: [&[u8]; 2] = [
-    b"MTL1\0\0\0\0\0\0\0\x02\
-      \0\0\0\x19\x01\0\0\0\0\0\0\0\x05\0\0\0\0\0\0\0\x03\0\x01a\x01\0\0\x01n\0\0\0\x19\
-      \0\0\0\x09\x03\0\0\0\0\0\0\0\x0a\0\0\0\x09",
-    b"MTC1\0\0\0\x01\0\0\0\0\0\0\0\x02\0\0\0\x01\
-      \0\0\0\x10\0\0\0\0\0\0\0\x01\0\x01a\x01\0\0\x01o\0\0\0\x10\
-      \0\0\0\0\0\0\0\0\0\0\0\x04\0\0\0\x01",
-];
+/// A log from 2 on, of a put of key a at version 3 and a mark.
+const LATE_LOG: &[u8] = b"MTL1\0\0\0\0\0\0\0\x02\
+    \0\0\0\x19\x01\0\0\0\0\0\0\0\x05\0\0\0\0\0\0\0\x03\0\x01a\x01\0\0\x01n\0\0\0\x19\
+    \0\0\0\x09\x03\0\0\0\0\0\0\0\x0a\0\0\0\x09";
 
 /// The answer has this value in column 0 of this key, or is a want of memory.
 fn assert_value<R: Abort>(rt: &R, answer: Result<Recovered, Fault>, key: &[u8], value: &[u8]) {
@@ -39,55 +28,53 @@ fn assert_value<R: Abort>(rt: &R, answer: Result<Recovered, Fault>, key: &[u8], 
     }
 }
 
-/// The texts as sources, so many logs and then parts. None where memory for them is refused.
-fn inputs_of<'a>(
-    alloc: Global,
-    texts: &[&'a [u8]],
-    log_count: usize,
-    rack: &'a mut Rack,
-) -> Option<Inputs<MemSource<'a>>> {
-    let mut logs = Vec::new(alloc);
-    let mut parts = Vec::new(alloc);
-    for (bytes, slot) in texts.iter().zip(rack.slots()) {
-        let source = MemSource::new(bytes, slot)?;
-        if logs.len() < log_count {
-            logs.push(source).ok()?;
-        } else {
-            parts.push(source).ok()?;
-        }
-    }
-    Some(Inputs { logs, parts })
-}
-
 /// What recovery of these texts by two workers in two pieces answers, unless memory for the sources is refused.
 fn recover_by_two<R: AllocGlobal + Threads + Sync>(
     rt: &R,
-    texts: &[&[u8]],
-    log_count: usize,
+    logs: &[Text],
+    parts: &[Text],
 ) -> Option<Result<Recovered, Fault>> {
-    let mut rack = Rack::new(rt.alloc(), texts.len(), 16).ok()?;
-    let inputs = inputs_of(rt.alloc(), texts, log_count, &mut rack)?;
-    let cutting = Cutting::Even(Pieces::new(2)?);
-    let workers = Workers::new(2)?;
+    let (pieces, workers) = (Pieces::new(2)?, Workers::new(2)?);
+    let mut rack = Rack::new(rt.alloc(), 2, 16).ok()?;
+    let inputs = inputs_of(rt.alloc(), logs, parts, &mut rack)?;
+    let cutting = Cutting::Even(pieces);
     Some(recover(rt, rt.alloc(), inputs, workers, cutting, &NoGate))
 }
 
 #[test]
 fn a_refused_growth_is_memory(rt: HostRuntime) {
-    let answer = recover_logs(rt.alloc(), LOGS.as_slice());
+    let answer = recover_logs(rt.alloc(), &[LOG_A, LOG_B]);
     assert_value(&rt, answer, b"b", b"y");
 }
 
 #[test]
 fn a_refused_growth_of_recovery_by_two_workers_is_memory(rt: HostRuntime) {
-    if let Some(answer) = recover_by_two(&rt, &LOGS, 2) {
+    if let Some(answer) = recover_by_two(&rt, &[(LOG_A, NEVER), (LOG_B, NEVER)], &[]) {
         assert_value(&rt, answer, b"b", b"y");
     }
 }
 
 #[test]
 fn a_refused_growth_of_recovery_by_two_workers_over_a_checkpoint_is_memory(rt: HostRuntime) {
-    if let Some(answer) = recover_by_two(&rt, &LOG_AND_PART, 1) {
+    if let Some(answer) = recover_by_two(&rt, &[(LATE_LOG, NEVER)], &[(PART, NEVER)]) {
         assert_value(&rt, answer, b"a", b"n");
+    }
+}
+
+/// The tree of two keys that share their first eight bytes.
+fn small_tree(alloc: Global) -> Result<Tree, Memory> {
+    draft_of(alloc, &[b"aaaaaaaab", b"aaaaaaaac"])?.finish()
+}
+
+#[test]
+fn a_refused_growth_of_a_tree_is_memory(rt: HostRuntime) {
+    if let Ok(tree) = small_tree(rt.alloc()) {
+        // A tree that met a want of memory answers as before.
+        for _time in 0..2 {
+            if let Ok(hits) = tree.getrange(b"", 9, Wanted::all()) {
+                assert_same(&rt, &hits.len(), &2);
+            }
+        }
+        assert_same(&rt, &tree.layers(), &2);
     }
 }

@@ -1,8 +1,8 @@
 //! Cells, cuts and pieces, which no case can show one by one.
 use crate::asserting::{assert_bytes, assert_same};
 use crate::logs::{copy_of, key_of};
-use mt_replay::{Cell, CutFault, Cuts, LogCells, Pieces, Window, replay_piece};
-use mt_words::{Columns, Key, Kind, Origin, Stamp, Update};
+use mt_replay::{Cell, Cuts, LogCells, Pieces, Window, replay_piece};
+use mt_words::{Columns, Kind, Origin, Stamp, Update};
 use std::process::Abort;
 use std::thread::Threads;
 
@@ -77,35 +77,16 @@ fn assert_even<R: Abort + AllocGlobal + Threads + Sync>(
 
 #[test]
 fn even_pieces_have_about_as_many_keys(rt: HostRuntime) {
-    for (keys, pieces, expected) in [
-        (b"ebadc".as_slice(), 2, b"ab|cde|".as_slice()),
-        (b"ebadc", 3, b"a|bc|de|"),
-        (b"ebadc", 5, b"a|b|c|d|e|"),
-        (b"", 4, b"|"),
-        (b"bdf", 2, b"b|df|"),
-        (b"bdf", 8, b"b|d|f|"),
-    ] {
-        assert_even(&rt, keys, pieces, expected);
+    for (keys, pieces, expected) in EVEN {
+        assert_even(&rt, keys, *pieces, expected);
     }
 }
 
-/// So many rising keys of two bytes.
-fn rising<R: Abort + AllocGlobal>(rt: &R, count: u16) -> Vec<Key> {
-    let mut keys = Vec::new(rt.alloc());
-    for number in 0..count {
-        let key = key_of(rt, &number.to_be_bytes());
-        keys.push(key).expect(rt, "memory");
-    }
-    keys
-}
-
-#[test]
-fn cuts_rise_and_are_not_too_many(rt: HostRuntime) {
-    let same = [key_of(&rt, b"b"), key_of(&rt, b"b")];
-    let same = Vec::from_array(rt.alloc(), same).expect(&rt, "memory");
-    let fault = Cuts::new(same).err();
-    assert_same(&rt, &fault, &Some(CutFault::NotRising { at: 1 }));
-    for (count, fault) in [(4095, None), (4096, Some(CutFault::TooMany))] {
-        assert_same(&rt, &Cuts::new(rising(&rt, count)).err(), &fault);
-    }
-}
+/// Keys, how many pieces are asked for, and the keys of each.
+const EVEN: &[(&[u8], u32, &[u8])] = &[
+    (b"ebadc", 2, b"ab|cde|"),
+    (b"ebadc", 3, b"a|bc|de|"),
+    (b"ebadc", 5, b"a|b|c|d|e|"),
+    (b"", 4, b"|"),
+    (b"bdf", 8, b"b|d|f|"),
+];

@@ -2,7 +2,7 @@
 ghost use Rattle.std.specs.Prelude.{[], Some, true, false};
 
 use crate::asserting::assert_same;
-use crate::logs::{LOG_A, PART, bytes_of};
+use crate::logs::{LOG_A, PART, copy_of};
 use mt_recover::{Inputs, recover_one};
 use mt_scan::{Rack, ReaderSource, Slot, Source, SourceFault, scan_log};
 use mt_words::Fault;
@@ -58,7 +58,7 @@ fn a_boxed_source_is_a_source(rt: HostRuntime) {
 
 #[test]
 fn without_a_log_no_part_is_read(rt: HostRuntime) {
-    let mut reader = Cursor::new(bytes_of(&rt, PART));
+    let mut reader = Cursor::new(copy_of(&rt, PART));
     let mut rack = Rack::new(rt.alloc(), 1, 16).expect(&rt, "memory");
     let mut parts = Vec::new(rt.alloc());
     let source = reader_of(&rt, &mut reader, 64, slot_of(&rt, &mut rack));
@@ -71,18 +71,17 @@ fn without_a_log_no_part_is_read(rt: HostRuntime) {
 
 #[test]
 fn a_reader_may_have_as_many_bytes_as_its_limit(rt: HostRuntime) {
-    let bytes = bytes_of(&rt, LOG_A);
     for size in [1, 16, 65_536] {
         let mut rack = Rack::new(rt.alloc(), 1, size).expect(&rt, "memory");
-        assert_read(&rt, &bytes, slot_of(&rt, &mut rack));
+        assert_read(&rt, slot_of(&rt, &mut rack));
         assert!(rt; rack.all_full());
-        assert_too_long(&rt, &bytes, slot_of(&rt, &mut rack));
+        assert_too_long(&rt, slot_of(&rt, &mut rack));
     }
 }
 
 /// LOG_A is read up to its limit.
-fn assert_read<R: Abort + AllocGlobal>(rt: &R, bytes: &[u8], slot: &mut Slot) {
-    let mut source = reader_of(rt, bytes, 62, slot);
+fn assert_read<R: Abort + AllocGlobal>(rt: &R, slot: &mut Slot) {
+    let mut source = reader_of(rt, LOG_A, 62, slot);
     let scan = scan_log(rt.alloc(), &mut source, 0).expect(rt, "a scan");
     assert_same(rt, &(scan.last, scan.whole, scan.marks), &(5, 2, 1));
     let updates = scan.updates.into_vec(rt.alloc()).expect(rt, "memory");
@@ -90,8 +89,8 @@ fn assert_read<R: Abort + AllocGlobal>(rt: &R, bytes: &[u8], slot: &mut Slot) {
 }
 
 /// LOG_A is longer than its limit.
-fn assert_too_long<R: Abort + AllocGlobal>(rt: &R, bytes: &[u8], slot: &mut Slot) {
-    let mut source = reader_of(rt, bytes, 61, slot);
+fn assert_too_long<R: Abort + AllocGlobal>(rt: &R, slot: &mut Slot) {
+    let mut source = reader_of(rt, LOG_A, 61, slot);
     let fault = scan_log(rt.alloc(), &mut source, 0).err();
     assert_same(rt, &fault, &Some(Fault::Source { log: 0 }));
     assert_same(rt, &source.advance(), &Err(SourceFault::TooLong));

@@ -2,6 +2,7 @@
 use crate::asserting::assert_same;
 use crate::logs::copy_of;
 use mt_words::{Columns, Fault, What};
+use std::process::Abort;
 
 #[test]
 fn copies_columns_in_place_and_kept(rt: HostRuntime) {
@@ -13,31 +14,46 @@ fn copies_columns_in_place_and_kept(rt: HostRuntime) {
     assert_same(&rt, &copy.get(3), &Some(b"x".as_slice()));
 }
 
+/// The fault has this text.
+fn assert_text<R: Abort + AllocGlobal>(rt: &R, fault: &Fault, text: &str) {
+    let found = fault.to_string(rt.alloc()).expect(rt, "memory");
+    assert_same(rt, &found.as_str(), &text);
+}
+
+/// Faults with their texts.
+const FAULTS: &[(Fault, &str)] = &[
+    (Fault::NoLogs, "no logs"),
+    (Fault::Header { log: 2 }, "log 2: header"),
+    (Fault::Source { log: 0 }, "log 0: source failed"),
+    (Fault::PartSource { part: 0 }, "part 0: source failed"),
+    (Fault::Gap { log: 1 }, "log 1: gap"),
+    (Fault::Missing { piece: 3 }, "piece 3: missing"),
+    (Fault::Memory, "no memory"),
+];
+
 #[test]
 fn faults_have_their_texts(rt: HostRuntime) {
-    let record = |what| Fault::Record {
-        log: 1,
-        nth: 1,
-        what,
-    };
-    for (fault, text) in [
-        (Fault::NoLogs, "no logs"),
-        (Fault::Header { log: 2 }, "log 2: header"),
-        (Fault::Source { log: 0 }, "log 0: source failed"),
-        (Fault::PartSource { part: 0 }, "part 0: source failed"),
-        (Fault::Gap { log: 1 }, "log 1: gap"),
-        (Fault::Missing { piece: 3 }, "piece 3: missing"),
-        (Fault::Memory, "no memory"),
-        (record(What::Length), "log 1: record 1: length"),
-        (record(What::Trailer), "log 1: record 1: trailer"),
-        (record(What::Kind), "log 1: record 1: kind"),
-        (record(What::Frame), "log 1: record 1: frame"),
-        (record(What::Version), "log 1: record 1: version"),
-        (record(What::Key), "log 1: record 1: key"),
-        (record(What::Columns), "log 1: record 1: columns"),
-        (record(What::Clock), "log 1: record 1: clock"),
-    ] {
-        let found = fault.to_string(rt.alloc()).expect(&rt, "memory");
-        assert_same(&rt, &found.as_str(), &text);
+    for (fault, text) in FAULTS {
+        assert_text(&rt, fault, text);
+    }
+}
+
+/// What is wrong with a record, and the text of its fault.
+const WHATS: &[(What, &str)] = &[
+    (What::Length, "log 1: record 3: length"),
+    (What::Trailer, "log 1: record 3: trailer"),
+    (What::Kind, "log 1: record 3: kind"),
+    (What::Frame, "log 1: record 3: frame"),
+    (What::Version, "log 1: record 3: version"),
+    (What::Key, "log 1: record 3: key"),
+    (What::Columns, "log 1: record 3: columns"),
+    (What::Clock, "log 1: record 3: clock"),
+];
+
+#[test]
+fn faults_of_records_have_their_texts(rt: HostRuntime) {
+    for (what, text) in WHATS {
+        let (log, nth, what) = (1, 3, *what);
+        assert_text(&rt, &Fault::Record { log, nth, what }, text);
     }
 }
