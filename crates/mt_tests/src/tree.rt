@@ -1,8 +1,9 @@
 //! The layered tree, of keys that share their beginnings. The value of column 0 of each key is the key.
 ghost use Rattle.std.specs.Prelude.{Unit};
 
-use crate::asserting::{assert_same, assert_same_in};
-use mt_tree::{Draft, Tree, Visitor, above};
+use crate::asserting::{assert_bytes, assert_same, assert_same_in};
+use crate::logs::copy_of;
+use mt_tree::{Draft, Hit, Tree, Visitor, Wanted, above};
 use mt_words::{Columns, Kept, Key, Memory};
 use std::alloc::Global;
 use std::process::Abort;
@@ -136,30 +137,104 @@ const ZEROS_AND_ONES: &[&[u8]] = &[
     b"\x01\0\0\0\0\0\0\0\0",
 ];
 
-/// The key of a number: of each twenty the first eight bytes are the same.
-fn key_of_number(number: u64) -> [u8; 16] {
-    (u128::from(number / 20) << 64 | u128::from(number)).to_be_bytes()
+/// The hits are just these keys.
+fn assert_hits<R: Abort>(rt: &R, hits: &[Hit], keys: &[Vec<u8>]) {
+    assert_same(rt, &hits.len(), &keys.len());
+    for (hit, key) in hits.iter().zip(keys) {
+        assert_bytes(rt, hit.key.as_bytes(), key);
+    }
 }
 
-/// How many keys a large tree has.
-const MANY: u64 = 20_000;
+/// The tree says of this key, and of the range from it on, what the list says.
+fn assert_like_list<R: Abort>(rt: &R, tree: &Tree, keys: &[Vec<u8>], key: &[u8]) {
+    let found = keys.binary_search_by(|other: &Vec<u8>| other.as_slice().cmp(key));
+    let (is_found, place) = match found {
+        Ok(at) => (true, at),
+        Err(at) => (false, at),
+    };
+    assert_same_in(rt, &key, &tree.get(key).is_some(), &is_found);
+    let hits = tree.getrange(key, 3, Wanted::all()).expect(rt, "memory");
+    let rest = &keys[place..];
+    assert_hits(rt, &hits, &rest[..rest.len().min(3)]);
+}
 
-/// The draft of many keys.
-fn many(alloc: Global) -> Result<Draft, Memory> {
-    let mut draft = Draft::new(alloc);
-    for number in 0..MANY {
-        draft = with_key(alloc, draft, &key_of_number(number))?;
+/// The tree of these keys says of them, and of keys beside them, what the list says. How many layers it has.
+fn assert_answers<R: Abort + AllocGlobal>(rt: &R, keys: &[Vec<u8>]) -> u64 {
+    let mut draft = Draft::new(rt.alloc());
+    for key in keys {
+        draft = with_key(rt.alloc(), draft, key).expect(rt, "memory");
     }
-    Ok(draft)
+    assert_same(rt, &draft.len(), &(keys.len() as u128));
+    let tree = draft.finish().expect(rt, "memory");
+    for key in keys {
+        assert_like_list(rt, &tree, keys, key);
+        assert_like_list(rt, &tree, keys, &key[..key.len().saturating_sub(1)]);
+        let mut behind = copy_of(rt, key);
+        behind.push(b'\0').expect(rt, "memory");
+        assert_like_list(rt, &tree, keys, &behind);
+    }
+    tree.layers()
 }
 
 #[test]
-fn a_large_tree_has_its_keys(rt: HostRuntime) {
-    let draft = many(rt.alloc()).expect(&rt, "memory");
-    assert_same(&rt, &draft.len(), &u128::from(MANY));
-    let tree = draft.finish().expect(&rt, "memory");
-    assert_same(&rt, &tree.layers(), &1_001);
-    for number in 0..MANY {
-        assert!(rt; tree.get(&key_of_number(number)).is_some());
+fn keys_of_equal_bytes_are_found(rt: HostRuntime) {
+    let mut keys = Vec::new(rt.alloc());
+    for length in 0..=1024 {
+        let key = copy_of(&rt, &[b'k'; 1024][..length]);
+        keys.push(key).expect(&rt, "memory");
     }
+    assert_same(&rt, &assert_answers(&rt, &keys), &128);
+}
+
+/// What comes after this number.
+fn next_of(number: u64) -> u64 {
+    let number = number ^ number << 13;
+    let number = number ^ number >> 7;
+    number ^ number << 17
+}
+
+/// The beginning of an earlier key, of up to 40 bytes, and behind it 1 to 12 bytes of four kinds.
+fn random_key<R: Abort + AllocGlobal>(rt: &R, keys: &[Vec<u8>], number: u64) -> Vec<u8> {
+    let mut key = Vec::new(rt.alloc());
+    if let Some(earlier) = keys.get(number as usize % keys.len().max(1)) {
+        let shared = earlier.len().min((number >> 32) as usize % 41);
+        key.extend_from_slice(&earlier[..shared])
+            .expect(rt, "memory");
+    }
+    for place in 0..(number >> 20) % 12 + 1 {
+        let kind = next_of(number.wrapping_add(place)) >> 16;
+        key.push(b"\0\x01k\xff"[kind as usize % 4])
+            .expect(rt, "memory");
+    }
+    key
+}
+
+/// Up to so many keys by chance, of which many share their beginnings.
+fn random_keys<R: Abort + AllocGlobal>(rt: &R, count: usize) -> Vec<Vec<u8>> {
+    let mut keys = Vec::new(rt.alloc());
+    let mut number = 88_172_645_463_325_252;
+    for _key in 0..count {
+        number = next_of(number);
+        let key = random_key(rt, &keys, number);
+        keys.push(key).expect(rt, "memory");
+    }
+    keys.sort().expect(rt, "memory");
+    keys.dedup();
+    keys
+}
+
+#[test]
+fn a_tree_of_random_keys_answers_as_a_list(rt: HostRuntime) {
+    let keys = random_keys(&rt, 20_000);
+    let layers = assert_answers(&rt, &keys);
+    assert!(rt; keys.len() > 15_000 && layers > 1_000);
+}
+
+#[test]
+fn above_is_of_all_keys(rt: HostRuntime) {
+    let none = Draft::new(rt.alloc());
+    let first = single(rt.alloc(), b"aaaaaaaab").expect(&rt, "memory");
+    let second = single(rt.alloc(), b"aaaaaaaac").expect(&rt, "memory");
+    assert!(rt; above(&first, &second) && !above(&second, &first) && !above(&first, &first));
+    assert!(rt; above(&none, &first) && above(&first, &none));
 }
