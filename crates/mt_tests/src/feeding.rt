@@ -6,9 +6,9 @@ use mt_record::{LogFeed, PartFeed};
 #[test]
 fn gives_the_records_before_the_log_ends(rt: HostRuntime) {
     let mut feed = LogFeed::new(rt.alloc());
-    for (piece, count) in LOG_A.chunks(45).zip([1, 1]) {
+    for piece in LOG_A.chunks(45) {
         feed.feed(piece).expect(&rt, "no fault");
-        assert_same(&rt, &feed.take().len(), &count);
+        assert_same(&rt, &feed.take().len(), &1);
     }
     let text = feed.finish().expect(&rt, "a log");
     assert_same(&rt, &(text.last, text.whole, text.torn), &(5, 2, false));

@@ -1,6 +1,4 @@
 //! The layered tree, of keys that share their beginnings. The value of column 0 of each key is the key.
-ghost use Rattle.std.specs.Prelude.{Unit};
-
 use crate::asserting::{assert_bytes, assert_same, assert_same_in};
 use crate::logs::copy_of;
 use mt_tree::{Draft, Hit, Tree, Visitor, Wanted, above};
@@ -19,20 +17,19 @@ fn single(alloc: Global, key: &[u8]) -> Result<Draft, Memory> {
     Draft::build(alloc, pairs)
 }
 
-/// The draft with one more key. A key that is not above all others is left out.
-fn with_key(alloc: Global, draft: Draft, key: &[u8]) -> Result<Draft, Memory> {
-    let next = single(alloc, key)?;
-    if !above(&draft, &next) {
-        return Ok(draft);
+/// The draft of both, or the first where the second is not above it.
+fn joined(left: Draft, right: Draft) -> Result<Draft, Memory> {
+    if !above(&left, &right) {
+        return Ok(left);
     }
-    Draft::join(draft, next)
+    Draft::join(left, right)
 }
 
 /// The draft of these keys.
 pub fn draft_of(alloc: Global, keys: &[&[u8]]) -> Result<Draft, Memory> {
     let mut draft = Draft::new(alloc);
     for key in keys {
-        draft = with_key(alloc, draft, key)?;
+        draft = joined(draft, single(alloc, key)?)?;
     }
     Ok(draft)
 }
@@ -76,10 +73,11 @@ fn assert_visits<R: Abort>(rt: &R, tree: &Tree, keys: &[&[u8]], most: usize) {
 
 /// The drafts of the keys before the cut and behind it make a tree of all, with so many layers.
 fn assert_cut<R: Abort + AllocGlobal>(rt: &R, keys: &[&[u8]], layers: u64, cut: usize) {
-    let left = draft_of(rt.alloc(), &keys[..cut]).expect(rt, "memory");
-    let right = draft_of(rt.alloc(), &keys[cut..]).expect(rt, "memory");
-    assert!(rt; above(&left, &right));
-    let draft = Draft::join(left, right).expect(rt, "memory");
+    assert!(rt; cut <= keys.len());
+    let (before, behind) = keys.split_at(cut);
+    let left = draft_of(rt.alloc(), before).expect(rt, "memory");
+    let right = draft_of(rt.alloc(), behind).expect(rt, "memory");
+    let draft = joined(left, right).expect(rt, "memory");
     assert_same(rt, &draft.len(), &(keys.len() as u128));
     let tree = draft.finish().expect(rt, "memory");
     assert_same_in(rt, &cut, &tree.layers(), &layers);
@@ -138,7 +136,7 @@ const ZEROS_AND_ONES: &[&[u8]] = &[
 ];
 
 /// The hits are just these keys.
-fn assert_hits<R: Abort>(rt: &R, hits: &[Hit], keys: &[Vec<u8>]) {
+fn assert_hits<R: Abort>(rt: &R, hits: &[Hit], keys: &[&[u8]]) {
     assert_same(rt, &hits.len(), &keys.len());
     for (hit, key) in hits.iter().zip(keys) {
         assert_bytes(rt, hit.key.as_bytes(), key);
@@ -146,9 +144,8 @@ fn assert_hits<R: Abort>(rt: &R, hits: &[Hit], keys: &[Vec<u8>]) {
 }
 
 /// The tree says of this key, and of the range from it on, what the list says.
-fn assert_like_list<R: Abort>(rt: &R, tree: &Tree, keys: &[Vec<u8>], key: &[u8]) {
-    let found = keys.binary_search_by(|other: &Vec<u8>| other.as_slice().cmp(key));
-    let (is_found, place) = match found {
+fn assert_like_list<R: Abort>(rt: &R, tree: &Tree, keys: &[&[u8]], key: &[u8]) {
+    let (is_found, place) = match keys.binary_search(&key) {
         Ok(at) => (true, at),
         Err(at) => (false, at),
     };
@@ -158,29 +155,32 @@ fn assert_like_list<R: Abort>(rt: &R, tree: &Tree, keys: &[Vec<u8>], key: &[u8])
     assert_hits(rt, &hits, &rest[..rest.len().min(3)]);
 }
 
+/// The tree says of this key, and of keys beside it, what the list says.
+fn assert_beside<R: Abort + AllocGlobal>(rt: &R, tree: &Tree, keys: &[&[u8]], key: &[u8]) {
+    let mut behind = copy_of(rt, key);
+    behind.push(b'\0').expect(rt, "memory");
+    assert_like_list(rt, tree, keys, key);
+    assert_like_list(rt, tree, keys, &key[..key.len().saturating_sub(1)]);
+    assert_like_list(rt, tree, keys, &behind);
+}
+
 /// The tree of these keys says of them, and of keys beside them, what the list says. How many layers it has.
-fn assert_answers<R: Abort + AllocGlobal>(rt: &R, keys: &[Vec<u8>]) -> u64 {
-    let mut draft = Draft::new(rt.alloc());
-    for key in keys {
-        draft = with_key(rt.alloc(), draft, key).expect(rt, "memory");
-    }
+fn assert_answers<R: Abort + AllocGlobal>(rt: &R, keys: &[&[u8]]) -> u64 {
+    let draft = draft_of(rt.alloc(), keys).expect(rt, "memory");
     assert_same(rt, &draft.len(), &(keys.len() as u128));
     let tree = draft.finish().expect(rt, "memory");
     for key in keys {
-        assert_like_list(rt, &tree, keys, key);
-        assert_like_list(rt, &tree, keys, &key[..key.len().saturating_sub(1)]);
-        let mut behind = copy_of(rt, key);
-        behind.push(b'\0').expect(rt, "memory");
-        assert_like_list(rt, &tree, keys, &behind);
+        assert_beside(rt, &tree, keys, key);
     }
     tree.layers()
 }
 
 #[test]
 fn keys_of_equal_bytes_are_found(rt: HostRuntime) {
+    let longest = [b'k'; 1024];
     let mut keys = Vec::new(rt.alloc());
-    for length in 0..=1024 {
-        let key = copy_of(&rt, &[b'k'; 1024][..length]);
+    for length in 0..=longest.len() {
+        let key = &longest[..length.min(longest.len())];
         keys.push(key).expect(&rt, "memory");
     }
     assert_same(&rt, &assert_answers(&rt, &keys), &128);
@@ -226,7 +226,11 @@ fn random_keys<R: Abort + AllocGlobal>(rt: &R, count: usize) -> Vec<Vec<u8>> {
 #[test]
 fn a_tree_of_random_keys_answers_as_a_list(rt: HostRuntime) {
     let keys = random_keys(&rt, 20_000);
-    let layers = assert_answers(&rt, &keys);
+    let mut slices = Vec::new(rt.alloc());
+    for key in &keys {
+        slices.push(key.as_slice()).expect(&rt, "memory");
+    }
+    let layers = assert_answers(&rt, &slices);
     assert!(rt; keys.len() > 15_000 && layers > 1_000);
 }
 
