@@ -1,5 +1,5 @@
 -- A pair is put behind the places of a layer.
-use Rattle.std.proofs.Common.{◌≡◌, ℕ, suc, ◌+◌, ◌-◌, ◌*◌, ◌^◌, ◌<◌, ◌≤◌, List, [], ◌∷◌, ◌++◌, length, drop, get_or, sym, ap, ◌∙◌, subst, arith, append_assoc, length-append, length-drop}
+use Rattle.std.proofs.Common.{◌≡◌, ℕ, suc, ◌+◌, ◌-◌, ◌*◌, ◌^◌, ◌<◌, ◌≤◌, List, [], ◌∷◌, ◌++◌, length, drop, get_or, sym, ap, ◌∙◌, subst, arith, append_assoc, length-append, length-drop, Vec, Global}
 use Rattle.std.specs.List.{AllByRecursion}
 use Rattle.std.proofs.lemmas.List.{append-nil, map-append}
 use Rattle.mt_words.specs.Slices.{AreBytes, slice_in, slice_bytes}
@@ -13,10 +13,11 @@ use Rattle.mt_tree.specs.Borders.{DraftView, IsBorderList, borders_walk}
 use Rattle.mt_tree.specs.Nodes.{first_slice_of}
 use Rattle.mt_tree.specs.DraftViews.{draft_views, draft_view, border_views, draft_of, IsStored, PutBehind}
 use Rattle.mt_tree.specs.declared.layer.Border.{Border}
+use Rattle.mt_tree.specs.declared.layer.Border.TheVariants.{Open}
 use Rattle.mt_tree.specs.declared.layer.DraftPlace.{DraftPlace}
 use Rattle.mt_tree.proofs.Joins.{Seam, apart_layer, layer_seam, last_place, put_before-append, below_unprefixed, below_lighter, slice_at-draft, slice_at-lt, all_append, all_back, length_at-le}
 use Rattle.mt_tree.proofs.Finds.{pairs_rank}
-use Rattle.mt_tree.proofs.Puts.{borders-push, borders-append, joined_views}
+use Rattle.mt_tree.proofs.Puts.{borders-append}
 use Rattle.mt_tree.proofs.Seams.{behind_are}
 use Rattle.mt_tree.proofs.Meets.{first_merged}
 
@@ -165,12 +166,15 @@ pub record Opened (fs : List (List PlaceView)) (l : List PlaceView) (v : List (L
   pub are : IsBorderList (fs ++ l ∷ [])
   pub is : borders_walk v ≡ walk (joined fs) ++ walk l
 
-pub opened : (lb fs : List Border) (l : Border) (d : DraftView) → draft_of lb ≡ d → IsStored lb → lb ≡ fs ++ l ∷ [] → Opened (border_views fs) (draft_views l.places.items) d.borders
+pub open_end : (lb fs : List Border) (b : Border) (l : Vec DraftPlace Global) → lb ≡ fs ++ b ∷ [] → b ≡ Open l → lb ≡ fs ++ Open l ∷ []
+open_end lb fs b l e f = e ∙ ap (λ (z : Border). fs ++ z ∷ []) f
+
+pub opened : (lb fs : List Border) (l : Vec DraftPlace Global) (d : DraftView) → draft_of lb ≡ d → IsStored lb → lb ≡ fs ++ Open l ∷ [] → Opened (border_views fs) (draft_views l.items) d.borders
 opened lb fs l d seen stored e =
     let view : border_views lb ≡ d.borders = ap (λ (z : DraftView). z.borders) seen in
-    let ls = draft_views l.places.items in
+    let ls = draft_views l.items in
     let front = border_views fs in
-    let same : border_views lb ≡ front ++ ls ∷ [] = ap border_views e ∙ borders-push fs l in
+    let same : border_views lb ≡ front ++ ls ∷ [] = ap border_views e ∙ borders-append fs (Open l ∷ []) in
     record {
       are = subst IsBorderList same stored.own;
       is = ap borders_walk (sym view ∙ same) ∙ ap walk (joined-append front (ls ∷ []) ∙ ap (λ (z : List PlaceView). joined front ++ z) (append-nil ls)) ∙ walk-append (joined front) ls;
@@ -195,7 +199,7 @@ pub opened_put : (fs : List Border) (l : List PlaceView) (v : List (List PlaceVi
 opened_put fs l v o places new p put pairs first =
     let front = border_views fs in
     let more = border_views put.more in
-    let seen : joined more ≡ draft_views places = joined_views put.more ∙ ap draft_views put.same in
+    let seen : joined more ≡ draft_views places = put.same in
     let behind : border_views new ≡ front ++ more = ap border_views put.behind ∙ borders-append fs put.more in
     let some : 1 ≤ length l = (opened_border front l v o).0 in
     let whole : walk (joined more) ≡ walk l ++ p ∷ [] = ap walk seen ∙ pairs in (

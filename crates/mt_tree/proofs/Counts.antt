@@ -122,9 +122,6 @@ Serves v (short s l c ∷ ps) = Serves v ps
 Serves v (long s t c ∷ ps) = Serves v ps
 Serves v (link s w ∷ ps) = (under (slice_bytes s) v ≡ w) × Serves v ps
 
-slices_apart : (s : ℕ) (v : List Pair) → AllByRecursion (λ p. key_rank p.0 < s * 10 + 9) v → AllByRecursion (λ p. key_rank p.0 ≢ s * 10 + 9) v
-slices_apart s v h = all_weaker (λ p. key_rank p.0 < s * 10 + 9) (λ p. key_rank p.0 ≢ s * 10 + 9) (λ p lt e. omega arith) v h
-
 none_before : (s low : ℕ) (v : List Pair) → s < 2 ^ 64 → low ≤ s * 10 + 9 → RanksBelow low v → under (slice_bytes s) v ≡ []
 none_before s low v h le b = under_missed s v h (all_weaker (λ p. key_rank p.0 < low) (λ p. key_rank p.0 ≢ s * 10 + 9) (λ p lt e. omega arith) v b)
 
@@ -267,27 +264,7 @@ counts_link s w z a = record { number = a.number; is = (a.number, 0, a.is, refl,
 pub held_counts : (s : ℕ) (h : Content) (n : NodeView) (x z : ℕ) → h ≡ Link n → IsLayer (places n) → CountsLinks (places n) x → z ≡ min (x + 1) (2 ^ 64 - 1) → CountsLinks (view_of_content s h ∷ []) z
 held_counts s h n x z e l a f = subst (λ (k : Content). CountsLinks (view_of_content s k ∷ []) z) (sym e) (counts_link s (walk (places n)) z (counts_own (places n) x z l a f))
 
-pub held_none : (s : ℕ) (h : Content) → ((n : NodeView) → h ≡ Link n → ⊥) → CountsLinks (view_of_content s h ∷ []) 0
-held_none s (Short l c) other = record { number = 0; is = refl; stops = omega arith }
-held_none s (Suffix t c) other = record { number = 0; is = refl; stops = omega arith }
-held_none s (Link n) other = absurd (other n refl)
-
 -- ---- nodes
-pub kind_layer : (k : NodeKind) (v : NodeView) → IsNodeKind k → node_view k ≡ v → IsLayer (places v)
-kind_layer (Border b) v h e = subst (λ (n : NodeView). IsLayer (places n)) e h.tree.layer
-kind_layer (Interior ss ks) v h e = subst (λ (n : NodeView). IsLayer (places n)) e h.1.tree.layer
-
-pub kind_borders : (k : NodeKind) (v : NodeView) (b : Vec Place Global) (xs : List Place) (x : ℕ) → node_view k ≡ v → k ≡ Border b → xs ≡ b.items → CountsLinks (views (take (length xs) xs)) x → CountsLinks (places v) x
-kind_borders k v b xs x e f g a =
-    let whole : views (take (length xs) xs) ≡ places v =
-    ap views (take_all (length xs) xs (omega arith) ∙ g) ∙ sym (append-nil (views b.items)) ∙ ap (λ (z : NodeKind). places (node_view z)) (sym f) ∙ ap places e in
-    subst (λ (z : List PlaceView). CountsLinks z x) whole a
-
-pub kind_children : (k : NodeKind) (v : NodeView) (ss : Box (ArrayVec ℕ 15 (Unit {0}))) (ks : Vec NodeView Global) (xs : List NodeView) (x : ℕ) → node_view k ≡ v → k ≡ Interior ss ks → xs ≡ ks.items → CountsLinks (joined (borders_of (take (length xs) xs))) x → CountsLinks (places v) x
-kind_children k v ss ks xs x e f g a =
-    let whole : joined (borders_of (take (length xs) xs)) ≡ places v =
-    ap (λ (z : List NodeView). joined (borders_of z)) (take_all (length xs) xs (omega arith) ∙ g) ∙ ap (λ (z : NodeKind). places (node_view z)) (sym f) ∙ ap places e in
-    subst (λ (z : List PlaceView). CountsLinks z x) whole a
 
 -- ---- the trees of a node
 sums_split : (vs ws : List (List Pair)) (n : ℕ) → SumsLayers (vs ++ ws) n → (a : ℕ) × (b : ℕ) × SumsLayers vs a × SumsLayers ws b × (n ≡ a + b)

@@ -48,11 +48,3 @@ borders_of-append (n ∷ ns) ms = ap (λ z. n.tree.borders ++ z) (borders_of-app
 pub level_is : (h : ℕ) (ns : List NodeView) → IsLevelAt h ns → IsLevel ns
 level_is h [] l = record { nodes = tt; apart = tt; layer = tt }
 level_is h (n ∷ ns) l = subst (λ k. IsLevelAt k (n ∷ ns)) (sym (l.nodes.0.0)) l
-
-slice_content_of : (s : ℕ) (h : Content) → slice_at (view_of_content s h) ≡ s
-slice_content_of s (Short l c) = refl
-slice_content_of s (Suffix t c) = refl
-slice_content_of s (Link l) = refl
-
-pub slice_at-place : (p : Place) → slice_at (view_of p) ≡ p.slice
-slice_at-place p = slice_content_of p.slice p.content

@@ -9,50 +9,61 @@ use Rattle.mt_tree.specs.Nodes.{joined, IsBorder}
 use Rattle.mt_tree.specs.NodeFalls.{joined-append}
 use Rattle.mt_tree.specs.Borders.{DraftView, layer_walk}
 use Rattle.mt_tree.specs.Edges.{PlaceEdge, LastEdge, FirstEdge}
-use Rattle.mt_tree.specs.DraftViews.{draft_views, draft_view, border_views, draft_of, IsStored}
+use Rattle.mt_tree.specs.DraftViews.{draft_views, draft_view, border_view, border_views, draft_of, IsOpen, IsOpened, IsFirstOpen, IsLastOpen, IsStored}
 use Rattle.mt_tree.specs.declared.layer.Border.{Border}
+use Rattle.mt_tree.specs.declared.layer.Border.TheVariants.{Open, Closed}
 use Rattle.mt_tree.specs.declared.layer.DraftPlace.{DraftPlace}
 use Rattle.mt_tree.proofs.Orders.{last_of, first_of, last_edge, first_edge}
-use Rattle.mt_tree.proofs.Puts.{borders-append}
+use Rattle.mt_tree.proofs.Puts.{borders-append, last_open}
 use Rattle.mt_tree.specs.Falls.{layer_back}
 use Rattle.mt_tree.proofs.Joins.{all_back}
 
+opened_view : (b : Border) (rs : List DraftPlace) → IsOpened b rs → border_view b ≡ draft_views rs
+opened_view (Open ps) rs e = ap draft_views (sym e)
+opened_view (Closed ps) rs h = absurd h
+
+pub last_is_open : (ps qs : List Border) (b : Border) → IsStored ps → qs ≡ ps → Some b ≡ slice_get qs (length qs - 1) → IsOpen b
+last_is_open ps qs b h e f = let l = last_of qs b f in last_open l.0 b (subst IsLastOpen (sym e ∙ l.1) h.last)
+
+pub first_is_open : (ps qs : List Border) (b : Border) → IsStored ps → qs ≡ ps → Some b ≡ slice_get qs 0 → IsOpen b
+first_is_open ps qs b h e f = let l = first_of qs b f in subst IsFirstOpen (sym e ∙ l.1) h.first
+
 -- the places up to the last one
-last_places : (ps qs : List Border) (b : Border) (rs : List DraftPlace) (x : DraftPlace) → qs ≡ ps → Some b ≡ slice_get qs (length qs - 1) → rs ≡ b.places.items → Some x ≡ slice_get rs (length rs - 1) → (front : List PlaceView) × (joined (border_views ps) ≡ front ++ draft_view x ∷ [])
+last_places : (ps qs : List Border) (b : Border) (rs : List DraftPlace) (x : DraftPlace) → qs ≡ ps → Some b ≡ slice_get qs (length qs - 1) → IsOpened b rs → Some x ≡ slice_get rs (length rs - 1) → (front : List PlaceView) × (joined (border_views ps) ≡ front ++ draft_view x ∷ [])
 last_places ps qs b rs x e f g k =
     let l = last_of qs b f in
     let m = last_of rs x k in
-    let places : draft_views b.places.items ≡ draft_views m.0 ++ draft_view x ∷ [] = ap draft_views (sym g ∙ m.1) ∙ map-append draft_view m.0 (x ∷ []) in (
+    let places : border_view b ≡ draft_views m.0 ++ draft_view x ∷ [] = opened_view b rs g ∙ ap draft_views m.1 ∙ map-append draft_view m.0 (x ∷ []) in (
       joined (border_views l.0) ++ draft_views m.0,
-      ap (λ (z : List Border). joined (border_views z)) (sym e ∙ l.1) ∙ ap joined (borders-append l.0 (b ∷ [])) ∙ joined-append (border_views l.0) (draft_views b.places.items ∷ [])
-          ∙ ap (λ (z : List PlaceView). joined (border_views l.0) ++ z) (append-nil (draft_views b.places.items) ∙ places) ∙ sym (append_assoc (joined (border_views l.0)) (draft_views m.0) (draft_view x ∷ [])),
+      ap (λ (z : List Border). joined (border_views z)) (sym e ∙ l.1) ∙ ap joined (borders-append l.0 (b ∷ [])) ∙ joined-append (border_views l.0) (border_view b ∷ [])
+          ∙ ap (λ (z : List PlaceView). joined (border_views l.0) ++ z) (append-nil (border_view b) ∙ places) ∙ sym (append_assoc (joined (border_views l.0)) (draft_views m.0) (draft_view x ∷ [])),
     )
 
-pub last_border_lawful : (ps qs : List Border) (b : Border) (rs : List DraftPlace) (x : DraftPlace) → IsStored ps → qs ≡ ps → Some b ≡ slice_get qs (length qs - 1) → rs ≡ b.places.items → Some x ≡ slice_get rs (length rs - 1) → IsPlace (draft_view x)
+pub last_border_lawful : (ps qs : List Border) (b : Border) (rs : List DraftPlace) (x : DraftPlace) → IsStored ps → qs ≡ ps → Some b ≡ slice_get qs (length qs - 1) → IsOpened b rs → Some x ≡ slice_get rs (length rs - 1) → IsPlace (draft_view x)
 last_border_lawful ps qs b rs x h e f g k = let l = last_places ps qs b rs x e f g k in (layer_back 0 l.0 (draft_view x ∷ []) (subst IsLayer l.1 h.own.2)).0
 
-pub last_of_borders : (w : List Pair) (d : DraftView) (ps qs : List Border) (b : Border) (rs : List DraftPlace) (x : DraftPlace) (s m : ℕ) (below : List Pair) → w ≡ layer_walk d → draft_of ps ≡ d → IsStored ps → qs ≡ ps → Some b ≡ slice_get qs (length qs - 1) → rs ≡ b.places.items → Some x ≡ slice_get rs (length rs - 1)
+pub last_of_borders : (w : List Pair) (d : DraftView) (ps qs : List Border) (b : Border) (rs : List DraftPlace) (x : DraftPlace) (s m : ℕ) (below : List Pair) → w ≡ layer_walk d → draft_of ps ≡ d → IsStored ps → qs ≡ ps → Some b ≡ slice_get qs (length qs - 1) → IsOpened b rs → Some x ≡ slice_get rs (length rs - 1)
     → PlaceEdge (draft_view x) s m below → LastEdge w s m below
 last_of_borders w d ps qs b rs x s m below is view h e f g k edge =
     let l = last_places ps qs b rs x e f g k in
     subst (λ (z : List Pair). LastEdge z s m below) (ap walk (sym l.1) ∙ ap layer_walk view ∙ sym is) (last_edge l.0 (draft_view x) s m below (subst IsLayer l.1 h.own.2) edge)
 
-pub first_of_borders : (w : List Pair) (d : DraftView) (ps qs : List Border) (b : Border) (rs : List DraftPlace) (x : DraftPlace) (s m : ℕ) (below : List Pair) → w ≡ layer_walk d → draft_of ps ≡ d → IsStored ps → qs ≡ ps → Some b ≡ slice_get qs 0 → rs ≡ b.places.items → Some x ≡ slice_get rs 0
+pub first_of_borders : (w : List Pair) (d : DraftView) (ps qs : List Border) (b : Border) (rs : List DraftPlace) (x : DraftPlace) (s m : ℕ) (below : List Pair) → w ≡ layer_walk d → draft_of ps ≡ d → IsStored ps → qs ≡ ps → Some b ≡ slice_get qs 0 → IsOpened b rs → Some x ≡ slice_get rs 0
     → PlaceEdge (draft_view x) s m below → FirstEdge w s m below
 first_of_borders w d ps qs b rs x s m below is view h e f g k edge =
     let l = first_of qs b f in
     let n = first_of rs x k in
     let places : joined (border_views ps) ≡ draft_view x ∷ (draft_views n.0 ++ joined (border_views l.0)) =
-    ap (λ (z : List Border). joined (border_views z)) (sym e ∙ l.1) ∙ ap (λ (z : List DraftPlace). draft_views z ++ joined (border_views l.0)) (sym g ∙ n.1) in
+    ap (λ (z : List Border). joined (border_views z)) (sym e ∙ l.1) ∙ ap (λ (z : List PlaceView). z ++ joined (border_views l.0)) (opened_view b rs g ∙ ap draft_views n.1) in
     subst (λ (z : List Pair). FirstEdge z s m below) (ap walk (sym places) ∙ ap layer_walk view ∙ sym is) (first_edge (draft_view x) (draft_views n.0 ++ joined (border_views l.0)) s m below (subst IsLayer places h.own.2) edge)
 
 -- a border is not empty
-pub last_border_some : (ps qs : List Border) (b : Border) → IsStored ps → qs ≡ ps → Some b ≡ slice_get qs (length qs - 1) → 1 ≤ length b.places.items
-last_border_some ps qs b h e f =
+pub last_border_some : (ps qs : List Border) (b : Border) (rs : List DraftPlace) → IsStored ps → qs ≡ ps → Some b ≡ slice_get qs (length qs - 1) → IsOpened b rs → 1 ≤ length rs
+last_border_some ps qs b rs h e f g =
     let l = last_of qs b f in
-    let each : AllByRecursion IsBorder (border_views l.0 ++ draft_views b.places.items ∷ []) = subst (AllByRecursion IsBorder) (ap border_views (sym e ∙ l.1) ∙ borders-append l.0 (b ∷ [])) h.own.0 in
-    let some : 1 ≤ length (draft_views b.places.items) = (all_back IsBorder (border_views l.0) (draft_views b.places.items ∷ []) each).0.0 in
-    omega (arith, length-map b.places.items draft_view)
+    let each : AllByRecursion IsBorder (border_views l.0 ++ border_view b ∷ []) = subst (AllByRecursion IsBorder) (ap border_views (sym e ∙ l.1) ∙ borders-append l.0 (b ∷ [])) h.own.0 in
+    let some : 1 ≤ length (border_view b) = (all_back IsBorder (border_views l.0) (border_view b ∷ []) each).0.0 in
+    omega (arith, ap (λ (z : List PlaceView). length z) (opened_view b rs g), length-map rs draft_view)
 
 pub never_none : (rs : List DraftPlace) → 1 ≤ length rs → slice_get rs (length rs - 1) ≡ None → ⊥
 never_none [] h e = omega arith

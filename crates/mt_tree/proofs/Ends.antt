@@ -10,9 +10,6 @@ use Rattle.mt_tree.specs.NodeFalls.{joined-append}
 use Rattle.mt_tree.specs.Borders.{DraftView, IsBorderList, borders_walk, layer_walk}
 use Rattle.mt_tree.specs.NodeViews.{views, view_of, trees_of, trees_of_content, border_node}
 use Rattle.std.specs.List.{flat_map}
-use Rattle.mt_tree.specs.DraftViews.{layers_of, layers_of_content, all_places}
-use Rattle.mt_tree.specs.declared.layer.Border.{Border}
-use Rattle.mt_tree.specs.declared.layer.DraftPlace.{DraftPlace}
 use Rattle.mt_tree.specs.declared.node.Place.{Place}
 use Rattle.mt_tree.proofs.Cuts.{border_is_tree}
 use Rattle.mt_tree.proofs.Joins.{all_back}
@@ -73,7 +70,3 @@ all_carried f g xs left all e none = sym (append-nil (flat_map f xs)) ∙ ap (λ
 pub each_flat : {X : Type 0} (f : X → List LayerView) (xs : List X) → flat_map (λ x. each_borders (f x)) xs ≡ each_borders (flat_map f xs)
 each_flat f [] = refl
 each_flat f (x ∷ xs) = ap (λ z. each_borders (f x) ++ z) (each_flat f xs) ∙ sym (map-append (λ (t : LayerView). t.borders) (f x) (flat_map f xs))
-
-pub layers_flat : (bs : List Border) → flat_map (λ (b : Border). layers_of b.places.items) bs ≡ layers_of (all_places bs)
-layers_flat [] = refl
-layers_flat (b ∷ bs) = ap (λ z. layers_of b.places.items ++ z) (layers_flat bs) ∙ sym (flat_map-append (λ (p : DraftPlace). layers_of_content p.content) b.places.items (all_places bs))

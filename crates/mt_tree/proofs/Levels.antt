@@ -133,7 +133,7 @@ stands_over ss h ns a =
     (interior {n = n} (all_heights h ns a) rest)
 
 -- ---- links
-linked_walks-append : (ps qs : List PlaceView) → linked_walks (ps ++ qs) ≡ linked_walks ps ++ linked_walks qs
+pub linked_walks-append : (ps qs : List PlaceView) → linked_walks (ps ++ qs) ≡ linked_walks ps ++ linked_walks qs
 linked_walks-append [] qs = refl
 linked_walks-append (short s l c ∷ ps) qs = linked_walks-append ps qs
 linked_walks-append (long s t c ∷ ps) qs = linked_walks-append ps qs
@@ -194,21 +194,6 @@ first_is k v ss ks n h e f g = by ks.items refl
         let is : n ≡ m = g ∙ ap (λ (z : List NodeView). get_or z 0 n) same in
         ap first_of is ∙ sym (first_kid m ms nodes.0) ∙ ap (λ (z : List NodeView). first_slice_of (joined (borders_of z))) (sym same) ∙ ap first_of (sym (ap node_view f) ∙ e)
 
--- a child's first slice comes off what is still to be read
-pub one_head : (ns : List NodeView) (i : ℕ) (n : NodeView) (done next heads : List ℕ) (s : ℕ) → done ++ map first_of (drop i ns) ≡ heads → i < length ns → n ≡ get_or ns i n → next ≡ done ++ s ∷ [] → s ≡ first_of n → next ++ map first_of (drop (i + 1) ns) ≡ heads
-one_head ns i n done next heads s e lt g f same =
-    let cut : drop i ns ≡ n ∷ drop (i + 1) ns = drop_one ns i n lt g in
-    ap (λ (z : List ℕ). z ++ map first_of (drop (i + 1) ns)) f
-    ∙ append_assoc done (s ∷ []) (map first_of (drop (i + 1) ns))
-    ∙ ap (λ (k : ℕ). done ++ k ∷ map first_of (drop (i + 1) ns)) same
-    ∙ ap (λ (z : List NodeView). done ++ map first_of z) (sym cut)
-    ∙ e
-  where
-    drop_one : (xs : List NodeView) (i : ℕ) (n : NodeView) → i < length xs → n ≡ get_or xs i n → drop i xs ≡ n ∷ drop (i + 1) xs
-    drop_one [] i n lt g = absurd (omega arith)
-    drop_one (x ∷ xs) zero n lt g = ap (λ (z : NodeView). z ∷ xs) (sym g)
-    drop_one (x ∷ xs) (suc i) n lt g = let e : suc i + 1 ≡ suc (i + 1) = omega arith in rw e (drop_one xs i n (omega arith) g)
-
 -- ---- one level up
 -- the children that get their parent, and what is left
 pub level_children : (h : ℕ) (kids rest : List NodeView) → IsLevelAt h (kids ++ rest) → IsLevel kids
@@ -217,13 +202,6 @@ level_children h kids rest l = level_is h kids (level_front h kids rest l)
 pub height_of : (h : ℕ) (kids rest : List NodeView) → IsLevelAt h (kids ++ rest) → 1 ≤ length kids → level_height kids ≡ h
 height_of h [] rest l some = absurd (omega arith)
 height_of h (k ∷ kids) rest l some = l.nodes.0.0
-
-pub upper_level : (h : ℕ) (upper nodes : List NodeView) → AllByRecursion (IsNodeAt h) upper → borders_of upper ≡ borders_of nodes → IsLevel nodes → IsLevel upper
-upper_level h upper nodes a e l = level_is h upper (record {
-  nodes = a;
-  apart = subst SlicesApart (sym e) l.apart;
-  layer = subst (λ z. IsLayer (joined z)) (sym e) l.layer;
-})
 
 -- a parent stands for its children
 pub under_parent : {X : Type 0} (f : NodeView → List X) (upper kids rest : List NodeView) (all : List X) → f (parent_node kids) ≡ flat_map f kids

@@ -1,19 +1,22 @@
 -- The layers below the links of stored places.
-use Rattle.std.proofs.Common.{◌≡◌, ℕ, List, [], ◌∷◌, ◌++◌, refl, sym, ap, ◌∙◌, subst}
-use Rattle.std.specs.List.{AllByRecursion}
-use Rattle.std.proofs.lemmas.List.{append-nil}
+use Rattle.std.proofs.Common.{◌≡◌, ℕ, ◌≤◌, List, [], ◌∷◌, ◌++◌, length, refl, sym, ap, ◌∙◌, subst, arith, length-append, Vec, Global}
+use Rattle.std.specs.List.{AllByRecursion, flat_map}
+use Rattle.std.proofs.lemmas.List.{length-map}
 use Rattle.mt_tree.specs.Layer.{PlaceView}
 use Rattle.mt_tree.specs.Layers.{linked_walks}
-use Rattle.mt_tree.specs.Nodes.{joined, AreLinked}
+use Rattle.mt_tree.specs.Nodes.{LayerView, joined, each_borders, IsLayerTree, AreLinked}
+use Rattle.mt_tree.specs.NodeViews.{trees_of}
+use Rattle.mt_words.specs.Walks.{Pair}
 use Rattle.mt_tree.specs.Borders.{IsBorderList, AreBorders}
-use Rattle.mt_tree.specs.DraftViews.{draft_view_of, draft_views, border_views, layers_of, layers_of_content, all_places, draft_of, IsLawfulLink, HaveLawfulLinks, IsStored, PutBehind}
+use Rattle.mt_tree.specs.DraftViews.{draft_view, draft_view_of, draft_views, border_view, border_views, layers_of, layers_of_border, layers_of_content, draft_of, IsLawfulLink, HaveLawfulLinks, HasLawfulLinks, IsFirstOpen, IsLastOpen, IsStored, PutBehind, PutOpen}
 use Rattle.mt_tree.specs.declared.layer.Border.{Border}
+use Rattle.mt_tree.specs.declared.layer.Border.TheVariants.{Open, Closed}
 use Rattle.mt_tree.specs.declared.layer.DraftPlace.{DraftPlace}
 use Rattle.mt_tree.specs.declared.layer.DraftContent.{DraftContent}
 use Rattle.mt_tree.specs.declared.layer.DraftContent.TheVariants.{Short, Suffix, Link}
 use Rattle.mt_tree.proofs.Joins.{all_append, all_front, all_back}
-use Rattle.mt_tree.proofs.Levels.{linked-append}
-use Rattle.mt_tree.proofs.Puts.{places-append, joined_views}
+use Rattle.mt_tree.proofs.Levels.{linked-append, linked_walks-append}
+use Rattle.mt_tree.proofs.Puts.{first_front, first_then, last_then, last_rest}
 
 -- ---- a stored layer is a lawful draft
 content_lawful : (c : DraftContent) (ls : List (List (List PlaceView))) → IsLawfulLink c → AllByRecursion IsBorderList ls → AllByRecursion IsBorderList (layers_of_content c ++ ls)
@@ -34,45 +37,77 @@ layers_linked : (ps : List DraftPlace) → HaveLawfulLinks ps → AreLinked (lin
 layers_linked [] h = refl
 layers_linked (p ∷ ps) h = content_linked p.slice p.content (draft_views ps) (layers_of ps) h.0 (layers_linked ps h.1)
 
+trees_lawful : (ts : List LayerView) → AllByRecursion IsLayerTree ts → AllByRecursion IsBorderList (each_borders ts)
+trees_lawful [] h = tt
+trees_lawful (t ∷ ts) h = ((h.0.each, h.0.apart, h.0.layer), trees_lawful ts h.1)
+
+border_lawful : (b : Border) → HasLawfulLinks b → AllByRecursion IsBorderList (layers_of_border b)
+border_lawful (Open ps) h = layers_lawful ps.items h
+border_lawful (Closed ps) h = trees_lawful (trees_of ps.items) h.lawful
+
+border_linked : (b : Border) → HasLawfulLinks b → AreLinked (linked_walks (border_view b)) (layers_of_border b)
+border_linked (Open ps) h = layers_linked ps.items h
+border_linked (Closed ps) h = h.linked
+
+borders_lawful : (bs : List Border) → AllByRecursion HasLawfulLinks bs → AllByRecursion IsBorderList (flat_map layers_of_border bs)
+borders_lawful [] h = tt
+borders_lawful (b ∷ bs) h = all_append IsBorderList (layers_of_border b) (flat_map layers_of_border bs) (border_lawful b h.0) (borders_lawful bs h.1)
+
+borders_linked : (bs : List Border) → AllByRecursion HasLawfulLinks bs → AreLinked (linked_walks (joined (border_views bs))) (flat_map layers_of_border bs)
+borders_linked [] h = refl
+borders_linked (b ∷ bs) h =
+    subst (λ (z : List (List Pair)). AreLinked z (flat_map layers_of_border (b ∷ bs))) (sym (linked_walks-append (border_view b) (joined (border_views bs))))
+    (linked-append (linked_walks (border_view b)) (linked_walks (joined (border_views bs))) (layers_of_border b) (flat_map layers_of_border bs) (border_linked b h.0) (borders_linked bs h.1))
+
 pub stored_are : (bs : List Border) → IsStored bs → AreBorders (draft_of bs)
-stored_are bs h = record {
-  own = h.own;
-  below = layers_lawful (all_places bs) h.links;
-  linked = subst (λ (z : List PlaceView). AreLinked (linked_walks z) (layers_of (all_places bs))) (sym (joined_views bs)) (layers_linked (all_places bs) h.links);
-}
+stored_are bs h = record { own = h.own; below = borders_lawful bs h.links; linked = borders_linked bs h.links }
 
 -- ---- places that move
 abbrev lawful : DraftPlace → Type 0
 lawful p = IsLawfulLink p.content
 
 -- the last border and those before it
-pub links_parted : (lb fs : List Border) (l : Border) → HaveLawfulLinks (all_places lb) → lb ≡ fs ++ l ∷ [] → HaveLawfulLinks (all_places fs) × HaveLawfulLinks l.places.items
+pub links_parted : (lb fs : List Border) (l : Vec DraftPlace Global) → AllByRecursion HasLawfulLinks lb → lb ≡ fs ++ Open l ∷ [] → AllByRecursion HasLawfulLinks fs × HaveLawfulLinks l.items
 links_parted lb fs l h e =
-    let is : all_places lb ≡ all_places fs ++ l.places.items = ap all_places e ∙ places-append fs (l ∷ []) ∙ ap (λ (z : List DraftPlace). all_places fs ++ z) (append-nil l.places.items) in
-    let both : HaveLawfulLinks (all_places fs ++ l.places.items) = subst HaveLawfulLinks is h in
-    (all_front lawful (all_places fs) l.places.items both, all_back lawful (all_places fs) l.places.items both)
+    let both : AllByRecursion HasLawfulLinks (fs ++ Open l ∷ []) = subst (AllByRecursion HasLawfulLinks) e h in
+    (all_front HasLawfulLinks fs (Open l ∷ []) both, (all_back HasLawfulLinks fs (Open l ∷ []) both).0)
 
 -- the first border and those after it
-pub links_first : (rb bs : List Border) (f : Border) → HaveLawfulLinks (all_places rb) → rb ≡ f ∷ bs → HaveLawfulLinks f.places.items × HaveLawfulLinks (all_places bs)
-links_first rb bs f h e =
-    let both : HaveLawfulLinks (f.places.items ++ all_places bs) = subst HaveLawfulLinks (ap all_places e) h in
-    (all_front lawful f.places.items (all_places bs) both, all_back lawful f.places.items (all_places bs) both)
+pub links_first : (rb bs : List Border) (f : Vec DraftPlace Global) → AllByRecursion HasLawfulLinks rb → rb ≡ Open f ∷ bs → HaveLawfulLinks f.items × AllByRecursion HasLawfulLinks bs
+links_first rb bs f h e = subst (AllByRecursion HasLawfulLinks) e h
 
-pub links_put : (places : List DraftPlace) (old new : List Border) → HaveLawfulLinks (all_places old) → HaveLawfulLinks places → PutBehind places old new → HaveLawfulLinks (all_places new)
-links_put places old new h k put =
-    let is : all_places new ≡ all_places old ++ places = ap all_places put.behind ∙ places-append old put.more ∙ ap (λ (z : List DraftPlace). all_places old ++ z) put.same in
-    subst HaveLawfulLinks (sym is) (all_append lawful (all_places old) places h k)
+links_put : (places : List DraftPlace) (old new : List Border) → AllByRecursion HasLawfulLinks old → HaveLawfulLinks places → PutBehind places old new → AllByRecursion HasLawfulLinks new
+links_put places old new h k put = subst (AllByRecursion HasLawfulLinks) (sym put.behind) (all_append HasLawfulLinks old put.more h (put.links k))
 
 -- other places were put in place of the last border
-pub put_stored : (lb fs new : List Border) (l : Border) (places : List DraftPlace) → IsBorderList (border_views new) → HaveLawfulLinks (all_places lb) → lb ≡ fs ++ l ∷ [] → HaveLawfulLinks places → PutBehind places fs new → IsStored new
-put_stored lb fs new l places own h e k put = record { own = own; links = links_put places fs new (links_parted lb fs l h e).0 k put }
+pub put_stored : (lb fs new : List Border) (l : Vec DraftPlace Global) (places : List DraftPlace) → IsBorderList (border_views new) → IsStored lb → lb ≡ fs ++ Open l ∷ [] → HaveLawfulLinks places → 1 ≤ length places → PutOpen places fs new → IsStored new
+put_stored lb fs new l places own h e k some put = record {
+  own = own;
+  links = links_put places fs new (links_parted lb fs l h.links e).0 k put.put;
+  first = put.put.first (first_front fs (Open l) (subst IsFirstOpen e h.first));
+  last = put.last some;
+}
+
+more_some : (places : List DraftPlace) (old new : List Border) → PutBehind places old new → 1 ≤ length places → 1 ≤ length new
+more_some places old new put some = by put.more refl
+  where
+    by : (more : List Border) → put.more ≡ more → 1 ≤ length new
+    by [] e =
+        let none : 0 ≡ length places = ap (λ (z : List Border). length (joined (border_views z))) (sym e) ∙ ap (λ (z : List PlaceView). length z) put.same ∙ length-map places draft_view in
+        absurd (omega arith)
+    by (b ∷ bs) e =
+        let behind = ap (λ (z : List Border). length z) put.behind in
+        let more = ap (λ (z : List Border). length z) e in
+        omega (arith, behind, more, length-append old put.more)
 
 -- and in place of two neighbours
-pub seam_stored : (lb rb fs bs seam whole : List Border) (l f : Border) (places : List DraftPlace) → IsBorderList (border_views whole) → HaveLawfulLinks (all_places lb) → HaveLawfulLinks (all_places rb)
-    → lb ≡ fs ++ l ∷ [] → rb ≡ f ∷ bs → HaveLawfulLinks places → PutBehind places fs seam → whole ≡ seam ++ bs → IsStored whole
-seam_stored lb rb fs bs seam whole l f places own h k e g links put is = record {
+pub seam_stored : (lb rb fs bs seam whole : List Border) (l f : Vec DraftPlace Global) (places : List DraftPlace) → IsBorderList (border_views whole) → IsStored lb → IsStored rb
+    → lb ≡ fs ++ Open l ∷ [] → rb ≡ Open f ∷ bs → HaveLawfulLinks places → 1 ≤ length places → PutOpen places fs seam → whole ≡ seam ++ bs → IsStored whole
+seam_stored lb rb fs bs seam whole l f places own h k e g links some put is = record {
   own = own;
-  links = subst HaveLawfulLinks (sym (ap all_places is ∙ places-append seam bs)) (all_append lawful (all_places seam) (all_places bs) (links_put places fs seam (links_parted lb fs l h e).0 links put) (links_first rb bs f k g).1);
+  links = subst (AllByRecursion HasLawfulLinks) (sym is) (all_append HasLawfulLinks seam bs (links_put places fs seam (links_parted lb fs l h.links e).0 links put.put) (links_first rb bs f k.links g).1);
+  first = subst IsFirstOpen (sym is) (first_then seam bs (more_some places fs seam put.put some) (put.put.first (first_front fs (Open l) (subst IsFirstOpen e h.first))));
+  last = subst IsLastOpen (sym is) (last_then seam bs (put.last some) (last_rest (Open f) bs (subst IsLastOpen g k.last)));
 }
 
 -- ---- one list of places

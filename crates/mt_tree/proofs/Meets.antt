@@ -1,5 +1,5 @@
 -- Two lists of places meet.
-use Rattle.std.proofs.Common.{◌≡◌, ◌<◌, ◌≤◌, List, [], ◌∷◌, ◌++◌, get_or, length, sym, refl, ap, ◌∙◌, subst, arith, append_assoc, length-append}
+use Rattle.std.proofs.Common.{◌≡◌, ◌<◌, ◌≤◌, List, [], ◌∷◌, ◌++◌, get_or, length, sym, refl, ap, ◌∙◌, subst, arith, append_assoc, length-append, Vec, Global}
 use Rattle.std.specs.List.{AllByRecursion, remove}
 use Rattle.std.proofs.lemmas.List.{append-nil, map-append, length-map}
 use Rattle.mt_tree.specs.Layer.{PlaceView, slice_at, IsLayer, walk, weight, AllKeysBelow}
@@ -9,11 +9,12 @@ use Rattle.mt_tree.specs.Nodes.{joined, IsBorder}
 use Rattle.mt_tree.specs.NodeFalls.{joined-append}
 use Rattle.mt_tree.specs.Borders.{DraftView, IsBorderList, SameEnds, borders_walk, layer_walk, last_slice_of}
 use Rattle.mt_tree.specs.Nodes.{first_slice_of}
-use Rattle.mt_tree.specs.DraftViews.{draft_views, draft_view, border_views, all_places, draft_of, IsStored, PutBehind}
+use Rattle.mt_tree.specs.DraftViews.{draft_views, draft_view, border_views, draft_of, IsStored, PutBehind}
 use Rattle.mt_tree.specs.declared.layer.Border.{Border}
+use Rattle.mt_tree.specs.declared.layer.Border.TheVariants.{Open}
 use Rattle.mt_tree.specs.declared.layer.DraftPlace.{DraftPlace}
 use Rattle.mt_tree.proofs.Joins.{Seam, all_back, below_first, first_removed, slice_at-draft}
-use Rattle.mt_tree.proofs.Puts.{borders-push, borders-append, places-append, joined_views}
+use Rattle.mt_tree.proofs.Puts.{borders-append, joined_views-append}
 use Rattle.mt_tree.proofs.Seams.{seam_are}
 
 pub seam_of : (l r xs : List DraftPlace) (p q : DraftPlace) → IsLayer (draft_views l) → IsLayer (draft_views r) → AllKeysBelow (walk (draft_views l)) (walk (draft_views r)) → l ≡ xs ++ p ∷ [] → 1 ≤ length r → q ≡ get_or r 0 q → Seam xs p q (remove r 0)
@@ -82,25 +83,29 @@ pub record Sides (fs bs : List (List PlaceView)) (l f : List PlaceView) (vl : Li
   pub below : AllKeysBelow (walk l) (walk f)
   pub light : weight (walk l) ≤ weight (borders_walk vl)
 
-pub sides : (lb rb fs bs : List Border) (l f : Border) (dl dr : DraftView) → draft_of lb ≡ dl → draft_of rb ≡ dr → IsStored lb → IsStored rb → AllKeysBelow (layer_walk dl) (layer_walk dr)
-    → lb ≡ fs ++ l ∷ [] → 0 < length rb → f ≡ get_or rb 0 f → bs ≡ remove rb 0 → Sides (border_views fs) (border_views bs) (draft_views l.places.items) (draft_views f.places.items) dl.borders
-sides lb rb fs bs l f dl dr vl_is vr_is hl hr below cut some df db =
+pub open_first : (rb bs : List Border) (b : Border) (f : Vec DraftPlace Global) → 0 < length rb → b ≡ get_or rb 0 b → bs ≡ remove rb 0 → b ≡ Open f → rb ≡ Open f ∷ bs
+open_first rb bs b f some df db e = first_removed rb b bs some df db ∙ ap (λ (z : Border). z ∷ bs) e
+
+pub sides : (lb rb fs bs : List Border) (l f : Vec DraftPlace Global) (dl dr : DraftView) → draft_of lb ≡ dl → draft_of rb ≡ dr → IsStored lb → IsStored rb → AllKeysBelow (layer_walk dl) (layer_walk dr)
+    → lb ≡ fs ++ Open l ∷ [] → rb ≡ Open f ∷ bs → Sides (border_views fs) (border_views bs) (draft_views l.items) (draft_views f.items) dl.borders
+sides lb rb fs bs l f dl dr vl_is vr_is hl hr below cut first =
     let vl = dl.borders in
     let vr = dr.borders in
     let el : border_views lb ≡ vl = ap (λ (d : DraftView). d.borders) vl_is in
     let er : border_views rb ≡ vr = ap (λ (d : DraftView). d.borders) vr_is in
-    let ls = draft_views l.places.items in
+    let ls = draft_views l.items in
+    let rs = draft_views f.items in
     let front = border_views fs in
-    let is : vl ≡ front ++ ls ∷ [] = sym el ∙ ap border_views cut ∙ borders-push fs l in
-    let ir : vr ≡ draft_views f.places.items ∷ border_views bs = sym er ∙ ap border_views (first_removed rb f bs some df db) in
+    let is : vl ≡ front ++ ls ∷ [] = sym el ∙ ap border_views cut ∙ borders-append fs (Open l ∷ []) in
+    let ir : vr ≡ rs ∷ border_views bs = sym er ∙ ap border_views first in
     let wl : borders_walk vl ≡ walk (joined front) ++ walk ls = ap borders_walk is ∙ ap walk (joined-append front (ls ∷ []) ∙ ap (λ (z : List PlaceView). joined front ++ z) (append-nil ls)) ∙ walk-append (joined front) ls in
-    let wr : borders_walk vr ≡ walk (draft_views f.places.items) ++ borders_walk (border_views bs) = ap borders_walk ir ∙ walk-append (draft_views f.places.items) (joined (border_views bs)) in
-    let both : AllKeysBelow (walk (joined front) ++ walk ls) (walk (draft_views f.places.items) ++ borders_walk (border_views bs)) =
-    subst (λ (z : List Pair). AllKeysBelow z (walk (draft_views f.places.items) ++ borders_walk (border_views bs))) wl (subst (λ (z : List Pair). AllKeysBelow (borders_walk vl) z) wr below) in
+    let wr : borders_walk vr ≡ walk rs ++ borders_walk (border_views bs) = ap borders_walk ir ∙ walk-append rs (joined (border_views bs)) in
+    let both : AllKeysBelow (walk (joined front) ++ walk ls) (walk rs ++ borders_walk (border_views bs)) =
+    subst (λ (z : List Pair). AllKeysBelow z (walk rs ++ borders_walk (border_views bs))) wl (subst (λ (z : List Pair). AllKeysBelow (borders_walk vl) z) wr below) in
     record {
       left = subst IsBorderList (el ∙ is) hl.own;
       right = subst IsBorderList (er ∙ ir) hr.own;
-      below = below_first (walk ls) (walk (draft_views f.places.items)) (borders_walk (border_views bs)) (all_back _ (walk (joined front)) (walk ls) both);
+      below = below_first (walk ls) (walk rs) (borders_walk (border_views bs)) (all_back _ (walk (joined front)) (walk ls) both);
       light = omega (arith, ap weight wl, weight-append (walk (joined front)) (walk ls));
     }
 
@@ -123,7 +128,7 @@ pub seam_put : (fs bs seam whole : List Border) (l f left right : List DraftPlac
     → PutBehind (left ++ right) fs seam → whole ≡ seam ++ bs → length left ≡ length l → SameEnds (draft_views l) (draft_views f) (draft_views left ++ draft_views right) → IsBorderList (border_views whole)
 seam_put fs bs seam whole l f left right vl s put e same ends =
     let some : 1 ≤ length (draft_views l) = (last_border _ _ _ _ _ s).0 in
-    let same_views : joined (border_views put.more) ≡ draft_views left ++ draft_views right = joined_views put.more ∙ ap draft_views put.same ∙ map-append draft_view left right in
+    let same_views : joined (border_views put.more) ≡ draft_views left ++ draft_views right = put.same ∙ map-append draft_view left right in
     let kept : 1 ≤ length (joined (border_views put.more)) =
     omega (arith, ap (λ (z : List PlaceView). length z) same_views, length-append (draft_views left) (draft_views right), length-map left draft_view, length-map l draft_view) in
     let is : border_views whole ≡ border_views fs ++ (border_views put.more ++ border_views bs) =
@@ -132,28 +137,23 @@ seam_put fs bs seam whole l f left right vl s put e same ends =
     (seam_are (border_views fs) (draft_views l) (draft_views f) (border_views bs) (border_views put.more) s.left s.right put.lawful some kept (subst (SameEnds (draft_views l) (draft_views f)) (sym same_views) ends))
 
 -- ---- the walk of two lists of borders
-borders_are : (bs : List Border) → borders_walk (border_views bs) ≡ walk (draft_views (all_places bs))
-borders_are bs = ap walk (joined_views bs)
+abbrev stored_walk : List Border → List Pair
+stored_walk bs = borders_walk (border_views bs)
 
-both_walks : (xs ys : List DraftPlace) → walk (draft_views (xs ++ ys)) ≡ walk (draft_views xs) ++ walk (draft_views ys)
-both_walks xs ys = ap walk (map-append draft_view xs ys) ∙ walk-append (draft_views xs) (draft_views ys)
+behind_walk : (bs cs : List Border) → stored_walk (bs ++ cs) ≡ stored_walk bs ++ stored_walk cs
+behind_walk bs cs = ap walk (joined_views-append bs cs) ∙ walk-append (joined (border_views bs)) (joined (border_views cs))
 
-behind_walk : (bs cs : List Border) → borders_walk (border_views (bs ++ cs)) ≡ walk (draft_views (all_places bs)) ++ walk (draft_views (all_places cs))
-behind_walk bs cs = borders_are (bs ++ cs) ∙ ap (λ (z : List DraftPlace). walk (draft_views z)) (places-append bs cs) ∙ both_walks (all_places bs) (all_places cs)
-
-pub seam_walk : (lb rb fs bs seam whole : List Border) (l f : Border) (left right : List DraftPlace) (dl dr : DraftView) → draft_of lb ≡ dl → draft_of rb ≡ dr → lb ≡ fs ++ l ∷ [] → rb ≡ f ∷ bs → PutBehind (left ++ right) fs seam → whole ≡ seam ++ bs
-    → walk (draft_views left ++ draft_views right) ≡ walk (draft_views l.places.items) ++ walk (draft_views f.places.items) → borders_walk (border_views whole) ≡ layer_walk dl ++ layer_walk dr
+pub seam_walk : (lb rb fs bs seam whole : List Border) (l f : Vec DraftPlace Global) (left right : List DraftPlace) (dl dr : DraftView) → draft_of lb ≡ dl → draft_of rb ≡ dr → lb ≡ fs ++ Open l ∷ [] → rb ≡ Open f ∷ bs → PutBehind (left ++ right) fs seam → whole ≡ seam ++ bs
+    → walk (draft_views left ++ draft_views right) ≡ walk (draft_views l.items) ++ walk (draft_views f.items) → borders_walk (border_views whole) ≡ layer_walk dl ++ layer_walk dr
 seam_walk lb rb fs bs seam whole l f left right dl dr vl vr e g put is pairs =
-    let front = walk (draft_views (all_places fs)) in
-    let back = walk (draft_views (all_places bs)) in
-    let here = walk (draft_views l.places.items) in
-    let next = walk (draft_views f.places.items) in
-    let one : walk (draft_views (all_places (l ∷ []))) ≡ here = ap (λ (z : List DraftPlace). walk (draft_views z)) (append-nil l.places.items) in
-    let lefts : layer_walk dl ≡ front ++ here = sym (ap layer_walk vl) ∙ ap (λ (z : List Border). borders_walk (border_views z)) e ∙ behind_walk fs (l ∷ []) ∙ ap (λ (w : List Pair). front ++ w) one in
-    let rights : layer_walk dr ≡ next ++ back = sym (ap layer_walk vr) ∙ ap (λ (z : List Border). borders_walk (border_views z)) g ∙ borders_are (f ∷ bs) ∙ both_walks f.places.items (all_places bs) in
-    let seam_places : all_places seam ≡ all_places fs ++ (left ++ right) = ap all_places put.behind ∙ places-append fs put.more ∙ ap (λ (z : List DraftPlace). all_places fs ++ z) put.same in
-    let seam_is : walk (draft_views (all_places seam)) ≡ front ++ (here ++ next) =
-    ap (λ (z : List DraftPlace). walk (draft_views z)) seam_places ∙ both_walks (all_places fs) (left ++ right) ∙ ap (λ (w : List Pair). front ++ w) (ap walk (map-append draft_view left right) ∙ pairs) in
-    ap (λ (z : List Border). borders_walk (border_views z)) is ∙ behind_walk seam bs ∙ ap (λ (w : List Pair). w ++ back) seam_is
+    let front = stored_walk fs in
+    let back = stored_walk bs in
+    let here = walk (draft_views l.items) in
+    let next = walk (draft_views f.items) in
+    let one : stored_walk (Open l ∷ []) ≡ here = ap walk (append-nil (draft_views l.items)) in
+    let lefts : layer_walk dl ≡ front ++ here = sym (ap layer_walk vl) ∙ ap stored_walk e ∙ behind_walk fs (Open l ∷ []) ∙ ap (λ (w : List Pair). front ++ w) one in
+    let rights : layer_walk dr ≡ next ++ back = sym (ap layer_walk vr) ∙ ap stored_walk g ∙ walk-append (draft_views f.items) (joined (border_views bs)) in
+    let seam_is : stored_walk seam ≡ front ++ (here ++ next) = ap stored_walk put.behind ∙ behind_walk fs put.more ∙ ap (λ (w : List Pair). front ++ w) (ap walk (put.same ∙ map-append draft_view left right) ∙ pairs) in
+    ap stored_walk is ∙ behind_walk seam bs ∙ ap (λ (w : List Pair). w ++ back) seam_is
     ∙ append_assoc front (here ++ next) back ∙ ap (λ (w : List Pair). front ++ w) (append_assoc here next back) ∙ sym (append_assoc front here (next ++ back))
     ∙ (λ i. sym lefts i ++ sym rights i)

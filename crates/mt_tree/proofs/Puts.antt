@@ -1,69 +1,126 @@
 -- Places are put behind borders, as borders that are cut between slices.
-use Rattle.std.proofs.Common.{◌≡◌, ◌≢◌, ℕ, suc, ◌+◌, ◌-◌, ◌^◌, ◌<◌, ◌≤◌, min, List, [], ◌∷◌, ◌++◌, get_or, length, take, drop, sym, refl, ap, ◌∙◌, subst, inl, inr, ◌⊎◌, arith, append_assoc, length-append}
+use Rattle.std.proofs.Common.{◌≡◌, ◌≢◌, ℕ, suc, ◌+◌, ◌-◌, ◌^◌, ◌<◌, ◌≤◌, min, List, [], ◌∷◌, ◌++◌, get_or, length, take, drop, sym, refl, ap, ◌∙◌, subst, inl, inr, ◌⊎◌, arith, append_assoc, length-append, Vec, Global}
 use Rattle.std.specs.List.{AllByRecursion}
 use Rattle.std.proofs.lemmas.Bool.{cases_lt}
 use Rattle.std.proofs.lemmas.List.{append-nil, map-append, length-map, take-append-drop}
 use Rattle.mt_tree.specs.Layer.{PlaceView, slice_at, rank_at, IsLayer, IsLayerFrom}
 use Rattle.mt_tree.specs.Nodes.{joined, SlicesBelow, SlicesFrom, IsBorder, CutAt, OfSlice, first_slice_of}
 use Rattle.mt_tree.specs.Borders.{IsBorderList, last_slice_of}
-use Rattle.std.proofs.lemmas.Grind.{flat_map-append}
-use Rattle.mt_tree.specs.DraftViews.{draft_views, draft_view, border_views, all_places, PutBehind}
+use Rattle.mt_tree.specs.NodeFalls.{joined-append}
+use Rattle.mt_tree.specs.DraftViews.{draft_views, draft_view, border_view, border_views, IsLawfulLink, HaveLawfulLinks, HasLawfulLinks, IsOpen, IsFirstOpen, IsLastOpen, PutBehind, PutOpen}
 use Rattle.mt_tree.specs.declared.layer.Border.{Border}
+use Rattle.mt_tree.specs.declared.layer.Border.TheVariants.{Open}
 use Rattle.mt_tree.specs.declared.layer.DraftPlace.{DraftPlace}
-use Rattle.mt_tree.proofs.Joins.{slice_at-draft, slice_at-lt, all_weaker, all_front, all_back, length_at-le}
+use Rattle.mt_tree.proofs.Joins.{slice_at-draft, slice_at-lt, all_append, all_weaker, all_front, all_back, length_at-le}
 use Rattle.mt_tree.proofs.Cuts.{slices_from, cut_nil, run_few}
 use Rattle.mt_tree.proofs.Seams.{are_append, cut_each, up_to_last, from_first_slice}
 use Rattle.mt_tree.specs.Falls.{layer_back, layer_front}
 
-pub borders-push : (bs : List Border) (b : Border) → border_views (bs ++ b ∷ []) ≡ border_views bs ++ draft_views b.places.items ∷ []
-borders-push bs b = map-append (λ (z : Border). draft_views z.places.items) bs (b ∷ [])
-
 pub borders-append : (bs ds : List Border) → border_views (bs ++ ds) ≡ border_views bs ++ border_views ds
-borders-append bs ds = map-append (λ (z : Border). draft_views z.places.items) bs ds
+borders-append bs ds = map-append border_view bs ds
+
+pub joined_views-append : (bs ds : List Border) → joined (border_views (bs ++ ds)) ≡ joined (border_views bs) ++ joined (border_views ds)
+joined_views-append bs ds = ap joined (borders-append bs ds) ∙ joined-append (border_views bs) (border_views ds)
 
 pub parted : (ps xs ys : List DraftPlace) (i : ℕ) → xs ≡ take i ps → ys ≡ drop i ps → xs ++ ys ≡ ps
 parted ps xs ys i e f = (λ j. e j ++ f j) ∙ take-append-drop i ps
-
-pub places-append : (bs ds : List Border) → all_places (bs ++ ds) ≡ all_places bs ++ all_places ds
-places-append bs ds = flat_map-append (λ (b : Border). b.places.items) bs ds
-
--- the places of borders as they are seen
-pub joined_views : (bs : List Border) → joined (border_views bs) ≡ draft_views (all_places bs)
-joined_views [] = refl
-joined_views (b ∷ bs) = ap (λ (z : List PlaceView). draft_views b.places.items ++ z) (joined_views bs) ∙ sym (map-append draft_view b.places.items (all_places bs))
 
 -- parts of places as they are seen
 pub views_parted : (xs ys ps : List DraftPlace) → xs ++ ys ≡ ps → draft_views xs ++ draft_views ys ≡ draft_views ps
 views_parted xs ys ps e = sym (map-append draft_view xs ys) ∙ ap draft_views e
 
+-- ---- borders at the ends
+pub first_front : (bs : List Border) (b : Border) → IsFirstOpen (bs ++ b ∷ []) → IsFirstOpen bs
+first_front [] b h = tt
+first_front (c ∷ bs) b h = h
+
+pub first_then : (bs ds : List Border) → 1 ≤ length bs → IsFirstOpen bs → IsFirstOpen (bs ++ ds)
+first_then [] ds some h = absurd (omega arith)
+first_then (b ∷ bs) ds some h = h
+
+first_added : (bs : List Border) (b : Border) → (bs ≡ [] → IsOpen b) → IsFirstOpen bs → IsFirstOpen (bs ++ b ∷ [])
+first_added [] b alone h = alone refl
+first_added (c ∷ bs) b alone h = h
+
+pub last_open : (bs : List Border) (b : Border) → IsLastOpen (bs ++ b ∷ []) → IsOpen b
+last_open [] b h = h
+last_open (c ∷ []) b h = h
+last_open (c ∷ d ∷ bs) b h = last_open (d ∷ bs) b h
+
+pub popped_open : (all bs : List Border) (b : Border) → all ≡ bs ++ b ∷ [] → IsLastOpen all → IsOpen b
+popped_open all bs b e h = last_open bs b (subst IsLastOpen e h)
+
+last_added : (bs : List Border) (b : Border) → IsOpen b → IsLastOpen (bs ++ b ∷ [])
+last_added [] b h = h
+last_added (c ∷ []) b h = h
+last_added (c ∷ d ∷ bs) b h = last_added (d ∷ bs) b h
+
+pub last_then : (bs ds : List Border) → IsLastOpen bs → IsLastOpen ds → IsLastOpen (bs ++ ds)
+last_then [] ds h k = k
+last_then (b ∷ []) [] h k = h
+last_then (b ∷ []) (d ∷ ds) h k = k
+last_then (b ∷ c ∷ bs) ds h k = last_then (c ∷ bs) ds h k
+
+pub last_rest : (b : Border) (bs : List Border) → IsLastOpen (b ∷ bs) → IsLastOpen bs
+last_rest b [] h = tt
+last_rest b (c ∷ bs) h = h
+
 -- ---- borders put behind others
-pub put_none : (old : List Border) (places : List DraftPlace) → places ≡ [] → PutBehind places old old
-put_none old places e = record { more = []; behind = sym (append-nil old); same = sym e; lawful = (tt, tt, tt) }
+pub put_none : (old : List Border) (places : List DraftPlace) → places ≡ [] → PutOpen places old old
+put_none old places e = record {
+  put = record { more = []; behind = sym (append-nil old); same = sym (ap draft_views e); lawful = (tt, tt, tt); links = λ h. tt; first = λ h. h };
+  last = λ some. absurd (let none : length places ≡ 0 = ap (λ (z : List DraftPlace). length z) e in omega arith);
+  kept = λ h. h;
+}
 
 pub alone : (b : List PlaceView) → IsBorder b → IsLayer b → IsBorderList (b ∷ [])
 alone b h l = ((h, tt), (cut_nil b, tt), subst IsLayer (sym (append-nil b)) l)
 
-pub put_one : (old new : List Border) (b : Border) → new ≡ old ++ b ∷ [] → IsLayer (draft_views b.places.items) → 1 ≤ length b.places.items → length b.places.items ≤ 15 → PutBehind b.places.items old new
-put_one old new b e h some few =
-    let len = length-map b.places.items draft_view in
+pub put_border : (old new : List Border) (b : Border) (ps : List DraftPlace) → new ≡ old ++ b ∷ [] → border_view b ≡ draft_views ps → IsLayer (draft_views ps) → IsBorder (draft_views ps)
+    → (HaveLawfulLinks ps → HasLawfulLinks b) → (old ≡ [] → IsOpen b) → PutBehind ps old new
+put_border old new b ps e is h few links only = record {
+  more = b ∷ [];
+  behind = e;
+  same = append-nil (border_view b) ∙ is;
+  lawful = subst (λ (z : List PlaceView). IsBorderList (z ∷ [])) (sym is) (alone (draft_views ps) few h);
+  links = λ k. (links k, tt);
+  first = λ k. subst IsFirstOpen (sym e) (first_added old b only k);
+}
+
+pub put_one : (old new : List Border) (ps : Vec DraftPlace Global) → new ≡ old ++ Open ps ∷ [] → IsLayer (draft_views ps.items) → 1 ≤ length ps.items → length ps.items ≤ 15 → PutOpen ps.items old new
+put_one old new ps e h some few =
+    let len = length-map ps.items draft_view in
+    let last : IsLastOpen new = subst IsLastOpen (sym e) (last_added old (Open ps) tt) in
     record {
-      more = b ∷ [];
-      behind = e;
-      same = append-nil b.places.items;
-      lawful = alone (draft_views b.places.items) (omega arith, omega arith) h;
+      put = put_border old new (Open ps) ps.items e refl h (omega arith, omega arith) (λ k. k) (λ none. tt);
+      last = λ k. last;
+      kept = λ k. last;
     }
 
 pub put_then : (xs ys : List DraftPlace) (a b c : List Border) → PutBehind xs a b → PutBehind ys b c → CutAt (draft_views xs) (draft_views ys) → PutBehind (xs ++ ys) a c
 put_then xs ys a b c p q cut =
-    let front : joined (border_views p.more) ≡ draft_views xs = joined_views p.more ∙ ap draft_views p.same in
-    let back : joined (border_views q.more) ≡ draft_views ys = joined_views q.more ∙ ap draft_views q.same in
-    let apart : CutAt (joined (border_views p.more)) (joined (border_views q.more)) = subst (λ (z : List PlaceView). CutAt z (joined (border_views q.more))) (sym front) (subst (CutAt (draft_views xs)) (sym back) cut) in
+    let lawful : DraftPlace → Type 0 = λ x. IsLawfulLink x.content in
+    let apart : CutAt (joined (border_views p.more)) (joined (border_views q.more)) =
+    subst (λ (z : List PlaceView). CutAt z (joined (border_views q.more))) (sym p.same) (subst (CutAt (draft_views xs)) (sym q.same) cut) in
     record {
       more = p.more ++ q.more;
       behind = q.behind ∙ ap (λ (z : List Border). z ++ q.more) p.behind ∙ append_assoc a p.more q.more;
-      same = places-append p.more q.more ∙ (λ i. p.same i ++ q.same i);
+      same = joined_views-append p.more q.more ∙ (λ i. p.same i ++ q.same i) ∙ sym (map-append draft_view xs ys);
       lawful = subst IsBorderList (sym (borders-append p.more q.more)) (are_append (border_views p.more) (border_views q.more) p.lawful q.lawful (cut_each (border_views p.more) (joined (border_views q.more)) apart));
+      links = λ h. all_append HasLawfulLinks p.more q.more (p.links (all_front lawful xs ys h)) (q.links (all_back lawful xs ys h));
+      first = λ h. q.first (p.first h);
     }
+
+pub open_then : (xs ys : List DraftPlace) (a b c : List Border) → PutOpen xs a b → PutOpen ys b c → CutAt (draft_views xs) (draft_views ys) → PutOpen (xs ++ ys) a c
+open_then xs ys a b c p q cut = record {
+  put = put_then xs ys a b c p.put q.put cut;
+  last = λ some. by some (cases_lt 0 (length ys));
+  kept = λ h. q.kept (p.kept h);
+}
+  where
+    by : 1 ≤ length (xs ++ ys) → (0 < length ys) ⊎ (length ys ≤ 0) → IsLastOpen c
+    by some (inl more) = q.last more
+    by some (inr none) = q.kept (p.last (omega (arith, length-append xs ys)))
 
 -- ---- where a cut may stand
 cut_at : (s : ℕ) (xs ys : List PlaceView) → SlicesBelow s xs → SlicesFrom s ys → CutAt xs ys
@@ -124,8 +181,23 @@ sixteen s ps xs ys h many last e below from =
     let count : length xs + length ys ≡ 16 = sym (length-append xs ys) ∙ ap (λ (z : List PlaceView). length z) e ∙ many in
     record { whole = e; first = (layer_front 0 xs ys layer, omega arith); second = (layer_back 0 xs ys layer, omega arith); cut = cut_at s xs ys below from }
 
-pub put_halves : (all xs ys : List DraftPlace) (a b c : List Border) → xs ++ ys ≡ all → Halves (draft_views all) (draft_views xs) (draft_views ys) → PutBehind xs a b → PutBehind ys b c → PutBehind all a c
-put_halves all xs ys a b c e h p q = subst (λ (z : List DraftPlace). PutBehind z a c) e (put_then xs ys a b c p q h.cut)
+pub first_border : (all xs ys : List DraftPlace) → xs ++ ys ≡ all → length all ≡ 16 → Halves (draft_views all) (draft_views xs) (draft_views ys) → IsBorder (draft_views xs)
+first_border all xs ys e many h =
+    let most : length (draft_views ys) ≤ 15 = h.second.1 in
+    let count : length xs + length ys ≡ 16 = sym (length-append xs ys) ∙ ap (λ (z : List DraftPlace). length z) e ∙ many in
+    (omega (arith, most, length-map xs draft_view, length-map ys draft_view), h.first.1)
+
+pub put_halves : (all xs ys later : List DraftPlace) (a b c : List Border) → xs ++ ys ≡ all → length all ≡ 16 → Halves (draft_views all) (draft_views xs) (draft_views ys) → later ≡ ys → PutBehind xs a b → PutOpen later b c → PutOpen all a c
+put_halves all xs ys later a b c e many h same p put =
+    let q : PutOpen ys b c = subst (λ (z : List DraftPlace). PutOpen z b c) same put in
+    let most : length (draft_views xs) ≤ 15 = h.first.1 in
+    let count : length xs + length ys ≡ 16 = sym (length-append xs ys) ∙ ap (λ (z : List DraftPlace). length z) e ∙ many in
+    let last : IsLastOpen c = q.last (omega (arith, most, length-map xs draft_view)) in
+    record {
+      put = subst (λ (z : List DraftPlace). PutBehind z a c) e (put_then xs ys a b c p q.put h.cut);
+      last = λ some. last;
+      kept = λ k. last;
+    }
 
 few_below : (s : ℕ) (xs zs ls rs : List PlaceView) → xs ++ zs ≡ ls ++ rs → SlicesBelow s xs → SlicesFrom s rs → length xs ≤ length ls
 few_below s [] zs ls rs e below from = omega arith
@@ -195,11 +267,11 @@ thirds s next left right xs rest run ys h l r last first is e f below from_rest 
 
 -- and put behind borders in three
 pub put_thirds : (left right whole xs rest run ys : List DraftPlace) (a b c d : List Border) → whole ≡ left ++ right → xs ++ rest ≡ whole → run ++ ys ≡ rest → Thirds (draft_views left ++ draft_views right) (draft_views xs) (draft_views run) (draft_views ys)
-    → PutBehind xs a b → PutBehind run b c → PutBehind ys c d → PutBehind (left ++ right) a d
+    → PutOpen xs a b → PutOpen run b c → PutOpen ys c d → PutOpen (left ++ right) a d
 put_thirds left right whole xs rest run ys a b c d e f g t p q r =
     let is : xs ++ (run ++ ys) ≡ left ++ right = ap (λ (z : List DraftPlace). xs ++ z) g ∙ f ∙ e in
     let before : CutAt (draft_views xs) (draft_views (run ++ ys)) = subst (CutAt (draft_views xs)) (sym (map-append draft_view run ys)) t.before in
-    subst (λ (z : List DraftPlace). PutBehind z a d) is (put_then xs (run ++ ys) a b d p (put_then run ys b c d q r t.behind) before)
+    subst (λ (z : List DraftPlace). PutOpen z a d) is (open_then xs (run ++ ys) a b d p (open_then run ys b c d q r t.behind) before)
 
 -- ---- the slices at the ends
 last_slice_is : (xs : List DraftPlace) (x : DraftPlace) → 1 ≤ length xs → x ≡ get_or xs (length xs - 1) x → last_slice_of (draft_views xs) ≡ x.slice

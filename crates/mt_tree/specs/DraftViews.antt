@@ -1,10 +1,13 @@
 -- What contracts see of a stored layer.
-use Rattle.std.specs.Prelude.{ℕ, ◌≡◌, ⊤, List, [], ◌∷◌, ◌++◌, map}
+use Rattle.std.specs.Prelude.{ℕ, ◌≡◌, ◌≤◌, ⊤, List, [], ◌∷◌, ◌++◌, length, map}
 use Rattle.std.specs.List.{AllByRecursion, flat_map}
 use Rattle.mt_tree.specs.Layer.{PlaceView, short, long, link}
 use Rattle.mt_tree.specs.Borders.{DraftView, layer_walk, IsBorderList, AreBorders}
+use Rattle.mt_tree.specs.Nodes.{joined, each_borders, AreBelow}
+use Rattle.mt_tree.specs.NodeViews.{views, trees_of}
 use Rattle.mt_tree.specs.declared.layer.DraftPlace.{DraftPlace}
 use Rattle.mt_tree.specs.declared.layer.Border.{Border}
+use Rattle.mt_tree.specs.declared.layer.Border.TheVariants.{Open, Closed}
 use Rattle.mt_tree.specs.declared.layer.DraftContent.{DraftContent}
 use Rattle.mt_tree.specs.declared.layer.DraftContent.TheVariants.{Short, Suffix, Link}
 
@@ -19,8 +22,12 @@ draft_view p = draft_view_of p.slice p.content
 abbrev pub draft_views : List DraftPlace → List PlaceView
 draft_views = map draft_view
 
+abbrev pub border_view : Border → List PlaceView
+border_view (Open ps) = draft_views ps.items
+border_view (Closed ps) = views ps.items
+
 abbrev pub border_views : List Border → List (List PlaceView)
-border_views = map (λ b. draft_views b.places.items)
+border_views = map border_view
 
 -- the borders of the layers below a place's link, the linked one first
 abbrev pub layers_of_content : DraftContent → List (List (List PlaceView))
@@ -31,12 +38,12 @@ layers_of_content (Link l) = l.borders ∷ l.below
 abbrev pub layers_of : List DraftPlace → List (List (List PlaceView))
 layers_of = flat_map (λ p. layers_of_content p.content)
 
--- the places of these borders, in order
-abbrev pub all_places : List Border → List DraftPlace
-all_places = flat_map (λ b. b.places.items)
+abbrev pub layers_of_border : Border → List (List (List PlaceView))
+layers_of_border (Open ps) = layers_of ps.items
+layers_of_border (Closed ps) = each_borders (trees_of ps.items)
 
 abbrev pub draft_of : List Border → DraftView
-draft_of bs = record { borders = border_views bs; below = layers_of (all_places bs) }
+draft_of bs = record { borders = border_views bs; below = flat_map layers_of_border bs }
 
 -- a linked layer is lawful
 abbrev pub IsLawfulLink : DraftContent → Type 0
@@ -47,14 +54,49 @@ IsLawfulLink (Link l) = AreBorders l
 abbrev pub HaveLawfulLinks : List DraftPlace → Type 0
 HaveLawfulLinks = AllByRecursion (λ p. IsLawfulLink p.content)
 
--- the law of a stored layer: its borders are lawful, and so is each layer that its places link to
+-- the layers that a border's places link to are lawful
+abbrev pub HasLawfulLinks : Border → Type 0
+HasLawfulLinks (Open ps) = HaveLawfulLinks ps.items
+HasLawfulLinks (Closed ps) = AreBelow (views ps.items) (trees_of ps.items)
+
+abbrev pub IsOpen : Border → Type 0
+IsOpen (Open ps) = ⊤
+IsOpen (Closed ps) = ⊥
+
+-- an open border of these places
+abbrev pub IsOpened : Border → List DraftPlace → Type 0
+IsOpened (Open ps) xs = xs ≡ ps.items
+IsOpened (Closed ps) xs = ⊥
+
+-- the first border, if there is one, is open
+abbrev pub IsFirstOpen : List Border → Type 0
+IsFirstOpen [] = ⊤
+IsFirstOpen (b ∷ bs) = IsOpen b
+
+-- and the last
+abbrev pub IsLastOpen : List Border → Type 0
+IsLastOpen [] = ⊤
+IsLastOpen (b ∷ []) = IsOpen b
+IsLastOpen (b ∷ c ∷ bs) = IsLastOpen (c ∷ bs)
+
+-- the law of a stored layer: its borders are lawful, and so is each layer that its places link to; the first border and the last are open
 pub record IsStored (bs : List Border) : Type 0 where
   pub own : IsBorderList (border_views bs)
-  pub links : HaveLawfulLinks (all_places bs)
+  pub links : AllByRecursion HasLawfulLinks bs
+  pub first : IsFirstOpen bs
+  pub last : IsLastOpen bs
 
--- behind the borders stand more, of these places
+-- behind the borders stand more, of these places; where the first was open, it is
 pub record PutBehind (places : List DraftPlace) (old new : List Border) : Type 0 where
   pub more : List Border
   pub behind : new ≡ old ++ more
-  pub same : all_places more ≡ places
+  pub same : joined (border_views more) ≡ draft_views places
   pub lawful : IsBorderList (border_views more)
+  pub links : HaveLawfulLinks places → AllByRecursion HasLawfulLinks more
+  pub first : IsFirstOpen old → IsFirstOpen new
+
+-- likewise, and the last border is open: one of these places, or where there are none, if it was
+pub record PutOpen (places : List DraftPlace) (old new : List Border) : Type 0 where
+  pub put : PutBehind places old new
+  pub last : 1 ≤ length places → IsLastOpen new
+  pub kept : IsLastOpen old → IsLastOpen new

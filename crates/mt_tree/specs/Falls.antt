@@ -4,10 +4,11 @@ use Rattle.std.proofs.Common.{arith, ap, length-append, refl, sym, ◌∙◌, ap
 use denote.Param.Weighed.{most}
 use Rattle.mt_tree.specs.Layer.{PlaceView, pairs_at, walk, weight, put_before, IsLayerFrom, IsPlace, rank_at}
 use Rattle.mt_words.specs.Walks.{Pair}
-use Rattle.mt_tree.specs.DraftViews.{draft_views, draft_view, draft_view_of, border_views}
+use Rattle.mt_tree.specs.DraftViews.{draft_views, draft_view, draft_view_of, border_view, border_views}
 use Rattle.mt_tree.specs.Borders.{layer_walk, borders_walk}
 use Rattle.mt_tree.specs.Nodes.{joined}
 use Rattle.mt_tree.specs.declared.layer.Border.{Border}
+use Rattle.mt_tree.specs.declared.layer.Border.TheVariants.{Open, Closed}
 use Rattle.mt_tree.specs.declared.layer.DraftPlace.{DraftPlace}
 use Rattle.mt_tree.specs.declared.layer.DraftContent.{DraftContent}
 use Rattle.mt_tree.specs.declared.layer.DraftContent.TheVariants.{Short, Suffix, Link}
@@ -52,10 +53,15 @@ pub layer_back : (low : ℕ) (xs ys : List PlaceView) → IsLayerFrom low (xs ++
 layer_back low [] ys h = h
 layer_back low (x ∷ xs) ys h = let from : low ≤ rank_at x = h.1 in layer_weaker (suc (rank_at x)) low ys (omega arith) (layer_back (suc (rank_at x)) xs ys h.2)
 
+-- a closed border holds nodes, which are no drafts
+border_falls : (b : Border) → IsLayerFrom 0 (border_view b) → deep-Border b ≤ weight (walk (border_view b))
+border_falls (Open ps) h = omega (arith, places_fall 0 ps.items h)
+border_falls (Closed ps) h = omega arith
+
 pub borders_fall : (bs : List Border) → IsLayerFrom 0 (joined (border_views bs)) → most deep-Border bs ≤ weight (borders_walk (border_views bs))
 borders_fall [] h = omega arith
 borders_fall (b ∷ bs) h =
-    let here = draft_views b.places.items in
+    let here = border_view b in
     let later = joined (border_views bs) in
     let whole = ap weight (walk-append here later) in
-    omega (arith, places_fall 0 b.places.items (layer_front 0 here later h), borders_fall bs (layer_back 0 here later h), whole, weight-append (walk here) (walk later))
+    omega (arith, border_falls b (layer_front 0 here later h), borders_fall bs (layer_back 0 here later h), whole, weight-append (walk here) (walk later))

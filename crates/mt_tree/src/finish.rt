@@ -2,8 +2,8 @@
 ghost use Rattle.std.specs.Prelude.{◌≡◌, ◌≢◌, MatchBool, ◌<◌, ◌≤◌, ◌+◌, ◌++◌, ◌∷◌, [], suc, List, length, IfOk};
 ghost use Rattle.mt_tree.specs.Layer.{PlaceView, IsLayer, IsPlace};
 ghost use Rattle.mt_tree.specs.Nodes.{places, joined, borders_of, below_of, each_borders, level_height, IsNode, IsNodeAt, IsLevel, IsLevelAt, IsBorder, border_tree, AreBelow, first_of, parent_node};
-ghost use Rattle.mt_tree.specs.DraftViews.{draft_view, draft_views, layers_of, layers_of_content};
-ghost use Rattle.mt_tree.specs.NodeViews.{views, view_of, trees_of_content};
+ghost use Rattle.mt_tree.specs.DraftViews.{draft_view, draft_views, border_view, layers_of, layers_of_border, layers_of_content, HasLawfulLinks};
+ghost use Rattle.mt_tree.specs.NodeViews.{views, view_of, trees_of, trees_of_content};
 
 use crate::layer::{Border, DraftContent, DraftPlace, Layer};
 use crate::node::{Content, Node, NodeKind, Place};
@@ -96,20 +96,36 @@ pub(crate) fn finish(alloc: Global, layer: Layer) -> Result<Node, Memory>
 
 #[cycle(finish)]
 fn finish_border(alloc: Global, border: Border) -> Result<Node, Memory>
-    requires some { IsBorder (draft_views border.places.items) }
-    requires lawful { IsLayer (draft_views border.places.items) }
-    ensures same { IfOk result (λ node. node.tree ≡ border_tree (draft_views border.places.items)) }
-    ensures below { IfOk result (λ node. each_borders node.below ≡ layers_of border.places.items) }
+    requires some { IsBorder (border_view border) }
+    requires lawful { IsLayer (border_view border) }
+    requires links { HasLawfulLinks border }
+    ensures same { IfOk result (λ node. node.tree ≡ border_tree (border_view border)) }
+    ensures below { IfOk result (λ node. each_borders node.below ≡ layers_of_border border) }
     ensures lawful { IfOk result (λ node. IsNode node) }
 {
-    let mut all = Vec::with_capacity(alloc, border.places.len())?;
-    for place in border.places {
-        let finished = finish_place(alloc, place)?;
-        all.push(finished)?;
-    }
+    let places = match border {
+        Border::Open(places) => close(alloc, places)?,
+        Border::Closed(places) => places,
+    };
     Ok(Node {
-        kind: NodeKind::Border(all),
+        kind: NodeKind::Border(places),
     })
+}
+
+/// These places, with all that lies below them finished.
+#[cycle(finish)]
+pub(crate) fn close(alloc: Global, places: Vec<DraftPlace>) -> Result<Vec<Place>, Memory>
+    requires { IsLayer (draft_views places.items) }
+    ensures same { IfOk result (λ closed. views closed.items ≡ draft_views places.items) }
+    ensures layers { IfOk result (λ closed. each_borders (trees_of closed.items) ≡ layers_of places.items) }
+    ensures below { IfOk result (λ closed. AreBelow (views closed.items) (trees_of closed.items)) }
+{
+    let mut closed = Vec::with_capacity(alloc, places.len())?;
+    for place in places {
+        let finished = finish_place(alloc, place)?;
+        closed.push(finished)?;
+    }
+    Ok(closed)
 }
 
 #[cycle(finish)]

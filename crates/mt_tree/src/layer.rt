@@ -1,11 +1,14 @@
 //! A layer under construction: a list of borders, each of them a list of places.
 ghost use Rattle.std.specs.Prelude.{◌≡◌, ◌≤◌, ◌+◌, MatchBool, ◌<◌, ◌++◌, ◌∷◌, ◌↔◌, [], length, take, drop, IfOk, OnOk, IsTrue};
 ghost use Rattle.mt_tree.specs.Layer.{IsLayer, walk, pairs_at, put_before, length_at, IsPlace, HasNoEmptyKey, AllKeysBelow, Meet};
-ghost use Rattle.mt_tree.specs.DraftViews.{draft_view, draft_views, IsLawfulLink, HaveLawfulLinks, PutBehind};
+ghost use Rattle.mt_tree.specs.DraftViews.{draft_view, draft_views, IsLawfulLink, HaveLawfulLinks, IsOpen, IsOpened, PutBehind, PutOpen};
 ghost use Rattle.mt_tree.specs.Nodes.{IsBorder, SlicesBelow, SlicesFrom, first_slice_of};
 ghost use Rattle.mt_tree.specs.Borders.{AreBorders, empty_draft, layer_walk, SameEnds, last_slice_of};
+ghost use Rattle.mt_tree.specs.declared.layer.Border.TheVariants.{Open};
 ghost use Rattle.mt_words.specs.Slices.{slice_bytes};
 
+use crate::finish::close;
+use crate::node::Place;
 use mt_words::{Columns, Kept, Memory, slice_of};
 use std::alloc::Global;
 use std::marker::Model;
@@ -19,8 +22,11 @@ pub(crate) struct Layer {
 /// One to fifteen places: all places of each of its slices.
 #[cycle(layer)]
 #[derive(Drop)]
-pub(crate) struct Border {
-    pub(crate) places: Vec<DraftPlace>,
+pub(crate) enum Border {
+    /// A push or a join may still change it. The first border of a layer is open, and the last.
+    Open(Vec<DraftPlace>),
+    /// All that lies below its places is finished.
+    Closed(Vec<Place>),
 }
 
 #[cycle(layer)]
@@ -56,6 +62,30 @@ impl Model for Layer {
     ghost use Rattle.mt_tree.specs.Falls.{borders_fall};
 
     ghost size_decreases = { λ a h. omega (arith, borders_fall a.borders.items h.own.2) };
+}
+
+impl Border {
+    /// The places of an open border.
+    pub(crate) fn places(&self) -> &[DraftPlace]
+        requires { IsOpen self.now }
+        ensures { IsOpened self.now result.now }
+    {
+        match self {
+            Border::Open(places) => places,
+            Border::Closed(_) => unreachable!(),
+        }
+    }
+
+    /// Likewise, where the border is used up.
+    fn into_places(self) -> Vec<DraftPlace>
+        requires { IsOpen self }
+        ensures { self ≡ Open result }
+    {
+        match self {
+            Border::Open(places) => places,
+            Border::Closed(_) => unreachable!(),
+        }
+    }
 }
 
 /// The place of a lone key.
@@ -176,27 +206,48 @@ fn split_before(places: &mut Vec<DraftPlace>, slice: u64) -> Result<Vec<DraftPla
 fn push_border(borders: &mut Vec<Border>, places: Vec<DraftPlace>) -> Result<(), Memory>
     requires lawful { IsLayer (draft_views places.items) }
     requires few { length places.items ≤ 15 }
-    ensures { OnOk result (PutBehind places.items borders.old.items borders.new.items) }
+    ensures { OnOk result (PutOpen places.items borders.old.items borders.new.items) }
 {
     if places.is_empty() {
         return Ok(());
     }
-    borders.push(Border { places })?;
+    borders.push(Border::Open(places))?;
     Ok(())
 }
 
-/// Puts up to 16 places behind the borders. Sixteen are cut before the last slice, of which there are at most ten.
-fn push_cut(borders: &mut Vec<Border>, places: Vec<DraftPlace>) -> Result<(), Memory>
+/// Puts these places behind the borders, where further ones follow: closed, unless they are the first.
+fn push_closed(
+    alloc: Global,
+    borders: &mut Vec<Border>,
+    places: Vec<DraftPlace>,
+) -> Result<(), Memory>
+    requires lawful { IsLayer (draft_views places.items) }
+    requires some { IsBorder (draft_views places.items) }
+    ensures { OnOk result (PutBehind places.items borders.old.items borders.new.items) }
+{
+    let border = if borders.is_empty() {
+        Border::Open(places)
+    } else {
+        Border::Closed(close(alloc, places)?)
+    };
+    borders.push(border)?;
+    Ok(())
+}
+
+/// Puts up to 16 places behind the borders. Sixteen are cut before the last slice, of which there are at most ten; no
+/// push changes those before the cut any more.
+fn push_cut(alloc: Global, borders: &mut Vec<Border>, places: Vec<DraftPlace>) -> Result<(), Memory>
     requires lawful { IsLayer (draft_views places.items) }
     requires some { 1 ≤ length places.items }
     requires most { length places.items ≤ 16 }
-    ensures { OnOk result (PutBehind places.items borders.old.items borders.new.items) }
+    ensures { OnOk result (PutOpen places.items borders.old.items borders.new.items) }
 {
     let mut places = places;
     if places.len() > 15 {
         let slice = places[places.len() - 1].slice;
-        let last = split_before(&mut places, slice)?;
-        push_border(borders, places)?;
+        let mut last = split_before(&mut places, slice)?;
+        push_closed(alloc, borders, places)?;
+        last.reserve(15)?;
         return push_border(borders, last);
     }
     push_border(borders, places)
@@ -252,7 +303,7 @@ fn push_around(
     requires left_some { IsBorder (draft_views left.items) }
     requires right_some { IsBorder (draft_views right.items) }
     requires met { last_slice_of (draft_views left.items) ≡ first_slice_of (draft_views right.items) }
-    ensures { OnOk result (PutBehind (left.items ++ right.items) borders.old.items borders.new.items) }
+    ensures { OnOk result (PutOpen (left.items ++ right.items) borders.old.items borders.new.items) }
 {
     let mut places = left;
     let mut right = right;
@@ -275,7 +326,7 @@ fn push_both(
     requires lawful { IsLayer (draft_views left.items ++ draft_views right.items) }
     requires some { IsBorder (draft_views left.items) }
     requires few { length right.items ≤ 15 }
-    ensures { OnOk result (PutBehind (left.items ++ right.items) borders.old.items borders.new.items) }
+    ensures { OnOk result (PutOpen (left.items ++ right.items) borders.old.items borders.new.items) }
 {
     let mut left = left;
     let mut right = right;
@@ -318,7 +369,7 @@ impl Layer {
         let mut places = Vec::with_capacity(alloc, 2)?;
         places.push(place)?;
         let mut borders = Vec::with_capacity(alloc, 1)?;
-        borders.push(Border { places })?;
+        borders.push(Border::Open(places))?;
         Ok(Layer { borders })
     }
 
@@ -354,7 +405,7 @@ impl Layer {
             return Ok(Layer { borders });
         }
         let first = rest.remove(0);
-        let (last, first) = meet(alloc, last.places, first.places)?;
+        let (last, first) = meet(alloc, last.into_places(), first.into_places())?;
         push_both(&mut borders, last, first)?;
         borders.append(&mut rest)?;
         Ok(Layer { borders })
@@ -376,8 +427,8 @@ impl Layer {
         let Some(last) = borders.pop() else {
             return Layer::single(alloc, key, columns);
         };
-        let places = follow(alloc, last.places, key, columns)?;
-        push_cut(&mut borders, places)?;
+        let places = follow(alloc, last.into_places(), key, columns)?;
+        push_cut(alloc, &mut borders, places)?;
         Ok(Layer { borders })
     }
 }

@@ -66,7 +66,7 @@ fn last_edge<'a>(side: Side<'a>) -> Option<Edge<'a>>
         Side::Lone(key, columns) => Some(edge_of_pair(key, columns)),
         Side::Whole(layer) => {
             let border = layer.borders.last()?;
-            let place = border.places.last()?;
+            let place = border.places().last()?;
             Some(edge_of_place(place))
         }
     }
@@ -80,7 +80,7 @@ fn first_edge<'a>(side: Side<'a>) -> Option<Edge<'a>>
         Side::Lone(key, columns) => Some(edge_of_pair(key, columns)),
         Side::Whole(layer) => {
             let border = layer.borders.first()?;
-            let place = border.places.first()?;
+            let place = border.places().first()?;
             Some(edge_of_place(place))
         }
     }

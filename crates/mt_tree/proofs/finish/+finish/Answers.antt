@@ -3,18 +3,18 @@ use Rattle.std.proofs.lemmas.List.{append-nil, map-append, nil_from_length}
 use Rattle.std.specs.Vec.Iter.{into_iter_items}
 use Rattle.mt_tree.specs.Layer.{PlaceView, link, IsPlace, weight, walk, pairs_at}
 use Rattle.mt_tree.specs.Borders.{DraftView, IsBorderList, layer_walk}
-use Rattle.mt_tree.specs.DraftViews.{draft_view, draft_views, draft_view_of, border_views, layers_of, layers_of_content}
+use Rattle.mt_tree.specs.DraftViews.{draft_view, draft_views, draft_view_of, border_view, border_views, layers_of_border, layers_of_content, HasLawfulLinks}
 use Rattle.mt_tree.specs.declared.layer.DraftContent.{DraftContent}
 use Rattle.mt_tree.specs.declared.layer.DraftPlace.{DraftPlace}
 use Rattle.mt_tree.specs.declared.node.Place.{Place}
-use Rattle.mt_tree.specs.NodeViews.{views, view_of, trees_of_content}
+use Rattle.mt_tree.specs.NodeViews.{views, view_of, trees_of, trees_of_content}
 use Rattle.mt_tree.proofs.Levels.{place_weight, place_lawful, link_lighter}
 use Rattle.std.specs.List.{AllByRecursion, flat_map}
 use Rattle.std.proofs.lemmas.Result.{IfOk-weaker}
-use Rattle.mt_tree.specs.declared.layer.Border.{Border}
-use Rattle.mt_tree.specs.Nodes.{NodeView, IsNodeAt, borders_of, below_of, each_borders}
-use Rattle.mt_tree.proofs.Ends.{middle, link_some, border_done, below_push, carried, all_carried, each_flat, layers_flat}
+use Rattle.mt_tree.specs.Nodes.{NodeView, IsNodeAt, AreBelow, borders_of, below_of, each_borders}
+use Rattle.mt_tree.proofs.Ends.{middle, link_some, border_done, below_push, carried, all_carried, each_flat}
 use Rattle.mt_tree.proofs.finish.+finish.Goals as goal
+use Rattle.mt_tree.proofs.finish.+finish.Goals.{finish_border-in-Open+in_ok-places-in-Open, finish_border-in-Closed}
 
 pub finish-loop-border-init : goal.finish-loop-border-init
 finish-loop-border-init t c =
@@ -22,8 +22,9 @@ finish-loop-border-init t c =
     let given : into_iter_items c.into_iter-border-iterator.result ≡ c.layer.inside.borders.items = search rules in
     record {
       whole = (λ i. borders_of (none i) ++ border_views (given i)) ∙ ap (λ (d : DraftView). d.borders) c.layer.view_is;
-      layers = (λ i. flat_map (λ (n : NodeView). each_borders n.below) (none i) ++ flat_map (λ (b : Border). layers_of b.places.items) (given i)) ∙ layers_flat c.layer.inside.borders.items ∙ ap (λ (d : DraftView). d.below) c.layer.view_is;
+      layers = (λ i. flat_map (λ (n : NodeView). each_borders n.below) (none i) ++ flat_map layers_of_border (given i)) ∙ ap (λ (d : DraftView). d.below) c.layer.view_is;
       nodes = subst (AllByRecursion (IsNodeAt 0)) (sym none) tt;
+      links = subst (AllByRecursion HasLawfulLinks) (sym given) c.layer.invariant.links;
     }
 
 pub finish-returns-clause-below : goal.finish-returns-clause-below
@@ -31,38 +32,60 @@ finish-returns-clause-below t c =
     let none : into_iter_items c.loop-border.border-iterator ≡ [] = nil_from_length (into_iter_items c.loop-border.border-iterator) (omega (arith, c.in-None.ensures.steps.0)) in
     let nodes = c.loop-border.nodes.items in
     let layers : each_borders (below_of nodes) ≡ c.args.layer.below =
-    sym (each_flat (λ (n : NodeView). n.below) nodes) ∙ all_carried (λ (n : NodeView). each_borders n.below) (λ (b : Border). layers_of b.places.items) nodes _ _ c.loop-border.invariant.layers none in
+    sym (each_flat (λ (n : NodeView). n.below) nodes) ∙ all_carried (λ (n : NodeView). each_borders n.below) layers_of_border nodes _ _ c.loop-border.invariant.layers none in
     IfOk-weaker c.stack.result _ _ (λ node is. ap each_borders is ∙ layers) c.stack.ensures.below
 
-pub finish_border-returns-clause-below : goal.finish_border-returns-clause-below
-finish_border-returns-clause-below t c =
+pub close-returns-clause-layers : goal.close-returns-clause-layers
+close-returns-clause-layers t c =
     let none : into_iter_items c.loop-place.place-iterator ≡ [] = nil_from_length (into_iter_items c.loop-place.place-iterator) (omega (arith, c.in-None.ensures.steps.0)) in
-    sym (each_flat (λ (p : Place). trees_of_content p.content) c.loop-place.all.items)
-    ∙ all_carried (λ (p : Place). each_borders (trees_of_content p.content)) (λ (p : DraftPlace). layers_of_content p.content) c.loop-place.all.items _ _ c.loop-place.invariant.layers none
+    sym (each_flat (λ (p : Place). trees_of_content p.content) c.loop-place.closed.items)
+    ∙ all_carried (λ (p : Place). each_borders (trees_of_content p.content)) (λ (p : DraftPlace). layers_of_content p.content) c.loop-place.closed.items _ _ c.loop-place.invariant.layers none
 
 pub finish-finish_border-requires : goal.finish-finish_border-requires
 finish-finish_border-requires t c =
-    let m = middle _ _ _ c.args.layer.borders (draft_views c.in-Some.border.places.items) c.loop-border.invariant.whole (ap border_views c.in-Some.ensures.steps.0) (subst IsBorderList (ap (λ (d : DraftView). d.borders) c.layer.view_is) c.layer.invariant.own) in
-    (omega (arith, m.light, c.decreases), (m.border, m.layer))
+    let m = middle _ _ _ c.args.layer.borders (border_view c.in-Some.border) c.loop-border.invariant.whole (ap border_views c.in-Some.ensures.steps.0) (subst IsBorderList (ap (λ (d : DraftView). d.borders) c.layer.view_is) c.layer.invariant.own) in
+    let links = subst (AllByRecursion HasLawfulLinks) c.in-Some.ensures.steps.0 c.loop-border.invariant.links in
+    (omega (arith, m.light, c.decreases), (m.border, (m.layer, links.0)))
 
-pub finish_border-finish_place-requires : goal.finish_border-finish_place-requires
-finish_border-finish_place-requires t c =
+pub close-finish_place-requires : goal.close-finish_place-requires
+close-finish_place-requires t c =
     let next = ap draft_views c.in-Some.ensures.steps.0 in
-    let light : weight (pairs_at (draft_view c.in-Some.place)) ≤ weight (walk (draft_views c.args.border.places.items)) = place_weight _ _ (draft_views c.args.border.places.items) (draft_view c.in-Some.place) _ c.loop-place.invariant.same next in
-    (omega (arith, light, c.decreases), place_lawful _ _ (draft_views c.args.border.places.items) (draft_view c.in-Some.place) _ c.loop-place.invariant.same next c.requires.lawful)
+    let light : weight (pairs_at (draft_view c.in-Some.place)) ≤ weight (walk (draft_views c.args.places.items)) = place_weight _ _ (draft_views c.args.places.items) (draft_view c.in-Some.place) _ c.loop-place.invariant.same next in
+    (omega (arith, light, c.decreases), place_lawful _ _ (draft_views c.args.places.items) (draft_view c.in-Some.place) _ c.loop-place.invariant.same next c.requires)
 
-all_done : (views_so left_views all : List PlaceView) (left : List DraftPlace) → views_so ++ draft_views left ≡ all → left ≡ [] → views_so ≡ all
-all_done views_so left_views all left e f = sym (append-nil views_so) ∙ ap (λ (z : List DraftPlace). views_so ++ draft_views z) (sym f) ∙ e
+all_done : (views_so all : List PlaceView) (left : List DraftPlace) → views_so ++ draft_views left ≡ all → left ≡ [] → views_so ≡ all
+all_done views_so all left e f = sym (append-nil views_so) ∙ ap (λ (z : List DraftPlace). views_so ++ draft_views z) (sym f) ∙ e
+
+pub close-returns-clause-same : goal.close-returns-clause-same
+close-returns-clause-same t c =
+    let none : into_iter_items c.loop-place.place-iterator ≡ [] = nil_from_length (into_iter_items c.loop-place.place-iterator) (omega (arith, c.in-None.ensures.steps.0)) in
+    all_done _ _ _ c.loop-place.invariant.same none
 
 pub finish_border-invariant_of-result : goal.finish_border-invariant_of-result
 finish_border-invariant_of-result t c =
-    let none : into_iter_items c.loop-place.place-iterator ≡ [] = nil_from_length (into_iter_items c.loop-place.place-iterator) (omega (arith, c.in-None.ensures.steps.0)) in
-    border_done _ (draft_views c.args.border.places.items) (all_done _ [] _ _ c.loop-place.invariant.same none) c.requires.some c.requires.lawful c.loop-place.invariant.below
+    elim c.match-border.branch [
+      | finish_border-in-Open+in_ok-places-in-Open w ↦
+          let is = ap (λ v. v.items) w.places-is in
+          let same : views c.match-border.places.items ≡ border_view c.args.border = ap views is ∙ w.in_ok-places-in-Open.ensures.same ∙ sym (ap border_view w.in-Open.is) in
+          border_done _ (border_view c.args.border) same c.requires.some c.requires.lawful (subst (λ (z : List Place). AreBelow (views z) (trees_of z)) (sym is) w.in_ok-places-in-Open.ensures.below)
+      | finish_border-in-Closed w ↦
+          let is = ap (λ v. v.items) w.places-is in
+          let links : AreBelow (views w.in-Closed.places.items) (trees_of w.in-Closed.places.items) = subst HasLawfulLinks w.in-Closed.is c.requires.links in
+          border_done _ (border_view c.args.border) (ap views is ∙ sym (ap border_view w.in-Closed.is)) c.requires.some c.requires.lawful (subst (λ (z : List Place). AreBelow (views z) (trees_of z)) (sym is) links)
+    ]
 
 pub finish_border-returns-clause-lawful : goal.finish_border-returns-clause-lawful
 finish_border-returns-clause-lawful t c =
-    let none : into_iter_items c.loop-place.place-iterator ≡ [] = nil_from_length (into_iter_items c.loop-place.place-iterator) (omega (arith, c.in-None.ensures.steps.0)) in
-    border_done _ (draft_views c.args.border.places.items) (all_done _ [] _ _ c.loop-place.invariant.same none) c.requires.some c.requires.lawful c.loop-place.invariant.below
+    elim c.match-border.branch [
+      | finish_border-in-Open+in_ok-places-in-Open w ↦
+          let is = ap (λ v. v.items) w.places-is in
+          let same : views c.match-border.places.items ≡ border_view c.args.border = ap views is ∙ w.in_ok-places-in-Open.ensures.same ∙ sym (ap border_view w.in-Open.is) in
+          border_done _ (border_view c.args.border) same c.requires.some c.requires.lawful (subst (λ (z : List Place). AreBelow (views z) (trees_of z)) (sym is) w.in_ok-places-in-Open.ensures.below)
+      | finish_border-in-Closed w ↦
+          let is = ap (λ v. v.items) w.places-is in
+          let links : AreBelow (views w.in-Closed.places.items) (trees_of w.in-Closed.places.items) = subst HasLawfulLinks w.in-Closed.is c.requires.links in
+          border_done _ (border_view c.args.border) (ap views is ∙ sym (ap border_view w.in-Closed.is)) c.requires.some c.requires.lawful (subst (λ (z : List Place). AreBelow (views z) (trees_of z)) (sym is) links)
+    ]
 
 pub finish_place-finish-requires : goal.finish_place-finish-requires
 finish_place-finish-requires t c =
@@ -80,8 +103,8 @@ place_moved xs ys left next d p all e f g h =
     ∙ ap (λ (z : List DraftPlace). views xs ++ draft_views z) (sym f)
     ∙ e
 
-pub finish_border-loop-place-preserved : goal.finish_border-loop-place-preserved
-finish_border-loop-place-preserved t c = record {
+pub close-loop-place-preserved : goal.close-loop-place-preserved
+close-loop-place-preserved t c = record {
   same = place_moved _ _ _ _ _ _ _ c.loop-place.invariant.same c.in-Some.ensures.steps.0 c.in_ok-finished.ensures.same c.in_ok-push.ensures.items;
   layers = carried (λ (p : Place). each_borders (trees_of_content p.content)) (λ (p : DraftPlace). layers_of_content p.content) _ _ _ _ _ _ _ c.loop-place.invariant.layers c.in-Some.ensures.steps.0 c.in_ok-finished.ensures.layers c.in_ok-push.ensures.items;
   below = below_push _ _ _ c.loop-place.invariant.below c.in_ok-finished.ensures.below c.in_ok-push.ensures.items;

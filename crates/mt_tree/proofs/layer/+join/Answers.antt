@@ -1,4 +1,4 @@
-use Rattle.std.proofs.Common.{◌≡◌, ◌≤◌, ◌<◌, length, List, refl, ap, sym, subst, ◌∙◌, arith, rules}
+use Rattle.std.proofs.Common.{◌≡◌, ◌≤◌, ◌<◌, ◌++◌, length, length-append, List, refl, ap, sym, subst, ◌∙◌, arith, rules}
 use Rattle.std.proofs.lemmas.List.{length-map}
 use Rattle.mt_words.specs.Slices.{slice_bytes}
 use Rattle.mt_words.proofs.SliceBytes.{slice_bytes-length}
@@ -6,10 +6,12 @@ use Rattle.mt_tree.specs.Layer.{walk, weight, pairs_at, Meet}
 use Rattle.mt_words.specs.Walks.{Pair}
 use Rattle.mt_tree.specs.Borders.{layer_walk}
 use Rattle.mt_tree.specs.Nodes.{IsBorder}
-use Rattle.mt_tree.specs.DraftViews.{draft_view, draft_views, IsStored}
+use Rattle.mt_tree.specs.DraftViews.{draft_view, draft_views, IsFirstOpen, IsStored}
 use Rattle.mt_tree.specs.declared.layer.DraftPlace.{DraftPlace}
 use Rattle.mt_tree.proofs.Joins.{first_removed, last_lawful, below_at_seam, apart_layer, merged_layer, last_weight, below_lighter, below_shared, Merging, merged_lawful, merged_rank, same_slice}
-use Rattle.mt_tree.proofs.Meets.{seam_of, same_first, glued_layer, ends_kept, ends_merged, sides, left_layer, right_layer, last_border, seam_put, seam_walk}
+use Rattle.mt_tree.proofs.Meets.{open_first, seam_of, same_first, glued_layer, ends_kept, ends_merged, sides, left_layer, right_layer, last_border, seam_put, seam_walk}
+use Rattle.mt_tree.proofs.Behind.{open_end}
+use Rattle.mt_tree.proofs.Puts.{popped_open}
 use Rattle.mt_tree.proofs.Links.{stored_are, links_parted, links_first, seam_stored, links_merged, links_kept}
 use Rattle.mt_tree.proofs.layer.+join.Goals as goal
 use Rattle.mt_tree.proofs.layer.+join.Goals.{meet-then-meets+in_ok-upper+in_ok-lower+in_ok-joined+in_ok-push, meet-else-meets+in_ok-push-2}
@@ -32,20 +34,28 @@ meet-join-requires t c =
     let left = ap (λ (z : List DraftPlace). weight (walk (draft_views z))) c.in-Some.ensures.items in
     (omega (arith, left, heavy, light, c.decreases), below_shared _ _ _ _ meet c.in_ok-upper.ensures.pairs c.in_ok-lower.ensures.pairs (below_at_seam _ _ _ _ s))
 
+pub Layer::join-into_places-requires : goal.Layer::join-into_places-requires
+Layer::join-into_places-requires t c = popped_open _ _ _ c.in-Some.ensures.items c.left.invariant.last
+
+pub Layer::join-into_places-requires-2 : goal.Layer::join-into_places-requires-2
+Layer::join-into_places-requires-2 t c =
+    let some : 0 < length c.right.inside.borders.items = search rules in
+    subst IsFirstOpen (first_removed _ _ _ some c.remove-first.ensures.value c.remove-first.ensures.items) c.right.invariant.first
+
 pub Layer::join-meet-requires : goal.Layer::join-meet-requires
 Layer::join-meet-requires t c =
     let some : 0 < length c.right.inside.borders.items = search rules in
-    let s = sides _ _ _ _ _ _ _ _ c.left.view_is c.right.view_is c.left.invariant c.right.invariant c.requires c.in-Some.ensures.items some c.remove-first.ensures.value c.remove-first.ensures.items in
-    let l_some : 1 ≤ length (draft_views c.in-Some.last.places.items) = (last_border _ _ _ _ _ s).0 in
-    let f_some : 1 ≤ length (draft_views c.remove-first.result.places.items) = s.right.0.0.0 in (
+    let s = sides _ _ _ _ _ _ _ _ c.left.view_is c.right.view_is c.left.invariant c.right.invariant c.requires (open_end _ _ _ _ c.in-Some.ensures.items c.into_places.ensures) (open_first _ _ _ _ some c.remove-first.ensures.value c.remove-first.ensures.items c.into_places-2.ensures) in
+    let l_some : 1 ≤ length (draft_views c.into_places.result.items) = (last_border _ _ _ _ _ s).0 in
+    let f_some : 1 ≤ length (draft_views c.into_places-2.result.items) = s.right.0.0.0 in (
       omega (arith, s.light, c.decreases),
       (
         left_layer _ _ _ _ _ s,
         (
           right_layer _ _ _ _ _ s,
           (
-            (omega (arith, length-map c.in-Some.last.places.items draft_view), omega (arith, length-map c.remove-first.result.places.items draft_view)),
-            (((links_parted _ _ _ c.left.invariant.links c.in-Some.ensures.items).1, (links_first _ _ _ c.right.invariant.links (first_removed _ _ _ some c.remove-first.ensures.value c.remove-first.ensures.items)).0), s.below),
+            (omega (arith, length-map c.into_places.result.items draft_view), omega (arith, length-map c.into_places-2.result.items draft_view)),
+            (((links_parted _ _ _ c.left.invariant.links (open_end _ _ _ _ c.in-Some.ensures.items c.into_places.ensures)).1, (links_first _ _ _ c.right.invariant.links (open_first _ _ _ _ some c.remove-first.ensures.value c.remove-first.ensures.items c.into_places-2.ensures)).0), s.below),
           ),
         ),
       ),
@@ -92,30 +102,34 @@ meet-returns-clause-slices t c =
 pub Layer::join-push_both-requires-clause-some : goal.Layer::join-push_both-requires-clause-some
 Layer::join-push_both-requires-clause-some t c =
     let some : 0 < length c.right.inside.borders.items = search rules in
-    let s = sides _ _ _ _ _ _ _ _ c.left.view_is c.right.view_is c.left.invariant c.right.invariant c.requires c.in-Some.ensures.items some c.remove-first.ensures.value c.remove-first.ensures.items in
-    let b : IsBorder (draft_views c.in-Some.last.places.items) = last_border _ _ _ _ _ s in
-    let low : 1 ≤ length (draft_views c.in-Some.last.places.items) = b.0 in
-    let high : length (draft_views c.in-Some.last.places.items) ≤ 15 = b.1 in
+    let s = sides _ _ _ _ _ _ _ _ c.left.view_is c.right.view_is c.left.invariant c.right.invariant c.requires (open_end _ _ _ _ c.in-Some.ensures.items c.into_places.ensures) (open_first _ _ _ _ some c.remove-first.ensures.value c.remove-first.ensures.items c.into_places-2.ensures) in
+    let b : IsBorder (draft_views c.into_places.result.items) = last_border _ _ _ _ _ s in
+    let low : 1 ≤ length (draft_views c.into_places.result.items) = b.0 in
+    let high : length (draft_views c.into_places.result.items) ≤ 15 = b.1 in
     let same = c.in_ok-last.ensures.same in
-    let x = length-map c.in-Some.last.places.items draft_view in
+    let x = length-map c.into_places.result.items draft_view in
     let y = length-map c.in_ok-last.last.items draft_view in
     (omega (arith, x, y, same), omega (arith, x, y, same))
 
 pub Layer::join-invariant_of-result-2 : goal.Layer::join-invariant_of-result-2
 Layer::join-invariant_of-result-2 t c =
     let some : 0 < length c.right.inside.borders.items = search rules in
-    let s = sides _ _ _ _ _ _ _ _ c.left.view_is c.right.view_is c.left.invariant c.right.invariant c.requires c.in-Some.ensures.items some c.remove-first.ensures.value c.remove-first.ensures.items in
-    let own = seam_put _ _ _ _ _ _ _ _ _ s c.in_ok-push_both.ensures c.in_ok-append.ensures.items c.in_ok-last.ensures.same c.in_ok-last.ensures.slices in
-    let cut = first_removed _ _ _ some c.remove-first.ensures.value c.remove-first.ensures.items in
-    seam_stored _ _ _ _ _ _ _ _ _ own c.left.invariant.links c.right.invariant.links c.in-Some.ensures.items cut c.in_ok-last.ensures.links c.in_ok-push_both.ensures c.in_ok-append.ensures.items
+    let s = sides _ _ _ _ _ _ _ _ c.left.view_is c.right.view_is c.left.invariant c.right.invariant c.requires (open_end _ _ _ _ c.in-Some.ensures.items c.into_places.ensures) (open_first _ _ _ _ some c.remove-first.ensures.value c.remove-first.ensures.items c.into_places-2.ensures) in
+    let own = seam_put _ _ _ _ _ _ _ _ _ s c.in_ok-push_both.ensures.put c.in_ok-append.ensures.items c.in_ok-last.ensures.same c.in_ok-last.ensures.slices in
+    let cut = open_first _ _ _ _ some c.remove-first.ensures.value c.remove-first.ensures.items c.into_places-2.ensures in
+    let left_some : 1 ≤ length (draft_views c.into_places.result.items) = (last_border _ _ _ _ _ s).0 in
+    let more : 1 ≤ length (c.in_ok-last.last.items ++ c.in_ok-last.first.items) = omega (arith, left_some, length-map c.into_places.result.items draft_view, c.in_ok-last.ensures.same, length-append c.in_ok-last.last.items c.in_ok-last.first.items) in
+    seam_stored _ _ _ _ _ _ _ _ _ own c.left.invariant c.right.invariant (open_end _ _ _ _ c.in-Some.ensures.items c.into_places.ensures) cut c.in_ok-last.ensures.links more c.in_ok-push_both.ensures c.in_ok-append.ensures.items
 
 pub Layer::join-returns-clause-lawful : goal.Layer::join-returns-clause-lawful
 Layer::join-returns-clause-lawful t c =
     let some : 0 < length c.right.inside.borders.items = search rules in
-    let s = sides _ _ _ _ _ _ _ _ c.left.view_is c.right.view_is c.left.invariant c.right.invariant c.requires c.in-Some.ensures.items some c.remove-first.ensures.value c.remove-first.ensures.items in
-    let own = seam_put _ _ _ _ _ _ _ _ _ s c.in_ok-push_both.ensures c.in_ok-append.ensures.items c.in_ok-last.ensures.same c.in_ok-last.ensures.slices in
-    let cut = first_removed _ _ _ some c.remove-first.ensures.value c.remove-first.ensures.items in
-    stored_are _ (seam_stored _ _ _ _ _ _ _ _ _ own c.left.invariant.links c.right.invariant.links c.in-Some.ensures.items cut c.in_ok-last.ensures.links c.in_ok-push_both.ensures c.in_ok-append.ensures.items)
+    let s = sides _ _ _ _ _ _ _ _ c.left.view_is c.right.view_is c.left.invariant c.right.invariant c.requires (open_end _ _ _ _ c.in-Some.ensures.items c.into_places.ensures) (open_first _ _ _ _ some c.remove-first.ensures.value c.remove-first.ensures.items c.into_places-2.ensures) in
+    let own = seam_put _ _ _ _ _ _ _ _ _ s c.in_ok-push_both.ensures.put c.in_ok-append.ensures.items c.in_ok-last.ensures.same c.in_ok-last.ensures.slices in
+    let cut = open_first _ _ _ _ some c.remove-first.ensures.value c.remove-first.ensures.items c.into_places-2.ensures in
+    let left_some : 1 ≤ length (draft_views c.into_places.result.items) = (last_border _ _ _ _ _ s).0 in
+    let more : 1 ≤ length (c.in_ok-last.last.items ++ c.in_ok-last.first.items) = omega (arith, left_some, length-map c.into_places.result.items draft_view, c.in_ok-last.ensures.same, length-append c.in_ok-last.last.items c.in_ok-last.first.items) in
+    stored_are _ (seam_stored _ _ _ _ _ _ _ _ _ own c.left.invariant c.right.invariant (open_end _ _ _ _ c.in-Some.ensures.items c.into_places.ensures) cut c.in_ok-last.ensures.links more c.in_ok-push_both.ensures c.in_ok-append.ensures.items)
 
 -- one of the two has no borders
 pub Layer::join-returns-in_default-clause-lawful : goal.Layer::join-returns-in_default-clause-lawful
@@ -127,8 +141,8 @@ Layer::join-returns-then-is_empty-clause-lawful t c = stored_are _ (subst IsStor
 pub Layer::join-returns-clause-pairs : goal.Layer::join-returns-clause-pairs
 Layer::join-returns-clause-pairs t c =
     let some : 0 < length c.right.inside.borders.items = search rules in
-    let cut = first_removed _ _ _ some c.remove-first.ensures.value c.remove-first.ensures.items in
-    seam_walk _ _ _ _ _ _ _ _ c.in_ok-last.last.items c.in_ok-last.first.items _ _ c.left.view_is c.right.view_is c.in-Some.ensures.items cut c.in_ok-push_both.ensures c.in_ok-append.ensures.items c.in_ok-last.ensures.pairs
+    let cut = open_first _ _ _ _ some c.remove-first.ensures.value c.remove-first.ensures.items c.into_places-2.ensures in
+    seam_walk _ _ _ _ _ _ _ _ c.in_ok-last.last.items c.in_ok-last.first.items _ _ c.left.view_is c.right.view_is (open_end _ _ _ _ c.in-Some.ensures.items c.into_places.ensures) cut c.in_ok-push_both.ensures.put c.in_ok-append.ensures.items c.in_ok-last.ensures.pairs
 
 -- ---- links
 pub meet-returns-clause-links : goal.meet-returns-clause-links

@@ -1,40 +1,44 @@
-use Rattle.std.proofs.Common.{◌≡◌, ◌≤◌, ◌-◌, ℕ, [], ◌∷◌, length, get_or, refl, ap, ◌∙◌, arith, rules}
+use Rattle.std.proofs.Common.{◌≡◌, ◌≤◌, ◌-◌, ℕ, [], ◌∷◌, length, get_or, refl, ap, subst, ◌∙◌, arith, rules}
 use Rattle.std.proofs.lemmas.List.{length-map, take_rest}
 use Rattle.mt_tree.specs.DraftViews.{draft_view, draft_views}
-use Rattle.mt_tree.proofs.Behind.{popped_lawful, last_lawful, own_layer, deeper, deeper_below, deeper_light, deeper_layer, deeper_walk, deeper_first, opened, opened_layer, opened_border, opened_below, opened_light, opened_put}
+use Rattle.mt_tree.proofs.Behind.{open_end, popped_lawful, last_lawful, own_layer, deeper, deeper_below, deeper_light, deeper_layer, deeper_walk, deeper_first, opened, opened_layer, opened_border, opened_below, opened_light, opened_put}
+use Rattle.mt_tree.proofs.Puts.{popped_open}
 use Rattle.mt_tree.proofs.Links.{stored_are, links_parted, put_stored, links_then, links_changed}
 use Rattle.mt_tree.proofs.layer.+push.Goals as goal
 
 -- ---- the last border
+pub Layer::push-into_places-requires : goal.Layer::push-into_places-requires
+Layer::push-into_places-requires t c = popped_open _ _ _ c.in-Some.ensures.items c.layer.invariant.last
+
 pub Layer::push-follow-requires : goal.Layer::push-follow-requires
 Layer::push-follow-requires t c =
-    let o = opened _ _ _ _ c.layer.view_is c.layer.invariant c.in-Some.ensures.items in
-    let some : 1 ≤ length (draft_views c.in-Some.last.places.items) = (opened_border _ _ _ o).0 in
+    let o = opened _ _ _ _ c.layer.view_is c.layer.invariant (open_end _ _ _ _ c.in-Some.ensures.items c.into_places.ensures) in
+    let some : 1 ≤ length (draft_views c.into_places.result.items) = (opened_border _ _ _ o).0 in
     let light = opened_light _ _ _ o in
-    (omega (arith, light, c.decreases), (opened_layer _ _ _ o, (omega (arith, length-map c.in-Some.last.places.items draft_view), ((links_parted _ _ _ c.layer.invariant.links c.in-Some.ensures.items).1, opened_below _ _ _ o ((c.args.key.now, c.args.columns) ∷ []) c.requires))))
+    (omega (arith, light, c.decreases), (opened_layer _ _ _ o, (omega (arith, length-map c.into_places.result.items draft_view), ((links_parted _ _ _ c.layer.invariant.links (open_end _ _ _ _ c.in-Some.ensures.items c.into_places.ensures)).1, opened_below _ _ _ o ((c.args.key.now, c.args.columns) ∷ []) c.requires))))
 
 pub Layer::push-push_cut-requires-clause-most : goal.Layer::push-push_cut-requires-clause-most
 Layer::push-push_cut-requires-clause-most t c =
-    let o = opened _ _ _ _ c.layer.view_is c.layer.invariant c.in-Some.ensures.items in
-    let most : length (draft_views c.in-Some.last.places.items) ≤ 15 = (opened_border _ _ _ o).1 in
-    omega (arith, most, length-map c.in-Some.last.places.items draft_view, c.in_ok-places.ensures.more)
+    let o = opened _ _ _ _ c.layer.view_is c.layer.invariant (open_end _ _ _ _ c.in-Some.ensures.items c.into_places.ensures) in
+    let most : length (draft_views c.into_places.result.items) ≤ 15 = (opened_border _ _ _ o).1 in
+    omega (arith, most, length-map c.into_places.result.items draft_view, c.in_ok-places.ensures.more)
 
 pub Layer::push-invariant_of-result : goal.Layer::push-invariant_of-result
 Layer::push-invariant_of-result t c =
-    let o = opened _ _ _ _ c.layer.view_is c.layer.invariant c.in-Some.ensures.items in
-    let own = (opened_put _ _ _ o _ _ _ c.in_ok-push_cut.ensures c.in_ok-places.ensures.pairs c.in_ok-places.ensures.first).0 in
-    put_stored _ _ _ _ _ own c.layer.invariant.links c.in-Some.ensures.items c.in_ok-places.ensures.links c.in_ok-push_cut.ensures
+    let o = opened _ _ _ _ c.layer.view_is c.layer.invariant (open_end _ _ _ _ c.in-Some.ensures.items c.into_places.ensures) in
+    let own = (opened_put _ _ _ o _ _ _ c.in_ok-push_cut.ensures.put c.in_ok-places.ensures.pairs c.in_ok-places.ensures.first).0 in
+    put_stored _ _ _ _ _ own c.layer.invariant (open_end _ _ _ _ c.in-Some.ensures.items c.into_places.ensures) c.in_ok-places.ensures.links c.in_ok-places.ensures.some c.in_ok-push_cut.ensures
 
 pub Layer::push-returns-clause-lawful : goal.Layer::push-returns-clause-lawful
 Layer::push-returns-clause-lawful t c =
-    let o = opened _ _ _ _ c.layer.view_is c.layer.invariant c.in-Some.ensures.items in
-    let own = (opened_put _ _ _ o _ _ _ c.in_ok-push_cut.ensures c.in_ok-places.ensures.pairs c.in_ok-places.ensures.first).0 in
-    stored_are _ (put_stored _ _ _ _ _ own c.layer.invariant.links c.in-Some.ensures.items c.in_ok-places.ensures.links c.in_ok-push_cut.ensures)
+    let o = opened _ _ _ _ c.layer.view_is c.layer.invariant (open_end _ _ _ _ c.in-Some.ensures.items c.into_places.ensures) in
+    let own = (opened_put _ _ _ o _ _ _ c.in_ok-push_cut.ensures.put c.in_ok-places.ensures.pairs c.in_ok-places.ensures.first).0 in
+    stored_are _ (put_stored _ _ _ _ _ own c.layer.invariant (open_end _ _ _ _ c.in-Some.ensures.items c.into_places.ensures) c.in_ok-places.ensures.links c.in_ok-places.ensures.some c.in_ok-push_cut.ensures)
 
 pub Layer::push-returns-clause-pairs : goal.Layer::push-returns-clause-pairs
 Layer::push-returns-clause-pairs t c =
-    let o = opened _ _ _ _ c.layer.view_is c.layer.invariant c.in-Some.ensures.items in
-    (opened_put _ _ _ o _ _ _ c.in_ok-push_cut.ensures c.in_ok-places.ensures.pairs c.in_ok-places.ensures.first).1
+    let o = opened _ _ _ _ c.layer.view_is c.layer.invariant (open_end _ _ _ _ c.in-Some.ensures.items c.into_places.ensures) in
+    (opened_put _ _ _ o _ _ _ c.in_ok-push_cut.ensures.put c.in_ok-places.ensures.pairs c.in_ok-places.ensures.first).1
 
 -- ---- a place of its own
 pub follow-meets_key-requires : goal.follow-meets_key-requires

@@ -9,4 +9,4 @@ returns-then-is_empty c = put_none _ _ (nil_from_length c.args.places.items (sea
 pub returns : goal.returns
 returns c =
     let some : 1 ≤ length c.args.places.items = search rules in
-    put_one _ _ (record { places = c.args.places }) c.in_ok-push.ensures.items c.requires.lawful some c.requires.few
+    put_one _ _ c.args.places c.in_ok-push.ensures.items c.requires.lawful some c.requires.few

@@ -1,19 +1,26 @@
-use Rattle.std.proofs.Common.{arith, rules}
+use Rattle.std.proofs.Common.{◌≡◌, ◌≤◌, List, length, sym, subst, arith, rules}
+use Rattle.mt_tree.specs.Layer.{IsLayer}
+use Rattle.mt_tree.specs.DraftViews.{draft_views}
+use Rattle.mt_tree.specs.declared.layer.DraftPlace.{DraftPlace}
 use Rattle.std.proofs.lemmas.Result.{on_ok_weaker}
-use Rattle.mt_tree.proofs.Puts.{halves, put_halves, few_places}
+use Rattle.mt_tree.proofs.Puts.{halves, first_border, put_halves, few_places}
 use Rattle.mt_tree.proofs.layer.push_cut.Goals as goal
+
+pub push_closed-requires : goal.push_closed-requires
+push_closed-requires c =
+    let h = halves _ _ _ _ c.len-then-len-gt15.result c.requires.lawful (omega arith) c.index.ensures (search rules) c.in_ok-last.ensures.same c.in_ok-last.ensures.below c.in_ok-last.ensures.from in
+    record { lawful = h.first.0; some = first_border _ _ _ c.in_ok-last.ensures.same (omega arith) h }
 
 pub push_border-requires : goal.push_border-requires
 push_border-requires c =
     let h = halves _ _ _ _ c.len-then-len-gt15.result c.requires.lawful (omega arith) c.index.ensures (search rules) c.in_ok-last.ensures.same c.in_ok-last.ensures.below c.in_ok-last.ensures.from in
-    record { lawful = h.first.0; few = few_places _ h.first.1 }
-
-pub push_border-requires-then-len-gt15 : goal.push_border-requires-then-len-gt15
-push_border-requires-then-len-gt15 c =
-    let h = halves _ _ _ _ c.len-then-len-gt15.result c.requires.lawful (omega arith) c.index.ensures (search rules) c.in_ok-last.ensures.same c.in_ok-last.ensures.below c.in_ok-last.ensures.from in
-    record { lawful = h.second.0; few = few_places _ h.second.1 }
+    let kept : c.reserve.new.self.items ≡ c.in_ok-last.last.items = search rules in
+    let whole : IsLayer (draft_views c.in_ok-last.last.items) × (length c.in_ok-last.last.items ≤ 15) = (h.second.0, few_places _ h.second.1) in
+    let held : IsLayer (draft_views c.reserve.new.self.items) × (length c.reserve.new.self.items ≤ 15) = subst (λ (z : List DraftPlace). IsLayer (draft_views z) × (length z ≤ 15)) (sym kept) whole in
+    record { lawful = held.0; few = held.1 }
 
 pub returns-then-len-gt15 : goal.returns-then-len-gt15
 returns-then-len-gt15 c =
     let h = halves _ _ _ _ c.len-then-len-gt15.result c.requires.lawful (omega arith) c.index.ensures (search rules) c.in_ok-last.ensures.same c.in_ok-last.ensures.below c.in_ok-last.ensures.from in
-    on_ok_weaker _ (λ put. put_halves _ _ _ _ _ _ c.in_ok-last.ensures.same h c.in_ok-push_border.ensures put) c.push_border-then-len-gt15.ensures
+    let kept : c.reserve.new.self.items ≡ c.in_ok-last.last.items = search rules in
+    on_ok_weaker _ (λ put. put_halves _ _ _ _ _ _ _ c.in_ok-last.ensures.same (omega arith) h kept c.in_ok-push_closed.ensures put) c.push_border.ensures

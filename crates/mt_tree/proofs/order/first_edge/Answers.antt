@@ -1,8 +1,11 @@
 use Rattle.std.proofs.Common.{ap}
 use Rattle.mt_tree.specs.Sides.{side_walk}
-use Rattle.mt_tree.proofs.EdgeBorders.{first_of_borders}
+use Rattle.mt_tree.proofs.EdgeBorders.{first_is_open, first_of_borders}
 use Rattle.mt_tree.proofs.order.first_edge.Goals as goal
+
+pub places-requires : goal.places-requires
+places-requires c = first_is_open _ _ _ c.layer.invariant c.deref.ensures.value c.in_ok-border-in-Whole.ensures.value
 
 pub returns-in_ok-place-in-Whole-clause-some : goal.returns-in_ok-place-in-Whole-clause-some
 returns-in_ok-place-in-Whole-clause-some c =
-    first_of_borders _ _ _ _ _ _ _ _ _ _ (ap side_walk c.in-Whole.is) c.layer.view_is c.layer.invariant c.deref.ensures.value c.in_ok-border-in-Whole.ensures.value c.deref-in-Whole.ensures.value c.in_ok-place-in-Whole.ensures.value c.edge_of_place.ensures
+    first_of_borders _ _ _ _ _ _ _ _ _ _ (ap side_walk c.in-Whole.is) c.layer.view_is c.layer.invariant c.deref.ensures.value c.in_ok-border-in-Whole.ensures.value c.places.ensures c.in_ok-place-in-Whole.ensures.value c.edge_of_place.ensures
