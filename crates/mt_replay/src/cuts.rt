@@ -1,10 +1,10 @@
 //! Cuts of the keys into pieces.
-ghost use Rattle.std.specs.Prelude.{◌≡◌, ◌≤◌, ◌<◌, ◌+◌, ◌↔◌, [], length, map, max, All, IfOk, IfErr, IsSome, IfSome};
+ghost use Rattle.std.specs.Prelude.{◌≡◌, ◌≤◌, ◌<◌, ◌+◌, ◌*◌, ◌^◌, ◌↔◌, [], length, max, slice_index_or, All, IfOk, IfErr, IsSome, IfSome};
 ghost use Rattle.mt_words.specs.Limits.{widest};
 ghost use Rattle.mt_words.specs.Words.{IsKey};
 ghost use Rattle.mt_replay.specs.Cuts.{AreCuts, AreRising, IsCutFault, even_cuts, even_at};
 ghost use Rattle.mt_replay.specs.Even.{IsEven};
-ghost use Rattle.mt_replay.specs.Runs.{together};
+ghost use Rattle.mt_replay.specs.Runs.{together, keys_of};
 
 use crate::LogCells;
 use crate::distinct::distinct_keys;
@@ -12,6 +12,7 @@ use crate::sample::sample;
 use mt_words::{Key, Memory};
 use std::alloc::Global;
 use std::marker::Model;
+use std::slice;
 use std::thread::Threads;
 
 /// The most cuts.
@@ -136,8 +137,8 @@ impl Cuts {
             return Ok(Cuts::none(alloc));
         }
         let rough = Cuts::rough(rt, alloc, lists)?;
-        let keys = distinct_keys(rt, alloc, lists, &rough)?;
-        Cuts::even_of(alloc, &keys, pieces)
+        let parts = distinct_keys(rt, alloc, lists, &rough)?;
+        Cuts::even_of(alloc, &parts, pieces)
     }
 
     /// Cuts into pieces of very roughly as many updates, found among few of the keys. They only share out work: the keys
@@ -151,32 +152,64 @@ impl Cuts {
         let pieces = Pieces {
             count: ROUGH_PIECES,
         };
-        Cuts::even_of(alloc, &keys, pieces)
+        Cuts::even_of(alloc, slice::from_ref(&keys), pieces)
     }
 
-    /// Cuts of rising keys into pieces of about as many keys.
-    fn even_of(alloc: Global, keys: &[&[u8]], pieces: Pieces) -> Result<Cuts, Memory>
-        requires rising { AreRising (map (λ key. key.now) keys.now) }
-        requires lawful { All (IsKey widest) (map (λ key. key.now) keys.now) }
-        ensures { IfOk result (λ cuts. cuts ≡ even_cuts (map (λ key. key.now) keys.now) pieces) }
+    /// Cuts of rising keys, which lie in parts one behind the other, into pieces of about as many keys.
+    fn even_of(alloc: Global, parts: &[Vec<&[u8]>], pieces: Pieces) -> Result<Cuts, Memory>
+        requires few { length parts.now ≤ 4096 }
+        requires rising { AreRising (keys_of parts.now) }
+        requires lawful { All (IsKey widest) (keys_of parts.now) }
+        ensures { IfOk result (λ cuts. cuts ≡ even_cuts (keys_of parts.now) pieces) }
     {
-        let asked = (pieces.count as usize).min(keys.len().max(1));
-        let keys = even_keys(alloc, keys, asked)?;
+        let asked = u128::from(pieces.count).min(key_count(parts).max(1));
+        let keys = even_keys(alloc, parts, asked)?;
         Ok(Cuts { keys })
     }
 }
 
 /// The keys at which so many even pieces begin.
-fn even_keys(alloc: Global, keys: &[&[u8]], pieces: usize) -> Result<Vec<Key>, Memory>
-    requires lawful { All (IsKey widest) (map (λ key. key.now) keys.now) }
+fn even_keys(alloc: Global, parts: &[Vec<&[u8]>], pieces: u128) -> Result<Vec<Key>, Memory>
+    requires few { length parts.now ≤ 4096 }
+    requires lawful { All (IsKey widest) (keys_of parts.now) }
     requires some { 0 < pieces }
-    requires within { pieces ≤ max (length keys.now) 1 }
-    ensures { IfOk result (λ cuts. cuts.items ≡ even_at (map (λ key. key.now) keys.now) pieces) }
+    requires most { pieces ≤ 4096 }
+    requires within { pieces ≤ max (length (keys_of parts.now)) 1 }
+    ensures { IfOk result (λ cuts. cuts.items ≡ even_at (keys_of parts.now) pieces) }
 {
+    let count = key_count(parts);
     let mut cuts = Vec::new(alloc);
     for cut in 1..pieces {
-        let place = (cut as u128 * keys.len() as u128 / pieces as u128) as usize;
-        cuts.push(Key::copy_of(alloc, keys[place])?)?;
+        let key = key_at(parts, cut * count / pieces);
+        cuts.push(Key::copy_of(alloc, key)?)?;
     }
     Ok(cuts)
+}
+
+/// How many keys the parts have. It is exact: a part has fewer than 2^64 keys.
+fn key_count(parts: &[Vec<&[u8]>]) -> u128
+    ensures value { result ≡ length (keys_of parts.now) }
+    ensures fits { result ≤ length parts.now * 2 ^ 64 }
+{
+    let mut count = 0;
+    for part in parts {
+        count += part.len() as u128;
+    }
+    count
+}
+
+/// The key at a place, where the parts stand one behind the other.
+fn key_at<'a>(parts: &[Vec<&'a [u8]>], place: u128) -> &'a [u8]
+    requires { place < length (keys_of parts.now) }
+    ensures { result.now ≡ slice_index_or (keys_of parts.now) place [] }
+{
+    let mut rest = place;
+    for part in parts {
+        let count = part.len() as u128;
+        if rest < count {
+            return part[rest as usize];
+        }
+        rest -= count;
+    }
+    unreachable!()
 }
