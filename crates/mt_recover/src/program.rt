@@ -161,6 +161,11 @@ impl Unread {
 }
 
 impl From<AllocError> for Unread {
+    ghost use Rattle.std.specs.Prelude.{◌≡◌};
+    ghost use Rattle.mt_recover.specs.declared.program.Unread.TheVariants.{Memory};
+
+    ghost from_gives = { λ refused unread. unread ≡ Memory };
+
     fn from(_refused: AllocError) -> Unread {
         Unread::Memory
     }

@@ -14,18 +14,9 @@ use Rattle.mt_tree.specs.Layer.{PlaceView, short, long, link, rank_at, pairs_at,
 use Rattle.mt_words.specs.Walks.{Pair}
 use Rattle.mt_words.specs.Words.{IsBelow}
 use Rattle.mt_tree.specs.Layers.{under, lies_under}
-use Rattle.mt_tree.specs.Layers.{AreRising, AreHeads, CountsFrom, own, more, IsLayers, linked_walks, SumsLayers, SumsLinks, CountsLinks, CountsLayers}
-use Rattle.mt_tree.specs.Nodes.{NodeView, LayerView, places, joined, borders_of, IsLayerTree, AreLinked, each_borders}
-use Rattle.mt_tree.specs.Trees.{tree_walk, tree_count, IsTree}
-use Rattle.mt_tree.specs.NodeViews.{view_of_content, views, node_view, IsNodeKind}
-use Rattle.std.proofs.Common.{Vec, Global}
-use Rattle.arrayvec.specs.declared.array_vec.ArrayVec.{ArrayVec}
-use Rattle.std.specs.Global.{Box}
-use Rattle.mt_tree.specs.declared.node.Place.{Place}
-use Rattle.mt_tree.specs.declared.node.NodeKind.{NodeKind}
-use Rattle.mt_tree.specs.declared.node.NodeKind.TheVariants.{Border, Interior}
-use Rattle.mt_tree.specs.declared.node.Content.{Content}
-use Rattle.mt_tree.specs.declared.node.Content.TheVariants.{Short, Suffix, Link}
+use Rattle.mt_tree.specs.Layers.{AreRising, AreHeads, CountsFrom, own, more, IsLayers, linked_walks, SumsLayers, SumsLinks, CountsLayers}
+use Rattle.mt_tree.specs.Nodes.{NodeView, LayerView, places, joined, IsLayerTree, IsTreeCount, AreLinked, each_borders}
+use Rattle.mt_tree.specs.Trees.{tree_walk, tree_count, IsTree, HasLayers}
 use Rattle.mt_tree.proofs.Finds.{pairs_rank}
 use Rattle.mt_tree.proofs.Joins.{all_append, all_weaker}
 
@@ -241,31 +232,6 @@ sums-append (short s l c ∷ ps) rs m n a b = sums-append ps rs m n a b
 sums-append (long s t c ∷ ps) rs m n a b = sums-append ps rs m n a b
 sums-append (link s w ∷ ps) rs m n a b = (a.0, a.1 + n, a.2, sums-append ps rs a.1 n a.3 b, let f : m ≡ a.0 + a.1 = a.4 in omega arith)
 
--- one part after another, where each sum stops at the greatest number
-pub counts_more : (ps rs : List PlaceView) (x y z : ℕ) → CountsLinks ps x → CountsLinks rs y → z ≡ min (x + y) (2 ^ 64 - 1) → CountsLinks (ps ++ rs) z
-counts_more ps rs x y z a b e =
-    let f : x ≡ min a.number (2 ^ 64 - 1) = a.stops in
-    let g : y ≡ min b.number (2 ^ 64 - 1) = b.stops in
-    record { number = a.number + b.number; is = sums-append ps rs a.number b.number a.is b.is; stops = omega arith }
-
--- a layer's own tree
-pub counts_own : (ps : List PlaceView) (x z : ℕ) → IsLayer ps → CountsLinks ps x → z ≡ min (x + 1) (2 ^ 64 - 1) → CountsLayers (walk ps) z
-counts_own ps x z h a e =
-    let f : x ≡ min a.number (2 ^ 64 - 1) = a.stops in
-    record { number = a.number + 1; is = layers_are ps a.number h a.is; stops = omega arith }
-
-pub counts_none : CountsLinks [] 0
-counts_none = record { number = 0; is = refl; stops = omega arith }
-
-pub counts_link : (s : ℕ) (w : List Pair) (z : ℕ) → CountsLayers w z → CountsLinks (link s w ∷ []) z
-counts_link s w z a = record { number = a.number; is = (a.number, 0, a.is, refl, omega arith); stops = a.stops }
-
--- ---- views
-pub held_counts : (s : ℕ) (h : Content) (n : NodeView) (x z : ℕ) → h ≡ Link n → IsLayer (places n) → CountsLinks (places n) x → z ≡ min (x + 1) (2 ^ 64 - 1) → CountsLinks (view_of_content s h ∷ []) z
-held_counts s h n x z e l a f = subst (λ (k : Content). CountsLinks (view_of_content s k ∷ []) z) (sym e) (counts_link s (walk (places n)) z (counts_own (places n) x z l a f))
-
--- ---- nodes
-
 -- ---- the trees of a node
 sums_split : (vs ws : List (List Pair)) (n : ℕ) → SumsLayers (vs ++ ws) n → (a : ℕ) × (b : ℕ) × SumsLayers vs a × SumsLayers ws b × (n ≡ a + b)
 sums_split [] ws n s = (0, n, refl, s, omega arith)
@@ -290,3 +256,14 @@ sums_linked (w ∷ ws) (t ∷ ts) h k =
 pub tree_layers : (t : Option NodeView) → IsTree t → IsLayers (tree_walk t) (tree_count t)
 tree_layers None h = layers_are [] 0 tt refl
 tree_layers (Some n) h = layers_are (places n) (length n.below) h.tree.layer (sums_linked (linked_walks (places n)) n.below h.below.lawful h.below.linked)
+
+-- a tree with its count
+pub counted : (root t : Option NodeView) (layers : ℕ) → root ≡ t → IsTree root → HasLayers root layers → CountsLayers (tree_walk t) layers × HasLayers t layers
+counted root t layers e h k =
+    let lawful : IsTree t = subst IsTree e h in
+    let count : HasLayers t layers = subst (λ (z : Option NodeView). HasLayers z layers) e k in
+    (record { number = tree_count t; is = tree_layers t lawful; stops = count }, count)
+
+-- one list of trees after another
+pub counted_more : (ts us : List LayerView) (x y z : ℕ) → IsTreeCount ts x → IsTreeCount us y → z ≡ min (x + y) (2 ^ 64 - 1) → IsTreeCount (ts ++ us) z
+counted_more ts us x y z a b e = omega (arith, length-append ts us, a, b, e)

@@ -20,7 +20,7 @@ use Rattle.mt_tree.proofs.Joins.{all_back}
 
 opened_view : (b : Border) (rs : List DraftPlace) → IsOpened b rs → border_view b ≡ draft_views rs
 opened_view (Open ps) rs e = ap draft_views (sym e)
-opened_view (Closed ps) rs h = absurd h
+opened_view (Closed f) rs h = absurd h
 
 pub last_is_open : (ps qs : List Border) (b : Border) → IsStored ps → qs ≡ ps → Some b ≡ slice_get qs (length qs - 1) → IsOpen b
 last_is_open ps qs b h e f = let l = last_of qs b f in last_open l.0 b (subst IsLastOpen (sym e ∙ l.1) h.last)

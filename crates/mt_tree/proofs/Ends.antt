@@ -1,11 +1,12 @@
 -- Borders are finished one by one.
-use Rattle.std.proofs.Common.{◌≡◌, ℕ, ◌≤◌, List, [], ◌∷◌, ◌++◌, length, refl, sym, ap, append_assoc, ◌∙◌, subst, arith}
+use Rattle.std.proofs.Common.{◌≡◌, ℕ, ◌+◌, ◌-◌, ◌^◌, ◌≤◌, min, List, [], ◌∷◌, ◌++◌, length, refl, sym, ap, append_assoc, ◌∙◌, subst, arith}
 use Rattle.std.proofs.lemmas.List.{append-nil, map-append}
 use Rattle.std.proofs.lemmas.Grind.{flat_map-append}
+use Rattle.mt_tree.proofs.Counts.{counted_more}
 use Rattle.mt_tree.proofs.Levels.{below-append}
 use Rattle.mt_tree.specs.Layer.{PlaceView, link, IsPlace, IsLayer, walk, weight}
 use Rattle.mt_tree.specs.Falls.{weight-append, walk-append, layer_back, layer_front}
-use Rattle.mt_tree.specs.Nodes.{joined, each_borders, IsBorder, LayerView, IsLayerTree, IsNode, border_tree, AreBelow}
+use Rattle.mt_tree.specs.Nodes.{joined, each_borders, IsBorder, LayerView, IsLayerTree, IsNode, border_tree, AreBelow, IsTreeCount}
 use Rattle.mt_tree.specs.NodeFalls.{joined-append}
 use Rattle.mt_tree.specs.Borders.{DraftView, IsBorderList, borders_walk, layer_walk}
 use Rattle.mt_tree.specs.NodeViews.{views, view_of, trees_of, trees_of_content, border_node}
@@ -54,6 +55,11 @@ below_push xs ys p h k e =
     ap trees_of e ∙ flat_map-append (λ (q : Place). trees_of_content q.content) xs (p ∷ []) ∙ ap (λ (z : List LayerView). trees_of xs ++ z) (append-nil (trees_of_content p.content)) in
     subst (λ (z : List PlaceView). AreBelow z (trees_of ys)) (sym seen)
     (subst (AreBelow (views xs ++ view_of p ∷ [])) (sym trees) (below-append (views xs) (view_of p ∷ []) (trees_of xs) (trees_of_content p.content) h k))
+
+pub counted_push : {X : Type 0} (f : X → List LayerView) (xs ys : List X) (p : X) (x y z : ℕ) → IsTreeCount (flat_map f xs) x → IsTreeCount (f p) y → z ≡ min (x + y) (2 ^ 64 - 1) → ys ≡ xs ++ p ∷ [] → IsTreeCount (flat_map f ys) z
+counted_push f xs ys p x y z h k is e =
+    let trees : flat_map f ys ≡ flat_map f xs ++ f p = ap (flat_map f) e ∙ flat_map-append f xs (p ∷ []) ∙ ap (λ (w : List LayerView). flat_map f xs ++ w) (append-nil (f p)) in
+    subst (λ (w : List LayerView). IsTreeCount w z) (sym trees) (counted_more (flat_map f xs) (f p) x y z h k is)
 
 -- ---- the layers below links, one by one
 -- the next element is carried from what is left to what is done

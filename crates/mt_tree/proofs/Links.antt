@@ -43,11 +43,11 @@ trees_lawful (t ∷ ts) h = ((h.0.each, h.0.apart, h.0.layer), trees_lawful ts h
 
 border_lawful : (b : Border) → HasLawfulLinks b → AllByRecursion IsBorderList (layers_of_border b)
 border_lawful (Open ps) h = layers_lawful ps.items h
-border_lawful (Closed ps) h = trees_lawful (trees_of ps.items) h.lawful
+border_lawful (Closed f) h = trees_lawful (trees_of f.made.items) h.0.lawful
 
 border_linked : (b : Border) → HasLawfulLinks b → AreLinked (linked_walks (border_view b)) (layers_of_border b)
 border_linked (Open ps) h = layers_linked ps.items h
-border_linked (Closed ps) h = h.linked
+border_linked (Closed f) h = h.0.linked
 
 borders_lawful : (bs : List Border) → AllByRecursion HasLawfulLinks bs → AllByRecursion IsBorderList (flat_map layers_of_border bs)
 borders_lawful [] h = tt

@@ -3,7 +3,7 @@ use Rattle.std.specs.Prelude.{ℕ, ◌≡◌, ◌≤◌, ⊤, List, [], ◌∷�
 use Rattle.std.specs.List.{AllByRecursion, flat_map}
 use Rattle.mt_tree.specs.Layer.{PlaceView, short, long, link}
 use Rattle.mt_tree.specs.Borders.{DraftView, layer_walk, IsBorderList, AreBorders}
-use Rattle.mt_tree.specs.Nodes.{joined, each_borders, AreBelow}
+use Rattle.mt_tree.specs.Nodes.{joined, each_borders, AreBelow, IsTreeCount}
 use Rattle.mt_tree.specs.NodeViews.{views, trees_of}
 use Rattle.mt_tree.specs.declared.layer.DraftPlace.{DraftPlace}
 use Rattle.mt_tree.specs.declared.layer.Border.{Border}
@@ -24,7 +24,7 @@ draft_views = map draft_view
 
 abbrev pub border_view : Border → List PlaceView
 border_view (Open ps) = draft_views ps.items
-border_view (Closed ps) = views ps.items
+border_view (Closed f) = views f.made.items
 
 abbrev pub border_views : List Border → List (List PlaceView)
 border_views = map border_view
@@ -40,7 +40,7 @@ layers_of = flat_map (λ p. layers_of_content p.content)
 
 abbrev pub layers_of_border : Border → List (List (List PlaceView))
 layers_of_border (Open ps) = layers_of ps.items
-layers_of_border (Closed ps) = each_borders (trees_of ps.items)
+layers_of_border (Closed f) = each_borders (trees_of f.made.items)
 
 abbrev pub draft_of : List Border → DraftView
 draft_of bs = record { borders = border_views bs; below = flat_map layers_of_border bs }
@@ -54,19 +54,19 @@ IsLawfulLink (Link l) = AreBorders l
 abbrev pub HaveLawfulLinks : List DraftPlace → Type 0
 HaveLawfulLinks = AllByRecursion (λ p. IsLawfulLink p.content)
 
--- the layers that a border's places link to are lawful
+-- the layers that a border's places link to are lawful; those of a closed one are trees, and counted
 abbrev pub HasLawfulLinks : Border → Type 0
 HasLawfulLinks (Open ps) = HaveLawfulLinks ps.items
-HasLawfulLinks (Closed ps) = AreBelow (views ps.items) (trees_of ps.items)
+HasLawfulLinks (Closed f) = AreBelow (views f.made.items) (trees_of f.made.items) × IsTreeCount (trees_of f.made.items) f.below
 
 abbrev pub IsOpen : Border → Type 0
 IsOpen (Open ps) = ⊤
-IsOpen (Closed ps) = ⊥
+IsOpen (Closed f) = ⊥
 
 -- an open border of these places
 abbrev pub IsOpened : Border → List DraftPlace → Type 0
 IsOpened (Open ps) xs = xs ≡ ps.items
-IsOpened (Closed ps) xs = ⊥
+IsOpened (Closed f) xs = ⊥
 
 -- the first border, if there is one, is open
 abbrev pub IsFirstOpen : List Border → Type 0

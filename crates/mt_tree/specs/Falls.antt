@@ -56,7 +56,7 @@ layer_back low (x ∷ xs) ys h = let from : low ≤ rank_at x = h.1 in layer_wea
 -- a closed border holds nodes, which are no drafts
 border_falls : (b : Border) → IsLayerFrom 0 (border_view b) → deep-Border b ≤ weight (walk (border_view b))
 border_falls (Open ps) h = omega (arith, places_fall 0 ps.items h)
-border_falls (Closed ps) h = omega arith
+border_falls (Closed f) h = omega arith
 
 pub borders_fall : (bs : List Border) → IsLayerFrom 0 (joined (border_views bs)) → most deep-Border bs ≤ weight (borders_walk (border_views bs))
 borders_fall [] h = omega arith

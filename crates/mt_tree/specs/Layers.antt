@@ -56,9 +56,3 @@ SumsLayers (w ∷ ws) n = (a : ℕ) × (b : ℕ) × IsLayers w a × SumsLayers w
 -- the numbers of trees below the links of these places, in sum
 abbrev pub SumsLinks : List PlaceView → ℕ → Type 0
 SumsLinks ps = SumsLayers (linked_walks ps)
-
--- that sum, or the greatest number that a machine word holds
-pub record CountsLinks (ps : List PlaceView) (r : ℕ) : Type 0 where
-  pub number : ℕ
-  pub is : SumsLinks ps number
-  pub stops : r ≡ min number (2 ^ 64 - 1)

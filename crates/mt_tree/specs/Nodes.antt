@@ -1,5 +1,5 @@
 -- The tree of a layer: its borders in order, its height and its interior nodes; and the trees below its links.
-use Rattle.std.specs.Prelude.{ℕ, suc, ◌+◌, ◌<◌, ◌≤◌, ◌≡◌, List, [], ◌∷◌, ◌++◌, length, map, drop, ⊤}
+use Rattle.std.specs.Prelude.{ℕ, suc, ◌+◌, ◌-◌, ◌^◌, ◌<◌, ◌≤◌, ◌≡◌, List, [], ◌∷◌, ◌++◌, length, map, drop, min, ⊤}
 use Rattle.std.specs.List.{AllByRecursion, flat_map}
 use Rattle.mt_tree.specs.Layer.{PlaceView, slice_at, walk, IsLayer}
 use Rattle.mt_tree.specs.Layers.{linked_walks}
@@ -99,6 +99,10 @@ each_borders = map (λ t. t.borders)
 pub record AreBelow (ps : List PlaceView) (ts : List LayerView) : Type 0 where
   pub lawful : AllByRecursion IsLayerTree ts
   pub linked : AreLinked (linked_walks ps) (each_borders ts)
+
+-- how many trees there are, or the greatest number that a machine word holds
+abbrev pub IsTreeCount : List LayerView → ℕ → Type 0
+IsTreeCount ts count = count ≡ min (length ts) (2 ^ 64 - 1)
 
 -- the law of a node: its own tree is lawful, and so is each tree below a link, at any depth
 pub record IsNode (n : NodeView) : Type 0 where

@@ -23,6 +23,10 @@ abbrev pub tree_count : Option NodeView → ℕ
 tree_count None = 1
 tree_count (Some n) = length n.below + 1
 
+-- the number of trees, or the greatest number that a machine word holds
+abbrev pub HasLayers : Option NodeView → ℕ → Type 0
+HasLayers t layers = layers ≡ min (tree_count t) (2 ^ 64 - 1)
+
 -- the borders of the outermost layer
 abbrev pub tree_borders : Option NodeView → List (List PlaceView)
 tree_borders None = []

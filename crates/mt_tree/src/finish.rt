@@ -1,7 +1,7 @@
 //! A finished layer is cut into borders, and nodes are stacked on them.
 ghost use Rattle.std.specs.Prelude.{◌≡◌, ◌≢◌, MatchBool, ◌<◌, ◌≤◌, ◌+◌, ◌++◌, ◌∷◌, [], suc, List, length, IfOk};
 ghost use Rattle.mt_tree.specs.Layer.{PlaceView, IsLayer, IsPlace};
-ghost use Rattle.mt_tree.specs.Nodes.{places, joined, borders_of, below_of, each_borders, level_height, IsNode, IsNodeAt, IsLevel, IsLevelAt, IsBorder, border_tree, AreBelow, first_of, parent_node};
+ghost use Rattle.mt_tree.specs.Nodes.{places, joined, borders_of, below_of, each_borders, level_height, IsNode, IsNodeAt, IsLevel, IsLevelAt, IsBorder, border_tree, AreBelow, IsTreeCount, first_of, parent_node};
 ghost use Rattle.mt_tree.specs.DraftViews.{draft_view, draft_views, border_view, layers_of, layers_of_border, layers_of_content, HasLawfulLinks};
 ghost use Rattle.mt_tree.specs.NodeViews.{views, view_of, trees_of, trees_of_content};
 
@@ -78,78 +78,107 @@ fn stack(alloc: Global, borders: Vec<Node>) -> Result<Node, Memory>
     Ok(root)
 }
 
+/// What was made of a draft's layer, border or place, and the number of trees below its links, which stops at the
+/// greatest number.
+#[derive(Drop)]
+pub(crate) struct Finished<T> {
+    pub(crate) made: T,
+    pub(crate) below: u64,
+}
+
 /// The tree of a layer: interiors are put over its borders.
 #[cycle(finish)]
-pub(crate) fn finish(alloc: Global, layer: Layer) -> Result<Node, Memory>
+pub(crate) fn finish(alloc: Global, layer: Layer) -> Result<Finished<Node>, Memory>
     requires some { 1 ≤ length layer.borders }
-    ensures same { IfOk result (λ node. node.tree.borders ≡ layer.borders) }
-    ensures below { IfOk result (λ node. each_borders node.below ≡ layer.below) }
-    ensures lawful { IfOk result (λ node. IsNode node) }
+    ensures same { IfOk result (λ tree. tree.made.tree.borders ≡ layer.borders) }
+    ensures below { IfOk result (λ tree. each_borders tree.made.below ≡ layer.below) }
+    ensures lawful { IfOk result (λ tree. IsNode tree.made) }
+    ensures count { IfOk result (λ tree. IsTreeCount tree.made.below tree.below) }
 {
     let mut nodes = Vec::with_capacity(alloc, layer.borders.len())?;
+    let mut below = 0u64;
     for border in layer.borders {
-        let node = finish_border(alloc, border)?;
-        nodes.push(node)?;
+        let border = finish_border(alloc, border)?;
+        below = below.saturating_add(border.below);
+        nodes.push(border.made)?;
     }
-    stack(alloc, nodes)
+    let made = stack(alloc, nodes)?;
+    Ok(Finished { made, below })
 }
 
 #[cycle(finish)]
-fn finish_border(alloc: Global, border: Border) -> Result<Node, Memory>
+fn finish_border(alloc: Global, border: Border) -> Result<Finished<Node>, Memory>
     requires some { IsBorder (border_view border) }
     requires lawful { IsLayer (border_view border) }
     requires links { HasLawfulLinks border }
-    ensures same { IfOk result (λ node. node.tree ≡ border_tree (border_view border)) }
-    ensures below { IfOk result (λ node. each_borders node.below ≡ layers_of_border border) }
-    ensures lawful { IfOk result (λ node. IsNode node) }
+    ensures same { IfOk result (λ node. node.made.tree ≡ border_tree (border_view border)) }
+    ensures below { IfOk result (λ node. each_borders node.made.below ≡ layers_of_border border) }
+    ensures lawful { IfOk result (λ node. IsNode node.made) }
+    ensures count { IfOk result (λ node. IsTreeCount node.made.below node.below) }
 {
-    let places = match border {
+    let closed = match border {
         Border::Open(places) => close(alloc, places)?,
-        Border::Closed(places) => places,
+        Border::Closed(closed) => closed,
     };
-    Ok(Node {
-        kind: NodeKind::Border(places),
-    })
+    let made = Node {
+        kind: NodeKind::Border(closed.made),
+    };
+    let below = closed.below;
+    Ok(Finished { made, below })
 }
 
 /// These places, with all that lies below them finished.
 #[cycle(finish)]
-pub(crate) fn close(alloc: Global, places: Vec<DraftPlace>) -> Result<Vec<Place>, Memory>
+pub(crate) fn close(
+    alloc: Global,
+    places: Vec<DraftPlace>,
+) -> Result<Finished<Vec<Place>>, Memory>
     requires { IsLayer (draft_views places.items) }
-    ensures same { IfOk result (λ closed. views closed.items ≡ draft_views places.items) }
-    ensures layers { IfOk result (λ closed. each_borders (trees_of closed.items) ≡ layers_of places.items) }
-    ensures below { IfOk result (λ closed. AreBelow (views closed.items) (trees_of closed.items)) }
+    ensures same { IfOk result (λ closed. views closed.made.items ≡ draft_views places.items) }
+    ensures layers { IfOk result (λ closed. each_borders (trees_of closed.made.items) ≡ layers_of places.items) }
+    ensures below { IfOk result (λ closed. AreBelow (views closed.made.items) (trees_of closed.made.items)) }
+    ensures count { IfOk result (λ closed. IsTreeCount (trees_of closed.made.items) closed.below) }
 {
-    let mut closed = Vec::with_capacity(alloc, places.len())?;
+    let mut made = Vec::with_capacity(alloc, places.len())?;
+    let mut below = 0u64;
     for place in places {
-        let finished = finish_place(alloc, place)?;
-        closed.push(finished)?;
+        let place = finish_place(alloc, place)?;
+        below = below.saturating_add(place.below);
+        made.push(place.made)?;
     }
-    Ok(closed)
+    Ok(Finished { made, below })
 }
 
 #[cycle(finish)]
-fn finish_place(alloc: Global, place: DraftPlace) -> Result<Place, Memory>
+fn finish_place(alloc: Global, place: DraftPlace) -> Result<Finished<Place>, Memory>
     requires lawful { IsPlace (draft_view place) }
-    ensures same { IfOk result (λ made. view_of made ≡ draft_view place) }
-    ensures layers { IfOk result (λ made. each_borders (trees_of_content made.content) ≡ layers_of_content place.content) }
-    ensures below { IfOk result (λ made. AreBelow (view_of made ∷ []) (trees_of_content made.content)) }
+    ensures same { IfOk result (λ done. view_of done.made ≡ draft_view place) }
+    ensures layers { IfOk result (λ done. each_borders (trees_of_content done.made.content) ≡ layers_of_content place.content) }
+    ensures below { IfOk result (λ done. AreBelow (view_of done.made ∷ []) (trees_of_content done.made.content)) }
+    ensures count { IfOk result (λ done. IsTreeCount (trees_of_content done.made.content) done.below) }
 {
     let slice = place.slice;
     match place.content {
-        DraftContent::Short(len, columns) => Ok(Place {
-            slice,
-            content: Content::Short(len, columns),
-        }),
-        DraftContent::Suffix(suffix, columns) => Ok(Place {
-            slice,
-            content: Content::Suffix(suffix, columns),
-        }),
+        DraftContent::Short(len, columns) => {
+            let content = Content::Short(len, columns);
+            Ok(Finished {
+                made: Place { slice, content },
+                below: 0,
+            })
+        }
+        DraftContent::Suffix(suffix, columns) => {
+            let content = Content::Suffix(suffix, columns);
+            Ok(Finished {
+                made: Place { slice, content },
+                below: 0,
+            })
+        }
         DraftContent::Link(layer) => {
-            let below = finish(alloc, layer)?;
-            Ok(Place {
-                slice,
-                content: Content::Link(below),
+            let Finished { made, below } = finish(alloc, layer)?;
+            let content = Content::Link(made);
+            Ok(Finished {
+                made: Place { slice, content },
+                below: below.saturating_add(1),
             })
         }
     }

@@ -7,7 +7,7 @@ ghost use Rattle.mt_tree.specs.Borders.{AreBorders, empty_draft, layer_walk, Sam
 ghost use Rattle.mt_tree.specs.declared.layer.Border.TheVariants.{Open};
 ghost use Rattle.mt_words.specs.Slices.{slice_bytes};
 
-use crate::finish::close;
+use crate::finish::{Finished, close};
 use crate::node::Place;
 use mt_words::{Columns, Kept, Memory, slice_of};
 use std::alloc::Global;
@@ -26,7 +26,7 @@ pub(crate) enum Border {
     /// A push or a join may still change it. The first border of a layer is open, and the last.
     Open(Vec<DraftPlace>),
     /// All that lies below its places is finished.
-    Closed(Vec<Place>),
+    Closed(Finished<Vec<Place>>),
 }
 
 #[cycle(layer)]

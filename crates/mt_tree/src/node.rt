@@ -1,11 +1,10 @@
 //! The nodes of a finished tree.
-ghost use Rattle.std.specs.Prelude.{◌≡◌, ◌≢◌, ◌↔◌, ◌∷◌, [], ℕ, ◌+◌, ◌*◌, ◌<◌, ◌≤◌, min, length, slice_index, slice_index_or, IsTrue, IfSome, IfNone, All};
+ghost use Rattle.std.specs.Prelude.{◌≡◌, ◌≢◌, ◌↔◌, ℕ, ◌+◌, ◌*◌, ◌<◌, ◌≤◌, min, length, slice_index, slice_index_or, IsTrue, IfSome, IfNone, All};
 ghost use Rattle.std.specs.List.{AllByRecursion};
 ghost use Rattle.std.specs.Option.{option_copied};
-ghost use Rattle.mt_tree.specs.Layer.{PlaceView, walk, find_key, rank_at, length_at, IsPlace, IsLayer};
+ghost use Rattle.mt_tree.specs.Layer.{PlaceView, walk, find_key, rank_at, length_at, IsPlace};
 ghost use Rattle.mt_tree.specs.Nodes.{places, first_of};
 ghost use Rattle.mt_tree.specs.NodeViews.{views, view_of};
-ghost use Rattle.mt_tree.specs.Layers.{CountsLinks};
 
 use arrayvec::ArrayVec;
 use mt_words::{Columns, Kept, slice_of};
@@ -160,44 +159,4 @@ pub(crate) fn child_at(separators: &[u64], slice: u64) -> usize
         }
     }
     separators.len()
-}
-
-impl Node {
-    /// The number of trees below its links, which stops at the greatest number.
-    #[cycle(links_below)]
-    pub(crate) fn links_below(&self) -> u64
-        ensures counts { CountsLinks (places self.now) result }
-        ensures lawful { IsLayer (places self.now) }
-    {
-        match &self.kind {
-            NodeKind::Interior(_, children) => {
-                let mut sum = 0u64;
-                for child in children {
-                    sum = sum.saturating_add(child.links_below());
-                }
-                sum
-            }
-            NodeKind::Border(places) => {
-                let mut sum = 0u64;
-                for place in places {
-                    sum = sum.saturating_add(place.links_below());
-                }
-                sum
-            }
-        }
-    }
-}
-
-impl Place {
-    /// The number of trees below its link, if it has one.
-    #[cycle(links_below)]
-    fn links_below(&self) -> u64
-        requires { IsPlace (view_of self.now) }
-        ensures { CountsLinks (view_of self.now ∷ []) result }
-    {
-        match &self.content {
-            Content::Link(below) => below.links_below().saturating_add(1),
-            _ => 0,
-        }
-    }
 }

@@ -5,11 +5,11 @@ ghost use Rattle.mt_words.specs.Limits.{widest};
 ghost use Rattle.mt_words.specs.Walks.{KeysRise};
 ghost use Rattle.mt_words.specs.Words.{IsKey};
 ghost use Rattle.mt_tree.specs.Borders.{AreBorders, empty_draft, layer_walk};
-ghost use Rattle.mt_tree.specs.Trees.{tree_walk, tree_borders, tree_below, tree_count, IsTree, IsCount};
+ghost use Rattle.mt_tree.specs.Trees.{tree_walk, tree_borders, tree_below, IsTree, HasLayers, IsCount};
 ghost use Rattle.mt_tree.specs.Range.{hits};
 ghost use Rattle.mt_tree.specs.Layers.{CountsLayers, IsLayers};
 
-use crate::finish::finish;
+use crate::finish::{Finished, finish};
 use crate::hit::Hit;
 use crate::layer::Layer;
 use crate::node::Node;
@@ -47,26 +47,32 @@ impl Model for Draft {
 pub struct Tree {
     alloc: Global,
     root: Option<Node>,
+    /// How many trees there are, counted as they were finished.
+    layers: u64,
 }
 
 /// In words, as that of `Columns` is.
 impl Drop for Tree {
     fn drop(self) {
-        let Tree { alloc: _, root: _ } = self;
+        let Tree {
+            alloc: _,
+            root: _,
+            layers: _,
+        } = self;
     }
 }
 
 impl Model for Tree {
     ghost use Rattle.std.specs.Prelude.{Option};
     ghost use Rattle.mt_tree.specs.Nodes.{NodeView};
-    ghost use Rattle.mt_tree.specs.Trees.{tree_walk, IsTree};
+    ghost use Rattle.mt_tree.specs.Trees.{tree_walk, IsTree, HasLayers};
     ghost use Rattle.mt_tree.specs.Layer.{FitsAfter};
 
     ghost Value = { Option NodeView };
 
     ghost view = { λ t. t.root };
 
-    ghost invariant = { λ t. IsTree t.root × FitsAfter 0 (tree_walk t.root) };
+    ghost invariant = { λ t. IsTree t.root × FitsAfter 0 (tree_walk t.root) × HasLayers t.root t.layers };
 }
 
 impl Draft {
@@ -136,12 +142,17 @@ impl Draft {
     {
         let alloc = self.layer.allocator();
         if self.layer.is_empty() {
-            return Ok(Tree { alloc, root: None });
+            return Ok(Tree {
+                alloc,
+                root: None,
+                layers: 1,
+            });
         }
-        let root = finish(alloc, self.layer)?;
+        let Finished { made, below } = finish(alloc, self.layer)?;
         Ok(Tree {
             alloc,
-            root: Some(root),
+            root: Some(made),
+            layers: below.saturating_add(1),
         })
     }
 }
@@ -201,11 +212,8 @@ impl Tree {
     pub fn layers(&self) -> u64
         ensures counts { CountsLayers (tree_walk self.now) result }
         ensures exact { (n : ℕ) → IsLayers (tree_walk self.now) n → result ≡ min n (2 ^ 64 - 1) }
-        ensures trees { result ≡ min (tree_count self.now) (2 ^ 64 - 1) }
+        ensures trees { HasLayers self.now result }
     {
-        match &self.root {
-            None => 1,
-            Some(root) => root.links_below().saturating_add(1),
-        }
+        self.layers
     }
 }

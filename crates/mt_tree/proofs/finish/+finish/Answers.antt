@@ -1,4 +1,4 @@
-use Rattle.std.proofs.Common.{◌≡◌, ◌≤◌, ◌<◌, ◌++◌, List, [], ap, sym, subst, ◌∙◌, arith, rules, ◌∷◌, append_assoc}
+use Rattle.std.proofs.Common.{◌≡◌, ◌≤◌, ◌<◌, ◌++◌, List, [], ap, sym, subst, ◌∙◌, arith, rules, ◌∷◌, append_assoc, ◌-◌, ◌^◌, min, length}
 use Rattle.std.proofs.lemmas.List.{append-nil, map-append, nil_from_length}
 use Rattle.std.specs.Vec.Iter.{into_iter_items}
 use Rattle.mt_tree.specs.Layer.{PlaceView, link, IsPlace, weight, walk, pairs_at}
@@ -11,10 +11,10 @@ use Rattle.mt_tree.specs.NodeViews.{views, view_of, trees_of, trees_of_content}
 use Rattle.mt_tree.proofs.Levels.{place_weight, place_lawful, link_lighter}
 use Rattle.std.specs.List.{AllByRecursion, flat_map}
 use Rattle.std.proofs.lemmas.Result.{IfOk-weaker}
-use Rattle.mt_tree.specs.Nodes.{NodeView, IsNodeAt, AreBelow, borders_of, below_of, each_borders}
-use Rattle.mt_tree.proofs.Ends.{middle, link_some, border_done, below_push, carried, all_carried, each_flat}
+use Rattle.mt_tree.specs.Nodes.{NodeView, LayerView, IsNodeAt, AreBelow, IsTreeCount, borders_of, below_of, each_borders}
+use Rattle.mt_tree.proofs.Ends.{middle, link_some, border_done, below_push, counted_push, carried, all_carried, each_flat}
 use Rattle.mt_tree.proofs.finish.+finish.Goals as goal
-use Rattle.mt_tree.proofs.finish.+finish.Goals.{finish_border-in-Open+in_ok-places-in-Open, finish_border-in-Closed}
+use Rattle.mt_tree.proofs.finish.+finish.Goals.{finish_border-in-Open+in_ok-closed-in-Open, finish_border-in-Closed}
 
 pub finish-loop-border-init : goal.finish-loop-border-init
 finish-loop-border-init t c =
@@ -25,6 +25,7 @@ finish-loop-border-init t c =
       layers = (λ i. flat_map (λ (n : NodeView). each_borders n.below) (none i) ++ flat_map layers_of_border (given i)) ∙ ap (λ (d : DraftView). d.below) c.layer.view_is;
       nodes = subst (AllByRecursion (IsNodeAt 0)) (sym none) tt;
       links = subst (AllByRecursion HasLawfulLinks) (sym given) c.layer.invariant.links;
+      count = ap (λ (z : List NodeView). min (length (below_of z)) (2 ^ 64 - 1)) (sym none);
     }
 
 pub finish-returns-clause-below : goal.finish-returns-clause-below
@@ -33,13 +34,16 @@ finish-returns-clause-below t c =
     let nodes = c.loop-border.nodes.items in
     let layers : each_borders (below_of nodes) ≡ c.args.layer.below =
     sym (each_flat (λ (n : NodeView). n.below) nodes) ∙ all_carried (λ (n : NodeView). each_borders n.below) layers_of_border nodes _ _ c.loop-border.invariant.layers none in
-    IfOk-weaker c.stack.result _ _ (λ node is. ap each_borders is ∙ layers) c.stack.ensures.below
+    ap each_borders c.in_ok-made.ensures.below ∙ layers
+
+pub finish-returns-clause-count : goal.finish-returns-clause-count
+finish-returns-clause-count t c = subst (λ (z : List LayerView). IsTreeCount z c.loop-border.below) (sym c.in_ok-made.ensures.below) c.loop-border.invariant.count
 
 pub close-returns-clause-layers : goal.close-returns-clause-layers
 close-returns-clause-layers t c =
     let none : into_iter_items c.loop-place.place-iterator ≡ [] = nil_from_length (into_iter_items c.loop-place.place-iterator) (omega (arith, c.in-None.ensures.steps.0)) in
-    sym (each_flat (λ (p : Place). trees_of_content p.content) c.loop-place.closed.items)
-    ∙ all_carried (λ (p : Place). each_borders (trees_of_content p.content)) (λ (p : DraftPlace). layers_of_content p.content) c.loop-place.closed.items _ _ c.loop-place.invariant.layers none
+    sym (each_flat (λ (p : Place). trees_of_content p.content) c.loop-place.made.items)
+    ∙ all_carried (λ (p : Place). each_borders (trees_of_content p.content)) (λ (p : DraftPlace). layers_of_content p.content) c.loop-place.made.items _ _ c.loop-place.invariant.layers none
 
 pub finish-finish_border-requires : goal.finish-finish_border-requires
 finish-finish_border-requires t c =
@@ -61,29 +65,29 @@ close-returns-clause-same t c =
     let none : into_iter_items c.loop-place.place-iterator ≡ [] = nil_from_length (into_iter_items c.loop-place.place-iterator) (omega (arith, c.in-None.ensures.steps.0)) in
     all_done _ _ _ c.loop-place.invariant.same none
 
-pub finish_border-invariant_of-result : goal.finish_border-invariant_of-result
-finish_border-invariant_of-result t c =
+pub finish_border-invariant_of-made : goal.finish_border-invariant_of-made
+finish_border-invariant_of-made t c =
     elim c.match-border.branch [
-      | finish_border-in-Open+in_ok-places-in-Open w ↦
-          let is = ap (λ v. v.items) w.places-is in
-          let same : views c.match-border.places.items ≡ border_view c.args.border = ap views is ∙ w.in_ok-places-in-Open.ensures.same ∙ sym (ap border_view w.in-Open.is) in
-          border_done _ (border_view c.args.border) same c.requires.some c.requires.lawful (subst (λ (z : List Place). AreBelow (views z) (trees_of z)) (sym is) w.in_ok-places-in-Open.ensures.below)
+      | finish_border-in-Open+in_ok-closed-in-Open w ↦
+          let is = ap (λ f. f.made.items) w.closed-is in
+          let same : views c.match-border.closed.made.items ≡ border_view c.args.border = ap views is ∙ w.in_ok-closed-in-Open.ensures.same ∙ sym (ap border_view w.in-Open.is) in
+          border_done _ (border_view c.args.border) same c.requires.some c.requires.lawful (subst (λ (z : List Place). AreBelow (views z) (trees_of z)) (sym is) w.in_ok-closed-in-Open.ensures.below)
       | finish_border-in-Closed w ↦
-          let is = ap (λ v. v.items) w.places-is in
-          let links : AreBelow (views w.in-Closed.places.items) (trees_of w.in-Closed.places.items) = subst HasLawfulLinks w.in-Closed.is c.requires.links in
+          let is = ap (λ f. f.made.items) w.closed-is in
+          let links : AreBelow (views w.in-Closed.closed.made.items) (trees_of w.in-Closed.closed.made.items) = (subst HasLawfulLinks w.in-Closed.is c.requires.links).0 in
           border_done _ (border_view c.args.border) (ap views is ∙ sym (ap border_view w.in-Closed.is)) c.requires.some c.requires.lawful (subst (λ (z : List Place). AreBelow (views z) (trees_of z)) (sym is) links)
     ]
 
 pub finish_border-returns-clause-lawful : goal.finish_border-returns-clause-lawful
 finish_border-returns-clause-lawful t c =
     elim c.match-border.branch [
-      | finish_border-in-Open+in_ok-places-in-Open w ↦
-          let is = ap (λ v. v.items) w.places-is in
-          let same : views c.match-border.places.items ≡ border_view c.args.border = ap views is ∙ w.in_ok-places-in-Open.ensures.same ∙ sym (ap border_view w.in-Open.is) in
-          border_done _ (border_view c.args.border) same c.requires.some c.requires.lawful (subst (λ (z : List Place). AreBelow (views z) (trees_of z)) (sym is) w.in_ok-places-in-Open.ensures.below)
+      | finish_border-in-Open+in_ok-closed-in-Open w ↦
+          let is = ap (λ f. f.made.items) w.closed-is in
+          let same : views c.match-border.closed.made.items ≡ border_view c.args.border = ap views is ∙ w.in_ok-closed-in-Open.ensures.same ∙ sym (ap border_view w.in-Open.is) in
+          border_done _ (border_view c.args.border) same c.requires.some c.requires.lawful (subst (λ (z : List Place). AreBelow (views z) (trees_of z)) (sym is) w.in_ok-closed-in-Open.ensures.below)
       | finish_border-in-Closed w ↦
-          let is = ap (λ v. v.items) w.places-is in
-          let links : AreBelow (views w.in-Closed.places.items) (trees_of w.in-Closed.places.items) = subst HasLawfulLinks w.in-Closed.is c.requires.links in
+          let is = ap (λ f. f.made.items) w.closed-is in
+          let links : AreBelow (views w.in-Closed.closed.made.items) (trees_of w.in-Closed.closed.made.items) = (subst HasLawfulLinks w.in-Closed.is c.requires.links).0 in
           border_done _ (border_view c.args.border) (ap views is ∙ sym (ap border_view w.in-Closed.is)) c.requires.some c.requires.lawful (subst (λ (z : List Place). AreBelow (views z) (trees_of z)) (sym is) links)
     ]
 
@@ -105,7 +109,8 @@ place_moved xs ys left next d p all e f g h =
 
 pub close-loop-place-preserved : goal.close-loop-place-preserved
 close-loop-place-preserved t c = record {
-  same = place_moved _ _ _ _ _ _ _ c.loop-place.invariant.same c.in-Some.ensures.steps.0 c.in_ok-finished.ensures.same c.in_ok-push.ensures.items;
-  layers = carried (λ (p : Place). each_borders (trees_of_content p.content)) (λ (p : DraftPlace). layers_of_content p.content) _ _ _ _ _ _ _ c.loop-place.invariant.layers c.in-Some.ensures.steps.0 c.in_ok-finished.ensures.layers c.in_ok-push.ensures.items;
-  below = below_push _ _ _ c.loop-place.invariant.below c.in_ok-finished.ensures.below c.in_ok-push.ensures.items;
+  same = place_moved _ _ _ _ _ _ _ c.loop-place.invariant.same c.in-Some.ensures.steps.0 c.in_ok-place.ensures.same c.in_ok-push.ensures.items;
+  layers = carried (λ (p : Place). each_borders (trees_of_content p.content)) (λ (p : DraftPlace). layers_of_content p.content) _ _ _ _ _ _ _ c.loop-place.invariant.layers c.in-Some.ensures.steps.0 c.in_ok-place.ensures.layers c.in_ok-push.ensures.items;
+  below = below_push _ _ _ c.loop-place.invariant.below c.in_ok-place.ensures.below c.in_ok-push.ensures.items;
+  count = counted_push (λ (p : Place). trees_of_content p.content) _ _ _ _ _ _ c.loop-place.invariant.count c.in_ok-place.ensures.count c.saturating_add-below.ensures c.in_ok-push.ensures.items;
 }

@@ -12,5 +12,5 @@ returns c =
           put_border _ _ _ _ (c.in_ok-push.ensures.items ∙ ap (λ (b : Border). c.args.borders.now.items ++ b ∷ []) w.border-is) refl c.requires.lawful c.requires.some (λ h. h) (λ none. tt)
       | else-is_empty+in_ok-close w ↦
           let some : c.args.borders.now.items ≡ [] → ⊥ = search (rules, w.if-is_empty) in
-          put_border _ _ _ _ (c.in_ok-push.ensures.items ∙ ap (λ (b : Border). c.args.borders.now.items ++ b ∷ []) w.border-is) w.in_ok-close.ensures.same c.requires.lawful c.requires.some (λ h. w.in_ok-close.ensures.below) (λ none. absurd (some none))
+          put_border _ _ _ _ (c.in_ok-push.ensures.items ∙ ap (λ (b : Border). c.args.borders.now.items ++ b ∷ []) w.border-is) w.in_ok-close.ensures.same c.requires.lawful c.requires.some (λ h. (w.in_ok-close.ensures.below, w.in_ok-close.ensures.count)) (λ none. absurd (some none))
     ]
