@@ -10,8 +10,9 @@ use rayon::prelude::*;
 use std::alloc::Global;
 use std::thread::Threads;
 
-/// How many keys of a list are in the sample.
-const KEYS_OF_LIST: usize = 16;
+/// How many keys of a list are in the sample at the most: a few for each of the pieces that it is cut into, so that no
+/// piece gets much more than its share.
+const KEYS_OF_LIST: usize = 64;
 
 /// Keys at equal distances in each list, each once, in order.
 pub(crate) fn sample<'a>(
@@ -39,14 +40,14 @@ fn some_keys(alloc: Global, lists: &[LogCells]) -> Result<Vec<&[u8]>, Memory>
     Ok(keys)
 }
 
-/// Adds keys at equal distances.
+/// Adds keys at equal distances, each from the middle of those that it stands for.
 fn add_some<'a>(keys: &mut Vec<&'a [u8]>, cells: &'a LogCells) -> Result<(), Memory>
     ensures { OnOk result (All (IsKey widest) (map (λ key. key.now) keys.old.items) →
         All (IsKey widest) (map (λ key. key.now) keys.new.items)) }
 {
     let distance = cells.len() / KEYS_OF_LIST + 1;
     for number in 0..cells.len() / distance {
-        keys.push(cells.get(number * distance).key())?;
+        keys.push(cells.get(number * distance + distance / 2).key())?;
     }
     Ok(())
 }
