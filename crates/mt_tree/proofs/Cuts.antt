@@ -3,10 +3,6 @@ use Rattle.std.proofs.Common.{◌≡◌, ℕ, suc, ◌+◌, ◌*◌, ◌≤◌, 
 use Rattle.std.proofs.lemmas.List.{append-nil}
 use Rattle.mt_tree.specs.Layer.{PlaceView, slice_at, rank_at, IsLayerFrom, IsLayer}
 use Rattle.mt_tree.specs.Nodes.{NodeView, border, none, borders_of, SlicesFrom, IsLayerTree, IsLevelAt, IsLevel, CutAt, OfSlice, border_tree}
-use Rattle.mt_tree.specs.NodeViews.{view_of, view_of_content}
-use Rattle.mt_tree.specs.declared.node.Content.{Content}
-use Rattle.mt_tree.specs.declared.node.Content.TheVariants.{Short, Suffix, Link}
-use Rattle.mt_tree.specs.declared.node.Place.{Place}
 use Rattle.mt_tree.proofs.Joins.{length_at-le}
 
 -- ---- layers and their parts

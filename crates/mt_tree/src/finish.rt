@@ -129,10 +129,7 @@ fn finish_border(alloc: Global, border: Border) -> Result<Finished<Node>, Memory
 
 /// These places, with all that lies below them finished.
 #[cycle(finish)]
-pub(crate) fn close(
-    alloc: Global,
-    places: Vec<DraftPlace>,
-) -> Result<Finished<Vec<Place>>, Memory>
+pub(crate) fn close(alloc: Global, places: Vec<DraftPlace>) -> Result<Finished<Vec<Place>>, Memory>
     requires { IsLayer (draft_views places.items) }
     ensures same { IfOk result (λ closed. views closed.made.items ≡ draft_views places.items) }
     ensures layers { IfOk result (λ closed. each_borders (trees_of closed.made.items) ≡ layers_of places.items) }

@@ -10,7 +10,6 @@ use Rattle.mt_tree.specs.declared.node.Place.{Place}
 use Rattle.mt_tree.specs.NodeViews.{views, view_of, trees_of, trees_of_content}
 use Rattle.mt_tree.proofs.Levels.{place_weight, place_lawful, link_lighter}
 use Rattle.std.specs.List.{AllByRecursion, flat_map}
-use Rattle.std.proofs.lemmas.Result.{IfOk-weaker}
 use Rattle.mt_tree.specs.Nodes.{NodeView, LayerView, IsNodeAt, AreBelow, IsTreeCount, borders_of, below_of, each_borders}
 use Rattle.mt_tree.proofs.Ends.{middle, link_some, border_done, below_push, counted_push, carried, all_carried, each_flat}
 use Rattle.mt_tree.proofs.finish.+finish.Goals as goal

@@ -1,5 +1,4 @@
 use Rattle.std.proofs.Common.{◌≡◌, [], ◌∷◌, ◌++◌, refl, ap, ◌∙◌, rules}
-use Rattle.mt_tree.specs.DraftViews.{draft_views}
 use Rattle.mt_tree.specs.declared.layer.Border.{Border}
 use Rattle.mt_tree.proofs.Puts.{put_border}
 use Rattle.mt_tree.proofs.layer.push_closed.Goals as goal

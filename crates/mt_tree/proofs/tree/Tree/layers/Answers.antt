@@ -1,4 +1,3 @@
-use Rattle.std.proofs.Common.{subst}
 use Rattle.mt_tree.proofs.Counts.{counted}
 use Rattle.mt_tree.proofs.Uniques.{stops_once}
 use Rattle.mt_tree.proofs.tree.Tree.layers.Goals as goal
