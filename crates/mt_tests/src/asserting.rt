@@ -3,22 +3,12 @@
 use std::fmt::Debug;
 use std::process::Abort;
 
-/// Both values are equal, in this case of several.
-pub fn assert_same_in<T: PartialEq + Debug, C: Debug>(
-    rt: &impl Abort,
-    case: &C,
-    found: &T,
-    expected: &T,
-) {
-    assert_eq!(rt; found, expected, "{case:?}");
-}
-
 /// Both values are equal.
 pub fn assert_same<T: PartialEq + Debug>(rt: &impl Abort, found: &T, expected: &T) {
-    assert_same_in(rt, &"", found, expected);
+    assert_eq!(rt; found, expected);
 }
 
-/// Both lists of bytes are equal.
-pub fn assert_bytes(rt: &impl Abort, found: &[u8], expected: &[u8]) {
-    assert_same(rt, &found, &expected);
+/// Both texts are equal, in this case of several.
+pub fn assert_bytes(rt: &impl Abort, case: &str, found: &[u8], expected: &[u8]) {
+    assert_eq!(rt; found, expected, "{case}");
 }

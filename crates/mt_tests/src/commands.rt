@@ -1,36 +1,64 @@
-//! The words of `mtrecover`: what they ask for, and what is said of those that cannot be taken.
-use crate::asserting::{assert_bytes, assert_same_in};
-use crate::devices::FULL;
-use mt_cli::command;
+//! The words of both programs: what they ask for, what is printed and said on them, and how the run ends.
+use crate::asserting::assert_bytes;
+use crate::devices::{Device, Output};
+use mt_cli::{command, run_words};
+use mt_recover::dump_files;
+use std::fs::Files;
 use std::process::Abort;
+use std::thread::Threads;
 
-/// The words of a line behind the program's name, with this folder for an F that begins one. Two spaces beside each other
-/// hold the empty word.
+/// The words of a line behind the program's name, with this folder for the letter F. Two spaces beside each other hold
+/// the empty word.
 pub fn words_on<R: Abort + AllocGlobal>(rt: &R, line: &str, folder: &str) -> Vec<String> {
     let mut words = Vec::new(rt.alloc());
     for word in line.split(' ').skip(1) {
-        words.push(word_on(rt, word, folder)).expect(rt, "memory");
+        let word = word.replace(rt.alloc(), "F", folder).expect(rt, "memory");
+        words.push(word).expect(rt, "memory");
     }
     words
 }
 
-/// The word, with this folder for an F that begins it.
-fn word_on<R: Abort + AllocGlobal>(rt: &R, word: &str, folder: &str) -> String {
-    let (folder, rest) = match word.strip_prefix("F") {
-        Some(rest) => (folder, rest),
-        None => ("", word),
+/// How a run ends: its status, output and error output. A text that ends in `..` stands for all that begin so.
+pub type Ends<'a> = (u8, &'a str, &'a str);
+
+/// An output and an error output that work.
+pub const BOTH_WORK: [Device; 2] = [Device::Works, Device::Works];
+
+/// The run on these words, with the folder for the letter F and on these outputs, ends so.
+pub fn assert_run<R>(rt: &R, folder: &str, line: &str, [out, err]: [Device; 2], expected: Ends)
+where
+    R: Abort + AllocGlobal + Clone + Drop + Files + Threads + Sync,
+    R::File: Send,
+{
+    let words = words_on(rt, line, folder);
+    let mut out = Output::new(rt.alloc(), out);
+    let mut err = Output::new(rt.alloc(), err);
+    let status = if line.starts_with("mtdump") {
+        dump_files(rt, &words, &mut out, &mut err)
+    } else {
+        run_words(rt, &words, &mut out, &mut err)
     };
-    format!(in rt.alloc(); "{folder}{rest}").expect(rt, "memory")
+    assert_ends(rt, line, (status, &out.text, &err.text), expected);
 }
 
-/// The words are taken so.
-fn assert_taken<R: Abort + AllocGlobal>(rt: &R, line: &str, taken: &str) {
-    let words = words_on(rt, line, "F");
-    let mut out = Vec::new(rt.alloc());
-    let command = command(rt, &words, &mut out, &mut FULL).expect(rt, "a command");
-    let text = format!(in rt.alloc(); "{command:?}").expect(rt, "memory");
-    assert_same_in(rt, &line, &text.as_str(), &taken);
-    assert_bytes(rt, &out, b"");
+/// The run on this line ended as it was to.
+fn assert_ends<R: Abort>(
+    rt: &R,
+    line: &str,
+    (status, out, err): (u8, &[u8], &[u8]),
+    (expected, output, errors): Ends,
+) {
+    assert_eq!(rt; status, expected, "{line}");
+    assert_text(rt, line, out, output);
+    assert_text(rt, line, err, errors);
+}
+
+/// The text is as it is to be.
+fn assert_text<R: Abort>(rt: &R, line: &str, found: &[u8], expected: &str) {
+    match expected.strip_suffix("..") {
+        Some(beginning) => assert!(rt; found.starts_with(beginning.as_bytes()), "{line}"),
+        None => assert_bytes(rt, line, found, expected.as_bytes()),
+    }
 }
 
 /// Lines that are taken, and what they ask for.
@@ -62,140 +90,133 @@ fn takes_the_words_of_each_subcommand(rt: HostRuntime) {
     }
 }
 
-/// The words are not taken: the status, and what begins what is printed on each output.
-fn assert_untaken<R: Abort + AllocGlobal>(
-    rt: &R,
-    line: &str,
-    status: u8,
-    output: &str,
-    errors: &str,
-) {
+/// The words are taken so, and nothing is printed.
+fn assert_taken<R: Abort + AllocGlobal>(rt: &R, line: &str, taken: &str) {
     let words = words_on(rt, line, "F");
-    let mut out = Vec::new(rt.alloc());
-    let mut err = Vec::new(rt.alloc());
-    let refused = command(rt, &words, &mut out, &mut err).err();
-    assert_same_in(rt, &line, &refused, &Some(status));
-    assert_begins(rt, &out, output);
-    assert_begins(rt, &err, errors);
+    let mut out = Output::new(rt.alloc(), Device::Full);
+    let mut err = Output::new(rt.alloc(), Device::Full);
+    let command = command(rt, &words, &mut out, &mut err).expect(rt, "a command");
+    let text = format!(in rt.alloc(); "{command:?}").expect(rt, "memory");
+    assert_bytes(rt, line, text.as_bytes(), taken.as_bytes());
 }
 
-/// The bytes begin so, or there are none where nothing is to be there.
-fn assert_begins<R: Abort>(rt: &R, bytes: &[u8], beginning: &str) {
-    assert!(rt; bytes.starts_with(beginning.as_bytes()));
-    assert!(rt; bytes.is_empty() == beginning.is_empty());
-}
-
-/// Lines that are not taken: the status, and what begins what is printed and what is said of a fault.
-const UNTAKEN: &[(&str, u8, &str, &str)] = &[
-    ("mtrecover", 2, "", "Recovers the store"),
+/// Lines that are not taken, and how the run ends.
+const UNTAKEN: &[(&str, Ends<'static>)] = &[
+    ("mtrecover", (2, "", "Recovers the store..")),
     (
         "mtrecover keep F",
-        2,
-        "",
-        "error: unrecognized subcommand 'keep'\n",
+        (2, "", "error: unrecognized subcommand 'keep'\n.."),
     ),
     (
         "mtrecover report",
-        2,
-        "",
-        "error: the following required arguments were not provided:\n  <DIR>\n",
+        (
+            2,
+            "",
+            "error: the following required arguments were not provided:\n  <DIR>\n..",
+        ),
     ),
     (
         "mtrecover report F --all",
-        2,
-        "",
-        "error: unexpected argument '--all' found\n",
+        (2, "", "error: unexpected argument '--all' found\n.."),
     ),
     (
         "mtrecover --workers 2 report F",
-        2,
-        "",
-        "error: unexpected argument '--workers' found\n",
+        (2, "", "error: unexpected argument '--workers' found\n.."),
     ),
     (
         "mtrecover report F --workers 0",
-        2,
-        "",
-        "error: invalid value '0' for '--workers <N>': 0 is not in 1..=64\n",
+        (
+            2,
+            "",
+            "error: invalid value '0' for '--workers <N>': 0 is not in 1..=64\n..",
+        ),
     ),
     (
         "mtrecover report F --workers 65",
-        2,
-        "",
-        "error: invalid value '65' for '--workers <N>': 65 is not in 1..=64\n",
+        (
+            2,
+            "",
+            "error: invalid value '65' for '--workers <N>': 65 is not in 1..=64\n..",
+        ),
     ),
     (
         "mtrecover dump F --pieces 0",
-        2,
-        "",
-        "error: invalid value '0' for '--pieces <P>': 0 is not in 1..=4096\n",
+        (
+            2,
+            "",
+            "error: invalid value '0' for '--pieces <P>': 0 is not in 1..=4096\n..",
+        ),
     ),
     (
         "mtrecover dump F --pieces 4097",
-        2,
-        "",
-        "error: invalid value '4097' for '--pieces <P>': 4097 is not in 1..=4096\n",
+        (
+            2,
+            "",
+            "error: invalid value '4097' for '--pieces <P>': 4097 is not in 1..=4096\n..",
+        ),
     ),
     (
         "mtrecover range F 6 4294967296",
-        2,
-        "",
-        "error: invalid value '4294967296' for '<COUNT>': 4294967296 is not in 0..=4294967295\n",
+        (
+            2,
+            "",
+            "error: invalid value '4294967296' for '<COUNT>': 4294967296 is not in 0..=4294967295\n..",
+        ),
     ),
     (
         "mtrecover range F 6 -1",
-        2,
-        "",
-        "error: unexpected argument '-1' found\n",
+        (2, "", "error: unexpected argument '-1' found\n.."),
     ),
-    ("mtrecover get F 6", 2, "", "mtrecover: bad key\n"),
-    ("mtrecover range F 6g 1", 2, "", "mtrecover: bad key\n"),
-    ("mtrecover --help", 0, "Recovers the store", ""),
-    ("mtrecover help range", 0, "Prints the first pairs", ""),
+    ("mtrecover get F 6", (2, "", "mtrecover: bad key\n")),
+    ("mtrecover range F 6g 1", (2, "", "mtrecover: bad key\n")),
+    ("mtrecover --help", (0, "Recovers the store..", "")),
+    ("mtrecover help range", (0, "Prints the first pairs..", "")),
     (
         "mtrecover get --help",
-        0,
-        "Prints the pair of a key, or `absent`\n\nUsage: mtrecover get [OPTIONS] <DIR> <KEY>\n",
-        "",
+        (
+            0,
+            "Prints the pair of a key, or `absent`\n\nUsage: mtrecover get [OPTIONS] <DIR> <KEY>\n..",
+            "",
+        ),
     ),
-    ("mtrecover --version", 0, "mtrecover 1.0\n", ""),
+    ("mtrecover --version", (0, "mtrecover 1.0\n", "")),
 ];
 
 #[test]
 fn prints_help_and_the_faults_of_words(rt: HostRuntime) {
-    for (line, status, output, errors) in UNTAKEN {
-        assert_untaken(&rt, line, *status, output, errors);
+    for (line, expected) in UNTAKEN {
+        assert_run(&rt, "F", line, BOTH_WORK, *expected);
     }
 }
+
+/// What begins a line, a text that stands so often behind it, and how the run ends.
+const LONG: &[(&str, &str, usize, Ends<'static>)] = &[
+    (
+        "mtrecover get F ",
+        "6b",
+        1024,
+        (3, "", "mtrecover: cannot list F\n"),
+    ),
+    (
+        "mtrecover get F ",
+        "6b",
+        1025,
+        (2, "", "mtrecover: bad key\n"),
+    ),
+    (
+        "mtdump",
+        " none",
+        512,
+        (3, "", "mtdump: cannot open none\n"),
+    ),
+    ("mtdump", " none", 513, (3, "", "mtdump: too many files\n")),
+];
 
 #[test]
-fn takes_a_key_of_the_greatest_length_and_none_past_it(rt: HostRuntime) {
-    let digits = "6b".repeat(rt.alloc(), 1024).expect(&rt, "memory");
-    for (more, refused) in [("", None), ("00", Some(2))] {
-        let line = format!(in rt.alloc(); "mtrecover get F {digits}{more}").expect(&rt, "memory");
-        assert_unprinted(&rt, line.as_str(), refused);
+fn takes_the_longest_key_and_the_most_files_and_none_past_them(rt: HostRuntime) {
+    for (line, more, times, expected) in LONG {
+        let more = more.repeat(rt.alloc(), *times).expect(&rt, "memory");
+        let line = format!(in rt.alloc(); "{line}{more}").expect(&rt, "memory");
+        assert_run(&rt, "F", line.as_str(), BOTH_WORK, *expected);
     }
-}
-
-/// The words are taken or refused so, where nothing can be printed.
-fn assert_unprinted<R: Abort + AllocGlobal>(rt: &R, line: &str, refused: Option<u8>) {
-    let words = words_on(rt, line, "F");
-    let found = command(rt, &words, &mut FULL, &mut FULL).err();
-    assert_same_in(rt, &line, &found, &refused);
-}
-
-#[test]
-fn texts_that_cannot_be_printed_have_a_status(rt: HostRuntime) {
-    // A fault of the words that cannot be printed changes no status.
-    for (line, status) in [
-        ("mtrecover --help", 3),
-        ("mtrecover get F 6", 2),
-        ("mtrecover", 2),
-    ] {
-        assert_unprinted(&rt, line, Some(status));
-    }
-    let words = words_on(&rt, "mtrecover --version", "F");
-    let mut err = Vec::new(rt.alloc());
-    assert!(rt; command(&rt, &words, &mut FULL, &mut err).is_err());
-    assert_bytes(&rt, &err, b"mtrecover: output failed\n");
 }

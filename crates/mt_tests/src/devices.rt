@@ -1,30 +1,53 @@
 //! Outputs that fail.
+use std::alloc::Global;
 use std::io::{self, ErrorKind, Write};
 
-/// A full device: it takes no byte, or it has a buffer, and is full once that is written.
+/// What becomes of what is written.
 #[derive(Clone, Copy)]
-pub struct Full {
-    pub has_buffer: bool,
+pub enum Device {
+    /// It is kept.
+    Works,
+    /// The device takes no byte.
+    Full,
+    /// The device has a buffer, and is full once that is written.
+    Unflushed,
 }
 
-/// One that takes no byte.
-pub const FULL: Full = Full { has_buffer: false };
+/// An output, and what was written to it.
+#[derive(Drop)]
+pub struct Output {
+    pub text: Vec<u8>,
+    device: Device,
+}
 
-/// One that is full once its buffer is written.
-pub const UNFLUSHED: Full = Full { has_buffer: true };
-
-impl Write for Full {
-    fn write(&mut self, bytes: &[u8]) -> io::Result<usize> {
-        if self.has_buffer {
-            return Ok(bytes.len());
+impl Output {
+    /// Nothing is written yet.
+    pub fn new(alloc: Global, device: Device) -> Output {
+        Output {
+            text: Vec::new(alloc),
+            device,
         }
-        Err(io::Error::from(ErrorKind::StorageFull))
+    }
+}
+
+/// What a full device says.
+fn full() -> io::Error {
+    io::Error::from(ErrorKind::StorageFull)
+}
+
+impl Write for Output {
+    fn write(&mut self, bytes: &[u8]) -> io::Result<usize> {
+        match self.device {
+            Device::Works => self.text.write(bytes),
+            Device::Full => Err(full()),
+            Device::Unflushed => Ok(bytes.len()),
+        }
     }
 
     fn flush(&mut self) -> io::Result<()> {
-        if self.has_buffer {
-            return Err(io::Error::from(ErrorKind::StorageFull));
+        match self.device {
+            Device::Unflushed => Err(full()),
+            _ => Ok(()),
         }
-        Ok(())
     }
 }

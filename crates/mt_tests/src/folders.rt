@@ -1,16 +1,11 @@
 //! Runs of both programs on files and folders.
-use crate::asserting::assert_same_in;
-use crate::commands::words_on;
-use crate::devices::{FULL, UNFLUSHED};
+use crate::commands::{BOTH_WORK, Ends, assert_run};
+use crate::devices::Device::{self, Full, Unflushed, Works};
 use crate::logs::{HEADER, LATE_HEADER, LOG_A, LOG_B, PART};
-use mt_cli::run_words;
-use mt_recover::dump_files;
 use std::env::{Env, temp_dir};
 use std::fs::{self, Files, OpenFile};
-use std::io::Write;
 use std::os::unix::fs::symlink;
 use std::process::Abort;
-use std::thread::Threads;
 
 /// Makes an empty folder for a test of this process.
 fn folder_of<R: Abort + AllocGlobal + Env + Files>(rt: &R, id: u32, name: &str) -> String {
@@ -52,70 +47,108 @@ pub fn remove<R: Abort + Alloc + Files>(rt: &R, folder: &str) {
     fs::remove_dir_all(rt, folder).expect(rt, "the folder");
 }
 
-/// How a run ends: its status, output and error output.
-type Ends<'a> = (u8, &'a str, &'a str);
-
-/// The run on these words, with the folder for the letter F, ends with this status, output and error output.
-fn assert_run<R>(rt: &R, folder: &str, line: &str, expected: Ends)
-where
-    R: Abort + AllocGlobal + Clone + Drop + Files + Threads + Sync,
-    R::File: Send,
-{
-    let words = words_on(rt, line, folder);
-    let mut out = Vec::new(rt.alloc());
-    let mut err = Vec::new(rt.alloc());
-    let status = if line.starts_with("mtdump") {
-        dump_files(rt, &words, &mut out, &mut err)
-    } else {
-        run_words(rt, &words, &mut out, &mut err)
-    };
-    let (expected, output, errors) = expected;
-    assert_same_in(rt, &line, &status, &expected);
-    assert_same_in(rt, &line, &out.as_slice(), &output.as_bytes());
-    assert_same_in(rt, &line, &err.as_slice(), &errors.as_bytes());
-}
-
-/// Runs of both programs, with the folder for the letter F.
-const RUNS: &[(&str, Ends<'static>)] = &[
-    ("mtrecover get F 62", (0, "62: 0=79\n", "")),
-    ("mtrecover get F 63", (0, "absent\n", "")),
-    ("mtrecover get F  --workers 1", (0, "absent\n", "")),
-    ("mtrecover get F 6", (2, "", "mtrecover: bad key\n")),
-    ("mtrecover range F 61 1", (0, "61: 0=78\n", "")),
-    ("mtrecover range F  9", (0, "61: 0=78\n62: 0=79\n", "")),
+/// Runs of both programs, with the folder for the letter F, on outputs that work or fail.
+const RUNS: &[(&str, [Device; 2], Ends<'static>)] = &[
+    ("mtrecover get F 62", BOTH_WORK, (0, "62: 0=79\n", "")),
+    ("mtrecover get F 63", BOTH_WORK, (0, "absent\n", "")),
+    (
+        "mtrecover get F  --workers 1",
+        BOTH_WORK,
+        (0, "absent\n", ""),
+    ),
+    (
+        "mtrecover get F 6",
+        BOTH_WORK,
+        (2, "", "mtrecover: bad key\n"),
+    ),
+    ("mtrecover range F 61 1", BOTH_WORK, (0, "61: 0=78\n", "")),
+    (
+        "mtrecover range F  9",
+        BOTH_WORK,
+        (0, "61: 0=78\n62: 0=79\n", ""),
+    ),
     (
         "mtrecover range F 6100 9 --workers 8",
+        BOTH_WORK,
         (0, "62: 0=79\n", ""),
     ),
-    ("mtrecover range F 62 0", (0, "", "")),
+    ("mtrecover range F 62 0", BOTH_WORK, (0, "", "")),
     (
         "mtrecover dump F --pieces 1",
+        BOTH_WORK,
         (0, "61: 0=78\n62: 0=79\n", ""),
     ),
     (
         "mtrecover dump no-such-folder",
+        BOTH_WORK,
         (3, "", "mtrecover: cannot list no-such-folder\n"),
     ),
     (
         "mtrecover get no-such-folder 6",
+        BOTH_WORK,
         (2, "", "mtrecover: bad key\n"),
     ),
     // Each file is read before the next is opened, and all before any is recovered.
-    ("mtdump", (2, "", "mtdump: no files\n")),
+    ("mtdump", BOTH_WORK, (2, "", "mtdump: no files\n")),
     (
         "mtdump F no-such-file.mtl",
+        BOTH_WORK,
         (1, "", "mtdump: log 0: source failed\n"),
     ),
     (
         "mtdump F/c.txt no-such-file.mtl",
+        BOTH_WORK,
         (3, "", "mtdump: cannot open no-such-file.mtl\n"),
     ),
     (
         "mtdump F/c.txt --help",
+        BOTH_WORK,
         (3, "", "mtdump: cannot open --help\n"),
     ),
-    ("mtdump F/c.txt ", (3, "", "mtdump: cannot open \n")),
-    ("mtdump F/a.mtl F/c.txt", (1, "", "mtdump: log 1: header\n")),
+    (
+        "mtdump F/c.txt ",
+        BOTH_WORK,
+        (3, "", "mtdump: cannot open \n"),
+    ),
+    (
+        "mtdump F/a.mtl F/c.txt",
+        BOTH_WORK,
+        (1, "", "mtdump: log 1: header\n"),
+    ),
+    // Outputs that fail, and error outputs.
+    (
+        "mtrecover dump F",
+        [Full, Works],
+        (3, "", "mtrecover: output failed\n"),
+    ),
+    (
+        "mtrecover dump F",
+        [Unflushed, Works],
+        (3, "", "mtrecover: output failed\n"),
+    ),
+    // No write of no bytes is made.
+    ("mtrecover range F 62 0", [Full, Works], (0, "", "")),
+    ("mtdump F/d.txt", [Full, Works], (0, "", "")),
+    (
+        "mtdump F/a.mtl",
+        [Full, Works],
+        (3, "", "mtdump: output failed\n"),
+    ),
+    (
+        "mtdump F/a.mtl",
+        [Unflushed, Works],
+        (3, "", "mtdump: output failed\n"),
+    ),
+    (
+        "mtrecover --version",
+        [Full, Works],
+        (3, "", "mtrecover: output failed\n"),
+    ),
+    // A line that cannot be written changes no status.
+    ("mtrecover --help", [Full, Full], (3, "", "")),
+    ("mtrecover get F 6", [Full, Full], (2, "", "")),
+    ("mtrecover", [Full, Full], (2, "", "")),
+    ("mtdump", [Full, Full], (2, "", "")),
 ];
 
 #[test]
@@ -125,10 +158,11 @@ fn answers_queries_of_a_folder(rt: HostRuntime) {
         ("a.mtl", LOG_A),
         ("b.mtl", LOG_B),
         ("c.txt", b"\0".as_slice()),
+        ("d.txt", HEADER),
     ];
     let folder = folder_with(&rt, id, "queries", &files);
-    for (line, expected) in RUNS {
-        assert_run(&rt, folder.as_str(), line, *expected);
+    for (line, devices, expected) in RUNS {
+        assert_run(&rt, folder.as_str(), line, *devices, *expected);
     }
     remove(&rt, folder.as_str());
 }
@@ -197,77 +231,32 @@ fn tells_what_was_found_and_what_is_wrong(rt: HostRuntime) {
     let id = std::process::id(rt.process());
     for (name, entries, expected) in FOLDERS {
         let folder = folder_with(&rt, id, name, entries);
-        assert_run(&rt, folder.as_str(), "mtrecover report F", *expected);
+        let line = "mtrecover report F";
+        assert_run(&rt, folder.as_str(), line, BOTH_WORK, *expected);
         remove(&rt, folder.as_str());
     }
 }
 
-/// `mtdump` on these words, with this device for its output, ends with this status and this error output.
-fn assert_dump<R: Abort + AllocGlobal + Files, O: Write>(
-    rt: &R,
-    words: &[String],
-    output: &mut O,
-    (status, errors): (u8, &str),
-) {
-    let mut err = Vec::new(rt.alloc());
-    let found = dump_files(rt, words, output, &mut err);
-    assert_same_in(rt, &errors, &found, &status);
-    assert_same_in(rt, &errors, &err.as_slice(), &errors.as_bytes());
-}
-
-#[test]
-fn a_failing_output_of_mtdump_has_a_status(rt: HostRuntime) {
-    let id = std::process::id(rt.process());
-    let folder = folder_with(&rt, id, "output", &[("a.mtl", LOG_A), ("b.mtl", HEADER)]);
-    for (line, device, expected) in [
-        ("mtdump F/a.mtl", FULL, (3, "mtdump: output failed\n")),
-        ("mtdump F/a.mtl", UNFLUSHED, (3, "mtdump: output failed\n")),
-        // No write of no bytes is made.
-        ("mtdump F/b.mtl", FULL, (0, "")),
-    ] {
-        let words = words_on(&rt, line, folder.as_str());
-        let mut output = device;
-        assert_dump(&rt, &words, &mut output, expected);
-    }
-    // A line that cannot be written changes no status.
-    assert!(rt; dump_files(&rt, &[], &mut FULL, &mut FULL) == 2);
-    remove(&rt, folder.as_str());
-}
+/// Sizes of a file, and what is said of it. It has zeros alone: once such a file is read, its header is a fault.
+const SIZES: &[(u64, Ends<'static>)] = &[
+    (1_073_741_824, (1, "", "mtdump: log 0: header\n")),
+    (1_073_741_825, (1, "", "mtdump: log 0: source failed\n")),
+];
 
 #[test]
 fn a_file_of_the_greatest_size_is_read_and_none_past_it(rt: HostRuntime) {
     let id = std::process::id(rt.process());
-    let folder = folder_with(&rt, id, "large", &[("a.mtl", b"\0")]);
-    let words = words_on(&rt, "mtdump F/a.mtl", folder.as_str());
-    // Zeros alone: once such a file is read, its header is a fault.
-    for (size, errors) in [
-        (1_073_741_824, "mtdump: log 0: header\n"),
-        (1_073_741_825, "mtdump: log 0: source failed\n"),
-    ] {
-        resize(&rt, &words, size);
-        assert_dump(&rt, &words, &mut FULL, (1, errors));
+    let folder = folder_of(&rt, id, "large");
+    let path = format!(in rt.alloc(); "{folder}/a.mtl").expect(&rt, "memory");
+    for (size, expected) in SIZES {
+        make_file(&rt, path.as_str(), *size);
+        assert_run(&rt, folder.as_str(), "mtdump F/a.mtl", BOTH_WORK, *expected);
     }
     remove(&rt, folder.as_str());
 }
 
-/// Makes the first file as long as this.
-fn resize<R: Abort + Files>(rt: &R, names: &[String], size: u64) {
-    let name = names.first().expect(rt, "a name");
-    let mut options = fs::OpenOptions::new();
-    let file = options.write(true).open(rt, name.as_str());
-    file.expect(rt, "the file")
-        .set_len(size)
-        .expect(rt, "a long file");
-}
-
-#[test]
-fn takes_512_files_and_no_more(rt: HostRuntime) {
-    for (count, errors) in [
-        (512, "mtdump: cannot open none\n"),
-        (513, "mtdump: too many files\n"),
-    ] {
-        let line = " none".repeat(rt.alloc(), count).expect(&rt, "memory");
-        let words = words_on(&rt, line.as_str(), "");
-        assert_dump(&rt, &words, &mut FULL, (3, errors));
-    }
+/// Makes a file of so many zeros.
+fn make_file<R: Abort + Files>(rt: &R, path: &str, size: u64) {
+    let file = fs::File::create(rt, path).expect(rt, "a file");
+    file.set_len(size).expect(rt, "a long file");
 }

@@ -3,8 +3,6 @@
 #![tactic(auto)]
 
 #[cfg(test)]
-mod answering;
-#[cfg(test)]
 mod asserting;
 #[cfg(test)]
 mod commands;
@@ -30,9 +28,5 @@ mod refusals;
 mod replaying;
 #[cfg(test)]
 mod scanning;
-#[cfg(test)]
-mod sources;
-#[cfg(test)]
-mod tree;
 #[cfg(test)]
 mod words;

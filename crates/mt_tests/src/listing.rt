@@ -1,9 +1,9 @@
 //! Which entries of a folder are logs and parts, on folders of a test's own.
-use crate::asserting::{assert_bytes, assert_same_in};
-use mt_cli::names;
+use crate::asserting::assert_bytes;
+use mt_cli::{Names, names};
 use std::alloc::{Allocator, Global};
 use std::fs::{File, Files, Metadata, OpenOptions};
-use std::io::{self, ErrorKind, Read};
+use std::io::{self, ErrorKind, Read, Write};
 use std::process::Abort;
 
 /// A folder of so many entries with each of these names, each ended by a NUL, and then an end or a failure. It has
@@ -101,71 +101,69 @@ impl Files for Folder {
     }
 }
 
-/// The text of the names with commas between them.
-fn joined<R: Abort + AllocGlobal>(rt: &R, names: &[String]) -> String {
-    names.join(rt.alloc(), ",").expect(rt, "memory")
+/// Appends how many names there are, and each once.
+fn push_names<R: Abort + AllocGlobal>(rt: &R, mut names: Vec<String>, text: &mut Vec<u8>) {
+    let count = names.len();
+    names.dedup();
+    let names = names.join(rt.alloc(), ",").expect(rt, "memory");
+    writeln!(text, "{count}: {names}").expect(rt, "memory");
 }
 
-#[test]
-fn logs_and_parts_are_told_by_the_endings_of_names(rt: HostRuntime) {
-    let folder = Folder {
-        alloc: rt.alloc(),
-        names: &[
-            b"b.mtl\0",
-            b"10.mtc\0",
-            b"a.mtl.old\0",
-            b"\xc3\xa9.mtl\0",
-            b".mtl\0",
-            b"amtl\0",
-            b"9.mtc\0",
-            b"a.MTL\0",
-            b"A.mtl\0",
-            b".mtc\0",
-            b"a.mtl\0",
-            b"notes\0",
-        ],
-        times: 1,
-        end: None,
-    };
-    let mut err = Vec::new(rt.alloc());
-    let found = names(&folder, "F", &mut err).expect(&rt, "the names");
-    assert_same_in(
-        &rt,
-        &"logs",
-        &joined(&rt, &found.logs).as_str(),
-        &".mtl,A.mtl,a.mtl,b.mtl,\u{e9}.mtl",
-    );
-    assert_same_in(
-        &rt,
-        &"parts",
-        &joined(&rt, &found.parts).as_str(),
-        &".mtc,10.mtc,9.mtc",
-    );
-    assert_bytes(&rt, &err, b"");
-}
-
-#[test]
-fn folders_that_are_not_taken_have_a_text(rt: HostRuntime) {
-    for (names, times, end, status, expected) in UNTAKEN {
-        let folder = Folder {
-            alloc: rt.alloc(),
-            names,
-            times: *times,
-            end: *end,
-        };
-        assert_unlisted(&rt, &folder, *status, expected);
+/// What a folder has, or what is said of it and the status.
+fn told<R: Abort + AllocGlobal>(rt: &R, folder: &Folder) -> Vec<u8> {
+    let mut text = Vec::new(rt.alloc());
+    match names(folder, "F", &mut text) {
+        Ok(Names { logs, parts }) => {
+            push_names(rt, logs, &mut text);
+            push_names(rt, parts, &mut text);
+        }
+        Err(status) => writeln!(text, "{status}").expect(rt, "memory"),
     }
+    text
 }
 
-/// Folders by their names, how often each stands there and how the listing ends, with the status and the text.
-const UNTAKEN: &[(&[&[u8]], usize, Option<ErrorKind>, u8, &[u8])] = &[
-    (MIXED, 257, None, 3, TOO_MANY),
-    (UNREADABLE, 1, None, 3, UNLISTED),
+/// Folders by their names, how often each stands there and how the listing ends, with what is told of each.
+const FOLDERS: &[(&[&[u8]], usize, Option<ErrorKind>, &str)] = &[
+    (
+        ENDINGS,
+        1,
+        None,
+        "5: .mtl,A.mtl,a.mtl,b.mtl,\u{e9}.mtl\n3: .mtc,10.mtc,9.mtc\n",
+    ),
+    (MIXED, 256, None, "256: a.mtl\n256: b.mtc\n"),
+    (MIXED, 257, None, "mtrecover: too many files\n3\n"),
+    (UNREADABLE, 1, None, "mtrecover: cannot list F\n3\n"),
     // A name that is not UTF-8 comes before the number of files, whatever its ending.
-    (UNREADABLE, 600, None, 3, UNLISTED),
-    (MIXED, 600, Some(ErrorKind::TimedOut), 3, UNLISTED),
+    (UNREADABLE, 600, None, "mtrecover: cannot list F\n3\n"),
+    (
+        MIXED,
+        600,
+        Some(ErrorKind::TimedOut),
+        "mtrecover: cannot list F\n3\n",
+    ),
     // Want of memory of the system is named so.
-    (&[], 1, Some(ErrorKind::OutOfMemory), 1, NO_MEMORY),
+    (
+        &[],
+        1,
+        Some(ErrorKind::OutOfMemory),
+        "mtrecover: no memory\n1\n",
+    ),
+];
+
+/// Names of which some end as those of logs and parts.
+const ENDINGS: &[&[u8]] = &[
+    b"b.mtl\0",
+    b"10.mtc\0",
+    b"a.mtl.old\0",
+    b"\xc3\xa9.mtl\0",
+    b".mtl\0",
+    b"amtl\0",
+    b"9.mtc\0",
+    b"a.MTL\0",
+    b"A.mtl\0",
+    b".mtc\0",
+    b"a.mtl\0",
+    b"notes\0",
 ];
 
 /// A log and a part.
@@ -174,29 +172,15 @@ const MIXED: &[&[u8]] = &[b"a.mtl\0", b"b.mtc\0"];
 /// A log, and a name that is not UTF-8.
 const UNREADABLE: &[&[u8]] = &[b"a.mtl\0", b"\xff\0"];
 
-const TOO_MANY: &[u8] = b"mtrecover: too many files\n";
-
-const UNLISTED: &[u8] = b"mtrecover: cannot list F\n";
-
-const NO_MEMORY: &[u8] = b"mtrecover: no memory\n";
-
-/// The folder is not taken, with this status and this text.
-fn assert_unlisted<R: Abort + AllocGlobal>(rt: &R, folder: &Folder, status: u8, expected: &[u8]) {
-    let mut err = Vec::new(rt.alloc());
-    assert!(rt; names(folder, "F", &mut err).err() == Some(status));
-    assert_bytes(rt, &err, expected);
-}
-
 #[test]
-fn takes_512_files_of_both_kinds(rt: HostRuntime) {
-    let folder = Folder {
-        alloc: rt.alloc(),
-        names: MIXED,
-        times: 256,
-        end: None,
-    };
-    let mut err = Vec::new(rt.alloc());
-    let found = names(&folder, "F", &mut err).expect(&rt, "the names");
-    assert_same_in(&rt, &"logs", &found.logs.len(), &256);
-    assert_same_in(&rt, &"parts", &found.parts.len(), &256);
+fn logs_and_parts_are_told_by_the_endings_of_names(rt: HostRuntime) {
+    for (names, times, end, expected) in FOLDERS {
+        let folder = Folder {
+            alloc: rt.alloc(),
+            names,
+            times: *times,
+            end: *end,
+        };
+        assert_bytes(&rt, expected, &told(&rt, &folder), expected.as_bytes());
+    }
 }

@@ -1,6 +1,4 @@
-//! How the tests spell keys, logs and parts.
-use mt_words::Key;
-use std::process::Abort;
+//! How the tests spell logs and parts.
 
 /// A log header with `from` 0.
 pub const HEADER: &[u8] = b"MTL1\0\0\0\0\0\0\0\0";
@@ -29,13 +27,3 @@ pub const LATE_HEADER: &[u8] = b"MTL1\0\0\0\0\0\0\0\x04";
 pub const PART: &[u8] = b"MTC1\0\0\0\x01\0\0\0\0\0\0\0\x02\0\0\0\x01\
     \0\0\0\x14\0\0\0\0\0\0\0\x01\0\x01a\x02\0\0\x01o\x01\0\x01p\0\0\0\x14\
     \0\0\0\0\0\0\0\0\0\0\0\x04\0\0\0\x01";
-
-/// The key of these bytes.
-pub fn key_of<R: Abort + AllocGlobal>(rt: &R, bytes: &[u8]) -> Key {
-    Key::new(copy_of(rt, bytes)).expect(rt, "a short key")
-}
-
-/// A copy of these bytes.
-pub fn copy_of<R: Abort + AllocGlobal>(rt: &R, bytes: &[u8]) -> Vec<u8> {
-    Vec::from_slice(rt.alloc(), bytes).expect(rt, "memory")
-}

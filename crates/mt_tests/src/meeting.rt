@@ -1,10 +1,11 @@
 //! Workers that meet: what waits for another thread shows that there is one.
 ghost use Rattle.mt_scan.specs.Kinds.{seen_of_memory};
 
-use crate::asserting::{assert_bytes, assert_same};
-use crate::logs::{LOG_OF_THREE, key_of};
-use mt_recover::{Cuts, Cutting, Gate, Inputs, Workers, recover, write_dump};
+use crate::asserting::assert_same;
+use crate::logs::LOG_OF_THREE;
+use mt_recover::{Cutting, Gate, Inputs, Pieces, Workers, recover, recover_one};
 use mt_scan::{MemSource, Rack, Source, SourceFault};
+use mt_words::Fault;
 use std::process::Abort;
 use std::sync::atomic::{AtomicU64, Ordering};
 
@@ -77,13 +78,13 @@ impl Source for Waiting<'_> {
 }
 
 /// The log, as a source that waits for each slot.
-fn logs_that_wait<'a, R: Abort + AllocGlobal>(
+fn sources_that_wait<'a, R: Abort + AllocGlobal>(
     rt: &R,
     rack: &'a mut Rack,
     begun: &'a AtomicU64,
     met: &'a AtomicU64,
-) -> Inputs<Waiting<'a>> {
-    let mut logs = Vec::new(rt.alloc());
+) -> Vec<Waiting<'a>> {
+    let mut sources = Vec::new(rt.alloc());
     for slot in rack.slots() {
         let source = Waiting {
             log: MemSource::new(LOG_OF_THREE, slot).expect(rt, "a full slot"),
@@ -91,19 +92,9 @@ fn logs_that_wait<'a, R: Abort + AllocGlobal>(
             begun,
             met,
         };
-        logs.push(source).expect(rt, "memory");
+        sources.push(source).expect(rt, "memory");
     }
-    let parts = Vec::new(rt.alloc());
-    Inputs { logs, parts }
-}
-
-/// Cuts at c, d and e.
-fn cuts<R: Abort + AllocGlobal>(rt: &R) -> Cuts {
-    let mut keys = Vec::new(rt.alloc());
-    for key in [b"c", b"d", b"e"] {
-        keys.push(key_of(rt, key)).expect(rt, "memory");
-    }
-    Cuts::new(keys).expect(rt, "cuts")
+    sources
 }
 
 #[test]
@@ -115,14 +106,24 @@ fn two_workers_meet_in_scans_and_at_a_gate(rt: HostRuntime) {
         first: &first,
         met: &met,
     };
-    let inputs = logs_that_wait(&rt, &mut rack, &begun, &scans);
+    let logs = sources_that_wait(&rt, &mut rack, &begun, &scans);
+    let parts = Vec::new(rt.alloc());
     let workers = Workers::new(2).expect(&rt, "two workers");
-    let cutting = Cutting::At(cuts(&rt));
+    let cutting = Cutting::Even(Pieces::new(3).expect(&rt, "three pieces"));
+    let inputs = Inputs { logs, parts };
     let recovered = recover(&rt, rt.alloc(), inputs, workers, cutting, &gate);
-    let recovered = recovered.expect(&rt, "a store");
-    let mut out = Vec::new(rt.alloc());
-    write_dump(recovered.store(), &mut out).expect(&rt, "memory");
-    assert_bytes(&rt, &out, b"62: 0=31\n64: 0=32\n66: 0=33\n");
+    assert!(rt; recovered.is_ok());
     assert_same(&rt, &scans.load(Ordering::SeqCst), &2);
     assert_same(&rt, &met.load(Ordering::SeqCst), &1);
+}
+
+#[test]
+fn without_a_log_no_part_is_read(rt: HostRuntime) {
+    let mut rack = Rack::new(rt.alloc(), 1, 16).expect(&rt, "memory");
+    let (begun, met) = (AtomicU64::new(0), AtomicU64::new(0));
+    let logs = Vec::new(rt.alloc());
+    let parts = sources_that_wait(&rt, &mut rack, &begun, &met);
+    let answer = recover_one(rt.alloc(), Inputs { logs, parts });
+    assert_same(&rt, &answer.err(), &Some(Fault::NoLogs));
+    assert_same(&rt, &begun.load(Ordering::SeqCst), &0);
 }

@@ -1,7 +1,9 @@
-//! Ranges of a recovered store: a start past any key's length, and columns that are not wanted.
-use crate::asserting::assert_bytes;
+//! A recovered store: ranges from a start past any key's length, columns that are not wanted, and walks that end early.
+use crate::asserting::{assert_bytes, assert_same};
 use crate::logs::LOG_OF_THREE;
 use mt_recover::{Store, Wanted, recover_logs, write_pair};
+use mt_tree::Visitor;
+use mt_words::{Columns, Kept};
 use std::process::Abort;
 
 /// The pairs from this start on are these, with the columns that are wanted.
@@ -10,13 +12,13 @@ fn assert_range<R: Abort + AllocGlobal>(
     store: &Store,
     start: &[u8],
     wanted: Wanted,
-    expected: &[u8],
+    expected: &str,
 ) {
     let mut text = Vec::new(rt.alloc());
     for hit in store.getrange(start, 2, wanted).expect(rt, "memory") {
         write_pair(hit.key.as_bytes(), &hit.columns, &mut text).expect(rt, "memory");
     }
-    assert_bytes(rt, &text, expected);
+    assert_bytes(rt, expected, &text, expected.as_bytes());
 }
 
 #[test]
@@ -25,8 +27,37 @@ fn a_range_begins_at_or_after_its_start(rt: HostRuntime) {
     let recovered = recovered.expect(&rt, "a store");
     let other = Wanted::only([7].as_slice()).expect(&rt, "a column number");
     let store = recovered.store();
-    assert_range(&rt, store, b"b", Wanted::all(), b"62: 0=31\n64: 0=32\n");
-    assert_range(&rt, store, &[b'e'; 2000], Wanted::all(), b"66: 0=33\n");
-    assert_range(&rt, store, b"g", Wanted::all(), b"");
-    assert_range(&rt, store, b"c", other, b"64:\n66:\n");
+    assert_range(&rt, store, b"b", Wanted::all(), "62: 0=31\n64: 0=32\n");
+    assert_range(&rt, store, &[b'e'; 2000], Wanted::all(), "66: 0=33\n");
+    assert_range(&rt, store, b"g", Wanted::all(), "");
+    assert_range(&rt, store, b"c", other, "64:\n66:\n");
+}
+
+/// Takes so many pairs, and counts those that it is shown.
+#[derive(Clone, Copy)]
+struct Most(u64);
+
+impl Visitor<u64> for Most {
+    type Error = ();
+
+    ghost shown = { λ _ _ _. Unit {0} };
+
+    fn visit(&self, shown: &mut u64, _key: &[u8], _columns: &Columns<Kept>) -> Result<(), ()> {
+        *shown = shown.saturating_add(1);
+        if *shown > self.0 { Err(()) } else { Ok(()) }
+    }
+
+    ghost none = { λ _. record {} };
+
+    ghost more = { λ _ _ _ _ _ _ _. record {} };
+}
+
+#[test]
+fn a_walk_ends_at_the_pair_that_is_not_taken(rt: HostRuntime) {
+    let recovered = recover_logs(rt.alloc(), &[LOG_OF_THREE]);
+    let recovered = recovered.expect(&rt, "a store");
+    let mut shown = 0;
+    let visited = recovered.store().visit(&Most(1), &mut shown);
+    assert!(rt; visited.is_err());
+    assert_same(&rt, &shown, &2);
 }

@@ -2,12 +2,10 @@
 //! refused: it then sees that a refused growth gives `Memory` and nothing else.
 use crate::asserting::assert_same;
 use crate::logs::{LOG_A, LOG_B, PART};
-use crate::sources::{NEVER, Text, inputs_of};
-use crate::tree::draft_of;
-use mt_recover::{Cutting, NoGate, Pieces, Recovered, Workers, recover, recover_logs};
-use mt_scan::Rack;
-use mt_tree::{Tree, Wanted};
-use mt_words::{Fault, Memory};
+use mt_recover::{Cutting, Inputs, NoGate, Pieces, Recovered, Workers, recover, recover_logs};
+use mt_scan::{MemSource, Rack, Slot};
+use mt_tree::{Draft, Tree, Wanted, above};
+use mt_words::{Columns, Fault, Key, Memory};
 use std::alloc::Global;
 use std::process::Abort;
 use std::thread::Threads;
@@ -28,11 +26,39 @@ fn assert_value<R: Abort>(rt: &R, answer: Result<Recovered, Fault>, key: &[u8], 
     }
 }
 
+/// These texts as sources, each with the buffer of a slot. None where memory for them is refused, or a slot is empty.
+fn sources_of<'a>(
+    alloc: Global,
+    texts: &[&'a [u8]],
+    slots: &'a mut [Slot],
+) -> Option<Vec<MemSource<'a>>> {
+    let mut sources = Vec::new(alloc);
+    for (text, slot) in texts.iter().zip(slots) {
+        sources.push(MemSource::new(text, slot)?).ok()?;
+    }
+    Some(sources)
+}
+
+/// These logs and parts as sources. None where memory for them is refused, or a slot is empty.
+fn inputs_of<'a>(
+    alloc: Global,
+    logs: &[&'a [u8]],
+    parts: &[&'a [u8]],
+    rack: &'a mut Rack,
+) -> Option<Inputs<MemSource<'a>>> {
+    let slots = rack.slots();
+    let count = logs.len().min(slots.len());
+    let (first, second) = slots.split_at_mut(count);
+    let logs = sources_of(alloc, logs, first)?;
+    let parts = sources_of(alloc, parts, second)?;
+    Some(Inputs { logs, parts })
+}
+
 /// What recovery of these texts by two workers in two pieces answers, unless memory for the sources is refused.
 fn recover_by_two<R: AllocGlobal + Threads + Sync>(
     rt: &R,
-    logs: &[Text],
-    parts: &[Text],
+    logs: &[&[u8]],
+    parts: &[&[u8]],
 ) -> Option<Result<Recovered, Fault>> {
     let (pieces, workers) = (Pieces::new(2)?, Workers::new(2)?);
     let mut rack = Rack::new(rt.alloc(), 2, 16).ok()?;
@@ -49,21 +75,35 @@ fn a_refused_growth_is_memory(rt: HostRuntime) {
 
 #[test]
 fn a_refused_growth_of_recovery_by_two_workers_is_memory(rt: HostRuntime) {
-    if let Some(answer) = recover_by_two(&rt, &[(LOG_A, NEVER), (LOG_B, NEVER)], &[]) {
+    if let Some(answer) = recover_by_two(&rt, &[LOG_A, LOG_B], &[]) {
         assert_value(&rt, answer, b"b", b"y");
     }
 }
 
 #[test]
 fn a_refused_growth_of_recovery_by_two_workers_over_a_checkpoint_is_memory(rt: HostRuntime) {
-    if let Some(answer) = recover_by_two(&rt, &[(LATE_LOG, NEVER)], &[(PART, NEVER)]) {
+    if let Some(answer) = recover_by_two(&rt, &[LATE_LOG], &[PART]) {
         assert_value(&rt, answer, b"a", b"n");
     }
 }
 
+/// The draft of this key, without columns.
+fn draft_of(alloc: Global, key: &[u8]) -> Result<Draft, Memory> {
+    let mut pairs = Vec::new(alloc);
+    if let Some(key) = Key::new(Vec::from_slice(alloc, key)?) {
+        pairs.push((key, Columns::new(alloc).keep(alloc)?))?;
+    }
+    Draft::build(alloc, pairs)
+}
+
 /// The tree of two keys that share their first eight bytes.
 fn small_tree(alloc: Global) -> Result<Tree, Memory> {
-    draft_of(alloc, &[b"aaaaaaaab", b"aaaaaaaac"])?.finish()
+    let left = draft_of(alloc, b"aaaaaaaab")?;
+    let right = draft_of(alloc, b"aaaaaaaac")?;
+    if !above(&left, &right) {
+        return left.finish();
+    }
+    Draft::join(left, right)?.finish()
 }
 
 #[test]

@@ -1,92 +1,67 @@
 //! Cells, cuts and pieces, which no case can show one by one.
-use crate::asserting::{assert_bytes, assert_same};
-use crate::logs::{copy_of, key_of};
+use crate::asserting::assert_same;
+use crate::logs::{HEADER, LOG_OF_THREE};
 use mt_replay::{Cell, Cuts, LogCells, Pieces, Window, replay_piece};
-use mt_words::{Columns, Kind, Origin, Stamp, Update};
+use mt_scan::scan_bytes;
+use mt_words::Update;
 use std::process::Abort;
 use std::thread::Threads;
 
-/// The put of a key of one byte, with a column.
-fn put_of<R: Abort + AllocGlobal>(rt: &R, key: u8, record: u64) -> Update {
-    let mut columns = Columns::new(rt.alloc());
-    assert!(rt; columns.push(0, copy_of(rt, b"1")).is_ok());
-    let origin = Origin::Log { log: 0, record };
-    Update {
-        key: key_of(rt, &[key]),
-        stamp: Stamp { version: 1, origin },
-        timestamp: 1,
-        kind: Kind::Put(columns),
-    }
+/// The updates of a log.
+fn updates_of<R: Abort + AllocGlobal>(rt: &R, log: &[u8]) -> Vec<Update> {
+    let scan = scan_bytes(rt.alloc(), log, 0).expect(rt, "a log");
+    scan.updates.into_vec(rt.alloc()).expect(rt, "memory")
 }
 
 #[test]
 fn a_cell_has_what_its_update_leaves(rt: HostRuntime) {
+    let last = updates_of(&rt, LOG_OF_THREE).pop();
     let mut cell = Cell::empty();
-    cell.apply(put_of(&rt, b'k', 0));
+    cell.apply(last.expect(&rt, "an update"));
     let columns = cell.columns(rt.alloc()).expect(&rt, "memory");
-    assert_same(&rt, &columns.get(0), &Some(b"1".as_slice()));
+    assert_same(&rt, &columns.get(0), &Some(b"3".as_slice()));
 }
 
-/// The cells of puts of these keys, each of one byte.
-fn cells_of<R: Abort + AllocGlobal>(rt: &R, keys: &[u8]) -> LogCells {
-    let mut updates = Vec::new(rt.alloc());
-    for key in keys {
-        let update = put_of(rt, *key, updates.len() as u64);
-        updates.push(update).expect(rt, "memory");
-    }
+/// How many keys each of so many even pieces of a log has.
+fn even_sizes<R: Abort + AllocGlobal + Threads + Sync>(
+    rt: &R,
+    log: &[u8],
+    pieces: u32,
+) -> Vec<usize> {
     let window = Window {
         begin: 0,
         cutoff: 9,
     };
-    LogCells::of(rt.alloc(), updates, window).expect(rt, "memory")
-}
-
-/// Appends the keys of a piece, and a stroke behind them.
-fn push_keys<R: Abort + AllocGlobal>(
-    rt: &R,
-    lists: &[LogCells],
-    cuts: &Cuts,
-    piece: u32,
-    text: &mut Vec<u8>,
-) {
-    if piece < cuts.pieces() {
-        let pairs = replay_piece(rt.alloc(), lists, cuts, piece).expect(rt, "memory");
-        for (key, _) in &pairs {
-            text.extend_from_slice(key.as_bytes()).expect(rt, "memory");
-        }
-    }
-    text.push(b'|').expect(rt, "memory");
-}
-
-/// So many even pieces of these keys are these.
-fn assert_even<R: Abort + AllocGlobal + Threads + Sync>(
-    rt: &R,
-    keys: &[u8],
-    pieces: u32,
-    expected: &[u8],
-) {
-    let lists = [cells_of(rt, keys)];
+    let cells = LogCells::of(rt.alloc(), updates_of(rt, log), window).expect(rt, "memory");
+    let lists = [cells];
     let pieces = Pieces::new(pieces).expect(rt, "pieces");
     let cuts = Cuts::even(rt, rt.alloc(), &lists, pieces).expect(rt, "memory");
-    let mut text = Vec::new(rt.alloc());
+    sizes_of(rt, &lists, &cuts)
+}
+
+/// How many keys each piece has.
+fn sizes_of<R: Abort + AllocGlobal>(rt: &R, lists: &[LogCells], cuts: &Cuts) -> Vec<usize> {
+    let mut sizes = Vec::new(rt.alloc());
     for piece in 0..cuts.pieces() {
-        push_keys(rt, &lists, &cuts, piece, &mut text);
+        let pairs = replay_piece(rt.alloc(), lists, cuts, piece).expect(rt, "memory");
+        sizes.push(pairs.len()).expect(rt, "memory");
     }
-    assert_bytes(rt, &text, expected);
+    sizes
 }
 
 #[test]
 fn even_pieces_have_about_as_many_keys(rt: HostRuntime) {
-    for (keys, pieces, expected) in EVEN {
-        assert_even(&rt, keys, *pieces, expected);
+    for (log, pieces, expected) in EVEN {
+        let sizes = even_sizes(&rt, log, *pieces);
+        assert_same(&rt, &sizes.as_slice(), expected);
     }
 }
 
-/// Keys, how many pieces are asked for, and the keys of each.
-const EVEN: &[(&[u8], u32, &[u8])] = &[
-    (b"ebadc", 2, b"ab|cde|"),
-    (b"ebadc", 3, b"a|bc|de|"),
-    (b"ebadc", 5, b"a|b|c|d|e|"),
-    (b"", 4, b"|"),
-    (b"bdf", 8, b"b|d|f|"),
+/// Logs, how many pieces are asked for, and how many keys each has.
+const EVEN: &[(&[u8], u32, &[usize])] = &[
+    (LOG_OF_THREE, 1, &[3]),
+    (LOG_OF_THREE, 2, &[1, 2]),
+    (LOG_OF_THREE, 3, &[1, 1, 1]),
+    (LOG_OF_THREE, 8, &[1, 1, 1]),
+    (HEADER, 4, &[0]),
 ];

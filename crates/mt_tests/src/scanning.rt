@@ -1,28 +1,13 @@
-//! Sources of a test's own, and scans and recovery from them.
+//! Sources of a test's own, and readers as sources.
 ghost use Rattle.std.specs.Prelude.{[], Some, true, false};
 
 use crate::asserting::assert_same;
-use crate::logs::{LOG_A, PART, copy_of};
+use crate::logs::LOG_A;
 use mt_recover::{Inputs, recover_one};
-use mt_scan::{Rack, ReaderSource, Slot, Source, SourceFault, scan_log};
+use mt_scan::{Rack, ReaderSource, Source, SourceFault};
 use mt_words::Fault;
-use std::io::{self, Cursor, ErrorKind, Read};
+use std::io::{self, ErrorKind, Read};
 use std::process::Abort;
-
-/// The first slot of the rack.
-fn slot_of<'a, R: Abort>(rt: &R, rack: &'a mut Rack) -> &'a mut Slot {
-    rack.slots().first_mut().expect(rt, "a slot")
-}
-
-/// The reader as a source with this limit.
-fn reader_of<'a, R: Abort, I: Read + Drop>(
-    rt: &R,
-    reader: I,
-    limit: u64,
-    slot: &'a mut Slot,
-) -> ReaderSource<'a, I> {
-    ReaderSource::new(reader, limit, slot).expect(rt, "a full slot")
-}
 
 /// A source without bytes, which borrows nothing.
 #[derive(Drop)]
@@ -56,44 +41,36 @@ fn a_boxed_source_is_a_source(rt: HostRuntime) {
     assert_same(&rt, &answer.err(), &Some(Fault::Header { log: 0 }));
 }
 
-#[test]
-fn without_a_log_no_part_is_read(rt: HostRuntime) {
-    let mut reader = Cursor::new(copy_of(&rt, PART));
-    let mut rack = Rack::new(rt.alloc(), 1, 16).expect(&rt, "memory");
-    let mut parts = Vec::new(rt.alloc());
-    let source = reader_of(&rt, &mut reader, 64, slot_of(&rt, &mut rack));
-    parts.push(source).expect(&rt, "memory");
-    let logs = Vec::new(rt.alloc());
-    let answer = recover_one(rt.alloc(), Inputs { logs, parts });
-    assert_same(&rt, &answer.err(), &Some(Fault::NoLogs));
-    assert_same(&rt, &reader.position(), &0);
+/// How many bytes the reader has as a source with this limit and with pieces of this size, or its fault.
+fn length_of<R: Abort + AllocGlobal, I: Read + Drop>(
+    rt: &R,
+    reader: I,
+    limit: u64,
+    size: usize,
+) -> Result<usize, SourceFault> {
+    let mut rack = Rack::new(rt.alloc(), 1, size.clamp(1, 65_536)).expect(rt, "memory");
+    let slot = rack.slots().first_mut().expect(rt, "a slot");
+    let mut source = ReaderSource::new(reader, limit, slot).expect(rt, "a full slot");
+    read_all(&mut source)
+}
+
+/// How many bytes the source has, or its fault.
+fn read_all<S: Source>(source: &mut S) -> Result<usize, SourceFault> {
+    let mut length: usize = 0;
+    for _call in 0..100 {
+        let more = source.advance()?;
+        length = length.saturating_add(more);
+    }
+    Ok(length)
 }
 
 #[test]
 fn a_reader_may_have_as_many_bytes_as_its_limit(rt: HostRuntime) {
     for size in [1, 16, 65_536] {
-        let mut rack = Rack::new(rt.alloc(), 1, size).expect(&rt, "memory");
-        assert_read(&rt, slot_of(&rt, &mut rack));
-        assert!(rt; rack.all_full());
-        assert_too_long(&rt, slot_of(&rt, &mut rack));
+        assert_same(&rt, &length_of(&rt, LOG_A, 62, size), &Ok(62));
+        let too_long = Err(SourceFault::TooLong);
+        assert_same(&rt, &length_of(&rt, LOG_A, 61, size), &too_long);
     }
-}
-
-/// LOG_A is read up to its limit.
-fn assert_read<R: Abort + AllocGlobal>(rt: &R, slot: &mut Slot) {
-    let mut source = reader_of(rt, LOG_A, 62, slot);
-    let scan = scan_log(rt.alloc(), &mut source, 0).expect(rt, "a scan");
-    assert_same(rt, &(scan.last, scan.whole, scan.marks), &(5, 2, 1));
-    let updates = scan.updates.into_vec(rt.alloc()).expect(rt, "memory");
-    assert_same(rt, &updates.len(), &1);
-}
-
-/// LOG_A is longer than its limit.
-fn assert_too_long<R: Abort + AllocGlobal>(rt: &R, slot: &mut Slot) {
-    let mut source = reader_of(rt, LOG_A, 61, slot);
-    let fault = scan_log(rt.alloc(), &mut source, 0).err();
-    assert_same(rt, &fault, &Some(Fault::Source { log: 0 }));
-    assert_same(rt, &source.advance(), &Err(SourceFault::TooLong));
 }
 
 /// A reader that is interrupted.
@@ -108,7 +85,6 @@ impl Read for Restless {
 
 #[test]
 fn an_interrupted_read_is_a_failure(rt: HostRuntime) {
-    let mut rack = Rack::new(rt.alloc(), 1, 16).expect(&rt, "memory");
-    let mut source = reader_of(&rt, Restless, 62, slot_of(&rt, &mut rack));
-    assert_same(&rt, &source.advance(), &Err(SourceFault::Device));
+    let failed = Err(SourceFault::Device);
+    assert_same(&rt, &length_of(&rt, Restless, 62, 16), &failed);
 }
