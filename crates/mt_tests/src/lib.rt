@@ -29,4 +29,6 @@ mod replaying;
 #[cfg(test)]
 mod scanning;
 #[cfg(test)]
+mod tree;
+#[cfg(test)]
 mod words;
