@@ -1,16 +1,13 @@
 //! A case in one pass: what is recovered, and what is expected.
-use crate::answer::{
-    cuts_at, inputs_of, push_choice, rack_for, recover_by, recover_from_memory, write_answer,
-};
+use crate::answer::{cuts_at, recover_from_memory, write_answer};
 use crate::draft::Draft;
-use crate::expected::push_line;
 use crate::mistake::Mistake;
 use crate::names::{Named, begin_draft};
 use crate::report::names_of;
-use crate::source::DraftSource;
-use crate::words::{bytes_of, small_of};
-use mt_recover::{Cutting, Inputs, Pieces, Recovered, recover_one};
-use mt_scan::LONGEST_BUFFER;
+use crate::source::inputs_of;
+use crate::words::{bytes_of, push_line, small_of};
+use mt_recover::{Cutting, NoGate, Pieces, Recovered, Workers, recover, recover_one};
+use mt_scan::{LONGEST_BUFFER, Rack};
 use mt_words::Fault;
 use std::alloc::Global;
 use std::thread::Threads;
@@ -75,24 +72,16 @@ impl Case {
     ) -> Result<(), Mistake> {
         match words {
             ["log" | "part", ..] => Ok(self.drafts.push(begin_draft(alloc, names, words)?)?),
-            ["buffers", size] => self.use_buffers(small_of::<usize>(size)?),
+            ["buffers", size] => self.use_buffers(size),
             ["cuts", keys @ ..] => self.cut_at(alloc, keys),
-            ["choice", ..] => {
-                self.has_choice = true;
-                push_line(words, &mut self.expected)
-            }
-            ["report", fields @ ..] => {
-                self.report.push(names_of(alloc, fields)?)?;
-                push_line(words, &mut self.expected)
-            }
-            ["store"] | ["fault", ..] => push_line(words, &mut self.expected),
-            [first, ..] if first.ends_with(':') => push_line(words, &mut self.expected),
+            _ if is_expected(words) => self.expect(alloc, words),
             _ => self.go_on(alloc, words),
         }
     }
 
     /// Lets all sources have buffers of this size.
-    fn use_buffers(&mut self, size: usize) -> Result<(), Mistake> {
+    fn use_buffers(&mut self, size: &str) -> Result<(), Mistake> {
+        let size = small_of::<usize>(size)?;
         if size == 0 || size > LONGEST_BUFFER {
             return Err(Mistake::Number);
         }
@@ -106,6 +95,16 @@ impl Case {
         // Whether they are cuts shows here, where the line is known.
         cuts_at(alloc, &keys)?;
         Ok(self.cuts.push(keys)?)
+    }
+
+    /// Expects a line.
+    fn expect(&mut self, alloc: Global, words: &[&str]) -> Result<(), Mistake> {
+        match words {
+            ["choice", ..] => self.has_choice = true,
+            ["report", fields @ ..] => self.report.push(names_of(alloc, fields)?)?,
+            _ => {}
+        }
+        push_line(alloc, words, &mut self.expected)
     }
 
     /// Takes in a line of the last log or part.
@@ -137,13 +136,12 @@ impl Case {
         Ok(ways)
     }
 
-    /// Those on one thread: from memory only where there are logs alone, no source that fails, no choice expected and
-    /// no size named.
+    /// Those on one thread: from memory only where there are logs alone, no source that fails and no size named.
     fn push_ways_of_one_thread(&self, ways: &mut Vec<Way>) -> Result<(), Mistake> {
         if let Some(size) = self.size {
             return Ok(ways.push(Way::Buffers(size))?);
         }
-        if !self.has_choice && self.drafts.iter().all(is_steady_log) {
+        if self.drafts.iter().all(is_steady_log) {
             ways.push(Way::Memory)?;
         }
         for size in SIZES {
@@ -163,30 +161,41 @@ impl Case {
         Ok(())
     }
 
-    /// What comes in this way. All buffers are back then.
+    /// What comes in this way.
     pub fn come<R: AllocGlobal + Threads + Sync>(
         &self,
         rt: &R,
         way: Way,
     ) -> Result<Vec<u8>, Mistake> {
+        let answer = match way {
+            Way::Memory => recover_from_memory(rt.alloc(), &self.drafts)?,
+            _ => self.recover_from_sources(rt, way)?,
+        };
         let mut text = Vec::new(rt.alloc());
-        if let Way::Memory = way {
-            let answer = recover_from_memory(rt.alloc(), &self.drafts)?;
-            write_answer(rt.alloc(), answer, &self.report, &mut text)?;
-            return Ok(text);
-        }
-        let mut rack = rack_for(rt.alloc(), &self.drafts, self.size_in(way))?;
-        if self.has_choice {
-            let inputs = inputs_of(rt.alloc(), &self.drafts, rack.slots())?;
-            push_choice(rt.alloc(), inputs, &mut text)?;
-        }
-        let inputs = inputs_of(rt.alloc(), &self.drafts, rack.slots())?;
-        let answer = self.recover_from(rt, inputs, way)?;
-        write_answer(rt.alloc(), answer, &self.report, &mut text)?;
-        if !rack.all_full() {
-            text.extend_from_slice(b"a buffer is not back\n")?;
-        }
+        let (has_choice, report) = (self.has_choice, self.report.as_slice());
+        write_answer(rt.alloc(), answer, has_choice, report, &mut text)?;
         Ok(text)
+    }
+
+    /// What recovery from sources answers in this way. All buffers are back then.
+    fn recover_from_sources<R: AllocGlobal + Threads + Sync>(
+        &self,
+        rt: &R,
+        way: Way,
+    ) -> Result<Result<Recovered, Fault>, Mistake> {
+        let size = self.size_in(way).clamp(1, LONGEST_BUFFER);
+        let mut rack = Rack::new(rt.alloc(), self.drafts.len(), size)?;
+        let inputs = inputs_of(rt.alloc(), &self.drafts, rack.slots())?;
+        let answer = match self.cutting_in(rt.alloc(), way)? {
+            None => recover_one(rt.alloc(), inputs),
+            Some((workers, cutting)) => {
+                recover(rt, rt.alloc(), inputs, workers, cutting, &NoGate)
+            }
+        };
+        if !rack.all_full() {
+            return Err(Mistake::Slot);
+        }
+        Ok(answer)
     }
 
     /// The size of the buffers in this way.
@@ -197,25 +206,30 @@ impl Case {
         }
     }
 
-    /// What recovery from sources answers in this way.
-    fn recover_from<R: AllocGlobal + Threads + Sync>(
-        &self,
-        rt: &R,
-        inputs: Inputs<DraftSource<'_>>,
-        way: Way,
-    ) -> Result<Result<Recovered, Fault>, Mistake> {
-        match way {
-            Way::Memory | Way::Buffers(_) => Ok(recover_one(rt.alloc(), inputs)),
+    /// The workers of this way, and how they cut the keys.
+    fn cutting_in(&self, alloc: Global, way: Way) -> Result<Option<(Workers, Cutting)>, Mistake> {
+        let (workers, cutting) = match way {
+            Way::Memory | Way::Buffers(_) => return Ok(None),
             Way::Even { workers, pieces } => {
-                let cutting = Cutting::Even(Pieces::new(pieces).ok_or(Mistake::Number)?);
-                recover_by(rt, inputs, workers, cutting)
+                let pieces = Pieces::new(pieces).ok_or(Mistake::Number)?;
+                (workers, Cutting::Even(pieces))
             }
             Way::At { workers, line } => {
                 let keys = self.cuts.get(line).ok_or(Mistake::Line)?;
-                let cuts = cuts_at(rt.alloc(), keys)?;
-                recover_by(rt, inputs, workers, Cutting::At(cuts))
+                (workers, Cutting::At(cuts_at(alloc, keys)?))
             }
-        }
+        };
+        let workers = Workers::new(workers).ok_or(Mistake::Number)?;
+        Ok(Some((workers, cutting)))
+    }
+}
+
+/// Whether a line of these words says what is to come.
+fn is_expected(words: &[&str]) -> bool {
+    match words {
+        ["store"] | ["choice" | "report" | "fault", ..] => true,
+        [first, ..] => first.ends_with(':'),
+        [] => false,
     }
 }
 

@@ -1,5 +1,5 @@
 //! Bytes with a name, and how a log or a part begins.
-use crate::blocks::{Block, Line, words_of};
+use crate::blocks::{Line, words_of};
 use crate::draft::Draft;
 use crate::mistake::Mistake;
 use crate::words::push_digits;
@@ -24,22 +24,23 @@ fn find<'n>(names: &'n [Named<'_>], name: &str) -> Option<&'n [u8]> {
 
 /// The log or part that a line begins: `log ..` or `part ..`.
 pub fn begin_draft(alloc: Global, names: &[Named<'_>], words: &[&str]) -> Result<Draft, Mistake> {
-    let is_log = matches!(words, ["log", ..]);
-    match words {
-        [_, "is", name] => {
-            let Some(bytes) = find(names, name) else {
-                return Err(Mistake::NoName);
-            };
+    let (is_log, rest) = match words {
+        ["log", rest @ ..] => (true, rest),
+        ["part", rest @ ..] => (false, rest),
+        _ => return Err(Mistake::Line),
+    };
+    match rest {
+        ["is", name] => {
+            let bytes = find(names, name).ok_or(Mistake::NoName)?;
             Ok(Draft::of_bytes(is_log, Vec::from_slice(alloc, bytes)?))
         }
-        [_, "bytes", digits @ ..] => {
+        ["bytes", digits @ ..] => {
             let mut bytes = Vec::new(alloc);
             push_digits(alloc, digits, &mut bytes)?;
             Ok(Draft::of_bytes(is_log, bytes))
         }
-        ["log", rest @ ..] => Draft::begin_log(alloc, rest),
-        ["part", rest @ ..] => Draft::begin_part(alloc, rest),
-        _ => Err(Mistake::Line),
+        _ if is_log => Draft::begin_log(alloc, rest),
+        _ => Draft::begin_part(alloc, rest),
     }
 }
 
@@ -48,15 +49,16 @@ pub fn begin_draft(alloc: Global, names: &[Named<'_>], words: &[&str]) -> Result
 pub fn read_name<'a>(
     alloc: Global,
     names: &[Named<'_>],
-    block: &Block<'a>,
+    head: &Line<'a>,
+    body: &[Line<'a>],
     at: &mut Line<'a>,
 ) -> Result<Named<'a>, Mistake> {
-    let (name, mut draft) = begin_name(alloc, names, &block.head)?;
-    for line in &block.body {
+    let (name, mut draft) = begin_name(alloc, names, head)?;
+    for line in body {
         *at = *line;
         add_line(alloc, line, &mut draft)?;
     }
-    *at = block.head;
+    *at = *head;
     draft.spell_part()?;
     let bytes = draft.bytes;
     Ok(Named { name, bytes })

@@ -4,47 +4,59 @@ use crate::mistake::Mistake;
 use crate::words::number_of;
 use std::alloc::Global;
 
-/// The numbers that `$n` stands for, pass by pass.
-#[derive(Clone, Copy)]
-pub struct Passes {
-    pub first: u64,
-    pub last: u64,
-    /// One that is left out.
-    pub but: Option<u64>,
-}
-
-/// The passes that a line names: `each n FIRST to LAST`, or `each n FIRST to LAST but ONE`.
-pub fn passes_of(alloc: Global, line: &Line<'_>) -> Result<Passes, Mistake> {
-    match words_of(alloc, line.text)?.as_slice() {
-        ["each", "n", first, "to", last] => range_of(first, last, None),
-        ["each", "n", first, "to", last, "but", one] => {
-            range_of(first, last, Some(number_of(one)?))
+/// The number that `$n` stands for in each pass, and the lines of a case that are tried in each. The first line may name
+/// the numbers; without it there is one pass and no number.
+pub fn passes_of<'l, 'a>(
+    alloc: Global,
+    lines: &'l [Line<'a>],
+    at: &mut Line<'a>,
+) -> Result<(Vec<Option<u64>>, &'l [Line<'a>]), Mistake> {
+    match lines.split_first() {
+        Some((line, rest)) if line.first_word() == "each" => {
+            *at = *line;
+            Ok((numbers_of(alloc, &words_of(alloc, line.text)?)?, rest))
         }
-        _ => Err(Mistake::Line),
+        _ => Ok((Vec::from_array(alloc, [None])?, lines)),
     }
 }
 
-/// The passes from the first to the last one.
-fn range_of(first: &str, last: &str, but: Option<u64>) -> Result<Passes, Mistake> {
-    let first = number_of(first)?;
-    let last = number_of(last)?;
+/// The numbers that a line names: `each n FIRST to LAST`, or `each n FIRST to LAST but ONE`.
+fn numbers_of(alloc: Global, words: &[&str]) -> Result<Vec<Option<u64>>, Mistake> {
+    let ["each", "n", first, "to", last, rest @ ..] = words else {
+        return Err(Mistake::Line);
+    };
+    let but = match rest {
+        [] => None,
+        ["but", one] => Some(number_of(one)?),
+        _ => return Err(Mistake::Line),
+    };
+    range_of(alloc, number_of(first)?, number_of(last)?, but)
+}
+
+/// The numbers from the first to the last one, but for one.
+fn range_of(
+    alloc: Global,
+    first: u64,
+    last: u64,
+    but: Option<u64>,
+) -> Result<Vec<Option<u64>>, Mistake> {
     if first > last {
         return Err(Mistake::Number);
     }
-    Ok(Passes { first, last, but })
+    let mut numbers = Vec::new(alloc);
+    for number in first..=last {
+        if but != Some(number) {
+            numbers.push(Some(number))?;
+        }
+    }
+    Ok(numbers)
 }
 
 /// The text of a line with the number of the pass in the place of each `$n`.
 pub fn in_pass(alloc: Global, text: &str, pass: Option<u64>) -> Result<String, Mistake> {
-    let mut filled = String::new(alloc);
-    for (place, piece) in text.split("$n").enumerate() {
-        if place > 0 {
-            let Some(number) = pass else {
-                return Err(Mistake::NoPass);
-            };
-            filled.push_str(number.to_string(alloc)?.as_str())?;
-        }
-        filled.push_str(piece)?;
+    match pass {
+        Some(number) => Ok(text.replace(alloc, "$n", number.to_string(alloc)?.as_str())?),
+        None if text.contains("$n") => Err(Mistake::NoPass),
+        None => Ok(String::from_str(alloc, text)?),
     }
-    Ok(filled)
 }

@@ -10,25 +10,23 @@ pub fn record_of(alloc: Global, words: &[&str]) -> Result<Record, Mistake> {
     match words {
         ["put", key, version, timestamp, columns @ ..] => {
             let columns = columns_of(alloc, columns)?;
-            put_of(key_of(alloc, key)?, version, timestamp, columns)
+            let key = key_of(alloc, key)?;
+            let (version, timestamp) = (number_of(version)?, number_of(timestamp)?);
+            Record::put(timestamp, version, key, columns).ok_or(Mistake::Unlawful)
         }
-        ["remove", key, version, timestamp] => remove_of(key_of(alloc, key)?, version, timestamp),
+        ["remove", rest @ ..] => remove_of(alloc, rest),
         ["mark", timestamp] => Ok(Record::mark(number_of(timestamp)?)),
         _ => Err(Mistake::Line),
     }
 }
 
-/// The put of these columns.
-fn put_of(key: Key, version: &str, timestamp: &str, columns: Columns) -> Result<Record, Mistake> {
-    let version = number_of(version)?;
-    let timestamp = number_of(timestamp)?;
-    Record::put(timestamp, version, key, columns).ok_or(Mistake::Unlawful)
-}
-
-/// The remove of the key.
-fn remove_of(key: Key, version: &str, timestamp: &str) -> Result<Record, Mistake> {
-    let version = number_of(version)?;
-    let timestamp = number_of(timestamp)?;
+/// The remove that the words behind `remove` spell.
+fn remove_of(alloc: Global, words: &[&str]) -> Result<Record, Mistake> {
+    let [key, version, timestamp] = words else {
+        return Err(Mistake::Line);
+    };
+    let key = key_of(alloc, key)?;
+    let (version, timestamp) = (number_of(version)?, number_of(timestamp)?);
     Record::remove(timestamp, version, key).ok_or(Mistake::Unlawful)
 }
 

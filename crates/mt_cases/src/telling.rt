@@ -1,9 +1,9 @@
 //! The cases of files, tried and told.
-use crate::blocks::{Block, Line, blocks_of};
-use crate::case::Way;
+use crate::blocks::{Line, lines_of};
 use crate::mistake::Mistake;
 use crate::names::{Named, read_name};
-use crate::trying::{Difference, try_case};
+use crate::trying::try_case;
+use std::alloc::Global;
 use std::io::{self, Write};
 use std::thread::Threads;
 
@@ -17,29 +17,31 @@ pub struct Counts {
     pub wrong: u64,
 }
 
-/// Tries cases and tells of them: on `out` what came in the place of what was expected, and on `err` the name of each
+/// Tries cases and tells of them: in `out` what came in the place of what was expected, and in `err` the name of each
 /// case that is not as it is to be.
 #[derive(Drop)]
-pub struct Teller<O, E> {
-    pub out: O,
-    pub err: E,
-    pub counts: Counts,
+pub struct Teller {
+    pub out: Vec<u8>,
+    pub err: Vec<u8>,
+    counts: Counts,
 }
 
 /// What became of a block.
-enum Trial {
+#[derive(Drop)]
+pub enum Trial {
     /// It is no case: a name, or the line of the refused ones.
     NoCase,
     Holds,
-    Differs(Difference),
+    /// What was expected, and what came.
+    Differs(Vec<u8>),
 }
 
-impl<O: Write, E: Write> Teller<O, E> {
+impl Teller {
     /// Nothing is told yet.
-    pub fn new(out: O, err: E) -> Teller<O, E> {
+    pub fn new(alloc: Global) -> Teller {
         Teller {
-            out,
-            err,
+            out: Vec::new(alloc),
+            err: Vec::new(alloc),
             counts: Counts {
                 held: 0,
                 not_held: 0,
@@ -55,14 +57,18 @@ impl<O: Write, E: Write> Teller<O, E> {
         file: &str,
         text: &str,
     ) -> io::Result<()> {
-        let Ok(blocks) = blocks_of(rt.alloc(), text) else {
-            return self.tell_unread(file, "no memory");
+        let Ok(lines) = lines_of(rt.alloc(), text) else {
+            return self.tell_unread(file);
         };
         let mut names = Vec::new(rt.alloc());
         let mut is_refused = false;
-        for block in &blocks {
-            is_refused = is_refused || block.head.first_word() == "refused";
-            self.try_block(rt, file, &mut names, block, is_refused)?;
+        for block in lines.chunk_by(|_, next| !next.is_head()) {
+            if let Some((head, body)) = block.split_first() {
+                is_refused = is_refused || head.first_word() == "refused";
+                let mut at = *head;
+                let trial = trial_of(rt, &mut names, head, body, &mut at);
+                self.tell(file, &at, &trial, is_refused)?;
+            }
         }
         Ok(())
     }
@@ -71,34 +77,43 @@ impl<O: Write, E: Write> Teller<O, E> {
     pub fn finish(&mut self) -> io::Result<Counts> {
         let Counts { held, not_held, .. } = self.counts;
         writeln!(self.out, "{held} cases hold, {not_held} do not")?;
-        self.out.flush()?;
         Ok(self.counts)
     }
 
     /// Tells that a file cannot be tried.
-    pub fn tell_unread(&mut self, file: &str, why: &str) -> io::Result<()> {
+    pub fn tell_unread(&mut self, file: &str) -> io::Result<()> {
         self.count(false, true);
-        writeln!(self.err, "mt_cases: {file}: {why}")
+        writeln!(self.err, "mt_cases: {file}: cannot be read")
     }
 
-    /// Adds a name, or tries a case; a head that is neither is told.
-    fn try_block<'a, R: AllocGlobal + Threads + Sync>(
+    /// Tells what became of a block, of which this line was read last.
+    fn tell(
         &mut self,
-        rt: &R,
         file: &str,
-        names: &mut Vec<Named<'a>>,
-        block: &Block<'a>,
+        line: &Line<'_>,
+        trial: &Result<Trial, Mistake>,
         is_refused: bool,
     ) -> io::Result<()> {
-        let mut at = block.head;
-        match trial_of(rt, names, block, &mut at) {
-            Ok(Trial::NoCase) => Ok(()),
-            Ok(Trial::Holds) => self.tell_holds(file, &at, is_refused),
+        let Line { number, text } = *line;
+        let (holds, what) = match trial {
+            Ok(Trial::NoCase) => return Ok(()),
+            Ok(Trial::Holds) => (true, "holds, and is not to"),
             Ok(Trial::Differs(difference)) => {
-                self.tell_difference(file, &at, &difference, is_refused)
+                writeln!(self.out, "{file}:{number}: {text}")?;
+                self.out.extend_from_slice(difference)?;
+                (false, "does not hold")
             }
-            Err(mistake) => self.tell_mistake(file, &at, mistake, is_refused),
+            Err(mistake) => {
+                let why = mistake.text();
+                writeln!(self.out, "{file}:{number}: {why}: {text}")?;
+                (false, "is not understood")
+            }
+        };
+        self.count(holds, holds == is_refused);
+        if holds == is_refused {
+            writeln!(self.err, "mt_cases: {file}:{number}: {text}: {what}")?;
         }
+        Ok(())
     }
 
     /// Counts a case that holds or does not; a wrong one is of the other kind than it is to be.
@@ -108,107 +123,32 @@ impl<O: Write, E: Write> Teller<O, E> {
         counts.not_held = counts.not_held.saturating_add(u64::from(!holds));
         counts.wrong = counts.wrong.saturating_add(u64::from(is_wrong));
     }
-
-    /// Tells of a case that holds, where it is not to.
-    fn tell_holds(&mut self, file: &str, head: &Line<'_>, is_refused: bool) -> io::Result<()> {
-        self.count(true, is_refused);
-        if is_refused {
-            return self.name_case(file, head, "holds, and is not to");
-        }
-        Ok(())
-    }
-
-    /// Tells of a line that is not understood.
-    fn tell_mistake(
-        &mut self,
-        file: &str,
-        line: &Line<'_>,
-        mistake: Mistake,
-        is_refused: bool,
-    ) -> io::Result<()> {
-        self.count(false, !is_refused);
-        let Line { number, text } = *line;
-        let why = mistake.text();
-        writeln!(self.out, "{file}:{number}: {why}: {text}")?;
-        if is_refused {
-            return Ok(());
-        }
-        self.name_case(file, line, "is not understood")
-    }
-
-    /// Tells of a case that does not hold.
-    fn tell_difference(
-        &mut self,
-        file: &str,
-        head: &Line<'_>,
-        difference: &Difference,
-        is_refused: bool,
-    ) -> io::Result<()> {
-        self.count(false, !is_refused);
-        let Line { number, text } = *head;
-        writeln!(self.out, "{file}:{number}: {text}")?;
-        write_difference(difference, &mut self.out)?;
-        if is_refused {
-            return Ok(());
-        }
-        self.name_case(file, head, "does not hold")
-    }
-
-    /// Names a case or a line that is not as it is to be.
-    fn name_case(&mut self, file: &str, line: &Line<'_>, what: &str) -> io::Result<()> {
-        let Line { number, text } = *line;
-        writeln!(self.err, "mt_cases: {file}:{number}: {text}: {what}")
-    }
 }
 
 /// Adds the name that a block gives, or tries its case. `at` is the line that was read last.
 fn trial_of<'a, R: AllocGlobal + Threads + Sync>(
     rt: &R,
     names: &mut Vec<Named<'a>>,
-    block: &Block<'a>,
+    head: &Line<'a>,
+    body: &[Line<'a>],
     at: &mut Line<'a>,
 ) -> Result<Trial, Mistake> {
-    match block.head.first_word() {
-        "refused" => ask_empty(block, at),
+    match head.first_word() {
+        "refused" => ask_empty(body, at),
         "name" => {
-            let named = read_name(rt.alloc(), names, block, at)?;
-            names.push(named)?;
+            names.push(read_name(rt.alloc(), names, head, body, at)?)?;
             Ok(Trial::NoCase)
         }
-        "case" => match try_case(rt, names, block, at)? {
-            None => Ok(Trial::Holds),
-            Some(difference) => Ok(Trial::Differs(difference)),
-        },
+        "case" => try_case(rt, names, head, body, at),
         _ => Err(Mistake::Line),
     }
 }
 
 /// Asks that no line follows that of the refused ones, up to the next block.
-fn ask_empty<'a>(block: &Block<'a>, at: &mut Line<'a>) -> Result<Trial, Mistake> {
-    let Some(line) = block.body.first() else {
+fn ask_empty<'a>(body: &[Line<'a>], at: &mut Line<'a>) -> Result<Trial, Mistake> {
+    let Some(line) = body.first() else {
         return Ok(Trial::NoCase);
     };
     *at = *line;
     Err(Mistake::Line)
-}
-
-/// Writes what was expected, and what came.
-fn write_difference<O: Write>(difference: &Difference, out: &mut O) -> io::Result<()> {
-    out.write_all(b"expected:\n")?;
-    out.write_all(&difference.expected)?;
-    match difference.way {
-        Way::Memory => out.write_all(b"came, from memory")?,
-        Way::Buffers(size) => write!(out, "came, with buffers of {size}")?,
-        Way::Even { workers, pieces } => {
-            write!(out, "came, with {workers} workers and {pieces} pieces")?;
-        }
-        Way::At { workers, line } => {
-            write!(out, "came, with {workers} workers and line {line} of cuts")?;
-        }
-    }
-    if let Some(pass) = difference.pass {
-        write!(out, " and n = {pass}")?;
-    }
-    out.write_all(b":\n")?;
-    out.write_all(&difference.came)
 }

@@ -1,87 +1,48 @@
 //! Whether a case holds.
-use crate::blocks::{Block, Line, words_of};
+use crate::blocks::{Line, words_of};
 use crate::case::{Case, Way};
 use crate::mistake::Mistake;
 use crate::names::Named;
-use crate::passes::{Passes, in_pass, passes_of};
+use crate::passes::{in_pass, passes_of};
+use crate::telling::Trial;
 use std::alloc::Global;
+use std::io::{self, Write};
 use std::thread::Threads;
 
-/// What came where another thing was expected.
-#[derive(Drop)]
-pub struct Difference {
-    pub pass: Option<u64>,
-    pub way: Way,
-    pub expected: Vec<u8>,
-    pub came: Vec<u8>,
-}
-
-/// The first difference in a case, if there is one, in whatever pass and way. `at` is the line that was read last.
+/// Whether a case holds, or the first difference in it, in whatever pass and way. `at` is the line that was read last.
 pub fn try_case<'a, R: AllocGlobal + Threads + Sync>(
     rt: &R,
     names: &[Named<'_>],
-    block: &Block<'a>,
+    head: &Line<'a>,
+    body: &[Line<'a>],
     at: &mut Line<'a>,
-) -> Result<Option<Difference>, Mistake> {
-    let lines = block.body.as_slice();
-    match lines.split_first() {
-        Some((line, rest)) if line.first_word() == "each" => {
-            *at = *line;
-            let passes = passes_of(rt.alloc(), line)?;
-            try_passes(rt, names, block.head, rest, passes, at)
-        }
-        _ => try_pass(rt, names, block.head, lines, None, at),
-    }
-}
-
-/// The first difference in these passes.
-fn try_passes<'a, R: AllocGlobal + Threads + Sync>(
-    rt: &R,
-    names: &[Named<'_>],
-    head: Line<'a>,
-    lines: &[Line<'a>],
-    passes: Passes,
-    at: &mut Line<'a>,
-) -> Result<Option<Difference>, Mistake> {
-    for pass in passes.first..=passes.last {
-        if passes.but != Some(pass) {
-            let found = try_pass(rt, names, head, lines, Some(pass), at)?;
-            if found.is_some() {
-                return Ok(found);
-            }
+) -> Result<Trial, Mistake> {
+    let (passes, lines) = passes_of(rt.alloc(), body, at)?;
+    for pass in passes {
+        let case = case_of(rt.alloc(), names, lines, pass, at)?;
+        *at = *head;
+        if let Some(difference) = compare(rt, case, pass)? {
+            return Ok(Trial::Differs(difference));
         }
     }
-    Ok(None)
+    Ok(Trial::Holds)
 }
 
-/// The first difference in a pass.
-fn try_pass<'a, R: AllocGlobal + Threads + Sync>(
-    rt: &R,
-    names: &[Named<'_>],
-    head: Line<'a>,
-    lines: &[Line<'a>],
-    pass: Option<u64>,
-    at: &mut Line<'a>,
-) -> Result<Option<Difference>, Mistake> {
-    let mut case = Case::new(rt.alloc());
-    for line in lines {
-        *at = *line;
-        read_line(rt.alloc(), names, line.text, pass, &mut case)?;
-    }
-    *at = head;
-    compare(rt, case, pass)
-}
-
-/// Takes the text of a line in.
-fn read_line(
+/// What the lines say in a pass.
+fn case_of<'a>(
     alloc: Global,
     names: &[Named<'_>],
-    text: &str,
+    lines: &[Line<'a>],
     pass: Option<u64>,
-    case: &mut Case,
-) -> Result<(), Mistake> {
-    let text = in_pass(alloc, text, pass)?;
-    case.add(alloc, names, &words_of(alloc, text.as_str())?)
+    at: &mut Line<'a>,
+) -> Result<Case, Mistake> {
+    let mut case = Case::new(alloc);
+    for line in lines {
+        *at = *line;
+        let text = in_pass(alloc, line.text, pass)?;
+        case.add(alloc, names, &words_of(alloc, text.as_str())?)?;
+    }
+    Ok(case)
 }
 
 /// The first difference between what comes and what is expected.
@@ -89,23 +50,47 @@ fn compare<R: AllocGlobal + Threads + Sync>(
     rt: &R,
     mut case: Case,
     pass: Option<u64>,
-) -> Result<Option<Difference>, Mistake> {
+) -> Result<Option<Vec<u8>>, Mistake> {
     case.finish()?;
     for way in case.ways(rt.alloc())? {
         let came = case.come(rt, way)?;
         if came != case.expected {
-            return Ok(Some(differing(case, pass, way, came)));
+            let mut text = Vec::new(rt.alloc());
+            write_difference(way, pass, &case.expected, &came, &mut text)?;
+            return Ok(Some(text));
         }
     }
     Ok(None)
 }
 
-/// What came in this way, beside what was expected.
-fn differing(case: Case, pass: Option<u64>, way: Way, came: Vec<u8>) -> Difference {
-    Difference {
-        pass,
-        way,
-        expected: case.expected,
-        came,
+/// Appends what was expected, and what came.
+fn write_difference(
+    way: Way,
+    pass: Option<u64>,
+    expected: &[u8],
+    came: &[u8],
+    text: &mut Vec<u8>,
+) -> io::Result<()> {
+    text.extend_from_slice(b"expected:\n")?;
+    text.extend_from_slice(expected)?;
+    write_way(way, text)?;
+    if let Some(pass) = pass {
+        write!(text, " and n = {pass}")?;
+    }
+    text.extend_from_slice(b":\n")?;
+    Ok(text.extend_from_slice(came)?)
+}
+
+/// Appends in which way it came.
+fn write_way(way: Way, text: &mut Vec<u8>) -> io::Result<()> {
+    match way {
+        Way::Memory => write!(text, "came, from memory"),
+        Way::Buffers(size) => write!(text, "came, with buffers of {size}"),
+        Way::Even { workers, pieces } => {
+            write!(text, "came, with {workers} workers and {pieces} pieces")
+        }
+        Way::At { workers, line } => {
+            write!(text, "came, with {workers} workers and line {line} of cuts")
+        }
     }
 }

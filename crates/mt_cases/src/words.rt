@@ -25,7 +25,7 @@ where
 }
 
 /// A word and how often it is repeated, as in `k*1024`: once where it does not say.
-pub fn repeated(word: &str) -> Result<(&str, u64), Mistake> {
+fn repeated(word: &str) -> Result<(&str, u64), Mistake> {
     let Some((once, times)) = word.split_once('*') else {
         return Ok((word, 1));
     };
@@ -37,30 +37,41 @@ pub fn repeated(word: &str) -> Result<(&str, u64), Mistake> {
 }
 
 /// Appends the bytes so often.
-pub fn push_times(bytes: &[u8], times: u64, out: &mut Vec<u8>) -> Result<(), Mistake> {
+fn push_times(bytes: &[u8], times: u64, out: &mut Vec<u8>) -> Result<(), Mistake> {
     for _time in 0..times {
         out.extend_from_slice(bytes)?;
     }
     Ok(())
 }
 
-/// The bytes of a key or value: pieces joined by `+`, each of them text, or hexadecimal behind `0x`, and perhaps
-/// repeated.
+/// The bytes of a key or value.
 pub fn bytes_of(alloc: Global, word: &str) -> Result<Vec<u8>, Mistake> {
     let mut bytes = Vec::new(alloc);
-    for piece in word.split('+') {
-        push_piece(alloc, piece, &mut bytes)?;
-    }
+    push_word(alloc, word, &mut bytes)?;
     Ok(bytes)
 }
 
-/// Appends what a piece of a key or value spells.
-fn push_piece(alloc: Global, word: &str, out: &mut Vec<u8>) -> Result<(), Mistake> {
-    let (once, times) = repeated(word)?;
-    match once.strip_prefix("0x") {
-        Some(digits) => push_times(&decoded(alloc, digits)?, times, out),
-        None => push_times(once.as_bytes(), times, out),
+/// Appends what a word spells: pieces joined by `+`, each of them text, or hexadecimal behind `0x`, and perhaps repeated.
+fn push_word(alloc: Global, word: &str, out: &mut Vec<u8>) -> Result<(), Mistake> {
+    for piece in word.split('+') {
+        let (once, times) = repeated(piece)?;
+        match once.strip_prefix("0x") {
+            Some(digits) => push_times(&decoded(alloc, digits)?, times, out)?,
+            None => push_times(once.as_bytes(), times, out)?,
+        }
     }
+    Ok(())
+}
+
+/// Appends the line of these words, as it is printed, with a blank between two of them.
+pub fn push_line(alloc: Global, words: &[&str], text: &mut Vec<u8>) -> Result<(), Mistake> {
+    for (place, word) in words.iter().enumerate() {
+        if place > 0 {
+            text.push(b' ')?;
+        }
+        push_word(alloc, word, text)?;
+    }
+    Ok(text.push(b'\n')?)
 }
 
 /// The byte that a word spells: decimal, or two hexadecimal digits behind `0x`.
