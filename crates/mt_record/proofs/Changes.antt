@@ -13,7 +13,7 @@ use Rattle.mt_record.specs.declared.body.ChangeFields.{ChangeFields}
 use Rattle.mt_words.specs.declared.fault.What.{What}
 use Rattle.mt_record.specs.Spelling.{counted, column_bytes, kind_bytes, change_bytes, FitsColumn, FitsChange}
 use Rattle.mt_record.specs.LogFaults.{HasColumnsFault}
-use Rattle.mt_record.specs.Bodies.{IsNoChange, IsChangeWith, IsChangeFault, IsKindOf, HasKind, IsKindFault, SpellFields, AreChangeFields, HasColumns, AreSpelled, IsColumnsFault, IsSomeFault}
+use Rattle.mt_record.specs.Bodies.{IsNoChange, IsChangeWith, IsChangeFault, IsKindOf, HasKind, IsKindFault, SpellFields, AreChangeFields, HasColumns, AreSpelled, IsSomeFault}
 use Rattle.mt_record.proofs.Unique.{apart, same_number, same_counted}
 
 -- ---- kinds
@@ -54,10 +54,6 @@ columns_are_kind byte [] is some fits = absurd (omega (arith, some))
 columns_are_kind byte (count ∷ bytes) is some fits =
     let whole : take (suc (length bytes) - 1) bytes ≡ bytes = take_all (suc (length bytes) - 1) bytes (omega arith) in
     rw whole (kind_of_columns byte count bytes is fits, columns_of_kind byte count bytes is)
-
--- columns that may not stand together may not stand together as some
-pub some_fault : (limits : Limits) (count : ℕ) (bytes : List ℕ) (what : What) → IsColumnsFault limits count bytes what → IsSomeFault limits count bytes what
-some_fault limits count bytes what h = (h.0, h.1, h.2, λ are some. h.3 are)
 
 -- columns that are refused make the put refused
 put_fault : (limits : Limits) (count : ℕ) (bytes : List ℕ) → count < 2 ^ 8 → (what : What) → IsSomeFault limits count bytes what

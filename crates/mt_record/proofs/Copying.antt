@@ -13,17 +13,13 @@ use Rattle.mt_words.specs.Words.{IsColumn, AreColumns, CanFollow}
 use Rattle.mt_words.specs.Changes.{Logged, mark_of, changed, remove_of, put_of, AllowsKind, IsLogged, IsLoggedChange, IsWhole}
 use Rattle.mt_words.proofs.Formats.{change_within}
 use Rattle.mt_record.specs.Spelling.{column_bytes, code_of, kind_bytes, change_bytes, body_of, FitsColumn, FitsChange}
-use Rattle.mt_record.specs.Bodies.{IsBodyOf, IsLawfulBody, AreFieldsOf, HasNoFields, CarriesColumns}
+use Rattle.mt_record.specs.Bodies.{IsBodyOf, IsLawfulBody, AreFieldsOf, CarriesColumns}
 use Rattle.mt_record.proofs.Columns.{all_at, may_follow}
 use Rattle.mt_record.proofs.Unique.{apart, same_number, same_column, same_carried, same_change, same_body, no_mark}
 use Rattle.mt_record.proofs.Lawful.{put_fits, lawful_fits}
 use Rattle.mt_record.proofs.EntryTexts.{entry_fits, whole_code}
 
 -- ---- fields
-
--- the bytes of a change have fields
-pub has_fields : (bytes : List ℕ) (change : Change) → FitsChange change → bytes ≡ change_bytes change → HasNoFields bytes → ⊥
-has_fields bytes change fits e none = none change.version change.key (kind_bytes change.kind) fits.0 fits.1 e
 
 -- one list of columns is carried so
 pub same_columns : (bytes : List ℕ) (a b : List (ℕ × List ℕ)) → CarriesColumns bytes a → CarriesColumns bytes b → a ≡ b
@@ -37,22 +33,6 @@ pub record Carries (byte : ℕ) (rest : List ℕ) : Type 0 where
   pub lawful : IsLoggedChange widest change
   pub code : code_of change.kind ≡ byte
   pub spelled : rest ≡ change_bytes change
-
--- a body has a byte in front
-pub some_body : (bytes : List ℕ) → IsLawfulBody bytes → bytes ≡ [] → ⊥
-some_body bytes (r, is) none = by r.change (sym none ∙ is.spelled)
-  where
-    by : (o : Option Change) → [] ≡ body_of r.timestamp o → ⊥
-    by None e = omega (arith, ap length e)
-    by (Some change) e = omega (arith, ap length e)
-
--- and eight bytes behind it
-pub timed : (bytes fields : List ℕ) (code : ℕ) → IsLawfulBody bytes → bytes ≡ code ∷ fields → length fields < 8 → ⊥
-timed bytes fields code (r, is) e few = by r.change (sym e ∙ is.spelled)
-  where
-    by : (o : Option Change) → code ∷ fields ≡ body_of r.timestamp o → ⊥
-    by None same = omega (arith, ap length same, few)
-    by (Some change) same = omega (arith, ap length same, few)
 
 -- the body of a mark
 pub is_mark : (bytes fields rest : List ℕ) (code t : ℕ) → IsLawfulBody bytes → bytes ≡ code ∷ fields → t < 2 ^ 64 → fields ≡ big_bytes 8 t ++ rest → code ≡ 3 → IsBodyOf widest 0 bytes (mark_of t)

@@ -1,7 +1,7 @@
 -- A body says the record that it spells.
-use Rattle.std.proofs.Common.{◌≡◌, ◌↔◌, ◌||◌, IsTrue, ℕ, suc, eqb, ◌^◌, ◌<◌, ◌≤◌, ◌+◌, ◌-◌, List, [], ◌∷◌, ◌++◌, length, take, drop, Option, Some, None, Bool, true, false, refl, sym, ap, subst, ◌∙◌, append_assoc, arith}
+use Rattle.std.proofs.Common.{◌≡◌, ◌↔◌, ◌||◌, IsTrue, ℕ, suc, eqb, ◌^◌, ◌<◌, ◌+◌, ◌-◌, List, [], ◌∷◌, ◌++◌, length, take, drop, Option, Some, None, Bool, true, false, refl, sym, ap, subst, ◌∙◌, append_assoc, arith}
 use Rattle.std.proofs.Math.Seq.{take-append_seam, drop-append_seam}
-use Rattle.std.proofs.lemmas.List.{append-nil, length-append, take_rest, drop-drop}
+use Rattle.std.proofs.lemmas.List.{append-nil, take_rest, drop-drop}
 use Rattle.std.proofs.lemmas.Bool.{false≢true}
 use Rattle.std.specs.Prelude.{IfSome, slice_index}
 use Rattle.std.specs.List.{flat_map, AllByRecursion}
@@ -168,14 +168,6 @@ update_says bytes u below sound same =
 
 -- ---- room
 
--- a body has so many bytes at least
-pub least_bytes : (bytes : List ℕ) → IsBody bytes → 9 ≤ length bytes
-least_bytes bytes is = least (is_mark_in bytes) is.spelled
-  where
-    least : (mark : Bool) → bytes ≡ body_of (time_in bytes) (change_unless mark (change_in bytes)) → 9 ≤ length bytes
-    least true same = omega (arith, ap length same)
-    least false same = omega (arith, ap length same)
-
 -- the body of a change, by its fields
 pub spelled_change : (bytes : List ℕ) → IsChangeBody bytes
     → bytes ≡ change_body (code_of (kind_in bytes)) (time_in bytes) (key_in bytes) (version_in bytes) (kind_bytes (kind_in bytes))
@@ -186,21 +178,6 @@ change_sound bytes is = subst (λ (mark : Bool). IfSome (change_unless mark (cha
 
 change_fits : (bytes : List ℕ) → IsChangeBody bytes → FitsChange (change_in bytes)
 change_fits bytes is = fits_of (change_in bytes) (change_sound bytes is)
-
--- its key is as long as is said
-pub key_is_long : (bytes : List ℕ) → IsChangeBody bytes → key_length_in bytes ≡ length (key_in bytes)
-key_is_long bytes is =
-    let same = spelled_change bytes is in
-    let fit = change_fits bytes is in
-    ap key_length_in same ∙ key_length_back (code_of (kind_in bytes)) (time_in bytes) (version_in bytes) (key_in bytes) (kind_bytes (kind_in bytes)) fit.1
-
--- and it has room
-pub change_room : (bytes : List ℕ) → IsChangeBody bytes → 19 + key_length_in bytes ≤ length bytes
-change_room bytes is =
-    let same = spelled_change bytes is in
-    let long = key_is_long bytes is in
-    let all = ap length same in
-    omega (arith, long, all, length-append (key_in bytes) (kind_bytes (kind_in bytes)))
 
 -- what its kind carries is spelled so
 pub carried_spelled : (bytes : List ℕ) → IsChangeBody bytes → (carried_in bytes ≡ kind_bytes (kind_in bytes)) × FitsKind (kind_in bytes)

@@ -15,7 +15,7 @@ use Rattle.mt_record.specs.LogFaults.{HasTrailerFault}
 use Rattle.mt_record.specs.Parts.{IsEntryLength}
 use Rattle.mt_record.specs.PartFeeding.{HasWrongEntry, ShowsNoEntry}
 use Rattle.mt_record.specs.Bodies.{AreNoFields, IsChangeWith, IsChangeFault, IsFrame, IsFrameFault}
-use Rattle.mt_record.proofs.Unique.{same_split, same_number, same_change, apart}
+use Rattle.mt_record.proofs.Unique.{same_split, same_number, same_change}
 use Rattle.mt_record.proofs.Entries.{entry_length, short_entry}
 use Rattle.mt_record.proofs.Lawful.{key_room, kind_fits}
 
@@ -30,12 +30,6 @@ pub whole_code : (kind : AnyKind) → IsWhole kind → code_of kind ≡ 0
 whole_code (Put columns) whole = absurd whole
 whole_code Remove whole = absurd whole
 whole_code (Whole columns) whole = refl
-
--- and no other kind has it
-pub code_whole : (kind : AnyKind) → code_of kind ≡ 0 → IsWhole kind
-code_whole (Put columns) code = absurd (apart 0 1 (omega arith) (sym code))
-code_whole Remove code = absurd (apart 0 2 (omega arith) (sym code))
-code_whole (Whole columns) code = tt
 
 -- where the fields are those of a change of which this holds, they are those of no entry of which it does not
 other_entry : (format : Format) (bytes : List ℕ) (P : Change → Type 0) → IsChangeWith 0 bytes P → ((entry : Change) → IsEntry (limits_of format) entry → P entry → ⊥)

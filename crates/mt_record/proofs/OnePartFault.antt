@@ -18,7 +18,7 @@ use Rattle.mt_record.specs.PartFeeding.{ShowsNoPart, IsPartShown, ShowsNoPartFau
 use Rattle.mt_record.proofs.Unique.{same_split, same_number, framed_apart}
 use Rattle.mt_record.proofs.Entries.{entry_length, short_entry}
 use Rattle.mt_record.proofs.OnePart.{same_entry, same_head}
-use Rattle.mt_record.proofs.PartItems.{reads_nothing, reads_entries, reads_part}
+use Rattle.mt_record.proofs.PartItems.{reads_nothing, reads_entries}
 
 -- ---- what stands at the front of a rest
 
@@ -298,14 +298,6 @@ pub order_shows_none : (s : PartSoFar) (bytes held : List ℕ) → ReadsUpTo s b
 order_shows_none s bytes held reads left = by_stage s.head s.end s.entries bytes held reads left
 
 -- ---- the end
-
--- what was read of a part that is whole
-pub part_read : (s : PartSoFar) (bytes left : List ℕ) (head : PartHead) (end : ℕ) → s.head ≡ Some head → s.end ≡ Some end → ReadsUpTo s bytes left → IsPartLeft s left
-    → IsPart bytes head s.entries end
-part_read s bytes left head end some ends reads none =
-    let is = reads_part s bytes left head end some ends reads in
-    let empty = subst (λ (p : Option PartHead × Option ℕ). IsPartLeft (record s { head = p.0; end = p.1 }) left) (λ i. (some i, ends i)) none in
-    subst (λ (x : List ℕ). IsPart x head s.entries end) (sym (whole_part head s.entries end bytes left is empty)) is.is_part
 
 -- without a footer it is broken
 pub no_footer_read : (s : PartSoFar) (bytes left : List ℕ) (head : PartHead) → s.head ≡ Some head → s.end ≡ None → ReadsUpTo s bytes left → IsPartLeft s left

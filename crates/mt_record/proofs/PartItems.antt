@@ -124,11 +124,6 @@ more_shown part (byte ∷ more) head entries end reads some =
     broken_at part (footer_bytes end (length entries) ++ byte ∷ more) head entries (record { spelled = spelled; is_head = is.is_head; lawful = is.lawful })
     (inr (inr (inr (end, byte, more, refl))))
 
--- bytes that begin a footer are cut
-pub footer_cut : (s : PartSoFar) (a : List ℕ) (head : PartHead) → s.head ≡ Some head → s.end ≡ None → length a < 12 → IsPartLeft s (big_bytes 4 0 ++ a)
-footer_cut s a head some none few =
-    subst (λ (p : Option PartHead × Option ℕ). IsPartLeft (record s { head = p.0; end = p.1 }) (big_bytes 4 0 ++ a)) (λ i. (sym some i, sym none i)) (inr (inr (a, few, refl)))
-
 -- a part that was read
 pub ended : (s : PartSoFar) (part rest : List ℕ) (head : PartHead) (end : ℕ) → s.head ≡ Some head → ReadsPart head s.entries end part rest
     → ReadsUpTo (record s { end = Some end }) part rest

@@ -1,8 +1,7 @@
 -- What two sets of updates of one key leave together.
-use Rattle.std.proofs.Common.{◌≡◌, ◌⊎◌, inl, inr, ◌↔◌, ℕ, ◌<◌, ◌+◌, List, ◌++◌, length, Option, Some, None, Contains, refl, sym, ◌∙◌, subst, arith}
-use Rattle.std.specs.Prelude.{slice_get, slice_set, slice_index_or}
+use Rattle.std.proofs.Common.{◌≡◌, ◌⊎◌, inl, inr, ◌↔◌, ℕ, ◌<◌, List, ◌++◌, length, Option, Some, None, Contains, sym, ◌∙◌, subst, arith}
+use Rattle.std.specs.Prelude.{slice_get, slice_index_or}
 use Rattle.std.proofs.lemmas.List.Elements.{Contains-append_left, Contains-append_right, Contains-append_cases}
-use Rattle.std.proofs.lemmas.Bool.{cases_eq}
 use Rattle.mt_words.specs.declared.update.Stamp.{Stamp}
 use Rattle.mt_words.specs.declared.update.Update.{Update}
 use Rattle.mt_words.specs.Limits.{widest}
@@ -12,10 +11,9 @@ use Rattle.mt_words.specs.Stamps.{IsAtMost}
 use Rattle.mt_replay.specs.Cells.{Written, Slots, IsNewer, IsNewestOf, IsGreatest, IsUnwritten, IsCellOf}
 use Rattle.mt_replay.specs.Groups.{Group, IsLatestOf, IsWriteOf, IsGreatestReset, IsResetOf, IsGroupOf}
 use Rattle.mt_replay.proofs.StampLemmas.{at_most_trans, older_or_not, not_newer}
-use Rattle.mt_replay.proofs.CellLemmas.{IsRight, decide, some_is, get_set_same, get_set_other}
-use Rattle.mt_replay.proofs.ColumnsLemmas.{IsLeft, left_more}
+use Rattle.mt_replay.proofs.CellLemmas.{IsRight, decide, some_is}
+use Rattle.mt_replay.proofs.ColumnsLemmas.{IsLeft}
 use Rattle.std.proofs.lemmas.Option.{slice_get-get_or, slice_get_within}
-use Rattle.std.proofs.lemmas.List.{length-set}
 
 -- ---- the same writes in another order
 
@@ -110,40 +108,9 @@ pub record AreBoth (old add : Slots) (n : ℕ) (new left : Slots) : Type 0 where
   pub waits : IsLeft add n left
   pub newest : (k : ℕ) (a b slot : Option Written) → k < n → slice_get old k ≡ Some a → slice_get add k ≡ Some b → slice_get new k ≡ Some slot → IsNewestOf a b slot
 
-pub both_none : (old add : Slots) → AreBoth old add 0 old add
-both_none old add = record {
-  places = refl;
-  places_left = refl;
-  stays = λ k le. refl;
-  waits = λ k le. refl;
-  newest = λ k a b slot lt was added at. absurd (omega arith);
-}
-
 -- what stands in an untouched place
 in_place : (slots left : Slots) (n : ℕ) (slot : Option Written) → n < length left → IsLeft slots n left → slice_get slots n ≡ Some slot → slice_index_or left n None ≡ slot
 in_place slots left n slot lt is at = some_is _ _ (sym (slice_get-get_or left n None lt) ∙ is n (omega arith) ∙ at)
-
-newest_here : (old add : Slots) (n k : ℕ) (new left : Slots) (x a b slot : Option Written) → n < length new → n < length left → IsNewestOf (slice_index_or new n None) (slice_index_or left n None) x → AreBoth old add n new left
-    → n ≡ k → slice_get old k ≡ Some a → slice_get add k ≡ Some b → slice_get (slice_set new n x) k ≡ Some slot → IsNewestOf a b slot
-newest_here old add n k new left x a b slot lt lt_left newest are same was added at =
-    let one : slice_index_or new n None ≡ a = in_place old new n a lt are.stays (subst (λ (j : ℕ). slice_get old j ≡ Some a) (sym same) was) in
-    let two : slice_index_or left n None ≡ b = in_place add left n b lt_left are.waits (subst (λ (j : ℕ). slice_get add j ≡ Some b) (sym same) added) in
-    let three : x ≡ slot = some_is _ _ (sym (get_set_same new n x lt) ∙ subst (λ (j : ℕ). slice_get (slice_set new n x) j ≡ Some slot) (sym same) at) in
-    subst (λ (s : Option Written). IsNewestOf a b s) three (subst (λ (s : Option Written). IsNewestOf a s x) two (subst (λ (s : Option Written). IsNewestOf s (slice_index_or left n None) x) one newest))
-
--- one more place
-pub both_step : (old add : Slots) (n : ℕ) (new left : Slots) (x : Option Written) → n < length new → n < length left → IsNewestOf (slice_index_or new n None) (slice_index_or left n None) x
-    → AreBoth old add n new left → AreBoth old add (n + 1) (slice_set new n x) (slice_set left n None)
-both_step old add n new left x lt lt_left newest are = record {
-  places = length-set new n x ∙ are.places;
-  places_left = length-set left n None ∙ are.places_left;
-  stays = λ k le. get_set_other new n k x (λ e. omega arith) ∙ are.stays k (omega arith);
-  waits = left_more add left n are.waits;
-  newest = λ k a b slot below was added at. elim (cases_eq n k) as (λ _. IsNewestOf a b slot) [
-    | inl same ↦ newest_here old add n k new left x a b slot lt lt_left newest are same was added at
-    | inr apart ↦ are.newest k a b slot (omega arith) was added (sym (get_set_other new n k x apart) ∙ at)
-  ];
-}
 
 -- all places
 pub both_cells : (old add : Slots) (new left : Slots) (writes others : List Written) → AreBoth old add 16 new left → IsCellOf writes old → IsCellOf others add → IsCellOf (writes ++ others) new

@@ -1,14 +1,13 @@
 -- Sorted keys, each kept once.
-use Rattle.std.proofs.Common.{◌≡◌, ℕ, List, ◌∷◌, [], ◌++◌, map, Bool, Contains, IsPermutation, sym, ap, ◌∙◌, subst}
+use Rattle.std.proofs.Common.{◌≡◌, ℕ, List, map, Bool, Contains, IsPermutation, sym, subst}
 use Rattle.std.specs.Prelude.{nat_eq}
 use Rattle.std.specs.Cmp.Lexicographic.{pointwise, texts_ties}
 use Rattle.std.specs.List.{All, dedup}
 use Rattle.std.specs.List.Sorted.{IsSorted, IsStrictlySortedBy}
 use Rattle.std.proofs.lemmas.Cmp.{nat_list_cmp_total, on_total}
-use Rattle.std.proofs.lemmas.List.{map-append}
 use Rattle.std.proofs.lemmas.List.Kept.{Contains-from_dedup, IsStrictlySortedBy-dedup}
 use Rattle.std.proofs.lemmas.List.Sorted.{IsPermutation-sym, Contains-permutation}
-use Rattle.std.proofs.lemmas.List.Elements.{All-contains, All-from_recursion, All-push}
+use Rattle.std.proofs.lemmas.List.Elements.{All-contains, All-from_recursion}
 use Rattle.mt_replay.specs.Cuts.{AreRising}
 use Rattle.mt_replay.proofs.Members.{all_from, of_map, in_map}
 use Rattle.mt_replay.proofs.DistinctLemmas.{order_of, rising}
@@ -30,7 +29,3 @@ kept_each {B} P now keys sorted kept moved is all = All-from_recursion P (map no
     let there = Contains-from_dedup (are_same now) sorted one.0 (subst (λ (ks : List B). Contains ks one.0) is one.1) in
     let first = in_map now keys one.0 (Contains-permutation sorted keys one.0 (IsPermutation-sym keys sorted moved) there) in
     All-contains P (map now keys) key all (subst (Contains (map now keys)) one.2 first)))
-
--- what holds of the keys so far and of one more holds of them all
-pub each_more : {B : Type 0} (P : List ℕ → Type 0) (now : B → List ℕ) (keys new : List B) (key : B) → new ≡ keys ++ key ∷ [] → P (now key) → All P (map now keys) → All P (map now new)
-each_more P now keys new key pushed one all = subst (All P) (sym (ap (map now) pushed ∙ map-append now keys (key ∷ []))) (All-push P (map now keys) (now key) all one)

@@ -10,10 +10,10 @@ use Rattle.mt_words.specs.declared.update.Update.{Update}
 use Rattle.mt_words.specs.Limits.{widest}
 use Rattle.mt_words.specs.Words.{IsKey, IsBelow, AreColumns}
 use Rattle.mt_words.specs.Walks.{Pair, KeysRise}
-use Rattle.mt_replay.specs.Walk.{IsWalk, AreApart}
+use Rattle.mt_replay.specs.Walk.{AreApart}
 use Rattle.mt_replay.specs.Cuts.{is_below, key_below, InKeyOrder}
 use Rattle.mt_replay.specs.Cells.{Written, IsCellOf, IsColumnsOf}
-use Rattle.mt_replay.specs.Groups.{Group, IsSound, IsGroupOf, IsMapOf}
+use Rattle.mt_replay.specs.Groups.{Group, IsSound, IsGroupOf}
 use Rattle.mt_replay.specs.Walker.{with_pair, IsMade, AreLast, IsWalkSoFar}
 use Rattle.mt_words.proofs.Elements.{no_element, head_in}
 use Rattle.mt_replay.proofs.KeyOrder.{key_order}
@@ -40,18 +40,6 @@ not_below_last updates update u order at =
     (λ i. key_below (sym end i) (sym here i)) ∙ far
 
 -- ---- no update
-
-no_map : IsMapOf [] []
-no_map = record { map = (tt, tt); keys = tt }
-
-no_walk : IsWalk [] []
-no_walk = record {
-  map = (tt, tt);
-  exact = λ key number bytes. (λ holds. absurd (no_element (key, holds.0) holds.1), λ has. absurd (no_element has.write has.stands));
-}
-
-pub so_far_none : (group : Group) → IsWalkSoFar [] [] None group
-so_far_none group = record { before = []; last = []; split = refl; made = record { map = no_map; walk = λ apart. no_walk }; in_hand = (refl, refl) }
 
 -- ---- the pair of the last key
 

@@ -1,5 +1,5 @@
 -- The groups of parts, part by part.
-use Rattle.std.proofs.Common.{◌≡◌, ◌≢◌, ◌∙◌, inl, inr, ℕ, Bool, true, false, cond, List, [], ◌∷◌, ◌++◌, Some, None, refl, sym, ap, subst}
+use Rattle.std.proofs.Common.{◌≡◌, ◌≢◌, ◌∙◌, inl, inr, ℕ, Bool, true, false, cond, List, [], ◌∷◌, ◌++◌, Some, refl, sym, ap, subst}
 use Rattle.std.specs.Ordering.{nat_cmp, is_eq}
 use Rattle.std.specs.BTreeMap.{BTreeMap, get}
 use Rattle.std.proofs.lemmas.Bool.{cases_eq, eq-eqb, ne_eqb, false_from_ne_true}
@@ -8,7 +8,7 @@ use Rattle.std.proofs.lemmas.List.Elements.{filter-append, Contains-push, Contai
 use Rattle.std.proofs.lemmas.Map.Lookups.{exact_unsigned}
 use Rattle.std.proofs.lemmas.Map.Views.{tells_apart}
 use Rattle.mt_record.specs.Parts.{PartReading}
-use Rattle.mt_scan.specs.PartScans.{KnownPart, whole, broken, nameless}
+use Rattle.mt_scan.specs.PartScans.{KnownPart, whole, broken}
 use Rattle.mt_scan.specs.Choice.{belongs_to, parts_of}
 use Rattle.mt_scan.specs.Groups.{IsGroupOf, IsGroupAt, AreGroupsOf}
 use Rattle.mt_scan.specs.declared.group.Group.{Group}
@@ -49,10 +49,6 @@ groups_more parts part number old new is own others are q = elim (cases_eq numbe
       subst (IsGroupAt (parts_of q (parts ++ part ∷ []))) (sym (others q (differ number q other))) there
 ]
 
--- one more part that belongs to no checkpoint
-pub groups_same : (parts : List KnownPart) (all : BTreeMap ℕ Group) → AreGroupsOf parts all → AreGroupsOf (parts ++ nameless ∷ []) all
-groups_same parts all are q = subst (λ (x : List KnownPart). IsGroupAt x (get nat_cmp all q)) (sym (parts_without q parts nameless refl)) (are q)
-
 -- a broken part makes its group a broken one
 pub broken_more : (parts : List KnownPart) (number : ℕ) (old new : BTreeMap ℕ Group) → get nat_cmp new number ≡ Some groups.Broken → AreOthers old new number → AreGroupsOf parts old
     → AreGroupsOf (parts ++ broken number ∷ []) new
@@ -67,15 +63,6 @@ whole_more parts part old new before after was is others adds are =
     let number : ℕ = part.number in
     let there = subst (IsGroupAt (parts_of number parts)) was (are number) in
     groups_more parts (whole part) number old new (whole_is_of part) (subst (IsGroupAt (parts_of number parts ++ whole part ∷ [])) (sym is) (adds (parts_of number parts) there)) others are
-
--- the first whole part of a group
-pub whole_first : (parts : List KnownPart) (part : PartReading) (old new : BTreeMap ℕ Group) (after : Group) → get nat_cmp old part.number ≡ None → get nat_cmp new part.number ≡ Some after
-    → AreOthers old new part.number → IsGroupOf (whole part ∷ []) after → AreGroupsOf parts old → AreGroupsOf (parts ++ whole part ∷ []) new
-whole_first parts part old new after was is others alone are =
-    let number : ℕ = part.number in
-    let none : parts_of number parts ≡ [] = subst (IsGroupAt (parts_of number parts)) was (are number) in
-    groups_more parts (whole part) number old new (whole_is_of part)
-    (subst (IsGroupAt (parts_of number parts ++ whole part ∷ [])) (sym is) (subst (λ (x : List KnownPart). IsGroupOf (x ++ whole part ∷ []) after) (sym none) alone)) others are
 
 -- a broken group stays broken
 pub stays_broken : (parts : List KnownPart) (part : KnownPart) → IsGroupOf parts groups.Broken → IsGroupOf (parts ++ part ∷ []) groups.Broken

@@ -104,21 +104,12 @@ module _ (before xs : List (List ℕ)) (i : ℕ) (e : List ℕ) (last : List (Li
 pub follows : (a b : List ℕ) → IsBelow a b ↔ KeysRise (a ∷ b ∷ [])
 follows a b = (λ h. ((h, tt), (tt, tt)), λ rise. rise.0.0)
 
-last_of_listed : (before : Option (Bor (List ℕ))) → last_of (listed before ++ []) ≡ listed before
-last_of_listed None = refl
-last_of_listed (Some x) = refl
-
 last_at : (xs : List (List ℕ)) (k : List ℕ) → 0 < length xs → k ≡ get_or xs (length xs - 1) k → k ∷ [] ≡ last_of xs
 last_at [] k some at = absurd (omega (arith, some))
 last_at (x ∷ []) k some at = ap (λ (y : List ℕ). y ∷ []) at
 last_at (x ∷ y ∷ ys) k some at =
     let e : length (x ∷ y ∷ ys) - 1 ≡ suc (length (y ∷ ys) - 1) = omega arith in
     last_at (y ∷ ys) k (omega arith) (at ∙ ap (λ (n : ℕ). get_or (x ∷ y ∷ ys) n k) e)
-
--- no keys more leave the one before them
-pub last_before : (before : Option (Bor (List ℕ))) (xs : List (List ℕ)) → length xs ≡ 0 → listed before ≡ last_of (listed before ++ xs)
-last_before before [] none = sym (last_of_listed before)
-last_before before (x ∷ xs) none = absurd (omega (arith, none))
 
 -- some keys more have a last one of their own
 pub last_behind : (before : Option (Bor (List ℕ))) (xs : List (List ℕ)) (k : List ℕ) → 0 < length xs → k ≡ get_or xs (length xs - 1) k → k ∷ [] ≡ last_of (listed before ++ xs)

@@ -233,14 +233,6 @@ selection_passed all number group cutoff old new none below best skipped is =
           subst (λ (ns : List ℕ). Contains ns n ↔ IsPassed more n) (sym skipped) both;
     }
 
--- nothing yet
-pub selection_none : (cutoff : ℕ) (selection : Selection) → selection.best ≡ None → selection.skipped.items ≡ [] → IsSelectionOf [] cutoff selection
-selection_none cutoff selection best skipped = record {
-  best = subst (IsBestOf [] cutoff) (sym best) (λ other offered. omega (arith, offered.stands.1));
-  rise = subst IsStrictlyIncreasing (sym skipped) (λ k fits. absurd (omega (arith, fits)));
-  exact = λ n. subst (λ (ns : List ℕ). Contains ns n ↔ IsPassed [] n) (sym skipped) (λ h. absurd (omega (arith, h.1)), λ h. absurd (omega (arith, h.stands.1)));
-}
-
 -- ---- in order, each number is above those before it
 
 less_is_below : (a b : ℕ) → nat_cmp a b ≡ Less → a < b
