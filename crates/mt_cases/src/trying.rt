@@ -39,10 +39,21 @@ fn case_of<'a>(
     let mut case = Case::new(alloc);
     for line in lines {
         *at = *line;
-        let text = in_pass(alloc, line.text, pass)?;
-        case.add(alloc, names, &words_of(alloc, text.as_str())?)?;
+        read_line(alloc, names, line.text, pass, &mut case)?;
     }
     Ok(case)
+}
+
+/// Takes the text of a line in.
+fn read_line(
+    alloc: Global,
+    names: &[Named<'_>],
+    text: &str,
+    pass: Option<u64>,
+    case: &mut Case,
+) -> Result<(), Mistake> {
+    let text = in_pass(alloc, text, pass)?;
+    case.add(alloc, names, &words_of(alloc, text.as_str())?)
 }
 
 /// The first difference between what comes and what is expected.

@@ -54,13 +54,19 @@ pub fn bytes_of(alloc: Global, word: &str) -> Result<Vec<u8>, Mistake> {
 /// Appends what a word spells: pieces joined by `+`, each of them text, or hexadecimal behind `0x`, and perhaps repeated.
 fn push_word(alloc: Global, word: &str, out: &mut Vec<u8>) -> Result<(), Mistake> {
     for piece in word.split('+') {
-        let (once, times) = repeated(piece)?;
-        match once.strip_prefix("0x") {
-            Some(digits) => push_times(&decoded(alloc, digits)?, times, out)?,
-            None => push_times(once.as_bytes(), times, out)?,
-        }
+        let digits = piece.strip_prefix("0x");
+        push_piece(alloc, digits.unwrap_or(piece), digits.is_some(), out)?;
     }
     Ok(())
+}
+
+/// Appends what a piece spells, perhaps repeated: hexadecimal digits or text.
+fn push_piece(alloc: Global, piece: &str, is_hex: bool, out: &mut Vec<u8>) -> Result<(), Mistake> {
+    let (once, times) = repeated(piece)?;
+    if is_hex {
+        return push_times(&decoded(alloc, once)?, times, out);
+    }
+    push_times(once.as_bytes(), times, out)
 }
 
 /// Appends the line of these words, as it is printed, with a blank between two of them.
@@ -96,8 +102,7 @@ fn decoded(alloc: Global, digits: &str) -> Result<Vec<u8>, Mistake> {
 /// Appends what words of hexadecimal digits spell, each perhaps repeated.
 pub fn push_digits(alloc: Global, words: &[&str], out: &mut Vec<u8>) -> Result<(), Mistake> {
     for word in words {
-        let (digits, times) = repeated(word)?;
-        push_times(&decoded(alloc, digits)?, times, out)?;
+        push_piece(alloc, word, true, out)?;
     }
     Ok(())
 }
