@@ -2,10 +2,11 @@
 //! refused: it then sees that a refused growth gives `Memory` and nothing else.
 use crate::asserting::assert_same;
 use crate::logs::{LOG_A, LOG_B, PART};
+use crate::tree::tree_of;
 use mt_recover::{Cutting, Inputs, NoGate, Pieces, Recovered, Workers, recover, recover_logs};
 use mt_scan::{MemSource, Rack, Slot};
-use mt_tree::{Draft, Tree, Wanted, above};
-use mt_words::{Columns, Fault, Key, Memory};
+use mt_tree::Wanted;
+use mt_words::Fault;
 use std::alloc::Global;
 use std::process::Abort;
 use std::thread::Threads;
@@ -87,28 +88,9 @@ fn a_refused_growth_of_recovery_by_two_workers_over_a_checkpoint_is_memory(rt: H
     }
 }
 
-/// The draft of this key, without columns.
-fn draft_of(alloc: Global, key: &[u8]) -> Result<Draft, Memory> {
-    let mut pairs = Vec::new(alloc);
-    if let Some(key) = Key::new(Vec::from_slice(alloc, key)?) {
-        pairs.push((key, Columns::new(alloc).keep(alloc)?))?;
-    }
-    Draft::build(alloc, pairs)
-}
-
-/// The tree of two keys that share their first eight bytes.
-fn small_tree(alloc: Global) -> Result<Tree, Memory> {
-    let left = draft_of(alloc, b"aaaaaaaab")?;
-    let right = draft_of(alloc, b"aaaaaaaac")?;
-    if !above(&left, &right) {
-        return left.finish();
-    }
-    Draft::join(left, right)?.finish()
-}
-
 #[test]
 fn a_refused_growth_of_a_tree_is_memory(rt: HostRuntime) {
-    if let Ok(tree) = small_tree(rt.alloc()) {
+    if let Ok(tree) = tree_of(rt.alloc(), &[b"aaaaaaaab", b"aaaaaaaac"], 1) {
         // A tree that met a want of memory answers as before.
         for _time in 0..2 {
             if let Ok(hits) = tree.getrange(b"", 9, Wanted::all()) {

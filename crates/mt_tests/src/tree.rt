@@ -32,7 +32,7 @@ fn draft_of(alloc: Global, keys: &[&[u8]]) -> Result<Draft, Memory> {
 }
 
 /// The tree of the drafts of the keys before the cut and behind it.
-fn tree_of(alloc: Global, keys: &[&[u8]], cut: usize) -> Result<Tree, Memory> {
+pub fn tree_of(alloc: Global, keys: &[&[u8]], cut: usize) -> Result<Tree, Memory> {
     let (before, behind) = keys.split_at(cut.min(keys.len()));
     joined(draft_of(alloc, before)?, draft_of(alloc, behind)?)?.finish()
 }

@@ -14,11 +14,20 @@ use Rattle.mt_tree.specs.Layer.{PlaceView, short, long, link, rank_at, pairs_at,
 use Rattle.mt_words.specs.Walks.{Pair}
 use Rattle.mt_words.specs.Words.{IsBelow}
 use Rattle.mt_tree.specs.Layers.{under, lies_under}
-use Rattle.mt_tree.specs.Layers.{AreRising, AreHeads, CountsFrom, own, more, IsLayers, linked_walks, SumsLayers, SumsLinks, CountsLayers}
+use Rattle.mt_tree.specs.Layers.{AreRising, AreHeads, CountsFrom, own, more, IsLayers, linked_walks, CountsLayers}
 use Rattle.mt_tree.specs.Nodes.{NodeView, LayerView, places, joined, IsLayerTree, IsTreeCount, AreLinked, each_borders}
 use Rattle.mt_tree.specs.Trees.{tree_walk, tree_count, IsTree, HasLayers}
 use Rattle.mt_tree.proofs.Finds.{pairs_rank}
 use Rattle.mt_tree.proofs.Joins.{all_append, all_weaker}
+
+-- the numbers of trees of these walks, in sum
+abbrev SumsLayers : List (List Pair) → ℕ → Type 0
+SumsLayers [] n = n ≡ 0
+SumsLayers (w ∷ ws) n = (a : ℕ) × (b : ℕ) × IsLayers w a × SumsLayers ws b × (n ≡ a + b)
+
+-- the numbers of trees below the links of these places, in sum
+abbrev SumsLinks : List PlaceView → ℕ → Type 0
+SumsLinks ps = SumsLayers (linked_walks ps)
 
 -- ---- what lies under 8 bytes
 under_step : (q : List ℕ) (p : Pair) (w : List Pair) (b : Bool) → lies_under q p.0 ≡ b → under q (p ∷ w) ≡ (elim b [ true ↦ (drop 8 p.0, p.1) ∷ under q w | false ↦ under q w ])
@@ -226,13 +235,6 @@ pub layers_are : (ps : List PlaceView) (n : ℕ) → IsLayer ps → SumsLinks ps
 layers_are ps n h s = record { heads = heads_at ps; are = are_heads ps h; counts = counts (walk ps) ps n (serves 0 [] ps h tt) s }
 
 -- ---- sums
-pub sums-append : (ps rs : List PlaceView) (m n : ℕ) → SumsLinks ps m → SumsLinks rs n → SumsLinks (ps ++ rs) (m + n)
-sums-append [] rs m n a b = let same : n ≡ m + n = omega arith in subst (SumsLinks rs) same b
-sums-append (short s l c ∷ ps) rs m n a b = sums-append ps rs m n a b
-sums-append (long s t c ∷ ps) rs m n a b = sums-append ps rs m n a b
-sums-append (link s w ∷ ps) rs m n a b = (a.0, a.1 + n, a.2, sums-append ps rs a.1 n a.3 b, let f : m ≡ a.0 + a.1 = a.4 in omega arith)
-
--- ---- the trees of a node
 sums_split : (vs ws : List (List Pair)) (n : ℕ) → SumsLayers (vs ++ ws) n → (a : ℕ) × (b : ℕ) × SumsLayers vs a × SumsLayers ws b × (n ≡ a + b)
 sums_split [] ws n s = (0, n, refl, s, omega arith)
 sums_split (v ∷ vs) ws n s =

@@ -32,12 +32,6 @@ take_take-append zero a b = refl
 take_take-append (suc n) [] b = refl
 take_take-append (suc n) (x ∷ a) b = ap (λ z. x ∷ z) (take_take-append n a b)
 
-pub take_full : {X : Type 0} (n : ℕ) (a b : List X) → length a ≡ n → take n (a ++ b) ≡ a
-take_full zero [] b e = refl
-take_full zero (x ∷ a) b e = absurd (omega arith)
-take_full (suc n) [] b e = absurd (omega arith)
-take_full (suc n) (x ∷ a) b e = ap (λ z. x ∷ z) (take_full n a b (omega arith))
-
 pub take_few : {X : Type 0} (n : ℕ) (a : List X) → length (take n a) ≤ n
 take_few zero a = omega arith
 take_few (suc n) [] = omega arith

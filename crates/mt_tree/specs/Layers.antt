@@ -47,12 +47,3 @@ linked_walks [] = []
 linked_walks (short s l c ∷ ps) = linked_walks ps
 linked_walks (long s t c ∷ ps) = linked_walks ps
 linked_walks (link s w ∷ ps) = w ∷ linked_walks ps
-
--- the numbers of trees of these walks, in sum
-abbrev pub SumsLayers : List (List Pair) → ℕ → Type 0
-SumsLayers [] n = n ≡ 0
-SumsLayers (w ∷ ws) n = (a : ℕ) × (b : ℕ) × IsLayers w a × SumsLayers ws b × (n ≡ a + b)
-
--- the numbers of trees below the links of these places, in sum
-abbrev pub SumsLinks : List PlaceView → ℕ → Type 0
-SumsLinks ps = SumsLayers (linked_walks ps)

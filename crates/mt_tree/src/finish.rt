@@ -1,4 +1,4 @@
-//! A finished layer is cut into borders, and nodes are stacked on them.
+//! The borders that are still open are closed, and nodes are stacked on all of them.
 ghost use Rattle.std.specs.Prelude.{◌≡◌, ◌≢◌, MatchBool, ◌<◌, ◌≤◌, ◌+◌, ◌++◌, ◌∷◌, [], suc, List, length, IfOk};
 ghost use Rattle.mt_tree.specs.Layer.{PlaceView, IsLayer, IsPlace};
 ghost use Rattle.mt_tree.specs.Nodes.{places, joined, borders_of, below_of, each_borders, level_height, IsNode, IsNodeAt, IsLevel, IsLevelAt, IsBorder, border_tree, AreBelow, IsTreeCount, first_of, parent_node};
@@ -116,15 +116,28 @@ fn finish_border(alloc: Global, border: Border) -> Result<Finished<Node>, Memory
     ensures lawful { IfOk result (λ node. IsNode node.made) }
     ensures count { IfOk result (λ node. IsTreeCount node.made.below node.below) }
 {
-    let closed = match border {
-        Border::Open(places) => close(alloc, places)?,
-        Border::Closed(closed) => closed,
-    };
+    let closed = close_border(alloc, border)?;
     let made = Node {
         kind: NodeKind::Border(closed.made),
     };
     let below = closed.below;
     Ok(Finished { made, below })
+}
+
+/// The places of this border, with all that lies below them finished.
+#[cycle(finish)]
+fn close_border(alloc: Global, border: Border) -> Result<Finished<Vec<Place>>, Memory>
+    requires lawful { IsLayer (border_view border) }
+    requires links { HasLawfulLinks border }
+    ensures same { IfOk result (λ closed. views closed.made.items ≡ border_view border) }
+    ensures layers { IfOk result (λ closed. each_borders (trees_of closed.made.items) ≡ layers_of_border border) }
+    ensures below { IfOk result (λ closed. AreBelow (views closed.made.items) (trees_of closed.made.items)) }
+    ensures count { IfOk result (λ closed. IsTreeCount (trees_of closed.made.items) closed.below) }
+{
+    match border {
+        Border::Open(places) => close(alloc, places),
+        Border::Closed(closed) => Ok(closed),
+    }
 }
 
 /// These places, with all that lies below them finished.

@@ -23,7 +23,8 @@ pub(crate) struct Layer {
 #[cycle(layer)]
 #[derive(Drop)]
 pub(crate) enum Border {
-    /// A push or a join may still change it. The first border of a layer is open, and the last.
+    /// A push or a join may still change it, or it stood at the seam of a join. The first border of a layer is open, and the
+    /// last.
     Open(Vec<DraftPlace>),
     /// All that lies below its places is finished.
     Closed(Finished<Vec<Place>>),

@@ -1,6 +1,6 @@
 -- What holds of every format. A further one is an equation more in each of these.
 use Rattle.std.proofs.Common.{◌≡◌, ℕ, ◌≤◌, Bool, true, false, Option, Some, None, List, [], ◌∷◌, refl, sym, ap, ◌∙◌, arith}
-use Rattle.std.specs.Prelude.{◌==◌, IfSome}
+use Rattle.std.specs.Prelude.{◌==◌}
 use Rattle.std.specs.List.{AllByRecursion}
 use Rattle.mt_words.specs.declared.limits.Format.{Format}
 use Rattle.mt_words.specs.declared.limits.Format.TheVariants.{One}
@@ -10,7 +10,7 @@ use Rattle.mt_words.specs.declared.update.Kind.{Kind}
 use Rattle.mt_words.specs.declared.update.Kind.TheVariants.{Put, Remove, Whole}
 use Rattle.mt_words.specs.Limits.{limits_of, widest}
 use Rattle.mt_words.specs.Words.{IsColumn}
-use Rattle.mt_words.specs.Changes.{AllowsKind, IsLawfulChange, IsLoggedChange, IsEntry}
+use Rattle.mt_words.specs.Changes.{AllowsKind, IsLawfulChange}
 
 -- what a format allows can stand in memory, and puts, removes and marks are among it
 pub record IsWithin (limits : Limits) : Type 0 where
@@ -62,13 +62,3 @@ pub change_within : (format : Format) (change : Change) → IsLawfulChange (limi
 change_within format change is =
     let room = within format in
     record { version = is.version; version_fits = is.version_fits; key = omega (arith, is.key, room.key); kind = kind_within format change.kind is.kind }
-
--- and the entries of a checkpoint
-pub entries_within : (format : Format) (entries : List Change) → AllByRecursion (IsEntry (limits_of format)) entries → AllByRecursion (IsEntry widest) entries
-entries_within format [] all = tt
-entries_within format (entry ∷ entries) all = ((change_within format entry all.0.0, all.0.1), entries_within format entries all.1)
-
--- and records
-pub record_within : (format : Format) (change : Option Change) → IfSome change (IsLoggedChange (limits_of format)) → IfSome change (IsLoggedChange widest)
-record_within format None lawful = tt
-record_within format (Some change) lawful = (change_within format change lawful.0, lawful.1)

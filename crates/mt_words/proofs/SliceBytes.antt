@@ -52,9 +52,6 @@ nat_cmp-equal x y h = sym (nat_cmp_is x y Equal h)
 nat_cmp-greater : (x y : ℕ) → y < x → nat_cmp x y ≡ Greater
 nat_cmp-greater x y h = sym (nat_cmp_is x y Greater h)
 
-nat_cmp-same : (x y v w : ℕ) (r : Ordering) → MatchOrdering r (x < y) (x ≡ y) (y < x) → MatchOrdering r (v < w) (v ≡ w) (w < v) → nat_cmp x y ≡ nat_cmp v w
-nat_cmp-same x y v w r h k = sym (nat_cmp_is x y r h) ∙ nat_cmp_is v w r k
-
 nat_cmp-shift : (a x y : ℕ) → nat_cmp (a + x) (a + y) ≡ nat_cmp x y
 nat_cmp-shift a x y = by (nat_cmp x y) (ranked x y _ refl)
   where

@@ -1,19 +1,18 @@
 use Rattle.std.proofs.Common.{◌≡◌, ◌≤◌, ◌<◌, ◌++◌, List, [], ap, sym, subst, ◌∙◌, arith, rules, ◌∷◌, append_assoc, ◌-◌, ◌^◌, min, length}
 use Rattle.std.proofs.lemmas.List.{append-nil, map-append, nil_from_length}
 use Rattle.std.specs.Vec.Iter.{into_iter_items}
-use Rattle.mt_tree.specs.Layer.{PlaceView, link, IsPlace, weight, walk, pairs_at}
+use Rattle.mt_tree.specs.Layer.{PlaceView, link, IsPlace, IsLayer, weight, walk, pairs_at}
 use Rattle.mt_tree.specs.Borders.{DraftView, IsBorderList, layer_walk}
 use Rattle.mt_tree.specs.DraftViews.{draft_view, draft_views, draft_view_of, border_view, border_views, layers_of_border, layers_of_content, HasLawfulLinks}
 use Rattle.mt_tree.specs.declared.layer.DraftContent.{DraftContent}
 use Rattle.mt_tree.specs.declared.layer.DraftPlace.{DraftPlace}
 use Rattle.mt_tree.specs.declared.node.Place.{Place}
-use Rattle.mt_tree.specs.NodeViews.{views, view_of, trees_of, trees_of_content}
+use Rattle.mt_tree.specs.NodeViews.{views, view_of, trees_of_content}
 use Rattle.mt_tree.proofs.Levels.{place_weight, place_lawful, link_lighter}
 use Rattle.std.specs.List.{AllByRecursion, flat_map}
-use Rattle.mt_tree.specs.Nodes.{NodeView, LayerView, IsNodeAt, AreBelow, IsTreeCount, borders_of, below_of, each_borders}
+use Rattle.mt_tree.specs.Nodes.{NodeView, LayerView, IsNodeAt, IsTreeCount, borders_of, below_of, each_borders}
 use Rattle.mt_tree.proofs.Ends.{middle, link_some, border_done, below_push, counted_push, carried, all_carried, each_flat}
 use Rattle.mt_tree.proofs.finish.+finish.Goals as goal
-use Rattle.mt_tree.proofs.finish.+finish.Goals.{finish_border-in-Open+in_ok-closed-in-Open, finish_border-in-Closed}
 
 pub finish-loop-border-init : goal.finish-loop-border-init
 finish-loop-border-init t c =
@@ -65,30 +64,16 @@ close-returns-clause-same t c =
     all_done _ _ _ c.loop-place.invariant.same none
 
 pub finish_border-invariant_of-made : goal.finish_border-invariant_of-made
-finish_border-invariant_of-made t c =
-    elim c.match-border.branch [
-      | finish_border-in-Open+in_ok-closed-in-Open w ↦
-          let is = ap (λ f. f.made.items) w.closed-is in
-          let same : views c.match-border.closed.made.items ≡ border_view c.args.border = ap views is ∙ w.in_ok-closed-in-Open.ensures.same ∙ sym (ap border_view w.in-Open.is) in
-          border_done _ (border_view c.args.border) same c.requires.some c.requires.lawful (subst (λ (z : List Place). AreBelow (views z) (trees_of z)) (sym is) w.in_ok-closed-in-Open.ensures.below)
-      | finish_border-in-Closed w ↦
-          let is = ap (λ f. f.made.items) w.closed-is in
-          let links : AreBelow (views w.in-Closed.closed.made.items) (trees_of w.in-Closed.closed.made.items) = (subst HasLawfulLinks w.in-Closed.is c.requires.links).0 in
-          border_done _ (border_view c.args.border) (ap views is ∙ sym (ap border_view w.in-Closed.is)) c.requires.some c.requires.lawful (subst (λ (z : List Place). AreBelow (views z) (trees_of z)) (sym is) links)
-    ]
+finish_border-invariant_of-made t c = border_done _ (border_view c.args.border) c.in_ok-closed.ensures.same c.requires.some c.requires.lawful c.in_ok-closed.ensures.below
 
 pub finish_border-returns-clause-lawful : goal.finish_border-returns-clause-lawful
-finish_border-returns-clause-lawful t c =
-    elim c.match-border.branch [
-      | finish_border-in-Open+in_ok-closed-in-Open w ↦
-          let is = ap (λ f. f.made.items) w.closed-is in
-          let same : views c.match-border.closed.made.items ≡ border_view c.args.border = ap views is ∙ w.in_ok-closed-in-Open.ensures.same ∙ sym (ap border_view w.in-Open.is) in
-          border_done _ (border_view c.args.border) same c.requires.some c.requires.lawful (subst (λ (z : List Place). AreBelow (views z) (trees_of z)) (sym is) w.in_ok-closed-in-Open.ensures.below)
-      | finish_border-in-Closed w ↦
-          let is = ap (λ f. f.made.items) w.closed-is in
-          let links : AreBelow (views w.in-Closed.closed.made.items) (trees_of w.in-Closed.closed.made.items) = (subst HasLawfulLinks w.in-Closed.is c.requires.links).0 in
-          border_done _ (border_view c.args.border) (ap views is ∙ sym (ap border_view w.in-Closed.is)) c.requires.some c.requires.lawful (subst (λ (z : List Place). AreBelow (views z) (trees_of z)) (sym is) links)
-    ]
+finish_border-returns-clause-lawful t c = border_done _ (border_view c.args.border) c.in_ok-closed.ensures.same c.requires.some c.requires.lawful c.in_ok-closed.ensures.below
+
+pub close_border-close-requires : goal.close_border-close-requires
+close_border-close-requires t c =
+    let same : border_view c.args.border ≡ draft_views c.in-Open.places.items = ap border_view c.in-Open.is in
+    let light = ap (λ (z : List PlaceView). weight (walk z)) same in
+    (omega (arith, light, c.decreases), subst IsLayer same c.requires.lawful)
 
 pub finish_place-finish-requires : goal.finish_place-finish-requires
 finish_place-finish-requires t c =
