@@ -1,6 +1,6 @@
 -- The surviving updates, scan by scan.
 use Rattle.std.proofs.Common.{◌≡◌, ◌⊎◌, inl, inr, ℕ, ◌<◌, map, Result, Ok, IfOk, Bool, true, false, List, [], ◌∷◌, ◌++◌, Contains, IsPermutation, refl, sym, ap, ◌∙◌, subst, append_assoc}
-use Rattle.std.specs.Prelude.{cond}
+use Rattle.std.specs.Prelude.{cond, Option}
 use Rattle.std.specs.List.{filter, AllZip}
 use Rattle.std.proofs.lemmas.List.{flat_map_more, map-append, append-nil}
 use Rattle.std.proofs.lemmas.List.Elements.{filter-append, Contains-push, Contains-append_left, Contains-append_right}
@@ -16,7 +16,10 @@ use Rattle.mt_words.proofs.Elements.{no_element, head_or_tail}
 use Rattle.mt_replay.specs.declared.window.Window.{Window}
 use Rattle.mt_replay.specs.Runs.{together}
 use Rattle.mt_replay.specs.Survivors.{in_window, wholes}
+use Rattle.mt_scan.specs.Choice.{Checkpoint}
 use Rattle.mt_recover.specs.LogScans.{kept, kept_by, kept_in}
+use Rattle.mt_recover.specs.Start.{surviving}
+use Rattle.mt_recover.specs.Survivors.{entry_updates}
 
 -- the survivors of one more scan
 pub scan_more : (window : Window) (scans : List LogScan) (scan : LogScan) → kept_in window (scans ++ scan ∷ []) ≡ kept_in window scans ++ filter (in_window window) (kept_by scan)
@@ -43,7 +46,7 @@ pub together_more : (lists : List (List Update)) (list : List Update) → togeth
 together_more lists list = sym (flat_map_more (λ (us : List Update). us) [] lists list)
 
 -- the updates of two lists of lists
-pub together_append : (lists others : List (List Update)) → together (lists ++ others) ≡ together lists ++ together others
+together_append : (lists others : List (List Update)) → together (lists ++ others) ≡ together lists ++ together others
 together_append [] others = refl
 together_append (l ∷ ls) others = ap (λ (us : List Update). l ++ us) (together_append ls others) ∙ sym (append_assoc l (together ls) (together others))
 
@@ -71,6 +74,13 @@ part_cells_more parts part lists cells are one =
     subst (λ (us : List Update). IsPermutation us (together (lists ++ cells ∷ []))) (sym (part_more parts part))
     (subst (IsPermutation (wholes (entries_of (shown_by_all parts)) ++ wholes part.entries)) (sym (together_more lists cells))
     (IsPermutation-append (wholes (entries_of (shown_by_all parts))) (together lists) (wholes part.entries) cells are one))
+
+-- the cells of logs and of the chosen checkpoint
+pub cells_of_both : (window : Window) (chosen : Option Checkpoint) (scans : List LogScan) (logs parts both : List (List Update)) → IsPermutation (kept_in window scans) (together logs)
+    → IsPermutation (entry_updates chosen) (together parts) → both ≡ logs ++ parts → IsPermutation (surviving window chosen scans) (together both)
+cells_of_both window chosen scans logs parts both of_logs of_parts are =
+    subst (IsPermutation (surviving window chosen scans)) (sym (ap together are ∙ together_append logs parts))
+    (IsPermutation-append (kept_in window scans) (together logs) (entry_updates chosen) (together parts) of_logs of_parts)
 
 -- ---- cells that workers made
 

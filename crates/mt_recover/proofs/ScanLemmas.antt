@@ -12,6 +12,7 @@ use Rattle.mt_scan.specs.Sources.{Seen}
 use Rattle.mt_scan.specs.Scans.{IsScanOf}
 use Rattle.mt_scan.specs.PartScans.{IsKnown, known_by}
 use Rattle.mt_recover.specs.declared.scan_all.Job.{Job}
+use Rattle.mt_recover.specs.declared.scan_all.Text.{Text}
 use Rattle.mt_recover.specs.declared.scan_all.Scanned.{Scanned}
 use Rattle.mt_recover.specs.declared.scan_all.Scanned.TheVariants as scanned
 use Rattle.mt_recover.specs.Recovery.{AreReadings, AreKnown}
@@ -24,22 +25,24 @@ use Rattle.mt_recover.proofs.SourceLemmas.{some_logs, may_append, fault_among, b
 
 -- ---- numbered jobs
 
-length-numbered : {S : Type 0} (job : ℕ → S → Job S) (number : ℕ) (sources : List S) → length (numbered job number sources) ≡ length sources
-length-numbered job number [] = refl
-length-numbered job number (s ∷ ss) = ap suc (length-numbered job (suc number) ss)
+length-numbered : {S : Type 0} (text : Text) (number : ℕ) (sources : List S) → length (numbered text number sources) ≡ length sources
+length-numbered text number [] = refl
+length-numbered text number (s ∷ ss) = ap suc (length-numbered text (suc number) ss)
 
-numbered-more : {S : Type 0} (job : ℕ → S → Job S) (number : ℕ) (sources : List S) (source : S) → numbered job number (sources ++ source ∷ []) ≡ numbered job number sources ++ job (number + length sources) source ∷ []
-numbered-more job number [] source = rw add-zero refl
-numbered-more job number (s ∷ ss) source =
+numbered-more : {S : Type 0} (text : Text) (number : ℕ) (sources : List S) (source : S)
+    → numbered text number (sources ++ source ∷ []) ≡ numbered text number sources ++ record { text = text; number = number + length sources; source = source } ∷ []
+numbered-more text number [] source = rw add-zero refl
+numbered-more text number (s ∷ ss) source =
     let next : suc number + length ss ≡ number + length (s ∷ ss) = omega arith in
-    ap (λ js. job number s ∷ js) (numbered-more job (suc number) ss source ∙ ap (λ (k : ℕ). numbered job (suc number) ss ++ job k source ∷ []) next)
+    ap (λ js. record { text = text; number = number; source = s } ∷ js)
+    (numbered-more text (suc number) ss source ∙ ap (λ (k : ℕ). numbered text (suc number) ss ++ record { text = text; number = k; source = source } ∷ []) next)
 
 -- the next job
-pub next_job : {S : Type 0} (job : ℕ → S → Job S) (jobs new : List (Job S)) (sources : List S) (source : S) (number : ℕ) → jobs ≡ numbered job 0 sources → number ≡ length jobs → new ≡ jobs ++ job number source ∷ []
-    → new ≡ numbered job 0 (sources ++ source ∷ [])
-next_job job jobs new sources source number are at pushed =
-    let place : number ≡ 0 + length sources = omega (arith, at, ap length are, length-numbered job 0 sources) in
-    pushed ∙ (λ i. are i ++ job (place i) source ∷ []) ∙ sym (numbered-more job 0 sources source)
+pub next_job : {S : Type 0} (text : Text) (jobs new : List (Job S)) (sources : List S) (source : S) (number : ℕ) → jobs ≡ numbered text 0 sources → number ≡ length jobs
+    → new ≡ jobs ++ record { text = text; number = number; source = source } ∷ [] → new ≡ numbered text 0 (sources ++ source ∷ [])
+next_job text jobs new sources source number are at pushed =
+    let place : number ≡ 0 + length sources = omega (arith, at, ap length are, length-numbered text 0 sources) in
+    pushed ∙ (λ i. are i ++ record { text = text; number = place i; source = source } ∷ []) ∙ sym (numbered-more text 0 sources source)
 
 -- ---- what scans gave
 
@@ -54,27 +57,47 @@ parts_in-append (scanned.Log o ∷ xs) ys = parts_in-append xs ys
 parts_in-append (scanned.Part o ∷ xs) ys = ap (λ l. o ∷ l) (parts_in-append xs ys)
 
 -- one more log
-pub log_more : (outcomes : List Scanned) (outcome : Scanned) (logs new : List LogScan) (scan : LogScan) → outcome ≡ scanned.Log (Ok scan) → new ≡ logs ++ scan ∷ [] → logs_in outcomes ≡ map Ok logs → logs_in (outcomes ++ outcome ∷ []) ≡ map Ok new
+log_more : (outcomes : List Scanned) (outcome : Scanned) (logs new : List LogScan) (scan : LogScan) → outcome ≡ scanned.Log (Ok scan) → new ≡ logs ++ scan ∷ [] → logs_in outcomes ≡ map Ok logs → logs_in (outcomes ++ outcome ∷ []) ≡ map Ok new
 log_more outcomes outcome logs new scan is pushed are =
     ap (λ (o : Scanned). logs_in (outcomes ++ o ∷ [])) is ∙ logs_in-append outcomes (scanned.Log (Ok scan) ∷ []) ∙ ap (λ l. l ++ Ok scan ∷ []) are ∙ sym (map-append Ok logs (scan ∷ [])) ∙ ap (map Ok) (sym pushed)
 
-pub parts_stay : (outcomes : List Scanned) (outcome : Scanned) (parts : List PartScan) (scan : LogScan) → outcome ≡ scanned.Log (Ok scan) → parts_in outcomes ≡ map Ok parts → parts_in (outcomes ++ outcome ∷ []) ≡ map Ok parts
+parts_stay : (outcomes : List Scanned) (outcome : Scanned) (parts : List PartScan) (scan : LogScan) → outcome ≡ scanned.Log (Ok scan) → parts_in outcomes ≡ map Ok parts → parts_in (outcomes ++ outcome ∷ []) ≡ map Ok parts
 parts_stay outcomes outcome parts scan is are = ap (λ (o : Scanned). parts_in (outcomes ++ o ∷ [])) is ∙ parts_in-append outcomes (scanned.Log (Ok scan) ∷ []) ∙ append-nil (parts_in outcomes) ∙ are
 
 -- one more part
-pub part_more : (outcomes : List Scanned) (outcome : Scanned) (parts new : List PartScan) (scan : PartScan) → outcome ≡ scanned.Part (Ok scan) → new ≡ parts ++ scan ∷ [] → parts_in outcomes ≡ map Ok parts → parts_in (outcomes ++ outcome ∷ []) ≡ map Ok new
+part_more : (outcomes : List Scanned) (outcome : Scanned) (parts new : List PartScan) (scan : PartScan) → outcome ≡ scanned.Part (Ok scan) → new ≡ parts ++ scan ∷ [] → parts_in outcomes ≡ map Ok parts → parts_in (outcomes ++ outcome ∷ []) ≡ map Ok new
 part_more outcomes outcome parts new scan is pushed are =
     ap (λ (o : Scanned). parts_in (outcomes ++ o ∷ [])) is ∙ parts_in-append outcomes (scanned.Part (Ok scan) ∷ []) ∙ ap (λ l. l ++ Ok scan ∷ []) are ∙ sym (map-append Ok parts (scan ∷ [])) ∙ ap (map Ok) (sym pushed)
 
-pub logs_stay : (outcomes : List Scanned) (outcome : Scanned) (logs : List LogScan) (scan : PartScan) → outcome ≡ scanned.Part (Ok scan) → logs_in outcomes ≡ map Ok logs → logs_in (outcomes ++ outcome ∷ []) ≡ map Ok logs
+logs_stay : (outcomes : List Scanned) (outcome : Scanned) (logs : List LogScan) (scan : PartScan) → outcome ≡ scanned.Part (Ok scan) → logs_in outcomes ≡ map Ok logs → logs_in (outcomes ++ outcome ∷ []) ≡ map Ok logs
 logs_stay outcomes outcome logs scan is are = ap (λ (o : Scanned). logs_in (outcomes ++ o ∷ [])) is ∙ logs_in-append outcomes (scanned.Part (Ok scan) ∷ []) ∙ append-nil (logs_in outcomes) ∙ are
 
--- a scan that gave no fault is passed over
-pub past_log : (all rest : List Scanned) (outcome : Scanned) (scan : LogScan) (fault : Fault) → outcome ≡ scanned.Log (Ok scan) → all ≡ outcome ∷ rest → IsFirstFault rest fault → IsFirstFault all fault
-past_log all rest outcome scan fault is are first = subst (λ (os : List Scanned). IsFirstFault os fault) (sym (are ∙ ap (λ (o : Scanned). o ∷ rest) is)) first
+-- the scans so far, none of which has a fault: of these outcomes, of which others are left
+pub record AreScansSoFar (all done left : List Scanned) (log_scans : List LogScan) (part_scans : List PartScan) : Type 0 where
+  pub rest : done ++ left ≡ all
+  pub logs : logs_in done ≡ map Ok log_scans
+  pub parts : parts_in done ≡ map Ok part_scans
+  pub first : (fault : Fault) → IsFirstFault left fault → IsFirstFault all fault
 
-pub past_part : (all rest : List Scanned) (outcome : Scanned) (scan : PartScan) (fault : Fault) → outcome ≡ scanned.Part (Ok scan) → all ≡ outcome ∷ rest → IsFirstFault rest fault → IsFirstFault all fault
-past_part all rest outcome scan fault is are first = subst (λ (os : List Scanned). IsFirstFault os fault) (sym (are ∙ ap (λ (o : Scanned). o ∷ rest) is)) first
+-- one more log
+pub next_log : (all done left rest : List Scanned) (outcome : Scanned) (logs new : List LogScan) (parts : List PartScan) (scan : LogScan) → outcome ≡ scanned.Log (Ok scan) → left ≡ outcome ∷ rest → new ≡ logs ++ scan ∷ []
+    → AreScansSoFar all done left logs parts → AreScansSoFar all (done ++ outcome ∷ []) rest new parts
+next_log all done left rest outcome logs new parts scan is next pushed so_far = record {
+  rest = append_assoc done (outcome ∷ []) rest ∙ ap (λ os. done ++ os) (sym next) ∙ so_far.rest;
+  logs = log_more done outcome logs new scan is pushed so_far.logs;
+  parts = parts_stay done outcome parts scan is so_far.parts;
+  first = λ fault first. so_far.first fault (subst (λ (os : List Scanned). IsFirstFault os fault) (sym (next ∙ ap (λ (o : Scanned). o ∷ rest) is)) first);
+}
+
+-- one more part
+pub next_part : (all done left rest : List Scanned) (outcome : Scanned) (logs : List LogScan) (parts new : List PartScan) (scan : PartScan) → outcome ≡ scanned.Part (Ok scan) → left ≡ outcome ∷ rest → new ≡ parts ++ scan ∷ []
+    → AreScansSoFar all done left logs parts → AreScansSoFar all (done ++ outcome ∷ []) rest logs new
+next_part all done left rest outcome logs parts new scan is next pushed so_far = record {
+  rest = append_assoc done (outcome ∷ []) rest ∙ ap (λ os. done ++ os) (sym next) ∙ so_far.rest;
+  logs = logs_stay done outcome logs scan is so_far.logs;
+  parts = part_more done outcome parts new scan is pushed so_far.parts;
+  first = λ fault first. so_far.first fault (subst (λ (os : List Scanned). IsFirstFault os fault) (sym (next ∙ ap (λ (o : Scanned). o ∷ rest) is)) first);
+}
 
 -- ---- scans of all sources
 
@@ -129,19 +152,24 @@ known_parts seen number (s ∷ ss) (scanned.Part (Ok scan) ∷ os) (x ∷ xs) zi
     let own = zip.0.scan in
     (own.0 ∷ rest.0, (own.1, rest.1), (subst (λ z. IsKnown own.0 (known_by z)) same own.2, rest.2))
 
-pub all_logs : {S : Type 0} (seen : S → Seen) (logs parts : List S) (outcomes : List Scanned) (scans : List LogScan) → AllZip (IsScanned seen) (log_jobs 0 logs ++ part_jobs 0 parts) outcomes → logs_in outcomes ≡ map Ok scans
+-- the scans of logs, and those of parts behind them
+jobs_split : {S : Type 0} (seen : S → Seen) (logs parts : List S) (jobs : List (Job S)) (outcomes : List Scanned) → jobs ≡ log_jobs 0 logs ++ part_jobs 0 parts → AllZip (IsScanned seen) jobs outcomes
+    → (front back : List Scanned) × (outcomes ≡ front ++ back) × AllZip (IsScanned seen) (log_jobs 0 logs) front × AllZip (IsScanned seen) (part_jobs 0 parts) back
+jobs_split seen logs parts jobs outcomes same zip = zip_split (IsScanned seen) (log_jobs 0 logs) (part_jobs 0 parts) outcomes (subst (λ (js : List (Job _)). AllZip (IsScanned seen) js outcomes) same zip)
+
+pub all_logs : {S : Type 0} (seen : S → Seen) (logs parts : List S) (jobs : List (Job S)) (outcomes : List Scanned) (scans : List LogScan) → jobs ≡ log_jobs 0 logs ++ part_jobs 0 parts → AllZip (IsScanned seen) jobs outcomes → logs_in outcomes ≡ map Ok scans
     → (bytes : List (List ℕ)) × MayHave seen logs bytes × AreScansOf bytes scans
-all_logs seen logs parts outcomes scans zip are =
-    let both = zip_split (IsScanned seen) (log_jobs 0 logs) (part_jobs 0 parts) outcomes zip in
+all_logs seen logs parts jobs outcomes scans same zip are =
+    let both = jobs_split seen logs parts jobs outcomes same zip in
     let first : logs_in both.0 ≡ logs_in outcomes =
     sym (append-nil (logs_in both.0)) ∙ ap (λ l. logs_in both.0 ++ l) (sym (no_logs seen 0 parts both.1 both.4)) ∙ sym (logs_in-append both.0 both.1) ∙ ap logs_in (sym both.2) in
     let whole = whole_logs seen 0 logs both.0 scans both.3 (first ∙ are) in
     (whole.0, whole.1, record { readings = whole.2; read = whole.3; show = whole.4 })
 
-pub all_parts : {S : Type 0} (seen : S → Seen) (logs parts : List S) (outcomes : List Scanned) (scans : List PartScan) → AllZip (IsScanned seen) (log_jobs 0 logs ++ part_jobs 0 parts) outcomes → parts_in outcomes ≡ map Ok scans
+pub all_parts : {S : Type 0} (seen : S → Seen) (logs parts : List S) (jobs : List (Job S)) (outcomes : List Scanned) (scans : List PartScan) → jobs ≡ log_jobs 0 logs ++ part_jobs 0 parts → AllZip (IsScanned seen) jobs outcomes → parts_in outcomes ≡ map Ok scans
     → (bytes : List (List ℕ)) × MayHave seen parts bytes × AreKnown bytes (map known_by scans)
-all_parts seen logs parts outcomes scans zip are =
-    let both = zip_split (IsScanned seen) (log_jobs 0 logs) (part_jobs 0 parts) outcomes zip in
+all_parts seen logs parts jobs outcomes scans same zip are =
+    let both = jobs_split seen logs parts jobs outcomes same zip in
     let last : parts_in both.1 ≡ parts_in outcomes =
     ap (λ l. l ++ parts_in both.1) (sym (no_parts seen 0 logs both.0 both.3)) ∙ sym (parts_in-append both.0 both.1) ∙ ap parts_in (sym both.2) in
     known_parts seen 0 parts both.1 scans both.4 (last ∙ are)
@@ -201,9 +229,9 @@ pub memory_fault : {S : Type 0} (seen : S → Seen) (logs parts : List S) → Is
 memory_fault seen logs parts = let ls = some_logs seen logs in let ps = some_logs seen parts in (λ some. (ls.0, ps.0, ls.1, ps.1, tt), tt)
 
 -- the first fault is the answer, or that memory was refused
-pub all_faults : {S : Type 0} (seen : S → Seen) (logs parts : List S) (outcomes : List Scanned) (fault : Fault) → AllZip (IsScanned seen) (log_jobs 0 logs ++ part_jobs 0 parts) outcomes → ((fault ≡ faults.Memory) ⊎ IsFirstFault outcomes fault)
+pub all_faults : {S : Type 0} (seen : S → Seen) (logs parts : List S) (jobs : List (Job S)) (outcomes : List Scanned) (fault : Fault) → jobs ≡ log_jobs 0 logs ++ part_jobs 0 parts → AllZip (IsScanned seen) jobs outcomes → ((fault ≡ faults.Memory) ⊎ IsFirstFault outcomes fault)
     → IsAnsweredBy seen logs parts fault
-all_faults seen logs parts outcomes fault zip (inl memory) = subst (IsAnsweredBy seen logs parts) (sym memory) (memory_fault seen logs parts)
-all_faults seen logs parts outcomes fault zip (inr first) =
-    let both = zip_split (IsScanned seen) (log_jobs 0 logs) (part_jobs 0 parts) outcomes zip in
+all_faults seen logs parts jobs outcomes fault same zip (inl memory) = subst (IsAnsweredBy seen logs parts) (sym memory) (memory_fault seen logs parts)
+all_faults seen logs parts jobs outcomes fault same zip (inr first) =
+    let both = jobs_split seen logs parts jobs outcomes same zip in
     log_faults seen [] logs parts [] [] 0 both.0 both.1 fault refl refl tt (record { readings = []; read = tt; show = tt }) both.3 both.4 (subst (λ (os : List Scanned). IsFirstFault os fault) both.2 first)

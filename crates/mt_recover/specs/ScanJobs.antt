@@ -7,22 +7,23 @@ use Rattle.mt_scan.specs.Sources.{Seen}
 use Rattle.mt_scan.specs.Scans.{OfTold, IsScanOf, IsScanFault, failures_of}
 use Rattle.mt_scan.specs.PartScans.{IsKnown, known_by, IsPartScanFault}
 use Rattle.mt_recover.specs.declared.scan_all.Job.{Job}
-use Rattle.mt_recover.specs.declared.scan_all.Job.TheVariants as jobs
+use Rattle.mt_recover.specs.declared.scan_all.Text.{Text}
+use Rattle.mt_recover.specs.declared.scan_all.Text.TheVariants as texts
 use Rattle.mt_recover.specs.declared.scan_all.Scanned.{Scanned}
 use Rattle.mt_recover.specs.declared.scan_all.Scanned.TheVariants as scanned
 
--- jobs of sources, which are numbered from this number on
-abbrev pub numbered : {S : Type 0} → (ℕ → S → Job S) → ℕ → List S → List (Job S)
-numbered job number [] = []
-numbered job number (source ∷ sources) = job number source ∷ numbered job (suc number) sources
+-- the jobs of sources that have such texts, numbered from this number on
+abbrev pub numbered : {S : Type 0} → Text → ℕ → List S → List (Job S)
+numbered text number [] = []
+numbered text number (source ∷ sources) = record { text = text; number = number; source = source } ∷ numbered text (suc number) sources
 
 -- the jobs of logs
 abbrev pub log_jobs : {S : Type 0} → ℕ → List S → List (Job S)
-log_jobs number sources = numbered (λ log source. jobs.Log log source) number sources
+log_jobs = numbered texts.Log
 
 -- the jobs of parts
 abbrev pub part_jobs : {S : Type 0} → ℕ → List S → List (Job S)
-part_jobs number sources = numbered (λ part source. jobs.Part part source) number sources
+part_jobs = numbered texts.Part
 
 -- what the scan of a log answers
 pub record IsLogOutcome (seen : Seen) (log : ℕ) (outcome : Result LogScan Fault) : Type 0 where
@@ -36,12 +37,16 @@ pub record IsPartOutcome (seen : Seen) (part : ℕ) (outcome : Result PartScan F
   pub fault : IfErr outcome (IsPartScanFault part)
   pub steady : IsTrue seen.steady → failures_of outcome ≡ 0
 
+-- what the scan of the log or part of this number answers
+abbrev pub IsOutcome : Seen → Text → ℕ → Scanned → Type 0
+IsOutcome seen texts.Log log (scanned.Log outcome) = IsLogOutcome seen log outcome
+IsOutcome seen texts.Part part (scanned.Part outcome) = IsPartOutcome seen part outcome
+IsOutcome seen texts.Log log (scanned.Part outcome) = ⊥
+IsOutcome seen texts.Part part (scanned.Log outcome) = ⊥
+
 -- what the scan of a source answers
 abbrev pub IsScanned : {S : Type 0} → (S → Seen) → Job S → Scanned → Type 0
-IsScanned seen (jobs.Log log source) (scanned.Log outcome) = IsLogOutcome (seen source) log outcome
-IsScanned seen (jobs.Part part source) (scanned.Part outcome) = IsPartOutcome (seen source) part outcome
-IsScanned seen (jobs.Log log source) (scanned.Part outcome) = ⊥
-IsScanned seen (jobs.Part part source) (scanned.Log outcome) = ⊥
+IsScanned seen job outcome = IsOutcome (seen job.source) job.text job.number outcome
 
 -- what the scans of logs gave
 abbrev pub logs_in : List Scanned → List (Result LogScan Fault)

@@ -6,7 +6,7 @@ ghost use Rattle.mt_scan.specs.PartScans.{known_by};
 ghost use Rattle.mt_recover.specs.LogScans.{AreScansOf};
 ghost use Rattle.mt_recover.specs.Recovery.{AreKnown};
 ghost use Rattle.mt_recover.specs.Inputs.{MayHave, OfSources, IsAnsweredFrom, BlamesUnsteady};
-ghost use Rattle.mt_recover.specs.ScanJobs.{IsScanned, log_jobs, part_jobs, logs_in, parts_in, IsFirstFault};
+ghost use Rattle.mt_recover.specs.ScanJobs.{IsScanned, numbered, log_jobs, part_jobs, logs_in, parts_in, IsFirstFault};
 
 use crate::by_workers::by_workers;
 use crate::{Inputs, Workers};
@@ -15,13 +15,19 @@ use mt_words::{Fault, Memory};
 use std::alloc::Global;
 use std::thread::Threads;
 
-/// A source to scan.
+/// What a source has.
+#[derive(Clone, Copy)]
+enum Text {
+    Log,
+    Part,
+}
+
+/// A source to scan: that of the log or of the part of this number.
 #[derive(Drop)]
-enum Job<S> {
-    /// That of the log of this number.
-    Log { log: usize, source: S },
-    /// That of the part of this number.
-    Part { part: usize, source: S },
+struct Job<S> {
+    text: Text,
+    number: usize,
+    source: S,
 }
 
 /// What a scan gave.
@@ -76,32 +82,24 @@ fn jobs_of<S: Drop>(alloc: Global, inputs: Inputs<S>) -> Result<Vec<Job<S>>, Mem
     ensures { IfOk result (λ jobs. jobs.items ≡ log_jobs 0 inputs.logs.items ++ part_jobs 0 inputs.parts.items) }
 {
     let Inputs { logs, parts } = inputs;
-    let mut jobs = jobs_of_logs(alloc, logs)?;
-    let mut others = jobs_of_parts(alloc, parts)?;
+    let mut jobs = number_all(alloc, Text::Log, logs)?;
+    let mut others = number_all(alloc, Text::Part, parts)?;
     jobs.append(&mut others)?;
     Ok(jobs)
 }
 
-/// The jobs of the logs.
-fn jobs_of_logs<S: Drop>(alloc: Global, sources: Vec<S>) -> Result<Vec<Job<S>>, Memory>
-    ensures { IfOk result (λ jobs. jobs.items ≡ log_jobs 0 sources.items) }
+/// The jobs of sources that have such texts.
+fn number_all<S: Drop>(alloc: Global, text: Text, sources: Vec<S>) -> Result<Vec<Job<S>>, Memory>
+    ensures { IfOk result (λ jobs. jobs.items ≡ numbered text 0 sources.items) }
 {
     let mut jobs = Vec::with_capacity(alloc, sources.len())?;
     for source in sources {
-        let log = jobs.len();
-        jobs.push(Job::Log { log, source })?;
-    }
-    Ok(jobs)
-}
-
-/// The jobs of the parts.
-fn jobs_of_parts<S: Drop>(alloc: Global, sources: Vec<S>) -> Result<Vec<Job<S>>, Memory>
-    ensures { IfOk result (λ jobs. jobs.items ≡ part_jobs 0 sources.items) }
-{
-    let mut jobs = Vec::with_capacity(alloc, sources.len())?;
-    for source in sources {
-        let part = jobs.len();
-        jobs.push(Job::Part { part, source })?;
+        let number = jobs.len();
+        jobs.push(Job {
+            text,
+            number,
+            source,
+        })?;
     }
     Ok(jobs)
 }
@@ -110,15 +108,14 @@ fn jobs_of_parts<S: Drop>(alloc: Global, sources: Vec<S>) -> Result<Vec<Job<S>>,
 fn scan_job<S: Source>(alloc: Global, job: Job<S>) -> Scanned
     ensures { IsScanned S.seen job result }
 {
-    match job {
-        Job::Log { log, source } => {
-            let mut source = source;
-            Scanned::Log(scan_log(alloc, &mut source, log))
-        }
-        Job::Part { part, source } => {
-            let mut source = source;
-            Scanned::Part(scan_part(alloc, &mut source, part))
-        }
+    let Job {
+        text,
+        number,
+        mut source,
+    } = job;
+    match text {
+        Text::Log => Scanned::Log(scan_log(alloc, &mut source, number)),
+        Text::Part => Scanned::Part(scan_part(alloc, &mut source, number)),
     }
 }
 
