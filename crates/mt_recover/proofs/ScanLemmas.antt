@@ -9,7 +9,7 @@ use Rattle.mt_record.specs.Logs.{LogReading}
 use Rattle.mt_scan.specs.declared.log_scan.LogScan.{LogScan}
 use Rattle.mt_scan.specs.declared.part_scan.PartScan.{PartScan}
 use Rattle.mt_scan.specs.Sources.{Seen}
-use Rattle.mt_scan.specs.Scans.{IsScanOf}
+use Rattle.mt_scan.specs.Scans.{OfTold, IsScanOf}
 use Rattle.mt_scan.specs.PartScans.{IsKnown, known_by}
 use Rattle.mt_recover.specs.declared.scan_all.Job.{Job}
 use Rattle.mt_recover.specs.declared.scan_all.Text.{Text}
@@ -21,7 +21,7 @@ use Rattle.mt_recover.specs.Inputs.{MayHave, OfSources, AreLogs, IsAnsweredFrom,
 use Rattle.mt_recover.specs.ScanJobs.{IsScanned, numbered, log_jobs, part_jobs, logs_in, parts_in, IsFirstFault}
 use Rattle.mt_recover.proofs.ReadingLemmas.{scans_append}
 use Rattle.mt_recover.proofs.SharingLemmas.{zip_split}
-use Rattle.mt_recover.proofs.SourceLemmas.{some_logs, may_append, fault_among, blames, blames_part, part_fault, as_many_have}
+use Rattle.mt_recover.proofs.SourceLemmas.{HaveScans, HaveKnown, some_logs, may_append, known_append, fault_among, blames, blames_part, part_fault, as_many_have}
 
 -- ---- numbered jobs
 
@@ -173,6 +173,26 @@ all_parts seen logs parts jobs outcomes scans same zip are =
     let last : parts_in both.1 ≡ parts_in outcomes =
     ap (λ l. l ++ parts_in both.1) (sym (no_parts seen 0 logs both.0 both.3)) ∙ sym (parts_in-append both.0 both.1) ∙ ap parts_in (sym both.2) in
     known_parts seen 0 parts both.1 scans both.4 (last ∙ are)
+
+-- ---- one source more
+
+-- what the sources of logs may have
+pub have_log : {S : Type 0} (seen : S → Seen) (sources : List S) (source : S) (scans new : List LogScan) (scan : LogScan) (number : ℕ) → number ≡ length scans → new ≡ scans ++ scan ∷ []
+    → HaveScans seen sources scans → OfTold (seen source).told (λ bytes. IsScanOf number bytes scan) → HaveScans seen (sources ++ source ∷ []) new
+have_log seen sources source scans new scan number at pushed have is = (
+  have.0 ++ is.0 ∷ [],
+  may_append seen sources (source ∷ []) have.0 (is.0 ∷ []) have.1 (is.1, tt),
+  subst (AreScansOf (have.0 ++ is.0 ∷ [])) (sym pushed) (scans_append have.0 scans is.0 scan number at have.2 is.2),
+)
+
+-- and those of parts
+pub have_part : {S : Type 0} (seen : S → Seen) (sources : List S) (source : S) (scans new : List PartScan) (scan : PartScan) → new ≡ scans ++ scan ∷ []
+    → HaveKnown seen sources (map known_by scans) → OfTold (seen source).told (λ bytes. IsKnown bytes (known_by scan)) → HaveKnown seen (sources ++ source ∷ []) (map known_by new)
+have_part seen sources source scans new scan pushed have is = (
+  have.0 ++ is.0 ∷ [],
+  may_append seen sources (source ∷ []) have.0 (is.0 ∷ []) have.1 (is.1, tt),
+  subst (λ (all : List PartScan). AreKnown (have.0 ++ is.0 ∷ []) (map known_by all)) (sym pushed) (known_append have.0 scans is.0 scan have.2 is.2),
+)
 
 -- ---- the first fault
 

@@ -2,7 +2,7 @@ use Rattle.std.proofs.Common.{◌≡◌, ◌++◌, ◌∷◌, [], List, length, 
 use Rattle.std.specs.Vec.Iter.{into_iter_items}
 use Rattle.std.proofs.lemmas.Result.{err_from_is_err_and}
 use Rattle.mt_recover.specs.Inputs.{MayHave, BlamesUnsteady}
-use Rattle.mt_recover.proofs.ReadingLemmas.{scans_append}
+use Rattle.mt_recover.proofs.ScanLemmas.{have_log}
 use Rattle.mt_recover.proofs.SourceLemmas.{some_logs, may_append, as_many_more, fault_among, blames}
 use Rattle.mt_recover.proofs.scan_logs.scan_logs.Goals as goal
 
@@ -41,15 +41,9 @@ returns-in_err-scan-clause-steady g c =
 
 pub loop-source-preserved : goal.loop-source-preserved
 loop-source-preserved g c =
-    let so_far = c.loop-source.invariant.so_far in
-    let scan = c.in_ok-scan.ensures.scan in
     let number : c.len.result ≡ length c.loop-source.scans.items = omega (arith, c.len.ensures, c.loop-source.scans.ok.0) in
     record {
       rest = rw append_assoc (rw c.in-Some.ensures.steps.0 at c.loop-source.invariant.rest);
       number = as_many_more c.loop-source.yielded c.loop-source.scans.items c.push.new.self.items c.in-Some.source c.in_ok-scan.scan c.in_ok-push.ensures.items c.loop-source.invariant.number;
-      so_far = (
-        so_far.0 ++ scan.0 ∷ [],
-        may_append g.S.Source.seen c.loop-source.yielded (c.in-Some.source ∷ []) so_far.0 (scan.0 ∷ []) so_far.1 (scan.1, tt),
-        rw c.in_ok-push.ensures.items (scans_append so_far.0 c.loop-source.scans.items scan.0 c.in_ok-scan.scan c.len.result number so_far.2 scan.2),
-      );
+      so_far = have_log g.S.Source.seen c.loop-source.yielded c.in-Some.source _ _ c.in_ok-scan.scan _ number c.in_ok-push.ensures.items c.loop-source.invariant.so_far c.in_ok-scan.ensures.scan;
     }

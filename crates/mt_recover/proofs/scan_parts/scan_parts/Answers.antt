@@ -2,7 +2,8 @@ use Rattle.std.proofs.Common.{◌≡◌, ◌++◌, ◌∷◌, [], List, length, 
 use Rattle.std.specs.Vec.Iter.{into_iter_items}
 use Rattle.std.proofs.lemmas.Result.{err_from_is_err_and}
 use Rattle.mt_recover.specs.Inputs.{BlamesUnsteady}
-use Rattle.mt_recover.proofs.SourceLemmas.{may_append, as_many_more, known_append, blames_part}
+use Rattle.mt_recover.proofs.ScanLemmas.{have_part}
+use Rattle.mt_recover.proofs.SourceLemmas.{as_many_more, blames_part}
 use Rattle.mt_recover.proofs.scan_parts.scan_parts.Goals as goal
 
 pub returns-in_err-scan-clause-fault : goal.returns-in_err-scan-clause-fault
@@ -21,15 +22,8 @@ returns-in_err-scan-clause-steady g c =
     (blames_part g.S.Source.seen logs c.loop-source.yielded (into_iter_items c.next.new.self) c.in-Some.source c.len.result _ number c.in_err-scan.ensures.fault c.in_err-scan.ensures.steady))
 
 pub loop-source-preserved : goal.loop-source-preserved
-loop-source-preserved g c =
-    let so_far = c.loop-source.invariant.so_far in
-    let scan = c.in_ok-scan.ensures.scan in
-    record {
-      rest = rw append_assoc (rw c.in-Some.ensures.steps.0 at c.loop-source.invariant.rest);
-      number = as_many_more c.loop-source.yielded c.loop-source.scans.items c.push.new.self.items c.in-Some.source c.in_ok-scan.scan c.in_ok-push.ensures.items c.loop-source.invariant.number;
-      so_far = (
-        so_far.0 ++ scan.0 ∷ [],
-        may_append g.S.Source.seen c.loop-source.yielded (c.in-Some.source ∷ []) so_far.0 (scan.0 ∷ []) so_far.1 (scan.1, tt),
-        rw c.in_ok-push.ensures.items (known_append so_far.0 c.loop-source.scans.items scan.0 c.in_ok-scan.scan so_far.2 scan.2),
-      );
-    }
+loop-source-preserved g c = record {
+  rest = rw append_assoc (rw c.in-Some.ensures.steps.0 at c.loop-source.invariant.rest);
+  number = as_many_more c.loop-source.yielded c.loop-source.scans.items c.push.new.self.items c.in-Some.source c.in_ok-scan.scan c.in_ok-push.ensures.items c.loop-source.invariant.number;
+  so_far = have_part g.S.Source.seen c.loop-source.yielded c.in-Some.source _ _ c.in_ok-scan.scan c.in_ok-push.ensures.items c.loop-source.invariant.so_far c.in_ok-scan.ensures.scan;
+}
