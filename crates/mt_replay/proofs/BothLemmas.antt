@@ -11,7 +11,7 @@ use Rattle.mt_words.specs.Stamps.{IsAtMost}
 use Rattle.mt_replay.specs.Cells.{Written, Slots, IsNewer, IsNewestOf, IsGreatest, IsUnwritten, IsCellOf}
 use Rattle.mt_replay.specs.Groups.{Group, IsLatestOf, IsWriteOf, IsGreatestReset, IsResetOf, IsGroupOf}
 use Rattle.mt_replay.proofs.StampLemmas.{at_most_trans, older_or_not, not_newer}
-use Rattle.mt_replay.proofs.CellLemmas.{IsRight, decide, some_is}
+use Rattle.mt_replay.proofs.CellLemmas.{IsRight, decide}
 use Rattle.mt_replay.proofs.ColumnsLemmas.{IsLeft}
 use Rattle.std.proofs.lemmas.Option.{slice_get-get_or, slice_get_within}
 
@@ -103,14 +103,9 @@ right_both writes others number old (Some g) new newest was is = elim (decide ol
 -- the places below n of the old slots have taken in those of the added slots, and the others are as they were
 pub record AreBoth (old add : Slots) (n : ℕ) (new left : Slots) : Type 0 where
   pub places : length new ≡ length old
-  pub places_left : length left ≡ length add
   pub stays : IsLeft old n new
   pub waits : IsLeft add n left
   pub newest : (k : ℕ) (a b slot : Option Written) → k < n → slice_get old k ≡ Some a → slice_get add k ≡ Some b → slice_get new k ≡ Some slot → IsNewestOf a b slot
-
--- what stands in an untouched place
-in_place : (slots left : Slots) (n : ℕ) (slot : Option Written) → n < length left → IsLeft slots n left → slice_get slots n ≡ Some slot → slice_index_or left n None ≡ slot
-in_place slots left n slot lt is at = some_is _ _ (sym (slice_get-get_or left n None lt) ∙ is n (omega arith) ∙ at)
 
 -- all places
 pub both_cells : (old add : Slots) (new left : Slots) (writes others : List Written) → AreBoth old add 16 new left → IsCellOf writes old → IsCellOf others add → IsCellOf (writes ++ others) new
@@ -131,35 +126,34 @@ both_cells old add new left writes others are was is = record {
 
 -- ---- the resets of both
 
--- the greatest reset of the first updates is that of both
-first_reset : (updates others : List Update) (key : List ℕ) (stamp : Stamp) → ((u : Update) → Contains others u → u.key ≡ key → IsReset u.kind → IsAtMost u.stamp stamp)
-    → IsGreatestReset updates key stamp → IsGreatestReset (updates ++ others) key stamp
-first_reset updates others key stamp most is = record {
+-- the greatest reset of some updates is that of more, where no other is greater
+still_greatest : (some more : List Update) (key : List ℕ) (stamp : Stamp) → ((u : Update) → Contains some u → Contains more u) → ((u : Update) → Contains more u → u.key ≡ key → IsReset u.kind → Contains some u ⊎ IsAtMost u.stamp stamp)
+    → IsGreatestReset some key stamp → IsGreatestReset more key stamp
+still_greatest some more key stamp stand others is = record {
   update = is.update;
-  stands = Contains-append_left updates others is.update is.stands;
+  stands = stand is.update is.stands;
   of_key = is.of_key;
   resets = is.resets;
   at_stamp = is.at_stamp;
-  greatest = λ u at of_key resets. elim (Contains-append_cases updates others u at) as (λ _. IsAtMost u.stamp stamp) [ inl here ↦ is.greatest u here of_key resets | inr there ↦ most u there of_key resets ];
+  greatest = λ u at of_key resets. elim (others u at of_key resets) as (λ _. IsAtMost u.stamp stamp) [ inl here ↦ is.greatest u here of_key resets | inr most ↦ most ];
 }
+
+first_reset : (updates others : List Update) (key : List ℕ) (stamp : Stamp) → ((u : Update) → Contains others u → u.key ≡ key → IsReset u.kind → IsAtMost u.stamp stamp)
+    → IsGreatestReset updates key stamp → IsGreatestReset (updates ++ others) key stamp
+first_reset updates others key stamp most = still_greatest updates (updates ++ others) key stamp (Contains-append_left updates others)
+    (λ u at of_key resets. elim (Contains-append_cases updates others u at) as (λ _. Contains updates u ⊎ IsAtMost u.stamp stamp) [ inl here ↦ inl here | inr there ↦ inr (most u there of_key resets) ])
 
 second_reset : (updates others : List Update) (key : List ℕ) (stamp : Stamp) → ((u : Update) → Contains updates u → u.key ≡ key → IsReset u.kind → IsAtMost u.stamp stamp)
     → IsGreatestReset others key stamp → IsGreatestReset (updates ++ others) key stamp
-second_reset updates others key stamp most is = record {
-  update = is.update;
-  stands = Contains-append_right updates others is.update is.stands;
-  of_key = is.of_key;
-  resets = is.resets;
-  at_stamp = is.at_stamp;
-  greatest = λ u at of_key resets. elim (Contains-append_cases updates others u at) as (λ _. IsAtMost u.stamp stamp) [ inl here ↦ most u here of_key resets | inr there ↦ is.greatest u there of_key resets ];
-}
+second_reset updates others key stamp most = still_greatest others (updates ++ others) key stamp (Contains-append_right updates others)
+    (λ u at of_key resets. elim (Contains-append_cases updates others u at) as (λ _. Contains others u ⊎ IsAtMost u.stamp stamp) [ inl here ↦ inr (most u here of_key resets) | inr there ↦ inl there ])
 
 -- the others do not reset the key
 reset_alone : (updates others : List Update) (key : List ℕ) (reset : Option Stamp) → IsResetOf others key None → IsResetOf updates key reset → IsResetOf (updates ++ others) key reset
 reset_alone updates others key None never none = λ u at of_key resets. elim (Contains-append_cases updates others u at) as (λ _. ⊥) [ inl here ↦ none u here of_key resets | inr there ↦ never u there of_key resets ]
 reset_alone updates others key (Some stamp) never is = first_reset updates others key stamp (λ u at of_key resets. absurd (never u at of_key resets)) is
 
-both_resets : (updates others : List Update) (key : List ℕ) (old add new : Option Stamp) → IsLatestOf old add new → IsResetOf updates key old → IsResetOf others key add → IsResetOf (updates ++ others) key new
+pub both_resets : (updates others : List Update) (key : List ℕ) (old add new : Option Stamp) → IsLatestOf old add new → IsResetOf updates key old → IsResetOf others key add → IsResetOf (updates ++ others) key new
 both_resets updates others key old None new same was never = subst (IsResetOf (updates ++ others) key) (sym same) (reset_alone updates others key old never was)
 both_resets updates others key None (Some stamp) new latest none is =
     subst (IsResetOf (updates ++ others) key) (sym (latest.later tt)) (second_reset updates others key stamp (λ u at of_key resets. absurd (none u at of_key resets)) is)
@@ -181,18 +175,24 @@ of_one updates others key w is = elim (Contains-append_cases updates others is.u
   | inr there ↦ inr (record { update = is.update; stands = there; of_key = is.of_key; stamp = is.stamp; writes = is.writes })
 ]
 
--- the group of two sets of updates
-pub both_groups : (updates others : List Update) (key : List ℕ) (old add new : Group) → IsLatestOf old.reset add.reset new.reset
-    → ((writes more : List Written) → IsCellOf writes old.slots → IsCellOf more add.slots → IsCellOf (writes ++ more) new.slots) → IsGroupOf updates key old → IsGroupOf others key add → IsGroupOf (updates ++ others) key new
-both_groups updates others key old add new latest cell was is = record {
-  writes = was.writes ++ is.writes;
-  cell = cell was.writes is.writes was.cell is.cell;
+-- the group of two sets of updates, where these are the writes of the second
+pub group_with : (updates others : List Update) (key : List ℕ) (old new : Group) (more : List Written) → ((writes : List Written) → IsCellOf writes old.slots → IsCellOf (writes ++ more) new.slots)
+    → ((w : Written) → Contains more w ↔ IsWriteOf others key w) → IsResetOf (updates ++ others) key new.reset → IsGroupOf updates key old → IsGroupOf (updates ++ others) key new
+group_with updates others key old new more cell each reset was = record {
+  writes = was.writes ++ more;
+  cell = cell was.writes was.cell;
   each = λ w. (
-    λ at. of_both updates others key w (elim (Contains-append_cases was.writes is.writes w at) as (λ _. IsWriteOf updates key w ⊎ IsWriteOf others key w) [ inl here ↦ inl ((was.each w).0 here) | inr there ↦ inr ((is.each w).0 there) ]),
-    λ write. elim (of_one updates others key w write) as (λ _. Contains (was.writes ++ is.writes) w) [
-      | inl here ↦ Contains-append_left was.writes is.writes w ((was.each w).1 here)
-      | inr there ↦ Contains-append_right was.writes is.writes w ((is.each w).1 there)
+    λ at. of_both updates others key w (elim (Contains-append_cases was.writes more w at) as (λ _. IsWriteOf updates key w ⊎ IsWriteOf others key w) [ inl here ↦ inl ((was.each w).0 here) | inr there ↦ inr ((each w).0 there) ]),
+    λ write. elim (of_one updates others key w write) as (λ _. Contains (was.writes ++ more) w) [
+      | inl here ↦ Contains-append_left was.writes more w ((was.each w).1 here)
+      | inr there ↦ Contains-append_right was.writes more w ((each w).1 there)
     ],
   );
-  reset = both_resets updates others key old.reset add.reset new.reset latest was.reset is.reset;
+  reset = reset;
 }
+
+-- the group of the updates of two groups
+pub both_groups : (updates others : List Update) (key : List ℕ) (old add new : Group) → IsLatestOf old.reset add.reset new.reset
+    → ((writes more : List Written) → IsCellOf writes old.slots → IsCellOf more add.slots → IsCellOf (writes ++ more) new.slots) → IsGroupOf updates key old → IsGroupOf others key add → IsGroupOf (updates ++ others) key new
+both_groups updates others key old add new latest cell was is = group_with updates others key old new is.writes
+    (λ writes has. cell writes is.writes has is.cell) is.each (both_resets updates others key old.reset add.reset new.reset latest was.reset is.reset) was

@@ -31,15 +31,13 @@ front_in_order updates update order = λ k d low below.
     (λ i. key_below (sym next i) (sym first i)) ∙ order k d low (omega (arith, whole))
 
 -- the last of updates in order is below none of the others
-not_below_last : (updates : List Update) (update u : Update) → InKeyOrder (updates ++ update ∷ []) → Contains updates u → key_below update u ≡ false
+pub not_below_last : (updates : List Update) (update u : Update) → InKeyOrder (updates ++ update ∷ []) → Contains updates u → key_below update u ≡ false
 not_below_last updates update u order at =
     let whole : length (updates ++ update ∷ []) ≡ length updates + 1 = length-append updates (update ∷ []) in
     let here : slice_index_or (updates ++ update ∷ []) at.0 u ≡ u = get_or_append_left updates (update ∷ []) u at.0 at.1 ∙ at.2 in
     let end : slice_index_or (updates ++ update ∷ []) (length updates) u ≡ update = get_or-append_seam updates update [] u in
     let far = sorted_far key_below key_order (updates ++ update ∷ []) order at.0 (length updates) u (omega (arith, at.1)) (omega (arith, whole)) in
     (λ i. key_below (sym end i) (sym here i)) ∙ far
-
--- ---- no update
 
 -- ---- the pair of the last key
 

@@ -1,11 +1,10 @@
-use Rattle.std.proofs.Common.{◌≡◌, ◌++◌, List, IsPermutation, map, refl, true, subst, sym, ap, ◌∙◌}
+use Rattle.std.proofs.Common.{◌≡◌, List, map, refl, true, subst, sym, ap, ◌∙◌}
 use Rattle.std.specs.List.{All}
-use Rattle.std.proofs.lemmas.List.{append-nil}
 use Rattle.mt_words.specs.declared.update.Update.{Update}
 use Rattle.mt_replay.specs.Cuts.{key_below, InKeyOrder}
 use Rattle.mt_replay.specs.Runs.{together}
 use Rattle.mt_replay.proofs.KeyOrder.{key_order}
-use Rattle.mt_replay.proofs.RunLemmas.{runs_give}
+use Rattle.mt_replay.proofs.RunLemmas.{runs_give, all_merged}
 use Rattle.mt_replay.proofs.WalkerLemmas.{front_in_order}
 use Rattle.mt_replay.proofs.DistinctLemmas.{of_moved}
 use Rattle.mt_replay.proofs.distinct.merged_keys.Goals as goal
@@ -25,9 +24,7 @@ returns-clause-distinct c =
     let by = rw c.into_iter-sliced-iterator.ensures.into_iter_gives at c.loop-sliced.yielded_by in
     let end = c.loop-sliced.sliced-iterator in
     let merged : List Update = c.loop-sliced.yielded in
-    let r = items.3 items.0.items (runs_give (λ s r. r ≡ s) (λ u j h. h) items.0.items) merged true (end, by, λ _. (end, c.in-None.ensures.steps)) in
-    let all : IsPermutation (together items.0.items) merged = subst (λ (xs : List Update). IsPermutation (together items.0.items) xs) (append-nil merged) (subst (λ (rest : List Update). IsPermutation (together items.0.items) (merged ++ rest)) (r.2 refl) r.1) in
+    let moved = all_merged items.0.items c.args.runs.items merged same (items.3 items.0.items (runs_give (λ s r. r ≡ s) (λ u j h. h) items.0.items) merged true (end, by, λ _. (end, c.in-None.ensures.steps))) in
     let rise : All InKeyOrder order.0.items = subst (λ (runs : List (List Update)). All InKeyOrder runs) (sym ordered) c.requires in
     let up : InKeyOrder merged = order.3 key_below refl key_order order.0.items (runs_give (λ s r. r ≡ s) (λ u j h. h) order.0.items) rise merged true (end, by, λ _. (end, c.in-None.ensures.steps)) in
-    let moved : IsPermutation (together c.args.runs.items) merged = subst (λ (runs : List (List Update)). IsPermutation (together runs) merged) same all in
     of_moved (together c.args.runs.items) merged (map (λ key. key.now) c.loop-sliced.keys.items) moved (c.loop-sliced.invariant.distinct up)

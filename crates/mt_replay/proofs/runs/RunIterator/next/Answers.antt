@@ -1,10 +1,6 @@
-use Rattle.std.proofs.Common.{◌≡◌, ℕ, suc, ◌+◌, ◌-◌, ◌<◌, ◌≤◌, List, [], ◌∷◌, length, take, drop, get_or, drop-cons, sym, ap, ◌∙◌, arith}
+use Rattle.std.proofs.Common.{◌≡◌, ℕ, suc, ◌+◌, ◌-◌, ◌<◌, ◌≤◌, List, ◌∷◌, length, take, drop, get_or, drop-cons, sym, ◌∙◌, arith}
 use Rattle.mt_words.specs.declared.update.Update.{Update}
 use Rattle.mt_replay.proofs.runs.RunIterator.next.Goals as goal
-
--- nothing is left
-none_left : (us : List Update) (at end : ℕ) → end ≤ at → take (end - at) (drop at us) ≡ []
-none_left us at end past = let none : end - at ≡ 0 = omega (arith, past) in ap (λ (n : ℕ). take n (drop at us)) none
 
 -- the first of what is left, and the rest
 first_left : (us : List Update) (at end : ℕ) (u : Update) → at < end → end ≤ length us → u ≡ get_or us at u
