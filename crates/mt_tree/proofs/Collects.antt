@@ -5,26 +5,30 @@ use Rattle.std.specs.Ordering.{nat_cmp, is_lt}
 use Rattle.std.specs.Cmp.Lexicographic.{slice_cmp}
 use Rattle.std.specs.List.{AllByRecursion}
 use Rattle.std.proofs.Common.{Vec, Global}
+use Rattle.std.specs.Global.{Box}
 use Rattle.std.proofs.Common.{inl, inr, ◌⊎◌}
 use Rattle.std.proofs.lemmas.Bool.{cases_lt}
 use Rattle.std.proofs.lemmas.List.{append-nil, take_all, take_rest, get_or-drop, take-map}
 use Rattle.mt_words.specs.Slices.{AreBytes, slice_in, slice_bytes}
 use Rattle.mt_tree.specs.Layer.{key_rank}
 use Rattle.mt_words.proofs.SliceBytes.{bytes_take}
-use Rattle.mt_tree.specs.Layer.{PlaceView, long, link, slice_at, rank_at, pairs_at, put_before, walk, IsPlace, IsLayerFrom, FitsAfter}
+use Rattle.mt_tree.specs.Layer.{PlaceView, long, link, slice_at, rank_at, pairs_at, put_before, walk, weight, IsPlace, IsLayerFrom, FitsAfter}
 use Rattle.mt_words.specs.Walks.{Pair}
 use Rattle.mt_tree.specs.Nodes.{NodeView, places, joined, borders_of, branches, IsNode, AreSeparated, SlicesFrom}
-use Rattle.mt_tree.specs.NodeFalls.{joined-append}
-use Rattle.mt_tree.specs.NodeViews.{views, view_of, view_of_content}
+use Rattle.mt_tree.specs.NodeFalls.{joined-append, all_weight}
+use Rattle.mt_tree.specs.NodeViews.{views, view_of, view_of_content, node_view, IsNodeKind}
 use Rattle.mt_tree.specs.Ranging.{from, found}
 use Rattle.mt_tree.specs.Range.{wanted_of}
 use Rattle.mt_tree.specs.declared.hit.Hit.{Hit}
 use Rattle.mt_tree.specs.declared.node.Place.{Place}
+use Rattle.mt_tree.specs.declared.node.NodeKind.{NodeKind}
+use Rattle.mt_tree.specs.declared.node.NodeKind.TheVariants.{Border, Interior}
+use Rattle.arrayvec.specs.declared.array_vec.ArrayVec.{ArrayVec}
 use Rattle.mt_tree.specs.declared.node.Content.{Content}
 use Rattle.mt_tree.specs.declared.node.Content.TheVariants.{Short, Suffix, Link}
-use Rattle.mt_tree.proofs.Finds.{pairs_rank}
+use Rattle.mt_tree.proofs.Finds.{pairs_rank, view_lawful, layer_lawful, border_layer, border_walk, interior_is, interior_walk}
 use Rattle.mt_tree.proofs.Orders.{pairs_bytes}
-use Rattle.mt_tree.proofs.Lights.{kids_more, views_more}
+use Rattle.mt_tree.proofs.Lights.{kid_lighter, view_light, kids_more, views_more}
 use Rattle.mt_tree.proofs.Ranged.{take_few, then_found, from-append, found-append, from_kept, from_empty, found-put_before, one_tested, short_from, below_from, place_gone}
 use Rattle.mt_tree.specs.Falls.{walk-append}
 use Rattle.mt_tree.proofs.Joins.{all_weaker, all_front, all_back, length_at-le}
@@ -149,22 +153,61 @@ kids_from start (s ∷ ss) (n ∷ ns) (suc i) d b h a e l before after =
     ∙ ap (λ (z : List Pair). z ++ from start (walk (joined (borders_of ns)))) (slices_gone start 0 (places n) b h.0.tree.layer (all_weaker (λ p. slice_at p < s) (λ p. slice_at p < slice_in start) (λ p lt. omega arith) (places n) a.0))
     ∙ kids_from start ss ns i d b h.1 a.2 (omega arith) (omega arith) (λ j lt. before (suc j) (omega arith)) (λ lt. after (omega arith))
 
+-- ---- what is gone over below a node
+fits_kid : (k : ℕ) (ks : List NodeView) (i : ℕ) (d : NodeView) → FitsAfter k (walk (joined (borders_of ks))) → i < length ks → FitsAfter k (walk (places (get_or ks i d)))
+fits_kid k [] i d h l = absurd (omega arith)
+fits_kid k (n ∷ ns) zero d h l = all_front (λ p. k + length p.0 ≤ 1024) (walk (places n)) (walk (joined (borders_of ns))) (subst (FitsAfter k) (kids_walk n ns) h)
+fits_kid k (n ∷ ns) (suc i) d h l = fits_kid k ns i d (all_back (λ p. k + length p.0 ≤ 1024) (walk (places n)) (walk (joined (borders_of ns))) (subst (FitsAfter k) (kids_walk n ns) h)) (omega arith)
+
+fits_view : (k : ℕ) (xs : List Place) (i : ℕ) (d : Place) → FitsAfter k (walk (views xs)) → i < length xs → FitsAfter k (pairs_at (view_of (get_or xs i d)))
+fits_view k [] i d h l = absurd (omega arith)
+fits_view k (x ∷ xs) zero d h l = all_front (λ p. k + length p.0 ≤ 1024) (pairs_at (view_of x)) (walk (views xs)) h
+fits_view k (x ∷ xs) (suc i) d h l = fits_view k xs i d (all_back (λ p. k + length p.0 ≤ 1024) (pairs_at (view_of x)) (walk (views xs)) h) (omega arith)
+
+-- a place of its border
+pub record IsPlaceIn (n : NodeView) (k : ℕ) (x : Place) : Type 0 where
+  pub light : weight (pairs_at (view_of x)) ≤ weight (walk (places n))
+  pub lawful : IsPlace (view_of x)
+  pub fits : FitsAfter k (pairs_at (view_of x))
+
+pub place_in : (kind : NodeKind) (n : NodeView) (b : Vec Place Global) (xs : List Place) (i : ℕ) (x : Place) (before own : List ℕ) → node_view kind ≡ n → IsNodeKind kind → kind ≡ Border b → xs ≡ b.items → x ≡ get_or xs i x → i < length xs
+    → own ≡ before → FitsAfter (length before) (walk (places n)) → IsPlaceIn n (length own) x
+place_in kind n b xs i x before own view lawful is items at lt same fits =
+    let whole : walk (places n) ≡ walk (views xs) = border_walk kind n b view is ∙ ap (λ (z : List Place). walk (views z)) (sym items) in
+    let each : AllByRecursion IsPlace (views xs) = subst (λ (z : List Place). AllByRecursion IsPlace (views z)) (sym items) (layer_lawful 0 (views b.items) (border_layer kind b lawful is)) in
+    let here : weight (pairs_at (view_of x)) ≤ weight (walk (views xs)) = subst (λ (z : Place). weight (pairs_at (view_of z)) ≤ weight (walk (views xs))) (sym at) (view_light xs i x lt) in
+    let room : FitsAfter (length own) (walk (views xs)) = subst (FitsAfter (length own)) whole (subst (λ (z : List ℕ). FitsAfter (length z) (walk (places n))) (sym same) fits) in
+    record {
+      light = omega (arith, here, ap weight whole);
+      lawful = subst (λ (z : Place). IsPlace (view_of z)) (sym at) (view_lawful xs i x each lt);
+      fits = subst (λ (z : Place). FitsAfter (length own) (pairs_at (view_of z))) (sym at) (fits_view (length own) xs i x room lt);
+    }
+
+-- a child of an interior node
+pub record IsChildIn (n : NodeView) (k : ℕ) (x : NodeView) : Type 0 where
+  pub lighter : weight (walk (places x)) < weight (walk (places n))
+  pub fits : FitsAfter k (walk (places x))
+
+pub child_in : (kind : NodeKind) (n : NodeView) (ss : Box (ArrayVec ℕ 15 (Unit {0}))) (ks : Vec NodeView Global) (xs : List NodeView) (i : ℕ) (x : NodeView) (before own : List ℕ) → node_view kind ≡ n → IsNodeKind kind → kind ≡ Interior ss ks
+    → xs ≡ ks.items → x ≡ get_or xs i x → i < length xs → own ≡ before → FitsAfter (length before) (walk (places n)) → IsChildIn n (length own) x
+child_in kind n ss ks xs i x before own view lawful is items at lt same fits =
+    let h = interior_is kind ss ks lawful is in
+    let two : 2 ≤ length xs = subst (λ (z : List NodeView). 2 ≤ length z) (sym items) h.two in
+    let nodes : AllByRecursion IsNode xs = subst (AllByRecursion IsNode) (sym items) h.nodes in
+    let whole : walk (places n) ≡ walk (joined (borders_of xs)) = interior_walk kind n ss ks view is ∙ ap (λ (z : List NodeView). walk (joined (borders_of z))) (sym items) in
+    let here : weight (walk (places x)) < all_weight xs = subst (λ (z : NodeView). weight (walk (places z)) < all_weight xs) (sym at) (kid_lighter xs i x two nodes lt) in
+    let room : FitsAfter (length own) (walk (joined (borders_of xs))) = subst (FitsAfter (length own)) whole (subst (λ (z : List ℕ). FitsAfter (length z) (walk (places n))) (sym same) fits) in
+    record {
+      lighter = omega (arith, here, ap weight whole);
+      fits = subst (λ (z : NodeView). FitsAfter (length own) (walk (places z))) (sym at) (fits_kid (length own) xs i x room lt);
+    }
+
 -- ---- the loops
 pub later_kid : (ks : List NodeView) (m i : ℕ) (x : NodeView) → i < length (take (length ks - m) (drop m ks)) → x ≡ get_or (take (length ks - m) (drop m ks)) i x → (m + i < length ks) × (x ≡ get_or ks (m + i) x)
 later_kid ks m i x l e =
     let same : take (length ks - m) (drop m ks) ≡ drop m ks = take_rest ks m in
     let len : length (take (length ks - m) (drop m ks)) ≡ length (drop m ks) = ap length same in
     (omega (arith, len, length-drop m ks), e ∙ ap (λ (z : List NodeView). get_or z i x) same ∙ get_or-drop m ks i x)
-
-pub fits_kid : (k : ℕ) (ks : List NodeView) (i : ℕ) (d : NodeView) → FitsAfter k (walk (joined (borders_of ks))) → i < length ks → FitsAfter k (walk (places (get_or ks i d)))
-fits_kid k [] i d h l = absurd (omega arith)
-fits_kid k (n ∷ ns) zero d h l = all_front (λ p. k + length p.0 ≤ 1024) (walk (places n)) (walk (joined (borders_of ns))) (subst (FitsAfter k) (kids_walk n ns) h)
-fits_kid k (n ∷ ns) (suc i) d h l = fits_kid k ns i d (all_back (λ p. k + length p.0 ≤ 1024) (walk (places n)) (walk (joined (borders_of ns))) (subst (FitsAfter k) (kids_walk n ns) h)) (omega arith)
-
-pub fits_view : (k : ℕ) (xs : List Place) (i : ℕ) (d : Place) → FitsAfter k (walk (views xs)) → i < length xs → FitsAfter k (pairs_at (view_of (get_or xs i d)))
-fits_view k [] i d h l = absurd (omega arith)
-fits_view k (x ∷ xs) zero d h l = all_front (λ p. k + length p.0 ≤ 1024) (pairs_at (view_of x)) (walk (views xs)) h
-fits_view k (x ∷ xs) (suc i) d h l = fits_view k xs i d (all_back (λ p. k + length p.0 ≤ 1024) (pairs_at (view_of x)) (walk (views xs)) h) (omega arith)
 
 pub kids_then : (n : ℕ) (old mid new : List Hit) (prefix own : List ℕ) (w : List Bool) (ys : List NodeView) (i : ℕ) (x : NodeView) → own ≡ prefix → i < length ys → x ≡ get_or ys i x
     → mid ≡ take n (old ++ found prefix w (walk (joined (borders_of (take i ys))))) → new ≡ take n (mid ++ found own w (from [] (walk (places x))))

@@ -227,9 +227,5 @@ place_weight before left all p next e f =
 pub place_lawful : (before left all : List PlaceView) (p : PlaceView) (next : List PlaceView) → before ++ left ≡ all → left ≡ p ∷ next → IsLayer all → IsPlace p
 place_lawful before left all p next e f h = (layer_back 0 before (p ∷ next) (subst IsLayer (sym e ∙ ap (λ z. before ++ z) f) h)).0
 
-pub link_some : (s : ℕ) (l : List PlaceView) → IsPlace (link s (walk l)) → 1 ≤ length l
-link_some s [] h = absurd (let two : 2 ≤ 0 = h.1 in omega arith)
-link_some s (p ∷ l) h = omega arith
-
 pub link_lighter : (s : ℕ) (w : List Pair) → IsPlace (link s w) → weight w < weight (pairs_at (link s w))
 link_lighter s w h = let two : 2 ≤ length w = h.1 in below_lighter (slice_bytes s) w (slice_bytes-length s) (omega arith)

@@ -7,7 +7,7 @@ use Rattle.mt_tree.specs.Layers.{linked_walks}
 use Rattle.mt_tree.specs.Nodes.{LayerView, joined, each_borders, IsLayerTree, AreLinked}
 use Rattle.mt_tree.specs.NodeViews.{trees_of}
 use Rattle.mt_words.specs.Walks.{Pair}
-use Rattle.mt_tree.specs.Borders.{IsBorderList, AreBorders}
+use Rattle.mt_tree.specs.Borders.{IsBorderList, AreBorders, SameEnds}
 use Rattle.mt_tree.specs.DraftViews.{draft_view, draft_view_of, draft_views, border_view, border_views, layers_of, layers_of_border, layers_of_content, draft_of, IsLawfulLink, HaveLawfulLinks, HasLawfulLinks, IsFirstOpen, IsLastOpen, IsStored, PutBehind, PutOpen}
 use Rattle.mt_tree.specs.declared.layer.Border.{Border}
 use Rattle.mt_tree.specs.declared.layer.Border.TheVariants.{Open, Closed}
@@ -17,6 +17,7 @@ use Rattle.mt_tree.specs.declared.layer.DraftContent.TheVariants.{Short, Suffix,
 use Rattle.mt_tree.proofs.Joins.{all_append, all_front, all_back}
 use Rattle.mt_tree.proofs.Levels.{linked-append, linked_walks-append}
 use Rattle.mt_tree.proofs.Puts.{first_front, first_then, last_then, last_rest}
+use Rattle.mt_tree.proofs.Meets.{Sides, last_border, seam_put}
 
 -- ---- a stored layer is a lawful draft
 content_lawful : (c : DraftContent) (ls : List (List (List PlaceView))) → IsLawfulLink c → AllByRecursion IsBorderList ls → AllByRecursion IsBorderList (layers_of_content c ++ ls)
@@ -101,14 +102,18 @@ more_some places old new put some = by put.more refl
         omega (arith, behind, more, length-append old put.more)
 
 -- and in place of two neighbours
-pub seam_stored : (lb rb fs bs seam whole : List Border) (l f : Vec DraftPlace Global) (places : List DraftPlace) → IsBorderList (border_views whole) → IsStored lb → IsStored rb
-    → lb ≡ fs ++ Open l ∷ [] → rb ≡ Open f ∷ bs → HaveLawfulLinks places → 1 ≤ length places → PutOpen places fs seam → whole ≡ seam ++ bs → IsStored whole
-seam_stored lb rb fs bs seam whole l f places own h k e g links some put is = record {
-  own = own;
-  links = subst (AllByRecursion HasLawfulLinks) (sym is) (all_append HasLawfulLinks seam bs (links_put places fs seam (links_parted lb fs l h.links e).0 links put.put) (links_first rb bs f k.links g).1);
-  first = subst IsFirstOpen (sym is) (first_then seam bs (more_some places fs seam put.put some) (put.put.first (first_front fs (Open l) (subst IsFirstOpen e h.first))));
-  last = subst IsLastOpen (sym is) (last_then seam bs (put.last some) (last_rest (Open f) bs (subst IsLastOpen g k.last)));
-}
+pub seam_stored : (lb rb fs bs seam whole : List Border) (l f : Vec DraftPlace Global) (left right : List DraftPlace) (vl : List (List PlaceView)) → Sides (border_views fs) (border_views bs) (draft_views l.items) (draft_views f.items) vl
+    → IsStored lb → IsStored rb → lb ≡ fs ++ Open l ∷ [] → rb ≡ Open f ∷ bs → length left ≡ length l.items → SameEnds (draft_views l.items) (draft_views f.items) (draft_views left ++ draft_views right)
+    → HaveLawfulLinks (left ++ right) → PutOpen (left ++ right) fs seam → whole ≡ seam ++ bs → IsStored whole
+seam_stored lb rb fs bs seam whole l f left right vl s h k e g same ends links put is =
+    let left_some : 1 ≤ length (draft_views l.items) = (last_border _ _ _ _ _ s).0 in
+    let some : 1 ≤ length (left ++ right) = omega (arith, left_some, length-map l.items draft_view, same, length-append left right) in
+    record {
+      own = seam_put fs bs seam whole l.items f.items left right vl s put.put is same ends;
+      links = subst (AllByRecursion HasLawfulLinks) (sym is) (all_append HasLawfulLinks seam bs (links_put (left ++ right) fs seam (links_parted lb fs l h.links e).0 links put.put) (links_first rb bs f k.links g).1);
+      first = subst IsFirstOpen (sym is) (first_then seam bs (more_some (left ++ right) fs seam put.put some) (put.put.first (first_front fs (Open l) (subst IsFirstOpen e h.first))));
+      last = subst IsLastOpen (sym is) (last_then seam bs (put.last some) (last_rest (Open f) bs (subst IsLastOpen g k.last)));
+    }
 
 -- ---- one list of places
 pub links_then : (places after : List DraftPlace) (p : DraftPlace) → HaveLawfulLinks places → IsLawfulLink p.content → after ≡ places ++ p ∷ [] → HaveLawfulLinks after

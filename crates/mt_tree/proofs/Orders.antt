@@ -1,7 +1,7 @@
 -- Where walks lie below one another, by their edges.
 use Rattle.std.proofs.Common.{◌≡◌, ◌≢◌, ℕ, zero, suc, ◌+◌, ◌-◌, ◌*◌, ◌^◌, ◌<◌, ◌≤◌, min, List, [], ◌∷◌, ◌++◌, length, take, drop, sym, refl, ap, ◌∙◌, subst, inl, inr, ◌⊎◌, arith}
 use Rattle.std.specs.List.{AllByRecursion}
-use Rattle.std.proofs.lemmas.List.{append-nil, length-map, map-append}
+use Rattle.std.proofs.lemmas.List.{append-nil, length-map}
 use Rattle.mt_words.specs.Slices.{AreBytes, slice_in, slice_bytes}
 use Rattle.mt_tree.specs.Layer.{key_rank}
 use Rattle.mt_words.proofs.SliceBytes.{slice_bytes-bytes, slice_bytes-long, bytes_take}
@@ -10,14 +10,12 @@ use Rattle.mt_words.proofs.SliceBytes.{slice_bytes-length}
 use Rattle.mt_tree.specs.Layer.{PlaceView, short, long, link, rank_at, pairs_at, put_before, walk, IsPlace, IsLayerFrom, IsLayer, AllKeysBelow, weight}
 use Rattle.mt_words.specs.Walks.{Pair}
 use Rattle.mt_words.specs.Words.{IsBelow}
-use Rattle.mt_tree.specs.Edges.{PlaceEdge, LastEdge, FirstEdge, HasBytes}
+use Rattle.mt_tree.specs.Edges.{PlaceEdge, IsEdge, LastEdge, FirstEdge, HasBytes}
 use Rattle.mt_tree.specs.Falls.{weight-append, walk-append, layer_back}
 use Rattle.mt_tree.proofs.Joins.{all_append, below_unprefixed, below_lighter, all_front, all_back, all_weaker, length_at-le, long_bytes}
 use Rattle.mt_tree.proofs.Finds.{pairs_rank, rest_is}
 use Rattle.mt_words.proofs.SliceBytes.{below-prefixed}
 use Rattle.std.specs.Prelude.{slice_get, Some}
-use Rattle.mt_tree.specs.DraftViews.{draft_views, draft_view}
-use Rattle.mt_tree.specs.declared.layer.DraftPlace.{DraftPlace}
 
 -- ---- bytes of places
 pub link_bytes : (s : ℕ) (w : List Pair) → s < 2 ^ 64 → HasBytes (put_before (slice_bytes s) w)
@@ -56,36 +54,34 @@ walk_before low (x ∷ xs) p ys h =
     (all_weaker (λ q. key_rank q.0 ≡ rank_at x) (λ q. key_rank q.0 < rank_at p) (λ q e. omega arith) (pairs_at x) (pairs_rank x h.0))
     (walk_before (suc (rank_at x)) xs p ys h.2)
 
-pub last_edge : (xs : List PlaceView) (p : PlaceView) (s m : ℕ) (below : List Pair) → IsLayer (xs ++ p ∷ []) → PlaceEdge p s m below → LastEdge (walk (xs ++ p ∷ [])) s m below
-last_edge xs p s m below h e =
-    let place = (layer_back 0 xs (p ∷ []) h).0 in
+place_edge : (w : List Pair) (p : PlaceView) (s m : ℕ) (below : List Pair) → HasBytes w → IsPlace p → PlaceEdge p s m below → IsEdge w (pairs_at p) s m below
+place_edge w p s m below bytes place e =
     let rank : rank_at p ≡ s * 10 + m = omega (arith, e.slices, e.lengths) in
     record {
-      before = walk xs;
-      top = pairs_at p;
-      is = walk-append xs (p ∷ []) ∙ ap (λ w. walk xs ++ w) (append-nil (pairs_at p));
-      bytes = walk_bytes 0 (xs ++ p ∷ []) h;
+      bytes = bytes;
       fits = omega (arith, e.lengths, length_at-le p place);
       some = pairs_some p place;
-      lower = all_weaker (λ q. key_rank q.0 < rank_at p) (λ q. key_rank q.0 < s * 10 + m) (λ q l. omega arith) (walk xs) (walk_before 0 xs p [] h);
       ranks = all_weaker (λ q. key_rank q.0 ≡ rank_at p) (λ q. key_rank q.0 ≡ s * 10 + m) (λ q l. l ∙ rank) (pairs_at p) (pairs_rank p place);
       rests = e.rests;
     }
 
+pub last_edge : (xs : List PlaceView) (p : PlaceView) (s m : ℕ) (below : List Pair) → IsLayer (xs ++ p ∷ []) → PlaceEdge p s m below → LastEdge (walk (xs ++ p ∷ [])) s m below
+last_edge xs p s m below h e = record {
+  before = walk xs;
+  top = pairs_at p;
+  is = walk-append xs (p ∷ []) ∙ ap (λ w. walk xs ++ w) (append-nil (pairs_at p));
+  lower = all_weaker (λ q. key_rank q.0 < rank_at p) (λ q. key_rank q.0 < s * 10 + m) (λ q l. omega (arith, e.slices, e.lengths)) (walk xs) (walk_before 0 xs p [] h);
+  edge = place_edge (walk (xs ++ p ∷ [])) p s m below (walk_bytes 0 (xs ++ p ∷ []) h) (layer_back 0 xs (p ∷ []) h).0 e;
+}
+
 pub first_edge : (p : PlaceView) (ys : List PlaceView) (s m : ℕ) (below : List Pair) → IsLayer (p ∷ ys) → PlaceEdge p s m below → FirstEdge (walk (p ∷ ys)) s m below
-first_edge p ys s m below h e =
-    let rank : rank_at p ≡ s * 10 + m = omega (arith, e.slices, e.lengths) in
-    record {
-      after = walk ys;
-      top = pairs_at p;
-      is = refl;
-      bytes = walk_bytes 0 (p ∷ ys) h;
-      fits = omega (arith, e.lengths, length_at-le p h.0);
-      some = pairs_some p h.0;
-      higher = all_weaker (λ q. suc (rank_at p) ≤ key_rank q.0) (λ q. s * 10 + m < key_rank q.0) (λ q l. omega arith) (walk ys) (walk_from (suc (rank_at p)) ys h.2);
-      ranks = all_weaker (λ q. key_rank q.0 ≡ rank_at p) (λ q. key_rank q.0 ≡ s * 10 + m) (λ q l. l ∙ rank) (pairs_at p) (pairs_rank p h.0);
-      rests = e.rests;
-    }
+first_edge p ys s m below h e = record {
+  after = walk ys;
+  top = pairs_at p;
+  is = refl;
+  higher = all_weaker (λ q. suc (rank_at p) ≤ key_rank q.0) (λ q. s * 10 + m < key_rank q.0) (λ q l. omega (arith, e.slices, e.lengths)) (walk ys) (walk_from (suc (rank_at p)) ys h.2);
+  edge = place_edge (walk (p ∷ ys)) p s m below (walk_bytes 0 (p ∷ ys) h) h.0 e;
+}
 
 -- ---- what the edges decide
 
@@ -122,22 +118,22 @@ module _ (v w b d : List Pair) (s m t n : ℕ) (f : LastEdge v s m b) (g : First
   v_low = subst (AllByRecursion (λ p. key_rank p.0 ≤ s * 10 + m)) (sym f.is)
       (all_append _ f.before f.top
       (all_weaker (λ p. key_rank p.0 < s * 10 + m) (λ p. key_rank p.0 ≤ s * 10 + m) (λ p l. omega arith) f.before f.lower)
-      (all_weaker (λ p. key_rank p.0 ≡ s * 10 + m) (λ p. key_rank p.0 ≤ s * 10 + m) (λ p l. omega arith) f.top f.ranks))
+      (all_weaker (λ p. key_rank p.0 ≡ s * 10 + m) (λ p. key_rank p.0 ≤ s * 10 + m) (λ p l. omega arith) f.top f.edge.ranks))
 
   w_high : AllByRecursion (λ p. t * 10 + n ≤ key_rank p.0) w
   w_high = subst (AllByRecursion (λ p. t * 10 + n ≤ key_rank p.0)) (sym g.is)
       (all_append _ g.top g.after
-      (all_weaker (λ p. key_rank p.0 ≡ t * 10 + n) (λ p. t * 10 + n ≤ key_rank p.0) (λ p l. omega arith) g.top g.ranks)
+      (all_weaker (λ p. key_rank p.0 ≡ t * 10 + n) (λ p. t * 10 + n ≤ key_rank p.0) (λ p l. omega arith) g.top g.edge.ranks)
       (all_weaker (λ p. t * 10 + n < key_rank p.0) (λ p. t * 10 + n ≤ key_rank p.0) (λ p l. omega arith) g.after g.higher))
 
   pub edges_less : s * 10 + m < t * 10 + n → AllKeysBelow v w
-  edges_less l = below_ranks (s * 10 + m) (t * 10 + n) v w l f.bytes g.bytes v_low w_high
+  edges_less l = below_ranks (s * 10 + m) (t * 10 + n) v w l f.edge.bytes g.edge.bytes v_low w_high
 
   top_bytes : HasBytes f.top
-  top_bytes = all_back _ f.before f.top (subst HasBytes f.is f.bytes)
+  top_bytes = all_back _ f.before f.top (subst HasBytes f.is f.edge.bytes)
 
   top_bytes' : HasBytes g.top
-  top_bytes' = all_front _ g.top g.after (subst HasBytes g.is g.bytes)
+  top_bytes' = all_front _ g.top g.after (subst HasBytes g.is g.edge.bytes)
 
   tops_below : AllKeysBelow v w → AllKeysBelow f.top g.top
   tops_below h =
@@ -146,23 +142,23 @@ module _ (v w b d : List Pair) (s m t n : ℕ) (f : LastEdge v s m b) (g : First
       (all_back _ f.before f.top (subst (λ z. AllKeysBelow z w) f.is h))
 
   pub edges_order : AllKeysBelow v w → (s * 10 + m < t * 10 + n) ⊎ ((s * 10 + m ≡ t * 10 + n) × ((k : ℕ) (r : ℕ) → s * 10 + m ≡ r * 10 + k → k ≤ 9 → k ≡ 9))
-  edges_order h = first_pair_ranks (s * 10 + m) (t * 10 + n) f.top g.top f.some g.some top_bytes top_bytes' f.ranks g.ranks (tops_below h)
+  edges_order h = first_pair_ranks (s * 10 + m) (t * 10 + n) f.top g.top f.edge.some g.edge.some top_bytes top_bytes' f.edge.ranks g.edge.ranks (tops_below h)
 
   -- both longer than 8, and of one slice: what lies below decides
   pub edges_down : s ≡ t → m ≡ 9 → n ≡ 9 → AllKeysBelow v w → AllKeysBelow b d
   edges_down e k l h =
       below_unprefixed (slice_bytes s) b d
-      (subst (λ z. AllKeysBelow (put_before (slice_bytes s) b) z) (sym (ap (λ z. put_before (slice_bytes z) d) e ∙ g.rests l)) (subst (λ z. AllKeysBelow z g.top) (sym (f.rests k)) (tops_below h)))
+      (subst (λ z. AllKeysBelow (put_before (slice_bytes s) b) z) (sym (ap (λ z. put_before (slice_bytes z) d) e ∙ g.edge.rests l)) (subst (λ z. AllKeysBelow z g.top) (sym (f.edge.rests k)) (tops_below h)))
 
   pub edges_up : s ≡ t → m ≡ 9 → n ≡ 9 → AllKeysBelow b d → AllKeysBelow v w
   edges_up e k l h =
       subst (λ z. AllKeysBelow z w) (sym f.is) (subst (AllKeysBelow (f.before ++ f.top)) (sym g.is)
       (all_append _ f.before f.top
-      (below_ranks' f.before (g.top ++ g.after) (all_front _ f.before f.top (subst HasBytes f.is f.bytes)) (subst HasBytes g.is g.bytes) f.lower (subst (AllByRecursion (λ p. t * 10 + n ≤ key_rank p.0)) g.is w_high))
+      (below_ranks' f.before (g.top ++ g.after) (all_front _ f.before f.top (subst HasBytes f.is f.edge.bytes)) (subst HasBytes g.is g.edge.bytes) f.lower (subst (AllByRecursion (λ p. t * 10 + n ≤ key_rank p.0)) g.is w_high))
       (right_append f.top g.top g.after
-      (subst (λ z. AllKeysBelow f.top z) (ap (λ z. put_before (slice_bytes z) d) e ∙ g.rests l) (subst (λ z. AllKeysBelow z (put_before (slice_bytes s) d)) (f.rests k) (below_prefixed (slice_bytes s) b d h)))
-      (below_ranks (s * 10 + m) (suc (t * 10 + n)) f.top g.after (omega arith) top_bytes (all_back _ g.top g.after (subst HasBytes g.is g.bytes))
-      (all_weaker (λ p. key_rank p.0 ≡ s * 10 + m) (λ p. key_rank p.0 ≤ s * 10 + m) (λ p q. omega arith) f.top f.ranks)
+      (subst (λ z. AllKeysBelow f.top z) (ap (λ z. put_before (slice_bytes z) d) e ∙ g.edge.rests l) (subst (λ z. AllKeysBelow z (put_before (slice_bytes s) d)) (f.edge.rests k) (below_prefixed (slice_bytes s) b d h)))
+      (below_ranks (s * 10 + m) (suc (t * 10 + n)) f.top g.after (omega arith) top_bytes (all_back _ g.top g.after (subst HasBytes g.is g.edge.bytes))
+      (all_weaker (λ p. key_rank p.0 ≡ s * 10 + m) (λ p. key_rank p.0 ≤ s * 10 + m) (λ p q. omega arith) f.top f.edge.ranks)
       (all_weaker (λ p. t * 10 + n < key_rank p.0) (λ p. suc (t * 10 + n) ≤ key_rank p.0) (λ p q. omega arith) g.after g.higher)))))
     where
       below_ranks' : (x y : List Pair) → HasBytes x → HasBytes y → AllByRecursion (λ p. key_rank p.0 < s * 10 + m) x → AllByRecursion (λ p. t * 10 + n ≤ key_rank p.0) y → AllKeysBelow x y
@@ -191,39 +187,28 @@ module _ (v w b d : List Pair) (s m t n : ℕ) (f : LastEdge v s m b) (g : First
 -- what lies below the last place is lighter
 pub edge_falls : (v b : List Pair) (s m : ℕ) → LastEdge v s m b → m ≡ 9 → weight b < weight v
 edge_falls v b s m f e =
-    let top = f.rests e in
-    let some : 0 < length b = omega (arith, f.some, ap (λ (z : List Pair). length z) top, length-map {B = Pair} b (λ p. (slice_bytes s ++ p.0, p.1))) in
+    let top = f.edge.rests e in
+    let some : 0 < length b = omega (arith, f.edge.some, ap (λ (z : List Pair). length z) top, length-map {B = Pair} b (λ p. (slice_bytes s ++ p.0, p.1))) in
     omega (arith, below_lighter (slice_bytes s) b (slice_bytes-length s) some, ap weight top, ap weight f.is, weight-append f.before f.top)
 
 -- ---- the edges of one pair
 pair_rests : (key : List ℕ) (c : List (ℕ × List ℕ)) → AreBytes key → min (length key) 9 ≡ 9 → put_before (slice_bytes (slice_in key)) ((drop 8 key, c) ∷ []) ≡ (key, c) ∷ []
 pair_rests key c bytes e = ap (λ (k : List ℕ). (k, c) ∷ []) (slice_bytes-long key (omega arith) (bytes_take 8 key bytes))
 
-pub pair_last : (key rest : List ℕ) (c : List (ℕ × List ℕ)) (s m : ℕ) → AreBytes key → s ≡ slice_in key → m ≡ min (length key) 9 → (m ≡ 9 → rest ≡ drop 8 key) → LastEdge ((key, c) ∷ []) s m ((rest, c) ∷ [])
-pair_last key rest c s m bytes e f g = record {
-  before = [];
-  top = (key, c) ∷ [];
-  is = refl;
+pair_edge : (key rest : List ℕ) (c : List (ℕ × List ℕ)) (s m : ℕ) → AreBytes key → s ≡ slice_in key → m ≡ min (length key) 9 → (m ≡ 9 → rest ≡ drop 8 key) → IsEdge ((key, c) ∷ []) ((key, c) ∷ []) s m ((rest, c) ∷ [])
+pair_edge key rest c s m bytes e f g = record {
   bytes = (bytes_take 8 key bytes, tt);
   fits = omega arith;
   some = omega arith;
-  lower = tt;
   ranks = (omega arith, tt);
   rests = λ h. ap (λ z. put_before (slice_bytes z) ((rest, c) ∷ [])) e ∙ ap (λ (z : List ℕ). put_before (slice_bytes (slice_in key)) ((z, c) ∷ [])) (g h) ∙ pair_rests key c bytes (sym f ∙ h);
 }
 
+pub pair_last : (key rest : List ℕ) (c : List (ℕ × List ℕ)) (s m : ℕ) → AreBytes key → s ≡ slice_in key → m ≡ min (length key) 9 → (m ≡ 9 → rest ≡ drop 8 key) → LastEdge ((key, c) ∷ []) s m ((rest, c) ∷ [])
+pair_last key rest c s m bytes e f g = record { before = []; top = (key, c) ∷ []; is = refl; lower = tt; edge = pair_edge key rest c s m bytes e f g }
+
 pub pair_first : (key rest : List ℕ) (c : List (ℕ × List ℕ)) (s m : ℕ) → AreBytes key → s ≡ slice_in key → m ≡ min (length key) 9 → (m ≡ 9 → rest ≡ drop 8 key) → FirstEdge ((key, c) ∷ []) s m ((rest, c) ∷ [])
-pair_first key rest c s m bytes e f g = record {
-  after = [];
-  top = (key, c) ∷ [];
-  is = refl;
-  bytes = (bytes_take 8 key bytes, tt);
-  fits = omega arith;
-  some = omega arith;
-  higher = tt;
-  ranks = (omega arith, tt);
-  rests = λ h. ap (λ z. put_before (slice_bytes z) ((rest, c) ∷ [])) e ∙ ap (λ (z : List ℕ). put_before (slice_bytes (slice_in key)) ((z, c) ∷ [])) (g h) ∙ pair_rests key c bytes (sym f ∙ h);
-}
+pair_first key rest c s m bytes e f g = record { after = []; top = (key, c) ∷ []; is = refl; higher = tt; edge = pair_edge key rest c s m bytes e f g }
 
 pub rest_past : (key : List ℕ) (k m : ℕ) → k ≡ min (length key) 8 → m ≡ min (length key) 9 → m ≡ 9 → take (length key - k) (drop k key) ≡ drop 8 key
 rest_past key k m e f h = let is : k ≡ 8 = omega arith in rw is (rest_is key)
@@ -233,11 +218,11 @@ module _ (v w b d : List Pair) (s m t n : ℕ) (f : LastEdge v s m b) (g : First
   order h = edges_order v w b d s m t n f g h
 
   pub by_slices : s ≢ t → (s < t → AllKeysBelow v w) × (AllKeysBelow v w → s < t)
-  by_slices other = (λ l. edges_less v w b d s m t n f g (let few = f.fits in omega arith), λ h. from (order h))
+  by_slices other = (λ l. edges_less v w b d s m t n f g (let few = f.edge.fits in omega arith), λ h. from (order h))
     where
       from : (s * 10 + m < t * 10 + n) ⊎ ((s * 10 + m ≡ t * 10 + n) × ((k : ℕ) (r : ℕ) → s * 10 + m ≡ r * 10 + k → k ≤ 9 → k ≡ 9)) → s < t
-      from (inl l) = let few = f.fits in let few' = g.fits in let o : s ≢ t = other in omega arith
-      from (inr e) = let few = f.fits in let few' = g.fits in let same : s * 10 + m ≡ t * 10 + n = e.0 in absurd (other (omega arith))
+      from (inl l) = let few = f.edge.fits in let few' = g.edge.fits in let o : s ≢ t = other in omega arith
+      from (inr e) = let few = f.edge.fits in let few' = g.edge.fits in let same : s * 10 + m ≡ t * 10 + n = e.0 in absurd (other (omega arith))
 
   pub by_lengths : s ≡ t → m ≢ n → (m < n → AllKeysBelow v w) × (AllKeysBelow v w → m < n)
   by_lengths same other = (λ l. edges_less v w b d s m t n f g (omega arith), λ h. from (order h))
@@ -255,7 +240,7 @@ module _ (v w b d : List Pair) (s m t n : ℕ) (f : LastEdge v s m b) (g : First
 
   pub by_below : s ≡ t → m ≡ n → 9 ≤ m → (AllKeysBelow b d → AllKeysBelow v w) × (AllKeysBelow v w → AllKeysBelow b d)
   by_below same even nine_on =
-      let few = f.fits in
+      let few = f.edge.fits in
       let nine : m ≡ 9 = omega arith in
       let nine' : n ≡ 9 = omega arith in
       (edges_up v w b d s m t n f g same nine nine', edges_down v w b d s m t n f g same nine nine')
@@ -275,8 +260,3 @@ last_of (y ∷ ys) x e = let at : length (y ∷ ys) - 1 ≡ length ys = omega ar
 pub first_of : {X : Type 0} (xs : List X) (x : X) → Some x ≡ slice_get xs 0 → (rest : List X) × (xs ≡ x ∷ rest)
 first_of [] x e = cc e
 first_of (y ∷ ys) x e = (ys, ap (λ z. z ∷ ys) (let same : y ≡ x = cc e in same))
-
-pub last_lawful : (ps qs : List DraftPlace) (x : DraftPlace) → IsLayer (draft_views ps) → qs ≡ ps → Some x ≡ slice_get qs (length qs - 1) → IsPlace (draft_view x)
-last_lawful ps qs x h e f =
-    let l = last_of qs x f in
-    (layer_back 0 (draft_views l.0) (draft_view x ∷ []) (subst IsLayer (ap draft_views (sym e ∙ l.1) ∙ map-append draft_view l.0 (x ∷ [])) h)).0

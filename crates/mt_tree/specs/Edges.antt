@@ -15,26 +15,26 @@ pub record PlaceEdge (p : PlaceView) (slice len : ℕ) (below : List Pair) : Typ
 abbrev pub HasBytes : List Pair → Type 0
 HasBytes = AllByRecursion (λ p. AreBytes (take 8 p.0))
 
--- the last pairs of a walk are those of one slice and length, and all others have lower ones
+-- these pairs of a walk are those of one slice and length
+pub record IsEdge (w top : List Pair) (slice len : ℕ) (below : List Pair) : Type 0 where
+  pub bytes : HasBytes w
+  pub fits : len ≤ 9
+  pub some : 0 < length top
+  pub ranks : AllByRecursion (λ p. key_rank p.0 ≡ slice * 10 + len) top
+  pub rests : len ≡ 9 → put_before (slice_bytes slice) below ≡ top
+
+-- they are the last, and all others have lower ones
 pub record LastEdge (w : List Pair) (slice len : ℕ) (below : List Pair) : Type 0 where
   pub before : List Pair
   pub top : List Pair
   pub is : w ≡ before ++ top
-  pub bytes : HasBytes w
-  pub fits : len ≤ 9
-  pub some : 0 < length top
   pub lower : AllByRecursion (λ p. key_rank p.0 < slice * 10 + len) before
-  pub ranks : AllByRecursion (λ p. key_rank p.0 ≡ slice * 10 + len) top
-  pub rests : len ≡ 9 → put_before (slice_bytes slice) below ≡ top
+  pub edge : IsEdge w top slice len below
 
 -- likewise the first
 pub record FirstEdge (w : List Pair) (slice len : ℕ) (below : List Pair) : Type 0 where
   pub after : List Pair
   pub top : List Pair
   pub is : w ≡ top ++ after
-  pub bytes : HasBytes w
-  pub fits : len ≤ 9
-  pub some : 0 < length top
   pub higher : AllByRecursion (λ p. slice * 10 + len < key_rank p.0) after
-  pub ranks : AllByRecursion (λ p. key_rank p.0 ≡ slice * 10 + len) top
-  pub rests : len ≡ 9 → put_before (slice_bytes slice) below ≡ top
+  pub edge : IsEdge w top slice len below

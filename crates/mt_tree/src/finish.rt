@@ -116,11 +116,10 @@ fn finish_border(alloc: Global, border: Border) -> Result<Finished<Node>, Memory
     ensures lawful { IfOk result (λ node. IsNode node.made) }
     ensures count { IfOk result (λ node. IsTreeCount node.made.below node.below) }
 {
-    let closed = close_border(alloc, border)?;
+    let Finished { made, below } = close_border(alloc, border)?;
     let made = Node {
-        kind: NodeKind::Border(closed.made),
+        kind: NodeKind::Border(made),
     };
-    let below = closed.below;
     Ok(Finished { made, below })
 }
 

@@ -1,5 +1,5 @@
 //! Whether all keys of a layer lie below all keys of another.
-ghost use Rattle.std.specs.Prelude.{◌≡◌, ◌↔◌, [], ◌∷◌, IsTrue, IfSome, IfNone};
+ghost use Rattle.std.specs.Prelude.{◌≡◌, ◌↔◌, [], ◌∷◌, IsTrue, MatchOption};
 ghost use Rattle.mt_tree.specs.Layer.{AllKeysBelow, IsPlace};
 ghost use Rattle.mt_tree.specs.DraftViews.{draft_view};
 ghost use Rattle.mt_tree.specs.Edges.{PlaceEdge, LastEdge, FirstEdge};
@@ -59,30 +59,20 @@ fn edge_of_place<'a>(place: &'a DraftPlace) -> Edge<'a>
 }
 
 fn last_edge<'a>(side: Side<'a>) -> Option<Edge<'a>>
-    ensures some { IfSome result (λ e. LastEdge (side_walk side.entry) e.slice e.length (side_walk e.below)) }
-    ensures none { IfNone result (side_walk side.entry ≡ []) }
+    ensures { MatchOption result (side_walk side.entry ≡ []) (λ e. LastEdge (side_walk side.entry) e.slice e.length (side_walk e.below)) }
 {
     match side {
         Side::Lone(key, columns) => Some(edge_of_pair(key, columns)),
-        Side::Whole(layer) => {
-            let border = layer.borders.last()?;
-            let place = border.places().last()?;
-            Some(edge_of_place(place))
-        }
+        Side::Whole(layer) => Some(edge_of_place(layer.borders.last()?.places().last()?)),
     }
 }
 
 fn first_edge<'a>(side: Side<'a>) -> Option<Edge<'a>>
-    ensures some { IfSome result (λ e. FirstEdge (side_walk side.entry) e.slice e.length (side_walk e.below)) }
-    ensures none { IfNone result (side_walk side.entry ≡ []) }
+    ensures { MatchOption result (side_walk side.entry ≡ []) (λ e. FirstEdge (side_walk side.entry) e.slice e.length (side_walk e.below)) }
 {
     match side {
         Side::Lone(key, columns) => Some(edge_of_pair(key, columns)),
-        Side::Whole(layer) => {
-            let border = layer.borders.first()?;
-            let place = border.places().first()?;
-            Some(edge_of_place(place))
-        }
+        Side::Whole(layer) => Some(edge_of_place(layer.borders.first()?.places().first()?)),
     }
 }
 

@@ -64,10 +64,10 @@ close-returns-clause-same t c =
     all_done _ _ _ c.loop-place.invariant.same none
 
 pub finish_border-invariant_of-made : goal.finish_border-invariant_of-made
-finish_border-invariant_of-made t c = border_done _ (border_view c.args.border) c.in_ok-closed.ensures.same c.requires.some c.requires.lawful c.in_ok-closed.ensures.below
+finish_border-invariant_of-made t c = border_done _ (border_view c.args.border) c.in_ok-made.ensures.same c.requires.some c.requires.lawful c.in_ok-made.ensures.below
 
 pub finish_border-returns-clause-lawful : goal.finish_border-returns-clause-lawful
-finish_border-returns-clause-lawful t c = border_done _ (border_view c.args.border) c.in_ok-closed.ensures.same c.requires.some c.requires.lawful c.in_ok-closed.ensures.below
+finish_border-returns-clause-lawful t c = border_done _ (border_view c.args.border) c.in_ok-made.ensures.same c.requires.some c.requires.lawful c.in_ok-made.ensures.below
 
 pub close_border-close-requires : goal.close_border-close-requires
 close_border-close-requires t c =

@@ -1,4 +1,4 @@
-use Rattle.std.proofs.Common.{◌≡◌, ◌≤◌, ◌<◌, ◌++◌, length, length-append, List, refl, ap, sym, subst, ◌∙◌, arith, rules}
+use Rattle.std.proofs.Common.{◌≡◌, ◌≤◌, ◌<◌, length, List, refl, ap, sym, subst, ◌∙◌, arith, rules}
 use Rattle.std.proofs.lemmas.List.{length-map}
 use Rattle.mt_words.specs.Slices.{slice_bytes}
 use Rattle.mt_words.proofs.SliceBytes.{slice_bytes-length}
@@ -9,7 +9,7 @@ use Rattle.mt_tree.specs.Nodes.{IsBorder}
 use Rattle.mt_tree.specs.DraftViews.{draft_view, draft_views, IsFirstOpen, IsStored}
 use Rattle.mt_tree.specs.declared.layer.DraftPlace.{DraftPlace}
 use Rattle.mt_tree.proofs.Joins.{first_removed, last_lawful, below_at_seam, apart_layer, merged_layer, last_weight, below_lighter, below_shared, Merging, merged_lawful, merged_rank, same_slice}
-use Rattle.mt_tree.proofs.Meets.{open_first, seam_of, same_first, glued_layer, ends_kept, ends_merged, sides, left_layer, right_layer, last_border, seam_put, seam_walk}
+use Rattle.mt_tree.proofs.Meets.{open_first, seam_of, same_first, glued_layer, ends_kept, ends_merged, sides, left_layer, right_layer, last_border, seam_walk}
 use Rattle.mt_tree.proofs.Behind.{open_end}
 use Rattle.mt_tree.proofs.Puts.{popped_open}
 use Rattle.mt_tree.proofs.Links.{stored_are, links_parted, links_first, seam_stored, links_merged, links_kept}
@@ -115,21 +115,15 @@ pub Layer::join-invariant_of-result-2 : goal.Layer::join-invariant_of-result-2
 Layer::join-invariant_of-result-2 t c =
     let some : 0 < length c.right.inside.borders.items = search rules in
     let s = sides _ _ _ _ _ _ _ _ c.left.view_is c.right.view_is c.left.invariant c.right.invariant c.requires (open_end _ _ _ _ c.in-Some.ensures.items c.into_places.ensures) (open_first _ _ _ _ some c.remove-first.ensures.value c.remove-first.ensures.items c.into_places-2.ensures) in
-    let own = seam_put _ _ _ _ _ _ _ _ _ s c.in_ok-push_both.ensures.put c.in_ok-append.ensures.items c.in_ok-last.ensures.same c.in_ok-last.ensures.slices in
-    let cut = open_first _ _ _ _ some c.remove-first.ensures.value c.remove-first.ensures.items c.into_places-2.ensures in
-    let left_some : 1 ≤ length (draft_views c.into_places.result.items) = (last_border _ _ _ _ _ s).0 in
-    let more : 1 ≤ length (c.in_ok-last.last.items ++ c.in_ok-last.first.items) = omega (arith, left_some, length-map c.into_places.result.items draft_view, c.in_ok-last.ensures.same, length-append c.in_ok-last.last.items c.in_ok-last.first.items) in
-    seam_stored _ _ _ _ _ _ _ _ _ own c.left.invariant c.right.invariant (open_end _ _ _ _ c.in-Some.ensures.items c.into_places.ensures) cut c.in_ok-last.ensures.links more c.in_ok-push_both.ensures c.in_ok-append.ensures.items
+    seam_stored _ _ _ _ _ _ _ _ _ _ _ s c.left.invariant c.right.invariant (open_end _ _ _ _ c.in-Some.ensures.items c.into_places.ensures) (open_first _ _ _ _ some c.remove-first.ensures.value c.remove-first.ensures.items c.into_places-2.ensures)
+    c.in_ok-last.ensures.same c.in_ok-last.ensures.slices c.in_ok-last.ensures.links c.in_ok-push_both.ensures c.in_ok-append.ensures.items
 
 pub Layer::join-returns-clause-lawful : goal.Layer::join-returns-clause-lawful
 Layer::join-returns-clause-lawful t c =
     let some : 0 < length c.right.inside.borders.items = search rules in
     let s = sides _ _ _ _ _ _ _ _ c.left.view_is c.right.view_is c.left.invariant c.right.invariant c.requires (open_end _ _ _ _ c.in-Some.ensures.items c.into_places.ensures) (open_first _ _ _ _ some c.remove-first.ensures.value c.remove-first.ensures.items c.into_places-2.ensures) in
-    let own = seam_put _ _ _ _ _ _ _ _ _ s c.in_ok-push_both.ensures.put c.in_ok-append.ensures.items c.in_ok-last.ensures.same c.in_ok-last.ensures.slices in
-    let cut = open_first _ _ _ _ some c.remove-first.ensures.value c.remove-first.ensures.items c.into_places-2.ensures in
-    let left_some : 1 ≤ length (draft_views c.into_places.result.items) = (last_border _ _ _ _ _ s).0 in
-    let more : 1 ≤ length (c.in_ok-last.last.items ++ c.in_ok-last.first.items) = omega (arith, left_some, length-map c.into_places.result.items draft_view, c.in_ok-last.ensures.same, length-append c.in_ok-last.last.items c.in_ok-last.first.items) in
-    stored_are _ (seam_stored _ _ _ _ _ _ _ _ _ own c.left.invariant c.right.invariant (open_end _ _ _ _ c.in-Some.ensures.items c.into_places.ensures) cut c.in_ok-last.ensures.links more c.in_ok-push_both.ensures c.in_ok-append.ensures.items)
+    stored_are _ (seam_stored _ _ _ _ _ _ _ _ _ _ _ s c.left.invariant c.right.invariant (open_end _ _ _ _ c.in-Some.ensures.items c.into_places.ensures) (open_first _ _ _ _ some c.remove-first.ensures.value c.remove-first.ensures.items c.into_places-2.ensures)
+    c.in_ok-last.ensures.same c.in_ok-last.ensures.slices c.in_ok-last.ensures.links c.in_ok-push_both.ensures c.in_ok-append.ensures.items)
 
 -- one of the two has no borders
 pub Layer::join-returns-in_default-clause-lawful : goal.Layer::join-returns-in_default-clause-lawful

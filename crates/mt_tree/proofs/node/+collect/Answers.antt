@@ -1,19 +1,16 @@
-use Rattle.std.proofs.Common.{◌≡◌, ℕ, suc, ◌+◌, ◌<◌, ◌≤◌, List, [], ◌∷◌, ◌++◌, length, take, drop, get_or, sym, ap, ◌∙◌, subst, arith}
+use Rattle.std.proofs.Common.{◌≡◌, ℕ, suc, ◌+◌, ◌<◌, ◌≤◌, List, [], ◌∷◌, ◌++◌, length, take, drop, get_or, refl, sym, ap, ◌∙◌, subst, arith}
 use Rattle.std.specs.Prelude.{not}
 use Rattle.std.specs.Ordering.{nat_cmp, is_lt}
 use Rattle.std.specs.Cmp.Lexicographic.{slice_cmp}
-use Rattle.std.specs.List.{AllByRecursion}
 use Rattle.mt_words.specs.Slices.{slice_in, slice_bytes}
-use Rattle.mt_tree.specs.Layer.{walk, weight, pairs_at, rank_at, IsPlace, FitsAfter}
-use Rattle.mt_tree.specs.Nodes.{NodeView, places, joined, borders_of, IsNode}
-use Rattle.mt_tree.specs.NodeFalls.{all_weight}
-use Rattle.mt_tree.specs.NodeViews.{views, view_of}
+use Rattle.mt_tree.specs.Layer.{walk, pairs_at, rank_at}
+use Rattle.mt_tree.specs.Nodes.{places, joined, borders_of}
+use Rattle.mt_tree.specs.NodeViews.{view_of}
 use Rattle.mt_tree.specs.Ranging.{from, found}
-use Rattle.mt_tree.specs.declared.node.Place.{Place}
-use Rattle.mt_tree.proofs.Finds.{view_lawful, layer_lawful, border_layer, border_walk, interior_is, interior_walk}
-use Rattle.mt_tree.proofs.Lights.{kid_lighter, view_light, content_lighter}
+use Rattle.mt_tree.proofs.Finds.{interior_is, interior_walk}
+use Rattle.mt_tree.proofs.Lights.{content_lighter}
 use Rattle.mt_tree.proofs.Ranged.{place_gone}
-use Rattle.mt_tree.proofs.Collects.{not_before, is_before, short_pairs, suffix_pairs, link_pairs, fits_link, hits_none, hits_one, hits_suffix, hits_unreached, hits_link, few_hits, later_kid, fits_kid, fits_view, kids_then, views_then, kids_done, kids_from}
+use Rattle.mt_tree.proofs.Collects.{not_before, is_before, short_pairs, suffix_pairs, link_pairs, fits_link, hits_none, hits_one, hits_suffix, hits_unreached, hits_link, few_hits, later_kid, place_in, child_in, kids_then, views_then, kids_done, kids_from}
 use Rattle.arrayvec.specs.declared.array_vec.ArrayVec.{ArrayVec}
 use Rattle.mt_tree.proofs.node.+collect.Goals as goal
 
@@ -62,25 +59,8 @@ Place::collect-collect-requires t c = (
 -- ---- a border
 pub Node::collect-collect-requires-in-loop-place : goal.Node::collect-collect-requires-in-loop-place
 Node::collect-collect-requires-in-loop-place t c =
-    let items : c.deref-place-items.result.now ≡ c.in-Border.places.items = c.deref-place-items.ensures.value in
-    let here : weight (pairs_at (view_of c.place-item.result)) ≤ weight (walk (views c.deref-place-items.result.now)) =
-    subst (λ (z : Place). weight (pairs_at (view_of z)) ≤ weight (walk (views c.deref-place-items.result.now))) (sym c.place-item.is) (view_light _ _ c.place-item.result c.loop-place-test.true) in
-    let is : walk (places c.args.self.now) ≡ walk (views c.in-Border.places.items) = border_walk _ _ _ c.self.view_is c.in-Border.is in
-    let whole = ap weight is in
-    let same = ap (λ (z : List Place). weight (walk (views z))) items in
-    let fits : FitsAfter (length c.args.prefix.now.items) (walk (views c.deref-place-items.result.now)) =
-    subst (FitsAfter (length c.args.prefix.now.items)) (is ∙ ap (λ (z : List Place). walk (views z)) (sym items)) c.requires.fits in
-    let lawful : AllByRecursion IsPlace (views c.deref-place-items.result.now) = subst (λ (z : List Place). AllByRecursion IsPlace (views z)) (sym items) (layer_lawful 0 _ (border_layer _ _ c.self.invariant c.in-Border.is)) in (
-      omega (arith, here, whole, same, c.decreases),
-      (
-        subst (λ (z : Place). IsPlace (view_of z)) (sym c.place-item.is) (view_lawful _ _ c.place-item.result lawful c.loop-place-test.true),
-        (
-          subst (λ (k : ℕ). FitsAfter k (pairs_at (view_of c.place-item.result))) (sym (ap (λ (z : List ℕ). length z) c.loop-place.invariant.prefix))
-              (subst (λ (z : Place). FitsAfter (length c.args.prefix.now.items) (pairs_at (view_of z))) (sym c.place-item.is) (fits_view _ _ _ c.place-item.result fits c.loop-place-test.true)),
-          c.loop-place.invariant.few,
-        ),
-      ),
-    )
+    let x = place_in _ _ _ _ _ _ _ _ c.self.view_is c.self.invariant c.in-Border.is c.deref-place-items.ensures.value c.place-item.is c.loop-place-test.true c.loop-place.invariant.prefix c.requires.fits in
+    (omega (arith, x.light, c.decreases), (x.lawful, (x.fits, c.loop-place.invariant.few)))
 
 pub Node::collect-loop-place-preserved : goal.Node::collect-loop-place-preserved
 Node::collect-loop-place-preserved t c =
@@ -99,35 +79,14 @@ Node::collect-collect-requires t c =
     let between : length c.in-Interior.separators.value.items + 1 ≡ length ks = h.between in
     let bound : at ≤ length c.in-Interior.separators.value.items = subst (λ (z : List ℕ). at ≤ length z) (c.as_slice.ensures.value ∙ ap (λ (z : ArrayVec ℕ 15 (Unit {0})). z.items) c.deref.ensures) c.child_at-at.ensures.bound in
     let inside : at < length ks = omega (arith, between, bound) in
-    let lighter : weight (walk (places c.index.result.now)) < all_weight ks = subst (λ (z : NodeView). weight (walk (places z)) < all_weight ks) (sym c.index.ensures) (kid_lighter ks at c.index.result.now h.two h.nodes inside) in
-    let is : walk (places c.args.self.now) ≡ walk (joined (borders_of ks)) = interior_walk _ _ _ _ c.self.view_is c.in-Interior.is in
-    let whole = ap weight is in (
-      omega (arith, lighter, whole, c.decreases),
-      (subst (λ (z : NodeView). FitsAfter (length c.args.prefix.now.items) (walk (places z))) (sym c.index.ensures) (fits_kid _ ks at c.index.result.now (subst (FitsAfter (length c.args.prefix.now.items)) is c.requires.fits) inside), c.requires.few),
-    )
+    let x = child_in _ _ _ _ _ _ _ _ _ c.self.view_is c.self.invariant c.in-Interior.is refl c.index.ensures inside refl c.requires.fits in
+    (omega (arith, x.lighter, c.decreases), (x.fits, c.requires.few))
 
 pub Node::collect-collect-requires-in-loop-child : goal.Node::collect-collect-requires-in-loop-child
 Node::collect-collect-requires-in-loop-child t c =
-    let h = interior_is _ _ _ c.self.invariant c.in-Interior.is in
-    let ks = c.in-Interior.children.items in
-    let items : c.deref-in-Interior.result.now ≡ ks = c.deref-in-Interior.ensures.value in
-    let two : 2 ≤ length c.deref-in-Interior.result.now = subst (λ (z : List NodeView). 2 ≤ length z) (sym items) h.two in
-    let nodes : AllByRecursion IsNode c.deref-in-Interior.result.now = subst (AllByRecursion IsNode) (sym items) h.nodes in
-    let is : walk (places c.args.self.now) ≡ walk (joined (borders_of ks)) = interior_walk _ _ _ _ c.self.view_is c.in-Interior.is in
-    let whole = ap weight is in
-    let same = ap all_weight items in
     let at = later_kid c.deref-in-Interior.result.now (c.child_at-at.result + 1) c.loop-child.child-index c.child-item.result c.loop-child-test.true c.child-item.is in
-    let lighter : weight (walk (places c.child-item.result)) < all_weight c.deref-in-Interior.result.now =
-    subst (λ (z : NodeView). weight (walk (places z)) < all_weight c.deref-in-Interior.result.now) (sym at.1) (kid_lighter c.deref-in-Interior.result.now (c.child_at-at.result + 1 + c.loop-child.child-index) c.child-item.result two nodes at.0) in
-    let fits : FitsAfter (length c.args.prefix.now.items) (walk (joined (borders_of c.deref-in-Interior.result.now))) =
-    subst (FitsAfter (length c.args.prefix.now.items)) (is ∙ ap (λ (z : List NodeView). walk (joined (borders_of z))) (sym items)) c.requires.fits in (
-      omega (arith, lighter, whole, same, c.decreases),
-      (
-        subst (λ (k : ℕ). FitsAfter k (walk (places c.child-item.result))) (sym (ap (λ (z : List ℕ). length z) c.loop-child.invariant.prefix))
-            (subst (λ (z : NodeView). FitsAfter (length c.args.prefix.now.items) (walk (places z))) (sym at.1) (fits_kid _ c.deref-in-Interior.result.now (c.child_at-at.result + 1 + c.loop-child.child-index) c.child-item.result fits at.0)),
-        c.loop-child.invariant.few,
-      ),
-    )
+    let x = child_in _ _ _ _ _ _ _ _ _ c.self.view_is c.self.invariant c.in-Interior.is c.deref-in-Interior.ensures.value at.1 at.0 c.loop-child.invariant.prefix c.requires.fits in
+    (omega (arith, x.lighter, c.decreases), (x.fits, c.loop-child.invariant.few))
 
 pub Node::collect-loop-child-preserved : goal.Node::collect-loop-child-preserved
 Node::collect-loop-child-preserved t c =
