@@ -18,19 +18,35 @@ pub fn words_on<R: Abort + AllocGlobal>(rt: &R, line: &str, folder: &str) -> Vec
     words
 }
 
-/// How a run ends: its status, output and error output. A text that ends in `..` stands for all that begin so.
-pub type Ends<'a> = (u8, &'a str, &'a str);
+/// How a run ends: its status, and its output where that is 0, else its error output. The other of the two is empty. A text that
+/// ends in `..` stands for all that begin so.
+pub type Ends = (u8, &'static str);
+
+/// A line, and how the run on its words ends.
+pub type Run = (&'static str, Ends);
 
 /// An output and an error output that work.
 pub const BOTH_WORK: [Device; 2] = [Device::Works, Device::Works];
 
-/// The run on these words, with the folder for the letter F and on these outputs, ends so.
-pub fn assert_run<R>(rt: &R, folder: &str, line: &str, [out, err]: [Device; 2], expected: Ends)
+/// The runs on these lines, with the folder for the letter F and on these outputs, end so.
+pub fn assert_runs<R>(rt: &R, folder: &str, devices: [Device; 2], runs: &[Run])
+where
+    R: Abort + AllocGlobal + Clone + Drop + Files + Threads + Sync,
+    R::File: Send,
+{
+    for (line, expected) in runs {
+        assert_run(rt, folder, line, devices, *expected);
+    }
+}
+
+/// Likewise, of one line.
+pub fn assert_run<R>(rt: &R, folder: &str, line: &str, devices: [Device; 2], expected: Ends)
 where
     R: Abort + AllocGlobal + Clone + Drop + Files + Threads + Sync,
     R::File: Send,
 {
     let words = words_on(rt, line, folder);
+    let [out, err] = devices;
     let mut out = Output::new(rt.alloc(), out);
     let mut err = Output::new(rt.alloc(), err);
     let status = if line.starts_with("mtdump") {
@@ -38,26 +54,32 @@ where
     } else {
         run_words(rt, &words, &mut out, &mut err)
     };
-    assert_ends(rt, line, (status, &out.text, &err.text), expected);
+    let case = format!(in rt.alloc(); "{line} ({folder}, {devices:?})").expect(rt, "memory");
+    assert_ends(rt, case.as_str(), (status, &out.text, &err.text), expected);
 }
 
-/// The run on this line ended as it was to.
+/// The run of this case ended as it was to.
 fn assert_ends<R: Abort>(
     rt: &R,
-    line: &str,
+    case: &str,
     (status, out, err): (u8, &[u8], &[u8]),
-    (expected, output, errors): Ends,
+    (expected, text): Ends,
 ) {
-    assert_eq!(rt; status, expected, "{line}");
-    assert_text(rt, line, out, output);
-    assert_text(rt, line, err, errors);
+    assert_eq!(rt; status, expected, "{case}");
+    let (output, errors) = if expected == 0 {
+        (text, "")
+    } else {
+        ("", text)
+    };
+    assert_text(rt, case, out, output);
+    assert_text(rt, case, err, errors);
 }
 
 /// The text is as it is to be.
-fn assert_text<R: Abort>(rt: &R, line: &str, found: &[u8], expected: &str) {
+fn assert_text<R: Abort>(rt: &R, case: &str, found: &[u8], expected: &str) {
     match expected.strip_suffix("..") {
-        Some(beginning) => assert!(rt; found.starts_with(beginning.as_bytes()), "{line}"),
-        None => assert_bytes(rt, line, found, expected.as_bytes()),
+        Some(beginning) => assert!(rt; found.starts_with(beginning.as_bytes()), "{case}"),
+        None => assert_bytes(rt, case, found, expected.as_bytes()),
     }
 }
 
@@ -101,33 +123,31 @@ fn assert_taken<R: Abort + AllocGlobal>(rt: &R, line: &str, taken: &str) {
 }
 
 /// Lines that are not taken, and how the run ends.
-const UNTAKEN: &[(&str, Ends<'static>)] = &[
-    ("mtrecover", (2, "", "Recovers the store..")),
+const UNTAKEN: &[Run] = &[
+    ("mtrecover", (2, "Recovers the store..")),
     (
         "mtrecover keep F",
-        (2, "", "error: unrecognized subcommand 'keep'\n.."),
+        (2, "error: unrecognized subcommand 'keep'\n.."),
     ),
     (
         "mtrecover report",
         (
             2,
-            "",
             "error: the following required arguments were not provided:\n  <DIR>\n..",
         ),
     ),
     (
         "mtrecover report F --all",
-        (2, "", "error: unexpected argument '--all' found\n.."),
+        (2, "error: unexpected argument '--all' found\n.."),
     ),
     (
         "mtrecover --workers 2 report F",
-        (2, "", "error: unexpected argument '--workers' found\n.."),
+        (2, "error: unexpected argument '--workers' found\n.."),
     ),
     (
         "mtrecover report F --workers 0",
         (
             2,
-            "",
             "error: invalid value '0' for '--workers <N>': 0 is not in 1..=64\n..",
         ),
     ),
@@ -135,7 +155,6 @@ const UNTAKEN: &[(&str, Ends<'static>)] = &[
         "mtrecover report F --workers 65",
         (
             2,
-            "",
             "error: invalid value '65' for '--workers <N>': 65 is not in 1..=64\n..",
         ),
     ),
@@ -143,7 +162,6 @@ const UNTAKEN: &[(&str, Ends<'static>)] = &[
         "mtrecover dump F --pieces 0",
         (
             2,
-            "",
             "error: invalid value '0' for '--pieces <P>': 0 is not in 1..=4096\n..",
         ),
     ),
@@ -151,7 +169,6 @@ const UNTAKEN: &[(&str, Ends<'static>)] = &[
         "mtrecover dump F --pieces 4097",
         (
             2,
-            "",
             "error: invalid value '4097' for '--pieces <P>': 4097 is not in 1..=4096\n..",
         ),
     ),
@@ -159,57 +176,43 @@ const UNTAKEN: &[(&str, Ends<'static>)] = &[
         "mtrecover range F 6 4294967296",
         (
             2,
-            "",
             "error: invalid value '4294967296' for '<COUNT>': 4294967296 is not in 0..=4294967295\n..",
         ),
     ),
     (
         "mtrecover range F 6 -1",
-        (2, "", "error: unexpected argument '-1' found\n.."),
+        (2, "error: unexpected argument '-1' found\n.."),
     ),
-    ("mtrecover get F 6", (2, "", "mtrecover: bad key\n")),
-    ("mtrecover range F 6g 1", (2, "", "mtrecover: bad key\n")),
-    ("mtrecover --help", (0, "Recovers the store..", "")),
-    ("mtrecover help range", (0, "Prints the first pairs..", "")),
+    ("mtrecover get F 6", (2, "mtrecover: bad key\n")),
+    ("mtrecover range F 6g 1", (2, "mtrecover: bad key\n")),
+    ("mtrecover --help", (0, "Recovers the store..")),
+    ("mtrecover help range", (0, "Prints the first pairs..")),
     (
         "mtrecover get --help",
         (
             0,
             "Prints the pair of a key, or `absent`\n\nUsage: mtrecover get [OPTIONS] <DIR> <KEY>\n..",
-            "",
         ),
     ),
-    ("mtrecover --version", (0, "mtrecover 1.0\n", "")),
+    ("mtrecover --version", (0, "mtrecover 1.0\n")),
 ];
 
 #[test]
 fn prints_help_and_the_faults_of_words(rt: HostRuntime) {
-    for (line, expected) in UNTAKEN {
-        assert_run(&rt, "F", line, BOTH_WORK, *expected);
-    }
+    assert_runs(&rt, "F", BOTH_WORK, UNTAKEN);
 }
 
 /// What begins a line, a text that stands so often behind it, and how the run ends.
-const LONG: &[(&str, &str, usize, Ends<'static>)] = &[
+const LONG: &[(&str, &str, usize, Ends)] = &[
     (
         "mtrecover get F ",
         "6b",
         1024,
-        (3, "", "mtrecover: cannot list F\n"),
+        (3, "mtrecover: cannot list F\n"),
     ),
-    (
-        "mtrecover get F ",
-        "6b",
-        1025,
-        (2, "", "mtrecover: bad key\n"),
-    ),
-    (
-        "mtdump",
-        " none",
-        512,
-        (3, "", "mtdump: cannot open none\n"),
-    ),
-    ("mtdump", " none", 513, (3, "", "mtdump: too many files\n")),
+    ("mtrecover get F ", "6b", 1025, (2, "mtrecover: bad key\n")),
+    ("mtdump", " none", 512, (3, "mtdump: cannot open none\n")),
+    ("mtdump", " none", 513, (3, "mtdump: too many files\n")),
 ];
 
 #[test]

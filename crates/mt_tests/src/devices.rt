@@ -3,7 +3,7 @@ use std::alloc::Global;
 use std::io::{self, ErrorKind, Write};
 
 /// What becomes of what is written.
-#[derive(Clone, Copy)]
+#[derive(Clone, Copy, Debug)]
 pub enum Device {
     /// It is kept.
     Works,

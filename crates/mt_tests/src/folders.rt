@@ -1,5 +1,5 @@
 //! Runs of both programs on files and folders.
-use crate::commands::{BOTH_WORK, Ends, assert_run};
+use crate::commands::{BOTH_WORK, Ends, Run, assert_run, assert_runs};
 use crate::devices::Device::{self, Full, Unflushed, Works};
 use crate::logs::{HEADER, LATE_HEADER, LOG_A, LOG_B, PART};
 use std::env::{Env, temp_dir};
@@ -47,108 +47,57 @@ pub fn remove<R: Abort + Alloc + Files>(rt: &R, folder: &str) {
     fs::remove_dir_all(rt, folder).expect(rt, "the folder");
 }
 
-/// Runs of both programs, with the folder for the letter F, on outputs that work or fail.
-const RUNS: &[(&str, [Device; 2], Ends<'static>)] = &[
-    ("mtrecover get F 62", BOTH_WORK, (0, "62: 0=79\n", "")),
-    ("mtrecover get F 63", BOTH_WORK, (0, "absent\n", "")),
-    (
-        "mtrecover get F  --workers 1",
-        BOTH_WORK,
-        (0, "absent\n", ""),
-    ),
-    (
-        "mtrecover get F 6",
-        BOTH_WORK,
-        (2, "", "mtrecover: bad key\n"),
-    ),
-    ("mtrecover range F 61 1", BOTH_WORK, (0, "61: 0=78\n", "")),
-    (
-        "mtrecover range F  9",
-        BOTH_WORK,
-        (0, "61: 0=78\n62: 0=79\n", ""),
-    ),
-    (
-        "mtrecover range F 6100 9 --workers 8",
-        BOTH_WORK,
-        (0, "62: 0=79\n", ""),
-    ),
-    ("mtrecover range F 62 0", BOTH_WORK, (0, "", "")),
-    (
-        "mtrecover dump F --pieces 1",
-        BOTH_WORK,
-        (0, "61: 0=78\n62: 0=79\n", ""),
-    ),
-    (
-        "mtrecover dump no-such-folder",
-        BOTH_WORK,
-        (3, "", "mtrecover: cannot list no-such-folder\n"),
-    ),
-    (
-        "mtrecover get no-such-folder 6",
-        BOTH_WORK,
-        (2, "", "mtrecover: bad key\n"),
-    ),
+/// Runs of both programs, with the folder for the letter F, on outputs that work.
+const ON_BOTH: &[Run] = &[
+    ("mtrecover get F 62", (0, "62: 0=79\n")),
+    ("mtrecover get F 63", (0, "absent\n")),
+    ("mtrecover get F  --workers 1", (0, "absent\n")),
+    ("mtrecover get F 6", (2, "mtrecover: bad key\n")),
+    ("mtrecover range F 61 1", (0, "61: 0=78\n")),
+    ("mtrecover range F  9", (0, "61: 0=78\n62: 0=79\n")),
+    ("mtrecover range F 6100 9 --workers 8", (0, "62: 0=79\n")),
+    ("mtrecover range F 62 0", (0, "")),
+    ("mtrecover dump F --pieces 1", (0, "61: 0=78\n62: 0=79\n")),
+    ("mtrecover dump none", (3, "mtrecover: cannot list none\n")),
+    ("mtrecover get none 6", (2, "mtrecover: bad key\n")),
     // Each file is read before the next is opened, and all before any is recovered.
-    ("mtdump", BOTH_WORK, (2, "", "mtdump: no files\n")),
-    (
-        "mtdump F no-such-file.mtl",
-        BOTH_WORK,
-        (1, "", "mtdump: log 0: source failed\n"),
-    ),
-    (
-        "mtdump F/c.txt no-such-file.mtl",
-        BOTH_WORK,
-        (3, "", "mtdump: cannot open no-such-file.mtl\n"),
-    ),
-    (
-        "mtdump F/c.txt --help",
-        BOTH_WORK,
-        (3, "", "mtdump: cannot open --help\n"),
-    ),
-    (
-        "mtdump F/c.txt ",
-        BOTH_WORK,
-        (3, "", "mtdump: cannot open \n"),
-    ),
-    (
-        "mtdump F/a.mtl F/c.txt",
-        BOTH_WORK,
-        (1, "", "mtdump: log 1: header\n"),
-    ),
-    // Outputs that fail, and error outputs.
-    (
-        "mtrecover dump F",
-        [Full, Works],
-        (3, "", "mtrecover: output failed\n"),
-    ),
-    (
-        "mtrecover dump F",
-        [Unflushed, Works],
-        (3, "", "mtrecover: output failed\n"),
-    ),
-    // No write of no bytes is made.
-    ("mtrecover range F 62 0", [Full, Works], (0, "", "")),
-    ("mtdump F/d.txt", [Full, Works], (0, "", "")),
-    (
-        "mtdump F/a.mtl",
-        [Full, Works],
-        (3, "", "mtdump: output failed\n"),
-    ),
-    (
-        "mtdump F/a.mtl",
-        [Unflushed, Works],
-        (3, "", "mtdump: output failed\n"),
-    ),
-    (
-        "mtrecover --version",
-        [Full, Works],
-        (3, "", "mtrecover: output failed\n"),
-    ),
-    // A line that cannot be written changes no status.
-    ("mtrecover --help", [Full, Full], (3, "", "")),
-    ("mtrecover get F 6", [Full, Full], (2, "", "")),
-    ("mtrecover", [Full, Full], (2, "", "")),
-    ("mtdump", [Full, Full], (2, "", "")),
+    ("mtdump", (2, "mtdump: no files\n")),
+    ("mtdump F none", (1, "mtdump: log 0: source failed\n")),
+    ("mtdump F/c.txt none", (3, "mtdump: cannot open none\n")),
+    ("mtdump F/c.txt --help", (3, "mtdump: cannot open --help\n")),
+    ("mtdump F/c.txt ", (3, "mtdump: cannot open \n")),
+    ("mtdump F/a.mtl F/c.txt", (1, "mtdump: log 1: header\n")),
+];
+
+/// On a full output. No write of no bytes is made.
+const ON_FULL: &[Run] = &[
+    ("mtrecover dump F", (3, "mtrecover: output failed\n")),
+    ("mtrecover --version", (3, "mtrecover: output failed\n")),
+    ("mtrecover range F 62 0", (0, "")),
+    ("mtdump F/a.mtl", (3, "mtdump: output failed\n")),
+    ("mtdump F/d.txt", (0, "")),
+];
+
+/// On an output that is full once its buffer is written.
+const ON_UNFLUSHED: &[Run] = &[
+    ("mtrecover dump F", (3, "mtrecover: output failed\n")),
+    ("mtdump F/a.mtl", (3, "mtdump: output failed\n")),
+];
+
+/// Where the error output is full, too. A line that cannot be written changes no status.
+const ON_NEITHER: &[Run] = &[
+    ("mtrecover --help", (3, "")),
+    ("mtrecover get F 6", (2, "")),
+    ("mtrecover", (2, "")),
+    ("mtdump", (2, "")),
+];
+
+/// The runs by their output and error output.
+const RUNS: &[([Device; 2], &[Run])] = &[
+    (BOTH_WORK, ON_BOTH),
+    ([Full, Works], ON_FULL),
+    ([Unflushed, Works], ON_UNFLUSHED),
+    ([Full, Full], ON_NEITHER),
 ];
 
 #[test]
@@ -161,8 +110,8 @@ fn answers_queries_of_a_folder(rt: HostRuntime) {
         ("d.txt", HEADER),
     ];
     let folder = folder_with(&rt, id, "queries", &files);
-    for (line, devices, expected) in RUNS {
-        assert_run(&rt, folder.as_str(), line, *devices, *expected);
+    for (devices, runs) in RUNS {
+        assert_runs(&rt, folder.as_str(), *devices, runs);
     }
     remove(&rt, folder.as_str());
 }
@@ -189,40 +138,40 @@ const REPORT: &str =
      nameless=0,4\nentries=1\nsurvivors=2\nearly=1\nlate=1\nkeys=1\nlayers=1\n";
 
 /// Folders with their entries, and what a report of each says.
-const FOLDERS: &[(&str, &[(&str, &[u8])], Ends<'static>)] = &[
-    ("report", REPORTED, (0, REPORT, "")),
-    ("empty", &[], (1, "", "mtrecover: no logs\n")),
-    ("parts", &[("a.mtc", PART)], (1, "", "mtrecover: no logs\n")),
+const FOLDERS: &[(&str, &[(&str, &[u8])], Ends)] = &[
+    ("report", REPORTED, (0, REPORT)),
+    ("empty", &[], (1, "mtrecover: no logs\n")),
+    ("parts", &[("a.mtc", PART)], (1, "mtrecover: no logs\n")),
     (
         "header",
         &[("a.mtl", LOG_A), ("b.mtl", b"\0")],
-        (1, "", "mtrecover: log 1: header\n"),
+        (1, "mtrecover: log 1: header\n"),
     ),
     (
         "gap",
         &[("a.mtl", LATE_HEADER), ("b.mtl", LOG_A)],
-        (1, "", "mtrecover: log 0: gap\n"),
+        (1, "mtrecover: log 0: gap\n"),
     ),
     (
         "folder-log",
         &[("a.mtl", LOG_A), ("x.mtl", b"folder")],
-        (1, "", "mtrecover: log 1: source failed\n"),
+        (1, "mtrecover: log 1: source failed\n"),
     ),
     (
         "folder-part",
         &[("a.mtl", LOG_A), ("x.mtc", b"folder")],
-        (1, "", "mtrecover: part 0: source failed\n"),
+        (1, "mtrecover: part 0: source failed\n"),
     ),
     // All files are opened before any is read.
     (
         "dead-log",
         &[("a.mtl", b"\0"), ("dead.mtl", b"dead link")],
-        (3, "", "mtrecover: cannot open dead.mtl\n"),
+        (3, "mtrecover: cannot open dead.mtl\n"),
     ),
     (
         "dead-part",
         &[("a.mtl", b"\0"), ("dead.mtc", b"dead link")],
-        (3, "", "mtrecover: cannot open dead.mtc\n"),
+        (3, "mtrecover: cannot open dead.mtc\n"),
     ),
 ];
 
@@ -238,9 +187,9 @@ fn tells_what_was_found_and_what_is_wrong(rt: HostRuntime) {
 }
 
 /// Sizes of a file, and what is said of it. It has zeros alone: once such a file is read, its header is a fault.
-const SIZES: &[(u64, Ends<'static>)] = &[
-    (1_073_741_824, (1, "", "mtdump: log 0: header\n")),
-    (1_073_741_825, (1, "", "mtdump: log 0: source failed\n")),
+const SIZES: &[(u64, Ends)] = &[
+    (1_073_741_824, (1, "mtdump: log 0: header\n")),
+    (1_073_741_825, (1, "mtdump: log 0: source failed\n")),
 ];
 
 #[test]

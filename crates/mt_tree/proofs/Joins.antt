@@ -191,7 +191,6 @@ slice_at-lt (link s w) h = h.0
 pub record Merging (p q : DraftPlace) (upper lower joined : List Pair) : Type 0 where
   pub meet : Meet (draft_view p) (draft_view q)
   pub upper_is : put_before (slice_bytes p.slice) upper ≡ pairs_at (draft_view p)
-  pub lower_is : put_before (slice_bytes q.slice) lower ≡ pairs_at (draft_view q)
   pub upper_some : 0 < length upper
   pub lower_some : 0 < length lower
   pub upper_keys : HasNoEmptyKey upper

@@ -72,7 +72,6 @@ meet-returns-clause-lawful t c =
           let m : Merging c.in-Some.last w.remove-first.result (layer_walk w.in_ok-upper.upper) (layer_walk w.in_ok-lower.lower) (layer_walk w.in_ok-joined.joined) = record {
             meet = meet;
             upper_is = w.in_ok-upper.ensures.pairs;
-            lower_is = w.in_ok-lower.ensures.pairs;
             upper_some = w.in_ok-upper.ensures.some;
             lower_some = w.in_ok-lower.ensures.some;
             upper_keys = w.in_ok-upper.ensures.no_empty_key;
