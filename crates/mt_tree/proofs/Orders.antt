@@ -85,20 +85,23 @@ first_edge p ys s m below h e = record {
 
 -- ---- what the edges decide
 
-below_ranks : (a b : ℕ) (v w : List Pair) → a < b → HasBytes v → HasBytes w → AllByRecursion (λ p. key_rank p.0 ≤ a) v → AllByRecursion (λ q. b ≤ key_rank q.0) w → AllKeysBelow v w
-below_ranks a b [] w l hv hw rv rw' = tt
-below_ranks a b (p ∷ v) w l hv hw rv rw' = (one w hw rw', below_ranks a b v w l hv.1 hw rv.1 rw')
+below_ranks : (rank : ℕ) (v w : List Pair) → HasBytes v → HasBytes w → AllByRecursion (λ p. key_rank p.0 < rank) v → AllByRecursion (λ q. rank ≤ key_rank q.0) w → AllKeysBelow v w
+below_ranks rank [] w hv hw low high = tt
+below_ranks rank (p ∷ v) w hv hw low high = (one w hw high, below_ranks rank v w hv.1 hw low.1 high)
   where
-    one : (w : List Pair) → HasBytes w → AllByRecursion (λ q. b ≤ key_rank q.0) w → AllByRecursion (λ q. IsBelow p.0 q.0) w
+    one : (w : List Pair) → HasBytes w → AllByRecursion (λ q. rank ≤ key_rank q.0) w → AllByRecursion (λ q. IsBelow p.0 q.0) w
     one [] h r = tt
     one (q ∷ w) h r =
-        let low : key_rank p.0 ≤ a = rv.0 in
-        let high : b ≤ key_rank q.0 = r.0 in
+        let below : key_rank p.0 < rank = low.0 in
+        let from : rank ≤ key_rank q.0 = r.0 in
         (less_of_ranks p.0 q.0 hv.0 h.0 (omega arith), one w h.1 r.1)
 
+-- one rank is lower, or both are that of the keys longer than 8 of one slice
+abbrev CanBeBelow : ℕ → ℕ → Type 0
+CanBeBelow a b = (a < b) ⊎ ((a ≡ b) × ((n : ℕ) (s : ℕ) → a ≡ s * 10 + n → n ≤ 9 → n ≡ 9))
+
 -- a pair of either side's edge
-first_pair_ranks : (a b : ℕ) (v w : List Pair) → 0 < length v → 0 < length w → HasBytes v → HasBytes w → AllByRecursion (λ p. key_rank p.0 ≡ a) v → AllByRecursion (λ q. key_rank q.0 ≡ b) w → AllKeysBelow v w
-    → (a < b) ⊎ ((a ≡ b) × ((n : ℕ) (s : ℕ) → a ≡ s * 10 + n → n ≤ 9 → n ≡ 9))
+first_pair_ranks : (a b : ℕ) (v w : List Pair) → 0 < length v → 0 < length w → HasBytes v → HasBytes w → AllByRecursion (λ p. key_rank p.0 ≡ a) v → AllByRecursion (λ q. key_rank q.0 ≡ b) w → AllKeysBelow v w → CanBeBelow a b
 first_pair_ranks a b [] w sv sw hv hw rv rw' below = absurd (omega arith)
 first_pair_ranks a b (p ∷ v) [] sv sw hv hw rv rw' below = absurd (omega arith)
 first_pair_ranks a b (p ∷ v) (q ∷ w) sv sw hv hw rv rw' below =
@@ -106,7 +109,7 @@ first_pair_ranks a b (p ∷ v) (q ∷ w) sv sw hv hw rv rw' below =
     let rb : key_rank q.0 ≡ b = rw'.0 in
     by ra rb (ranks_of_less p.0 q.0 hv.0 hw.0 below.0.0)
   where
-    by : key_rank p.0 ≡ a → key_rank q.0 ≡ b → (key_rank p.0 < key_rank q.0) ⊎ IsBelowAt p.0 q.0 → (a < b) ⊎ ((a ≡ b) × ((n : ℕ) (s : ℕ) → a ≡ s * 10 + n → n ≤ 9 → n ≡ 9))
+    by : key_rank p.0 ≡ a → key_rank q.0 ≡ b → (key_rank p.0 < key_rank q.0) ⊎ IsBelowAt p.0 q.0 → CanBeBelow a b
     by ra rb (inl l) = inl (omega arith)
     by ra rb (inr h) =
         let same : key_rank p.0 ≡ key_rank q.0 = h.same_rank in
@@ -126,8 +129,8 @@ module _ (v w b d : List Pair) (s m t n : ℕ) (f : LastEdge v s m b) (g : First
       (all_weaker (λ p. key_rank p.0 ≡ t * 10 + n) (λ p. t * 10 + n ≤ key_rank p.0) (λ p l. omega arith) g.top g.edge.ranks)
       (all_weaker (λ p. t * 10 + n < key_rank p.0) (λ p. t * 10 + n ≤ key_rank p.0) (λ p l. omega arith) g.after g.higher))
 
-  pub edges_less : s * 10 + m < t * 10 + n → AllKeysBelow v w
-  edges_less l = below_ranks (s * 10 + m) (t * 10 + n) v w l f.edge.bytes g.edge.bytes v_low w_high
+  edges_less : s * 10 + m < t * 10 + n → AllKeysBelow v w
+  edges_less l = below_ranks (t * 10 + n) v w f.edge.bytes g.edge.bytes (all_weaker (λ p. key_rank p.0 ≤ s * 10 + m) (λ p. key_rank p.0 < t * 10 + n) (λ p le. omega arith) v v_low) w_high
 
   top_bytes : HasBytes f.top
   top_bytes = all_back _ f.before f.top (subst HasBytes f.is f.edge.bytes)
@@ -141,37 +144,27 @@ module _ (v w b d : List Pair) (s m t n : ℕ) (f : LastEdge v s m b) (g : First
       (λ p k. all_front (λ q. IsBelow p.0 q.0) g.top g.after (subst (AllByRecursion (λ q. IsBelow p.0 q.0)) g.is k)) f.top
       (all_back _ f.before f.top (subst (λ z. AllKeysBelow z w) f.is h))
 
-  pub edges_order : AllKeysBelow v w → (s * 10 + m < t * 10 + n) ⊎ ((s * 10 + m ≡ t * 10 + n) × ((k : ℕ) (r : ℕ) → s * 10 + m ≡ r * 10 + k → k ≤ 9 → k ≡ 9))
+  edges_order : AllKeysBelow v w → CanBeBelow (s * 10 + m) (t * 10 + n)
   edges_order h = first_pair_ranks (s * 10 + m) (t * 10 + n) f.top g.top f.edge.some g.edge.some top_bytes top_bytes' f.edge.ranks g.edge.ranks (tops_below h)
 
   -- both longer than 8, and of one slice: what lies below decides
-  pub edges_down : s ≡ t → m ≡ 9 → n ≡ 9 → AllKeysBelow v w → AllKeysBelow b d
+  edges_down : s ≡ t → m ≡ 9 → n ≡ 9 → AllKeysBelow v w → AllKeysBelow b d
   edges_down e k l h =
       below_unprefixed (slice_bytes s) b d
       (subst (λ z. AllKeysBelow (put_before (slice_bytes s) b) z) (sym (ap (λ z. put_before (slice_bytes z) d) e ∙ g.edge.rests l)) (subst (λ z. AllKeysBelow z g.top) (sym (f.edge.rests k)) (tops_below h)))
 
-  pub edges_up : s ≡ t → m ≡ 9 → n ≡ 9 → AllKeysBelow b d → AllKeysBelow v w
+  edges_up : s ≡ t → m ≡ 9 → n ≡ 9 → AllKeysBelow b d → AllKeysBelow v w
   edges_up e k l h =
       subst (λ z. AllKeysBelow z w) (sym f.is) (subst (AllKeysBelow (f.before ++ f.top)) (sym g.is)
       (all_append _ f.before f.top
-      (below_ranks' f.before (g.top ++ g.after) (all_front _ f.before f.top (subst HasBytes f.is f.edge.bytes)) (subst HasBytes g.is g.edge.bytes) f.lower (subst (AllByRecursion (λ p. t * 10 + n ≤ key_rank p.0)) g.is w_high))
+      (below_ranks (t * 10 + n) f.before (g.top ++ g.after) (all_front _ f.before f.top (subst HasBytes f.is f.edge.bytes)) (subst HasBytes g.is g.edge.bytes)
+      (all_weaker (λ p. key_rank p.0 < s * 10 + m) (λ p. key_rank p.0 < t * 10 + n) (λ p lt. omega arith) f.before f.lower) (subst (AllByRecursion (λ p. t * 10 + n ≤ key_rank p.0)) g.is w_high))
       (right_append f.top g.top g.after
       (subst (λ z. AllKeysBelow f.top z) (ap (λ z. put_before (slice_bytes z) d) e ∙ g.edge.rests l) (subst (λ z. AllKeysBelow z (put_before (slice_bytes s) d)) (f.edge.rests k) (below_prefixed (slice_bytes s) b d h)))
-      (below_ranks (s * 10 + m) (suc (t * 10 + n)) f.top g.after (omega arith) top_bytes (all_back _ g.top g.after (subst HasBytes g.is g.edge.bytes))
-      (all_weaker (λ p. key_rank p.0 ≡ s * 10 + m) (λ p. key_rank p.0 ≤ s * 10 + m) (λ p q. omega arith) f.top f.edge.ranks)
+      (below_ranks (suc (t * 10 + n)) f.top g.after top_bytes (all_back _ g.top g.after (subst HasBytes g.is g.edge.bytes))
+      (all_weaker (λ p. key_rank p.0 ≡ s * 10 + m) (λ p. key_rank p.0 < suc (t * 10 + n)) (λ p q. omega arith) f.top f.edge.ranks)
       (all_weaker (λ p. t * 10 + n < key_rank p.0) (λ p. suc (t * 10 + n) ≤ key_rank p.0) (λ p q. omega arith) g.after g.higher)))))
     where
-      below_ranks' : (x y : List Pair) → HasBytes x → HasBytes y → AllByRecursion (λ p. key_rank p.0 < s * 10 + m) x → AllByRecursion (λ p. t * 10 + n ≤ key_rank p.0) y → AllKeysBelow x y
-      below_ranks' [] y hx hy rx ry = tt
-      below_ranks' (p ∷ x) y hx hy rx ry = (one y hy ry, below_ranks' x y hx.1 hy rx.1 ry)
-        where
-          one : (y : List Pair) → HasBytes y → AllByRecursion (λ p. t * 10 + n ≤ key_rank p.0) y → AllByRecursion (λ q. IsBelow p.0 q.0) y
-          one [] h' r = tt
-          one (q ∷ y) h' r =
-              let low : key_rank p.0 < s * 10 + m = rx.0 in
-              let high : t * 10 + n ≤ key_rank q.0 = r.0 in
-              (less_of_ranks p.0 q.0 hx.0 h'.0 (omega arith), one y h'.1 r.1)
-
       right_append : (x y z : List Pair) → AllKeysBelow x y → AllKeysBelow x z → AllKeysBelow x (y ++ z)
       right_append [] y z hy hz = tt
       right_append (p ∷ x) y z hy hz = (all_append _ y z hy.0 hz.0, right_append x y z hy.1 hz.1)
@@ -183,6 +176,34 @@ module _ (v w b d : List Pair) (s m t n : ℕ) (f : LastEdge v s m b) (g : First
       below_prefixed : (c : List ℕ) (x y : List Pair) → AllKeysBelow x y → AllKeysBelow (put_before c x) (put_before c y)
       below_prefixed c [] y h' = tt
       below_prefixed c (p ∷ x) y h' = (one_prefixed c p.0 y h'.0, below_prefixed c x y h'.1)
+
+  pub by_slices : s ≢ t → (s < t → AllKeysBelow v w) × (AllKeysBelow v w → s < t)
+  by_slices other = (λ l. edges_less (let few = f.edge.fits in omega arith), λ h. from (edges_order h))
+    where
+      from : CanBeBelow (s * 10 + m) (t * 10 + n) → s < t
+      from (inl l) = let few = f.edge.fits in let few' = g.edge.fits in let o : s ≢ t = other in omega arith
+      from (inr e) = let few = f.edge.fits in let few' = g.edge.fits in let same : s * 10 + m ≡ t * 10 + n = e.0 in absurd (other (omega arith))
+
+  pub by_lengths : s ≡ t → m ≢ n → (m < n → AllKeysBelow v w) × (AllKeysBelow v w → m < n)
+  by_lengths same other = (λ l. edges_less (omega arith), λ h. from (edges_order h))
+    where
+      from : CanBeBelow (s * 10 + m) (t * 10 + n) → m < n
+      from (inl l) = omega arith
+      from (inr e) = let even : s * 10 + m ≡ t * 10 + n = e.0 in absurd (other (omega arith))
+
+  pub by_short : s ≡ t → m ≡ n → m < 9 → AllKeysBelow v w → ⊥
+  by_short same even few8 h = from (edges_order h)
+    where
+      from : CanBeBelow (s * 10 + m) (t * 10 + n) → ⊥
+      from (inl l) = omega arith
+      from (inr e) = let nine : m ≡ 9 = e.1 m s refl (omega arith) in omega arith
+
+  pub by_below : s ≡ t → m ≡ n → 9 ≤ m → (AllKeysBelow b d → AllKeysBelow v w) × (AllKeysBelow v w → AllKeysBelow b d)
+  by_below same even nine_on =
+      let few = f.edge.fits in
+      let nine : m ≡ 9 = omega arith in
+      let nine' : n ≡ 9 = omega arith in
+      (edges_up same nine nine', edges_down same nine nine')
 
 -- what lies below the last place is lighter
 pub edge_falls : (v b : List Pair) (s m : ℕ) → LastEdge v s m b → m ≡ 9 → weight b < weight v
@@ -212,38 +233,6 @@ pair_first key rest c s m bytes e f g = record { after = []; top = (key, c) ∷ 
 
 pub rest_past : (key : List ℕ) (k m : ℕ) → k ≡ min (length key) 8 → m ≡ min (length key) 9 → m ≡ 9 → take (length key - k) (drop k key) ≡ drop 8 key
 rest_past key k m e f h = let is : k ≡ 8 = omega arith in rw is (rest_is key)
-
-module _ (v w b d : List Pair) (s m t n : ℕ) (f : LastEdge v s m b) (g : FirstEdge w t n d) where
-  order : AllKeysBelow v w → (s * 10 + m < t * 10 + n) ⊎ ((s * 10 + m ≡ t * 10 + n) × ((k : ℕ) (r : ℕ) → s * 10 + m ≡ r * 10 + k → k ≤ 9 → k ≡ 9))
-  order h = edges_order v w b d s m t n f g h
-
-  pub by_slices : s ≢ t → (s < t → AllKeysBelow v w) × (AllKeysBelow v w → s < t)
-  by_slices other = (λ l. edges_less v w b d s m t n f g (let few = f.edge.fits in omega arith), λ h. from (order h))
-    where
-      from : (s * 10 + m < t * 10 + n) ⊎ ((s * 10 + m ≡ t * 10 + n) × ((k : ℕ) (r : ℕ) → s * 10 + m ≡ r * 10 + k → k ≤ 9 → k ≡ 9)) → s < t
-      from (inl l) = let few = f.edge.fits in let few' = g.edge.fits in let o : s ≢ t = other in omega arith
-      from (inr e) = let few = f.edge.fits in let few' = g.edge.fits in let same : s * 10 + m ≡ t * 10 + n = e.0 in absurd (other (omega arith))
-
-  pub by_lengths : s ≡ t → m ≢ n → (m < n → AllKeysBelow v w) × (AllKeysBelow v w → m < n)
-  by_lengths same other = (λ l. edges_less v w b d s m t n f g (omega arith), λ h. from (order h))
-    where
-      from : (s * 10 + m < t * 10 + n) ⊎ ((s * 10 + m ≡ t * 10 + n) × ((k : ℕ) (r : ℕ) → s * 10 + m ≡ r * 10 + k → k ≤ 9 → k ≡ 9)) → m < n
-      from (inl l) = omega arith
-      from (inr e) = let even : s * 10 + m ≡ t * 10 + n = e.0 in absurd (other (omega arith))
-
-  pub by_short : s ≡ t → m ≡ n → m < 9 → AllKeysBelow v w → ⊥
-  by_short same even few8 h = from (order h)
-    where
-      from : (s * 10 + m < t * 10 + n) ⊎ ((s * 10 + m ≡ t * 10 + n) × ((k : ℕ) (r : ℕ) → s * 10 + m ≡ r * 10 + k → k ≤ 9 → k ≡ 9)) → ⊥
-      from (inl l) = omega arith
-      from (inr e) = let nine : m ≡ 9 = e.1 m s refl (omega arith) in omega arith
-
-  pub by_below : s ≡ t → m ≡ n → 9 ≤ m → (AllKeysBelow b d → AllKeysBelow v w) × (AllKeysBelow v w → AllKeysBelow b d)
-  by_below same even nine_on =
-      let few = f.edge.fits in
-      let nine : m ≡ 9 = omega arith in
-      let nine' : n ≡ 9 = omega arith in
-      (edges_up v w b d s m t n f g same nine nine', edges_down v w b d s m t n f g same nine nine')
 
 -- ---- the ends of a stored layer
 last_front : {X : Type 0} (xs : List X) (x : X) (i : ℕ) → i + 1 ≡ length xs → Some x ≡ slice_get xs i → (front : List X) × (xs ≡ front ++ x ∷ [])
