@@ -214,12 +214,6 @@ carried_columns true whole bytes = refl
 carried_columns false true bytes = refl
 carried_columns false false bytes = refl
 
--- a change clears its key if it is a remove or a whole
-pub resets : (remove whole : Bool) (bytes : List ℕ) → IsTrue (remove || whole) ↔ IsReset (kind_from remove whole bytes)
-resets true whole bytes = (λ _. tt, λ _. refl)
-resets false true bytes = (λ _. tt, λ _. refl)
-resets false false bytes = (λ t. absurd (false≢true t), λ r. absurd r)
-
 -- ---- columns, one after the other
 
 -- the columns are the one at the front and those behind it

@@ -78,9 +78,6 @@ pub record IsTextIn {R : Type 0} (listed : R → List Logged) (taken : List Logg
 abbrev pub IsTextAfter : List Logged → List ℕ → LogText (Vec Logged Global) → Type 0
 IsTextAfter taken bytes text = IsTextIn (λ records. records.items) taken bytes text
 
-abbrev pub Shows : LogText (Vec Logged Global) → LogReading → Type 0
-Shows text log = ShowsIn (λ records. records.items) [] text log
-
 -- the text of the log that the bytes are
 abbrev pub IsTextOf : List ℕ → LogText (Vec Logged Global) → Type 0
 IsTextOf bytes text = IsTextAfter [] bytes text

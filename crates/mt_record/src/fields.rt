@@ -10,10 +10,8 @@ pub fn u16_at(bytes: &[u8]) -> Option<(u16, &[u8])>
     ensures found { IfSome result (λ x. (x.0 < 2 ^ 16) × (bytes.now ≡ big_bytes 2 x.0 ++ x.1.now)) }
     ensures none { IfNone result (length bytes.now < 2) }
 {
-    if bytes.len() < 2 {
-        return None;
-    }
-    Some((BigEndian::read_u16(bytes), &bytes[2..]))
+    let rest = bytes.get(2..)?;
+    Some((BigEndian::read_u16(bytes), rest))
 }
 
 /// A number of four bytes.
@@ -21,10 +19,8 @@ pub fn u32_at(bytes: &[u8]) -> Option<(u32, &[u8])>
     ensures found { IfSome result (λ x. (x.0 < 2 ^ 32) × (bytes.now ≡ big_bytes 4 x.0 ++ x.1.now)) }
     ensures none { IfNone result (length bytes.now < 4) }
 {
-    if bytes.len() < 4 {
-        return None;
-    }
-    Some((BigEndian::read_u32(bytes), &bytes[4..]))
+    let rest = bytes.get(4..)?;
+    Some((BigEndian::read_u32(bytes), rest))
 }
 
 /// A number of eight bytes.
@@ -32,10 +28,8 @@ pub fn u64_at(bytes: &[u8]) -> Option<(u64, &[u8])>
     ensures found { IfSome result (λ x. (x.0 < 2 ^ 64) × (bytes.now ≡ big_bytes 8 x.0 ++ x.1.now)) }
     ensures none { IfNone result (length bytes.now < 8) }
 {
-    if bytes.len() < 8 {
-        return None;
-    }
-    Some((BigEndian::read_u64(bytes), &bytes[8..]))
+    let rest = bytes.get(8..)?;
+    Some((BigEndian::read_u64(bytes), rest))
 }
 
 /// Bytes behind their length.
@@ -45,11 +39,8 @@ pub fn counted_at(bytes: &[u8]) -> Option<(&[u8], &[u8])>
     ensures none { IfNone result
         ((text more : List ℕ) → length text < 2 ^ 16 → bytes.now ≡ counted text ++ more → ⊥) }
 {
-    if bytes.len() < 2 {
-        return None;
-    }
-    let length = BigEndian::read_u16(bytes) as usize;
-    bytes[2..].split_at_checked(length)
+    let (length, rest) = u16_at(bytes)?;
+    rest.split_at_checked(length as usize)
 }
 
 /// A column: its number and its bytes.

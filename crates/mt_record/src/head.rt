@@ -6,6 +6,12 @@ use crate::fields::u64_at;
 use crate::magic::format_at;
 use mt_words::Format;
 
+/// The letters that a log begins with.
+pub const LOG: &[u8] = b"MTL";
+
+/// The number of bytes of a header.
+pub const HEADER_BYTES: usize = 12;
+
 /// The header of a log.
 #[derive(Clone, Copy)]
 pub struct Head {
@@ -13,12 +19,6 @@ pub struct Head {
     /// Updates below this timestamp may be missing.
     pub from: u64,
 }
-
-/// The letters that a log begins with.
-pub const LOG: &[u8] = b"MTL";
-
-/// The number of bytes of a header.
-pub const HEADER_BYTES: usize = 12;
 
 /// The header at the front, and the bytes behind it.
 pub fn header_at(bytes: &[u8]) -> Option<(Head, &[u8])>
