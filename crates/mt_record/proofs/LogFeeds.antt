@@ -18,16 +18,17 @@ use Rattle.mt_record.specs.declared.head.Head.{Head}
 use Rattle.mt_record.specs.Heads.{IsHead, head_bytes, HasNoHeader}
 use Rattle.mt_record.specs.Logs.{latest, IsLog, LogReading, IsLast, IsTextIn}
 use Rattle.mt_record.specs.LogFaults.{RestFault, HasFault, IsAnswered}
-use Rattle.mt_record.specs.Fronts.{BeginsAlike}
+use Rattle.mt_record.specs.Fronts.{GoesWithMagic}
 use Rattle.mt_record.specs.Bodies.{IsNext}
 use Rattle.mt_record.specs.Feeding.{Reads, HoldsAll}
 use Rattle.mt_record.specs.LogFeeding.{LogSoFar, ShowsNoHeader, IsShown, ShowsNoFault, AreRead, HasRead, ReadsNoHeader, IsCutHeader, IsLeft, IsLogLeft, HasFailed}
-use Rattle.mt_record.specs.LogPieces.{so_far, ReadsLog, HasReadItems, IsLeftOfItems, StepsLog, ReadsNext, IsNextFault}
+use Rattle.mt_record.specs.LogPieces.{so_far, ReadsLog, HasReadItems, IsLeftOfItems, HasFailedItems, StepsLog, ReadsNext, IsNextFault}
 use Rattle.mt_record.specs.LogLaws.{begins_by}
 use Rattle.mt_record.proofs.Records.{records_push, latest_push, spelled_push, last_is, tells_torn}
 use Rattle.mt_record.proofs.OneReading.{not_both}
 use Rattle.mt_record.proofs.Unique.{framed_apart}
-use Rattle.mt_record.proofs.Beginnings.{head_length, cut_front, part_alike, log_whole}
+use Rattle.mt_record.proofs.Beginnings.{AreBytes, head_length, cut_front, part_alike, alike, shows_none, log_whole, log_magic}
+use Rattle.mt_record.proofs.Feeds.{front_read}
 
 -- ---- what was read, by how far it came
 
@@ -48,24 +49,30 @@ are_read items head taken text rest some reads =
 
 -- ---- the header
 
--- bytes that are no beginning of a header are the fault of the header
-pub header_failed : (items : LogSoFar) (taken : List Logged) (text bytes : List ℕ) → items.head ≡ None → ReadsLog taken items text bytes → ShowsNoHeader bytes
+-- bytes that do not go with the letters of a log are the fault of the header
+pub header_failed : (items : LogSoFar) (taken : List Logged) (text bytes : List ℕ) → items.head ≡ None → ReadsLog taken items text bytes → (GoesWithMagic (codes "MTL") bytes → ⊥)
     → HasFailed faults.Header text (taken ++ items.ready)
-header_failed items taken text bytes none reads shows =
+header_failed items taken text bytes none reads no_magic =
     let nothing = reads_nothing items taken text bytes none reads in
+    let shows = shows_none IsHead head_bytes (codes "MTL") (λ (head : Head). head.format) log_magic bytes no_magic in
     (subst ShowsNoHeader (sym nothing.all) shows, nothing.none)
 
--- bytes that begin as a header does, and hold none, begin one
-pub header_cut : (items : LogSoFar) (bytes : List ℕ) → items.head ≡ None → BeginsAlike IsHead head_bytes bytes → HasNoHeader bytes → IsLogLeft items.head bytes
-header_cut items bytes none alike no_head = subst (λ (o : Option Head). IsLogLeft o bytes) (sym none) (cut_front IsHead head_bytes bytes alike no_head)
+-- bytes that go with them, and hold no header, begin one
+pub header_cut : {R : Type 0} (listed : R → List Logged) (old : LogItems R) (bytes : List ℕ) → old.head ≡ None → GoesWithMagic (codes "MTL") bytes → AreBytes bytes → HasNoHeader bytes
+    → StepsLog listed old old bytes (Ok None)
+header_cut listed old bytes none goes small no_head =
+    let cut = cut_front IsHead head_bytes bytes (alike IsHead head_bytes (codes "MTL") 8 log_whole bytes goes small) no_head in
+    let left = subst (λ (o : Option Head). IsLogLeft o bytes) (sym none) cut in
+    record { next = (refl, λ taken text reads. left); fault = λ taken text reads. tt }
 
 -- a whole header is read
-pub header_read : (items : LogSoFar) (head : Head) (taken : List Logged) (text bytes after : List ℕ) → items.head ≡ None → ReadsLog taken items text bytes → IsHead head
-    → bytes ≡ head_bytes head ++ after → ReadsLog taken (record items { head = Some head }) text after
-header_read items head taken text bytes after none reads is e =
-    let nothing = reads_nothing items taken text bytes none reads in
-    subst (λ (p : List Logged × ℕ × ℕ). AreRead head p.0 p.1 p.2 text after) (λ i. (sym nothing.none i, sym nothing.latest i, sym nothing.whole i))
-    (record { is_head = is; spelled = nothing.all ∙ e; lawful = tt; latest = refl; whole = refl })
+pub header_read : {R : Type 0} (listed : R → List Logged) (old : LogItems R) (head : Head) (bytes : List ℕ) (after : Bor (List ℕ)) → old.head ≡ None → IsHead head
+    → bytes ≡ head_bytes head ++ after.now → StepsLog listed old (record old { head = Some head }) bytes (Ok (Some after))
+header_read listed old head bytes after none is e =
+    front_read (HasReadItems listed) IsLeftOfItems (HasFailedItems listed) old (record old { head = Some head }) (head_bytes head) bytes after e (omega arith) (λ taken text reads.
+    let nothing = reads_nothing (so_far listed old) taken text bytes none reads in
+    subst (λ (p : List Logged × ℕ × ℕ). AreRead head p.0 p.1 p.2 text after.now) (λ i. (sym nothing.none i, sym nothing.latest i, sym nothing.whole i))
+    (record { is_head = is; spelled = nothing.all ∙ e; lawful = tt; latest = refl; whole = refl }))
 
 -- ---- records
 

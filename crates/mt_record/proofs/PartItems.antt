@@ -1,8 +1,9 @@
 -- The header, the entries and the footer of a part, one after the other.
-use Rattle.std.proofs.Common.{◌≡◌, ◌≢◌, inl, inr, ℕ, zero, suc, ◌^◌, ◌<◌, Option, Some, None, List, [], ◌∷◌, ◌++◌, length, refl, sym, ap, ◌∙◌, subst, append_assoc, true, false, arith}
+use Rattle.std.proofs.Common.{◌≡◌, ◌≢◌, inl, inr, ℕ, zero, suc, ◌^◌, ◌<◌, Ok, Option, Some, None, List, [], ◌∷◌, ◌++◌, length, refl, sym, ap, ◌∙◌, subst, append_assoc, true, false, arith}
 use Rattle.std.specs.List.{flat_map}
 use Rattle.std.specs.Option.{is_some}
 use Rattle.std.specs.Prelude.{◌==◌, codes}
+use Rattle.std.specs.Borrow.{Bor}
 use Rattle.std.proofs.lemmas.Bool.{false≢true}
 use Rattle.std.proofs.lemmas.List.{flat_map_more}
 use Rattle.byteorder.specs.Endian.{big_bytes}
@@ -13,16 +14,18 @@ use Rattle.mt_words.specs.Limits.{limits_of, magic}
 use Rattle.mt_words.specs.Changes.{IsEntry}
 use Rattle.mt_words.proofs.Rising.{all_push}
 use Rattle.mt_record.specs.declared.part_text.PartHead.{PartHead}
+use Rattle.mt_record.specs.declared.part_items.PartItems.{PartItems}
 use Rattle.mt_record.specs.Spelling.{framed}
 use Rattle.mt_record.specs.Bodies.{IsNextEntry}
 use Rattle.mt_record.specs.Parts.{part_head_bytes, IsPartHead, entry_spelling, footer_bytes, part_bytes}
 use Rattle.mt_record.specs.PartFaults.{BeginsPart, HasNoPartHeader}
 use Rattle.mt_record.specs.PartFeeding.{ShowsNoPartHeader, ShowsNoEntry, ShowsNoPart, ShowsBroken, PartSoFar, ReadsNothing, ReadsPart, ReadsUpTo, IsPartLeft}
-use Rattle.mt_record.specs.PartPieces.{HasReadItems, IsLeftOfItems}
+use Rattle.mt_record.specs.PartPieces.{so_far, HasReadItems, IsLeftOfItems, IsShownOfItems, StepsPart}
 use Rattle.mt_record.specs.Feeding.{HoldsAll}
-use Rattle.mt_record.specs.Fronts.{BeginsAlike}
-use Rattle.mt_record.proofs.Beginnings.{cut_front, part_alike}
-use Rattle.mt_record.proofs.PartBeginnings.{part_whole}
+use Rattle.mt_record.specs.Fronts.{GoesWithMagic}
+use Rattle.mt_record.proofs.Beginnings.{AreBytes, cut_front, part_alike, alike, shows_none}
+use Rattle.mt_record.proofs.Feeds.{front_read}
+use Rattle.mt_record.proofs.PartBeginnings.{part_whole, part_magic}
 
 -- ---- what was read, by how far it came
 
@@ -40,22 +43,28 @@ reads_part s part rest head end some ends reads =
 
 -- ---- the header
 
--- bytes that are no beginning of a header are the fault of the header
-pub header_failed : (s : PartSoFar) (part bytes : List ℕ) → s.head ≡ None → ReadsUpTo s part bytes → ShowsNoPartHeader bytes → ShowsNoPartHeader part
-header_failed s part bytes none reads shows = subst ShowsNoPartHeader (sym (reads_nothing s part bytes none reads).all) shows
+-- bytes that do not go with the letters of a part are the fault of the header
+pub header_failed : (s : PartSoFar) (part bytes : List ℕ) → s.head ≡ None → ReadsUpTo s part bytes → (GoesWithMagic (codes "MTC") bytes → ⊥) → ShowsNoPartHeader part
+header_failed s part bytes none reads no_magic =
+    let shows = shows_none IsPartHead part_head_bytes (codes "MTC") (λ (head : PartHead). head.format) part_magic bytes no_magic in
+    subst ShowsNoPartHeader (sym (reads_nothing s part bytes none reads).all) shows
 
--- bytes that begin as a header does, and hold none, begin one
-pub header_cut : (s : PartSoFar) (bytes : List ℕ) → s.head ≡ None → BeginsAlike IsPartHead part_head_bytes bytes → HasNoPartHeader bytes → IsPartLeft s bytes
-header_cut s bytes none alike no_head =
-    subst (λ (o : Option PartHead). IsPartLeft (record s { head = o }) bytes) (sym none) (cut_front IsPartHead part_head_bytes bytes alike no_head)
+-- bytes that go with them, and hold no header, begin one
+pub header_cut : {E : Type 0} (listed : E → List Change) (old : PartItems E) (bytes : List ℕ) → old.head ≡ None → GoesWithMagic (codes "MTC") bytes → AreBytes bytes → HasNoPartHeader bytes
+    → StepsPart listed old old bytes (Ok None)
+header_cut listed old bytes none goes small no_head =
+    let cut = cut_front IsPartHead part_head_bytes bytes (alike IsPartHead part_head_bytes (codes "MTC") 16 part_whole bytes goes small) no_head in
+    let left = subst (λ (o : Option PartHead). IsPartLeft (record (so_far listed old) { head = o }) bytes) (sym none) cut in
+    record { next = (refl, λ taken part reads. left); fault = λ taken part reads. tt }
 
 -- a whole header is read
-pub header_read : (s : PartSoFar) (part bytes after : List ℕ) (head : PartHead) → s.head ≡ None → ReadsUpTo s part bytes → IsPartHead head
-    → bytes ≡ part_head_bytes head ++ after → ReadsUpTo (record s { head = Some head }) part after
-header_read s part bytes after head none reads is e =
-    let nothing = reads_nothing s part bytes none reads in
-    subst (λ (p : List Change × Option ℕ). ReadsUpTo (record { head = Some head; entries = p.0; end = p.1 }) part after)
-    (λ i. (sym nothing.none i, sym nothing.no_end i)) (record { spelled = nothing.all ∙ e; is_head = is; lawful = tt })
+pub header_read : {E : Type 0} (listed : E → List Change) (old : PartItems E) (head : PartHead) (bytes : List ℕ) (after : Bor (List ℕ)) → old.head ≡ None → IsPartHead head
+    → bytes ≡ part_head_bytes head ++ after.now → StepsPart listed old (record old { head = Some head }) bytes (Ok (Some after))
+header_read listed old head bytes after none is e =
+    front_read (HasReadItems listed) (IsLeftOfItems listed) IsShownOfItems old (record old { head = Some head }) (part_head_bytes head) bytes after e (omega arith) (λ taken part reads.
+    let nothing = reads_nothing (so_far listed old) part bytes none reads in
+    subst (λ (p : List Change × Option ℕ). ReadsUpTo (record { head = Some head; entries = p.0; end = p.1 }) part after.now)
+    (λ i. (sym nothing.none i, sym nothing.no_end i)) (record { spelled = nothing.all ∙ e; is_head = is; lawful = tt }))
 
 -- ---- entries
 
