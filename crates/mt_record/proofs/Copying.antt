@@ -10,12 +10,12 @@ use Rattle.mt_words.specs.declared.update.Kind.{Kind}
 use Rattle.mt_words.specs.declared.update.Kind.TheVariants.{Put, Remove, Whole}
 use Rattle.mt_words.specs.Limits.{limits_of, widest, widest_format}
 use Rattle.mt_words.specs.Words.{IsColumn, AreColumns, CanFollow}
-use Rattle.mt_words.specs.Changes.{Logged, mark_of, changed, remove_of, put_of, AllowsKind, IsLogged, IsLoggedChange, IsWhole}
+use Rattle.mt_words.specs.Changes.{Logged, changed, remove_of, put_of, AllowsKind, IsLogged, IsLoggedChange, IsWhole}
 use Rattle.mt_words.proofs.Formats.{change_within}
 use Rattle.mt_record.specs.Spelling.{column_bytes, code_of, kind_bytes, change_bytes, body_of, FitsColumn, FitsChange}
 use Rattle.mt_record.specs.Bodies.{IsBodyOf, IsLawfulBody, AreFieldsOf, CarriesColumns}
 use Rattle.mt_record.proofs.Columns.{all_at, may_follow}
-use Rattle.mt_record.proofs.Unique.{apart, same_number, same_column, same_carried, same_change, same_body, no_mark}
+use Rattle.mt_record.proofs.Unique.{apart, same_number, same_column, same_carried, same_change, same_body}
 use Rattle.mt_record.proofs.Lawful.{put_fits, lawful_fits}
 use Rattle.mt_record.proofs.EntryTexts.{entry_fits, whole_code}
 
@@ -34,17 +34,7 @@ pub record Carries (byte : ℕ) (rest : List ℕ) : Type 0 where
   pub code : code_of change.kind ≡ byte
   pub spelled : rest ≡ change_bytes change
 
--- the body of a mark
-pub is_mark : (bytes fields rest : List ℕ) (code t : ℕ) → IsLawfulBody bytes → bytes ≡ code ∷ fields → t < 2 ^ 64 → fields ≡ big_bytes 8 t ++ rest → code ≡ 3 → IsBodyOf widest 0 bytes (mark_of t)
-is_mark bytes fields rest code t (r, is) e fits tail mark = by r.change (sym e ∙ is.spelled)
-  where
-    by : (o : Option Change) → code ∷ fields ≡ body_of r.timestamp o → IsBodyOf widest 0 bytes (mark_of t)
-    by None same =
-        let time = same_number 8 t r.timestamp rest [] fits is.lawful.0 (sym tail ∙ ap (drop 1) same) in
-        record { lawful = (fits, tt); rises = omega arith; spelled = e ∙ (λ i. mark i ∷ tail i) ∙ ap (λ (x : List ℕ). 3 ∷ (big_bytes 8 t ++ x)) time.1 }
-    by (Some change) same = absurd (no_mark change.kind (sym mark ∙ ap (λ (x : List ℕ). slice_index x 0) same))
-
--- the body of another record
+-- the body of a record that is no mark
 pub carries : (bytes fields rest : List ℕ) (code t : ℕ) → IsLawfulBody bytes → bytes ≡ code ∷ fields → t < 2 ^ 64 → fields ≡ big_bytes 8 t ++ rest → (code ≡ 3 → ⊥) → Carries code rest
 carries bytes fields rest code t (r, is) e fits tail other = by r.change is.lawful.1 (sym e ∙ is.spelled)
   where

@@ -1,8 +1,7 @@
 -- A body says the record that it spells.
-use Rattle.std.proofs.Common.{◌≡◌, ◌↔◌, ◌||◌, IsTrue, ℕ, suc, eqb, ◌^◌, ◌<◌, ◌+◌, ◌-◌, List, [], ◌∷◌, ◌++◌, length, take, drop, Option, Some, None, Bool, true, false, refl, sym, ap, subst, ◌∙◌, append_assoc, arith}
+use Rattle.std.proofs.Common.{◌≡◌, ℕ, suc, eqb, ◌^◌, ◌<◌, ◌+◌, ◌-◌, List, [], ◌∷◌, ◌++◌, length, take, drop, Option, Some, None, Bool, true, false, refl, sym, ap, subst, ◌∙◌, append_assoc, arith}
 use Rattle.std.proofs.Math.Seq.{take-append_seam, drop-append_seam}
 use Rattle.std.proofs.lemmas.List.{append-nil, take_rest, drop-drop}
-use Rattle.std.proofs.lemmas.Bool.{false≢true}
 use Rattle.std.specs.Prelude.{IfSome, slice_index}
 use Rattle.std.specs.List.{flat_map, AllByRecursion}
 use Rattle.byteorder.specs.Endian.{big_bytes, big_from}
@@ -13,7 +12,7 @@ use Rattle.mt_words.specs.declared.update.Kind.TheVariants.{Put, Remove, Whole}
 use Rattle.mt_words.specs.declared.update.Update.{Update}
 use Rattle.mt_words.specs.Limits.{widest, widest_format}
 use Rattle.mt_words.specs.Words.{IsColumn, AreColumns}
-use Rattle.mt_words.specs.Changes.{Logged, changed, IsLawful, IsLawfulChange, IsLoggedChange, AllowsKind, IsReset}
+use Rattle.mt_words.specs.Changes.{Logged, changed, IsLawful, IsLawfulChange, IsLoggedChange, AllowsKind}
 use Rattle.mt_words.specs.Updates.{update_at}
 use Rattle.mt_record.specs.Spelling.{counted, column_bytes, code_of, kind_bytes, body_of, body, FitsColumn, FitsKind, FitsChange}
 use Rattle.mt_record.proofs.Lawful.{key_room, put_fits}

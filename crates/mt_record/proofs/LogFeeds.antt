@@ -21,8 +21,8 @@ use Rattle.mt_record.specs.LogFaults.{RestFault, HasFault, IsAnswered}
 use Rattle.mt_record.specs.Fronts.{GoesWithMagic}
 use Rattle.mt_record.specs.Bodies.{IsNext}
 use Rattle.mt_record.specs.Feeding.{Reads, HoldsAll}
-use Rattle.mt_record.specs.LogFeeding.{LogSoFar, ShowsNoHeader, IsShown, ShowsNoFault, AreRead, HasRead, ReadsNoHeader, IsCutHeader, IsLeft, IsLogLeft, HasFailed}
-use Rattle.mt_record.specs.LogPieces.{so_far, ReadsLog, HasReadItems, IsLeftOfItems, HasFailedItems, StepsLog, ReadsNext, IsNextFault}
+use Rattle.mt_record.specs.LogFeeding.{LogSoFar, ShowsNoHeader, IsShown, ShowsNoFault, AreRead, HasRead, ReadsLog, ReadsNoHeader, IsCutHeader, IsLeft, IsLogLeft, HasFailed}
+use Rattle.mt_record.specs.LogPieces.{so_far, HasReadItems, IsLeftOfItems, HasFailedItems, StepsLog, ReadsNext, IsNextFault}
 use Rattle.mt_record.specs.LogLaws.{begins_by}
 use Rattle.mt_record.proofs.Records.{records_push, latest_push, spelled_push, last_is, tells_torn}
 use Rattle.mt_record.proofs.OneReading.{not_both}

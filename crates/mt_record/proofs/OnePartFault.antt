@@ -219,33 +219,19 @@ left_no_part bytes head entries rest begins left part is =
 -- a fault that is shown is that of the bytes
 pub shown_answered : (fault : PartFault) (bytes : List ℕ) → IsPartShown bytes fault → IsPartAnswered bytes fault
 shown_answered faults.Header bytes h = h.0
-shown_answered (faults.Broken number entries) bytes h =
-    let shown = subst (λ (n : ℕ). ShowsNoPart (limits_of h.head.format) n h.rest) h.counted h.shown in
-    record {
-      head = h.head;
-      entries = h.entries;
-      rest = h.rest;
-      begins = h.begins;
-      named = h.named;
-      counted = h.counted;
-      last = shown_no_entry h.head.format (length h.entries) h.rest shown;
-      no_part = shown_no_part bytes h.head h.entries h.rest h.begins shown;
-    }
+shown_answered (faults.Broken number entries) bytes (front, h) =
+    let shown = subst (λ (n : ℕ). ShowsNoPart (limits_of front.head.format) n front.rest) front.counted h in
+    (front, shown_no_entry front.head.format (length front.entries) front.rest shown, shown_no_part bytes front.head front.entries front.rest front.begins shown)
 shown_answered faults.Memory bytes h = tt
 
 -- a part that is cut is broken
 pub cut_broken : (bytes : List ℕ) (head : PartHead) (entries : List Change) (rest : List ℕ) → BeginsPart bytes head entries rest → (rest ≡ []) ⊎ IsCutItem (limits_of head.format) rest
     → IsBroken bytes head.number (length entries)
-cut_broken bytes head entries rest begins left = record {
-  head = head;
-  entries = entries;
-  rest = rest;
-  begins = begins;
-  named = refl;
-  counted = refl;
-  last = left_no_entry head.format rest left;
-  no_part = left_no_part bytes head entries rest begins left;
-}
+cut_broken bytes head entries rest begins left = (
+  record { head = head; entries = entries; rest = rest; begins = begins; named = refl; counted = refl },
+  left_no_entry head.format rest left,
+  left_no_part bytes head entries rest begins left,
+)
 
 -- bytes that only begin a header hold none
 pub cut_no_header : (bytes : List ℕ) → IsCutHeader bytes → HasNoPartHeader bytes
@@ -259,17 +245,17 @@ cut_no_header bytes (head, more, is, some, e) other rest too f =
 -- bytes that begin a part's header show no fault
 cut_shows_none : (bytes : List ℕ) → IsCutHeader bytes → ShowsNoPartFault bytes
 cut_shows_none bytes cut faults.Header h = h.1 cut.0 cut.1 cut.2 cut.4
-cut_shows_none bytes cut (faults.Broken number entries) h =
-    cut_no_header bytes cut h.head (flat_map entry_spelling h.entries ++ h.rest) h.begins.is_head h.begins.spelled
+cut_shows_none bytes cut (faults.Broken number entries) (front, h) =
+    cut_no_header bytes cut front.head (flat_map entry_spelling front.entries ++ front.rest) front.begins.is_head front.begins.spelled
 cut_shows_none bytes cut faults.Memory h = h
 
 -- bytes that a part begins to be show no fault
 begun_shows_none : (bytes : List ℕ) (head : PartHead) (entries : List Change) (rest : List ℕ) → BeginsPart bytes head entries rest → (rest ≡ []) ⊎ IsCutItem (limits_of head.format) rest
     → ShowsNoPartFault bytes
 begun_shows_none bytes head entries rest begins left faults.Header h = h.0 head (flat_map entry_spelling entries ++ rest) begins.is_head begins.spelled
-begun_shows_none bytes head entries rest begins left (faults.Broken number count) h =
-    let same = same_beginning bytes head h.head entries h.entries rest h.rest begins h.begins (left_no_entry head.format rest left) (shown_no_entry h.head.format count h.rest h.shown) in
-    left_shows_none head.format count rest left (subst (λ (p : PartHead × List ℕ). ShowsNoPart (limits_of p.0.format) count p.1) (λ i. (sym same.0 i, sym same.2 i)) h.shown)
+begun_shows_none bytes head entries rest begins left (faults.Broken number count) (front, h) =
+    let same = same_beginning bytes head front.head entries front.entries rest front.rest begins front.begins (left_no_entry head.format rest left) (shown_no_entry front.head.format count front.rest h) in
+    left_shows_none head.format count rest left (subst (λ (p : PartHead × List ℕ). ShowsNoPart (limits_of p.0.format) count p.1) (λ i. (sym same.0 i, sym same.2 i)) h)
 begun_shows_none bytes head entries rest begins left faults.Memory h = h
 
 -- what a part with this header says
@@ -279,7 +265,7 @@ reading_of head entries end = record { number = head.number; begin = head.begin;
 -- a part shows no fault
 part_shows_none : (bytes : List ℕ) (head : PartHead) (entries : List Change) (end : ℕ) → IsPart bytes head entries end → ShowsNoPartFault bytes
 part_shows_none bytes head entries end is faults.Header h = h.0 head _ is.is_head is.spelled
-part_shows_none bytes head entries end is (faults.Broken number count) h = (shown_answered (faults.Broken number count) bytes h).no_part (reading_of head entries end) (head.format, is)
+part_shows_none bytes head entries end is (faults.Broken number count) h = (shown_answered (faults.Broken number count) bytes h).2 (reading_of head entries end) (head.format, is)
 part_shows_none bytes head entries end is faults.Memory h = h
 
 -- a part with nothing behind it is all of the bytes
@@ -323,10 +309,10 @@ has_header bytes head entries rest begins none = none head (flat_map entry_spell
 -- bytes have one fault at the most
 pub one_part_fault : (bytes : List ℕ) (fault other : PartFault) → IsPartFault bytes fault → IsPartFault bytes other → fault ≡ other
 one_part_fault bytes faults.Header faults.Header f g = refl
-one_part_fault bytes faults.Header (faults.Broken number entries) f g = absurd (has_header bytes g.head g.entries g.rest g.begins f)
-one_part_fault bytes (faults.Broken number entries) faults.Header f g = absurd (has_header bytes f.head f.entries f.rest f.begins g)
-one_part_fault bytes (faults.Broken number entries) (faults.Broken n es) f g =
-    let same = same_beginning bytes f.head g.head f.entries g.entries f.rest g.rest f.begins g.begins f.last g.last in
+one_part_fault bytes faults.Header (faults.Broken number entries) f g = absurd (has_header bytes g.0.head g.0.entries g.0.rest g.0.begins f)
+one_part_fault bytes (faults.Broken number entries) faults.Header f g = absurd (has_header bytes f.0.head f.0.entries f.0.rest f.0.begins g)
+one_part_fault bytes (faults.Broken number entries) (faults.Broken n es) (f, last, no_part) (g, also, too) =
+    let same = same_beginning bytes f.head g.head f.entries g.entries f.rest g.rest f.begins g.begins last also in
     let numbers : number ≡ n = f.named ∙ ap (λ (h : PartHead). h.number) same.0 ∙ sym g.named in
     let counts : entries ≡ es = f.counted ∙ ap length same.1 ∙ sym g.counted in
     λ i. faults.Broken (numbers i) (counts i)
@@ -338,5 +324,5 @@ one_part_fault bytes (faults.Broken number entries) faults.Memory f g = absurd g
 pub part_or_fault : (bytes : List ℕ) (head : PartHead) (entries : List Change) (end : ℕ) (fault : PartFault) → IsPart bytes head entries end → IsPartFault bytes fault → ⊥
 part_or_fault bytes head entries end faults.Header is f =
     has_header bytes head entries (footer_bytes end (length entries)) (part_begins bytes head entries end is) f
-part_or_fault bytes head entries end (faults.Broken number count) is f = f.no_part (reading_of head entries end) (head.format, is)
+part_or_fault bytes head entries end (faults.Broken number count) is f = f.2 (reading_of head entries end) (head.format, is)
 part_or_fault bytes head entries end faults.Memory is f = f

@@ -72,7 +72,7 @@ header_read listed old head bytes after none is e =
 pub broken_at : (part rest : List ℕ) (head : PartHead) (entries : List Change) → BeginsPart part head entries rest → ShowsNoPart (limits_of head.format) (length entries) rest
     → ShowsBroken part head.number (length entries)
 broken_at part rest head entries begins shown =
-    record { head = head; entries = entries; rest = rest; begins = begins; named = refl; counted = refl; shown = shown }
+    (record { head = head; entries = entries; rest = rest; begins = begins; named = refl; counted = refl }, shown)
 
 -- one entry more is read
 pub entry_read : (part bytes after : List ℕ) (head : PartHead) (entries : List Change) (entry : Change) → BeginsPart part head entries bytes

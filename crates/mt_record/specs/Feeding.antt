@@ -1,6 +1,7 @@
 -- A text in pieces, whatever its items are.
 use Rattle.std.specs.Prelude.{◌≡◌, ℕ, ◌+◌, ◌*◌, ◌<◌, min, max, Option, Some, None, Result, IfOk, IfErr, List, ◌++◌, length}
 use Rattle.std.specs.Borrow.{Bor}
+use Rattle.mt_record.specs.declared.feed.Feed.{Feed}
 
 -- ---- items
 
@@ -22,6 +23,16 @@ pub record Steps {T I F : Type 0} (reads : T → I → List ℕ → List ℕ →
   pub fault : (taken : T) (text : List ℕ) → reads taken old text bytes → IfErr answer (λ fault. fails taken new fault text)
 
 -- ---- feeds
+
+-- what a contract sees of a feed: what was read, the bytes held back, and the fault that it answered
+pub record Fed (S F : Type 0) : Type 0 where
+  pub so_far : S
+  pub held : List ℕ
+  pub fault : Option F
+
+-- that of a feed whose items say what was read
+abbrev pub fed_by : {S I F : Type 0} → (I → S) → Feed I F → Fed S F
+fed_by so_far feed = record { so_far = so_far feed.items; held = feed.held.items; fault = feed.fault }
 
 -- the text is what was read and what is held back, from which nothing more can be read
 abbrev pub HoldsAll : {I : Type 0} → (I → List ℕ → List ℕ → Type 0) → (I → List ℕ → Type 0) → I → List ℕ → List ℕ → Type 0

@@ -77,13 +77,17 @@ IsLogFault bytes faults.Header = HasNoHeader bytes
 IsLogFault bytes (faults.Record nth what) = (records : List Logged) × HasFault bytes records what × (nth ≡ count_of records)
 IsLogFault bytes faults.Memory = ⊥
 
--- a fault that was answered is that of the bytes; nothing is said where memory was refused
-abbrev pub IsAnswered : List ℕ → FeedFault → Type 0
-IsAnswered bytes faults.Memory = Unit {0}
-IsAnswered bytes fault = IsLogFault bytes fault
-
 -- the fault of recovery that the fault of a log is
 abbrev pub fault_at : ℕ → FeedFault → Fault
 fault_at log faults.Header = of_all.Header log
 fault_at log (faults.Record nth what) = of_all.Record log nth what
 fault_at log faults.Memory = of_all.Memory
+
+-- a fault of which this holds, or want of memory, of which nothing is said
+abbrev pub OrMemory : (FeedFault → Type 0) → FeedFault → Type 0
+OrMemory P faults.Memory = Unit {0}
+OrMemory P fault = P fault
+
+-- a fault that was answered is that of the bytes
+abbrev pub IsAnswered : List ℕ → FeedFault → Type 0
+IsAnswered bytes = OrMemory (IsLogFault bytes)

@@ -11,35 +11,10 @@ use Rattle.mt_record.specs.Fronts.{ShowsNone, IsCutFront}
 use Rattle.mt_record.specs.declared.head.Head.{Head}
 use Rattle.mt_record.specs.Heads.{IsHead, head_bytes}
 use Rattle.mt_record.specs.Logs.{AreRecords, latest, IsTorn, count_of}
-use Rattle.mt_record.specs.LogFaults.{HasFault, IsLogFault}
+use Rattle.mt_record.specs.LogFaults.{HasFault, IsLogFault, OrMemory}
+use Rattle.mt_record.specs.Feeding.{Fed, IsFedBy}
 
--- bytes that are no header's, nor the beginning of one
-abbrev pub ShowsNoHeader : List ℕ → Type 0
-ShowsNoHeader bytes = ShowsNone IsHead head_bytes bytes
-
--- the bytes so far show the fault, however they go on
-abbrev pub ShowsFault : List ℕ → FeedFault → Type 0
-ShowsFault bytes faults.Header = ShowsNoHeader bytes
-ShowsFault bytes (faults.Record nth what) = IsLogFault bytes (faults.Record nth what)
-ShowsFault bytes faults.Memory = ⊥
-
--- a fault that a feed answered is shown; nothing is said where memory was refused
-abbrev pub IsShown : List ℕ → FeedFault → Type 0
-IsShown bytes faults.Memory = Unit {0}
-IsShown bytes fault = ShowsFault bytes fault
-
-abbrev pub ShowsNoFault : List ℕ → Type 0
-ShowsNoFault bytes = (fault : FeedFault) → ShowsFault bytes fault → ⊥
-
--- what a contract sees of a feed: its header, if that is whole; the bytes held back; the records not yet taken; the timestamp
--- of the last record; the number of records; the fault that it answered
-pub record FedLog : Type 0 where
-  pub head : Option Head
-  pub held : List ℕ
-  pub ready : List Logged
-  pub latest : ℕ
-  pub whole : ℕ
-  pub fault : Option FeedFault
+-- ---- what was read
 
 -- what was read of a log: its header, if that is whole; the records that were not yet taken; the timestamp of the last one; how many there are
 pub record LogSoFar : Type 0 where
@@ -63,23 +38,46 @@ pub record AreRead (head : Head) (records : List Logged) (time count : ℕ) (byt
   pub latest : time ≡ latest 0 records
   pub whole : count ≡ count_of records
 
--- a rest that is no record nor a fault: nothing, or the beginning of a record
-abbrev pub IsLeft : Limits → List ℕ → Type 0
-IsLeft limits rest = (rest ≡ []) ⊎ IsTorn limits rest
-
 -- the bytes are what was read, and the rest
 abbrev pub HasRead : Option Head → List Logged → ℕ → ℕ → List ℕ → List ℕ → Type 0
 HasRead None records time count bytes rest = ReadsNoHeader records time count bytes rest
 HasRead (Some head) records time count bytes rest = AreRead head records time count bytes rest
 
+-- the bytes are what was read, of which these records were taken, and the rest
+abbrev pub ReadsLog : List Logged → LogSoFar → List ℕ → List ℕ → Type 0
+ReadsLog taken items text rest = HasRead items.head (taken ++ items.ready) items.latest items.whole text rest
+
 -- the beginning of a header
 abbrev pub IsCutHeader : List ℕ → Type 0
 IsCutHeader rest = IsCutFront IsHead head_bytes rest
+
+-- a rest that is no record nor a fault: nothing, or the beginning of a record
+abbrev pub IsLeft : Limits → List ℕ → Type 0
+IsLeft limits rest = (rest ≡ []) ⊎ IsTorn limits rest
 
 -- a rest from which nothing more can be read, and which shows no fault
 abbrev pub IsLogLeft : Option Head → List ℕ → Type 0
 IsLogLeft None rest = IsCutHeader rest
 IsLogLeft (Some head) rest = IsLeft (limits_of head.format) rest
+
+-- ---- faults that are shown
+
+-- bytes that are no header's, nor the beginning of one
+abbrev pub ShowsNoHeader : List ℕ → Type 0
+ShowsNoHeader bytes = ShowsNone IsHead head_bytes bytes
+
+-- the bytes so far show the fault, however they go on
+abbrev pub ShowsFault : List ℕ → FeedFault → Type 0
+ShowsFault bytes faults.Header = ShowsNoHeader bytes
+ShowsFault bytes (faults.Record nth what) = IsLogFault bytes (faults.Record nth what)
+ShowsFault bytes faults.Memory = ⊥
+
+-- a fault that a feed answered is shown
+abbrev pub IsShown : List ℕ → FeedFault → Type 0
+IsShown bytes = OrMemory (ShowsFault bytes)
+
+abbrev pub ShowsNoFault : List ℕ → Type 0
+ShowsNoFault bytes = (fault : FeedFault) → ShowsFault bytes fault → ⊥
 
 -- the records begin the log behind its header
 abbrev pub BeginLog : List ℕ → List Logged → Type 0
@@ -93,7 +91,12 @@ HasFailed faults.Header bytes records = ShowsNoHeader bytes × (records ≡ [])
 HasFailed (faults.Record nth what) bytes records = HasFault bytes records what × (nth ≡ count_of records)
 HasFailed faults.Memory bytes records = BeginLog bytes records
 
--- a feed that was fed these bytes, and from which these records were taken: without a fault all bytes are read or held back, and a fault is one that they show
+-- ---- feeds
+
+-- what a contract sees of a feed
+abbrev pub FedLog : Type 0
+FedLog = Fed LogSoFar FeedFault
+
+-- a feed that was fed these bytes, and from which these records were taken
 abbrev pub IsLogFed : FedLog → List ℕ → List Logged → Type 0
-IsLogFed feed bytes taken = (feed.fault ≡ None → HasRead feed.head (taken ++ feed.ready) feed.latest feed.whole bytes feed.held × IsLogLeft feed.head feed.held)
-    × ((fault : FeedFault) → feed.fault ≡ Some fault → HasFailed fault bytes (taken ++ feed.ready))
+IsLogFed feed bytes taken = IsFedBy (ReadsLog taken) (λ so_far. IsLogLeft so_far.head) (λ so_far fault text. HasFailed fault text (taken ++ so_far.ready)) feed.so_far feed.held feed.fault bytes

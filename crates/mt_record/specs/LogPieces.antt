@@ -6,11 +6,10 @@ use Rattle.mt_words.specs.Changes.{Logged}
 use Rattle.mt_record.specs.declared.read.FeedFault.{FeedFault}
 use Rattle.mt_record.specs.declared.read.FeedFault.TheVariants as faults
 use Rattle.mt_record.specs.declared.log_items.LogItems.{LogItems}
-use Rattle.mt_record.specs.declared.feed.Feed.{Feed}
 use Rattle.mt_record.specs.declared.head.Head.{Head}
 use Rattle.mt_record.specs.LogFaults.{RestFault}
 use Rattle.mt_record.specs.Bodies.{IsNext}
-use Rattle.mt_record.specs.LogFeeding.{FedLog, LogSoFar, HasRead, IsLogLeft, HasFailed}
+use Rattle.mt_record.specs.LogFeeding.{LogSoFar, ReadsLog, IsLogLeft, HasFailed}
 use Rattle.mt_record.specs.Feeding.{Steps}
 
 -- one record more was read
@@ -32,10 +31,6 @@ IsNextFault head items rest faults.Header = ⊥
 IsNextFault head items rest (faults.Record nth what) = (nth ≡ items.whole) × RestFault what (limits_of head.format) items.latest rest
 IsNextFault head items rest faults.Memory = Unit {0}
 
--- the bytes are what was read, of which these records were taken, and the rest
-abbrev pub ReadsLog : List Logged → LogSoFar → List ℕ → List ℕ → Type 0
-ReadsLog taken items text rest = HasRead items.head (taken ++ items.ready) items.latest items.whole text rest
-
 -- ---- items
 
 -- what was read, as contracts see it; the records are those that are told of what they were put into
@@ -56,14 +51,3 @@ HasFailedItems listed taken items fault text = HasFailed fault text (taken ++ li
 -- one step of reading a log
 abbrev pub StepsLog : {R : Type 0} → (R → List Logged) → LogItems R → LogItems R → List ℕ → Result (Option (Bor (List ℕ))) FeedFault → Type 0
 StepsLog listed old new bytes answer = Steps (HasReadItems listed) IsLeftOfItems (HasFailedItems listed) old new bytes answer
-
--- what the feed of a log holds
-abbrev pub fed_log : {R : Type 0} → (R → List Logged) → Feed (LogItems R) FeedFault → FedLog
-fed_log listed feed = record {
-  head = feed.items.head;
-  held = feed.held.items;
-  ready = listed feed.items.ready;
-  latest = feed.items.latest;
-  whole = feed.items.whole;
-  fault = feed.fault;
-}

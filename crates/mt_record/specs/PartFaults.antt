@@ -25,16 +25,18 @@ pub record BeginsPart (bytes : List ℕ) (head : PartHead) (entries : List Chang
   pub is_head : IsPartHead head
   pub lawful : AllByRecursion (IsEntry (limits_of head.format)) entries
 
--- the bytes are no part, but begin with the header of one of the checkpoint of this number, and with just so many whole entries
-pub record IsBroken (bytes : List ℕ) (number count : ℕ) : Type 0 where
+-- the bytes begin with the header of a part of the checkpoint of this number, and with so many whole entries
+pub record BeginsPartOf (bytes : List ℕ) (number count : ℕ) : Type 0 where
   pub head : PartHead
   pub entries : List Change
   pub rest : List ℕ
   pub begins : BeginsPart bytes head entries rest
   pub named : number ≡ head.number
   pub counted : count ≡ length entries
-  pub last : HasNoEntry (limits_of head.format) rest
-  pub no_part : (part : PartReading) → IsPartReading bytes part → ⊥
+
+-- the bytes are no part, but begin so, with no entry more
+abbrev pub IsBroken : List ℕ → ℕ → ℕ → Type 0
+IsBroken bytes number count = (front : BeginsPartOf bytes number count) × HasNoEntry (limits_of front.head.format) front.rest × ((part : PartReading) → IsPartReading bytes part → ⊥)
 
 -- the fault of the bytes, which are no part: want of memory is none
 abbrev pub IsPartFault : List ℕ → PartFault → Type 0
@@ -42,7 +44,11 @@ IsPartFault bytes faults.Header = HasNoPartHeader bytes
 IsPartFault bytes (faults.Broken number entries) = IsBroken bytes number entries
 IsPartFault bytes faults.Memory = ⊥
 
--- a fault that was answered is that of the bytes; nothing is said where memory was refused
+-- a fault of which this holds, or want of memory, of which nothing is said
+abbrev pub OrMemory : (PartFault → Type 0) → PartFault → Type 0
+OrMemory P faults.Memory = Unit {0}
+OrMemory P fault = P fault
+
+-- a fault that was answered is that of the bytes
 abbrev pub IsPartAnswered : List ℕ → PartFault → Type 0
-IsPartAnswered bytes faults.Memory = Unit {0}
-IsPartAnswered bytes fault = IsPartFault bytes fault
+IsPartAnswered bytes = OrMemory (IsPartFault bytes)

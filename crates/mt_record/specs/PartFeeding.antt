@@ -12,8 +12,8 @@ use Rattle.mt_record.specs.Logs.{IsCut}
 use Rattle.mt_record.specs.LogFaults.{HasLengthFault}
 use Rattle.mt_record.specs.Parts.{part_head_bytes, IsPartHead, entry_spelling, footer_bytes, IsEntryLength, IsPart}
 use Rattle.mt_record.specs.Fronts.{ShowsNone, IsCutFront}
-use Rattle.mt_record.specs.PartFaults.{BeginsPart}
-use Rattle.mt_record.specs.Feeding.{IsFedBy}
+use Rattle.mt_record.specs.PartFaults.{BeginsPart, BeginsPartOf, OrMemory}
+use Rattle.mt_record.specs.Feeding.{Fed, IsFedBy}
 
 -- ---- faults that are shown
 
@@ -48,14 +48,8 @@ abbrev pub ShowsNoPart : Limits → ℕ → List ℕ → Type 0
 ShowsNoPart limits count rest = HasWrongLength limits rest ⊎ (HasWrongEntry limits rest ⊎ (HasWrongCount count rest ⊎ HasMore count rest))
 
 -- the bytes show that the part of the checkpoint of this number is broken behind so many entries
-pub record ShowsBroken (bytes : List ℕ) (number count : ℕ) : Type 0 where
-  pub head : PartHead
-  pub entries : List Change
-  pub rest : List ℕ
-  pub begins : BeginsPart bytes head entries rest
-  pub named : number ≡ head.number
-  pub counted : count ≡ length entries
-  pub shown : ShowsNoPart (limits_of head.format) count rest
+abbrev pub ShowsBroken : List ℕ → ℕ → ℕ → Type 0
+ShowsBroken bytes number count = (front : BeginsPartOf bytes number count) × ShowsNoPart (limits_of front.head.format) count front.rest
 
 -- the bytes so far show the fault, however they go on
 abbrev pub ShowsPartFault : List ℕ → PartFault → Type 0
@@ -63,10 +57,9 @@ ShowsPartFault bytes faults.Header = ShowsNoPartHeader bytes
 ShowsPartFault bytes (faults.Broken number entries) = ShowsBroken bytes number entries
 ShowsPartFault bytes faults.Memory = ⊥
 
--- a fault that a feed answered is shown; nothing is said where memory was refused
+-- a fault that a feed answered is shown
 abbrev pub IsPartShown : List ℕ → PartFault → Type 0
-IsPartShown bytes faults.Memory = Unit {0}
-IsPartShown bytes fault = ShowsPartFault bytes fault
+IsPartShown bytes = OrMemory (ShowsPartFault bytes)
 
 abbrev pub ShowsNoPartFault : List ℕ → Type 0
 ShowsNoPartFault bytes = (fault : PartFault) → ShowsPartFault bytes fault → ⊥
@@ -117,11 +110,9 @@ IsPartLeft so_far rest = by so_far.head so_far.end
     by (Some head) None = (rest ≡ []) ⊎ IsCutItem (limits_of head.format) rest
     by (Some head) (Some end) = rest ≡ []
 
--- what a contract sees of a feed: what was read, the bytes held back, and the fault that it answered
-pub record FedPart : Type 0 where
-  pub so_far : PartSoFar
-  pub held : List ℕ
-  pub fault : Option PartFault
+-- what a contract sees of a feed
+abbrev pub FedPart : Type 0
+FedPart = Fed PartSoFar PartFault
 
 -- a feed that was fed these bytes
 abbrev pub IsPartFed : FedPart → List ℕ → Type 0

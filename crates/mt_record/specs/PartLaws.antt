@@ -60,19 +60,17 @@ no_part_on limits count rest more (inr (inr (inr h))) = inr (inr (inr (h.0, h.1,
 -- a fault that is shown is shown when more bytes follow
 pub shown_on : (fault : PartFault) (bytes more : List ℕ) → IsPartShown bytes fault → IsPartShown (bytes ++ more) fault
 shown_on faults.Header bytes more h = shows_none_on IsPartHead part_head_bytes bytes more h
-shown_on (faults.Broken number entries) bytes more h = record {
-  head = h.head;
-  entries = h.entries;
-  rest = h.rest ++ more;
-  begins = record {
-    spelled = spelled_on (part_head_bytes h.head) (flat_map entry_spelling h.entries) bytes h.rest more h.begins.spelled;
-    is_head = h.begins.is_head;
-    lawful = h.begins.lawful;
-  };
-  named = h.named;
-  counted = h.counted;
-  shown = no_part_on (limits_of h.head.format) entries h.rest more h.shown;
-}
+shown_on (faults.Broken number entries) bytes more (front, shown) = (
+  record {
+    head = front.head;
+    entries = front.entries;
+    rest = front.rest ++ more;
+    begins = on_by (Some front.head) None front.entries bytes front.rest more front.begins;
+    named = front.named;
+    counted = front.counted;
+  },
+  no_part_on (limits_of front.head.format) entries front.rest more shown,
+)
 shown_on faults.Memory bytes more h = tt
 
 -- a refused growth is shown by any bytes

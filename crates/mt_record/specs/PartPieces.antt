@@ -3,9 +3,8 @@ use Rattle.std.specs.Prelude.{List, ℕ, Option, Result}
 use Rattle.std.specs.Borrow.{Bor}
 use Rattle.mt_words.specs.declared.record.Change.{Change}
 use Rattle.mt_record.specs.declared.part_items.PartItems.{PartItems}
-use Rattle.mt_record.specs.declared.feed.Feed.{Feed}
 use Rattle.mt_record.specs.declared.part_text.PartFault.{PartFault}
-use Rattle.mt_record.specs.PartFeeding.{PartSoFar, FedPart, ReadsUpTo, IsPartLeft, IsPartShown}
+use Rattle.mt_record.specs.PartFeeding.{PartSoFar, ReadsUpTo, IsPartLeft, IsPartShown}
 use Rattle.mt_record.specs.Feeding.{Steps}
 
 -- what was read, as contracts see it; the entries are those that are told of what they were put into
@@ -27,7 +26,3 @@ IsShownOfItems taken items fault text = IsPartShown text fault
 -- one step of reading a part
 abbrev pub StepsPart : {E : Type 0} → (E → List Change) → PartItems E → PartItems E → List ℕ → Result (Option (Bor (List ℕ))) PartFault → Type 0
 StepsPart listed old new bytes answer = Steps (HasReadItems listed) (IsLeftOfItems listed) IsShownOfItems old new bytes answer
-
--- what the feed of a part holds
-abbrev pub fed_part : {E : Type 0} → (E → List Change) → Feed (PartItems E) PartFault → FedPart
-fed_part listed feed = record { so_far = so_far listed feed.items; held = feed.held.items; fault = feed.fault }

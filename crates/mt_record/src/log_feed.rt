@@ -25,12 +25,13 @@ pub struct LogFeed<R: Records = Vec<Record>> {
 }
 
 impl<R: Records> Model for LogFeed<R> {
+    ghost use Rattle.mt_record.specs.Feeding.{fed_by};
     ghost use Rattle.mt_record.specs.LogFeeding.{FedLog};
-    ghost use Rattle.mt_record.specs.LogPieces.{fed_log};
+    ghost use Rattle.mt_record.specs.LogPieces.{so_far};
 
     ghost Value = { FedLog };
 
-    ghost view = { λ f. fed_log R.listed f.feed };
+    ghost view = { λ f. fed_by (so_far R.listed) f.feed };
 }
 
 impl LogFeed {
@@ -47,8 +48,8 @@ impl LogFeed {
     pub fn take(&mut self) -> Vec<Record>
         ensures fed { (bytes : List ℕ) (taken : List Logged) → IsLogFed self.old bytes taken →
             IsLogFed self.new bytes (taken ++ result.items) }
-        ensures records { result.items ≡ self.old.ready }
-        ensures rest { self.new ≡ record self.old { ready = [] } }
+        ensures records { result.items ≡ self.old.so_far.ready }
+        ensures rest { self.new ≡ record self.old { so_far = record self.old.so_far { ready = [] } } }
     {
         let ready = &mut self.feed.items.ready;
         let alloc = *ready.allocator();

@@ -4,8 +4,8 @@ ghost use Rattle.mt_words.specs.Limits.{limits_of};
 ghost use Rattle.mt_words.specs.Changes.{Logged};
 ghost use Rattle.mt_record.specs.Logs.{IsTextIn};
 ghost use Rattle.mt_record.specs.LogFaults.{IsAnswered};
-ghost use Rattle.mt_record.specs.LogFeeding.{IsLeft};
-ghost use Rattle.mt_record.specs.LogPieces.{so_far, ReadsLog, HasReadItems, IsLeftOfItems, HasFailedItems, StepsLog, ReadsNext, IsNextFault};
+ghost use Rattle.mt_record.specs.LogFeeding.{ReadsLog, IsLeft};
+ghost use Rattle.mt_record.specs.LogPieces.{so_far, HasReadItems, IsLeftOfItems, HasFailedItems, StepsLog, ReadsNext, IsNextFault};
 ghost use Rattle.mt_record.specs.LogLaws.{reads_on, reads_front, failed_on, refused_failed};
 
 use crate::fields::u32_at;

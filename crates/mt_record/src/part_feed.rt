@@ -23,12 +23,13 @@ pub struct PartFeed<E: Entries = Vec<Entry>> {
 }
 
 impl<E: Entries> Model for PartFeed<E> {
+    ghost use Rattle.mt_record.specs.Feeding.{fed_by};
     ghost use Rattle.mt_record.specs.PartFeeding.{FedPart};
-    ghost use Rattle.mt_record.specs.PartPieces.{fed_part};
+    ghost use Rattle.mt_record.specs.PartPieces.{so_far};
 
     ghost Value = { FedPart };
 
-    ghost view = { λ f. fed_part E.listed f.feed };
+    ghost view = { λ f. fed_by (so_far E.listed) f.feed };
 }
 
 impl PartFeed {

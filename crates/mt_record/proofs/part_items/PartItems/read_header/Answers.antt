@@ -10,8 +10,7 @@ returns-then-not-goes_with_magic g c =
 
 pub returns-in_default : goal.returns-in_default
 returns-in_default g c =
-    let goes = rw c.if-not-goes_with_magic.false at c.goes_with_magic.ensures in
-    header_cut g.E.Entries.listed c.args.self.now c.args.bytes.now c.requires goes (λ i. omega (arith, c.type_inv.bytes i)) c.in_default.ensures.none
+    header_cut g.E.Entries.listed c.args.self.now c.args.bytes.now c.requires (rw c.if-not-goes_with_magic.false at c.goes_with_magic.ensures) (λ i. omega (arith, c.type_inv.bytes i)) c.in_default.ensures.none
 
 pub returns : goal.returns
 returns g c = header_read g.E.Entries.listed c.args.self.now c.in-Some.head c.args.bytes.now c.in-Some.after c.requires c.in-Some.ensures.found.0 c.in-Some.ensures.found.1

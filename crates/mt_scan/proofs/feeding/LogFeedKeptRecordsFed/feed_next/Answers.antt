@@ -10,4 +10,4 @@ returns-clause-fed c bytes fed = c.feed.ensures.fed bytes [] fed
 pub returns-clause-stops : goal.returns-clause-stops
 returns-clause-stops c failed bytes more fed =
     let there = has_fault c.feed.result c.feed.new.self.fault (sym c.is_ok.ensures.value ∙ failed) c.feed.ensures.kept in
-    (λ none. absurd (none-some there.0 (sym none ∙ there.1)), λ fault is. failed_on fault bytes more c.feed.new.self.ready (fed.1 fault is))
+    (λ none. absurd (none-some there.0 (sym none ∙ there.1)), λ fault is. failed_on fault bytes more c.feed.new.self.so_far.ready (fed.1 fault is))

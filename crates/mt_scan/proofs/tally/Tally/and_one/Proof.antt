@@ -1,16 +1,9 @@
 -- `and_one` makes the empty struct, with the count that its clause names. Assumes `Logic`.
 use Rattle.std.proofs.Common.{◌+◌, List, [], ◌∷◌, ◌++◌, refl}
-use seplogic.Ra.Ura.{Ura}
-use mir.Syntax.{Fn}
+use Rattle.std.proofs.raw_atomic.Walks.{proved_at}
 use mir.Val.{Val, vptr}
-use base.Logic.{SProp, ent}
-use prog.Memory.{Memory}
-use prog.Routine.{Routine}
-use prog.Wp.{Calls, Loops, WpFn, Tables}
-use contract.Monad.{Fun}
-use contract.Running.{tables, tables_of}
-use sound.WpLaws.{WpFn-mono}
-use types.Logic.{Logic}
+use prog.Wp.{WpFn}
+use contract.Running.{tables}
 use types.Kit.{‵, raw, ◌⊛◌, prop, ◌$◌, ◌∵◌, !, qed, move, keep, drop, split, fsplit, fjoin, feq_l, regoal, suffices, done}
 use types.Part.{agg}
 use types.Run.{enter, returns, and_then, no_more}
@@ -22,70 +15,33 @@ use denote.Laws.{Is}
 use denote.Signature.{plain, types_at}
 use denote.Steps.{nothing, owned}
 use denote.Struct.Laws.{makes}
-use denote.Triple.Clauses.{Clauses, Ended, closing}
 use denote.Triple.Entry.{alive}
-use denote.Triple.Spec.{Meets, triple_of}
-use denote.Triple.Table.{entered}
-use denote.Triple.Walked.{says, Stays, stay_dropped, walk_of, ends_at, walk_Meets, Goes-dropped}
+use denote.Triple.Walked.{says, Stays, stay_dropped, walk_of, ends_at, Goes-dropped}
 use Rattle.std.specs.contracts.marker.PhantomData as Mark
 use Rattle.mt_scan.proofs.OneField.{none, one, one_made}
 use Rattle.mt_scan.specs.contracts.tally.Tally as The
-use Rattle.mt_scan.specs.contracts.tally.Tally.and_one as F
-use Rattle.mt_scan.specs.contracts.tally.Tally.and_one.Key.{name as #self}
-use Rattle.mt_scan.proofs.tally.Tally.and_one.Statement as stated
+use Rattle.mt_scan.specs.contracts.tally.Tally.and_one as f
+use Rattle.mt_scan.proofs.tally.Tally.and_one.Statement.{statement}
 use Rattle.mt_scan.proofs.tally.Tally.and_one.Code as code
 
-abbrev function : Fn
-function = code.function
+abbrev stayed : Stays f.ended.signature.params f.ended.kept
+stayed = (stay_dropped (RefOf (0 ∷ []) tt (plain (λ _. The.the_row)) (λ _. tt)) yes, tt)
 
-abbrev ended : Ended
-ended = F.ended
-
-module _ where
-  abbrev stayed : Stays ended.signature.params ended.kept
-  stayed = (stay_dropped (RefOf (0 ∷ []) tt (plain (λ _. The.the_row)) (λ _. tt)) yes, tt)
-
-  module _ {M : Type 1} {𝓤 : Ura M} (𝓛 : Logic 𝓤) (at_mem : Memory → SProp 𝓤) (run : Routine → Fun 𝓤) where
-    open 𝓛 use {H}
-
-    abbrev held : Clauses 𝓤 ended
-    held = F.clauses 𝓛 at_mem run
-
-    module _ (C : Calls 𝓤 H) (Λ : Loops 𝓤 H) (z : (walk_of 𝓛 ended stayed held).Ghost) where
-      abbrev Post : Val → SProp 𝓤
-      Post = (walk_of 𝓛 ended stayed held).post z
-
-      abbrev toks : SProp 𝓤
-      toks = alive 𝓛 ended.signature z.0.0 z.0.1
-
-      walks : ent 𝓤 ((walk_of 𝓛 ended stayed held).pre z) (WpFn 𝓤 H C Λ function ((walk_of 𝓛 ended stayed held).args z) Post)
-      walks =
-          let a = z.0.3 in
-          let vss = z.0.4 in
-          let made : The.the_row.Denot =
-          record { of = record {}; count = a.0.now.count + 1 } in
-          qed 𝓛 ((raw toks ⊛ ‵ (owns (types_at ended.signature.params z.0.0) a vss)) ∷ raw ((held z.0.0 a).requires z.1) ∷ []) ∵
-          keep ! (0 ∷ []) $ split ! $ move ! (1 ∷ []) $
-          fsplit ! $ fsplit ! $ feq_l ! (λ is₀. drop ! $ drop ! $
-          let p = vptr a.0.ref_ptr.0 a.0.ref_ptr.1 in
-          regoal ! (λ (us : List Val). prop (WpFn 𝓤 H C Λ function (us ++ []) Post)) is₀ refl $
-          enter ! C Λ function (p ∷ []) Post $ alloc_all ! (λ l. pass_all ! refl ((tt, tt), tt) $
-          sets ! (agg ! (no_more !)) refl (tt, tt) $
-          sets ! (agg ! (and_then ! (get ! refl) (no_more !))) refl (tt, (tt, tt)) $
-          nothing ! $ owned ! (Mark.the_row u8) (Is (Mark.the_row u8)) (makes (Mark.the_type u8) tt 𝓛) (record {}) (none ∷ []) (tt, (refl, tt)) $
-          one_made ! (Mark.the_row u8) (record {}) none $ fjoin ! $
-          returns ! (look_at ! 0 refl) $ free_all ! refl $
-          suffices ! _ (ends_at 𝓛 ended stayed held z (one none) made (tt, tt) (tt, tt)) $ says ! refl $
-          nothing ! $ nothing ! $ fjoin ! $ move ! (2 ∷ 0 ∷ 1 ∷ []) $ done !))
-
-    meets : (𝓣 : Tables 𝓤 H) → Meets 𝓛 ended.signature (WpFn 𝓤 H 𝓣.C 𝓣.Λ function) (closing 𝓛 ended held)
-    meets 𝓣 =
-        walk_Meets 𝓛 ended stayed (Goes-dropped 𝓛 1 (RefOf (0 ∷ []) tt (plain (λ _. The.the_row)) (λ _. tt)) yes (λ κs x f. refl), tt) held
-        (WpFn 𝓤 H 𝓣.C 𝓣.Λ function) (WpFn-mono 𝓤 H 𝓛.laws 𝓣 function) (walks 𝓣.C 𝓣.Λ)
-
-pub and_one_spec : {M : Type 1} → stated.statement M
-unfolding tables_of
+pub and_one_spec : {M : Type 1} → statement M
 and_one_spec 𝓤 𝓛 𝓜 𝓡 wired =
-    let 𝓣 : Tables 𝓤 𝓛.H = tables_of 𝓤 𝓛.H 𝓜 (tables 𝓤 𝓛.H 𝓜 𝓡 𝓡.env) in
-    entered 𝓤 𝓛.H (triple_of 𝓛 ended.signature (closing 𝓛 ended (held 𝓛 𝓜.mem 𝓡.returns))) 𝓣.C 𝓣.Λ #self function
-    (code.unfolded 𝓤 𝓛.H 𝓜 𝓡 wired) (meets 𝓛 𝓜.mem 𝓡.returns 𝓣)
+    let c = f.clauses 𝓛 𝓜.mem 𝓡.returns in let W = walk_of 𝓛 f.ended stayed c in let 𝓣 = tables 𝓤 𝓛.H 𝓜 𝓡 𝓡.env in
+    let goes = Goes-dropped 𝓛 1 (RefOf (0 ∷ []) tt (plain (λ _. The.the_row)) (λ _. tt)) yes (λ κs x w. refl) in
+    proved_at 𝓛 f.ended stayed c 𝓜 𝓡 (goes, tt) f.Key.name code.function (code.unfolded 𝓤 𝓛.H 𝓜 𝓡 wired) (λ y are.
+    let made : The.the_row.Denot = record { of = record {}; count = y.0.3.0.now.count + 1 } in
+    let p = vptr y.0.3.0.ref_ptr.0 y.0.3.0.ref_ptr.1 in
+    qed 𝓛 ((raw (alive 𝓛 f.ended.signature y.0.0 y.0.1) ⊛ ‵ (owns (types_at f.ended.signature.params y.0.0) y.0.3 y.0.4)) ∷ raw ((c y.0.0 y.0.3).requires y.1) ∷ []) ∵
+    keep ! (0 ∷ []) $ split ! $ move ! (1 ∷ []) $ fsplit ! $ fsplit ! $ feq_l ! (λ is₀. drop ! $ drop ! $
+    regoal ! (λ (us : List Val). prop (WpFn 𝓤 𝓛.H 𝓣.C 𝓣.Λ code.function (us ++ []) (W.post y))) is₀ refl $
+    enter ! 𝓣.C 𝓣.Λ code.function (p ∷ []) (W.post y) $ alloc_all ! (λ l. pass_all ! refl ((tt, tt), tt) $
+    sets ! (agg ! (no_more !)) refl (tt, tt) $
+    sets ! (agg ! (and_then ! (get ! refl) (no_more !))) refl (tt, (tt, tt)) $
+    nothing ! $ owned ! (Mark.the_row u8) (Is (Mark.the_row u8)) (makes (Mark.the_type u8) tt 𝓛) (record {}) (none ∷ []) (tt, (refl, tt)) $
+    one_made ! (Mark.the_row u8) (record {}) none $ fjoin ! $
+    returns ! (look_at ! 0 refl) $ free_all ! refl $
+    suffices ! _ (ends_at 𝓛 f.ended stayed c y (one none) made (tt, tt) (tt, tt)) $ says ! refl $
+    nothing ! $ nothing ! $ fjoin ! $ move ! (2 ∷ 0 ∷ 1 ∷ []) $ done !)))
