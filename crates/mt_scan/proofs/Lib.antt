@@ -2,7 +2,7 @@ pub mod Telling
 pub mod Steps
 pub mod KeysInOrder
 pub mod LeastLast
-pub mod OneField
+pub mod Fieldless
 pub mod OneKnown
 pub mod OneChoice
 pub mod GroupLemmas

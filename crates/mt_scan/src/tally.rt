@@ -2,12 +2,11 @@
 ghost use Rattle.std.specs.Prelude.{◌≡◌, ℕ, ◌+◌};
 ghost use Rattle.std.specs.Borrow.{ftrue};
 
-use std::marker::{Model, PhantomData};
+use std::marker::Model;
 
 /// A count without a greatest value, for contracts alone: it takes no memory, and its methods do nothing at run time.
 #[derive(Drop)]
 pub struct Tally {
-    of: PhantomData<u8>,
     /// How many were counted.
     pub ghost count: { ℕ },
 }
@@ -24,13 +23,13 @@ impl Tally {
     pub fn new() -> Tally
         ensures { result.count ≡ 0 }
     {
-        Tally { of: PhantomData }
+        Tally {}
     }
 
     /// One more was counted.
     pub fn and_one(&self) -> Tally
         ensures { result.count ≡ self.now.count + 1 }
     {
-        Tally { of: PhantomData }
+        Tally {}
     }
 }

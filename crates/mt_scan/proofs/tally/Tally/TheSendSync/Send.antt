@@ -1,6 +1,6 @@
 -- A tally owns nothing, so it may go to another thread.
-use denote.Param.Send.{IsSend, owning_send, sendable}
+use denote.Param.Send.{IsSend, owning_send}
 use Rattle.mt_scan.specs.contracts.tally.Tally.{the_row, the_type}
 
 pub send : IsSend the_row
-send = owning_send the_type (search sendable, tt) (λ d. tt) (λ k x w. tt)
+send = owning_send the_type tt (λ d. tt) (λ k x w. tt)

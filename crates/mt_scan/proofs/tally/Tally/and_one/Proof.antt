@@ -6,19 +6,16 @@ use prog.Wp.{WpFn}
 use contract.Running.{tables}
 use types.Kit.{‵, raw, ◌⊛◌, prop, ◌$◌, ◌∵◌, !, qed, move, keep, drop, split, fsplit, fjoin, feq_l, regoal, suffices, done}
 use types.Part.{agg}
-use types.Run.{enter, returns, and_then, no_more}
-use types.ByLocal.{alloc_all, pass_all, free_all, look_at, get, sets}
+use types.Run.{enter, returns, no_more}
+use types.ByLocal.{alloc_all, pass_all, free_all, look_at, sets}
 use denote.Exit.{yes}
 use denote.RattleType.{owns}
-use denote.Builtin.{RefOf, u8}
-use denote.Laws.{Is}
+use denote.Builtin.{RefOf}
 use denote.Signature.{plain, types_at}
-use denote.Steps.{nothing, owned}
-use denote.Struct.Laws.{makes}
+use denote.Steps.{nothing}
 use denote.Triple.Entry.{alive}
 use denote.Triple.Walked.{says, Stays, stay_dropped, walk_of, ends_at, Goes-dropped}
-use Rattle.std.specs.contracts.marker.PhantomData as Mark
-use Rattle.mt_scan.proofs.OneField.{none, one, one_made}
+use Rattle.mt_scan.proofs.Fieldless.{none, none_made}
 use Rattle.mt_scan.specs.contracts.tally.Tally as The
 use Rattle.mt_scan.specs.contracts.tally.Tally.and_one as f
 use Rattle.mt_scan.proofs.tally.Tally.and_one.Statement.{statement}
@@ -32,16 +29,14 @@ and_one_spec 𝓤 𝓛 𝓜 𝓡 wired =
     let c = f.clauses 𝓛 𝓜.mem 𝓡.returns in let W = walk_of 𝓛 f.ended stayed c in let 𝓣 = tables 𝓤 𝓛.H 𝓜 𝓡 𝓡.env in
     let goes = Goes-dropped 𝓛 1 (RefOf (0 ∷ []) tt (plain (λ _. The.the_row)) (λ _. tt)) yes (λ κs x w. refl) in
     proved_at 𝓛 f.ended stayed c 𝓜 𝓡 (goes, tt) f.Key.name code.function (code.unfolded 𝓤 𝓛.H 𝓜 𝓡 wired) (λ y are.
-    let made : The.the_row.Denot = record { of = record {}; count = y.0.3.0.now.count + 1 } in
+    let made : The.the_row.Denot = record { count = y.0.3.0.now.count + 1 } in
     let p = vptr y.0.3.0.ref_ptr.0 y.0.3.0.ref_ptr.1 in
     qed 𝓛 ((raw (alive 𝓛 f.ended.signature y.0.0 y.0.1) ⊛ ‵ (owns (types_at f.ended.signature.params y.0.0) y.0.3 y.0.4)) ∷ raw ((c y.0.0 y.0.3).requires y.1) ∷ []) ∵
     keep ! (0 ∷ []) $ split ! $ move ! (1 ∷ []) $ fsplit ! $ fsplit ! $ feq_l ! (λ is₀. drop ! $ drop ! $
     regoal ! (λ (us : List Val). prop (WpFn 𝓤 𝓛.H 𝓣.C 𝓣.Λ code.function (us ++ []) (W.post y))) is₀ refl $
     enter ! 𝓣.C 𝓣.Λ code.function (p ∷ []) (W.post y) $ alloc_all ! (λ l. pass_all ! refl ((tt, tt), tt) $
     sets ! (agg ! (no_more !)) refl (tt, tt) $
-    sets ! (agg ! (and_then ! (get ! refl) (no_more !))) refl (tt, (tt, tt)) $
-    nothing ! $ owned ! (Mark.the_row u8) (Is (Mark.the_row u8)) (makes (Mark.the_type u8) tt 𝓛) (record {}) (none ∷ []) (tt, (refl, tt)) $
-    one_made ! (Mark.the_row u8) (record {}) none $ fjoin ! $
+    nothing ! $ none_made ! $ fjoin ! $
     returns ! (look_at ! 0 refl) $ free_all ! refl $
-    suffices ! _ (ends_at 𝓛 f.ended stayed c y (one none) made (tt, tt) (tt, tt)) $ says ! refl $
+    suffices ! _ (ends_at 𝓛 f.ended stayed c y none made (tt, tt) (tt, tt)) $ says ! refl $
     nothing ! $ nothing ! $ fjoin ! $ move ! (2 ∷ 0 ∷ 1 ∷ []) $ done !)))
