@@ -14,6 +14,24 @@ pub fn u16_at(bytes: &[u8]) -> Option<(u16, &[u8])>
     Some((BigEndian::read_u16(bytes), rest))
 }
 
+/// A number of four bytes.
+pub fn u32_at(bytes: &[u8]) -> Option<(u32, &[u8])>
+    ensures found { IfSome result (λ x. (x.0 < 2 ^ 32) × (bytes.now ≡ big_bytes 4 x.0 ++ x.1.now)) }
+    ensures none { IfNone result (length bytes.now < 4) }
+{
+    let rest = bytes.get(4..)?;
+    Some((BigEndian::read_u32(bytes), rest))
+}
+
+/// A number of eight bytes.
+pub fn u64_at(bytes: &[u8]) -> Option<(u64, &[u8])>
+    ensures found { IfSome result (λ x. (x.0 < 2 ^ 64) × (bytes.now ≡ big_bytes 8 x.0 ++ x.1.now)) }
+    ensures none { IfNone result (length bytes.now < 8) }
+{
+    let rest = bytes.get(8..)?;
+    Some((BigEndian::read_u64(bytes), rest))
+}
+
 /// Bytes behind their length.
 pub fn counted_at(bytes: &[u8]) -> Option<(&[u8], &[u8])>
     ensures found { IfSome result
@@ -35,22 +53,4 @@ pub fn column_at(bytes: &[u8]) -> Option<(u8, &[u8], &[u8])>
     let (number, rest) = bytes.split_first()?;
     let (text, rest) = counted_at(rest)?;
     Some((*number, text, rest))
-}
-
-/// A number of four bytes.
-pub fn u32_at(bytes: &[u8]) -> Option<(u32, &[u8])>
-    ensures found { IfSome result (λ x. (x.0 < 2 ^ 32) × (bytes.now ≡ big_bytes 4 x.0 ++ x.1.now)) }
-    ensures none { IfNone result (length bytes.now < 4) }
-{
-    let rest = bytes.get(4..)?;
-    Some((BigEndian::read_u32(bytes), rest))
-}
-
-/// A number of eight bytes.
-pub fn u64_at(bytes: &[u8]) -> Option<(u64, &[u8])>
-    ensures found { IfSome result (λ x. (x.0 < 2 ^ 64) × (bytes.now ≡ big_bytes 8 x.0 ++ x.1.now)) }
-    ensures none { IfNone result (length bytes.now < 8) }
-{
-    let rest = bytes.get(8..)?;
-    Some((BigEndian::read_u64(bytes), rest))
 }
