@@ -75,21 +75,25 @@ begins_below known cutoff (Some checkpoint) is = omega (arith, is.0.ends_below, 
 -- ---- what was found
 
 -- each record of a log is a mark, or an update that is early, survives or is late; and each entry survives
-pub record AddsUp (report : Report) (survivors late : ℕ) : Type 0 where
+pub record AddsUp (report : Report) (early survivors late : ℕ) : Type 0 where
   pub marks : report.marks ≤ report.records
   pub entries : report.entries ≤ survivors
-  pub all : report.marks + (report.early + (late + survivors)) ≡ report.records + report.entries
+  pub all : report.marks + (early + (late + survivors)) ≡ report.records + report.entries
 
 -- what survives of the facts
 abbrev pub survivors_in : {logs parts : List (List ℕ)} → Facts logs parts → List Update
 survivors_in facts = survivors facts.cutoff facts.chosen (records_of facts.readings)
+
+-- what lies below the checkpoint's begin
+abbrev pub early_in : {logs parts : List (List ℕ)} → Facts logs parts → List Update
+early_in facts = filter (is_early (begin_of facts.chosen)) (updates_in facts.readings)
 
 -- what comes too late
 abbrev pub late_in : {logs parts : List (List ℕ)} → Facts logs parts → List Update
 late_in facts = filter (is_late facts.cutoff) (updates_in facts.readings)
 
 pub adds_up : {logs parts : List (List ℕ)} (facts : Facts logs parts) (report : Report) → IsFoundIn facts report
-    → AddsUp report (length (survivors_in facts)) (length (late_in facts))
+    → AddsUp report (length (early_in facts)) (length (survivors_in facts)) (length (late_in facts))
 adds_up facts report found =
     let window : Window = record { begin = begin_of facts.chosen; cutoff = facts.cutoff } in
     let records = records_split 0 facts.readings in
@@ -98,21 +102,21 @@ adds_up facts report found =
     record {
       marks = omega (arith, found.marks, found.records, records);
       entries = omega (arith, found.entries, both);
-      all = omega (arith, found.marks, found.records, found.entries, found.early, records, both, times);
+      all = omega (arith, found.marks, found.records, found.entries, records, both, times);
     }
 
 -- ---- what recovery reports
 
-pub may_end : {logs parts : List (List ℕ)} (facts : Facts logs parts) (report : Report) → IsFoundIn facts report → MayEnd report (length (survivors_in facts))
+pub may_end : {logs parts : List (List ℕ)} (facts : Facts logs parts) (report : Report) → IsFoundIn facts report → MayEnd report (length (early_in facts)) (length (survivors_in facts))
 may_end facts report found =
     let adds = adds_up facts report found in
     record { marks = adds.marks; entries = adds.entries; updates = omega (arith, adds.marks, adds.entries, adds.all) }
 
 -- its report is that of the facts
-pub ended_is : {logs parts : List (List ℕ)} (facts : Facts logs parts) (pairs : List Pair) (report : Report) (survivors keys layers : ℕ)
-    → IsFoundIn facts report → survivors ≡ length (survivors_in facts) → keys ≡ length pairs → CountsLayers pairs layers
-    → IsReportOf facts pairs (record (ended report survivors keys) { layers = layers })
-ended_is facts pairs report survivors keys layers found same many counts =
+pub ended_is : {logs parts : List (List ℕ)} (facts : Facts logs parts) (pairs : List Pair) (report : Report) (early survivors keys layers : ℕ)
+    → IsFoundIn facts report → early ≡ length (early_in facts) → survivors ≡ length (survivors_in facts) → keys ≡ length pairs → CountsLayers pairs layers
+    → IsReportOf facts pairs (record (ended report early survivors keys) { layers = layers })
+ended_is facts pairs report early survivors keys layers found before same many counts =
     let adds = adds_up facts report found in
     record {
       found = record {
@@ -126,10 +130,10 @@ ended_is facts pairs report survivors keys layers found same many counts =
         skipped = found.skipped;
         nameless = found.nameless;
         entries = found.entries;
-        early = found.early;
       };
       survivors = same;
-      late = omega (arith, same, adds.marks, adds.entries, adds.all);
+      early = before;
+      late = omega (arith, before, same, adds.marks, adds.entries, adds.all);
       keys = many;
       layers = counts;
     }

@@ -22,12 +22,14 @@ use Rattle.mt_replay.specs.Survivors.{in_window}
 use Rattle.mt_recover.specs.Survivors.{entry_updates, begin_of}
 use Rattle.mt_replay.specs.Walk.{AreApart, IsWalk}
 use Rattle.mt_recover.specs.Recovery.{AreReadings, AreKnown, Facts, IsGap, records_of}
-use Rattle.mt_recover.specs.Report.{IsFoundIn, IsRecoveredOf}
+use Rattle.mt_recover.specs.Report.{IsFoundIn, IsRecoveredOf, is_early}
 use Rattle.mt_recover.specs.declared.report.Report.{Report}
 use Rattle.mt_recover.specs.Verdict.{IsFirst, IsVerdict}
 use Rattle.mt_recover.specs.declared.start.Start.{Start}
-use Rattle.mt_recover.specs.LogScans.{ShowAll, AreScansOf}
-use Rattle.mt_recover.specs.Start.{IsStartOf, surviving}
+use Rattle.mt_recover.specs.declared.replayed.Replayed.{Replayed}
+use Rattle.mt_recover.specs.LogScans.{ShowAll, AreScansOf, kept}
+use Rattle.mt_recover.specs.Start.{IsStartOf, IsReplayOf, surviving}
+use Rattle.mt_tree.specs.Borders.{layer_walk}
 use Rattle.mt_replay.specs.Runs.{together}
 use Rattle.mt_replay.proofs.StepLemmas.{same_column}
 use Rattle.mt_recover.proofs.SurvivorLemmas.{survivors_apart}
@@ -35,7 +37,7 @@ use Rattle.mt_recover.proofs.ReportLemmas.{same_updates}
 use Rattle.mt_recover.specs.Start.{MayEnd, ended, IsFinishOf}
 use Rattle.mt_recover.specs.Report.{Outcome}
 use Rattle.mt_tree.specs.Trees.{IsCount}
-use Rattle.mt_recover.proofs.CountLemmas.{survivors_in, may_end, ended_is, walk_few}
+use Rattle.mt_recover.proofs.CountLemmas.{survivors_in, early_in, may_end, ended_is, walk_few}
 
 -- ---- gaps
 
@@ -188,6 +190,13 @@ same_count : (logs parts : List (List ℕ)) (scans : List LogScan) (start : Star
 same_count logs parts scans start moved is same =
     length_permutation (surviving_from start scans) moved same ∙ ap length (same_survivors logs parts scans start is)
 
+-- and as many early updates
+same_early : (logs parts : List (List ℕ)) (scans : List LogScan) (start : Start) (is : IsStartOf logs parts scans start)
+    → length (filter (is_early start.window.begin) (kept scans)) ≡ length (early_in is.facts)
+same_early logs parts scans start is =
+    let updates = same_updates 0 scans is.facts.readings is.show in
+    λ i. length (filter (is_early (is.window i).begin) (updates i))
+
 -- the walk of updates in another order
 walk_of : (updates moved : List Update) (pairs : List Pair) → IsPermutation updates moved → AreApart updates → (AreApart moved → IsWalk moved pairs) → IsWalk updates pairs
 walk_of updates moved pairs same apart walk =
@@ -202,37 +211,42 @@ walk_of updates moved pairs same apart walk =
       );
     }
 
+-- what is replayed from this start on
+abbrev IsReplayFrom : Start → List LogScan → Replayed → Type 0
+IsReplayFrom start scans replayed = IsReplayOf start.window (option_map checkpoint_in start.chosen) scans replayed
+
 -- the walk of what survives is the store, and the report is that of what was found
-recovered_of : (logs parts : List (List ℕ)) (scans : List LogScan) (start : Start) (moved : List Update) (pairs : List Pair) (keys : ℕ) (outcome : Outcome) → IsStartOf logs parts scans start
-    → IsPermutation (surviving_from start scans) moved → (AreApart moved → IsWalk moved pairs) → length moved < 2 ^ 128 → IsCount pairs keys
-    → IsFinishOf pairs (ended start.report (length moved) keys) outcome → IsRecoveredOf logs parts outcome
-recovered_of logs parts scans start moved pairs keys outcome is same walk fits count finish =
+recovered_of : (logs parts : List (List ℕ)) (scans : List LogScan) (start : Start) (replayed : Replayed) (keys : ℕ) (outcome : Outcome) → IsStartOf logs parts scans start
+    → IsReplayFrom start scans replayed → length (together replayed.lists.items) < 2 ^ 128 → IsCount (layer_walk replayed.draft) keys
+    → IsFinishOf (layer_walk replayed.draft) (ended start.report replayed.early (length (together replayed.lists.items)) keys) outcome → IsRecoveredOf logs parts outcome
+recovered_of logs parts scans start replayed keys outcome is of fits count finish =
     let facts = is.facts in
-    let many = same_count logs parts scans start moved is same in
-    let walk : IsWalk (survivors_in facts) pairs = walk_of (survivors_in facts) moved pairs (subst (λ (us : List Update). IsPermutation us moved) (same_survivors logs parts scans start is) same)
-    (survivors_apart facts.known facts.cutoff facts.chosen (records_of facts.readings) facts.is_chosen) walk in
+    let moved = together replayed.lists.items in
+    let pairs = layer_walk replayed.draft in
+    let early = of.early ∙ same_early logs parts scans start is in
+    let many = same_count logs parts scans start moved is of.cells in
+    let walk : IsWalk (survivors_in facts) pairs = walk_of (survivors_in facts) moved pairs (subst (λ (us : List Update). IsPermutation us moved) (same_survivors logs parts scans start is) of.cells)
+    (survivors_apart facts.known facts.cutoff facts.chosen (records_of facts.readings) facts.is_chosen) of.walk in
     let keys_are : keys ≡ length pairs = omega (arith, count, fits, many, walk_few (survivors_in facts) pairs walk) in
     subst (IsRecoveredOf logs parts) (sym finish.is) (record {
       store = record { facts = facts; no_gap = is.no_gap; walk = walk };
-      report = ended_is facts pairs start.report (length moved) keys outcome.report.layers is.found many keys_are finish.layers;
+      report = ended_is facts pairs start.report replayed.early (length moved) keys outcome.report.layers is.found early many keys_are finish.layers;
     })
 
 -- the same, where scans and cells were lent on the way
-pub recovered_from : (logs parts : List (List ℕ)) (scans lent : List LogScan) (start : Start) (lists shown counted : List (List Update)) (pairs : List Pair) (keys : ℕ) (outcome : Outcome) → lent ≡ scans → shown ≡ lists
-    → counted ≡ lists → IsStartOf logs parts lent start → IsPermutation (surviving_from start scans) (together lists)
-    → (AreApart (together shown) → IsWalk (together shown) pairs) → length (together counted) < 2 ^ 128 → IsCount pairs keys
-    → IsFinishOf pairs (ended start.report (length (together counted)) keys) outcome → IsRecoveredOf logs parts outcome
-recovered_from logs parts scans lent start lists shown counted pairs keys outcome same are too is moved walk fits count finish =
-    recovered_of logs parts scans start (together lists) pairs keys outcome (subst (λ (x : List LogScan). IsStartOf logs parts x start) same is) moved
-    (subst (λ (x : List (List Update)). AreApart (together x) → IsWalk (together x) pairs) are walk)
-    (subst (λ (x : List (List Update)). length (together x) < 2 ^ 128) too fits) count
-    (subst (λ (x : List (List Update)). IsFinishOf pairs (ended start.report (length (together x)) keys) outcome) too finish)
+pub recovered_from : (logs parts : List (List ℕ)) (scans lent : List LogScan) (start : Start) (replayed : Replayed) (counted : List (List Update)) (keys : ℕ) (outcome : Outcome) → lent ≡ scans
+    → counted ≡ replayed.lists.items → IsStartOf logs parts lent start → IsReplayFrom start scans replayed → length (together counted) < 2 ^ 128 → IsCount (layer_walk replayed.draft) keys
+    → IsFinishOf (layer_walk replayed.draft) (ended start.report replayed.early (length (together counted)) keys) outcome → IsRecoveredOf logs parts outcome
+recovered_from logs parts scans lent start replayed counted keys outcome same are is of fits count finish =
+    recovered_of logs parts scans start replayed keys outcome (subst (λ (x : List LogScan). IsStartOf logs parts x start) same is) of
+    (subst (λ (x : List (List Update)). length (together x) < 2 ^ 128) are fits) count
+    (subst (λ (x : List (List Update)). IsFinishOf (layer_walk replayed.draft) (ended start.report replayed.early (length (together x)) keys) outcome) are finish)
 
 -- and what was found may be ended
-pub may_end_from : (logs parts : List (List ℕ)) (scans lent : List LogScan) (start : Start) (lists counted : List (List Update)) → lent ≡ scans → counted ≡ lists
-    → IsStartOf logs parts lent start → IsPermutation (surviving_from start scans) (together lists)
-    → MayEnd start.report (length (together counted))
-may_end_from logs parts scans lent start lists counted same are is moved =
+pub may_end_from : (logs parts : List (List ℕ)) (scans lent : List LogScan) (start : Start) (replayed : Replayed) (counted : List (List Update)) → lent ≡ scans → counted ≡ replayed.lists.items
+    → IsStartOf logs parts lent start → IsReplayFrom start scans replayed → MayEnd start.report replayed.early (length (together counted))
+may_end_from logs parts scans lent start replayed counted same are is of =
     let there = subst (λ (x : List LogScan). IsStartOf logs parts x start) same is in
-    subst (λ (x : List (List Update)). MayEnd start.report (length (together x))) (sym are)
-    (subst (MayEnd start.report) (sym (same_count logs parts scans start (together lists) there moved)) (may_end there.facts start.report there.found))
+    let many = same_count logs parts scans start (together replayed.lists.items) there of.cells in
+    subst (λ (n : ℕ). MayEnd start.report n (length (together counted))) (sym (of.early ∙ same_early logs parts scans start there))
+    (subst (MayEnd start.report (length (early_in there.facts))) (sym (ap (λ (x : List (List Update)). length (together x)) are ∙ many)) (may_end there.facts start.report there.found))

@@ -52,38 +52,26 @@ one_report logs parts outcome other is too =
     let a = is.report.found in
     let b = too.report.found in
     let same = same_facts logs parts is.store.facts too.store.facts in
-    let records = a.records ∙ ap (λ (x : List LogReading). length (all_records x)) same.0 ∙ sym b.records in
-    let marks = a.marks ∙ ap (λ (x : List LogReading). length (filter is_mark (all_records x))) same.0 ∙ sym b.marks in
-    let torn = a.torn ∙ ap (λ (x : List LogReading). length (filter (λ (log : LogReading). log.torn) x)) same.0 ∙ sym b.torn in
-    let cutoff = a.cutoff ∙ same.1 ∙ sym b.cutoff in
-    let checkpoint = a.checkpoint ∙ ap (option_map (λ (x : Checkpoint). x.number)) same.3 ∙ sym b.checkpoint in
-    let begin = a.begin ∙ ap begin_of same.3 ∙ sym b.begin in
-    let entries = a.entries ∙ ap (λ (x : Option Checkpoint). length (entry_updates x)) same.3 ∙ sym b.entries in
-    let survive = is.report.survivors ∙ (λ i. length (survivors (same.1 i) (same.3 i) (records_of (same.0 i)))) ∙ sym too.report.survivors in
-    let early = a.early ∙ (λ i. length (filter (is_early (begin_of (same.3 i))) (updates_in (same.0 i)))) ∙ sym b.early in
-    let late = is.report.late ∙ (λ i. length (filter (is_late (same.1 i)) (updates_in (same.0 i)))) ∙ sym too.report.late in
     let store = one_store logs parts outcome.store other.store is.store too.store in
-    let keys = is.report.keys ∙ ap length store ∙ sym too.report.keys in
-    let layers = one_count outcome.store outcome.report.layers other.report.layers is.report.layers (subst (λ w. CountsLayers w other.report.layers) (sym store) too.report.layers) in
     record {
       skipped = one_skipped is.store.facts.known too.store.facts.known outcome.report.skipped.items other.report.skipped.items same.2 a.skipped b.skipped;
       nameless = one_nameless is.store.facts.known too.store.facts.known outcome.report.nameless.items other.report.nameless.items same.2 a.nameless b.nameless;
       rest = λ i. record {
         logs = (a.logs ∙ sym b.logs) i;
-        records = records i;
-        marks = marks i;
-        torn = torn i;
-        cutoff = cutoff i;
-        checkpoint = checkpoint i;
-        begin = begin i;
+        records = (a.records ∙ ap (λ (x : List LogReading). length (all_records x)) same.0 ∙ sym b.records) i;
+        marks = (a.marks ∙ ap (λ (x : List LogReading). length (filter is_mark (all_records x))) same.0 ∙ sym b.marks) i;
+        torn = (a.torn ∙ ap (λ (x : List LogReading). length (filter (λ (log : LogReading). log.torn) x)) same.0 ∙ sym b.torn) i;
+        cutoff = (a.cutoff ∙ same.1 ∙ sym b.cutoff) i;
+        checkpoint = (a.checkpoint ∙ ap (option_map (λ (x : Checkpoint). x.number)) same.3 ∙ sym b.checkpoint) i;
+        begin = (a.begin ∙ ap begin_of same.3 ∙ sym b.begin) i;
         skipped = outcome.report.skipped;
         nameless = outcome.report.nameless;
-        entries = entries i;
-        survivors = survive i;
-        early = early i;
-        late = late i;
-        keys = keys i;
-        layers = layers i;
+        entries = (a.entries ∙ ap (λ (x : Option Checkpoint). length (entry_updates x)) same.3 ∙ sym b.entries) i;
+        survivors = (is.report.survivors ∙ (λ j. length (survivors (same.1 j) (same.3 j) (records_of (same.0 j)))) ∙ sym too.report.survivors) i;
+        early = (is.report.early ∙ (λ j. length (filter (is_early (begin_of (same.3 j))) (updates_in (same.0 j)))) ∙ sym too.report.early) i;
+        late = (is.report.late ∙ (λ j. length (filter (is_late (same.1 j)) (updates_in (same.0 j)))) ∙ sym too.report.late) i;
+        keys = (is.report.keys ∙ ap length store ∙ sym too.report.keys) i;
+        layers = one_count outcome.store outcome.report.layers other.report.layers is.report.layers (subst (λ w. CountsLayers w other.report.layers) (sym store) too.report.layers) i;
       };
     }
 
@@ -92,4 +80,4 @@ pub report_adds_up : (logs parts : List (List ℕ)) (outcome : Outcome) → IsRe
     ≡ outcome.report.marks + outcome.report.early + outcome.report.late + outcome.report.survivors
 report_adds_up logs parts outcome is =
     let adds = adds_up is.store.facts outcome.report is.report.found in
-    omega (arith, adds.all, is.report.survivors, is.report.late)
+    omega (arith, adds.all, is.report.early, is.report.survivors, is.report.late)

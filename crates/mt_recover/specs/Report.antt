@@ -42,12 +42,12 @@ pub record IsFoundIn {log_bytes part_bytes : List (List ℕ)} (facts : Facts log
   pub skipped : AreSkipped facts.known report.skipped.items
   pub nameless : AreNameless facts.known report.nameless.items
   pub entries : report.entries ≡ length (entry_updates facts.chosen)
-  pub early : report.early ≡ length (filter (is_early (begin_of facts.chosen)) (updates_in facts.readings))
 
 -- the report of what was found, of what survives and what comes too late, and of a store of these pairs
 pub record IsReportOf {logs parts : List (List ℕ)} (facts : Facts logs parts) (pairs : List Pair) (report : Report) : Type 0 where
   pub found : IsFoundIn facts report
   pub survivors : report.survivors ≡ length (survivors facts.cutoff facts.chosen (records_of facts.readings))
+  pub early : report.early ≡ length (filter (is_early (begin_of facts.chosen)) (updates_in facts.readings))
   pub late : report.late ≡ length (filter (is_late facts.cutoff) (updates_in facts.readings))
   pub keys : report.keys ≡ length pairs
   pub layers : CountsLayers pairs report.layers

@@ -1,5 +1,5 @@
 -- From where recovery starts: what is replayed, and over which checkpoint.
-use Rattle.std.specs.Prelude.{◌≡◌, ℕ, ◌+◌, ◌-◌, ◌≤◌, Option, List, ◌++◌}
+use Rattle.std.specs.Prelude.{◌≡◌, ℕ, ◌+◌, ◌-◌, ◌≤◌, Option, List, ◌++◌, length, filter, IsPermutation}
 use Rattle.std.specs.Option.{option_map}
 use Rattle.mt_words.specs.declared.update.Update.{Update}
 use Rattle.mt_scan.specs.declared.log_scan.LogScan.{LogScan}
@@ -8,11 +8,15 @@ use Rattle.mt_replay.specs.declared.window.Window.{Window}
 use Rattle.mt_recover.specs.declared.start.Start.{Start}
 use Rattle.mt_recover.specs.Survivors.{begin_of, entry_updates}
 use Rattle.mt_recover.specs.Recovery.{Facts, IsGap}
-use Rattle.mt_recover.specs.Report.{IsFoundIn, Outcome}
-use Rattle.mt_words.specs.Walks.{Pair}
+use Rattle.mt_recover.specs.Report.{IsFoundIn, Outcome, is_early}
+use Rattle.mt_words.specs.Walks.{Pair, IsMap}
+use Rattle.mt_replay.specs.Runs.{together}
+use Rattle.mt_replay.specs.Walk.{IsWalk, AreApart}
+use Rattle.mt_tree.specs.Borders.{layer_walk}
 use Rattle.mt_tree.specs.Layers.{CountsLayers}
 use Rattle.mt_recover.specs.declared.report.Report.{Report}
-use Rattle.mt_recover.specs.LogScans.{ShowAll, kept_in}
+use Rattle.mt_recover.specs.declared.replayed.Replayed.{Replayed}
+use Rattle.mt_recover.specs.LogScans.{ShowAll, kept, kept_in}
 
 -- the start of recovery from logs and parts, of which the scans of the logs are these
 pub record IsStartOf (logs parts : List (List ℕ)) (scans : List LogScan) (start : Start) : Type 0 where
@@ -23,17 +27,18 @@ pub record IsStartOf (logs parts : List (List ℕ)) (scans : List LogScan) (star
   pub chosen : option_map checkpoint_in start.chosen ≡ facts.chosen
   pub found : IsFoundIn facts start.report
 
--- what was found may be ended with so many survivors
-pub record MayEnd (found : Report) (survivors : ℕ) : Type 0 where
+-- what was found may be ended with so many early updates and survivors
+pub record MayEnd (found : Report) (early survivors : ℕ) : Type 0 where
   pub marks : found.marks ≤ found.records
   pub entries : found.entries ≤ survivors
-  pub updates : found.early + (survivors - found.entries) ≤ found.records - found.marks
+  pub updates : early + (survivors - found.entries) ≤ found.records - found.marks
 
--- the report with so many survivors and keys: what is neither early nor survives is late
-abbrev pub ended : Report → ℕ → ℕ → Report
-ended found survivors keys = record found {
+-- the report with so many early updates, survivors and keys: what is neither early nor survives is late
+abbrev pub ended : Report → ℕ → ℕ → ℕ → Report
+ended found early survivors keys = record found {
   survivors = survivors;
-  late = found.records - found.marks - found.early - (survivors - found.entries);
+  early = early;
+  late = found.records - found.marks - early - (survivors - found.entries);
   keys = keys;
 }
 
@@ -45,3 +50,10 @@ pub record IsFinishOf (pairs : List Pair) (report : Report) (outcome : Outcome) 
 -- what survives of the scans, and all that the chosen checkpoint has
 abbrev pub surviving : Window → Option Checkpoint → List LogScan → List Update
 surviving window chosen scans = kept_in window scans ++ entry_updates chosen
+
+-- what replaying the scans over the chosen checkpoint gives
+pub record IsReplayOf (window : Window) (chosen : Option Checkpoint) (scans : List LogScan) (replayed : Replayed) : Type 0 where
+  pub early : replayed.early ≡ length (filter (is_early window.begin) (kept scans))
+  pub cells : IsPermutation (surviving window chosen scans) (together replayed.lists.items)
+  pub map : IsMap (layer_walk replayed.draft)
+  pub walk : AreApart (together replayed.lists.items) → IsWalk (together replayed.lists.items) (layer_walk replayed.draft)

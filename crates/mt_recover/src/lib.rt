@@ -4,12 +4,14 @@
 mod by_workers;
 mod cells;
 mod dump;
+mod early;
 mod laws;
 mod parallel;
 mod pieces;
 mod program;
 mod read_logs;
 mod recovery;
+mod replayed;
 mod report;
 mod report_text;
 mod scan_all;

@@ -1,24 +1,30 @@
 //! Recovery from sources, and from logs in memory.
-ghost use Rattle.std.specs.Prelude.{◌≡◌, [], List, ℕ, map, IfOk, IfErr};
+ghost use Rattle.std.specs.Prelude.{◌≡◌, [], List, ℕ, map, Option, Result, IfOk, IfErr};
+ghost use Rattle.std.specs.Option.{option_map};
+ghost use Rattle.mt_words.specs.declared.fault.Memory.{Memory as MemoryValue};
 ghost use Rattle.mt_words.specs.Walks.{IsMap};
+ghost use Rattle.mt_scan.specs.declared.checkpoint.Checkpoint.{Checkpoint as CheckpointValue};
+ghost use Rattle.mt_scan.specs.Choice.{checkpoint_in};
 ghost use Rattle.mt_scan.specs.PartScans.{known_by};
+ghost use Rattle.mt_replay.specs.declared.window.Window.{Window as WindowValue};
 ghost use Rattle.mt_tree.specs.Borders.{layer_walk};
 ghost use Rattle.mt_recover.specs.LogScans.{AreScansOf};
-ghost use Rattle.mt_recover.specs.Start.{IsFinishOf};
+ghost use Rattle.mt_recover.specs.declared.replayed.Replayed.{Replayed as ReplayedValue};
+ghost use Rattle.mt_recover.specs.Start.{IsReplayOf, IsFinishOf};
 ghost use Rattle.mt_recover.specs.Recovery.{AreKnown};
 ghost use Rattle.mt_recover.specs.Report.{IsRecoveredOf};
 ghost use Rattle.mt_recover.specs.Verdict.{IsVerdictOrMemory};
 ghost use Rattle.mt_recover.specs.Inputs.{OfSources, IsAnsweredFrom, BlamesUnsteady};
 
-use crate::cells::cells_of;
-use crate::pieces::replay_all;
 use crate::read_logs::read_logs;
+use crate::replayed::{Replayed, replay_one};
 use crate::report::Report;
 use crate::scan_logs::scan_logs;
 use crate::scan_parts::scan_parts;
 use crate::start::Start;
 use crate::store::Store;
-use mt_scan::{LogScan, PartScan, Source};
+use mt_replay::Window;
+use mt_scan::{Checkpoint, LogScan, PartScan, Source};
 use mt_tree::Draft;
 use mt_words::{Fault, Memory};
 use std::alloc::Global;
@@ -101,7 +107,7 @@ pub fn recover_one<S: Source>(alloc: Global, inputs: Inputs<S>) -> Result<Recove
     }
     let scans = scan_logs(alloc, logs)?;
     let parts = scan_parts(alloc, parts)?;
-    recover_scans(alloc, scans, parts)
+    recover_scans(alloc, scans, parts, replay_one)
 }
 
 /// The store of the logs whose bytes are these, without a checkpoint, and its report, on one thread. The position of a
@@ -111,18 +117,19 @@ pub fn recover_logs(alloc: Global, logs: &[&[u8]]) -> Result<Recovered, Fault>
     ensures fault { IfErr result (IsVerdictOrMemory (map (λ log. log.now) logs.now) []) }
 {
     let scans = read_logs(alloc, logs)?;
-    recover_scans(alloc, scans, Vec::new(alloc))
+    recover_scans(alloc, scans, Vec::new(alloc), replay_one)
 }
 
-/// The store of the logs and parts whose scans are these, each in the order of their numbers, and its report. An Err
-/// is `NoLogs`, the least log with a gap, or `Memory`.
-pub(crate) fn recover_scans(
-    alloc: Global,
-    scans: Vec<LogScan>,
-    parts: Vec<PartScan>,
-) -> Result<Recovered, Fault>
+/// The store of the logs and parts whose scans are these, each in the order of their numbers, and its report, where
+/// this replays the scans. An Err is `NoLogs`, the least log with a gap, or `Memory`.
+pub(crate) fn recover_scans<
+    F: FnOnce(Global, Vec<LogScan>, Window, Option<Checkpoint>) -> Result<Replayed, Memory> + Drop,
+>(alloc: Global, scans: Vec<LogScan>, parts: Vec<PartScan>, replay: F) -> Result<Recovered, Fault>
     requires scanned { (logs : List (List ℕ)) × AreScansOf logs scans.items }
     requires known { (part_bytes : List (List ℕ)) × AreKnown part_bytes (map known_by parts.items) }
+    requires replays { (window : WindowValue) (chosen : Option CheckpointValue) → F.pre replay alloc scans window chosen }
+    requires replayed { (window : WindowValue) (chosen : Option CheckpointValue) (answer : Result ReplayedValue MemoryValue) →
+        F.post replay alloc scans window chosen answer → IfOk answer (IsReplayOf window (option_map checkpoint_in chosen) scans.items) }
     ensures recovered { (logs part_bytes : List (List ℕ)) → AreScansOf logs scans.items →
         AreKnown part_bytes (map known_by parts.items) → IfOk result (IsRecoveredOf logs part_bytes) }
     ensures fault { (logs part_bytes : List (List ℕ)) → AreScansOf logs scans.items →
@@ -133,9 +140,12 @@ pub(crate) fn recover_scans(
         chosen,
         report,
     } = Start::of(alloc, &scans, parts)?;
-    let lists = cells_of(alloc, scans, window, chosen)?;
-    let draft = replay_all(alloc, &lists)?;
-    let report = report.ended(&lists, draft.len());
+    let Replayed {
+        early,
+        lists,
+        draft,
+    } = replay(alloc, scans, window, chosen)?;
+    let report = report.ended(early, &lists, draft.len());
     drop(lists);
     Ok(Recovered::finish(draft, report)?)
 }

@@ -1,18 +1,15 @@
 //! What recovery found in logs and parts, and what became of it.
-ghost use Rattle.std.specs.Prelude.{◌≡◌, ◌<◌, ◌^◌, List, ℕ, length, filter, sum_by};
+ghost use Rattle.std.specs.Prelude.{◌≡◌, ◌<◌, ◌^◌, List, ℕ, length, sum_by};
 ghost use Rattle.std.specs.Fn.{FnReturnsAt};
-ghost use Rattle.std.specs.List.{list_any};
 ghost use Rattle.std.specs.Option.{option_map};
-ghost use Rattle.mt_record.specs.Kept.{kept_updates, listed};
 ghost use Rattle.mt_scan.specs.Choice.{checkpoint_in, AreSkipped, AreNameless};
 ghost use Rattle.mt_replay.specs.Runs.{together};
-ghost use Rattle.mt_recover.specs.LogScans.{ShowAll, kept};
+ghost use Rattle.mt_recover.specs.LogScans.{ShowAll};
 ghost use Rattle.mt_recover.specs.Recovery.{Facts};
 ghost use Rattle.mt_recover.specs.Start.{MayEnd, ended};
-ghost use Rattle.mt_recover.specs.Report.{IsFoundIn, is_early};
+ghost use Rattle.mt_recover.specs.Report.{IsFoundIn};
 ghost use Rattle.mt_recover.specs.Survivors.{begin_of, entry_updates};
 
-use mt_record::{Lent, Updates};
 use mt_replay::{LogCells, Window};
 use mt_scan::{Checkpoint, Choice, LogScan};
 
@@ -54,7 +51,7 @@ pub struct Report {
 }
 
 impl Report {
-    /// What is known before anything is replayed: all but `survivors`, `late`, `keys` and `layers`, which are 0.
+    /// What is known before anything is replayed: all but `survivors`, `early`, `late`, `keys` and `layers`, which are 0.
     pub(crate) fn begun(
         scans: &[LogScan],
         window: Window,
@@ -84,7 +81,7 @@ impl Report {
             nameless,
             entries: entry_count(&chosen),
             survivors: 0,
-            early: early_count(scans, window.begin),
+            early: 0,
             late: 0,
             keys: 0,
             layers: 0,
@@ -92,18 +89,19 @@ impl Report {
         (report, chosen)
     }
 
-    /// The report where the cells have these updates and the store so many keys. What is neither early nor survives is
-    /// late.
-    pub(crate) fn ended(self, lists: &[LogCells], keys: u128) -> Report
-        requires { MayEnd self (length (together lists.now)) }
-        ensures value { result ≡ ended self (length (together lists.now)) keys }
+    /// The report where so many updates are early, the cells have these, and the store so many keys. What is neither
+    /// early nor survives is late.
+    pub(crate) fn ended(self, early: u128, lists: &[LogCells], keys: u128) -> Report
+        requires { MayEnd self early (length (together lists.now)) }
+        ensures value { result ≡ ended self early (length (together lists.now)) keys }
         ensures fits { length (together lists.now) < 2 ^ 128 }
     {
         let survivors = survivor_count(lists);
         let updates = self.records - self.marks;
-        let late = updates - self.early - (survivors - self.entries);
+        let late = updates - early - (survivors - self.entries);
         Report {
             survivors,
+            early,
             late,
             keys,
             ..self
@@ -112,7 +110,7 @@ impl Report {
 }
 
 /// The sum of a number of each item. It is exact: a slice has fewer than 2^64 items.
-fn total<T, F: Fn(&T) -> u64>(items: &[T], number: F) -> u128
+pub(crate) fn total<T, F: Fn(&T) -> u64>(items: &[T], number: F) -> u128
     requires { F.IsAlwaysCallable number }
     ensures { (of : T → ℕ) → ((x : T) (n : ℕ) → FnReturnsAt F.Fn number x n → n ≡ of x) →
         result ≡ sum_by of items.now }
@@ -132,37 +130,6 @@ fn entry_count(chosen: &Option<Checkpoint>) -> u128
         Some(checkpoint) => total(&checkpoint.parts, |part| part.entries.len() as u64),
         None => 0,
     }
-}
-
-/// The updates of all logs below this timestamp.
-fn early_count(scans: &[LogScan], begin: u64) -> u128
-    ensures { result ≡ length (filter (is_early begin) (kept scans.now)) }
-{
-    // Nothing lies below 0, and without a checkpoint no log is gone over.
-    if begin == 0 {
-        return 0;
-    }
-    total(scans, |scan| early_among(&scan.updates, begin) as u64)
-}
-
-/// The updates of a log below this timestamp.
-fn early_among(updates: &Updates, begin: u64) -> usize
-    ensures { result ≡ length (filter (is_early begin) (kept_updates updates.now)) }
-{
-    let mut count = 0;
-    for number in 0..updates.record_count() {
-        if comes_early(updates.update(number), begin) {
-            count += 1;
-        }
-    }
-    count
-}
-
-/// Whether this is an update below this timestamp.
-fn comes_early(update: Option<Lent<'_>>, begin: u64) -> bool
-    ensures { result ≡ list_any (is_early begin) (listed update.entry) }
-{
-    update.is_some_and(|update| update.timestamp() < begin)
 }
 
 /// The updates of all cells.

@@ -1,4 +1,4 @@
-use Rattle.std.proofs.Common.{sym, subst}
+use Rattle.std.proofs.Common.{Ok, sym, subst}
 use Rattle.std.proofs.lemmas.Result.{err_from_is_err_and}
 use Rattle.mt_recover.specs.LogScans.{AreScansOf}
 use Rattle.mt_tree.specs.Borders.{layer_walk}
@@ -7,20 +7,21 @@ use Rattle.mt_recover.proofs.FactLemmas.{may_end_from, recovered_from}
 use Rattle.mt_recover.proofs.recovery.recover_scans.Goals as goal
 
 pub returns-in_err-window-clause-fault : goal.returns-in_err-window-clause-fault
-returns-in_err-window-clause-fault c = λ logs bytes are know.
+returns-in_err-window-clause-fault g c = λ logs bytes are know.
     let p = err_from_is_err_and c.from_residual.result c.from_residual.ensures.1 in
     rw (p.1, p.2) (c.in_err-window.ensures.fault logs bytes (subst (AreScansOf logs) (sym c.deref.ensures.value) are) know)
 
 pub ended-report-requires : goal.ended-report-requires
-ended-report-requires c =
+ended-report-requires g c =
     let logs = c.requires.scanned in
     let parts = c.requires.known in
     let start = c.in_ok-window.ensures.start logs.0 parts.0 (subst (AreScansOf logs.0) (sym c.deref.ensures.value) logs.1) parts.1 in
-    may_end_from logs.0 parts.0 c.args.scans.items c.deref.result.now c.in_ok-window.field-0 c.in_ok-lists.lists.items c.deref-3.result.now c.deref.ensures.value c.deref-3.ensures.value start c.in_ok-lists.ensures
+    may_end_from logs.0 parts.0 c.args.scans.items c.deref.result.now c.in_ok-window.field-0 c.in_ok-early.field-0 c.deref-2.result.now c.deref.ensures.value c.deref-2.ensures.value start
+    (c.requires.replayed c.in_ok-window.field-0.window c.in_ok-window.field-0.chosen (Ok c.in_ok-early.field-0) c.in_ok-early.ensures)
 
 pub returns-clause-recovered : goal.returns-clause-recovered
-returns-clause-recovered c = λ logs bytes are know.
+returns-clause-recovered g c = λ logs bytes are know.
     let start = c.in_ok-window.ensures.start logs bytes (subst (AreScansOf logs) (sym c.deref.ensures.value) are) know in
-    recovered_from logs bytes c.args.scans.items c.deref.result.now c.in_ok-window.field-0 c.in_ok-lists.lists.items c.deref-2.result.now c.deref-3.result.now (layer_walk c.in_ok-draft.draft) c.len.result c.in_ok-finish.field-0
-    c.deref.ensures.value c.deref-2.ensures.value c.deref-3.ensures.value start c.in_ok-lists.ensures c.in_ok-draft.ensures.walk c.ended-report.ensures.fits c.len.ensures
-    (subst (λ report. IsFinishOf (layer_walk c.in_ok-draft.draft) report c.in_ok-finish.field-0) c.ended-report.ensures.value c.in_ok-finish.ensures)
+    recovered_from logs bytes c.args.scans.items c.deref.result.now c.in_ok-window.field-0 c.in_ok-early.field-0 c.deref-2.result.now c.len.result c.in_ok-finish.field-0 c.deref.ensures.value c.deref-2.ensures.value start
+    (c.requires.replayed c.in_ok-window.field-0.window c.in_ok-window.field-0.chosen (Ok c.in_ok-early.field-0) c.in_ok-early.ensures) c.ended-report.ensures.fits c.len.ensures
+    (subst (λ report. IsFinishOf (layer_walk c.in_ok-early.field-0.draft) report c.in_ok-finish.field-0) c.ended-report.ensures.value c.in_ok-finish.ensures)

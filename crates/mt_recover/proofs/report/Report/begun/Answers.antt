@@ -1,13 +1,12 @@
 use Rattle.std.proofs.Common.{◌≡◌, ◌∙◌, Option, length, ap, rules}
-use Rattle.std.specs.List.{filter, count_by}
+use Rattle.std.specs.List.{count_by}
 use Rattle.std.specs.Option.{option_map}
 use Rattle.mt_scan.specs.declared.checkpoint.Checkpoint.{Checkpoint as Chosen}
 use Rattle.mt_scan.specs.declared.log_scan.LogScan.{LogScan}
 use Rattle.mt_scan.specs.Choice.{Checkpoint}
 use Rattle.mt_replay.specs.declared.window.Window.{Window}
-use Rattle.mt_recover.specs.Report.{is_early}
 use Rattle.mt_recover.specs.Survivors.{entry_updates}
-use Rattle.mt_recover.proofs.ReportLemmas.{as_many, records_counted, marks_counted, torn_counted, same_updates, same_number}
+use Rattle.mt_recover.proofs.ReportLemmas.{as_many, records_counted, marks_counted, torn_counted, same_number}
 use Rattle.mt_recover.proofs.report.Report.begun.Goals as goal
 
 pub returns-clause-found : goal.returns-clause-found
@@ -26,5 +25,4 @@ returns-clause-found c =
       skipped = skipped;
       nameless = nameless;
       entries = c.entry_count.ensures ∙ ap (λ (o : Option Checkpoint). length (entry_updates o)) chosen;
-      early = c.early_count.ensures ∙ (λ i. length (filter (is_early (window i).begin) (same_updates 0 scans facts.readings show i)));
     }

@@ -4,7 +4,7 @@ use Rattle.mt_scan.specs.declared.log_scan.LogScan.{LogScan}
 use Rattle.mt_recover.specs.LogScans.{kept_by, kept}
 use Rattle.mt_recover.specs.Report.{is_early}
 use Rattle.mt_recover.proofs.ReportLemmas.{length-filter_flat, none_early}
-use Rattle.mt_recover.proofs.report.early_count.Goals as goal
+use Rattle.mt_recover.proofs.early.early_count.Goals as goal
 
 pub returns-then-begin-eq0 : goal.returns-then-begin-eq0
 returns-then-begin-eq0 c = sym (none_early c.args.begin (kept c.args.scans.now) c.if-begin-eq0.true)

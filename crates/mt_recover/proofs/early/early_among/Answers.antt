@@ -1,8 +1,8 @@
 use Rattle.std.proofs.Common.{◌≡◌, ◌+◌, ap, arith}
 use Rattle.mt_record.specs.Kept.{listed}
 use Rattle.mt_recover.proofs.ReportLemmas.{early_step, early_one, one_if}
-use Rattle.mt_recover.proofs.report.early_among.Goals as goal
-use Rattle.mt_recover.proofs.report.early_among.Goals.{then-comes_early, else-comes_early}
+use Rattle.mt_recover.proofs.early.early_among.Goals as goal
+use Rattle.mt_recover.proofs.early.early_among.Goals.{then-comes_early, else-comes_early}
 
 pub loop-number-preserved : goal.loop-number-preserved
 loop-number-preserved c =

@@ -1,0 +1,83 @@
+//! What the scans give once they are replayed, on one thread or by workers.
+ghost use Rattle.std.specs.Prelude.{IfOk};
+ghost use Rattle.std.specs.Option.{option_map};
+ghost use Rattle.mt_scan.specs.Choice.{checkpoint_in};
+ghost use Rattle.mt_recover.specs.Start.{IsReplayOf};
+
+use crate::cells::{cells_by, cells_of};
+use crate::early::{early_count, early_count_by};
+use crate::pieces::{replay_all, replay_pieces};
+use crate::{Cutting, Gate, Workers};
+use mt_replay::{Cuts, LogCells, Window};
+use mt_scan::{Checkpoint, LogScan};
+use mt_tree::Draft;
+use mt_words::Memory;
+use std::alloc::Global;
+use std::thread::Threads;
+
+/// What became of the updates of scans and of the entries of a checkpoint.
+#[derive(Drop)]
+pub(crate) struct Replayed {
+    /// How many updates lie below the window.
+    pub early: u128,
+    /// The cells of what survives.
+    pub lists: Vec<LogCells>,
+    /// The draft of their walk.
+    pub draft: Draft,
+}
+
+/// Replays the scans over the checkpoint, on one thread.
+pub(crate) fn replay_one(
+    alloc: Global,
+    scans: Vec<LogScan>,
+    window: Window,
+    chosen: Option<Checkpoint>,
+) -> Result<Replayed, Memory>
+    ensures { IfOk result (IsReplayOf window (option_map checkpoint_in chosen) scans.items) }
+{
+    let early = early_count(&scans, window.begin);
+    let lists = cells_of(alloc, scans, window, chosen)?;
+    let draft = replay_all(alloc, &lists)?;
+    Ok(Replayed {
+        early,
+        lists,
+        draft,
+    })
+}
+
+/// The same, by so many workers and with the keys cut so.
+pub(crate) fn replay_by<R: Threads + Sync, G: Gate>(
+    rt: &R,
+    alloc: Global,
+    scans: Vec<LogScan>,
+    window: Window,
+    chosen: Option<Checkpoint>,
+    workers: Workers,
+    cutting: Cutting,
+    gate: &G,
+) -> Result<Replayed, Memory>
+    ensures { IfOk result (IsReplayOf window (option_map checkpoint_in chosen) scans.items) }
+{
+    let early = early_count_by(rt, alloc, &scans, window.begin, workers)?;
+    let lists = cells_by(rt, alloc, scans, window, chosen, workers)?;
+    let cuts = cuts_of(rt, alloc, &lists, cutting)?;
+    let draft = replay_pieces(rt, alloc, &lists, &cuts, workers, gate)?;
+    Ok(Replayed {
+        early,
+        lists,
+        draft,
+    })
+}
+
+/// Where the keys of these cells are cut.
+fn cuts_of<R: Threads + Sync>(
+    rt: &R,
+    alloc: Global,
+    lists: &[LogCells],
+    cutting: Cutting,
+) -> Result<Cuts, Memory> {
+    match cutting {
+        Cutting::Even(pieces) => Cuts::even(rt, alloc, lists, pieces),
+        Cutting::At(cuts) => Ok(cuts),
+    }
+}
