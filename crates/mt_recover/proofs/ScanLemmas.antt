@@ -1,27 +1,30 @@
 -- Scans of sources, job by job.
-use Rattle.std.proofs.Common.{◌≡◌, ◌∙◌, ◌⊎◌, inl, inr, ◌+◌, ◌<◌, ℕ, suc, List, [], ◌∷◌, ◌++◌, length, map, refl, sym, ap, subst, append_assoc, append-nil, add-zero, arith}
+use Rattle.std.proofs.Common.{◌≡◌, ◌∙◌, ◌⊎◌, inl, inr, ◌+◌, ℕ, suc, List, [], ◌∷◌, ◌++◌, length, map, refl, sym, ap, subst, append_assoc, append-nil, add-zero, arith}
 use Rattle.std.specs.Prelude.{Ok, Err}
 use Rattle.std.specs.List.{AllZip}
-use Rattle.std.proofs.lemmas.List.{length-append, map-append}
+use Rattle.std.proofs.lemmas.List.{length-append, map-append, nil_from_length}
 use Rattle.mt_words.specs.declared.fault.Fault.{Fault}
 use Rattle.mt_words.specs.declared.fault.Fault.TheVariants as faults
 use Rattle.mt_record.specs.Logs.{LogReading}
 use Rattle.mt_scan.specs.declared.log_scan.LogScan.{LogScan}
 use Rattle.mt_scan.specs.declared.part_scan.PartScan.{PartScan}
 use Rattle.mt_scan.specs.Sources.{Seen}
-use Rattle.mt_scan.specs.Scans.{OfTold, IsScanOf}
+use Rattle.mt_scan.specs.Scans.{IsScanOf}
 use Rattle.mt_scan.specs.PartScans.{IsKnown, known_by}
+use Rattle.mt_scan.proofs.Telling.{some_bytes}
 use Rattle.mt_recover.specs.declared.scan_all.Job.{Job}
 use Rattle.mt_recover.specs.declared.scan_all.Text.{Text}
+use Rattle.mt_recover.specs.declared.scan_all.Text.TheVariants as texts
+use Rattle.mt_recover.specs.declared.scan_all.Scans.{Scans}
 use Rattle.mt_recover.specs.declared.scan_all.Scanned.{Scanned}
 use Rattle.mt_recover.specs.declared.scan_all.Scanned.TheVariants as scanned
 use Rattle.mt_recover.specs.Recovery.{AreReadings, AreKnown}
 use Rattle.mt_recover.specs.LogScans.{ShowAll, AreScansOf}
-use Rattle.mt_recover.specs.Inputs.{MayHave, OfSources, AreLogs, IsAnsweredFrom, BlamesUnsteady}
-use Rattle.mt_recover.specs.ScanJobs.{IsScanned, numbered, log_jobs, part_jobs, logs_in, parts_in, IsFirstFault}
+use Rattle.mt_recover.specs.Inputs.{MayHave, AreLogs}
+use Rattle.mt_recover.specs.ScanJobs.{IsScanned, IsOutcome, numbered, log_jobs, part_jobs, logs_in, parts_in, IsFirstFault, HaveScanned, AreScans, IsAnsweredBy}
 use Rattle.mt_recover.proofs.ReadingLemmas.{scans_append}
 use Rattle.mt_recover.proofs.SharingLemmas.{zip_split}
-use Rattle.mt_recover.proofs.SourceLemmas.{HaveScans, HaveKnown, some_logs, may_append, known_append, fault_among, blames, blames_part, part_fault, as_many_have}
+use Rattle.mt_recover.proofs.SourceLemmas.{some_logs, may_append, fault_among, blames, blames_part, part_fault, as_many_have}
 
 -- ---- numbered jobs
 
@@ -72,31 +75,27 @@ part_more outcomes outcome parts new scan is pushed are =
 logs_stay : (outcomes : List Scanned) (outcome : Scanned) (logs : List LogScan) (scan : PartScan) → outcome ≡ scanned.Part (Ok scan) → logs_in outcomes ≡ map Ok logs → logs_in (outcomes ++ outcome ∷ []) ≡ map Ok logs
 logs_stay outcomes outcome logs scan is are = ap (λ (o : Scanned). logs_in (outcomes ++ o ∷ [])) is ∙ logs_in-append outcomes (scanned.Part (Ok scan) ∷ []) ∙ append-nil (logs_in outcomes) ∙ are
 
--- the scans so far, none of which has a fault: of these outcomes, of which others are left
-pub record AreScansSoFar (all done left : List Scanned) (log_scans : List LogScan) (part_scans : List PartScan) : Type 0 where
-  pub rest : done ++ left ≡ all
-  pub logs : logs_in done ≡ map Ok log_scans
-  pub parts : parts_in done ≡ map Ok part_scans
-  pub first : (fault : Fault) → IsFirstFault left fault → IsFirstFault all fault
+-- a fault behind one more outcome
+sound_more : {scans : Scans} (done : List Scanned) (outcome : Scanned) (rest : List Scanned) (fault : Fault) → HaveScanned done scans → IsFirstFault (outcome ∷ rest) fault
+    → IsFirstFault ((done ++ outcome ∷ []) ++ rest) fault
+sound_more done outcome rest fault have first = subst (λ (os : List Scanned). IsFirstFault os fault) (sym (append_assoc done (outcome ∷ []) rest)) (have.sound (outcome ∷ rest) fault first)
 
--- one more log
-pub next_log : (all done left rest : List Scanned) (outcome : Scanned) (logs new : List LogScan) (parts : List PartScan) (scan : LogScan) → outcome ≡ scanned.Log (Ok scan) → left ≡ outcome ∷ rest → new ≡ logs ++ scan ∷ []
-    → AreScansSoFar all done left logs parts → AreScansSoFar all (done ++ outcome ∷ []) rest new parts
-next_log all done left rest outcome logs new parts scan is next pushed so_far = record {
-  rest = append_assoc done (outcome ∷ []) rest ∙ ap (λ os. done ++ os) (sym next) ∙ so_far.rest;
-  logs = log_more done outcome logs new scan is pushed so_far.logs;
-  parts = parts_stay done outcome parts scan is so_far.parts;
-  first = λ fault first. so_far.first fault (subst (λ (os : List Scanned). IsFirstFault os fault) (sym (next ∙ ap (λ (o : Scanned). o ∷ rest) is)) first);
+-- the scans of one more log
+pub have_log : (done : List Scanned) (outcome : Scanned) (scans new : Scans) (scan : LogScan) → outcome ≡ scanned.Log (Ok scan) → new.logs.items ≡ scans.logs.items ++ scan ∷ [] → new.parts ≡ scans.parts
+    → HaveScanned done scans → HaveScanned (done ++ outcome ∷ []) new
+have_log done outcome scans new scan is pushed stay have = record {
+  logs = log_more done outcome scans.logs.items new.logs.items scan is pushed have.logs;
+  parts = parts_stay done outcome scans.parts.items scan is have.parts ∙ (λ i. map Ok (sym stay i).items);
+  sound = λ rest fault first. sound_more done outcome rest fault have (subst (λ o. IsFirstFault (o ∷ rest) fault) (sym is) first);
 }
 
--- one more part
-pub next_part : (all done left rest : List Scanned) (outcome : Scanned) (logs : List LogScan) (parts new : List PartScan) (scan : PartScan) → outcome ≡ scanned.Part (Ok scan) → left ≡ outcome ∷ rest → new ≡ parts ++ scan ∷ []
-    → AreScansSoFar all done left logs parts → AreScansSoFar all (done ++ outcome ∷ []) rest logs new
-next_part all done left rest outcome logs parts new scan is next pushed so_far = record {
-  rest = append_assoc done (outcome ∷ []) rest ∙ ap (λ os. done ++ os) (sym next) ∙ so_far.rest;
-  logs = logs_stay done outcome logs scan is so_far.logs;
-  parts = part_more done outcome parts new scan is pushed so_far.parts;
-  first = λ fault first. so_far.first fault (subst (λ (os : List Scanned). IsFirstFault os fault) (sym (next ∙ ap (λ (o : Scanned). o ∷ rest) is)) first);
+-- and of one more part
+pub have_part : (done : List Scanned) (outcome : Scanned) (scans new : Scans) (scan : PartScan) → outcome ≡ scanned.Part (Ok scan) → new.parts.items ≡ scans.parts.items ++ scan ∷ [] → new.logs ≡ scans.logs
+    → HaveScanned done scans → HaveScanned (done ++ outcome ∷ []) new
+have_part done outcome scans new scan is pushed stay have = record {
+  logs = logs_stay done outcome scans.logs.items scan is have.logs ∙ (λ i. map Ok (sym stay i).items);
+  parts = part_more done outcome scans.parts.items new.parts.items scan is pushed have.parts;
+  sound = λ rest fault first. sound_more done outcome rest fault have (subst (λ o. IsFirstFault (o ∷ rest) fault) (sym is) first);
 }
 
 -- ---- scans of all sources
@@ -157,7 +156,7 @@ jobs_split : {S : Type 0} (seen : S → Seen) (logs parts : List S) (jobs : List
     → (front back : List Scanned) × (outcomes ≡ front ++ back) × AllZip (IsScanned seen) (log_jobs 0 logs) front × AllZip (IsScanned seen) (part_jobs 0 parts) back
 jobs_split seen logs parts jobs outcomes same zip = zip_split (IsScanned seen) (log_jobs 0 logs) (part_jobs 0 parts) outcomes (subst (λ (js : List (Job _)). AllZip (IsScanned seen) js outcomes) same zip)
 
-pub all_logs : {S : Type 0} (seen : S → Seen) (logs parts : List S) (jobs : List (Job S)) (outcomes : List Scanned) (scans : List LogScan) → jobs ≡ log_jobs 0 logs ++ part_jobs 0 parts → AllZip (IsScanned seen) jobs outcomes → logs_in outcomes ≡ map Ok scans
+all_logs : {S : Type 0} (seen : S → Seen) (logs parts : List S) (jobs : List (Job S)) (outcomes : List Scanned) (scans : List LogScan) → jobs ≡ log_jobs 0 logs ++ part_jobs 0 parts → AllZip (IsScanned seen) jobs outcomes → logs_in outcomes ≡ map Ok scans
     → (bytes : List (List ℕ)) × MayHave seen logs bytes × AreScansOf bytes scans
 all_logs seen logs parts jobs outcomes scans same zip are =
     let both = jobs_split seen logs parts jobs outcomes same zip in
@@ -166,7 +165,7 @@ all_logs seen logs parts jobs outcomes scans same zip are =
     let whole = whole_logs seen 0 logs both.0 scans both.3 (first ∙ are) in
     (whole.0, whole.1, record { readings = whole.2; read = whole.3; show = whole.4 })
 
-pub all_parts : {S : Type 0} (seen : S → Seen) (logs parts : List S) (jobs : List (Job S)) (outcomes : List Scanned) (scans : List PartScan) → jobs ≡ log_jobs 0 logs ++ part_jobs 0 parts → AllZip (IsScanned seen) jobs outcomes → parts_in outcomes ≡ map Ok scans
+all_parts : {S : Type 0} (seen : S → Seen) (logs parts : List S) (jobs : List (Job S)) (outcomes : List Scanned) (scans : List PartScan) → jobs ≡ log_jobs 0 logs ++ part_jobs 0 parts → AllZip (IsScanned seen) jobs outcomes → parts_in outcomes ≡ map Ok scans
     → (bytes : List (List ℕ)) × MayHave seen parts bytes × AreKnown bytes (map known_by scans)
 all_parts seen logs parts jobs outcomes scans same zip are =
     let both = jobs_split seen logs parts jobs outcomes same zip in
@@ -174,31 +173,15 @@ all_parts seen logs parts jobs outcomes scans same zip are =
     ap (λ l. l ++ parts_in both.1) (sym (no_parts seen 0 logs both.0 both.3)) ∙ sym (parts_in-append both.0 both.1) ∙ ap parts_in (sym both.2) in
     known_parts seen 0 parts both.1 scans both.4 (last ∙ are)
 
--- ---- one source more
-
--- what the sources of logs may have
-pub have_log : {S : Type 0} (seen : S → Seen) (sources : List S) (source : S) (scans new : List LogScan) (scan : LogScan) (number : ℕ) → number ≡ length scans → new ≡ scans ++ scan ∷ []
-    → HaveScans seen sources scans → OfTold (seen source).told (λ bytes. IsScanOf number bytes scan) → HaveScans seen (sources ++ source ∷ []) new
-have_log seen sources source scans new scan number at pushed have is = (
-  have.0 ++ is.0 ∷ [],
-  may_append seen sources (source ∷ []) have.0 (is.0 ∷ []) have.1 (is.1, tt),
-  subst (AreScansOf (have.0 ++ is.0 ∷ [])) (sym pushed) (scans_append have.0 scans is.0 scan number at have.2 is.2),
-)
-
--- and those of parts
-pub have_part : {S : Type 0} (seen : S → Seen) (sources : List S) (source : S) (scans new : List PartScan) (scan : PartScan) → new ≡ scans ++ scan ∷ []
-    → HaveKnown seen sources (map known_by scans) → OfTold (seen source).told (λ bytes. IsKnown bytes (known_by scan)) → HaveKnown seen (sources ++ source ∷ []) (map known_by new)
-have_part seen sources source scans new scan pushed have is = (
-  have.0 ++ is.0 ∷ [],
-  may_append seen sources (source ∷ []) have.0 (is.0 ∷ []) have.1 (is.1, tt),
-  subst (λ (all : List PartScan). AreKnown (have.0 ++ is.0 ∷ []) (map known_by all)) (sym pushed) (known_append have.0 scans is.0 scan have.2 is.2),
-)
+-- all that was scanned
+pub are_scans : {S : Type 0} (seen : S → Seen) (logs parts : List S) (jobs : List (Job S)) (outcomes : List Scanned) (scans : Scans) → jobs ≡ log_jobs 0 logs ++ part_jobs 0 parts → AllZip (IsScanned seen) jobs outcomes
+    → HaveScanned outcomes scans → AreScans seen logs parts scans
+are_scans seen logs parts jobs outcomes scans same zip have = record {
+  logs = all_logs seen logs parts jobs outcomes scans.logs.items same zip have.logs;
+  parts = all_parts seen logs parts jobs outcomes scans.parts.items same zip have.parts;
+}
 
 -- ---- the first fault
-
--- what an answered fault of these sources says
-abbrev pub IsAnsweredBy : {S : Type 0} → (S → Seen) → List S → List S → Fault → Type 0
-IsAnsweredBy seen logs parts fault = (0 < length logs → OfSources seen logs parts (λ ls ps. IsAnsweredFrom ls ps fault)) × BlamesUnsteady seen logs parts fault
 
 part_faults : {S : Type 0} (seen : S → Seen) (log_sources front parts : List S) (logs : List (List ℕ)) (number : ℕ) (outcomes : List Scanned) (fault : Fault) → number ≡ length front → MayHave seen log_sources logs → AreLogs logs
     → AllZip (IsScanned seen) (part_jobs number parts) outcomes → IsFirstFault outcomes fault → IsAnsweredBy seen log_sources (front ++ parts) fault
@@ -255,3 +238,58 @@ all_faults seen logs parts jobs outcomes fault same zip (inl memory) = subst (Is
 all_faults seen logs parts jobs outcomes fault same zip (inr first) =
     let both = jobs_split seen logs parts jobs outcomes same zip in
     log_faults seen [] logs parts [] [] 0 both.0 both.1 fault refl refl tt (record { readings = []; read = tt; show = tt }) both.3 both.4 (subst (λ (os : List Scanned). IsFirstFault os fault) both.2 first)
+
+-- ---- one source after the other
+
+-- what the scan of a source may give
+some_outcome : (seen : Seen) (text : Text) (number : ℕ) → (outcome : Scanned) × IsOutcome seen text number outcome
+some_outcome seen texts.Log number =
+    let bytes = some_bytes seen.told in
+    (scanned.Log (Err faults.Memory), record { scan = tt; fault = (bytes.0, bytes.1, tt); steady = λ _. refl })
+some_outcome seen texts.Part number = (scanned.Part (Err faults.Memory), record { scan = tt; fault = tt; steady = λ _. refl })
+
+some_outcomes : {S : Type 0} (seen : S → Seen) (jobs : List (Job S)) → (outcomes : List Scanned) × AllZip (IsScanned seen) jobs outcomes
+some_outcomes seen [] = ([], tt)
+some_outcomes seen (j ∷ js) =
+    let own = some_outcome (seen j.source) j.text j.number in
+    let rest = some_outcomes seen js in
+    (own.0 ∷ rest.0, (own.1, rest.1))
+
+-- outcomes behind others
+zip_append : {S : Type 0} (seen : S → Seen) (jobs others : List (Job S)) (done more : List Scanned) → AllZip (IsScanned seen) jobs done → AllZip (IsScanned seen) others more → AllZip (IsScanned seen) (jobs ++ others) (done ++ more)
+zip_append seen [] others [] more zip too = too
+zip_append seen [] others (o ∷ os) more zip too = absurd zip
+zip_append seen (j ∷ js) others [] more zip too = absurd zip
+zip_append seen (j ∷ js) others (o ∷ os) more zip too = (zip.0, zip_append seen js others os more zip.1 too)
+
+-- what was scanned so far of these jobs, of which others are left
+pub record AreScannedSoFar {S : Type 0} (seen : S → Seen) (jobs done left : List (Job S)) (scans : Scans) : Type 0 where
+  pub rest : done ++ left ≡ jobs
+  pub outcomes : List Scanned
+  pub zip : AllZip (IsScanned seen) done outcomes
+  pub have : HaveScanned outcomes scans
+
+-- one more job
+pub next_scanned : {S : Type 0} (seen : S → Seen) (jobs done left rest : List (Job S)) (job : Job S) (outcome : Scanned) (scans new : Scans) → left ≡ job ∷ rest → IsScanned seen job outcome
+    → ((outcomes : List Scanned) → HaveScanned outcomes scans → HaveScanned (outcomes ++ outcome ∷ []) new) → AreScannedSoFar seen jobs done left scans → AreScannedSoFar seen jobs (done ++ job ∷ []) rest new
+next_scanned seen jobs done left rest job outcome scans new next is added so_far = record {
+  rest = append_assoc done (job ∷ []) rest ∙ ap (λ js. done ++ js) (sym next) ∙ so_far.rest;
+  outcomes = so_far.outcomes ++ outcome ∷ [];
+  zip = zip_append seen done (job ∷ []) so_far.outcomes (outcome ∷ []) so_far.zip (is, tt);
+  have = added so_far.outcomes so_far.have;
+}
+
+-- the fault of the next one is that of the sources
+pub next_fault : {S : Type 0} (seen : S → Seen) (logs parts : List S) (done left rest : List (Job S)) (job : Job S) (outcome : Scanned) (scans : Scans) (fault : Fault) → left ≡ job ∷ rest → IsScanned seen job outcome
+    → ((fault ≡ faults.Memory) ⊎ ((others : List Scanned) → IsFirstFault (outcome ∷ others) fault)) → AreScannedSoFar seen (log_jobs 0 logs ++ part_jobs 0 parts) done left scans → IsAnsweredBy seen logs parts fault
+next_fault seen logs parts done left rest job outcome scans fault next is (inl memory) so_far = subst (IsAnsweredBy seen logs parts) (sym memory) (memory_fault seen logs parts)
+next_fault seen logs parts done left rest job outcome scans fault next is (inr first) so_far =
+    let others = some_outcomes seen rest in
+    all_faults seen logs parts (done ++ job ∷ rest) (so_far.outcomes ++ outcome ∷ others.0) fault (ap (λ js. done ++ js) (sym next) ∙ so_far.rest)
+    (zip_append seen done (job ∷ rest) so_far.outcomes (outcome ∷ others.0) so_far.zip (is, others.1)) (inr (so_far.have.sound (outcome ∷ others.0) fault (first others.0)))
+
+-- all jobs are done
+pub all_scanned : {S : Type 0} (seen : S → Seen) (logs parts : List S) (done left : List (Job S)) (scans : Scans) → length left ≡ 0 → AreScannedSoFar seen (log_jobs 0 logs ++ part_jobs 0 parts) done left scans
+    → AreScans seen logs parts scans
+all_scanned seen logs parts done left scans none so_far =
+    are_scans seen logs parts done so_far.outcomes scans (sym (append-nil done) ∙ ap (λ js. done ++ js) (sym (nil_from_length left none)) ∙ so_far.rest) so_far.zip so_far.have

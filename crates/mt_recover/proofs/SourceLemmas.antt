@@ -1,7 +1,7 @@
 -- Sources that were scanned one after the other.
 use Rattle.std.proofs.Common.{◌≡◌, ◌∙◌, ℕ, zero, suc, ◌<◌, Bool, true, false, IsTrue, List, [], ◌∷◌, ◌++◌, length, map, take, Some, Err, refl, sym, ap, subst, arith}
-use Rattle.std.proofs.lemmas.List.{length-append, nil_from_length, map-append, take_at}
-use Rattle.std.proofs.lemmas.Slice.Zip.{all_zipped_more, AllZip-long}
+use Rattle.std.proofs.lemmas.List.{nil_from_length, take_at}
+use Rattle.std.proofs.lemmas.Slice.Zip.{AllZip-long}
 use Rattle.std.proofs.lemmas.Bool.Decides.{nat_tests}
 use Rattle.std.proofs.lemmas.Result.{IfOk-weaker, IfErr-weaker}
 use Rattle.std.specs.Prelude.{◌==◌, slice_get, Result, IfOk, IfErr}
@@ -12,12 +12,14 @@ use Rattle.mt_scan.specs.declared.log_scan.LogScan.{LogScan}
 use Rattle.mt_scan.specs.declared.part_scan.PartScan.{PartScan}
 use Rattle.mt_scan.specs.Sources.{Seen, Agrees}
 use Rattle.mt_scan.specs.Scans.{IsScanFault, failures_of}
-use Rattle.mt_scan.specs.PartScans.{KnownPart, IsKnown, known_by, IsPartScanFault}
+use Rattle.mt_scan.specs.PartScans.{known_by, IsPartScanFault}
 use Rattle.mt_scan.proofs.Telling.{some_bytes}
 use Rattle.mt_recover.specs.Recovery.{AreReadings, AreKnown}
 use Rattle.mt_recover.specs.Report.{Outcome, IsRecoveredOf}
 use Rattle.mt_recover.specs.Verdict.{IsVerdictOrMemory}
 use Rattle.mt_recover.specs.LogScans.{ShowAll, AreScansOf}
+use Rattle.mt_recover.specs.declared.scan_all.Scans.{Scans}
+use Rattle.mt_recover.specs.ScanJobs.{AreScans}
 use Rattle.mt_recover.specs.Inputs.{MayHave, OfSources, AreLogs, IsAnsweredFrom, BlamesUnsteady}
 
 -- ---- what sources may have
@@ -37,12 +39,6 @@ may_append seen [] others [] more may too = too
 may_append seen [] others (l ∷ ls) more may too = absurd may
 may_append seen (s ∷ ss) others [] more may too = absurd may
 may_append seen (s ∷ ss) others (l ∷ ls) more may too = (may.0, may_append seen ss others ls more may.1 too)
-
--- ---- one more log
-
-pub as_many_more : {A B : Type 0} (xs : List A) (ys more : List B) (x : A) (y : B) → more ≡ ys ++ y ∷ [] → length ys ≡ length xs
-    → length more ≡ length (xs ++ x ∷ [])
-as_many_more xs ys more x y e same = omega (arith, ap length e, same, length-append ys (y ∷ []), length-append xs (x ∷ []))
 
 -- ---- the fault of a log behind whole logs
 
@@ -101,12 +97,6 @@ blames {S} seen front rest parts source bytes number fault at is steady = by fau
 
 -- ---- parts
 
--- one more part
-pub known_append : (parts : List (List ℕ)) (scans : List PartScan) (bytes : List ℕ) (scan : PartScan) → AreKnown parts (map known_by scans) → IsKnown bytes (known_by scan)
-    → AreKnown (parts ++ bytes ∷ []) (map known_by (scans ++ scan ∷ []))
-known_append parts scans bytes scan are is =
-    subst (AreKnown (parts ++ bytes ∷ [])) (sym (map-append known_by scans (scan ∷ []))) (all_zipped_more IsKnown parts (map known_by scans) bytes (known_by scan) are is)
-
 -- the source of a part that is blamed
 pub blames_part : {S : Type 0} (seen : S → Seen) (logs front rest : List S) (source : S) (number : ℕ) (fault : Fault) → number ≡ length front
     → IsPartScanFault number fault → (IsTrue (seen source).steady → failures_of {X = PartScan} (Err fault) ≡ 0) → BlamesUnsteady seen logs (front ++ source ∷ rest) fault
@@ -128,11 +118,6 @@ pub no_sources : {S : Type 0} (sources : List S) (n : ℕ) (empty : Bool) → em
 no_sources sources n empty test same is =
     let zero : (n == 0) ≡ true = sym test ∙ is in
     nil_from_length sources (grind (arith, nat_tests))
-
-pub some_sources : {S : Type 0} (sources : List S) (n : ℕ) (empty : Bool) → empty ≡ (n == 0) → n ≡ length sources → empty ≡ false → 0 < length sources
-some_sources sources n empty test same is =
-    let some : (n == 0) ≡ false = sym test ∙ is in
-    grind (arith, nat_tests)
 
 -- no sources have no logs
 pub none_to_have : {S : Type 0} (seen : S → Seen) (sources : List S) → sources ≡ [] → MayHave seen sources []
@@ -158,32 +143,28 @@ blames_none seen ls ps logs parts fault is = tt
 
 -- ---- recovery from what sources have
 
--- the sources may have logs of which these are the scans
-abbrev pub HaveScans : {S : Type 0} → (S → Seen) → List S → List LogScan → Type 0
-HaveScans seen sources scans = (logs : List (List ℕ)) × MayHave seen sources logs × AreScansOf logs scans
-
--- and parts of which this is known
-abbrev pub HaveKnown : {S : Type 0} → (S → Seen) → List S → List KnownPart → Type 0
-HaveKnown seen sources known = (parts : List (List ℕ)) × MayHave seen sources parts × AreKnown parts known
-
 -- what is said of all logs and parts that have these scans
-abbrev pub OfScans : List LogScan → List KnownPart → (List (List ℕ) → List (List ℕ) → Type 0) → Type 0
-OfScans scans known P = (logs parts : List (List ℕ)) → AreScansOf logs scans → AreKnown parts known → P logs parts
+abbrev pub OfScans : Scans → (List (List ℕ) → List (List ℕ) → Type 0) → Type 0
+OfScans scans P = (logs parts : List (List ℕ)) → AreScansOf logs scans.logs.items → AreKnown parts (map known_by scans.parts.items) → P logs parts
 
 -- what is recovered from scans is what their sources have
-pub recovered_of_sources : {S : Type 0} (seen : S → Seen) (logs parts : List S) (scans : List LogScan) (known : List KnownPart) (result : Result Outcome Fault) → HaveScans seen logs scans → HaveKnown seen parts known
-    → OfScans scans known (λ ls ps. IfOk result (IsRecoveredOf ls ps)) → IfOk result (λ recovered. OfSources seen logs parts (λ ls ps. IsRecoveredOf ls ps recovered))
-recovered_of_sources seen logs parts scans known result have knows says =
-    IfOk-weaker result _ (λ recovered. OfSources seen logs parts (λ ls ps. IsRecoveredOf ls ps recovered)) (λ recovered is. (have.0, knows.0, have.1, knows.1, is)) (says have.0 knows.0 have.2 knows.2)
+pub recovered_of_sources : {S : Type 0} (seen : S → Seen) (logs parts : List S) (scans : Scans) (result : Result Outcome Fault) → AreScans seen logs parts scans
+    → OfScans scans (λ ls ps. IfOk result (IsRecoveredOf ls ps)) → IfOk result (λ recovered. OfSources seen logs parts (λ ls ps. IsRecoveredOf ls ps recovered))
+recovered_of_sources seen logs parts scans result are says =
+    let ls = are.logs in
+    let ps = are.parts in
+    IfOk-weaker result _ (λ recovered. OfSources seen logs parts (λ ls ps. IsRecoveredOf ls ps recovered)) (λ recovered is. (ls.0, ps.0, ls.1, ps.1, is)) (says ls.0 ps.0 ls.2 ps.2)
 
 -- so is their fault
-pub fault_of_sources : {S : Type 0} (seen : S → Seen) (logs parts : List S) (scans : List LogScan) (known : List KnownPart) (result : Result Outcome Fault) → HaveScans seen logs scans → HaveKnown seen parts known
-    → OfScans scans known (λ ls ps. IfErr result (IsVerdictOrMemory ls ps)) → IfErr result (λ fault. OfSources seen logs parts (λ ls ps. IsAnsweredFrom ls ps fault))
-fault_of_sources seen logs parts scans known result have knows says =
-    IfErr-weaker result _ (λ fault. OfSources seen logs parts (λ ls ps. IsAnsweredFrom ls ps fault)) (λ fault is. (have.0, knows.0, have.1, knows.1, answered_from have.0 knows.0 fault is)) (says have.0 knows.0 have.2 knows.2)
+pub fault_of_sources : {S : Type 0} (seen : S → Seen) (logs parts : List S) (scans : Scans) (result : Result Outcome Fault) → AreScans seen logs parts scans
+    → OfScans scans (λ ls ps. IfErr result (IsVerdictOrMemory ls ps)) → IfErr result (λ fault. OfSources seen logs parts (λ ls ps. IsAnsweredFrom ls ps fault))
+fault_of_sources seen logs parts scans result are says =
+    let ls = are.logs in
+    let ps = are.parts in
+    IfErr-weaker result _ (λ fault. OfSources seen logs parts (λ ls ps. IsAnsweredFrom ls ps fault)) (λ fault is. (ls.0, ps.0, ls.1, ps.1, answered_from ls.0 ps.0 fault is)) (says ls.0 ps.0 ls.2 ps.2)
 
 -- which blames no source
-pub none_blamed : {S : Type 0} (seen : S → Seen) (logs parts : List S) (scans : List LogScan) (known : List KnownPart) (result : Result Outcome Fault) → HaveScans seen logs scans → HaveKnown seen parts known
-    → OfScans scans known (λ ls ps. IfErr result (IsVerdictOrMemory ls ps)) → IfErr result (BlamesUnsteady seen logs parts)
-none_blamed seen logs parts scans known result have knows says =
-    IfErr-weaker result _ (BlamesUnsteady seen logs parts) (λ fault is. blames_none seen logs parts have.0 knows.0 fault is) (says have.0 knows.0 have.2 knows.2)
+pub none_blamed : {S : Type 0} (seen : S → Seen) (logs parts : List S) (scans : Scans) (result : Result Outcome Fault) → AreScans seen logs parts scans
+    → OfScans scans (λ ls ps. IfErr result (IsVerdictOrMemory ls ps)) → IfErr result (BlamesUnsteady seen logs parts)
+none_blamed seen logs parts scans result are says =
+    IfErr-weaker result _ (BlamesUnsteady seen logs parts) (λ fault is. blames_none seen logs parts are.logs.0 are.parts.0 fault is) (says are.logs.0 are.parts.0 are.logs.2 are.parts.2)

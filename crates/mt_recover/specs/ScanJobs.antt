@@ -1,5 +1,5 @@
 -- Sources to scan, and what their scans gave.
-use Rattle.std.specs.Prelude.{◌≡◌, ℕ, suc, IsTrue, List, [], ◌∷◌, Result, Ok, Err, IfOk, IfErr}
+use Rattle.std.specs.Prelude.{◌≡◌, ◌<◌, ℕ, suc, IsTrue, List, [], ◌∷◌, ◌++◌, length, map, Result, Ok, Err, IfOk, IfErr}
 use Rattle.mt_words.specs.declared.fault.Fault.{Fault}
 use Rattle.mt_scan.specs.declared.log_scan.LogScan.{LogScan}
 use Rattle.mt_scan.specs.declared.part_scan.PartScan.{PartScan}
@@ -11,6 +11,10 @@ use Rattle.mt_recover.specs.declared.scan_all.Text.{Text}
 use Rattle.mt_recover.specs.declared.scan_all.Text.TheVariants as texts
 use Rattle.mt_recover.specs.declared.scan_all.Scanned.{Scanned}
 use Rattle.mt_recover.specs.declared.scan_all.Scanned.TheVariants as scanned
+use Rattle.mt_recover.specs.declared.scan_all.Scans.{Scans}
+use Rattle.mt_recover.specs.Recovery.{AreKnown}
+use Rattle.mt_recover.specs.LogScans.{AreScansOf}
+use Rattle.mt_recover.specs.Inputs.{MayHave, OfSources, IsAnsweredFrom, BlamesUnsteady}
 
 -- the jobs of sources that have such texts, numbered from this number on
 abbrev pub numbered : {S : Type 0} → Text → ℕ → List S → List (Job S)
@@ -67,3 +71,18 @@ IsFirstFault (scanned.Log (Ok scan) ∷ outcomes) fault = IsFirstFault outcomes 
 IsFirstFault (scanned.Log (Err first) ∷ outcomes) fault = first ≡ fault
 IsFirstFault (scanned.Part (Ok scan) ∷ outcomes) fault = IsFirstFault outcomes fault
 IsFirstFault (scanned.Part (Err first) ∷ outcomes) fault = first ≡ fault
+
+-- the scans of these outcomes, none of which has a fault
+pub record HaveScanned (done : List Scanned) (scans : Scans) : Type 0 where
+  pub logs : logs_in done ≡ map Ok scans.logs.items
+  pub parts : parts_in done ≡ map Ok scans.parts.items
+  pub sound : (rest : List Scanned) (fault : Fault) → IsFirstFault rest fault → IsFirstFault (done ++ rest) fault
+
+-- the scans of logs and parts that these sources may have
+pub record AreScans {S : Type 0} (seen : S → Seen) (log_sources part_sources : List S) (scans : Scans) : Type 0 where
+  pub logs : (texts : List (List ℕ)) × MayHave seen log_sources texts × AreScansOf texts scans.logs.items
+  pub parts : (texts : List (List ℕ)) × MayHave seen part_sources texts × AreKnown texts (map known_by scans.parts.items)
+
+-- what an answered fault of these sources says
+abbrev pub IsAnsweredBy : {S : Type 0} → (S → Seen) → List S → List S → Fault → Type 0
+IsAnsweredBy seen logs parts fault = (0 < length logs → OfSources seen logs parts (λ ls ps. IsAnsweredFrom ls ps fault)) × BlamesUnsteady seen logs parts fault

@@ -15,8 +15,6 @@ mod replayed;
 mod report;
 mod report_text;
 mod scan_all;
-mod scan_logs;
-mod scan_parts;
 mod start;
 mod store;
 mod workers;

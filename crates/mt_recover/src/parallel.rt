@@ -39,11 +39,10 @@ pub fn recover<R: Threads + Sync, S: Source + Send, G: Gate>(
     if inputs.logs.is_empty() {
         return Err(Fault::NoLogs);
     }
-    let (scans, parts) = scan_all(rt, alloc, inputs, workers)?;
+    let scans = scan_all(rt, alloc, inputs, workers)?;
     recover_scans(
         alloc,
         scans,
-        parts,
         |alloc: Global, scans: Vec<LogScan>, window: Window, chosen: Option<Checkpoint>| -> Result<
             Replayed,
             Memory,

@@ -19,12 +19,11 @@ ghost use Rattle.mt_recover.specs.Inputs.{OfSources, IsAnsweredFrom, BlamesUnste
 use crate::read_logs::read_logs;
 use crate::replayed::{Replayed, replay_one};
 use crate::report::Report;
-use crate::scan_logs::scan_logs;
-use crate::scan_parts::scan_parts;
+use crate::scan_all::{Scans, scan_one};
 use crate::start::Start;
 use crate::store::Store;
 use mt_replay::Window;
-use mt_scan::{Checkpoint, LogScan, PartScan, Source};
+use mt_scan::{Checkpoint, LogScan, Source};
 use mt_tree::Draft;
 use mt_words::{Fault, Memory};
 use std::alloc::Global;
@@ -101,13 +100,11 @@ pub fn recover_one<S: Source>(alloc: Global, inputs: Inputs<S>) -> Result<Recove
         (λ logs parts. IsAnsweredFrom logs parts fault)) }
     ensures steady { IfErr result (BlamesUnsteady S.seen inputs.logs.items inputs.parts.items) }
 {
-    let Inputs { logs, parts } = inputs;
-    if logs.is_empty() {
+    if inputs.logs.is_empty() {
         return Err(Fault::NoLogs);
     }
-    let scans = scan_logs(alloc, logs)?;
-    let parts = scan_parts(alloc, parts)?;
-    recover_scans(alloc, scans, parts, replay_one)
+    let scans = scan_one(alloc, inputs)?;
+    recover_scans(alloc, scans, replay_one)
 }
 
 /// The store of the logs whose bytes are these, without a checkpoint, and its report, on one thread. The position of a
@@ -116,35 +113,39 @@ pub fn recover_logs(alloc: Global, logs: &[&[u8]]) -> Result<Recovered, Fault>
     ensures recovered { IfOk result (IsRecoveredOf (map (λ log. log.now) logs.now) []) }
     ensures fault { IfErr result (IsVerdictOrMemory (map (λ log. log.now) logs.now) []) }
 {
-    let scans = read_logs(alloc, logs)?;
-    recover_scans(alloc, scans, Vec::new(alloc), replay_one)
+    let scans = Scans {
+        logs: read_logs(alloc, logs)?,
+        parts: Vec::new(alloc),
+    };
+    recover_scans(alloc, scans, replay_one)
 }
 
 /// The store of the logs and parts whose scans are these, each in the order of their numbers, and its report, where
 /// this replays the scans. An Err is `NoLogs`, the least log with a gap, or `Memory`.
 pub(crate) fn recover_scans<
     F: FnOnce(Global, Vec<LogScan>, Window, Option<Checkpoint>) -> Result<Replayed, Memory> + Drop,
->(alloc: Global, scans: Vec<LogScan>, parts: Vec<PartScan>, replay: F) -> Result<Recovered, Fault>
-    requires scanned { (logs : List (List ℕ)) × AreScansOf logs scans.items }
-    requires known { (part_bytes : List (List ℕ)) × AreKnown part_bytes (map known_by parts.items) }
-    requires replays { (window : WindowValue) (chosen : Option CheckpointValue) → F.pre replay alloc scans window chosen }
+>(alloc: Global, scans: Scans, replay: F) -> Result<Recovered, Fault>
+    requires scanned { (logs : List (List ℕ)) × AreScansOf logs scans.logs.items }
+    requires known { (part_bytes : List (List ℕ)) × AreKnown part_bytes (map known_by scans.parts.items) }
+    requires replays { (window : WindowValue) (chosen : Option CheckpointValue) → F.pre replay alloc scans.logs window chosen }
     requires replayed { (window : WindowValue) (chosen : Option CheckpointValue) (answer : Result ReplayedValue MemoryValue) →
-        F.post replay alloc scans window chosen answer → IfOk answer (IsReplayOf window (option_map checkpoint_in chosen) scans.items) }
-    ensures recovered { (logs part_bytes : List (List ℕ)) → AreScansOf logs scans.items →
-        AreKnown part_bytes (map known_by parts.items) → IfOk result (IsRecoveredOf logs part_bytes) }
-    ensures fault { (logs part_bytes : List (List ℕ)) → AreScansOf logs scans.items →
-        AreKnown part_bytes (map known_by parts.items) → IfErr result (IsVerdictOrMemory logs part_bytes) }
+        F.post replay alloc scans.logs window chosen answer → IfOk answer (IsReplayOf window (option_map checkpoint_in chosen) scans.logs.items) }
+    ensures recovered { (logs part_bytes : List (List ℕ)) → AreScansOf logs scans.logs.items →
+        AreKnown part_bytes (map known_by scans.parts.items) → IfOk result (IsRecoveredOf logs part_bytes) }
+    ensures fault { (logs part_bytes : List (List ℕ)) → AreScansOf logs scans.logs.items →
+        AreKnown part_bytes (map known_by scans.parts.items) → IfErr result (IsVerdictOrMemory logs part_bytes) }
 {
+    let Scans { logs, parts } = scans;
     let Start {
         window,
         chosen,
         report,
-    } = Start::of(alloc, &scans, parts)?;
+    } = Start::of(alloc, &logs, parts)?;
     let Replayed {
         early,
         lists,
         draft,
-    } = replay(alloc, scans, window, chosen)?;
+    } = replay(alloc, logs, window, chosen)?;
     let report = report.ended(early, &lists, draft.len());
     drop(lists);
     Ok(Recovered::finish(draft, report)?)

@@ -1,12 +1,9 @@
 //! Scans of all logs and checkpoint parts, by threads.
-ghost use Rattle.std.specs.Prelude.{◌≡◌, ◌⊎◌, ◌++◌, ◌<◌, List, ℕ, length, map, Ok, IfOk, IfErr};
+ghost use Rattle.std.specs.Prelude.{◌≡◌, ◌⊎◌, [], ◌∷◌, ◌++◌, List, IfOk, IfErr, OnOk};
 ghost use Rattle.std.specs.List.{AllZip};
 ghost use Rattle.mt_words.specs.declared.fault.Fault.TheVariants as faults;
-ghost use Rattle.mt_scan.specs.PartScans.{known_by};
-ghost use Rattle.mt_recover.specs.LogScans.{AreScansOf};
-ghost use Rattle.mt_recover.specs.Recovery.{AreKnown};
-ghost use Rattle.mt_recover.specs.Inputs.{MayHave, OfSources, IsAnsweredFrom, BlamesUnsteady};
-ghost use Rattle.mt_recover.specs.ScanJobs.{IsScanned, numbered, log_jobs, part_jobs, logs_in, parts_in, IsFirstFault};
+ghost use Rattle.mt_recover.specs.declared.scan_all.Scanned.{Scanned as ScannedValue};
+ghost use Rattle.mt_recover.specs.ScanJobs.{IsScanned, numbered, log_jobs, part_jobs, HaveScanned, IsFirstFault, AreScans, IsAnsweredBy};
 
 use crate::by_workers::by_workers;
 use crate::{Inputs, Workers};
@@ -37,22 +34,63 @@ enum Scanned {
     Part(Result<PartScan, Fault>),
 }
 
-/// Scans the logs and the parts by so many threads; each source is dropped when it is scanned. An Err is the fault of
-/// the first log that has one; where none has, `PartSource` of the first part whose source failed; or `Memory`: whatever
-/// scan ended first.
+/// What the scans of logs and parts gave, each in the order of their numbers.
+#[derive(Drop)]
+pub(crate) struct Scans {
+    pub logs: Vec<LogScan>,
+    pub parts: Vec<PartScan>,
+}
+
+impl Scans {
+    /// What no scan gave.
+    fn new(alloc: Global) -> Scans
+        ensures { HaveScanned [] result }
+    {
+        Scans {
+            logs: Vec::new(alloc),
+            parts: Vec::new(alloc),
+        }
+    }
+
+    /// Adds what a scan gave. An Err is its fault, or `Memory`.
+    fn add(&mut self, outcome: Scanned) -> Result<(), Fault>
+        ensures added { (done : List ScannedValue) → HaveScanned done self.old →
+            OnOk result (HaveScanned (done ++ outcome ∷ []) self.new) }
+        ensures fault { IfErr result (λ fault. (fault ≡ faults.Memory) ⊎
+            ((rest : List ScannedValue) → IsFirstFault (outcome ∷ rest) fault)) }
+    {
+        match outcome {
+            Scanned::Log(scan) => self.logs.push(scan?)?,
+            Scanned::Part(scan) => self.parts.push(scan?)?,
+        }
+        Ok(())
+    }
+}
+
+/// Scans the logs and then the parts one after the other, up to the first that has a fault; each source is dropped when
+/// it is scanned. An Err is the fault of the first log that has one; where none has, `PartSource` of the first part whose
+/// source failed; or `Memory`.
+pub(crate) fn scan_one<S: Source>(alloc: Global, inputs: Inputs<S>) -> Result<Scans, Fault>
+    ensures scans { IfOk result (AreScans S.seen inputs.logs.items inputs.parts.items) }
+    ensures fault { IfErr result (IsAnsweredBy S.seen inputs.logs.items inputs.parts.items) }
+{
+    let jobs = jobs_of(alloc, inputs)?;
+    let mut scans = Scans::new(alloc);
+    for job in jobs {
+        scans.add(scan_job(alloc, job))?;
+    }
+    Ok(scans)
+}
+
+/// The same by so many threads, whatever scan ends first. All logs and parts are scanned before one is named.
 pub(crate) fn scan_all<R: Threads + Sync, S: Source + Send>(
     rt: &R,
     alloc: Global,
     inputs: Inputs<S>,
     workers: Workers,
-) -> Result<(Vec<LogScan>, Vec<PartScan>), Fault>
-    ensures logs { IfOk result (λ scans. (logs : List (List ℕ)) ×
-        MayHave S.seen inputs.logs.items logs × AreScansOf logs scans.0.items) }
-    ensures parts { IfOk result (λ scans. (parts : List (List ℕ)) ×
-        MayHave S.seen inputs.parts.items parts × AreKnown parts (map known_by scans.1.items)) }
-    ensures fault { IfErr result (λ fault. 0 < length inputs.logs.items → OfSources S.seen inputs.logs.items inputs.parts.items
-        (λ logs parts. IsAnsweredFrom logs parts fault)) }
-    ensures steady { IfErr result (BlamesUnsteady S.seen inputs.logs.items inputs.parts.items) }
+) -> Result<Scans, Fault>
+    ensures scans { IfOk result (AreScans S.seen inputs.logs.items inputs.parts.items) }
+    ensures fault { IfErr result (IsAnsweredBy S.seen inputs.logs.items inputs.parts.items) }
 {
     let jobs = jobs_of(alloc, inputs)?;
     let outcomes = scan_jobs(rt, alloc, jobs, workers)?;
@@ -120,18 +158,13 @@ fn scan_job<S: Source>(alloc: Global, job: Job<S>) -> Scanned
 }
 
 /// The scans, or the first fault.
-fn scans_of(alloc: Global, outcomes: Vec<Scanned>) -> Result<(Vec<LogScan>, Vec<PartScan>), Fault>
-    ensures logs { IfOk result (λ scans. logs_in outcomes.items ≡ map Ok scans.0.items) }
-    ensures parts { IfOk result (λ scans. parts_in outcomes.items ≡ map Ok scans.1.items) }
+fn scans_of(alloc: Global, outcomes: Vec<Scanned>) -> Result<Scans, Fault>
+    ensures scans { IfOk result (HaveScanned outcomes.items) }
     ensures fault { IfErr result (λ fault. (fault ≡ faults.Memory) ⊎ IsFirstFault outcomes.items fault) }
 {
-    let mut logs = Vec::new(alloc);
-    let mut parts = Vec::new(alloc);
+    let mut scans = Scans::new(alloc);
     for outcome in outcomes {
-        match outcome {
-            Scanned::Log(scan) => logs.push(scan?)?,
-            Scanned::Part(scan) => parts.push(scan?)?,
-        }
+        scans.add(outcome)?;
     }
-    Ok((logs, parts))
+    Ok(scans)
 }

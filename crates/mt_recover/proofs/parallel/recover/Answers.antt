@@ -1,5 +1,4 @@
-use Rattle.std.proofs.Common.{[], map, refl}
-use Rattle.mt_scan.specs.PartScans.{known_by}
+use Rattle.std.proofs.Common.{[], refl}
 use Rattle.mt_recover.proofs.SourceLemmas.{some_logs, no_sources, none_to_have, recovered_of_sources, fault_of_sources, none_blamed}
 use Rattle.mt_recover.proofs.parallel.recover.Goals as goal
 
@@ -11,10 +10,10 @@ returns-then-is_empty-clause-fault g c =
     ([], some.0, none_to_have seen logs.items (no_sources logs.items _ c.is_empty.result c.is_empty.ensures logs.ok.0 c.if-is_empty.true), some.1, refl)
 
 pub returns-clause-recovered : goal.returns-clause-recovered
-returns-clause-recovered g c = recovered_of_sources g.S.Source.seen c.args.inputs.logs.items c.args.inputs.parts.items c.in_ok-scans.scans.items (map known_by c.in_ok-scans.parts.items) c.recover_scans.result c.in_ok-scans.ensures.logs c.in_ok-scans.ensures.parts c.recover_scans.ensures.recovered
+returns-clause-recovered g c = recovered_of_sources g.S.Source.seen _ _ c.in_ok-scans.scans c.recover_scans.result c.in_ok-scans.ensures.scans c.recover_scans.ensures.recovered
 
 pub returns-clause-fault : goal.returns-clause-fault
-returns-clause-fault g c = fault_of_sources g.S.Source.seen c.args.inputs.logs.items c.args.inputs.parts.items c.in_ok-scans.scans.items (map known_by c.in_ok-scans.parts.items) c.recover_scans.result c.in_ok-scans.ensures.logs c.in_ok-scans.ensures.parts c.recover_scans.ensures.fault
+returns-clause-fault g c = fault_of_sources g.S.Source.seen _ _ c.in_ok-scans.scans c.recover_scans.result c.in_ok-scans.ensures.scans c.recover_scans.ensures.fault
 
 pub returns-clause-steady : goal.returns-clause-steady
-returns-clause-steady g c = none_blamed g.S.Source.seen c.args.inputs.logs.items c.args.inputs.parts.items c.in_ok-scans.scans.items (map known_by c.in_ok-scans.parts.items) c.recover_scans.result c.in_ok-scans.ensures.logs c.in_ok-scans.ensures.parts c.recover_scans.ensures.fault
+returns-clause-steady g c = none_blamed g.S.Source.seen _ _ c.in_ok-scans.scans c.recover_scans.result c.in_ok-scans.ensures.scans c.recover_scans.ensures.fault
