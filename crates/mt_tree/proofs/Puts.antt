@@ -1,8 +1,9 @@
 -- Places are put behind borders, as borders that are cut between slices.
 use Rattle.std.proofs.Common.{◌≡◌, ◌≢◌, ℕ, suc, ◌+◌, ◌-◌, ◌^◌, ◌<◌, ◌≤◌, min, List, [], ◌∷◌, ◌++◌, get_or, length, take, drop, sym, refl, ap, ◌∙◌, subst, inl, inr, ◌⊎◌, arith, append_assoc, length-append, Vec, Global}
+use Rattle.std.proofs.Math.Seq.{take-append_seam, drop-append_seam}
 use Rattle.std.specs.List.{AllByRecursion}
 use Rattle.std.proofs.lemmas.Bool.{cases_lt}
-use Rattle.std.proofs.lemmas.List.{append-nil, map-append, length-map, take-append-drop}
+use Rattle.std.proofs.lemmas.List.{append-nil, map-append, length-map, take-append-drop, get_or-drop}
 use Rattle.mt_tree.specs.Layer.{PlaceView, slice_at, rank_at, IsLayer, IsLayerFrom}
 use Rattle.mt_tree.specs.Nodes.{joined, SlicesBelow, SlicesFrom, IsBorder, CutAt, OfSlice, first_slice_of}
 use Rattle.mt_tree.specs.Borders.{IsBorderList, last_slice_of}
@@ -211,8 +212,7 @@ slices_fit low [] h = tt
 slices_fit low (p ∷ ps) h = (slice_at-lt p h.0, slices_fit (suc (rank_at p)) ps h.2)
 
 -- two borders that share a slice, cut before it and behind it
-pub record Thirds (all xs run ys : List PlaceView) : Type 0 where
-  pub whole : xs ++ (run ++ ys) ≡ all
+pub record Thirds (xs run ys : List PlaceView) : Type 0 where
   pub first : IsLayer xs × (length xs ≤ 15)
   pub second : IsLayer run × (length run ≤ 15)
   pub third : IsLayer ys × (length ys ≤ 15)
@@ -220,7 +220,7 @@ pub record Thirds (all xs run ys : List PlaceView) : Type 0 where
   pub behind : CutAt run ys
 
 thirds : (s next : ℕ) (left right xs rest run ys : List PlaceView) → IsLayer (left ++ right) → IsBorder left → IsBorder right → last_slice_of left ≡ s → first_slice_of right ≡ s → next ≡ min (s + 1) (2 ^ 64 - 1)
-    → xs ++ rest ≡ left ++ right → run ++ ys ≡ rest → SlicesBelow s xs → SlicesFrom s rest → SlicesBelow next run → SlicesFrom next ys → Thirds (left ++ right) xs run ys
+    → xs ++ rest ≡ left ++ right → run ++ ys ≡ rest → SlicesBelow s xs → SlicesFrom s rest → SlicesBelow next run → SlicesFrom next ys → Thirds xs run ys
 thirds s next left right xs rest run ys h l r last first is e f below from_rest run_below ys_from =
     let l_few : length left ≤ 15 = l.1 in
     let right_from : SlicesFrom s right = subst (λ (n : ℕ). SlicesFrom n right) first (from_first_slice 0 right (layer_back 0 left right h)) in
@@ -228,7 +228,6 @@ thirds s next left right xs rest run ys h l r last first is e f below from_rest 
     let few = run_short s run run_layer (all_front (λ p. s ≤ slice_at p) run ys from) run_upto in
     let fewer = few_below s xs (run ++ ys) left right whole below right_from in
     record {
-      whole = whole;
       first = (layer_front 0 xs (run ++ ys) all_layer, omega arith);
       second = (run_layer, omega arith);
       third = (ys_layer, by (cases_lt (s + 1) (2 ^ 64)));
@@ -266,12 +265,10 @@ thirds s next left right xs rest run ys h l r last first is e f below from_rest 
         omega arith
 
 -- and put behind borders in three
-pub put_thirds : (left right whole xs rest run ys : List DraftPlace) (a b c d : List Border) → whole ≡ left ++ right → xs ++ rest ≡ whole → run ++ ys ≡ rest → Thirds (draft_views left ++ draft_views right) (draft_views xs) (draft_views run) (draft_views ys)
-    → PutOpen xs a b → PutOpen run b c → PutOpen ys c d → PutOpen (left ++ right) a d
-put_thirds left right whole xs rest run ys a b c d e f g t p q r =
-    let is : xs ++ (run ++ ys) ≡ left ++ right = ap (λ (z : List DraftPlace). xs ++ z) g ∙ f ∙ e in
+pub put_thirds : (all xs rest run ys : List DraftPlace) (a b c d : List Border) → xs ++ rest ≡ all → run ++ ys ≡ rest → Thirds (draft_views xs) (draft_views run) (draft_views ys) → PutOpen xs a b → PutOpen run b c → PutOpen ys c d → PutOpen all a d
+put_thirds all xs rest run ys a b c d f g t p q r =
     let before : CutAt (draft_views xs) (draft_views (run ++ ys)) = subst (CutAt (draft_views xs)) (sym (map-append draft_view run ys)) t.before in
-    subst (λ (z : List DraftPlace). PutOpen z a d) is (open_then xs (run ++ ys) a b d p (open_then run ys b c d q r t.behind) before)
+    subst (λ (z : List DraftPlace). PutOpen z a d) (ap (λ (z : List DraftPlace). xs ++ z) g ∙ f) (open_then xs (run ++ ys) a b d p (open_then run ys b c d q r t.behind) before)
 
 -- ---- the slices at the ends
 last_slice_is : (xs : List DraftPlace) (x : DraftPlace) → 1 ≤ length xs → x ≡ get_or xs (length xs - 1) x → last_slice_of (draft_views xs) ≡ x.slice
@@ -308,15 +305,21 @@ pub halves : (ps xs ys : List DraftPlace) (x : DraftPlace) (n : ℕ) → IsLayer
 halves ps xs ys x n h many last whole e below from =
     sixteen x.slice (draft_views ps) (draft_views xs) (draft_views ys) h (length-map ps draft_view ∙ many) (last_slice_is ps x (omega arith) (last ∙ ap (λ (k : ℕ). get_or ps (k - 1) x) whole)) (views_parted xs ys ps e) below from
 
-pub all_rest : (left right whole xs rest : List DraftPlace) → whole ≡ left ++ right → xs ++ rest ≡ whole → draft_views xs ++ draft_views rest ≡ draft_views left ++ draft_views right
-all_rest left right whole xs rest e f = views_parted xs rest whole f ∙ ap draft_views e ∙ map-append draft_view left right
+-- two lists, one behind the other, are what lies before their seam and what lies from there on
+pub at_seam : (left right all : List DraftPlace) (seam : ℕ) → all ≡ left ++ right → seam ≡ length left → (take seam all ≡ left) × (drop seam all ≡ right)
+at_seam left right all seam e l = ((λ i. take (l i) (e i)) ∙ take-append_seam left right, (λ i. drop (l i) (e i)) ∙ drop-append_seam left right)
 
-pub around : (left right whole xs rest run ys : List DraftPlace) (x : DraftPlace) (next : ℕ) → IsLayer (draft_views left ++ draft_views right) → IsBorder (draft_views left) → IsBorder (draft_views right)
-    → last_slice_of (draft_views left) ≡ first_slice_of (draft_views right) → x ≡ get_or right 0 x → next ≡ min (x.slice + 1) (2 ^ 64 - 1)
-    → whole ≡ left ++ right → xs ++ rest ≡ whole → run ++ ys ≡ rest
+pub around : (all xs rest run ys : List DraftPlace) (seam : ℕ) (x : DraftPlace) (next : ℕ) → IsLayer (draft_views all) → IsBorder (draft_views (take seam all)) → IsBorder (draft_views (drop seam all))
+    → last_slice_of (draft_views (take seam all)) ≡ first_slice_of (draft_views (drop seam all)) → x ≡ get_or all seam x → next ≡ min (x.slice + 1) (2 ^ 64 - 1)
+    → xs ++ rest ≡ all → run ++ ys ≡ rest
     → SlicesBelow x.slice (draft_views xs) → SlicesFrom x.slice (draft_views rest) → SlicesBelow next (draft_views run) → SlicesFrom next (draft_views ys)
-    → Thirds (draft_views left ++ draft_views right) (draft_views xs) (draft_views run) (draft_views ys)
-around left right whole xs rest run ys x next h l r met at is e f g below from run_below ys_from =
-    let some : 1 ≤ length (draft_views right) = r.0 in
-    let first = first_slice_is right x (omega (arith, length-map right draft_view)) at in
-    thirds x.slice next (draft_views left) (draft_views right) (draft_views xs) (draft_views rest) (draft_views run) (draft_views ys) h l r (met ∙ first) first is (all_rest left right whole xs rest e f) (views_parted run ys rest g) below from run_below ys_from
+    → Thirds (draft_views xs) (draft_views run) (draft_views ys)
+around all xs rest run ys seam x next h l r met at is f g below from run_below ys_from =
+    let left = draft_views (take seam all) in
+    let right = draft_views (drop seam all) in
+    let some : 1 ≤ length right = r.0 in
+    let whole : left ++ right ≡ draft_views all = views_parted (take seam all) (drop seam all) all (take-append-drop seam all) in
+    let here : seam ≡ seam + 0 = omega arith in
+    let first = first_slice_is (drop seam all) x (omega (arith, length-map (drop seam all) draft_view)) (at ∙ ap (λ (k : ℕ). get_or all k x) here ∙ sym (get_or-drop seam all 0 x)) in
+    thirds x.slice next left right (draft_views xs) (draft_views rest) (draft_views run) (draft_views ys) (subst IsLayer (sym whole) h) l r (met ∙ first) first is
+    (views_parted xs rest all f ∙ sym whole) (views_parted run ys rest g) below from run_below ys_from

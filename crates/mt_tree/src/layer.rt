@@ -294,22 +294,20 @@ fn meet(
     Ok((places, rest))
 }
 
-/// Puts two neighbouring lists of places behind the borders, where one slice ends the first and begins the second. Its places, at most ten, get a border of their own.
+/// Puts places behind the borders, where one slice ends those before the seam and begins those from there on. Its places, at most ten, get a border of their own.
 fn push_around(
     borders: &mut Vec<Border>,
-    left: Vec<DraftPlace>,
-    right: Vec<DraftPlace>,
+    places: Vec<DraftPlace>,
+    seam: usize,
 ) -> Result<(), Memory>
-    requires lawful { IsLayer (draft_views left.items ++ draft_views right.items) }
-    requires left_some { IsBorder (draft_views left.items) }
-    requires right_some { IsBorder (draft_views right.items) }
-    requires met { last_slice_of (draft_views left.items) ≡ first_slice_of (draft_views right.items) }
-    ensures { OnOk result (PutOpen (left.items ++ right.items) borders.old.items borders.new.items) }
+    requires lawful { IsLayer (draft_views places.items) }
+    requires before { IsBorder (draft_views (take seam places.items)) }
+    requires from { IsBorder (draft_views (drop seam places.items)) }
+    requires met { last_slice_of (draft_views (take seam places.items)) ≡ first_slice_of (draft_views (drop seam places.items)) }
+    ensures { OnOk result (PutOpen places.items borders.old.items borders.new.items) }
 {
-    let mut places = left;
-    let mut right = right;
-    let slice = right[0].slice;
-    places.append(&mut right)?;
+    let mut places = places;
+    let slice = places[seam].slice;
     let mut run = split_before(&mut places, slice)?;
     // Nothing lies above the greatest slice: its places are then those above, and the run has none.
     let above = split_before(&mut run, slice.saturating_add(1))?;
@@ -329,17 +327,19 @@ fn push_both(
     requires few { length right.items ≤ 15 }
     ensures { OnOk result (PutOpen (left.items ++ right.items) borders.old.items borders.new.items) }
 {
-    let mut left = left;
+    let mut places = left;
     let mut right = right;
-    if left.len() + right.len() > 15 {
-        if left[left.len() - 1].slice == right[0].slice {
-            return push_around(borders, left, right);
-        }
-        push_border(borders, left)?;
-        return push_border(borders, right);
+    let seam = places.len();
+    if seam + right.len() <= 15 {
+        places.append(&mut right)?;
+        return push_border(borders, places);
     }
-    left.append(&mut right)?;
-    push_border(borders, left)
+    if places[seam - 1].slice == right[0].slice {
+        places.append(&mut right)?;
+        return push_around(borders, places, seam);
+    }
+    push_border(borders, places)?;
+    push_border(borders, right)
 }
 
 impl Layer {
