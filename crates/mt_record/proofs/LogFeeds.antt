@@ -6,16 +6,14 @@ use Rattle.std.specs.Borrow.{Bor}
 use Rattle.std.specs.List.{flat_map}
 use Rattle.byteorder.specs.Endian.{big_bytes}
 use Rattle.std.specs.Result.{IfErr}
-use Rattle.mt_words.specs.declared.fault.What.{What}
-use Rattle.mt_words.specs.declared.limits.Format.TheVariants.{One}
-use Rattle.mt_words.specs.Limits.{limits_of, magic}
+use Rattle.mt_words.specs.Limits.{limits_of}
 use Rattle.mt_words.specs.Changes.{Logged}
 use Rattle.mt_record.specs.declared.read.FeedFault.{FeedFault}
 use Rattle.mt_record.specs.declared.read.FeedFault.TheVariants as faults
 use Rattle.mt_record.specs.declared.log_items.LogItems.{LogItems}
 use Rattle.mt_record.specs.Spelling.{spelling, body}
 use Rattle.mt_record.specs.declared.head.Head.{Head}
-use Rattle.mt_record.specs.Heads.{IsHead, head_bytes, HasNoHeader}
+use Rattle.mt_record.specs.Heads.{IsHead, head_of, head_bytes, HasNoHeader}
 use Rattle.mt_record.specs.Logs.{latest, IsLog, LogReading, IsLast, IsTextIn}
 use Rattle.mt_record.specs.LogFaults.{RestFault, HasFault, IsAnswered}
 use Rattle.mt_record.specs.Fronts.{GoesWithMagic}
@@ -27,7 +25,7 @@ use Rattle.mt_record.specs.LogLaws.{begins_by}
 use Rattle.mt_record.proofs.Records.{records_push, latest_push, spelled_push, last_is, tells_torn}
 use Rattle.mt_record.proofs.OneReading.{not_both}
 use Rattle.mt_record.proofs.Unique.{framed_apart}
-use Rattle.mt_record.proofs.Beginnings.{AreBytes, head_length, cut_front, part_alike, alike, shows_none, log_whole, log_magic}
+use Rattle.mt_record.proofs.Beginnings.{AreBytes, cut_front, cut_none, shows_none, log_whole, log_magic}
 use Rattle.mt_record.proofs.Feeds.{front_read}
 
 -- ---- what was read, by how far it came
@@ -61,7 +59,7 @@ header_failed items taken text bytes none reads no_magic =
 pub header_cut : {R : Type 0} (listed : R → List Logged) (old : LogItems R) (bytes : List ℕ) → old.head ≡ None → GoesWithMagic (codes "MTL") bytes → AreBytes bytes → HasNoHeader bytes
     → StepsLog listed old old bytes (Ok None)
 header_cut listed old bytes none goes small no_head =
-    let cut = cut_front IsHead head_bytes bytes (alike IsHead head_bytes (codes "MTL") 8 log_whole bytes goes small) no_head in
+    let cut = cut_front IsHead head_bytes (codes "MTL") 8 log_whole bytes goes small no_head in
     let left = subst (λ (o : Option Head). IsLogLeft o bytes) (sym none) cut in
     record { next = (refl, λ taken text reads. left); fault = λ taken text reads. tt }
 
@@ -151,8 +149,7 @@ pub nothing_read : {R : Type 0} (listed : R → List Logged) (records : R) → l
     → HoldsAll (HasReadItems listed []) IsLeftOfItems (record { head = None; ready = records; latest = 0; whole = 0 }) [] []
 nothing_read listed records none = (
   record { none = none; latest = refl; whole = refl; all = refl },
-  cut_front IsHead head_bytes [] (part_alike IsHead head_bytes (codes "MTL") 8 log_whole One [] (magic (codes "MTL") One) refl)
-      (λ other more is e. let whole = ap length e in omega (arith, whole, length-append (head_bytes other) more, head_length other)),
+  (head_of 0, head_bytes (head_of 0), omega arith, omega arith, refl),
 )
 
 -- ---- the end
@@ -161,13 +158,8 @@ nothing_read listed records none = (
 pub no_head_read : (items : LogSoFar) (taken : List Logged) (text left : List ℕ) → items.head ≡ None → ReadsLog taken items text left → IsLogLeft items.head left → HasNoHeader text
 no_head_read items taken text left none reads rest =
     let nothing = reads_nothing items taken text left none reads in
-    let cut : IsCutHeader left = subst (λ (o : Option Head). IsLogLeft o left) none rest in
-    λ head more is e.
-    let here = head_length cut.0 in
-    let there = head_length head in
-    let all = ap length cut.4 ∙ length-append left cut.1 in
-    let long = ap length (sym nothing.all ∙ e) ∙ length-append (head_bytes head) more in
-    omega (arith, here, there, all, long, cut.3)
+    let cut = subst (λ (o : Option Head). IsLogLeft o left) none rest in
+    subst HasNoHeader (sym nothing.all) (cut_none IsHead head_bytes 12 (λ head. refl) left cut)
 
 -- what was read with a header is a log
 pub text_read : {R : Type 0} (listed : R → List Logged) (items : LogItems R) (taken : List Logged) (text left : List ℕ) (head : Head) (last : ℕ) (torn : Bool) → items.head ≡ Some head → HasReadItems listed taken items text left
@@ -197,21 +189,12 @@ text_read listed items taken text left head last torn some reads rest test great
 
 -- ---- no fault in good order
 
--- bytes that begin a header have no fault behind it
-begins_no_fault : (bytes more : List ℕ) (head : Head) (records : List Logged) (what : What) → head_bytes head ≡ bytes ++ more → 0 < length more
-    → HasFault bytes records what → ⊥
-begins_no_fault bytes more head records what e some h =
-    let here = head_length head in
-    let there = head_length h.head in
-    let all = ap length e ∙ length-append bytes more in
-    let long = ap length h.spelled ∙ length-append (head_bytes h.head) (flat_map spelling records ++ h.rest) in
-    omega (arith, here, there, all, long)
-
 -- bytes that begin a header show no fault
-begins_shows_none : (bytes more : List ℕ) (head : Head) → IsHead head → head_bytes head ≡ bytes ++ more → 0 < length more → ShowsNoFault bytes
-begins_shows_none bytes more head is e some faults.Header h = h.1 head more is e
-begins_shows_none bytes more head is e some (faults.Record nth what) h = begins_no_fault bytes more head h.0 what e some h.1
-begins_shows_none bytes more head is e some faults.Memory h = h
+cut_shows_none : (bytes : List ℕ) → IsCutHeader bytes → ShowsNoFault bytes
+cut_shows_none bytes cut faults.Header h = h.1 cut.0 cut.1 cut.2 cut.4
+cut_shows_none bytes cut (faults.Record nth what) (records, h, counted) =
+    cut_none IsHead head_bytes 12 (λ head. refl) bytes cut h.head (flat_map spelling records ++ h.rest) h.is_head h.spelled
+cut_shows_none bytes cut faults.Memory h = h
 
 -- bytes that are a log show no fault
 log_shows_none : (bytes tail : List ℕ) (head : Head) (records : List Logged) → IsLog bytes head records tail → ShowsNoFault bytes
@@ -221,7 +204,7 @@ log_shows_none bytes tail head records log faults.Memory h = h
 
 -- a feed in good order shows no fault
 pub order_shows_none : (o : Option Head) (rs : List Logged) (t n : ℕ) (bytes held : List ℕ) → HasRead o rs t n bytes held → IsLogLeft o held → ShowsNoFault bytes
-order_shows_none None rs t n bytes held reads cut = subst ShowsNoFault (sym reads.all) (begins_shows_none held cut.1 cut.0 cut.2 cut.4 cut.3)
+order_shows_none None rs t n bytes held reads cut = subst ShowsNoFault (sym reads.all) (cut_shows_none held cut)
 order_shows_none (Some head) rs t n bytes held reads left =
     log_shows_none bytes held head rs (record { spelled = reads.spelled; is_head = reads.is_head; lawful = reads.lawful; ends = left })
 

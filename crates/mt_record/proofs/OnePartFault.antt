@@ -12,12 +12,13 @@ use Rattle.mt_record.specs.declared.part_text.PartHead.{PartHead}
 use Rattle.mt_record.specs.declared.part_text.PartFault.{PartFault}
 use Rattle.mt_record.specs.declared.part_text.PartFault.TheVariants as faults
 use Rattle.mt_record.specs.Spelling.{change_bytes}
-use Rattle.mt_record.specs.Parts.{part_head_bytes, entry_spelling, footer_bytes, IsEntryLength, IsPart, PartReading, IsPartReading}
+use Rattle.mt_record.specs.Parts.{part_head_bytes, IsPartHead, entry_spelling, footer_bytes, IsEntryLength, IsPart, PartReading, IsPartReading}
 use Rattle.mt_record.specs.PartFaults.{HasNoPartHeader, HasNoEntry, BeginsPart, IsBroken, IsPartFault, IsPartAnswered}
 use Rattle.mt_record.specs.PartFeeding.{ShowsNoPart, IsPartShown, ShowsNoPartFault, IsCutHeader, IsCutItem, PartSoFar, ReadsPart, ReadsUpTo, IsPartLeft}
 use Rattle.mt_record.proofs.Unique.{same_split, same_number, framed_apart}
 use Rattle.mt_record.proofs.Entries.{entry_length, short_entry}
 use Rattle.mt_record.proofs.OnePart.{same_entry, same_head}
+use Rattle.mt_record.proofs.Beginnings.{cut_none}
 use Rattle.mt_record.proofs.PartItems.{reads_nothing, reads_entries}
 
 -- ---- what stands at the front of a rest
@@ -234,11 +235,8 @@ cut_broken bytes head entries rest begins left = (
 )
 
 -- bytes that only begin a header hold none
-pub cut_no_header : (bytes : List ℕ) → IsCutHeader bytes → HasNoPartHeader bytes
-cut_no_header bytes (head, more, is, some, e) other rest too f =
-    let whole = ap length e in
-    let front = ap length f in
-    omega (arith, whole, front, some, length-append bytes more, length-append (part_head_bytes other) rest)
+cut_no_header : (bytes : List ℕ) → IsCutHeader bytes → HasNoPartHeader bytes
+cut_no_header bytes cut = cut_none IsPartHead part_head_bytes 20 (λ head. refl) bytes cut
 
 -- ---- no fault in good order
 

@@ -10,20 +10,20 @@ use Rattle.byteorder.specs.Endian.{big_bytes}
 use Rattle.mt_words.specs.declared.limits.Format.TheVariants.{One}
 use Rattle.mt_words.specs.declared.record.Change.{Change}
 use Rattle.mt_words.specs.declared.limits.Limits.{Limits}
-use Rattle.mt_words.specs.Limits.{limits_of, magic}
+use Rattle.mt_words.specs.Limits.{limits_of}
 use Rattle.mt_words.specs.Changes.{IsEntry}
 use Rattle.mt_words.proofs.Rising.{all_push}
 use Rattle.mt_record.specs.declared.part_text.PartHead.{PartHead}
 use Rattle.mt_record.specs.declared.part_items.PartItems.{PartItems}
 use Rattle.mt_record.specs.Spelling.{framed}
 use Rattle.mt_record.specs.Bodies.{IsNextEntry}
-use Rattle.mt_record.specs.Parts.{part_head_bytes, IsPartHead, entry_spelling, footer_bytes, part_bytes}
+use Rattle.mt_record.specs.Parts.{part_head, part_head_bytes, IsPartHead, entry_spelling, footer_bytes, part_bytes}
 use Rattle.mt_record.specs.PartFaults.{BeginsPart, HasNoPartHeader}
 use Rattle.mt_record.specs.PartFeeding.{ShowsNoPartHeader, ShowsNoEntry, ShowsNoPart, ShowsBroken, PartSoFar, ReadsNothing, ReadsPart, ReadsUpTo, IsPartLeft}
 use Rattle.mt_record.specs.PartPieces.{so_far, HasReadItems, IsLeftOfItems, IsShownOfItems, StepsPart}
 use Rattle.mt_record.specs.Feeding.{HoldsAll}
 use Rattle.mt_record.specs.Fronts.{GoesWithMagic}
-use Rattle.mt_record.proofs.Beginnings.{AreBytes, cut_front, part_alike, alike, shows_none}
+use Rattle.mt_record.proofs.Beginnings.{AreBytes, cut_front, shows_none}
 use Rattle.mt_record.proofs.Feeds.{front_read}
 use Rattle.mt_record.proofs.PartBeginnings.{part_whole, part_magic}
 
@@ -53,7 +53,7 @@ header_failed s part bytes none reads no_magic =
 pub header_cut : {E : Type 0} (listed : E → List Change) (old : PartItems E) (bytes : List ℕ) → old.head ≡ None → GoesWithMagic (codes "MTC") bytes → AreBytes bytes → HasNoPartHeader bytes
     → StepsPart listed old old bytes (Ok None)
 header_cut listed old bytes none goes small no_head =
-    let cut = cut_front IsPartHead part_head_bytes bytes (alike IsPartHead part_head_bytes (codes "MTC") 16 part_whole bytes goes small) no_head in
+    let cut = cut_front IsPartHead part_head_bytes (codes "MTC") 16 part_whole bytes goes small no_head in
     let left = subst (λ (o : Option PartHead). IsPartLeft (record (so_far listed old) { head = o }) bytes) (sym none) cut in
     record { next = (refl, λ taken part reads. left); fault = λ taken part reads. tt }
 
@@ -171,6 +171,5 @@ pub nothing_read : {E : Type 0} (listed : E → List Change) (entries : E) → l
     → HoldsAll (HasReadItems listed tt) (IsLeftOfItems listed) (record { head = None; entries = entries; end = None }) [] []
 nothing_read listed entries none = (
   record { none = none; no_end = refl; all = refl },
-  cut_front IsPartHead part_head_bytes [] (part_alike IsPartHead part_head_bytes (codes "MTC") 16 part_whole One [] (magic (codes "MTC") One) refl)
-      (λ other more is e. let whole = ap length e in omega (arith, whole)),
+  (part_head One 0 0 0 0, part_head_bytes (part_head One 0 0 0 0), record { number = omega arith; begin = omega arith; part = omega arith; parts = omega arith }, omega arith, refl),
 )

@@ -22,9 +22,3 @@ ShowsNone {H} Is spelled bytes = HasNone Is spelled bytes × ((head : H) (more :
 -- the bytes are the beginning of one of these, and not all of it
 abbrev pub IsCutFront : {H : Type 0} → (H → Type 0) → (H → List ℕ) → List ℕ → Type 0
 IsCutFront {H} Is spelled bytes = (head : H) × (more : List ℕ) × Is head × (0 < length more) × (spelled head ≡ bytes ++ more)
-
--- one of these begins as the bytes do: with all of them, or with as many as it has
-pub record BeginsAlike {H : Type 0} (Is : H → Type 0) (spelled : H → List ℕ) (bytes : List ℕ) : Type 0 where
-  pub head : H
-  pub is_head : Is head
-  pub alike : GoTogether (spelled head) bytes

@@ -20,9 +20,5 @@ pub fn format_at<'a>(letters: &[u8], bytes: &'a [u8]) -> Option<(Format, &'a [u8
 pub fn goes_with_magic(letters: &[u8], bytes: &[u8]) -> bool
     ensures { MatchBool result (GoesWithMagic letters.now bytes.now) (GoesWithMagic letters.now bytes.now → ⊥) }
 {
-    match bytes.strip_prefix(letters) {
-        Some([digit, ..]) => Format::of_digit(*digit).is_some(),
-        Some([]) => true,
-        None => letters.starts_with(bytes),
-    }
+    format_at(letters, bytes).is_some() || letters.starts_with(bytes)
 }
