@@ -1,11 +1,11 @@
 -- What a feed has read when more bytes follow, whatever its items are.
-use Rattle.std.proofs.Common.{◌≡◌, ℕ, ◌+◌, ◌-◌, ◌*◌, ◌<◌, Result, Ok, Err, Option, Some, None, List, [], ◌∷◌, ◌++◌, length, drop, refl, sym, ap, ◌∙◌, subst, append_assoc, arith, true, Bool}
+use Rattle.std.proofs.Common.{◌≡◌, ℕ, ◌+◌, ◌-◌, ◌*◌, ◌<◌, Ok, Option, Some, None, List, [], ◌++◌, length, drop, sym, ap, ◌∙◌, subst, append_assoc, arith, true, Bool}
+use Rattle.std.proofs.Math.Seq.{drop-append_seam}
 use Rattle.std.proofs.lemmas.List.{length-append, append-nil, nil_from_length}
 use Rattle.std.proofs.lemmas.Bool.Decides.{Decides-eqb}
 use Rattle.std.proofs.lemmas.Option.{none-some}
 use Rattle.std.specs.Prelude.{◌==◌}
 use Rattle.std.specs.Borrow.{Bor}
-use Rattle.std.specs.Result.{OnOk, IfErr}
 use Rattle.mt_record.specs.Feeding.{Reads, Steps, HoldsUpTo, HoldsAll, IsFedBy, Tops}
 
 -- what was read is the same when more bytes follow
@@ -32,15 +32,11 @@ topped reads on front_of items front held piece new rest text joins read moved =
     let all = subst (λ (x : List ℕ). reads items (front ++ piece) x) (sym moved) (on items front held piece read) in
     subst (λ (x : List ℕ). (f : List ℕ) × (f ++ rest ≡ x) × reads items f new) joins (front_of items (front ++ piece) new rest all)
 
-drop_front : (items left : List ℕ) → drop (length items) (items ++ left) ≡ left
-drop_front [] left = refl
-drop_front (x ∷ xs) left = drop_front xs left
-
 -- where items at the front are dropped the rest is left
 pub left_over : (held items left : List ℕ) (len : ℕ) → held ≡ items ++ left → len ≡ length held → drop (len - length left) held ≡ left
 left_over held items left len e so_many =
     let number : len - length left ≡ length items = omega (arith, so_many, ap length e, length-append items left) in
-    rw (number, e) (drop_front items left)
+    rw (number, e) (drop-append_seam items left)
 
 -- with a byte more held and items read there is less to do
 pub less_to_do : (old piece new rest items left : List ℕ) (wanted : ℕ) → Tops old piece new rest wanted → length old < wanted → 0 < length piece → new ≡ items ++ left
@@ -85,13 +81,3 @@ fed_nothing {I} reads is_left fails items fresh held answered same none sound ho
   λ _. subst (λ (p : I × List ℕ). HoldsAll reads is_left p.0 p.1 []) (λ i. (sym same i, sym none i)) holds,
   λ fault is. absurd (none-some fault (sym sound ∙ is)),
 )
-
--- what follows of an answer without a fault
-pub on_ok : {A F P Q : Type 0} (answer : Result A F) → (P → Q) → OnOk answer P → OnOk answer Q
-on_ok (Ok x) then is = then is
-on_ok (Err e) then is = tt
-
--- and of one with a fault
-pub if_err : {A F : Type 0} {P Q : F → Type 0} (answer : Result A F) → ((fault : F) → P fault → Q fault) → IfErr answer P → IfErr answer Q
-if_err (Ok x) then is = tt
-if_err (Err e) then is = then e is

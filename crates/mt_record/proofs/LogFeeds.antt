@@ -1,44 +1,37 @@
 -- The items of a log one behind the other, and what its feed was fed.
-use Rattle.std.proofs.Common.{◌≡◌, ℕ, ◌+◌, ◌-◌, ◌^◌, ◌<◌, ◌≤◌, min, max, Result, Ok, Err, Option, Some, None, List, [], ◌∷◌, ◌++◌, length, refl, sym, ap, ◌∙◌, subst, append_assoc, arith}
+use Rattle.std.proofs.Common.{◌≡◌, ℕ, ◌+◌, ◌-◌, ◌^◌, ◌≤◌, min, max, Result, Ok, Err, Option, Some, None, List, [], ◌∷◌, ◌++◌, length, refl, sym, ap, ◌∙◌, subst, append_assoc, arith}
 use Rattle.std.proofs.lemmas.List.{length-append}
 use Rattle.std.specs.Prelude.{◌==◌, Bool, not, codes, IfOk, OnErr, MatchOption}
 use Rattle.std.specs.Borrow.{Bor}
 use Rattle.std.specs.List.{flat_map}
-use Rattle.byteorder.specs.Endian.{big_bytes}
 use Rattle.std.specs.Result.{IfErr}
 use Rattle.mt_words.specs.Limits.{limits_of}
 use Rattle.mt_words.specs.Changes.{Logged}
 use Rattle.mt_record.specs.declared.read.FeedFault.{FeedFault}
 use Rattle.mt_record.specs.declared.read.FeedFault.TheVariants as faults
 use Rattle.mt_record.specs.declared.log_items.LogItems.{LogItems}
-use Rattle.mt_record.specs.Spelling.{spelling, body}
+use Rattle.mt_record.specs.Spelling.{spelling}
 use Rattle.mt_record.specs.declared.head.Head.{Head}
 use Rattle.mt_record.specs.Heads.{IsHead, head_of, head_bytes, HasNoHeader}
 use Rattle.mt_record.specs.Logs.{latest, IsLog, LogReading, IsLast, IsTextIn}
 use Rattle.mt_record.specs.LogFaults.{RestFault, HasFault, IsAnswered}
 use Rattle.mt_record.specs.Fronts.{GoesWithMagic}
 use Rattle.mt_record.specs.Bodies.{IsNext}
-use Rattle.mt_record.specs.Feeding.{Reads, HoldsAll}
-use Rattle.mt_record.specs.LogFeeding.{LogSoFar, ShowsNoHeader, IsShown, ShowsNoFault, AreRead, HasRead, ReadsLog, ReadsNoHeader, IsCutHeader, IsLeft, IsLogLeft, HasFailed}
+use Rattle.mt_record.specs.Feeding.{HoldsAll}
+use Rattle.mt_record.specs.LogFeeding.{LogSoFar, ShowsNoHeader, IsShown, ShowsNoFault, AreRead, HasRead, ReadsLog, IsCutHeader, IsLeft, IsLogLeft, HasFailed}
 use Rattle.mt_record.specs.LogPieces.{so_far, HasReadItems, IsLeftOfItems, HasFailedItems, StepsLog, ReadsNext, IsNextFault}
 use Rattle.mt_record.specs.LogLaws.{begins_by}
 use Rattle.mt_record.proofs.Records.{records_push, latest_push, spelled_push, last_is, tells_torn}
 use Rattle.mt_record.proofs.OneReading.{not_both}
-use Rattle.mt_record.proofs.Unique.{framed_apart}
 use Rattle.mt_record.proofs.Beginnings.{AreBytes, cut_front, cut_none, shows_none, log_whole, log_magic}
 use Rattle.mt_record.proofs.Feeds.{front_read}
 
 -- ---- what was read, by how far it came
 
-pub reads_nothing : (items : LogSoFar) (taken : List Logged) (text rest : List ℕ) → items.head ≡ None → ReadsLog taken items text rest
-    → ReadsNoHeader (taken ++ items.ready) items.latest items.whole text rest
-reads_nothing items taken text rest none reads =
-    subst (λ (o : Option Head). HasRead o (taken ++ items.ready) items.latest items.whole text rest) none reads
-
-pub reads_records : (items : LogSoFar) (head : Head) (taken : List Logged) (text rest : List ℕ) → items.head ≡ Some head → ReadsLog taken items text rest
-    → AreRead head (taken ++ items.ready) items.latest items.whole text rest
-reads_records items head taken text rest some reads =
-    subst (λ (o : Option Head). HasRead o (taken ++ items.ready) items.latest items.whole text rest) some reads
+reads_at : (items : LogSoFar) (head : Option Head) (taken : List Logged) (text rest : List ℕ) → items.head ≡ head → ReadsLog taken items text rest
+    → HasRead head (taken ++ items.ready) items.latest items.whole text rest
+reads_at items head taken text rest is reads =
+    subst (λ (o : Option Head). HasRead o (taken ++ items.ready) items.latest items.whole text rest) is reads
 
 are_read : (items : LogSoFar) (head : Head) (taken : List Logged) (text rest : List ℕ) → items.head ≡ Some head
     → AreRead head (taken ++ items.ready) items.latest items.whole text rest → ReadsLog taken items text rest
@@ -51,7 +44,7 @@ are_read items head taken text rest some reads =
 pub header_failed : (items : LogSoFar) (taken : List Logged) (text bytes : List ℕ) → items.head ≡ None → ReadsLog taken items text bytes → (GoesWithMagic (codes "MTL") bytes → ⊥)
     → HasFailed faults.Header text (taken ++ items.ready)
 header_failed items taken text bytes none reads no_magic =
-    let nothing = reads_nothing items taken text bytes none reads in
+    let nothing = reads_at items None taken text bytes none reads in
     let shows = shows_none IsHead head_bytes (codes "MTL") (λ (head : Head). head.format) log_magic bytes no_magic in
     (subst ShowsNoHeader (sym nothing.all) shows, nothing.none)
 
@@ -68,7 +61,7 @@ pub header_read : {R : Type 0} (listed : R → List Logged) (old : LogItems R) (
     → bytes ≡ head_bytes head ++ after.now → StepsLog listed old (record old { head = Some head }) bytes (Ok (Some after))
 header_read listed old head bytes after none is e =
     front_read (HasReadItems listed) IsLeftOfItems (HasFailedItems listed) old (record old { head = Some head }) (head_bytes head) bytes after e (omega arith) (λ taken text reads.
-    let nothing = reads_nothing (so_far listed old) taken text bytes none reads in
+    let nothing = reads_at (so_far listed old) None taken text bytes none reads in
     subst (λ (p : List Logged × ℕ × ℕ). AreRead head p.0 p.1 p.2 text after.now) (λ i. (sym nothing.none i, sym nothing.latest i, sym nothing.whole i))
     (record { is_head = is; spelled = nothing.all ∙ e; lawful = tt; latest = refl; whole = refl }))
 
@@ -93,7 +86,7 @@ read_push head rs r t n log rest after h next =
 next_read : (old new : LogSoFar) (head : Head) (taken : List Logged) (text rest after : List ℕ) → old.head ≡ Some head → ReadsNext head old rest new after
     → ReadsLog taken old text rest → ReadsLog taken new text after
 next_read old new head taken text rest after some next reads =
-    let before = reads_records old head taken text rest some reads in
+    let before = reads_at old (Some head) taken text rest some reads in
     let base = read_push head (taken ++ old.ready) next.next old.latest old.whole text rest after before next.is_next in
     let list : taken ++ new.ready ≡ (taken ++ old.ready) ++ next.next ∷ [] =
     ap (λ (x : List Logged). taken ++ x) next.more.ready ∙ sym (append_assoc taken old.ready (next.next ∷ [])) in
@@ -102,27 +95,12 @@ next_read old new head taken text rest after some next reads =
     are_read new head taken text after (next.more.head ∙ some)
     (subst (λ (p : List Logged × ℕ × ℕ). AreRead head p.0 p.1 p.2 text after) (λ i. (sym list i, sym time i, sym count i)) base)
 
--- one record more is a step, and fewer bytes follow
-record_read : (old new : LogSoFar) (head : Head) (bytes after : List ℕ) → old.head ≡ Some head → ReadsNext head old bytes new after
-    → Reads ReadsLog old new bytes after × (length after < length bytes)
-record_read old new head bytes after some next =
-    let spelled = next.is_next.spelled in
-    let size = ap length (spelled ∙ framed_apart (body next.next) after) in
-    let behind = length-append (body next.next) (big_bytes 4 (length (body next.next)) ++ after) in (
-      record { items = spelling next.next; joins = spelled; on = λ taken text reads. next_read old new head taken text bytes after some next reads },
-      omega (arith, size, behind),
-    )
-
--- a rest that is left behind records
-records_left : (items : LogSoFar) (head : Head) (rest : List ℕ) → items.head ≡ Some head → IsLeft (limits_of head.format) rest → IsLogLeft items.head rest
-records_left items head rest some left = subst (λ (o : Option Head). IsLogLeft o rest) (sym some) left
-
 -- a fault behind the records read is that of the log
 record_failed : (fault : FeedFault) (old : LogSoFar) (ready : List Logged) (head : Head) (taken : List Logged) (text rest : List ℕ) → old.head ≡ Some head → IsNextFault head old rest fault
     → ready ≡ old.ready → ReadsLog taken old text rest → HasFailed fault text (taken ++ ready)
 record_failed faults.Header old ready head taken text rest some k e reads = absurd k
 record_failed (faults.Record nth what) old ready head taken text rest some k e reads =
-    let h = reads_records old head taken text rest some reads in
+    let h = reads_at old (Some head) taken text rest some reads in
     let fault = subst (λ (t : ℕ). RestFault what (limits_of head.format) t rest) h.latest k.1 in
     let there : HasFault text (taken ++ old.ready) what =
     record { head = head; rest = rest; spelled = h.spelled; is_head = h.is_head; lawful = h.lawful; fault = fault } in
@@ -135,10 +113,10 @@ pub steps_by : {R : Type 0} (listed : R → List Logged) (old new : LogItems R) 
     → IfOk answer (λ next. MatchOption next ((new ≡ old) × IsLeft (limits_of head.format) bytes) (λ after. ReadsNext head (so_far listed old) bytes (so_far listed new) after.now))
     → IfErr answer (IsNextFault head (so_far listed old) bytes) → OnErr answer (listed new.ready ≡ listed old.ready) → StepsLog listed old new bytes answer
 steps_by listed old new head bytes (Ok None) some stays failed kept =
-    record { next = (stays.0, λ taken text reads. records_left (so_far listed old) head bytes some stays.1); fault = λ taken text reads. tt }
+    record { next = (stays.0, λ taken text reads. subst (λ (o : Option Head). IsLogLeft o bytes) (sym some) stays.1); fault = λ taken text reads. tt }
 steps_by listed old new head bytes (Ok (Some after)) some next failed kept =
-    let read = record_read (so_far listed old) (so_far listed new) head bytes after.now some next in
-    record { next = (record { items = read.0.items; joins = read.0.joins; on = read.0.on }, read.1); fault = λ taken text reads. tt }
+    front_read (HasReadItems listed) IsLeftOfItems (HasFailedItems listed) old new (spelling next.next) bytes after next.is_next.spelled (omega arith)
+    (λ taken text reads. next_read (so_far listed old) (so_far listed new) head taken text bytes after.now some next reads)
 steps_by listed old new head bytes (Err fault) some next failed kept =
     record { next = tt; fault = λ taken text reads. record_failed fault (so_far listed old) (listed new.ready) head taken text bytes some failed kept reads }
 
@@ -157,7 +135,7 @@ nothing_read listed records none = (
 -- without a header there is none
 pub no_head_read : (items : LogSoFar) (taken : List Logged) (text left : List ℕ) → items.head ≡ None → ReadsLog taken items text left → IsLogLeft items.head left → HasNoHeader text
 no_head_read items taken text left none reads rest =
-    let nothing = reads_nothing items taken text left none reads in
+    let nothing = reads_at items None taken text left none reads in
     let cut = subst (λ (o : Option Head). IsLogLeft o left) none rest in
     subst HasNoHeader (sym nothing.all) (cut_none IsHead head_bytes 12 (λ head. refl) left cut)
 
@@ -166,7 +144,7 @@ pub text_read : {R : Type 0} (listed : R → List Logged) (items : LogItems R) (
     → IsLogLeft items.head left → torn ≡ not (length left == 0) → last ≡ max head.from items.latest
     → IsTextIn listed taken text (record { from = head.from; last = last; records = items.ready; whole = items.whole; torn = torn })
 text_read listed items taken text left head last torn some reads rest test greatest =
-    let h = reads_records (so_far listed items) head taken text left some reads in
+    let h = reads_at (so_far listed items) (Some head) taken text left some reads in
     let ends : IsLeft (limits_of head.format) left = subst (λ (o : Option Head). IsLogLeft o left) some rest in
     let log : LogReading = record { head = head; records = taken ++ listed items.ready; torn = torn } in
     let time : last ≡ max head.from (latest 0 log.records) = greatest ∙ ap (λ (n : ℕ). max head.from n) h.latest in

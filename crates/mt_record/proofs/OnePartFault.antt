@@ -19,7 +19,7 @@ use Rattle.mt_record.proofs.Unique.{same_split, same_number, framed_apart}
 use Rattle.mt_record.proofs.Entries.{entry_length, short_entry}
 use Rattle.mt_record.proofs.OnePart.{same_entry, same_head}
 use Rattle.mt_record.proofs.Beginnings.{cut_none}
-use Rattle.mt_record.proofs.PartItems.{reads_nothing, reads_entries}
+use Rattle.mt_record.proofs.PartItems.{reads_at}
 
 -- ---- what stands at the front of a rest
 
@@ -287,14 +287,14 @@ order_shows_none s bytes held reads left = by_stage s.head s.end s.entries bytes
 pub no_footer_read : (s : PartSoFar) (bytes left : List ℕ) (head : PartHead) → s.head ≡ Some head → s.end ≡ None → ReadsUpTo s bytes left → IsPartLeft s left
     → IsBroken bytes head.number (length s.entries)
 no_footer_read s bytes left head some none reads rest =
-    let begins = reads_entries s bytes left head some none reads in
+    let begins = reads_at s (Some head) None bytes left some none reads in
     let cut = subst (λ (p : Option PartHead × Option ℕ). IsPartLeft (record s { head = p.0; end = p.1 }) left) (λ i. (some i, none i)) rest in
     cut_broken bytes head s.entries left begins cut
 
 -- without a header it has none
 pub no_head_read : (s : PartSoFar) (bytes left : List ℕ) → s.head ≡ None → ReadsUpTo s bytes left → IsPartLeft s left → HasNoPartHeader bytes
 no_head_read s bytes left none reads rest =
-    let nothing = reads_nothing s bytes left none reads in
+    let nothing = reads_at s None s.end bytes left none refl reads in
     let cut = subst (λ (o : Option PartHead). IsPartLeft (record s { head = o }) left) none rest in
     subst HasNoPartHeader (sym nothing.all) (cut_no_header left cut)
 

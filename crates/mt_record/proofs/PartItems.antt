@@ -1,7 +1,6 @@
 -- The header, the entries and the footer of a part, one after the other.
-use Rattle.std.proofs.Common.{◌≡◌, ◌≢◌, inl, inr, ℕ, zero, suc, ◌^◌, ◌<◌, Ok, Option, Some, None, List, [], ◌∷◌, ◌++◌, length, refl, sym, ap, ◌∙◌, subst, append_assoc, true, false, arith}
+use Rattle.std.proofs.Common.{◌≡◌, ◌≢◌, inl, inr, ℕ, zero, suc, ◌^◌, ◌<◌, Ok, Option, Some, None, List, [], ◌∷◌, ◌++◌, length, refl, sym, ap, ◌∙◌, subst, append_assoc, false, arith}
 use Rattle.std.specs.List.{flat_map}
-use Rattle.std.specs.Option.{is_some}
 use Rattle.std.specs.Prelude.{◌==◌, codes}
 use Rattle.std.specs.Borrow.{Bor}
 use Rattle.std.proofs.lemmas.Bool.{false≢true}
@@ -19,7 +18,7 @@ use Rattle.mt_record.specs.Spelling.{framed}
 use Rattle.mt_record.specs.Bodies.{IsNextEntry}
 use Rattle.mt_record.specs.Parts.{part_head, part_head_bytes, IsPartHead, entry_spelling, footer_bytes, part_bytes}
 use Rattle.mt_record.specs.PartFaults.{BeginsPart, HasNoPartHeader}
-use Rattle.mt_record.specs.PartFeeding.{ShowsNoPartHeader, ShowsNoEntry, ShowsNoPart, ShowsBroken, PartSoFar, ReadsNothing, ReadsPart, ReadsUpTo, IsPartLeft}
+use Rattle.mt_record.specs.PartFeeding.{ShowsNoPartHeader, ShowsNoEntry, ShowsNoPart, ShowsBroken, PartSoFar, ReadsPart, ReadsUpTo, IsPartLeft}
 use Rattle.mt_record.specs.PartPieces.{so_far, HasReadItems, IsLeftOfItems, IsShownOfItems, StepsPart}
 use Rattle.mt_record.specs.Feeding.{HoldsAll}
 use Rattle.mt_record.specs.Fronts.{GoesWithMagic}
@@ -29,17 +28,10 @@ use Rattle.mt_record.proofs.PartBeginnings.{part_whole, part_magic}
 
 -- ---- what was read, by how far it came
 
-pub reads_nothing : (s : PartSoFar) (part rest : List ℕ) → s.head ≡ None → ReadsUpTo s part rest → ReadsNothing s.entries s.end part rest
-reads_nothing s part rest none reads = subst (λ (o : Option PartHead). ReadsUpTo (record s { head = o }) part rest) none reads
-
-pub reads_entries : (s : PartSoFar) (part rest : List ℕ) (head : PartHead) → s.head ≡ Some head → s.end ≡ None → ReadsUpTo s part rest → BeginsPart part head s.entries rest
-reads_entries s part rest head some none reads =
-    subst (λ (p : Option PartHead × Option ℕ). ReadsUpTo (record s { head = p.0; end = p.1 }) part rest) (λ i. (some i, none i)) reads
-
-pub reads_part : (s : PartSoFar) (part rest : List ℕ) (head : PartHead) (end : ℕ) → s.head ≡ Some head → s.end ≡ Some end → ReadsUpTo s part rest
-    → ReadsPart head s.entries end part rest
-reads_part s part rest head end some ends reads =
-    subst (λ (p : Option PartHead × Option ℕ). ReadsUpTo (record s { head = p.0; end = p.1 }) part rest) (λ i. (some i, ends i)) reads
+pub reads_at : (s : PartSoFar) (head : Option PartHead) (end : Option ℕ) (part rest : List ℕ) → s.head ≡ head → s.end ≡ end → ReadsUpTo s part rest
+    → ReadsUpTo (record s { head = head; end = end }) part rest
+reads_at s head end part rest is ends reads =
+    subst (λ (p : Option PartHead × Option ℕ). ReadsUpTo (record s { head = p.0; end = p.1 }) part rest) (λ i. (is i, ends i)) reads
 
 -- ---- the header
 
@@ -47,7 +39,7 @@ reads_part s part rest head end some ends reads =
 pub header_failed : (s : PartSoFar) (part bytes : List ℕ) → s.head ≡ None → ReadsUpTo s part bytes → (GoesWithMagic (codes "MTC") bytes → ⊥) → ShowsNoPartHeader part
 header_failed s part bytes none reads no_magic =
     let shows = shows_none IsPartHead part_head_bytes (codes "MTC") (λ (head : PartHead). head.format) part_magic bytes no_magic in
-    subst ShowsNoPartHeader (sym (reads_nothing s part bytes none reads).all) shows
+    subst ShowsNoPartHeader (sym (reads_at s None s.end part bytes none refl reads).all) shows
 
 -- bytes that go with them, and hold no header, begin one
 pub header_cut : {E : Type 0} (listed : E → List Change) (old : PartItems E) (bytes : List ℕ) → old.head ≡ None → GoesWithMagic (codes "MTC") bytes → AreBytes bytes → HasNoPartHeader bytes
@@ -62,7 +54,7 @@ pub header_read : {E : Type 0} (listed : E → List Change) (old : PartItems E) 
     → bytes ≡ part_head_bytes head ++ after.now → StepsPart listed old (record old { head = Some head }) bytes (Ok (Some after))
 header_read listed old head bytes after none is e =
     front_read (HasReadItems listed) (IsLeftOfItems listed) IsShownOfItems old (record old { head = Some head }) (part_head_bytes head) bytes after e (omega arith) (λ taken part reads.
-    let nothing = reads_nothing (so_far listed old) part bytes none reads in
+    let nothing = reads_at (so_far listed old) None old.end part bytes none refl reads in
     subst (λ (p : List Change × Option ℕ). ReadsUpTo (record { head = Some head; entries = p.0; end = p.1 }) part after.now)
     (λ i. (sym nothing.none i, sym nothing.no_end i)) (record { spelled = nothing.all ∙ e; is_head = is; lawful = tt }))
 
@@ -138,28 +130,22 @@ pub ended : (s : PartSoFar) (part rest : List ℕ) (head : PartHead) (end : ℕ)
     → ReadsUpTo (record s { end = Some end }) part rest
 ended s part rest head end some reads = subst (λ (o : Option PartHead). ReadsUpTo (record s { head = o; end = Some end }) part rest) (sym some) reads
 
--- the end is there where a test finds it
-the_end : (o : Option ℕ) → is_some o ≡ true → (end : ℕ) × (o ≡ Some end)
-the_end None there = absurd (false≢true there)
-the_end (Some end) there = (end, refl)
-
 -- bytes that a test does not call empty are some
 some_bytes : (bytes : List ℕ) → false ≡ (length bytes == 0) → 0 < length bytes
 some_bytes [] test = absurd (false≢true test)
 some_bytes (x ∷ xs) test = omega arith
 
 -- bytes behind the end break the part
-pub behind_end : (s : PartSoFar) (part bytes : List ℕ) (head : PartHead) → s.head ≡ Some head → is_some s.end ≡ true → false ≡ (length bytes == 0) → ReadsUpTo s part bytes
+pub behind_end : (s : PartSoFar) (part bytes : List ℕ) (head : PartHead) (end : ℕ) → s.head ≡ Some head → s.end ≡ Some end → false ≡ (length bytes == 0) → ReadsUpTo s part bytes
     → ShowsBroken part head.number (length s.entries)
-behind_end s part bytes head some ends test reads =
-    let end = the_end s.end ends in
-    more_shown part bytes head s.entries end.0 (reads_part s part bytes head end.0 some end.1 reads) (some_bytes bytes test)
+behind_end s part bytes head end some ends test reads =
+    more_shown part bytes head s.entries end (reads_at s (Some head) (Some end) part bytes some ends reads) (some_bytes bytes test)
 
 -- a part whose entry is read goes on behind it
 pub entry_goes_on : (s : PartSoFar) (entries : List Change) (part bytes fields after : List ℕ) (head : PartHead) (next : IsNextEntry (limits_of head.format) bytes fields after) → s.head ≡ Some head
     → s.end ≡ None → entries ≡ s.entries ++ next.next ∷ [] → ReadsUpTo s part bytes → ReadsUpTo (record s { entries = entries }) part after
 entry_goes_on s entries part bytes fields after head next some not_ended added reads =
-    let begins = reads_entries s part bytes head some not_ended reads in
+    let begins = reads_at s (Some head) None part bytes some not_ended reads in
     let spelled = next.spelled ∙ ap (λ (x : List ℕ). framed x ++ after) next.fields.spelled in
     let one_more = entry_read part bytes after head s.entries next.next begins next.fields.lawful spelled in
     let to : (record { head = Some head; entries = s.entries ++ next.next ∷ []; end = None }) ≡ record s { entries = entries } =

@@ -14,29 +14,22 @@ use Rattle.mt_record.specs.declared.head.Head.{Head}
 use Rattle.mt_record.specs.Heads.{IsHead, head_bytes}
 use Rattle.mt_record.specs.Logs.{latest}
 use Rattle.mt_record.specs.LogFaults.{RestFault, HasFault}
-use Rattle.mt_record.specs.MoreBytes.{spelled_on, shows_none_on}
+use Rattle.mt_record.specs.MoreBytes.{behind_on, spelled_on, shows_none_on}
 use Rattle.mt_record.specs.LogFeeding.{AreRead, HasRead, BeginLog, HasFailed}
-
--- a framed body with a fault begins longer bytes too
-framed_on : (rest text after more : List ℕ) → rest ≡ framed text ++ after → rest ++ more ≡ framed text ++ (after ++ more)
-framed_on rest text after more e = ap (λ (x : List ℕ). x ++ more) e ∙ append_assoc (framed text) after more
 
 -- a fault of the rest stays its fault when more bytes follow
 rest_fault_on : (what : What) (limits : Limits) (low : ℕ) (rest more : List ℕ) → RestFault what limits low rest → RestFault what limits low (rest ++ more)
-rest_fault_on Length limits low rest more h =
-    (h.0, h.1 ++ more, h.2, ap (λ (x : List ℕ). x ++ more) h.3 ∙ append_assoc (big_bytes 4 h.0) h.1 more, h.4)
+rest_fault_on Length limits low rest more h = (h.0, h.1 ++ more, h.2, behind_on (big_bytes 4 h.0) rest h.1 more h.3, h.4)
 rest_fault_on Trailer limits low rest more h =
     let start = big_bytes 4 (length h.0) in
     let end = big_bytes 4 h.1 in
-    let after = append_assoc h.0 (end ++ h.2) more ∙ ap (λ (x : List ℕ). h.0 ++ x) (append_assoc end h.2 more) in
-    let all = ap (λ (x : List ℕ). x ++ more) h.6 ∙ append_assoc start (h.0 ++ (end ++ h.2)) more ∙ ap (λ (x : List ℕ). start ++ x) after in
-    (h.0, h.1, h.2 ++ more, h.3, h.4, h.5, all)
-rest_fault_on Kind limits low rest more h = (h.0, h.1 ++ more, h.2, framed_on rest h.0 h.1 more h.3, h.4)
-rest_fault_on Frame limits low rest more h = (h.0, h.1 ++ more, h.2, framed_on rest h.0 h.1 more h.3, h.4)
-rest_fault_on Version limits low rest more h = (h.0, h.1 ++ more, h.2, framed_on rest h.0 h.1 more h.3, h.4)
-rest_fault_on Key limits low rest more h = (h.0, h.1 ++ more, h.2, framed_on rest h.0 h.1 more h.3, h.4)
-rest_fault_on Columns limits low rest more h = (h.0, h.1 ++ more, h.2, framed_on rest h.0 h.1 more h.3, h.4)
-rest_fault_on Clock limits low rest more h = (h.0, h.1 ++ more, h.2, framed_on rest h.0 h.1 more h.3, h.4)
+    (h.0, h.1, h.2 ++ more, h.3, h.4, h.5, spelled_on start h.0 rest (end ++ h.2) more h.6 ∙ ap (λ (x : List ℕ). start ++ (h.0 ++ x)) (append_assoc end h.2 more))
+rest_fault_on Kind limits low rest more h = (h.0, h.1 ++ more, h.2, behind_on (framed h.0) rest h.1 more h.3, h.4)
+rest_fault_on Frame limits low rest more h = (h.0, h.1 ++ more, h.2, behind_on (framed h.0) rest h.1 more h.3, h.4)
+rest_fault_on Version limits low rest more h = (h.0, h.1 ++ more, h.2, behind_on (framed h.0) rest h.1 more h.3, h.4)
+rest_fault_on Key limits low rest more h = (h.0, h.1 ++ more, h.2, behind_on (framed h.0) rest h.1 more h.3, h.4)
+rest_fault_on Columns limits low rest more h = (h.0, h.1 ++ more, h.2, behind_on (framed h.0) rest h.1 more h.3, h.4)
+rest_fault_on Clock limits low rest more h = (h.0, h.1 ++ more, h.2, behind_on (framed h.0) rest h.1 more h.3, h.4)
 
 -- a fault behind records stays one when more bytes follow
 has_fault_on : (bytes more : List ℕ) (records : List Logged) (what : What) → HasFault bytes records what → HasFault (bytes ++ more) records what

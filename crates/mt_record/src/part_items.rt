@@ -42,9 +42,9 @@ impl<E: Entries> Items for PartItems<E> {
         let Some(head) = self.head else {
             return self.read_header(bytes);
         };
-        if self.end.is_none() {
+        let Some(_) = self.end else {
             return self.read_item(head, bytes);
-        }
+        };
         if bytes.is_empty() {
             return Ok(None);
         }

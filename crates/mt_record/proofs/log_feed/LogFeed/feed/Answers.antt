@@ -1,6 +1,6 @@
 use Rattle.std.proofs.Common.{◌++◌, sym, subst}
+use Rattle.std.proofs.lemmas.Result.{on_ok_weaker, IfErr-weaker}
 use Rattle.mt_record.specs.LogFeeding.{FedLog, IsLogFed}
-use Rattle.mt_record.proofs.Feeds.{on_ok, if_err}
 use Rattle.mt_record.proofs.LogFeeds.{order_shows_none, failed_shown}
 use Rattle.mt_record.proofs.log_feed.LogFeed.feed.Goals as goal
 
@@ -12,11 +12,11 @@ returns-clause-ok g c bytes taken fed =
     let after = c.feed.ensures.fed taken bytes (subst (λ (f : FedLog). IsLogFed f bytes taken) (sym c.self.view_is) fed) in
     let feed = c.feed.new.self in
     let items = feed.items in
-    on_ok c.feed.result
+    on_ok_weaker c.feed.result
     (λ none. order_shows_none items.head (taken ++ g.R.Records.listed items.ready) items.latest items.whole (bytes ++ c.args.piece.now) feed.held.items (after.0 none).0 (after.0 none).1) c.feed.ensures.sound
 
 pub returns-clause-fault : goal.returns-clause-fault
 returns-clause-fault g c bytes taken fed =
     let after = c.feed.ensures.fed taken bytes (subst (λ (f : FedLog). IsLogFed f bytes taken) (sym c.self.view_is) fed) in
     let records = taken ++ g.R.Records.listed c.feed.new.self.items.ready in
-    if_err c.feed.result (λ fault is. failed_shown fault (bytes ++ c.args.piece.now) records (after.1 fault is)) c.feed.ensures.kept
+    IfErr-weaker c.feed.result _ _ (λ fault is. failed_shown fault (bytes ++ c.args.piece.now) records (after.1 fault is)) c.feed.ensures.kept

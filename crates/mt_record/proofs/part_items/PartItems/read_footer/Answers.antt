@@ -1,10 +1,10 @@
-use Rattle.std.proofs.Common.{◌≡◌, Some, List, ℕ, ◌++◌, length, ap, ◌∙◌, arith}
+use Rattle.std.proofs.Common.{◌≡◌, Some, None, List, ℕ, ◌++◌, length, ap, ◌∙◌, arith}
 use Rattle.byteorder.specs.Endian.{big_bytes}
 use Rattle.mt_words.specs.Limits.{limits_of}
 use Rattle.mt_record.specs.PartPieces.{so_far, HasReadItems, IsLeftOfItems, IsShownOfItems}
 use Rattle.mt_record.specs.Parts.{footer_bytes}
 use Rattle.mt_record.proofs.Feeds.{front_read}
-use Rattle.mt_record.proofs.PartItems.{reads_entries, broken_at, footer_shown, footer_read, ended}
+use Rattle.mt_record.proofs.PartItems.{reads_at, broken_at, footer_shown, footer_read, ended}
 use Rattle.mt_record.proofs.part_items.PartItems.read_footer.Goals as goal
 
 pub returns-then-count : goal.returns-then-count
@@ -19,7 +19,7 @@ returns-then-count g c =
     record {
       next = tt;
       fault = λ taken part reads.
-          let begins = reads_entries (so_far g.E.Entries.listed old) part (big_bytes 4 0 ++ bytes) c.args.head c.requires.head c.requires.open reads in
+          let begins = reads_at (so_far g.E.Entries.listed old) (Some c.args.head) None part (big_bytes 4 0 ++ bytes) c.requires.head c.requires.open reads in
           rw c.broken.ensures (broken_at part (big_bytes 4 0 ++ bytes) c.args.head (g.E.Entries.listed old.entries) begins shown);
     }
 
@@ -36,6 +36,6 @@ returns g c =
     front_read (HasReadItems listed) (IsLeftOfItems listed) IsShownOfItems old (record old { end = Some c.in-Some.end }) (footer_bytes c.in-Some.end c.in-Some-u32_at.count) (big_bytes 4 0 ++ bytes)
     c.in-Some-u32_at.after spelled (omega arith)
     (λ taken part reads.
-    let begins = reads_entries (so_far listed old) part (big_bytes 4 0 ++ bytes) c.args.head c.requires.head c.requires.open reads in
+    let begins = reads_at (so_far listed old) (Some c.args.head) None part (big_bytes 4 0 ++ bytes) c.requires.head c.requires.open reads in
     ended (so_far listed old) part after c.args.head c.in-Some.end c.requires.head
     (footer_read part bytes c.in-Some.rest.now after c.args.head (listed old.entries) c.in-Some.end c.in-Some-u32_at.count begins end.0 end.1 count.0 count.1 so_many))

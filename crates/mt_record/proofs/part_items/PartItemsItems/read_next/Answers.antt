@@ -6,5 +6,5 @@ pub returns : goal.returns
 returns g c = record {
   next = tt;
   fault = λ taken part reads.
-      rw c.broken.ensures (behind_end (so_far g.E.Entries.listed c.args.self.now) part c.args.bytes.now c.in-Some.head c.in-Some.is c.if-is_none.ensures c.if-is_empty.ensures reads);
+      rw c.broken.ensures (behind_end (so_far g.E.Entries.listed c.args.self.now) part c.args.bytes.now c.in-Some.head c.in-Some-end.field-0 c.in-Some.is c.in-Some-end.is c.if-is_empty.ensures reads);
 }
