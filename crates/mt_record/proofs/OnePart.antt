@@ -11,7 +11,8 @@ use Rattle.mt_words.proofs.Formats.{same_format}
 use Rattle.mt_words.specs.Changes.{IsEntry}
 use Rattle.mt_record.specs.Spelling.{change_bytes}
 use Rattle.mt_record.specs.declared.part_text.PartHead.{PartHead}
-use Rattle.mt_record.specs.Parts.{part_head_bytes, IsPartHead, entry_spelling, footer_bytes, IsPart}
+use Rattle.mt_record.specs.Parts.{part_head_bytes, IsPartHead, entry_spelling, footer_bytes, IsEntryLength, IsPart}
+use Rattle.mt_record.specs.PartFaults.{HasNoEntry, BeginsPart}
 use Rattle.mt_record.proofs.Unique.{same_split, same_number, same_change, same_framed, framed_apart}
 use Rattle.mt_record.proofs.Entries.{entry_length, short_entry}
 use Rattle.mt_record.proofs.EntryTexts.{entry_fits, whole_code}
@@ -33,30 +34,32 @@ pub entry_free : (format : Format) (a b : Change) (more : List ℕ) → IsEntry 
     → entry_spelling b ≡ entry_spelling a ++ more → (a ≡ b) × (more ≡ [])
 entry_free format a b more is_a is_b e = same_entry format a b more [] is_a is_b (sym e ∙ sym (append-nil (entry_spelling b)))
 
--- no footer begins as an entry does
-no_footer : (format : Format) (change : Change) (end count : ℕ) (more : List ℕ) → IsEntry (limits_of format) change → footer_bytes end count ≡ entry_spelling change ++ more → ⊥
-no_footer format change end count more is e =
-    let long = entry_length (limits_of format) change is in
-    let short = short_entry format (length (change_bytes change)) long in
-    let number = same_number 4 0 (length (change_bytes change)) (big_bytes 8 end ++ big_bytes 4 count) (change_bytes change ++ (big_bytes 4 (length (change_bytes change)) ++ more)) (omega arith) short (e ∙ framed_apart (change_bytes change) more) in
-    omega (arith, long.0, number.0)
+-- bytes whose length no entry has begin with none
+pub length_no_entry : (format : Format) (rest : List ℕ) (n : ℕ) (more : List ℕ) → n < 2 ^ 32 → (IsEntryLength (limits_of format) n → ⊥) → rest ≡ big_bytes 4 n ++ more
+    → HasNoEntry (limits_of format) rest
+length_no_entry format rest n more fits wrong e entry behind is other =
+    let fields = change_bytes entry in
+    let long = entry_length (limits_of format) entry is in
+    let same = same_number 4 n (length fields) more (fields ++ (big_bytes 4 (length fields) ++ behind)) fits (short_entry format (length fields) long)
+    (sym e ∙ other ∙ framed_apart fields behind) in
+    wrong (subst (IsEntryLength (limits_of format)) (sym same.0) long)
+
+-- and so does no footer
+pub footer_no_entry : (format : Format) (rest more : List ℕ) (end count : ℕ) → rest ≡ footer_bytes end count ++ more → HasNoEntry (limits_of format) rest
+footer_no_entry format rest more end count e = length_no_entry format rest 0 (big_bytes 8 end ++ (big_bytes 4 count ++ more)) (omega arith) (λ is. omega (arith, is.0)) e
 
 -- ---- parts
 
--- entries and a footer are the bytes in one way
-same_rest : (format : Format) (entries others : List Change) (end fin m n : ℕ) → AllByRecursion (IsEntry (limits_of format)) entries → AllByRecursion (IsEntry (limits_of format)) others
-    → end < 2 ^ 64 → fin < 2 ^ 64 → flat_map entry_spelling entries ++ footer_bytes end m ≡ flat_map entry_spelling others ++ footer_bytes fin n → (entries ≡ others) × (end ≡ fin)
-same_rest format [] [] end fin m n are too fits_end fits_fin e =
-    let tails = (same_number 4 0 0 (big_bytes 8 end ++ big_bytes 4 m) (big_bytes 8 fin ++ big_bytes 4 n) (omega arith) (omega arith) e).1 in
-    (refl, (same_number 8 end fin (big_bytes 4 m) (big_bytes 4 n) fits_end fits_fin tails).0)
-same_rest format [] (o ∷ os) end fin m n are too fits_end fits_fin e =
-    absurd (no_footer format o end m (flat_map entry_spelling os ++ footer_bytes fin n) too.0 (e ∙ append_assoc (entry_spelling o) (flat_map entry_spelling os) (footer_bytes fin n)))
-same_rest format (x ∷ xs) [] end fin m n are too fits_end fits_fin e =
-    absurd (no_footer format x fin n (flat_map entry_spelling xs ++ footer_bytes end m) are.0 (sym e ∙ append_assoc (entry_spelling x) (flat_map entry_spelling xs) (footer_bytes end m)))
-same_rest format (x ∷ xs) (o ∷ os) end fin m n are too fits_end fits_fin e =
-    let apart = sym (append_assoc (entry_spelling x) (flat_map entry_spelling xs) (footer_bytes end m)) ∙ e ∙ append_assoc (entry_spelling o) (flat_map entry_spelling os) (footer_bytes fin n) in
-    let first = same_entry format x o (flat_map entry_spelling xs ++ footer_bytes end m) (flat_map entry_spelling os ++ footer_bytes fin n) are.0 too.0 apart in
-    let rest = same_rest format xs os end fin m n are.1 too.1 fits_end fits_fin first.1 in
+-- entries and a rest that begins with none are the bytes in one way
+same_rest : (format : Format) (xs ys : List Change) (a b : List ℕ) → AllByRecursion (IsEntry (limits_of format)) xs → AllByRecursion (IsEntry (limits_of format)) ys
+    → HasNoEntry (limits_of format) a → HasNoEntry (limits_of format) b → flat_map entry_spelling xs ++ a ≡ flat_map entry_spelling ys ++ b → (xs ≡ ys) × (a ≡ b)
+same_rest format [] [] a b are too none_a none_b e = (refl, e)
+same_rest format [] (y ∷ ys) a b are too none_a none_b e = absurd (none_a y (flat_map entry_spelling ys ++ b) too.0 (e ∙ append_assoc (entry_spelling y) (flat_map entry_spelling ys) b))
+same_rest format (x ∷ xs) [] a b are too none_a none_b e = absurd (none_b x (flat_map entry_spelling xs ++ a) are.0 (sym e ∙ append_assoc (entry_spelling x) (flat_map entry_spelling xs) a))
+same_rest format (x ∷ xs) (y ∷ ys) a b are too none_a none_b e =
+    let apart = sym (append_assoc (entry_spelling x) (flat_map entry_spelling xs) a) ∙ e ∙ append_assoc (entry_spelling y) (flat_map entry_spelling ys) b in
+    let first = same_entry format x y (flat_map entry_spelling xs ++ a) (flat_map entry_spelling ys ++ b) are.0 too.0 apart in
+    let rest = same_rest format xs ys a b are.1 too.1 none_a none_b first.1 in
     (λ i. first.0 i ∷ rest.0 i, rest.1)
 
 -- one header begins the bytes
@@ -73,11 +76,28 @@ same_head a b x y is_a is_b e =
     let parts = same_number 2 a.parts b.parts [] [] is_a.parts is_b.parts (append-nil (big_bytes 2 a.parts) ∙ part.1 ∙ sym (append-nil (big_bytes 2 b.parts))) in
     (λ i. record { format = format i; number = number.0 i; begin = begin.0 i; part = part.0 i; parts = parts.0 i }, split.1)
 
+-- bytes begin with one header and one list of whole entries
+pub same_beginning : (bytes : List ℕ) (h k : PartHead) (xs ys : List Change) (a b : List ℕ) → BeginsPart bytes h xs a → BeginsPart bytes k ys b → HasNoEntry (limits_of h.format) a
+    → HasNoEntry (limits_of k.format) b → (h ≡ k) × (xs ≡ ys) × (a ≡ b)
+same_beginning bytes h k xs ys a b p q none_a none_b =
+    let heads = same_head h k (flat_map entry_spelling xs ++ a) (flat_map entry_spelling ys ++ b) p.is_head q.is_head (sym p.spelled ∙ q.spelled) in
+    let lawful = subst (λ (head : PartHead). AllByRecursion (IsEntry (limits_of head.format)) xs) heads.0 p.lawful in
+    let none = subst (λ (head : PartHead). HasNoEntry (limits_of head.format) a) heads.0 none_a in
+    let rest = same_rest k.format xs ys a b lawful q.lawful none none_b heads.1 in
+    (heads.0, rest.0, rest.1)
+
+-- a part begins with its header and its entries, and then its footer follows
+pub part_begins : (bytes : List ℕ) (head : PartHead) (entries : List Change) (end : ℕ) → IsPart bytes head entries end → BeginsPart bytes head entries (footer_bytes end (length entries))
+part_begins bytes head entries end is = record { spelled = is.spelled; is_head = is.is_head; lawful = is.lawful }
+
 -- bytes are a part in one way
 pub one_part : (bytes : List ℕ) (head other : PartHead) (entries others : List Change) (end fin : ℕ) → IsPart bytes head entries end → IsPart bytes other others fin
     → (head ≡ other) × (entries ≡ others) × (end ≡ fin)
 one_part bytes head other entries others end fin a b =
-    let first = same_head head other (flat_map entry_spelling entries ++ footer_bytes end (length entries)) (flat_map entry_spelling others ++ footer_bytes fin (length others)) a.is_head b.is_head (sym a.spelled ∙ b.spelled) in
-    let lawful = subst (λ (h : PartHead). AllByRecursion (IsEntry (limits_of h.format)) entries) first.0 a.lawful in
-    let rest = same_rest other.format entries others end fin (length entries) (length others) lawful b.lawful a.fits b.fits first.1 in
-    (first.0, rest.0, rest.1)
+    let m = length entries in
+    let n = length others in
+    let none = footer_no_entry head.format (footer_bytes end m) [] end m (sym (append-nil (footer_bytes end m))) in
+    let too = footer_no_entry other.format (footer_bytes fin n) [] fin n (sym (append-nil (footer_bytes fin n))) in
+    let same = same_beginning bytes head other entries others (footer_bytes end m) (footer_bytes fin n) (part_begins bytes head entries end a) (part_begins bytes other others fin b) none too in
+    let tails : big_bytes 8 end ++ big_bytes 4 m ≡ big_bytes 8 fin ++ big_bytes 4 n = ap (drop 4) same.2 in
+    (same.0, same.1, (same_number 8 end fin (big_bytes 4 m) (big_bytes 4 n) a.fits b.fits tails).0)

@@ -17,19 +17,20 @@ use Rattle.mt_record.specs.PartFaults.{HasNoPartHeader, HasNoEntry, BeginsPart, 
 use Rattle.mt_record.specs.PartFeeding.{ShowsNoPart, IsPartShown, ShowsNoPartFault, IsCutHeader, IsCutItem, PartSoFar, ReadsPart, ReadsUpTo, IsPartLeft}
 use Rattle.mt_record.proofs.Unique.{same_split, same_number, framed_apart}
 use Rattle.mt_record.proofs.Entries.{entry_length, short_entry}
-use Rattle.mt_record.proofs.OnePart.{same_entry, same_head}
+use Rattle.mt_record.proofs.OnePart.{length_no_entry, footer_no_entry, same_beginning, part_begins}
 use Rattle.mt_record.proofs.Beginnings.{cut_none}
 use Rattle.mt_record.proofs.PartItems.{reads_at}
 
 -- ---- what stands at the front of a rest
 
--- a length, and enough bytes behind it for what it begins: an entry, or a footer where it is zero
+-- a length, and enough bytes behind it if it begins an entry, or a footer, which it does where it is zero
 record Whole (limits : Limits) (rest : List ℕ) : Type 0 where
   first : ℕ
   tail : List ℕ
   fits : first < 2 ^ 32
   spelled : rest ≡ big_bytes 4 first ++ tail
-  enough : (IsEntryLength limits first × (first + 4 ≤ length tail)) ⊎ ((first ≡ 0) × (12 ≤ length tail))
+  entry : IsEntryLength limits first → first + 4 ≤ length tail
+  footer : first ≡ 0 → 12 ≤ length tail
 
 -- Of parts of one format.
 module _ (format : Format) where
@@ -46,7 +47,8 @@ module _ (format : Format) where
         tail = fields ++ (big_bytes 4 (length fields) ++ more);
         fits = short_entry format (length fields) long;
         spelled = e ∙ framed_apart fields more;
-        enough = inl (long, omega (arith, length-append fields (big_bytes 4 (length fields) ++ more)));
+        entry = λ is. omega (arith, length-append fields (big_bytes 4 (length fields) ++ more));
+        footer = λ zero. omega (arith, zero, long.0);
       }
 
   -- and so is a footer
@@ -56,7 +58,8 @@ module _ (format : Format) where
     tail = big_bytes 8 end ++ (big_bytes 4 count ++ more);
     fits = omega arith;
     spelled = e;
-    enough = inr (refl, omega arith);
+    entry = λ is. omega (arith, is.0);
+    footer = λ zero. omega arith;
   }
 
   -- a rest in which nothing more can be read has nothing whole at its front
@@ -64,12 +67,12 @@ module _ (format : Format) where
   cut_item rest (inl (inl few)) whole = let all = ap length whole.spelled in omega (arith, few, all)
   cut_item rest (inl (inr (n, more, long, e, short))) whole =
       let same = same_number 4 n whole.first more whole.tail (short_entry format n long) whole.fits (sym e ∙ whole.spelled) in
-      let tails = ap length same.1 in
-      elim whole.enough as (λ _. ⊥) [ inl entry ↦ omega (arith, same.0, tails, short, entry.1) | inr footer ↦ omega (arith, same.0, long.0, footer.0) ]
+      let enough = whole.entry (subst (IsEntryLength limits) same.0 long) in
+      omega (arith, enough, same.0, ap length same.1, short)
   cut_item rest (inr (more, short, e)) whole =
       let same = same_number 4 0 whole.first more whole.tail (omega arith) whole.fits (sym e ∙ whole.spelled) in
-      let tails = ap length same.1 in
-      elim whole.enough as (λ _. ⊥) [ inl entry ↦ omega (arith, same.0, entry.0.0) | inr footer ↦ omega (arith, tails, short, footer.1) ]
+      let enough = whole.footer (sym same.0) in
+      omega (arith, enough, ap length same.1, short)
 
   none_left : (rest : List ℕ) → (rest ≡ []) ⊎ IsCutItem limits rest → Whole limits rest → ⊥
   none_left rest (inl none) whole = let all = ap length (sym none ∙ whole.spelled) in omega (arith, all)
@@ -80,15 +83,6 @@ module _ (format : Format) where
   left_no_entry rest left entry more is e = none_left rest left (entry_whole rest more entry is e)
 
   -- ---- what shows that there is no part
-
-  -- a footer at the front is no entry
-  footer_no_entry : (rest more : List ℕ) (end count : ℕ) → rest ≡ footer_bytes end count ++ more → HasNoEntry limits rest
-  footer_no_entry rest more end count e entry behind is other =
-      let fields = change_bytes entry in
-      let long = entry_length limits entry is in
-      let same = same_number 4 0 (length fields) (big_bytes 8 end ++ (big_bytes 4 count ++ more)) (fields ++ (big_bytes 4 (length fields) ++ behind))
-      (omega arith) (short_entry format (length fields) long) (sym e ∙ other ∙ framed_apart fields behind) in
-      omega (arith, same.0, long.0)
 
   -- what is framed wrongly is no entry
   wrong_no_entry : (rest text more : List ℕ) (n : ℕ) → IsEntryLength limits (length text) → n < 2 ^ 32
@@ -104,20 +98,11 @@ module _ (format : Format) where
       omega (arith, number.0, length-append text (big_bytes 4 n), length-append fields (big_bytes 4 (length fields))) in
       refused entry is (same_split frame (entry_spelling entry) more behind sizes (sym e ∙ other)).0
 
-  -- a wrong length is no entry's
-  length_no_entry : (rest : List ℕ) (n : ℕ) (more : List ℕ) → n < 2 ^ 32 → (IsEntryLength limits n → ⊥) → rest ≡ big_bytes 4 n ++ more → HasNoEntry limits rest
-  length_no_entry rest n more fits wrong e entry behind is other =
-      let fields = change_bytes entry in
-      let long = entry_length limits entry is in
-      let same = same_number 4 n (length fields) more (fields ++ (big_bytes 4 (length fields) ++ behind)) fits (short_entry format (length fields) long)
-      (sym e ∙ other ∙ framed_apart fields behind) in
-      wrong (subst (IsEntryLength limits) (sym same.0) long)
-
   pub shown_no_entry : (count : ℕ) (rest : List ℕ) → ShowsNoPart limits count rest → HasNoEntry limits rest
-  shown_no_entry count rest (inl h) = length_no_entry rest h.0 h.1 h.2 h.4 h.5
+  shown_no_entry count rest (inl h) = length_no_entry format rest h.0 h.1 h.2 h.4 h.5
   shown_no_entry count rest (inr (inl h)) = wrong_no_entry rest h.0 h.2 h.1 h.3 h.4 h.5 h.6
-  shown_no_entry count rest (inr (inr (inl h))) = footer_no_entry rest h.2 h.0 h.1 h.5
-  shown_no_entry count rest (inr (inr (inr h))) = footer_no_entry rest (h.1 ∷ h.2) h.0 count h.3
+  shown_no_entry count rest (inr (inr (inl h))) = footer_no_entry format rest h.2 h.0 h.1 h.5
+  shown_no_entry count rest (inr (inr (inr h))) = footer_no_entry format rest (h.1 ∷ h.2) h.0 count h.3
 
   -- framed bytes are whole, lawful or not
   frame_whole : (rest text more : List ℕ) (n : ℕ) → IsEntryLength limits (length text) → rest ≡ (big_bytes 4 (length text) ++ (text ++ big_bytes 4 n)) ++ more → Whole limits rest
@@ -126,24 +111,14 @@ module _ (format : Format) where
     tail = (text ++ big_bytes 4 n) ++ more;
     fits = short_entry format (length text) fits;
     spelled = e;
-    enough = inl (fits, omega (arith, length-append (text ++ big_bytes 4 n) more, length-append text (big_bytes 4 n)));
+    entry = λ is. omega (arith, length-append (text ++ big_bytes 4 n) more, length-append text (big_bytes 4 n));
+    footer = λ zero. omega (arith, zero, fits.0);
   }
 
-  -- a rest in which nothing more can be read has no wrong length
-  cut_length : (rest : List ℕ) (n : ℕ) (more : List ℕ) → n < 2 ^ 32 → 0 < n → (IsEntryLength limits n → ⊥) → rest ≡ big_bytes 4 n ++ more
-      → (rest ≡ []) ⊎ IsCutItem limits rest → ⊥
-  cut_length rest n more fits some wrong e (inl none) = let all = ap length (sym none ∙ e) in omega (arith, all)
-  cut_length rest n more fits some wrong e (inr (inl (inl few))) = let all = ap length e in omega (arith, few, all)
-  cut_length rest n more fits some wrong e (inr (inl (inr (m, tail, long, f, short)))) =
-      let same = same_number 4 n m more tail fits (short_entry format m long) (sym e ∙ f) in
-      wrong (subst (IsEntryLength limits) (sym same.0) long)
-  cut_length rest n more fits some wrong e (inr (inr (tail, short, f))) =
-      let same = same_number 4 n 0 more tail fits (omega arith) (sym e ∙ f) in
-      omega (arith, same.0, some)
-
-  -- it shows nothing
+  -- a rest in which nothing more can be read shows nothing
   left_shows_none : (count : ℕ) (rest : List ℕ) → (rest ≡ []) ⊎ IsCutItem limits rest → ShowsNoPart limits count rest → ⊥
-  left_shows_none count rest left (inl (n, more, fits, some, wrong, e)) = cut_length rest n more fits some wrong e left
+  left_shows_none count rest left (inl (n, more, fits, some, wrong, e)) =
+      none_left rest left (record { first = n; tail = more; fits = fits; spelled = e; entry = λ is. absurd (wrong is); footer = λ zero. omega (arith, zero, some) })
   left_shows_none count rest left (inr (inl h)) = none_left rest left (frame_whole rest h.0 h.2 h.1 h.3 h.6)
   left_shows_none count rest left (inr (inr (inl h))) = none_left rest left (footer_whole rest h.2 h.0 h.1 h.5)
   left_shows_none count rest left (inr (inr (inr h))) = none_left rest left (footer_whole rest (h.1 ∷ h.2) h.0 count h.3)
@@ -161,34 +136,6 @@ module _ (format : Format) where
       let counts = (same_split (big_bytes 8 other) (big_bytes 8 end) (big_bytes 4 n ++ more) (big_bytes 4 count) refl tails).1 in
       differ (same_number 4 n count more [] small fits counts).0
   footer_shows_none count end rest fits_end fits e (inr (inr (inr (other, byte, more, f)))) = let all = ap length (sym f ∙ e) in omega (arith, all)
-
-  -- ---- the entries at the beginning of a part
-
-  -- entries and a rest that begins with none are the bytes in one way
-  same_rest : (xs ys : List Change) (a b : List ℕ) → AllByRecursion (IsEntry limits) xs → AllByRecursion (IsEntry limits) ys → HasNoEntry limits a → HasNoEntry limits b
-      → flat_map entry_spelling xs ++ a ≡ flat_map entry_spelling ys ++ b → (xs ≡ ys) × (a ≡ b)
-  same_rest [] [] a b are too none_a none_b e = (refl, e)
-  same_rest [] (y ∷ ys) a b are too none_a none_b e = absurd (none_a y (flat_map entry_spelling ys ++ b) too.0 (e ∙ append_assoc (entry_spelling y) (flat_map entry_spelling ys) b))
-  same_rest (x ∷ xs) [] a b are too none_a none_b e = absurd (none_b x (flat_map entry_spelling xs ++ a) are.0 (sym e ∙ append_assoc (entry_spelling x) (flat_map entry_spelling xs) a))
-  same_rest (x ∷ xs) (y ∷ ys) a b are too none_a none_b e =
-      let apart = sym (append_assoc (entry_spelling x) (flat_map entry_spelling xs) a) ∙ e ∙ append_assoc (entry_spelling y) (flat_map entry_spelling ys) b in
-      let first = same_entry format x y (flat_map entry_spelling xs ++ a) (flat_map entry_spelling ys ++ b) are.0 too.0 apart in
-      let rest = same_rest xs ys a b are.1 too.1 none_a none_b first.1 in
-      (λ i. first.0 i ∷ rest.0 i, rest.1)
-
--- bytes begin with one header and one list of whole entries
-pub same_beginning : (bytes : List ℕ) (h k : PartHead) (xs ys : List Change) (a b : List ℕ) → BeginsPart bytes h xs a → BeginsPart bytes k ys b → HasNoEntry (limits_of h.format) a
-    → HasNoEntry (limits_of k.format) b → (h ≡ k) × (xs ≡ ys) × (a ≡ b)
-same_beginning bytes h k xs ys a b p q none_a none_b =
-    let heads = same_head h k (flat_map entry_spelling xs ++ a) (flat_map entry_spelling ys ++ b) p.is_head q.is_head (sym p.spelled ∙ q.spelled) in
-    let lawful = subst (λ (head : PartHead). AllByRecursion (IsEntry (limits_of head.format)) xs) heads.0 p.lawful in
-    let none = subst (λ (head : PartHead). HasNoEntry (limits_of head.format) a) heads.0 none_a in
-    let rest = same_rest k.format xs ys a b lawful q.lawful none none_b heads.1 in
-    (heads.0, rest.0, rest.1)
-
--- a part begins with its header and its entries, and then its footer follows
-part_begins : (bytes : List ℕ) (head : PartHead) (entries : List Change) (end : ℕ) → IsPart bytes head entries end → BeginsPart bytes head entries (footer_bytes end (length entries))
-part_begins bytes head entries end is = record { spelled = is.spelled; is_head = is.is_head; lawful = is.lawful }
 
 -- what begins bytes, up to a rest that begins with no entry, is all of a part but its footer
 up_to_footer : (bytes rest : List ℕ) (head other : PartHead) (entries others : List Change) (end : ℕ) → BeginsPart bytes head entries rest → HasNoEntry (limits_of head.format) rest
