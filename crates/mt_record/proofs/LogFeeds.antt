@@ -15,10 +15,10 @@ use Rattle.mt_record.specs.declared.head.Head.{Head}
 use Rattle.mt_record.specs.Heads.{IsHead, head_of, head_bytes, HasNoHeader}
 use Rattle.mt_record.specs.Logs.{latest, IsLog, LogReading, IsLast, IsTextIn}
 use Rattle.mt_record.specs.LogFaults.{RestFault, HasFault, IsAnswered}
-use Rattle.mt_record.specs.Fronts.{GoesWithMagic}
+use Rattle.mt_record.specs.Fronts.{GoesWithMagic, ShowsNone, IsCutFront}
 use Rattle.mt_record.specs.Bodies.{IsNext}
 use Rattle.mt_record.specs.Feeding.{HoldsAll}
-use Rattle.mt_record.specs.LogFeeding.{LogSoFar, ShowsNoHeader, IsShown, ShowsNoFault, AreRead, HasRead, ReadsLog, IsCutHeader, IsLeft, IsLogLeft, HasFailed}
+use Rattle.mt_record.specs.LogFeeding.{LogSoFar, IsShown, ShowsNoFault, AreRead, HasRead, ReadsLog, IsLeft, IsLogLeft, HasFailed}
 use Rattle.mt_record.specs.LogPieces.{so_far, HasReadItems, IsLeftOfItems, HasFailedItems, StepsLog, ReadsNext, IsNextFault}
 use Rattle.mt_record.specs.LogLaws.{begins_by}
 use Rattle.mt_record.proofs.Records.{records_push, latest_push, spelled_push, last_is, tells_torn}
@@ -33,11 +33,6 @@ reads_at : (items : LogSoFar) (head : Option Head) (taken : List Logged) (text r
 reads_at items head taken text rest is reads =
     subst (λ (o : Option Head). HasRead o (taken ++ items.ready) items.latest items.whole text rest) is reads
 
-are_read : (items : LogSoFar) (head : Head) (taken : List Logged) (text rest : List ℕ) → items.head ≡ Some head
-    → AreRead head (taken ++ items.ready) items.latest items.whole text rest → ReadsLog taken items text rest
-are_read items head taken text rest some reads =
-    subst (λ (o : Option Head). HasRead o (taken ++ items.ready) items.latest items.whole text rest) (sym some) reads
-
 -- ---- the header
 
 -- bytes that do not go with the letters of a log are the fault of the header
@@ -46,7 +41,7 @@ pub header_failed : (items : LogSoFar) (taken : List Logged) (text bytes : List 
 header_failed items taken text bytes none reads no_magic =
     let nothing = reads_at items None taken text bytes none reads in
     let shows = shows_none IsHead head_bytes (codes "MTL") (λ (head : Head). head.format) log_magic bytes no_magic in
-    (subst ShowsNoHeader (sym nothing.all) shows, nothing.none)
+    (subst (ShowsNone IsHead head_bytes) (sym nothing.all) shows, nothing.none)
 
 -- bytes that go with them, and hold no header, begin one
 pub header_cut : {R : Type 0} (listed : R → List Logged) (old : LogItems R) (bytes : List ℕ) → old.head ≡ None → GoesWithMagic (codes "MTL") bytes → AreBytes bytes → HasNoHeader bytes
@@ -92,7 +87,7 @@ next_read old new head taken text rest after some next reads =
     ap (λ (x : List Logged). taken ++ x) next.more.ready ∙ sym (append_assoc taken old.ready (next.next ∷ [])) in
     let time = next.more.latest in
     let count = next.more.whole in
-    are_read new head taken text after (next.more.head ∙ some)
+    subst (λ (o : Option Head). HasRead o (taken ++ new.ready) new.latest new.whole text after) (sym (next.more.head ∙ some))
     (subst (λ (p : List Logged × ℕ × ℕ). AreRead head p.0 p.1 p.2 text after) (λ i. (sym list i, sym time i, sym count i)) base)
 
 -- a fault behind the records read is that of the log
@@ -168,7 +163,7 @@ text_read listed items taken text left head last torn some reads rest test great
 -- ---- no fault in good order
 
 -- bytes that begin a header show no fault
-cut_shows_none : (bytes : List ℕ) → IsCutHeader bytes → ShowsNoFault bytes
+cut_shows_none : (bytes : List ℕ) → IsCutFront IsHead head_bytes bytes → ShowsNoFault bytes
 cut_shows_none bytes cut faults.Header h = h.1 cut.0 cut.1 cut.2 cut.4
 cut_shows_none bytes cut (faults.Record nth what) (records, h, counted) =
     cut_none IsHead head_bytes 12 (λ head. refl) bytes cut h.head (flat_map spelling records ++ h.rest) h.is_head h.spelled

@@ -14,7 +14,8 @@ use Rattle.mt_record.specs.declared.part_text.PartFault.TheVariants as faults
 use Rattle.mt_record.specs.Spelling.{change_bytes}
 use Rattle.mt_record.specs.Parts.{part_head_bytes, IsPartHead, entry_spelling, footer_bytes, IsEntryLength, IsPart, PartReading, IsPartReading}
 use Rattle.mt_record.specs.PartFaults.{HasNoPartHeader, HasNoEntry, BeginsPart, IsBroken, IsPartFault, IsPartAnswered}
-use Rattle.mt_record.specs.PartFeeding.{ShowsNoPart, IsPartShown, ShowsNoPartFault, IsCutHeader, IsCutItem, PartSoFar, ReadsPart, ReadsUpTo, IsPartLeft}
+use Rattle.mt_record.specs.Fronts.{IsCutFront}
+use Rattle.mt_record.specs.PartFeeding.{ShowsNoPart, IsPartShown, ShowsNoPartFault, IsCutItem, PartSoFar, ReadsPart, ReadsUpTo, IsPartLeft}
 use Rattle.mt_record.proofs.Unique.{same_split, same_number, framed_apart}
 use Rattle.mt_record.proofs.Entries.{entry_length, short_entry}
 use Rattle.mt_record.proofs.OnePart.{length_no_entry, footer_no_entry, same_beginning, part_begins}
@@ -182,13 +183,13 @@ cut_broken bytes head entries rest begins left = (
 )
 
 -- bytes that only begin a header hold none
-cut_no_header : (bytes : List ℕ) → IsCutHeader bytes → HasNoPartHeader bytes
+cut_no_header : (bytes : List ℕ) → IsCutFront IsPartHead part_head_bytes bytes → HasNoPartHeader bytes
 cut_no_header bytes cut = cut_none IsPartHead part_head_bytes 20 (λ head. refl) bytes cut
 
 -- ---- no fault in good order
 
 -- bytes that begin a part's header show no fault
-cut_shows_none : (bytes : List ℕ) → IsCutHeader bytes → ShowsNoPartFault bytes
+cut_shows_none : (bytes : List ℕ) → IsCutFront IsPartHead part_head_bytes bytes → ShowsNoPartFault bytes
 cut_shows_none bytes cut faults.Header h = h.1 cut.0 cut.1 cut.2 cut.4
 cut_shows_none bytes cut (faults.Broken number entries) (front, h) =
     cut_no_header bytes cut front.head (flat_map entry_spelling front.entries ++ front.rest) front.begins.is_head front.begins.spelled

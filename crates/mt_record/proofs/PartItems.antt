@@ -18,10 +18,10 @@ use Rattle.mt_record.specs.Spelling.{framed}
 use Rattle.mt_record.specs.Bodies.{IsNextEntry}
 use Rattle.mt_record.specs.Parts.{part_head, part_head_bytes, IsPartHead, entry_spelling, footer_bytes, part_bytes}
 use Rattle.mt_record.specs.PartFaults.{BeginsPart, HasNoPartHeader}
-use Rattle.mt_record.specs.PartFeeding.{ShowsNoPartHeader, ShowsNoEntry, ShowsNoPart, ShowsBroken, PartSoFar, ReadsPart, ReadsUpTo, IsPartLeft}
+use Rattle.mt_record.specs.PartFeeding.{ShowsNoEntry, ShowsNoPart, ShowsBroken, PartSoFar, ReadsPart, ReadsUpTo, IsPartLeft}
 use Rattle.mt_record.specs.PartPieces.{so_far, HasReadItems, IsLeftOfItems, IsShownOfItems, StepsPart}
 use Rattle.mt_record.specs.Feeding.{HoldsAll}
-use Rattle.mt_record.specs.Fronts.{GoesWithMagic}
+use Rattle.mt_record.specs.Fronts.{GoesWithMagic, ShowsNone}
 use Rattle.mt_record.proofs.Beginnings.{AreBytes, cut_front, shows_none}
 use Rattle.mt_record.proofs.Feeds.{front_read}
 use Rattle.mt_record.proofs.PartBeginnings.{part_whole, part_magic}
@@ -36,10 +36,11 @@ reads_at s head end part rest is ends reads =
 -- ---- the header
 
 -- bytes that do not go with the letters of a part are the fault of the header
-pub header_failed : (s : PartSoFar) (part bytes : List ℕ) → s.head ≡ None → ReadsUpTo s part bytes → (GoesWithMagic (codes "MTC") bytes → ⊥) → ShowsNoPartHeader part
+pub header_failed : (s : PartSoFar) (part bytes : List ℕ) → s.head ≡ None → ReadsUpTo s part bytes → (GoesWithMagic (codes "MTC") bytes → ⊥)
+    → ShowsNone IsPartHead part_head_bytes part
 header_failed s part bytes none reads no_magic =
     let shows = shows_none IsPartHead part_head_bytes (codes "MTC") (λ (head : PartHead). head.format) part_magic bytes no_magic in
-    subst ShowsNoPartHeader (sym (reads_at s None s.end part bytes none refl reads).all) shows
+    subst (ShowsNone IsPartHead part_head_bytes) (sym (reads_at s None s.end part bytes none refl reads).all) shows
 
 -- bytes that go with them, and hold no header, begin one
 pub header_cut : {E : Type 0} (listed : E → List Change) (old : PartItems E) (bytes : List ℕ) → old.head ≡ None → GoesWithMagic (codes "MTC") bytes → AreBytes bytes → HasNoPartHeader bytes

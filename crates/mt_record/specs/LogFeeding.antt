@@ -47,28 +47,20 @@ HasRead (Some head) records time count bytes rest = AreRead head records time co
 abbrev pub ReadsLog : List Logged → LogSoFar → List ℕ → List ℕ → Type 0
 ReadsLog taken items text rest = HasRead items.head (taken ++ items.ready) items.latest items.whole text rest
 
--- the beginning of a header
-abbrev pub IsCutHeader : List ℕ → Type 0
-IsCutHeader rest = IsCutFront IsHead head_bytes rest
-
 -- a rest that is no record nor a fault: nothing, or the beginning of a record
 abbrev pub IsLeft : Limits → List ℕ → Type 0
 IsLeft limits rest = (rest ≡ []) ⊎ IsTorn limits rest
 
 -- a rest from which nothing more can be read, and which shows no fault
 abbrev pub IsLogLeft : Option Head → List ℕ → Type 0
-IsLogLeft None rest = IsCutHeader rest
+IsLogLeft None rest = IsCutFront IsHead head_bytes rest
 IsLogLeft (Some head) rest = IsLeft (limits_of head.format) rest
 
 -- ---- faults that are shown
 
--- bytes that are no header's, nor the beginning of one
-abbrev pub ShowsNoHeader : List ℕ → Type 0
-ShowsNoHeader bytes = ShowsNone IsHead head_bytes bytes
-
 -- the bytes so far show the fault, however they go on
 abbrev pub ShowsFault : List ℕ → FeedFault → Type 0
-ShowsFault bytes faults.Header = ShowsNoHeader bytes
+ShowsFault bytes faults.Header = ShowsNone IsHead head_bytes bytes
 ShowsFault bytes (faults.Record nth what) = IsLogFault bytes (faults.Record nth what)
 ShowsFault bytes faults.Memory = ⊥
 
@@ -79,15 +71,14 @@ IsShown bytes = OrMemory (ShowsFault bytes)
 abbrev pub ShowsNoFault : List ℕ → Type 0
 ShowsNoFault bytes = (fault : FeedFault) → ShowsFault bytes fault → ⊥
 
--- the records begin the log behind its header
+-- there are no records, or they begin the log behind its header
 abbrev pub BeginLog : List ℕ → List Logged → Type 0
-BeginLog bytes [] = Unit {0}
-BeginLog bytes (r ∷ rs) = (head : Head) × (rest : List ℕ) × IsHead head × AreRecords (limits_of head.format) 0 (r ∷ rs)
-    × (bytes ≡ head_bytes head ++ (flat_map spelling (r ∷ rs) ++ rest))
+BeginLog bytes records = (records ≡ []) ⊎ ((head : Head) × (rest : List ℕ) × IsHead head × AreRecords (limits_of head.format) 0 records
+    × (bytes ≡ head_bytes head ++ (flat_map spelling records ++ rest)))
 
 -- the records taken and ready are those before the fault; where memory was refused, they begin the log
 abbrev pub HasFailed : FeedFault → List ℕ → List Logged → Type 0
-HasFailed faults.Header bytes records = ShowsNoHeader bytes × (records ≡ [])
+HasFailed faults.Header bytes records = ShowsNone IsHead head_bytes bytes × (records ≡ [])
 HasFailed (faults.Record nth what) bytes records = HasFault bytes records what × (nth ≡ count_of records)
 HasFailed faults.Memory bytes records = BeginLog bytes records
 

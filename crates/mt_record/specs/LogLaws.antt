@@ -1,5 +1,5 @@
 -- What was read of a log and which faults it shows, when more bytes follow: the laws that its items owe. No definition stands here.
-use Rattle.std.proofs.Common.{◌≡◌, ℕ, Option, Some, None, List, [], ◌∷◌, ◌++◌, length, refl, sym, ap, ◌∙◌, subst, append_assoc}
+use Rattle.std.proofs.Common.{inl, inr, ◌≡◌, ℕ, Option, Some, None, List, [], ◌∷◌, ◌++◌, length, refl, sym, ap, ◌∙◌, subst, append_assoc}
 use Rattle.std.specs.List.{flat_map}
 use Rattle.byteorder.specs.Endian.{big_bytes}
 use Rattle.mt_words.specs.declared.fault.What.{What}
@@ -44,9 +44,8 @@ has_fault_on bytes more records what h = record {
 
 -- records that begin a log begin it when more bytes follow
 begin_log_on : (bytes more : List ℕ) (records : List Logged) → BeginLog bytes records → BeginLog (bytes ++ more) records
-begin_log_on bytes more [] h = tt
-begin_log_on bytes more (r ∷ rs) h =
-    (h.0, h.1 ++ more, h.2, h.3, spelled_on (head_bytes h.0) (flat_map spelling (r ∷ rs)) bytes h.1 more h.4)
+begin_log_on bytes more records (inl none) = inl none
+begin_log_on bytes more records (inr h) = inr (h.0, h.1 ++ more, h.2, h.3, spelled_on (head_bytes h.0) (flat_map spelling records) bytes h.1 more h.4)
 
 -- a feed that failed has failed when more bytes follow
 pub failed_on : (fault : FeedFault) (bytes more : List ℕ) (records : List Logged) → HasFailed fault bytes records → HasFailed fault (bytes ++ more) records
@@ -56,20 +55,16 @@ failed_on faults.Memory bytes more records h = begin_log_on bytes more records h
 
 -- ---- what was read
 
--- the records read are the same when more bytes follow
-pub read_on : (head : Head) (rs : List Logged) (t n : ℕ) (log rest more : List ℕ) → AreRead head rs t n log rest → AreRead head rs t n (log ++ more) (rest ++ more)
-read_on head rs t n log rest more h = record {
+-- what was read is the same when more bytes follow
+pub reads_on : (o : Option Head) (rs : List Logged) (t n : ℕ) (log rest more : List ℕ) → HasRead o rs t n log rest → HasRead o rs t n (log ++ more) (rest ++ more)
+reads_on None rs t n log rest more h = record { none = h.none; latest = h.latest; whole = h.whole; all = ap (λ (x : List ℕ). x ++ more) h.all }
+reads_on (Some head) rs t n log rest more h = record {
   is_head = h.is_head;
   spelled = spelled_on (head_bytes head) (flat_map spelling rs) log rest more h.spelled;
   lawful = h.lawful;
   latest = h.latest;
   whole = h.whole;
 }
-
--- what was read is the same when more bytes follow
-pub reads_on : (o : Option Head) (rs : List Logged) (t n : ℕ) (log rest more : List ℕ) → HasRead o rs t n log rest → HasRead o rs t n (log ++ more) (rest ++ more)
-reads_on None rs t n log rest more h = record { none = h.none; latest = h.latest; whole = h.whole; all = ap (λ (x : List ℕ). x ++ more) h.all }
-reads_on (Some head) rs t n log rest more h = read_on head rs t n log rest more h
 
 -- the bytes that end before the rest does
 pub reads_front : (o : Option Head) (rs : List Logged) (t n : ℕ) (log a b : List ℕ) → HasRead o rs t n log (a ++ b)
@@ -82,14 +77,9 @@ reads_front (Some head) rs t n log a b h = (
 )
 
 -- records that were read begin the log
-begin_log : (head : Head) (rs : List Logged) (t n : ℕ) (log rest : List ℕ) → AreRead head rs t n log rest → BeginLog log rs
-begin_log head [] t n log rest h = tt
-begin_log head (r ∷ rs) t n log rest h = (head, rest, h.is_head, h.lawful, h.spelled)
-
--- and so they do where there is no header yet
 pub begins_by : (o : Option Head) (rs : List Logged) (t n : ℕ) (log rest : List ℕ) → HasRead o rs t n log rest → BeginLog log rs
-begins_by None rs t n log rest h = subst (BeginLog log) (sym h.none) tt
-begins_by (Some head) rs t n log rest h = begin_log head rs t n log rest h
+begins_by None rs t n log rest h = inl h.none
+begins_by (Some head) rs t n log rest h = inr (head, rest, h.is_head, h.lawful, h.spelled)
 
 -- a refused growth leaves records that begin the log
 pub refused_failed : (o : Option Head) (rs : List Logged) (t n : ℕ) (log rest : List ℕ) (fault : FeedFault) → fault ≡ faults.Memory → HasRead o rs t n log rest

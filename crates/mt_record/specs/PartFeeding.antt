@@ -17,10 +17,6 @@ use Rattle.mt_record.specs.Feeding.{Fed, IsFedBy}
 
 -- ---- faults that are shown
 
--- bytes that are no header's, nor the beginning of one
-abbrev pub ShowsNoPartHeader : List ℕ → Type 0
-ShowsNoPartHeader bytes = ShowsNone IsPartHead part_head_bytes bytes
-
 -- the bytes begin with a length that is neither zero nor that of an entry
 abbrev pub HasWrongLength : Limits → List ℕ → Type 0
 HasWrongLength limits rest = (n : ℕ) × (more : List ℕ) × (n < 2 ^ 32) × (0 < n) × (IsEntryLength limits n → ⊥) × (rest ≡ big_bytes 4 n ++ more)
@@ -53,7 +49,7 @@ ShowsBroken bytes number count = (front : BeginsPartOf bytes number count) × Sh
 
 -- the bytes so far show the fault, however they go on
 abbrev pub ShowsPartFault : List ℕ → PartFault → Type 0
-ShowsPartFault bytes faults.Header = ShowsNoPartHeader bytes
+ShowsPartFault bytes faults.Header = ShowsNone IsPartHead part_head_bytes bytes
 ShowsPartFault bytes (faults.Broken number entries) = ShowsBroken bytes number entries
 ShowsPartFault bytes faults.Memory = ⊥
 
@@ -93,10 +89,6 @@ ReadsUpTo so_far bytes rest = by so_far.head so_far.end
     by (Some head) None = BeginsPart bytes head so_far.entries rest
     by (Some head) (Some end) = ReadsPart head so_far.entries end bytes rest
 
--- the beginning of a header
-abbrev pub IsCutHeader : List ℕ → Type 0
-IsCutHeader rest = IsCutFront IsPartHead part_head_bytes rest
-
 -- the beginning of an entry, of which no more than the length is looked at, or that of a footer
 abbrev pub IsCutItem : Limits → List ℕ → Type 0
 IsCutItem limits rest = IsCut (IsEntryLength limits) rest ⊎ ((more : List ℕ) × (length more < 12) × (rest ≡ big_bytes 4 0 ++ more))
@@ -106,7 +98,7 @@ abbrev pub IsPartLeft : PartSoFar → List ℕ → Type 0
 IsPartLeft so_far rest = by so_far.head so_far.end
   where
     by : Option PartHead → Option ℕ → Type 0
-    by None end = IsCutHeader rest
+    by None end = IsCutFront IsPartHead part_head_bytes rest
     by (Some head) None = (rest ≡ []) ⊎ IsCutItem (limits_of head.format) rest
     by (Some head) (Some end) = rest ≡ []
 

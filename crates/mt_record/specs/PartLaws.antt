@@ -14,39 +14,33 @@ use Rattle.mt_record.specs.MoreBytes.{spelled_on, behind_on, shows_none_on}
 
 -- ---- what was read
 
-on_by : (o : Option PartHead) (e : Option ℕ) (entries : List Change) (part rest more : List ℕ) → ReadsUpTo (record { head = o; entries = entries; end = e }) part rest
+-- what was read is the same when more bytes follow
+pub reads_on : (o : Option PartHead) (e : Option ℕ) (entries : List Change) (part rest more : List ℕ) → ReadsUpTo (record { head = o; entries = entries; end = e }) part rest
     → ReadsUpTo (record { head = o; entries = entries; end = e }) (part ++ more) (rest ++ more)
-on_by None e entries part rest more h = record { none = h.none; no_end = h.no_end; all = ap (λ (x : List ℕ). x ++ more) h.all }
-on_by (Some head) None entries part rest more h = record {
+reads_on None e entries part rest more h = record { none = h.none; no_end = h.no_end; all = ap (λ (x : List ℕ). x ++ more) h.all }
+reads_on (Some head) None entries part rest more h = record {
   spelled = spelled_on (part_head_bytes head) (flat_map entry_spelling entries) part rest more h.spelled;
   is_head = h.is_head;
   lawful = h.lawful;
 }
-on_by (Some head) (Some end) entries part rest more h = record {
+reads_on (Some head) (Some end) entries part rest more h = record {
   part = h.part;
   is_part = h.is_part;
   joins = ap (λ (x : List ℕ). x ++ more) h.joins ∙ append_assoc h.part rest more;
 }
 
--- what was read is the same when more bytes follow
-pub reads_on : (s : PartSoFar) (part rest more : List ℕ) → ReadsUpTo s part rest → ReadsUpTo s (part ++ more) (rest ++ more)
-reads_on s part rest more h = on_by s.head s.end s.entries part rest more h
-
-front_by : (o : Option PartHead) (e : Option ℕ) (entries : List Change) (part a b : List ℕ) → ReadsUpTo (record { head = o; entries = entries; end = e }) part (a ++ b)
+-- the bytes that end before the rest does
+pub reads_front : (o : Option PartHead) (e : Option ℕ) (entries : List Change) (part a b : List ℕ) → ReadsUpTo (record { head = o; entries = entries; end = e }) part (a ++ b)
     → (front : List ℕ) × (front ++ b ≡ part) × ReadsUpTo (record { head = o; entries = entries; end = e }) front a
-front_by None e entries part a b h = (a, sym h.all, record { none = h.none; no_end = h.no_end; all = refl })
-front_by (Some head) None entries part a b h = (
+reads_front None e entries part a b h = (a, sym h.all, record { none = h.none; no_end = h.no_end; all = refl })
+reads_front (Some head) None entries part a b h = (
   part_head_bytes head ++ (flat_map entry_spelling entries ++ a),
   append_assoc (part_head_bytes head) (flat_map entry_spelling entries ++ a) b
       ∙ ap (λ (x : List ℕ). part_head_bytes head ++ x) (append_assoc (flat_map entry_spelling entries) a b) ∙ sym h.spelled,
   record { spelled = refl; is_head = h.is_head; lawful = h.lawful },
 )
-front_by (Some head) (Some end) entries part a b h =
+reads_front (Some head) (Some end) entries part a b h =
     (h.part ++ a, append_assoc h.part a b ∙ sym h.joins, record { part = h.part; is_part = h.is_part; joins = refl })
-
--- the bytes that end before the rest does
-pub reads_front : (s : PartSoFar) (part a b : List ℕ) → ReadsUpTo s part (a ++ b) → (front : List ℕ) × (front ++ b ≡ part) × ReadsUpTo s front a
-reads_front s part a b h = front_by s.head s.end s.entries part a b h
 
 -- ---- faults
 
@@ -65,7 +59,7 @@ shown_on (faults.Broken number entries) bytes more (front, shown) = (
     head = front.head;
     entries = front.entries;
     rest = front.rest ++ more;
-    begins = on_by (Some front.head) None front.entries bytes front.rest more front.begins;
+    begins = reads_on (Some front.head) None front.entries bytes front.rest more front.begins;
     named = front.named;
     counted = front.counted;
   },

@@ -63,9 +63,9 @@ impl<E: Entries> Items for PartItems<E> {
         }
     }
 
-    ghost goes_on = { λ _ items text rest more. reads_on (so_far E.listed items) text rest more };
+    ghost goes_on = { λ _ items text rest more. reads_on items.head items.end (E.listed items.entries) text rest more };
 
-    ghost front = { λ _ items text a b. reads_front (so_far E.listed items) text a b };
+    ghost front = { λ _ items text a b. reads_front items.head items.end (E.listed items.entries) text a b };
 
     ghost stays_failed = { λ _ _ fault text more. shown_on fault text more };
 
