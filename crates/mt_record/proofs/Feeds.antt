@@ -71,13 +71,3 @@ front_read reads is_left fails old new front bytes after joins some on = record 
   next = (record { items = front; joins = joins; on = on }, omega (arith, ap length joins, length-append front after.now, some));
   fault = λ taken text is. tt;
 }
-
--- ---- feeds
-
--- a feed that was fed nothing
-pub fed_nothing : {I F : Type 0} (reads : I → List ℕ → List ℕ → Type 0) (is_left : I → List ℕ → Type 0) (fails : I → F → List ℕ → Type 0) (items fresh : I) (held : List ℕ) (answered : Option F)
-    → items ≡ fresh → held ≡ [] → answered ≡ None → HoldsAll reads is_left fresh [] [] → IsFedBy reads is_left fails items held answered []
-fed_nothing {I} reads is_left fails items fresh held answered same none sound holds = (
-  λ _. subst (λ (p : I × List ℕ). HoldsAll reads is_left p.0 p.1 []) (λ i. (sym same i, sym none i)) holds,
-  λ fault is. absurd (none-some fault (sym sound ∙ is)),
-)

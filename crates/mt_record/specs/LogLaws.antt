@@ -70,11 +70,12 @@ reads_on (Some head) rs t n log rest more h = record {
 pub reads_front : (o : Option Head) (rs : List Logged) (t n : ℕ) (log a b : List ℕ) → HasRead o rs t n log (a ++ b)
     → (front : List ℕ) × (front ++ b ≡ log) × HasRead o rs t n front a
 reads_front None rs t n log a b h = (a, sym h.all, record { none = h.none; latest = h.latest; whole = h.whole; all = refl })
-reads_front (Some head) rs t n log a b h = (
-  head_bytes head ++ (flat_map spelling rs ++ a),
-  append_assoc (head_bytes head) (flat_map spelling rs ++ a) b ∙ ap (λ (x : List ℕ). head_bytes head ++ x) (append_assoc (flat_map spelling rs) a b) ∙ sym h.spelled,
-  record { is_head = h.is_head; spelled = refl; lawful = h.lawful; latest = h.latest; whole = h.whole },
-)
+reads_front (Some head) rs t n log a b h =
+    let front = head_bytes head ++ (flat_map spelling rs ++ a) in (
+      front,
+      spelled_on (head_bytes head) (flat_map spelling rs) front a b refl ∙ sym h.spelled,
+      record { is_head = h.is_head; spelled = refl; lawful = h.lawful; latest = h.latest; whole = h.whole },
+    )
 
 -- records that were read begin the log
 pub begins_by : (o : Option Head) (rs : List Logged) (t n : ℕ) (log rest : List ℕ) → HasRead o rs t n log rest → BeginLog log rs

@@ -33,12 +33,9 @@ reads_on (Some head) (Some end) entries part rest more h = record {
 pub reads_front : (o : Option PartHead) (e : Option ℕ) (entries : List Change) (part a b : List ℕ) → ReadsUpTo (record { head = o; entries = entries; end = e }) part (a ++ b)
     → (front : List ℕ) × (front ++ b ≡ part) × ReadsUpTo (record { head = o; entries = entries; end = e }) front a
 reads_front None e entries part a b h = (a, sym h.all, record { none = h.none; no_end = h.no_end; all = refl })
-reads_front (Some head) None entries part a b h = (
-  part_head_bytes head ++ (flat_map entry_spelling entries ++ a),
-  append_assoc (part_head_bytes head) (flat_map entry_spelling entries ++ a) b
-      ∙ ap (λ (x : List ℕ). part_head_bytes head ++ x) (append_assoc (flat_map entry_spelling entries) a b) ∙ sym h.spelled,
-  record { spelled = refl; is_head = h.is_head; lawful = h.lawful },
-)
+reads_front (Some head) None entries part a b h =
+    let front = part_head_bytes head ++ (flat_map entry_spelling entries ++ a) in
+    (front, spelled_on (part_head_bytes head) (flat_map entry_spelling entries) front a b refl ∙ sym h.spelled, record { spelled = refl; is_head = h.is_head; lawful = h.lawful })
 reads_front (Some head) (Some end) entries part a b h =
     (h.part ++ a, append_assoc h.part a b ∙ sym h.joins, record { part = h.part; is_part = h.is_part; joins = refl })
 

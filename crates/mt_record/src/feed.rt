@@ -19,8 +19,8 @@ pub struct Feed<I: Items> {
 impl<I: Items> Feed<I> {
     /// A feed that was fed nothing.
     pub fn new(alloc: Global, items: I) -> Feed<I>
-        ensures items { result.items ≡ items }
-        ensures held { result.held.items ≡ [] }
+        ensures fed { (taken : I.Taken) → HoldsAll (I.reads taken) I.is_left items [] [] →
+            IsFedBy (I.reads taken) I.is_left (I.fails taken) result.items result.held.items result.fault [] }
         ensures sound { result.fault ≡ None }
     {
         Feed {
