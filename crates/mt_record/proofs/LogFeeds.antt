@@ -62,33 +62,28 @@ header_read listed old head bytes after none is e =
 
 -- ---- records
 
--- the record at the front of the rest is one record read more
-read_push : (head : Head) (rs : List Logged) (r : Logged) (t n : ℕ) (log rest after : List ℕ) → AreRead head rs t n log rest
-    → IsNext (limits_of head.format) t rest r after → AreRead head (rs ++ r ∷ []) r.timestamp (min (n + 1) (2 ^ 64 - 1)) log after
-read_push head rs r t n log rest after h next =
-    let rises : latest 0 rs ≤ r.timestamp = rw (← h.latest) next.rises in
-    let number = length-append rs (r ∷ []) in
-    let so_far = h.whole in
-    record {
-      is_head = h.is_head;
-      spelled = spelled_push (head_bytes head) rs r log rest after h.spelled next.spelled;
-      lawful = records_push (limits_of head.format) 0 rs r h.lawful next.lawful rises;
-      latest = sym (latest_push 0 rs r);
-      whole = omega (arith, number, so_far);
-    }
-
 -- items that read the next record are before what follows it
 next_read : (old new : LogSoFar) (head : Head) (taken : List Logged) (text rest after : List ℕ) → old.head ≡ Some head → ReadsNext head old rest new after
     → ReadsLog taken old text rest → ReadsLog taken new text after
 next_read old new head taken text rest after some next reads =
-    let before = reads_at old (Some head) taken text rest some reads in
-    let base = read_push head (taken ++ old.ready) next.next old.latest old.whole text rest after before next.is_next in
-    let list : taken ++ new.ready ≡ (taken ++ old.ready) ++ next.next ∷ [] =
-    ap (λ (x : List Logged). taken ++ x) next.more.ready ∙ sym (append_assoc taken old.ready (next.next ∷ [])) in
-    let time = next.more.latest in
-    let count = next.more.whole in
-    subst (λ (o : Option Head). HasRead o (taken ++ new.ready) new.latest new.whole text after) (sym (next.more.head ∙ some))
-    (subst (λ (p : List Logged × ℕ × ℕ). AreRead head p.0 p.1 p.2 text after) (λ i. (sym list i, sym time i, sym count i)) base)
+    let r = next.next in
+    let rs = taken ++ old.ready in
+    let h = reads_at old (Some head) taken text rest some reads in
+    let rises : latest 0 rs ≤ r.timestamp = rw (← h.latest) next.is_next.rises in
+    let so_far = h.whole in
+    let count = next.whole in
+    let number = length-append rs (r ∷ []) in
+    let read : AreRead head (rs ++ r ∷ []) new.latest new.whole text after =
+    record {
+      is_head = h.is_head;
+      spelled = spelled_push spelling (head_bytes head) rs r text rest after h.spelled next.is_next.spelled;
+      lawful = records_push (limits_of head.format) 0 rs r h.lawful next.is_next.lawful rises;
+      latest = next.latest ∙ sym (latest_push 0 rs r);
+      whole = omega (arith, number, so_far, count);
+    } in
+    let list : taken ++ new.ready ≡ rs ++ r ∷ [] = ap (λ (x : List Logged). taken ++ x) next.ready ∙ sym (append_assoc taken old.ready (r ∷ [])) in
+    let first = next.same_head ∙ some in
+    subst (λ (p : Option Head × List Logged). HasRead p.0 p.1 new.latest new.whole text after) (λ i. (sym first i, sym list i)) read
 
 -- a fault behind the records read is that of the log
 record_failed : (fault : FeedFault) (old : LogSoFar) (ready : List Logged) (head : Head) (taken : List Logged) (text rest : List ℕ) → old.head ≡ Some head → IsNextFault head old rest fault

@@ -218,16 +218,13 @@ part_shows_none bytes head entries end is faults.Memory h = h
 pub whole_part : (head : PartHead) (entries : List Change) (end : ℕ) (bytes held : List ℕ) (reads : ReadsPart head entries end bytes held) → held ≡ [] → bytes ≡ reads.part
 whole_part head entries end bytes held reads none = reads.joins ∙ ap (λ (x : List ℕ). reads.part ++ x) none ∙ append-nil reads.part
 
-by_stage : (o : Option PartHead) (e : Option ℕ) (entries : List Change) (bytes held : List ℕ) → ReadsUpTo (record { head = o; entries = entries; end = e }) bytes held
-    → IsPartLeft (record { head = o; entries = entries; end = e }) held → ShowsNoPartFault bytes
-by_stage None e entries bytes held reads left = subst ShowsNoPartFault (sym reads.all) (cut_shows_none held left)
-by_stage (Some head) None entries bytes held reads left = begun_shows_none bytes head entries held reads left
-by_stage (Some head) (Some end) entries bytes held reads left =
-    part_shows_none bytes head entries end (subst (λ (x : List ℕ). IsPart x head entries end) (sym (whole_part head entries end bytes held reads left)) reads.is_part)
-
 -- a feed in good order shows no fault
-pub order_shows_none : (s : PartSoFar) (bytes held : List ℕ) → ReadsUpTo s bytes held → IsPartLeft s held → ShowsNoPartFault bytes
-order_shows_none s bytes held reads left = by_stage s.head s.end s.entries bytes held reads left
+pub order_shows_none : (o : Option PartHead) (e : Option ℕ) (entries : List Change) (bytes held : List ℕ) → ReadsUpTo (record { head = o; entries = entries; end = e }) bytes held
+    → IsPartLeft (record { head = o; entries = entries; end = e }) held → ShowsNoPartFault bytes
+order_shows_none None e entries bytes held reads left = subst ShowsNoPartFault (sym reads.all) (cut_shows_none held left)
+order_shows_none (Some head) None entries bytes held reads left = begun_shows_none bytes head entries held reads left
+order_shows_none (Some head) (Some end) entries bytes held reads left =
+    part_shows_none bytes head entries end (subst (λ (x : List ℕ). IsPart x head entries end) (sym (whole_part head entries end bytes held reads left)) reads.is_part)
 
 -- ---- the end
 

@@ -24,6 +24,7 @@ use Rattle.mt_record.specs.Feeding.{HoldsAll}
 use Rattle.mt_record.specs.Fronts.{GoesWithMagic, ShowsNone}
 use Rattle.mt_record.proofs.Beginnings.{AreBytes, cut_front, shows_none}
 use Rattle.mt_record.proofs.Feeds.{front_read}
+use Rattle.mt_record.proofs.Records.{spelled_push}
 use Rattle.mt_record.proofs.PartBeginnings.{part_whole, part_magic}
 
 -- ---- what was read, by how far it came
@@ -66,20 +67,6 @@ pub broken_at : (part rest : List ℕ) (head : PartHead) (entries : List Change)
     → ShowsBroken part head.number (length entries)
 broken_at part rest head entries begins shown =
     (record { head = head; entries = entries; rest = rest; begins = begins; named = refl; counted = refl }, shown)
-
--- one entry more is read
-pub entry_read : (part bytes after : List ℕ) (head : PartHead) (entries : List Change) (entry : Change) → BeginsPart part head entries bytes
-    → IsEntry (limits_of head.format) entry → bytes ≡ entry_spelling entry ++ after → BeginsPart part head (entries ++ entry ∷ []) after
-entry_read part bytes after head entries entry begins is e =
-    let joined : flat_map entry_spelling entries ++ bytes ≡ flat_map entry_spelling (entries ++ entry ∷ []) ++ after =
-    ap (λ (x : List ℕ). flat_map entry_spelling entries ++ x) e
-    ∙ sym (append_assoc (flat_map entry_spelling entries) (entry_spelling entry) after)
-    ∙ ap (λ (x : List ℕ). x ++ after) (flat_map_more entry_spelling [] entries entry) in
-    record {
-      spelled = begins.spelled ∙ ap (λ (x : List ℕ). part_head_bytes head ++ x) joined;
-      is_head = begins.is_head;
-      lawful = all_push (IsEntry (limits_of head.format)) entries entry begins.lawful is;
-    }
 
 -- a length that no entry has is a wrong one, if it is not that of a footer
 other_than_zero : (bytes : List ℕ) (n : ℕ) (more : List ℕ) → bytes ≡ big_bytes 4 n ++ more → ((rest : List ℕ) → bytes ≢ big_bytes 4 0 ++ rest) → 0 < n
@@ -148,7 +135,12 @@ pub entry_goes_on : (s : PartSoFar) (entries : List Change) (part bytes fields a
 entry_goes_on s entries part bytes fields after head next some not_ended added reads =
     let begins = reads_at s (Some head) None part bytes some not_ended reads in
     let spelled = next.spelled ∙ ap (λ (x : List ℕ). framed x ++ after) next.fields.spelled in
-    let one_more = entry_read part bytes after head s.entries next.next begins next.fields.lawful spelled in
+    let one_more : BeginsPart part head (s.entries ++ next.next ∷ []) after =
+    record {
+      spelled = spelled_push entry_spelling (part_head_bytes head) s.entries next.next part bytes after begins.spelled spelled;
+      is_head = begins.is_head;
+      lawful = all_push (IsEntry (limits_of head.format)) s.entries next.next begins.lawful next.fields.lawful;
+    } in
     let to : (record { head = Some head; entries = s.entries ++ next.next ∷ []; end = None }) ≡ record s { entries = entries } =
     λ i. record { head = sym some i; entries = sym added i; end = sym not_ended i } in
     subst (λ (x : PartSoFar). ReadsUpTo x part after) to one_more

@@ -1,7 +1,7 @@
 -- Records one after the other, and the greatest of their timestamps.
 use Rattle.std.proofs.Common.{◌≡◌, ◌⊎◌, inl, inr, ℕ, zero, suc, ◌<◌, ◌≤◌, List, [], ◌∷◌, ◌++◌, length, max, map, refl, sym, ap, ◌∙◌, append_assoc, rules, arith}
 use Rattle.std.proofs.lemmas.Bool.{cases_lt, false≢true}
-use Rattle.std.proofs.lemmas.List.{append-nil}
+use Rattle.std.proofs.lemmas.List.{append-nil, flat_map_more}
 use Rattle.std.proofs.lemmas.List.Concat.{flat_map-cons, flat_map-append}
 use Rattle.std.proofs.lemmas.List.Elements.{All-nil, All-cons, All-weaker, Contains-append_right}
 use Rattle.std.specs.Prelude.{◌↔◌, ◌==◌, Bool, not, IsTrue, Contains, All}
@@ -24,15 +24,12 @@ pub latest_push : (low : ℕ) (rs : List Logged) (r : Logged) → latest low (rs
 latest_push low [] r = refl
 latest_push low (s ∷ rs) r = latest_push s.timestamp rs r
 
--- the record that begins the rest goes to the records
-pub spelled_push : (front : List ℕ) (rs : List Logged) (r : Logged) (bytes rest after : List ℕ) → bytes ≡ front ++ (flat_map spelling rs ++ rest)
-    → rest ≡ spelling r ++ after → bytes ≡ front ++ (flat_map spelling (rs ++ r ∷ []) ++ after)
-spelled_push front rs r bytes rest after whole next =
-    let one : flat_map spelling (r ∷ []) ≡ spelling r = flat_map-cons spelling r [] ∙ append-nil (spelling r) in
-    let all : flat_map spelling (rs ++ r ∷ []) ++ after ≡ flat_map spelling rs ++ (spelling r ++ after) =
-    ap (λ (x : List ℕ). x ++ after) (flat_map-append spelling rs (r ∷ []) ∙ ap (λ (x : List ℕ). flat_map spelling rs ++ x) one)
-    ∙ append_assoc (flat_map spelling rs) (spelling r) after in
-    whole ∙ ap (λ (x : List ℕ). front ++ (flat_map spelling rs ++ x)) next ∙ ap (λ (x : List ℕ). front ++ x) (sym all)
+-- what begins the rest goes to those that are spelled before it
+pub spelled_push : {A : Type 0} (each : A → List ℕ) (front : List ℕ) (xs : List A) (x : A) (bytes rest after : List ℕ) → bytes ≡ front ++ (flat_map each xs ++ rest)
+    → rest ≡ each x ++ after → bytes ≡ front ++ (flat_map each (xs ++ x ∷ []) ++ after)
+spelled_push each front xs x bytes rest after whole next =
+    let all = sym (append_assoc (flat_map each xs) (each x) after) ∙ ap (λ (y : List ℕ). y ++ after) (flat_map_more each [] xs x) in
+    whole ∙ ap (λ (y : List ℕ). front ++ (flat_map each xs ++ y)) next ∙ ap (λ (y : List ℕ). front ++ y) all
 
 -- ---- the greatest timestamp
 

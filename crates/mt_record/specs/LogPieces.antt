@@ -12,18 +12,14 @@ use Rattle.mt_record.specs.Bodies.{IsNext}
 use Rattle.mt_record.specs.LogFeeding.{LogSoFar, ReadsLog, IsLogLeft, HasFailed}
 use Rattle.mt_record.specs.Feeding.{Steps}
 
--- one record more was read
-pub record HasOneMore (old : LogSoFar) (r : Logged) (new : LogSoFar) : Type 0 where
-  pub head : new.head ≡ old.head
-  pub ready : new.ready ≡ old.ready ++ r ∷ []
-  pub latest : new.latest ≡ r.timestamp
-  pub whole : new.whole ≡ min (old.whole + 1) (2 ^ 64 - 1)
-
--- the record at the front was read, and these bytes follow it
+-- the record at the front was read, which is one more, and these bytes follow it
 pub record ReadsNext (head : Head) (old : LogSoFar) (bytes : List ℕ) (new : LogSoFar) (after : List ℕ) : Type 0 where
   pub next : Logged
   pub is_next : IsNext (limits_of head.format) old.latest bytes next after
-  pub more : HasOneMore old next new
+  pub same_head : new.head ≡ old.head
+  pub ready : new.ready ≡ old.ready ++ next ∷ []
+  pub latest : new.latest ≡ next.timestamp
+  pub whole : new.whole ≡ min (old.whole + 1) (2 ^ 64 - 1)
 
 -- the fault of a rest behind the records read
 abbrev pub IsNextFault : Head → LogSoFar → List ℕ → FeedFault → Type 0

@@ -10,10 +10,9 @@ returns-clause-fed g c bytes taken fed = c.feed.ensures.fed taken bytes (subst (
 pub returns-clause-ok : goal.returns-clause-ok
 returns-clause-ok g c bytes taken fed =
     let after = c.feed.ensures.fed taken bytes (subst (λ (f : FedLog). IsLogFed f bytes taken) (sym c.self.view_is) fed) in
-    let feed = c.feed.new.self in
-    let items = feed.items in
+    let items = c.feed.new.self.items in
     on_ok_weaker c.feed.result
-    (λ none. order_shows_none items.head (taken ++ g.R.Records.listed items.ready) items.latest items.whole (bytes ++ c.args.piece.now) feed.held.items (after.0 none).0 (after.0 none).1) c.feed.ensures.sound
+    (λ none. order_shows_none items.head (taken ++ g.R.Records.listed items.ready) items.latest items.whole (bytes ++ c.args.piece.now) c.feed.new.self.held.items (after.0 none).0 (after.0 none).1) c.feed.ensures.sound
 
 pub returns-clause-fault : goal.returns-clause-fault
 returns-clause-fault g c bytes taken fed =
