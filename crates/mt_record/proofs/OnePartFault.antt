@@ -173,15 +173,6 @@ shown_answered (faults.Broken number entries) bytes (front, h) =
     (front, shown_no_entry front.head.format (length front.entries) front.rest shown, shown_no_part bytes front.head front.entries front.rest front.begins shown)
 shown_answered faults.Memory bytes h = tt
 
--- a part that is cut is broken
-pub cut_broken : (bytes : List ℕ) (head : PartHead) (entries : List Change) (rest : List ℕ) → BeginsPart bytes head entries rest → (rest ≡ []) ⊎ IsCutItem (limits_of head.format) rest
-    → IsBroken bytes head.number (length entries)
-cut_broken bytes head entries rest begins left = (
-  record { head = head; entries = entries; rest = rest; begins = begins; named = refl; counted = refl },
-  left_no_entry head.format rest left,
-  left_no_part bytes head entries rest begins left,
-)
-
 -- bytes that only begin a header hold none
 cut_no_header : (bytes : List ℕ) → IsCutFront IsPartHead part_head_bytes bytes → HasNoPartHeader bytes
 cut_no_header bytes cut = cut_none IsPartHead part_head_bytes 20 (λ head. refl) bytes cut
@@ -214,17 +205,14 @@ part_shows_none bytes head entries end is faults.Header h = h.0 head _ is.is_hea
 part_shows_none bytes head entries end is (faults.Broken number count) h = (shown_answered (faults.Broken number count) bytes h).2 (reading_of head entries end) (head.format, is)
 part_shows_none bytes head entries end is faults.Memory h = h
 
--- a part with nothing behind it is all of the bytes
-pub whole_part : (head : PartHead) (entries : List Change) (end : ℕ) (bytes held : List ℕ) (reads : ReadsPart head entries end bytes held) → held ≡ [] → bytes ≡ reads.part
-whole_part head entries end bytes held reads none = reads.joins ∙ ap (λ (x : List ℕ). reads.part ++ x) none ∙ append-nil reads.part
-
 -- a feed in good order shows no fault
 pub order_shows_none : (o : Option PartHead) (e : Option ℕ) (entries : List Change) (bytes held : List ℕ) → ReadsUpTo (record { head = o; entries = entries; end = e }) bytes held
     → IsPartLeft (record { head = o; entries = entries; end = e }) held → ShowsNoPartFault bytes
 order_shows_none None e entries bytes held reads left = subst ShowsNoPartFault (sym reads.all) (cut_shows_none held left)
 order_shows_none (Some head) None entries bytes held reads left = begun_shows_none bytes head entries held reads left
 order_shows_none (Some head) (Some end) entries bytes held reads left =
-    part_shows_none bytes head entries end (subst (λ (x : List ℕ). IsPart x head entries end) (sym (whole_part head entries end bytes held reads left)) reads.is_part)
+    let all = reads.joins ∙ ap (λ (x : List ℕ). reads.part ++ x) left ∙ append-nil reads.part in
+    part_shows_none bytes head entries end (subst (λ (x : List ℕ). IsPart x head entries end) (sym all) reads.is_part)
 
 -- ---- the end
 
@@ -233,8 +221,11 @@ pub no_footer_read : (s : PartSoFar) (bytes left : List ℕ) (head : PartHead) �
     → IsBroken bytes head.number (length s.entries)
 no_footer_read s bytes left head some none reads rest =
     let begins = reads_at s (Some head) None bytes left some none reads in
-    let cut = subst (λ (p : Option PartHead × Option ℕ). IsPartLeft (record s { head = p.0; end = p.1 }) left) (λ i. (some i, none i)) rest in
-    cut_broken bytes head s.entries left begins cut
+    let cut = subst (λ (p : Option PartHead × Option ℕ). IsPartLeft (record s { head = p.0; end = p.1 }) left) (λ i. (some i, none i)) rest in (
+      record { head = head; entries = s.entries; rest = left; begins = begins; named = refl; counted = refl },
+      left_no_entry head.format left cut,
+      left_no_part bytes head s.entries left begins cut,
+    )
 
 -- without a header it has none
 pub no_head_read : (s : PartSoFar) (bytes left : List ℕ) → s.head ≡ None → ReadsUpTo s bytes left → IsPartLeft s left → HasNoPartHeader bytes

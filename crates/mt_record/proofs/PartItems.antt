@@ -23,6 +23,7 @@ use Rattle.mt_record.specs.PartPieces.{so_far, HasReadItems, IsLeftOfItems, IsSh
 use Rattle.mt_record.specs.Feeding.{HoldsAll}
 use Rattle.mt_record.specs.Fronts.{GoesWithMagic, ShowsNone}
 use Rattle.mt_record.proofs.Beginnings.{AreBytes, cut_front, shows_none}
+use Rattle.mt_record.specs.MoreBytes.{spelled_on}
 use Rattle.mt_record.proofs.Feeds.{front_read}
 use Rattle.mt_record.proofs.Records.{spelled_push}
 use Rattle.mt_record.proofs.PartBeginnings.{part_whole, part_magic}
@@ -90,8 +91,7 @@ footer_read part a b after head entries end count begins fits_end ea fits_count 
       begins.spelled
       ∙ ap (λ (x : List ℕ). part_head_bytes head ++ (flat_map entry_spelling entries ++ (big_bytes 4 0 ++ x))) (ea ∙ ap (λ (x : List ℕ). big_bytes 8 end ++ x) eb)
       ∙ ap (λ (n : ℕ). part_head_bytes head ++ (flat_map entry_spelling entries ++ (footer_bytes end n ++ after))) same
-      ∙ ap (λ (x : List ℕ). part_head_bytes head ++ x) (sym (append_assoc (flat_map entry_spelling entries) (footer_bytes end (length entries)) after))
-      ∙ sym (append_assoc (part_head_bytes head) (flat_map entry_spelling entries ++ footer_bytes end (length entries)) after);
+      ∙ sym (spelled_on (part_head_bytes head) (flat_map entry_spelling entries) (part_bytes head entries end) (footer_bytes end (length entries)) after refl);
 }
 
 -- a footer with another number is a wrong one
@@ -100,34 +100,21 @@ pub footer_shown : (limits : Limits) (a b after : List ℕ) (end count entries :
 footer_shown limits a b after end count entries ea fits eb differ =
     inr (inr (inl (end, count, after, fits, differ, ap (λ (x : List ℕ). big_bytes 4 0 ++ x) (ea ∙ ap (λ (x : List ℕ). big_bytes 8 end ++ x) eb))))
 
--- what stands behind a part breaks it
-pub more_shown : (part rest : List ℕ) (head : PartHead) (entries : List Change) (end : ℕ) → ReadsPart head entries end part rest → 0 < length rest
-    → ShowsBroken part head.number (length entries)
-more_shown part [] head entries end reads some = absurd (omega (arith, some))
-more_shown part (byte ∷ more) head entries end reads some =
-    let is = reads.is_part in
-    let spelled : part ≡ part_head_bytes head ++ (flat_map entry_spelling entries ++ (footer_bytes end (length entries) ++ byte ∷ more)) =
-    reads.joins ∙ ap (λ (x : List ℕ). x ++ byte ∷ more) is.spelled
-    ∙ append_assoc (part_head_bytes head) (flat_map entry_spelling entries ++ footer_bytes end (length entries)) (byte ∷ more)
-    ∙ ap (λ (x : List ℕ). part_head_bytes head ++ x) (append_assoc (flat_map entry_spelling entries) (footer_bytes end (length entries)) (byte ∷ more)) in
-    broken_at part (footer_bytes end (length entries) ++ byte ∷ more) head entries (record { spelled = spelled; is_head = is.is_head; lawful = is.lawful })
-    (inr (inr (inr (end, byte, more, refl))))
-
 -- a part that was read
 pub ended : (s : PartSoFar) (part rest : List ℕ) (head : PartHead) (end : ℕ) → s.head ≡ Some head → ReadsPart head s.entries end part rest
     → ReadsUpTo (record s { end = Some end }) part rest
 ended s part rest head end some reads = subst (λ (o : Option PartHead). ReadsUpTo (record s { head = o; end = Some end }) part rest) (sym some) reads
 
--- bytes that a test does not call empty are some
-some_bytes : (bytes : List ℕ) → false ≡ (length bytes == 0) → 0 < length bytes
-some_bytes [] test = absurd (false≢true test)
-some_bytes (x ∷ xs) test = omega arith
-
 -- bytes behind the end break the part
 pub behind_end : (s : PartSoFar) (part bytes : List ℕ) (head : PartHead) (end : ℕ) → s.head ≡ Some head → s.end ≡ Some end → false ≡ (length bytes == 0) → ReadsUpTo s part bytes
     → ShowsBroken part head.number (length s.entries)
-behind_end s part bytes head end some ends test reads =
-    more_shown part bytes head s.entries end (reads_at s (Some head) (Some end) part bytes some ends reads) (some_bytes bytes test)
+behind_end s part [] head end some ends test reads = absurd (false≢true test)
+behind_end s part (byte ∷ more) head end some ends test reads =
+    let h = reads_at s (Some head) (Some end) part (byte ∷ more) some ends reads in
+    let footer = footer_bytes end (length s.entries) in
+    let spelled = h.joins ∙ spelled_on (part_head_bytes head) (flat_map entry_spelling s.entries) h.part footer (byte ∷ more) h.is_part.spelled in
+    broken_at part (footer ++ byte ∷ more) head s.entries (record { spelled = spelled; is_head = h.is_part.is_head; lawful = h.is_part.lawful })
+    (inr (inr (inr (end, byte, more, refl))))
 
 -- a part whose entry is read goes on behind it
 pub entry_goes_on : (s : PartSoFar) (entries : List Change) (part bytes fields after : List ℕ) (head : PartHead) (next : IsNextEntry (limits_of head.format) bytes fields after) → s.head ≡ Some head
