@@ -1,5 +1,5 @@
 -- Scans of sources, job by job.
-use Rattle.std.proofs.Common.{◌≡◌, ◌∙◌, ◌⊎◌, inl, inr, ◌+◌, ℕ, suc, List, [], ◌∷◌, ◌++◌, length, map, refl, sym, ap, subst, append_assoc, append-nil, add-zero, arith}
+use Rattle.std.proofs.Common.{◌≡◌, ◌<◌, ◌∙◌, ◌⊎◌, inl, inr, ◌+◌, ℕ, suc, List, [], ◌∷◌, ◌++◌, length, map, refl, sym, ap, subst, append_assoc, append-nil, add-zero, arith}
 use Rattle.std.specs.Prelude.{Ok, Err}
 use Rattle.std.specs.List.{AllZip}
 use Rattle.std.proofs.lemmas.List.{length-append, map-append, nil_from_length}
@@ -20,7 +20,7 @@ use Rattle.mt_recover.specs.declared.scan_all.Scanned.{Scanned}
 use Rattle.mt_recover.specs.declared.scan_all.Scanned.TheVariants as scanned
 use Rattle.mt_recover.specs.Recovery.{AreReadings, AreKnown}
 use Rattle.mt_recover.specs.LogScans.{ShowAll, AreScansOf}
-use Rattle.mt_recover.specs.Inputs.{MayHave, AreLogs}
+use Rattle.mt_recover.specs.Inputs.{MayHave, OfSources, AreLogs, IsAnsweredFrom, BlamesUnsteady}
 use Rattle.mt_recover.specs.ScanJobs.{IsScanned, IsOutcome, numbered, log_jobs, part_jobs, logs_in, parts_in, IsFirstFault, HaveScanned, AreScans, IsAnsweredBy}
 use Rattle.mt_recover.proofs.ReadingLemmas.{scans_append}
 use Rattle.mt_recover.proofs.SharingLemmas.{zip_split}
@@ -183,33 +183,37 @@ are_scans seen logs parts jobs outcomes scans same zip have = record {
 
 -- ---- the first fault
 
+-- what a fault of these sources says, where there are logs
+abbrev IsAnsweredIfAny : {S : Type 0} → (S → Seen) → List S → List S → Fault → Type 0
+IsAnsweredIfAny seen logs parts fault = (0 < length logs → OfSources seen logs parts (λ ls ps. IsAnsweredFrom ls ps fault)) × BlamesUnsteady seen logs parts fault
+
 part_faults : {S : Type 0} (seen : S → Seen) (log_sources front parts : List S) (logs : List (List ℕ)) (number : ℕ) (outcomes : List Scanned) (fault : Fault) → number ≡ length front → MayHave seen log_sources logs → AreLogs logs
-    → AllZip (IsScanned seen) (part_jobs number parts) outcomes → IsFirstFault outcomes fault → IsAnsweredBy seen log_sources (front ++ parts) fault
+    → AllZip (IsScanned seen) (part_jobs number parts) outcomes → IsFirstFault outcomes fault → IsAnsweredIfAny seen log_sources (front ++ parts) fault
 part_faults seen log_sources front [] logs number [] fault at may are zip first = absurd first
 part_faults seen log_sources front [] logs number (o ∷ os) fault at may are zip first = absurd zip
 part_faults seen log_sources front (p ∷ ps) logs number [] fault at may are zip first = absurd zip
 part_faults seen log_sources front (p ∷ ps) logs number (scanned.Log o ∷ os) fault at may are zip first = absurd zip.0
 part_faults seen log_sources front (p ∷ ps) logs number (scanned.Part (Ok scan) ∷ os) fault at may are zip first =
-    subst (λ (all : List _). IsAnsweredBy seen log_sources all fault) (append_assoc front (p ∷ []) ps)
+    subst (λ (all : List _). IsAnsweredIfAny seen log_sources all fault) (append_assoc front (p ∷ []) ps)
     (part_faults seen log_sources (front ++ p ∷ []) ps logs (suc number) os fault (omega (arith, at, length-append front (p ∷ []))) may are zip.1 first)
 part_faults seen log_sources front (p ∷ ps) logs number (scanned.Part (Err e) ∷ os) fault at may are zip first =
     let parts = some_logs seen (front ++ p ∷ ps) in
-    subst (IsAnsweredBy seen log_sources (front ++ p ∷ ps)) first (
+    subst (IsAnsweredIfAny seen log_sources (front ++ p ∷ ps)) first (
       λ some. (logs, parts.0, may, parts.1, part_fault logs parts.0 number e (omega (arith, some, as_many_have seen log_sources logs may)) are zip.0.fault),
       blames_part seen log_sources front ps p number e at zip.0.fault zip.0.steady,
     )
 
 log_faults : {S : Type 0} (seen : S → Seen) (front sources parts : List S) (logs : List (List ℕ)) (scans : List LogScan) (number : ℕ) (outcomes others : List Scanned) (fault : Fault) → number ≡ length scans → length scans ≡ length front
     → MayHave seen front logs → AreScansOf logs scans → AllZip (IsScanned seen) (log_jobs number sources) outcomes → AllZip (IsScanned seen) (part_jobs 0 parts) others → IsFirstFault (outcomes ++ others) fault
-    → IsAnsweredBy seen (front ++ sources) parts fault
+    → IsAnsweredIfAny seen (front ++ sources) parts fault
 log_faults seen front [] parts logs scans number [] others fault at long may are zip rest first =
-    subst (λ (all : List _). IsAnsweredBy seen all parts fault) (sym (append-nil front)) (part_faults seen front [] parts logs 0 others fault refl may (are.readings, are.read) rest first)
+    subst (λ (all : List _). IsAnsweredIfAny seen all parts fault) (sym (append-nil front)) (part_faults seen front [] parts logs 0 others fault refl may (are.readings, are.read) rest first)
 log_faults seen front [] parts logs scans number (o ∷ os) others fault at long may are zip rest first = absurd zip
 log_faults seen front (s ∷ ss) parts logs scans number [] others fault at long may are zip rest first = absurd zip
 log_faults seen front (s ∷ ss) parts logs scans number (scanned.Part o ∷ os) others fault at long may are zip rest first = absurd zip.0
 log_faults seen front (s ∷ ss) parts logs scans number (scanned.Log (Ok scan) ∷ os) others fault at long may are zip rest first =
     let own = zip.0.scan in
-    subst (λ (all : List _). IsAnsweredBy seen all parts fault) (append_assoc front (s ∷ []) ss)
+    subst (λ (all : List _). IsAnsweredIfAny seen all parts fault) (append_assoc front (s ∷ []) ss)
     (log_faults seen (front ++ s ∷ []) ss parts (logs ++ own.0 ∷ []) (scans ++ scan ∷ []) (suc number) os others fault
     (omega (arith, at, length-append scans (scan ∷ []))) (omega (arith, long, length-append scans (scan ∷ []), length-append front (s ∷ [])))
     (may_append seen front (s ∷ []) logs (own.0 ∷ []) may (own.1, tt)) (scans_append logs scans own.0 scan number at are own.2) zip.1 rest first)
@@ -217,7 +221,7 @@ log_faults seen front (s ∷ ss) parts logs scans number (scanned.Log (Err e) �
     let own = zip.0.fault in
     let more = some_logs seen ss in
     let known = some_logs seen parts in
-    subst (IsAnsweredBy seen (front ++ s ∷ ss) parts) first (
+    subst (IsAnsweredIfAny seen (front ++ s ∷ ss) parts) first (
       λ some. (
         logs ++ own.0 ∷ more.0,
         known.0,
@@ -229,15 +233,16 @@ log_faults seen front (s ∷ ss) parts logs scans number (scanned.Log (Err e) �
     )
 
 pub memory_fault : {S : Type 0} (seen : S → Seen) (logs parts : List S) → IsAnsweredBy seen logs parts faults.Memory
-memory_fault seen logs parts = let ls = some_logs seen logs in let ps = some_logs seen parts in (λ some. (ls.0, ps.0, ls.1, ps.1, tt), tt)
+memory_fault seen logs parts = let ls = some_logs seen logs in let ps = some_logs seen parts in ((ls.0, ps.0, ls.1, ps.1, tt), tt)
 
 -- the first fault is the answer, or that memory was refused
-pub all_faults : {S : Type 0} (seen : S → Seen) (logs parts : List S) (jobs : List (Job S)) (outcomes : List Scanned) (fault : Fault) → jobs ≡ log_jobs 0 logs ++ part_jobs 0 parts → AllZip (IsScanned seen) jobs outcomes → ((fault ≡ faults.Memory) ⊎ IsFirstFault outcomes fault)
-    → IsAnsweredBy seen logs parts fault
-all_faults seen logs parts jobs outcomes fault same zip (inl memory) = subst (IsAnsweredBy seen logs parts) (sym memory) (memory_fault seen logs parts)
-all_faults seen logs parts jobs outcomes fault same zip (inr first) =
+pub all_faults : {S : Type 0} (seen : S → Seen) (logs parts : List S) (jobs : List (Job S)) (outcomes : List Scanned) (fault : Fault) → 0 < length logs → jobs ≡ log_jobs 0 logs ++ part_jobs 0 parts → AllZip (IsScanned seen) jobs outcomes
+    → ((fault ≡ faults.Memory) ⊎ IsFirstFault outcomes fault) → IsAnsweredBy seen logs parts fault
+all_faults seen logs parts jobs outcomes fault some same zip (inl memory) = subst (IsAnsweredBy seen logs parts) (sym memory) (memory_fault seen logs parts)
+all_faults seen logs parts jobs outcomes fault some same zip (inr first) =
     let both = jobs_split seen logs parts jobs outcomes same zip in
-    log_faults seen [] logs parts [] [] 0 both.0 both.1 fault refl refl tt (record { readings = []; read = tt; show = tt }) both.3 both.4 (subst (λ (os : List Scanned). IsFirstFault os fault) both.2 first)
+    let is = log_faults seen [] logs parts [] [] 0 both.0 both.1 fault refl refl tt (record { readings = []; read = tt; show = tt }) both.3 both.4 (subst (λ (os : List Scanned). IsFirstFault os fault) both.2 first) in
+    (is.0 some, is.1)
 
 -- ---- one source after the other
 
@@ -280,12 +285,12 @@ next_scanned seen jobs done left rest job outcome scans new next is added so_far
 }
 
 -- the fault of the next one is that of the sources
-pub next_fault : {S : Type 0} (seen : S → Seen) (logs parts : List S) (done left rest : List (Job S)) (job : Job S) (outcome : Scanned) (scans : Scans) (fault : Fault) → left ≡ job ∷ rest → IsScanned seen job outcome
+pub next_fault : {S : Type 0} (seen : S → Seen) (logs parts : List S) (done left rest : List (Job S)) (job : Job S) (outcome : Scanned) (scans : Scans) (fault : Fault) → 0 < length logs → left ≡ job ∷ rest → IsScanned seen job outcome
     → ((fault ≡ faults.Memory) ⊎ ((others : List Scanned) → IsFirstFault (outcome ∷ others) fault)) → AreScannedSoFar seen (log_jobs 0 logs ++ part_jobs 0 parts) done left scans → IsAnsweredBy seen logs parts fault
-next_fault seen logs parts done left rest job outcome scans fault next is (inl memory) so_far = subst (IsAnsweredBy seen logs parts) (sym memory) (memory_fault seen logs parts)
-next_fault seen logs parts done left rest job outcome scans fault next is (inr first) so_far =
+next_fault seen logs parts done left rest job outcome scans fault some next is (inl memory) so_far = subst (IsAnsweredBy seen logs parts) (sym memory) (memory_fault seen logs parts)
+next_fault seen logs parts done left rest job outcome scans fault some next is (inr first) so_far =
     let others = some_outcomes seen rest in
-    all_faults seen logs parts (done ++ job ∷ rest) (so_far.outcomes ++ outcome ∷ others.0) fault (ap (λ js. done ++ js) (sym next) ∙ so_far.rest)
+    all_faults seen logs parts (done ++ job ∷ rest) (so_far.outcomes ++ outcome ∷ others.0) fault some (ap (λ js. done ++ js) (sym next) ∙ so_far.rest)
     (zip_append seen done (job ∷ rest) so_far.outcomes (outcome ∷ others.0) so_far.zip (is, others.1)) (inr (so_far.have.sound (outcome ∷ others.0) fault (first others.0)))
 
 -- all jobs are done

@@ -1,5 +1,5 @@
 -- Sources to scan, and what their scans gave.
-use Rattle.std.specs.Prelude.{◌≡◌, ◌<◌, ℕ, suc, IsTrue, List, [], ◌∷◌, ◌++◌, length, map, Result, Ok, Err, IfOk, IfErr}
+use Rattle.std.specs.Prelude.{◌≡◌, ℕ, suc, IsTrue, List, [], ◌∷◌, ◌++◌, map, Result, Ok, Err, IfOk, IfErr}
 use Rattle.mt_words.specs.declared.fault.Fault.{Fault}
 use Rattle.mt_scan.specs.declared.log_scan.LogScan.{LogScan}
 use Rattle.mt_scan.specs.declared.part_scan.PartScan.{PartScan}
@@ -85,4 +85,4 @@ pub record AreScans {S : Type 0} (seen : S → Seen) (log_sources part_sources :
 
 -- what an answered fault of these sources says
 abbrev pub IsAnsweredBy : {S : Type 0} → (S → Seen) → List S → List S → Fault → Type 0
-IsAnsweredBy seen logs parts fault = (0 < length logs → OfSources seen logs parts (λ ls ps. IsAnsweredFrom ls ps fault)) × BlamesUnsteady seen logs parts fault
+IsAnsweredBy seen logs parts fault = OfSources seen logs parts (λ ls ps. IsAnsweredFrom ls ps fault) × BlamesUnsteady seen logs parts fault

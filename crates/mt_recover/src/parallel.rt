@@ -36,9 +36,6 @@ pub fn recover<R: Threads + Sync, S: Source + Send, G: Gate>(
         (λ logs parts. IsAnsweredFrom logs parts fault)) }
     ensures steady { IfErr result (BlamesUnsteady S.seen inputs.logs.items inputs.parts.items) }
 {
-    if inputs.logs.is_empty() {
-        return Err(Fault::NoLogs);
-    }
     let scans = scan_all(rt, alloc, inputs, workers)?;
     recover_scans(
         alloc,

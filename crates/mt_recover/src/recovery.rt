@@ -100,9 +100,6 @@ pub fn recover_one<S: Source>(alloc: Global, inputs: Inputs<S>) -> Result<Recove
         (λ logs parts. IsAnsweredFrom logs parts fault)) }
     ensures steady { IfErr result (BlamesUnsteady S.seen inputs.logs.items inputs.parts.items) }
 {
-    if inputs.logs.is_empty() {
-        return Err(Fault::NoLogs);
-    }
     let scans = scan_one(alloc, inputs)?;
     recover_scans(alloc, scans, replay_one)
 }

@@ -1,5 +1,5 @@
 //! Scans of all logs and checkpoint parts, by threads.
-ghost use Rattle.std.specs.Prelude.{◌≡◌, ◌⊎◌, [], ◌∷◌, ◌++◌, List, IfOk, IfErr, OnOk};
+ghost use Rattle.std.specs.Prelude.{◌≡◌, ◌⊎◌, ◌<◌, [], ◌∷◌, ◌++◌, List, length, IfOk, IfErr, OnOk};
 ghost use Rattle.std.specs.List.{AllZip};
 ghost use Rattle.mt_words.specs.declared.fault.Fault.TheVariants as faults;
 ghost use Rattle.mt_recover.specs.declared.scan_all.Scanned.{Scanned as ScannedValue};
@@ -68,8 +68,8 @@ impl Scans {
 }
 
 /// Scans the logs and then the parts one after the other, up to the first that has a fault; each source is dropped when
-/// it is scanned. An Err is the fault of the first log that has one; where none has, `PartSource` of the first part whose
-/// source failed; or `Memory`.
+/// it is scanned. An Err is `NoLogs`, and then nothing was read; the fault of the first log that has one; where none has,
+/// `PartSource` of the first part whose source failed; or `Memory`.
 pub(crate) fn scan_one<S: Source>(alloc: Global, inputs: Inputs<S>) -> Result<Scans, Fault>
     ensures scans { IfOk result (AreScans S.seen inputs.logs.items inputs.parts.items) }
     ensures fault { IfErr result (IsAnsweredBy S.seen inputs.logs.items inputs.parts.items) }
@@ -115,8 +115,20 @@ fn scan_jobs<R: Threads + Sync, S: Source + Send>(
     )
 }
 
+/// The jobs of all sources, logs before parts. An Err is `NoLogs`, or `Memory`.
+fn jobs_of<S: Source>(alloc: Global, inputs: Inputs<S>) -> Result<Vec<Job<S>>, Fault>
+    ensures jobs { IfOk result (λ jobs. jobs.items ≡ log_jobs 0 inputs.logs.items ++ part_jobs 0 inputs.parts.items) }
+    ensures some { IfOk result (λ _. 0 < length inputs.logs.items) }
+    ensures fault { IfErr result (IsAnsweredBy S.seen inputs.logs.items inputs.parts.items) }
+{
+    if inputs.logs.is_empty() {
+        return Err(Fault::NoLogs);
+    }
+    Ok(number_both(alloc, inputs)?)
+}
+
 /// The jobs of all sources, logs before parts.
-fn jobs_of<S: Drop>(alloc: Global, inputs: Inputs<S>) -> Result<Vec<Job<S>>, Memory>
+fn number_both<S: Drop>(alloc: Global, inputs: Inputs<S>) -> Result<Vec<Job<S>>, Memory>
     ensures { IfOk result (λ jobs. jobs.items ≡ log_jobs 0 inputs.logs.items ++ part_jobs 0 inputs.parts.items) }
 {
     let Inputs { logs, parts } = inputs;
