@@ -45,6 +45,9 @@ fn recover_and_print<R: AllocGlobal + Threads + Sync, S: Source + Send, O: Write
     Ok(())
 }
 
+/// How many bytes are printed at once.
+const PRINTED_AT_ONCE: usize = 65_536;
+
 /// Prints what the query asks for, through a buffer.
 fn print_all<O: Write>(
     alloc: Global,
@@ -52,7 +55,7 @@ fn print_all<O: Write>(
     query: &Query,
     out: &mut O,
 ) -> Result<(), Failure<'static>> {
-    let mut out = BufWriter::new(alloc, out)?;
+    let mut out = BufWriter::with_capacity(alloc, PRINTED_AT_ONCE, out)?;
     print(recovered, query, &mut out)?;
     Ok(out.flush()?)
 }
