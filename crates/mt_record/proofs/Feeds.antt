@@ -1,12 +1,11 @@
 -- What a feed has read when more bytes follow, whatever its items are.
-use Rattle.std.proofs.Common.{◌≡◌, ℕ, ◌+◌, ◌-◌, ◌*◌, ◌<◌, Ok, Option, Some, None, List, [], ◌++◌, length, drop, sym, ap, ◌∙◌, subst, append_assoc, arith, true, Bool}
+use Rattle.std.proofs.Common.{◌≡◌, ℕ, ◌+◌, ◌-◌, ◌*◌, ◌<◌, Ok, Some, List, [], ◌++◌, length, drop, sym, ap, ◌∙◌, subst, append_assoc, arith, true, Bool}
 use Rattle.std.proofs.Math.Seq.{drop-append_seam}
 use Rattle.std.proofs.lemmas.List.{length-append, append-nil, nil_from_length}
 use Rattle.std.proofs.lemmas.Bool.Decides.{Decides-eqb}
-use Rattle.std.proofs.lemmas.Option.{none-some}
 use Rattle.std.specs.Prelude.{◌==◌}
 use Rattle.std.specs.Borrow.{Bor}
-use Rattle.mt_record.specs.Feeding.{Reads, Steps, HoldsUpTo, HoldsAll, IsFedBy, Tops}
+use Rattle.mt_record.specs.Feeding.{Reads, Steps, HoldsUpTo, HoldsAll, Tops}
 
 -- what was read is the same when more bytes follow
 abbrev pub GoesOn : {I : Type 0} → (I → List ℕ → List ℕ → Type 0) → Type 0

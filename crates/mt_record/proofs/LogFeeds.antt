@@ -1,5 +1,5 @@
 -- The items of a log one behind the other, and what its feed was fed.
-use Rattle.std.proofs.Common.{◌≡◌, ℕ, ◌+◌, ◌-◌, ◌^◌, ◌≤◌, min, max, Result, Ok, Err, Option, Some, None, List, [], ◌∷◌, ◌++◌, length, refl, sym, ap, ◌∙◌, subst, append_assoc, arith}
+use Rattle.std.proofs.Common.{◌≡◌, ℕ, ◌+◌, ◌-◌, ◌≤◌, max, Result, Ok, Err, Option, Some, None, List, [], ◌∷◌, ◌++◌, length, refl, sym, ap, ◌∙◌, subst, append_assoc, arith}
 use Rattle.std.proofs.lemmas.List.{length-append}
 use Rattle.std.specs.Prelude.{◌==◌, Bool, not, codes, IfOk, OnErr, MatchOption}
 use Rattle.std.specs.Borrow.{Bor}
@@ -16,7 +16,6 @@ use Rattle.mt_record.specs.Heads.{IsHead, head_of, head_bytes, HasNoHeader}
 use Rattle.mt_record.specs.Logs.{latest, IsLog, LogReading, IsLast, IsTextIn}
 use Rattle.mt_record.specs.LogFaults.{RestFault, HasFault, IsAnswered}
 use Rattle.mt_record.specs.Fronts.{GoesWithMagic, ShowsNone, IsCutFront}
-use Rattle.mt_record.specs.Bodies.{IsNext}
 use Rattle.mt_record.specs.Feeding.{HoldsAll}
 use Rattle.mt_record.specs.LogFeeding.{LogSoFar, IsShown, ShowsNoFault, AreRead, HasRead, ReadsLog, IsLeft, IsLogLeft, HasFailed}
 use Rattle.mt_record.specs.LogPieces.{so_far, HasReadItems, IsLeftOfItems, HasFailedItems, StepsLog, ReadsNext, IsNextFault}

@@ -1,10 +1,9 @@
 -- The header, the entries and the footer of a part, one after the other.
-use Rattle.std.proofs.Common.{◌≡◌, ◌≢◌, inl, inr, ℕ, zero, suc, ◌^◌, ◌<◌, Ok, Option, Some, None, List, [], ◌∷◌, ◌++◌, length, refl, sym, ap, ◌∙◌, subst, append_assoc, false, arith}
+use Rattle.std.proofs.Common.{◌≡◌, ◌≢◌, inl, inr, ℕ, zero, suc, ◌^◌, ◌<◌, Ok, Option, Some, None, List, [], ◌∷◌, ◌++◌, length, refl, sym, ap, ◌∙◌, subst, false, arith}
 use Rattle.std.specs.List.{flat_map}
 use Rattle.std.specs.Prelude.{◌==◌, codes}
 use Rattle.std.specs.Borrow.{Bor}
 use Rattle.std.proofs.lemmas.Bool.{false≢true}
-use Rattle.std.proofs.lemmas.List.{flat_map_more}
 use Rattle.byteorder.specs.Endian.{big_bytes}
 use Rattle.mt_words.specs.declared.limits.Format.TheVariants.{One}
 use Rattle.mt_words.specs.declared.record.Change.{Change}

@@ -1,5 +1,5 @@
 -- What was read of a log and which faults it shows, when more bytes follow: the laws that its items owe. No definition stands here.
-use Rattle.std.proofs.Common.{inl, inr, ◌≡◌, ℕ, Option, Some, None, List, [], ◌∷◌, ◌++◌, length, refl, sym, ap, ◌∙◌, subst, append_assoc}
+use Rattle.std.proofs.Common.{inl, inr, ◌≡◌, ℕ, Option, Some, None, List, ◌++◌, length, refl, sym, ap, ◌∙◌, append_assoc}
 use Rattle.std.specs.List.{flat_map}
 use Rattle.byteorder.specs.Endian.{big_bytes}
 use Rattle.mt_words.specs.declared.fault.What.{What}
@@ -15,7 +15,7 @@ use Rattle.mt_record.specs.Heads.{IsHead, head_bytes}
 use Rattle.mt_record.specs.Logs.{latest}
 use Rattle.mt_record.specs.LogFaults.{RestFault, HasFault}
 use Rattle.mt_record.specs.MoreBytes.{behind_on, spelled_on, shows_none_on}
-use Rattle.mt_record.specs.LogFeeding.{AreRead, HasRead, BeginLog, HasFailed}
+use Rattle.mt_record.specs.LogFeeding.{HasRead, BeginLog, HasFailed}
 
 -- a fault of the rest stays its fault when more bytes follow
 rest_fault_on : (what : What) (limits : Limits) (low : ℕ) (rest more : List ℕ) → RestFault what limits low rest → RestFault what limits low (rest ++ more)

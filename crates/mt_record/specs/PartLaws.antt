@@ -9,7 +9,7 @@ use Rattle.mt_record.specs.declared.part_text.PartHead.{PartHead}
 use Rattle.mt_record.specs.declared.part_text.PartFault.{PartFault}
 use Rattle.mt_record.specs.declared.part_text.PartFault.TheVariants as faults
 use Rattle.mt_record.specs.Parts.{part_head_bytes, IsPartHead, entry_spelling, footer_bytes}
-use Rattle.mt_record.specs.PartFeeding.{ShowsNoPart, IsPartShown, PartSoFar, ReadsUpTo}
+use Rattle.mt_record.specs.PartFeeding.{ShowsNoPart, IsPartShown, ReadsUpTo}
 use Rattle.mt_record.specs.MoreBytes.{spelled_on, behind_on, shows_none_on}
 
 -- ---- what was read
