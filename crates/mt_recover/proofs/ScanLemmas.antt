@@ -20,8 +20,8 @@ use Rattle.mt_recover.specs.declared.scan_all.Scanned.{Scanned}
 use Rattle.mt_recover.specs.declared.scan_all.Scanned.TheVariants as scanned
 use Rattle.mt_recover.specs.Recovery.{AreReadings, AreKnown}
 use Rattle.mt_recover.specs.LogScans.{ShowAll, AreScansOf}
-use Rattle.mt_recover.specs.Inputs.{MayHave, OfSources, AreLogs, IsAnsweredFrom, BlamesUnsteady}
-use Rattle.mt_recover.specs.ScanJobs.{IsScanned, IsOutcome, numbered, log_jobs, part_jobs, logs_in, parts_in, IsFirstFault, HaveScanned, AreScans, IsAnsweredBy}
+use Rattle.mt_recover.specs.Inputs.{MayHave, OfSources, AreLogs, IsAnsweredFrom, BlamesUnsteady, IsAnsweredBy}
+use Rattle.mt_recover.specs.ScanJobs.{IsScanned, IsOutcome, numbered, log_jobs, part_jobs, logs_in, parts_in, IsFirstFault, HaveScanned, AreScans}
 use Rattle.mt_recover.proofs.ReadingLemmas.{scans_append}
 use Rattle.mt_recover.proofs.SharingLemmas.{zip_split}
 use Rattle.mt_recover.proofs.SourceLemmas.{some_logs, may_append, fault_among, blames, blames_part, part_fault, as_many_have}

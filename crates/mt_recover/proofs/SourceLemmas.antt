@@ -20,7 +20,7 @@ use Rattle.mt_recover.specs.Verdict.{IsVerdictOrMemory}
 use Rattle.mt_recover.specs.LogScans.{ShowAll, AreScansOf}
 use Rattle.mt_recover.specs.declared.scan_all.Scans.{Scans}
 use Rattle.mt_recover.specs.ScanJobs.{AreScans}
-use Rattle.mt_recover.specs.Inputs.{MayHave, OfSources, AreLogs, IsAnsweredFrom, BlamesUnsteady}
+use Rattle.mt_recover.specs.Inputs.{MayHave, OfSources, AreLogs, IsAnsweredFrom, BlamesUnsteady, IsAnsweredBy, IsRecoveryFrom}
 
 -- ---- what sources may have
 
@@ -147,24 +147,14 @@ blames_none seen ls ps logs parts fault is = tt
 abbrev pub OfScans : Scans → (List (List ℕ) → List (List ℕ) → Type 0) → Type 0
 OfScans scans P = (logs parts : List (List ℕ)) → AreScansOf logs scans.logs.items → AreKnown parts (map known_by scans.parts.items) → P logs parts
 
--- what is recovered from scans is what their sources have
-pub recovered_of_sources : {S : Type 0} (seen : S → Seen) (logs parts : List S) (scans : Scans) (result : Result Outcome Fault) → AreScans seen logs parts scans
-    → OfScans scans (λ ls ps. IfOk result (IsRecoveredOf ls ps)) → IfOk result (λ recovered. OfSources seen logs parts (λ ls ps. IsRecoveredOf ls ps recovered))
-recovered_of_sources seen logs parts scans result are says =
+-- what is recovered from scans is recovered from their sources
+pub recovery_from : {S : Type 0} (seen : S → Seen) (logs parts : List S) (scans : Scans) (result : Result Outcome Fault) → AreScans seen logs parts scans
+    → OfScans scans (λ ls ps. IfOk result (IsRecoveredOf ls ps)) → OfScans scans (λ ls ps. IfErr result (IsVerdictOrMemory ls ps)) → IsRecoveryFrom seen logs parts result
+recovery_from seen logs parts scans result are recovered fails =
     let ls = are.logs in
     let ps = are.parts in
-    IfOk-weaker result _ (λ recovered. OfSources seen logs parts (λ ls ps. IsRecoveredOf ls ps recovered)) (λ recovered is. (ls.0, ps.0, ls.1, ps.1, is)) (says ls.0 ps.0 ls.2 ps.2)
-
--- so is their fault
-pub fault_of_sources : {S : Type 0} (seen : S → Seen) (logs parts : List S) (scans : Scans) (result : Result Outcome Fault) → AreScans seen logs parts scans
-    → OfScans scans (λ ls ps. IfErr result (IsVerdictOrMemory ls ps)) → IfErr result (λ fault. OfSources seen logs parts (λ ls ps. IsAnsweredFrom ls ps fault))
-fault_of_sources seen logs parts scans result are says =
-    let ls = are.logs in
-    let ps = are.parts in
-    IfErr-weaker result _ (λ fault. OfSources seen logs parts (λ ls ps. IsAnsweredFrom ls ps fault)) (λ fault is. (ls.0, ps.0, ls.1, ps.1, answered_from ls.0 ps.0 fault is)) (says ls.0 ps.0 ls.2 ps.2)
-
--- which blames no source
-pub none_blamed : {S : Type 0} (seen : S → Seen) (logs parts : List S) (scans : Scans) (result : Result Outcome Fault) → AreScans seen logs parts scans
-    → OfScans scans (λ ls ps. IfErr result (IsVerdictOrMemory ls ps)) → IfErr result (BlamesUnsteady seen logs parts)
-none_blamed seen logs parts scans result are says =
-    IfErr-weaker result _ (BlamesUnsteady seen logs parts) (λ fault is. blames_none seen logs parts are.logs.0 are.parts.0 fault is) (says are.logs.0 are.parts.0 are.logs.2 are.parts.2)
+    record {
+      recovered = IfOk-weaker result _ (λ outcome. OfSources seen logs parts (λ ls ps. IsRecoveredOf ls ps outcome)) (λ outcome is. (ls.0, ps.0, ls.1, ps.1, is)) (recovered ls.0 ps.0 ls.2 ps.2);
+      fault = IfErr-weaker result _ (IsAnsweredBy seen logs parts)
+          (λ fault is. ((ls.0, ps.0, ls.1, ps.1, answered_from ls.0 ps.0 fault is), blames_none seen logs parts ls.0 ps.0 fault is)) (fails ls.0 ps.0 ls.2 ps.2);
+    }

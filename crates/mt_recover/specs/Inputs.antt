@@ -1,11 +1,12 @@
 -- Sources of logs and parts, and what recovery from them answers.
-use Rattle.std.specs.Prelude.{◌≡◌, false, ℕ, ◌<◌, IsSomeAnd, List, length, slice_get, take}
+use Rattle.std.specs.Prelude.{◌≡◌, false, ℕ, ◌<◌, IsSomeAnd, IfOk, IfErr, List, Result, length, slice_get, take}
 use Rattle.std.specs.List.{AllZip}
 use Rattle.mt_words.specs.declared.fault.Fault.{Fault}
 use Rattle.mt_words.specs.declared.fault.Fault.TheVariants as faults
 use Rattle.mt_record.specs.Logs.{LogReading}
 use Rattle.mt_scan.specs.Sources.{Seen, Agrees}
 use Rattle.mt_recover.specs.Recovery.{AreReadings}
+use Rattle.mt_recover.specs.Report.{Outcome, IsRecoveredOf}
 use Rattle.mt_recover.specs.Verdict.{IsVerdictOrMemory}
 
 -- the sources may have these bytes: just those that they tell, or any where they tell none
@@ -33,3 +34,12 @@ abbrev pub BlamesUnsteady : {S : Type 0} → (S → Seen) → List S → List S 
 BlamesUnsteady seen logs parts (faults.Source i) = IsSomeAnd (slice_get logs i) (λ source. (seen source).steady ≡ false)
 BlamesUnsteady seen logs parts (faults.PartSource i) = IsSomeAnd (slice_get parts i) (λ source. (seen source).steady ≡ false)
 BlamesUnsteady seen logs parts fault = Unit {0}
+
+-- what an answered fault of these sources says
+abbrev pub IsAnsweredBy : {S : Type 0} → (S → Seen) → List S → List S → Fault → Type 0
+IsAnsweredBy seen logs parts fault = OfSources seen logs parts (λ ls ps. IsAnsweredFrom ls ps fault) × BlamesUnsteady seen logs parts fault
+
+-- what recovery from these sources answers
+pub record IsRecoveryFrom {S : Type 0} (seen : S → Seen) (logs parts : List S) (result : Result Outcome Fault) : Type 0 where
+  pub recovered : IfOk result (λ recovered. OfSources seen logs parts (λ ls ps. IsRecoveredOf ls ps recovered))
+  pub fault : IfErr result (IsAnsweredBy seen logs parts)

@@ -14,7 +14,7 @@ use Rattle.mt_recover.specs.declared.scan_all.Scanned.TheVariants as scanned
 use Rattle.mt_recover.specs.declared.scan_all.Scans.{Scans}
 use Rattle.mt_recover.specs.Recovery.{AreKnown}
 use Rattle.mt_recover.specs.LogScans.{AreScansOf}
-use Rattle.mt_recover.specs.Inputs.{MayHave, OfSources, IsAnsweredFrom, BlamesUnsteady}
+use Rattle.mt_recover.specs.Inputs.{MayHave}
 
 -- the jobs of sources that have such texts, numbered from this number on
 abbrev pub numbered : {S : Type 0} → Text → ℕ → List S → List (Job S)
@@ -82,7 +82,3 @@ pub record HaveScanned (done : List Scanned) (scans : Scans) : Type 0 where
 pub record AreScans {S : Type 0} (seen : S → Seen) (log_sources part_sources : List S) (scans : Scans) : Type 0 where
   pub logs : (texts : List (List ℕ)) × MayHave seen log_sources texts × AreScansOf texts scans.logs.items
   pub parts : (texts : List (List ℕ)) × MayHave seen part_sources texts × AreKnown texts (map known_by scans.parts.items)
-
--- what an answered fault of these sources says
-abbrev pub IsAnsweredBy : {S : Type 0} → (S → Seen) → List S → List S → Fault → Type 0
-IsAnsweredBy seen logs parts fault = OfSources seen logs parts (λ ls ps. IsAnsweredFrom ls ps fault) × BlamesUnsteady seen logs parts fault

@@ -1,11 +1,10 @@
 //! Recovery by any number of workers.
-ghost use Rattle.std.specs.Prelude.{IfOk, IfErr};
+ghost use Rattle.std.specs.Prelude.{IfOk};
 ghost use Rattle.std.specs.Option.{option_map};
 ghost use Rattle.std.specs.Thread.{IsSync};
 ghost use Rattle.mt_scan.specs.Choice.{checkpoint_in};
 ghost use Rattle.mt_recover.specs.Start.{IsReplayOf};
-ghost use Rattle.mt_recover.specs.Report.{IsRecoveredOf};
-ghost use Rattle.mt_recover.specs.Inputs.{OfSources, IsAnsweredFrom, BlamesUnsteady};
+ghost use Rattle.mt_recover.specs.Inputs.{IsRecoveryFrom};
 
 use crate::recovery::{Inputs, Recovered, recover_scans};
 use crate::replayed::{Replayed, replay_by};
@@ -30,11 +29,7 @@ pub fn recover<R: Threads + Sync, S: Source + Send, G: Gate>(
     cutting: Cutting,
     gate: &G,
 ) -> Result<Recovered, Fault>
-    ensures recovered { IfOk result (λ recovered. OfSources S.seen inputs.logs.items inputs.parts.items
-        (λ logs parts. IsRecoveredOf logs parts recovered)) }
-    ensures fault { IfErr result (λ fault. OfSources S.seen inputs.logs.items inputs.parts.items
-        (λ logs parts. IsAnsweredFrom logs parts fault)) }
-    ensures steady { IfErr result (BlamesUnsteady S.seen inputs.logs.items inputs.parts.items) }
+    ensures { IsRecoveryFrom S.seen inputs.logs.items inputs.parts.items result }
 {
     let scans = scan_all(rt, alloc, inputs, workers)?;
     recover_scans(

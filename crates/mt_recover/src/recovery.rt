@@ -14,7 +14,7 @@ ghost use Rattle.mt_recover.specs.Start.{IsReplayOf, IsFinishOf};
 ghost use Rattle.mt_recover.specs.Recovery.{AreKnown};
 ghost use Rattle.mt_recover.specs.Report.{IsRecoveredOf};
 ghost use Rattle.mt_recover.specs.Verdict.{IsVerdictOrMemory};
-ghost use Rattle.mt_recover.specs.Inputs.{OfSources, IsAnsweredFrom, BlamesUnsteady};
+ghost use Rattle.mt_recover.specs.Inputs.{IsRecoveryFrom};
 
 use crate::read_logs::read_logs;
 use crate::replayed::{Replayed, replay_one};
@@ -94,11 +94,7 @@ impl Recovered {
 /// `Gap`; or `Memory` where a growth was refused. Of a source that does not tell its bytes no more is said than that it
 /// had some.
 pub fn recover_one<S: Source>(alloc: Global, inputs: Inputs<S>) -> Result<Recovered, Fault>
-    ensures recovered { IfOk result (λ recovered. OfSources S.seen inputs.logs.items inputs.parts.items
-        (λ logs parts. IsRecoveredOf logs parts recovered)) }
-    ensures fault { IfErr result (λ fault. OfSources S.seen inputs.logs.items inputs.parts.items
-        (λ logs parts. IsAnsweredFrom logs parts fault)) }
-    ensures steady { IfErr result (BlamesUnsteady S.seen inputs.logs.items inputs.parts.items) }
+    ensures { IsRecoveryFrom S.seen inputs.logs.items inputs.parts.items result }
 {
     let scans = scan_one(alloc, inputs)?;
     recover_scans(alloc, scans, replay_one)

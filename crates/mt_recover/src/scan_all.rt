@@ -3,7 +3,8 @@ ghost use Rattle.std.specs.Prelude.{◌≡◌, ◌⊎◌, ◌<◌, [], ◌∷◌
 ghost use Rattle.std.specs.List.{AllZip};
 ghost use Rattle.mt_words.specs.declared.fault.Fault.TheVariants as faults;
 ghost use Rattle.mt_recover.specs.declared.scan_all.Scanned.{Scanned as ScannedValue};
-ghost use Rattle.mt_recover.specs.ScanJobs.{IsScanned, numbered, log_jobs, part_jobs, HaveScanned, IsFirstFault, AreScans, IsAnsweredBy};
+ghost use Rattle.mt_recover.specs.Inputs.{IsAnsweredBy};
+ghost use Rattle.mt_recover.specs.ScanJobs.{IsScanned, numbered, log_jobs, part_jobs, HaveScanned, IsFirstFault, AreScans};
 
 use crate::by_workers::by_workers;
 use crate::{Inputs, Workers};
