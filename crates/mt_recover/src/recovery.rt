@@ -1,6 +1,7 @@
-//! Recovery from sources, and from logs in memory.
+//! Recovery from sources, on one thread or by workers, and from logs in memory.
 ghost use Rattle.std.specs.Prelude.{◌≡◌, [], List, ℕ, map, Option, Result, IfOk, IfErr};
 ghost use Rattle.std.specs.Option.{option_map};
+ghost use Rattle.std.specs.Thread.{IsSync};
 ghost use Rattle.mt_words.specs.declared.fault.Memory.{Memory as MemoryValue};
 ghost use Rattle.mt_words.specs.Walks.{IsMap};
 ghost use Rattle.mt_scan.specs.declared.checkpoint.Checkpoint.{Checkpoint as CheckpointValue};
@@ -17,17 +18,19 @@ ghost use Rattle.mt_recover.specs.Verdict.{IsVerdictOrMemory};
 ghost use Rattle.mt_recover.specs.Inputs.{IsRecoveryFrom};
 
 use crate::read_logs::read_logs;
-use crate::replayed::{Replayed, replay_one};
+use crate::replayed::{Replayed, replay_by, replay_one};
 use crate::report::Report;
-use crate::scan_all::{Scans, scan_one};
+use crate::scan_all::{Scans, scan_all, scan_one};
 use crate::start::Start;
 use crate::store::Store;
+use crate::workers::{Cutting, Gate, Workers};
 use mt_replay::Window;
 use mt_scan::{Checkpoint, LogScan, Source};
 use mt_tree::Draft;
 use mt_words::{Fault, Memory};
 use std::alloc::Global;
 use std::marker::Model;
+use std::thread::Threads;
 
 /// The sources of the logs and of the checkpoint parts. A log's position in its list is its number, and a part's
 /// likewise. Sources of several kinds go together under an enum that is a `Source`.
@@ -98,6 +101,35 @@ pub fn recover_one<S: Source>(alloc: Global, inputs: Inputs<S>) -> Result<Recove
 {
     let scans = scan_one(alloc, inputs)?;
     recover_scans(alloc, scans, replay_one)
+}
+
+/// What `recover_one` answers, by so many workers and with the keys cut so: neither changes the answer. The workers run
+/// by fork and join, each in a thread of its own where one can be made. Each scans its share of the logs and parts,
+/// makes the cells of its share, and replays its share of the pieces, of which each is entered at the gate before.
+///
+/// An Err is that of `recover_one`, whichever worker ended first. All logs and parts are scanned before one is named.
+pub fn recover<R: Threads + Sync, S: Source + Send, G: Gate>(
+    rt: &R,
+    alloc: Global,
+    inputs: Inputs<S>,
+    workers: Workers,
+    cutting: Cutting,
+    gate: &G,
+) -> Result<Recovered, Fault>
+    ensures { IsRecoveryFrom S.seen inputs.logs.items inputs.parts.items result }
+{
+    let scans = scan_all(rt, alloc, inputs, workers)?;
+    recover_scans(
+        alloc,
+        scans,
+        |alloc: Global, scans: Vec<LogScan>, window: Window, chosen: Option<Checkpoint>| -> Result<
+            Replayed,
+            Memory,
+        >
+            requires { IsSync R.row }
+            ensures { IfOk result (IsReplayOf window (option_map checkpoint_in chosen) scans.items) }
+        { replay_by(rt, alloc, scans, window, chosen, workers, cutting, gate) },
+    )
 }
 
 /// The store of the logs whose bytes are these, without a checkpoint, and its report, on one thread. The position of a
