@@ -14,6 +14,7 @@ use Rattle.mt_replay.proofs.StampLemmas.{at_most_trans, older_or_not, not_newer}
 use Rattle.mt_replay.proofs.CellLemmas.{IsRight, decide}
 use Rattle.mt_replay.proofs.ColumnsLemmas.{IsLeft}
 use Rattle.std.proofs.lemmas.Option.{slice_get-get_or, slice_get_within}
+use Rattle.mt_words.specs.declared.limits.TheConstants.{MOST_COLUMNS}
 
 -- ---- the same writes in another order
 
@@ -108,7 +109,7 @@ pub record AreBoth (old add : Slots) (n : ℕ) (new left : Slots) : Type 0 where
   pub newest : (k : ℕ) (a b slot : Option Written) → k < n → slice_get old k ≡ Some a → slice_get add k ≡ Some b → slice_get new k ≡ Some slot → IsNewestOf a b slot
 
 -- all places
-pub both_cells : (old add : Slots) (new left : Slots) (writes others : List Written) → AreBoth old add 16 new left → IsCellOf writes old → IsCellOf others add → IsCellOf (writes ++ others) new
+pub both_cells : (old add : Slots) (new left : Slots) (writes others : List Written) → AreBoth old add MOST_COLUMNS new left → IsCellOf writes old → IsCellOf others add → IsCellOf (writes ++ others) new
 both_cells old add new left writes others are was is = record {
   within = λ w at. elim (Contains-append_cases writes others w at) as (λ _. IsColumn widest w.1) [ inl here ↦ was.within w here | inr there ↦ is.within w there ];
   places = are.places ∙ was.places;
@@ -120,7 +121,7 @@ both_cells old add new left writes others are was is = record {
       let b = slice_index_or add number None in
       let at_old : slice_get old number ≡ Some a = slice_get-get_or old number None lt_old in
       let at_add : slice_get add number ≡ Some b = slice_get-get_or add number None lt_add in
-      let below : number < 16 = omega (arith, lt_old, was.places) in
+      let below : number < MOST_COLUMNS = omega (arith, lt_old, was.places) in
       right_both writes others number a b slot (are.newest number a b slot below at_old at_add at) (was.each number a at_old) (is.each number b at_add);
 }
 

@@ -9,6 +9,7 @@ use Rattle.std.specs.Global.{Box}
 use Rattle.std.proofs.Common.{inl, inr, ◌⊎◌}
 use Rattle.std.proofs.lemmas.Bool.{cases_lt}
 use Rattle.std.proofs.lemmas.List.{append-nil, take_all, take_rest, get_or-drop, take-map}
+use Rattle.mt_words.specs.Limits.{widest}
 use Rattle.mt_words.specs.Slices.{AreBytes, slice_in, slice_bytes}
 use Rattle.mt_tree.specs.Layer.{key_rank}
 use Rattle.mt_words.proofs.SliceBytes.{bytes_take}
@@ -156,13 +157,13 @@ kids_from start (s ∷ ss) (n ∷ ns) (suc i) d b h a e l before after =
 -- ---- what is gone over below a node
 fits_kid : (k : ℕ) (ks : List NodeView) (i : ℕ) (d : NodeView) → FitsAfter k (walk (joined (borders_of ks))) → i < length ks → FitsAfter k (walk (places (get_or ks i d)))
 fits_kid k [] i d h l = absurd (omega arith)
-fits_kid k (n ∷ ns) zero d h l = all_front (λ p. k + length p.0 ≤ 1024) (walk (places n)) (walk (joined (borders_of ns))) (subst (FitsAfter k) (kids_walk n ns) h)
-fits_kid k (n ∷ ns) (suc i) d h l = fits_kid k ns i d (all_back (λ p. k + length p.0 ≤ 1024) (walk (places n)) (walk (joined (borders_of ns))) (subst (FitsAfter k) (kids_walk n ns) h)) (omega arith)
+fits_kid k (n ∷ ns) zero d h l = all_front (λ p. k + length p.0 ≤ widest.key) (walk (places n)) (walk (joined (borders_of ns))) (subst (FitsAfter k) (kids_walk n ns) h)
+fits_kid k (n ∷ ns) (suc i) d h l = fits_kid k ns i d (all_back (λ p. k + length p.0 ≤ widest.key) (walk (places n)) (walk (joined (borders_of ns))) (subst (FitsAfter k) (kids_walk n ns) h)) (omega arith)
 
 fits_view : (k : ℕ) (xs : List Place) (i : ℕ) (d : Place) → FitsAfter k (walk (views xs)) → i < length xs → FitsAfter k (pairs_at (view_of (get_or xs i d)))
 fits_view k [] i d h l = absurd (omega arith)
-fits_view k (x ∷ xs) zero d h l = all_front (λ p. k + length p.0 ≤ 1024) (pairs_at (view_of x)) (walk (views xs)) h
-fits_view k (x ∷ xs) (suc i) d h l = fits_view k xs i d (all_back (λ p. k + length p.0 ≤ 1024) (pairs_at (view_of x)) (walk (views xs)) h) (omega arith)
+fits_view k (x ∷ xs) zero d h l = all_front (λ p. k + length p.0 ≤ widest.key) (pairs_at (view_of x)) (walk (views xs)) h
+fits_view k (x ∷ xs) (suc i) d h l = fits_view k xs i d (all_back (λ p. k + length p.0 ≤ widest.key) (pairs_at (view_of x)) (walk (views xs)) h) (omega arith)
 
 -- a place of its border
 pub record IsPlaceIn (n : NodeView) (k : ℕ) (x : Place) : Type 0 where

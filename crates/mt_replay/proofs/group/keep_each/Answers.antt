@@ -1,4 +1,5 @@
 use Rattle.std.proofs.Common.{◌≡◌, ◌∙◌, ℕ, sym, subst, arith}
+use Rattle.mt_words.specs.declared.limits.TheConstants.{MOST_COLUMNS}
 use Rattle.mt_replay.specs.Cells.{Slots}
 use Rattle.mt_replay.proofs.BothLemmas.{AreBoth, both_cells}
 use Rattle.mt_replay.proofs.group.keep_each.Goals as goal
@@ -9,8 +10,8 @@ returns-clause-cell g c =
     let add : Slots = c.args.writes in
     let new : Slots = c.loop-number.kept in
     let left : Slots = c.loop-number.rest in
-    let all : c.loop-number.number ≡ 16 = omega arith in
-    let are : AreBoth old add 16 new left = subst (λ (n : ℕ). AreBoth old add n new left) all c.loop-number.invariant in
+    let all : c.loop-number.number ≡ MOST_COLUMNS = omega arith in
+    let are : AreBoth old add MOST_COLUMNS new left = subst (λ (n : ℕ). AreBoth old add n new left) all c.loop-number.invariant in
     λ seen others was is. both_cells old add new left seen others are was is
 
 pub returns-clause-free : goal.returns-clause-free

@@ -6,3 +6,6 @@ use Rattle.mt_tree.proofs.wanted.Wanted.all.Goals as goal
 
 pub returns-clause-whole : goal.returns-clause-whole
 returns-clause-whole c = λ columns are. all_wanted (replicate MOST_COLUMNS true) columns (λ number least. get_or-replicate MOST_COLUMNS number true false (omega (arith, least))) are
+
+pub returns-clause-value : goal.returns-clause-value
+returns-clause-value c = λ number least. get_or-replicate MOST_COLUMNS number true false (omega (arith, least))
