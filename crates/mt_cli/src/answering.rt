@@ -38,7 +38,7 @@ fn recover_and_print<R: AllocGlobal + Threads + Sync, S: Source + Send, O: Write
     inputs: Inputs<S>,
     out: &mut O,
 ) -> Result<(), Failure<'static>> {
-    let cutting = Cutting::Even(command.pieces);
+    let cutting = Cutting::Sampled(command.pieces);
     let recovered = recover(rt, rt.alloc(), inputs, command.workers, cutting, &NoGate)?;
     print_all(rt.alloc(), &recovered, &command.query, out)?;
     mem::forget(recovered);

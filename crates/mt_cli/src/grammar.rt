@@ -98,7 +98,7 @@ fn workers<'a>(alloc: Global) -> Arg<'a> {
 
 /// The option of the pieces.
 fn pieces<'a>(alloc: Global) -> Arg<'a> {
-    arg!(in alloc; --pieces <P> "Into how many pieces the keys are cut: 1 to 4096")
+    arg!(in alloc; --pieces <P> "Into how many pieces at most the keys are cut: 1 to 4096")
         .value_parser(ValueParser::unsigned(1, 4096))
         .default_value("16")
 }

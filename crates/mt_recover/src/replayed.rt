@@ -78,6 +78,7 @@ fn cuts_of<R: Threads + Sync>(
 ) -> Result<Cuts, Memory> {
     match cutting {
         Cutting::Even(pieces) => Cuts::even(rt, alloc, lists, pieces),
+        Cutting::Sampled(pieces) => Cuts::sampled(rt, alloc, lists, pieces),
         Cutting::At(cuts) => Ok(cuts),
     }
 }

@@ -51,6 +51,8 @@ impl Workers {
 pub enum Cutting {
     /// Into pieces of about as many keys.
     Even(Pieces),
+    /// Into no more pieces, of roughly as many updates, which are cut much sooner.
+    Sampled(Pieces),
     /// At these keys.
     At(Cuts),
 }

@@ -22,7 +22,7 @@ pub const MOST_CUTS: usize = 4095;
 const MOST_PIECES: u32 = 4096;
 
 /// The most pieces in which keys are looked for, each by a thread of its own.
-const ROUGH_PIECES: u32 = 16;
+const ROUGH_PIECES: Pieces = Pieces { count: 16 };
 
 /// Why keys are no cuts.
 #[derive(Clone, Copy, Debug, PartialEq, Eq)]
@@ -78,6 +78,15 @@ impl Pieces {
             return None;
         }
         Some(Pieces { count })
+    }
+
+    /// How many there are.
+    pub(crate) fn count(self) -> u32
+        ensures value { result ≡ self }
+        ensures some { 0 < result }
+        ensures most { result ≤ 4096 }
+    {
+        self.count
     }
 }
 
@@ -136,22 +145,22 @@ impl Cuts {
         if pieces.count == 1 {
             return Ok(Cuts::none(alloc));
         }
-        let rough = Cuts::rough(rt, alloc, lists)?;
+        let rough = Cuts::sampled(rt, alloc, lists, ROUGH_PIECES)?;
         let parts = distinct_keys(rt, alloc, lists, &rough)?;
         Cuts::even_of(alloc, &parts, pieces)
     }
 
-    /// Cuts into pieces of very roughly as many updates, found among few of the keys. They only share out work: the keys
-    /// that are found are the same wherever they lie.
-    fn rough(
+    /// Cuts into no more than so many pieces of roughly as many updates, found among a few of the keys. They are found
+    /// much sooner than even ones, which ask for all keys.
+    pub fn sampled(
         rt: &(impl Threads + Sync),
         alloc: Global,
         lists: &[LogCells],
-    ) -> Result<Cuts, Memory> {
-        let keys = sample(rt, alloc, lists)?;
-        let pieces = Pieces {
-            count: ROUGH_PIECES,
-        };
+        pieces: Pieces,
+    ) -> Result<Cuts, Memory>
+        ensures { IfOk result (λ cuts. length cuts < pieces) }
+    {
+        let keys = sample(rt, alloc, lists, pieces.count())?;
         Cuts::even_of(alloc, slice::from_ref(&keys), pieces)
     }
 
