@@ -215,38 +215,41 @@ walk_of updates moved pairs same apart walk =
 abbrev IsReplayFrom : Start → List LogScan → Replayed → Type 0
 IsReplayFrom start scans replayed = IsReplayOf start.window (option_map checkpoint_in start.chosen) scans replayed
 
+-- the cells of what survives
+abbrev cells_of : Replayed → List Update
+cells_of replayed = together replayed.survivors.lists.items
+
 -- the walk of what survives is the store, and the report is that of what was found
 recovered_of : (logs parts : List (List ℕ)) (scans : List LogScan) (start : Start) (replayed : Replayed) (keys : ℕ) (outcome : Outcome) → IsStartOf logs parts scans start
-    → IsReplayFrom start scans replayed → length (together replayed.lists.items) < 2 ^ 128 → IsCount (layer_walk replayed.draft) keys
-    → IsFinishOf (layer_walk replayed.draft) (ended start.report replayed.early (length (together replayed.lists.items)) keys) outcome → IsRecoveredOf logs parts outcome
+    → IsReplayFrom start scans replayed → length (cells_of replayed) < 2 ^ 128 → IsCount (layer_walk replayed.draft) keys
+    → IsFinishOf (layer_walk replayed.draft) (ended start.report replayed.survivors.early (length (cells_of replayed)) keys) outcome → IsRecoveredOf logs parts outcome
 recovered_of logs parts scans start replayed keys outcome is of fits count finish =
     let facts = is.facts in
-    let moved = together replayed.lists.items in
+    let found = of.survivors in
+    let moved = cells_of replayed in
     let pairs = layer_walk replayed.draft in
-    let early = of.early ∙ same_early logs parts scans start is in
-    let many = same_count logs parts scans start moved is of.cells in
-    let walk : IsWalk (survivors_in facts) pairs = walk_of (survivors_in facts) moved pairs (subst (λ (us : List Update). IsPermutation us moved) (same_survivors logs parts scans start is) of.cells)
+    let early = found.early ∙ same_early logs parts scans start is in
+    let many = same_count logs parts scans start moved is found.cells in
+    let walk : IsWalk (survivors_in facts) pairs = walk_of (survivors_in facts) moved pairs (subst (λ (us : List Update). IsPermutation us moved) (same_survivors logs parts scans start is) found.cells)
     (survivors_apart facts.known facts.cutoff facts.chosen (records_of facts.readings) facts.is_chosen) of.walk in
     let keys_are : keys ≡ length pairs = omega (arith, count, fits, many, walk_few (survivors_in facts) pairs walk) in
     subst (IsRecoveredOf logs parts) (sym finish.is) (record {
       store = record { facts = facts; no_gap = is.no_gap; walk = walk };
-      report = ended_is facts pairs start.report replayed.early (length moved) keys outcome.report.layers is.found early many keys_are finish.layers;
+      report = ended_is facts pairs start.report replayed.survivors.early (length moved) keys outcome.report.layers is.found early many keys_are finish.layers;
     })
 
--- the same, where scans and cells were lent on the way
-pub recovered_from : (logs parts : List (List ℕ)) (scans lent : List LogScan) (start : Start) (replayed : Replayed) (counted : List (List Update)) (keys : ℕ) (outcome : Outcome) → lent ≡ scans
-    → counted ≡ replayed.lists.items → IsStartOf logs parts lent start → IsReplayFrom start scans replayed → length (together counted) < 2 ^ 128 → IsCount (layer_walk replayed.draft) keys
-    → IsFinishOf (layer_walk replayed.draft) (ended start.report replayed.early (length (together counted)) keys) outcome → IsRecoveredOf logs parts outcome
-recovered_from logs parts scans lent start replayed counted keys outcome same are is of fits count finish =
-    recovered_of logs parts scans start replayed keys outcome (subst (λ (x : List LogScan). IsStartOf logs parts x start) same is) of
-    (subst (λ (x : List (List Update)). length (together x) < 2 ^ 128) are fits) count
-    (subst (λ (x : List (List Update)). IsFinishOf (layer_walk replayed.draft) (ended start.report replayed.early (length (together x)) keys) outcome) are finish)
+-- the same, where scans were lent on the way
+pub recovered_from : (logs parts : List (List ℕ)) (scans lent : List LogScan) (start : Start) (replayed : Replayed) (keys : ℕ) (outcome : Outcome) → lent ≡ scans → IsStartOf logs parts lent start
+    → IsReplayFrom start scans replayed → length (cells_of replayed) < 2 ^ 128 → IsCount (layer_walk replayed.draft) keys
+    → IsFinishOf (layer_walk replayed.draft) (ended start.report replayed.survivors.early (length (cells_of replayed)) keys) outcome → IsRecoveredOf logs parts outcome
+recovered_from logs parts scans lent start replayed keys outcome same is of fits count finish =
+    recovered_of logs parts scans start replayed keys outcome (subst (λ (x : List LogScan). IsStartOf logs parts x start) same is) of fits count finish
 
 -- and what was found may be ended
-pub may_end_from : (logs parts : List (List ℕ)) (scans lent : List LogScan) (start : Start) (replayed : Replayed) (counted : List (List Update)) → lent ≡ scans → counted ≡ replayed.lists.items
-    → IsStartOf logs parts lent start → IsReplayFrom start scans replayed → MayEnd start.report replayed.early (length (together counted))
-may_end_from logs parts scans lent start replayed counted same are is of =
+pub may_end_from : (logs parts : List (List ℕ)) (scans lent : List LogScan) (start : Start) (replayed : Replayed) → lent ≡ scans → IsStartOf logs parts lent start → IsReplayFrom start scans replayed
+    → MayEnd start.report replayed.survivors.early (length (cells_of replayed))
+may_end_from logs parts scans lent start replayed same is of =
     let there = subst (λ (x : List LogScan). IsStartOf logs parts x start) same is in
-    let many = same_count logs parts scans start (together replayed.lists.items) there of.cells in
-    subst (λ (n : ℕ). MayEnd start.report n (length (together counted))) (sym (of.early ∙ same_early logs parts scans start there))
-    (subst (MayEnd start.report (length (early_in there.facts))) (sym (ap (λ (x : List (List Update)). length (together x)) are ∙ many)) (may_end there.facts start.report there.found))
+    let many = same_count logs parts scans start (cells_of replayed) there of.survivors.cells in
+    subst (λ (n : ℕ). MayEnd start.report n (length (cells_of replayed))) (sym (of.survivors.early ∙ same_early logs parts scans start there))
+    (subst (MayEnd start.report (length (early_in there.facts))) (sym many) (may_end there.facts start.report there.found))

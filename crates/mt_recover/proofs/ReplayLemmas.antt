@@ -1,8 +1,9 @@
 -- The surviving updates, scan by scan.
-use Rattle.std.proofs.Common.{◌≡◌, ◌⊎◌, inl, inr, ℕ, ◌<◌, map, Result, Ok, IfOk, Bool, true, false, List, [], ◌∷◌, ◌++◌, Contains, IsPermutation, refl, sym, ap, ◌∙◌, subst, append_assoc}
+use Rattle.std.proofs.Common.{sum_by, length, arith, ◌≡◌, ◌⊎◌, inl, inr, ℕ, ◌<◌, map, Result, Ok, IfOk, Bool, true, false, List, [], ◌∷◌, ◌++◌, Contains, IsPermutation, refl, sym, ap, ◌∙◌, subst, append_assoc}
 use Rattle.std.specs.Prelude.{cond, Option}
 use Rattle.std.specs.List.{filter, AllZip}
-use Rattle.std.proofs.lemmas.List.{flat_map_more, map-append, append-nil}
+use Rattle.std.proofs.lemmas.List.{flat_map_more, map-append}
+use Rattle.std.proofs.lemmas.List.Sums.{sum_by-cons}
 use Rattle.std.proofs.lemmas.List.Elements.{filter-append, Contains-push, Contains-append_left, Contains-append_right}
 use Rattle.std.proofs.lemmas.List.Sorted.{IsPermutation-refl, IsPermutation-append}
 use Rattle.mt_words.specs.declared.fault.Memory.{Memory}
@@ -18,7 +19,11 @@ use Rattle.mt_replay.specs.Runs.{together}
 use Rattle.mt_replay.specs.Survivors.{in_window, wholes}
 use Rattle.mt_scan.specs.Choice.{Checkpoint}
 use Rattle.mt_recover.specs.LogScans.{kept, kept_by, kept_in}
-use Rattle.mt_recover.specs.Start.{surviving}
+use Rattle.mt_recover.specs.declared.survivors.LogSurvivors.{LogSurvivors}
+use Rattle.mt_recover.specs.declared.survivors.Survivors.{Survivors}
+use Rattle.mt_recover.specs.Start.{surviving, IsLeftBy, AreBoth, AreSurvivorsOf}
+use Rattle.mt_recover.specs.Report.{is_early}
+use Rattle.mt_recover.proofs.ReportLemmas.{length-filter_flat}
 use Rattle.mt_recover.specs.Survivors.{entry_updates}
 
 -- the survivors of one more scan
@@ -50,39 +55,7 @@ together_append : (lists others : List (List Update)) → together (lists ++ oth
 together_append [] others = refl
 together_append (l ∷ ls) others = ap (λ (us : List Update). l ++ us) (together_append ls others) ∙ sym (append_assoc l (together ls) (together others))
 
--- the cells of one more scan
-pub cells_more : (window : Window) (scans : List LogScan) (scan : LogScan) (lists : List (List Update)) (cells : List Update) → IsPermutation (kept_in window scans) (together lists)
-    → IsPermutation (filter (in_window window) (kept_by scan)) cells → IsPermutation (kept_in window (scans ++ scan ∷ [])) (together (lists ++ cells ∷ []))
-cells_more window scans scan lists cells are one =
-    subst (λ (us : List Update). IsPermutation us (together (lists ++ cells ∷ []))) (sym (scan_more window scans scan))
-    (subst (IsPermutation (kept_in window scans ++ filter (in_window window) (kept_by scan))) (sym (together_more lists cells))
-    (IsPermutation-append (kept_in window scans) (together lists) (filter (in_window window) (kept_by scan)) cells are one))
-
--- the entries of one more part make its updates besides
-part_more : (parts : List KeptPart) (part : KeptPart) → wholes (entries_of (shown_by_all (parts ++ part ∷ []))) ≡ wholes (entries_of (shown_by_all parts)) ++ wholes part.entries
-part_more [] part = ap wholes (append-nil part.entries)
-part_more (p ∷ ps) part =
-    map-append (update_at origins.Checkpoint 0) p.entries (entries_of (shown_by_all (ps ++ part ∷ [])))
-    ∙ ap (λ (us : List Update). wholes p.entries ++ us) (part_more ps part)
-    ∙ sym (append_assoc (wholes p.entries) (wholes (entries_of (shown_by_all ps))) (wholes part.entries))
-    ∙ ap (λ (us : List Update). us ++ wholes part.entries) (sym (map-append (update_at origins.Checkpoint 0) p.entries (entries_of (shown_by_all ps))))
-
--- the cells of one more part
-pub part_cells_more : (parts : List KeptPart) (part : KeptPart) (lists : List (List Update)) (cells : List Update) → IsPermutation (wholes (entries_of (shown_by_all parts))) (together lists)
-    → IsPermutation (wholes part.entries) cells → IsPermutation (wholes (entries_of (shown_by_all (parts ++ part ∷ [])))) (together (lists ++ cells ∷ []))
-part_cells_more parts part lists cells are one =
-    subst (λ (us : List Update). IsPermutation us (together (lists ++ cells ∷ []))) (sym (part_more parts part))
-    (subst (IsPermutation (wholes (entries_of (shown_by_all parts)) ++ wholes part.entries)) (sym (together_more lists cells))
-    (IsPermutation-append (wholes (entries_of (shown_by_all parts))) (together lists) (wholes part.entries) cells are one))
-
--- the cells of logs and of the chosen checkpoint
-pub cells_of_both : (window : Window) (chosen : Option Checkpoint) (scans : List LogScan) (logs parts both : List (List Update)) → IsPermutation (kept_in window scans) (together logs)
-    → IsPermutation (entry_updates chosen) (together parts) → both ≡ logs ++ parts → IsPermutation (surviving window chosen scans) (together both)
-cells_of_both window chosen scans logs parts both of_logs of_parts are =
-    subst (IsPermutation (surviving window chosen scans)) (sym (ap together are ∙ together_append logs parts))
-    (IsPermutation-append (kept_in window scans) (together logs) (entry_updates chosen) (together parts) of_logs of_parts)
-
--- ---- cells that workers made
+-- ---- what is done of each
 
 -- the answer of a job of which this is to hold, by some worker
 abbrev pub IsAnswerOf : {J X : Type 0} → (J → X → Type 0) → ℕ → J → Result X Memory → Type 0
@@ -100,14 +73,39 @@ pub all_answered : {J X : Type 0} (P : J → X → Type 0) (count : ℕ) (jobs :
 all_answered P count jobs answers done all are = done_of P count jobs done (subst (AllZip (IsAnswerOf P count) jobs) are all)
 
 -- the cells of all scans
-pub cells_of_all : (window : Window) (scans : List LogScan) (lists : List (List Update)) → AllZip (λ scan cells. IsPermutation (filter (in_window window) (kept_by scan)) cells) scans lists
-    → IsPermutation (kept_in window scans) (together lists)
+cells_of_all : (window : Window) (scans : List LogScan) (logs : List LogSurvivors) → AllZip (IsLeftBy window) scans logs → IsPermutation (kept_in window scans) (together (map (λ log. log.cells) logs))
 cells_of_all window [] [] all = IsPermutation-refl []
 cells_of_all window [] (l ∷ ls) all = absurd all
 cells_of_all window (s ∷ ss) [] all = absurd all
 cells_of_all window (s ∷ ss) (l ∷ ls) all =
-    subst (λ (us : List Update). IsPermutation us (l ++ together ls)) (sym (filter-append (in_window window) (kept_by s) (kept ss)))
-    (IsPermutation-append (filter (in_window window) (kept_by s)) l (kept_in window ss) (together ls) all.0 (cells_of_all window ss ls all.1))
+    subst (λ (us : List Update). IsPermutation us (l.cells ++ together (map (λ log. log.cells) ls))) (sym (filter-append (in_window window) (kept_by s) (kept ss)))
+    (IsPermutation-append (filter (in_window window) (kept_by s)) l.cells (kept_in window ss) (together (map (λ log. log.cells) ls)) all.0.cells (cells_of_all window ss ls all.1))
+
+-- the early updates of all scans
+early_of_all : (window : Window) (scans : List LogScan) (logs : List LogSurvivors) → AllZip (IsLeftBy window) scans logs
+    → sum_by (λ log. log.early) logs ≡ sum_by (λ scan. length (filter (is_early window.begin) (kept_by scan))) scans
+early_of_all window [] [] all = refl
+early_of_all window [] (l ∷ ls) all = absurd all
+early_of_all window (s ∷ ss) [] all = absurd all
+early_of_all window (s ∷ ss) (l ∷ ls) all = omega (
+  arith,
+  sum_by-cons (λ (log : LogSurvivors). log.early) l ls,
+  sum_by-cons (λ (scan : LogScan). length (filter (is_early window.begin) (kept_by scan))) s ss,
+  all.0.early,
+  early_of_all window ss ls all.1,
+)
+
+-- what survives of logs and of the chosen checkpoint
+pub survivors_of_both : (window : Window) (chosen : Option Checkpoint) (scans : List LogScan) (logs : List LogSurvivors) (parts : List (List Update)) → AllZip (IsLeftBy window) scans logs
+    → IsPermutation (entry_updates chosen) (together parts) → (survivors : Survivors) → AreBoth logs parts survivors → AreSurvivorsOf window chosen scans survivors
+survivors_of_both window chosen scans logs parts of_logs of_parts survivors are =
+    let cells = map (λ (log : LogSurvivors). log.cells) logs in
+    record {
+      early = are.early ∙ early_of_all window scans logs of_logs ∙ sym (length-filter_flat (is_early window.begin) kept_by scans);
+      cells =
+          subst (IsPermutation (surviving window chosen scans)) (sym (ap together are.lists ∙ together_append cells parts))
+          (IsPermutation-append (kept_in window scans) (together cells) (entry_updates chosen) (together parts) (cells_of_all window scans logs of_logs) of_parts);
+    }
 
 -- the cells of all parts
 pub cells_of_all_parts : (parts : List KeptPart) (lists : List (List Update)) → AllZip (λ part cells. IsPermutation (wholes part.entries) cells) parts lists

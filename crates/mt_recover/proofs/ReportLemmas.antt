@@ -1,7 +1,7 @@
 -- What a report counts, log by log and part by part.
-use Rattle.std.proofs.Common.{◌≡◌, ◌∙◌, ℕ, suc, ◌+◌, ◌<◌, Bool, true, false, cond, Option, Some, None, List, [], ◌∷◌, ◌++◌, length, map, get_or, take, refl, sym, ap, arith}
+use Rattle.std.proofs.Common.{◌≡◌, ◌∙◌, ℕ, suc, ◌+◌, ◌<◌, Bool, true, false, cond, Option, Some, None, List, [], ◌∷◌, ◌++◌, length, get_or, take, refl, sym, ap, arith}
 use Rattle.std.specs.Prelude.{nat_lt, ◌||◌}
-use Rattle.std.specs.List.{AllZip, filter, flat_map, sum_by, count_by, list_any}
+use Rattle.std.specs.List.{filter, flat_map, sum_by, count_by, list_any}
 use Rattle.std.specs.Option.{option_map}
 use Rattle.std.proofs.lemmas.Bool.Decides.{nat_tests}
 use Rattle.std.proofs.lemmas.List.{length-append, length-map}
@@ -24,7 +24,7 @@ use Rattle.mt_scan.specs.Choice.{Checkpoint, checkpoint_in}
 use Rattle.mt_scan.specs.Checkpoints.{entries_of}
 use Rattle.mt_replay.specs.Survivors.{all_updates, wholes}
 use Rattle.mt_replay.proofs.FilterLemmas.{filter_none}
-use Rattle.mt_recover.specs.LogScans.{ShowAll, kept_by, kept}
+use Rattle.mt_recover.specs.LogScans.{ShowAll, kept}
 use Rattle.mt_recover.specs.Recovery.{AreReadings, records_of}
 use Rattle.mt_recover.specs.Report.{all_records, is_early}
 
@@ -87,30 +87,6 @@ not_below time begin zero = grind (arith, nat_tests)
 
 pub none_early : (begin : ℕ) (updates : List Update) → begin ≡ 0 → length (filter (is_early begin) updates) ≡ 0
 none_early begin updates zero = ap length (filter_none (is_early begin) updates (λ k d lt. not_below (get_or updates k d).timestamp begin zero))
-
--- counts that workers made are those of the scans
-early_sums : {J : Type 0} (begin : ℕ) (workers : ℕ) (scan_of : J → LogScan) (jobs : List J) (counts : List ℕ)
-    → AllZip (λ job count. (worker : ℕ) × (worker < workers) × (count ≡ length (filter (is_early begin) (kept_by (scan_of job))))) jobs counts
-    → sum_by (λ n. n) counts ≡ sum_by (λ scan. length (filter (is_early begin) (kept_by scan))) (map scan_of jobs)
-early_sums begin workers scan_of [] [] zip = refl
-early_sums begin workers scan_of [] (c ∷ cs) zip = absurd zip
-early_sums begin workers scan_of (j ∷ js) [] zip = absurd zip
-early_sums begin workers scan_of (j ∷ js) (c ∷ cs) zip = omega (
-  arith,
-  sum_by-cons (λ n. n) c cs,
-  sum_by-cons (λ scan. length (filter (is_early begin) (kept_by scan))) (scan_of j) (map scan_of js),
-  zip.0.2,
-  early_sums begin workers scan_of js cs zip.1,
-)
-
--- and so those of all their updates
-pub early_by_all : {J : Type 0} (begin : ℕ) (workers : ℕ) (scan_of : J → LogScan) (jobs : List J) (scans : List LogScan) (counts : List ℕ) → map scan_of jobs ≡ scans
-    → AllZip (λ job count. (worker : ℕ) × (worker < workers) × (count ≡ length (filter (is_early begin) (kept_by (scan_of job))))) jobs counts
-    → sum_by (λ n. n) counts ≡ length (filter (is_early begin) (kept scans))
-early_by_all begin workers scan_of jobs scans counts are zip =
-    early_sums begin workers scan_of jobs counts zip
-    ∙ ap (sum_by (λ scan. length (filter (is_early begin) (kept_by scan)))) are
-    ∙ sym (length-filter_flat (is_early begin) kept_by scans)
 
 -- ---- scans and what their logs say
 

@@ -68,6 +68,13 @@ zip_last R [] job (x ∷ y ∷ ys) zip = absurd zip.1
 zip_last R (j ∷ js) job [] zip = absurd zip
 zip_last R (j ∷ js) job (x ∷ xs) zip = let r = zip_last R js job xs zip.1 in (x ∷ r.0, r.1, ap (λ l. x ∷ l) r.2, (zip.0, r.3), r.4)
 
+-- pairs and one more
+pub zip_push : {A B : Type 0} (Q : A → B → Type 0) (xs : List A) (ys : List B) (x : A) (y : B) → AllZip Q xs ys → Q x y → AllZip Q (xs ++ x ∷ []) (ys ++ y ∷ [])
+zip_push Q [] [] x y all one = (one, tt)
+zip_push Q [] (b ∷ bs) x y all one = absurd all
+zip_push Q (a ∷ rest) [] x y all one = absurd all
+zip_push Q (a ∷ rest) (b ∷ bs) x y all one = (all.0, zip_push Q rest bs x y all.1 one)
+
 pub zip_at : {A B : Type 0} (Q : A → B → Type 0) (xs : List A) (ys : List B) (k : ℕ) (x : A) → AllZip Q xs ys → slice_get xs k ≡ Some x → (y : B) × (slice_get ys k ≡ Some y) × Q x y
 zip_at Q [] ys k x zip at = absurd cc
 zip_at Q (a ∷ us) [] k x zip at = absurd zip

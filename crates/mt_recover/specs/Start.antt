@@ -1,5 +1,5 @@
 -- From where recovery starts: what is replayed, and over which checkpoint.
-use Rattle.std.specs.Prelude.{◌≡◌, ℕ, ◌+◌, ◌-◌, ◌≤◌, Option, List, ◌++◌, length, filter, IsPermutation}
+use Rattle.std.specs.Prelude.{◌≡◌, ℕ, ◌+◌, ◌-◌, ◌≤◌, Option, List, ◌++◌, length, map, filter, sum_by, IsPermutation}
 use Rattle.std.specs.Option.{option_map}
 use Rattle.mt_words.specs.declared.update.Update.{Update}
 use Rattle.mt_scan.specs.declared.log_scan.LogScan.{LogScan}
@@ -16,7 +16,10 @@ use Rattle.mt_tree.specs.Borders.{layer_walk}
 use Rattle.mt_tree.specs.Layers.{CountsLayers}
 use Rattle.mt_recover.specs.declared.report.Report.{Report}
 use Rattle.mt_recover.specs.declared.replayed.Replayed.{Replayed}
-use Rattle.mt_recover.specs.LogScans.{ShowAll, kept, kept_in}
+use Rattle.mt_recover.specs.declared.survivors.Survivors.{Survivors}
+use Rattle.mt_recover.specs.declared.survivors.LogSurvivors.{LogSurvivors}
+use Rattle.mt_replay.specs.Survivors.{in_window}
+use Rattle.mt_recover.specs.LogScans.{ShowAll, kept, kept_by, kept_in}
 
 -- the start of recovery from logs and parts, of which the scans of the logs are these
 pub record IsStartOf (logs parts : List (List ℕ)) (scans : List LogScan) (start : Start) : Type 0 where
@@ -51,9 +54,23 @@ pub record IsFinishOf (pairs : List Pair) (report : Report) (outcome : Outcome) 
 abbrev pub surviving : Window → Option Checkpoint → List LogScan → List Update
 surviving window chosen scans = kept_in window scans ++ entry_updates chosen
 
+-- the cells of what survives of a scan, and how many of its updates come early
+pub record IsLeftBy (window : Window) (scan : LogScan) (log : LogSurvivors) : Type 0 where
+  pub early : log.early ≡ length (filter (is_early window.begin) (kept_by scan))
+  pub cells : IsPermutation (filter (in_window window) (kept_by scan)) log.cells
+
+-- those of logs and the cells of parts, together
+pub record AreBoth (logs : List LogSurvivors) (parts : List (List Update)) (survivors : Survivors) : Type 0 where
+  pub early : survivors.early ≡ sum_by (λ log. log.early) logs
+  pub lists : survivors.lists.items ≡ map (λ log. log.cells) logs ++ parts
+
+-- what survives of all scans and of the chosen checkpoint, and how many updates come early
+pub record AreSurvivorsOf (window : Window) (chosen : Option Checkpoint) (scans : List LogScan) (survivors : Survivors) : Type 0 where
+  pub early : survivors.early ≡ length (filter (is_early window.begin) (kept scans))
+  pub cells : IsPermutation (surviving window chosen scans) (together survivors.lists.items)
+
 -- what replaying the scans over the chosen checkpoint gives
 pub record IsReplayOf (window : Window) (chosen : Option Checkpoint) (scans : List LogScan) (replayed : Replayed) : Type 0 where
-  pub early : replayed.early ≡ length (filter (is_early window.begin) (kept scans))
-  pub cells : IsPermutation (surviving window chosen scans) (together replayed.lists.items)
+  pub survivors : AreSurvivorsOf window chosen scans replayed.survivors
   pub map : IsMap (layer_walk replayed.draft)
-  pub walk : AreApart (together replayed.lists.items) → IsWalk (together replayed.lists.items) (layer_walk replayed.draft)
+  pub walk : AreApart (together replayed.survivors.lists.items) → IsWalk (together replayed.survivors.lists.items) (layer_walk replayed.draft)

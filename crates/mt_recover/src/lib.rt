@@ -2,9 +2,7 @@
 #![tactic(auto)]
 
 mod by_workers;
-mod cells;
 mod dump;
-mod early;
 mod laws;
 mod pieces;
 mod program;
@@ -16,6 +14,7 @@ mod report_text;
 mod scan_all;
 mod start;
 mod store;
+mod survivors;
 mod workers;
 
 pub use dump::{write_dump, write_pair};

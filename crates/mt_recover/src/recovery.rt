@@ -166,12 +166,8 @@ pub(crate) fn recover_scans<
         chosen,
         report,
     } = Start::of(alloc, &logs, parts)?;
-    let Replayed {
-        early,
-        lists,
-        draft,
-    } = replay(alloc, logs, window, chosen)?;
-    let report = report.ended(early, &lists, draft.len());
-    drop(lists);
+    let Replayed { survivors, draft } = replay(alloc, logs, window, chosen)?;
+    let report = report.ended(&survivors, draft.len());
+    drop(survivors);
     Ok(Recovered::finish(draft, report)?)
 }

@@ -4,9 +4,8 @@ ghost use Rattle.std.specs.Option.{option_map};
 ghost use Rattle.mt_scan.specs.Choice.{checkpoint_in};
 ghost use Rattle.mt_recover.specs.Start.{IsReplayOf};
 
-use crate::cells::{cells_by, cells_of};
-use crate::early::{early_count, early_count_by};
 use crate::pieces::{replay_all, replay_pieces};
+use crate::survivors::{Survivors, survivors_by, survivors_of};
 use crate::{Cutting, Gate, Workers};
 use mt_replay::{Cuts, LogCells, Window};
 use mt_scan::{Checkpoint, LogScan};
@@ -18,10 +17,8 @@ use std::thread::Threads;
 /// What became of the updates of scans and of the entries of a checkpoint.
 #[derive(Drop)]
 pub(crate) struct Replayed {
-    /// How many updates lie below the window.
-    pub early: u128,
-    /// The cells of what survives.
-    pub lists: Vec<LogCells>,
+    /// What survives of them.
+    pub survivors: Survivors,
     /// The draft of their walk.
     pub draft: Draft,
 }
@@ -35,14 +32,9 @@ pub(crate) fn replay_one(
 ) -> Result<Replayed, Memory>
     ensures { IfOk result (IsReplayOf window (option_map checkpoint_in chosen) scans.items) }
 {
-    let early = early_count(&scans, window.begin);
-    let lists = cells_of(alloc, scans, window, chosen)?;
-    let draft = replay_all(alloc, &lists)?;
-    Ok(Replayed {
-        early,
-        lists,
-        draft,
-    })
+    let survivors = survivors_of(alloc, scans, window, chosen)?;
+    let draft = replay_all(alloc, &survivors.lists)?;
+    Ok(Replayed { survivors, draft })
 }
 
 /// The same, by so many workers and with the keys cut so.
@@ -58,15 +50,10 @@ pub(crate) fn replay_by<R: Threads + Sync, G: Gate>(
 ) -> Result<Replayed, Memory>
     ensures { IfOk result (IsReplayOf window (option_map checkpoint_in chosen) scans.items) }
 {
-    let early = early_count_by(rt, alloc, &scans, window.begin, workers)?;
-    let lists = cells_by(rt, alloc, scans, window, chosen, workers)?;
-    let cuts = cuts_of(rt, alloc, &lists, cutting)?;
-    let draft = replay_pieces(rt, alloc, &lists, &cuts, workers, gate)?;
-    Ok(Replayed {
-        early,
-        lists,
-        draft,
-    })
+    let survivors = survivors_by(rt, alloc, scans, window, chosen, workers)?;
+    let cuts = cuts_of(rt, alloc, &survivors.lists, cutting)?;
+    let draft = replay_pieces(rt, alloc, &survivors.lists, &cuts, workers, gate)?;
+    Ok(Replayed { survivors, draft })
 }
 
 /// Where the keys of these cells are cut.

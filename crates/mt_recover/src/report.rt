@@ -10,6 +10,7 @@ ghost use Rattle.mt_recover.specs.Start.{MayEnd, ended};
 ghost use Rattle.mt_recover.specs.Report.{IsFoundIn};
 ghost use Rattle.mt_recover.specs.Survivors.{begin_of, entry_updates};
 
+use crate::survivors::Survivors;
 use mt_replay::{LogCells, Window};
 use mt_scan::{Checkpoint, Choice, LogScan};
 
@@ -89,19 +90,18 @@ impl Report {
         (report, chosen)
     }
 
-    /// The report where so many updates are early, the cells have these, and the store so many keys. What is neither
-    /// early nor survives is late.
-    pub(crate) fn ended(self, early: u128, lists: &[LogCells], keys: u128) -> Report
-        requires { MayEnd self early (length (together lists.now)) }
-        ensures value { result ≡ ended self early (length (together lists.now)) keys }
-        ensures fits { length (together lists.now) < 2 ^ 128 }
+    /// The report where this survives, and the store has so many keys. What is neither early nor survives is late.
+    pub(crate) fn ended(self, found: &Survivors, keys: u128) -> Report
+        requires { MayEnd self found.now.early (length (together found.now.lists.items)) }
+        ensures value { result ≡ ended self found.now.early (length (together found.now.lists.items)) keys }
+        ensures fits { length (together found.now.lists.items) < 2 ^ 128 }
     {
-        let survivors = survivor_count(lists);
+        let survivors = survivor_count(&found.lists);
         let updates = self.records - self.marks;
-        let late = updates - early - (survivors - self.entries);
+        let late = updates - found.early - (survivors - self.entries);
         Report {
             survivors,
-            early,
+            early: found.early,
             late,
             keys,
             ..self

@@ -1,4 +1,4 @@
-//! Scans of all logs and checkpoint parts, by threads.
+//! Scans of all logs and checkpoint parts, on one thread or by workers.
 ghost use Rattle.std.specs.Prelude.{◌≡◌, ◌⊎◌, ◌<◌, [], ◌∷◌, ◌++◌, List, length, IfOk, IfErr, OnOk};
 ghost use Rattle.std.specs.List.{AllZip};
 ghost use Rattle.mt_words.specs.declared.fault.Fault.TheVariants as faults;

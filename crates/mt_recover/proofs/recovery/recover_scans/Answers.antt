@@ -16,12 +16,12 @@ ended-report-requires g c =
     let logs = c.requires.scanned in
     let parts = c.requires.known in
     let start = c.in_ok-window.ensures.start logs.0 parts.0 (subst (AreScansOf logs.0) (sym c.deref.ensures.value) logs.1) parts.1 in
-    may_end_from logs.0 parts.0 c.args.scans.logs.items c.deref.result.now c.in_ok-window.field-0 c.in_ok-early.field-0 c.deref-2.result.now c.deref.ensures.value c.deref-2.ensures.value start
-    (c.requires.replayed c.in_ok-window.field-0.window c.in_ok-window.field-0.chosen (Ok c.in_ok-early.field-0) c.in_ok-early.ensures)
+    may_end_from logs.0 parts.0 c.args.scans.logs.items c.deref.result.now c.in_ok-window.field-0 c.in_ok-survivors.field-0 c.deref.ensures.value start
+    (c.requires.replayed c.in_ok-window.field-0.window c.in_ok-window.field-0.chosen (Ok c.in_ok-survivors.field-0) c.in_ok-survivors.ensures)
 
 pub returns-clause-recovered : goal.returns-clause-recovered
 returns-clause-recovered g c = λ logs bytes are know.
     let start = c.in_ok-window.ensures.start logs bytes (subst (AreScansOf logs) (sym c.deref.ensures.value) are) know in
-    recovered_from logs bytes c.args.scans.logs.items c.deref.result.now c.in_ok-window.field-0 c.in_ok-early.field-0 c.deref-2.result.now c.len.result c.in_ok-finish.field-0 c.deref.ensures.value c.deref-2.ensures.value start
-    (c.requires.replayed c.in_ok-window.field-0.window c.in_ok-window.field-0.chosen (Ok c.in_ok-early.field-0) c.in_ok-early.ensures) c.ended-report.ensures.fits c.len.ensures
-    (subst (λ report. IsFinishOf (layer_walk c.in_ok-early.field-0.draft) report c.in_ok-finish.field-0) c.ended-report.ensures.value c.in_ok-finish.ensures)
+    recovered_from logs bytes c.args.scans.logs.items c.deref.result.now c.in_ok-window.field-0 c.in_ok-survivors.field-0 c.len.result c.in_ok-finish.field-0 c.deref.ensures.value start
+    (c.requires.replayed c.in_ok-window.field-0.window c.in_ok-window.field-0.chosen (Ok c.in_ok-survivors.field-0) c.in_ok-survivors.ensures) c.ended-report.ensures.fits c.len.ensures
+    (subst (λ report. IsFinishOf (layer_walk c.in_ok-survivors.field-0.draft) report c.in_ok-finish.field-0) c.ended-report.ensures.value c.in_ok-finish.ensures)

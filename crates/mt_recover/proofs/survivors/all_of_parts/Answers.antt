@@ -1,4 +1,5 @@
 use Rattle.std.proofs.Common.{◌≡◌, ◌∙◌, ◌++◌, ◌∷◌, [], List, IsPermutation, sym, subst}
+use Rattle.std.specs.List.{AllZip}
 use Rattle.std.proofs.lemmas.List.{map-id}
 use Rattle.std.proofs.lemmas.Iterator.Consumers.{YieldsList-end}
 use Rattle.std.proofs.lemmas.Iterator.Adapters.{YieldsList-from_vec}
@@ -7,13 +8,14 @@ use Rattle.mt_scan.specs.PartScans.{KeptPart, shown_by_all}
 use Rattle.mt_scan.specs.Checkpoints.{entries_of}
 use Rattle.mt_replay.specs.Runs.{together}
 use Rattle.mt_replay.specs.Survivors.{wholes}
-use Rattle.mt_recover.proofs.ReplayLemmas.{part_cells_more}
-use Rattle.mt_recover.proofs.cells.cells_of_parts.Goals as goal
+use Rattle.mt_recover.proofs.ReplayLemmas.{cells_of_all_parts}
+use Rattle.mt_recover.proofs.SharingLemmas.{zip_push}
+use Rattle.mt_recover.proofs.survivors.all_of_parts.Goals as goal
 
 pub loop-part-preserved : goal.loop-part-preserved
 loop-part-preserved c =
-    subst (λ (lists : List (List Update)). IsPermutation (wholes (entries_of (shown_by_all (c.loop-part.yielded ++ c.in-Some-part.part ∷ [])))) (together lists)) (sym c.in_ok-push.ensures.items)
-    (part_cells_more c.loop-part.yielded c.in-Some-part.part c.loop-part.lists.items c.in_ok-of_entries.field-0 c.loop-part.invariant c.in_ok-of_entries.ensures)
+    subst (AllZip (λ (part : KeptPart) (cells : List Update). IsPermutation (wholes part.entries) cells) (c.loop-part.yielded ++ c.in-Some-part.part ∷ [])) (sym c.in_ok-push.ensures.items)
+    (zip_push _ c.loop-part.yielded c.loop-part.lists.items c.in-Some-part.part c.in_ok-of_entries.field-0 c.loop-part.invariant c.in_ok-of_entries.ensures)
 
 pub returns : goal.returns
 returns c =
@@ -21,4 +23,5 @@ returns c =
     let g = c.into_iter-part-iterator.ensures.into_iter_gives in
     let seen = YieldsList-end (YieldsList-from_vec {s = c.into_iter-part-iterator.result} parts.items g.0 (g.1 ∙ parts.ok.0)) c.loop-part.yielded c.loop-part.part-iterator c.loop-part.yielded_by c.next.result c.next.new.self c.in-None.is c.next.ensures.steps in
     let all : c.loop-part.yielded ≡ parts.items = sym (map-id c.loop-part.yielded) ∙ seen.0 in
-    rw c.in-Some.is (subst (λ (x : List KeptPart). IsPermutation (wholes (entries_of (shown_by_all x))) (together c.loop-part.lists.items)) all c.loop-part.invariant)
+    rw c.in-Some.is (subst (λ (x : List KeptPart). IsPermutation (wholes (entries_of (shown_by_all x))) (together c.loop-part.lists.items)) all
+    (cells_of_all_parts c.loop-part.yielded c.loop-part.lists.items c.loop-part.invariant))

@@ -2,7 +2,7 @@ use Rattle.std.proofs.Common.{◌≡◌, ◌≤◌, length, take}
 use Rattle.std.specs.List.{filter}
 use Rattle.mt_words.specs.Updates.{updates_from}
 use Rattle.mt_recover.specs.Report.{is_early}
-use Rattle.mt_recover.proofs.early.early_among.Given as goal
+use Rattle.mt_recover.proofs.survivors.early_among.Given as goal
 
 -- those of the first records
 abbrev pub invariant-loop-number : goal.invariant-loop-number

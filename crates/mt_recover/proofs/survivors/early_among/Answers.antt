@@ -1,8 +1,11 @@
-use Rattle.std.proofs.Common.{◌≡◌, ◌+◌, ap, arith}
-use Rattle.mt_record.specs.Kept.{listed}
-use Rattle.mt_recover.proofs.ReportLemmas.{early_step, early_one, one_if}
-use Rattle.mt_recover.proofs.early.early_among.Goals as goal
-use Rattle.mt_recover.proofs.early.early_among.Goals.{then-comes_early, else-comes_early}
+use Rattle.std.proofs.Common.{◌≡◌, ◌+◌, sym, ap, arith}
+use Rattle.mt_record.specs.Kept.{kept_updates, listed}
+use Rattle.mt_recover.proofs.ReportLemmas.{none_early, early_step, early_one, one_if}
+use Rattle.mt_recover.proofs.survivors.early_among.Goals as goal
+use Rattle.mt_recover.proofs.survivors.early_among.Goals.{then-comes_early, else-comes_early}
+
+pub returns-then-begin-eq0 : goal.returns-then-begin-eq0
+returns-then-begin-eq0 c = sym (none_early c.args.begin (kept_updates c.args.updates.now) c.if-begin-eq0.true)
 
 pub loop-number-preserved : goal.loop-number-preserved
 loop-number-preserved c =

@@ -6,7 +6,7 @@ use Rattle.mt_scan.specs.Checkpoints.{entries_of}
 use Rattle.mt_replay.specs.Runs.{together}
 use Rattle.mt_replay.specs.Survivors.{wholes}
 use Rattle.mt_recover.proofs.ReplayLemmas.{all_answered, cells_of_all_parts}
-use Rattle.mt_recover.proofs.cells.cells_of_parts_by.Goals as goal
+use Rattle.mt_recover.proofs.survivors.all_of_parts_by.Goals as goal
 
 pub returns : goal.returns
 returns g c =
