@@ -26,6 +26,7 @@ use Rattle.mt_recover.specs.Report.{IsFoundIn, IsRecoveredOf, is_early}
 use Rattle.mt_recover.specs.declared.report.Report.{Report}
 use Rattle.mt_recover.specs.Verdict.{IsFirst, IsVerdict}
 use Rattle.mt_recover.specs.declared.start.Start.{Start}
+use Rattle.mt_recover.specs.declared.replayed.Replay.{Replay}
 use Rattle.mt_recover.specs.declared.replayed.Replayed.{Replayed}
 use Rattle.mt_recover.specs.LogScans.{ShowAll, AreScansOf, kept}
 use Rattle.mt_recover.specs.Start.{IsStartOf, IsReplayOf, surviving}
@@ -173,28 +174,27 @@ start_of logs parts scans known cutoff begin choice report chosen are know is of
 
 -- ---- what is recovered
 
--- what survives of the scans, from this start on
-abbrev surviving_from : Start → List LogScan → List Update
-surviving_from start scans = surviving start.window (option_map checkpoint_in start.chosen) scans
+-- the start from which this was replayed, with this report
+abbrev start_with : Replay → Report → Start
+start_with replay report = record { window = replay.window; chosen = replay.chosen; report = report }
 
--- it is what survives of the logs and of the chosen checkpoint
-same_survivors : (logs parts : List (List ℕ)) (scans : List LogScan) (start : Start) (is : IsStartOf logs parts scans start)
-    → surviving_from start scans ≡ survivors_in is.facts
-same_survivors logs parts scans start is =
-    let updates = same_updates 0 scans is.facts.readings is.show in
+-- what survives is what survives of the logs and of the chosen checkpoint
+same_survivors : (logs parts : List (List ℕ)) (replay : Replay) (report : Report) (is : IsStartOf logs parts replay.scans.items (start_with replay report))
+    → surviving replay ≡ survivors_in is.facts
+same_survivors logs parts replay report is =
+    let updates = same_updates 0 replay.scans.items is.facts.readings is.show in
     λ i. filter (in_window (is.window i)) (updates i) ++ entry_updates (is.chosen i)
 
 -- there are as many cells
-same_count : (logs parts : List (List ℕ)) (scans : List LogScan) (start : Start) (moved : List Update) (is : IsStartOf logs parts scans start)
-    → IsPermutation (surviving_from start scans) moved → length moved ≡ length (survivors_in is.facts)
-same_count logs parts scans start moved is same =
-    length_permutation (surviving_from start scans) moved same ∙ ap length (same_survivors logs parts scans start is)
+same_count : (logs parts : List (List ℕ)) (replay : Replay) (report : Report) (moved : List Update) (is : IsStartOf logs parts replay.scans.items (start_with replay report))
+    → IsPermutation (surviving replay) moved → length moved ≡ length (survivors_in is.facts)
+same_count logs parts replay report moved is same = length_permutation (surviving replay) moved same ∙ ap length (same_survivors logs parts replay report is)
 
 -- and as many early updates
-same_early : (logs parts : List (List ℕ)) (scans : List LogScan) (start : Start) (is : IsStartOf logs parts scans start)
-    → length (filter (is_early start.window.begin) (kept scans)) ≡ length (early_in is.facts)
-same_early logs parts scans start is =
-    let updates = same_updates 0 scans is.facts.readings is.show in
+same_early : (logs parts : List (List ℕ)) (replay : Replay) (report : Report) (is : IsStartOf logs parts replay.scans.items (start_with replay report))
+    → length (filter (is_early replay.window.begin) (kept replay.scans.items)) ≡ length (early_in is.facts)
+same_early logs parts replay report is =
+    let updates = same_updates 0 replay.scans.items is.facts.readings is.show in
     λ i. length (filter (is_early (is.window i).begin) (updates i))
 
 -- the walk of updates in another order
@@ -211,45 +211,41 @@ walk_of updates moved pairs same apart walk =
       );
     }
 
--- what is replayed from this start on
-abbrev IsReplayFrom : Start → List LogScan → Replayed → Type 0
-IsReplayFrom start scans replayed = IsReplayOf start.window (option_map checkpoint_in start.chosen) scans replayed
-
 -- the cells of what survives
 abbrev cells_of : Replayed → List Update
 cells_of replayed = together replayed.survivors.lists.items
 
 -- the walk of what survives is the store, and the report is that of what was found
-recovered_of : (logs parts : List (List ℕ)) (scans : List LogScan) (start : Start) (replayed : Replayed) (keys : ℕ) (outcome : Outcome) → IsStartOf logs parts scans start
-    → IsReplayFrom start scans replayed → length (cells_of replayed) < 2 ^ 128 → IsCount (layer_walk replayed.draft) keys
-    → IsFinishOf (layer_walk replayed.draft) (ended start.report replayed.survivors.early (length (cells_of replayed)) keys) outcome → IsRecoveredOf logs parts outcome
-recovered_of logs parts scans start replayed keys outcome is of fits count finish =
+recovered_of : (logs parts : List (List ℕ)) (replay : Replay) (report : Report) (replayed : Replayed) (keys : ℕ) (outcome : Outcome) → IsStartOf logs parts replay.scans.items (start_with replay report)
+    → IsReplayOf replay replayed → length (cells_of replayed) < 2 ^ 128 → IsCount (layer_walk replayed.draft) keys
+    → IsFinishOf (layer_walk replayed.draft) (ended report replayed.survivors.early (length (cells_of replayed)) keys) outcome → IsRecoveredOf logs parts outcome
+recovered_of logs parts replay report replayed keys outcome is of fits count finish =
     let facts = is.facts in
     let found = of.survivors in
     let moved = cells_of replayed in
     let pairs = layer_walk replayed.draft in
-    let early = found.early ∙ same_early logs parts scans start is in
-    let many = same_count logs parts scans start moved is found.cells in
-    let walk : IsWalk (survivors_in facts) pairs = walk_of (survivors_in facts) moved pairs (subst (λ (us : List Update). IsPermutation us moved) (same_survivors logs parts scans start is) found.cells)
+    let early = found.early ∙ same_early logs parts replay report is in
+    let many = same_count logs parts replay report moved is found.cells in
+    let walk : IsWalk (survivors_in facts) pairs = walk_of (survivors_in facts) moved pairs (subst (λ (us : List Update). IsPermutation us moved) (same_survivors logs parts replay report is) found.cells)
     (survivors_apart facts.known facts.cutoff facts.chosen (records_of facts.readings) facts.is_chosen) of.walk in
     let keys_are : keys ≡ length pairs = omega (arith, count, fits, many, walk_few (survivors_in facts) pairs walk) in
     subst (IsRecoveredOf logs parts) (sym finish.is) (record {
       store = record { facts = facts; no_gap = is.no_gap; walk = walk };
-      report = ended_is facts pairs start.report replayed.survivors.early (length moved) keys outcome.report.layers is.found early many keys_are finish.layers;
+      report = ended_is facts pairs report replayed.survivors.early (length moved) keys outcome.report.layers is.found early many keys_are finish.layers;
     })
 
 -- the same, where scans were lent on the way
-pub recovered_from : (logs parts : List (List ℕ)) (scans lent : List LogScan) (start : Start) (replayed : Replayed) (keys : ℕ) (outcome : Outcome) → lent ≡ scans → IsStartOf logs parts lent start
-    → IsReplayFrom start scans replayed → length (cells_of replayed) < 2 ^ 128 → IsCount (layer_walk replayed.draft) keys
-    → IsFinishOf (layer_walk replayed.draft) (ended start.report replayed.survivors.early (length (cells_of replayed)) keys) outcome → IsRecoveredOf logs parts outcome
-recovered_from logs parts scans lent start replayed keys outcome same is of fits count finish =
-    recovered_of logs parts scans start replayed keys outcome (subst (λ (x : List LogScan). IsStartOf logs parts x start) same is) of fits count finish
+pub recovered_from : (logs parts : List (List ℕ)) (lent : List LogScan) (replay : Replay) (report : Report) (replayed : Replayed) (keys : ℕ) (outcome : Outcome) → lent ≡ replay.scans.items
+    → IsStartOf logs parts lent (start_with replay report) → IsReplayOf replay replayed → length (cells_of replayed) < 2 ^ 128 → IsCount (layer_walk replayed.draft) keys
+    → IsFinishOf (layer_walk replayed.draft) (ended report replayed.survivors.early (length (cells_of replayed)) keys) outcome → IsRecoveredOf logs parts outcome
+recovered_from logs parts lent replay report replayed keys outcome same is of fits count finish =
+    recovered_of logs parts replay report replayed keys outcome (subst (λ (x : List LogScan). IsStartOf logs parts x (start_with replay report)) same is) of fits count finish
 
 -- and what was found may be ended
-pub may_end_from : (logs parts : List (List ℕ)) (scans lent : List LogScan) (start : Start) (replayed : Replayed) → lent ≡ scans → IsStartOf logs parts lent start → IsReplayFrom start scans replayed
-    → MayEnd start.report replayed.survivors.early (length (cells_of replayed))
-may_end_from logs parts scans lent start replayed same is of =
-    let there = subst (λ (x : List LogScan). IsStartOf logs parts x start) same is in
-    let many = same_count logs parts scans start (cells_of replayed) there of.survivors.cells in
-    subst (λ (n : ℕ). MayEnd start.report n (length (cells_of replayed))) (sym (of.survivors.early ∙ same_early logs parts scans start there))
-    (subst (MayEnd start.report (length (early_in there.facts))) (sym many) (may_end there.facts start.report there.found))
+pub may_end_from : (logs parts : List (List ℕ)) (lent : List LogScan) (replay : Replay) (report : Report) (replayed : Replayed) → lent ≡ replay.scans.items → IsStartOf logs parts lent (start_with replay report)
+    → IsReplayOf replay replayed → MayEnd report replayed.survivors.early (length (cells_of replayed))
+may_end_from logs parts lent replay report replayed same is of =
+    let there = subst (λ (x : List LogScan). IsStartOf logs parts x (start_with replay report)) same is in
+    let many = same_count logs parts replay report (cells_of replayed) there of.survivors.cells in
+    subst (λ (n : ℕ). MayEnd report n (length (cells_of replayed))) (sym (of.survivors.early ∙ same_early logs parts replay report there))
+    (subst (MayEnd report (length (early_in there.facts))) (sym many) (may_end there.facts report there.found))

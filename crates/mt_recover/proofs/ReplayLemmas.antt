@@ -1,6 +1,6 @@
 -- The surviving updates, scan by scan.
 use Rattle.std.proofs.Common.{sum_by, length, arith, ◌≡◌, ◌⊎◌, inl, inr, ℕ, ◌<◌, map, Result, Ok, IfOk, Bool, true, false, List, [], ◌∷◌, ◌++◌, Contains, IsPermutation, refl, sym, ap, ◌∙◌, subst, append_assoc}
-use Rattle.std.specs.Prelude.{cond, Option}
+use Rattle.std.specs.Prelude.{cond}
 use Rattle.std.specs.List.{filter, AllZip}
 use Rattle.std.proofs.lemmas.List.{flat_map_more, map-append}
 use Rattle.std.proofs.lemmas.List.Sums.{sum_by-cons}
@@ -17,8 +17,10 @@ use Rattle.mt_words.proofs.Elements.{no_element, head_or_tail}
 use Rattle.mt_replay.specs.declared.window.Window.{Window}
 use Rattle.mt_replay.specs.Runs.{together}
 use Rattle.mt_replay.specs.Survivors.{in_window, wholes}
-use Rattle.mt_scan.specs.Choice.{Checkpoint}
 use Rattle.mt_recover.specs.LogScans.{kept, kept_by, kept_in}
+use Rattle.std.specs.Option.{option_map}
+use Rattle.mt_scan.specs.Choice.{checkpoint_in}
+use Rattle.mt_recover.specs.declared.replayed.Replay.{Replay}
 use Rattle.mt_recover.specs.declared.survivors.LogSurvivors.{LogSurvivors}
 use Rattle.mt_recover.specs.declared.survivors.Survivors.{Survivors}
 use Rattle.mt_recover.specs.Start.{surviving, IsLeftBy, AreBoth, AreSurvivorsOf}
@@ -96,15 +98,17 @@ early_of_all window (s ∷ ss) (l ∷ ls) all = omega (
 )
 
 -- what survives of logs and of the chosen checkpoint
-pub survivors_of_both : (window : Window) (chosen : Option Checkpoint) (scans : List LogScan) (logs : List LogSurvivors) (parts : List (List Update)) → AllZip (IsLeftBy window) scans logs
-    → IsPermutation (entry_updates chosen) (together parts) → (survivors : Survivors) → AreBoth logs parts survivors → AreSurvivorsOf window chosen scans survivors
-survivors_of_both window chosen scans logs parts of_logs of_parts survivors are =
+pub survivors_of_both : (replay : Replay) (logs : List LogSurvivors) (parts : List (List Update)) → AllZip (IsLeftBy replay.window) replay.scans.items logs
+    → IsPermutation (entry_updates (option_map checkpoint_in replay.chosen)) (together parts) → (survivors : Survivors) → AreBoth logs parts survivors → AreSurvivorsOf replay survivors
+survivors_of_both replay logs parts of_logs of_parts survivors are =
+    let window = replay.window in
+    let scans = replay.scans.items in
     let cells = map (λ (log : LogSurvivors). log.cells) logs in
     record {
       early = are.early ∙ early_of_all window scans logs of_logs ∙ sym (length-filter_flat (is_early window.begin) kept_by scans);
       cells =
-          subst (IsPermutation (surviving window chosen scans)) (sym (ap together are.lists ∙ together_append cells parts))
-          (IsPermutation-append (kept_in window scans) (together cells) (entry_updates chosen) (together parts) (cells_of_all window scans logs of_logs) of_parts);
+          subst (IsPermutation (surviving replay)) (sym (ap together are.lists ∙ together_append cells parts))
+          (IsPermutation-append (kept_in window scans) (together cells) (entry_updates (option_map checkpoint_in replay.chosen)) (together parts) (cells_of_all window scans logs of_logs) of_parts);
     }
 
 -- the cells of all parts

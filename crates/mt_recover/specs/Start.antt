@@ -1,9 +1,9 @@
 -- From where recovery starts: what is replayed, and over which checkpoint.
-use Rattle.std.specs.Prelude.{◌≡◌, ℕ, ◌+◌, ◌-◌, ◌≤◌, Option, List, ◌++◌, length, map, filter, sum_by, IsPermutation}
+use Rattle.std.specs.Prelude.{◌≡◌, ℕ, ◌+◌, ◌-◌, ◌≤◌, List, ◌++◌, length, map, filter, sum_by, IsPermutation}
 use Rattle.std.specs.Option.{option_map}
 use Rattle.mt_words.specs.declared.update.Update.{Update}
 use Rattle.mt_scan.specs.declared.log_scan.LogScan.{LogScan}
-use Rattle.mt_scan.specs.Choice.{Checkpoint, checkpoint_in}
+use Rattle.mt_scan.specs.Choice.{checkpoint_in}
 use Rattle.mt_replay.specs.declared.window.Window.{Window}
 use Rattle.mt_recover.specs.declared.start.Start.{Start}
 use Rattle.mt_recover.specs.Survivors.{begin_of, entry_updates}
@@ -15,6 +15,7 @@ use Rattle.mt_replay.specs.Walk.{IsWalk, AreApart}
 use Rattle.mt_tree.specs.Borders.{layer_walk}
 use Rattle.mt_tree.specs.Layers.{CountsLayers}
 use Rattle.mt_recover.specs.declared.report.Report.{Report}
+use Rattle.mt_recover.specs.declared.replayed.Replay.{Replay}
 use Rattle.mt_recover.specs.declared.replayed.Replayed.{Replayed}
 use Rattle.mt_recover.specs.declared.survivors.Survivors.{Survivors}
 use Rattle.mt_recover.specs.declared.survivors.LogSurvivors.{LogSurvivors}
@@ -51,8 +52,8 @@ pub record IsFinishOf (pairs : List Pair) (report : Report) (outcome : Outcome) 
   pub layers : CountsLayers pairs outcome.report.layers
 
 -- what survives of the scans, and all that the chosen checkpoint has
-abbrev pub surviving : Window → Option Checkpoint → List LogScan → List Update
-surviving window chosen scans = kept_in window scans ++ entry_updates chosen
+abbrev pub surviving : Replay → List Update
+surviving replay = kept_in replay.window replay.scans.items ++ entry_updates (option_map checkpoint_in replay.chosen)
 
 -- the cells of what survives of a scan, and how many of its updates come early
 pub record IsLeftBy (window : Window) (scan : LogScan) (log : LogSurvivors) : Type 0 where
@@ -65,12 +66,12 @@ pub record AreBoth (logs : List LogSurvivors) (parts : List (List Update)) (surv
   pub lists : survivors.lists.items ≡ map (λ log. log.cells) logs ++ parts
 
 -- what survives of all scans and of the chosen checkpoint, and how many updates come early
-pub record AreSurvivorsOf (window : Window) (chosen : Option Checkpoint) (scans : List LogScan) (survivors : Survivors) : Type 0 where
-  pub early : survivors.early ≡ length (filter (is_early window.begin) (kept scans))
-  pub cells : IsPermutation (surviving window chosen scans) (together survivors.lists.items)
+pub record AreSurvivorsOf (replay : Replay) (survivors : Survivors) : Type 0 where
+  pub early : survivors.early ≡ length (filter (is_early replay.window.begin) (kept replay.scans.items))
+  pub cells : IsPermutation (surviving replay) (together survivors.lists.items)
 
 -- what replaying the scans over the chosen checkpoint gives
-pub record IsReplayOf (window : Window) (chosen : Option Checkpoint) (scans : List LogScan) (replayed : Replayed) : Type 0 where
-  pub survivors : AreSurvivorsOf window chosen scans replayed.survivors
+pub record IsReplayOf (replay : Replay) (replayed : Replayed) : Type 0 where
+  pub survivors : AreSurvivorsOf replay replayed.survivors
   pub map : IsMap (layer_walk replayed.draft)
   pub walk : AreApart (together replayed.survivors.lists.items) → IsWalk (together replayed.survivors.lists.items) (layer_walk replayed.draft)

@@ -1,15 +1,12 @@
 //! Recovery from sources, on one thread or by workers, and from logs in memory.
 ghost use Rattle.std.specs.Prelude.{◌≡◌, [], List, ℕ, map, Option, Result, IfOk, IfErr};
-ghost use Rattle.std.specs.Option.{option_map};
 ghost use Rattle.std.specs.Thread.{IsSync};
 ghost use Rattle.mt_words.specs.declared.fault.Memory.{Memory as MemoryValue};
 ghost use Rattle.mt_words.specs.Walks.{IsMap};
-ghost use Rattle.mt_scan.specs.declared.checkpoint.Checkpoint.{Checkpoint as CheckpointValue};
-ghost use Rattle.mt_scan.specs.Choice.{checkpoint_in};
 ghost use Rattle.mt_scan.specs.PartScans.{known_by};
-ghost use Rattle.mt_replay.specs.declared.window.Window.{Window as WindowValue};
 ghost use Rattle.mt_tree.specs.Borders.{layer_walk};
 ghost use Rattle.mt_recover.specs.LogScans.{AreScansOf};
+ghost use Rattle.mt_recover.specs.declared.replayed.Replay.{Replay as ReplayValue};
 ghost use Rattle.mt_recover.specs.declared.replayed.Replayed.{Replayed as ReplayedValue};
 ghost use Rattle.mt_recover.specs.Start.{IsReplayOf, IsFinishOf};
 ghost use Rattle.mt_recover.specs.Recovery.{AreKnown};
@@ -18,14 +15,13 @@ ghost use Rattle.mt_recover.specs.Verdict.{IsVerdictOrMemory};
 ghost use Rattle.mt_recover.specs.Inputs.{IsRecoveryFrom};
 
 use crate::read_logs::read_logs;
-use crate::replayed::{Replayed, replay_by, replay_one};
+use crate::replayed::{Replay, Replayed, replay_by, replay_one};
 use crate::report::Report;
 use crate::scan_all::{Scans, scan_all, scan_one};
 use crate::start::Start;
 use crate::store::Store;
 use crate::workers::{Cutting, Gate, Workers};
-use mt_replay::Window;
-use mt_scan::{Checkpoint, LogScan, Source};
+use mt_scan::Source;
 use mt_tree::Draft;
 use mt_words::{Fault, Memory};
 use std::alloc::Global;
@@ -122,13 +118,10 @@ pub fn recover<R: Threads + Sync, S: Source + Send, G: Gate>(
     recover_scans(
         alloc,
         scans,
-        |alloc: Global, scans: Vec<LogScan>, window: Window, chosen: Option<Checkpoint>| -> Result<
-            Replayed,
-            Memory,
-        >
+        |alloc: Global, replay: Replay| -> Result<Replayed, Memory>
             requires { IsSync R.row }
-            ensures { IfOk result (IsReplayOf window (option_map checkpoint_in chosen) scans.items) }
-        { replay_by(rt, alloc, scans, window, chosen, workers, cutting, gate) },
+            ensures { IfOk result (IsReplayOf replay) }
+        { replay_by(rt, alloc, replay, workers, cutting, gate) },
     )
 }
 
@@ -146,15 +139,17 @@ pub fn recover_logs(alloc: Global, logs: &[&[u8]]) -> Result<Recovered, Fault>
 }
 
 /// The store of the logs and parts whose scans are these, each in the order of their numbers, and its report, where
-/// this replays the scans. An Err is `NoLogs`, the least log with a gap, or `Memory`.
-pub(crate) fn recover_scans<
-    F: FnOnce(Global, Vec<LogScan>, Window, Option<Checkpoint>) -> Result<Replayed, Memory> + Drop,
->(alloc: Global, scans: Scans, replay: F) -> Result<Recovered, Fault>
+/// this is done to replay. An Err is `NoLogs`, the least log with a gap, or `Memory`.
+pub(crate) fn recover_scans<F: FnOnce(Global, Replay) -> Result<Replayed, Memory> + Drop>(
+    alloc: Global,
+    scans: Scans,
+    replays: F,
+) -> Result<Recovered, Fault>
     requires scanned { (logs : List (List ℕ)) × AreScansOf logs scans.logs.items }
     requires known { (part_bytes : List (List ℕ)) × AreKnown part_bytes (map known_by scans.parts.items) }
-    requires replays { (window : WindowValue) (chosen : Option CheckpointValue) → F.pre replay alloc scans.logs window chosen }
-    requires replayed { (window : WindowValue) (chosen : Option CheckpointValue) (answer : Result ReplayedValue MemoryValue) →
-        F.post replay alloc scans.logs window chosen answer → IfOk answer (IsReplayOf window (option_map checkpoint_in chosen) scans.logs.items) }
+    requires replays { (replay : ReplayValue) → F.pre replays alloc replay }
+    requires replayed { (replay : ReplayValue) (answer : Result ReplayedValue MemoryValue) →
+        F.post replays alloc replay answer → IfOk answer (IsReplayOf replay) }
     ensures recovered { (logs part_bytes : List (List ℕ)) → AreScansOf logs scans.logs.items →
         AreKnown part_bytes (map known_by scans.parts.items) → IfOk result (IsRecoveredOf logs part_bytes) }
     ensures fault { (logs part_bytes : List (List ℕ)) → AreScansOf logs scans.logs.items →
@@ -166,7 +161,12 @@ pub(crate) fn recover_scans<
         chosen,
         report,
     } = Start::of(alloc, &logs, parts)?;
-    let Replayed { survivors, draft } = replay(alloc, logs, window, chosen)?;
+    let replay = Replay {
+        scans: logs,
+        window,
+        chosen,
+    };
+    let Replayed { survivors, draft } = replays(alloc, replay)?;
     let report = report.ended(&survivors, draft.len());
     drop(survivors);
     Ok(Recovered::finish(draft, report)?)

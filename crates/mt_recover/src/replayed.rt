@@ -1,7 +1,5 @@
 //! What the scans give once they are replayed, on one thread or by workers.
 ghost use Rattle.std.specs.Prelude.{IfOk};
-ghost use Rattle.std.specs.Option.{option_map};
-ghost use Rattle.mt_scan.specs.Choice.{checkpoint_in};
 ghost use Rattle.mt_recover.specs.Start.{IsReplayOf};
 
 use crate::pieces::{replay_all, replay_pieces};
@@ -14,7 +12,18 @@ use mt_words::Memory;
 use std::alloc::Global;
 use std::thread::Threads;
 
-/// What became of the updates of scans and of the entries of a checkpoint.
+/// What is replayed: the updates of the logs that lie in the window, over the checkpoint.
+#[derive(Drop)]
+pub(crate) struct Replay {
+    /// Those of the logs.
+    pub scans: Vec<LogScan>,
+    /// The timestamps at which their updates survive.
+    pub window: Window,
+    /// None where there is none.
+    pub chosen: Option<Checkpoint>,
+}
+
+/// What became of it.
 #[derive(Drop)]
 pub(crate) struct Replayed {
     /// What survives of them.
@@ -23,16 +32,11 @@ pub(crate) struct Replayed {
     pub draft: Draft,
 }
 
-/// Replays the scans over the checkpoint, on one thread.
-pub(crate) fn replay_one(
-    alloc: Global,
-    scans: Vec<LogScan>,
-    window: Window,
-    chosen: Option<Checkpoint>,
-) -> Result<Replayed, Memory>
-    ensures { IfOk result (IsReplayOf window (option_map checkpoint_in chosen) scans.items) }
+/// Replays on one thread.
+pub(crate) fn replay_one(alloc: Global, replay: Replay) -> Result<Replayed, Memory>
+    ensures { IfOk result (IsReplayOf replay) }
 {
-    let survivors = survivors_of(alloc, scans, window, chosen)?;
+    let survivors = survivors_of(alloc, replay)?;
     let draft = replay_all(alloc, &survivors.lists)?;
     Ok(Replayed { survivors, draft })
 }
@@ -41,16 +45,14 @@ pub(crate) fn replay_one(
 pub(crate) fn replay_by<R: Threads + Sync, G: Gate>(
     rt: &R,
     alloc: Global,
-    scans: Vec<LogScan>,
-    window: Window,
-    chosen: Option<Checkpoint>,
+    replay: Replay,
     workers: Workers,
     cutting: Cutting,
     gate: &G,
 ) -> Result<Replayed, Memory>
-    ensures { IfOk result (IsReplayOf window (option_map checkpoint_in chosen) scans.items) }
+    ensures { IfOk result (IsReplayOf replay) }
 {
-    let survivors = survivors_by(rt, alloc, scans, window, chosen, workers)?;
+    let survivors = survivors_by(rt, alloc, replay, workers)?;
     let cuts = cuts_of(rt, alloc, &survivors.lists, cutting)?;
     let draft = replay_pieces(rt, alloc, &survivors.lists, &cuts, workers, gate)?;
     Ok(Replayed { survivors, draft })

@@ -12,6 +12,7 @@ ghost use Rattle.mt_recover.specs.Survivors.{entry_updates};
 
 use crate::Workers;
 use crate::by_workers::{all_done, by_workers};
+use crate::replayed::Replay;
 use crate::report::total;
 use mt_record::{KeptEntries, Lent, PartText, Updates};
 use mt_replay::{LogCells, Window};
@@ -73,16 +74,11 @@ fn comes_early(update: Option<Lent<'_>>, begin: u64) -> bool
 }
 
 /// What survives of the scans and of the checkpoint, on one thread.
-pub(crate) fn survivors_of(
-    alloc: Global,
-    scans: Vec<LogScan>,
-    window: Window,
-    chosen: Option<Checkpoint>,
-) -> Result<Survivors, Memory>
-    ensures { IfOk result (AreSurvivorsOf window (option_map checkpoint_in chosen) scans.items) }
+pub(crate) fn survivors_of(alloc: Global, replay: Replay) -> Result<Survivors, Memory>
+    ensures { IfOk result (AreSurvivorsOf replay) }
 {
-    let logs = all_of_logs(alloc, scans, window)?;
-    let parts = all_of_parts(alloc, chosen)?;
+    let logs = all_of_logs(alloc, replay.scans, replay.window)?;
+    let parts = all_of_parts(alloc, replay.chosen)?;
     both(alloc, logs, parts)
 }
 
@@ -90,15 +86,13 @@ pub(crate) fn survivors_of(
 pub(crate) fn survivors_by<R: Threads + Sync>(
     rt: &R,
     alloc: Global,
-    scans: Vec<LogScan>,
-    window: Window,
-    chosen: Option<Checkpoint>,
+    replay: Replay,
     workers: Workers,
 ) -> Result<Survivors, Memory>
-    ensures { IfOk result (AreSurvivorsOf window (option_map checkpoint_in chosen) scans.items) }
+    ensures { IfOk result (AreSurvivorsOf replay) }
 {
-    let logs = all_of_logs_by(rt, alloc, scans, window, workers)?;
-    let parts = all_of_parts_by(rt, alloc, chosen, workers)?;
+    let logs = all_of_logs_by(rt, alloc, replay.scans, replay.window, workers)?;
+    let parts = all_of_parts_by(rt, alloc, replay.chosen, workers)?;
     both(alloc, logs, parts)
 }
 

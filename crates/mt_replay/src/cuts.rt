@@ -79,15 +79,6 @@ impl Pieces {
         }
         Some(Pieces { count })
     }
-
-    /// How many there are.
-    pub(crate) fn count(self) -> u32
-        ensures value { result ≡ self }
-        ensures some { 0 < result }
-        ensures most { result ≤ 4096 }
-    {
-        self.count
-    }
 }
 
 impl Cuts {
@@ -160,7 +151,7 @@ impl Cuts {
     ) -> Result<Cuts, Memory>
         ensures { IfOk result (λ cuts. length cuts < pieces) }
     {
-        let keys = sample(rt, alloc, lists, pieces.count())?;
+        let keys = sample(rt, alloc, lists, pieces.count)?;
         Cuts::even_of(alloc, slice::from_ref(&keys), pieces)
     }
 

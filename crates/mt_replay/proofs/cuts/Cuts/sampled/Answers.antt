@@ -1,8 +1,8 @@
-use Rattle.std.proofs.Common.{length, ap, ◌∙◌, arith}
+use Rattle.std.proofs.Common.{arith}
 use Rattle.std.proofs.lemmas.Result.{IfOk-weaker}
 use Rattle.mt_replay.specs.Runs.{keys_of}
 use Rattle.mt_replay.proofs.EvenLemmas.{even_at_most}
 use Rattle.mt_replay.proofs.cuts.Cuts.sampled.Goals as goal
 
 pub returns : goal.returns
-returns g c = IfOk-weaker c.even_of.result _ _ (even_at_most (keys_of c.from_ref.result.now) c.args.pieces (omega (arith, c.count.ensures.value, c.count.ensures.some))) c.even_of.ensures
+returns g c = IfOk-weaker c.even_of.result _ _ (even_at_most (keys_of c.from_ref.result.now) c.args.pieces (omega arith)) c.even_of.ensures
