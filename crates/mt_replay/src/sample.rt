@@ -10,11 +10,10 @@ use rayon::prelude::*;
 use std::alloc::Global;
 use std::thread::Threads;
 
-/// How many keys of each list are in the sample for one piece at the most, so that no piece gets much more than its
-/// share.
-const KEYS_OF_PIECE: usize = 4;
+/// How many keys are in the sample for each piece, or about so many: enough that none gets much more than its share.
+const KEYS_OF_PIECE: usize = 16;
 
-/// Keys at equal distances in each list, each once, in order: some for each of so many pieces.
+/// Keys at equal distances in the lists, each once, in order: some for each of so many pieces.
 pub(crate) fn sample<'a>(
     rt: &(impl Threads + Sync),
     alloc: Global,
@@ -25,31 +24,48 @@ pub(crate) fn sample<'a>(
     ensures rising { IfOk result (λ keys. AreRising (map (λ key. key.now) keys.items)) }
     ensures lawful { IfOk result (λ keys. All (IsKey widest) (map (λ key. key.now) keys.items)) }
 {
-    let mut keys = some_keys(alloc, lists, KEYS_OF_PIECE * pieces as usize)?;
+    let distance = distance_for(lists, KEYS_OF_PIECE * pieces as usize);
+    let mut keys = some_keys(alloc, lists, distance)?;
     par_sort_unstable(rt, &mut keys);
     keys.dedup();
     Ok(keys)
 }
 
-/// At most so many keys of each list, at equal distances.
-fn some_keys(alloc: Global, lists: &[LogCells], most: usize) -> Result<Vec<&[u8]>, Memory>
+/// The distance at which no more than so many keys are taken. It is the same for all lists, so that a long one has more
+/// of the keys than a short one.
+fn distance_for(lists: &[LogCells], most: usize) -> usize
     requires { 0 < most }
+    ensures { 0 < result }
+{
+    let mut updates = 0usize;
+    for cells in lists {
+        updates = updates.saturating_add(cells.len());
+    }
+    updates.div_ceil(most).max(1)
+}
+
+/// Keys at this distance in each list.
+fn some_keys(alloc: Global, lists: &[LogCells], distance: usize) -> Result<Vec<&[u8]>, Memory>
+    requires { 0 < distance }
     ensures { IfOk result (λ keys. All (IsKey widest) (map (λ key. key.now) keys.items)) }
 {
     let mut keys = Vec::new(alloc);
     for cells in lists {
-        add_some(&mut keys, cells, most)?;
+        add_some(&mut keys, cells, distance)?;
     }
     Ok(keys)
 }
 
-/// Adds at most so many keys, at equal distances, each from the middle of those that it stands for.
-fn add_some<'a>(keys: &mut Vec<&'a [u8]>, cells: &'a LogCells, most: usize) -> Result<(), Memory>
-    requires { 0 < most }
+/// Adds keys at this distance, each from the middle of those that it stands for.
+fn add_some<'a>(
+    keys: &mut Vec<&'a [u8]>,
+    cells: &'a LogCells,
+    distance: usize,
+) -> Result<(), Memory>
+    requires { 0 < distance }
     ensures { OnOk result (All (IsKey widest) (map (λ key. key.now) keys.old.items) →
         All (IsKey widest) (map (λ key. key.now) keys.new.items)) }
 {
-    let distance = cells.len().div_ceil(most).max(1);
     for number in 0..cells.len() / distance {
         keys.push(cells.get(number * distance + distance / 2).key())?;
     }
