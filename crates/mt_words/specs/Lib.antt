@@ -5,3 +5,4 @@ pub mod Stamps
 pub mod Updates
 pub mod Walks
 pub mod Slices
+pub mod Storages

@@ -161,9 +161,7 @@ impl Columns<Kept> {
         ensures { IfOk result (λ columns. columns ≡ []) }
     {
         Ok(Columns {
-            storage: Kept {
-                columns: Vec::with_capacity(alloc, count)?,
-            },
+            storage: Kept::with_capacity(alloc, count)?,
         })
     }
 
@@ -173,8 +171,7 @@ impl Columns<Kept> {
         ensures ok { OnOk result (self.new ≡ self.old ++ (number, bytes.items) ∷ []) }
         ensures err { OnErr result (self.new ≡ self.old) }
     {
-        self.storage.columns.push(Column { number, bytes })?;
-        Ok(())
+        self.storage.push(Column { number, bytes })
     }
 }
 

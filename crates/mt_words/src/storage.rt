@@ -1,11 +1,14 @@
 //! Where columns lie.
-ghost use Rattle.std.specs.Prelude.{◌≡◌, IfOk};
+ghost use Rattle.std.specs.Prelude.{◌≡◌, ◌++◌, [], ◌∷◌, IfOk, OnOk, OnErr};
+ghost use Rattle.mt_words.specs.Storages.{columns_of};
 
 use crate::columns::Column;
 use crate::fault::Memory;
 use crate::limits::MOST_COLUMNS;
 use arrayvec::ArrayVec;
 use std::alloc::Global;
+use std::default::MadeWith;
+use std::{mem, slice};
 
 /// Where columns lie.
 pub trait Storage: Sized + Drop {
@@ -38,14 +41,14 @@ impl Drop for Inline {
 impl Inline {
     /// The same columns, kept.
     pub(crate) fn keep(self, alloc: Global) -> Result<Kept, Memory>
-        ensures { IfOk result (λ kept. kept.columns.items ≡ self.columns.items) }
+        ensures { IfOk result (λ kept. columns_of kept ≡ self.columns.items) }
     {
-        let mut kept = Vec::with_capacity(alloc, self.columns.len())?;
+        let mut kept = Kept::with_capacity(alloc, self.columns.len())?;
         let Inline { columns } = self;
         for column in columns {
             kept.push(column)?;
         }
-        Ok(Kept { columns: kept })
+        Ok(kept)
     }
 }
 
@@ -66,34 +69,88 @@ impl Storage for Inline {
     }
 }
 
-/// In a list that has room for the columns that there are: so much smaller where they are few and are to stay.
+/// One column in place, or a list that has room for the columns that there are: so much smaller where they are few and
+/// are to stay. Where there is one column, it takes no memory but that of its bytes.
 #[derive(Debug)]
-pub struct Kept {
-    pub(crate) columns: Vec<Column>,
+pub enum Kept {
+    One(Column),
+    Many(Vec<Column>),
 }
 
 /// In words, as that of `Columns` is.
 impl Drop for Kept {
     fn drop(self) {
-        let Kept { columns: _ } = self;
+        match self {
+            Kept::One(_) => {}
+            Kept::Many(_) => {}
+        }
+    }
+}
+
+impl Kept {
+    /// No column, with room for so many, where one needs no list.
+    pub(crate) fn with_capacity(alloc: Global, count: usize) -> Result<Kept, Memory>
+        ensures { IfOk result (λ kept. columns_of kept ≡ []) }
+    {
+        let room = if count == 1 { 0 } else { count };
+        Ok(Kept::Many(Vec::with_capacity(alloc, room)?))
+    }
+
+    /// Adds a column behind the others: the first in place, where no list has room for it. Where memory was refused,
+    /// nothing has changed.
+    pub(crate) fn push(&mut self, column: Column) -> Result<(), Memory>
+        ensures ok { OnOk result (columns_of self.new ≡ columns_of self.old ++ column ∷ []) }
+        ensures err { OnErr result (columns_of self.new ≡ columns_of self.old) }
+    {
+        match self {
+            Kept::One(first) => *self = Kept::Many(list_of(first, column)?),
+            Kept::Many(columns) if columns.capacity() == 0 => *self = Kept::One(column),
+            Kept::Many(columns) => columns.push(column)?,
+        }
+        Ok(())
     }
 }
 
 impl Storage for Kept {
-    ghost held = { λ kept. kept.columns.items };
+    ghost use Rattle.mt_words.specs.Storages.{columns_of};
+
+    ghost held = { columns_of };
 
     fn as_slice(&self) -> &[Column] {
-        &self.columns
+        match self {
+            Kept::One(column) => slice::from_ref(column),
+            Kept::Many(columns) => columns,
+        }
     }
 
     fn try_copy(&self) -> Result<Kept, Memory> {
-        let alloc = *self.columns.allocator();
-        let mut columns = Vec::with_capacity(alloc, self.columns.len())?;
-        for column in &self.columns {
-            columns.push(copy_of(alloc, column)?)?;
+        match self {
+            Kept::One(column) => Ok(Kept::One(copy_of(*column.bytes.allocator(), column)?)),
+            Kept::Many(columns) => Ok(Kept::Many(copies_of(*columns.allocator(), columns)?)),
         }
-        Ok(Kept { columns })
     }
+}
+
+/// A list of equal columns, with just their room.
+fn copies_of(alloc: Global, columns: &[Column]) -> Result<Vec<Column>, Memory>
+    ensures { IfOk result (λ copies. copies.items ≡ columns.now) }
+{
+    let mut copies = Vec::with_capacity(alloc, columns.len())?;
+    for column in columns {
+        copies.push(copy_of(alloc, column)?)?;
+    }
+    Ok(copies)
+}
+
+/// The first column, which is taken out of its place, and one behind it. Where memory was refused, nothing has changed.
+fn list_of(first: &mut Column, column: Column) -> Result<Vec<Column>, Memory>
+    ensures ok { IfOk result (λ list. list.items ≡ first.old ∷ column ∷ []) }
+    ensures err { OnErr result (first.new ≡ first.old) }
+{
+    let alloc = *column.bytes.allocator();
+    let mut list = Vec::from_array(alloc, [Column::made_with(alloc), column])?;
+    mem::swap(first, &mut list[0]);
+    Ok(list)
 }
 
 /// An equal column.

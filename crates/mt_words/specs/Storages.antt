@@ -1,0 +1,8 @@
+-- What contracts see of kept columns.
+use Rattle.std.specs.Prelude.{ℕ, List, [], ◌∷◌}
+use Rattle.mt_words.specs.declared.storage.Kept.{Kept}
+use Rattle.mt_words.specs.declared.storage.Kept.TheVariants.{One, Many}
+
+abbrev pub columns_of : Kept → List (ℕ × List ℕ)
+columns_of (One column) = column ∷ []
+columns_of (Many columns) = columns.items
