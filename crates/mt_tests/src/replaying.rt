@@ -22,21 +22,29 @@ fn a_cell_has_what_its_update_leaves(rt: HostRuntime) {
     assert_same(&rt, &columns.get(0), &Some(b"3".as_slice()));
 }
 
-/// How many keys each of so many even pieces of a log has.
-fn even_sizes<R: Abort + AllocGlobal + Threads + Sync>(
-    rt: &R,
-    log: &[u8],
-    pieces: u32,
-) -> Vec<usize> {
+/// The cells of a log.
+fn cells_of<R: Abort + AllocGlobal>(rt: &R, log: &[u8]) -> LogCells {
     let window = Window {
         begin: 0,
         cutoff: 9,
     };
-    let cells = LogCells::of(rt.alloc(), updates_of(rt, log), window).expect(rt, "memory");
-    let lists = [cells];
+    LogCells::of(rt.alloc(), updates_of(rt, log), window).expect(rt, "memory")
+}
+
+/// Fails where so many pieces of a log have not so many keys each, those that a sample cuts too.
+fn assert_sizes<R: Abort + AllocGlobal + Threads + Sync>(
+    rt: &R,
+    log: &[u8],
+    pieces: u32,
+    expected: &[usize],
+) {
+    let lists = [cells_of(rt, log)];
     let pieces = Pieces::new(pieces).expect(rt, "pieces");
-    let cuts = Cuts::even(rt, rt.alloc(), &lists, pieces).expect(rt, "memory");
-    sizes_of(rt, &lists, &cuts)
+    let even = Cuts::even(rt, rt.alloc(), &lists, pieces).expect(rt, "memory");
+    assert_same(rt, &sizes_of(rt, &lists, &even).as_slice(), &expected);
+    // So few keys are all in the sample.
+    let sampled = Cuts::sampled(rt, rt.alloc(), &lists, pieces).expect(rt, "memory");
+    assert_same(rt, &sizes_of(rt, &lists, &sampled).as_slice(), &expected);
 }
 
 /// How many keys each piece has.
@@ -50,10 +58,9 @@ fn sizes_of<R: Abort + AllocGlobal>(rt: &R, lists: &[LogCells], cuts: &Cuts) -> 
 }
 
 #[test]
-fn even_pieces_have_about_as_many_keys(rt: HostRuntime) {
+fn pieces_have_about_as_many_keys(rt: HostRuntime) {
     for (log, pieces, expected) in EVEN {
-        let sizes = even_sizes(&rt, log, *pieces);
-        assert_same(&rt, &sizes.as_slice(), expected);
+        assert_sizes(&rt, log, *pieces, expected);
     }
 }
 
