@@ -1,5 +1,5 @@
 -- Bytes are a part or have one fault, and what shows a fault.
-use Rattle.std.proofs.Common.{◌≡◌, ◌≢◌, ◌⊎◌, inl, inr, ◌∙◌, ℕ, ◌+◌, ◌<◌, ◌≤◌, ◌^◌, Option, Some, None, List, [], ◌∷◌, ◌++◌, length, refl, sym, ap, subst, arith}
+use Rattle.std.proofs.Common.{◌≡◌, ◌≢◌, ◌⊎◌, inl, inr, ◌∙◌, ℕ, ◌+◌, ◌<◌, ◌≤◌, ◌^◌, Option, Some, None, List, [], ◌∷◌, ◌++◌, length, refl, sym, ap, subst, append_assoc, arith}
 use Rattle.std.proofs.lemmas.List.{length-append, append-nil}
 use Rattle.std.specs.List.{flat_map}
 use Rattle.byteorder.specs.Endian.{big_bytes}
@@ -14,13 +14,14 @@ use Rattle.mt_record.specs.declared.part_text.PartFault.TheVariants as faults
 use Rattle.mt_record.specs.Spelling.{change_bytes}
 use Rattle.mt_record.specs.Parts.{part_head_bytes, IsPartHead, entry_spelling, footer_bytes, IsEntryLength, IsPart, PartReading, IsPartReading}
 use Rattle.mt_record.specs.PartFaults.{HasNoPartHeader, HasNoEntry, BeginsPart, IsBroken, IsPartFault, IsPartAnswered}
-use Rattle.mt_record.specs.Fronts.{IsCutFront}
-use Rattle.mt_record.specs.PartFeeding.{ShowsNoPart, IsPartShown, ShowsNoPartFault, IsCutItem, PartSoFar, ReadsUpTo, IsPartLeft}
+use Rattle.mt_record.specs.Fronts.{ShowsNone, IsCutFront}
+use Rattle.mt_record.specs.MoreBytes.{spelled_on}
+use Rattle.mt_record.specs.Feeding.{HasRead, HoldsAll, HasShown}
+use Rattle.mt_record.specs.PartFeeding.{ShowsNoPart, IsPartShown, ShowsNoPartFault, IsCutItem, PartSoFar, ReadsEntries, ReadsBy, HoldsPart, IsLeftBy, IsPartLeft, IsFaultyBy, IsPartFaulty}
 use Rattle.mt_record.proofs.Unique.{same_split, same_number, framed_apart}
 use Rattle.mt_record.proofs.Entries.{entry_length, short_entry}
 use Rattle.mt_record.proofs.OnePart.{length_no_entry, footer_no_entry, same_beginning, part_begins}
 use Rattle.mt_record.proofs.Beginnings.{cut_none}
-use Rattle.mt_record.proofs.PartItems.{reads_at}
 
 -- ---- what stands at the front of a rest
 
@@ -205,34 +206,81 @@ part_shows_none bytes head entries end is faults.Header h = h.0 head _ is.is_hea
 part_shows_none bytes head entries end is (faults.Broken number count) h = (shown_answered (faults.Broken number count) bytes h).2 (reading_of head entries end) (head.format, is)
 part_shows_none bytes head entries end is faults.Memory h = h
 
+-- what is spelled behind a header, and then the rest, begins a part
+begins_by : (head : PartHead) (entries : List Change) (text rest : List ℕ) → HasRead (ReadsEntries head entries) text rest → BeginsPart text head entries rest
+begins_by head entries text rest reads = record {
+  spelled = reads.joins ∙ ap (λ (x : List ℕ). x ++ rest) reads.read.spelled ∙ append_assoc (part_head_bytes head) (flat_map entry_spelling entries) rest;
+  is_head = reads.read.is_head;
+  lawful = reads.read.lawful;
+}
+
+-- bytes of which nothing was read are what is left
+unread : (end : Option ℕ) (entries : List Change) (text rest : List ℕ) → HasRead (ReadsBy None end entries) text rest → rest ≡ text
+unread end entries text rest reads = sym (reads.joins ∙ ap (λ (x : List ℕ). x ++ rest) reads.read.empty)
+
+-- what was read, and what is left, show no fault
+order_shows_none : (o : Option PartHead) (e : Option ℕ) (entries : List Change) (text left : List ℕ) → HasRead (ReadsBy o e entries) text left → IsLeftBy o e left → ShowsNoPartFault text
+order_shows_none None e entries text left reads cut = subst ShowsNoPartFault (unread e entries text left reads) (cut_shows_none left cut)
+order_shows_none (Some head) None entries text left reads cut = begun_shows_none text head entries left (begins_by head entries text left reads) cut
+order_shows_none (Some head) (Some end) entries text left reads none =
+    let all = reads.joins ∙ ap (λ (x : List ℕ). reads.front ++ x) none ∙ append-nil reads.front in
+    part_shows_none text head entries end (subst (λ (x : List ℕ). IsPart x head entries end) (sym all) reads.read)
+
+-- what follows what was read shows the fault
+faulty_shown : (o : Option PartHead) (e : Option ℕ) (entries : List Change) (fault : PartFault) (text rest : List ℕ) → HasRead (ReadsBy o e entries) text rest
+    → IsFaultyBy o e (length entries) fault rest → IsPartShown text fault
+faulty_shown None e entries faults.Header text rest reads h = subst (ShowsNone IsPartHead part_head_bytes) (unread e entries text rest reads) h
+faulty_shown None e entries (faults.Broken number count) text rest reads h = absurd h
+faulty_shown None e entries faults.Memory text rest reads h = tt
+faulty_shown (Some head) e entries faults.Header text rest reads h = absurd h
+faulty_shown (Some head) None entries (faults.Broken number count) text rest reads (named, counted, shown) = (
+  record { head = head; entries = entries; rest = rest; begins = begins_by head entries text rest reads; named = named; counted = counted },
+  subst (λ (n : ℕ). ShowsNoPart (limits_of head.format) n rest) (sym counted) shown,
+)
+faulty_shown (Some head) (Some end) entries (faults.Broken number count) text [] reads (named, counted, some) = absurd (omega (arith, some))
+faulty_shown (Some head) (Some end) entries (faults.Broken number count) text (byte ∷ more) reads (named, counted, some) =
+    let footer = footer_bytes end (length entries) in
+    let begins = part_begins reads.front head entries end reads.read in
+    let spelled = reads.joins ∙ spelled_on (part_head_bytes head) (flat_map entry_spelling entries) reads.front footer (byte ∷ more) begins.spelled in (
+      record {
+        head = head;
+        entries = entries;
+        rest = footer ++ byte ∷ more;
+        begins = record { spelled = spelled; is_head = begins.is_head; lawful = begins.lawful };
+        named = named;
+        counted = counted;
+      },
+      inr (inr (inr (end, byte, more, ap (λ (n : ℕ). footer_bytes end n ++ byte ∷ more) (sym counted)))),
+    )
+faulty_shown (Some head) e entries faults.Memory text rest reads h = tt
+
+-- ---- feeds
+
 -- a feed in good order shows no fault
-pub order_shows_none : (o : Option PartHead) (e : Option ℕ) (entries : List Change) (bytes held : List ℕ) → ReadsUpTo (record { head = o; entries = entries; end = e }) bytes held
-    → IsPartLeft (record { head = o; entries = entries; end = e }) held → ShowsNoPartFault bytes
-order_shows_none None e entries bytes held reads left = subst ShowsNoPartFault (sym reads.all) (cut_shows_none held left)
-order_shows_none (Some head) None entries bytes held reads left = begun_shows_none bytes head entries held reads left
-order_shows_none (Some head) (Some end) entries bytes held reads left =
-    let all = reads.joins ∙ ap (λ (x : List ℕ). reads.part ++ x) left ∙ append-nil reads.part in
-    part_shows_none bytes head entries end (subst (λ (x : List ℕ). IsPart x head entries end) (sym all) reads.is_part)
+pub fed_shows_none : (s : PartSoFar) (held text : List ℕ) → HoldsAll HoldsPart IsPartLeft s held text → ShowsNoPartFault text
+fed_shows_none s held text (read, left) = order_shows_none s.head s.end s.entries text held read left
+
+-- the fault of a feed that failed is shown
+pub fed_shows : (s : PartSoFar) (fault : PartFault) (text : List ℕ) → HasShown HoldsPart IsPartFaulty s fault text → IsPartShown text fault
+fed_shows s fault text (rest, read, shown) = faulty_shown s.head s.end s.entries fault text rest read shown
 
 -- ---- the end
 
 -- without a footer it is broken
-pub no_footer_read : (s : PartSoFar) (bytes left : List ℕ) (head : PartHead) → s.head ≡ Some head → s.end ≡ None → ReadsUpTo s bytes left → IsPartLeft s left
-    → IsBroken bytes head.number (length s.entries)
-no_footer_read s bytes left head some none reads rest =
-    let begins = reads_at s (Some head) None bytes left some none reads in
-    let cut = subst (λ (p : Option PartHead × Option ℕ). IsPartLeft (record s { head = p.0; end = p.1 }) left) (λ i. (some i, none i)) rest in (
-      record { head = head; entries = s.entries; rest = left; begins = begins; named = refl; counted = refl },
+pub no_footer_read : (o : Option PartHead) (e : Option ℕ) (entries : List Change) (text left : List ℕ) (head : PartHead) → o ≡ Some head → e ≡ None → HasRead (ReadsBy o e entries) text left
+    → IsLeftBy o e left → IsBroken text head.number (length entries)
+no_footer_read o e entries text left head some none read rest =
+    let begins = begins_by head entries text left (subst (λ (p : Option PartHead × Option ℕ). HasRead (ReadsBy p.0 p.1 entries) text left) (λ i. (some i, none i)) read) in
+    let cut = subst (λ (p : Option PartHead × Option ℕ). IsLeftBy p.0 p.1 left) (λ i. (some i, none i)) rest in (
+      record { head = head; entries = entries; rest = left; begins = begins; named = refl; counted = refl },
       left_no_entry head.format left cut,
-      left_no_part bytes head s.entries left begins cut,
+      left_no_part text head entries left begins cut,
     )
 
 -- without a header it has none
-pub no_head_read : (s : PartSoFar) (bytes left : List ℕ) → s.head ≡ None → ReadsUpTo s bytes left → IsPartLeft s left → HasNoPartHeader bytes
-no_head_read s bytes left none reads rest =
-    let nothing = reads_at s None s.end bytes left none refl reads in
-    let cut = subst (λ (o : Option PartHead). IsPartLeft (record s { head = o }) left) none rest in
-    subst HasNoPartHeader (sym nothing.all) (cut_no_header left cut)
+pub no_head_read : (o : Option PartHead) (e : Option ℕ) (entries : List Change) (text left : List ℕ) → o ≡ None → HasRead (ReadsBy o e entries) text left → IsLeftBy o e left → HasNoPartHeader text
+no_head_read (Some head) e entries text left none reads rest = cc
+no_head_read None e entries text left none reads rest = subst HasNoPartHeader (unread e entries text left reads) (cut_no_header left rest)
 
 -- ---- at most one answer
 

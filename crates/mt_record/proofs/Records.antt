@@ -1,10 +1,8 @@
 -- Records one after the other, and the greatest of their timestamps.
-use Rattle.std.proofs.Common.{◌≡◌, ◌⊎◌, inl, inr, ℕ, zero, suc, ◌<◌, ◌≤◌, List, [], ◌∷◌, ◌++◌, length, max, map, refl, sym, ap, ◌∙◌, append_assoc, rules, arith}
+use Rattle.std.proofs.Common.{◌≡◌, ◌⊎◌, inl, inr, ℕ, zero, suc, ◌<◌, ◌≤◌, List, [], ◌∷◌, ◌++◌, length, max, map, refl, ap, rules, arith}
 use Rattle.std.proofs.lemmas.Bool.{cases_lt, false≢true}
-use Rattle.std.proofs.lemmas.List.{flat_map_more}
 use Rattle.std.proofs.lemmas.List.Elements.{All-nil, All-cons, All-weaker, Contains-append_right}
 use Rattle.std.specs.Prelude.{◌↔◌, ◌==◌, Bool, not, IsTrue, Contains, All}
-use Rattle.std.specs.List.{flat_map}
 use Rattle.mt_words.specs.declared.limits.Limits.{Limits}
 use Rattle.mt_words.specs.Changes.{Logged, IsLawful}
 use Rattle.mt_record.specs.Logs.{AreRecords, latest, LogReading, IsLast, IsTorn}
@@ -21,13 +19,6 @@ records_push limits low (s ∷ rs) r are lawful rises = (are.0, are.1, records_p
 pub latest_push : (low : ℕ) (rs : List Logged) (r : Logged) → latest low (rs ++ r ∷ []) ≡ r.timestamp
 latest_push low [] r = refl
 latest_push low (s ∷ rs) r = latest_push s.timestamp rs r
-
--- what begins the rest goes to those that are spelled before it
-pub spelled_push : {A : Type 0} (each : A → List ℕ) (front : List ℕ) (xs : List A) (x : A) (bytes rest after : List ℕ) → bytes ≡ front ++ (flat_map each xs ++ rest)
-    → rest ≡ each x ++ after → bytes ≡ front ++ (flat_map each (xs ++ x ∷ []) ++ after)
-spelled_push each front xs x bytes rest after whole next =
-    let all = sym (append_assoc (flat_map each xs) (each x) after) ∙ ap (λ (y : List ℕ). y ++ after) (flat_map_more each [] xs x) in
-    whole ∙ ap (λ (y : List ℕ). front ++ (flat_map each xs ++ y)) next ∙ ap (λ (y : List ℕ). front ++ y) all
 
 -- ---- the greatest timestamp
 

@@ -1,26 +1,36 @@
 -- A text in pieces, whatever its items are.
-use Rattle.std.specs.Prelude.{◌≡◌, ℕ, ◌+◌, ◌*◌, ◌<◌, min, max, Option, Some, None, Result, IfOk, IfErr, List, ◌++◌, length}
+use Rattle.std.specs.Prelude.{◌≡◌, ℕ, ◌+◌, ◌*◌, ◌<◌, min, max, Option, Some, None, Result, Ok, Err, List, ◌++◌, length}
 use Rattle.std.specs.Borrow.{Bor}
 use Rattle.mt_record.specs.declared.feed.Feed.{Feed}
 
 -- ---- items
 
+-- the text is what was read, and the rest
+pub record HasRead (holds : List ℕ → Type 0) (text rest : List ℕ) : Type 0 where
+  pub front : List ℕ
+  pub joins : text ≡ front ++ rest
+  pub read : holds front
+
 -- items at the front of the bytes were read, and these bytes follow them
-pub record Reads {T I : Type 0} (reads : T → I → List ℕ → List ℕ → Type 0) (old new : I) (bytes after : List ℕ) : Type 0 where
+pub record Reads {T I : Type 0} (holds : T → I → List ℕ → Type 0) (old new : I) (bytes after : List ℕ) : Type 0 where
   pub items : List ℕ
   pub joins : bytes ≡ items ++ after
-  pub on : (taken : T) (text : List ℕ) → reads taken old text bytes → reads taken new text after
+  pub on : (taken : T) (front : List ℕ) → holds taken old front → holds taken new (front ++ items)
 
--- One step: nothing more can be read, or an item was read, and fewer bytes follow it.
-abbrev pub ReadsStep : {T I : Type 0} → (T → I → List ℕ → List ℕ → Type 0) → (I → List ℕ → Type 0) → I → I → List ℕ → Option (Bor (List ℕ)) → Type 0
-ReadsStep {T} reads is_left old new bytes None = (new ≡ old) × ((taken : T) (text : List ℕ) → reads taken old text bytes → is_left old bytes)
-ReadsStep reads is_left old new bytes (Some after) = Reads reads old new bytes after.now × (length after.now < length bytes)
+-- what was read is what was read before
+abbrev pub Keeps : {T I : Type 0} → (T → I → List ℕ → Type 0) → I → I → Type 0
+Keeps {T} holds old new = (taken : T) (front : List ℕ) → holds taken old front → holds taken new front
 
--- a step by its answer: it is one, or the bytes show a fault
-pub record Steps {T I F : Type 0} (reads : T → I → List ℕ → List ℕ → Type 0) (is_left : I → List ℕ → Type 0) (fails : T → I → F → List ℕ → Type 0) (old new : I) (bytes : List ℕ)
-    (answer : Result (Option (Bor (List ℕ))) F) : Type 0 where
-  pub next : IfOk answer (ReadsStep reads is_left old new bytes)
-  pub fault : (taken : T) (text : List ℕ) → reads taken old text bytes → IfErr answer (λ fault. fails taken new fault text)
+-- One step: nothing more can be read; or an item was read, and fewer bytes follow it; or the bytes show a fault.
+abbrev pub Steps : {T I F : Type 0} → (T → I → List ℕ → Type 0) → (I → List ℕ → Type 0) → (I → F → List ℕ → Type 0) → I → I → List ℕ → Result (Option (Bor (List ℕ))) F → Type 0
+Steps holds is_left shows old new bytes (Ok None) = (new ≡ old) × is_left old bytes
+Steps holds is_left shows old new bytes (Ok (Some after)) = Reads holds old new bytes after.now × (length after.now < length bytes)
+Steps holds is_left shows old new bytes (Err fault) = Keeps holds old new × shows new fault bytes
+
+-- as many steps as there are: items were read, and then nothing more can be, or the bytes behind them show a fault
+abbrev pub StepsOn : {T I F : Type 0} → (T → I → List ℕ → Type 0) → (I → List ℕ → Type 0) → (I → F → List ℕ → Type 0) → I → I → List ℕ → Result (Bor (List ℕ)) F → Type 0
+StepsOn holds is_left shows old new bytes (Ok after) = Reads holds old new bytes after.now × is_left new after.now
+StepsOn holds is_left shows old new bytes (Err fault) = (after : List ℕ) × Reads holds old new bytes after × shows new fault after
 
 -- ---- feeds
 
@@ -34,20 +44,22 @@ pub record Fed (S F : Type 0) : Type 0 where
 abbrev pub fed_by : {S I F : Type 0} → (I → S) → Feed I F → Fed S F
 fed_by so_far feed = record { so_far = so_far feed.items; held = feed.held.items; fault = feed.fault }
 
--- the text is what was read and what is held back, from which nothing more can be read
-abbrev pub HoldsAll : {I : Type 0} → (I → List ℕ → List ℕ → Type 0) → (I → List ℕ → Type 0) → I → List ℕ → List ℕ → Type 0
-HoldsAll reads is_left items held text = reads items text held × is_left items held
+-- the text is read and held back but for a rest of the piece, and nothing more can be read from what is held
+pub record HoldsUpTo {I : Type 0} (holds : I → List ℕ → Type 0) (is_left : I → List ℕ → Type 0) (items : I) (held text rest : List ℕ) : Type 0 where
+  pub read : HasRead (holds items) text (held ++ rest)
+  pub left : is_left items held
+
+-- all of the text is
+abbrev pub HoldsAll : {I : Type 0} → (I → List ℕ → Type 0) → (I → List ℕ → Type 0) → I → List ℕ → List ℕ → Type 0
+HoldsAll holds is_left items held text = HasRead (holds items) text held × is_left items held
+
+-- bytes of the text behind what was read show the fault
+abbrev pub HasShown : {I F : Type 0} → (I → List ℕ → Type 0) → (I → F → List ℕ → Type 0) → I → F → List ℕ → Type 0
+HasShown holds shows items fault text = (rest : List ℕ) × HasRead (holds items) text rest × shows items fault rest
 
 -- a feed that was fed this text: without a fault all of it is read or held back, and a fault is one that it shows
-abbrev pub IsFedBy : {I F : Type 0} → (I → List ℕ → List ℕ → Type 0) → (I → List ℕ → Type 0) → (I → F → List ℕ → Type 0) → I → List ℕ → Option F → List ℕ → Type 0
-IsFedBy {F = F} reads is_left fails items held answered text = (answered ≡ None → HoldsAll reads is_left items held text) × ((fault : F) → answered ≡ Some fault → fails items fault text)
-
--- the text is read and held back but for a rest of the piece
-pub record HoldsUpTo {I : Type 0} (reads : I → List ℕ → List ℕ → Type 0) (is_left : I → List ℕ → Type 0) (items : I) (held text rest : List ℕ) : Type 0 where
-  pub front : List ℕ
-  pub joins : front ++ rest ≡ text
-  pub read : reads items front held
-  pub left : is_left items held
+abbrev pub IsFedBy : {I F : Type 0} → (I → List ℕ → Type 0) → (I → List ℕ → Type 0) → (I → F → List ℕ → Type 0) → I → List ℕ → Option F → List ℕ → Type 0
+IsFedBy {F = F} holds is_left shows items held answered text = (answered ≡ None → HoldsAll holds is_left items held text) × ((fault : F) → answered ≡ Some fault → HasShown holds shows items fault text)
 
 -- how much there is still to do with what is held and the rest of the piece
 abbrev pub still_to_do : List ℕ → List ℕ → ℕ

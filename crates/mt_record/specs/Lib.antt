@@ -10,11 +10,7 @@ pub mod Adding
 pub mod Feeding
 pub mod LogFeeding
 pub mod PartFeeding
-pub mod LogPieces
-pub mod PartPieces
 pub mod MoreBytes
-pub mod LogLaws
-pub mod PartLaws
 pub mod Texts
 pub mod Decoding
 pub mod Kept

@@ -1,5 +1,7 @@
 -- A part in pieces: what a feed has read, and which faults the bytes so far show.
-use Rattle.std.specs.Prelude.{◌≡◌, ◌≢◌, ℕ, ◌<◌, ◌^◌, ◌⊎◌, Option, Some, None, List, [], ◌∷◌, ◌++◌, length}
+use Rattle.std.specs.Prelude.{◌≡◌, ◌≢◌, ℕ, ◌<◌, ◌^◌, ◌⊎◌, Option, Some, None, Result, List, [], ◌∷◌, ◌++◌, length}
+use Rattle.std.specs.Borrow.{Bor}
+use Rattle.std.specs.List.{flat_map, AllByRecursion}
 use Rattle.byteorder.specs.Endian.{big_bytes}
 use Rattle.mt_words.specs.declared.record.Change.{Change}
 use Rattle.mt_words.specs.declared.limits.Limits.{Limits}
@@ -12,8 +14,9 @@ use Rattle.mt_record.specs.Logs.{IsCut}
 use Rattle.mt_record.specs.LogFaults.{HasLengthFault}
 use Rattle.mt_record.specs.Parts.{part_head_bytes, IsPartHead, entry_spelling, footer_bytes, IsEntryLength, IsPart}
 use Rattle.mt_record.specs.Fronts.{ShowsNone, IsCutFront}
-use Rattle.mt_record.specs.PartFaults.{BeginsPart, BeginsPartOf, OrMemory}
-use Rattle.mt_record.specs.Feeding.{Fed, IsFedBy}
+use Rattle.mt_record.specs.PartFaults.{BeginsPartOf, OrMemory}
+use Rattle.mt_record.specs.declared.part_items.PartItems.{PartItems}
+use Rattle.mt_record.specs.Feeding.{Steps, Fed, IsFedBy}
 
 -- ---- faults that are shown
 
@@ -60,7 +63,7 @@ IsPartShown bytes = OrMemory (ShowsPartFault bytes)
 abbrev pub ShowsNoPartFault : List ℕ → Type 0
 ShowsNoPartFault bytes = (fault : PartFault) → ShowsPartFault bytes fault → ⊥
 
--- ---- feeds
+-- ---- what was read
 
 -- what was read of a part: its header, if that is whole; its entries so far; where its checkpoint ends, if the footer is whole
 pub record PartSoFar : Type 0 where
@@ -68,39 +71,69 @@ pub record PartSoFar : Type 0 where
   pub entries : List Change
   pub end : Option ℕ
 
--- nothing was read, and the rest is all of the bytes
-pub record ReadsNothing (entries : List Change) (end : Option ℕ) (bytes rest : List ℕ) : Type 0 where
+-- nothing was read, neither a header nor an entry nor a footer
+pub record ReadsNothing (entries : List Change) (end : Option ℕ) (front : List ℕ) : Type 0 where
   pub none : entries ≡ []
   pub no_end : end ≡ None
-  pub all : bytes ≡ rest
+  pub empty : front ≡ []
 
--- a part was read, and the rest follows it
-pub record ReadsPart (head : PartHead) (entries : List Change) (end : ℕ) (bytes rest : List ℕ) : Type 0 where
-  pub part : List ℕ
-  pub is_part : IsPart part head entries end
-  pub joins : bytes ≡ part ++ rest
+-- the bytes are a header and these entries
+pub record ReadsEntries (head : PartHead) (entries : List Change) (front : List ℕ) : Type 0 where
+  pub spelled : front ≡ part_head_bytes head ++ flat_map entry_spelling entries
+  pub is_head : IsPartHead head
+  pub lawful : AllByRecursion (IsEntry (limits_of head.format)) entries
 
--- the bytes are what was read, and the rest
-abbrev pub ReadsUpTo : PartSoFar → List ℕ → List ℕ → Type 0
-ReadsUpTo so_far bytes rest = by so_far.head so_far.end
-  where
-    by : Option PartHead → Option ℕ → Type 0
-    by None end = ReadsNothing so_far.entries end bytes rest
-    by (Some head) None = BeginsPart bytes head so_far.entries rest
-    by (Some head) (Some end) = ReadsPart head so_far.entries end bytes rest
+abbrev pub ReadsBy : Option PartHead → Option ℕ → List Change → List ℕ → Type 0
+ReadsBy None end entries front = ReadsNothing entries end front
+ReadsBy (Some head) None entries front = ReadsEntries head entries front
+ReadsBy (Some head) (Some end) entries front = IsPart front head entries end
+
+-- the bytes are what was read
+abbrev pub HoldsPart : PartSoFar → List ℕ → Type 0
+HoldsPart so_far front = ReadsBy so_far.head so_far.end so_far.entries front
 
 -- the beginning of an entry, of which no more than the length is looked at, or that of a footer
 abbrev pub IsCutItem : Limits → List ℕ → Type 0
 IsCutItem limits rest = IsCut (IsEntryLength limits) rest ⊎ ((more : List ℕ) × (length more < 12) × (rest ≡ big_bytes 4 0 ++ more))
 
+abbrev pub IsLeftBy : Option PartHead → Option ℕ → List ℕ → Type 0
+IsLeftBy None end rest = IsCutFront IsPartHead part_head_bytes rest
+IsLeftBy (Some head) None rest = (rest ≡ []) ⊎ IsCutItem (limits_of head.format) rest
+IsLeftBy (Some head) (Some end) rest = rest ≡ []
+
 -- a rest from which nothing more can be read, and which shows no fault
 abbrev pub IsPartLeft : PartSoFar → List ℕ → Type 0
-IsPartLeft so_far rest = by so_far.head so_far.end
-  where
-    by : Option PartHead → Option ℕ → Type 0
-    by None end = IsCutFront IsPartHead part_head_bytes rest
-    by (Some head) None = (rest ≡ []) ⊎ IsCutItem (limits_of head.format) rest
-    by (Some head) (Some end) = rest ≡ []
+IsPartLeft so_far rest = IsLeftBy so_far.head so_far.end rest
+
+-- a rest that shows that there is no part: behind so many entries, or behind the footer, where no byte may follow
+abbrev pub Breaks : Limits → Option ℕ → ℕ → List ℕ → Type 0
+Breaks limits None count rest = ShowsNoPart limits count rest
+Breaks limits (Some end) count rest = 0 < length rest
+
+-- a rest that shows the fault behind so many entries
+abbrev pub IsFaultyBy : Option PartHead → Option ℕ → ℕ → PartFault → List ℕ → Type 0
+IsFaultyBy None end count faults.Header rest = ShowsNone IsPartHead part_head_bytes rest
+IsFaultyBy None end count (faults.Broken number entries) rest = ⊥
+IsFaultyBy (Some head) end count faults.Header rest = ⊥
+IsFaultyBy (Some head) end count (faults.Broken number entries) rest = (number ≡ head.number) × (entries ≡ count) × Breaks (limits_of head.format) end count rest
+IsFaultyBy head end count faults.Memory rest = Unit {0}
+
+-- a rest that shows the fault, however it goes on
+abbrev pub IsPartFaulty : PartSoFar → PartFault → List ℕ → Type 0
+IsPartFaulty so_far fault rest = IsFaultyBy so_far.head so_far.end (length so_far.entries) fault rest
+
+-- ---- items
+
+-- what was read, as contracts see it; the entries are those that are told of what they were put into
+abbrev pub so_far : {E : Type 0} → (E → List Change) → PartItems E → PartSoFar
+so_far listed items = record { head = items.head; entries = listed items.entries; end = items.end }
+
+-- one step of reading a part, of which nothing is taken
+abbrev pub StepsPart : {E : Type 0} → (E → List Change) → PartItems E → PartItems E → List ℕ → Result (Option (Bor (List ℕ))) PartFault → Type 0
+StepsPart listed old new bytes answer =
+    Steps {T = Unit {0}} (λ taken items. HoldsPart (so_far listed items)) (λ items. IsPartLeft (so_far listed items)) (λ items. IsPartFaulty (so_far listed items)) old new bytes answer
+
+-- ---- feeds
 
 -- what a contract sees of a feed
 abbrev pub FedPart : Type 0
@@ -108,4 +141,4 @@ FedPart = Fed PartSoFar PartFault
 
 -- a feed that was fed these bytes
 abbrev pub IsPartFed : FedPart → List ℕ → Type 0
-IsPartFed feed bytes = IsFedBy ReadsUpTo IsPartLeft (λ so_far fault text. IsPartShown text fault) feed.so_far feed.held feed.fault bytes
+IsPartFed feed bytes = IsFedBy HoldsPart IsPartLeft IsPartFaulty feed.so_far feed.held feed.fault bytes

@@ -1,6 +1,6 @@
 //! A text in pieces.
 ghost use Rattle.std.specs.Prelude.{◌≡◌, ◌<◌, ◌≤◌, ◌++◌, [], ◌∷◌, List, ℕ, Some, None, Err, length, drop, IsSome, IfOk, IfErr, OnOk, OnErr};
-ghost use Rattle.mt_record.specs.Feeding.{HoldsUpTo, still_to_do, Reads, HoldsAll, IsFedBy, Tops};
+ghost use Rattle.mt_record.specs.Feeding.{StepsOn, HoldsUpTo, HoldsAll, HasShown, IsFedBy, still_to_do, Tops};
 
 use crate::items::Items;
 use mt_words::Memory;
@@ -19,8 +19,8 @@ pub struct Feed<I: Items> {
 impl<I: Items> Feed<I> {
     /// A feed that was fed nothing.
     pub fn new(alloc: Global, items: I) -> Feed<I>
-        ensures fed { (taken : I.Taken) → HoldsAll (I.reads taken) I.is_left items [] [] →
-            IsFedBy (I.reads taken) I.is_left (I.fails taken) result.items result.held.items result.fault [] }
+        ensures fed { (taken : I.Taken) → HoldsAll (I.holds taken) I.is_left items [] [] →
+            IsFedBy (I.holds taken) I.is_left I.shows result.items result.held.items result.fault [] }
         ensures sound { result.fault ≡ None }
     {
         Feed {
@@ -33,8 +33,8 @@ impl<I: Items> Feed<I> {
     /// Reads the next piece, unless there was a fault, which is answered again.
     pub fn feed(&mut self, piece: &[u8]) -> Result<(), I::Fault>
         ensures fed { (taken : I.Taken) (text : List ℕ) →
-            IsFedBy (I.reads taken) I.is_left (I.fails taken) self.old.items self.old.held.items self.old.fault text →
-            IsFedBy (I.reads taken) I.is_left (I.fails taken) self.new.items self.new.held.items self.new.fault (text ++ piece.now) }
+            IsFedBy (I.holds taken) I.is_left I.shows self.old.items self.old.held.items self.old.fault text →
+            IsFedBy (I.holds taken) I.is_left I.shows self.new.items self.new.held.items self.new.fault (text ++ piece.now) }
         ensures sound { OnOk result (self.new.fault ≡ None) }
         ensures kept { IfErr result (λ fault. self.new.fault ≡ Some fault) }
         ensures again { (fault : I.Fault) → self.old.fault ≡ Some fault → result ≡ Err fault }
@@ -50,10 +50,10 @@ impl<I: Items> Feed<I> {
 
     /// Reads the next piece: what it completes straight from the piece where it lies whole in it.
     fn read(&mut self, piece: &[u8]) -> Result<(), I::Fault>
-        ensures ok { (taken : I.Taken) (text : List ℕ) → HoldsAll (I.reads taken) I.is_left self.old.items self.old.held.items text →
-            IfOk result (λ _. HoldsAll (I.reads taken) I.is_left self.new.items self.new.held.items (text ++ piece.now)) }
-        ensures fault { (taken : I.Taken) (text : List ℕ) → HoldsAll (I.reads taken) I.is_left self.old.items self.old.held.items text →
-            IfErr result (λ fault. I.fails taken self.new.items fault (text ++ piece.now)) }
+        ensures ok { (taken : I.Taken) (text : List ℕ) → HoldsAll (I.holds taken) I.is_left self.old.items self.old.held.items text →
+            IfOk result (λ _. HoldsAll (I.holds taken) I.is_left self.new.items self.new.held.items (text ++ piece.now)) }
+        ensures fault { (taken : I.Taken) (text : List ℕ) → HoldsAll (I.holds taken) I.is_left self.old.items self.old.held.items text →
+            IfErr result (λ fault. HasShown (I.holds taken) I.shows self.new.items fault (text ++ piece.now)) }
     {
         let mut rest = piece;
         'held: while !self.held.is_empty() {
@@ -70,11 +70,11 @@ impl<I: Items> Feed<I> {
     /// Completes what is held back, and reads what of it is whole then; the rest of the piece.
     fn read_held<'a>(&mut self, piece: &'a [u8]) -> Result<&'a [u8], I::Fault>
         requires { 0 < length piece.now }
-        ensures rest { (taken : I.Taken) (text : List ℕ) → HoldsUpTo (I.reads taken) I.is_left self.old.items self.old.held.items text piece.now →
-            IfOk result (λ rest. HoldsUpTo (I.reads taken) I.is_left self.new.items self.new.held.items text rest.now) }
+        ensures rest { (taken : I.Taken) (text : List ℕ) → HoldsUpTo (I.holds taken) I.is_left self.old.items self.old.held.items text piece.now →
+            IfOk result (λ rest. HoldsUpTo (I.holds taken) I.is_left self.new.items self.new.held.items text rest.now) }
         ensures less { IfOk result (λ rest. still_to_do self.new.held.items rest.now < still_to_do self.old.held.items piece.now) }
-        ensures fault { (taken : I.Taken) (text : List ℕ) → HoldsUpTo (I.reads taken) I.is_left self.old.items self.old.held.items text piece.now →
-            IfErr result (λ fault. I.fails taken self.new.items fault text) }
+        ensures fault { (taken : I.Taken) (text : List ℕ) → HoldsUpTo (I.holds taken) I.is_left self.old.items self.old.held.items text piece.now →
+            IfErr result (λ fault. HasShown (I.holds taken) I.shows self.new.items fault text) }
     {
         let wanted = self.items.bytes_wanted(&self.held).max(self.held.len() + 1);
         let rest = top_up(&mut self.held, wanted, piece)?;
@@ -87,11 +87,7 @@ impl<I: Items> Feed<I> {
 
 /// Reads the whole items at the front, and gives the bytes after them, in which no more can be read.
 fn read_whole<'a, I: Items>(items: &mut I, bytes: &'a [u8]) -> Result<&'a [u8], I::Fault>
-    ensures rest { IfOk result (λ rest. Reads I.reads items.old items.new bytes.now rest.now) }
-    ensures ends { (taken : I.Taken) (text : List ℕ) → I.reads taken items.old text bytes.now →
-        IfOk result (λ rest. I.is_left items.new rest.now) }
-    ensures fault { (taken : I.Taken) (text : List ℕ) → I.reads taken items.old text bytes.now →
-        IfErr result (λ fault. I.fails taken items.new fault text) }
+    ensures { StepsOn I.holds I.is_left I.shows items.old items.new bytes.now result }
 {
     let mut rest = bytes;
     'items: loop {

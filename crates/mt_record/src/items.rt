@@ -17,36 +17,27 @@ pub trait Items {
     /// What was read and is no longer here.
     ghost Taken: { Type 0 };
 
-    /// These bytes are what was taken, what is here, and the rest.
-    ghost reads: { Taken → Self → List ℕ → List ℕ → Type 0 };
+    /// These bytes are what was taken and what is here.
+    ghost holds: { Taken → Self → List ℕ → Type 0 };
 
-    /// Nothing more can be read from this rest, which shows no fault.
+    /// Nothing more can be read from these bytes, which show no fault.
     ghost is_left: { Self → List ℕ → Type 0 };
 
-    /// The bytes so far show the fault, however they go on, behind what was taken and what is here.
-    ghost fails: { Taken → Self → Self.Fault → List ℕ → Type 0 };
+    /// Behind what is here these bytes show the fault, however they go on.
+    ghost shows: { Self → Self.Fault → List ℕ → Type 0 };
 
     /// Reads the item at the front.
     fn read_next<'a>(&mut self, bytes: &'a [u8]) -> Step<'a, Self::Fault>
-        ensures { Steps reads is_left fails self.old self.new bytes.now result };
+        ensures { Steps holds is_left shows self.old self.new bytes.now result };
 
     /// How many bytes the beginning that is held back asks for. It only says how far to go before the next try: no
     /// answer of it is wrong.
     fn bytes_wanted(&self, held: &[u8]) -> usize;
 
-    /// What was read is the same when more bytes follow.
-    ghost goes_on: { (taken : Taken) (items : Self) (text rest more : List ℕ) → reads taken items text rest →
-        reads taken items (text ++ more) (rest ++ more) };
-
-    /// And in the bytes that end before the rest does.
-    ghost front: { (taken : Taken) (items : Self) (text a b : List ℕ) → reads taken items text (a ++ b) →
-        (front : List ℕ) × (front ++ b ≡ text) × reads taken items front a };
-
     /// A fault stays one when more bytes follow.
-    ghost stays_failed: { (taken : Taken) (items : Self) (fault : Self.Fault) (text more : List ℕ) →
-        fails taken items fault text → fails taken items fault (text ++ more) };
+    ghost shows_on: { (items : Self) (fault : Self.Fault) (rest more : List ℕ) → shows items fault rest → shows items fault (rest ++ more) };
 
-    /// A refused growth may come wherever something was read.
-    ghost refused: { (taken : Taken) (items : Self) (text rest : List ℕ) (memory : MemoryValue) (fault : Self.Fault) →
-        Self.Fault.from_gives memory fault → reads taken items text rest → fails taken items fault text };
+    /// A refused growth may come anywhere.
+    ghost refused: { (items : Self) (rest : List ℕ) (memory : MemoryValue) (fault : Self.Fault) →
+        Self.Fault.from_gives memory fault → shows items fault rest };
 }

@@ -26,8 +26,7 @@ pub struct LogFeed<R: Records = Vec<Record>> {
 
 impl<R: Records> Model for LogFeed<R> {
     ghost use Rattle.mt_record.specs.Feeding.{fed_by};
-    ghost use Rattle.mt_record.specs.LogFeeding.{FedLog};
-    ghost use Rattle.mt_record.specs.LogPieces.{so_far};
+    ghost use Rattle.mt_record.specs.LogFeeding.{so_far, FedLog};
 
     ghost Value = { FedLog };
 

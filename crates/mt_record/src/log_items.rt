@@ -1,12 +1,12 @@
 //! The items of a log, one behind the other: its header and its records.
-ghost use Rattle.std.specs.Prelude.{◌≡◌, ◌==◌, ◌++◌, List, ℕ, None, Some, length, not, IfOk, IfErr, OnErr, MatchOption};
+ghost use Rattle.std.specs.Prelude.{◌≡◌, ◌==◌, List, ℕ, None, Some, length, not, IfOk, IfErr, OnErr, MatchOption};
 ghost use Rattle.mt_words.specs.Limits.{limits_of};
 ghost use Rattle.mt_words.specs.Changes.{Logged};
 ghost use Rattle.mt_record.specs.Logs.{IsTextIn};
 ghost use Rattle.mt_record.specs.LogFaults.{IsAnswered};
-ghost use Rattle.mt_record.specs.LogFeeding.{ReadsLog, IsLeft};
-ghost use Rattle.mt_record.specs.LogPieces.{so_far, HasReadItems, IsLeftOfItems, HasFailedItems, StepsLog, ReadsNext, IsNextFault};
-ghost use Rattle.mt_record.specs.LogLaws.{reads_on, reads_front, failed_on, refused_failed};
+ghost use Rattle.mt_record.specs.Feeding.{HasRead};
+ghost use Rattle.mt_record.specs.LogFeeding.{so_far, HoldsLog, IsLeft, IsLogLeft, IsFaultyBy, IsLogFaulty, StepsLog, ReadsNext};
+ghost use Rattle.mt_record.specs.MoreBytes.{log_faulty_on, log_refused};
 
 use crate::fields::u32_at;
 use crate::frame::next_record;
@@ -34,11 +34,11 @@ impl<R: Records> Items for LogItems<R> {
 
     ghost Taken = { List Logged };
 
-    ghost reads = { HasReadItems R.listed };
+    ghost holds = { λ taken items. HoldsLog taken (so_far R.listed items) };
 
-    ghost is_left = { IsLeftOfItems };
+    ghost is_left = { λ items. IsLogLeft (so_far R.listed items) };
 
-    ghost fails = { HasFailedItems R.listed };
+    ghost shows = { λ items. IsLogFaulty (so_far R.listed items) };
 
     fn read_next<'a>(&mut self, bytes: &'a [u8]) -> Step<'a, FeedFault> {
         let Some(head) = self.head else {
@@ -58,16 +58,9 @@ impl<R: Records> Items for LogItems<R> {
         }
     }
 
-    ghost goes_on = { λ taken items text rest more.
-        reads_on items.head (taken ++ R.listed items.ready) items.latest items.whole text rest more };
+    ghost shows_on = { λ items. log_faulty_on items.head items.latest items.whole };
 
-    ghost front = { λ taken items text a b.
-        reads_front items.head (taken ++ R.listed items.ready) items.latest items.whole text a b };
-
-    ghost stays_failed = { λ taken items fault text more. failed_on fault text more (taken ++ R.listed items.ready) };
-
-    ghost refused = { λ taken items text rest _ fault is.
-        refused_failed items.head (taken ++ R.listed items.ready) items.latest items.whole text rest fault is };
+    ghost refused = { λ items rest _. log_refused items.head items.latest items.whole rest };
 }
 
 impl<R: Records> LogItems<R> {
@@ -92,8 +85,8 @@ impl<R: Records> LogItems<R> {
         ensures next { IfOk result (λ next. MatchOption next
             ((self.new ≡ self.old) × IsLeft (limits_of head.format) bytes.now)
             (λ after. ReadsNext head (so_far R.listed self.old) bytes.now (so_far R.listed self.new) after.now)) }
-        ensures fault { IfErr result (IsNextFault head (so_far R.listed self.old) bytes.now) }
-        ensures kept { OnErr result (R.listed self.new.ready ≡ R.listed self.old.ready) }
+        ensures fault { IfErr result (λ fault. IsFaultyBy (Some head) self.old.latest self.old.whole fault bytes.now) }
+        ensures kept { OnErr result (so_far R.listed self.new ≡ so_far R.listed self.old) }
     {
         match next_record(head.format, self.latest, bytes) {
             Ok(Some((timestamp, body, after))) => {
@@ -112,10 +105,10 @@ impl<R: Records> LogItems<R> {
 
     /// What was read, as a log with a torn tail or without one. An Err is the fault of a header that is cut short.
     pub fn finish(self, torn: bool) -> Result<LogText<R>, FeedFault>
-        ensures log { (taken : List Logged) (bytes left : List ℕ) → ReadsLog taken (so_far R.listed self) bytes left → IsLeftOfItems self left →
-            torn ≡ not (length left == 0) → IfOk result (IsTextIn R.listed taken bytes) }
-        ensures fault { (taken : List Logged) (bytes left : List ℕ) → ReadsLog taken (so_far R.listed self) bytes left → IsLeftOfItems self left →
-            IfErr result (IsAnswered bytes) }
+        ensures log { (taken : List Logged) (text left : List ℕ) → HasRead (HoldsLog taken (so_far R.listed self)) text left → IsLogLeft (so_far R.listed self) left →
+            torn ≡ not (length left == 0) → IfOk result (IsTextIn R.listed taken text) }
+        ensures fault { (taken : List Logged) (text left : List ℕ) → HasRead (HoldsLog taken (so_far R.listed self)) text left → IsLogLeft (so_far R.listed self) left →
+            IfErr result (IsAnswered text) }
     {
         let LogItems {
             head,

@@ -24,8 +24,7 @@ pub struct PartFeed<E: Entries = Vec<Entry>> {
 
 impl<E: Entries> Model for PartFeed<E> {
     ghost use Rattle.mt_record.specs.Feeding.{fed_by};
-    ghost use Rattle.mt_record.specs.PartFeeding.{FedPart};
-    ghost use Rattle.mt_record.specs.PartPieces.{so_far};
+    ghost use Rattle.mt_record.specs.PartFeeding.{so_far, FedPart};
 
     ghost Value = { FedPart };
 

@@ -4,9 +4,9 @@ ghost use Rattle.byteorder.specs.Endian.{big_bytes};
 ghost use Rattle.mt_record.specs.declared.part_text.PartFault.TheVariants.{Broken};
 ghost use Rattle.mt_record.specs.Parts.{IsPartText};
 ghost use Rattle.mt_record.specs.PartFaults.{IsPartAnswered};
-ghost use Rattle.mt_record.specs.PartFeeding.{ReadsUpTo, IsPartLeft};
-ghost use Rattle.mt_record.specs.PartPieces.{so_far, HasReadItems, IsLeftOfItems, IsShownOfItems, StepsPart};
-ghost use Rattle.mt_record.specs.PartLaws.{reads_on, reads_front, shown_on, refused_shown};
+ghost use Rattle.mt_record.specs.Feeding.{HasRead};
+ghost use Rattle.mt_record.specs.PartFeeding.{so_far, HoldsPart, IsPartLeft, IsPartFaulty, StepsPart};
+ghost use Rattle.mt_record.specs.MoreBytes.{part_faulty_on, part_refused};
 
 use crate::fields::{u32_at, u64_at};
 use crate::frame::next_entry;
@@ -32,11 +32,11 @@ impl<E: Entries> Items for PartItems<E> {
 
     ghost Taken = { Unit {0} };
 
-    ghost reads = { HasReadItems E.listed };
+    ghost holds = { λ _ items. HoldsPart (so_far E.listed items) };
 
-    ghost is_left = { IsLeftOfItems E.listed };
+    ghost is_left = { λ items. IsPartLeft (so_far E.listed items) };
 
-    ghost fails = { IsShownOfItems };
+    ghost shows = { λ items. IsPartFaulty (so_far E.listed items) };
 
     fn read_next<'a>(&mut self, bytes: &'a [u8]) -> Step<'a, PartFault> {
         let Some(head) = self.head else {
@@ -63,13 +63,9 @@ impl<E: Entries> Items for PartItems<E> {
         }
     }
 
-    ghost goes_on = { λ _ items text rest more. reads_on items.head items.end (E.listed items.entries) text rest more };
+    ghost shows_on = { λ items. part_faulty_on items.head items.end (length (E.listed items.entries)) };
 
-    ghost front = { λ _ items text a b. reads_front items.head items.end (E.listed items.entries) text a b };
-
-    ghost stays_failed = { λ _ _ fault text more. shown_on fault text more };
-
-    ghost refused = { λ _ _ text rest _ fault is _. refused_shown fault text is };
+    ghost refused = { λ items rest _. part_refused items.head items.end (length (E.listed items.entries)) rest };
 }
 
 impl<E: Entries> PartItems<E> {
@@ -152,10 +148,10 @@ impl<E: Entries> PartItems<E> {
     /// What was read, as a part behind which nothing more came than could not be read. An Err is the fault of a part
     /// that is cut short.
     pub fn finish(self) -> Result<PartText<E>, PartFault>
-        ensures part { (bytes left : List ℕ) → ReadsUpTo (so_far E.listed self) bytes left → IsPartLeft (so_far E.listed self) left →
-            IfOk result (IsPartText E.listed bytes) }
-        ensures fault { (bytes left : List ℕ) → ReadsUpTo (so_far E.listed self) bytes left → IsPartLeft (so_far E.listed self) left →
-            IfErr result (IsPartAnswered bytes) }
+        ensures part { (text left : List ℕ) → HasRead (HoldsPart (so_far E.listed self)) text left → IsPartLeft (so_far E.listed self) left →
+            IfOk result (IsPartText E.listed text) }
+        ensures fault { (text left : List ℕ) → HasRead (HoldsPart (so_far E.listed self)) text left → IsPartLeft (so_far E.listed self) left →
+            IfErr result (IsPartAnswered text) }
     {
         let PartItems { head, entries, end } = self;
         let Some(head) = head else {

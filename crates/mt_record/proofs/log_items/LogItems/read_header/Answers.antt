@@ -1,12 +1,10 @@
 use Rattle.std.proofs.Common.{arith}
-use Rattle.mt_record.specs.LogPieces.{so_far}
 use Rattle.mt_record.proofs.LogFeeds.{header_failed, header_cut, header_read}
 use Rattle.mt_record.proofs.log_items.LogItems.read_header.Goals as goal
 
 pub returns-then-not-goes_with_magic : goal.returns-then-not-goes_with_magic
 returns-then-not-goes_with_magic g c =
-    let no_magic = rw c.if-not-goes_with_magic.true at c.goes_with_magic.ensures in
-    record { next = tt; fault = λ taken text reads. header_failed (so_far g.R.Records.listed c.args.self.now) taken text c.args.bytes.now c.requires reads no_magic }
+    header_failed g.R.Records.listed c.args.self.now c.args.bytes.now c.requires (rw c.if-not-goes_with_magic.true at c.goes_with_magic.ensures)
 
 pub returns-in_default : goal.returns-in_default
 returns-in_default g c =

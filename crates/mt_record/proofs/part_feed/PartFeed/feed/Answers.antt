@@ -1,7 +1,7 @@
 use Rattle.std.proofs.Common.{◌++◌, sym, subst}
 use Rattle.std.proofs.lemmas.Result.{on_ok_weaker, IfErr-weaker}
-use Rattle.mt_record.specs.PartFeeding.{FedPart, IsPartFed}
-use Rattle.mt_record.proofs.OnePartFault.{order_shows_none}
+use Rattle.mt_record.specs.PartFeeding.{so_far, FedPart, IsPartFed}
+use Rattle.mt_record.proofs.OnePartFault.{fed_shows_none, fed_shows}
 use Rattle.mt_record.proofs.part_feed.PartFeed.feed.Goals as goal
 
 pub returns-clause-fed : goal.returns-clause-fed
@@ -10,9 +10,11 @@ returns-clause-fed g c bytes fed = c.feed.ensures.fed tt bytes (subst (λ (f : F
 pub returns-clause-ok : goal.returns-clause-ok
 returns-clause-ok g c bytes fed =
     let after = c.feed.ensures.fed tt bytes (subst (λ (f : FedPart). IsPartFed f bytes) (sym c.self.view_is) fed) in
-    let items = c.feed.new.self.items in
-    on_ok_weaker c.feed.result
-    (λ none. order_shows_none items.head items.end (g.E.Entries.listed items.entries) (bytes ++ c.args.piece.now) c.feed.new.self.held.items (after.0 none).0 (after.0 none).1) c.feed.ensures.sound
+    let new = c.feed.new.self in
+    on_ok_weaker c.feed.result (λ none. fed_shows_none (so_far g.E.Entries.listed new.items) new.held.items (bytes ++ c.args.piece.now) (after.0 none)) c.feed.ensures.sound
 
 pub returns-clause-fault : goal.returns-clause-fault
-returns-clause-fault g c bytes fed = IfErr-weaker c.feed.result _ _ (c.feed.ensures.fed tt bytes (subst (λ (f : FedPart). IsPartFed f bytes) (sym c.self.view_is) fed)).1 c.feed.ensures.kept
+returns-clause-fault g c bytes fed =
+    let after = c.feed.ensures.fed tt bytes (subst (λ (f : FedPart). IsPartFed f bytes) (sym c.self.view_is) fed) in
+    let items = so_far g.E.Entries.listed c.feed.new.self.items in
+    IfErr-weaker c.feed.result _ _ (λ fault is. fed_shows items fault (bytes ++ c.args.piece.now) (after.1 fault is)) c.feed.ensures.kept

@@ -1,6 +1,6 @@
 use Rattle.std.proofs.Common.{List, ℕ, ◌++◌, sym, ap, ◌∙◌, subst}
 use Rattle.byteorder.specs.Endian.{big_bytes}
-use Rattle.mt_record.specs.PartPieces.{StepsPart}
+use Rattle.mt_record.specs.PartFeeding.{StepsPart}
 use Rattle.mt_record.proofs.part_items.PartItems.read_item.Goals as goal
 
 pub returns-then-length-eq0 : goal.returns-then-length-eq0

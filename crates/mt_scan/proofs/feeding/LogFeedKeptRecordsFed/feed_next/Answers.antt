@@ -1,6 +1,6 @@
 use Rattle.std.proofs.Common.{[], sym, ◌∙◌}
-use Rattle.std.proofs.lemmas.Option.{none-some}
-use Rattle.mt_record.specs.LogLaws.{failed_on}
+use Rattle.mt_record.specs.LogFeeding.{HoldsLog, IsLogLeft, IsLogFaulty}
+use Rattle.mt_record.specs.MoreBytes.{fed_on, log_faulty_on}
 use Rattle.mt_scan.proofs.Steps.{has_fault}
 use Rattle.mt_scan.proofs.feeding.LogFeedKeptRecordsFed.feed_next.Goals as goal
 
@@ -8,6 +8,8 @@ pub returns-clause-fed : goal.returns-clause-fed
 returns-clause-fed c bytes fed = c.feed.ensures.fed bytes [] fed
 
 pub returns-clause-stops : goal.returns-clause-stops
-returns-clause-stops c failed bytes more fed =
-    let there = has_fault c.feed.result c.feed.new.self.fault (sym c.is_ok.ensures.value ∙ failed) c.feed.ensures.kept in
-    (λ none. absurd (none-some there.0 (sym none ∙ there.1)), λ fault is. failed_on fault bytes more c.feed.new.self.so_far.ready (fed.1 fault is))
+returns-clause-stops c failed bytes more =
+    let feed = c.feed.new.self in
+    let there = has_fault c.feed.result feed.fault (sym c.is_ok.ensures.value ∙ failed) c.feed.ensures.kept in
+    fed_on (HoldsLog []) IsLogLeft IsLogFaulty feed.so_far feed.held feed.fault there.0 bytes more
+    (log_faulty_on feed.so_far.head feed.so_far.latest feed.so_far.whole) there.1

@@ -1,10 +1,12 @@
-use Rattle.std.proofs.Common.{sym, ◌∙◌}
-use Rattle.std.proofs.lemmas.Option.{none-some}
-use Rattle.mt_record.specs.PartLaws.{shown_on}
+use Rattle.std.proofs.Common.{length, sym, ◌∙◌}
+use Rattle.mt_record.specs.PartFeeding.{HoldsPart, IsPartLeft, IsPartFaulty}
+use Rattle.mt_record.specs.MoreBytes.{fed_on, part_faulty_on}
 use Rattle.mt_scan.proofs.Steps.{has_fault}
 use Rattle.mt_scan.proofs.feeding.PartFeedKeptEntriesFed.feed_next.Goals as goal
 
 pub returns-clause-stops : goal.returns-clause-stops
-returns-clause-stops c failed bytes more fed =
-    let there = has_fault c.feed.result c.feed.new.self.fault (sym c.is_ok.ensures.value ∙ failed) c.feed.ensures.kept in
-    (λ none. absurd (none-some there.0 (sym none ∙ there.1)), λ fault is. shown_on fault bytes more (fed.1 fault is))
+returns-clause-stops c failed bytes more =
+    let feed = c.feed.new.self in
+    let there = has_fault c.feed.result feed.fault (sym c.is_ok.ensures.value ∙ failed) c.feed.ensures.kept in
+    fed_on HoldsPart IsPartLeft IsPartFaulty feed.so_far feed.held feed.fault there.0 bytes more
+    (part_faulty_on feed.so_far.head feed.so_far.end (length feed.so_far.entries)) there.1
