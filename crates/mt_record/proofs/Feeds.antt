@@ -1,10 +1,12 @@
 -- What a feed has read when more bytes follow, whatever its items are.
-use Rattle.std.proofs.Common.{◌≡◌, ℕ, ◌+◌, ◌-◌, ◌*◌, ◌<◌, List, [], ◌++◌, length, drop, sym, ap, ◌∙◌, subst, append_assoc, arith, true, Bool}
+use Rattle.std.proofs.Common.{◌≡◌, ℕ, ◌+◌, ◌-◌, ◌*◌, ◌<◌, Result, Ok, Err, Option, Some, None, List, [], ◌++◌, length, drop, sym, ap, ◌∙◌, subst, append_assoc, arith, true, Bool}
 use Rattle.std.proofs.Math.Seq.{drop-append_seam}
 use Rattle.std.proofs.lemmas.List.{length-append, append-nil, nil_from_length}
 use Rattle.std.proofs.lemmas.Bool.Decides.{Decides-eqb}
 use Rattle.std.specs.Prelude.{◌==◌}
-use Rattle.mt_record.specs.Feeding.{HasRead, Reads, Keeps, HoldsUpTo, HoldsAll, Tops}
+use Rattle.std.specs.Borrow.{Bor}
+use Rattle.mt_record.specs.Fronts.{ShowsNone, IsCutFront}
+use Rattle.mt_record.specs.Feeding.{HasRead, Reads, Keeps, Steps, StepsHeader, HoldsUpTo, HoldsAll, Tops}
 
 -- ---- items
 
@@ -42,6 +44,17 @@ reads_before holds old new bytes after more next =
 pub front_read : {T I : Type 0} (holds : T → I → List ℕ → Type 0) (old new : I) (front bytes after : List ℕ) → bytes ≡ front ++ after → 0 < length front
     → ((taken : T) (before : List ℕ) → holds taken old before → holds taken new (before ++ front)) → Reads holds old new bytes after × (length after < length bytes)
 front_read holds old new front bytes after joins some on = (record { items = front; joins = joins; on = on }, omega (arith, ap length joins, length-append front after, some))
+
+-- the step of a header is one of items that know what to make of each of its outcomes
+pub header_steps : {T I F H : Type 0} (holds : T → I → List ℕ → Type 0) (is_left : I → List ℕ → Type 0) (shows : I → F → List ℕ → Type 0) (Is : H → Type 0) (spelled : H → List ℕ)
+    (headed : I → H → I) (fault : F) (old new : I) (bytes : List ℕ) (answer : Result (Option (Bor (List ℕ))) F) → ((head : H) → 0 < length (spelled head))
+    → (IsCutFront Is spelled bytes → is_left old bytes) → ((head : H) → Is head → (taken : T) (front : List ℕ) → holds taken old front → holds taken (headed old head) (front ++ spelled head))
+    → (ShowsNone Is spelled bytes → shows old fault bytes) → StepsHeader Is spelled headed fault old new bytes answer → Steps holds is_left shows old new bytes answer
+header_steps holds is_left shows Is spelled headed fault old new bytes (Ok None) some cut read failed (same, front) = (same, cut front)
+header_steps holds is_left shows Is spelled headed fault old new bytes (Ok (Some after)) some cut read failed (head, is, e, same) =
+    front_read holds old new (spelled head) bytes after.now e (some head) (λ taken front h. subst (λ x. holds taken x (front ++ spelled head)) (sym same) (read head is taken front h))
+header_steps holds is_left shows Is spelled headed fault old new bytes (Err answer) some cut read failed (same, is, none) =
+    (λ taken front h. subst (λ x. holds taken x front) (sym same) h, rw (same, is) (failed none))
 
 -- ---- the text
 

@@ -1,7 +1,7 @@
 -- The items of a log one behind the other, and what its feed was fed.
 use Rattle.std.proofs.Common.{◌≡◌, ℕ, max, Result, Ok, Err, Option, Some, None, List, [], ◌∷◌, ◌++◌, length, refl, sym, ap, ◌∙◌, subst, append_assoc, arith}
 use Rattle.std.proofs.lemmas.List.{length-append, append-nil, flat_map_more}
-use Rattle.std.specs.Prelude.{◌==◌, Bool, not, codes, IfOk, OnErr, MatchOption}
+use Rattle.std.specs.Prelude.{◌==◌, Bool, not, IfOk, OnErr, MatchOption}
 use Rattle.std.specs.Borrow.{Bor}
 use Rattle.std.specs.List.{flat_map}
 use Rattle.std.specs.Result.{IfErr}
@@ -15,29 +15,15 @@ use Rattle.mt_record.specs.declared.head.Head.{Head}
 use Rattle.mt_record.specs.Heads.{IsHead, head_of, head_bytes, HasNoHeader}
 use Rattle.mt_record.specs.Logs.{latest, IsLog, LogReading, IsLast, IsTextIn}
 use Rattle.mt_record.specs.LogFaults.{RestFault, IsAnswered}
-use Rattle.mt_record.specs.Fronts.{GoesWithMagic, ShowsNone, IsCutFront}
-use Rattle.mt_record.specs.Feeding.{HasRead, HoldsAll, HasShown}
-use Rattle.mt_record.specs.LogFeeding.{LogSoFar, so_far, IsShown, ShowsNoFault, ReadsRecords, ReadsBy, HoldsLog, IsLeft, IsLeftBy, IsLogLeft, IsFaultyBy, IsLogFaulty, StepsLog, ReadsNext}
+use Rattle.mt_record.specs.Fronts.{ShowsNone, IsCutFront}
+use Rattle.mt_record.specs.Feeding.{HasRead, StepsHeader, HoldsAll, HasShown}
+use Rattle.mt_record.specs.LogFeeding.{LogSoFar, so_far, headed, IsShown, ShowsNoFault, ReadsRecords, ReadsBy, HoldsLog, IsLeft, IsLeftBy, IsLogLeft, IsFaultyBy, IsLogFaulty, StepsLog, ReadsNext}
 use Rattle.mt_record.proofs.Records.{records_push, latest_push, last_is, tells_torn}
 use Rattle.mt_record.proofs.OneReading.{not_both}
-use Rattle.mt_record.proofs.Beginnings.{AreBytes, cut_front, cut_none, shows_none, log_whole, log_magic}
-use Rattle.mt_record.proofs.Feeds.{front_read}
+use Rattle.mt_record.proofs.Beginnings.{cut_none}
+use Rattle.mt_record.proofs.Feeds.{front_read, header_steps}
 
 -- ---- the header
-
--- bytes that do not go with the letters of a log are the fault of the header
-pub header_failed : {R : Type 0} (listed : R → List Logged) (old : LogItems R) (bytes : List ℕ) → old.head ≡ None → (GoesWithMagic (codes "MTL") bytes → ⊥)
-    → StepsLog listed old old bytes (Err faults.Header)
-header_failed listed old bytes none no_magic =
-    let shows = shows_none IsHead head_bytes (codes "MTL") (λ (head : Head). head.format) log_magic bytes no_magic in
-    (λ taken front holds. holds, subst (λ (o : Option Head). IsFaultyBy o old.latest old.whole faults.Header bytes) (sym none) shows)
-
--- bytes that go with them, and hold no header, begin one
-pub header_cut : {R : Type 0} (listed : R → List Logged) (old : LogItems R) (bytes : List ℕ) → old.head ≡ None → GoesWithMagic (codes "MTL") bytes → AreBytes bytes → HasNoHeader bytes
-    → StepsLog listed old old bytes (Ok None)
-header_cut listed old bytes none goes small no_head =
-    let cut = cut_front IsHead head_bytes (codes "MTL") 8 log_whole bytes goes small no_head in
-    (refl, subst (λ (o : Option Head). IsLeftBy o bytes) (sym none) cut)
 
 -- a header behind nothing is read with no record
 first_read : (o : Option Head) (records : List Logged) (time count : ℕ) (front : List ℕ) (head : Head) → o ≡ None → IsHead head → ReadsBy o records time count front
@@ -47,12 +33,13 @@ first_read None records time count front head none is reads =
     subst (λ (p : List Logged × ℕ × ℕ × List ℕ). ReadsRecords head p.0 p.1 p.2 (p.3 ++ head_bytes head)) (λ i. (sym reads.none i, sym reads.latest i, sym reads.whole i, sym reads.empty i))
     (record { is_head = is; spelled = sym (append-nil (head_bytes head)); lawful = tt; latest = refl; whole = refl })
 
--- a whole header is read
-pub header_read : {R : Type 0} (listed : R → List Logged) (old : LogItems R) (head : Head) (bytes : List ℕ) (after : Bor (List ℕ)) → old.head ≡ None → IsHead head
-    → bytes ≡ head_bytes head ++ after.now → StepsLog listed old (record old { head = Some head }) bytes (Ok (Some after))
-header_read listed old head bytes after none is e =
-    front_read (λ taken items. HoldsLog taken (so_far listed items)) old (record old { head = Some head }) (head_bytes head) bytes after.now e (omega arith)
-    (λ taken front reads. first_read old.head (taken ++ listed old.ready) old.latest old.whole front head none is reads)
+-- one step of a header
+pub steps_header : {R : Type 0} (listed : R → List Logged) (old new : LogItems R) (bytes : List ℕ) (answer : Result (Option (Bor (List ℕ))) FeedFault) → old.head ≡ None
+    → StepsHeader IsHead head_bytes headed faults.Header old new bytes answer → StepsLog listed old new bytes answer
+steps_header listed old new bytes answer none =
+    header_steps (λ taken items. HoldsLog taken (so_far listed items)) (λ items. IsLogLeft (so_far listed items)) (λ items. IsLogFaulty (so_far listed items)) IsHead head_bytes headed faults.Header old new bytes answer
+    (λ head. omega arith) (subst (λ (o : Option Head). IsLeftBy o bytes) (sym none)) (λ head is taken front. first_read old.head (taken ++ listed old.ready) old.latest old.whole front head none is)
+    (subst (λ (o : Option Head). IsFaultyBy o old.latest old.whole faults.Header bytes) (sym none))
 
 -- ---- records
 

@@ -1,8 +1,7 @@
 -- The header, the entries and the footer of a part, one after the other.
-use Rattle.std.proofs.Common.{◌≡◌, ◌≢◌, inl, inr, ℕ, zero, suc, ◌^◌, ◌<◌, Ok, Err, Option, Some, None, List, [], ◌∷◌, ◌++◌, length, refl, sym, ◌∙◌, subst, append_assoc, arith}
+use Rattle.std.proofs.Common.{◌≡◌, ◌≢◌, inl, inr, ℕ, zero, suc, ◌^◌, ◌<◌, Result, Ok, Err, Option, Some, None, List, [], ◌∷◌, ◌++◌, length, refl, sym, ◌∙◌, subst, append_assoc, arith}
 use Rattle.std.proofs.lemmas.List.{append-nil, flat_map_more}
 use Rattle.std.specs.List.{flat_map}
-use Rattle.std.specs.Prelude.{codes}
 use Rattle.std.specs.Borrow.{Bor}
 use Rattle.byteorder.specs.Endian.{big_bytes}
 use Rattle.mt_words.specs.declared.limits.Format.TheVariants.{One}
@@ -18,29 +17,11 @@ use Rattle.mt_record.specs.declared.part_items.PartItems.{PartItems}
 use Rattle.mt_record.specs.Spelling.{framed}
 use Rattle.mt_record.specs.Bodies.{AreFieldsOf, IsNextEntry}
 use Rattle.mt_record.specs.Parts.{part_head, part_head_bytes, IsPartHead, entry_spelling, footer_bytes}
-use Rattle.mt_record.specs.PartFaults.{HasNoPartHeader}
-use Rattle.mt_record.specs.PartFeeding.{so_far, ShowsNoEntry, ShowsNoPart, ReadsBy, HoldsPart, IsLeftBy, IsPartLeft, Breaks, IsFaultyBy, StepsPart}
-use Rattle.mt_record.specs.Feeding.{Reads, HoldsAll}
-use Rattle.mt_record.specs.Fronts.{GoesWithMagic}
-use Rattle.mt_record.proofs.Beginnings.{AreBytes, cut_front, shows_none}
-use Rattle.mt_record.proofs.Feeds.{front_read}
-use Rattle.mt_record.proofs.PartBeginnings.{part_whole, part_magic}
+use Rattle.mt_record.specs.PartFeeding.{so_far, headed, ShowsNoEntry, ShowsNoPart, ReadsBy, HoldsPart, IsLeftBy, IsPartLeft, Breaks, IsFaultyBy, IsPartFaulty, StepsPart}
+use Rattle.mt_record.specs.Feeding.{Reads, StepsHeader, HoldsAll}
+use Rattle.mt_record.proofs.Feeds.{front_read, header_steps}
 
 -- ---- the header
-
--- bytes that do not go with the letters of a part are the fault of the header
-pub header_failed : {E : Type 0} (listed : E → List Change) (old : PartItems E) (bytes : List ℕ) → old.head ≡ None → (GoesWithMagic (codes "MTC") bytes → ⊥)
-    → StepsPart listed old old bytes (Err faults.Header)
-header_failed listed old bytes none no_magic =
-    let shows = shows_none IsPartHead part_head_bytes (codes "MTC") (λ (head : PartHead). head.format) part_magic bytes no_magic in
-    (λ taken front holds. holds, subst (λ (o : Option PartHead). IsFaultyBy o old.end (length (listed old.entries)) faults.Header bytes) (sym none) shows)
-
--- bytes that go with them, and hold no header, begin one
-pub header_cut : {E : Type 0} (listed : E → List Change) (old : PartItems E) (bytes : List ℕ) → old.head ≡ None → GoesWithMagic (codes "MTC") bytes → AreBytes bytes → HasNoPartHeader bytes
-    → StepsPart listed old old bytes (Ok None)
-header_cut listed old bytes none goes small no_head =
-    let cut = cut_front IsPartHead part_head_bytes (codes "MTC") 16 part_whole bytes goes small no_head in
-    (refl, subst (λ (o : Option PartHead). IsLeftBy o old.end bytes) (sym none) cut)
 
 -- a header behind nothing is read with no entry
 first_read : (o : Option PartHead) (end : Option ℕ) (entries : List Change) (front : List ℕ) (head : PartHead) → o ≡ None → IsPartHead head → ReadsBy o end entries front
@@ -50,12 +31,13 @@ first_read None end entries front head none is reads =
     subst (λ (p : Option ℕ × List Change × List ℕ). ReadsBy (Some head) p.0 p.1 (p.2 ++ part_head_bytes head)) (λ i. (sym reads.no_end i, sym reads.none i, sym reads.empty i))
     (record { spelled = sym (append-nil (part_head_bytes head)); is_head = is; lawful = tt })
 
--- a whole header is read
-pub header_read : {E : Type 0} (listed : E → List Change) (old : PartItems E) (head : PartHead) (bytes : List ℕ) (after : Bor (List ℕ)) → old.head ≡ None → IsPartHead head
-    → bytes ≡ part_head_bytes head ++ after.now → StepsPart listed old (record old { head = Some head }) bytes (Ok (Some after))
-header_read listed old head bytes after none is e =
-    front_read (λ (taken : Unit {0}) items. HoldsPart (so_far listed items)) old (record old { head = Some head }) (part_head_bytes head) bytes after.now e (omega arith)
-    (λ taken front reads. first_read old.head old.end (listed old.entries) front head none is reads)
+-- one step of a header
+pub steps_header : {E : Type 0} (listed : E → List Change) (old new : PartItems E) (bytes : List ℕ) (answer : Result (Option (Bor (List ℕ))) PartFault) → old.head ≡ None
+    → StepsHeader IsPartHead part_head_bytes headed faults.Header old new bytes answer → StepsPart listed old new bytes answer
+steps_header listed old new bytes answer none =
+    header_steps (λ (taken : Unit {0}) items. HoldsPart (so_far listed items)) (λ items. IsPartLeft (so_far listed items)) (λ items. IsPartFaulty (so_far listed items)) IsPartHead part_head_bytes headed faults.Header
+    old new bytes answer (λ head. omega arith) (subst (λ (o : Option PartHead). IsLeftBy o old.end bytes) (sym none))
+    (λ head is taken front. first_read old.head old.end (listed old.entries) front head none is) (subst (λ (o : Option PartHead). IsFaultyBy o old.end (length (listed old.entries)) faults.Header bytes) (sym none))
 
 -- ---- entries
 

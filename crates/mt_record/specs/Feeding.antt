@@ -2,6 +2,7 @@
 use Rattle.std.specs.Prelude.{◌≡◌, ℕ, ◌+◌, ◌*◌, ◌<◌, min, max, Option, Some, None, Result, Ok, Err, List, ◌++◌, length}
 use Rattle.std.specs.Borrow.{Bor}
 use Rattle.mt_record.specs.declared.feed.Feed.{Feed}
+use Rattle.mt_record.specs.Fronts.{ShowsNone, IsCutFront}
 
 -- ---- items
 
@@ -26,6 +27,12 @@ abbrev pub Steps : {T I F : Type 0} → (T → I → List ℕ → Type 0) → (I
 Steps holds is_left shows old new bytes (Ok None) = (new ≡ old) × is_left old bytes
 Steps holds is_left shows old new bytes (Ok (Some after)) = Reads holds old new bytes after.now × (length after.now < length bytes)
 Steps holds is_left shows old new bytes (Err fault) = Keeps holds old new × shows new fault bytes
+
+-- The step of a header, which is put into what was read: the bytes are the beginning of one, or one was read, or they show that there is none.
+abbrev pub StepsHeader : {H I F : Type 0} → (H → Type 0) → (H → List ℕ) → (I → H → I) → F → I → I → List ℕ → Result (Option (Bor (List ℕ))) F → Type 0
+StepsHeader Is spelled headed fault old new bytes (Ok None) = (new ≡ old) × IsCutFront Is spelled bytes
+StepsHeader {H} Is spelled headed fault old new bytes (Ok (Some after)) = (head : H) × Is head × (bytes ≡ spelled head ++ after.now) × (new ≡ headed old head)
+StepsHeader Is spelled headed fault old new bytes (Err answer) = (new ≡ old) × (answer ≡ fault) × ShowsNone Is spelled bytes
 
 -- as many steps as there are: items were read, and then nothing more can be, or the bytes behind them show a fault
 abbrev pub StepsOn : {T I F : Type 0} → (T → I → List ℕ → Type 0) → (I → List ℕ → Type 0) → (I → F → List ℕ → Type 0) → I → I → List ℕ → Result (Bor (List ℕ)) F → Type 0

@@ -1,5 +1,6 @@
 -- What bytes begin with, whatever it is that is spelled there.
-use Rattle.std.specs.Prelude.{◌≡◌, ◌≢◌, ◌<◌, ◌⊎◌, ℕ, List, ◌++◌, length}
+use Rattle.std.specs.Prelude.{◌≡◌, ◌≢◌, ◌<◌, ◌⊎◌, ℕ, Option, Some, None, Result, Ok, Err, List, ◌++◌, length}
+use Rattle.std.specs.Borrow.{Bor}
 use Rattle.mt_words.specs.declared.limits.Format.{Format}
 use Rattle.mt_words.specs.Limits.{magic}
 
@@ -22,3 +23,9 @@ ShowsNone {H} Is spelled bytes = HasNone Is spelled bytes × ((head : H) (more :
 -- the bytes are the beginning of one of these, and not all of it
 abbrev pub IsCutFront : {H : Type 0} → (H → Type 0) → (H → List ℕ) → List ℕ → Type 0
 IsCutFront {H} Is spelled bytes = (head : H) × (more : List ℕ) × Is head × (0 < length more) × (spelled head ≡ bytes ++ more)
+
+-- what was found at the front: the beginning of one of these, or one and what follows it, or that there is none
+abbrev pub FindsFront : {H E : Type 0} → (H → Type 0) → (H → List ℕ) → List ℕ → Result (Option (H × Bor (List ℕ))) E → Type 0
+FindsFront Is spelled bytes (Ok None) = IsCutFront Is spelled bytes
+FindsFront Is spelled bytes (Ok (Some x)) = Is x.0 × (bytes ≡ spelled x.0 ++ x.1.now)
+FindsFront Is spelled bytes (Err error) = ShowsNone Is spelled bytes

@@ -94,6 +94,9 @@ ShowsNoFault bytes = (fault : FeedFault) → ShowsFault bytes fault → ⊥
 abbrev pub so_far : {R : Type 0} → (R → List Logged) → LogItems R → LogSoFar
 so_far listed items = record { head = items.head; ready = listed items.ready; latest = items.latest; whole = items.whole }
 
+abbrev pub headed : {R : Type 0} → LogItems R → Head → LogItems R
+headed items head = record items { head = Some head }
+
 -- one step of reading a log
 abbrev pub StepsLog : {R : Type 0} → (R → List Logged) → LogItems R → LogItems R → List ℕ → Result (Option (Bor (List ℕ))) FeedFault → Type 0
 StepsLog listed old new bytes answer =

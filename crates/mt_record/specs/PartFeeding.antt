@@ -128,6 +128,9 @@ IsPartFaulty so_far fault rest = IsFaultyBy so_far.head so_far.end (length so_fa
 abbrev pub so_far : {E : Type 0} → (E → List Change) → PartItems E → PartSoFar
 so_far listed items = record { head = items.head; entries = listed items.entries; end = items.end }
 
+abbrev pub headed : {E : Type 0} → PartItems E → PartHead → PartItems E
+headed items head = record items { head = Some head }
+
 -- one step of reading a part, of which nothing is taken
 abbrev pub StepsPart : {E : Type 0} → (E → List Change) → PartItems E → PartItems E → List ℕ → Result (Option (Bor (List ℕ))) PartFault → Type 0
 StepsPart listed old new bytes answer =

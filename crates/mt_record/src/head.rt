@@ -1,9 +1,10 @@
 //! Headers of logs.
 ghost use Rattle.std.specs.Prelude.{◌≡◌, ◌++◌, IfSome, IfNone};
+ghost use Rattle.mt_record.specs.Fronts.{FindsFront};
 ghost use Rattle.mt_record.specs.Heads.{IsHead, head_bytes, HasNoHeader};
 
 use crate::fields::u64_at;
-use crate::magic::format_at;
+use crate::magic::{NoMagic, format_at, goes_with_magic};
 use mt_words::Format;
 
 /// The letters that a log begins with.
@@ -21,11 +22,21 @@ pub struct Head {
 }
 
 /// The header at the front, and the bytes behind it.
-pub fn header_at(bytes: &[u8]) -> Option<(Head, &[u8])>
+fn header_at(bytes: &[u8]) -> Option<(Head, &[u8])>
     ensures found { IfSome result (λ x. IsHead x.0 × (bytes.now ≡ head_bytes x.0 ++ x.1.now)) }
     ensures none { IfNone result (HasNoHeader bytes.now) }
 {
     let (format, rest) = format_at(LOG, bytes)?;
     let (from, rest) = u64_at(rest)?;
     Some((Head { format, from }, rest))
+}
+
+/// The header at the front, and the bytes after it; None where they only begin one. An Err where they begin none.
+pub fn next_header(bytes: &[u8]) -> Result<Option<(Head, &[u8])>, NoMagic>
+    ensures { FindsFront IsHead head_bytes bytes.now result }
+{
+    if !goes_with_magic(LOG, bytes) {
+        return Err(NoMagic);
+    }
+    Ok(header_at(bytes))
 }

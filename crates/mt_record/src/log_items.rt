@@ -2,18 +2,20 @@
 ghost use Rattle.std.specs.Prelude.{◌≡◌, ◌==◌, List, ℕ, None, Some, length, not, IfOk, IfErr, OnErr, MatchOption};
 ghost use Rattle.mt_words.specs.Limits.{limits_of};
 ghost use Rattle.mt_words.specs.Changes.{Logged};
+ghost use Rattle.mt_record.specs.declared.read.FeedFault.TheVariants.{Header};
 ghost use Rattle.mt_record.specs.Logs.{IsTextIn};
 ghost use Rattle.mt_record.specs.LogFaults.{IsAnswered};
-ghost use Rattle.mt_record.specs.Feeding.{HasRead};
-ghost use Rattle.mt_record.specs.LogFeeding.{so_far, HoldsLog, IsLeft, IsLogLeft, IsFaultyBy, IsLogFaulty, StepsLog, ReadsNext};
+ghost use Rattle.mt_record.specs.Heads.{IsHead, head_bytes};
+ghost use Rattle.mt_record.specs.Feeding.{HasRead, StepsHeader};
+ghost use Rattle.mt_record.specs.LogFeeding.{so_far, headed, HoldsLog, IsLeft, IsLogLeft, IsFaultyBy, IsLogFaulty, StepsLog, ReadsNext};
 ghost use Rattle.mt_record.specs.MoreBytes.{log_faulty_on, log_refused};
 
 use crate::fields::u32_at;
 use crate::frame::next_record;
-use crate::head::{HEADER_BYTES, Head, LOG, header_at};
+use crate::head::{HEADER_BYTES, Head, next_header};
 use crate::items::{Items, Step};
 use crate::kept::Records;
-use crate::magic::goes_with_magic;
+use crate::magic::NoMagic;
 use crate::read::{FeedFault, LogText};
 
 /// What was read of a log so far.
@@ -66,17 +68,16 @@ impl<R: Records> Items for LogItems<R> {
 impl<R: Records> LogItems<R> {
     /// Reads the header.
     fn read_header<'a>(&mut self, bytes: &'a [u8]) -> Step<'a, FeedFault>
-        requires { self.old.head ≡ None }
-        ensures { StepsLog R.listed self.old self.new bytes.now result }
+        ensures { StepsHeader IsHead head_bytes headed Header self.old self.new bytes.now result }
     {
-        if !goes_with_magic(LOG, bytes) {
-            return Err(FeedFault::Header);
+        match next_header(bytes) {
+            Ok(Some((head, after))) => {
+                self.head = Some(head);
+                Ok(Some(after))
+            }
+            Ok(None) => Ok(None),
+            Err(NoMagic) => Err(FeedFault::Header),
         }
-        let Some((head, after)) = header_at(bytes) else {
-            return Ok(None);
-        };
-        self.head = Some(head);
-        Ok(Some(after))
     }
 
     /// Reads a record.

@@ -6,6 +6,10 @@ ghost use Rattle.mt_record.specs.Fronts.{GoesWithMagic};
 
 use mt_words::Format;
 
+/// That bytes neither begin with the letters and the digit of a format, nor begin those.
+#[derive(Clone, Copy)]
+pub struct NoMagic;
+
 /// The format of a file that begins with these letters, and the bytes behind its digit.
 pub fn format_at<'a>(letters: &[u8], bytes: &'a [u8]) -> Option<(Format, &'a [u8])>
     ensures found { IfSome result (λ x. bytes.now ≡ magic letters.now x.0 ++ x.1.now) }

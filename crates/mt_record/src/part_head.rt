@@ -1,10 +1,11 @@
 //! Headers of parts, and how long a footer is.
 ghost use Rattle.std.specs.Prelude.{◌≡◌, ◌++◌, IfSome, IfNone};
+ghost use Rattle.mt_record.specs.Fronts.{FindsFront};
 ghost use Rattle.mt_record.specs.Parts.{IsPartHead, part_head_bytes};
 ghost use Rattle.mt_record.specs.PartFaults.{HasNoPartHeader};
 
 use crate::fields::{u16_at, u32_at, u64_at};
-use crate::magic::format_at;
+use crate::magic::{NoMagic, format_at, goes_with_magic};
 use crate::part_text::PartHead;
 
 /// The letters that a part begins with.
@@ -17,7 +18,7 @@ pub const PART_HEADER_BYTES: usize = 20;
 pub const FOOTER_BYTES: usize = 16;
 
 /// The header at the front, and the bytes behind it.
-pub fn part_header_at(bytes: &[u8]) -> Option<(PartHead, &[u8])>
+fn part_header_at(bytes: &[u8]) -> Option<(PartHead, &[u8])>
     ensures found { IfSome result (λ x. IsPartHead x.0 × (bytes.now ≡ part_head_bytes x.0 ++ x.1.now)) }
     ensures none { IfNone result (HasNoPartHeader bytes.now) }
 {
@@ -34,4 +35,14 @@ pub fn part_header_at(bytes: &[u8]) -> Option<(PartHead, &[u8])>
         parts,
     };
     Some((head, rest))
+}
+
+/// The header at the front, and the bytes after it; None where they only begin one. An Err where they begin none.
+pub fn next_part_header(bytes: &[u8]) -> Result<Option<(PartHead, &[u8])>, NoMagic>
+    ensures { FindsFront IsPartHead part_head_bytes bytes.now result }
+{
+    if !goes_with_magic(PART, bytes) {
+        return Err(NoMagic);
+    }
+    Ok(part_header_at(bytes))
 }

@@ -1,19 +1,19 @@
 //! The items of a part, one behind the other: its header, its entries and its footer.
 ghost use Rattle.std.specs.Prelude.{◌≡◌, ◌≢◌, ◌++◌, List, ℕ, None, Some, IfOk, IfErr, length};
 ghost use Rattle.byteorder.specs.Endian.{big_bytes};
-ghost use Rattle.mt_record.specs.declared.part_text.PartFault.TheVariants.{Broken};
-ghost use Rattle.mt_record.specs.Parts.{IsPartText};
+ghost use Rattle.mt_record.specs.declared.part_text.PartFault.TheVariants.{Broken, Header};
+ghost use Rattle.mt_record.specs.Parts.{IsPartHead, part_head_bytes, IsPartText};
 ghost use Rattle.mt_record.specs.PartFaults.{IsPartAnswered};
-ghost use Rattle.mt_record.specs.Feeding.{HasRead};
-ghost use Rattle.mt_record.specs.PartFeeding.{so_far, HoldsPart, IsPartLeft, IsPartFaulty, StepsPart};
+ghost use Rattle.mt_record.specs.Feeding.{HasRead, StepsHeader};
+ghost use Rattle.mt_record.specs.PartFeeding.{so_far, headed, HoldsPart, IsPartLeft, IsPartFaulty, StepsPart};
 ghost use Rattle.mt_record.specs.MoreBytes.{part_faulty_on, part_refused};
 
 use crate::fields::{u32_at, u64_at};
 use crate::frame::next_entry;
 use crate::items::{Items, Step};
 use crate::kept::Entries;
-use crate::magic::goes_with_magic;
-use crate::part_head::{FOOTER_BYTES, PART, PART_HEADER_BYTES, part_header_at};
+use crate::magic::NoMagic;
+use crate::part_head::{FOOTER_BYTES, PART_HEADER_BYTES, next_part_header};
 use crate::part_text::{PartFault, PartHead, PartText};
 
 /// What was read of a part so far.
@@ -71,17 +71,16 @@ impl<E: Entries> Items for PartItems<E> {
 impl<E: Entries> PartItems<E> {
     /// Reads the header.
     fn read_header<'a>(&mut self, bytes: &'a [u8]) -> Step<'a, PartFault>
-        requires { self.old.head ≡ None }
-        ensures { StepsPart E.listed self.old self.new bytes.now result }
+        ensures { StepsHeader IsPartHead part_head_bytes headed Header self.old self.new bytes.now result }
     {
-        if !goes_with_magic(PART, bytes) {
-            return Err(PartFault::Header);
+        match next_part_header(bytes) {
+            Ok(Some((head, after))) => {
+                self.head = Some(head);
+                Ok(Some(after))
+            }
+            Ok(None) => Ok(None),
+            Err(NoMagic) => Err(PartFault::Header),
         }
-        let Some((head, after)) = part_header_at(bytes) else {
-            return Ok(None);
-        };
-        self.head = Some(head);
-        Ok(Some(after))
     }
 
     /// Reads an entry, or the footer, which begins with a length of zero.

@@ -69,19 +69,17 @@ const ON_BOTH: &[Run] = &[
     ("mtdump F/a.mtl F/c.txt", (1, "mtdump: log 1: header\n")),
 ];
 
-/// On a full output. No write of no bytes is made.
+/// On an output that is full, at once or when its buffer is written.
 const ON_FULL: &[Run] = &[
     ("mtrecover dump F", (3, "mtrecover: output failed\n")),
-    ("mtrecover --version", (3, "mtrecover: output failed\n")),
-    ("mtrecover range F 62 0", (0, "")),
     ("mtdump F/a.mtl", (3, "mtdump: output failed\n")),
-    ("mtdump F/d.txt", (0, "")),
 ];
 
-/// On an output that is full once its buffer is written.
-const ON_UNFLUSHED: &[Run] = &[
-    ("mtrecover dump F", (3, "mtrecover: output failed\n")),
-    ("mtdump F/a.mtl", (3, "mtdump: output failed\n")),
+/// On an output that is full at once. No write of no bytes is made.
+const ON_FULL_AT_ONCE: &[Run] = &[
+    ("mtrecover --version", (3, "mtrecover: output failed\n")),
+    ("mtrecover range F 62 0", (0, "")),
+    ("mtdump F/d.txt", (0, "")),
 ];
 
 /// Where the error output is full, too. A line that cannot be written changes no status.
@@ -96,7 +94,8 @@ const ON_NEITHER: &[Run] = &[
 const RUNS: &[([Device; 2], &[Run])] = &[
     (BOTH_WORK, ON_BOTH),
     ([Full, Works], ON_FULL),
-    ([Unflushed, Works], ON_UNFLUSHED),
+    ([Unflushed, Works], ON_FULL),
+    ([Full, Works], ON_FULL_AT_ONCE),
     ([Full, Full], ON_NEITHER),
 ];
 

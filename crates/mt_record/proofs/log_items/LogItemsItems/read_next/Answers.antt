@@ -1,5 +1,8 @@
-use Rattle.mt_record.proofs.LogFeeds.{steps_by}
+use Rattle.mt_record.proofs.LogFeeds.{steps_header, steps_by}
 use Rattle.mt_record.proofs.log_items.LogItemsItems.read_next.Goals as goal
+
+pub returns-in_default : goal.returns-in_default
+returns-in_default g c = steps_header g.R.Records.listed c.args.self.now c.read_header.new.self c.args.bytes.now c.read_header.result c.in_default.is c.read_header.ensures
 
 pub returns : goal.returns
 returns g c =

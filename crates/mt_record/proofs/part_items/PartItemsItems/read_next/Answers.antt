@@ -1,6 +1,9 @@
 use Rattle.std.proofs.Common.{◌<◌, Some, length, rules}
-use Rattle.mt_record.proofs.PartItems.{broken}
+use Rattle.mt_record.proofs.PartItems.{steps_header, broken}
 use Rattle.mt_record.proofs.part_items.PartItemsItems.read_next.Goals as goal
+
+pub returns-in_default : goal.returns-in_default
+returns-in_default g c = steps_header g.E.Entries.listed c.args.self.now c.read_header.new.self c.args.bytes.now c.read_header.result c.in_default.is c.read_header.ensures
 
 pub returns : goal.returns
 returns g c =
