@@ -23,7 +23,7 @@ use Rattle.mt_scan.specs.Choice.{checkpoint_in}
 use Rattle.mt_recover.specs.declared.replayed.Replay.{Replay}
 use Rattle.mt_recover.specs.declared.survivors.LogSurvivors.{LogSurvivors}
 use Rattle.mt_recover.specs.declared.survivors.Survivors.{Survivors}
-use Rattle.mt_recover.specs.Start.{surviving, IsLeftBy, AreBoth, AreSurvivorsOf}
+use Rattle.mt_recover.specs.Start.{surviving, IsLeftBy, cells_of, AreBoth, AreSurvivorsOf}
 use Rattle.mt_recover.specs.Report.{is_early}
 use Rattle.mt_recover.proofs.ReportLemmas.{length-filter_flat}
 use Rattle.mt_recover.specs.Survivors.{entry_updates}
@@ -75,13 +75,14 @@ pub all_answered : {J X : Type 0} (P : J → X → Type 0) (count : ℕ) (jobs :
 all_answered P count jobs answers done all are = done_of P count jobs done (subst (AllZip (IsAnswerOf P count) jobs) are all)
 
 -- the cells of all scans
-cells_of_all : (window : Window) (scans : List LogScan) (logs : List LogSurvivors) → AllZip (IsLeftBy window) scans logs → IsPermutation (kept_in window scans) (together (map (λ log. log.cells) logs))
+cells_of_all : (window : Window) (scans : List LogScan) (logs : List LogSurvivors) → AllZip (IsLeftBy window) scans logs → IsPermutation (kept_in window scans) (together (cells_of logs))
 cells_of_all window [] [] all = IsPermutation-refl []
 cells_of_all window [] (l ∷ ls) all = absurd all
 cells_of_all window (s ∷ ss) [] all = absurd all
 cells_of_all window (s ∷ ss) (l ∷ ls) all =
-    subst (λ (us : List Update). IsPermutation us (l.cells ++ together (map (λ log. log.cells) ls))) (sym (filter-append (in_window window) (kept_by s) (kept ss)))
-    (IsPermutation-append (filter (in_window window) (kept_by s)) l.cells (kept_in window ss) (together (map (λ log. log.cells) ls)) all.0.cells (cells_of_all window ss ls all.1))
+    subst (IsPermutation (kept_in window (s ∷ ss))) (sym (together_append l.cells.items (cells_of ls)))
+    (subst (λ (us : List Update). IsPermutation us (together l.cells.items ++ together (cells_of ls))) (sym (filter-append (in_window window) (kept_by s) (kept ss)))
+    (IsPermutation-append (filter (in_window window) (kept_by s)) (together l.cells.items) (kept_in window ss) (together (cells_of ls)) all.0.cells (cells_of_all window ss ls all.1)))
 
 -- the early updates of all scans
 early_of_all : (window : Window) (scans : List LogScan) (logs : List LogSurvivors) → AllZip (IsLeftBy window) scans logs
@@ -103,7 +104,7 @@ pub survivors_of_both : (replay : Replay) (logs : List LogSurvivors) (parts : Li
 survivors_of_both replay logs parts of_logs of_parts survivors are =
     let window = replay.window in
     let scans = replay.scans.items in
-    let cells = map (λ (log : LogSurvivors). log.cells) logs in
+    let cells = cells_of logs in
     record {
       early = are.early ∙ early_of_all window scans logs of_logs ∙ sym (length-filter_flat (is_early window.begin) kept_by scans);
       cells =

@@ -1,5 +1,6 @@
 -- From where recovery starts: what is replayed, and over which checkpoint.
-use Rattle.std.specs.Prelude.{◌≡◌, ℕ, ◌+◌, ◌-◌, ◌≤◌, List, ◌++◌, length, map, filter, sum_by, IsPermutation}
+use Rattle.std.specs.Prelude.{◌≡◌, ℕ, ◌+◌, ◌-◌, ◌≤◌, List, ◌++◌, length, filter, sum_by, IsPermutation}
+use Rattle.std.specs.List.{flat_map}
 use Rattle.std.specs.Option.{option_map}
 use Rattle.mt_words.specs.declared.update.Update.{Update}
 use Rattle.mt_scan.specs.declared.log_scan.LogScan.{LogScan}
@@ -58,12 +59,16 @@ surviving replay = kept_in replay.window replay.scans.items ++ entry_updates (op
 -- the cells of what survives of a scan, and how many of its updates come early
 pub record IsLeftBy (window : Window) (scan : LogScan) (log : LogSurvivors) : Type 0 where
   pub early : log.early ≡ length (filter (is_early window.begin) (kept_by scan))
-  pub cells : IsPermutation (filter (in_window window) (kept_by scan)) log.cells
+  pub cells : IsPermutation (filter (in_window window) (kept_by scan)) (together log.cells.items)
+
+-- the cells of logs
+abbrev pub cells_of : List LogSurvivors → List (List Update)
+cells_of logs = flat_map (λ log. log.cells.items) logs
 
 -- those of logs and the cells of parts, together
 pub record AreBoth (logs : List LogSurvivors) (parts : List (List Update)) (survivors : Survivors) : Type 0 where
   pub early : survivors.early ≡ sum_by (λ log. log.early) logs
-  pub lists : survivors.lists.items ≡ map (λ log. log.cells) logs ++ parts
+  pub lists : survivors.lists.items ≡ cells_of logs ++ parts
 
 -- what survives of all scans and of the chosen checkpoint, and how many updates come early
 pub record AreSurvivorsOf (replay : Replay) (survivors : Survivors) : Type 0 where

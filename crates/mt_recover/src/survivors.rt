@@ -26,7 +26,7 @@ use std::thread::Threads;
 pub(crate) struct Survivors {
     /// How many updates of the logs lie below the window.
     pub early: u128,
-    /// The cells of each log, and of each part of the checkpoint.
+    /// The cells of the logs, and of each part of the checkpoint.
     pub lists: Vec<LogCells>,
 }
 
@@ -34,7 +34,7 @@ pub(crate) struct Survivors {
 #[derive(Drop)]
 struct LogSurvivors {
     early: u64,
-    cells: LogCells,
+    cells: Vec<LogCells>,
 }
 
 impl LogSurvivors {
@@ -104,7 +104,8 @@ fn both(alloc: Global, logs: Vec<LogSurvivors>, parts: Vec<LogCells>) -> Result<
     let mut parts = parts;
     let mut lists = Vec::with_capacity(alloc, logs.len())?;
     for log in logs {
-        lists.push(log.cells)?;
+        let mut cells = log.cells;
+        lists.append(&mut cells)?;
     }
     lists.append(&mut parts)?;
     Ok(Survivors { early, lists })

@@ -1,8 +1,9 @@
 -- The updates of bodies.
-use Rattle.std.proofs.Common.{◌≡◌, ℕ, zero, suc, ◌+◌, ◌<◌, List, [], ◌∷◌, ◌++◌, length, take, get_or, refl, sym, ap, ◌∙◌, arith}
+use Rattle.std.proofs.Common.{◌≡◌, ℕ, zero, suc, ◌+◌, ◌<◌, ◌≤◌, List, [], ◌∷◌, ◌++◌, length, take, get_or, IsPermutation, append_assoc, refl, sym, ap, subst, ◌∙◌, arith}
 use Rattle.std.specs.Prelude.{filter}
 use Rattle.std.proofs.Math.Seq.{take-suc}
-use Rattle.std.proofs.lemmas.List.{length-take-le}
+use Rattle.std.proofs.lemmas.List.{length-take-le, take_all, flat_map_more}
+use Rattle.std.proofs.lemmas.List.Sorted.{IsPermutation-refl, IsPermutation-append, IsPermutation-trans}
 use Rattle.std.proofs.lemmas.List.Elements.{filter-append}
 use Rattle.mt_words.specs.declared.update.Origin.{Origin}
 use Rattle.mt_words.specs.declared.update.Origin.TheVariants.{Checkpoint}
@@ -10,30 +11,54 @@ use Rattle.mt_words.specs.declared.update.Update.{Update}
 use Rattle.mt_words.specs.Changes.{Logged, mark_of}
 use Rattle.mt_words.specs.Updates.{update_of, updates_from}
 use Rattle.mt_record.specs.Decoding.{update_in}
-use Rattle.mt_record.specs.Kept.{Kept}
+use Rattle.mt_record.specs.Kept.{Kept, kept_updates}
 use Rattle.mt_record.proofs.RecordLemmas.{updates_push}
 use Rattle.mt_replay.specs.declared.window.Window.{Window}
-use Rattle.mt_replay.specs.Survivors.{in_window}
+use Rattle.mt_replay.specs.Survivors.{in_window, first_survivors}
+use Rattle.mt_replay.specs.Runs.{together}
 use Rattle.mt_replay.specs.Bodies.{updates_at}
 
 -- ---- survivors
 
 -- those of one record more
-pub survivors_step : (window : Window) (kept : Kept) (i : ℕ) (old new more : List Update) → i < length kept.records
+survivors_step : (window : Window) (kept : Kept) (i : ℕ) (more : List Update) → i < length kept.records
     → ((d : Logged) → more ≡ update_of kept.log i (get_or kept.records i d))
-    → old ≡ filter (in_window window) (updates_from kept.log 0 (take i kept.records)) → new ≡ old ++ filter (in_window window) more
-    → new ≡ filter (in_window window) (updates_from kept.log 0 (take (i + 1) kept.records))
-survivors_step window kept i old new more below is so_far added =
+    → first_survivors window kept i ++ filter (in_window window) more ≡ first_survivors window kept (i + 1)
+survivors_step window kept i more below is =
     let one : i + 1 ≡ suc i = omega arith in
-    let r : Logged = get_or kept.records i (mark_of 0) in
     let longer : take (i + 1) kept.records ≡ take i kept.records ++ get_or kept.records i (mark_of 0) ∷ [] = ap (λ (n : ℕ). take n kept.records) one ∙ take-suc kept.records i (mark_of 0) below in
     let long = length-take-le i kept.records (omega (arith, below)) in
     let pushed = updates_push kept.log 0 i (take i kept.records) (get_or kept.records i (mark_of 0)) (omega (arith, long)) in
-    added
-    ∙ (λ j. so_far j ++ filter (in_window window) (is (mark_of 0) j))
+    ap (λ (us : List Update). first_survivors window kept i ++ filter (in_window window) us) (is (mark_of 0))
     ∙ sym (filter-append (in_window window) (updates_from kept.log 0 (take i kept.records)) (update_of kept.log i (get_or kept.records i (mark_of 0))))
     ∙ ap (filter (in_window window)) (sym pushed)
     ∙ ap (λ (rs : List Logged). filter (in_window window) (updates_from kept.log 0 rs)) (sym longer)
+
+-- the same in a stretch, behind those of the records before it
+pub stretch_step : (window : Window) (kept : Kept) (from i : ℕ) (old new more : List Update) → i < length kept.records
+    → ((d : Logged) → more ≡ update_of kept.log i (get_or kept.records i d))
+    → first_survivors window kept i ≡ first_survivors window kept from ++ old → new ≡ old ++ filter (in_window window) more
+    → first_survivors window kept (i + 1) ≡ first_survivors window kept from ++ new
+stretch_step window kept from i old new more below is so_far added =
+    sym (survivors_step window kept i more below is)
+    ∙ ap (λ (us : List Update). us ++ filter (in_window window) more) so_far
+    ∙ append_assoc (first_survivors window kept from) old (filter (in_window window) more)
+    ∙ ap (λ (us : List Update). first_survivors window kept from ++ us) (sym added)
+
+-- those of all records
+pub all_survivors : (window : Window) (kept : Kept) (count : ℕ) → length kept.records ≤ count → first_survivors window kept count ≡ filter (in_window window) (kept_updates kept)
+all_survivors window kept count all = ap (λ (rs : List Logged). filter (in_window window) (updates_from kept.log 0 rs)) (take_all count kept.records all)
+
+-- the cells of one stretch more
+pub stretch_more : (window : Window) (kept : Kept) (from end : ℕ) (lists more : List (List Update)) (cells : List Update)
+    → IsPermutation (first_survivors window kept from) (together lists) → IsPermutation (first_survivors window kept end) (first_survivors window kept from ++ cells)
+    → more ≡ lists ++ cells ∷ [] → IsPermutation (first_survivors window kept end) (together more)
+stretch_more window kept from end lists more cells so_far stretch added =
+    let before = first_survivors window kept from in
+    let joined : together more ≡ together lists ++ cells = ap together added ∙ sym (flat_map_more (λ (us : List Update). us) [] lists cells) in
+    subst (IsPermutation (first_survivors window kept end)) (sym joined)
+    (IsPermutation-trans (first_survivors window kept end) (before ++ cells) (together lists ++ cells) stretch
+    (IsPermutation-append before (together lists) cells cells so_far (IsPermutation-refl cells)))
 
 -- ---- bodies
 

@@ -1,5 +1,5 @@
 -- The updates of logs and of a checkpoint, and which of them survive.
-use Rattle.std.specs.Prelude.{ℕ, suc, ◌&&◌, ◌||◌, Bool, true, false, nat_lt, nat_le, List, [], ◌∷◌, ◌++◌, map, filter}
+use Rattle.std.specs.Prelude.{ℕ, suc, ◌&&◌, ◌||◌, Bool, true, false, nat_lt, nat_le, List, [], ◌∷◌, ◌++◌, map, filter, take}
 use Rattle.mt_words.specs.declared.record.Change.{Change}
 use Rattle.mt_words.specs.declared.update.Kind.{Kind}
 use Rattle.mt_words.specs.declared.update.Kind.TheVariants.{Put, Remove, Whole}
@@ -7,6 +7,7 @@ use Rattle.mt_words.specs.declared.update.Origin.TheVariants as origins
 use Rattle.mt_words.specs.declared.update.Update.{Update}
 use Rattle.mt_words.specs.Changes.{Logged}
 use Rattle.mt_words.specs.Updates.{update_at, updates_from}
+use Rattle.mt_record.specs.Kept.{Kept}
 use Rattle.mt_replay.specs.declared.window.Window.{Window}
 
 -- the updates of logs, which are numbered from log on
@@ -28,6 +29,10 @@ is_within window timestamp = nat_le window.begin timestamp && nat_lt timestamp w
 
 abbrev pub in_window : Window → Update → Bool
 in_window window update = is_within window update.timestamp
+
+-- those of the first records of a log, so many
+abbrev pub first_survivors : Window → Kept → ℕ → List Update
+first_survivors window kept count = filter (in_window window) (updates_from kept.log 0 (take count kept.records))
 
 -- the log updates in the window
 abbrev pub log_survivors : Window → List (List Logged) → List Update

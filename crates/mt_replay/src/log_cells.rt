@@ -1,9 +1,10 @@
 //! The surviving updates of a log, by rising key.
-ghost use Rattle.std.specs.Prelude.{◌≡◌, ◌≤◌, ◌<◌, true, false, IsTrue, IfOk, IsPermutation, List, length, filter, slice_index_or};
+ghost use Rattle.std.specs.Prelude.{◌≡◌, ◌≤◌, ◌<◌, ◌++◌, true, false, IsTrue, IfOk, IsPermutation, List, length, filter, slice_index_or};
 ghost use Rattle.std.specs.List.Sorted.{IsPartitionPoint};
 ghost use Rattle.mt_words.specs.declared.update.Update.{Update as UpdateValue};
 ghost use Rattle.mt_record.specs.Kept.{kept_updates};
-ghost use Rattle.mt_replay.specs.Survivors.{in_window, survives as survives_in, wholes};
+ghost use Rattle.mt_replay.specs.Survivors.{in_window, survives as survives_in, wholes, first_survivors};
+ghost use Rattle.mt_replay.specs.Runs.{together};
 ghost use Rattle.mt_replay.specs.Cuts.{is_below, InKeyOrder};
 
 use crate::Window;
@@ -14,6 +15,10 @@ use mt_record::{KeptEntries, Lent, Updates};
 use mt_words::{Memory, Update};
 use std::alloc::Global;
 use std::marker::Model;
+
+/// How many records of a log are put in order together. So many have room in the caches of a processor, where to sort
+/// them and to copy their bodies takes much less time; to merge a few more lists takes less than is spared.
+const STRETCH: usize = 131_072;
 
 /// Where the updates of cells lie.
 #[derive(Drop)]
@@ -56,14 +61,36 @@ impl LogCells {
         gather(alloc, bodies.size(), &sliced)
     }
 
-    /// The updates of a log in the window.
-    pub fn of_log(alloc: Global, updates: &Updates, window: Window) -> Result<LogCells, Memory>
-        ensures { IfOk result (λ cells.
-            IsPermutation (filter (in_window window) (kept_updates updates.now)) cells) }
+    /// The updates of a log in the window, in cells of their own for each stretch of its records.
+    pub fn of_log(alloc: Global, updates: &Updates, window: Window) -> Result<Vec<LogCells>, Memory>
+        ensures { IfOk result (λ lists.
+            IsPermutation (filter (in_window window) (kept_updates updates.now)) (together lists.items)) }
     {
-        let mut sliced = survivors(alloc, updates, window)?;
+        let mut lists = Vec::new(alloc);
+        let mut from = 0;
+        while from < updates.record_count() {
+            let end = from.saturating_add(STRETCH).min(updates.record_count());
+            lists.push(LogCells::of_stretch(alloc, updates, window, from, end)?)?;
+            from = end;
+        }
+        Ok(lists)
+    }
+
+    /// The updates in the window, of the records from one on until before another.
+    fn of_stretch(
+        alloc: Global,
+        updates: &Updates,
+        window: Window,
+        from: usize,
+        end: usize,
+    ) -> Result<LogCells, Memory>
+        requires { (from ≤ end) × (end ≤ length updates.now.records) }
+        ensures { IfOk result (λ cells. IsPermutation (first_survivors window updates.now end)
+            (first_survivors window updates.now from ++ cells)) }
+    {
+        let mut sliced = survivors(alloc, updates, window, from, end)?;
         sort_by_key(&mut sliced);
-        gather(alloc, updates.size(), &sliced)
+        gather(alloc, size_of(&sliced), &sliced)
     }
 
     /// The entries of a checkpoint: no window leaves one out. Where their keys rise already, as those of a valid
@@ -142,6 +169,15 @@ fn are_in_order(entries: &KeptEntries) -> bool
         }
     }
     true
+}
+
+/// How many bytes the bodies of these updates have together, as far as a usize counts.
+fn size_of(updates: &[Sliced<'_>]) -> usize {
+    let mut size = 0usize;
+    for sliced in updates {
+        size = size.saturating_add(sliced.update().body().len());
+    }
+    size
 }
 
 /// Cells of these updates, whose bodies have so many bytes at the most.

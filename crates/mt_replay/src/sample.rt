@@ -10,8 +10,9 @@ use rayon::prelude::*;
 use std::alloc::Global;
 use std::thread::Threads;
 
-/// How many keys are in the sample for each piece, or about so many: enough that none gets much more than its share.
-const KEYS_OF_PIECE: usize = 16;
+/// How many keys are in the sample for each piece, or about so many: enough that none gets much more than its share, and
+/// that there are some of each stretch of a long log.
+const KEYS_OF_PIECE: usize = 64;
 
 /// Keys at equal distances in the lists, each once, in order: some for each of so many pieces.
 pub(crate) fn sample<'a>(

@@ -1,11 +1,11 @@
 //! Updates that are lent from their bodies, each with the slices of its key: those that survive, and their order.
-ghost use Rattle.std.specs.Prelude.{◌≡◌, ◌++◌, IfOk, OnOk, IsPermutation, filter};
+ghost use Rattle.std.specs.Prelude.{◌≡◌, ◌≤◌, ◌++◌, IfOk, OnOk, IsPermutation, length, filter};
 ghost use Rattle.std.specs.Ordering.{nat_cmp};
 ghost use Rattle.std.specs.Cmp.Lexicographic.{slice_cmp};
 ghost use Rattle.mt_words.specs.Limits.{widest};
 ghost use Rattle.mt_words.specs.Words.{IsKey};
-ghost use Rattle.mt_record.specs.Kept.{kept_updates, listed};
-ghost use Rattle.mt_replay.specs.Survivors.{in_window, wholes};
+ghost use Rattle.mt_record.specs.Kept.{listed};
+ghost use Rattle.mt_replay.specs.Survivors.{in_window, wholes, first_survivors};
 ghost use Rattle.mt_replay.specs.Cuts.{InKeyOrder};
 
 use crate::Window;
@@ -42,6 +42,7 @@ impl<'a> Model for Sliced<'a> {
 
 impl<'a> Sliced<'a> {
     /// The update, with what its key gives.
+    #[inline(always)]
     pub(crate) fn of(update: Lent<'a>) -> Sliced<'a>
         ensures { result ≡ update.entry }
     {
@@ -86,16 +87,20 @@ impl<'a> Sliced<'a> {
     }
 }
 
-/// The updates in the window, in the order of their records.
+/// The updates in the window, of the records from one on until before another, in their order.
 pub(crate) fn survivors<'a>(
     alloc: Global,
     updates: &'a Updates,
     window: Window,
+    from: usize,
+    end: usize,
 ) -> Result<Vec<Sliced<'a>>, Memory>
-    ensures { IfOk result (λ sliced. sliced.items ≡ filter (in_window window) (kept_updates updates.now)) }
+    requires { (from ≤ end) × (end ≤ length updates.now.records) }
+    ensures { IfOk result (λ sliced.
+        first_survivors window updates.now end ≡ first_survivors window updates.now from ++ sliced.items) }
 {
-    let mut sliced = Vec::with_capacity(alloc, updates.record_count())?;
-    for number in 0..updates.record_count() {
+    let mut sliced = Vec::with_capacity(alloc, end - from)?;
+    for number in from..end {
         add_survivor(&mut sliced, updates.update(number), window)?;
     }
     Ok(sliced)

@@ -1,9 +1,7 @@
-use Rattle.std.proofs.Common.{◌≡◌, take}
-use Rattle.std.specs.Prelude.{filter}
-use Rattle.mt_words.specs.Updates.{updates_from}
-use Rattle.mt_replay.specs.Survivors.{in_window}
+use Rattle.std.proofs.Common.{◌≡◌, ◌++◌}
+use Rattle.mt_replay.specs.Survivors.{first_survivors}
 use Rattle.mt_replay.proofs.sliced.survivors.Given as goal
 
--- those of the first records
+-- those of the records so far, behind those of the records before
 abbrev pub invariant-loop-number : goal.invariant-loop-number
-invariant-loop-number l = l.sliced.items ≡ filter (in_window l.window) (updates_from l.updates.log 0 (take l.number l.updates.records))
+invariant-loop-number l = first_survivors l.window l.updates l.number ≡ first_survivors l.window l.updates l.from ++ l.sliced.items
