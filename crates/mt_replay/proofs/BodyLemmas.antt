@@ -1,8 +1,8 @@
 -- The updates of bodies.
-use Rattle.std.proofs.Common.{◌≡◌, ℕ, zero, suc, ◌+◌, ◌<◌, ◌≤◌, List, [], ◌∷◌, ◌++◌, length, take, get_or, IsPermutation, append_assoc, refl, sym, ap, subst, ◌∙◌, arith}
+use Rattle.std.proofs.Common.{◌≡◌, ℕ, zero, suc, ◌+◌, ◌<◌, List, [], ◌∷◌, ◌++◌, length, take, get_or, IsPermutation, append_assoc, refl, sym, ap, subst, ◌∙◌, arith}
 use Rattle.std.specs.Prelude.{filter}
 use Rattle.std.proofs.Math.Seq.{take-suc}
-use Rattle.std.proofs.lemmas.List.{length-take-le, take_all, flat_map_more}
+use Rattle.std.proofs.lemmas.List.{length-take-le, flat_map_more}
 use Rattle.std.proofs.lemmas.List.Sorted.{IsPermutation-refl, IsPermutation-append, IsPermutation-trans}
 use Rattle.std.proofs.lemmas.List.Elements.{filter-append}
 use Rattle.mt_words.specs.declared.update.Origin.{Origin}
@@ -11,7 +11,7 @@ use Rattle.mt_words.specs.declared.update.Update.{Update}
 use Rattle.mt_words.specs.Changes.{Logged, mark_of}
 use Rattle.mt_words.specs.Updates.{update_of, updates_from}
 use Rattle.mt_record.specs.Decoding.{update_in}
-use Rattle.mt_record.specs.Kept.{Kept, kept_updates}
+use Rattle.mt_record.specs.Kept.{Kept}
 use Rattle.mt_record.proofs.RecordLemmas.{updates_push}
 use Rattle.mt_replay.specs.declared.window.Window.{Window}
 use Rattle.mt_replay.specs.Survivors.{in_window, first_survivors}
@@ -44,10 +44,6 @@ stretch_step window kept from i old new more below is so_far added =
     ∙ ap (λ (us : List Update). us ++ filter (in_window window) more) so_far
     ∙ append_assoc (first_survivors window kept from) old (filter (in_window window) more)
     ∙ ap (λ (us : List Update). first_survivors window kept from ++ us) (sym added)
-
--- those of all records
-pub all_survivors : (window : Window) (kept : Kept) (count : ℕ) → length kept.records ≤ count → first_survivors window kept count ≡ filter (in_window window) (kept_updates kept)
-all_survivors window kept count all = ap (λ (rs : List Logged). filter (in_window window) (updates_from kept.log 0 rs)) (take_all count kept.records all)
 
 -- the cells of one stretch more
 pub stretch_more : (window : Window) (kept : Kept) (from end : ℕ) (lists more : List (List Update)) (cells : List Update)

@@ -42,7 +42,6 @@ impl<'a> Model for Sliced<'a> {
 
 impl<'a> Sliced<'a> {
     /// The update, with what its key gives.
-    #[inline(always)]
     pub(crate) fn of(update: Lent<'a>) -> Sliced<'a>
         ensures { result ≡ update.entry }
     {
