@@ -53,11 +53,6 @@ impl KeptRecords {
         self.bodies.len()
     }
 
-    /// How many bytes their bodies have together.
-    pub(crate) fn size(&self) -> usize {
-        self.bodies.size()
-    }
-
     /// How many of them are marks, as far as a u64 counts.
     pub fn marks(&self) -> u64
         ensures { result ≡ count_of (filter is_mark self.now) }

@@ -57,11 +57,6 @@ impl Updates {
         self.records.len() - self.records.marks() as usize
     }
 
-    /// How many bytes the bodies of the records have together.
-    pub fn size(&self) -> usize {
-        self.records.size()
-    }
-
     /// The update of the record of this number, which a mark has not.
     pub fn update(&self, number: usize) -> Option<Lent<'_>>
         requires { number < length self.now.records }
