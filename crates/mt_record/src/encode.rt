@@ -82,7 +82,7 @@ fn columns_length(columns: &[Column]) -> usize
 fn column_length(column: &Column) -> usize
     ensures { result ≡ length (column_bytes column.now) }
 {
-    3 + column.bytes.len()
+    3 + column.bytes.as_slice().len()
 }
 
 /// Appends the body of the record.

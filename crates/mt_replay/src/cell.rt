@@ -7,7 +7,7 @@ ghost use Rattle.mt_replay.specs.Walk.{AreApart};
 ghost use Rattle.mt_replay.specs.Groups.{IsGroupOf, IsSound, AreColumnsOf};
 
 use crate::group::Group;
-use mt_words::{Columns, Kept, Memory, Update};
+use mt_words::{Columns, Kept, Memory, Update, Value};
 use std::alloc::Global;
 use std::marker::Model;
 
@@ -16,7 +16,7 @@ use std::marker::Model;
 /// cell takes no memory, and the bytes of the writes are moved.
 #[derive(Drop)]
 pub struct Cell {
-    group: Group<Vec<u8>>,
+    group: Group<Value>,
 }
 
 impl Model for Cell {

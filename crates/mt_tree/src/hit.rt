@@ -26,7 +26,7 @@ pub(crate) fn copy_wanted(
     let mut copies = Columns::with_capacity(alloc, columns.len())?;
     for column in columns.as_slice() {
         if wanted.has(column.number) {
-            copies.add(column.number, Vec::from_slice(alloc, &column.bytes)?)?;
+            copies.add(alloc, column.number, &column.bytes)?;
         }
     }
     Ok(copies)

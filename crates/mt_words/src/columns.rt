@@ -6,11 +6,18 @@ ghost use Rattle.mt_words.specs.Words.{AreColumns, CanFollow, NumbersRise, Numbe
 
 use crate::fault::Memory;
 use crate::limits::{GREATEST_COLUMN, LONGEST_VALUE};
-use crate::storage::{Inline, Kept, Storage};
+use crate::storage::{Inline, Kept, Storage, column_of};
 use arrayvec::ArrayVec;
+use smallvec::SmallVec;
 use std::alloc::Global;
 use std::default::MadeWith;
 use std::marker::Model;
+
+/// How many bytes of a value lie in its column: so many take no more room there than a list does.
+const SHORT_VALUE: usize = 16;
+
+/// The bytes of a column. Most are few, and take no memory of their own.
+pub type Value = SmallVec<u8, SHORT_VALUE>;
 
 /// One column: its number and its bytes.
 #[derive(Debug, Drop)]
@@ -18,7 +25,7 @@ pub struct Column {
     /// 0 to `GREATEST_COLUMN`.
     pub number: u8,
     /// At most `LONGEST_VALUE`.
-    pub bytes: Vec<u8>,
+    pub bytes: Value,
 }
 
 impl Model for Column {
@@ -33,7 +40,7 @@ impl MadeWith<Global> for Column {
     fn made_with(alloc: Global) -> Column {
         Column {
             number: 0,
-            bytes: Vec::new(alloc),
+            bytes: Value::new(alloc),
         }
     }
 }
@@ -131,6 +138,7 @@ impl Columns {
         if !may_follow(self.storage.columns.as_slice(), number) || bytes.len() > LONGEST_VALUE {
             return Err(bytes);
         }
+        let bytes = Value::from_vec(bytes);
         self.storage.columns.push(Column { number, bytes });
         Ok(())
     }
@@ -165,13 +173,13 @@ impl Columns<Kept> {
         })
     }
 
-    /// Adds a column behind the others. Where memory was refused, nothing has changed.
-    pub fn add(&mut self, number: u8, bytes: Vec<u8>) -> Result<(), Memory>
-        requires { CanFollow widest self.old (number, bytes.items) }
-        ensures ok { OnOk result (self.new ≡ self.old ++ (number, bytes.items) ∷ []) }
+    /// Adds a column with a copy of these bytes behind the others. Where memory was refused, nothing has changed.
+    pub fn add(&mut self, alloc: Global, number: u8, bytes: &[u8]) -> Result<(), Memory>
+        requires { CanFollow widest self.old (number, bytes.now) }
+        ensures ok { OnOk result (self.new ≡ self.old ++ (number, bytes.now) ∷ []) }
         ensures err { OnErr result (self.new ≡ self.old) }
     {
-        self.storage.push(Column { number, bytes })
+        self.storage.push(column_of(alloc, number, bytes)?)
     }
 }
 

@@ -12,7 +12,7 @@ mod slice;
 mod storage;
 mod update;
 
-pub use columns::{Column, Columns};
+pub use columns::{Column, Columns, Value};
 pub use entry::Entry;
 pub use fault::{Fault, Memory, What};
 pub use key::Key;

@@ -2,7 +2,7 @@
 ghost use Rattle.std.specs.Prelude.{◌≡◌, ◌++◌, [], ◌∷◌, IfOk, OnOk, OnErr};
 ghost use Rattle.mt_words.specs.Storages.{columns_of};
 
-use crate::columns::Column;
+use crate::columns::{Column, Value};
 use crate::fault::Memory;
 use crate::limits::MOST_COLUMNS;
 use arrayvec::ArrayVec;
@@ -157,8 +157,13 @@ fn list_of(first: &mut Column, column: Column) -> Result<Vec<Column>, Memory>
 fn copy_of(alloc: Global, column: &Column) -> Result<Column, Memory>
     ensures { IfOk result (λ copy. copy ≡ column.now) }
 {
-    Ok(Column {
-        number: column.number,
-        bytes: Vec::from_slice(alloc, &column.bytes)?,
-    })
+    column_of(alloc, column.number, &column.bytes)
+}
+
+/// The column of this number with a copy of these bytes.
+pub(crate) fn column_of(alloc: Global, number: u8, bytes: &[u8]) -> Result<Column, Memory>
+    ensures { IfOk result (λ column. column ≡ (number, bytes.now)) }
+{
+    let bytes = Value::from_slice(alloc, bytes)?;
+    Ok(Column { number, bytes })
 }

@@ -13,4 +13,4 @@ pub invariant_of-self : goal.invariant_of-self
 invariant_of-self c =
     let follows = c.may_follow.ensures.0 c.if-not-may_follow.false in
     let below = rw c.as_slice.ensures.value at follows in
-    rw c.push.ensures.items (columns_push widest c.self.inside.storage.columns.items (c.args.number, c.args.bytes.items) c.self.invariant ((below.0, omega arith), below.1))
+    rw c.push.ensures.items rw c.from_vec-bytes.ensures.items (columns_push widest c.self.inside.storage.columns.items (c.args.number, c.args.bytes.items) c.self.invariant ((below.0, omega arith), below.1))

@@ -1,7 +1,7 @@
 use Rattle.std.proofs.Common.{◌≡◌, ◌∙◌, ◌++◌, ◌∷◌, [], ℕ, List, subst, sym, ap, append_assoc}
 use Rattle.mt_replay.specs.Cells.{IsCellOf, written}
 use Rattle.mt_replay.proofs.BothLemmas.{cell_swapped}
-use Rattle.mt_replay.proofs.group.Group+Vec+u8.apply_columns.Goals as goal
+use Rattle.mt_replay.proofs.group.Group+Value.apply_columns.Goals as goal
 
 pub loop-column-preserved : goal.loop-column-preserved
 loop-column-preserved c =

@@ -1,6 +1,6 @@
 use Rattle.std.proofs.Common.{◌≡◌, ◌++◌, ℕ, List, length}
 use Rattle.mt_replay.specs.Cells.{Written, IsCellOf, written}
-use Rattle.mt_replay.proofs.group.Group+Vec+u8.apply_columns.Given as goal
+use Rattle.mt_replay.proofs.group.Group+Value.apply_columns.Given as goal
 
 -- the columns that were taken off are taken in
 abbrev pub invariant-loop-column : goal.invariant-loop-column

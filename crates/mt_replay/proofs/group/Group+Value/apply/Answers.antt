@@ -6,7 +6,7 @@ use Rattle.mt_record.specs.Decoding.{columns_of}
 use Rattle.mt_replay.specs.Cells.{Written, IsCellOf, written}
 use Rattle.mt_replay.specs.Groups.{IsLaterOf, IsResetAfter}
 use Rattle.mt_replay.proofs.GroupLemmas.{group_more}
-use Rattle.mt_replay.proofs.group.Group+Vec+u8.apply.Goals as goal
+use Rattle.mt_replay.proofs.group.Group+Value.apply.Goals as goal
 
 pub returns-in-Put-clause-group : goal.returns-in-Put-clause-group
 returns-in-Put-clause-group c = λ updates key of_key is.
