@@ -3,7 +3,7 @@ use Rattle.std.proofs.Common.{◌≡◌, ℕ, zero, suc, ◌+◌, ◌<◌, List,
 use Rattle.std.specs.Prelude.{filter}
 use Rattle.std.proofs.Math.Seq.{take-suc}
 use Rattle.std.proofs.lemmas.List.{length-take-le, flat_map_more}
-use Rattle.std.proofs.lemmas.List.Sorted.{IsPermutation-refl, IsPermutation-append, IsPermutation-trans}
+use Rattle.std.proofs.lemmas.List.Sorted.{IsPermutation-append}
 use Rattle.std.proofs.lemmas.List.Elements.{filter-append}
 use Rattle.mt_words.specs.declared.update.Origin.{Origin}
 use Rattle.mt_words.specs.declared.update.Origin.TheVariants.{Checkpoint}
@@ -46,15 +46,14 @@ stretch_step window kept from i old new more below is so_far added =
     ∙ ap (λ (us : List Update). first_survivors window kept from ++ us) (sym added)
 
 -- the cells of one stretch more
-pub stretch_more : (window : Window) (kept : Kept) (from end : ℕ) (lists more : List (List Update)) (cells : List Update)
-    → IsPermutation (first_survivors window kept from) (together lists) → IsPermutation (first_survivors window kept end) (first_survivors window kept from ++ cells)
+pub stretch_more : (window : Window) (kept : Kept) (from end : ℕ) (lists more : List (List Update)) (stretch cells : List Update)
+    → IsPermutation (first_survivors window kept from) (together lists) → first_survivors window kept end ≡ first_survivors window kept from ++ stretch → IsPermutation stretch cells
     → more ≡ lists ++ cells ∷ [] → IsPermutation (first_survivors window kept end) (together more)
-stretch_more window kept from end lists more cells so_far stretch added =
+stretch_more window kept from end lists more stretch cells so_far listed sorted added =
     let before = first_survivors window kept from in
     let joined : together more ≡ together lists ++ cells = ap together added ∙ sym (flat_map_more (λ (us : List Update). us) [] lists cells) in
-    subst (IsPermutation (first_survivors window kept end)) (sym joined)
-    (IsPermutation-trans (first_survivors window kept end) (before ++ cells) (together lists ++ cells) stretch
-    (IsPermutation-append before (together lists) cells cells so_far (IsPermutation-refl cells)))
+    subst (λ (us : List Update). IsPermutation us (together more)) (sym listed)
+    (subst (IsPermutation (before ++ stretch)) (sym joined) (IsPermutation-append before (together lists) stretch cells so_far sorted))
 
 -- ---- bodies
 

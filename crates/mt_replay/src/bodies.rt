@@ -49,11 +49,6 @@ impl Bodies {
         self.origins.len()
     }
 
-    /// How many bytes their bodies have together.
-    pub(crate) fn size(&self) -> usize {
-        self.texts.size()
-    }
-
     /// The update at this place.
     pub(crate) fn get(&self, at: usize) -> Lent<'_>
         requires { at < length self.now }

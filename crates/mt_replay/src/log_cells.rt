@@ -9,7 +9,7 @@ ghost use Rattle.mt_replay.specs.Cuts.{is_below, InKeyOrder};
 
 use crate::Window;
 use crate::bodies::Bodies;
-use crate::sliced::{Sliced, all_bodies, all_entries, sort_by_key, survivors};
+use crate::sliced::{Sliced, all_bodies, all_entries, list_survivors, sort_by_key};
 use crate::spelling::spell;
 use mt_record::{KeptEntries, Lent, Updates};
 use mt_words::{Memory, Update};
@@ -57,8 +57,7 @@ impl LogCells {
     {
         let bodies = spell(alloc, &updates, window)?;
         let mut sliced = all_bodies(alloc, &bodies)?;
-        sort_by_key(&mut sliced);
-        gather(alloc, bodies.size(), &sliced)
+        in_order(alloc, &mut sliced)
     }
 
     /// The updates of a log in the window, in cells of their own for each stretch of its records.
@@ -67,30 +66,16 @@ impl LogCells {
             IsPermutation (filter (in_window window) (kept_updates updates.now)) (together lists.items)) }
     {
         let mut lists = Vec::new(alloc);
+        // One list serves all stretches, so that its memory is met once.
+        let mut sliced = Vec::new(alloc);
         let mut from = 0;
         while from < updates.record_count() {
             let end = from.saturating_add(STRETCH).min(updates.record_count());
-            lists.push(LogCells::of_stretch(alloc, updates, window, from, end)?)?;
+            list_survivors(&mut sliced, updates, window, from, end)?;
+            lists.push(in_order(alloc, &mut sliced)?)?;
             from = end;
         }
         Ok(lists)
-    }
-
-    /// The updates in the window, of the records from one on until before another.
-    fn of_stretch(
-        alloc: Global,
-        updates: &Updates,
-        window: Window,
-        from: usize,
-        end: usize,
-    ) -> Result<LogCells, Memory>
-        requires { (from ≤ end) × (end ≤ length updates.now.records) }
-        ensures { IfOk result (λ cells. IsPermutation (first_survivors window updates.now end)
-            (first_survivors window updates.now from ++ cells)) }
-    {
-        let mut sliced = survivors(alloc, updates, window, from, end)?;
-        sort_by_key(&mut sliced);
-        gather(alloc, size_of(&sliced), &sliced)
     }
 
     /// The entries of a checkpoint: no window leaves one out. Where their keys rise already, as those of a valid
@@ -103,8 +88,7 @@ impl LogCells {
             return Ok(LogCells { held });
         }
         let mut sliced = all_entries(alloc, &entries)?;
-        sort_by_key(&mut sliced);
-        gather(alloc, entries.size(), &sliced)
+        in_order(alloc, &mut sliced)
     }
 
     /// How many updates there are.
@@ -169,6 +153,14 @@ fn are_in_order(entries: &KeptEntries) -> bool
         }
     }
     true
+}
+
+/// Cells of these updates, which are put in order by their keys.
+fn in_order(alloc: Global, sliced: &mut Vec<Sliced<'_>>) -> Result<LogCells, Memory>
+    ensures { IfOk result (λ cells. IsPermutation sliced.old.items cells) }
+{
+    sort_by_key(sliced);
+    gather(alloc, size_of(sliced), sliced)
 }
 
 /// How many bytes the bodies of these updates have together, as far as a usize counts.

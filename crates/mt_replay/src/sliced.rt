@@ -86,23 +86,25 @@ impl<'a> Sliced<'a> {
     }
 }
 
-/// The updates in the window, of the records from one on until before another, in their order.
-pub(crate) fn survivors<'a>(
-    alloc: Global,
+/// Puts the updates in the window, of the records from one on until before another, in the place of those that were
+/// listed.
+pub(crate) fn list_survivors<'a>(
+    sliced: &mut Vec<Sliced<'a>>,
     updates: &'a Updates,
     window: Window,
     from: usize,
     end: usize,
-) -> Result<Vec<Sliced<'a>>, Memory>
+) -> Result<(), Memory>
     requires { (from ≤ end) × (end ≤ length updates.now.records) }
-    ensures { IfOk result (λ sliced.
-        first_survivors window updates.now end ≡ first_survivors window updates.now from ++ sliced.items) }
+    ensures { OnOk result (first_survivors window updates.now end
+        ≡ first_survivors window updates.now from ++ sliced.new.items) }
 {
-    let mut sliced = Vec::with_capacity(alloc, end - from)?;
+    sliced.clear();
+    sliced.reserve(end - from)?;
     for number in from..end {
-        add_survivor(&mut sliced, updates.update(number), window)?;
+        add_survivor(sliced, updates.update(number), window)?;
     }
-    Ok(sliced)
+    Ok(())
 }
 
 /// Adds an update, if there is one and it is in the window.

@@ -9,6 +9,7 @@ use Rattle.std.specs.Global.{Box}
 use Rattle.std.proofs.Common.{inl, inr, ◌⊎◌}
 use Rattle.std.proofs.lemmas.Bool.{cases_lt}
 use Rattle.std.proofs.lemmas.List.{append-nil, take_all, take_rest, get_or-drop, take-map}
+use Rattle.smallvec.specs.SmallVec.{SmallVec}
 use Rattle.mt_words.specs.Limits.{widest}
 use Rattle.mt_words.specs.Slices.{AreBytes, slice_in, slice_bytes}
 use Rattle.mt_tree.specs.Layer.{key_rank}
@@ -52,7 +53,7 @@ module _ (start : List ℕ) (s : ℕ) (h : Content) (bytes : AreBytes start) (la
       ap (λ (z : Content). from start (pairs_at (view_of_content s z))) e
       ∙ short_from start bytes s l c (subst (λ (z : Content). IsPlace (view_of_content s z)) e lawful) (subst (λ (z : Content). key_rank start ≤ rank_at (view_of_content s z)) e le)
 
-  pub suffix_pairs : (t : Vec ℕ Global) (c : List (ℕ × List ℕ)) (rest : List ℕ) → h ≡ Suffix t c → (rank_at (view_of_content s h) ≡ key_rank start → rest ≡ drop 8 start) → (rank_at (view_of_content s h) ≢ key_rank start → rest ≡ [])
+  pub suffix_pairs : (t : SmallVec ℕ) (c : List (ℕ × List ℕ)) (rest : List ℕ) → h ≡ Suffix t c → (rank_at (view_of_content s h) ≡ key_rank start → rest ≡ drop 8 start) → (rank_at (view_of_content s h) ≢ key_rank start → rest ≡ [])
       → from start (pairs_at (view_of_content s h)) ≡ put_before (slice_bytes s) (from rest ((t.items, c) ∷ []))
   suffix_pairs t c rest e here past =
       let place : IsPlace (long s t.items c) = subst (λ (z : Content). IsPlace (view_of_content s z)) e lawful in

@@ -2,6 +2,7 @@
 use Rattle.std.proofs.Common.{◌≡◌, ◌≢◌, ℕ, zero, suc, ◌+◌, ◌*◌, ◌^◌, ◌<◌, ◌≤◌, min, Bool, true, false, Option, Some, None, List, [], ◌∷◌, ◌++◌, length, take, drop, get_or, sym, refl, ap, ◌∙◌, subst, inl, inr, ◌⊎◌, arith, ◌-◌, length-drop}
 use Rattle.std.specs.Prelude.{Contains, MatchOption}
 use Rattle.std.specs.Option.{option_copied}
+use Rattle.smallvec.specs.SmallVec.{SmallVec}
 use Rattle.mt_words.proofs.Elements.{no_element, head_or_tail, head_in, tail_in}
 use Rattle.std.specs.Prelude.{nat_eq, if◌then◌else◌}
 use Rattle.std.specs.List.{AllByRecursion}
@@ -235,14 +236,14 @@ module _ (k : List ℕ) (w : List Pair) (x : Place) (f : FoundAt k w x) (bytes :
   pub short_case : (l : ℕ) (c : List (ℕ × List ℕ)) → x.content ≡ Short l c → find_key k w ≡ Some c
   short_case l c e = let g = at_held (Short l c) e in g.2 ∙ short_hit k x.slice l c bytes g.0.1 g.1
 
-  pub suffix_long : (t : Vec ℕ Global) (c : List (ℕ × List ℕ)) → x.content ≡ Suffix t c → 8 ≤ length k
+  pub suffix_long : (t : SmallVec ℕ) (c : List (ℕ × List ℕ)) → x.content ≡ Suffix t c → 8 ≤ length k
   suffix_long t c e = let g = at_held (Suffix t c) e in omega (arith, (long_is k x.slice bytes g.1).0)
 
-  pub suffix_true : (t : Vec ℕ Global) (c : List (ℕ × List ℕ)) → x.content ≡ Suffix t c → t.items ≡ drop 8 k → find_key k w ≡ Some c
+  pub suffix_true : (t : SmallVec ℕ) (c : List (ℕ × List ℕ)) → x.content ≡ Suffix t c → t.items ≡ drop 8 k → find_key k w ≡ Some c
   suffix_true t c e same = let g = at_held (Suffix t c) e in
       g.2 ∙ long_hit k x.slice t.items c bytes g.1 ∙ ap (λ b. if b then Some c else None) (equal (drop 8 k) t.items (sym same))
 
-  pub suffix_false : (t : Vec ℕ Global) (c : List (ℕ × List ℕ)) → x.content ≡ Suffix t c → (t.items ≡ drop 8 k → ⊥) → find_key k w ≡ None
+  pub suffix_false : (t : SmallVec ℕ) (c : List (ℕ × List ℕ)) → x.content ≡ Suffix t c → (t.items ≡ drop 8 k → ⊥) → find_key k w ≡ None
   suffix_false t c e other = let g = at_held (Suffix t c) e in
       g.2 ∙ long_hit k x.slice t.items c bytes g.1 ∙ ap (λ b. if b then Some c else None) (unequal (drop 8 k) t.items (λ s. other (sym s)))
 

@@ -1,5 +1,6 @@
 -- A walk shows the pairs of places and children under the bytes that stand before them.
 use Rattle.std.proofs.Common.{◌≡◌, ℕ, ◌+◌, ◌≤◌, List, [], ◌∷◌, ◌++◌, length, take, refl, sym, ap, ◌∙◌, subst, arith, append_assoc, length-append, Vec, Global}
+use Rattle.smallvec.specs.SmallVec.{SmallVec}
 use Rattle.mt_words.specs.Limits.{widest}
 use Rattle.mt_words.specs.Slices.{slice_bytes}
 use Rattle.mt_words.specs.Walks.{Pair}
@@ -28,7 +29,7 @@ module _ (s : ℕ) (h : Content) (before bytes : List ℕ) (is_bytes : bytes ≡
     deeper_shown : (w : List Pair) → put_before prefix w ≡ put_before before (put_before (slice_bytes s) w)
     deeper_shown w = ap (λ (z : List ℕ). put_before z w) (longer ∙ ap (λ (z : List ℕ). before ++ z) is_bytes) ∙ put_deeper before (slice_bytes s) w
 
-    pub suffix_shown : (t : Vec ℕ Global) (c : List (ℕ × List ℕ)) (tail : List ℕ) → h ≡ Suffix t c → tail ≡ t.items → put_before prefix ((tail, c) ∷ []) ≡ put_before before (pairs_at (view_of_content s h))
+    pub suffix_shown : (t : SmallVec ℕ) (c : List (ℕ × List ℕ)) (tail : List ℕ) → h ≡ Suffix t c → tail ≡ t.items → put_before prefix ((tail, c) ∷ []) ≡ put_before before (pairs_at (view_of_content s h))
     suffix_shown t c tail e f =
         deeper_shown ((tail, c) ∷ []) ∙ ap (λ (z : List ℕ). put_before before (put_before (slice_bytes s) ((z, c) ∷ []))) f
         ∙ ap (λ (z : Content). put_before before (pairs_at (view_of_content s z))) (sym e)

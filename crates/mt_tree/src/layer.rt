@@ -8,7 +8,7 @@ ghost use Rattle.mt_tree.specs.declared.layer.Border.TheVariants.{Open};
 ghost use Rattle.mt_words.specs.Slices.{slice_bytes};
 
 use crate::finish::{Finished, close};
-use crate::node::Place;
+use crate::node::{Place, Suffix};
 use mt_words::{Columns, Kept, Memory, slice_of};
 use std::alloc::Global;
 use std::marker::Model;
@@ -41,7 +41,7 @@ pub(crate) struct DraftPlace {
 #[derive(Drop)]
 pub(crate) enum DraftContent {
     Short(u8, Columns<Kept>),
-    Suffix(Vec<u8>, Columns<Kept>),
+    Suffix(Suffix, Columns<Kept>),
     Link(Layer),
 }
 
@@ -103,7 +103,7 @@ fn place_for(alloc: Global, key: &[u8], columns: Columns<Kept>) -> Result<DraftP
             content: DraftContent::Short(len as u8, columns),
         });
     }
-    let suffix = Vec::from_slice(alloc, &key[8..])?;
+    let suffix = Suffix::from_slice(alloc, &key[8..])?;
     Ok(DraftPlace {
         slice,
         content: DraftContent::Suffix(suffix, columns),

@@ -8,6 +8,7 @@ ghost use Rattle.mt_tree.specs.NodeViews.{views, view_of};
 
 use arrayvec::ArrayVec;
 use mt_words::{Columns, Kept, slice_of};
+use smallvec::SmallVec;
 use std::marker::Model;
 
 #[cycle(node)]
@@ -31,11 +32,17 @@ pub(crate) struct Place {
     pub(crate) content: Content,
 }
 
+/// How many bytes of a suffix lie in its place.
+const SHORT_SUFFIX: usize = 16;
+
+/// What a key longer than 8 bytes has behind them. Most have a few, which take no memory of their own.
+pub(crate) type Suffix = SmallVec<u8, SHORT_SUFFIX>;
+
 #[cycle(node)]
 #[derive(Drop)]
 pub(crate) enum Content {
     Short(u8, Columns<Kept>),
-    Suffix(Vec<u8>, Columns<Kept>),
+    Suffix(Suffix, Columns<Kept>),
     Link(Node),
 }
 

@@ -31,4 +31,4 @@ returns-then-len-le8-clause-pairs c =
 pub returns-clause-pairs : goal.returns-clause-pairs
 returns-clause-pairs c =
     let long : 8 ≤ length c.args.key.now = omega (arith, c.if-len-le8.false) in
-    ap (λ (k : List ℕ). (k, c.args.columns) ∷ []) (long_key c.args.key.now _ _ c.slice_of-slice.ensures.bytes c.slice_of-slice.ensures.value long c.in_ok-suffix.ensures.items)
+    ap (λ (k : List ℕ). (k, c.args.columns) ∷ []) (long_key c.args.key.now _ _ c.slice_of-slice.ensures.bytes c.slice_of-slice.ensures.value long c.in_ok-suffix.ensures.ok)

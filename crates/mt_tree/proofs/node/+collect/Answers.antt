@@ -32,8 +32,8 @@ Place::collect-returns-in_ok-emit-in-Suffix-clause-hits t c =
     let le = not_before (rank_at (view_of c.args.self.now)) c.slice_of-slice.result c.args.start.now c.lies_before.result c.slice_of-slice.ensures.value c.if-lies_before.false c.lies_before.ensures.1 in
     let pairs = suffix_pairs c.args.start.now c.args.self.now.slice c.args.self.now.content c.slice_of-slice.ensures.bytes c.requires.lawful le _ _ c.rest_of-rest.result.now c.in-Suffix.is c.rest_of-rest.ensures.here c.rest_of-rest.ensures.past in
     let room : length c.args.hits.now.items < c.args.n = omega arith in
-    let emitted = c.in_ok-emit-in-Suffix.ensures ∙ ap (λ (z : List ℕ). c.args.hits.now.items ++ found c.extend_from_slice.new.self.items c.args.wanted ((z, c.in-Suffix.columns) ∷ [])) c.deref-then-reaches.ensures.value in
-    let test = subst (λ (z : List ℕ). c.reaches.result ≡ not (is_lt (slice_cmp nat_cmp z c.rest_of-rest.result.now))) c.deref.ensures.value c.reaches.ensures in
+    let emitted = c.in_ok-emit-in-Suffix.ensures ∙ ap (λ (z : List ℕ). c.args.hits.now.items ++ found c.extend_from_slice.new.self.items c.args.wanted ((z, c.in-Suffix.columns) ∷ [])) c.deref-then-reaches.ensures in
+    let test = subst (λ (z : List ℕ). c.reaches.result ≡ not (is_lt (slice_cmp nat_cmp z c.rest_of-rest.result.now))) c.deref.ensures c.reaches.ensures in
     hits_suffix c.args.n c.args.hits.now.items c.emit-then-reaches.new.hits.items c.args.prefix.now.items c.extend_from_slice.new.self.items (slice_bytes c.args.self.now.slice) c.slice_bytes-bytes.result
     c.in-Suffix.suffix.items c.rest_of-rest.result.now c.in-Suffix.columns c.args.wanted (from c.args.start.now (pairs_at (view_of c.args.self.now))) c.reaches.result
     room c.in_ok-extend_from_slice-in-Suffix.ensures.items c.slice_bytes-bytes.ensures emitted pairs test c.if-reaches.true
@@ -42,7 +42,7 @@ pub Place::collect-returns-else-reaches-clause-hits : goal.Place::collect-return
 Place::collect-returns-else-reaches-clause-hits t c =
     let le = not_before (rank_at (view_of c.args.self.now)) c.slice_of-slice.result c.args.start.now c.lies_before.result c.slice_of-slice.ensures.value c.if-lies_before.false c.lies_before.ensures.1 in
     let pairs = suffix_pairs c.args.start.now c.args.self.now.slice c.args.self.now.content c.slice_of-slice.ensures.bytes c.requires.lawful le _ _ c.rest_of-rest.result.now c.in-Suffix.is c.rest_of-rest.ensures.here c.rest_of-rest.ensures.past in
-    hits_unreached _ _ _ (slice_bytes c.args.self.now.slice) c.in-Suffix.suffix.items c.rest_of-rest.result.now c.in-Suffix.columns _ _ _ c.requires.few pairs (subst (λ (z : List ℕ). c.reaches.result ≡ not (is_lt (slice_cmp nat_cmp z c.rest_of-rest.result.now))) c.deref.ensures.value c.reaches.ensures) c.if-reaches.false
+    hits_unreached _ _ _ (slice_bytes c.args.self.now.slice) c.in-Suffix.suffix.items c.rest_of-rest.result.now c.in-Suffix.columns _ _ _ c.requires.few pairs (subst (λ (z : List ℕ). c.reaches.result ≡ not (is_lt (slice_cmp nat_cmp z c.rest_of-rest.result.now))) c.deref.ensures c.reaches.ensures) c.if-reaches.false
 
 pub Place::collect-returns-in_ok-collect-in-Link-clause-hits : goal.Place::collect-returns-in_ok-collect-in-Link-clause-hits
 Place::collect-returns-in_ok-collect-in-Link-clause-hits t c =

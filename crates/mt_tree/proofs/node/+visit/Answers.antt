@@ -25,7 +25,7 @@ Place::visit-returns-clause-shown g t c =
       | Place::visit-in-Short+in_ok-show-in-Short w ↦
           moved g.V.Visitor.shown _ _ _ _ _ w.target-is (short_shown place.slice place.content before _ c.slice_bytes-bytes.ensures w.in-Short.len w.in-Short.columns w.in-Short.is) w.in_ok-show-in-Short.ensures.shown
       | Place::visit-in-Suffix+in_ok-show-in-Suffix w ↦
-          moved g.V.Visitor.shown _ _ _ _ _ w.target-is (suffix_shown place.slice place.content before _ c.slice_bytes-bytes.ensures _ w.extend.ensures w.in-Suffix.suffix w.in-Suffix.columns _ w.in-Suffix.is w.deref.ensures.value) w.in_ok-show-in-Suffix.ensures.shown
+          moved g.V.Visitor.shown _ _ _ _ _ w.target-is (suffix_shown place.slice place.content before _ c.slice_bytes-bytes.ensures _ w.extend.ensures w.in-Suffix.suffix w.in-Suffix.columns _ w.in-Suffix.is w.deref.ensures) w.in_ok-show-in-Suffix.ensures.shown
       | Place::visit-in-Link+in_ok-visit-in-Link w ↦
           moved g.V.Visitor.shown _ _ _ _ _ w.target-is (link_shown place.slice place.content before _ c.slice_bytes-bytes.ensures _ w.extend-in-Link.ensures w.in-Link.below w.in-Link.is) w.in_ok-visit-in-Link.ensures.shown
     ]

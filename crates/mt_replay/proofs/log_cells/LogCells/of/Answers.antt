@@ -1,15 +1,11 @@
-use Rattle.std.proofs.Common.{List, ap, sym, subst, ◌∙◌}
+use Rattle.std.proofs.Common.{List, ap, subst, ◌∙◌}
 use Rattle.std.specs.Prelude.{IsPermutation, filter}
 use Rattle.mt_words.specs.declared.update.Update.{Update}
 use Rattle.mt_replay.specs.Survivors.{survives}
-use Rattle.mt_replay.specs.Cuts.{InKeyOrder}
 use Rattle.mt_replay.proofs.ExactLemmas.{ok_then}
 use Rattle.mt_replay.proofs.log_cells.LogCells.of.Goals as goal
 
-pub gather-requires : goal.gather-requires
-gather-requires c = subst InKeyOrder (sym c.deref-2.ensures.value) c.sort_by_key.ensures.in_order
-
 pub returns : goal.returns
 returns c =
-    let moved = subst (λ (us : List Update). IsPermutation us c.sort_by_key.new.updates.items) (c.in_ok-sliced.ensures ∙ c.in_ok-bodies.ensures ∙ ap (filter (survives c.args.window)) c.deref.ensures.value) c.sort_by_key.ensures.same in
-    ok_then c.gather.result (λ cells same. subst (λ (us : List Update). IsPermutation (filter (survives c.args.window) c.args.updates.items) us) (sym (same ∙ c.deref-2.ensures.value)) moved) c.gather.ensures
+    let listed = c.in_ok-sliced.ensures ∙ c.in_ok-bodies.ensures ∙ ap (filter (survives c.args.window)) c.deref.ensures.value in
+    ok_then c.in_order.result (λ cells sorted. subst (λ (us : List Update). IsPermutation us cells) listed sorted) c.in_order.ensures

@@ -40,13 +40,13 @@ pub returns-then-eq : goal.returns-then-eq
 returns-then-eq t c =
     let f = found_at c.args.key.now _ _ _ _ _ _ (border_walk _ _ _ c.self.view_is c.in-Border.is) (border_layer _ _ c.self.invariant c.in-Border.is) c.deref-in-Border.ensures.value c.in_ok-at-in-Border.ensures.found c.in_ok-at-in-Border.ensures.here c.slice_of-slice.ensures.value c.index-in-Border.ensures in
     let same = (bytes_decides c.as_slice-in-Suffix.result.now (take (length c.args.key.now - 8) (drop 8 c.args.key.now))).0 (sym c.if-eq.ensures) in
-    sym (suffix_true _ _ _ f c.slice_of-slice.ensures.bytes _ _ c.in-Suffix.is (sym c.as_slice-in-Suffix.ensures.value ∙ same ∙ rest_is c.args.key.now))
+    sym (suffix_true _ _ _ f c.slice_of-slice.ensures.bytes _ _ c.in-Suffix.is (sym c.as_slice-in-Suffix.ensures ∙ same ∙ rest_is c.args.key.now))
 
 pub returns-else-eq : goal.returns-else-eq
 returns-else-eq t c =
     let f = found_at c.args.key.now _ _ _ _ _ _ (border_walk _ _ _ c.self.view_is c.in-Border.is) (border_layer _ _ c.self.invariant c.in-Border.is) c.deref-in-Border.ensures.value c.in_ok-at-in-Border.ensures.found c.in_ok-at-in-Border.ensures.here c.slice_of-slice.ensures.value c.index-in-Border.ensures in
     let other : (c.in-Suffix.suffix.items ≡ drop 8 c.args.key.now) → ⊥ = λ s.
-    let h = (bytes_decides c.as_slice-in-Suffix.result.now (take (length c.args.key.now - 8) (drop 8 c.args.key.now))).1 (c.as_slice-in-Suffix.ensures.value ∙ s ∙ sym (rest_is c.args.key.now)) in
+    let h = (bytes_decides c.as_slice-in-Suffix.result.now (take (length c.args.key.now - 8) (drop 8 c.args.key.now))).1 (c.as_slice-in-Suffix.ensures ∙ s ∙ sym (rest_is c.args.key.now)) in
     (cc (h, c.eq.ensures, c.if-eq.false)) in
     sym (suffix_false _ _ _ f c.slice_of-slice.ensures.bytes _ _ c.in-Suffix.is other)
 

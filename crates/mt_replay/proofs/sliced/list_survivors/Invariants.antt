@@ -1,6 +1,6 @@
 use Rattle.std.proofs.Common.{◌≡◌, ◌++◌}
 use Rattle.mt_replay.specs.Survivors.{first_survivors}
-use Rattle.mt_replay.proofs.sliced.survivors.Given as goal
+use Rattle.mt_replay.proofs.sliced.list_survivors.Given as goal
 
 -- those of the records so far, behind those of the records before
 abbrev pub invariant-loop-number : goal.invariant-loop-number

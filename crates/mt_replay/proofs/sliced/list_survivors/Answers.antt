@@ -1,7 +1,7 @@
 use Rattle.std.proofs.Common.{arith}
 use Rattle.mt_record.specs.Kept.{listed}
 use Rattle.mt_replay.proofs.BodyLemmas.{stretch_step}
-use Rattle.mt_replay.proofs.sliced.survivors.Goals as goal
+use Rattle.mt_replay.proofs.sliced.list_survivors.Goals as goal
 
 pub loop-number-preserved : goal.loop-number-preserved
 loop-number-preserved c =
