@@ -1,7 +1,8 @@
 -- Pieces as a walk.
-use Rattle.std.proofs.Common.{◌≡◌, ◌∙◌, ◌++◌, ◌<◌, ap, append_assoc, ℕ, List, [], ◌∷◌, length, map, Some, refl, sym, subst, arith}
+use Rattle.std.proofs.Common.{◌≡◌, ◌∙◌, ◌⊎◌, inl, inr, ◌+◌, ◌++◌, ◌<◌, ap, append_assoc, ℕ, zero, suc, List, [], ◌∷◌, length, map, Some, refl, sym, subst, arith}
 use Rattle.std.specs.Prelude.{slice_get, slice_index_or, Result, Ok, IfOk}
 use Rattle.std.specs.List.{AllZip}
+use Rattle.std.proofs.lemmas.Bool.{cases_order}
 use Rattle.std.proofs.lemmas.List.{append-nil}
 use Rattle.std.proofs.lemmas.Option.{get_or_from_slice_get}
 use Rattle.std.proofs.lemmas.Slice.Zip.{AllZip-long}
@@ -14,6 +15,28 @@ use Rattle.mt_tree.proofs.Joins.{all_front, all_back}
 use Rattle.mt_replay.specs.Walk.{IsWalk}
 use Rattle.mt_replay.specs.Pieces.{IsPiece, joined}
 use Rattle.mt_recover.proofs.SharingLemmas.{zip_at}
+
+-- ---- the numbers of pieces
+
+number_stays : (numbers : List ℕ) (last i number : ℕ) → slice_get numbers i ≡ Some number → slice_get (numbers ++ last ∷ []) i ≡ Some number
+number_stays [] last i number at = absurd cc
+number_stays (n ∷ ns) last zero number at = at
+number_stays (n ∷ ns) last (suc i) number at = number_stays ns last i number at
+
+number_behind : (numbers : List ℕ) (last : ℕ) → slice_get (numbers ++ last ∷ []) (length numbers) ≡ Some last
+number_behind [] last = refl
+number_behind (n ∷ ns) last = number_behind ns last
+
+-- each number stands at its place, and so does one more behind them
+pub next_number : (numbers after : List ℕ) (number : ℕ) → length numbers ≡ number → after ≡ numbers ++ number ∷ [] → ((i : ℕ) → i < number → slice_get numbers i ≡ Some i) → (i : ℕ) → i < number + 1 → slice_get after i ≡ Some i
+next_number numbers after number long pushed each i lt = subst (λ (ns : List ℕ). slice_get ns i ≡ Some i) (sym pushed) (by (cases_order i number))
+  where
+    by : (i ≡ number) ⊎ ((i < number) ⊎ (number < i)) → slice_get (numbers ++ number ∷ []) i ≡ Some i
+    by (inl same) = subst (λ (k : ℕ). slice_get (numbers ++ number ∷ []) k ≡ Some k) (sym same) (subst (λ (k : ℕ). slice_get (numbers ++ number ∷ []) k ≡ Some number) long (number_behind numbers number))
+    by (inr (inl below)) = number_stays numbers number i i (each i below)
+    by (inr (inr above)) = absurd (omega (arith, lt, above))
+
+-- ---- pieces
 
 -- where nothing is cut, the one piece is the walk
 only_piece : (updates : List Update) (pairs : List Pair) → IsPiece updates [] 0 pairs → IsWalk updates pairs

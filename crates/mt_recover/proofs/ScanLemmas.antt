@@ -244,6 +244,12 @@ all_faults seen logs parts jobs outcomes fault some same zip (inr first) =
     let is = log_faults seen [] logs parts [] [] 0 both.0 both.1 fault refl refl tt (record { readings = []; read = tt; show = tt }) both.3 both.4 (subst (λ (os : List Scanned). IsFirstFault os fault) both.2 first) in
     (is.0 some, is.1)
 
+-- the fault of the next outcome is the first of all, or that memory was refused
+pub first_among : (outcomes done left rest : List Scanned) (outcome : Scanned) (scans : Scans) (fault : Fault) → done ++ left ≡ outcomes → left ≡ outcome ∷ rest → HaveScanned done scans
+    → ((fault ≡ faults.Memory) ⊎ ((others : List Scanned) → IsFirstFault (outcome ∷ others) fault)) → (fault ≡ faults.Memory) ⊎ IsFirstFault outcomes fault
+first_among outcomes done left rest outcome scans fault whole next have (inl memory) = inl memory
+first_among outcomes done left rest outcome scans fault whole next have (inr first) = inr (subst (λ (os : List Scanned). IsFirstFault os fault) (ap (λ os. done ++ os) (sym next) ∙ whole) (have.sound (outcome ∷ rest) fault (first rest)))
+
 -- ---- one source after the other
 
 -- what the scan of a source may give

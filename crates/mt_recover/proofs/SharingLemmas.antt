@@ -1,5 +1,5 @@
 -- Jobs that are dealt to shares, and their answers.
-use Rattle.std.proofs.Common.{◌≡◌, ◌∙◌, ◌+◌, ◌<◌, ◌≤◌, ◌%◌, ℕ, zero, suc, List, [], ◌∷◌, ◌++◌, length, map, Some, refl, sym, ap, subst, append_assoc, arith}
+use Rattle.std.proofs.Common.{◌≡◌, ◌∙◌, ◌+◌, ◌<◌, ◌≤◌, ◌%◌, ℕ, zero, suc, List, [], ◌∷◌, ◌++◌, length, map, reverse, Some, refl, sym, ap, subst, append_assoc, arith}
 use Rattle.std.specs.Prelude.{slice_get, slice_set, slice_index_or}
 use Rattle.std.specs.Prelude.{Result, Vec, Ok, IfOk}
 use Rattle.std.specs.Global.{Global}
@@ -7,7 +7,7 @@ use Rattle.std.specs.Fn.{Shared}
 use Rattle.std.specs.Fork.{GivesJobs}
 use Rattle.std.specs.List.{All, AllByRecursion, AllZip}
 use Rattle.std.proofs.lemmas.Slice.Zip.{AllZip-long}
-use Rattle.std.proofs.lemmas.List.{get_or-map, get_or-set_same, length-append, length-map, length-set, map-set, same_from_push, set-get_or, set-set, append-nil}
+use Rattle.std.proofs.lemmas.List.{get_or-map, get_or-set_same, length-append, length-map, length-set, map-append, map-set, reverse-append, same_from_push, set-get_or, set-set, append-nil}
 use Rattle.std.proofs.lemmas.List.Elements.{All-cons, All-head, All-nil, All-push, All-set, All-tail, All-weaker}
 use Rattle.std.proofs.lemmas.Option.{get_or_from_slice_get, slice_get-get_or, slice_get_within}
 use Rattle.mt_recover.specs.declared.by_workers.Share.{Share}
@@ -113,6 +113,30 @@ dealt_answers {J} {X} R count number (job ∷ jobs) shares parts dealt zip =
 -- what was taken off a list stands before what was taken off it earlier
 pub taken_off : {J : Type 0} (whole jobs left last : List J) (job : J) → whole ≡ jobs ++ last → jobs ≡ left ++ job ∷ [] → whole ≡ left ++ job ∷ last
 taken_off whole jobs left last job is popped = is ∙ ap (λ l. l ++ last) popped ∙ append_assoc left (job ∷ []) last
+
+-- ---- the jobs of a share
+
+pub none_done : {J X : Type 0} (R : J → X → Type 0) (answers : List X) → answers ≡ [] → AllZip R [] (reverse answers)
+none_done R [] none = tt
+none_done R (x ∷ xs) none = absurd (omega (arith, ap length none))
+
+-- one more is done, before those that are
+pub done_before : {J X : Type 0} (R : J → X → Type 0) (last : List J) (answers after : List X) (job : J) (answer : X) → R job answer → AllZip R last (reverse answers) → after ≡ answers ++ answer ∷ [] → AllZip R (job ∷ last) (reverse after)
+done_before {J} {X} R last answers after job answer is zip pushed = subst (λ (l : List X). AllZip R (job ∷ last) l) (sym (ap reverse pushed ∙ reverse-append answers (answer ∷ []))) (is, zip)
+
+-- no job is left
+pub done_whole : {J X : Type 0} (R : J → X → Type 0) (whole jobs last : List J) (answers reversed : List X) → whole ≡ jobs ++ last → length jobs ≡ 0 → AllZip R last (reverse answers) → reversed ≡ reverse answers → AllZip R whole reversed
+done_whole {J} {X} R whole [] last answers reversed are end zip is = subst (λ (l : List J). AllZip R l reversed) (sym are) (subst (λ (l : List X). AllZip R last l) (sym is) zip)
+done_whole R whole (j ∷ js) last answers reversed are end zip is = absurd (omega (arith, end))
+
+-- one more answer that is there
+pub done_more : {X M : Type 0} (answers : List (Result X M)) (done after : List X) (answer : Result X M) (one : X) → answers ≡ map Ok done → answer ≡ Ok one → after ≡ done ++ one ∷ [] → answers ++ answer ∷ [] ≡ map Ok after
+done_more answers done after answer one are is pushed = ap (λ l. l ++ answer ∷ []) are ∙ ap (λ a. map Ok done ++ a ∷ []) is ∙ sym (map-append Ok done (one ∷ [])) ∙ ap (map Ok) (sym pushed)
+
+-- what was gone through is all, where nothing is left
+pub all_yielded : {A : Type 0} (all yielded left : List A) → yielded ++ left ≡ all → length left ≡ 0 → yielded ≡ all
+all_yielded all yielded [] whole end = sym (append-nil yielded) ∙ whole
+all_yielded all yielded (x ∷ xs) whole end = absurd (omega (arith, end))
 
 -- ---- gathering
 

@@ -100,8 +100,15 @@ fn recover_files<'a, R: Files + AllocGlobal>(
     ensures files { result ≢ Err Failure.NoFiles }
 {
     let files = read_files(rt, names)?;
-    let logs = slices_of(rt.alloc(), &files).map_err(Fault::from)?;
-    Ok(recover_logs(rt.alloc(), &logs)?)
+    Ok(recover_bytes(rt.alloc(), &files)?)
+}
+
+/// The store of the logs that have these bytes.
+fn recover_bytes(alloc: Global, files: &[Vec<u8>]) -> Result<Recovered, Fault>
+    ensures { IfOk result (λ recovered. IsStoreOfSome (length files.now) recovered.store) }
+{
+    let logs = slices_of(alloc, files)?;
+    recover_logs(alloc, &logs)
 }
 
 /// Prints the store, and hands on what a buffer still holds, so that its fault has a status.

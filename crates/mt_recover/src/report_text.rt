@@ -5,28 +5,36 @@ use std::fmt::{self, Display, Formatter, Write};
 /// A line for each number, `name=value`, in the order of the fields. A list is its numbers between commas, or `none`.
 impl Display for Report {
     fn fmt<W: Write>(&self, f: &mut Formatter<W>) -> fmt::Result {
-        let logs = [
-            ("logs", self.logs as u128),
-            ("records", self.records),
-            ("marks", self.marks),
-            ("torn", self.torn as u128),
-            ("cutoff", u128::from(self.cutoff)),
-        ];
-        let updates = [
-            ("entries", self.entries),
-            ("survivors", self.survivors),
-            ("early", self.early),
-            ("late", self.late),
-            ("keys", self.keys),
-            ("layers", u128::from(self.layers)),
-        ];
-        write_lines(f, &logs)?;
+        write_lines(f, &of_logs(self))?;
         write_list(f, "checkpoint", self.checkpoint.as_slice())?;
         write_lines(f, &[("begin", u128::from(self.begin))])?;
         write_list(f, "skipped", &self.skipped)?;
         write_list(f, "nameless", &self.nameless)?;
-        write_lines(f, &updates)
+        write_lines(f, &of_updates(self))
     }
+}
+
+/// The numbers of the logs, by their names.
+fn of_logs(report: &Report) -> [(&'static str, u128); 5] {
+    [
+        ("logs", report.logs as u128),
+        ("records", report.records),
+        ("marks", report.marks),
+        ("torn", report.torn as u128),
+        ("cutoff", u128::from(report.cutoff)),
+    ]
+}
+
+/// The numbers of the updates and of what became of them, by their names.
+fn of_updates(report: &Report) -> [(&'static str, u128); 6] {
+    [
+        ("entries", report.entries),
+        ("survivors", report.survivors),
+        ("early", report.early),
+        ("late", report.late),
+        ("keys", report.keys),
+        ("layers", u128::from(report.layers)),
+    ]
 }
 
 /// Writes a line for each number.

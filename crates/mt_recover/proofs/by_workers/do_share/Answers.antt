@@ -1,0 +1,35 @@
+use Rattle.std.proofs.Common.{◌≡◌, ◌∷◌, ◌++◌, [], Some, sym, append-nil, arith}
+use Rattle.std.proofs.lemmas.List.Elements.{All-pop}
+use Rattle.mt_recover.proofs.SharingLemmas.{taken_off, none_done, done_before, done_whole}
+use Rattle.mt_recover.proofs.by_workers.do_share.Goals as goal
+
+pub loop-job-init : goal.loop-job-init
+loop-job-init g c = record {
+  accepted = c.requires;
+  done = (
+    [],
+    sym (append-nil c.args.share.jobs.items),
+    none_done (λ job answer. goal.F-post g c.args.work.now c.args.share.worker job answer) c.in_ok-answers.answers.items c.in_ok-answers.ensures.items,
+  );
+}
+
+pub loop-job-preserved : goal.loop-job-preserved
+loop-job-preserved g c =
+    let I = c.loop-job.invariant in
+    let jobs = c.loop-job.jobs.items in
+    let left = c.pop.new.self.items in
+    let job = c.in-Some.job in
+    let popped : jobs ≡ left ++ job ∷ [] = c.in-Some.ensures.items in record {
+      accepted = (All-pop (λ job. goal.F-pre g c.args.work.now c.args.share.worker job) jobs left (Some job) popped I.accepted).0;
+      done = (
+        job ∷ I.done.0,
+        taken_off c.args.share.jobs.items jobs left I.done.0 job I.done.1 popped,
+        done_before (λ job answer. goal.F-post g c.args.work.now c.args.share.worker job answer) I.done.0 c.loop-job.answers.items c.push.new.self.items job c.work.result c.work.ensures I.done.2 c.in_ok-push.ensures.items,
+      );
+    }
+
+pub returns : goal.returns
+returns g c =
+    let I = c.loop-job.invariant in
+    done_whole (λ job answer. goal.F-post g c.args.work.now c.args.share.worker job answer) c.args.share.jobs.items c.loop-job.jobs.items I.done.0 c.loop-job.answers.items c.reverse.new.self.items I.done.1
+    (omega (arith, c.in_default.ensures.cases.0, c.loop-job.jobs.ok.0)) I.done.2 c.reverse.ensures.items
