@@ -5,10 +5,18 @@ use std::alloc::{AllocError, Global};
 
 /// The words that the program takes.
 pub fn grammar<'a>(alloc: Global) -> Result<Command<'a>, AllocError> {
-    let program = program(alloc)?
-        .subcommand(report(alloc)?)?
-        .subcommand(get(alloc)?)?;
-    with_many(alloc, program)
+    let program = with(program(alloc), report(alloc));
+    let program = with(program, get(alloc));
+    let program = with(program, range(alloc));
+    with(program, dump(alloc))
+}
+
+/// The program with one more subcommand, where there was memory for both.
+fn with<'a>(
+    program: Result<Command<'a>, AllocError>,
+    words: Result<Command<'a>, AllocError>,
+) -> Result<Command<'a>, AllocError> {
+    program?.subcommand(words?)
 }
 
 /// The program without its subcommands.
@@ -20,11 +28,6 @@ fn program<'a>(alloc: Global) -> Result<Command<'a>, AllocError> {
         .arg_required_else_help(true)
         .subcommand_required(true);
     program.bin_name("mtrecover")
-}
-
-/// The program with the subcommands that print many pairs.
-fn with_many<'a>(alloc: Global, program: Command<'a>) -> Result<Command<'a>, AllocError> {
-    program.subcommand(range(alloc)?)?.subcommand(dump(alloc)?)
 }
 
 /// The words of `report`.

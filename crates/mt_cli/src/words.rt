@@ -54,11 +54,18 @@ fn tell<O: Write, E: Write>(error: &clap::Error, out: &mut O, err: &mut E) -> u8
 /// What the words ask for.
 fn read<'a>(alloc: Global, matches: &ArgMatches<'a>) -> Result<Command<'a>, Failure<'static>> {
     let (name, matches) = matches.subcommand().ok_or(Failure::Words)?;
+    let folder = matches.get_str("DIR");
+    let workers = matches.get_one("workers").and_then(Workers::new);
+    let pieces = matches.get_one("pieces").and_then(Pieces::new);
+    let (Some(folder), Some(workers), Some(pieces)) = (folder, workers, pieces) else {
+        return Err(Failure::Words);
+    };
+    let query = query(alloc, name, matches)?;
     Ok(Command {
-        folder: found(matches.get_str("DIR"))?,
-        workers: found(Workers::new(number(matches, "workers")?))?,
-        pieces: found(Pieces::new(number(matches, "pieces")?))?,
-        query: query(alloc, name, matches)?,
+        folder,
+        workers,
+        pieces,
+        query,
     })
 }
 
@@ -72,15 +79,10 @@ fn query(alloc: Global, name: &str, matches: &ArgMatches<'_>) -> Result<Query, F
     match name {
         "report" => Ok(Query::Report),
         "get" => Ok(Query::Get(key(alloc, matches)?)),
-        "range" => Ok(Query::Range(key(alloc, matches)?, number(matches, "COUNT")?)),
+        "range" => Ok(Query::Range(key(alloc, matches)?, found(matches.get_one("COUNT"))?)),
         "dump" => Ok(Query::Dump),
         _ => Err(Failure::Words),
     }
-}
-
-/// The number of this name.
-fn number(matches: &ArgMatches<'_>, name: &str) -> Result<u32, Failure<'static>> {
-    found(matches.get_one(name))
 }
 
 /// The key, which is looked at once all words are accepted.
