@@ -1,7 +1,7 @@
 //! The example of the README: recovery over files.
 use crate::asserting::assert_bytes;
 use crate::commands::words_on;
-use crate::folders::{folder_with, remove};
+use crate::folders::{Entry, folder_with, remove};
 use crate::logs::{LOG_A, LOG_B};
 use mt_recover::{Inputs, recover_one, write_dump};
 use mt_scan::{LONGEST_BUFFER, Rack, ReaderSource, Slot};
@@ -44,7 +44,8 @@ fn print_store<R: AllocGlobal + Files, W: Write>(
 #[test]
 fn recovers_from_files(rt: HostRuntime) {
     let id = std::process::id(rt.process());
-    let folder = folder_with(&rt, id, "example", &[("a.mtl", LOG_A), ("b.mtl", LOG_B)]);
+    let logs = [("a.mtl", Entry::Text(LOG_A)), ("b.mtl", Entry::Text(LOG_B))];
+    let folder = folder_with(&rt, id, "example", &logs);
     let names = words_on(&rt, "logs F/a.mtl F/b.mtl", folder.as_str());
     let mut out = Vec::new(rt.alloc());
     print_store(&rt, &names, &mut out).expect(&rt, "the files");

@@ -1,11 +1,14 @@
 //! Runs of both programs on files and folders.
-use crate::commands::{BOTH_WORK, Ends, Run, assert_run, assert_runs};
+use self::Entry::{DeadLink, Folder, Text, Zeros};
+use crate::commands::{BOTH_WORK, Ends, Run, assert_runs};
 use crate::devices::Device::{self, Full, Unflushed, Works};
 use crate::logs::{HEADER, LATE_HEADER, LOG_A, LOG_B, PART};
 use std::env::{Env, temp_dir};
-use std::fs::{self, Files, OpenFile};
+use std::fs::{self, File, Files, OpenFile};
+use std::io;
 use std::os::unix::fs::symlink;
 use std::process::Abort;
+use std::thread::Threads;
 
 /// Makes an empty folder for a test of this process.
 fn folder_of<R: Abort + AllocGlobal + Env + Files>(rt: &R, id: u32, name: &str) -> String {
@@ -16,28 +19,50 @@ fn folder_of<R: Abort + AllocGlobal + Env + Files>(rt: &R, id: u32, name: &str) 
     path
 }
 
-/// Makes an entry of the folder: a folder or a link where the text says so, else a file of this text.
-fn make_entry<R: Abort + AllocGlobal + Files>(rt: &R, folder: &str, name: &str, text: &[u8]) {
+/// What stands in a folder under a name.
+#[derive(Clone, Copy)]
+pub enum Entry {
+    /// A file of this text.
+    Text(&'static [u8]),
+    /// A file of so many zeros.
+    Zeros(u64),
+    /// A folder.
+    Folder,
+    /// A link that leads nowhere.
+    DeadLink,
+}
+
+/// Makes a file of so many zeros.
+fn make_zeros<R: Files>(rt: &R, path: &str, size: u64) -> io::Result<()> {
+    File::create(rt, path)?.set_len(size)
+}
+
+/// Makes an entry of the folder.
+fn make_entry<R: Abort + AllocGlobal + Files>(rt: &R, folder: &str, name: &str, entry: Entry) {
     let path = format!(in rt.alloc(); "{folder}/{name}").expect(rt, "memory");
     let path = path.as_str();
-    let made = match text {
-        b"folder" => fs::create_dir(rt, path),
-        b"dead link" => symlink(rt, "no-such-file", path),
-        _ => fs::write(rt, path, text),
+    let made = match entry {
+        Text(text) => fs::write(rt, path, text),
+        Zeros(size) => make_zeros(rt, path, size),
+        Folder => fs::create_dir(rt, path),
+        DeadLink => symlink(rt, "no-such-file", path),
     };
     made.expect(rt, "an entry");
 }
 
-/// Makes a folder of entries with these names and texts.
+/// An entry and its name.
+pub type Named = (&'static str, Entry);
+
+/// Makes a folder of these entries.
 pub fn folder_with<R: Abort + AllocGlobal + Env + Files>(
     rt: &R,
     id: u32,
     name: &str,
-    entries: &[(&str, &[u8])],
+    entries: &[Named],
 ) -> String {
     let folder = folder_of(rt, id, name);
-    for (entry, text) in entries {
-        make_entry(rt, folder.as_str(), entry, text);
+    for (name, entry) in entries {
+        make_entry(rt, folder.as_str(), name, *entry);
     }
     folder
 }
@@ -45,6 +70,25 @@ pub fn folder_with<R: Abort + AllocGlobal + Env + Files>(
 /// Removes the folder.
 pub fn remove<R: Abort + Alloc + Files>(rt: &R, folder: &str) {
     fs::remove_dir_all(rt, folder).expect(rt, "the folder");
+}
+
+/// These runs end so in a folder of these entries, which stands for the letter F.
+fn assert_in_folder<R>(
+    rt: &R,
+    id: u32,
+    name: &str,
+    entries: &[Named],
+    runs: &[([Device; 2], &[Run])],
+)
+where
+    R: Abort + AllocGlobal + Clone + Drop + Env + Files + Threads + Sync,
+    R::File: Send,
+{
+    let folder = folder_with(rt, id, name, entries);
+    for (devices, runs) in runs {
+        assert_runs(rt, folder.as_str(), *devices, runs);
+    }
+    remove(rt, folder.as_str());
 }
 
 /// Runs of both programs, with the folder for the letter F, on outputs that work.
@@ -99,20 +143,17 @@ const RUNS: &[([Device; 2], &[Run])] = &[
     ([Full, Full], ON_NEITHER),
 ];
 
+const QUERIED: &[Named] = &[
+    ("a.mtl", Text(LOG_A)),
+    ("b.mtl", Text(LOG_B)),
+    ("c.txt", Text(b"\0")),
+    ("d.txt", Text(HEADER)),
+];
+
 #[test]
 fn answers_queries_of_a_folder(rt: HostRuntime) {
     let id = std::process::id(rt.process());
-    let files = [
-        ("a.mtl", LOG_A),
-        ("b.mtl", LOG_B),
-        ("c.txt", b"\0".as_slice()),
-        ("d.txt", HEADER),
-    ];
-    let folder = folder_with(&rt, id, "queries", &files);
-    for (devices, runs) in RUNS {
-        assert_runs(&rt, folder.as_str(), *devices, runs);
-    }
-    remove(&rt, folder.as_str());
+    assert_in_folder(&rt, id, "queries", QUERIED, RUNS);
 }
 
 /// A log of an early, a surviving and a late update, of a mark and of a torn tail.
@@ -123,53 +164,72 @@ const TORN_LOG: &[u8] = b"MTL1\0\0\0\0\0\0\0\0\
     \0\0\0\x09\x03\0\0\0\0\0\0\0\x05\0\0\0\x09\0\0\0";
 
 /// The entries of a folder with something of all that a report counts.
-const REPORTED: &[(&str, &[u8])] = &[
-    ("log.mtl", TORN_LOG),
-    ("a.mtc", b"\0"),
-    ("b.mtc", b"MTC1\0\0\0\x05\0\0\0\0\0\0\0\0\0\0\0\x01"),
-    ("c.mtc", PART),
-    ("d.mtc", b"MTC1\0\0\0\x03\0\0\0\0\0\0\0\0\0\0\0\x01"),
-    ("e.mtc", b""),
+const REPORTED: &[Named] = &[
+    ("log.mtl", Text(TORN_LOG)),
+    ("a.mtc", Text(b"\0")),
+    ("b.mtc", Text(b"MTC1\0\0\0\x05\0\0\0\0\0\0\0\0\0\0\0\x01")),
+    ("c.mtc", Text(PART)),
+    ("d.mtc", Text(b"MTC1\0\0\0\x03\0\0\0\0\0\0\0\0\0\0\0\x01")),
+    ("e.mtc", Text(b"")),
 ];
 
 const REPORT: &str =
     "logs=1\nrecords=4\nmarks=1\ntorn=1\ncutoff=5\ncheckpoint=1\nbegin=2\nskipped=3,5\n\
      nameless=0,4\nentries=1\nsurvivors=2\nearly=1\nlate=1\nkeys=1\nlayers=1\n";
 
-/// Folders with their entries, and what a report of each says.
-const FOLDERS: &[(&str, &[(&str, &[u8])], Ends)] = &[
+/// A folder's name, its entries, and how a run on it ends.
+type Case = (&'static str, &'static [Named], Ends);
+
+/// The run on this line ends so in each of the folders.
+fn assert_in_folders<R>(rt: &R, id: u32, line: &'static str, cases: &[Case])
+where
+    R: Abort + AllocGlobal + Clone + Drop + Env + Files + Threads + Sync,
+    R::File: Send,
+{
+    for (name, entries, expected) in cases {
+        let runs: &[Run] = &[(line, *expected)];
+        assert_in_folder(rt, id, name, entries, &[(BOTH_WORK, runs)]);
+    }
+}
+
+/// Folders, and what a report of each says.
+const FOLDERS: &[Case] = &[
     ("report", REPORTED, (0, REPORT)),
     ("empty", &[], (1, "mtrecover: no logs\n")),
-    ("parts", &[("a.mtc", PART)], (1, "mtrecover: no logs\n")),
+    (
+        "parts",
+        &[("a.mtc", Text(PART))],
+        (1, "mtrecover: no logs\n"),
+    ),
     (
         "header",
-        &[("a.mtl", LOG_A), ("b.mtl", b"\0")],
+        &[("a.mtl", Text(LOG_A)), ("b.mtl", Text(b"\0"))],
         (1, "mtrecover: log 1: header\n"),
     ),
     (
         "gap",
-        &[("a.mtl", LATE_HEADER), ("b.mtl", LOG_A)],
+        &[("a.mtl", Text(LATE_HEADER)), ("b.mtl", Text(LOG_A))],
         (1, "mtrecover: log 0: gap\n"),
     ),
     (
         "folder-log",
-        &[("a.mtl", LOG_A), ("x.mtl", b"folder")],
+        &[("a.mtl", Text(LOG_A)), ("x.mtl", Folder)],
         (1, "mtrecover: log 1: source failed\n"),
     ),
     (
         "folder-part",
-        &[("a.mtl", LOG_A), ("x.mtc", b"folder")],
+        &[("a.mtl", Text(LOG_A)), ("x.mtc", Folder)],
         (1, "mtrecover: part 0: source failed\n"),
     ),
     // All files are opened before any is read.
     (
         "dead-log",
-        &[("a.mtl", b"\0"), ("dead.mtl", b"dead link")],
+        &[("a.mtl", Text(b"\0")), ("dead.mtl", DeadLink)],
         (3, "mtrecover: cannot open dead.mtl\n"),
     ),
     (
         "dead-part",
-        &[("a.mtl", b"\0"), ("dead.mtc", b"dead link")],
+        &[("a.mtl", Text(b"\0")), ("dead.mtc", DeadLink)],
         (3, "mtrecover: cannot open dead.mtc\n"),
     ),
 ];
@@ -177,34 +237,25 @@ const FOLDERS: &[(&str, &[(&str, &[u8])], Ends)] = &[
 #[test]
 fn tells_what_was_found_and_what_is_wrong(rt: HostRuntime) {
     let id = std::process::id(rt.process());
-    for (name, entries, expected) in FOLDERS {
-        let folder = folder_with(&rt, id, name, entries);
-        let line = "mtrecover report F";
-        assert_run(&rt, folder.as_str(), line, BOTH_WORK, *expected);
-        remove(&rt, folder.as_str());
-    }
+    assert_in_folders(&rt, id, "mtrecover report F", FOLDERS);
 }
 
-/// Sizes of a file, and what is said of it. It has zeros alone: once such a file is read, its header is a fault.
-const SIZES: &[(u64, Ends)] = &[
-    (1_073_741_824, (1, "mtdump: log 0: header\n")),
-    (1_073_741_825, (1, "mtdump: log 0: source failed\n")),
+/// Folders of one great file, and what is said of it. It has zeros alone: once such a file is read, its header is a fault.
+const GREAT: &[Case] = &[
+    (
+        "greatest",
+        &[("a.mtl", Zeros(1_073_741_824))],
+        (1, "mtdump: log 0: header\n"),
+    ),
+    (
+        "too-great",
+        &[("a.mtl", Zeros(1_073_741_825))],
+        (1, "mtdump: log 0: source failed\n"),
+    ),
 ];
 
 #[test]
 fn a_file_of_the_greatest_size_is_read_and_none_past_it(rt: HostRuntime) {
     let id = std::process::id(rt.process());
-    let folder = folder_of(&rt, id, "large");
-    let path = format!(in rt.alloc(); "{folder}/a.mtl").expect(&rt, "memory");
-    for (size, expected) in SIZES {
-        make_file(&rt, path.as_str(), *size);
-        assert_run(&rt, folder.as_str(), "mtdump F/a.mtl", BOTH_WORK, *expected);
-    }
-    remove(&rt, folder.as_str());
-}
-
-/// Makes a file of so many zeros.
-fn make_file<R: Abort + Files>(rt: &R, path: &str, size: u64) {
-    let file = fs::File::create(rt, path).expect(rt, "a file");
-    file.set_len(size).expect(rt, "a long file");
+    assert_in_folders(&rt, id, "mtdump F/a.mtl", GREAT);
 }

@@ -27,6 +27,12 @@ fn assert_value<R: Abort>(rt: &R, answer: Result<Recovered, Fault>, key: &[u8], 
     }
 }
 
+/// The list with an item more, if there is one and memory for it.
+fn with<T: Drop>(mut list: Vec<T>, item: Option<T>) -> Option<Vec<T>> {
+    list.push(item?).ok()?;
+    Some(list)
+}
+
 /// These texts as sources, each with the buffer of a slot. None where memory for them is refused, or a slot is empty.
 fn sources_of<'a>(
     alloc: Global,
@@ -35,35 +41,23 @@ fn sources_of<'a>(
 ) -> Option<Vec<MemSource<'a>>> {
     let mut sources = Vec::new(alloc);
     for (text, slot) in texts.iter().zip(slots) {
-        sources.push(MemSource::new(text, slot)?).ok()?;
+        sources = with(sources, MemSource::new(text, slot))?;
     }
     Some(sources)
 }
 
-/// These logs and parts as sources. None where memory for them is refused, or a slot is empty.
-fn inputs_of<'a>(
-    alloc: Global,
-    logs: &[&'a [u8]],
-    parts: &[&'a [u8]],
-    rack: &'a mut Rack,
-) -> Option<Inputs<MemSource<'a>>> {
-    let slots = rack.slots();
-    let count = logs.len().min(slots.len());
-    let (first, second) = slots.split_at_mut(count);
-    let logs = sources_of(alloc, logs, first)?;
-    let parts = sources_of(alloc, parts, second)?;
-    Some(Inputs { logs, parts })
-}
-
-/// What recovery of these texts by two workers in two pieces answers, unless memory for the sources is refused.
+/// What recovery of these texts, so many logs and then parts, by two workers in two pieces answers, unless memory for the
+/// sources is refused.
 fn recover_by_two<R: AllocGlobal + Threads + Sync>(
     rt: &R,
-    logs: &[&[u8]],
-    parts: &[&[u8]],
+    texts: &[&[u8]],
+    log_count: usize,
 ) -> Option<Result<Recovered, Fault>> {
     let (pieces, workers) = (Pieces::new(2)?, Workers::new(2)?);
     let mut rack = Rack::new(rt.alloc(), 2, 16).ok()?;
-    let inputs = inputs_of(rt.alloc(), logs, parts, &mut rack)?;
+    let mut logs = sources_of(rt.alloc(), texts, rack.slots())?;
+    let parts = logs.split_off(log_count.min(logs.len())).ok()?;
+    let inputs = Inputs { logs, parts };
     let cutting = Cutting::Even(pieces);
     Some(recover(rt, rt.alloc(), inputs, workers, cutting, &NoGate))
 }
@@ -76,14 +70,14 @@ fn a_refused_growth_is_memory(rt: HostRuntime) {
 
 #[test]
 fn a_refused_growth_of_recovery_by_two_workers_is_memory(rt: HostRuntime) {
-    if let Some(answer) = recover_by_two(&rt, &[LOG_A, LOG_B], &[]) {
+    if let Some(answer) = recover_by_two(&rt, &[LOG_A, LOG_B], 2) {
         assert_value(&rt, answer, b"b", b"y");
     }
 }
 
 #[test]
 fn a_refused_growth_of_recovery_by_two_workers_over_a_checkpoint_is_memory(rt: HostRuntime) {
-    if let Some(answer) = recover_by_two(&rt, &[LATE_LOG], &[PART]) {
+    if let Some(answer) = recover_by_two(&rt, &[LATE_LOG, PART], 1) {
         assert_value(&rt, answer, b"a", b"n");
     }
 }
