@@ -15,7 +15,7 @@ use Rattle.mt_record.specs.declared.head.Head.{Head}
 use Rattle.mt_record.specs.declared.magic.NoMagic.{NoMagic}
 use Rattle.mt_record.specs.Fronts.{GoTogether, GoesWithMagic, HasNone, ShowsNone, IsCutFront, FindsFront}
 use Rattle.mt_record.specs.Heads.{IsHead, head_bytes}
-use Rattle.mt_record.specs.MoreBytes.{apart}
+use Rattle.mt_record.proofs.Feeds.{apart}
 
 -- ---- eight bytes are a number
 

@@ -1,12 +1,45 @@
 -- What a feed has read when more bytes follow, whatever its items are.
-use Rattle.std.proofs.Common.{◌≡◌, ℕ, ◌+◌, ◌-◌, ◌*◌, ◌<◌, Result, Ok, Err, Option, Some, None, List, [], ◌++◌, length, drop, sym, ap, ◌∙◌, subst, append_assoc, arith, true, Bool}
+use Rattle.std.proofs.Common.{◌≡◌, ◌⊎◌, inl, inr, ℕ, ◌-◌, ◌*◌, ◌+◌, ◌<◌, Option, Some, None, List, [], ◌∷◌, ◌++◌, length, drop, refl, sym, ap, ◌∙◌, subst, append_assoc, arith, true, Bool}
 use Rattle.std.proofs.Math.Seq.{drop-append_seam}
 use Rattle.std.proofs.lemmas.List.{length-append, append-nil, nil_from_length}
 use Rattle.std.proofs.lemmas.Bool.Decides.{Decides-eqb}
+use Rattle.std.proofs.lemmas.Option.{none-some}
 use Rattle.std.specs.Prelude.{◌==◌}
-use Rattle.std.specs.Borrow.{Bor}
-use Rattle.mt_record.specs.Fronts.{ShowsNone, IsCutFront}
-use Rattle.mt_record.specs.Feeding.{HasRead, Reads, Keeps, Steps, StepsHeader, HoldsUpTo, HoldsAll, Tops}
+use Rattle.mt_record.specs.Fronts.{GoTogether, ShowsNone}
+use Rattle.mt_record.specs.Feeding.{HasRead, Reads, HoldsUpTo, HoldsAll, IsFedBy, Tops}
+
+-- ---- bytes
+
+-- what stands behind a front stands behind it when more bytes follow
+pub behind_on : (front rest after more : List ℕ) → rest ≡ front ++ after → rest ++ more ≡ front ++ (after ++ more)
+behind_on front rest after more e = ap (λ (x : List ℕ). x ++ more) e ∙ append_assoc front after more
+
+-- what the records leave over goes on as the bytes do
+pub spelled_on : (front middle bytes rest more : List ℕ) → bytes ≡ front ++ (middle ++ rest) → bytes ++ more ≡ front ++ (middle ++ (rest ++ more))
+spelled_on front middle bytes rest more e =
+    ap (λ (x : List ℕ). x ++ more) e ∙ append_assoc front (middle ++ rest) more ∙ ap (λ (x : List ℕ). front ++ x) (append_assoc middle rest more)
+
+-- of two lists that go on to the same one, one begins the other
+pub apart : (a b x y : List ℕ) → a ++ x ≡ b ++ y → GoTogether a b
+apart [] b x y e = inr (b, refl)
+apart (p ∷ a) [] x y e = inl (p ∷ a, refl)
+apart (p ∷ a) (q ∷ b) x y e =
+    let tails : a ++ x ≡ b ++ y = cc in
+    let first : p ≡ q = cc in
+    elim (apart a b x y tails) as (λ _. ((c : List ℕ) × (p ∷ a ≡ q ∷ (b ++ c))) ⊎ ((c : List ℕ) × (q ∷ b ≡ p ∷ (a ++ c)))) [
+      | inl u ↦ inl (u.0, λ i. first i ∷ u.1 i)
+      | inr u ↦ inr (u.0, λ i. sym first i ∷ u.1 i)
+    ]
+
+-- bytes that show none of these show none when more bytes follow
+pub shows_none_on : {H : Type 0} (Is : H → Type 0) (spelled : H → List ℕ) (bytes more : List ℕ) → ShowsNone Is spelled bytes → ShowsNone Is spelled (bytes ++ more)
+shows_none_on Is spelled bytes more h = (
+  λ head after is e. elim (apart bytes (spelled head) more after e) as (λ _. ⊥) [
+    | inl u ↦ h.0 head u.0 is u.1
+    | inr u ↦ h.1 head u.0 is u.1
+  ],
+  λ head after is e. h.1 head (more ++ after) is (e ∙ append_assoc bytes more after),
+)
 
 -- ---- items
 
@@ -19,12 +52,6 @@ then_read holds old middle new bytes rest after first next = record {
   on = λ taken front is.
       subst (λ (x : List ℕ). holds taken new x) (append_assoc front first.items next.items) (next.on taken (front ++ first.items) (first.on taken front is));
 }
-
--- what was read is kept by a step that reads nothing
-pub then_kept : {T I : Type 0} (holds : T → I → List ℕ → Type 0) (old middle new : I) (bytes rest : List ℕ) → Reads holds old middle bytes rest → Keeps holds middle new
-    → Reads holds old new bytes rest
-then_kept holds old middle new bytes rest first kept =
-    record { items = first.items; joins = first.joins; on = λ taken front is. kept taken (front ++ first.items) (first.on taken front is) }
 
 -- items read at the front of the rest go to what was read
 pub read_on : {T I : Type 0} (holds : T → I → List ℕ → Type 0) (taken : T) (old new : I) (text bytes after : List ℕ) → HasRead (holds taken old) text bytes → Reads holds old new bytes after
@@ -45,17 +72,6 @@ pub front_read : {T I : Type 0} (holds : T → I → List ℕ → Type 0) (old n
     → ((taken : T) (before : List ℕ) → holds taken old before → holds taken new (before ++ front)) → Reads holds old new bytes after × (length after < length bytes)
 front_read holds old new front bytes after joins some on = (record { items = front; joins = joins; on = on }, omega (arith, ap length joins, length-append front after, some))
 
--- the step of a header is one of items that know what to make of each of its outcomes
-pub header_steps : {T I F H : Type 0} (holds : T → I → List ℕ → Type 0) (is_left : I → List ℕ → Type 0) (shows : I → F → List ℕ → Type 0) (Is : H → Type 0) (spelled : H → List ℕ)
-    (headed : I → H → I) (fault : F) (old new : I) (bytes : List ℕ) (answer : Result (Option (Bor (List ℕ))) F) → ((head : H) → 0 < length (spelled head))
-    → (IsCutFront Is spelled bytes → is_left old bytes) → ((head : H) → Is head → (taken : T) (front : List ℕ) → holds taken old front → holds taken (headed old head) (front ++ spelled head))
-    → (ShowsNone Is spelled bytes → shows old fault bytes) → StepsHeader Is spelled headed fault old new bytes answer → Steps holds is_left shows old new bytes answer
-header_steps holds is_left shows Is spelled headed fault old new bytes (Ok None) some cut read failed (same, front) = (same, cut front)
-header_steps holds is_left shows Is spelled headed fault old new bytes (Ok (Some after)) some cut read failed (head, is, e, same) =
-    front_read holds old new (spelled head) bytes after.now e (some head) (λ taken front h. subst (λ x. holds taken x (front ++ spelled head)) (sym same) (read head is taken front h))
-header_steps holds is_left shows Is spelled headed fault old new bytes (Err answer) some cut read failed (same, is, none) =
-    (λ taken front h. subst (λ x. holds taken x front) (sym same) h, rw (same, is) (failed none))
-
 -- ---- the text
 
 -- where the rest is empty all bytes are read or held back
@@ -68,6 +84,20 @@ all_held holds is_left items held text rest up_to none =
 pub none_held : {I : Type 0} (holds : I → List ℕ → Type 0) (is_left : I → List ℕ → Type 0) (items : I) (held text rest : List ℕ) → HoldsUpTo holds is_left items held text rest → held ≡ []
     → HasRead (holds items) text rest
 none_held holds is_left items held text rest up_to none = subst (λ (x : List ℕ). HasRead (holds items) text (x ++ rest)) none up_to.read
+
+-- the rest goes on as the text does
+pub goes_on : (holds : List ℕ → Type 0) (text rest more : List ℕ) → HasRead holds text rest → HasRead holds (text ++ more) (rest ++ more)
+goes_on holds text rest more has = record { front = has.front; joins = behind_on has.front text rest more has.joins; read = has.read }
+
+-- a feed that has a fault was fed whatever follows, too
+pub fed_on : {I F : Type 0} (holds : I → List ℕ → Type 0) (is_left : I → List ℕ → Type 0) (shows : I → F → List ℕ → Type 0) (items : I) (held : List ℕ) (answered : Option F) (fault : F) (text more : List ℕ)
+    → answered ≡ Some fault → IsFedBy holds is_left shows items held answered text → IsFedBy holds is_left shows items held answered (text ++ more)
+fed_on holds is_left shows items held answered fault text more failed fed = (
+  λ none. absurd (none-some fault (sym none ∙ failed)),
+  λ other is.
+      let shown = fed.1 other is in
+      (shown.0, shown.1 ++ more, rw (← append_assoc shown.0 shown.1 more) (goes_on (holds items) text (shown.0 ++ shown.1) more shown.2), shown.3),
+)
 
 -- ---- the bytes held back
 

@@ -1,82 +1,99 @@
 -- The items of a log one behind the other, and what its feed was fed.
-use Rattle.std.proofs.Common.{◌≡◌, ℕ, max, Result, Ok, Err, Option, Some, None, List, [], ◌∷◌, ◌++◌, length, refl, sym, ap, ◌∙◌, subst, append_assoc, arith}
+use Rattle.std.proofs.Common.{◌≡◌, ℕ, ◌+◌, ◌-◌, ◌^◌, ◌<◌, min, max, Option, Some, None, List, [], ◌∷◌, ◌++◌, length, refl, sym, ap, ◌∙◌, subst, append_assoc, arith}
 use Rattle.std.proofs.lemmas.List.{length-append, append-nil, flat_map_more}
-use Rattle.std.specs.Prelude.{◌==◌, Bool, not, IfOk, OnErr, MatchOption}
-use Rattle.std.specs.Borrow.{Bor}
+use Rattle.std.specs.Prelude.{◌==◌, Bool, not, IfSome}
 use Rattle.std.specs.List.{flat_map}
-use Rattle.std.specs.Result.{IfErr}
-use Rattle.mt_words.specs.Limits.{limits_of}
-use Rattle.mt_words.specs.Changes.{Logged, IsLawful}
+use Rattle.byteorder.specs.Endian.{big_bytes}
+use Rattle.mt_words.specs.declared.fault.What.{What}
+use Rattle.mt_words.specs.declared.fault.What.TheVariants.{Length, Trailer}
+use Rattle.mt_words.specs.declared.limits.Format.{Format}
+use Rattle.mt_words.specs.declared.limits.Limits.{Limits}
+use Rattle.mt_words.specs.declared.record.Change.{Change}
+use Rattle.mt_words.specs.Limits.{limits_of, widest}
+use Rattle.mt_words.specs.Changes.{Logged, IsLoggedChange}
+use Rattle.mt_words.proofs.Formats.{change_within}
 use Rattle.mt_record.specs.declared.read.FeedFault.{FeedFault}
 use Rattle.mt_record.specs.declared.read.FeedFault.TheVariants as faults
 use Rattle.mt_record.specs.declared.log_items.LogItems.{LogItems}
-use Rattle.mt_record.specs.Spelling.{spelling}
 use Rattle.mt_record.specs.declared.head.Head.{Head}
+use Rattle.mt_record.specs.Spelling.{framed, spelling}
+use Rattle.mt_record.specs.Fronts.{bytes_of, ShowsNone, IsCutFront}
 use Rattle.mt_record.specs.Heads.{IsHead, head_of, head_bytes, HasNoHeader}
-use Rattle.mt_record.specs.Logs.{latest, IsLog, LogReading, IsLast, IsTextIn}
+use Rattle.mt_record.specs.Logs.{AreRecords, latest, IsLog, LogReading, IsLast, IsTextIn}
 use Rattle.mt_record.specs.LogFaults.{RestFault, IsAnswered}
-use Rattle.mt_record.specs.Fronts.{ShowsNone, IsCutFront}
-use Rattle.mt_record.specs.Feeding.{HasRead, StepsHeader, HoldsAll, HasShown}
-use Rattle.mt_record.specs.LogFeeding.{LogSoFar, so_far, headed, IsShown, ShowsNoFault, ReadsRecords, ReadsBy, HoldsLog, IsLeft, IsLeftBy, IsLogLeft, IsFaultyBy, IsLogFaulty, StepsLog, ReadsNext}
+use Rattle.mt_record.specs.Bodies.{IsNextBody, IsBodyOf}
+use Rattle.mt_record.specs.Feeding.{HasRead, Reads, HoldsAll, HasShown}
+use Rattle.mt_record.specs.LogFeeding.{LogSoFar, so_far, IsShown, ShowsNoFault, HoldsLog, IsLeft, IsLogLeft, IsLogFaulty}
 use Rattle.mt_record.proofs.Records.{records_push, latest_push, last_is, tells_torn}
 use Rattle.mt_record.proofs.OneReading.{not_both}
 use Rattle.mt_record.proofs.Beginnings.{cut_none}
-use Rattle.mt_record.proofs.Feeds.{front_read, header_steps}
+use Rattle.mt_record.proofs.Feeds.{behind_on, spelled_on, shows_none_on, front_read}
 
--- ---- the header
+-- ---- what was read
 
--- a header behind nothing is read with no record
-first_read : (o : Option Head) (records : List Logged) (time count : ℕ) (front : List ℕ) (head : Head) → o ≡ None → IsHead head → ReadsBy o records time count front
-    → ReadsRecords head records time count (front ++ head_bytes head)
-first_read (Some other) records time count front head none is reads = cc
-first_read None records time count front head none is reads =
-    subst (λ (p : List Logged × ℕ × ℕ × List ℕ). ReadsRecords head p.0 p.1 p.2 (p.3 ++ head_bytes head)) (λ i. (sym reads.none i, sym reads.latest i, sym reads.whole i, sym reads.empty i))
-    (record { is_head = is; spelled = sym (append-nil (head_bytes head)); lawful = tt; latest = refl; whole = refl })
+-- without a header nothing was
+unread : (taken : List Logged) (s : LogSoFar) (text rest : List ℕ) → s.head ≡ None → HasRead (HoldsLog taken s) text rest → rest ≡ text
+unread taken s text rest none reads =
+    let empty : taken ++ s.ready ≡ [] = rw none at reads.read.lawful in
+    sym (reads.joins ∙ ap (λ (x : List ℕ). x ++ rest) (rw (none, empty) at reads.read.spelled))
 
--- one step of a header
-pub steps_header : {R : Type 0} (listed : R → List Logged) (old new : LogItems R) (bytes : List ℕ) (answer : Result (Option (Bor (List ℕ))) FeedFault) → old.head ≡ None
-    → StepsHeader IsHead head_bytes headed faults.Header old new bytes answer → StepsLog listed old new bytes answer
-steps_header listed old new bytes answer none =
-    header_steps (λ taken items. HoldsLog taken (so_far listed items)) (λ items. IsLogLeft (so_far listed items)) (λ items. IsLogFaulty (so_far listed items)) IsHead head_bytes headed faults.Header old new bytes answer
-    (λ head. omega arith) (subst (λ (o : Option Head). IsLeftBy o bytes) (sym none)) (λ head is taken front. first_read old.head (taken ++ listed old.ready) old.latest old.whole front head none is)
-    (subst (λ (o : Option Head). IsFaultyBy o old.latest old.whole faults.Header bytes) (sym none))
+-- what is spelled behind a header, and then the rest
+spelled_rest : (taken : List Logged) (s : LogSoFar) (head : Head) (text rest : List ℕ) → s.head ≡ Some head → HasRead (HoldsLog taken s) text rest
+    → text ≡ head_bytes head ++ (flat_map spelling (taken ++ s.ready) ++ rest)
+spelled_rest taken s head text rest some reads =
+    reads.joins ∙ behind_on (head_bytes head) reads.front (flat_map spelling (taken ++ s.ready)) rest (rw some at reads.read.spelled)
 
--- ---- records
+-- with a header and a rest that is no record nor a fault it is a log
+is_log : (taken : List Logged) (s : LogSoFar) (head : Head) (text left : List ℕ) → s.head ≡ Some head → HasRead (HoldsLog taken s) text left → IsLeft (limits_of head.format) left
+    → IsLog text head (taken ++ s.ready) left
+is_log taken s head text left some reads ends =
+    let lawful : IsHead head × AreRecords (limits_of head.format) 0 (taken ++ s.ready) = rw some at reads.read.lawful in
+    record { spelled = spelled_rest taken s head text left some reads; is_head = lawful.0; lawful = lawful.1; ends = ends }
 
--- the record read goes to those read before
-next_read : (old new : LogSoFar) (o : Option Head) (head : Head) (taken : List Logged) (front rest after : List ℕ) → o ≡ Some head → (next : ReadsNext head old rest new after)
-    → ReadsBy o (taken ++ old.ready) old.latest old.whole front → ReadsBy (Some head) (taken ++ new.ready) new.latest new.whole (front ++ spelling next.next)
-next_read old new None head taken front rest after some next h = cc
-next_read old new (Some other) head taken front rest after some next h =
-    let r = next.next in
-    let rs = taken ++ old.ready in
-    let list : taken ++ new.ready ≡ rs ++ r ∷ [] = ap (λ (x : List Logged). taken ++ x) next.ready ∙ sym (append_assoc taken old.ready (r ∷ [])) in
-    let same : other ≡ head = cc in
-    let so_far = h.whole in
-    let count = next.whole in
-    let number = length-append rs (r ∷ []) in
-    subst (λ (p : Head × List Logged). ReadsRecords p.0 p.1 new.latest new.whole (front ++ spelling r)) (λ i. (same i, sym list i))
-    (record {
-      is_head = h.is_head;
-      spelled = ap (λ (x : List ℕ). x ++ spelling r) h.spelled ∙ flat_map_more spelling (head_bytes other) rs r;
-      lawful = records_push (limits_of other.format) 0 rs r h.lawful (subst (λ (x : Head). IsLawful (limits_of x.format) r) (sym same) next.is_next.lawful) (rw (← h.latest) next.is_next.rises);
-      latest = next.latest ∙ sym (latest_push 0 rs r);
-      whole = omega (arith, number, so_far, count);
+-- ---- items
+
+-- a header is read where nothing was
+pub header_read : {R : Type 0} (listed : R → List Logged) (old : LogItems R) (head : Head) (bytes after : List ℕ) → old.head ≡ None → IsHead head → bytes ≡ head_bytes head ++ after
+    → Reads (λ taken items. HoldsLog taken (so_far listed items)) old (record old { head = Some head }) bytes after × (length after < length bytes)
+header_read listed old head bytes after none is e =
+    front_read (λ taken items. HoldsLog taken (so_far listed items)) old (record old { head = Some head }) (head_bytes head) bytes after e (omega arith) (λ taken front h.
+    let empty : taken ++ listed old.ready ≡ [] = rw none at h.lawful in
+    let before : front ≡ [] = rw (none, empty) at h.spelled in
+    record {
+      spelled = rw (before, empty) (sym (append-nil (head_bytes head)));
+      lawful = (is, rw empty tt);
+      latest = h.latest;
+      whole = h.whole;
     })
 
--- one step behind the header
-pub steps_by : {R : Type 0} (listed : R → List Logged) (old new : LogItems R) (head : Head) (bytes : List ℕ) (answer : Result (Option (Bor (List ℕ))) FeedFault) → old.head ≡ Some head
-    → IfOk answer (λ next. MatchOption next ((new ≡ old) × IsLeft (limits_of head.format) bytes) (λ after. ReadsNext head (so_far listed old) bytes (so_far listed new) after.now))
-    → IfErr answer (λ fault. IsFaultyBy (Some head) old.latest old.whole fault bytes) → OnErr answer (so_far listed new ≡ so_far listed old) → StepsLog listed old new bytes answer
-steps_by listed old new head bytes (Ok None) some stays failed kept = (stays.0, subst (λ (o : Option Head). IsLeftBy o bytes) (sym some) stays.1)
-steps_by listed old new head bytes (Ok (Some after)) some next failed kept =
-    front_read (λ taken items. HoldsLog taken (so_far listed items)) old new (spelling next.next) bytes after.now next.is_next.spelled (omega arith) (λ taken front reads.
-    subst (λ (o : Option Head). ReadsBy o (taken ++ listed new.ready) new.latest new.whole (front ++ spelling next.next)) (sym (next.same_head ∙ some))
-    (next_read (so_far listed old) (so_far listed new) old.head head taken front bytes after.now some next reads))
-steps_by listed old new head bytes (Err fault) some next failed kept = (
-  λ taken front reads. subst (λ (s : LogSoFar). HoldsLog taken s front) (sym kept) reads,
-  subst (λ (s : LogSoFar). IsLogFaulty s fault bytes) (sym kept) (subst (λ (o : Option Head). IsFaultyBy o old.latest old.whole fault bytes) (sym some) failed),
-)
+-- a change that a format allows is one that some format allows
+logged_within : (format : Format) (o : Option Change) → IfSome o (IsLoggedChange (limits_of format)) → IfSome o (IsLoggedChange widest)
+logged_within format None logged = tt
+logged_within format (Some change) logged = (change_within format change logged.0, logged.1)
+
+-- a record is read behind those before it
+pub record_read : {R : Type 0} (listed : R → List Logged) (old : LogItems R) (ready : R) (head : Head) (bytes body after : List ℕ) (time whole : ℕ) → old.head ≡ Some head
+    → IsNextBody (limits_of head.format) old.latest bytes time body after
+    → ((r : Logged) → IsBodyOf widest 0 body r → listed ready ≡ listed old.ready ++ r ∷ []) → whole ≡ min (old.whole + 1) (2 ^ 64 - 1)
+    → Reads (λ taken items. HoldsLog taken (so_far listed items)) old (record old { ready = ready; latest = time; whole = whole }) bytes after × (length after < length bytes)
+record_read listed old ready head bytes body after time whole some found put count =
+    let r = found.next in
+    let limits = limits_of head.format in
+    let lawful = found.is_next.lawful in
+    let added = put r (record { lawful = (lawful.0, logged_within head.format r.change lawful.1); rises = omega arith; spelled = found.same_body }) in
+    front_read (λ taken items. HoldsLog taken (so_far listed items)) old (record old { ready = ready; latest = time; whole = whole }) (spelling r) bytes after found.is_next.spelled (omega arith)
+    (λ taken front h.
+    let rs = taken ++ listed old.ready in
+    let list : taken ++ listed ready ≡ rs ++ r ∷ [] = ap (λ (x : List Logged). taken ++ x) added ∙ sym (append_assoc taken (listed old.ready) (r ∷ [])) in
+    let before : IsHead head × AreRecords limits 0 rs = rw some at h.lawful in
+    let number = length-append rs (r ∷ []) in
+    let counted = h.whole in
+    record {
+      spelled = rw list (ap (λ (x : List ℕ). x ++ spelling r) h.spelled ∙ flat_map_more spelling (bytes_of head_bytes old.head) rs r);
+      lawful = rw (some, list) (before.0, records_push limits 0 rs r before.1 lawful (rw (← h.latest) found.is_next.rises));
+      latest = rw list (found.same_time ∙ sym (latest_push 0 rs r));
+      whole = rw list (omega (arith, number, counted, count));
+    })
 
 -- ---- the beginning
 
@@ -84,52 +101,39 @@ steps_by listed old new head bytes (Err fault) some next failed kept = (
 pub nothing_read : {R : Type 0} (listed : R → List Logged) (records : R) → listed records ≡ []
     → HoldsAll (λ items. HoldsLog [] (so_far listed items)) (λ items. IsLogLeft (so_far listed items)) (record { head = None; ready = records; latest = 0; whole = 0 }) [] []
 nothing_read listed records none = (
-  record { front = []; joins = refl; read = record { none = none; latest = refl; whole = refl; empty = refl } },
+  record { front = []; joins = refl; read = rw none (record { spelled = refl; lawful = refl; latest = refl; whole = refl }) },
   (head_of 0, head_bytes (head_of 0), omega arith, omega arith, refl),
 )
 
 -- ---- the end
 
 -- without a header there is none
-pub no_head_read : (o : Option Head) (records : List Logged) (time count : ℕ) (text left : List ℕ) → o ≡ None → HasRead (ReadsBy o records time count) text left → IsLeftBy o left → HasNoHeader text
-no_head_read (Some head) records time count text left none reads rest = cc
-no_head_read None records time count text left none reads rest =
-    subst HasNoHeader (sym (reads.joins ∙ ap (λ (x : List ℕ). x ++ left) reads.read.empty)) (cut_none IsHead head_bytes 12 (λ head. refl) left rest)
-
--- what is spelled behind a header, and then the rest
-spelled_rest : (head : Head) (records : List Logged) (text rest : List ℕ) (time count : ℕ) → (reads : HasRead (ReadsRecords head records time count) text rest)
-    → text ≡ head_bytes head ++ (flat_map spelling records ++ rest)
-spelled_rest head records text rest time count reads =
-    reads.joins ∙ ap (λ (x : List ℕ). x ++ rest) reads.read.spelled ∙ append_assoc (head_bytes head) (flat_map spelling records) rest
+pub no_head_read : (taken : List Logged) (s : LogSoFar) (text left : List ℕ) → s.head ≡ None → HasRead (HoldsLog taken s) text left → IsLogLeft s left → HasNoHeader text
+no_head_read taken s text left none reads rest = subst HasNoHeader (unread taken s text left none reads) (cut_none IsHead head_bytes 12 (λ head. refl) left (rw none at rest))
 
 -- what was read with a header is a log
-pub text_read : {R : Type 0} (listed : R → List Logged) (items : LogItems R) (o : Option Head) (taken : List Logged) (text left : List ℕ) (head : Head) (last : ℕ) (torn : Bool) → o ≡ Some head
-    → HasRead (ReadsBy o (taken ++ listed items.ready) items.latest items.whole) text left → IsLeftBy o left → torn ≡ not (length left == 0) → last ≡ max head.from items.latest
+pub text_read : {R : Type 0} (listed : R → List Logged) (items : LogItems R) (taken : List Logged) (text left : List ℕ) (head : Head) (last : ℕ) (torn : Bool) → items.head ≡ Some head
+    → HasRead (HoldsLog taken (so_far listed items)) text left → IsLogLeft (so_far listed items) left → torn ≡ not (length left == 0) → last ≡ max head.from items.latest
     → IsTextIn listed taken text (record { from = head.from; last = last; records = items.ready; whole = items.whole; torn = torn })
-text_read listed items None taken text left head last torn some reads ends test greatest = cc
-text_read listed items (Some other) taken text left head last torn some reads ends test greatest =
-    let h = reads.read in
-    let same : other ≡ head = cc in
-    let log : LogReading = record { head = other; records = taken ++ listed items.ready; torn = torn } in
-    let time : last ≡ max other.from (latest 0 log.records) = greatest ∙ ap (λ (x : Head). max x.from items.latest) (sym same) ∙ ap (λ (n : ℕ). max other.from n) h.latest in
-    let tells = tells_torn (limits_of other.format) left (length left == 0) refl ends in
+text_read listed items taken text left head last torn some reads rest test greatest =
+    let ends : IsLeft (limits_of head.format) left = rw some at rest in
+    let log : LogReading = record { head = head; records = taken ++ listed items.ready; torn = torn } in
+    let read = is_log taken (so_far listed items) head text left some reads ends in
+    let tells = tells_torn (limits_of head.format) left (length left == 0) refl ends in
+    let time : last ≡ max head.from (latest 0 log.records) = greatest ∙ ap (λ (n : ℕ). max head.from n) reads.read.latest in
     record {
       log = log;
-      is_reading = record {
-        tail = left;
-        is_log = record { spelled = spelled_rest other log.records text left items.latest items.whole reads; is_head = h.is_head; lawful = h.lawful; ends = ends };
-        torn = rw test tells;
-      };
+      is_reading = record { tail = left; is_log = read; torn = rw test tells };
       shows = record {
-        from = ap (λ (x : Head). x.from) (sym same);
-        last = subst (λ (n : ℕ). IsLast log n) (sym time) (last_is (limits_of other.format) log h.lawful);
+        from = refl;
+        last = subst (λ (n : ℕ). IsLast log n) (sym time) (last_is (limits_of head.format) log read.lawful);
         records = refl;
-        whole = h.whole;
+        whole = reads.read.whole;
         torn = refl;
       };
     }
 
--- ---- no fault in good order
+-- ---- faults
 
 -- bytes that begin a header show no fault
 cut_shows_none : (bytes : List ℕ) → IsCutFront IsHead head_bytes bytes → ShowsNoFault bytes
@@ -144,44 +148,41 @@ log_shows_none bytes tail head records log faults.Header h = not_both bytes head
 log_shows_none bytes tail head records log (faults.Record nth what) h = not_both bytes head records tail (faults.Record nth what) log h
 log_shows_none bytes tail head records log faults.Memory h = h
 
--- what was read, and what is left, show no fault
-order_shows_none : (o : Option Head) (records : List Logged) (time count : ℕ) (text left : List ℕ) → HasRead (ReadsBy o records time count) text left → IsLeftBy o left → ShowsNoFault text
-order_shows_none None records time count text left reads cut = subst ShowsNoFault (sym (reads.joins ∙ ap (λ (x : List ℕ). x ++ left) reads.read.empty)) (cut_shows_none left cut)
-order_shows_none (Some head) records time count text left reads ends =
-    log_shows_none text left head records
-    (record { spelled = spelled_rest head records text left time count reads; is_head = reads.read.is_head; lawful = reads.read.lawful; ends = ends })
-
--- what follows what was read shows the fault
-faulty_shown : (o : Option Head) (records : List Logged) (time count : ℕ) (fault : FeedFault) (text rest : List ℕ) → HasRead (ReadsBy o records time count) text rest → IsFaultyBy o time count fault rest
-    → IsShown text fault
-faulty_shown None records time count faults.Header text rest reads h =
-    subst (ShowsNone IsHead head_bytes) (sym (reads.joins ∙ ap (λ (x : List ℕ). x ++ rest) reads.read.empty)) h
-faulty_shown None records time count (faults.Record nth what) text rest reads h = absurd h
-faulty_shown None records time count faults.Memory text rest reads h = tt
-faulty_shown (Some head) records time count faults.Header text rest reads h = absurd h
-faulty_shown (Some head) records time count (faults.Record nth what) text rest reads h = (
-  records,
-  record {
-    head = head;
-    rest = rest;
-    spelled = spelled_rest head records text rest time count reads;
-    is_head = reads.read.is_head;
-    lawful = reads.read.lawful;
-    fault = subst (λ (t : ℕ). RestFault what (limits_of head.format) t rest) reads.read.latest h.1;
-  },
-  h.0 ∙ reads.read.whole,
-)
-faulty_shown (Some head) records time count faults.Memory text rest reads h = tt
-
--- ---- feeds
-
 -- a feed in good order shows no fault
 pub fed_shows_none : (taken : List Logged) (s : LogSoFar) (held text : List ℕ) → HoldsAll (HoldsLog taken) IsLogLeft s held text → ShowsNoFault text
-fed_shows_none taken s held text (read, left) = order_shows_none s.head (taken ++ s.ready) s.latest s.whole text held read left
+fed_shows_none taken s held text (reads, left) = by s.head refl
+  where
+    by : (o : Option Head) → s.head ≡ o → ShowsNoFault text
+    by None none = subst ShowsNoFault (unread taken s text held none reads) (cut_shows_none held (rw none at left))
+    by (Some head) some = log_shows_none text held head (taken ++ s.ready) (is_log taken s head text held some reads (rw some at left))
+
+-- a fault of the rest stays its fault when more bytes follow
+rest_fault_on : (what : What) (limits : Limits) (low : ℕ) (rest more : List ℕ) → RestFault what limits low rest → RestFault what limits low (rest ++ more)
+rest_fault_on Length limits low rest more h = (h.0, h.1 ++ more, h.2, behind_on (big_bytes 4 h.0) rest h.1 more h.3, h.4)
+rest_fault_on Trailer limits low rest more h =
+    let start = big_bytes 4 (length h.0) in
+    let end = big_bytes 4 h.1 in
+    (h.0, h.1, h.2 ++ more, h.3, h.4, h.5, spelled_on start h.0 rest (end ++ h.2) more h.6 ∙ ap (λ (x : List ℕ). start ++ (h.0 ++ x)) (append_assoc end h.2 more))
+rest_fault_on what limits low rest more h = (h.0, h.1 ++ more, h.2, behind_on (framed h.0) rest h.1 more h.3, h.4)
 
 -- the fault of a feed that failed is shown
 pub fed_shows : (taken : List Logged) (s : LogSoFar) (fault : FeedFault) (text : List ℕ) → HasShown (HoldsLog taken) IsLogFaulty s fault text → IsShown text fault
-fed_shows taken s fault text (rest, read, shown) = faulty_shown s.head (taken ++ s.ready) s.latest s.whole fault text rest read shown
+fed_shows taken s faults.Header text (shown, more, reads, (none, h)) =
+    subst (ShowsNone IsHead head_bytes) (unread taken s text (shown ++ more) none reads) (shows_none_on IsHead head_bytes shown more h)
+fed_shows taken s (faults.Record nth what) text (shown, more, reads, (head, some, number, h)) =
+    let lawful : IsHead head × AreRecords (limits_of head.format) 0 (taken ++ s.ready) = rw some at reads.read.lawful in (
+      taken ++ s.ready,
+      record {
+        head = head;
+        rest = shown ++ more;
+        spelled = spelled_rest taken s head text (shown ++ more) some reads;
+        is_head = lawful.0;
+        lawful = lawful.1;
+        fault = rest_fault_on what (limits_of head.format) (latest 0 (taken ++ s.ready)) shown more (rw reads.read.latest at h);
+      },
+      number ∙ reads.read.whole,
+    )
+fed_shows taken s faults.Memory text h = tt
 
 -- a fault that is shown is that of the bytes
 pub shown_answered : (fault : FeedFault) (bytes : List ℕ) → IsShown bytes fault → IsAnswered bytes fault

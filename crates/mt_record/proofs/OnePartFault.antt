@@ -1,7 +1,7 @@
 -- Bytes are a part or have one fault, and what shows a fault.
 use Rattle.std.proofs.Common.{◌≡◌, ◌≢◌, ◌⊎◌, inl, inr, ◌∙◌, ℕ, ◌+◌, ◌<◌, ◌≤◌, ◌^◌, Option, Some, None, List, [], ◌∷◌, ◌++◌, length, refl, sym, ap, subst, append_assoc, arith}
 use Rattle.std.proofs.lemmas.List.{length-append, append-nil}
-use Rattle.std.specs.List.{flat_map}
+use Rattle.std.specs.List.{flat_map, AllByRecursion}
 use Rattle.byteorder.specs.Endian.{big_bytes}
 use Rattle.mt_words.specs.declared.limits.Format.{Format}
 use Rattle.mt_words.specs.declared.record.Change.{Change}
@@ -15,13 +15,13 @@ use Rattle.mt_record.specs.Spelling.{change_bytes}
 use Rattle.mt_record.specs.Parts.{part_head_bytes, IsPartHead, entry_spelling, footer_bytes, IsEntryLength, IsPart, PartReading, IsPartReading}
 use Rattle.mt_record.specs.PartFaults.{HasNoPartHeader, HasNoEntry, BeginsPart, IsBroken, IsPartFault, IsPartAnswered}
 use Rattle.mt_record.specs.Fronts.{ShowsNone, IsCutFront}
-use Rattle.mt_record.specs.MoreBytes.{spelled_on}
 use Rattle.mt_record.specs.Feeding.{HasRead, HoldsAll, HasShown}
-use Rattle.mt_record.specs.PartFeeding.{ShowsNoPart, IsPartShown, ShowsNoPartFault, IsCutItem, PartSoFar, ReadsEntries, ReadsBy, HoldsPart, IsLeftBy, IsPartLeft, IsFaultyBy, IsPartFaulty}
+use Rattle.mt_record.specs.PartFeeding.{ShowsNoPart, IsPartShown, ShowsNoPartFault, IsCutItem, PartSoFar, ended, HoldsPart, IsPartLeft, IsPartFaulty}
 use Rattle.mt_record.proofs.Unique.{same_split, same_number, framed_apart}
 use Rattle.mt_record.proofs.Entries.{entry_length, short_entry}
 use Rattle.mt_record.proofs.OnePart.{length_no_entry, footer_no_entry, same_beginning, part_begins}
 use Rattle.mt_record.proofs.Beginnings.{cut_none}
+use Rattle.mt_record.proofs.Feeds.{behind_on, spelled_on, shows_none_on}
 
 -- ---- what stands at the front of a rest
 
@@ -139,6 +139,13 @@ module _ (format : Format) where
       differ (same_number 4 n count more [] small fits counts).0
   footer_shows_none count end rest fits_end fits e (inr (inr (inr (other, byte, more, f)))) = let all = ap length (sym f ∙ e) in omega (arith, all)
 
+-- what shows that there is no part shows it when more bytes follow
+no_part_on : (limits : Limits) (count : ℕ) (rest more : List ℕ) → ShowsNoPart limits count rest → ShowsNoPart limits count (rest ++ more)
+no_part_on limits count rest more (inl h) = inl (h.0, h.1 ++ more, h.2, h.3, h.4, behind_on (big_bytes 4 h.0) rest h.1 more h.5)
+no_part_on limits count rest more (inr (inl h)) = inr (inl (h.0, h.1, h.2 ++ more, h.3, h.4, h.5, behind_on (big_bytes 4 (length h.0) ++ (h.0 ++ big_bytes 4 h.1)) rest h.2 more h.6))
+no_part_on limits count rest more (inr (inr (inl h))) = inr (inr (inl (h.0, h.1, h.2 ++ more, h.3, h.4, behind_on (footer_bytes h.0 h.1) rest h.2 more h.5)))
+no_part_on limits count rest more (inr (inr (inr h))) = inr (inr (inr (h.0, h.1, h.2 ++ more, behind_on (footer_bytes h.0 count) rest (h.1 ∷ h.2) more h.3)))
+
 -- what begins bytes, up to a rest that begins with no entry, is all of a part but its footer
 up_to_footer : (bytes rest : List ℕ) (head other : PartHead) (entries others : List Change) (end : ℕ) → BeginsPart bytes head entries rest → HasNoEntry (limits_of head.format) rest
     → IsPart bytes other others end → (entries ≡ others) × (rest ≡ footer_bytes end (length entries))
@@ -206,81 +213,71 @@ part_shows_none bytes head entries end is faults.Header h = h.0 head _ is.is_hea
 part_shows_none bytes head entries end is (faults.Broken number count) h = (shown_answered (faults.Broken number count) bytes h).2 (reading_of head entries end) (head.format, is)
 part_shows_none bytes head entries end is faults.Memory h = h
 
--- what is spelled behind a header, and then the rest, begins a part
-begins_by : (head : PartHead) (entries : List Change) (text rest : List ℕ) → HasRead (ReadsEntries head entries) text rest → BeginsPart text head entries rest
-begins_by head entries text rest reads = record {
-  spelled = reads.joins ∙ ap (λ (x : List ℕ). x ++ rest) reads.read.spelled ∙ append_assoc (part_head_bytes head) (flat_map entry_spelling entries) rest;
-  is_head = reads.read.is_head;
-  lawful = reads.read.lawful;
-}
-
 -- bytes of which nothing was read are what is left
-unread : (end : Option ℕ) (entries : List Change) (text rest : List ℕ) → HasRead (ReadsBy None end entries) text rest → rest ≡ text
-unread end entries text rest reads = sym (reads.joins ∙ ap (λ (x : List ℕ). x ++ rest) reads.read.empty)
+unread : (s : PartSoFar) (text rest : List ℕ) → s.head ≡ None → HasRead (HoldsPart s) text rest → rest ≡ text
+unread s text rest none reads =
+    let empty : (s.entries ≡ []) × (s.end ≡ None) = rw none at reads.read.lawful in
+    sym (reads.joins ∙ ap (λ (x : List ℕ). x ++ rest) (rw (none, empty.0, empty.1) at reads.read.spelled))
 
--- what was read, and what is left, show no fault
-order_shows_none : (o : Option PartHead) (e : Option ℕ) (entries : List Change) (text left : List ℕ) → HasRead (ReadsBy o e entries) text left → IsLeftBy o e left → ShowsNoPartFault text
-order_shows_none None e entries text left reads cut = subst ShowsNoPartFault (unread e entries text left reads) (cut_shows_none left cut)
-order_shows_none (Some head) None entries text left reads cut = begun_shows_none text head entries left (begins_by head entries text left reads) cut
-order_shows_none (Some head) (Some end) entries text left reads none =
-    let all = reads.joins ∙ ap (λ (x : List ℕ). reads.front ++ x) none ∙ append-nil reads.front in
-    part_shows_none text head entries end (subst (λ (x : List ℕ). IsPart x head entries end) (sym all) reads.read)
+-- what was read behind a header, and then the rest, begins a part
+begun : (s : PartSoFar) (head : PartHead) (text rest : List ℕ) → s.head ≡ Some head → HasRead (HoldsPart s) text rest → BeginsPart text head s.entries (ended s ++ rest)
+begun s head text rest some reads =
+    let lawful : IsPartHead head × AllByRecursion (IsEntry (limits_of head.format)) s.entries = rw some at reads.read.lawful in
+    record {
+      spelled = reads.joins ∙ spelled_on (part_head_bytes head) (flat_map entry_spelling s.entries) reads.front (ended s) rest (rw some at reads.read.spelled);
+      is_head = lawful.0;
+      lawful = lawful.1;
+    }
 
--- what follows what was read shows the fault
-faulty_shown : (o : Option PartHead) (e : Option ℕ) (entries : List Change) (fault : PartFault) (text rest : List ℕ) → HasRead (ReadsBy o e entries) text rest
-    → IsFaultyBy o e (length entries) fault rest → IsPartShown text fault
-faulty_shown None e entries faults.Header text rest reads h = subst (ShowsNone IsPartHead part_head_bytes) (unread e entries text rest reads) h
-faulty_shown None e entries (faults.Broken number count) text rest reads h = absurd h
-faulty_shown None e entries faults.Memory text rest reads h = tt
-faulty_shown (Some head) e entries faults.Header text rest reads h = absurd h
-faulty_shown (Some head) None entries (faults.Broken number count) text rest reads (named, counted, shown) = (
-  record { head = head; entries = entries; rest = rest; begins = begins_by head entries text rest reads; named = named; counted = counted },
-  subst (λ (n : ℕ). ShowsNoPart (limits_of head.format) n rest) (sym counted) shown,
-)
-faulty_shown (Some head) (Some end) entries (faults.Broken number count) text [] reads (named, counted, some) = absurd (omega (arith, some))
-faulty_shown (Some head) (Some end) entries (faults.Broken number count) text (byte ∷ more) reads (named, counted, some) =
-    let footer = footer_bytes end (length entries) in
-    let begins = part_begins reads.front head entries end reads.read in
-    let spelled = reads.joins ∙ spelled_on (part_head_bytes head) (flat_map entry_spelling entries) reads.front footer (byte ∷ more) begins.spelled in (
-      record {
-        head = head;
-        entries = entries;
-        rest = footer ++ byte ∷ more;
-        begins = record { spelled = spelled; is_head = begins.is_head; lawful = begins.lawful };
-        named = named;
-        counted = counted;
-      },
-      inr (inr (inr (end, byte, more, ap (λ (n : ℕ). footer_bytes end n ++ byte ∷ more) (sym counted)))),
-    )
-faulty_shown (Some head) e entries faults.Memory text rest reads h = tt
+-- what is left behind a header is nothing, or the beginning of an item
+left_item : (s : PartSoFar) (head : PartHead) (left : List ℕ) → s.head ≡ Some head → IsPartLeft s left → (left ≡ []) ⊎ IsCutItem (limits_of head.format) left
+left_item s head left some rest = elim (rw some at rest) as (λ _. (left ≡ []) ⊎ IsCutItem (limits_of head.format) left) [ inl e ↦ inl e | inr cut ↦ inr cut.1 ]
+
+-- with a header and a footer, behind which nothing is left, it is a part
+pub part_read : (s : PartSoFar) (head : PartHead) (end : ℕ) (text left : List ℕ) → s.head ≡ Some head → s.end ≡ Some end → HasRead (HoldsPart s) text left → IsPartLeft s left → IsPart text head s.entries end
+part_read s head end text left some ends reads rest =
+    let none : left ≡ [] = elim (rw some at rest) as (λ _. left ≡ []) [ inl e ↦ e | inr cut ↦ cc ] in
+    let begins = begun s head text left some reads in
+    let fits : (end < 2 ^ 64) × (length s.entries < 2 ^ 32) = rw ends at reads.read.fits in
+    record { spelled = rw (ends, none) at begins.spelled; is_head = begins.is_head; lawful = begins.lawful; fits = fits.0; count = fits.1 }
 
 -- ---- feeds
 
 -- a feed in good order shows no fault
 pub fed_shows_none : (s : PartSoFar) (held text : List ℕ) → HoldsAll HoldsPart IsPartLeft s held text → ShowsNoPartFault text
-fed_shows_none s held text (read, left) = order_shows_none s.head s.end s.entries text held read left
+fed_shows_none s held text (reads, left) = by s.head s.end refl refl
+  where
+    by : (o : Option PartHead) (e : Option ℕ) → s.head ≡ o → s.end ≡ e → ShowsNoPartFault text
+    by None e none ends = subst ShowsNoPartFault (unread s text held none reads) (cut_shows_none held (rw none at left))
+    by (Some head) None some none = begun_shows_none text head s.entries held (rw none at (begun s head text held some reads)) (left_item s head held some left)
+    by (Some head) (Some end) some ends = part_shows_none text head s.entries end (part_read s head end text held some ends reads left)
 
 -- the fault of a feed that failed is shown
 pub fed_shows : (s : PartSoFar) (fault : PartFault) (text : List ℕ) → HasShown HoldsPart IsPartFaulty s fault text → IsPartShown text fault
-fed_shows s fault text (rest, read, shown) = faulty_shown s.head s.end s.entries fault text rest read shown
+fed_shows s faults.Header text (shown, more, reads, (none, h)) =
+    subst (ShowsNone IsPartHead part_head_bytes) (unread s text (shown ++ more) none reads) (shows_none_on IsPartHead part_head_bytes shown more h)
+fed_shows s (faults.Broken number count) text (shown, more, reads, (head, some, named, counted, h)) = (
+  record { head = head; entries = s.entries; rest = ended s ++ (shown ++ more); begins = begun s head text (shown ++ more) some reads; named = named; counted = counted },
+  rw (← append_assoc (ended s) shown more) (no_part_on (limits_of head.format) count (ended s ++ shown) more h),
+)
+fed_shows s faults.Memory text h = tt
 
 -- ---- the end
 
 -- without a footer it is broken
-pub no_footer_read : (o : Option PartHead) (e : Option ℕ) (entries : List Change) (text left : List ℕ) (head : PartHead) → o ≡ Some head → e ≡ None → HasRead (ReadsBy o e entries) text left
-    → IsLeftBy o e left → IsBroken text head.number (length entries)
-no_footer_read o e entries text left head some none read rest =
-    let begins = begins_by head entries text left (subst (λ (p : Option PartHead × Option ℕ). HasRead (ReadsBy p.0 p.1 entries) text left) (λ i. (some i, none i)) read) in
-    let cut = subst (λ (p : Option PartHead × Option ℕ). IsLeftBy p.0 p.1 left) (λ i. (some i, none i)) rest in (
-      record { head = head; entries = entries; rest = left; begins = begins; named = refl; counted = refl },
+pub no_footer_read : (s : PartSoFar) (text left : List ℕ) (head : PartHead) → s.head ≡ Some head → s.end ≡ None → HasRead (HoldsPart s) text left → IsPartLeft s left
+    → IsBroken text head.number (length s.entries)
+no_footer_read s text left head some none reads rest =
+    let begins : BeginsPart text head s.entries left = rw none at (begun s head text left some reads) in
+    let cut = left_item s head left some rest in (
+      record { head = head; entries = s.entries; rest = left; begins = begins; named = refl; counted = refl },
       left_no_entry head.format left cut,
-      left_no_part text head entries left begins cut,
+      left_no_part text head s.entries left begins cut,
     )
 
 -- without a header it has none
-pub no_head_read : (o : Option PartHead) (e : Option ℕ) (entries : List Change) (text left : List ℕ) → o ≡ None → HasRead (ReadsBy o e entries) text left → IsLeftBy o e left → HasNoPartHeader text
-no_head_read (Some head) e entries text left none reads rest = cc
-no_head_read None e entries text left none reads rest = subst HasNoPartHeader (unread e entries text left reads) (cut_no_header left rest)
+pub no_head_read : (s : PartSoFar) (text left : List ℕ) → s.head ≡ None → HasRead (HoldsPart s) text left → IsPartLeft s left → HasNoPartHeader text
+no_head_read s text left none reads rest = subst HasNoPartHeader (unread s text left none reads) (cut_no_header left (rw none at rest))
 
 -- ---- at most one answer
 

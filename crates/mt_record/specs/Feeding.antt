@@ -2,7 +2,6 @@
 use Rattle.std.specs.Prelude.{◌≡◌, ℕ, ◌+◌, ◌*◌, ◌<◌, min, max, Option, Some, None, Result, Ok, Err, List, ◌++◌, length}
 use Rattle.std.specs.Borrow.{Bor}
 use Rattle.mt_record.specs.declared.feed.Feed.{Feed}
-use Rattle.mt_record.specs.Fronts.{ShowsNone, IsCutFront}
 
 -- ---- items
 
@@ -18,21 +17,11 @@ pub record Reads {T I : Type 0} (holds : T → I → List ℕ → Type 0) (old n
   pub joins : bytes ≡ items ++ after
   pub on : (taken : T) (front : List ℕ) → holds taken old front → holds taken new (front ++ items)
 
--- what was read is what was read before
-abbrev pub Keeps : {T I : Type 0} → (T → I → List ℕ → Type 0) → I → I → Type 0
-Keeps {T} holds old new = (taken : T) (front : List ℕ) → holds taken old front → holds taken new front
-
--- One step: nothing more can be read; or an item was read, and fewer bytes follow it; or the bytes show a fault.
+-- One step: nothing more can be read; or an item was read, and fewer bytes follow it; or the bytes show a fault, and what was read is what was read before.
 abbrev pub Steps : {T I F : Type 0} → (T → I → List ℕ → Type 0) → (I → List ℕ → Type 0) → (I → F → List ℕ → Type 0) → I → I → List ℕ → Result (Option (Bor (List ℕ))) F → Type 0
 Steps holds is_left shows old new bytes (Ok None) = (new ≡ old) × is_left old bytes
 Steps holds is_left shows old new bytes (Ok (Some after)) = Reads holds old new bytes after.now × (length after.now < length bytes)
-Steps holds is_left shows old new bytes (Err fault) = Keeps holds old new × shows new fault bytes
-
--- The step of a header, which is put into what was read: the bytes are the beginning of one, or one was read, or they show that there is none.
-abbrev pub StepsHeader : {H I F : Type 0} → (H → Type 0) → (H → List ℕ) → (I → H → I) → F → I → I → List ℕ → Result (Option (Bor (List ℕ))) F → Type 0
-StepsHeader Is spelled headed fault old new bytes (Ok None) = (new ≡ old) × IsCutFront Is spelled bytes
-StepsHeader {H} Is spelled headed fault old new bytes (Ok (Some after)) = (head : H) × Is head × (bytes ≡ spelled head ++ after.now) × (new ≡ headed old head)
-StepsHeader Is spelled headed fault old new bytes (Err answer) = (new ≡ old) × (answer ≡ fault) × ShowsNone Is spelled bytes
+Steps {T} holds is_left shows old new bytes (Err fault) = ((taken : T) (front : List ℕ) → holds taken old front → holds taken new front) × shows new fault bytes
 
 -- as many steps as there are: items were read, and then nothing more can be, or the bytes behind them show a fault
 abbrev pub StepsOn : {T I F : Type 0} → (T → I → List ℕ → Type 0) → (I → List ℕ → Type 0) → (I → F → List ℕ → Type 0) → I → I → List ℕ → Result (Bor (List ℕ)) F → Type 0
@@ -60,9 +49,9 @@ pub record HoldsUpTo {I : Type 0} (holds : I → List ℕ → Type 0) (is_left :
 abbrev pub HoldsAll : {I : Type 0} → (I → List ℕ → Type 0) → (I → List ℕ → Type 0) → I → List ℕ → List ℕ → Type 0
 HoldsAll holds is_left items held text = HasRead (holds items) text held × is_left items held
 
--- bytes of the text behind what was read show the fault
+-- bytes of the text behind what was read show the fault, whatever follows them
 abbrev pub HasShown : {I F : Type 0} → (I → List ℕ → Type 0) → (I → F → List ℕ → Type 0) → I → F → List ℕ → Type 0
-HasShown holds shows items fault text = (rest : List ℕ) × HasRead (holds items) text rest × shows items fault rest
+HasShown holds shows items fault text = (shown : List ℕ) × (more : List ℕ) × HasRead (holds items) text (shown ++ more) × shows items fault shown
 
 -- a feed that was fed this text: without a fault all of it is read or held back, and a fault is one that it shows
 abbrev pub IsFedBy : {I F : Type 0} → (I → List ℕ → Type 0) → (I → List ℕ → Type 0) → (I → F → List ℕ → Type 0) → I → List ℕ → Option F → List ℕ → Type 0

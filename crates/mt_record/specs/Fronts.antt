@@ -1,5 +1,5 @@
 -- What bytes begin with, whatever it is that is spelled there.
-use Rattle.std.specs.Prelude.{◌≡◌, ◌≢◌, ◌<◌, ◌⊎◌, ℕ, Option, Some, None, Result, Ok, Err, List, ◌++◌, length}
+use Rattle.std.specs.Prelude.{◌≡◌, ◌≢◌, ◌<◌, ◌⊎◌, ℕ, Option, Some, None, Result, Ok, Err, List, [], ◌++◌, length}
 use Rattle.std.specs.Borrow.{Bor}
 use Rattle.mt_words.specs.declared.limits.Format.{Format}
 use Rattle.mt_words.specs.Limits.{magic}
@@ -11,6 +11,11 @@ GoTogether a b = ((more : List ℕ) × (a ≡ b ++ more)) ⊎ ((more : List ℕ)
 -- the bytes begin with what files of some format begin with, or begin that
 abbrev pub GoesWithMagic : List ℕ → List ℕ → Type 0
 GoesWithMagic letters bytes = (format : Format) × GoTogether (magic letters format) bytes
+
+-- the bytes of one of these, or none where there is none
+abbrev pub bytes_of : {H : Type 0} → (H → List ℕ) → Option H → List ℕ
+bytes_of spelled None = []
+bytes_of spelled (Some head) = spelled head
 
 -- none of these begins the bytes
 abbrev pub HasNone : {H : Type 0} → (H → Type 0) → (H → List ℕ) → List ℕ → Type 0

@@ -10,7 +10,6 @@ pub mod Adding
 pub mod Feeding
 pub mod LogFeeding
 pub mod PartFeeding
-pub mod MoreBytes
 pub mod Texts
 pub mod Decoding
 pub mod Kept

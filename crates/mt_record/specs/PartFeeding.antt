@@ -1,5 +1,5 @@
 -- A part in pieces: what a feed has read, and which faults the bytes so far show.
-use Rattle.std.specs.Prelude.{◌≡◌, ◌≢◌, ℕ, ◌<◌, ◌^◌, ◌⊎◌, Option, Some, None, Result, List, [], ◌∷◌, ◌++◌, length}
+use Rattle.std.specs.Prelude.{◌≡◌, ◌≢◌, ℕ, ◌<◌, ◌^◌, ◌⊎◌, Option, Some, None, MatchOption, IfSome, Result, List, [], ◌∷◌, ◌++◌, length}
 use Rattle.std.specs.Borrow.{Bor}
 use Rattle.std.specs.List.{flat_map, AllByRecursion}
 use Rattle.byteorder.specs.Endian.{big_bytes}
@@ -12,8 +12,8 @@ use Rattle.mt_record.specs.declared.part_text.PartFault.{PartFault}
 use Rattle.mt_record.specs.declared.part_text.PartFault.TheVariants as faults
 use Rattle.mt_record.specs.Logs.{IsCut}
 use Rattle.mt_record.specs.LogFaults.{HasLengthFault}
-use Rattle.mt_record.specs.Parts.{part_head_bytes, IsPartHead, entry_spelling, footer_bytes, IsEntryLength, IsPart}
-use Rattle.mt_record.specs.Fronts.{ShowsNone, IsCutFront}
+use Rattle.mt_record.specs.Parts.{part_head_bytes, IsPartHead, entry_spelling, footer_bytes, IsEntryLength}
+use Rattle.mt_record.specs.Fronts.{bytes_of, ShowsNone, IsCutFront}
 use Rattle.mt_record.specs.PartFaults.{BeginsPartOf, OrMemory}
 use Rattle.mt_record.specs.declared.part_items.PartItems.{PartItems}
 use Rattle.mt_record.specs.Feeding.{Steps, Fed, IsFedBy}
@@ -71,65 +71,37 @@ pub record PartSoFar : Type 0 where
   pub entries : List Change
   pub end : Option ℕ
 
--- nothing was read, neither a header nor an entry nor a footer
-pub record ReadsNothing (entries : List Change) (end : Option ℕ) (front : List ℕ) : Type 0 where
-  pub none : entries ≡ []
-  pub no_end : end ≡ None
-  pub empty : front ≡ []
+-- the bytes behind the entries: those of a footer with their number, if it is whole
+abbrev pub ended : PartSoFar → List ℕ
+ended so_far = bytes_of (λ end. footer_bytes end (length so_far.entries)) so_far.end
 
--- the bytes are a header and these entries
-pub record ReadsEntries (head : PartHead) (entries : List Change) (front : List ℕ) : Type 0 where
-  pub spelled : front ≡ part_head_bytes head ++ flat_map entry_spelling entries
-  pub is_head : IsPartHead head
-  pub lawful : AllByRecursion (IsEntry (limits_of head.format)) entries
-
-abbrev pub ReadsBy : Option PartHead → Option ℕ → List Change → List ℕ → Type 0
-ReadsBy None end entries front = ReadsNothing entries end front
-ReadsBy (Some head) None entries front = ReadsEntries head entries front
-ReadsBy (Some head) (Some end) entries front = IsPart front head entries end
-
--- the bytes are what was read
-abbrev pub HoldsPart : PartSoFar → List ℕ → Type 0
-HoldsPart so_far front = ReadsBy so_far.head so_far.end so_far.entries front
+-- the bytes are what was read: a header, entries, and a footer if it is whole, or nothing
+pub record HoldsPart (so_far : PartSoFar) (front : List ℕ) : Type 0 where
+  pub spelled : front ≡ bytes_of part_head_bytes so_far.head ++ (flat_map entry_spelling so_far.entries ++ ended so_far)
+  pub lawful : MatchOption so_far.head ((so_far.entries ≡ []) × (so_far.end ≡ None)) (λ head. IsPartHead head × AllByRecursion (IsEntry (limits_of head.format)) so_far.entries)
+  pub fits : IfSome so_far.end (λ end. (end < 2 ^ 64) × (length so_far.entries < 2 ^ 32))
 
 -- the beginning of an entry, of which no more than the length is looked at, or that of a footer
 abbrev pub IsCutItem : Limits → List ℕ → Type 0
 IsCutItem limits rest = IsCut (IsEntryLength limits) rest ⊎ ((more : List ℕ) × (length more < 12) × (rest ≡ big_bytes 4 0 ++ more))
 
-abbrev pub IsLeftBy : Option PartHead → Option ℕ → List ℕ → Type 0
-IsLeftBy None end rest = IsCutFront IsPartHead part_head_bytes rest
-IsLeftBy (Some head) None rest = (rest ≡ []) ⊎ IsCutItem (limits_of head.format) rest
-IsLeftBy (Some head) (Some end) rest = rest ≡ []
-
--- a rest from which nothing more can be read, and which shows no fault
+-- a rest from which nothing more can be read, and which shows no fault: it is empty, if the footer is whole
 abbrev pub IsPartLeft : PartSoFar → List ℕ → Type 0
-IsPartLeft so_far rest = IsLeftBy so_far.head so_far.end rest
+IsPartLeft so_far rest =
+    MatchOption so_far.head (IsCutFront IsPartHead part_head_bytes rest) (λ head. (rest ≡ []) ⊎ ((so_far.end ≡ None) × IsCutItem (limits_of head.format) rest))
 
--- a rest that shows that there is no part: behind so many entries, or behind the footer, where no byte may follow
-abbrev pub Breaks : Limits → Option ℕ → ℕ → List ℕ → Type 0
-Breaks limits None count rest = ShowsNoPart limits count rest
-Breaks limits (Some end) count rest = 0 < length rest
-
--- a rest that shows the fault behind so many entries
-abbrev pub IsFaultyBy : Option PartHead → Option ℕ → ℕ → PartFault → List ℕ → Type 0
-IsFaultyBy None end count faults.Header rest = ShowsNone IsPartHead part_head_bytes rest
-IsFaultyBy None end count (faults.Broken number entries) rest = ⊥
-IsFaultyBy (Some head) end count faults.Header rest = ⊥
-IsFaultyBy (Some head) end count (faults.Broken number entries) rest = (number ≡ head.number) × (entries ≡ count) × Breaks (limits_of head.format) end count rest
-IsFaultyBy head end count faults.Memory rest = Unit {0}
-
--- a rest that shows the fault, however it goes on
+-- a rest that shows the fault, however it goes on: behind the footer any byte does
 abbrev pub IsPartFaulty : PartSoFar → PartFault → List ℕ → Type 0
-IsPartFaulty so_far fault rest = IsFaultyBy so_far.head so_far.end (length so_far.entries) fault rest
+IsPartFaulty so_far faults.Header rest = (so_far.head ≡ None) × ShowsNone IsPartHead part_head_bytes rest
+IsPartFaulty so_far (faults.Broken number entries) rest =
+    (head : PartHead) × (so_far.head ≡ Some head) × (number ≡ head.number) × (entries ≡ length so_far.entries) × ShowsNoPart (limits_of head.format) entries (ended so_far ++ rest)
+IsPartFaulty so_far faults.Memory rest = Unit {0}
 
 -- ---- items
 
 -- what was read, as contracts see it; the entries are those that are told of what they were put into
 abbrev pub so_far : {E : Type 0} → (E → List Change) → PartItems E → PartSoFar
 so_far listed items = record { head = items.head; entries = listed items.entries; end = items.end }
-
-abbrev pub headed : {E : Type 0} → PartItems E → PartHead → PartItems E
-headed items head = record items { head = Some head }
 
 -- one step of reading a part, of which nothing is taken
 abbrev pub StepsPart : {E : Type 0} → (E → List Change) → PartItems E → PartItems E → List ℕ → Result (Option (Bor (List ℕ))) PartFault → Type 0

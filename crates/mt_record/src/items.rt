@@ -1,5 +1,5 @@
 //! What stands one behind the other in a text.
-ghost use Rattle.std.specs.Prelude.{◌++◌, ◌≡◌, List, ℕ};
+ghost use Rattle.std.specs.Prelude.{◌≡◌, List, ℕ};
 ghost use Rattle.mt_words.specs.declared.fault.Memory.{Memory as MemoryValue};
 ghost use Rattle.mt_record.specs.Feeding.{Steps};
 
@@ -33,9 +33,6 @@ pub trait Items {
     /// How many bytes the beginning that is held back asks for. It only says how far to go before the next try: no
     /// answer of it is wrong.
     fn bytes_wanted(&self, held: &[u8]) -> usize;
-
-    /// A fault stays one when more bytes follow.
-    ghost shows_on: { (items : Self) (fault : Self.Fault) (rest more : List ℕ) → shows items fault rest → shows items fault (rest ++ more) };
 
     /// A refused growth may come anywhere.
     ghost refused: { (items : Self) (rest : List ℕ) (memory : MemoryValue) (fault : Self.Fault) →

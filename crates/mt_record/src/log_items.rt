@@ -1,14 +1,10 @@
 //! The items of a log, one behind the other: its header and its records.
-ghost use Rattle.std.specs.Prelude.{◌≡◌, ◌==◌, List, ℕ, None, Some, length, not, IfOk, IfErr, OnErr, MatchOption};
-ghost use Rattle.mt_words.specs.Limits.{limits_of};
+ghost use Rattle.std.specs.Prelude.{◌≡◌, ◌==◌, List, ℕ, None, Some, length, not, IfOk, IfErr};
 ghost use Rattle.mt_words.specs.Changes.{Logged};
-ghost use Rattle.mt_record.specs.declared.read.FeedFault.TheVariants.{Header};
 ghost use Rattle.mt_record.specs.Logs.{IsTextIn};
 ghost use Rattle.mt_record.specs.LogFaults.{IsAnswered};
-ghost use Rattle.mt_record.specs.Heads.{IsHead, head_bytes};
-ghost use Rattle.mt_record.specs.Feeding.{HasRead, StepsHeader};
-ghost use Rattle.mt_record.specs.LogFeeding.{so_far, headed, HoldsLog, IsLeft, IsLogLeft, IsFaultyBy, IsLogFaulty, StepsLog, ReadsNext};
-ghost use Rattle.mt_record.specs.MoreBytes.{log_faulty_on, log_refused};
+ghost use Rattle.mt_record.specs.Feeding.{HasRead};
+ghost use Rattle.mt_record.specs.LogFeeding.{so_far, HoldsLog, IsLogLeft, IsLogFaulty, StepsLog};
 
 use crate::fields::u32_at;
 use crate::frame::next_record;
@@ -60,15 +56,15 @@ impl<R: Records> Items for LogItems<R> {
         }
     }
 
-    ghost shows_on = { λ items. log_faulty_on items.head items.latest items.whole };
-
-    ghost refused = { λ items rest _. log_refused items.head items.latest items.whole rest };
+    ghost refused = { λ items rest memory fault is. Prim.rw is tt };
 }
 
 impl<R: Records> LogItems<R> {
     /// Reads the header.
+    #[tactic(auto, using(crate::proofs::LogFeeds::header_read))]
     fn read_header<'a>(&mut self, bytes: &'a [u8]) -> Step<'a, FeedFault>
-        ensures { StepsHeader IsHead head_bytes headed Header self.old self.new bytes.now result }
+        requires { self.old.head ≡ None }
+        ensures { StepsLog R.listed self.old self.new bytes.now result }
     {
         match next_header(bytes) {
             Ok(Some((head, after))) => {
@@ -83,11 +79,7 @@ impl<R: Records> LogItems<R> {
     /// Reads a record.
     fn read_record<'a>(&mut self, head: Head, bytes: &'a [u8]) -> Step<'a, FeedFault>
         requires { self.old.head ≡ Some head }
-        ensures next { IfOk result (λ next. MatchOption next
-            ((self.new ≡ self.old) × IsLeft (limits_of head.format) bytes.now)
-            (λ after. ReadsNext head (so_far R.listed self.old) bytes.now (so_far R.listed self.new) after.now)) }
-        ensures fault { IfErr result (λ fault. IsFaultyBy (Some head) self.old.latest self.old.whole fault bytes.now) }
-        ensures kept { OnErr result (so_far R.listed self.new ≡ so_far R.listed self.old) }
+        ensures { StepsLog R.listed self.old self.new bytes.now result }
     {
         match next_record(head.format, self.latest, bytes) {
             Ok(Some((timestamp, body, after))) => {
@@ -105,6 +97,7 @@ impl<R: Records> LogItems<R> {
     }
 
     /// What was read, as a log with a torn tail or without one. An Err is the fault of a header that is cut short.
+    #[tactic(auto, using(crate::proofs::LogFeeds::no_head_read))]
     pub fn finish(self, torn: bool) -> Result<LogText<R>, FeedFault>
         ensures log { (taken : List Logged) (text left : List ℕ) → HasRead (HoldsLog taken (so_far R.listed self)) text left → IsLogLeft (so_far R.listed self) left →
             torn ≡ not (length left == 0) → IfOk result (IsTextIn R.listed taken text) }

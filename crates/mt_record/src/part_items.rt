@@ -1,12 +1,11 @@
 //! The items of a part, one behind the other: its header, its entries and its footer.
 ghost use Rattle.std.specs.Prelude.{◌≡◌, ◌≢◌, ◌++◌, List, ℕ, None, Some, IfOk, IfErr, length};
 ghost use Rattle.byteorder.specs.Endian.{big_bytes};
-ghost use Rattle.mt_record.specs.declared.part_text.PartFault.TheVariants.{Broken, Header};
-ghost use Rattle.mt_record.specs.Parts.{IsPartHead, part_head_bytes, IsPartText};
+ghost use Rattle.mt_record.specs.declared.part_text.PartFault.TheVariants.{Broken};
+ghost use Rattle.mt_record.specs.Parts.{IsPartText};
 ghost use Rattle.mt_record.specs.PartFaults.{IsPartAnswered};
-ghost use Rattle.mt_record.specs.Feeding.{HasRead, StepsHeader};
-ghost use Rattle.mt_record.specs.PartFeeding.{so_far, headed, HoldsPart, IsPartLeft, IsPartFaulty, StepsPart};
-ghost use Rattle.mt_record.specs.MoreBytes.{part_faulty_on, part_refused};
+ghost use Rattle.mt_record.specs.Feeding.{HasRead};
+ghost use Rattle.mt_record.specs.PartFeeding.{so_far, HoldsPart, IsPartLeft, IsPartFaulty, StepsPart};
 
 use crate::fields::{u32_at, u64_at};
 use crate::frame::next_entry;
@@ -63,15 +62,15 @@ impl<E: Entries> Items for PartItems<E> {
         }
     }
 
-    ghost shows_on = { λ items. part_faulty_on items.head items.end (length (E.listed items.entries)) };
-
-    ghost refused = { λ items rest _. part_refused items.head items.end (length (E.listed items.entries)) rest };
+    ghost refused = { λ items rest memory fault is. Prim.rw is tt };
 }
 
 impl<E: Entries> PartItems<E> {
     /// Reads the header.
+    #[tactic(auto, using(crate::proofs::PartItems::header_read))]
     fn read_header<'a>(&mut self, bytes: &'a [u8]) -> Step<'a, PartFault>
-        ensures { StepsHeader IsPartHead part_head_bytes headed Header self.old self.new bytes.now result }
+        requires { self.old.head ≡ None }
+        ensures { StepsPart E.listed self.old self.new bytes.now result }
     {
         match next_part_header(bytes) {
             Ok(Some((head, after))) => {
@@ -116,6 +115,7 @@ impl<E: Entries> PartItems<E> {
     }
 
     /// Reads the footer, of which this follows its length of zero.
+    #[tactic(auto, using(crate::proofs::PartItems::footer_read))]
     fn read_footer<'a>(&mut self, head: PartHead, bytes: &'a [u8]) -> Step<'a, PartFault>
         requires head { self.old.head ≡ Some head }
         requires open { self.old.end ≡ None }
@@ -146,6 +146,7 @@ impl<E: Entries> PartItems<E> {
 
     /// What was read, as a part behind which nothing more came than could not be read. An Err is the fault of a part
     /// that is cut short.
+    #[tactic(auto, using(crate::proofs::OnePartFault::no_head_read))]
     pub fn finish(self) -> Result<PartText<E>, PartFault>
         ensures part { (text left : List ℕ) → HasRead (HoldsPart (so_far E.listed self)) text left → IsPartLeft (so_far E.listed self) left →
             IfOk result (IsPartText E.listed text) }

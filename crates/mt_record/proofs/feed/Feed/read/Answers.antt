@@ -1,4 +1,5 @@
-use Rattle.std.proofs.Common.{◌++◌, refl}
+use Rattle.std.proofs.Common.{[], ◌++◌, refl}
+use Rattle.std.proofs.lemmas.List.{append-nil}
 use Rattle.std.proofs.lemmas.Result.{err_from_is_err_and}
 use Rattle.mt_record.proofs.Feeds.{all_held, none_held, read_on, nil_if_empty}
 use Rattle.mt_record.proofs.feed.Feed.read.Goals as goal
@@ -22,7 +23,8 @@ returns-in_err-rest-2-clause-fault g c = λ taken text all.
     let none = nil_if_empty c.held.self.held.items _ c.is_empty.result c.held.self.held.ok.0 c.is_empty.ensures c.held-test.false in
     let before = none_held (g.I.Items.holds taken) g.I.Items.is_left c.held.self.items c.held.self.held.items (text ++ c.args.piece.now) c.held.rest.now (c.held.invariant taken text all) none in
     let whole = c.in_err-rest-2.ensures in
-    rw (p.1, p.2) (whole.0, read_on g.I.Items.holds taken c.held.self.items c.read_whole.new.items (text ++ c.args.piece.now) c.held.rest.now whole.0 before whole.1, whole.2)
+    rw (p.1, p.2)
+    (whole.0, [], rw append-nil (read_on g.I.Items.holds taken c.held.self.items c.read_whole.new.items (text ++ c.args.piece.now) c.held.rest.now whole.0 before whole.1), whole.2)
 
 pub returns-in_err-append-clause-fault : goal.returns-in_err-append-clause-fault
 returns-in_err-append-clause-fault g c = λ taken text all.
@@ -31,4 +33,4 @@ returns-in_err-append-clause-fault g c = λ taken text all.
     let before = none_held (g.I.Items.holds taken) g.I.Items.is_left c.held.self.items c.held.self.held.items (text ++ c.args.piece.now) c.held.rest.now (c.held.invariant taken text all) none in
     let rest = c.in_ok-rest-2.rest.now in
     rw p.1
-    (rest, read_on g.I.Items.holds taken c.held.self.items c.read_whole.new.items (text ++ c.args.piece.now) c.held.rest.now rest before c.in_ok-rest-2.ensures.0, g.met.I.Items.refused c.read_whole.new.items rest c.in_err-append.field-0.0 p.0 p.2)
+    (rest, [], rw append-nil (read_on g.I.Items.holds taken c.held.self.items c.read_whole.new.items (text ++ c.args.piece.now) c.held.rest.now rest before c.in_ok-rest-2.ensures.0), g.met.I.Items.refused c.read_whole.new.items rest c.in_err-append.field-0.0 p.0 p.2)

@@ -14,7 +14,7 @@ returns-in_err-left-clause-fault g c = λ taken text up_to.
     let whole = c.in_err-left.ensures in
     let all = subst (λ (x : List ℕ). HasRead (holds taken old) text x) (sym c.in_ok-rest.ensures.joins ∙ sym (ap (λ (x : List ℕ). x ++ rest) c.deref-2.ensures.value)) up_to.read in
     rw (p.1, p.2)
-    (whole.0 ++ rest, read_on holds taken old new text _ (whole.0 ++ rest) all (reads_before holds old new _ whole.0 rest whole.1), g.met.I.Items.shows_on new c.in_err-left.field-0.0 whole.0 rest whole.2)
+    (whole.0, rest, read_on holds taken old new text _ (whole.0 ++ rest) all (reads_before holds old new _ whole.0 rest whole.1), whole.2)
 
 pub returns-clause-rest : goal.returns-clause-rest
 returns-clause-rest g c = λ taken text up_to.

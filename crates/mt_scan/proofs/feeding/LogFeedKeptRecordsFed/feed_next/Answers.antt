@@ -1,6 +1,6 @@
 use Rattle.std.proofs.Common.{[], sym, ◌∙◌}
 use Rattle.mt_record.specs.LogFeeding.{HoldsLog, IsLogLeft, IsLogFaulty}
-use Rattle.mt_record.specs.MoreBytes.{fed_on, log_faulty_on}
+use Rattle.mt_record.proofs.Feeds.{fed_on}
 use Rattle.mt_scan.proofs.Steps.{has_fault}
 use Rattle.mt_scan.proofs.feeding.LogFeedKeptRecordsFed.feed_next.Goals as goal
 
@@ -11,5 +11,4 @@ pub returns-clause-stops : goal.returns-clause-stops
 returns-clause-stops c failed bytes more =
     let feed = c.feed.new.self in
     let there = has_fault c.feed.result feed.fault (sym c.is_ok.ensures.value ∙ failed) c.feed.ensures.kept in
-    fed_on (HoldsLog []) IsLogLeft IsLogFaulty feed.so_far feed.held feed.fault there.0 bytes more
-    (log_faulty_on feed.so_far.head feed.so_far.latest feed.so_far.whole) there.1
+    fed_on (HoldsLog []) IsLogLeft IsLogFaulty feed.so_far feed.held feed.fault there.0 bytes more there.1

@@ -1,6 +1,6 @@
-use Rattle.std.proofs.Common.{length, sym, ◌∙◌}
+use Rattle.std.proofs.Common.{sym, ◌∙◌}
 use Rattle.mt_record.specs.PartFeeding.{HoldsPart, IsPartLeft, IsPartFaulty}
-use Rattle.mt_record.specs.MoreBytes.{fed_on, part_faulty_on}
+use Rattle.mt_record.proofs.Feeds.{fed_on}
 use Rattle.mt_scan.proofs.Steps.{has_fault}
 use Rattle.mt_scan.proofs.feeding.PartFeedKeptEntriesFed.feed_next.Goals as goal
 
@@ -8,5 +8,4 @@ pub returns-clause-stops : goal.returns-clause-stops
 returns-clause-stops c failed bytes more =
     let feed = c.feed.new.self in
     let there = has_fault c.feed.result feed.fault (sym c.is_ok.ensures.value ∙ failed) c.feed.ensures.kept in
-    fed_on HoldsPart IsPartLeft IsPartFaulty feed.so_far feed.held feed.fault there.0 bytes more
-    (part_faulty_on feed.so_far.head feed.so_far.end (length feed.so_far.entries)) there.1
+    fed_on HoldsPart IsPartLeft IsPartFaulty feed.so_far feed.held feed.fault there.0 bytes more there.1
