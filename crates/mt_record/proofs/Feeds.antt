@@ -1,23 +1,19 @@
 -- What a feed has read when more bytes follow, whatever its items are.
-use Rattle.std.proofs.Common.{◌≡◌, ◌⊎◌, inl, inr, ℕ, ◌-◌, ◌*◌, ◌+◌, ◌<◌, Option, Some, None, List, [], ◌∷◌, ◌++◌, length, drop, refl, sym, ap, ◌∙◌, subst, append_assoc, arith, true, Bool}
+use Rattle.std.proofs.Common.{◌≡◌, ◌⊎◌, inl, inr, ℕ, ◌-◌, ◌<◌, Result, Ok, Err, Option, Some, None, List, [], ◌∷◌, ◌++◌, length, drop, refl, sym, ap, ◌∙◌, subst, append_assoc, arith, true, Bool}
 use Rattle.std.proofs.Math.Seq.{drop-append_seam}
 use Rattle.std.proofs.lemmas.List.{length-append, append-nil, nil_from_length}
 use Rattle.std.proofs.lemmas.Bool.Decides.{Decides-eqb}
 use Rattle.std.proofs.lemmas.Option.{none-some}
-use Rattle.std.specs.Prelude.{◌==◌}
+use Rattle.std.specs.Prelude.{◌==◌, OnOk, IfErr}
+use Rattle.std.specs.Result.{result_err}
 use Rattle.mt_record.specs.Fronts.{GoTogether, ShowsNone}
-use Rattle.mt_record.specs.Feeding.{HasRead, Reads, HoldsUpTo, HoldsAll, IsFedBy, Tops}
+use Rattle.mt_record.specs.Feeding.{HasRead, Reads, ReadsFault, HoldsAll, IsFedBy}
 
 -- ---- bytes
 
 -- what stands behind a front stands behind it when more bytes follow
 pub behind_on : (front rest after more : List ℕ) → rest ≡ front ++ after → rest ++ more ≡ front ++ (after ++ more)
 behind_on front rest after more e = ap (λ (x : List ℕ). x ++ more) e ∙ append_assoc front after more
-
--- what the records leave over goes on as the bytes do
-pub spelled_on : (front middle bytes rest more : List ℕ) → bytes ≡ front ++ (middle ++ rest) → bytes ++ more ≡ front ++ (middle ++ (rest ++ more))
-spelled_on front middle bytes rest more e =
-    ap (λ (x : List ℕ). x ++ more) e ∙ append_assoc front (middle ++ rest) more ∙ ap (λ (x : List ℕ). front ++ x) (append_assoc middle rest more)
 
 -- of two lists that go on to the same one, one begins the other
 pub apart : (a b x y : List ℕ) → a ++ x ≡ b ++ y → GoTogether a b
@@ -74,17 +70,6 @@ front_read holds old new front bytes after joins some on = (record { items = fro
 
 -- ---- the text
 
--- where the rest is empty all bytes are read or held back
-pub all_held : {I : Type 0} (holds : I → List ℕ → Type 0) (is_left : I → List ℕ → Type 0) (items : I) (held text rest : List ℕ)
-    → HoldsUpTo holds is_left items held text rest → rest ≡ [] → HoldsAll holds is_left items held text
-all_held holds is_left items held text rest up_to none =
-    (subst (λ (x : List ℕ). HasRead (holds items) text x) (ap (λ (x : List ℕ). held ++ x) none ∙ append-nil held) up_to.read, up_to.left)
-
--- where nothing is held the rest of the piece follows what was read
-pub none_held : {I : Type 0} (holds : I → List ℕ → Type 0) (is_left : I → List ℕ → Type 0) (items : I) (held text rest : List ℕ) → HoldsUpTo holds is_left items held text rest → held ≡ []
-    → HasRead (holds items) text rest
-none_held holds is_left items held text rest up_to none = subst (λ (x : List ℕ). HasRead (holds items) text (x ++ rest)) none up_to.read
-
 -- the rest goes on as the text does
 pub goes_on : (holds : List ℕ → Type 0) (text rest more : List ℕ) → HasRead holds text rest → HasRead holds (text ++ more) (rest ++ more)
 goes_on holds text rest more has = record { front = has.front; joins = behind_on has.front text rest more has.joins; read = has.read }
@@ -99,6 +84,21 @@ fed_on holds is_left shows items held answered fault text more failed fed = (
       (shown.0, shown.1 ++ more, rw (← append_assoc shown.0 shown.1 more) (goes_on (holds items) text (shown.0 ++ shown.1) more shown.2), shown.3),
 )
 
+-- a feed reads a piece: what it held and the piece are read, but for what it holds then, or they show a fault
+pub fed_next : {T I F : Type 0} (holds : T → I → List ℕ → Type 0) (is_left : I → List ℕ → Type 0) (shows : I → F → List ℕ → Type 0) (taken : T) (old new : I) (held left text piece : List ℕ)
+    (answer : Result (Unit {0}) F) → HoldsAll (holds taken) is_left old held text → (is_left old held → OnOk answer (Reads holds old new (held ++ piece) left × is_left new left))
+    → IfErr answer (ReadsFault holds shows old new (held ++ piece)) → IsFedBy (holds taken) is_left shows new left (result_err answer) (text ++ piece)
+fed_next holds is_left shows taken old new held left text piece (Ok done) (has, rest) ok failed = (
+  λ none. (read_on holds taken old new (text ++ piece) (held ++ piece) left (goes_on (holds taken old) text held piece has) (ok rest).0, (ok rest).1),
+  λ fault is. absurd (none-some fault is),
+)
+fed_next {F = F} holds is_left shows taken old new held left text piece (Err fault) (has, rest) ok (shown, more, next, is) = (
+  λ none. absurd (none-some fault (sym none)),
+  λ other same.
+      let e : fault ≡ other = cc in
+      (shown, more, read_on holds taken old new (text ++ piece) (held ++ piece) (shown ++ more) (goes_on (holds taken old) text held piece has) next, subst (λ (f : F). shows new f shown) e is),
+)
+
 -- ---- the bytes held back
 
 pub nil_if_empty : (xs : List ℕ) (len : ℕ) (empty : Bool) → len ≡ length xs → empty ≡ (len == 0) → empty ≡ true → xs ≡ []
@@ -109,12 +109,3 @@ pub left_over : (held items left : List ℕ) (len : ℕ) → held ≡ items ++ l
 left_over held items left len e so_many =
     let number : len - length left ≡ length items = omega (arith, so_many, ap length e, length-append items left) in
     rw (number, e) (drop-append_seam items left)
-
--- with a byte more held and items read there is less to do
-pub less_to_do : (old piece new rest items left : List ℕ) (wanted : ℕ) → Tops old piece new rest wanted → length old < wanted → 0 < length piece → new ≡ items ++ left
-    → 2 * length rest + length left < 2 * length piece + length old
-less_to_do old piece new rest items left wanted tops more some e =
-    let size = tops.size in
-    let all = ap length tops.joins in
-    let parts = ap length e in
-    omega (arith, size, all, parts, more, some, length-append new rest, length-append old piece, length-append items left)

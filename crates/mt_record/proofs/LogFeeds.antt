@@ -27,7 +27,7 @@ use Rattle.mt_record.specs.LogFeeding.{LogSoFar, so_far, IsShown, ShowsNoFault, 
 use Rattle.mt_record.proofs.Records.{records_push, latest_push, last_is, tells_torn}
 use Rattle.mt_record.proofs.OneReading.{not_both}
 use Rattle.mt_record.proofs.Beginnings.{cut_none}
-use Rattle.mt_record.proofs.Feeds.{behind_on, spelled_on, shows_none_on, front_read}
+use Rattle.mt_record.proofs.Feeds.{behind_on, shows_none_on, front_read}
 
 -- ---- what was read
 
@@ -159,10 +159,7 @@ fed_shows_none taken s held text (reads, left) = by s.head refl
 -- a fault of the rest stays its fault when more bytes follow
 rest_fault_on : (what : What) (limits : Limits) (low : ℕ) (rest more : List ℕ) → RestFault what limits low rest → RestFault what limits low (rest ++ more)
 rest_fault_on Length limits low rest more h = (h.0, h.1 ++ more, h.2, behind_on (big_bytes 4 h.0) rest h.1 more h.3, h.4)
-rest_fault_on Trailer limits low rest more h =
-    let start = big_bytes 4 (length h.0) in
-    let end = big_bytes 4 h.1 in
-    (h.0, h.1, h.2 ++ more, h.3, h.4, h.5, spelled_on start h.0 rest (end ++ h.2) more h.6 ∙ ap (λ (x : List ℕ). start ++ (h.0 ++ x)) (append_assoc end h.2 more))
+rest_fault_on Trailer limits low rest more h = (h.0, h.1, h.2 ++ more, h.3, h.4, h.5, ap (λ (x : List ℕ). x ++ more) h.6 ∙ simp append_assoc)
 rest_fault_on what limits low rest more h = (h.0, h.1 ++ more, h.2, behind_on (framed h.0) rest h.1 more h.3, h.4)
 
 -- the fault of a feed that failed is shown

@@ -21,7 +21,7 @@ use Rattle.mt_record.proofs.Unique.{same_split, same_number, framed_apart}
 use Rattle.mt_record.proofs.Entries.{entry_length, short_entry}
 use Rattle.mt_record.proofs.OnePart.{length_no_entry, footer_no_entry, same_beginning, part_begins}
 use Rattle.mt_record.proofs.Beginnings.{cut_none}
-use Rattle.mt_record.proofs.Feeds.{behind_on, spelled_on, shows_none_on}
+use Rattle.mt_record.proofs.Feeds.{behind_on, shows_none_on}
 
 -- ---- what stands at the front of a rest
 
@@ -224,7 +224,7 @@ begun : (s : PartSoFar) (head : PartHead) (text rest : List ℕ) → s.head ≡ 
 begun s head text rest some reads =
     let lawful : IsPartHead head × AllByRecursion (IsEntry (limits_of head.format)) s.entries = rw some at reads.read.lawful in
     record {
-      spelled = reads.joins ∙ spelled_on (part_head_bytes head) (flat_map entry_spelling s.entries) reads.front (ended s) rest (rw some at reads.read.spelled);
+      spelled = reads.joins ∙ ap (λ (x : List ℕ). x ++ rest) (rw some at reads.read.spelled) ∙ simp append_assoc;
       is_head = lawful.0;
       lawful = lawful.1;
     }

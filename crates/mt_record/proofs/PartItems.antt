@@ -6,7 +6,7 @@ use Rattle.byteorder.specs.Endian.{big_bytes}
 use Rattle.mt_words.specs.declared.limits.Format.TheVariants.{One}
 use Rattle.mt_words.specs.declared.record.Change.{Change}
 use Rattle.mt_words.specs.declared.limits.Limits.{Limits}
-use Rattle.mt_words.specs.Limits.{limits_of}
+use Rattle.mt_words.specs.Limits.{limits_of, widest}
 use Rattle.mt_words.specs.Changes.{IsEntry}
 use Rattle.mt_words.proofs.Rising.{all_push}
 use Rattle.mt_record.specs.declared.part_text.PartHead.{PartHead}
@@ -14,10 +14,11 @@ use Rattle.mt_record.specs.declared.part_text.PartFault.{PartFault}
 use Rattle.mt_record.specs.declared.part_text.PartFault.TheVariants as faults
 use Rattle.mt_record.specs.declared.part_items.PartItems.{PartItems}
 use Rattle.mt_record.specs.Spelling.{framed}
-use Rattle.mt_record.specs.Bodies.{IsNextEntry}
+use Rattle.mt_record.specs.Bodies.{AreFieldsOf, IsNextEntry}
 use Rattle.mt_record.specs.Parts.{part_head, part_head_bytes, IsPartHead, entry_spelling, footer_bytes}
 use Rattle.mt_record.specs.PartFeeding.{PartSoFar, so_far, ended, ShowsNoEntry, ShowsNoPart, HoldsPart, IsPartLeft, StepsPart}
 use Rattle.mt_record.specs.Feeding.{Reads, HoldsAll}
+use Rattle.mt_record.proofs.Copying.{entry_within}
 use Rattle.mt_record.proofs.Feeds.{front_read}
 
 -- a header is read where nothing was
@@ -31,9 +32,11 @@ header_read listed old head bytes after none is e =
 
 -- a whole entry is read
 pub entry_read : {E : Type 0} (listed : E → List Change) (old : PartItems E) (entries : E) (head : PartHead) (bytes fields after : List ℕ) → old.head ≡ Some head → old.end ≡ None
-    → (next : IsNextEntry (limits_of head.format) bytes fields after) → listed entries ≡ listed old.entries ++ next.next ∷ []
+    → IsNextEntry (limits_of head.format) bytes fields after
+    → ((entry : Change) → AreFieldsOf widest fields entry → listed entries ≡ listed old.entries ++ entry ∷ [])
     → Reads (λ (taken : Unit {0}) items. HoldsPart (so_far listed items)) old (record old { entries = entries }) bytes after × (length after < length bytes)
-entry_read listed old entries head bytes fields after some open_yet next added =
+entry_read listed old entries head bytes fields after some open_yet next put =
+    let added = put next.next (entry_within head.format fields next.next next.fields) in
     front_read (λ (taken : Unit {0}) items. HoldsPart (so_far listed items)) old (record old { entries = entries }) (framed fields) bytes after next.spelled (omega arith) (λ taken front h.
     let lawful : IsPartHead head × AllByRecursion (IsEntry (limits_of head.format)) (listed old.entries) = rw some at h.lawful in
     let before : front ≡ part_head_bytes head ++ flat_map entry_spelling (listed old.entries) = rw (some, open_yet, append-nil) at h.spelled in

@@ -1,5 +1,5 @@
 -- A text in pieces, whatever its items are.
-use Rattle.std.specs.Prelude.{◌≡◌, ℕ, ◌+◌, ◌*◌, ◌<◌, min, max, Option, Some, None, Result, Ok, Err, List, ◌++◌, length}
+use Rattle.std.specs.Prelude.{◌≡◌, ℕ, ◌<◌, Option, Some, None, Result, Ok, Err, List, ◌++◌, length}
 use Rattle.std.specs.Borrow.{Bor}
 use Rattle.mt_record.specs.declared.feed.Feed.{Feed}
 
@@ -28,6 +28,10 @@ abbrev pub StepsOn : {T I F : Type 0} → (T → I → List ℕ → Type 0) → 
 StepsOn holds is_left shows old new bytes (Ok after) = Reads holds old new bytes after.now × is_left new after.now
 StepsOn holds is_left shows old new bytes (Err fault) = (after : List ℕ) × Reads holds old new bytes after × shows new fault after
 
+-- items were read, and bytes behind them show the fault, whatever follows those
+abbrev pub ReadsFault : {T I F : Type 0} → (T → I → List ℕ → Type 0) → (I → F → List ℕ → Type 0) → I → I → List ℕ → F → Type 0
+ReadsFault holds shows old new bytes fault = (shown : List ℕ) × (more : List ℕ) × Reads holds old new bytes (shown ++ more) × shows new fault shown
+
 -- ---- feeds
 
 -- what a contract sees of a feed: what was read, the bytes held back, and the fault that it answered
@@ -40,12 +44,7 @@ pub record Fed (S F : Type 0) : Type 0 where
 abbrev pub fed_by : {S I F : Type 0} → (I → S) → Feed I F → Fed S F
 fed_by so_far feed = record { so_far = so_far feed.items; held = feed.held.items; fault = feed.fault }
 
--- the text is read and held back but for a rest of the piece, and nothing more can be read from what is held
-pub record HoldsUpTo {I : Type 0} (holds : I → List ℕ → Type 0) (is_left : I → List ℕ → Type 0) (items : I) (held text rest : List ℕ) : Type 0 where
-  pub read : HasRead (holds items) text (held ++ rest)
-  pub left : is_left items held
-
--- all of the text is
+-- the text is read and held back, and nothing more can be read from what is held
 abbrev pub HoldsAll : {I : Type 0} → (I → List ℕ → Type 0) → (I → List ℕ → Type 0) → I → List ℕ → List ℕ → Type 0
 HoldsAll holds is_left items held text = HasRead (holds items) text held × is_left items held
 
@@ -56,12 +55,3 @@ HasShown holds shows items fault text = (shown : List ℕ) × (more : List ℕ) 
 -- a feed that was fed this text: without a fault all of it is read or held back, and a fault is one that it shows
 abbrev pub IsFedBy : {I F : Type 0} → (I → List ℕ → Type 0) → (I → List ℕ → Type 0) → (I → F → List ℕ → Type 0) → I → List ℕ → Option F → List ℕ → Type 0
 IsFedBy {F = F} holds is_left shows items held answered text = (answered ≡ None → HoldsAll holds is_left items held text) × ((fault : F) → answered ≡ Some fault → HasShown holds shows items fault text)
-
--- how much there is still to do with what is held and the rest of the piece
-abbrev pub still_to_do : List ℕ → List ℕ → ℕ
-still_to_do held rest = 2 * length rest + length held
-
--- bytes were moved from the front of the piece to those held, until these are so many or the piece is empty
-pub record Tops (old piece new rest : List ℕ) (wanted : ℕ) : Type 0 where
-  pub joins : new ++ rest ≡ old ++ piece
-  pub size : length new ≡ max (length old) (min wanted (length old + length piece))

@@ -1,6 +1,6 @@
 //! A text in pieces.
 ghost use Rattle.std.specs.Prelude.{◌≡◌, ◌<◌, ◌≤◌, ◌++◌, [], ◌∷◌, List, ℕ, Some, None, Err, length, drop, IsSome, IfOk, IfErr, OnOk, OnErr};
-ghost use Rattle.mt_record.specs.Feeding.{StepsOn, HoldsUpTo, HoldsAll, HasShown, IsFedBy, still_to_do, Tops};
+ghost use Rattle.mt_record.specs.Feeding.{Reads, ReadsFault, StepsOn, HoldsAll, IsFedBy};
 
 use crate::items::Items;
 use mt_words::Memory;
@@ -50,10 +50,9 @@ impl<I: Items> Feed<I> {
 
     /// Reads the next piece: what it completes straight from the piece where it lies whole in it.
     fn read(&mut self, piece: &[u8]) -> Result<(), I::Fault>
-        ensures ok { (taken : I.Taken) (text : List ℕ) → HoldsAll (I.holds taken) I.is_left self.old.items self.old.held.items text →
-            IfOk result (λ _. HoldsAll (I.holds taken) I.is_left self.new.items self.new.held.items (text ++ piece.now)) }
-        ensures fault { (taken : I.Taken) (text : List ℕ) → HoldsAll (I.holds taken) I.is_left self.old.items self.old.held.items text →
-            IfErr result (λ fault. HasShown (I.holds taken) I.shows self.new.items fault (text ++ piece.now)) }
+        ensures ok { I.is_left self.old.items self.old.held.items →
+            OnOk result (Reads I.holds self.old.items self.new.items (self.old.held.items ++ piece.now) self.new.held.items × I.is_left self.new.items self.new.held.items) }
+        ensures fault { IfErr result (ReadsFault I.holds I.shows self.old.items self.new.items (self.old.held.items ++ piece.now)) }
     {
         let mut rest = piece;
         'held: while !self.held.is_empty() {
@@ -70,11 +69,10 @@ impl<I: Items> Feed<I> {
     /// Completes what is held back, and reads what of it is whole then; the rest of the piece.
     fn read_held<'a>(&mut self, piece: &'a [u8]) -> Result<&'a [u8], I::Fault>
         requires { 0 < length piece.now }
-        ensures rest { (taken : I.Taken) (text : List ℕ) → HoldsUpTo (I.holds taken) I.is_left self.old.items self.old.held.items text piece.now →
-            IfOk result (λ rest. HoldsUpTo (I.holds taken) I.is_left self.new.items self.new.held.items text rest.now) }
-        ensures less { IfOk result (λ rest. still_to_do self.new.held.items rest.now < still_to_do self.old.held.items piece.now) }
-        ensures fault { (taken : I.Taken) (text : List ℕ) → HoldsUpTo (I.holds taken) I.is_left self.old.items self.old.held.items text piece.now →
-            IfErr result (λ fault. HasShown (I.holds taken) I.shows self.new.items fault text) }
+        ensures rest { IfOk result (λ rest.
+            Reads I.holds self.old.items self.new.items (self.old.held.items ++ piece.now) (self.new.held.items ++ rest.now) × I.is_left self.new.items self.new.held.items) }
+        ensures less { IfOk result (λ rest. length rest.now < length piece.now) }
+        ensures fault { IfErr result (ReadsFault I.holds I.shows self.old.items self.new.items (self.old.held.items ++ piece.now)) }
     {
         let wanted = self.items.bytes_wanted(&self.held).max(self.held.len() + 1);
         let rest = top_up(&mut self.held, wanted, piece)?;
@@ -101,7 +99,10 @@ fn read_whole<'a, I: Items>(items: &mut I, bytes: &'a [u8]) -> Result<&'a [u8], 
 /// Moves bytes from the front of the piece to those held, until these are so many or the piece is empty; the rest of
 /// the piece.
 fn top_up<'a>(held: &mut Vec<u8>, wanted: usize, piece: &'a [u8]) -> Result<&'a [u8], Memory>
-    ensures { IfOk result (λ rest. Tops held.old.items piece.now held.new.items rest.now wanted) }
+    requires some { 0 < length piece.now }
+    requires more { length held.old.items < wanted }
+    ensures joins { IfOk result (λ rest. held.new.items ++ rest.now ≡ held.old.items ++ piece.now) }
+    ensures less { IfOk result (λ rest. length rest.now < length piece.now) }
 {
     let missing = wanted.saturating_sub(held.len()).min(piece.len());
     let (front, rest) = piece.split_at(missing);
