@@ -3,8 +3,7 @@ use Rattle.std.proofs.Common.{◌≡◌, ◌≢◌, inl, inr, ℕ, zero, suc, �
 use Rattle.std.proofs.lemmas.List.{length-append, append-nil, nil_from_length, take-append-drop, length-take-le, length-replicate}
 use Rattle.std.proofs.lemmas.Nat.{be_bytes_8}
 use Rattle.std.proofs.lemmas.Bool.{false≢true}
-use Rattle.std.specs.Borrow.{Bor}
-use Rattle.std.specs.Prelude.{codes, Option, Some, None, Ok, IfSome, IfNone, MatchBool}
+use Rattle.std.specs.Prelude.{codes, Option, Some, None, IfNone, MatchBool}
 use Rattle.std.specs.Option.{is_some}
 use Rattle.byteorder.specs.Endian.{big_bytes, big_from}
 use Rattle.byteorder.specs.Numbers.{big_from-lt}
@@ -12,8 +11,7 @@ use Rattle.mt_words.specs.declared.limits.Format.{Format}
 use Rattle.mt_words.specs.declared.limits.Format.TheVariants.{One}
 use Rattle.mt_words.specs.Limits.{limits_of, magic}
 use Rattle.mt_record.specs.declared.head.Head.{Head}
-use Rattle.mt_record.specs.declared.magic.NoMagic.{NoMagic}
-use Rattle.mt_record.specs.Fronts.{GoTogether, GoesWithMagic, HasNone, ShowsNone, IsCutFront, FindsFront}
+use Rattle.mt_record.specs.Fronts.{GoTogether, GoesWithMagic, HasNone, ShowsNone, IsCutFront}
 use Rattle.mt_record.specs.Heads.{IsHead, head_bytes}
 use Rattle.mt_record.proofs.Feeds.{apart}
 
@@ -108,12 +106,6 @@ module _ {H : Type 0} (Is : H → Type 0) (spelled : H → List ℕ) (letters : 
         | inr u ↦ absurd (none one.0 u.0 one.1 u.1)
       ]
 
--- one that was found, or the beginning of one where there is none
-pub found_or_cut : {H : Type 0} (Is : H → Type 0) (spelled : H → List ℕ) (bytes : List ℕ) (found : Option (H × Bor (List ℕ))) → IfSome found (λ x. Is x.0 × (bytes ≡ spelled x.0 ++ x.1.now))
-    → IfNone found (HasNone Is spelled bytes) → (HasNone Is spelled bytes → IsCutFront Is spelled bytes) → FindsFront {E = NoMagic} Is spelled bytes (Ok found)
-found_or_cut Is spelled bytes None some none cut = cut none
-found_or_cut Is spelled bytes (Some x) some none cut = some
-
 -- ---- letters and a digit
 
 -- letters begin bytes that begin with them and the digit of a format
@@ -165,6 +157,10 @@ log_whole format xs long small =
     let number = eight xs long small in
     (record { format = format; from = number.0 }, number.1, ap (λ (x : List ℕ). magic (codes "MTL") format ++ x) number.2)
 
--- a header begins with the letters and the digit
-pub log_magic : (head : Head) → (rest : List ℕ) × (head_bytes head ≡ magic (codes "MTL") head.format ++ rest)
-log_magic head = (big_bytes 8 head.from, refl)
+-- bytes that do not go with the letters and a digit show that there is no header
+pub log_none : (bytes : List ℕ) → (GoesWithMagic (codes "MTL") bytes → ⊥) → ShowsNone IsHead head_bytes bytes
+log_none = shows_none IsHead head_bytes (codes "MTL") (λ (head : Head). head.format) (λ head. (big_bytes 8 head.from, refl))
+
+-- and those that do begin one where none begins them
+pub log_cut : (bytes : List ℕ) → GoesWithMagic (codes "MTL") bytes → AreBytes bytes → HasNone IsHead head_bytes bytes → IsCutFront IsHead head_bytes bytes
+log_cut = cut_front IsHead head_bytes (codes "MTL") 8 log_whole

@@ -9,7 +9,8 @@ use Rattle.mt_words.specs.declared.limits.Format.{Format}
 use Rattle.mt_words.specs.Limits.{magic}
 use Rattle.mt_record.specs.declared.part_text.PartHead.{PartHead}
 use Rattle.mt_record.specs.Parts.{part_head, part_head_bytes, IsPartHead}
-use Rattle.mt_record.proofs.Beginnings.{AreBytes, bytes_front, bytes_back, eight}
+use Rattle.mt_record.specs.Fronts.{GoesWithMagic, HasNone, ShowsNone, IsCutFront}
+use Rattle.mt_record.proofs.Beginnings.{AreBytes, bytes_front, bytes_back, eight, shows_none, cut_front}
 
 -- ---- sixteen bytes are the numbers of a header
 
@@ -51,6 +52,11 @@ part_whole format xs long small =
       joined format xs (take 4 xs) (drop 4 xs) (take 8 (drop 4 xs)) (drop 8 (drop 4 xs)) (take 2 (drop 8 (drop 4 xs))) number.0 begin.0 part.0 parts.0 a.4 b.4 c.4 number.2 begin.2 part.2 parts.2,
     )
 
--- a header begins with the letters and the digit
-pub part_magic : (head : PartHead) → (rest : List ℕ) × (part_head_bytes head ≡ magic (codes "MTC") head.format ++ rest)
-part_magic head = (big_bytes 4 head.number ++ (big_bytes 8 head.begin ++ (big_bytes 2 head.part ++ big_bytes 2 head.parts)), refl)
+-- bytes that do not go with the letters and a digit show that there is no header
+pub part_none : (bytes : List ℕ) → (GoesWithMagic (codes "MTC") bytes → ⊥) → ShowsNone IsPartHead part_head_bytes bytes
+part_none = shows_none IsPartHead part_head_bytes (codes "MTC") (λ (head : PartHead). head.format)
+    (λ head. (big_bytes 4 head.number ++ (big_bytes 8 head.begin ++ (big_bytes 2 head.part ++ big_bytes 2 head.parts)), refl))
+
+-- and those that do begin one where none begins them
+pub part_cut : (bytes : List ℕ) → GoesWithMagic (codes "MTC") bytes → AreBytes bytes → HasNone IsPartHead part_head_bytes bytes → IsCutFront IsPartHead part_head_bytes bytes
+part_cut = cut_front IsPartHead part_head_bytes (codes "MTC") 16 part_whole

@@ -49,6 +49,7 @@ impl<I: Items> Feed<I> {
     }
 
     /// Reads the next piece: what it completes straight from the piece where it lies whole in it.
+    #[tactic(auto, using(crate::proofs::Feeds::then_read, crate::proofs::Feeds::nil_if_empty))]
     fn read(&mut self, piece: &[u8]) -> Result<(), I::Fault>
         ensures ok { I.is_left self.old.items self.old.held.items →
             OnOk result (Reads I.holds self.old.items self.new.items (self.old.held.items ++ piece.now) self.new.held.items × I.is_left self.new.items self.new.held.items) }
@@ -67,6 +68,7 @@ impl<I: Items> Feed<I> {
     }
 
     /// Completes what is held back, and reads what of it is whole then; the rest of the piece.
+    #[tactic(auto, using(crate::proofs::Feeds::left_over, crate::proofs::Feeds::reads_before))]
     fn read_held<'a>(&mut self, piece: &'a [u8]) -> Result<&'a [u8], I::Fault>
         requires { 0 < length piece.now }
         ensures rest { IfOk result (λ rest.
@@ -84,6 +86,7 @@ impl<I: Items> Feed<I> {
 }
 
 /// Reads the whole items at the front, and gives the bytes after them, in which no more can be read.
+#[tactic(auto, using(crate::proofs::Feeds::then_read))]
 fn read_whole<'a, I: Items>(items: &mut I, bytes: &'a [u8]) -> Result<&'a [u8], I::Fault>
     ensures { StepsOn I.holds I.is_left I.shows items.old items.new bytes.now result }
 {

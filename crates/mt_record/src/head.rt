@@ -1,4 +1,6 @@
 //! Headers of logs.
+#![tactic(auto, using(crate::proofs::Beginnings::log_cut))]
+
 ghost use Rattle.std.specs.Prelude.{◌≡◌, ◌++◌, IfSome, IfNone};
 ghost use Rattle.mt_record.specs.Fronts.{FindsFront};
 ghost use Rattle.mt_record.specs.Heads.{IsHead, head_bytes, HasNoHeader};
@@ -35,8 +37,8 @@ fn header_at(bytes: &[u8]) -> Option<(Head, &[u8])>
 pub fn next_header(bytes: &[u8]) -> Result<Option<(Head, &[u8])>, NoMagic>
     ensures { FindsFront IsHead head_bytes bytes.now result }
 {
-    if !goes_with_magic(LOG, bytes) {
-        return Err(NoMagic);
+    match header_at(bytes) {
+        None if !goes_with_magic(LOG, bytes) => Err(NoMagic),
+        found => Ok(found),
     }
-    Ok(header_at(bytes))
 }

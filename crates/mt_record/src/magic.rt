@@ -7,7 +7,6 @@ ghost use Rattle.mt_record.specs.Fronts.{GoesWithMagic};
 use mt_words::Format;
 
 /// That bytes neither begin with the letters and the digit of a format, nor begin those.
-#[derive(Clone, Copy)]
 pub struct NoMagic;
 
 /// The format of a file that begins with these letters, and the bytes behind its digit.

@@ -1,4 +1,6 @@
 //! Headers of parts, and how long a footer is.
+#![tactic(auto, using(crate::proofs::PartBeginnings::part_cut))]
+
 ghost use Rattle.std.specs.Prelude.{◌≡◌, ◌++◌, IfSome, IfNone};
 ghost use Rattle.mt_record.specs.Fronts.{FindsFront};
 ghost use Rattle.mt_record.specs.Parts.{IsPartHead, part_head_bytes};
@@ -41,8 +43,8 @@ fn part_header_at(bytes: &[u8]) -> Option<(PartHead, &[u8])>
 pub fn next_part_header(bytes: &[u8]) -> Result<Option<(PartHead, &[u8])>, NoMagic>
     ensures { FindsFront IsPartHead part_head_bytes bytes.now result }
 {
-    if !goes_with_magic(PART, bytes) {
-        return Err(NoMagic);
+    match part_header_at(bytes) {
+        None if !goes_with_magic(PART, bytes) => Err(NoMagic),
+        found => Ok(found),
     }
-    Ok(part_header_at(bytes))
 }

@@ -1,18 +1,8 @@
-use Rattle.std.proofs.Common.{[], refl}
+use Rattle.std.proofs.Common.{[]}
 use Rattle.std.proofs.lemmas.List.{append-nil}
 use Rattle.std.proofs.lemmas.Result.{err_from_is_err_and}
 use Rattle.mt_record.proofs.Feeds.{then_read, nil_if_empty}
 use Rattle.mt_record.proofs.feed.Feed.read.Goals as goal
-
-pub held-preserved : goal.held-preserved
-held-preserved g c =
-    let step = c.in_ok-rest.ensures.rest in
-    record { read = then_read g.I.Items.holds _ _ _ _ _ _ c.held.invariant.read step.0; left = λ left. step.1 }
-
-pub returns-then-is_empty-clause-ok : goal.returns-then-is_empty-clause-ok
-returns-then-is_empty-clause-ok g c = λ left.
-    let none = nil_if_empty c.held.rest.now _ c.is_empty-in-held.result refl c.is_empty-in-held.ensures c.if-is_empty.true in
-    (rw (none, append-nil) at c.held.invariant.read, c.held.invariant.left left)
 
 pub returns-in_err-rest-clause-fault : goal.returns-in_err-rest-clause-fault
 returns-in_err-rest-clause-fault g c =

@@ -1,4 +1,3 @@
-use Rattle.std.proofs.Common.{sym, ap, ◌∙◌}
 use Rattle.mt_record.proofs.OnePartFault.{fed_shows, shown_answered}
 use Rattle.mt_record.proofs.part_feed.PartFeed.finish.Goals as goal
 
