@@ -16,15 +16,12 @@ loop-job-init g c = record {
 pub loop-job-preserved : goal.loop-job-preserved
 loop-job-preserved g c =
     let I = c.loop-job.invariant in
-    let jobs = c.loop-job.jobs.items in
-    let left = c.pop.new.self.items in
-    let job = c.in-Some.job in
-    let popped : jobs ≡ left ++ job ∷ [] = c.in-Some.ensures.items in record {
-      accepted = (All-pop (λ job. goal.F-pre g c.args.work.now c.args.share.worker job) jobs left (Some job) popped I.accepted).0;
+    let popped : c.loop-job.jobs.items ≡ c.pop.new.self.items ++ c.in-Some.job ∷ [] = c.in-Some.ensures.items in record {
+      accepted = (All-pop (λ job. goal.F-pre g c.args.work.now c.args.share.worker job) c.loop-job.jobs.items c.pop.new.self.items (Some c.in-Some.job) popped I.accepted).0;
       done = (
-        job ∷ I.done.0,
-        taken_off c.args.share.jobs.items jobs left I.done.0 job I.done.1 popped,
-        done_before (λ job answer. goal.F-post g c.args.work.now c.args.share.worker job answer) I.done.0 c.loop-job.answers.items c.push.new.self.items job c.work.result c.work.ensures I.done.2 c.in_ok-push.ensures.items,
+        c.in-Some.job ∷ I.done.0,
+        taken_off c.args.share.jobs.items c.loop-job.jobs.items c.pop.new.self.items I.done.0 c.in-Some.job I.done.1 popped,
+        done_before (λ job answer. goal.F-post g c.args.work.now c.args.share.worker job answer) I.done.0 c.loop-job.answers.items c.push.new.self.items c.in-Some.job c.work.result c.work.ensures I.done.2 c.in_ok-push.ensures.items,
       );
     }
 
