@@ -37,18 +37,17 @@ unread taken s text rest none reads =
     let empty : taken ++ s.ready ≡ [] = rw none at reads.read.lawful in
     sym (reads.joins ∙ ap (λ (x : List ℕ). x ++ rest) (rw (none, empty) at reads.read.spelled))
 
--- what is spelled behind a header, and then the rest
-spelled_rest : (taken : List Logged) (s : LogSoFar) (head : Head) (text rest : List ℕ) → s.head ≡ Some head → HasRead (HoldsLog taken s) text rest
-    → text ≡ head_bytes head ++ (flat_map spelling (taken ++ s.ready) ++ rest)
-spelled_rest taken s head text rest some reads =
-    reads.joins ∙ behind_on (head_bytes head) reads.front (flat_map spelling (taken ++ s.ready)) rest (rw some at reads.read.spelled)
+-- with a header the text is that, what is spelled of lawful records, and the rest
+begun : (taken : List Logged) (s : LogSoFar) (head : Head) (text rest : List ℕ) → s.head ≡ Some head → HasRead (HoldsLog taken s) text rest
+    → (text ≡ head_bytes head ++ (flat_map spelling (taken ++ s.ready) ++ rest)) × IsHead head × AreRecords (limits_of head.format) 0 (taken ++ s.ready)
+begun taken s head text rest some reads =
+    let lawful : IsHead head × AreRecords (limits_of head.format) 0 (taken ++ s.ready) = rw some at reads.read.lawful in
+    (reads.joins ∙ behind_on (head_bytes head) reads.front (flat_map spelling (taken ++ s.ready)) rest (rw some at reads.read.spelled), lawful.0, lawful.1)
 
--- with a header and a rest that is no record nor a fault it is a log
+-- and with a rest that is no record nor a fault it is a log
 is_log : (taken : List Logged) (s : LogSoFar) (head : Head) (text left : List ℕ) → s.head ≡ Some head → HasRead (HoldsLog taken s) text left → IsLeft (limits_of head.format) left
     → IsLog text head (taken ++ s.ready) left
-is_log taken s head text left some reads ends =
-    let lawful : IsHead head × AreRecords (limits_of head.format) 0 (taken ++ s.ready) = rw some at reads.read.lawful in
-    record { spelled = spelled_rest taken s head text left some reads; is_head = lawful.0; lawful = lawful.1; ends = ends }
+is_log taken s head text left some reads ends = let is = begun taken s head text left some reads in record { spelled = is.0; is_head = is.1; lawful = is.2; ends = ends }
 
 -- ---- items
 
@@ -167,14 +166,14 @@ pub fed_shows : (taken : List Logged) (s : LogSoFar) (fault : FeedFault) (text :
 fed_shows taken s faults.Header text (shown, more, reads, (none, h)) =
     subst (ShowsNone IsHead head_bytes) (unread taken s text (shown ++ more) none reads) (shows_none_on IsHead head_bytes shown more h)
 fed_shows taken s (faults.Record nth what) text (shown, more, reads, (head, some, number, h)) =
-    let lawful : IsHead head × AreRecords (limits_of head.format) 0 (taken ++ s.ready) = rw some at reads.read.lawful in (
+    let is = begun taken s head text (shown ++ more) some reads in (
       taken ++ s.ready,
       record {
         head = head;
         rest = shown ++ more;
-        spelled = spelled_rest taken s head text (shown ++ more) some reads;
-        is_head = lawful.0;
-        lawful = lawful.1;
+        spelled = is.0;
+        is_head = is.1;
+        lawful = is.2;
         fault = rest_fault_on what (limits_of head.format) (latest 0 (taken ++ s.ready)) shown more (rw reads.read.latest at h);
       },
       number ∙ reads.read.whole,

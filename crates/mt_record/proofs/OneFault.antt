@@ -130,12 +130,7 @@ tested_rest what format low rest = by what
     by : (w : What) → RestFault w (limits_of format) low rest → TestedRest w (limits_of format) low rest
     by Length h = inl (refl, h)
     by Trailer (text, n, more, is, small, other, e) = inr ((text, n, more, is, small, e), here refl other)
-    by Kind (text, more, is, e, h) = in_body Kind text more is e h
-    by Frame (text, more, is, e, h) = in_body Frame text more is e h
-    by Version (text, more, is, e, h) = in_body Version text more is e h
-    by Key (text, more, is, e, h) = in_body Key text more is e h
-    by Columns (text, more, is, e, h) = in_body Columns text more is e h
-    by Clock (text, more, is, e, h) = in_body Clock text more is e h
+    by w h = in_body w h.0 h.1 h.2 h.3 h.4
 
 -- a frame has no fault of its length
 no_length : (format : Format) (rest : List ℕ) → HasLengthFault (IsRecordLength (limits_of format)) rest → Frames (limits_of format) rest → ⊥
