@@ -1,5 +1,5 @@
 //! A text in pieces.
-ghost use Rattle.std.specs.Prelude.{◌≡◌, ◌<◌, ◌≤◌, ◌++◌, [], ◌∷◌, List, ℕ, Some, None, Err, length, drop, IsSome, IfOk, IfErr, OnOk, OnErr};
+ghost use Rattle.std.specs.Prelude.{◌≡◌, ◌<◌, ◌≤◌, ◌+◌, min, max, ◌++◌, [], ◌∷◌, List, ℕ, Some, None, Err, length, drop, IsSome, IfOk, IfErr, OnOk, OnErr};
 ghost use Rattle.mt_record.specs.Feeding.{Reads, ReadsFault, StepsOn, HoldsAll, IsFedBy};
 
 use crate::items::Items;
@@ -102,10 +102,8 @@ fn read_whole<'a, I: Items>(items: &mut I, bytes: &'a [u8]) -> Result<&'a [u8], 
 /// Moves bytes from the front of the piece to those held, until these are so many or the piece is empty; the rest of
 /// the piece.
 fn top_up<'a>(held: &mut Vec<u8>, wanted: usize, piece: &'a [u8]) -> Result<&'a [u8], Memory>
-    requires some { 0 < length piece.now }
-    requires more { length held.old.items < wanted }
     ensures joins { IfOk result (λ rest. held.new.items ++ rest.now ≡ held.old.items ++ piece.now) }
-    ensures less { IfOk result (λ rest. length rest.now < length piece.now) }
+    ensures size { OnOk result (length held.new.items ≡ max (length held.old.items) (min wanted (length held.old.items + length piece.now))) }
 {
     let missing = wanted.saturating_sub(held.len()).min(piece.len());
     let (front, rest) = piece.split_at(missing);

@@ -63,8 +63,7 @@ impl<R: Records> LogItems<R> {
     /// Reads the header.
     #[tactic(auto, using(crate::proofs::LogFeeds::header_read))]
     fn read_header<'a>(&mut self, bytes: &'a [u8]) -> Step<'a, FeedFault>
-        requires { self.old.head ≡ None }
-        ensures { StepsLog R.listed self.old self.new bytes.now result }
+        ensures { self.old.head ≡ None → StepsLog R.listed self.old self.new bytes.now result }
     {
         match next_header(bytes) {
             Ok(Some((head, after))) => {

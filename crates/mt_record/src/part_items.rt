@@ -69,8 +69,7 @@ impl<E: Entries> PartItems<E> {
     /// Reads the header.
     #[tactic(auto, using(crate::proofs::PartItems::header_read))]
     fn read_header<'a>(&mut self, bytes: &'a [u8]) -> Step<'a, PartFault>
-        requires { self.old.head ≡ None }
-        ensures { StepsPart E.listed self.old self.new bytes.now result }
+        ensures { self.old.head ≡ None → StepsPart E.listed self.old self.new bytes.now result }
     {
         match next_part_header(bytes) {
             Ok(Some((head, after))) => {

@@ -1,5 +1,5 @@
-use Rattle.std.proofs.Common.{[], refl}
-use Rattle.std.proofs.lemmas.List.{append-nil}
+use Rattle.std.proofs.Common.{ℕ, [], length, refl, ap, arith}
+use Rattle.std.proofs.lemmas.List.{append-nil, length-append}
 use Rattle.std.proofs.lemmas.Result.{err_from_is_err_and}
 use Rattle.mt_record.proofs.feed.Feed.read_held.Goals as goal
 
@@ -9,3 +9,8 @@ returns-in_err-rest-clause-fault g c =
     let items = c.args.self.now.items in
     let held = c.args.self.now.held.items in
     rw p.1 (held, c.args.piece.now, record { items = []; joins = refl; on = λ taken front is. rw append-nil is }, g.met.I.Items.refused items held c.in_err-rest.field-0.0 p.0 p.2)
+
+pub returns-clause-less : goal.returns-clause-less
+returns-clause-less g c =
+    let top = c.in_ok-rest.ensures in
+    omega (arith, ap length top.joins, top.size, c.max-wanted.ensures, c.len.ensures, c.args.self.now.held.ok.0, length-append {A = ℕ})
