@@ -1,6 +1,6 @@
-use Rattle.std.proofs.Common.{◌≡◌, ◌∷◌, ◌++◌, [], Some, sym, append-nil, arith}
+use Rattle.std.proofs.Common.{◌≡◌, ◌∷◌, ◌++◌, [], Some, sym, append-nil}
 use Rattle.std.proofs.lemmas.List.Elements.{All-pop}
-use Rattle.mt_recover.proofs.SharingLemmas.{taken_off, none_done, done_before, done_whole}
+use Rattle.mt_recover.proofs.SharingLemmas.{taken_off, none_done, done_before}
 use Rattle.mt_recover.proofs.by_workers.do_share.Goals as goal
 
 pub loop-job-init : goal.loop-job-init
@@ -24,9 +24,3 @@ loop-job-preserved g c =
         done_before (λ job answer. goal.F-post g c.args.work.now c.args.share.worker job answer) I.done.0 c.loop-job.answers.items c.push.new.self.items c.in-Some.job c.work.result c.work.ensures I.done.2 c.in_ok-push.ensures.items,
       );
     }
-
-pub returns : goal.returns
-returns g c =
-    let I = c.loop-job.invariant in
-    done_whole (λ job answer. goal.F-post g c.args.work.now c.args.share.worker job answer) c.args.share.jobs.items c.loop-job.jobs.items I.done.0 c.loop-job.answers.items c.reverse.new.self.items I.done.1
-    (omega (arith, c.in_default.ensures.cases.0, c.loop-job.jobs.ok.0)) I.done.2 c.reverse.ensures.items
