@@ -1,7 +1,6 @@
 -- What texts begin with: a header, or bytes that begin one.
-use Rattle.std.proofs.Common.{◌≡◌, ◌≢◌, inl, inr, ℕ, zero, suc, ◌^◌, ◌<◌, Bool, true, false, List, [], ◌∷◌, ◌++◌, length, take, drop, get_or, replicate, refl, sym, ap, ◌∙◌, subst, append_assoc, arith}
+use Rattle.std.proofs.Common.{◌≡◌, ◌≢◌, inl, inr, ℕ, ◌<◌, Bool, true, false, List, [], ◌∷◌, ◌++◌, length, take, drop, replicate, refl, sym, ap, ◌∙◌, subst, append_assoc, arith}
 use Rattle.std.proofs.lemmas.List.{length-append, append-nil, nil_from_length, take-append-drop, length-take-le, length-replicate}
-use Rattle.std.proofs.lemmas.Nat.{be_bytes_8}
 use Rattle.std.proofs.lemmas.Bool.{false≢true}
 use Rattle.std.specs.Prelude.{codes, Option, Some, None, IfNone, MatchBool}
 use Rattle.std.specs.Option.{is_some}
@@ -14,35 +13,7 @@ use Rattle.mt_record.specs.declared.head.Head.{Head}
 use Rattle.mt_record.specs.Fronts.{GoTogether, GoesWithMagic, HasNone, ShowsNone, IsCutFront}
 use Rattle.mt_record.specs.Heads.{IsHead, head_bytes}
 use Rattle.mt_record.proofs.Feeds.{apart}
-
--- ---- eight bytes are a number
-
--- each number is a byte, and so is what is read past the end
-abbrev pub AreBytes : List ℕ → Type 0
-AreBytes xs = (i : ℕ) → get_or xs i 0 < 256
-
--- the first part of bytes is bytes
-pub bytes_front : (a b : List ℕ) → AreBytes (a ++ b) → AreBytes a
-bytes_front [] b h i = omega arith
-bytes_front (x ∷ a) b h zero = h zero
-bytes_front (x ∷ a) b h (suc i) = bytes_front a b (λ j. h (suc j)) i
-
--- the last part of bytes is bytes
-pub bytes_back : (a b : List ℕ) → AreBytes (a ++ b) → AreBytes b
-bytes_back [] b h = h
-bytes_back (x ∷ a) b h = bytes_back a b (λ j. h (suc j))
-
--- zeros behind bytes are bytes too
-pub bytes_padded : (a : List ℕ) (k : ℕ) → AreBytes a → AreBytes (a ++ replicate k 0)
-bytes_padded [] zero h i = omega arith
-bytes_padded [] (suc k) h zero = omega arith
-bytes_padded [] (suc k) h (suc i) = bytes_padded [] k h i
-bytes_padded (x ∷ a) k h zero = h zero
-bytes_padded (x ∷ a) k h (suc i) = bytes_padded a k (λ j. h (suc j)) i
-
--- eight bytes are those of a number
-pub eight : (xs : List ℕ) → length xs ≡ 8 → AreBytes xs → (n : ℕ) × (n < 2 ^ 64) × (big_bytes 8 n ≡ xs)
-eight xs long small = (big_from 0 8 xs, big_from-lt 0 8 xs small, be_bytes_8 xs (big_from 0 8 xs) long small (omega arith))
+use Rattle.mt_record.proofs.Numbers.{AreBytes, bytes_front, bytes_back, bytes_padded, eight}
 
 -- ---- fronts, whatever is spelled there
 
@@ -154,8 +125,7 @@ letters_left letters bytes None false test none tells = goes_not letters bytes n
 -- eight bytes behind the digit are a `from`
 pub log_whole : (format : Format) (xs : List ℕ) → length xs ≡ 8 → AreBytes xs → (head : Head) × IsHead head × (head_bytes head ≡ magic (codes "MTL") format ++ xs)
 log_whole format xs long small =
-    let number = eight xs long small in
-    (record { format = format; from = number.0 }, number.1, ap (λ (x : List ℕ). magic (codes "MTL") format ++ x) number.2)
+    (record { format = format; from = big_from 0 8 xs }, big_from-lt 0 8 xs small, ap (λ (x : List ℕ). magic (codes "MTL") format ++ x) (eight xs long small))
 
 -- bytes that do not go with the letters and a digit show that there is no header
 pub log_none : (bytes : List ℕ) → (GoesWithMagic (codes "MTL") bytes → ⊥) → ShowsNone IsHead head_bytes bytes

@@ -15,6 +15,7 @@ pub mod OneReading
 pub mod OnePart
 pub mod OnePartFault
 pub mod Vectors
+pub mod Numbers
 pub mod Beginnings
 pub mod PartBeginnings
 pub mod PartItems
