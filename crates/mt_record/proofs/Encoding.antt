@@ -11,7 +11,7 @@ use Rattle.mt_words.specs.Limits.{widest, widest_format}
 use Rattle.mt_words.specs.Words.{AreColumns}
 use Rattle.mt_words.specs.declared.record.Change.{Change}
 use Rattle.mt_words.specs.Changes.{Logged, IsLawful}
-use Rattle.mt_record.specs.Spelling.{column_bytes, code_of, change_bytes, body_of, body, IsRecordLength}
+use Rattle.mt_record.specs.Spelling.{column_bytes, change_bytes, body_of, body, framed, IsRecordLength}
 use Rattle.mt_record.specs.Adding.{HasRoom, Adds}
 use Rattle.mt_record.proofs.Lawful.{put_fits, columns_length, lawful_length}
 
@@ -55,12 +55,17 @@ few_bytes cs are = omega (arith, columns_length widest cs are.0, few_columns cs 
 -- ---- adding
 
 -- bytes added one after the other
-pub adds_both : {Z : Type 0} (a b c : Vec ℕ Z) (xs ys : List ℕ) → Adds xs a b → Adds ys b c → Adds (xs ++ ys) a c
-adds_both a b c xs ys first then = record {
+pub adds_both : {Z : Type 0} {a b c : Vec ℕ Z} {xs ys : List ℕ} → Adds xs a b → Adds ys b c → Adds (xs ++ ys) a c
+adds_both {a = a} {xs = xs} {ys = ys} first then = record {
   items = then.items ∙ ap (λ (x : List ℕ). x ++ ys) first.items ∙ append_assoc a.items xs ys;
   len = omega (arith, first.len, then.len, length-append xs ys);
   room = omega (arith, first.room, then.room);
 }
+
+-- a text between two copies of its length, behind what stood there
+pub adds_framed : {Z : Type 0} {old text : List ℕ} {n : ℕ} {a b c d : Vec ℕ Z} → n ≡ length text → a.items ≡ old → Adds (big_bytes 4 n) a b → Adds text b c
+    → Adds (big_bytes 4 n) c d → d.items ≡ old ++ framed text
+adds_framed is same first second third = rw (← is, ← same) (adds_both first (adds_both second third)).items
 
 -- there is room for one column behind the first ones
 pub column_room : {Z : Type 0} (cs : List (ℕ × List ℕ)) (i n : ℕ) (c : ℕ × List ℕ) (old out : Vec ℕ Z) → i < length cs → c ≡ get_or cs i c
@@ -75,12 +80,3 @@ changed_length r change lawful is =
     let here : IsRecordLength widest (length (body_of r.timestamp (Some change))) =
     subst (λ (o : Option Change). IsRecordLength widest (length (body_of r.timestamp o))) is (lawful_length widest r lawful) in
     (omega arith, omega (arith, here.1))
-
--- the byte of the kind, the timestamp and the change, one behind the other, are the body
-pub adds_changed : {Z : Type 0} (r : Logged) (change : Change) (code t : ℕ) (a b c d : Vec ℕ Z) → r.change ≡ Some change → code ≡ code_of change.kind
-    → t ≡ r.timestamp → Adds (code ∷ []) a b → Adds (big_bytes 8 t) b c → Adds (change_bytes change) c d → Adds (body r) a d
-adds_changed r change code t a b c d is is_code is_time first second third =
-    let all = adds_both a c d ((code ∷ []) ++ big_bytes 8 t) (change_bytes change) (adds_both a b c (code ∷ []) (big_bytes 8 t) first second) third in
-    let spelled : ((code ∷ []) ++ big_bytes 8 t) ++ change_bytes change ≡ body r =
-    (λ i. is_code i ∷ (big_bytes 8 (is_time i) ++ change_bytes change)) ∙ ap (body_of r.timestamp) (sym is) in
-    subst (λ (x : List ℕ). Adds x a d) spelled all

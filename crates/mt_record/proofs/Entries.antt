@@ -1,8 +1,10 @@
 -- Entries of checkpoints, and the parts that they stand in.
-use Rattle.std.proofs.Common.{◌≡◌, ◌∙◌, ℕ, suc, ◌+◌, ◌^◌, ◌<◌, ◌≤◌, List, [], ◌∷◌, ◌++◌, length, take, get_or, sym, ap, arith}
-use Rattle.std.proofs.Math.Seq.{take-suc}
+use Rattle.std.proofs.Common.{◌≡◌, ◌∙◌, ℕ, suc, ◌+◌, ◌^◌, ◌<◌, ◌≤◌, List, [], ◌∷◌, ◌++◌, length, take, get_or, sym, ap, append_assoc, arith}
+use Rattle.std.proofs.Math.Seq.{take-suc, take-append_seam}
+use Rattle.std.specs.Prelude.{Result, Ok, Err, OnOk, OnErr}
+use Rattle.std.specs.Io.{StartsWith}
 use Rattle.std.specs.List.{flat_map}
-use Rattle.std.proofs.lemmas.List.{length-append, flat_map_more}
+use Rattle.std.proofs.lemmas.List.{length-append, flat_map_more, take_all}
 use Rattle.mt_words.specs.declared.record.Change.{Change}
 use Rattle.mt_words.specs.declared.update.Kind.{Kind}
 use Rattle.mt_words.specs.declared.update.Kind.TheVariants.{Put, Remove, Whole}
@@ -49,3 +51,15 @@ one_more_entry out new entries i entry below is e =
     let front : take (i + 1) entries ≡ take i entries ++ entry ∷ [] =
     ap (λ (n : ℕ). take n entries) next ∙ take-suc entries i entry below ∙ ap (λ (d : Change). take i entries ++ d ∷ []) (sym is) in
     e ∙ flat_map_more entry_spelling out (take i entries) entry ∙ ap (λ (x : List Change). out ++ flat_map entry_spelling x) (sym front)
+
+-- all entries, and what ends them
+pub entries_ended : (out made new : List ℕ) (entries : List Change) (i : ℕ) (end : List ℕ) → length entries ≤ i
+    → made ≡ out ++ flat_map entry_spelling (take i entries) → new ≡ made ++ end → new ≡ out ++ (flat_map entry_spelling entries ++ end)
+entries_ended out made new entries i end all so_far e =
+    let made_is = so_far ∙ ap (λ (cs : List Change). out ++ flat_map entry_spelling cs) (take_all i entries all) in
+    e ∙ ap (λ (x : List ℕ). x ++ end) made_is ∙ append_assoc out (flat_map entry_spelling entries) end
+
+-- what stood there stays in front, whether more was added behind it or not
+pub front_kept : {T E : Type 0} (answer : Result T E) (out more made end new : List ℕ) → made ≡ out ++ more → OnOk answer (new ≡ made ++ end) → OnErr answer (new ≡ made) → StartsWith new out
+front_kept (Ok done) out more made end new so_far ok err = rw (ok, so_far, append_assoc) (take-append_seam out (more ++ end))
+front_kept (Err why) out more made end new so_far ok err = rw (err, so_far) (take-append_seam out more)

@@ -15,7 +15,7 @@ returns c =
     let time = rw c.to_be_bytes.ensures at c.put_bytes-2.ensures in
     let version = rw c.to_be_bytes-2.ensures at c.put_bytes-3.ensures in
     let key = rw c.as_bytes-key.ensures.value at c.put_counted.ensures in
-    let all = adds_both _ _ _ _ _ (adds_both _ _ _ _ _ (adds_both _ _ _ _ _ (adds_both _ _ _ _ _ code time) version) key) c.put_kind.ensures.added in
+    let all = adds_both (adds_both (adds_both (adds_both code time) version) key) c.put_kind.ensures.added in
     let spelled : c.put_kind.new.out.items ≡ code_of update.kind ∷ (big_bytes 8 update.timestamp ++ change_bytes change) =
     all.items ∙ ap (λ (x : List _). x ++ code_of update.kind ∷ (big_bytes 8 update.timestamp ++ change_bytes change)) c.in_ok-body.ensures.items in
     let sound : IsSound change = record { version = omega arith; key = c.as_bytes-key.ensures.lawful; columns = c.put_kind.ensures.lawful } in
