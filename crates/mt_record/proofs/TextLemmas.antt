@@ -1,5 +1,5 @@
-use Rattle.std.proofs.Common.{◌≡◌, ◌≤◌, ◌<◌, ◌-◌, ◌+◌, ◌++◌, [], ◌∷◌, List, ℕ, zero, suc, length, take, drop, get_or, refl, sym, ap, subst, ◌∙◌, append_assoc, arith}
-use Rattle.std.proofs.lemmas.List.{take-append-le, drop-append-le, take_all, length-drop}
+use Rattle.std.proofs.Common.{◌≡◌, ◌≤◌, ◌<◌, ◌-◌, ◌+◌, ◌++◌, [], ◌∷◌, List, ℕ, zero, suc, length, take, drop, get_or, refl, sym, ap, subst, ◌∙◌, arith}
+use Rattle.std.proofs.lemmas.List.{take-append-le, drop-append-le, take_all, length-append, length-drop}
 use Rattle.mt_record.specs.Texts.{texts_from, AreEnds, start_at}
 
 pub texts_count : (start : ℕ) (bytes ends : List ℕ) → length (texts_from start bytes ends) ≡ length ends
@@ -36,6 +36,13 @@ texts_more start bytes more (end ∷ ends) h =
     let text : take (end - start) (drop start (bytes ++ more)) ≡ take (end - start) (drop start bytes) =
     rw from (take-append-le (end - start) (drop start bytes) more (omega (arith, h.0, within, size))) in
     rw text (ap (λ texts. take (end - start) (drop start bytes) ∷ texts) (texts_more end bytes more ends h.1))
+
+-- a text added behind the bytes, and its end behind the ends
+pub text_added : (bytes text ends all all_ends : List ℕ) (end : ℕ) → AreEnds 0 (length bytes) ends → all ≡ bytes ++ text → end ≡ length all → all_ends ≡ ends ++ end ∷ []
+    → (texts_from 0 all all_ends ≡ texts_from 0 bytes ends ++ text ∷ []) × AreEnds 0 (length all) all_ends
+text_added bytes text ends all all_ends end are more size pushed =
+    let at : end ≡ length bytes + length text = omega (arith, size, ap length more, length-append bytes text) in
+    (rw (pushed, at, more) (texts_more 0 bytes text ends are), rw (pushed, at, more, length-append bytes text) (ends_more 0 (length bytes) (length text) ends are))
 
 -- ---- the text of a number
 
@@ -77,8 +84,3 @@ text_part bytes ends texts n start end same are below at_start at_end =
 -- where it starts, by the number before it
 pub start_by : (ends : List ℕ) (at before : ℕ) → at ≡ suc before → before < length ends → get_or ends before 0 ≡ start_at 0 ends at
 start_by ends at before same below = subst (λ n. get_or ends before 0 ≡ start_at 0 ends n) (sym same) (sym (start_is 0 ends before 0 below))
-
--- two pieces that were added one behind the other
-pub pieces_added : (old front rest made one new : List ℕ) → made ≡ old → one ≡ made ++ front → new ≡ one ++ rest → new ≡ old ++ (front ++ rest)
-pieces_added old front rest made one new same first second =
-    second ∙ ap (λ (bs : List ℕ). bs ++ rest) (first ∙ ap (λ (bs : List ℕ). bs ++ front) same) ∙ append_assoc old front rest

@@ -1,22 +1,16 @@
-use Rattle.std.proofs.Common.{◌≡◌, ◌+◌, ◌++◌, [], ◌∷◌, List, ℕ, length, ap, ◌∙◌, arith}
-use Rattle.std.proofs.lemmas.List.{length-append}
-use Rattle.mt_record.proofs.TextLemmas.{texts_more, ends_more, pieces_added}
+use Rattle.std.proofs.Common.{◌++◌, ◌∙◌}
+use Rattle.mt_record.proofs.Encoding.{adds_both}
+use Rattle.mt_record.proofs.TextLemmas.{text_added}
 use Rattle.mt_record.proofs.texts.Texts.push_joined.Goals as goal
 
 pub returns-clause-ok : goal.returns-clause-ok
 returns-clause-ok c =
-    let text = c.args.front.now ++ c.args.rest.now in
-    let bytes = pieces_added c.self.inside.bytes.items c.args.front.now c.args.rest.now _ _ _ c.in_ok-reserve-2.ensures.items c.put_bytes.ensures.items c.put_bytes-2.ensures.items in
-    let size : c.len-end.result ≡ length c.self.inside.bytes.items + length text =
-    omega (arith, c.len-end.ensures, c.put_bytes-2.ensures.len, c.put_bytes.ensures.len, c.in_ok-reserve-2.ensures.len, length-append c.args.front.now c.args.rest.now, c.self.inside.bytes.ok.0) in
-    let ends : c.push.new.self.items ≡ c.self.inside.ends.items ++ (length c.self.inside.bytes.items + length text) ∷ [] = rw (← size) (c.in-Ok.ensures.items ∙ ap (λ (es : List ℕ). es ++ c.len-end.result ∷ []) c.in_ok-reserve.ensures.items) in
-    rw (← c.self.view_is) (rw bytes (rw ends (texts_more 0 c.self.inside.bytes.items text c.self.inside.ends.items c.self.invariant)))
+    let bytes = rw c.in_ok-reserve-2.ensures.items at (adds_both c.put_bytes.ensures c.put_bytes-2.ensures).items in
+    let ends = rw c.in_ok-reserve.ensures.items at c.in-Ok.ensures.items in
+    rw (← c.self.view_is) (text_added c.self.inside.bytes.items (c.args.front.now ++ c.args.rest.now) c.self.inside.ends.items _ _ _ c.self.invariant bytes (c.len-end.ensures ∙ c.put_bytes-2.new.out.ok.0) ends).0
 
 pub invariant_of-self-2 : goal.invariant_of-self-2
 invariant_of-self-2 c =
-    let text = c.args.front.now ++ c.args.rest.now in
-    let bytes = pieces_added c.self.inside.bytes.items c.args.front.now c.args.rest.now _ _ _ c.in_ok-reserve-2.ensures.items c.put_bytes.ensures.items c.put_bytes-2.ensures.items in
-    let size : c.len-end.result ≡ length c.self.inside.bytes.items + length text =
-    omega (arith, c.len-end.ensures, c.put_bytes-2.ensures.len, c.put_bytes.ensures.len, c.in_ok-reserve-2.ensures.len, length-append c.args.front.now c.args.rest.now, c.self.inside.bytes.ok.0) in
-    let ends : c.push.new.self.items ≡ c.self.inside.ends.items ++ (length c.self.inside.bytes.items + length text) ∷ [] = rw (← size) (c.in-Ok.ensures.items ∙ ap (λ (es : List ℕ). es ++ c.len-end.result ∷ []) c.in_ok-reserve.ensures.items) in
-    rw bytes (rw ends (rw (length-append c.self.inside.bytes.items text) (ends_more 0 (length c.self.inside.bytes.items) (length text) c.self.inside.ends.items c.self.invariant)))
+    let bytes = rw c.in_ok-reserve-2.ensures.items at (adds_both c.put_bytes.ensures c.put_bytes-2.ensures).items in
+    let ends = rw c.in_ok-reserve.ensures.items at c.in-Ok.ensures.items in
+    (text_added c.self.inside.bytes.items (c.args.front.now ++ c.args.rest.now) c.self.inside.ends.items _ _ _ c.self.invariant bytes (c.len-end.ensures ∙ c.put_bytes-2.new.out.ok.0) ends).1
