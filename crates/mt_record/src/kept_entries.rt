@@ -52,11 +52,6 @@ impl KeptEntries {
         self.bodies.len()
     }
 
-    /// How many bytes their bodies have together.
-    pub fn size(&self) -> usize {
-        self.bodies.size()
-    }
-
     /// The update of the entry of this number.
     pub fn update(&self, number: usize) -> Lent<'_>
         requires { number < length self.now }

@@ -53,11 +53,6 @@ impl Texts {
         self.ends.len()
     }
 
-    /// How many bytes they have together.
-    pub fn size(&self) -> usize {
-        self.bytes.len()
-    }
-
     /// The text of this number.
     pub fn get(&self, at: usize) -> &[u8]
         requires { at < length self.now }
