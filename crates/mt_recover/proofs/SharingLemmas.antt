@@ -114,6 +114,11 @@ dealt_answers {J} {X} R count number (job ∷ jobs) shares parts dealt zip =
 pub taken_off : {J : Type 0} (whole jobs left last : List J) (job : J) → whole ≡ jobs ++ last → jobs ≡ left ++ job ∷ [] → whole ≡ left ++ job ∷ last
 taken_off whole jobs left last job is popped = is ∙ ap (λ l. l ++ last) popped ∙ append_assoc left (job ∷ []) last
 
+-- all are dealt, where no job is left
+pub all_dealt : {J : Type 0} (count : ℕ) (whole jobs last : List J) (stacks : List (List J)) → whole ≡ jobs ++ last → length jobs ≡ 0 → AreDealt count (length jobs) last stacks → AreDealt count 0 whole stacks
+all_dealt count whole [] last stacks are end dealt = subst (λ (js : List _). AreDealt count 0 js stacks) (sym are) dealt
+all_dealt count whole (j ∷ js) last stacks are end dealt = absurd (omega (arith, end))
+
 -- ---- the jobs of a share
 
 pub none_done : {J X : Type 0} (R : J → X → Type 0) (answers : List X) → answers ≡ [] → AllZip R [] (reverse answers)
@@ -125,9 +130,9 @@ pub done_before : {J X : Type 0} (R : J → X → Type 0) (last : List J) (answe
 done_before {J} {X} R last answers after job answer is zip pushed = subst (λ (l : List X). AllZip R (job ∷ last) l) (sym (ap reverse pushed ∙ reverse-append answers (answer ∷ []))) (is, zip)
 
 -- no job is left
-pub done_whole : {J X : Type 0} (R : J → X → Type 0) (whole jobs last : List J) (answers reversed : List X) → whole ≡ jobs ++ last → length jobs ≡ 0 → AllZip R last (reverse answers) → reversed ≡ reverse answers → AllZip R whole reversed
-done_whole {J} {X} R whole [] last answers reversed are end zip is = subst (λ (l : List J). AllZip R l reversed) (sym are) (subst (λ (l : List X). AllZip R last l) (sym is) zip)
-done_whole R whole (j ∷ js) last answers reversed are end zip is = absurd (omega (arith, end))
+pub done_whole : {J X : Type 0} (R : J → X → Type 0) (whole jobs last : List J) (answers : List X) → whole ≡ jobs ++ last → length jobs ≡ 0 → AllZip R last (reverse answers) → AllZip R whole (reverse answers)
+done_whole {J} {X} R whole [] last answers are end zip = subst (λ (l : List J). AllZip R l (reverse answers)) (sym are) zip
+done_whole R whole (j ∷ js) last answers are end zip = absurd (omega (arith, end))
 
 -- one more answer that is there
 pub done_more : {X M : Type 0} (answers : List (Result X M)) (done after : List X) (answer : Result X M) (one : X) → answers ≡ map Ok done → answer ≡ Ok one → after ≡ done ++ one ∷ [] → answers ++ answer ∷ [] ≡ map Ok after

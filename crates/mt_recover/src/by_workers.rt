@@ -1,5 +1,5 @@
 //! Work that is shared out among threads.
-ghost use Rattle.std.specs.Prelude.{◌≡◌, ◌≤◌, ◌<◌, [], List, ℕ, map, length, All, IfOk};
+ghost use Rattle.std.specs.Prelude.{◌≡◌, ◌≤◌, ◌<◌, [], List, ℕ, map, length, reverse, All, IfOk};
 ghost use Rattle.std.specs.List.{AllZip};
 ghost use Rattle.mt_recover.specs.Sharing.{AreDealt};
 
@@ -82,7 +82,7 @@ fn empty_shares<J: Drop>(alloc: Global, workers: u32) -> Result<Vec<Share<J>>, M
     Ok(shares)
 }
 
-/// Does the jobs of a share, from the last of the list to the first. The answers stand as the jobs did.
+/// Does the jobs of a share. The answers stand as the jobs did.
 fn do_share<J: Drop, X: Drop, F: Fn(u32, J) -> X>(
     alloc: Global,
     share: Share<J>,
@@ -91,12 +91,25 @@ fn do_share<J: Drop, X: Drop, F: Fn(u32, J) -> X>(
     requires { All (λ job. F.pre work.now share.worker job) share.jobs.items }
     ensures { IfOk result (λ answers. AllZip (λ job answer. F.post work.now share.worker job answer) share.jobs.items answers.items) }
 {
+    let mut answers = do_jobs(alloc, share, work)?;
+    answers.reverse();
+    Ok(answers)
+}
+
+/// Does the jobs of a share, from the last of the list to the first. The answers stand in the order of the work.
+fn do_jobs<J: Drop, X: Drop, F: Fn(u32, J) -> X>(
+    alloc: Global,
+    share: Share<J>,
+    work: &F,
+) -> Result<Vec<X>, Memory>
+    requires { All (λ job. F.pre work.now share.worker job) share.jobs.items }
+    ensures { IfOk result (λ answers. AllZip (λ job answer. F.post work.now share.worker job answer) share.jobs.items (reverse answers.items)) }
+{
     let Share { worker, mut jobs } = share;
     let mut answers = Vec::with_capacity(alloc, jobs.len())?;
     while let Some(job) = jobs.pop() {
         answers.push(work(worker, job))?;
     }
-    answers.reverse();
     Ok(answers)
 }
 

@@ -1,5 +1,6 @@
-use Rattle.std.proofs.Common.{◌≡◌, ◌<◌, ℕ, List, length, map, subst, sym, rules, arith, IfOk}
+use Rattle.std.proofs.Common.{◌≡◌, ◌<◌, ℕ, List, length, map, ap, subst, sym, rules, arith, IfOk}
 use Rattle.std.specs.List.{AllZip}
+use Rattle.std.proofs.lemmas.List.{length-map}
 use Rattle.std.proofs.lemmas.Result.{IfOk-weaker}
 use Rattle.std.proofs.lemmas.Slice.Zip.{AllZip-long}
 use Rattle.mt_recover.specs.declared.by_workers.Share.{Share}
@@ -26,6 +27,9 @@ answered g c = all_answers (λ worker job answer. goal.F-post g c.args.work.now 
 
 as_many : (g : _) (c : goal.In_ok-all_done g) → length (answered g c).0 ≡ c.len-count.result
 as_many g c = omega (arith, c.len-count.ensures, c.args.jobs.ok.0, AllZip-long _ c.args.jobs.items (answered g c).0 (answered g c).1)
+
+pub gather-requires-clause-some : goal.gather-requires-clause-some
+gather-requires-clause-some g c = omega (arith, c.share_count.ensures.some, c.in_ok-shares.ensures.long, c.in_ok-parts.ensures.len, c.in_ok-shares.shares.ok.0, c.in_ok-parts.parts.ok.0, simp length-map at (ap length c.in_ok-all_done.ensures))
 
 pub gather-requires-clause-dealt : goal.gather-requires-clause-dealt
 gather-requires-clause-dealt g c = let all = answered g c in (all.0, as_many g c, all.2)

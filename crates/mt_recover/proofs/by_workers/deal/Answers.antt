@@ -4,7 +4,7 @@ use Rattle.std.proofs.lemmas.List.{length-append, length-set}
 use Rattle.std.proofs.lemmas.List.Elements.{All-set}
 use Rattle.mt_recover.specs.declared.by_workers.Share.{Share}
 use Rattle.mt_recover.specs.Sharing.{AreDealt}
-use Rattle.mt_recover.proofs.SharingLemmas.{none_dealt, one_dealt, taken_off}
+use Rattle.mt_recover.proofs.SharingLemmas.{none_dealt, one_dealt, taken_off, all_dealt}
 use Rattle.mt_recover.proofs.by_workers.deal.Goals as goal
 
 pub loop-job-init : goal.loop-job-init
@@ -38,4 +38,14 @@ loop-job-preserved g c =
         one_dealt (λ share. share.jobs.items) c.args.workers (length left) turn job I.dealt.0 shares c.index_mut.result.now share (λ i. sym number i % sym count i) within (sym own) c.in_ok-push.ensures.items
             (subst (λ (n : ℕ). AreDealt c.args.workers n I.dealt.0 (map (λ share. share.jobs.items) shares)) long I.dealt.2),
       );
+    }
+
+pub returns : goal.returns
+returns g c =
+    let I = c.loop-job.invariant in
+    let jobs = c.loop-job.jobs in
+    record {
+      long = I.long;
+      workers = I.workers;
+      dealt = all_dealt c.args.workers c.args.jobs.items jobs.items I.dealt.0 _ I.dealt.1 (omega (arith, c.in_default.ensures.cases.0, jobs.ok.0)) I.dealt.2;
     }

@@ -1,6 +1,6 @@
 use Rattle.std.proofs.Common.{◌≡◌, List, ◌++◌, length, reverse}
 use Rattle.std.specs.List.{All, AllZip}
-use Rattle.mt_recover.proofs.by_workers.do_share.Given as goal
+use Rattle.mt_recover.proofs.by_workers.do_jobs.Given as goal
 
 -- the last jobs are done
 abbrev pub invariant-loop-job : goal.invariant-loop-job
