@@ -2,7 +2,7 @@
 use Rattle.std.proofs.Common.{sum_by, length, arith, ◌≡◌, ◌⊎◌, inl, inr, ℕ, ◌<◌, map, Result, Ok, IfOk, Bool, true, false, List, [], ◌∷◌, ◌++◌, Contains, IsPermutation, refl, sym, ap, ◌∙◌, subst, append_assoc}
 use Rattle.std.specs.Prelude.{cond}
 use Rattle.std.specs.List.{filter, AllZip}
-use Rattle.std.proofs.lemmas.List.{flat_map_more, map-append}
+use Rattle.std.proofs.lemmas.List.{map-append}
 use Rattle.std.proofs.lemmas.List.Sums.{sum_by-cons}
 use Rattle.std.proofs.lemmas.List.Elements.{filter-append, Contains-push, Contains-append_left, Contains-append_right}
 use Rattle.std.proofs.lemmas.List.Sorted.{IsPermutation-refl, IsPermutation-append}
@@ -28,12 +28,6 @@ use Rattle.mt_recover.specs.Report.{is_early}
 use Rattle.mt_recover.proofs.ReportLemmas.{length-filter_flat}
 use Rattle.mt_recover.specs.Survivors.{entry_updates}
 
--- the survivors of one more scan
-pub scan_more : (window : Window) (scans : List LogScan) (scan : LogScan) → kept_in window (scans ++ scan ∷ []) ≡ kept_in window scans ++ filter (in_window window) (kept_by scan)
-scan_more window scans scan =
-    ap (filter (in_window window)) (sym (flat_map_more kept_by [] scans scan))
-    ∙ filter-append (in_window window) (kept scans) (kept_by scan)
-
 -- what a filter keeps was there
 kept_head : {A : Type 0} (test : A → Bool) (b : Bool) (y x : A) (ys : List A) → Contains (cond b (y ∷ filter test ys) (filter test ys)) x → (y ≡ x) ⊎ Contains (filter test ys) x
 kept_head test true y x ys at = head_or_tail y x (filter test ys) at
@@ -47,10 +41,6 @@ was_there test (y ∷ ys) x at = elim (kept_head test (test y) y x ys at) as (λ
 ]
 
 -- ---- cells
-
--- the updates of one more list
-pub together_more : (lists : List (List Update)) (list : List Update) → together (lists ++ list ∷ []) ≡ together lists ++ list
-together_more lists list = sym (flat_map_more (λ (us : List Update). us) [] lists list)
 
 -- the updates of two lists of lists
 together_append : (lists others : List (List Update)) → together (lists ++ others) ≡ together lists ++ together others

@@ -21,6 +21,9 @@ ended-report-requires g c =
     may_end_from logs.0 parts.0 c.deref.result.now replay c.in_ok-window.field-0.report c.in_ok-survivors.field-0 c.deref.ensures.value start
     (c.requires.replayed replay (Ok c.in_ok-survivors.field-0) c.in_ok-survivors.ensures)
 
+pub finish-requires : goal.finish-requires
+finish-requires g c = (c.requires.replayed _ (Ok c.in_ok-survivors.field-0) c.in_ok-survivors.ensures).map
+
 pub returns-clause-recovered : goal.returns-clause-recovered
 returns-clause-recovered g c = λ logs bytes are know.
     let start = c.in_ok-window.ensures.start logs bytes (subst (AreScansOf logs) (sym c.deref.ensures.value) are) know in
