@@ -119,28 +119,30 @@ const ON_FULL: &[Run] = &[
     ("mtdump F/a.mtl", (3, "mtdump: output failed\n")),
 ];
 
-/// On an output that is full at once. No write of no bytes is made.
-const ON_FULL_AT_ONCE: &[Run] = &[
-    ("mtrecover --version", (3, "mtrecover: output failed\n")),
-    ("mtrecover range F 62 0", (0, "")),
-    ("mtdump F/d.txt", (0, "")),
-];
-
-/// Where the error output is full, too. A line that cannot be written changes no status.
-const ON_NEITHER: &[Run] = &[
-    ("mtrecover --help", (3, "")),
-    ("mtrecover get F 6", (2, "")),
-    ("mtrecover", (2, "")),
-    ("mtdump", (2, "")),
-];
-
 /// The runs by their output and error output.
 const RUNS: &[([Device; 2], &[Run])] = &[
     (BOTH_WORK, ON_BOTH),
     ([Full, Works], ON_FULL),
     ([Unflushed, Works], ON_FULL),
-    ([Full, Works], ON_FULL_AT_ONCE),
-    ([Full, Full], ON_NEITHER),
+    // On an output that is full at once. No write of no bytes is made.
+    (
+        [Full, Works],
+        &[
+            ("mtrecover --version", (3, "mtrecover: output failed\n")),
+            ("mtrecover range F 62 0", (0, "")),
+            ("mtdump F/d.txt", (0, "")),
+        ],
+    ),
+    // Where the error output is full, too. A line that cannot be written changes no status.
+    (
+        [Full, Full],
+        &[
+            ("mtrecover --help", (3, "")),
+            ("mtrecover get F 6", (2, "")),
+            ("mtrecover", (2, "")),
+            ("mtdump", (2, "")),
+        ],
+    ),
 ];
 
 const QUERIED: &[Named] = &[
