@@ -87,8 +87,8 @@ impl Updates {
         ensures { result ≡ origins.Log self.now.log number }
     {
         Origin::Log {
-            log: self.log,
             record: number as u64,
+            log: self.log,
         }
     }
 }
