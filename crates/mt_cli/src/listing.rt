@@ -3,11 +3,9 @@ ghost use Rattle.std.specs.Prelude.{◌≤◌, IfErr};
 
 use crate::failure::{Failure, or_tell};
 use crate::file_names::Names;
+use mt_recover::MOST_FILES;
 use std::fs::{self, Files};
 use std::io::{self, Write};
-
-/// The most logs and parts of a folder together.
-const MOST_FILES: usize = 512;
 
 /// The logs and parts of the folder, by the endings of their names alone. An Err is the exit status, where its line is
 /// printed.
@@ -29,6 +27,7 @@ fn list<'a, R: AllocGlobal + Files + Clone + Drop>(
     let mut names = read_names(rt, folder).map_err(|error| Failure::List(folder).or_memory(
         &error,
     ))?;
+    // Logs and parts count together.
     if names.logs.len().saturating_add(names.parts.len()) > MOST_FILES {
         return Err(Failure::TooManyFiles);
     }

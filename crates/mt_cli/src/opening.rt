@@ -1,12 +1,10 @@
 //! The sources of the files.
 use crate::failure::Failure;
+use mt_recover::MOST_BYTES;
 use mt_scan::{ReaderSource, Slot};
 use std::fs::{File, Files, OpenFile};
 use std::io;
 use std::path::Path;
-
-/// The most bytes of a file.
-const MOST_BYTES: u64 = 1_073_741_824;
 
 /// The files of these names in the folder as sources, each with the buffer of a slot.
 pub fn open_all<'a, 'b, R: AllocGlobal + Files>(

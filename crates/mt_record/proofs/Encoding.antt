@@ -11,7 +11,7 @@ use Rattle.mt_words.specs.Limits.{widest, widest_format}
 use Rattle.mt_words.specs.Words.{AreColumns}
 use Rattle.mt_words.specs.declared.record.Change.{Change}
 use Rattle.mt_words.specs.Changes.{Logged, IsLawful}
-use Rattle.mt_record.specs.Spelling.{column_bytes, change_bytes, body_of, body, framed, IsRecordLength}
+use Rattle.mt_record.specs.Spelling.{column_bytes, change_bytes, body_of, framed, IsRecordLength}
 use Rattle.mt_record.specs.Adding.{HasRoom, Adds}
 use Rattle.mt_record.proofs.Lawful.{put_fits, columns_length, lawful_length}
 

@@ -1,5 +1,5 @@
 -- The fields of entries.
-use Rattle.std.proofs.Common.{◌≡◌, ◌≢◌, ◌∙◌, inl, inr, ℕ, ◌^◌, ◌<◌, List, [], ◌++◌, length, refl, sym, ap, subst, append_assoc, arith}
+use Rattle.std.proofs.Common.{◌≡◌, ◌≢◌, ◌∙◌, inl, inr, ℕ, ◌^◌, ◌<◌, List, [], ◌++◌, length, refl, sym, ap, subst, arith}
 use Rattle.std.specs.Prelude.{Result, Ok, Err, IfErr, OnErr}
 use Rattle.byteorder.specs.Endian.{big_bytes}
 use Rattle.mt_words.specs.declared.fault.What.{What}
@@ -16,6 +16,7 @@ use Rattle.mt_record.specs.Parts.{IsEntryLength}
 use Rattle.mt_record.specs.PartFeeding.{HasWrongEntry, ShowsNoEntry}
 use Rattle.mt_record.specs.Bodies.{AreNoFields, IsChangeWith, IsChangeFault, IsFrame, IsFrameFault}
 use Rattle.mt_record.proofs.Unique.{same_split, same_number, same_change}
+use Rattle.mt_record.proofs.Frames.{body_frame}
 use Rattle.mt_record.proofs.Entries.{entry_length, short_entry}
 use Rattle.mt_record.proofs.Lawful.{key_room, kind_fits}
 
@@ -68,28 +69,17 @@ short_fields format entry is = short_entry format (length (change_bytes entry)) 
 pub wrong_entry : (format : Format) (bytes text after : List ℕ) → IsFrame (IsEntryLength (limits_of format)) bytes text after
     → AreNoFields (limits_of format) text → HasWrongEntry (limits_of format) bytes
 wrong_entry format bytes text after frame none = (
-  text,
-  length text,
-  after,
-  frame.fits,
-  short_entry format (length text) frame.fits,
+  body_frame (IsEntryLength (limits_of format)) (short_entry format) bytes text after frame.fits frame.spelled,
   λ entry is e. none entry is (same_text text (change_bytes entry) (length text) (short_entry format (length text) frame.fits) (short_fields format entry is) (short_entry format (length text) frame.fits) e).0,
-  frame.spelled,
 )
 
 -- another number behind the framed bytes makes a wrong entry too
 other_length : (format : Format) (bytes : List ℕ) → HasTrailerFault (IsEntryLength (limits_of format)) bytes → HasWrongEntry (limits_of format) bytes
-other_length format bytes (text, n, more, fits, small, differ, e) = (
-  text,
-  n,
-  more,
-  fits,
-  small,
+other_length format bytes (f, differs) = (
+  f,
   λ entry is same.
-      let parts = same_text text (change_bytes entry) n (short_entry format (length text) fits) (short_fields format entry is) small same in
-      differ (parts.1 ∙ ap length (sym parts.0)),
-  e ∙ ap (λ (x : List ℕ). big_bytes 4 (length text) ++ x) (sym (append_assoc text (big_bytes 4 n) more))
-      ∙ sym (append_assoc (big_bytes 4 (length text)) (text ++ big_bytes 4 n) more),
+      let parts = same_text f.text (change_bytes entry) f.number (short_entry format (length f.text) f.is_length) (short_fields format entry is) f.fits same in
+      differs (parts.1 ∙ ap length (sym parts.0)),
 )
 
 -- what is framed wrongly is no entry

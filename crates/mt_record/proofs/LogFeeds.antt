@@ -3,7 +3,6 @@ use Rattle.std.proofs.Common.{◌≡◌, ℕ, ◌+◌, ◌-◌, ◌^◌, ◌<◌
 use Rattle.std.proofs.lemmas.List.{length-append, append-nil, flat_map_more}
 use Rattle.std.specs.Prelude.{◌==◌, Bool, not, IfSome}
 use Rattle.std.specs.List.{flat_map}
-use Rattle.byteorder.specs.Endian.{big_bytes}
 use Rattle.mt_words.specs.declared.fault.What.{What}
 use Rattle.mt_words.specs.declared.fault.What.TheVariants.{Length, Trailer}
 use Rattle.mt_words.specs.declared.limits.Format.{Format}
@@ -16,7 +15,7 @@ use Rattle.mt_record.specs.declared.read.FeedFault.{FeedFault}
 use Rattle.mt_record.specs.declared.read.FeedFault.TheVariants as faults
 use Rattle.mt_record.specs.declared.log_items.LogItems.{LogItems}
 use Rattle.mt_record.specs.declared.head.Head.{Head}
-use Rattle.mt_record.specs.Spelling.{framed, spelling}
+use Rattle.mt_record.specs.Spelling.{framed, spelling, IsRecordLength}
 use Rattle.mt_record.specs.Fronts.{bytes_of, ShowsNone, IsCutFront}
 use Rattle.mt_record.specs.Heads.{IsHead, head_of, head_bytes, HasNoHeader}
 use Rattle.mt_record.specs.Logs.{AreRecords, latest, IsLog, LogReading, IsLast, IsTextIn}
@@ -27,6 +26,7 @@ use Rattle.mt_record.specs.LogFeeding.{LogSoFar, so_far, IsShown, ShowsNoFault, 
 use Rattle.mt_record.proofs.Records.{records_push, latest_push, last_is, tells_torn}
 use Rattle.mt_record.proofs.OneReading.{not_both}
 use Rattle.mt_record.proofs.Beginnings.{cut_none}
+use Rattle.mt_record.proofs.Frames.{length_fault_on, frame_on}
 use Rattle.mt_record.proofs.Feeds.{behind_on, shows_none_on, front_read}
 
 -- ---- what was read
@@ -157,26 +157,32 @@ fed_shows_none taken s held text (reads, left) = by s.head refl
 
 -- a fault of the rest stays its fault when more bytes follow
 rest_fault_on : (what : What) (limits : Limits) (low : ℕ) (rest more : List ℕ) → RestFault what limits low rest → RestFault what limits low (rest ++ more)
-rest_fault_on Length limits low rest more h = (h.0, h.1 ++ more, h.2, behind_on (big_bytes 4 h.0) rest h.1 more h.3, h.4)
-rest_fault_on Trailer limits low rest more h = (h.0, h.1, h.2 ++ more, h.3, h.4, h.5, ap (λ (x : List ℕ). x ++ more) h.6 ∙ simp append_assoc)
-rest_fault_on what limits low rest more h = (h.0, h.1 ++ more, h.2, behind_on (framed h.0) rest h.1 more h.3, h.4)
+rest_fault_on Length limits low rest more h = length_fault_on (IsRecordLength limits) rest more h
+rest_fault_on Trailer limits low rest more h = (frame_on (IsRecordLength limits) rest more h.0, h.1)
+rest_fault_on what limits low rest more h = record {
+  text = h.text;
+  more = h.more ++ more;
+  is_length = h.is_length;
+  spelled = behind_on (framed h.text) rest h.more more h.spelled;
+  fault = h.fault;
+}
 
 -- the fault of a feed that failed is shown
 pub fed_shows : (taken : List Logged) (s : LogSoFar) (fault : FeedFault) (text : List ℕ) → HasShown (HoldsLog taken) IsLogFaulty s fault text → IsShown text fault
 fed_shows taken s faults.Header text (shown, more, reads, (none, h)) =
     subst (ShowsNone IsHead head_bytes) (unread taken s text (shown ++ more) none reads) (shows_none_on IsHead head_bytes shown more h)
-fed_shows taken s (faults.Record nth what) text (shown, more, reads, (head, some, number, h)) =
-    let is = begun taken s head text (shown ++ more) some reads in (
+fed_shows taken s (faults.Record nth what) text (shown, more, reads, h) =
+    let is = begun taken s h.head text (shown ++ more) h.begun reads in (
       taken ++ s.ready,
       record {
-        head = head;
+        head = h.head;
         rest = shown ++ more;
         spelled = is.0;
         is_head = is.1;
         lawful = is.2;
-        fault = rest_fault_on what (limits_of head.format) (latest 0 (taken ++ s.ready)) shown more (rw reads.read.latest at h);
+        fault = rest_fault_on what (limits_of h.head.format) (latest 0 (taken ++ s.ready)) shown more (rw reads.read.latest at h.fault);
       },
-      number ∙ reads.read.whole,
+      h.number ∙ reads.read.whole,
     )
 fed_shows taken s faults.Memory text h = tt
 

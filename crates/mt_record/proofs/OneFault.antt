@@ -1,6 +1,5 @@
 -- What follows the records has one fault at the most, and none where it is empty, torn or begins with a record.
-use Rattle.std.proofs.Common.{◌≡◌, ◌≢◌, ◌⊎◌, inl, inr, ℕ, ◌+◌, ◌<◌, ◌≤◌, ◌^◌, List, [], ◌++◌, length, Option, Some, None, refl, sym, ap, ◌∙◌, subst, arith}
-use Rattle.std.proofs.lemmas.List.{length-append}
+use Rattle.std.proofs.Common.{◌≡◌, ◌≢◌, ◌⊎◌, inl, inr, ℕ, ◌<◌, ◌≤◌, List, [], ◌++◌, length, Option, Some, None, refl, sym, ◌∙◌, subst, arith}
 use Rattle.std.specs.Prelude.{slice_index, IfSome}
 use Rattle.byteorder.specs.Endian.{big_bytes}
 use Rattle.mt_words.specs.declared.limits.Format.{Format}
@@ -15,9 +14,10 @@ use Rattle.mt_words.specs.Words.{IsKey}
 use Rattle.mt_words.specs.Changes.{Logged, changed, AllowsKind, IsLawful, IsLogged, IsLoggedChange}
 use Rattle.mt_record.specs.Spelling.{code_of, body_of, body, framed, spelling, FitsLogged, Fits, IsRecordLength}
 use Rattle.mt_record.specs.Logs.{IsTorn}
-use Rattle.mt_record.specs.LogFaults.{IsKindByte, HasLengthFault, BodyFault, RestFault}
-use Rattle.mt_record.proofs.Unique.{same_split, same_number, same_body, framed_apart}
+use Rattle.mt_record.specs.LogFaults.{IsKindByte, HasLengthFault, HasFrame, BodyFault, RestFault}
+use Rattle.mt_record.proofs.Unique.{same_split, same_number, same_body}
 use Rattle.mt_words.proofs.Formats.{within}
+use Rattle.mt_record.proofs.Frames.{body_frame, Begins, frame_begins, wrong_begins, none_begins}
 use Rattle.mt_record.proofs.Lawful.{length_fits, lawful_fits, lawful_length}
 
 -- ---- tests, one behind the other
@@ -64,12 +64,12 @@ tested_body Length format low text h = absurd h
 tested_body Trailer format low text h = absurd h
 tested_body Kind format low text h = here refl h
 tested_body Frame format low text h = behind h.0 (here refl (λ read. h.1 read.0 read.1 read.2))
-tested_body Version format low text (byte, (t, change, fits, e, zero)) = behind byte (behind (changed t change, fits, e) (here refl (λ some. omega (arith, some, zero))))
-tested_body Key format low text (byte, (t, change, fits, e, wrong)) = behind byte (behind (changed t change, fits, e) (behind wrong.0 (here refl wrong.1)))
-tested_body Columns format low text (byte, (t, change, fits, e, wrong)) = behind byte (behind (changed t change, fits, e) (behind wrong.0 (behind wrong.1 (here refl wrong.2))))
-tested_body Clock format low text (byte, r, lawful, e, early) =
-    let lawful_change = passes (limits_of format) r.change lawful.1 in
-    behind byte (behind (r, lawful_fits format r lawful, e) (behind lawful_change.0 (behind lawful_change.1 (behind lawful_change.2 (refl, early)))))
+tested_body Version format low text (byte, h) = behind byte (behind (changed h.timestamp h.change, h.fits, h.spelled) (here refl (λ some. omega (arith, some, h.holds))))
+tested_body Key format low text (byte, h) = behind byte (behind (changed h.timestamp h.change, h.fits, h.spelled) (behind h.holds.0 (here refl h.holds.1)))
+tested_body Columns format low text (byte, h) = behind byte (behind (changed h.timestamp h.change, h.fits, h.spelled) (behind h.holds.0 (behind h.holds.1 (here refl h.holds.2))))
+tested_body Clock format low text (byte, h) =
+    let lawful_change = passes (limits_of format) h.logged.change h.lawful.1 in
+    behind byte (behind (h.logged, lawful_fits format h.logged h.lawful, h.spelled) (behind lawful_change.0 (behind lawful_change.1 (behind lawful_change.2 (refl, h.earlier)))))
 
 -- a body has one fault
 one_body : (limits : Limits) (low : ℕ) (text : List ℕ) (a b : What) → TestedBody a limits low text → TestedBody b limits low text → a ≡ b
@@ -104,8 +104,7 @@ no_body format low r a is le h =
 
 -- a lawful length, so many bytes and a number
 abbrev Frames : Limits → List ℕ → Type 0
-Frames limits rest = (text : List ℕ) × (n : ℕ) × (more : List ℕ) × IsRecordLength limits (length text) × (n < 2 ^ 32)
-    × (rest ≡ big_bytes 4 (length text) ++ (text ++ (big_bytes 4 n ++ more)))
+Frames limits rest = HasFrame (IsRecordLength limits) rest
 
 -- what is wrong with framed bytes: the number behind them, or the body that they are
 abbrev TestedFrame : What → Limits → ℕ → List ℕ → ℕ → Type 0
@@ -113,11 +112,11 @@ TestedFrame what limits low text n = Fails what Trailer (n ≡ length text) (λ 
 
 -- and with a rest: its length, or what that frames
 abbrev TestedRest : What → Limits → ℕ → List ℕ → Type 0
-TestedRest what limits low rest = ((what ≡ Length) × HasLengthFault (IsRecordLength limits) rest) ⊎ ((f : Frames limits rest) × TestedFrame what limits low f.0 f.1)
+TestedRest what limits low rest = ((what ≡ Length) × HasLengthFault (IsRecordLength limits) rest) ⊎ ((f : Frames limits rest) × TestedFrame what limits low f.text f.number)
 
 -- a body between two copies of its length is a frame
 abbrev body_frames : (format : Format) (rest text more : List ℕ) → IsRecordLength (limits_of format) (length text) → rest ≡ framed text ++ more → Frames (limits_of format) rest
-body_frames format rest text more is e = (text, length text, more, is, length_fits format (length text) is, e ∙ framed_apart text more)
+body_frames format rest text more is e = body_frame (IsRecordLength (limits_of format)) (length_fits format) rest text more is e
 
 -- a fault of a rest is one of the tests
 tested_rest : (what : What) (format : Format) (low : ℕ) (rest : List ℕ) → RestFault what (limits_of format) low rest → TestedRest what (limits_of format) low rest
@@ -129,25 +128,27 @@ tested_rest what format low rest = by what
 
     by : (w : What) → RestFault w (limits_of format) low rest → TestedRest w (limits_of format) low rest
     by Length h = inl (refl, h)
-    by Trailer (text, n, more, is, small, other, e) = inr ((text, n, more, is, small, e), here refl other)
-    by w h = in_body w h.0 h.1 h.2 h.3 h.4
+    by Trailer h = inr (h.0, here refl h.1)
+    by w h = in_body w h.text h.more h.is_length h.spelled h.fault
 
 -- a frame has no fault of its length
 no_length : (format : Format) (rest : List ℕ) → HasLengthFault (IsRecordLength (limits_of format)) rest → Frames (limits_of format) rest → ⊥
 no_length format rest h f =
-    let fits = length_fits format (length f.0) f.3 in
-    let same = same_number 4 h.0 (length f.0) h.1 (f.0 ++ (big_bytes 4 f.1 ++ f.2)) h.2 fits (sym h.3 ∙ f.5) in
-    h.4 (subst (IsRecordLength (limits_of format)) (sym same.0) f.3)
+    let fits = length_fits format (length f.text) f.is_length in
+    let same = same_number 4 h.number (length f.text) h.more (f.text ++ (big_bytes 4 f.number ++ f.more)) h.fits fits (sym h.spelled ∙ f.spelled) in
+    h.wrong (subst (IsRecordLength (limits_of format)) (sym same.0) f.is_length)
 
 -- one frame begins a rest
-same_frame : (format : Format) (rest : List ℕ) (what : What) (low : ℕ) (f g : Frames (limits_of format) rest) → TestedFrame what (limits_of format) low f.0 f.1
-    → TestedFrame what (limits_of format) low g.0 g.1
+same_frame : (format : Format) (rest : List ℕ) (what : What) (low : ℕ) (f g : Frames (limits_of format) rest) → TestedFrame what (limits_of format) low f.text f.number
+    → TestedFrame what (limits_of format) low g.text g.number
 same_frame format rest what low f g h =
-    let behind_f = big_bytes 4 f.1 ++ f.2 in
-    let behind_g = big_bytes 4 g.1 ++ g.2 in
-    let sizes = same_number 4 (length f.0) (length g.0) (f.0 ++ behind_f) (g.0 ++ behind_g) (length_fits format (length f.0) f.3) (length_fits format (length g.0) g.3) (sym f.5 ∙ g.5) in
-    let texts = same_split f.0 g.0 behind_f behind_g sizes.0 sizes.1 in
-    let numbers = same_number 4 f.1 g.1 f.2 g.2 f.4 g.4 texts.1 in
+    let behind_f = big_bytes 4 f.number ++ f.more in
+    let behind_g = big_bytes 4 g.number ++ g.more in
+    let fits_f = length_fits format (length f.text) f.is_length in
+    let fits_g = length_fits format (length g.text) g.is_length in
+    let sizes = same_number 4 (length f.text) (length g.text) (f.text ++ behind_f) (g.text ++ behind_g) fits_f fits_g (sym f.spelled ∙ g.spelled) in
+    let texts = same_split f.text g.text behind_f behind_g sizes.0 sizes.1 in
+    let numbers = same_number 4 f.number g.number f.more g.more f.fits g.fits texts.1 in
     subst (λ (p : List ℕ × ℕ). TestedFrame what (limits_of format) low p.0 p.1) (λ i. (texts.0 i, numbers.0 i)) h
 
 -- a rest has one fault
@@ -159,7 +160,7 @@ one_rest format low rest a b h k = both (tested_rest a format low rest h) (teste
     both (inl x) (inl y) = x.0 ∙ sym y.0
     both (inl x) (inr y) = absurd (no_length format rest x.1 y.0)
     both (inr x) (inl y) = absurd (no_length format rest y.1 x.0)
-    both (inr x) (inr y) = one_name (same_frame format rest a low x.0 y.0 x.1) y.1 (λ _ _ f g. one_body (limits_of format) low y.0.0 a b f g)
+    both (inr x) (inr y) = one_name (same_frame format rest a low x.0 y.0 x.1) y.1 (λ _ _ f g. one_body (limits_of format) low y.0.text a b f g)
 
 -- ---- what ends the records
 
@@ -176,35 +177,19 @@ fault_stops format low rest a h r after is le e =
       | inr x ↦ none_fails refl (λ _ f. no_body format low r a is le f) (same_frame format rest a low x.0 own x.1)
     ]
 
--- a length, and enough bytes for it
-abbrev Begins : Limits → List ℕ → Type 0
-Begins limits rest = (n : ℕ) × (more : List ℕ) × (n < 2 ^ 32) × (rest ≡ big_bytes 4 n ++ more) × (IsRecordLength limits n → n + 4 ≤ length more)
-
--- where there is a frame, there are enough bytes
-frames_begin : (format : Format) (rest : List ℕ) → Frames (limits_of format) rest → Begins (limits_of format) rest
-frames_begin format rest f =
-    let all = length-append f.0 (big_bytes 4 f.1 ++ f.2) in
-    (length f.0, f.0 ++ (big_bytes 4 f.1 ++ f.2), length_fits format (length f.0) f.3, f.5, λ is. omega (arith, all))
-
--- a tail that is empty or torn has too few
-no_end : (format : Format) (rest : List ℕ) → (rest ≡ []) ⊎ IsTorn (limits_of format) rest → Begins (limits_of format) rest → ⊥
-no_end format rest (inl e) b = let n : length rest ≡ 0 = ap length e in let m = ap length b.3 in omega (arith, n, m)
-no_end format rest (inr (inl short)) b = let m = ap length b.3 in omega (arith, m, short.1)
-no_end format rest (inr (inr torn)) b =
-    let same = same_number 4 torn.0 b.0 torn.1 b.1 (length_fits format torn.0 torn.2) b.2 (sym torn.3 ∙ b.3) in
-    let enough = b.4 (subst (IsRecordLength (limits_of format)) same.0 torn.2) in
-    let lengths : length torn.1 ≡ length b.1 = ap length same.1 in
-    omega (arith, enough, torn.4, same.0, lengths)
+-- a tail that is empty or torn has too few bytes for what stands at its front
+no_end : (format : Format) (rest : List ℕ) → (rest ≡ []) ⊎ IsTorn (limits_of format) rest → Begins (IsRecordLength (limits_of format)) (length_fits format) rest → ⊥
+no_end format rest = none_begins (IsRecordLength (limits_of format)) (length_fits format) rest
 
 -- so that it begins with no record
 pub end_stops : (format : Format) (low : ℕ) (rest : List ℕ) → (rest ≡ []) ⊎ IsTorn (limits_of format) rest → Stops (limits_of format) low rest
 end_stops format low rest ends r after is le e =
-    no_end format rest ends (frames_begin format rest (body_frames format rest (body r) after (lawful_length (limits_of format) r is) e))
+    no_end format rest ends (frame_begins (IsRecordLength (limits_of format)) (length_fits format) rest (body_frames format rest (body r) after (lawful_length (limits_of format) r is) e))
 
 -- and has no fault
 pub fault_no_end : (format : Format) (low : ℕ) (rest : List ℕ) (a : What) → RestFault a (limits_of format) low rest
     → (rest ≡ []) ⊎ IsTorn (limits_of format) rest → ⊥
 fault_no_end format low rest a h ends = elim (tested_rest a format low rest h) as (λ _. ⊥) [
-  | inl x ↦ no_end format rest ends (x.1.0, x.1.1, x.1.2, x.1.3, λ is. absurd (x.1.4 is))
-  | inr x ↦ no_end format rest ends (frames_begin format rest x.0)
+  | inl x ↦ no_end format rest ends (wrong_begins (IsRecordLength (limits_of format)) (length_fits format) rest x.1)
+  | inr x ↦ no_end format rest ends (frame_begins (IsRecordLength (limits_of format)) (length_fits format) rest x.0)
 ]

@@ -1,6 +1,6 @@
 -- Bytes are a part or have one fault, and what shows a fault.
-use Rattle.std.proofs.Common.{◌≡◌, ◌≢◌, ◌⊎◌, inl, inr, ◌∙◌, ℕ, ◌+◌, ◌<◌, ◌≤◌, ◌^◌, Option, Some, None, List, [], ◌∷◌, ◌++◌, length, refl, sym, ap, subst, append_assoc, arith}
-use Rattle.std.proofs.lemmas.List.{length-append, append-nil}
+use Rattle.std.proofs.Common.{◌≡◌, ◌⊎◌, inl, inr, ◌∙◌, ℕ, ◌<◌, ◌≤◌, ◌^◌, Option, Some, None, List, [], ◌∷◌, ◌++◌, length, refl, sym, ap, subst, append_assoc, arith}
+use Rattle.std.proofs.lemmas.List.{append-nil}
 use Rattle.std.specs.List.{flat_map, AllByRecursion}
 use Rattle.byteorder.specs.Endian.{big_bytes}
 use Rattle.mt_words.specs.declared.limits.Format.{Format}
@@ -13,137 +13,123 @@ use Rattle.mt_record.specs.declared.part_text.PartFault.{PartFault}
 use Rattle.mt_record.specs.declared.part_text.PartFault.TheVariants as faults
 use Rattle.mt_record.specs.Spelling.{change_bytes}
 use Rattle.mt_record.specs.Parts.{part_head_bytes, IsPartHead, entry_spelling, footer_bytes, IsEntryLength, IsPart, PartReading, IsPartReading}
+use Rattle.mt_record.specs.LogFaults.{HasFrame}
 use Rattle.mt_record.specs.PartFaults.{HasNoPartHeader, HasNoEntry, BeginsPart, IsBroken, IsPartFault, IsPartAnswered}
 use Rattle.mt_record.specs.Fronts.{ShowsNone, IsCutFront}
 use Rattle.mt_record.specs.Feeding.{HasRead, HoldsAll, HasShown}
-use Rattle.mt_record.specs.PartFeeding.{ShowsNoPart, IsPartShown, ShowsNoPartFault, IsCutItem, PartSoFar, ended, HoldsPart, IsPartLeft, IsPartFaulty}
+use Rattle.mt_record.specs.PartFeeding.{HasWrongLength, HasWrongEntry, ShowsNoPart, IsPartShown, ShowsNoPartFault, IsCutItem, PartSoFar, ended, HoldsPart, IsPartLeft, IsPartFaulty}
 use Rattle.mt_record.proofs.Unique.{same_split, same_number, framed_apart}
 use Rattle.mt_record.proofs.Entries.{entry_length, short_entry}
 use Rattle.mt_record.proofs.OnePart.{length_no_entry, footer_no_entry, same_beginning, part_begins}
 use Rattle.mt_record.proofs.Beginnings.{cut_none}
+use Rattle.mt_record.proofs.Frames.{body_frame, Begins, frame_begins, wrong_begins, none_begins, length_fault_on, frame_on}
 use Rattle.mt_record.proofs.Feeds.{behind_on, shows_none_on}
 
 -- ---- what stands at the front of a rest
-
--- a length, and enough bytes behind it if it begins an entry, or a footer, which it does where it is zero
-record Whole (limits : Limits) (rest : List ℕ) : Type 0 where
-  first : ℕ
-  tail : List ℕ
-  fits : first < 2 ^ 32
-  spelled : rest ≡ big_bytes 4 first ++ tail
-  entry : IsEntryLength limits first → first + 4 ≤ length tail
-  footer : first ≡ 0 → 12 ≤ length tail
 
 -- Of parts of one format.
 module _ (format : Format) where
   abbrev limits : Limits
   limits = limits_of format
 
-  -- an entry at the front is whole
-  entry_whole : (rest more : List ℕ) (entry : Change) → IsEntry limits entry → rest ≡ entry_spelling entry ++ more → Whole limits rest
-  entry_whole rest more entry is e =
-      let fields = change_bytes entry in
-      let long = entry_length limits entry is in
-      record {
-        first = length fields;
-        tail = fields ++ (big_bytes 4 (length fields) ++ more);
-        fits = short_entry format (length fields) long;
-        spelled = e ∙ framed_apart fields more;
-        entry = λ is. omega (arith, length-append fields (big_bytes 4 (length fields) ++ more));
-        footer = λ zero. omega (arith, zero, long.0);
-      }
+  -- enough bytes for the length at the front, and for a footer, which it begins where it is zero
+  record Whole (rest : List ℕ) : Type 0 where
+    begins : Begins (IsEntryLength limits) (short_entry format) rest
+    footer : begins.number ≡ 0 → 12 ≤ length begins.more
 
-  -- and so is a footer
-  footer_whole : (rest more : List ℕ) (end count : ℕ) → rest ≡ footer_bytes end count ++ more → Whole limits rest
+  -- framed bytes are whole, lawful or not
+  frame_whole : (rest : List ℕ) → HasFrame (IsEntryLength limits) rest → Whole rest
+  frame_whole rest f = record { begins = frame_begins (IsEntryLength limits) (short_entry format) rest f; footer = λ zero. omega (arith, zero, f.is_length.0) }
+
+  -- and so is a length that no entry has, nor a footer
+  wrong_whole : (rest : List ℕ) → HasWrongLength limits rest → Whole rest
+  wrong_whole rest (h, some) = record { begins = wrong_begins (IsEntryLength limits) (short_entry format) rest h; footer = λ zero. omega (arith, zero, some) }
+
+  -- an entry at the front is framed
+  entry_frame : (rest more : List ℕ) (entry : Change) → IsEntry limits entry → rest ≡ entry_spelling entry ++ more → HasFrame (IsEntryLength limits) rest
+  entry_frame rest more entry is e = body_frame (IsEntryLength limits) (short_entry format) rest (change_bytes entry) more (entry_length limits entry is) e
+
+  -- and a footer is whole
+  footer_whole : (rest more : List ℕ) (end count : ℕ) → rest ≡ footer_bytes end count ++ more → Whole rest
   footer_whole rest more end count e = record {
-    first = 0;
-    tail = big_bytes 8 end ++ (big_bytes 4 count ++ more);
-    fits = omega arith;
-    spelled = e;
-    entry = λ is. omega (arith, is.0);
+    begins = record {
+      number = 0;
+      more = big_bytes 8 end ++ (big_bytes 4 count ++ more);
+      fits = omega arith;
+      spelled = e;
+      enough = λ is. omega (arith, is.0);
+    };
     footer = λ zero. omega arith;
   }
 
   -- a rest in which nothing more can be read has nothing whole at its front
-  cut_item : (rest : List ℕ) → IsCutItem limits rest → Whole limits rest → ⊥
-  cut_item rest (inl (inl few)) whole = let all = ap length whole.spelled in omega (arith, few, all)
-  cut_item rest (inl (inr (n, more, long, e, short))) whole =
-      let same = same_number 4 n whole.first more whole.tail (short_entry format n long) whole.fits (sym e ∙ whole.spelled) in
-      let enough = whole.entry (subst (IsEntryLength limits) same.0 long) in
-      omega (arith, enough, same.0, ap length same.1, short)
-  cut_item rest (inr (more, short, e)) whole =
-      let same = same_number 4 0 whole.first more whole.tail (omega arith) whole.fits (sym e ∙ whole.spelled) in
+  none_left : (rest : List ℕ) → (rest ≡ []) ⊎ IsCutItem limits rest → Whole rest → ⊥
+  none_left rest (inl none) whole = none_begins (IsEntryLength limits) (short_entry format) rest (inl none) whole.begins
+  none_left rest (inr (inl cut)) whole = none_begins (IsEntryLength limits) (short_entry format) rest (inr cut) whole.begins
+  none_left rest (inr (inr (more, short, e))) whole =
+      let same = same_number 4 0 whole.begins.number more whole.begins.more (omega arith) whole.begins.fits (sym e ∙ whole.begins.spelled) in
       let enough = whole.footer (sym same.0) in
       omega (arith, enough, ap length same.1, short)
 
-  none_left : (rest : List ℕ) → (rest ≡ []) ⊎ IsCutItem limits rest → Whole limits rest → ⊥
-  none_left rest (inl none) whole = let all = ap length (sym none ∙ whole.spelled) in omega (arith, all)
-  none_left rest (inr cut) whole = cut_item rest cut whole
-
   -- so that it begins with no entry
   left_no_entry : (rest : List ℕ) → (rest ≡ []) ⊎ IsCutItem limits rest → HasNoEntry limits rest
-  left_no_entry rest left entry more is e = none_left rest left (entry_whole rest more entry is e)
+  left_no_entry rest left entry more is e = none_left rest left (frame_whole rest (entry_frame rest more entry is e))
 
   -- ---- what shows that there is no part
 
   -- what is framed wrongly is no entry
-  wrong_no_entry : (rest text more : List ℕ) (n : ℕ) → IsEntryLength limits (length text) → n < 2 ^ 32
-      → ((entry : Change) → IsEntry limits entry → big_bytes 4 (length text) ++ (text ++ big_bytes 4 n) ≢ entry_spelling entry)
-      → rest ≡ (big_bytes 4 (length text) ++ (text ++ big_bytes 4 n)) ++ more → HasNoEntry limits rest
-  wrong_no_entry rest text more n fits small refused e entry behind is other =
+  wrong_no_entry : (rest : List ℕ) → HasWrongEntry limits rest → HasNoEntry limits rest
+  wrong_no_entry rest (f, no_entry) entry behind is other =
       let fields = change_bytes entry in
-      let long = entry_length limits entry is in
-      let frame = big_bytes 4 (length text) ++ (text ++ big_bytes 4 n) in
-      let number = same_number 4 (length text) (length fields) ((text ++ big_bytes 4 n) ++ more) (fields ++ (big_bytes 4 (length fields) ++ behind))
-      (short_entry format (length text) fits) (short_entry format (length fields) long) (sym e ∙ other ∙ framed_apart fields behind) in
-      let sizes : length frame ≡ length (entry_spelling entry) =
-      omega (arith, number.0, length-append text (big_bytes 4 n), length-append fields (big_bytes 4 (length fields))) in
-      refused entry is (same_split frame (entry_spelling entry) more behind sizes (sym e ∙ other)).0
+      let short = short_entry format (length fields) (entry_length limits entry is) in
+      let apart = sym f.spelled ∙ other ∙ framed_apart fields behind in
+      let sizes = same_number 4 (length f.text) (length fields) (f.text ++ (big_bytes 4 f.number ++ f.more)) (fields ++ (big_bytes 4 (length fields) ++ behind))
+      (short_entry format (length f.text) f.is_length) short apart in
+      let texts = same_split f.text fields (big_bytes 4 f.number ++ f.more) (big_bytes 4 (length fields) ++ behind) sizes.0 sizes.1 in
+      let numbers = same_number 4 f.number (length fields) f.more behind f.fits short texts.1 in
+      no_entry entry is (λ i. big_bytes 4 (sizes.0 i) ++ (texts.0 i ++ big_bytes 4 (numbers.0 i)))
 
   pub shown_no_entry : (count : ℕ) (rest : List ℕ) → ShowsNoPart limits count rest → HasNoEntry limits rest
-  shown_no_entry count rest (inl h) = length_no_entry format rest h.0 h.1 h.2 h.4 h.5
-  shown_no_entry count rest (inr (inl h)) = wrong_no_entry rest h.0 h.2 h.1 h.3 h.4 h.5 h.6
-  shown_no_entry count rest (inr (inr (inl h))) = footer_no_entry format rest h.2 h.0 h.1 h.5
+  shown_no_entry count rest (inl (h, some)) = length_no_entry format rest h.number h.more h.fits h.wrong h.spelled
+  shown_no_entry count rest (inr (inl h)) = wrong_no_entry rest h
+  shown_no_entry count rest (inr (inr (inl h))) = footer_no_entry format rest h.more h.end h.number h.spelled
   shown_no_entry count rest (inr (inr (inr h))) = footer_no_entry format rest (h.1 ∷ h.2) h.0 count h.3
-
-  -- framed bytes are whole, lawful or not
-  frame_whole : (rest text more : List ℕ) (n : ℕ) → IsEntryLength limits (length text) → rest ≡ (big_bytes 4 (length text) ++ (text ++ big_bytes 4 n)) ++ more → Whole limits rest
-  frame_whole rest text more n fits e = record {
-    first = length text;
-    tail = (text ++ big_bytes 4 n) ++ more;
-    fits = short_entry format (length text) fits;
-    spelled = e;
-    entry = λ is. omega (arith, length-append (text ++ big_bytes 4 n) more, length-append text (big_bytes 4 n));
-    footer = λ zero. omega (arith, zero, fits.0);
-  }
 
   -- a rest in which nothing more can be read shows nothing
   left_shows_none : (count : ℕ) (rest : List ℕ) → (rest ≡ []) ⊎ IsCutItem limits rest → ShowsNoPart limits count rest → ⊥
-  left_shows_none count rest left (inl (n, more, fits, some, wrong, e)) =
-      none_left rest left (record { first = n; tail = more; fits = fits; spelled = e; entry = λ is. absurd (wrong is); footer = λ zero. omega (arith, zero, some) })
-  left_shows_none count rest left (inr (inl h)) = none_left rest left (frame_whole rest h.0 h.2 h.1 h.3 h.6)
-  left_shows_none count rest left (inr (inr (inl h))) = none_left rest left (footer_whole rest h.2 h.0 h.1 h.5)
+  left_shows_none count rest left (inl h) = none_left rest left (wrong_whole rest h)
+  left_shows_none count rest left (inr (inl h)) = none_left rest left (frame_whole rest h.0)
+  left_shows_none count rest left (inr (inr (inl h))) = none_left rest left (footer_whole rest h.more h.end h.number h.spelled)
   left_shows_none count rest left (inr (inr (inr h))) = none_left rest left (footer_whole rest (h.1 ∷ h.2) h.0 count h.3)
 
   -- a footer with the number of the entries shows nothing
   footer_shows_none : (count end : ℕ) (rest : List ℕ) → end < 2 ^ 64 → count < 2 ^ 32 → rest ≡ footer_bytes end count → ShowsNoPart limits count rest → ⊥
-  footer_shows_none count end rest fits_end fits e (inl (n, more, small, some, wrong, f)) =
-      let same = same_number 4 n 0 more (big_bytes 8 end ++ big_bytes 4 count) small (omega arith) (sym f ∙ e) in
+  footer_shows_none count end rest fits_end fits e (inl (h, some)) =
+      let same = same_number 4 h.number 0 h.more (big_bytes 8 end ++ big_bytes 4 count) h.fits (omega arith) (sym h.spelled ∙ e) in
       omega (arith, same.0, some)
-  footer_shows_none count end rest fits_end fits e (inr (inl h)) =
-      let same = same_number 4 (length h.0) 0 ((h.0 ++ big_bytes 4 h.1) ++ h.2) (big_bytes 8 end ++ big_bytes 4 count) (short_entry format (length h.0) h.3) (omega arith) (sym h.6 ∙ e) in
-      omega (arith, same.0, h.3.0)
-  footer_shows_none count end rest fits_end fits e (inr (inr (inl (other, n, more, small, differ, f)))) =
-      let tails = (same_split (big_bytes 4 0) (big_bytes 4 0) (big_bytes 8 other ++ (big_bytes 4 n ++ more)) (big_bytes 8 end ++ big_bytes 4 count) refl (sym f ∙ e)).1 in
-      let counts = (same_split (big_bytes 8 other) (big_bytes 8 end) (big_bytes 4 n ++ more) (big_bytes 4 count) refl tails).1 in
-      differ (same_number 4 n count more [] small fits counts).0
+  footer_shows_none count end rest fits_end fits e (inr (inl (f, no_entry))) =
+      let tail = f.text ++ (big_bytes 4 f.number ++ f.more) in
+      let same = same_number 4 (length f.text) 0 tail (big_bytes 8 end ++ big_bytes 4 count) (short_entry format (length f.text) f.is_length) (omega arith) (sym f.spelled ∙ e) in
+      omega (arith, same.0, f.is_length.0)
+  footer_shows_none count end rest fits_end fits e (inr (inr (inl h))) =
+      let behind = big_bytes 4 h.number ++ h.more in
+      let tails = (same_split (big_bytes 4 0) (big_bytes 4 0) (big_bytes 8 h.end ++ behind) (big_bytes 8 end ++ big_bytes 4 count) refl (sym h.spelled ∙ e)).1 in
+      let counts = (same_split (big_bytes 8 h.end) (big_bytes 8 end) behind (big_bytes 4 count) refl tails).1 in
+      h.differs (same_number 4 h.number count h.more [] h.fits fits counts).0
   footer_shows_none count end rest fits_end fits e (inr (inr (inr (other, byte, more, f)))) = let all = ap length (sym f ∙ e) in omega (arith, all)
 
 -- what shows that there is no part shows it when more bytes follow
 no_part_on : (limits : Limits) (count : ℕ) (rest more : List ℕ) → ShowsNoPart limits count rest → ShowsNoPart limits count (rest ++ more)
-no_part_on limits count rest more (inl h) = inl (h.0, h.1 ++ more, h.2, h.3, h.4, behind_on (big_bytes 4 h.0) rest h.1 more h.5)
-no_part_on limits count rest more (inr (inl h)) = inr (inl (h.0, h.1, h.2 ++ more, h.3, h.4, h.5, behind_on (big_bytes 4 (length h.0) ++ (h.0 ++ big_bytes 4 h.1)) rest h.2 more h.6))
-no_part_on limits count rest more (inr (inr (inl h))) = inr (inr (inl (h.0, h.1, h.2 ++ more, h.3, h.4, behind_on (footer_bytes h.0 h.1) rest h.2 more h.5)))
+no_part_on limits count rest more (inl (h, some)) = inl (length_fault_on (IsEntryLength limits) rest more h, some)
+no_part_on limits count rest more (inr (inl (f, no_entry))) = inr (inl (frame_on (IsEntryLength limits) rest more f, no_entry))
+no_part_on limits count rest more (inr (inr (inl h))) = inr (inr (inl (record {
+  end = h.end;
+  number = h.number;
+  more = h.more ++ more;
+  fits = h.fits;
+  differs = h.differs;
+  spelled = behind_on (footer_bytes h.end h.number) rest h.more more h.spelled;
+})))
 no_part_on limits count rest more (inr (inr (inr h))) = inr (inr (inr (h.0, h.1, h.2 ++ more, behind_on (footer_bytes h.0 count) rest (h.1 ∷ h.2) more h.3)))
 
 -- what begins bytes, up to a rest that begins with no entry, is all of a part but its footer
@@ -256,9 +242,9 @@ fed_shows_none s held text (reads, left) = by s.head s.end refl refl
 pub fed_shows : (s : PartSoFar) (fault : PartFault) (text : List ℕ) → HasShown HoldsPart IsPartFaulty s fault text → IsPartShown text fault
 fed_shows s faults.Header text (shown, more, reads, (none, h)) =
     subst (ShowsNone IsPartHead part_head_bytes) (unread s text (shown ++ more) none reads) (shows_none_on IsPartHead part_head_bytes shown more h)
-fed_shows s (faults.Broken number count) text (shown, more, reads, (head, some, named, counted, h)) = (
-  record { head = head; entries = s.entries; rest = ended s ++ (shown ++ more); begins = begun s head text (shown ++ more) some reads; named = named; counted = counted },
-  rw (← append_assoc (ended s) shown more) (no_part_on (limits_of head.format) count (ended s ++ shown) more h),
+fed_shows s (faults.Broken number count) text (shown, more, reads, h) = (
+  record { head = h.head; entries = s.entries; rest = ended s ++ (shown ++ more); begins = begun s h.head text (shown ++ more) h.begun reads; named = h.named; counted = h.counted },
+  rw (← append_assoc (ended s) shown more) (no_part_on (limits_of h.head.format) count (ended s ++ shown) more h.breaks),
 )
 fed_shows s faults.Memory text h = tt
 

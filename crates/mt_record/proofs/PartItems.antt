@@ -3,7 +3,6 @@ use Rattle.std.proofs.Common.{◌≡◌, ◌≢◌, inl, inr, ℕ, zero, suc, �
 use Rattle.std.proofs.lemmas.List.{append-nil, flat_map_more}
 use Rattle.std.specs.List.{flat_map, AllByRecursion}
 use Rattle.byteorder.specs.Endian.{big_bytes}
-use Rattle.mt_words.specs.declared.limits.Format.TheVariants.{One}
 use Rattle.mt_words.specs.declared.record.Change.{Change}
 use Rattle.mt_words.specs.declared.limits.Limits.{Limits}
 use Rattle.mt_words.specs.Limits.{limits_of, widest}
@@ -14,6 +13,7 @@ use Rattle.mt_record.specs.declared.part_text.PartFault.{PartFault}
 use Rattle.mt_record.specs.declared.part_text.PartFault.TheVariants as faults
 use Rattle.mt_record.specs.declared.part_items.PartItems.{PartItems}
 use Rattle.mt_record.specs.Spelling.{framed}
+use Rattle.mt_record.specs.Heads.{written}
 use Rattle.mt_record.specs.Bodies.{AreFieldsOf, IsNextEntry}
 use Rattle.mt_record.specs.Parts.{part_head, part_head_bytes, IsPartHead, entry_spelling, footer_bytes}
 use Rattle.mt_record.specs.PartFeeding.{PartSoFar, so_far, ended, ShowsNoEntry, ShowsNoPart, HoldsPart, IsPartLeft, StepsPart}
@@ -65,7 +65,7 @@ footer_read listed old head end count bytes after some open_yet fits_end fits sa
 pub broken : {E : Type 0} (listed : E → List Change) (old : PartItems E) (head : PartHead) (fault : PartFault) (bytes : List ℕ) → old.head ≡ Some head
     → fault ≡ faults.Broken head.number (length (listed old.entries)) → ShowsNoPart (limits_of head.format) (length (listed old.entries)) (ended (so_far listed old) ++ bytes)
     → StepsPart listed old old bytes (Err fault)
-broken listed old head fault bytes some is breaks = rw is ((λ taken front holds. holds), (head, some, refl, refl, breaks))
+broken listed old head fault bytes some is breaks = rw is ((λ taken front holds. holds), record { head = head; begun = some; named = refl; counted = refl; breaks = breaks })
 
 -- a length that no entry has is a wrong one, if it is not that of a footer
 other_than_zero : (bytes : List ℕ) (n : ℕ) (more : List ℕ) → bytes ≡ big_bytes 4 n ++ more → ((rest : List ℕ) → bytes ≢ big_bytes 4 0 ++ rest) → 0 < n
@@ -74,7 +74,7 @@ other_than_zero bytes (suc n) more e some = omega arith
 
 -- bytes that no entry begins, nor a footer, break the part
 pub entry_shown : (limits : Limits) (count : ℕ) (bytes : List ℕ) → ShowsNoEntry limits bytes → ((rest : List ℕ) → bytes ≢ big_bytes 4 0 ++ rest) → ShowsNoPart limits count bytes
-entry_shown limits count bytes (inl h) some = inl (h.0, h.1, h.2, other_than_zero bytes h.0 h.1 h.3 some, h.4, h.3)
+entry_shown limits count bytes (inl h) some = inl (h, other_than_zero bytes h.number h.more h.spelled some)
 entry_shown limits count bytes (inr h) some = inr (inl h)
 
 -- and so does a byte behind the footer
@@ -89,5 +89,5 @@ pub nothing_read : {E : Type 0} (listed : E → List Change) (entries : E) → l
     → HoldsAll (λ items. HoldsPart (so_far listed items)) (λ items. IsPartLeft (so_far listed items)) (record { head = None; entries = entries; end = None }) [] []
 nothing_read listed entries none = (
   record { front = []; joins = refl; read = rw none (record { spelled = refl; lawful = (refl, refl); fits = tt }) },
-  (part_head One 0 0 0 0, part_head_bytes (part_head One 0 0 0 0), record { number = omega arith; begin = omega arith; part = omega arith; parts = omega arith }, omega arith, refl),
+  (part_head written 0 0 0 0, part_head_bytes (part_head written 0 0 0 0), record { number = omega arith; begin = omega arith; part = omega arith; parts = omega arith }, omega arith, refl),
 )

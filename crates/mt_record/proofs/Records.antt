@@ -71,7 +71,7 @@ last_is limits log are =
 -- a torn tail is not empty
 torn_some : (limits : Limits) (rest : List ℕ) → IsTorn limits rest → 0 < length rest
 torn_some limits rest (inl few) = few.0
-torn_some limits rest (inr cut) = let all = ap length cut.3 in omega (arith, all)
+torn_some limits rest (inr cut) = let all = ap length cut.spelled in omega (arith, all)
 
 -- where a tail is empty or torn, it is torn where it is not empty
 pub tells_torn : (limits : Limits) (rest : List ℕ) (empty : Bool) → empty ≡ (length rest == 0) → (rest ≡ []) ⊎ IsTorn limits rest

@@ -33,8 +33,19 @@ abbrev pub HasColumnsFault : Limits → Change → Type 0
 HasColumnsFault limits change = (0 < change.version) × IsKey limits change.key × (AllowsKind limits change.kind → ⊥)
 
 -- the fields of the body are those of a change of which this holds
-abbrev pub IsBodyOfChange : List ℕ → (Change → Type 0) → Type 0
-IsBodyOfChange bytes P = (timestamp : ℕ) × (change : Change) × Fits (changed timestamp change) × (bytes ≡ body (changed timestamp change)) × P change
+pub record IsBodyOfChange (bytes : List ℕ) (P : Change → Type 0) : Type 0 where
+  pub timestamp : ℕ
+  pub change : Change
+  pub fits : Fits (changed timestamp change)
+  pub spelled : bytes ≡ body (changed timestamp change)
+  pub holds : P change
+
+-- the body is that of a lawful record whose timestamp falls below the one before
+pub record IsBodyOfEarlier (limits : Limits) (low : ℕ) (bytes : List ℕ) : Type 0 where
+  pub logged : Logged
+  pub lawful : IsLawful limits logged
+  pub spelled : bytes ≡ body logged
+  pub earlier : logged.timestamp < low
 
 -- The first fault of a body behind a record of timestamp low. All but Kind: its byte is that of a kind that the format has. Frame: its bytes are the fields of no record of its kind.
 abbrev pub BodyFault : What → Limits → ℕ → List ℕ → Type 0
@@ -45,22 +56,42 @@ BodyFault Frame limits low bytes = IsKindByte limits (slice_index bytes 0) × ((
 BodyFault Version limits low bytes = IsKindByte limits (slice_index bytes 0) × IsBodyOfChange bytes HasVersionFault
 BodyFault Key limits low bytes = IsKindByte limits (slice_index bytes 0) × IsBodyOfChange bytes (HasKeyFault limits)
 BodyFault Columns limits low bytes = IsKindByte limits (slice_index bytes 0) × IsBodyOfChange bytes (HasColumnsFault limits)
-BodyFault Clock limits low bytes = IsKindByte limits (slice_index bytes 0) × (r : Logged) × IsLawful limits r × (bytes ≡ body r) × (r.timestamp < low)
+BodyFault Clock limits low bytes = IsKindByte limits (slice_index bytes 0) × IsBodyOfEarlier limits low bytes
 
 -- a length stands at the front that nothing framed has
-abbrev pub HasLengthFault : (ℕ → Type 0) → List ℕ → Type 0
-HasLengthFault IsLength rest = (n : ℕ) × (more : List ℕ) × (n < 2 ^ 32) × (rest ≡ big_bytes 4 n ++ more) × (IsLength n → ⊥)
+pub record HasLengthFault (IsLength : ℕ → Type 0) (rest : List ℕ) : Type 0 where
+  pub number : ℕ
+  pub more : List ℕ
+  pub fits : number < 2 ^ 32
+  pub spelled : rest ≡ big_bytes 4 number ++ more
+  pub wrong : IsLength number → ⊥
 
--- another length follows the bytes that are framed
+-- a length, so many bytes and a number stand at the front
+pub record HasFrame (IsLength : ℕ → Type 0) (rest : List ℕ) : Type 0 where
+  pub text : List ℕ
+  pub number : ℕ
+  pub more : List ℕ
+  pub is_length : IsLength (length text)
+  pub fits : number < 2 ^ 32
+  pub spelled : rest ≡ big_bytes 4 (length text) ++ (text ++ (big_bytes 4 number ++ more))
+
+-- the number is not the length
 abbrev pub HasTrailerFault : (ℕ → Type 0) → List ℕ → Type 0
-HasTrailerFault IsLength rest = (bytes : List ℕ) × (n : ℕ) × (more : List ℕ) × IsLength (length bytes) × (n < 2 ^ 32) × (n ≢ length bytes)
-    × (rest ≡ big_bytes 4 (length bytes) ++ (bytes ++ (big_bytes 4 n ++ more)))
+HasTrailerFault IsLength rest = (frame : HasFrame IsLength rest) × (frame.number ≢ length frame.text)
+
+-- the fault of a body that is framed
+pub record HasBodyFault (what : What) (limits : Limits) (low : ℕ) (rest : List ℕ) : Type 0 where
+  pub text : List ℕ
+  pub more : List ℕ
+  pub is_length : IsRecordLength limits (length text)
+  pub spelled : rest ≡ framed text ++ more
+  pub fault : BodyFault what limits low text
 
 -- the first fault of what follows the records
 abbrev pub RestFault : What → Limits → ℕ → List ℕ → Type 0
 RestFault Length limits low rest = HasLengthFault (IsRecordLength limits) rest
 RestFault Trailer limits low rest = HasTrailerFault (IsRecordLength limits) rest
-RestFault what limits low rest = (bytes : List ℕ) × (more : List ℕ) × IsRecordLength limits (length bytes) × (rest ≡ framed bytes ++ more) × BodyFault what limits low bytes
+RestFault what limits low rest = HasBodyFault what limits low rest
 
 -- a header and these records begin the bytes, and then a fault follows
 pub record HasFault (bytes : List ℕ) (records : List Logged) (what : What) : Type 0 where

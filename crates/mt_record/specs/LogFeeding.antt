@@ -6,6 +6,7 @@ use Rattle.mt_words.specs.declared.limits.Limits.{Limits}
 use Rattle.mt_words.specs.Limits.{limits_of}
 use Rattle.mt_words.specs.Changes.{Logged}
 use Rattle.mt_record.specs.declared.read.FeedFault.{FeedFault}
+use Rattle.mt_words.specs.declared.fault.What.{What}
 use Rattle.mt_record.specs.declared.read.FeedFault.TheVariants as faults
 use Rattle.mt_record.specs.declared.log_items.LogItems.{LogItems}
 use Rattle.mt_record.specs.Spelling.{spelling}
@@ -40,10 +41,17 @@ IsLeft limits rest = (rest ≡ []) ⊎ IsTorn limits rest
 abbrev pub IsLogLeft : LogSoFar → List ℕ → Type 0
 IsLogLeft so_far rest = MatchOption so_far.head (IsCutFront IsHead head_bytes rest) (λ head. IsLeft (limits_of head.format) rest)
 
+-- behind the records so far, which have this number, a rest has this fault
+pub record IsFaultBehind (so_far : LogSoFar) (nth : ℕ) (what : What) (rest : List ℕ) : Type 0 where
+  pub head : Head
+  pub begun : so_far.head ≡ Some head
+  pub number : nth ≡ so_far.whole
+  pub fault : RestFault what (limits_of head.format) so_far.latest rest
+
 -- a rest that shows the fault, however it goes on
 abbrev pub IsLogFaulty : LogSoFar → FeedFault → List ℕ → Type 0
 IsLogFaulty so_far faults.Header rest = (so_far.head ≡ None) × ShowsNone IsHead head_bytes rest
-IsLogFaulty so_far (faults.Record nth what) rest = (head : Head) × (so_far.head ≡ Some head) × (nth ≡ so_far.whole) × RestFault what (limits_of head.format) so_far.latest rest
+IsLogFaulty so_far (faults.Record nth what) rest = IsFaultBehind so_far nth what rest
 IsLogFaulty so_far faults.Memory rest = Unit {0}
 
 -- ---- faults that are shown

@@ -21,10 +21,17 @@ abbrev pub latest : ℕ → List Logged → ℕ
 latest low [] = low
 latest low (r ∷ rs) = latest r.timestamp rs
 
--- the beginning of something framed: one to three bytes, or a lawful length and fewer bytes than it asks for
+-- a lawful length, and fewer bytes than it asks for
+pub record IsCutFrame (IsLength : ℕ → Type 0) (rest : List ℕ) : Type 0 where
+  pub number : ℕ
+  pub more : List ℕ
+  pub is_length : IsLength number
+  pub spelled : rest ≡ big_bytes 4 number ++ more
+  pub short : length more < number + 4
+
+-- the beginning of something framed: one to three bytes, or a lawful length and too few bytes
 abbrev pub IsCut : (ℕ → Type 0) → List ℕ → Type 0
-IsCut IsLength rest = ((0 < length rest) × (length rest < 4))
-    ⊎ ((n : ℕ) × (more : List ℕ) × IsLength n × (rest ≡ big_bytes 4 n ++ more) × (length more < n + 4))
+IsCut IsLength rest = ((0 < length rest) × (length rest < 4)) ⊎ IsCutFrame IsLength rest
 
 -- a torn tail: the beginning of a record, of which no more than the length is looked at
 abbrev pub IsTorn : Limits → List ℕ → Type 0

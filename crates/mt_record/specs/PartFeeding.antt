@@ -11,7 +11,7 @@ use Rattle.mt_record.specs.declared.part_text.PartHead.{PartHead}
 use Rattle.mt_record.specs.declared.part_text.PartFault.{PartFault}
 use Rattle.mt_record.specs.declared.part_text.PartFault.TheVariants as faults
 use Rattle.mt_record.specs.Logs.{IsCut}
-use Rattle.mt_record.specs.LogFaults.{HasLengthFault}
+use Rattle.mt_record.specs.LogFaults.{HasLengthFault, HasFrame}
 use Rattle.mt_record.specs.Parts.{part_head_bytes, IsPartHead, entry_spelling, footer_bytes, IsEntryLength}
 use Rattle.mt_record.specs.Fronts.{bytes_of, ShowsNone, IsCutFront}
 use Rattle.mt_record.specs.PartFaults.{BeginsPartOf, OrMemory}
@@ -22,17 +22,21 @@ use Rattle.mt_record.specs.Feeding.{Steps, Fed, IsFedBy}
 
 -- the bytes begin with a length that is neither zero nor that of an entry
 abbrev pub HasWrongLength : Limits → List ℕ → Type 0
-HasWrongLength limits rest = (n : ℕ) × (more : List ℕ) × (n < 2 ^ 32) × (0 < n) × (IsEntryLength limits n → ⊥) × (rest ≡ big_bytes 4 n ++ more)
+HasWrongLength limits rest = (fault : HasLengthFault (IsEntryLength limits) rest) × (0 < fault.number)
 
--- the bytes begin with the length of an entry, so many bytes and one length more, and these are no entry
+-- the bytes begin with the length of an entry, so many bytes and a number, and these are no entry
 abbrev pub HasWrongEntry : Limits → List ℕ → Type 0
-HasWrongEntry limits rest = (text : List ℕ) × (n : ℕ) × (more : List ℕ) × IsEntryLength limits (length text) × (n < 2 ^ 32)
-    × ((entry : Change) → IsEntry limits entry → big_bytes 4 (length text) ++ (text ++ big_bytes 4 n) ≢ entry_spelling entry)
-    × (rest ≡ (big_bytes 4 (length text) ++ (text ++ big_bytes 4 n)) ++ more)
+HasWrongEntry limits rest = (frame : HasFrame (IsEntryLength limits) rest)
+    × ((entry : Change) → IsEntry limits entry → big_bytes 4 (length frame.text) ++ (frame.text ++ big_bytes 4 frame.number) ≢ entry_spelling entry)
 
 -- the bytes begin with a footer that has another number than that of the entries
-abbrev pub HasWrongCount : ℕ → List ℕ → Type 0
-HasWrongCount count rest = (end : ℕ) × (n : ℕ) × (more : List ℕ) × (n < 2 ^ 32) × (n ≢ count) × (rest ≡ footer_bytes end n ++ more)
+pub record HasWrongCount (count : ℕ) (rest : List ℕ) : Type 0 where
+  pub end : ℕ
+  pub number : ℕ
+  pub more : List ℕ
+  pub fits : number < 2 ^ 32
+  pub differs : number ≢ count
+  pub spelled : rest ≡ footer_bytes end number ++ more
 
 -- the bytes are a footer and at least one byte more
 abbrev pub HasMore : ℕ → List ℕ → Type 0
@@ -90,11 +94,18 @@ abbrev pub IsPartLeft : PartSoFar → List ℕ → Type 0
 IsPartLeft so_far rest =
     MatchOption so_far.head (IsCutFront IsPartHead part_head_bytes rest) (λ head. (rest ≡ []) ⊎ ((so_far.end ≡ None) × IsCutItem (limits_of head.format) rest))
 
+-- behind the entries so far, and the footer if it is whole, a rest shows that the part of this checkpoint is broken
+pub record IsBrokenBehind (so_far : PartSoFar) (number entries : ℕ) (rest : List ℕ) : Type 0 where
+  pub head : PartHead
+  pub begun : so_far.head ≡ Some head
+  pub named : number ≡ head.number
+  pub counted : entries ≡ length so_far.entries
+  pub breaks : ShowsNoPart (limits_of head.format) entries (ended so_far ++ rest)
+
 -- a rest that shows the fault, however it goes on: behind the footer any byte does
 abbrev pub IsPartFaulty : PartSoFar → PartFault → List ℕ → Type 0
 IsPartFaulty so_far faults.Header rest = (so_far.head ≡ None) × ShowsNone IsPartHead part_head_bytes rest
-IsPartFaulty so_far (faults.Broken number entries) rest =
-    (head : PartHead) × (so_far.head ≡ Some head) × (number ≡ head.number) × (entries ≡ length so_far.entries) × ShowsNoPart (limits_of head.format) entries (ended so_far ++ rest)
+IsPartFaulty so_far (faults.Broken number entries) rest = IsBrokenBehind so_far number entries rest
 IsPartFaulty so_far faults.Memory rest = Unit {0}
 
 -- ---- items

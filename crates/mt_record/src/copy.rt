@@ -1,4 +1,5 @@
-//! Checked bodies copied: the key and the values once, each straight to where it will stay.
+//! Checked bodies copied: the key straight to where it will stay, and each value into a list, out of which its column
+//! copies it once more where it is short.
 ghost use Rattle.std.specs.Prelude.{◌≡◌, ℕ, List, IfOk};
 ghost use Rattle.mt_words.specs.Limits.{widest};
 ghost use Rattle.mt_record.specs.Bodies.{IsLawfulBody, IsBodyOf, AreFields, AreFieldsOf, CarriesColumns};

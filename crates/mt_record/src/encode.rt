@@ -9,9 +9,9 @@ ghost use Rattle.mt_record.specs.Decoding.{columns_of};
 ghost use Rattle.mt_record.specs.Adding.{HasRoom, Adds};
 
 use crate::body::{MARK, PUT, REMOVE, WHOLE};
-use crate::head::{HEADER_BYTES, LOG};
+use crate::head::{HEADER_BYTES, LOG, WRITTEN};
 use crate::put::{put_bytes, put_column, put_counted, put_magic};
-use mt_words::{Change, Column, Format, Kind, Memory, Record};
+use mt_words::{Change, Column, Kind, Memory, Record};
 
 /// Appends the header of a log from which updates below `from` may be missing. On an Err nothing is appended.
 pub fn encode_log_header(from: u64, out: &mut Vec<u8>) -> Result<(), Memory>
@@ -19,7 +19,7 @@ pub fn encode_log_header(from: u64, out: &mut Vec<u8>) -> Result<(), Memory>
     ensures err { OnErr result (out.new.items ≡ out.old.items) }
 {
     out.reserve(HEADER_BYTES)?;
-    put_magic(LOG, Format::One, out);
+    put_magic(LOG, WRITTEN, out);
     put_bytes(&from.to_be_bytes(), out);
     Ok(())
 }

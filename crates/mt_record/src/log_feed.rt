@@ -17,8 +17,8 @@ use std::marker::Model;
 use std::mem;
 
 /// Reads a log that comes in pieces of any size, and puts its records into an `R`. It holds back no more than the
-/// beginning of the header or of one record, and copies each byte of a key or value once where its record lies whole in
-/// a piece. Its work is linear in the bytes, however they are cut.
+/// beginning of the header or of one record; a record that lies whole in a piece is copied from there alone. Its work is
+/// linear in the bytes, however they are cut.
 #[derive(Drop)]
 pub struct LogFeed<R: Records = Vec<Record>> {
     feed: Feed<LogItems<R>>,

@@ -15,8 +15,8 @@ use std::alloc::Global;
 use std::marker::Model;
 
 /// Reads a part of a checkpoint that comes in pieces of any size. It holds back no more than the beginning of the
-/// header, of one entry or of the footer, and copies each byte of a key or value once where its entry lies whole in a
-/// piece. Its work is linear in the bytes, however they are cut. `E` is what the entries are put into.
+/// header, of one entry or of the footer; an entry that lies whole in a piece is copied from there alone. Its work is
+/// linear in the bytes, however they are cut. `E` is what the entries are put into.
 #[derive(Drop)]
 pub struct PartFeed<E: Entries = Vec<Entry>> {
     feed: Feed<PartItems<E>>,

@@ -21,7 +21,7 @@ use Rattle.mt_recover.specs.declared.scan_all.Scanned.TheVariants as scanned
 use Rattle.mt_recover.specs.Recovery.{AreReadings, AreKnown}
 use Rattle.mt_recover.specs.LogScans.{ShowAll, AreScansOf}
 use Rattle.mt_recover.specs.Inputs.{MayHave, OfSources, AreLogs, IsAnsweredFrom, BlamesUnsteady, IsAnsweredBy}
-use Rattle.mt_recover.specs.ScanJobs.{IsScanned, IsOutcome, numbered, log_jobs, part_jobs, logs_in, parts_in, IsFirstFault, HaveScanned, AreScans}
+use Rattle.mt_recover.specs.ScanJobs.{IsScanned, IsOutcome, numbered, log_jobs, part_jobs, logs_in, parts_in, IsFirstErr, HaveScanned, AreScans}
 use Rattle.mt_recover.proofs.ReadingLemmas.{scans_append}
 use Rattle.mt_recover.proofs.SharingLemmas.{zip_split}
 use Rattle.mt_recover.proofs.SourceLemmas.{some_logs, may_append, fault_among, blames, blames_part, part_fault, as_many_have}
@@ -76,9 +76,9 @@ logs_stay : (outcomes : List Scanned) (outcome : Scanned) (logs : List LogScan) 
 logs_stay outcomes outcome logs scan is are = ap (λ (o : Scanned). logs_in (outcomes ++ o ∷ [])) is ∙ logs_in-append outcomes (scanned.Part (Ok scan) ∷ []) ∙ append-nil (logs_in outcomes) ∙ are
 
 -- a fault behind one more outcome
-sound_more : {scans : Scans} (done : List Scanned) (outcome : Scanned) (rest : List Scanned) (fault : Fault) → HaveScanned done scans → IsFirstFault (outcome ∷ rest) fault
-    → IsFirstFault ((done ++ outcome ∷ []) ++ rest) fault
-sound_more done outcome rest fault have first = subst (λ (os : List Scanned). IsFirstFault os fault) (sym (append_assoc done (outcome ∷ []) rest)) (have.sound (outcome ∷ rest) fault first)
+sound_more : {scans : Scans} (done : List Scanned) (outcome : Scanned) (rest : List Scanned) (fault : Fault) → HaveScanned done scans → IsFirstErr (outcome ∷ rest) fault
+    → IsFirstErr ((done ++ outcome ∷ []) ++ rest) fault
+sound_more done outcome rest fault have first = subst (λ (os : List Scanned). IsFirstErr os fault) (sym (append_assoc done (outcome ∷ []) rest)) (have.sound (outcome ∷ rest) fault first)
 
 -- the scans of one more log
 pub have_log : (done : List Scanned) (outcome : Scanned) (scans new : Scans) (scan : LogScan) → outcome ≡ scanned.Log (Ok scan) → new.logs.items ≡ scans.logs.items ++ scan ∷ [] → new.parts ≡ scans.parts
@@ -86,7 +86,7 @@ pub have_log : (done : List Scanned) (outcome : Scanned) (scans new : Scans) (sc
 have_log done outcome scans new scan is pushed stay have = record {
   logs = log_more done outcome scans.logs.items new.logs.items scan is pushed have.logs;
   parts = parts_stay done outcome scans.parts.items scan is have.parts ∙ (λ i. map Ok (sym stay i).items);
-  sound = λ rest fault first. sound_more done outcome rest fault have (subst (λ o. IsFirstFault (o ∷ rest) fault) (sym is) first);
+  sound = λ rest fault first. sound_more done outcome rest fault have (subst (λ o. IsFirstErr (o ∷ rest) fault) (sym is) first);
 }
 
 -- and of one more part
@@ -95,7 +95,7 @@ pub have_part : (done : List Scanned) (outcome : Scanned) (scans new : Scans) (s
 have_part done outcome scans new scan is pushed stay have = record {
   logs = logs_stay done outcome scans.logs.items scan is have.logs ∙ (λ i. map Ok (sym stay i).items);
   parts = part_more done outcome scans.parts.items new.parts.items scan is pushed have.parts;
-  sound = λ rest fault first. sound_more done outcome rest fault have (subst (λ o. IsFirstFault (o ∷ rest) fault) (sym is) first);
+  sound = λ rest fault first. sound_more done outcome rest fault have (subst (λ o. IsFirstErr (o ∷ rest) fault) (sym is) first);
 }
 
 -- ---- scans of all sources
@@ -188,7 +188,7 @@ abbrev IsAnsweredIfAny : {S : Type 0} → (S → Seen) → List S → List S →
 IsAnsweredIfAny seen logs parts fault = (0 < length logs → OfSources seen logs parts (λ ls ps. IsAnsweredFrom ls ps fault)) × BlamesUnsteady seen logs parts fault
 
 part_faults : {S : Type 0} (seen : S → Seen) (log_sources front parts : List S) (logs : List (List ℕ)) (number : ℕ) (outcomes : List Scanned) (fault : Fault) → number ≡ length front → MayHave seen log_sources logs → AreLogs logs
-    → AllZip (IsScanned seen) (part_jobs number parts) outcomes → IsFirstFault outcomes fault → IsAnsweredIfAny seen log_sources (front ++ parts) fault
+    → AllZip (IsScanned seen) (part_jobs number parts) outcomes → IsFirstErr outcomes fault → IsAnsweredIfAny seen log_sources (front ++ parts) fault
 part_faults seen log_sources front [] logs number [] fault at may are zip first = absurd first
 part_faults seen log_sources front [] logs number (o ∷ os) fault at may are zip first = absurd zip
 part_faults seen log_sources front (p ∷ ps) logs number [] fault at may are zip first = absurd zip
@@ -204,7 +204,7 @@ part_faults seen log_sources front (p ∷ ps) logs number (scanned.Part (Err e) 
     )
 
 log_faults : {S : Type 0} (seen : S → Seen) (front sources parts : List S) (logs : List (List ℕ)) (scans : List LogScan) (number : ℕ) (outcomes others : List Scanned) (fault : Fault) → number ≡ length scans → length scans ≡ length front
-    → MayHave seen front logs → AreScansOf logs scans → AllZip (IsScanned seen) (log_jobs number sources) outcomes → AllZip (IsScanned seen) (part_jobs 0 parts) others → IsFirstFault (outcomes ++ others) fault
+    → MayHave seen front logs → AreScansOf logs scans → AllZip (IsScanned seen) (log_jobs number sources) outcomes → AllZip (IsScanned seen) (part_jobs 0 parts) others → IsFirstErr (outcomes ++ others) fault
     → IsAnsweredIfAny seen (front ++ sources) parts fault
 log_faults seen front [] parts logs scans number [] others fault at long may are zip rest first =
     subst (λ (all : List _). IsAnsweredIfAny seen all parts fault) (sym (append-nil front)) (part_faults seen front [] parts logs 0 others fault refl may (are.readings, are.read) rest first)
@@ -237,18 +237,18 @@ memory_fault seen logs parts = let ls = some_logs seen logs in let ps = some_log
 
 -- the first fault is the answer, or that memory was refused
 pub all_faults : {S : Type 0} (seen : S → Seen) (logs parts : List S) (jobs : List (Job S)) (outcomes : List Scanned) (fault : Fault) → 0 < length logs → jobs ≡ log_jobs 0 logs ++ part_jobs 0 parts → AllZip (IsScanned seen) jobs outcomes
-    → ((fault ≡ faults.Memory) ⊎ IsFirstFault outcomes fault) → IsAnsweredBy seen logs parts fault
+    → ((fault ≡ faults.Memory) ⊎ IsFirstErr outcomes fault) → IsAnsweredBy seen logs parts fault
 all_faults seen logs parts jobs outcomes fault some same zip (inl memory) = subst (IsAnsweredBy seen logs parts) (sym memory) (memory_fault seen logs parts)
 all_faults seen logs parts jobs outcomes fault some same zip (inr first) =
     let both = jobs_split seen logs parts jobs outcomes same zip in
-    let is = log_faults seen [] logs parts [] [] 0 both.0 both.1 fault refl refl tt (record { readings = []; read = tt; show = tt }) both.3 both.4 (subst (λ (os : List Scanned). IsFirstFault os fault) both.2 first) in
+    let is = log_faults seen [] logs parts [] [] 0 both.0 both.1 fault refl refl tt (record { readings = []; read = tt; show = tt }) both.3 both.4 (subst (λ (os : List Scanned). IsFirstErr os fault) both.2 first) in
     (is.0 some, is.1)
 
 -- the fault of the next outcome is the first of all, or that memory was refused
 pub first_among : (outcomes done left rest : List Scanned) (outcome : Scanned) (scans : Scans) (fault : Fault) → done ++ left ≡ outcomes → left ≡ outcome ∷ rest → HaveScanned done scans
-    → ((fault ≡ faults.Memory) ⊎ ((others : List Scanned) → IsFirstFault (outcome ∷ others) fault)) → (fault ≡ faults.Memory) ⊎ IsFirstFault outcomes fault
+    → ((fault ≡ faults.Memory) ⊎ ((others : List Scanned) → IsFirstErr (outcome ∷ others) fault)) → (fault ≡ faults.Memory) ⊎ IsFirstErr outcomes fault
 first_among outcomes done left rest outcome scans fault whole next have (inl memory) = inl memory
-first_among outcomes done left rest outcome scans fault whole next have (inr first) = inr (subst (λ (os : List Scanned). IsFirstFault os fault) (ap (λ os. done ++ os) (sym next) ∙ whole) (have.sound (outcome ∷ rest) fault (first rest)))
+first_among outcomes done left rest outcome scans fault whole next have (inr first) = inr (subst (λ (os : List Scanned). IsFirstErr os fault) (ap (λ os. done ++ os) (sym next) ∙ whole) (have.sound (outcome ∷ rest) fault (first rest)))
 
 -- ---- one source after the other
 
@@ -292,7 +292,7 @@ next_scanned seen jobs done left rest job outcome scans new next is added so_far
 
 -- the fault of the next one is that of the sources
 pub next_fault : {S : Type 0} (seen : S → Seen) (logs parts : List S) (done left rest : List (Job S)) (job : Job S) (outcome : Scanned) (scans : Scans) (fault : Fault) → 0 < length logs → left ≡ job ∷ rest → IsScanned seen job outcome
-    → ((fault ≡ faults.Memory) ⊎ ((others : List Scanned) → IsFirstFault (outcome ∷ others) fault)) → AreScannedSoFar seen (log_jobs 0 logs ++ part_jobs 0 parts) done left scans → IsAnsweredBy seen logs parts fault
+    → ((fault ≡ faults.Memory) ⊎ ((others : List Scanned) → IsFirstErr (outcome ∷ others) fault)) → AreScannedSoFar seen (log_jobs 0 logs ++ part_jobs 0 parts) done left scans → IsAnsweredBy seen logs parts fault
 next_fault seen logs parts done left rest job outcome scans fault some next is (inl memory) so_far = subst (IsAnsweredBy seen logs parts) (sym memory) (memory_fault seen logs parts)
 next_fault seen logs parts done left rest job outcome scans fault some next is (inr first) so_far =
     let others = some_outcomes seen rest in

@@ -64,19 +64,19 @@ parts_in [] = []
 parts_in (scanned.Log outcome ∷ outcomes) = parts_in outcomes
 parts_in (scanned.Part outcome ∷ outcomes) = outcome ∷ parts_in outcomes
 
--- the first fault that a scan gave
-abbrev pub IsFirstFault : List Scanned → Fault → Type 0
-IsFirstFault [] fault = ⊥
-IsFirstFault (scanned.Log (Ok scan) ∷ outcomes) fault = IsFirstFault outcomes fault
-IsFirstFault (scanned.Log (Err first) ∷ outcomes) fault = first ≡ fault
-IsFirstFault (scanned.Part (Ok scan) ∷ outcomes) fault = IsFirstFault outcomes fault
-IsFirstFault (scanned.Part (Err first) ∷ outcomes) fault = first ≡ fault
+-- the first fault that a scan gave, of those in this order
+abbrev pub IsFirstErr : List Scanned → Fault → Type 0
+IsFirstErr [] fault = ⊥
+IsFirstErr (scanned.Log (Ok scan) ∷ outcomes) fault = IsFirstErr outcomes fault
+IsFirstErr (scanned.Log (Err first) ∷ outcomes) fault = first ≡ fault
+IsFirstErr (scanned.Part (Ok scan) ∷ outcomes) fault = IsFirstErr outcomes fault
+IsFirstErr (scanned.Part (Err first) ∷ outcomes) fault = first ≡ fault
 
 -- the scans of these outcomes, none of which has a fault
 pub record HaveScanned (done : List Scanned) (scans : Scans) : Type 0 where
   pub logs : logs_in done ≡ map Ok scans.logs.items
   pub parts : parts_in done ≡ map Ok scans.parts.items
-  pub sound : (rest : List Scanned) (fault : Fault) → IsFirstFault rest fault → IsFirstFault (done ++ rest) fault
+  pub sound : (rest : List Scanned) (fault : Fault) → IsFirstErr rest fault → IsFirstErr (done ++ rest) fault
 
 -- the scans of logs and parts that these sources may have
 pub record AreScans {S : Type 0} (seen : S → Seen) (log_sources part_sources : List S) (scans : Scans) : Type 0 where

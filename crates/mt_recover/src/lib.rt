@@ -21,7 +21,7 @@ pub use dump::{write_dump, write_pair};
 pub use laws::{one_report, one_verdict, one_walk};
 pub use mt_replay::{Cuts, Pieces};
 pub use mt_tree::{Hit, Visitor, Wanted};
-pub use program::dump_files;
+pub use program::{MOST_BYTES, MOST_FILES, dump_files};
 pub use recovery::{Inputs, Recovered, recover, recover_logs, recover_one};
 pub use report::Report;
 pub use store::Store;

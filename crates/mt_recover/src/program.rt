@@ -12,11 +12,11 @@ use std::fs::{File, OpenFile};
 use std::io::{self, ErrorKind, Read, Write};
 use std::rt::Files;
 
-/// The most files.
-const MOST_FILES: usize = 512;
+/// The most files that a program of this repository takes.
+pub const MOST_FILES: usize = 512;
 
 /// The most bytes of a file.
-const MOST_BYTES: u64 = 1_073_741_824;
+pub const MOST_BYTES: u64 = 1_073_741_824;
 
 /// Why nothing was printed.
 #[derive(Drop)]

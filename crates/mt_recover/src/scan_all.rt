@@ -4,7 +4,7 @@ ghost use Rattle.std.specs.List.{AllZip};
 ghost use Rattle.mt_words.specs.declared.fault.Fault.TheVariants as faults;
 ghost use Rattle.mt_recover.specs.declared.scan_all.Scanned.{Scanned as ScannedValue};
 ghost use Rattle.mt_recover.specs.Inputs.{IsAnsweredBy};
-ghost use Rattle.mt_recover.specs.ScanJobs.{IsScanned, numbered, log_jobs, part_jobs, HaveScanned, IsFirstFault, AreScans};
+ghost use Rattle.mt_recover.specs.ScanJobs.{IsScanned, numbered, log_jobs, part_jobs, HaveScanned, IsFirstErr, AreScans};
 
 use crate::by_workers::by_workers;
 use crate::{Inputs, Workers};
@@ -58,7 +58,7 @@ impl Scans {
         ensures added { (done : List ScannedValue) → HaveScanned done self.old →
             OnOk result (HaveScanned (done ++ outcome ∷ []) self.new) }
         ensures fault { IfErr result (λ fault. (fault ≡ faults.Memory) ⊎
-            ((rest : List ScannedValue) → IsFirstFault (outcome ∷ rest) fault)) }
+            ((rest : List ScannedValue) → IsFirstErr (outcome ∷ rest) fault)) }
     {
         match outcome {
             Scanned::Log(scan) => self.logs.push(scan?)?,
@@ -173,7 +173,7 @@ fn scan_job<S: Source>(alloc: Global, job: Job<S>) -> Scanned
 /// The scans, or the first fault.
 fn scans_of(alloc: Global, outcomes: Vec<Scanned>) -> Result<Scans, Fault>
     ensures scans { IfOk result (HaveScanned outcomes.items) }
-    ensures fault { IfErr result (λ fault. (fault ≡ faults.Memory) ⊎ IsFirstFault outcomes.items fault) }
+    ensures fault { IfErr result (λ fault. (fault ≡ faults.Memory) ⊎ IsFirstErr outcomes.items fault) }
 {
     let mut scans = Scans::new(alloc);
     for outcome in outcomes {

@@ -3,7 +3,7 @@ use crate::asserting::assert_bytes;
 use crate::commands::words_on;
 use crate::folders::{Entry, folder_with, remove};
 use crate::logs::{LOG_A, LOG_B};
-use mt_recover::{Inputs, recover_one, write_dump};
+use mt_recover::{Inputs, MOST_BYTES, recover_one, write_dump};
 use mt_scan::{LONGEST_BUFFER, Rack, ReaderSource, Slot};
 use std::fs::{File, Files};
 use std::io::{self, ErrorKind, Write};
@@ -18,7 +18,7 @@ fn sources_of<'a, R: AllocGlobal + Files>(
     for (name, slot) in names.iter().zip(slots) {
         let file = File::open(rt, name.as_str())?;
         // None only where the slot is empty, which no slot of a new rack is.
-        let source = ReaderSource::new(file, 1_073_741_824, slot).ok_or(ErrorKind::ResourceBusy)?;
+        let source = ReaderSource::new(file, MOST_BYTES, slot).ok_or(ErrorKind::ResourceBusy)?;
         sources.push(source)?;
     }
     Ok(sources)
