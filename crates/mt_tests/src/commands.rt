@@ -59,7 +59,7 @@ where
 }
 
 /// The run of this case ended as it was to.
-fn assert_ends<R: Abort>(
+pub fn assert_ends<R: Abort>(
     rt: &R,
     case: &str,
     (status, out, err): (u8, &[u8], &[u8]),

@@ -11,6 +11,8 @@ pub enum Device {
     Full,
     /// The device has a buffer, and is full once that is written.
     Unflushed,
+    /// It is a pipe whose reader is gone.
+    Closed,
 }
 
 /// An output, and what was written to it.
@@ -41,6 +43,7 @@ impl Write for Output {
             Device::Works => self.text.write(bytes),
             Device::Full => Err(full()),
             Device::Unflushed => Ok(bytes.len()),
+            Device::Closed => Err(io::Error::from(ErrorKind::BrokenPipe)),
         }
     }
 

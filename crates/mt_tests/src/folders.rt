@@ -1,11 +1,11 @@
 //! Runs of both programs on files and folders.
-use self::Entry::{DeadLink, Folder, Text, Zeros};
+use self::Entry::{DeadLink, Folder, Puts, Text, Zeros};
 use crate::commands::{BOTH_WORK, Ends, Run, assert_runs};
-use crate::devices::Device::{self, Full, Unflushed, Works};
-use crate::logs::{HEADER, LATE_HEADER, LOG_A, LOG_B, PART};
+use crate::devices::Device::{self, Closed, Full, Unflushed, Works};
+use crate::logs::{DAMAGED_LOG, HEADER, LATE_HEADER, LOG_A, LOG_B, PART};
 use std::env::{Env, temp_dir};
 use std::fs::{self, File, Files, OpenFile};
-use std::io;
+use std::io::{self, Seek, SeekFrom, Write};
 use std::os::unix::fs::symlink;
 use std::process::Abort;
 use std::thread::Threads;
@@ -26,6 +26,8 @@ pub enum Entry {
     Text(&'static [u8]),
     /// A file of so many zeros.
     Zeros(u64),
+    /// A log of so many bytes, of puts at timestamp 1 of which the last is torn.
+    Puts(u64),
     /// A folder.
     Folder,
     /// A link that leads nowhere.
@@ -37,6 +39,26 @@ fn make_zeros<R: Files>(rt: &R, path: &str, size: u64) -> io::Result<()> {
     File::create(rt, path)?.set_len(size)
 }
 
+/// What stands before the value of a put of key k at timestamp 1, in a column of the greatest length.
+const BEFORE_VALUE: &[u8] =
+    b"\0\x01\0\x17\x01\0\0\0\0\0\0\0\x01\0\0\0\0\0\0\0\x01\0\x01k\x01\0\xff\xff";
+
+/// What stands behind that value.
+const BEHIND_VALUE: &[u8] = b"\0\x01\0\x17";
+
+/// Makes a log of so many bytes, of such puts. The values are of zeros, which are not written and take no place on a disk.
+fn make_puts<R: Files>(rt: &R, path: &str, size: u64) -> io::Result<()> {
+    let mut file = File::create(rt, path)?;
+    file.write_all(HEADER)?;
+    // A put has 65,567 bytes.
+    for _put in 0..=size / 65_567 {
+        file.write_all(BEFORE_VALUE)?;
+        file.seek(SeekFrom::Current(65_535))?;
+        file.write_all(BEHIND_VALUE)?;
+    }
+    file.set_len(size)
+}
+
 /// Makes an entry of the folder.
 fn make_entry<R: Abort + AllocGlobal + Files>(rt: &R, folder: &str, name: &str, entry: Entry) {
     let path = format!(in rt.alloc(); "{folder}/{name}").expect(rt, "memory");
@@ -44,6 +66,7 @@ fn make_entry<R: Abort + AllocGlobal + Files>(rt: &R, folder: &str, name: &str, 
     let made = match entry {
         Text(text) => fs::write(rt, path, text),
         Zeros(size) => make_zeros(rt, path, size),
+        Puts(size) => make_puts(rt, path, size),
         Folder => fs::create_dir(rt, path),
         DeadLink => symlink(rt, "no-such-file", path),
     };
@@ -111,19 +134,32 @@ const ON_BOTH: &[Run] = &[
     ("mtdump F/c.txt --help", (3, "mtdump: cannot open --help\n")),
     ("mtdump F/c.txt ", (3, "mtdump: cannot open \n")),
     ("mtdump F/a.mtl F/c.txt", (1, "mtdump: log 1: header\n")),
+    (
+        "mtdump F/a.mtl F/e.txt F/e.txt",
+        (1, "mtdump: log 1: record 1: trailer\n"),
+    ),
 ];
 
-/// On an output that is full, at once or when its buffer is written.
-const ON_FULL: &[Run] = &[
+/// On an output that fails, at once or when its buffer is written.
+const ON_FAILING: &[Run] = &[
     ("mtrecover dump F", (3, "mtrecover: output failed\n")),
     ("mtdump F/a.mtl", (3, "mtdump: output failed\n")),
+];
+
+/// Where the error output fails, too. A line that cannot be written changes no status.
+const ON_BOTH_FAILING: &[Run] = &[
+    ("mtrecover --help", (3, "")),
+    ("mtrecover get F 6", (2, "")),
+    ("mtrecover", (2, "")),
+    ("mtdump", (2, "")),
 ];
 
 /// The runs by their output and error output.
 const RUNS: &[([Device; 2], &[Run])] = &[
     (BOTH_WORK, ON_BOTH),
-    ([Full, Works], ON_FULL),
-    ([Unflushed, Works], ON_FULL),
+    ([Full, Works], ON_FAILING),
+    ([Unflushed, Works], ON_FAILING),
+    ([Closed, Works], ON_FAILING),
     // On an output that is full at once. No write of no bytes is made.
     (
         [Full, Works],
@@ -133,16 +169,8 @@ const RUNS: &[([Device; 2], &[Run])] = &[
             ("mtdump F/d.txt", (0, "")),
         ],
     ),
-    // Where the error output is full, too. A line that cannot be written changes no status.
-    (
-        [Full, Full],
-        &[
-            ("mtrecover --help", (3, "")),
-            ("mtrecover get F 6", (2, "")),
-            ("mtrecover", (2, "")),
-            ("mtdump", (2, "")),
-        ],
-    ),
+    ([Full, Full], ON_BOTH_FAILING),
+    ([Closed, Closed], ON_BOTH_FAILING),
 ];
 
 const QUERIED: &[Named] = &[
@@ -150,6 +178,7 @@ const QUERIED: &[Named] = &[
     ("b.mtl", Text(LOG_B)),
     ("c.txt", Text(b"\0")),
     ("d.txt", Text(HEADER)),
+    ("e.txt", Text(DAMAGED_LOG)),
 ];
 
 #[test]
@@ -208,6 +237,16 @@ const FOLDERS: &[Case] = &[
         &[("a.mtl", Text(LOG_A)), ("b.mtl", Text(b"\0"))],
         (1, "mtrecover: log 1: header\n"),
     ),
+    // The least of the damaged logs is named.
+    (
+        "trailer",
+        &[
+            ("a.mtl", Text(LOG_A)),
+            ("b.mtl", Text(DAMAGED_LOG)),
+            ("c.mtl", Text(DAMAGED_LOG)),
+        ],
+        (1, "mtrecover: log 1: record 1: trailer\n"),
+    ),
     (
         "gap",
         &[("a.mtl", Text(LATE_HEADER)), ("b.mtl", Text(LOG_A))],
@@ -242,22 +281,49 @@ fn tells_what_was_found_and_what_is_wrong(rt: HostRuntime) {
     assert_in_folders(&rt, id, "mtrecover report F", FOLDERS);
 }
 
-/// Folders of one great file, and what is said of it. It has zeros alone: once such a file is read, its header is a fault.
-const GREAT: &[Case] = &[
+/// What a report says of a log of puts that has the greatest size. All are at the cutoff, so that none is replayed.
+const GREAT_REPORT: &str =
+    "logs=1\nrecords=16376\nmarks=0\ntorn=1\ncutoff=1\ncheckpoint=none\nbegin=0\nskipped=none\n\
+     nameless=none\nentries=0\nsurvivors=0\nearly=0\nlate=16376\nkeys=0\nlayers=1\n";
+
+/// Folders of one great log, and how runs on it end. Zeros begin no log: `mtdump` reads a file whole before it looks at it,
+/// so its size comes first; `mtrecover` looks at it piece by piece, so its first bytes do.
+const GREAT: &[(&str, Entry, &[Run])] = &[
     (
-        "greatest",
-        &[("a.mtl", Zeros(1_073_741_824))],
-        (1, "mtdump: log 0: header\n"),
+        "greatest-zeros",
+        Zeros(1_073_741_824),
+        &[
+            ("mtdump F/a.mtl", (1, "mtdump: log 0: header\n")),
+            ("mtrecover report F", (1, "mtrecover: log 0: header\n")),
+        ],
     ),
     (
-        "too-great",
-        &[("a.mtl", Zeros(1_073_741_825))],
-        (1, "mtdump: log 0: source failed\n"),
+        "too-great-zeros",
+        Zeros(1_073_741_825),
+        &[
+            ("mtdump F/a.mtl", (1, "mtdump: log 0: source failed\n")),
+            ("mtrecover report F", (1, "mtrecover: log 0: header\n")),
+        ],
+    ),
+    (
+        "greatest-puts",
+        Puts(1_073_741_824),
+        &[("mtrecover report F", (0, GREAT_REPORT))],
+    ),
+    (
+        "too-great-puts",
+        Puts(1_073_741_825),
+        &[(
+            "mtrecover report F",
+            (1, "mtrecover: log 0: source failed\n"),
+        )],
     ),
 ];
 
 #[test]
 fn a_file_of_the_greatest_size_is_read_and_none_past_it(rt: HostRuntime) {
     let id = std::process::id(rt.process());
-    assert_in_folders(&rt, id, "mtdump F/a.mtl", GREAT);
+    for (name, log, runs) in GREAT {
+        assert_in_folder(&rt, id, name, &[("a.mtl", *log)], &[(BOTH_WORK, *runs)]);
+    }
 }

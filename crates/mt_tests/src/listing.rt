@@ -132,6 +132,11 @@ const FOLDERS: &[(&[&[u8]], usize, Option<ErrorKind>, &str)] = &[
     ),
     (MIXED, 256, None, "256: a.mtl\n256: b.mtc\n"),
     (MIXED, 257, None, "mtrecover: too many files\n3\n"),
+    // Both kinds count together, and the others not.
+    (WITH_NOTES, 512, None, "512: a.mtl\n0: \n"),
+    (WITH_NOTES, 513, None, "mtrecover: too many files\n3\n"),
+    (PARTS, 512, None, "0: \n512: b.mtc\n"),
+    (PARTS, 513, None, "mtrecover: too many files\n3\n"),
     (UNREADABLE, 1, None, "mtrecover: cannot list F\n3\n"),
     // A name that is not UTF-8 comes before the number of files, whatever its ending.
     (UNREADABLE, 600, None, "mtrecover: cannot list F\n3\n"),
@@ -168,6 +173,12 @@ const ENDINGS: &[&[u8]] = &[
 
 /// A log and a part.
 const MIXED: &[&[u8]] = &[b"a.mtl\0", b"b.mtc\0"];
+
+/// A log, and a file that is neither log nor part.
+const WITH_NOTES: &[&[u8]] = &[b"a.mtl\0", b"notes\0"];
+
+/// A part.
+const PARTS: &[&[u8]] = &[b"b.mtc\0"];
 
 /// A log, and a name that is not UTF-8.
 const UNREADABLE: &[&[u8]] = &[b"a.mtl\0", b"\xff\0"];

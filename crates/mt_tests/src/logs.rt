@@ -13,6 +13,12 @@ pub const LOG_B: &[u8] = b"MTL1\0\0\0\0\0\0\0\0\
     \0\0\0\x19\x01\0\0\0\0\0\0\0\x04\0\0\0\0\0\0\0\x01\0\x01b\x01\0\0\x01y\0\0\0\x19\
     \0\0\0\x09\x03\0\0\0\0\0\0\0\x06\0\0\0\x09";
 
+/// A log of a mark, of a put whose length behind the body is another than that before it, and of a mark.
+pub const DAMAGED_LOG: &[u8] = b"MTL1\0\0\0\0\0\0\0\0\
+    \0\0\0\x09\x03\0\0\0\0\0\0\0\x01\0\0\0\x09\
+    \0\0\0\x19\x01\0\0\0\0\0\0\0\x03\0\0\0\0\0\0\0\x01\0\x01a\x01\0\0\x01x\0\0\0\x18\
+    \0\0\0\x09\x03\0\0\0\0\0\0\0\x05\0\0\0\x09";
+
 /// A log of puts of keys b, d and f, and a mark above them.
 pub const LOG_OF_THREE: &[u8] = b"MTL1\0\0\0\0\0\0\0\0\
     \0\0\0\x19\x01\0\0\0\0\0\0\0\x01\0\0\0\0\0\0\0\x01\0\x01b\x01\0\0\x011\0\0\0\x19\

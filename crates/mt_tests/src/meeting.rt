@@ -3,11 +3,12 @@ ghost use Rattle.mt_scan.specs.Kinds.{seen_of_memory};
 
 use crate::asserting::assert_same;
 use crate::logs::LOG_OF_THREE;
-use mt_recover::{Cutting, Gate, Inputs, Pieces, Workers, recover, recover_one};
+use mt_recover::{Cutting, Gate, Inputs, NoGate, Pieces, Recovered, Workers, recover, recover_one};
 use mt_scan::{MemSource, Rack, Source, SourceFault};
 use mt_words::Fault;
 use std::process::Abort;
 use std::sync::atomic::{AtomicU64, Ordering};
+use std::thread::Threads;
 
 /// How often one looks for the other, at the most.
 const TURNS: u32 = 50_000_000;
@@ -97,6 +98,17 @@ fn sources_that_wait<'a, R: Abort + AllocGlobal>(
     sources
 }
 
+/// What two workers recover in three pieces.
+fn recover_by_two<R: Abort + AllocGlobal + Threads + Sync, G: Gate>(
+    rt: &R,
+    inputs: Inputs<Waiting<'_>>,
+    gate: &G,
+) -> Result<Recovered, Fault> {
+    let workers = Workers::new(2).expect(rt, "two workers");
+    let cutting = Cutting::Even(Pieces::new(3).expect(rt, "three pieces"));
+    recover(rt, rt.alloc(), inputs, workers, cutting, gate)
+}
+
 #[test]
 fn two_workers_meet_in_scans_and_at_a_gate(rt: HostRuntime) {
     let mut rack = Rack::new(rt.alloc(), 2, 16).expect(&rt, "memory");
@@ -108,10 +120,7 @@ fn two_workers_meet_in_scans_and_at_a_gate(rt: HostRuntime) {
     };
     let logs = sources_that_wait(&rt, &mut rack, &begun, &scans);
     let parts = Vec::new(rt.alloc());
-    let workers = Workers::new(2).expect(&rt, "two workers");
-    let cutting = Cutting::Even(Pieces::new(3).expect(&rt, "three pieces"));
-    let inputs = Inputs { logs, parts };
-    let recovered = recover(&rt, rt.alloc(), inputs, workers, cutting, &gate);
+    let recovered = recover_by_two(&rt, Inputs { logs, parts }, &gate);
     assert!(rt; recovered.is_ok());
     assert_same(&rt, &scans.load(Ordering::SeqCst), &2);
     assert_same(&rt, &met.load(Ordering::SeqCst), &1);
@@ -119,11 +128,18 @@ fn two_workers_meet_in_scans_and_at_a_gate(rt: HostRuntime) {
 
 #[test]
 fn without_a_log_no_part_is_read(rt: HostRuntime) {
-    let mut rack = Rack::new(rt.alloc(), 1, 16).expect(&rt, "memory");
     let (begun, met) = (AtomicU64::new(0), AtomicU64::new(0));
-    let logs = Vec::new(rt.alloc());
-    let parts = sources_that_wait(&rt, &mut rack, &begun, &met);
-    let answer = recover_one(rt.alloc(), Inputs { logs, parts });
-    assert_same(&rt, &answer.err(), &Some(Fault::NoLogs));
+    for by_two in [false, true] {
+        let mut rack = Rack::new(rt.alloc(), 2, 16).expect(&rt, "memory");
+        let logs = Vec::new(rt.alloc());
+        let parts = sources_that_wait(&rt, &mut rack, &begun, &met);
+        let inputs = Inputs { logs, parts };
+        let answer = if by_two {
+            recover_by_two(&rt, inputs, &NoGate)
+        } else {
+            recover_one(rt.alloc(), inputs)
+        };
+        assert_same(&rt, &answer.err(), &Some(Fault::NoLogs));
+    }
     assert_same(&rt, &begun.load(Ordering::SeqCst), &0);
 }

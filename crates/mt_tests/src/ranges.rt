@@ -6,20 +6,37 @@ use mt_tree::Visitor;
 use mt_words::{Columns, Kept};
 use std::process::Abort;
 
-/// The pairs from this start on are these, with the columns that are wanted.
+/// So many pairs from this start on are these, with the columns that are wanted.
 fn assert_range<R: Abort + AllocGlobal>(
     rt: &R,
     store: &Store,
-    start: &[u8],
+    (start, count): (&[u8], usize),
     wanted: Wanted,
     expected: &str,
 ) {
     let mut text = Vec::new(rt.alloc());
-    for hit in store.getrange(start, 2, wanted).expect(rt, "memory") {
+    for hit in store.getrange(start, count, wanted).expect(rt, "memory") {
         write_pair(hit.key.as_bytes(), &hit.columns, &mut text).expect(rt, "memory");
     }
     assert_bytes(rt, expected, &text, expected.as_bytes());
 }
+
+/// Starts of ranges, how many pairs are asked for, and those that come: with all columns, and with one alone that none of
+/// them has.
+const RANGES: &[(&[u8], usize, &str, &str)] = &[
+    (b"c", 2, "64: 0=32\n66: 0=33\n", "64:\n66:\n"),
+    (b"g", 5, "", ""),
+    (b"b", 0, "", ""),
+    (b"b", 2, "62: 0=31\n64: 0=32\n", "62:\n64:\n"),
+    (
+        b"b",
+        100,
+        "62: 0=31\n64: 0=32\n66: 0=33\n",
+        "62:\n64:\n66:\n",
+    ),
+    (b"", 2, "62: 0=31\n64: 0=32\n", "62:\n64:\n"),
+    (&[b'e'; 2000], 2, "66: 0=33\n", "66:\n"),
+];
 
 #[test]
 fn a_range_begins_at_or_after_its_start(rt: HostRuntime) {
@@ -27,10 +44,10 @@ fn a_range_begins_at_or_after_its_start(rt: HostRuntime) {
     let recovered = recovered.expect(&rt, "a store");
     let other = Wanted::only([7].as_slice()).expect(&rt, "a column number");
     let store = recovered.store();
-    assert_range(&rt, store, b"b", Wanted::all(), "62: 0=31\n64: 0=32\n");
-    assert_range(&rt, store, &[b'e'; 2000], Wanted::all(), "66: 0=33\n");
-    assert_range(&rt, store, b"g", Wanted::all(), "");
-    assert_range(&rt, store, b"c", other, "64:\n66:\n");
+    for (start, count, pairs, keys) in RANGES {
+        assert_range(&rt, store, (start, *count), Wanted::all(), pairs);
+        assert_range(&rt, store, (start, *count), other, keys);
+    }
 }
 
 /// Takes so many pairs, and counts those that it is shown.
