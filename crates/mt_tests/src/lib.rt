@@ -1,5 +1,5 @@
-//! What no worked case can say: tests' own sources and outputs, refused calls and growths, feeds, printed texts and exit
-//! statuses. The worked cases are those of `mt_cases`.
+//! What no worked case can say: tests' own sources and outputs, refused growths, feeds, printed texts and exit statuses.
+//! The worked cases are those of `mt_cases`.
 #![tactic(auto)]
 
 #[cfg(test)]
