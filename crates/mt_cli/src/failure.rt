@@ -82,10 +82,10 @@ impl<'a> From<Fault> for Failure<'a> {
     }
 }
 
-/// Where no other failure is named, it is the output that failed.
+/// Where no other failure is named, it is the output that failed, whatever it says of why.
 impl<'a> From<io::Error> for Failure<'a> {
-    fn from(error: io::Error) -> Failure<'a> {
-        Failure::Output.or_memory(&error)
+    fn from(_error: io::Error) -> Failure<'a> {
+        Failure::Output
     }
 }
 

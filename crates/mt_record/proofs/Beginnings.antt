@@ -9,25 +9,25 @@ use Rattle.byteorder.specs.Numbers.{big_from-lt}
 use Rattle.mt_words.specs.declared.limits.Format.{Format}
 use Rattle.mt_words.specs.Limits.{limits_of, magic}
 use Rattle.mt_record.specs.declared.head.Head.{Head}
-use Rattle.mt_record.specs.Fronts.{GoTogether, GoesWithMagic, HasNone, ShowsNone, IsCutFront}
-use Rattle.mt_record.specs.Heads.{written, IsHead, head_bytes}
+use Rattle.mt_record.specs.Fronts.{GoTogether, GoesWithMagic, NoneBegins, ShowsNone, IsCutFront}
+use Rattle.mt_record.specs.Heads.{written_format, IsHead, head_bytes}
 use Rattle.mt_record.proofs.Feeds.{apart}
 use Rattle.mt_record.proofs.Numbers.{AreBytes, bytes_front, bytes_back, bytes_padded, eight}
 
 -- ---- fronts, whatever is spelled there
 
 -- one that does not begin the bytes has more
-lacks : {H : Type 0} (Is : H → Type 0) (spelled : H → List ℕ) (head : H) (bytes more : List ℕ) → Is head → HasNone Is spelled bytes → spelled head ≡ bytes ++ more → 0 < length more
+lacks : {H : Type 0} (Is : H → Type 0) (spelled : H → List ℕ) (head : H) (bytes more : List ℕ) → Is head → NoneBegins Is spelled bytes → spelled head ≡ bytes ++ more → 0 < length more
 lacks Is spelled head bytes [] is none e = absurd (none head [] is (sym (append-nil bytes) ∙ sym e ∙ sym (append-nil (spelled head))))
 lacks Is spelled head bytes (x ∷ more) is none e = omega arith
 
 -- bytes that are only the beginning of one begin with none, where all are of one length
 pub cut_none : {H : Type 0} (Is : H → Type 0) (spelled : H → List ℕ) (size : ℕ) → ((head : H) → length (spelled head) ≡ size) → (bytes : List ℕ) → IsCutFront Is spelled bytes
-    → HasNone Is spelled bytes
-cut_none Is spelled size long bytes (head, more, is, some, e) other rest too f =
-    let whole = ap length e ∙ length-append bytes more in
+    → NoneBegins Is spelled bytes
+cut_none Is spelled size long bytes cut other rest too f =
+    let whole = ap length cut.begun ∙ length-append bytes cut.more in
     let front = ap length f ∙ length-append (spelled other) rest in
-    omega (arith, whole, front, some, long head, long other)
+    omega (arith, whole, front, cut.some, long cut.head, long other)
 
 -- where all begin with letters and the digit of a format, bytes that do not go with those show that there is none
 pub shows_none : {H : Type 0} (Is : H → Type 0) (spelled : H → List ℕ) (letters : List ℕ) (format_of : H → Format)
@@ -68,11 +68,11 @@ module _ {H : Type 0} (Is : H → Type 0) (spelled : H → List ℕ) (letters : 
       tail_alike format bytes u.0 [] (sym u.1 ∙ sym (append-nil bytes)) (bytes_back (magic letters format) u.0 (subst AreBytes u.1 small))
 
   -- so that they are the beginning of one where they begin with none
-  pub cut_front : (bytes : List ℕ) → GoesWithMagic letters bytes → AreBytes bytes → HasNone Is spelled bytes → IsCutFront Is spelled bytes
+  pub cut_front : (bytes : List ℕ) → GoesWithMagic letters bytes → AreBytes bytes → NoneBegins Is spelled bytes → IsCutFront Is spelled bytes
   cut_front bytes goes small none =
       let one = alike bytes goes small in
       elim one.2 as (λ _. IsCutFront Is spelled bytes) [
-        | inl u ↦ (one.0, u.0, one.1, lacks Is spelled one.0 bytes u.0 one.1 none u.1, u.1)
+        | inl u ↦ record { head = one.0; more = u.0; is_head = one.1; some = lacks Is spelled one.0 bytes u.0 one.1 none u.1; begun = u.1 }
         | inr u ↦ absurd (none one.0 u.0 one.1 u.1)
       ]
 
@@ -91,8 +91,8 @@ behind_digit letters bytes rest after digit format e tail same =
 -- what letters begin with begins letters and a digit
 letters_go : (letters bytes more : List ℕ) → letters ≡ bytes ++ more → GoesWithMagic letters bytes
 letters_go letters bytes more e =
-    let digit = (limits_of written).digit ∷ [] in
-    (written, inl (more ++ digit, ap (λ (x : List ℕ). x ++ digit) e ∙ append_assoc bytes more digit))
+    let digit = (limits_of written_format).digit ∷ [] in
+    (written_format, inl (more ++ digit, ap (λ (x : List ℕ). x ++ digit) e ∙ append_assoc bytes more digit))
 
 -- bytes that begin with no letters and digit, and do not begin the letters, do not go with them
 goes_not : (letters bytes : List ℕ) → ((format : Format) (more : List ℕ) → bytes ≢ magic letters format ++ more) → ((rest : List ℕ) → letters ≢ bytes ++ rest)
@@ -131,5 +131,5 @@ pub log_none : (bytes : List ℕ) → (GoesWithMagic (codes "MTL") bytes → ⊥
 log_none = shows_none IsHead head_bytes (codes "MTL") (λ (head : Head). head.format) (λ head. (big_bytes 8 head.from, refl))
 
 -- and those that do begin one where none begins them
-pub log_cut : (bytes : List ℕ) → GoesWithMagic (codes "MTL") bytes → AreBytes bytes → HasNone IsHead head_bytes bytes → IsCutFront IsHead head_bytes bytes
+pub log_cut : (bytes : List ℕ) → GoesWithMagic (codes "MTL") bytes → AreBytes bytes → NoneBegins IsHead head_bytes bytes → IsCutFront IsHead head_bytes bytes
 log_cut = cut_front IsHead head_bytes (codes "MTL") 8 log_whole

@@ -13,7 +13,7 @@ use Rattle.mt_record.specs.declared.body.ChangeFields.{ChangeFields}
 use Rattle.mt_words.specs.declared.fault.What.{What}
 use Rattle.mt_record.specs.Spelling.{counted, column_bytes, kind_bytes, change_bytes, FitsColumn, FitsChange}
 use Rattle.mt_record.specs.LogFaults.{HasColumnsFault}
-use Rattle.mt_record.specs.Bodies.{IsNoChange, IsChangeWith, IsChangeFault, IsKindOf, HasKind, IsKindFault, SpellFields, AreChangeFields, HasColumns, AreSpelled, IsSomeFault}
+use Rattle.mt_record.specs.Bodies.{IsNoChange, IsChangeWith, IsChangeFault, IsKindOf, HasKind, IsKindFault, SpellFields, AreChangeFields, HasColumns, AreSpelled, AreSomeColumns, IsColumnsFault}
 use Rattle.mt_record.proofs.Unique.{apart, same_number, same_counted}
 
 -- ---- kinds
@@ -56,18 +56,18 @@ columns_are_kind byte (count ∷ bytes) is some fits =
     rw whole (kind_of_columns byte count bytes is fits, columns_of_kind byte count bytes is)
 
 -- columns that are refused make the put refused
-put_fault : (limits : Limits) (count : ℕ) (bytes : List ℕ) → count < 2 ^ 8 → (what : What) → IsSomeFault limits count bytes what
+put_fault : (limits : Limits) (count : ℕ) (bytes : List ℕ) → count < 2 ^ 8 → (what : What) → IsColumnsFault (AreSomeColumns limits) count bytes what
     → IsKindFault limits 1 (count ∷ bytes) what
-put_fault limits count bytes fits what h = (h.0, Put h.1, put_of_columns count bytes h.1 fits h.2, λ allowed. h.3 allowed.0 allowed.1)
+put_fault limits count bytes fits what h = record { is_columns = h.is_columns; kind = Put h.columns; is_kind = put_of_columns count bytes h.columns fits h.spelled; refused = h.refused }
 
 -- and the whole
-whole_fault : (limits : Limits) (count : ℕ) (bytes : List ℕ) → count < 2 ^ 8 → (what : What) → IsSomeFault limits count bytes what
+whole_fault : (limits : Limits) (count : ℕ) (bytes : List ℕ) → count < 2 ^ 8 → (what : What) → IsColumnsFault (AreSomeColumns limits) count bytes what
     → IsKindFault limits 0 (count ∷ bytes) what
-whole_fault limits count bytes fits what h = (h.0, Whole h.1, whole_of_columns count bytes h.1 fits h.2, λ allowed. h.3 allowed.0 allowed.1)
+whole_fault limits count bytes fits what h = record { is_columns = h.is_columns; kind = Whole h.columns; is_kind = whole_of_columns count bytes h.columns fits h.spelled; refused = h.refused }
 
 -- columns that are refused behind their number make the kind of such a byte refused
 pub columns_fault : (limits : Limits) (byte : ℕ) (bytes : List ℕ) → HasColumnsByte byte → 0 < length bytes → slice_index bytes 0 < 2 ^ 8 → (what : What)
-    → IsSomeFault limits (slice_index bytes 0) (take (length bytes - 1) (drop 1 bytes)) what → IsKindFault limits byte bytes what
+    → IsColumnsFault (AreSomeColumns limits) (slice_index bytes 0) (take (length bytes - 1) (drop 1 bytes)) what → IsKindFault limits byte bytes what
 columns_fault limits byte [] is some fits what h = absurd (omega (arith, some))
 columns_fault limits byte (count ∷ bytes) is some fits what h =
     let whole : take (suc (length bytes) - 1) bytes ≡ bytes = take_all (suc (length bytes) - 1) bytes (omega arith) in
@@ -86,29 +86,29 @@ change_of fields kind = record { version = fields.version; key = fields.key.now;
 -- what holds of the change that the fields say holds of the bytes
 pub of_change : (code : ℕ) (bytes : List ℕ) (f : ChangeFields) (P : Change → Type 0) → AreChangeFields code bytes f → (kind : AnyKind) → IsKindOf code f.carried.now kind
     → P (change_of f kind) → IsChangeWith code bytes P
-of_change code bytes f P are kind is holds = (
-  change_of f kind,
-  (are.version_fits, are.key_fits, is.fits),
-  is.code,
-  are.spelled ∙ ap (λ (x : List ℕ). big_bytes 8 f.version ++ (counted f.key.now ++ x)) is.spelled,
-  holds,
-)
+of_change code bytes f P are kind is holds = record {
+  change = change_of f kind;
+  fits = record { version = are.version_fits; key = are.key_fits; kind = is.fits };
+  code = is.code;
+  spelled = are.spelled ∙ ap (λ (x : List ℕ). big_bytes 8 f.version ++ (counted f.key.now ++ x)) is.spelled;
+  holds = holds;
+}
 
 -- a kind that is refused makes the change's fault
 pub kind_fault : (limits : Limits) (code : ℕ) (bytes : List ℕ) (f : ChangeFields) → AreChangeFields code bytes f → 0 < f.version → IsKey limits f.key.now
     → (what : What) → IsKindFault limits code f.carried.now what → IsChangeFault limits code bytes what
 kind_fault limits code bytes f are version key what h =
-    rw h.0 (of_change code bytes f (HasColumnsFault limits) are h.1 h.2 (version, key, h.3))
+    rw h.is_columns (of_change code bytes f (HasColumnsFault limits) are h.kind h.is_kind (record { version = version; key = key; refused = h.refused }))
 
 -- fields that spell a change are its own
 pub same_fields : (bytes : List ℕ) (fields : ChangeFields) (change : Change) → SpellFields bytes fields → FitsChange change → bytes ≡ change_bytes change
     → (fields.version ≡ change.version) × (fields.key.now ≡ change.key) × (fields.carried.now ≡ kind_bytes change.kind)
 same_fields bytes fields change are fits e =
-    let version = same_number 8 fields.version change.version (counted fields.key.now ++ fields.carried.now) (counted change.key ++ kind_bytes change.kind) are.version_fits fits.0 (sym are.spelled ∙ e) in
-    let key = same_counted fields.key.now change.key fields.carried.now (kind_bytes change.kind) are.key_fits fits.1 version.1 in
+    let version = same_number 8 fields.version change.version (counted fields.key.now ++ fields.carried.now) (counted change.key ++ kind_bytes change.kind) are.version_fits fits.version (sym are.spelled ∙ e) in
+    let key = same_counted fields.key.now change.key fields.carried.now (kind_bytes change.kind) are.key_fits fits.key version.1 in
     (version.0, key.0, key.1)
 
 -- where a version and a key are followed by no kind of this byte, the whole is no change of it
 pub no_change : (code : ℕ) (bytes : List ℕ) (fields : ChangeFields) → SpellFields bytes fields → (HasKind code fields.carried.now → ⊥) → IsNoChange code bytes
 no_change code bytes fields are none change fits same e =
-    none (change.kind, record { code = same; spelled = (same_fields bytes fields change are fits e).2; fits = fits.2 })
+    none (change.kind, record { code = same; spelled = (same_fields bytes fields change are fits e).2; fits = fits.kind })

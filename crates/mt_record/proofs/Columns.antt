@@ -1,10 +1,11 @@
 -- Columns from the front of bytes.
-use Rattle.std.proofs.Common.{◌≡◌, ℕ, suc, ◌+◌, ◌-◌, ◌<◌, ◌≤◌, List, [], ◌∷◌, ◌++◌, sym, ap, ◌∙◌, ◌↔◌, subst, append_assoc, arith}
+use Rattle.std.proofs.Common.{◌≡◌, ℕ, suc, ◌+◌, ◌-◌, ◌<◌, ◌≤◌, List, [], ◌∷◌, ◌++◌, refl, sym, ap, ◌∙◌, ◌↔◌, subst, append_assoc, arith}
 use Rattle.std.specs.List.{flat_map, AllByRecursion}
+use Rattle.mt_words.specs.declared.fault.What.TheVariants.{Columns}
 use Rattle.mt_words.specs.declared.limits.Limits.{Limits}
 use Rattle.mt_words.specs.Words.{IsColumn, AreColumns, CanFollow, NumbersRise, NumbersBelow}
 use Rattle.mt_record.specs.Spelling.{column_bytes, FitsColumn}
-use Rattle.mt_record.specs.Bodies.{AreSpelled, HasColumns}
+use Rattle.mt_record.specs.Bodies.{AreSpelled, HasColumns, IsColumnsFault}
 use Rattle.mt_record.proofs.Unique.{same_column}
 
 -- ---- spelled columns
@@ -85,9 +86,9 @@ step_joins count i total all bytes after front new c lt fits e joins pushed more
 pub step_refused : (limits : Limits) (count i total : ℕ) (all bytes after : List ℕ) (front : List (ℕ × List ℕ)) (c : ℕ × List ℕ) → i < count
     → FitsColumn c → bytes ≡ column_bytes c ++ after → HasColumns (count - i) bytes
     → ((more : List (ℕ × List ℕ)) → AreSpelled (count - i) bytes more → AreSpelled total all (front ++ more)) → (CanFollow limits front c → ⊥)
-    → (columns : List (ℕ × List ℕ)) × AreSpelled total all columns × (AreColumns limits columns → ⊥)
+    → IsColumnsFault (AreColumns limits) total all Columns
 step_refused limits count i total all bytes after front c lt fits e left joins refused =
     let number : count - i ≡ suc (count - (i + 1)) = omega arith in
     let rest = step_left count i bytes after c lt fits e left in
     let whole : AreSpelled (count - i) bytes (c ∷ rest.0) = rw number (spelled_cons (count - (i + 1)) bytes after c rest.0 fits e rest.1) in
-    (front ++ c ∷ rest.0, joins (c ∷ rest.0) whole, λ are. refused (may_follow limits front rest.0 c are))
+    record { is_columns = refl; columns = front ++ c ∷ rest.0; spelled = joins (c ∷ rest.0) whole; refused = λ are. refused (may_follow limits front rest.0 c are) }

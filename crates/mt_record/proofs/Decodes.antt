@@ -18,19 +18,19 @@ use Rattle.mt_record.specs.Spelling.{counted, column_bytes, code_of, kind_bytes,
 use Rattle.mt_record.proofs.Lawful.{key_room, put_fits}
 use Rattle.mt_record.specs.Bodies.{AreSpelled}
 use Rattle.mt_record.proofs.Unique.{same_column}
-use Rattle.mt_record.specs.Decoding.{columns_from, columns_counted, columns_carried, columns_of, kind_from, change_unless, is_mark_in, is_remove_in, is_whole_in, time_in, version_in, key_length_in, key_in, carried_in, kind_in, change_in, update_in, change_unless, decode, IsSound, IsBody, IsChangeBody, IsEntryBody, IsCarried, AreLent, AreCounted}
+use Rattle.mt_record.specs.Decoding.{columns_from, columns_counted, columns_carried, columns_in, kind_from, change_unless, is_mark_in, is_remove_in, is_whole_in, time_in, version_in, key_length_in, key_in, carried_in, kind_in, change_in, update_in, change_unless, decode, IsSound, IsBody, IsChangeBody, IsEntryBody, IsCarried, AreLent, AreCounted}
 
 -- ---- fields
 
 -- counted bytes at the front
-counted_front : (text more : List ℕ) → length text < 2 ^ 16 → big_from 0 2 (counted text ++ more) ≡ length text
-counted_front text more below = big_number-reads_back 2 (length text) (text ++ more) below
+counted_front : (front more : List ℕ) → length front < 2 ^ 16 → big_from 0 2 (counted front ++ more) ≡ length front
+counted_front front more below = big_number-reads_back 2 (length front) (front ++ more) below
 
-take_front : (n : ℕ) (text more : List ℕ) → n ≡ length text → take n (text ++ more) ≡ text
-take_front n text more same = subst (λ m. take m (text ++ more) ≡ text) (sym same) (take-append_seam text more)
+take_front : (n : ℕ) (front more : List ℕ) → n ≡ length front → take n (front ++ more) ≡ front
+take_front n front more same = subst (λ m. take m (front ++ more) ≡ front) (sym same) (take-append_seam front more)
 
-drop_front : (n : ℕ) (text more : List ℕ) → n ≡ length text → drop n (text ++ more) ≡ more
-drop_front n text more same = subst (λ m. drop m (text ++ more) ≡ more) (sym same) (drop-append_seam text more)
+drop_front : (n : ℕ) (front more : List ℕ) → n ≡ length front → drop n (front ++ more) ≡ more
+drop_front n front more same = subst (λ m. drop m (front ++ more) ≡ more) (sym same) (drop-append_seam front more)
 
 -- spelled columns are read back
 pub columns_back : (cs : List (ℕ × List ℕ)) (more : List ℕ) → AllByRecursion FitsColumn cs → columns_from (length cs) (flat_map column_bytes cs ++ more) ≡ cs
@@ -39,10 +39,10 @@ columns_back (c ∷ cs) more all =
     let after = flat_map column_bytes cs ++ more in
     let regrouped : flat_map column_bytes (c ∷ cs) ++ more ≡ column_bytes c ++ after = append_assoc (column_bytes c) (flat_map column_bytes cs) more in
     let n = counted_front c.1 after all.0.1 in
-    let text = take_front (big_from 0 2 (counted c.1 ++ after)) c.1 after n in
+    let front = take_front (big_from 0 2 (counted c.1 ++ after)) c.1 after n in
     let rest = drop_front (big_from 0 2 (counted c.1 ++ after)) c.1 after n in
     let tail = columns_back cs more all.1 in
-    subst (λ bytes. columns_from (suc (length cs)) bytes ≡ c ∷ cs) (sym regrouped) (λ i. (c.0, text i) ∷ (ap (columns_from (length cs)) rest ∙ tail) i)
+    subst (λ bytes. columns_from (suc (length cs)) bytes ≡ c ∷ cs) (sym regrouped) (λ i. (c.0, front i) ∷ (ap (columns_from (length cs)) rest ∙ tail) i)
 
 -- ---- the fields of a body
 
@@ -92,21 +92,21 @@ changed_back byte t v key carried kind no_mark is fits_t fits_v fits_key =
     }
 
 change_back : (t : ℕ) (change : Change) → t < 2 ^ 64 → FitsChange change → decode (body_of t (Some change)) ≡ changed t change
-change_back t change fits_t fits = by_kind change.kind fits.2
+change_back t change fits_t fits = by_kind change.kind fits.kind
   where
     by_kind : (kind : Kind) → FitsKind kind
         → decode (body_of t (Some (record { version = change.version; key = change.key; kind = kind }))) ≡ changed t (record { version = change.version; key = change.key; kind = kind })
-    by_kind (Put cs) fit = changed_back 1 t change.version change.key (kind_bytes (Put cs)) (Put cs) refl (ap Put (some_back cs fit.1)) fits_t fits.0 fits.1
-    by_kind Remove fit = changed_back 2 t change.version change.key [] Remove refl refl fits_t fits.0 fits.1
-    by_kind (Whole cs) fit = changed_back 0 t change.version change.key (kind_bytes (Whole cs)) (Whole cs) refl (ap Whole (some_back cs fit.1)) fits_t fits.0 fits.1
+    by_kind (Put cs) fit = changed_back 1 t change.version change.key (kind_bytes (Put cs)) (Put cs) refl (ap Put (some_back cs fit.1)) fits_t fits.version fits.key
+    by_kind Remove fit = changed_back 2 t change.version change.key [] Remove refl refl fits_t fits.version fits.key
+    by_kind (Whole cs) fit = changed_back 0 t change.version change.key (kind_bytes (Whole cs)) (Whole cs) refl (ap Whole (some_back cs fit.1)) fits_t fits.version fits.key
 
 -- ---- a record
 
 -- a change fits its fields
 fits_of : (change : Change) → IsSound change → FitsChange change
-fits_of change sound = (sound.version, omega (arith, sound.key, key_room widest_format), by_kind change.kind sound.columns)
+fits_of change sound = record { version = sound.version; key = omega (arith, sound.key, key_room widest_format); kind = by_kind change.kind sound.columns }
   where
-    by_kind : (kind : Kind) → AreColumns widest (columns_of kind) → FitsKind kind
+    by_kind : (kind : Kind) → AreColumns widest (columns_in kind) → FitsKind kind
     by_kind (Put cs) are = put_fits widest_format cs are
     by_kind Remove are = tt
     by_kind (Whole cs) are = put_fits widest_format cs are
@@ -115,7 +115,7 @@ fits_of change sound = (sound.version, omega (arith, sound.key, key_room widest_
 pub lawful_sound : (change : Change) → IsLawfulChange widest change → IsSound change
 lawful_sound change lawful = record { version = lawful.version_fits; key = lawful.key; columns = by_kind change.kind lawful.kind }
   where
-    by_kind : (kind : Kind) → AllowsKind widest kind → AreColumns widest (columns_of kind)
+    by_kind : (kind : Kind) → AllowsKind widest kind → AreColumns widest (columns_in kind)
     by_kind (Put cs) allowed = allowed.0
     by_kind Remove allowed = (tt, tt)
     by_kind (Whole cs) allowed = allowed.0
@@ -183,7 +183,7 @@ pub carried_spelled : (bytes : List ℕ) → IsChangeBody bytes → (carried_in 
 carried_spelled bytes is =
     let same = spelled_change bytes is in
     let fit = change_fits bytes is in
-    (ap carried_in same ∙ carried_back (code_of (kind_in bytes)) (time_in bytes) (version_in bytes) (key_in bytes) (kind_bytes (kind_in bytes)) fit.1, fit.2)
+    (ap carried_in same ∙ carried_back (code_of (kind_in bytes)) (time_in bytes) (version_in bytes) (key_in bytes) (kind_bytes (kind_in bytes)) fit.key, fit.kind)
 
 -- nothing, or columns behind their number
 pub carried_is : (bytes : List ℕ) → IsChangeBody bytes → IsCarried (is_remove_in bytes) (carried_in bytes)
@@ -202,13 +202,13 @@ carried_is bytes is =
     }
 
     by_kind : (remove whole : Bool) → carried_in bytes ≡ kind_bytes (kind_from remove whole (carried_in bytes)) → FitsKind (kind_from remove whole (carried_in bytes))
-        → AreColumns widest (columns_of (kind_from remove whole (carried_in bytes))) → IsCarried remove (carried_in bytes)
+        → AreColumns widest (columns_in (kind_from remove whole (carried_in bytes))) → IsCarried remove (carried_in bytes)
     by_kind true whole same fits are = same
     by_kind false true same fits are = counted_are (carried_in bytes) same fits.1 are.0
     by_kind false false same fits are = counted_are (carried_in bytes) same fits.1 are.0
 
 -- those columns are the ones that the kind sets
-pub carried_columns : (remove whole : Bool) (bytes : List ℕ) → columns_carried remove bytes ≡ columns_of (kind_from remove whole bytes)
+pub carried_columns : (remove whole : Bool) (bytes : List ℕ) → columns_carried remove bytes ≡ columns_in (kind_from remove whole bytes)
 carried_columns true whole bytes = refl
 carried_columns false true bytes = refl
 carried_columns false false bytes = refl
@@ -221,9 +221,9 @@ pub next_column : (n left : ℕ) (bytes after : List ℕ) (c : ℕ × List ℕ) 
     → (columns_from left bytes ≡ c ∷ columns_from n after) × IsColumn widest c × AreLent n after
 next_column n left bytes after c more fit same are =
     let length_is = counted_front c.1 after fit.1 in
-    let text = take_front (big_from 0 2 (counted c.1 ++ after)) c.1 after length_is in
+    let front = take_front (big_from 0 2 (counted c.1 ++ after)) c.1 after length_is in
     let rest = drop_front (big_from 0 2 (counted c.1 ++ after)) c.1 after length_is in
-    let here : columns_from (suc n) (column_bytes c ++ after) ≡ c ∷ columns_from n after = λ i. (c.0, text i) ∷ columns_from n (rest i) in
+    let here : columns_from (suc n) (column_bytes c ++ after) ≡ c ∷ columns_from n after = λ i. (c.0, front i) ∷ columns_from n (rest i) in
     let is : columns_from left bytes ≡ c ∷ columns_from n after = (λ i. columns_from (more i) (same i)) ∙ here in
     let all : AreSpelled left bytes (c ∷ columns_from n after) = subst (AreSpelled left bytes) is are.spelled in
     let lawful : AllByRecursion (IsColumn widest) (c ∷ columns_from n after) = subst (AllByRecursion (IsColumn widest)) is are.lawful in (

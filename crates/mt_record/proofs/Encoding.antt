@@ -62,9 +62,9 @@ adds_both {a = a} {xs = xs} {ys = ys} first then = record {
   room = omega (arith, first.room, then.room);
 }
 
--- a text between two copies of its length, behind what stood there
-pub adds_framed : {Z : Type 0} {old text : List ℕ} {n : ℕ} {a b c d : Vec ℕ Z} → n ≡ length text → a.items ≡ old → Adds (big_bytes 4 n) a b → Adds text b c
-    → Adds (big_bytes 4 n) c d → d.items ≡ old ++ framed text
+-- a body between two copies of its length, behind what stood there
+pub adds_framed : {Z : Type 0} {old body : List ℕ} {n : ℕ} {a b c d : Vec ℕ Z} → n ≡ length body → a.items ≡ old → Adds (big_bytes 4 n) a b → Adds body b c
+    → Adds (big_bytes 4 n) c d → d.items ≡ old ++ framed body
 adds_framed is same first second third = rw (← is, ← same) (adds_both first (adds_both second third)).items
 
 -- there is room for one column behind the first ones

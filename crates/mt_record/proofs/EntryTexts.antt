@@ -24,7 +24,7 @@ use Rattle.mt_record.proofs.Lawful.{key_room, kind_fits}
 pub entry_fits : (format : Format) (change : Change) → IsEntry (limits_of format) change → FitsChange change
 entry_fits format change entry =
     let key = key_room format in
-    (entry.0.version_fits, omega (arith, entry.0.key, key), kind_fits format change.kind entry.0.kind)
+    record { version = entry.0.version_fits; key = omega (arith, entry.0.key, key); kind = kind_fits format change.kind entry.0.kind }
 
 -- wholes have one byte
 pub whole_code : (kind : AnyKind) → IsWhole kind → code_of kind ≡ 0
@@ -35,9 +35,9 @@ whole_code (Whole columns) whole = refl
 -- where the fields are those of a change of which this holds, they are those of no entry of which it does not
 other_entry : (format : Format) (bytes : List ℕ) (P : Change → Type 0) → IsChangeWith 0 bytes P → ((entry : Change) → IsEntry (limits_of format) entry → P entry → ⊥)
     → (entry : Change) → IsEntry (limits_of format) entry → bytes ≢ change_bytes entry
-other_entry format bytes P (change, fits, code, spelled, holds) refused entry is e =
-    let same : change ≡ entry = same_change change entry fits (entry_fits format entry is) (code ∙ sym (whole_code entry.kind is.1)) (sym spelled ∙ e) in
-    refused entry is (subst P same holds)
+other_entry format bytes P has refused entry is e =
+    let same : has.change ≡ entry = same_change has.change entry has.fits (entry_fits format entry is) (has.code ∙ sym (whole_code entry.kind is.1)) (sym has.spelled ∙ e) in
+    refused entry is (subst P same has.holds)
 
 -- bytes with the fault of a whole are the fields of no entry
 pub no_entry_text : (format : Format) (bytes : List ℕ) (what : What) → IsChangeFault (limits_of format) 0 bytes what → AreNoFields (limits_of format) bytes
@@ -48,17 +48,17 @@ no_entry_text format bytes Frame h entry is e = h entry (entry_fits format entry
 no_entry_text format bytes Version h entry is e =
     other_entry format bytes _ h (λ other lawful zero. let some = lawful.0.version in omega (arith, some, zero)) entry is e
 no_entry_text format bytes Key h entry is e = other_entry format bytes _ h (λ other lawful wrong. wrong.1 lawful.0.key) entry is e
-no_entry_text format bytes Columns h entry is e = other_entry format bytes _ h (λ other lawful wrong. wrong.2 lawful.0.kind) entry is e
+no_entry_text format bytes Columns h entry is e = other_entry format bytes _ h (λ other lawful wrong. wrong.refused lawful.0.kind) entry is e
 no_entry_text format bytes Clock h entry is e = h
 
 -- ---- frames
 
 -- the parts of what is framed as an entry is
-same_text : (text fields : List ℕ) (n : ℕ) → length text < 2 ^ 32 → length fields < 2 ^ 32 → n < 2 ^ 32
-    → big_bytes 4 (length text) ++ (text ++ big_bytes 4 n) ≡ framed fields → (text ≡ fields) × (n ≡ length fields)
-same_text text fields n fits_text fits_fields fits_n e =
-    let number = same_number 4 (length text) (length fields) (text ++ big_bytes 4 n) (fields ++ big_bytes 4 (length fields)) fits_text fits_fields e in
-    let split = same_split text fields (big_bytes 4 n) (big_bytes 4 (length fields)) number.0 number.1 in
+same_parts : (body fields : List ℕ) (n : ℕ) → length body < 2 ^ 32 → length fields < 2 ^ 32 → n < 2 ^ 32
+    → big_bytes 4 (length body) ++ (body ++ big_bytes 4 n) ≡ framed fields → (body ≡ fields) × (n ≡ length fields)
+same_parts body fields n fits_body fits_fields fits_n e =
+    let number = same_number 4 (length body) (length fields) (body ++ big_bytes 4 n) (fields ++ big_bytes 4 (length fields)) fits_body fits_fields e in
+    let split = same_split body fields (big_bytes 4 n) (big_bytes 4 (length fields)) number.0 number.1 in
     (split.0, (same_number 4 n (length fields) [] [] fits_n fits_fields split.1).0)
 
 -- the fields of an entry are short enough for their length
@@ -66,11 +66,11 @@ short_fields : (format : Format) (entry : Change) → IsEntry (limits_of format)
 short_fields format entry is = short_entry format (length (change_bytes entry)) (entry_length (limits_of format) entry is)
 
 -- framed bytes that are the fields of no entry are a wrong entry
-pub wrong_entry : (format : Format) (bytes text after : List ℕ) → IsFrame (IsEntryLength (limits_of format)) bytes text after
-    → AreNoFields (limits_of format) text → HasWrongEntry (limits_of format) bytes
-wrong_entry format bytes text after frame none = (
-  body_frame (IsEntryLength (limits_of format)) (short_entry format) bytes text after frame.fits frame.spelled,
-  λ entry is e. none entry is (same_text text (change_bytes entry) (length text) (short_entry format (length text) frame.fits) (short_fields format entry is) (short_entry format (length text) frame.fits) e).0,
+pub wrong_entry : (format : Format) (bytes body after : List ℕ) → IsFrame (IsEntryLength (limits_of format)) bytes body after
+    → AreNoFields (limits_of format) body → HasWrongEntry (limits_of format) bytes
+wrong_entry format bytes body after frame none = (
+  body_frame (IsEntryLength (limits_of format)) (short_entry format) bytes body after frame.fits frame.spelled,
+  λ entry is e. none entry is (same_parts body (change_bytes entry) (length body) (short_entry format (length body) frame.fits) (short_fields format entry is) (short_entry format (length body) frame.fits) e).0,
 )
 
 -- another number behind the framed bytes makes a wrong entry too
@@ -78,7 +78,7 @@ other_length : (format : Format) (bytes : List ℕ) → HasTrailerFault (IsEntry
 other_length format bytes (f, differs) = (
   f,
   λ entry is same.
-      let parts = same_text f.text (change_bytes entry) f.number (short_entry format (length f.text) f.is_length) (short_fields format entry is) f.fits same in
+      let parts = same_parts f.body (change_bytes entry) f.number (short_entry format (length f.body) f.is_length) (short_fields format entry is) f.fits same in
       differs (parts.1 ∙ ap length (sym parts.0)),
 )
 

@@ -7,7 +7,7 @@ use Rattle.std.proofs.lemmas.Option.{none-some}
 use Rattle.std.specs.Prelude.{◌==◌, OnOk, IfErr}
 use Rattle.std.specs.Result.{result_err}
 use Rattle.mt_record.specs.Fronts.{GoTogether, ShowsNone}
-use Rattle.mt_record.specs.Feeding.{HasRead, Reads, ReadsFault, HoldsAll, IsFedBy}
+use Rattle.mt_record.specs.Feeding.{HasRead, Reads, HasShown, HoldsAll, IsFedBy}
 
 -- ---- bytes
 
@@ -43,36 +43,31 @@ shows_none_on Is spelled bytes more h = (
 pub then_read : {T I : Type 0} (holds : T → I → List ℕ → Type 0) (old middle new : I) (bytes rest after : List ℕ) → Reads holds old middle bytes rest → Reads holds middle new rest after
     → Reads holds old new bytes after
 then_read holds old middle new bytes rest after first next = record {
-  items = first.items ++ next.items;
-  joins = first.joins ∙ ap (λ (x : List ℕ). first.items ++ x) next.joins ∙ sym (append_assoc first.items next.items after);
-  on = λ taken front is.
-      subst (λ (x : List ℕ). holds taken new x) (append_assoc front first.items next.items) (next.on taken (front ++ first.items) (first.on taken front is));
+  front = first.front ++ next.front;
+  joins = first.joins ∙ ap (λ (x : List ℕ). first.front ++ x) next.joins ∙ sym (append_assoc first.front next.front after);
+  read = λ taken front is.
+      subst (λ (x : List ℕ). holds taken new x) (append_assoc front first.front next.front) (next.read taken (front ++ first.front) (first.read taken front is));
 }
 
 -- items read at the front of the rest go to what was read
 pub read_on : {T I : Type 0} (holds : T → I → List ℕ → Type 0) (taken : T) (old new : I) (text bytes after : List ℕ) → HasRead (holds taken old) text bytes → Reads holds old new bytes after
     → HasRead (holds taken new) text after
 read_on holds taken old new text bytes after has next = record {
-  front = has.front ++ next.items;
-  joins = has.joins ∙ ap (λ (x : List ℕ). has.front ++ x) next.joins ∙ sym (append_assoc has.front next.items after);
-  read = next.on taken has.front has.read;
+  front = has.front ++ next.front;
+  joins = has.joins ∙ ap (λ (x : List ℕ). has.front ++ x) next.joins ∙ sym (append_assoc has.front next.front after);
+  read = next.read taken has.front has.read;
 }
 
--- they are the same when more bytes follow
-pub reads_before : {T I : Type 0} (holds : T → I → List ℕ → Type 0) (old new : I) (bytes after more : List ℕ) → Reads holds old new bytes after → Reads holds old new (bytes ++ more) (after ++ more)
-reads_before holds old new bytes after more next =
-    record { items = next.items; joins = ap (λ (x : List ℕ). x ++ more) next.joins ∙ append_assoc next.items after more; on = next.on }
+-- what was read is the same when more bytes follow
+pub goes_on : (holds : List ℕ → Type 0) (text rest more : List ℕ) → HasRead holds text rest → HasRead holds (text ++ more) (rest ++ more)
+goes_on holds text rest more has = record { front = has.front; joins = behind_on has.front text rest more has.joins; read = has.read }
 
 -- what stands at the front is read
 pub front_read : {T I : Type 0} (holds : T → I → List ℕ → Type 0) (old new : I) (front bytes after : List ℕ) → bytes ≡ front ++ after → 0 < length front
     → ((taken : T) (before : List ℕ) → holds taken old before → holds taken new (before ++ front)) → Reads holds old new bytes after × (length after < length bytes)
-front_read holds old new front bytes after joins some on = (record { items = front; joins = joins; on = on }, omega (arith, ap length joins, length-append front after, some))
+front_read holds old new front bytes after joins some on = (record { front = front; joins = joins; read = on }, omega (arith, ap length joins, length-append front after, some))
 
 -- ---- the text
-
--- the rest goes on as the text does
-pub goes_on : (holds : List ℕ → Type 0) (text rest more : List ℕ) → HasRead holds text rest → HasRead holds (text ++ more) (rest ++ more)
-goes_on holds text rest more has = record { front = has.front; joins = behind_on has.front text rest more has.joins; read = has.read }
 
 -- a feed that has a fault was fed whatever follows, too
 pub fed_on : {I F : Type 0} (holds : I → List ℕ → Type 0) (is_left : I → List ℕ → Type 0) (shows : I → F → List ℕ → Type 0) (items : I) (held : List ℕ) (answered : Option F) (fault : F) (text more : List ℕ)
@@ -80,23 +75,28 @@ pub fed_on : {I F : Type 0} (holds : I → List ℕ → Type 0) (is_left : I →
 fed_on holds is_left shows items held answered fault text more failed fed = (
   λ none. absurd (none-some fault (sym none ∙ failed)),
   λ other is.
-      let shown = fed.1 other is in
-      (shown.0, shown.1 ++ more, rw (← append_assoc shown.0 shown.1 more) (goes_on (holds items) text (shown.0 ++ shown.1) more shown.2), shown.3),
+      let h = fed.1 other is in
+      record { shown = h.shown; more = h.more ++ more; read = rw (← append_assoc h.shown h.more more) (goes_on (holds items) text (h.shown ++ h.more) more h.read); fault = h.fault },
 )
 
 -- a feed reads a piece: what it held and the piece are read, but for what it holds then, or they show a fault
 pub fed_next : {T I F : Type 0} (holds : T → I → List ℕ → Type 0) (is_left : I → List ℕ → Type 0) (shows : I → F → List ℕ → Type 0) (taken : T) (old new : I) (held left text piece : List ℕ)
     (answer : Result (Unit {0}) F) → HoldsAll (holds taken) is_left old held text → (is_left old held → OnOk answer (Reads holds old new (held ++ piece) left × is_left new left))
-    → IfErr answer (ReadsFault holds shows old new (held ++ piece)) → IsFedBy (holds taken) is_left shows new left (result_err answer) (text ++ piece)
+    → IfErr answer (λ fault. HasShown (Reads holds old new (held ++ piece)) (shows new fault)) → IsFedBy (holds taken) is_left shows new left (result_err answer) (text ++ piece)
 fed_next holds is_left shows taken old new held left text piece (Ok done) (has, rest) ok failed = (
   λ none. (read_on holds taken old new (text ++ piece) (held ++ piece) left (goes_on (holds taken old) text held piece has) (ok rest).0, (ok rest).1),
   λ fault is. absurd (none-some fault is),
 )
-fed_next {F = F} holds is_left shows taken old new held left text piece (Err fault) (has, rest) ok (shown, more, next, is) = (
+fed_next {F = F} holds is_left shows taken old new held left text piece (Err fault) (has, rest) ok h = (
   λ none. absurd (none-some fault (sym none)),
   λ other same.
       let e : fault ≡ other = cc in
-      (shown, more, read_on holds taken old new (text ++ piece) (held ++ piece) (shown ++ more) (goes_on (holds taken old) text held piece has) next, subst (λ (f : F). shows new f shown) e is),
+      record {
+        shown = h.shown;
+        more = h.more;
+        read = read_on holds taken old new (text ++ piece) (held ++ piece) (h.shown ++ h.more) (goes_on (holds taken old) text held piece has) h.read;
+        fault = subst (λ (f : F). shows new f h.shown) e h.fault;
+      },
 )
 
 -- ---- the bytes held back

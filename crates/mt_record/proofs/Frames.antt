@@ -16,19 +16,19 @@ use Rattle.mt_record.proofs.Feeds.{behind_on}
 pub parts : (n : ℕ) (bytes front back : List ℕ) → front ≡ take n bytes → back ≡ drop n bytes → bytes ≡ front ++ back
 parts n bytes front back f b = sym (take-append-drop n bytes) ∙ λ i. sym f i ++ sym b i
 
--- another number behind the text is the frame's fault
-pub trailer_fault : (IsLength : ℕ → Type 0) (rest a b c text : List ℕ) (n trailer : ℕ) → IsLength n → rest ≡ big_bytes 4 n ++ a
-    → a ≡ text ++ b → b ≡ big_bytes 4 trailer ++ c → length text ≡ n → trailer < 2 ^ 32 → (trailer ≢ n) → HasTrailerFault IsLength rest
-trailer_fault IsLength rest a b c text n trailer is ea eb ec number small differ = (
+-- another number behind the body is the frame's fault
+pub trailer_fault : (IsLength : ℕ → Type 0) (rest a b c body : List ℕ) (n trailer : ℕ) → IsLength n → rest ≡ big_bytes 4 n ++ a
+    → a ≡ body ++ b → b ≡ big_bytes 4 trailer ++ c → length body ≡ n → trailer < 2 ^ 32 → (trailer ≢ n) → HasTrailerFault IsLength rest
+trailer_fault IsLength rest a b c body n trailer is ea eb ec number small differ = (
   record {
-    text = text;
+    body = body;
     number = trailer;
     more = c;
     is_length = rw number is;
     fits = small;
     spelled = ea
-        ∙ ap (λ (x : List ℕ). big_bytes 4 n ++ x) (eb ∙ ap (λ (x : List ℕ). text ++ x) ec)
-        ∙ ap (λ (k : ℕ). big_bytes 4 k ++ (text ++ (big_bytes 4 trailer ++ c))) (sym number);
+        ∙ ap (λ (x : List ℕ). big_bytes 4 n ++ x) (eb ∙ ap (λ (x : List ℕ). body ++ x) ec)
+        ∙ ap (λ (k : ℕ). big_bytes 4 k ++ (body ++ (big_bytes 4 trailer ++ c))) (sym number);
   },
   rw number differ,
 )
@@ -36,14 +36,14 @@ trailer_fault IsLength rest a b c text n trailer is ea eb ec number small differ
 -- Of lengths that four bytes can hold.
 module _ (IsLength : ℕ → Type 0) (small : (n : ℕ) → IsLength n → n < 2 ^ 32) where
   -- a body between two copies of its length is a frame
-  abbrev pub body_frame : (rest text more : List ℕ) → IsLength (length text) → rest ≡ framed text ++ more → HasFrame IsLength rest
-  body_frame rest text more is e = record {
-    text = text;
-    number = length text;
+  abbrev pub body_frame : (rest body more : List ℕ) → IsLength (length body) → rest ≡ framed body ++ more → HasFrame IsLength rest
+  body_frame rest body more is e = record {
+    body = body;
+    number = length body;
     more = more;
     is_length = is;
-    fits = small (length text) is;
-    spelled = e ∙ framed_apart text more;
+    fits = small (length body) is;
+    spelled = e ∙ framed_apart body more;
   }
 
   -- a length, and enough bytes for it
@@ -58,11 +58,11 @@ module _ (IsLength : ℕ → Type 0) (small : (n : ℕ) → IsLength n → n < 2
   abbrev pub frame_begins : (rest : List ℕ) → HasFrame IsLength rest → Begins rest
   frame_begins rest f =
       let behind = big_bytes 4 f.number ++ f.more in
-      let all = length-append f.text behind in
+      let all = length-append f.body behind in
       record {
-        number = length f.text;
-        more = f.text ++ behind;
-        fits = small (length f.text) f.is_length;
+        number = length f.body;
+        more = f.body ++ behind;
+        fits = small (length f.body) f.is_length;
         spelled = f.spelled;
         enough = λ is. omega (arith, all);
       }
@@ -96,7 +96,7 @@ length_fault_on IsLength rest more h = record {
 -- and so does a frame
 abbrev pub frame_on : (IsLength : ℕ → Type 0) (rest more : List ℕ) → HasFrame IsLength rest → HasFrame IsLength (rest ++ more)
 frame_on IsLength rest more f = record {
-  text = f.text;
+  body = f.body;
   number = f.number;
   more = f.more ++ more;
   is_length = f.is_length;

@@ -74,7 +74,7 @@ change_fits : (format : Format) (change : Option Change) → IfSome change (IsLo
 change_fits format None lawful = tt
 change_fits format (Some change) lawful =
     let key = key_room format in
-    ((lawful.0.version_fits, omega (arith, lawful.0.key, key), kind_fits format change.kind lawful.0.kind), lawful.1)
+    (record { version = lawful.0.version_fits; key = omega (arith, lawful.0.key, key); kind = kind_fits format change.kind lawful.0.kind }, lawful.1)
 
 -- a lawful record fits its fields
 pub lawful_fits : (format : Format) (r : Logged) → IsLawful (limits_of format) r → Fits r
@@ -84,8 +84,8 @@ lawful_fits format r lawful = (lawful.0, change_fits format r.change lawful.1)
 carried_length : (limits : Limits) (cs : List (ℕ × List ℕ)) → AreColumns limits cs → suc (length (flat_map column_bytes cs)) ≤ 1 + suc limits.column * 65538
 carried_length limits cs are =
     let room = columns_room limits 0 cs (omega arith) are.0 are.1 in
-    let texts = columns_length limits cs are.0 in
-    omega (arith, texts, room)
+    let columns = columns_length limits cs are.0 in
+    omega (arith, columns, room)
 
 -- how long what a kind carries is at the most
 pub kind_length : (limits : Limits) (kind : Kind) → AllowsKind limits kind → length (kind_bytes kind) ≤ 1 + suc limits.column * 65538

@@ -1,5 +1,5 @@
 -- The items of a log one behind the other, and what its feed was fed.
-use Rattle.std.proofs.Common.{◌≡◌, ℕ, ◌+◌, ◌-◌, ◌^◌, ◌<◌, min, max, Option, Some, None, List, [], ◌∷◌, ◌++◌, length, refl, sym, ap, ◌∙◌, subst, append_assoc, arith}
+use Rattle.std.proofs.Common.{◌≡◌, ◌⊎◌, ℕ, ◌+◌, ◌-◌, ◌^◌, ◌<◌, min, max, Option, Some, None, List, [], ◌∷◌, ◌++◌, length, refl, sym, ap, ◌∙◌, subst, append_assoc, arith}
 use Rattle.std.proofs.lemmas.List.{length-append, append-nil, flat_map_more}
 use Rattle.std.specs.Prelude.{◌==◌, Bool, not, IfSome}
 use Rattle.std.specs.List.{flat_map}
@@ -18,11 +18,11 @@ use Rattle.mt_record.specs.declared.head.Head.{Head}
 use Rattle.mt_record.specs.Spelling.{framed, spelling, IsRecordLength}
 use Rattle.mt_record.specs.Fronts.{bytes_of, ShowsNone, IsCutFront}
 use Rattle.mt_record.specs.Heads.{IsHead, head_of, head_bytes, HasNoHeader}
-use Rattle.mt_record.specs.Logs.{AreRecords, latest, IsLog, LogReading, IsLast, IsTextIn}
-use Rattle.mt_record.specs.LogFaults.{RestFault, IsAnswered}
+use Rattle.mt_record.specs.Logs.{AreRecords, latest, IsTorn, IsLog, LogReading, IsLast, IsTextIn}
+use Rattle.mt_record.specs.LogFaults.{RestFault, IsLogFault}
 use Rattle.mt_record.specs.Bodies.{IsNextBody, IsBodyOf}
 use Rattle.mt_record.specs.Feeding.{HasRead, Reads, HoldsAll, HasShown}
-use Rattle.mt_record.specs.LogFeeding.{LogSoFar, so_far, IsShown, ShowsNoFault, HoldsLog, IsLeft, IsLogLeft, IsLogFaulty}
+use Rattle.mt_record.specs.LogFeeding.{LogSoFar, log_so_far, ShowsFault, IsShown, ShowsNoFault, HoldsLog, IsLogLeft, IsLogFaulty}
 use Rattle.mt_record.proofs.Records.{records_push, latest_push, last_is, tells_torn}
 use Rattle.mt_record.proofs.OneReading.{not_both}
 use Rattle.mt_record.proofs.Beginnings.{cut_none}
@@ -45,7 +45,7 @@ begun taken s head text rest some reads =
     (reads.joins ∙ behind_on (head_bytes head) reads.front (flat_map spelling (taken ++ s.ready)) rest (rw some at reads.read.spelled), lawful.0, lawful.1)
 
 -- and with a rest that is no record nor a fault it is a log
-is_log : (taken : List Logged) (s : LogSoFar) (head : Head) (text left : List ℕ) → s.head ≡ Some head → HasRead (HoldsLog taken s) text left → IsLeft (limits_of head.format) left
+is_log : (taken : List Logged) (s : LogSoFar) (head : Head) (text left : List ℕ) → s.head ≡ Some head → HasRead (HoldsLog taken s) text left → (left ≡ []) ⊎ IsTorn (limits_of head.format) left
     → IsLog text head (taken ++ s.ready) left
 is_log taken s head text left some reads ends = let is = begun taken s head text left some reads in record { spelled = is.0; is_head = is.1; lawful = is.2; ends = ends }
 
@@ -53,9 +53,9 @@ is_log taken s head text left some reads ends = let is = begun taken s head text
 
 -- a header is read where nothing was
 pub header_read : {R : Type 0} (listed : R → List Logged) (old : LogItems R) (head : Head) (bytes after : List ℕ) → old.head ≡ None → IsHead head → bytes ≡ head_bytes head ++ after
-    → Reads (λ taken items. HoldsLog taken (so_far listed items)) old (record old { head = Some head }) bytes after × (length after < length bytes)
+    → Reads (λ taken items. HoldsLog taken (log_so_far listed items)) old (record old { head = Some head }) bytes after × (length after < length bytes)
 header_read listed old head bytes after none is e =
-    front_read (λ taken items. HoldsLog taken (so_far listed items)) old (record old { head = Some head }) (head_bytes head) bytes after e (omega arith) (λ taken front h.
+    front_read (λ taken items. HoldsLog taken (log_so_far listed items)) old (record old { head = Some head }) (head_bytes head) bytes after e (omega arith) (λ taken front h.
     let empty : taken ++ listed old.ready ≡ [] = rw none at h.lawful in
     let before : front ≡ [] = rw (none, empty) at h.spelled in
     record {
@@ -74,13 +74,13 @@ logged_within format (Some change) logged = (change_within format change logged.
 pub record_read : {R : Type 0} (listed : R → List Logged) (old : LogItems R) (ready : R) (head : Head) (bytes body after : List ℕ) (time whole : ℕ) → old.head ≡ Some head
     → IsNextBody (limits_of head.format) old.latest bytes time body after
     → ((r : Logged) → IsBodyOf widest 0 body r → listed ready ≡ listed old.ready ++ r ∷ []) → whole ≡ min (old.whole + 1) (2 ^ 64 - 1)
-    → Reads (λ taken items. HoldsLog taken (so_far listed items)) old (record old { ready = ready; latest = time; whole = whole }) bytes after × (length after < length bytes)
+    → Reads (λ taken items. HoldsLog taken (log_so_far listed items)) old (record old { ready = ready; latest = time; whole = whole }) bytes after × (length after < length bytes)
 record_read listed old ready head bytes body after time whole some found put count =
     let r = found.next in
     let limits = limits_of head.format in
     let lawful = found.is_next.lawful in
     let added = put r (record { lawful = (lawful.0, logged_within head.format r.change lawful.1); rises = omega arith; spelled = found.same_body }) in
-    front_read (λ taken items. HoldsLog taken (so_far listed items)) old (record old { ready = ready; latest = time; whole = whole }) (spelling r) bytes after found.is_next.spelled (omega arith)
+    front_read (λ taken items. HoldsLog taken (log_so_far listed items)) old (record old { ready = ready; latest = time; whole = whole }) (spelling r) bytes after found.is_next.spelled (omega arith)
     (λ taken front h.
     let rs = taken ++ listed old.ready in
     let list : taken ++ listed ready ≡ rs ++ r ∷ [] = ap (λ (x : List Logged). taken ++ x) added ∙ sym (append_assoc taken (listed old.ready) (r ∷ [])) in
@@ -98,26 +98,26 @@ record_read listed old ready head bytes body after time whole some found put cou
 
 -- nothing was read of nothing
 pub nothing_read : {R : Type 0} (listed : R → List Logged) (records : R) → listed records ≡ []
-    → HoldsAll (λ items. HoldsLog [] (so_far listed items)) (λ items. IsLogLeft (so_far listed items)) (record { head = None; ready = records; latest = 0; whole = 0 }) [] []
+    → HoldsAll (λ items. HoldsLog [] (log_so_far listed items)) (λ items. IsLogLeft (log_so_far listed items)) (record { head = None; ready = records; latest = 0; whole = 0 }) [] []
 nothing_read listed records none = (
   record { front = []; joins = refl; read = rw none (record { spelled = refl; lawful = refl; latest = refl; whole = refl }) },
-  (head_of 0, head_bytes (head_of 0), omega arith, omega arith, refl),
+  record { head = head_of 0; more = head_bytes (head_of 0); is_head = omega arith; some = omega arith; begun = refl },
 )
 
 -- ---- the end
 
 -- without a header there is none
-pub no_head_read : (taken : List Logged) (s : LogSoFar) (text left : List ℕ) → s.head ≡ None → HasRead (HoldsLog taken s) text left → IsLogLeft s left → HasNoHeader text
-no_head_read taken s text left none reads rest = subst HasNoHeader (unread taken s text left none reads) (cut_none IsHead head_bytes 12 (λ head. refl) left (rw none at rest))
+pub no_head_read : (taken : List Logged) (s : LogSoFar) (text left : List ℕ) → s.head ≡ None → HoldsAll (HoldsLog taken) IsLogLeft s left text → HasNoHeader text
+no_head_read taken s text left none (reads, rest) = subst HasNoHeader (unread taken s text left none reads) (cut_none IsHead head_bytes 12 (λ head. refl) left (rw none at rest))
 
 -- what was read with a header is a log
 pub text_read : {R : Type 0} (listed : R → List Logged) (items : LogItems R) (taken : List Logged) (text left : List ℕ) (head : Head) (last : ℕ) (torn : Bool) → items.head ≡ Some head
-    → HasRead (HoldsLog taken (so_far listed items)) text left → IsLogLeft (so_far listed items) left → torn ≡ not (length left == 0) → last ≡ max head.from items.latest
+    → HoldsAll (HoldsLog taken) IsLogLeft (log_so_far listed items) left text → torn ≡ not (length left == 0) → last ≡ max head.from items.latest
     → IsTextIn listed taken text (record { from = head.from; last = last; records = items.ready; whole = items.whole; torn = torn })
-text_read listed items taken text left head last torn some reads rest test greatest =
-    let ends : IsLeft (limits_of head.format) left = rw some at rest in
+text_read listed items taken text left head last torn some (reads, rest) test greatest =
+    let ends : (left ≡ []) ⊎ IsTorn (limits_of head.format) left = rw some at rest in
     let log : LogReading = record { head = head; records = taken ++ listed items.ready; torn = torn } in
-    let read = is_log taken (so_far listed items) head text left some reads ends in
+    let read = is_log taken (log_so_far listed items) head text left some reads ends in
     let tells = tells_torn (limits_of head.format) left (length left == 0) refl ends in
     let time : last ≡ max head.from (latest 0 log.records) = greatest ∙ ap (λ (n : ℕ). max head.from n) reads.read.latest in
     record {
@@ -134,18 +134,18 @@ text_read listed items taken text left head last torn some reads rest test great
 
 -- ---- faults
 
+-- a fault that is shown is that of the bytes
+pub shown_fault : (fault : FeedFault) (bytes : List ℕ) → ShowsFault bytes fault → IsLogFault bytes fault
+shown_fault faults.Header bytes h = h.0
+shown_fault (faults.Record nth what) bytes h = h
+shown_fault faults.Memory bytes h = h
+
 -- bytes that begin a header show no fault
 cut_shows_none : (bytes : List ℕ) → IsCutFront IsHead head_bytes bytes → ShowsNoFault bytes
-cut_shows_none bytes cut faults.Header h = h.1 cut.0 cut.1 cut.2 cut.4
-cut_shows_none bytes cut (faults.Record nth what) (records, h, counted) =
-    cut_none IsHead head_bytes 12 (λ head. refl) bytes cut h.head (flat_map spelling records ++ h.rest) h.is_head h.spelled
+cut_shows_none bytes cut faults.Header h = h.1 cut.head cut.more cut.is_head cut.begun
+cut_shows_none bytes cut (faults.Record nth what) h =
+    cut_none IsHead head_bytes 12 (λ head. refl) bytes cut h.fault.head (flat_map spelling h.records ++ h.fault.rest) h.fault.is_head h.fault.spelled
 cut_shows_none bytes cut faults.Memory h = h
-
--- bytes that are a log show no fault
-log_shows_none : (bytes tail : List ℕ) (head : Head) (records : List Logged) → IsLog bytes head records tail → ShowsNoFault bytes
-log_shows_none bytes tail head records log faults.Header h = not_both bytes head records tail faults.Header log h.0
-log_shows_none bytes tail head records log (faults.Record nth what) h = not_both bytes head records tail (faults.Record nth what) log h
-log_shows_none bytes tail head records log faults.Memory h = h
 
 -- a feed in good order shows no fault
 pub fed_shows_none : (taken : List Logged) (s : LogSoFar) (held text : List ℕ) → HoldsAll (HoldsLog taken) IsLogLeft s held text → ShowsNoFault text
@@ -153,41 +153,37 @@ fed_shows_none taken s held text (reads, left) = by s.head refl
   where
     by : (o : Option Head) → s.head ≡ o → ShowsNoFault text
     by None none = subst ShowsNoFault (unread taken s text held none reads) (cut_shows_none held (rw none at left))
-    by (Some head) some = log_shows_none text held head (taken ++ s.ready) (is_log taken s head text held some reads (rw some at left))
+    by (Some head) some = λ fault h. not_both text head (taken ++ s.ready) held fault (is_log taken s head text held some reads (rw some at left)) (shown_fault fault text h)
 
 -- a fault of the rest stays its fault when more bytes follow
 rest_fault_on : (what : What) (limits : Limits) (low : ℕ) (rest more : List ℕ) → RestFault what limits low rest → RestFault what limits low (rest ++ more)
 rest_fault_on Length limits low rest more h = length_fault_on (IsRecordLength limits) rest more h
 rest_fault_on Trailer limits low rest more h = (frame_on (IsRecordLength limits) rest more h.0, h.1)
 rest_fault_on what limits low rest more h = record {
-  text = h.text;
+  body = h.body;
   more = h.more ++ more;
   is_length = h.is_length;
-  spelled = behind_on (framed h.text) rest h.more more h.spelled;
+  spelled = behind_on (framed h.body) rest h.more more h.spelled;
   fault = h.fault;
 }
 
 -- the fault of a feed that failed is shown
-pub fed_shows : (taken : List Logged) (s : LogSoFar) (fault : FeedFault) (text : List ℕ) → HasShown (HoldsLog taken) IsLogFaulty s fault text → IsShown text fault
-fed_shows taken s faults.Header text (shown, more, reads, (none, h)) =
-    subst (ShowsNone IsHead head_bytes) (unread taken s text (shown ++ more) none reads) (shows_none_on IsHead head_bytes shown more h)
-fed_shows taken s (faults.Record nth what) text (shown, more, reads, h) =
-    let is = begun taken s h.head text (shown ++ more) h.begun reads in (
-      taken ++ s.ready,
-      record {
-        head = h.head;
-        rest = shown ++ more;
+pub fed_shows : (taken : List Logged) (s : LogSoFar) (fault : FeedFault) (text : List ℕ) → HasShown (HasRead (HoldsLog taken s) text) (IsLogFaulty s fault) → IsShown text fault
+fed_shows taken s faults.Header text h other =
+    subst (ShowsNone IsHead head_bytes) (unread taken s text (h.shown ++ h.more) h.fault.0 h.read) (shows_none_on IsHead head_bytes h.shown h.more h.fault.1)
+fed_shows taken s (faults.Record nth what) text h other =
+    let head = h.fault.head in
+    let is = begun taken s head text (h.shown ++ h.more) h.fault.begun h.read in
+    record {
+      records = taken ++ s.ready;
+      fault = record {
+        head = head;
+        rest = h.shown ++ h.more;
         spelled = is.0;
         is_head = is.1;
         lawful = is.2;
-        fault = rest_fault_on what (limits_of h.head.format) (latest 0 (taken ++ s.ready)) shown more (rw reads.read.latest at h.fault);
-      },
-      h.number ∙ reads.read.whole,
-    )
-fed_shows taken s faults.Memory text h = tt
-
--- a fault that is shown is that of the bytes
-pub shown_answered : (fault : FeedFault) (bytes : List ℕ) → IsShown bytes fault → IsAnswered bytes fault
-shown_answered faults.Header bytes h = h.0
-shown_answered (faults.Record nth what) bytes h = h
-shown_answered faults.Memory bytes h = tt
+        fault = rest_fault_on what (limits_of head.format) (latest 0 (taken ++ s.ready)) h.shown h.more (rw h.read.read.latest at h.fault.fault);
+      };
+      number = h.fault.number ∙ h.read.read.whole;
+    }
+fed_shows taken s faults.Memory text h other = absurd (other refl)

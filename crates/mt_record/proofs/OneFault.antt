@@ -49,8 +49,8 @@ FieldFault what limits low r =
 
 -- and with a body: the byte of its kind, its bytes as those of a record, or its fields
 abbrev TestedBody : What → Limits → ℕ → List ℕ → Type 0
-TestedBody what limits low text =
-    Fails what Kind (IsKindByte limits (slice_index text 0)) (λ _. Fails what Frame ((r : Logged) × Fits r × (text ≡ body r)) (λ read. FieldFault what limits low read.0))
+TestedBody what limits low bytes =
+    Fails what Kind (IsKindByte limits (slice_index bytes 0)) (λ _. Fails what Frame ((r : Logged) × Fits r × (bytes ≡ body r)) (λ read. FieldFault what limits low read.0))
 
 -- a lawful change passes
 passes : (limits : Limits) (change : Option Change) → IfSome change (IsLoggedChange limits)
@@ -59,23 +59,23 @@ passes limits None lawful = (tt, tt, tt)
 passes limits (Some change) lawful = (lawful.0.version, lawful.0.key, lawful.0.kind)
 
 -- a fault of a body is one of the tests
-tested_body : (what : What) (format : Format) (low : ℕ) (text : List ℕ) → BodyFault what (limits_of format) low text → TestedBody what (limits_of format) low text
-tested_body Length format low text h = absurd h
-tested_body Trailer format low text h = absurd h
-tested_body Kind format low text h = here refl h
-tested_body Frame format low text h = behind h.0 (here refl (λ read. h.1 read.0 read.1 read.2))
-tested_body Version format low text (byte, h) = behind byte (behind (changed h.timestamp h.change, h.fits, h.spelled) (here refl (λ some. omega (arith, some, h.holds))))
-tested_body Key format low text (byte, h) = behind byte (behind (changed h.timestamp h.change, h.fits, h.spelled) (behind h.holds.0 (here refl h.holds.1)))
-tested_body Columns format low text (byte, h) = behind byte (behind (changed h.timestamp h.change, h.fits, h.spelled) (behind h.holds.0 (behind h.holds.1 (here refl h.holds.2))))
-tested_body Clock format low text (byte, h) =
+tested_body : (what : What) (format : Format) (low : ℕ) (bytes : List ℕ) → BodyFault what (limits_of format) low bytes → TestedBody what (limits_of format) low bytes
+tested_body Length format low bytes h = absurd h
+tested_body Trailer format low bytes h = absurd h
+tested_body Kind format low bytes h = here refl h
+tested_body Frame format low bytes h = behind h.0 (here refl (λ read. h.1 read.0 read.1 read.2))
+tested_body Version format low bytes (byte, h) = behind byte (behind (changed h.timestamp h.change, h.fits, h.spelled) (here refl (λ some. omega (arith, some, h.holds))))
+tested_body Key format low bytes (byte, h) = behind byte (behind (changed h.timestamp h.change, h.fits, h.spelled) (behind h.holds.0 (here refl h.holds.1)))
+tested_body Columns format low bytes (byte, h) = behind byte (behind (changed h.timestamp h.change, h.fits, h.spelled) (behind h.holds.version (behind h.holds.key (here refl h.holds.refused))))
+tested_body Clock format low bytes (byte, h) =
     let lawful_change = passes (limits_of format) h.logged.change h.lawful.1 in
     behind byte (behind (h.logged, lawful_fits format h.logged h.lawful, h.spelled) (behind lawful_change.0 (behind lawful_change.1 (behind lawful_change.2 (refl, h.earlier)))))
 
 -- a body has one fault
-one_body : (limits : Limits) (low : ℕ) (text : List ℕ) (a b : What) → TestedBody a limits low text → TestedBody b limits low text → a ≡ b
-one_body limits low text a b h k = one_name h k (λ _ _ f g. one_name f g one_read)
+one_body : (limits : Limits) (low : ℕ) (bytes : List ℕ) (a b : What) → TestedBody a limits low bytes → TestedBody b limits low bytes → a ≡ b
+one_body limits low bytes a b h k = one_name h k (λ _ _ f g. one_name f g one_read)
   where
-    one_read : (x y : (r : Logged) × Fits r × (text ≡ body r)) → FieldFault a limits low x.0 → FieldFault b limits low y.0 → a ≡ b
+    one_read : (x y : (r : Logged) × Fits r × (bytes ≡ body r)) → FieldFault a limits low x.0 → FieldFault b limits low y.0 → a ≡ b
     one_read x y f g =
         let there = subst (FieldFault a limits low) (same_body x.0 y.0 x.1 y.1 (sym x.2 ∙ y.2)) f in
         one_name there g (λ _ _ f g. one_name f g (λ _ _ f g. one_name f g (λ _ _ f g. f.0 ∙ sym g.0)))
@@ -108,48 +108,48 @@ Frames limits rest = HasFrame (IsRecordLength limits) rest
 
 -- what is wrong with framed bytes: the number behind them, or the body that they are
 abbrev TestedFrame : What → Limits → ℕ → List ℕ → ℕ → Type 0
-TestedFrame what limits low text n = Fails what Trailer (n ≡ length text) (λ _. TestedBody what limits low text)
+TestedFrame what limits low bytes n = Fails what Trailer (n ≡ length bytes) (λ _. TestedBody what limits low bytes)
 
 -- and with a rest: its length, or what that frames
 abbrev TestedRest : What → Limits → ℕ → List ℕ → Type 0
-TestedRest what limits low rest = ((what ≡ Length) × HasLengthFault (IsRecordLength limits) rest) ⊎ ((f : Frames limits rest) × TestedFrame what limits low f.text f.number)
+TestedRest what limits low rest = ((what ≡ Length) × HasLengthFault (IsRecordLength limits) rest) ⊎ ((f : Frames limits rest) × TestedFrame what limits low f.body f.number)
 
 -- a body between two copies of its length is a frame
-abbrev body_frames : (format : Format) (rest text more : List ℕ) → IsRecordLength (limits_of format) (length text) → rest ≡ framed text ++ more → Frames (limits_of format) rest
-body_frames format rest text more is e = body_frame (IsRecordLength (limits_of format)) (length_fits format) rest text more is e
+abbrev body_frames : (format : Format) (rest bytes more : List ℕ) → IsRecordLength (limits_of format) (length bytes) → rest ≡ framed bytes ++ more → Frames (limits_of format) rest
+body_frames format rest bytes more is e = body_frame (IsRecordLength (limits_of format)) (length_fits format) rest bytes more is e
 
 -- a fault of a rest is one of the tests
 tested_rest : (what : What) (format : Format) (low : ℕ) (rest : List ℕ) → RestFault what (limits_of format) low rest → TestedRest what (limits_of format) low rest
 tested_rest what format low rest = by what
   where
-    in_body : (w : What) (text more : List ℕ) → IsRecordLength (limits_of format) (length text) → rest ≡ framed text ++ more → BodyFault w (limits_of format) low text
+    in_body : (w : What) (bytes more : List ℕ) → IsRecordLength (limits_of format) (length bytes) → rest ≡ framed bytes ++ more → BodyFault w (limits_of format) low bytes
         → TestedRest w (limits_of format) low rest
-    in_body w text more is e h = inr (body_frames format rest text more is e, behind refl (tested_body w format low text h))
+    in_body w bytes more is e h = inr (body_frames format rest bytes more is e, behind refl (tested_body w format low bytes h))
 
     by : (w : What) → RestFault w (limits_of format) low rest → TestedRest w (limits_of format) low rest
     by Length h = inl (refl, h)
     by Trailer h = inr (h.0, here refl h.1)
-    by w h = in_body w h.text h.more h.is_length h.spelled h.fault
+    by w h = in_body w h.body h.more h.is_length h.spelled h.fault
 
 -- a frame has no fault of its length
 no_length : (format : Format) (rest : List ℕ) → HasLengthFault (IsRecordLength (limits_of format)) rest → Frames (limits_of format) rest → ⊥
 no_length format rest h f =
-    let fits = length_fits format (length f.text) f.is_length in
-    let same = same_number 4 h.number (length f.text) h.more (f.text ++ (big_bytes 4 f.number ++ f.more)) h.fits fits (sym h.spelled ∙ f.spelled) in
+    let fits = length_fits format (length f.body) f.is_length in
+    let same = same_number 4 h.number (length f.body) h.more (f.body ++ (big_bytes 4 f.number ++ f.more)) h.fits fits (sym h.spelled ∙ f.spelled) in
     h.wrong (subst (IsRecordLength (limits_of format)) (sym same.0) f.is_length)
 
 -- one frame begins a rest
-same_frame : (format : Format) (rest : List ℕ) (what : What) (low : ℕ) (f g : Frames (limits_of format) rest) → TestedFrame what (limits_of format) low f.text f.number
-    → TestedFrame what (limits_of format) low g.text g.number
+same_frame : (format : Format) (rest : List ℕ) (what : What) (low : ℕ) (f g : Frames (limits_of format) rest) → TestedFrame what (limits_of format) low f.body f.number
+    → TestedFrame what (limits_of format) low g.body g.number
 same_frame format rest what low f g h =
     let behind_f = big_bytes 4 f.number ++ f.more in
     let behind_g = big_bytes 4 g.number ++ g.more in
-    let fits_f = length_fits format (length f.text) f.is_length in
-    let fits_g = length_fits format (length g.text) g.is_length in
-    let sizes = same_number 4 (length f.text) (length g.text) (f.text ++ behind_f) (g.text ++ behind_g) fits_f fits_g (sym f.spelled ∙ g.spelled) in
-    let texts = same_split f.text g.text behind_f behind_g sizes.0 sizes.1 in
-    let numbers = same_number 4 f.number g.number f.more g.more f.fits g.fits texts.1 in
-    subst (λ (p : List ℕ × ℕ). TestedFrame what (limits_of format) low p.0 p.1) (λ i. (texts.0 i, numbers.0 i)) h
+    let fits_f = length_fits format (length f.body) f.is_length in
+    let fits_g = length_fits format (length g.body) g.is_length in
+    let sizes = same_number 4 (length f.body) (length g.body) (f.body ++ behind_f) (g.body ++ behind_g) fits_f fits_g (sym f.spelled ∙ g.spelled) in
+    let bodies = same_split f.body g.body behind_f behind_g sizes.0 sizes.1 in
+    let numbers = same_number 4 f.number g.number f.more g.more f.fits g.fits bodies.1 in
+    subst (λ (p : List ℕ × ℕ). TestedFrame what (limits_of format) low p.0 p.1) (λ i. (bodies.0 i, numbers.0 i)) h
 
 -- a rest has one fault
 pub one_rest : (format : Format) (low : ℕ) (rest : List ℕ) (a b : What) → RestFault a (limits_of format) low rest → RestFault b (limits_of format) low rest
@@ -160,7 +160,7 @@ one_rest format low rest a b h k = both (tested_rest a format low rest h) (teste
     both (inl x) (inl y) = x.0 ∙ sym y.0
     both (inl x) (inr y) = absurd (no_length format rest x.1 y.0)
     both (inr x) (inl y) = absurd (no_length format rest y.1 x.0)
-    both (inr x) (inr y) = one_name (same_frame format rest a low x.0 y.0 x.1) y.1 (λ _ _ f g. one_body (limits_of format) low y.0.text a b f g)
+    both (inr x) (inr y) = one_name (same_frame format rest a low x.0 y.0 x.1) y.1 (λ _ _ f g. one_body (limits_of format) low y.0.body a b f g)
 
 -- ---- what ends the records
 

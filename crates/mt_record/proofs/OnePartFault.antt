@@ -14,10 +14,10 @@ use Rattle.mt_record.specs.declared.part_text.PartFault.TheVariants as faults
 use Rattle.mt_record.specs.Spelling.{change_bytes}
 use Rattle.mt_record.specs.Parts.{part_head_bytes, IsPartHead, entry_spelling, footer_bytes, IsEntryLength, IsPart, PartReading, IsPartReading}
 use Rattle.mt_record.specs.LogFaults.{HasFrame}
-use Rattle.mt_record.specs.PartFaults.{HasNoPartHeader, HasNoEntry, BeginsPart, IsBroken, IsPartFault, IsPartAnswered}
+use Rattle.mt_record.specs.PartFaults.{HasNoPartHeader, HasNoEntry, BeginsPart, IsBroken, IsPartFault}
 use Rattle.mt_record.specs.Fronts.{ShowsNone, IsCutFront}
 use Rattle.mt_record.specs.Feeding.{HasRead, HoldsAll, HasShown}
-use Rattle.mt_record.specs.PartFeeding.{HasWrongLength, HasWrongEntry, ShowsNoPart, IsPartShown, ShowsNoPartFault, IsCutItem, PartSoFar, ended, HoldsPart, IsPartLeft, IsPartFaulty}
+use Rattle.mt_record.specs.PartFeeding.{HasWrongLength, HasWrongEntry, ShowsNoPart, ShowsPartFault, IsPartShown, ShowsNoPartFault, IsCutItem, PartSoFar, end_bytes, HoldsPart, IsPartLeft, IsPartFaulty}
 use Rattle.mt_record.proofs.Unique.{same_split, same_number, framed_apart}
 use Rattle.mt_record.proofs.Entries.{entry_length, short_entry}
 use Rattle.mt_record.proofs.OnePart.{length_no_entry, footer_no_entry, same_beginning, part_begins}
@@ -83,24 +83,24 @@ module _ (format : Format) where
       let fields = change_bytes entry in
       let short = short_entry format (length fields) (entry_length limits entry is) in
       let apart = sym f.spelled ∙ other ∙ framed_apart fields behind in
-      let sizes = same_number 4 (length f.text) (length fields) (f.text ++ (big_bytes 4 f.number ++ f.more)) (fields ++ (big_bytes 4 (length fields) ++ behind))
-      (short_entry format (length f.text) f.is_length) short apart in
-      let texts = same_split f.text fields (big_bytes 4 f.number ++ f.more) (big_bytes 4 (length fields) ++ behind) sizes.0 sizes.1 in
-      let numbers = same_number 4 f.number (length fields) f.more behind f.fits short texts.1 in
-      no_entry entry is (λ i. big_bytes 4 (sizes.0 i) ++ (texts.0 i ++ big_bytes 4 (numbers.0 i)))
+      let sizes = same_number 4 (length f.body) (length fields) (f.body ++ (big_bytes 4 f.number ++ f.more)) (fields ++ (big_bytes 4 (length fields) ++ behind))
+      (short_entry format (length f.body) f.is_length) short apart in
+      let bodies = same_split f.body fields (big_bytes 4 f.number ++ f.more) (big_bytes 4 (length fields) ++ behind) sizes.0 sizes.1 in
+      let numbers = same_number 4 f.number (length fields) f.more behind f.fits short bodies.1 in
+      no_entry entry is (λ i. big_bytes 4 (sizes.0 i) ++ (bodies.0 i ++ big_bytes 4 (numbers.0 i)))
 
   pub shown_no_entry : (count : ℕ) (rest : List ℕ) → ShowsNoPart limits count rest → HasNoEntry limits rest
   shown_no_entry count rest (inl (h, some)) = length_no_entry format rest h.number h.more h.fits h.wrong h.spelled
   shown_no_entry count rest (inr (inl h)) = wrong_no_entry rest h
   shown_no_entry count rest (inr (inr (inl h))) = footer_no_entry format rest h.more h.end h.number h.spelled
-  shown_no_entry count rest (inr (inr (inr h))) = footer_no_entry format rest (h.1 ∷ h.2) h.0 count h.3
+  shown_no_entry count rest (inr (inr (inr h))) = footer_no_entry format rest (h.byte ∷ h.more) h.end count h.spelled
 
   -- a rest in which nothing more can be read shows nothing
   left_shows_none : (count : ℕ) (rest : List ℕ) → (rest ≡ []) ⊎ IsCutItem limits rest → ShowsNoPart limits count rest → ⊥
   left_shows_none count rest left (inl h) = none_left rest left (wrong_whole rest h)
   left_shows_none count rest left (inr (inl h)) = none_left rest left (frame_whole rest h.0)
   left_shows_none count rest left (inr (inr (inl h))) = none_left rest left (footer_whole rest h.more h.end h.number h.spelled)
-  left_shows_none count rest left (inr (inr (inr h))) = none_left rest left (footer_whole rest (h.1 ∷ h.2) h.0 count h.3)
+  left_shows_none count rest left (inr (inr (inr h))) = none_left rest left (footer_whole rest (h.byte ∷ h.more) h.end count h.spelled)
 
   -- a footer with the number of the entries shows nothing
   footer_shows_none : (count end : ℕ) (rest : List ℕ) → end < 2 ^ 64 → count < 2 ^ 32 → rest ≡ footer_bytes end count → ShowsNoPart limits count rest → ⊥
@@ -108,21 +108,21 @@ module _ (format : Format) where
       let same = same_number 4 h.number 0 h.more (big_bytes 8 end ++ big_bytes 4 count) h.fits (omega arith) (sym h.spelled ∙ e) in
       omega (arith, same.0, some)
   footer_shows_none count end rest fits_end fits e (inr (inl (f, no_entry))) =
-      let tail = f.text ++ (big_bytes 4 f.number ++ f.more) in
-      let same = same_number 4 (length f.text) 0 tail (big_bytes 8 end ++ big_bytes 4 count) (short_entry format (length f.text) f.is_length) (omega arith) (sym f.spelled ∙ e) in
+      let tail = f.body ++ (big_bytes 4 f.number ++ f.more) in
+      let same = same_number 4 (length f.body) 0 tail (big_bytes 8 end ++ big_bytes 4 count) (short_entry format (length f.body) f.is_length) (omega arith) (sym f.spelled ∙ e) in
       omega (arith, same.0, f.is_length.0)
   footer_shows_none count end rest fits_end fits e (inr (inr (inl h))) =
       let behind = big_bytes 4 h.number ++ h.more in
       let tails = (same_split (big_bytes 4 0) (big_bytes 4 0) (big_bytes 8 h.end ++ behind) (big_bytes 8 end ++ big_bytes 4 count) refl (sym h.spelled ∙ e)).1 in
       let counts = (same_split (big_bytes 8 h.end) (big_bytes 8 end) behind (big_bytes 4 count) refl tails).1 in
       h.differs (same_number 4 h.number count h.more [] h.fits fits counts).0
-  footer_shows_none count end rest fits_end fits e (inr (inr (inr (other, byte, more, f)))) = let all = ap length (sym f ∙ e) in omega (arith, all)
+  footer_shows_none count end rest fits_end fits e (inr (inr (inr h))) = let all = ap length (sym h.spelled ∙ e) in omega (arith, all)
 
 -- what shows that there is no part shows it when more bytes follow
-no_part_on : (limits : Limits) (count : ℕ) (rest more : List ℕ) → ShowsNoPart limits count rest → ShowsNoPart limits count (rest ++ more)
-no_part_on limits count rest more (inl (h, some)) = inl (length_fault_on (IsEntryLength limits) rest more h, some)
-no_part_on limits count rest more (inr (inl (f, no_entry))) = inr (inl (frame_on (IsEntryLength limits) rest more f, no_entry))
-no_part_on limits count rest more (inr (inr (inl h))) = inr (inr (inl (record {
+no_part_on : (allowed : Limits) (count : ℕ) (rest more : List ℕ) → ShowsNoPart allowed count rest → ShowsNoPart allowed count (rest ++ more)
+no_part_on allowed count rest more (inl (h, some)) = inl (length_fault_on (IsEntryLength allowed) rest more h, some)
+no_part_on allowed count rest more (inr (inl (f, no_entry))) = inr (inl (frame_on (IsEntryLength allowed) rest more f, no_entry))
+no_part_on allowed count rest more (inr (inr (inl h))) = inr (inr (inl (record {
   end = h.end;
   number = h.number;
   more = h.more ++ more;
@@ -130,7 +130,12 @@ no_part_on limits count rest more (inr (inr (inl h))) = inr (inr (inl (record {
   differs = h.differs;
   spelled = behind_on (footer_bytes h.end h.number) rest h.more more h.spelled;
 })))
-no_part_on limits count rest more (inr (inr (inr h))) = inr (inr (inr (h.0, h.1, h.2 ++ more, behind_on (footer_bytes h.0 count) rest (h.1 ∷ h.2) more h.3)))
+no_part_on allowed count rest more (inr (inr (inr h))) = inr (inr (inr (record {
+  end = h.end;
+  byte = h.byte;
+  more = h.more ++ more;
+  spelled = behind_on (footer_bytes h.end count) rest (h.byte ∷ h.more) more h.spelled;
+})))
 
 -- what begins bytes, up to a rest that begins with no entry, is all of a part but its footer
 up_to_footer : (bytes rest : List ℕ) (head other : PartHead) (entries others : List Change) (end : ℕ) → BeginsPart bytes head entries rest → HasNoEntry (limits_of head.format) rest
@@ -160,12 +165,16 @@ left_no_part bytes head entries rest begins left part is =
     none_left head.format rest left (footer_whole head.format rest [] part.end (length entries) (same.1 ∙ sym (append-nil (footer_bytes part.end (length entries)))))
 
 -- a fault that is shown is that of the bytes
-pub shown_answered : (fault : PartFault) (bytes : List ℕ) → IsPartShown bytes fault → IsPartAnswered bytes fault
-shown_answered faults.Header bytes h = h.0
-shown_answered (faults.Broken number entries) bytes (front, h) =
+pub shown_fault : (fault : PartFault) (bytes : List ℕ) → ShowsPartFault bytes fault → IsPartFault bytes fault
+shown_fault faults.Header bytes h = h.0
+shown_fault (faults.Broken number entries) bytes (front, h) =
     let shown = subst (λ (n : ℕ). ShowsNoPart (limits_of front.head.format) n front.rest) front.counted h in
-    (front, shown_no_entry front.head.format (length front.entries) front.rest shown, shown_no_part bytes front.head front.entries front.rest front.begins shown)
-shown_answered faults.Memory bytes h = tt
+    record {
+      front = front;
+      no_entry = shown_no_entry front.head.format (length front.entries) front.rest shown;
+      no_part = shown_no_part bytes front.head front.entries front.rest front.begins shown;
+    }
+shown_fault faults.Memory bytes h = h
 
 -- bytes that only begin a header hold none
 cut_no_header : (bytes : List ℕ) → IsCutFront IsPartHead part_head_bytes bytes → HasNoPartHeader bytes
@@ -175,7 +184,7 @@ cut_no_header bytes cut = cut_none IsPartHead part_head_bytes 20 (λ head. refl)
 
 -- bytes that begin a part's header show no fault
 cut_shows_none : (bytes : List ℕ) → IsCutFront IsPartHead part_head_bytes bytes → ShowsNoPartFault bytes
-cut_shows_none bytes cut faults.Header h = h.1 cut.0 cut.1 cut.2 cut.4
+cut_shows_none bytes cut faults.Header h = h.1 cut.head cut.more cut.is_head cut.begun
 cut_shows_none bytes cut (faults.Broken number entries) (front, h) =
     cut_no_header bytes cut front.head (flat_map entry_spelling front.entries ++ front.rest) front.begins.is_head front.begins.spelled
 cut_shows_none bytes cut faults.Memory h = h
@@ -196,7 +205,7 @@ reading_of head entries end = record { number = head.number; begin = head.begin;
 -- a part shows no fault
 part_shows_none : (bytes : List ℕ) (head : PartHead) (entries : List Change) (end : ℕ) → IsPart bytes head entries end → ShowsNoPartFault bytes
 part_shows_none bytes head entries end is faults.Header h = h.0 head _ is.is_head is.spelled
-part_shows_none bytes head entries end is (faults.Broken number count) h = (shown_answered (faults.Broken number count) bytes h).2 (reading_of head entries end) (head.format, is)
+part_shows_none bytes head entries end is (faults.Broken number count) h = (shown_fault (faults.Broken number count) bytes h).no_part (reading_of head entries end) (head.format, is)
 part_shows_none bytes head entries end is faults.Memory h = h
 
 -- bytes of which nothing was read are what is left
@@ -206,7 +215,7 @@ unread s text rest none reads =
     sym (reads.joins ∙ ap (λ (x : List ℕ). x ++ rest) (rw (none, empty.0, empty.1) at reads.read.spelled))
 
 -- what was read behind a header, and then the rest, begins a part
-begun : (s : PartSoFar) (head : PartHead) (text rest : List ℕ) → s.head ≡ Some head → HasRead (HoldsPart s) text rest → BeginsPart text head s.entries (ended s ++ rest)
+begun : (s : PartSoFar) (head : PartHead) (text rest : List ℕ) → s.head ≡ Some head → HasRead (HoldsPart s) text rest → BeginsPart text head s.entries (end_bytes s ++ rest)
 begun s head text rest some reads =
     let lawful : IsPartHead head × AllByRecursion (IsEntry (limits_of head.format)) s.entries = rw some at reads.read.lawful in
     record {
@@ -220,8 +229,8 @@ left_item : (s : PartSoFar) (head : PartHead) (left : List ℕ) → s.head ≡ S
 left_item s head left some rest = elim (rw some at rest) as (λ _. (left ≡ []) ⊎ IsCutItem (limits_of head.format) left) [ inl e ↦ inl e | inr cut ↦ inr cut.1 ]
 
 -- with a header and a footer, behind which nothing is left, it is a part
-pub part_read : (s : PartSoFar) (head : PartHead) (end : ℕ) (text left : List ℕ) → s.head ≡ Some head → s.end ≡ Some end → HasRead (HoldsPart s) text left → IsPartLeft s left → IsPart text head s.entries end
-part_read s head end text left some ends reads rest =
+pub part_read : (s : PartSoFar) (head : PartHead) (end : ℕ) (text left : List ℕ) → s.head ≡ Some head → s.end ≡ Some end → HoldsAll HoldsPart IsPartLeft s left text → IsPart text head s.entries end
+part_read s head end text left some ends (reads, rest) =
     let none : left ≡ [] = elim (rw some at rest) as (λ _. left ≡ []) [ inl e ↦ e | inr cut ↦ cc ] in
     let begins = begun s head text left some reads in
     let fits : (end < 2 ^ 64) × (length s.entries < 2 ^ 32) = rw ends at reads.read.fits in
@@ -236,34 +245,43 @@ fed_shows_none s held text (reads, left) = by s.head s.end refl refl
     by : (o : Option PartHead) (e : Option ℕ) → s.head ≡ o → s.end ≡ e → ShowsNoPartFault text
     by None e none ends = subst ShowsNoPartFault (unread s text held none reads) (cut_shows_none held (rw none at left))
     by (Some head) None some none = begun_shows_none text head s.entries held (rw none at (begun s head text held some reads)) (left_item s head held some left)
-    by (Some head) (Some end) some ends = part_shows_none text head s.entries end (part_read s head end text held some ends reads left)
+    by (Some head) (Some end) some ends = part_shows_none text head s.entries end (part_read s head end text held some ends (reads, left))
 
 -- the fault of a feed that failed is shown
-pub fed_shows : (s : PartSoFar) (fault : PartFault) (text : List ℕ) → HasShown HoldsPart IsPartFaulty s fault text → IsPartShown text fault
-fed_shows s faults.Header text (shown, more, reads, (none, h)) =
-    subst (ShowsNone IsPartHead part_head_bytes) (unread s text (shown ++ more) none reads) (shows_none_on IsPartHead part_head_bytes shown more h)
-fed_shows s (faults.Broken number count) text (shown, more, reads, h) = (
-  record { head = h.head; entries = s.entries; rest = ended s ++ (shown ++ more); begins = begun s h.head text (shown ++ more) h.begun reads; named = h.named; counted = h.counted },
-  rw (← append_assoc (ended s) shown more) (no_part_on (limits_of h.head.format) count (ended s ++ shown) more h.breaks),
-)
-fed_shows s faults.Memory text h = tt
+pub fed_shows : (s : PartSoFar) (fault : PartFault) (text : List ℕ) → HasShown (HasRead (HoldsPart s) text) (IsPartFaulty s fault) → IsPartShown text fault
+fed_shows s faults.Header text h other =
+    subst (ShowsNone IsPartHead part_head_bytes) (unread s text (h.shown ++ h.more) h.fault.0 h.read) (shows_none_on IsPartHead part_head_bytes h.shown h.more h.fault.1)
+fed_shows s (faults.Broken number count) text h other =
+    let is = h.fault in (
+      record {
+        head = is.head;
+        entries = s.entries;
+        rest = end_bytes s ++ (h.shown ++ h.more);
+        begins = begun s is.head text (h.shown ++ h.more) is.begun h.read;
+        named = is.named;
+        counted = is.counted;
+      },
+      rw (← append_assoc (end_bytes s) h.shown h.more) (no_part_on (limits_of is.head.format) count (end_bytes s ++ h.shown) h.more is.breaks),
+    )
+fed_shows s faults.Memory text h other = absurd (other refl)
 
 -- ---- the end
 
 -- without a footer it is broken
-pub no_footer_read : (s : PartSoFar) (text left : List ℕ) (head : PartHead) → s.head ≡ Some head → s.end ≡ None → HasRead (HoldsPart s) text left → IsPartLeft s left
+pub no_footer_read : (s : PartSoFar) (text left : List ℕ) (head : PartHead) → s.head ≡ Some head → s.end ≡ None → HoldsAll HoldsPart IsPartLeft s left text
     → IsBroken text head.number (length s.entries)
-no_footer_read s text left head some none reads rest =
+no_footer_read s text left head some none (reads, rest) =
     let begins : BeginsPart text head s.entries left = rw none at (begun s head text left some reads) in
-    let cut = left_item s head left some rest in (
-      record { head = head; entries = s.entries; rest = left; begins = begins; named = refl; counted = refl },
-      left_no_entry head.format left cut,
-      left_no_part text head s.entries left begins cut,
-    )
+    let cut = left_item s head left some rest in
+    record {
+      front = record { head = head; entries = s.entries; rest = left; begins = begins; named = refl; counted = refl };
+      no_entry = left_no_entry head.format left cut;
+      no_part = left_no_part text head s.entries left begins cut;
+    }
 
 -- without a header it has none
-pub no_head_read : (s : PartSoFar) (text left : List ℕ) → s.head ≡ None → HasRead (HoldsPart s) text left → IsPartLeft s left → HasNoPartHeader text
-no_head_read s text left none reads rest = subst HasNoPartHeader (unread s text left none reads) (cut_no_header left (rw none at rest))
+pub no_head_read : (s : PartSoFar) (text left : List ℕ) → s.head ≡ None → HoldsAll HoldsPart IsPartLeft s left text → HasNoPartHeader text
+no_head_read s text left none (reads, rest) = subst HasNoPartHeader (unread s text left none reads) (cut_no_header left (rw none at rest))
 
 -- ---- at most one answer
 
@@ -274,10 +292,12 @@ has_header bytes head entries rest begins none = none head (flat_map entry_spell
 -- bytes have one fault at the most
 pub one_part_fault : (bytes : List ℕ) (fault other : PartFault) → IsPartFault bytes fault → IsPartFault bytes other → fault ≡ other
 one_part_fault bytes faults.Header faults.Header f g = refl
-one_part_fault bytes faults.Header (faults.Broken number entries) f g = absurd (has_header bytes g.0.head g.0.entries g.0.rest g.0.begins f)
-one_part_fault bytes (faults.Broken number entries) faults.Header f g = absurd (has_header bytes f.0.head f.0.entries f.0.rest f.0.begins g)
-one_part_fault bytes (faults.Broken number entries) (faults.Broken n es) (f, last, no_part) (g, also, too) =
-    let same = same_beginning bytes f.head g.head f.entries g.entries f.rest g.rest f.begins g.begins last also in
+one_part_fault bytes faults.Header (faults.Broken number entries) f g = absurd (has_header bytes g.front.head g.front.entries g.front.rest g.front.begins f)
+one_part_fault bytes (faults.Broken number entries) faults.Header f g = absurd (has_header bytes f.front.head f.front.entries f.front.rest f.front.begins g)
+one_part_fault bytes (faults.Broken number entries) (faults.Broken n es) h k =
+    let f = h.front in
+    let g = k.front in
+    let same = same_beginning bytes f.head g.head f.entries g.entries f.rest g.rest f.begins g.begins h.no_entry k.no_entry in
     let numbers : number ≡ n = f.named ∙ ap (λ (h : PartHead). h.number) same.0 ∙ sym g.named in
     let counts : entries ≡ es = f.counted ∙ ap length same.1 ∙ sym g.counted in
     λ i. faults.Broken (numbers i) (counts i)
@@ -289,5 +309,5 @@ one_part_fault bytes (faults.Broken number entries) faults.Memory f g = absurd g
 pub part_or_fault : (bytes : List ℕ) (head : PartHead) (entries : List Change) (end : ℕ) (fault : PartFault) → IsPart bytes head entries end → IsPartFault bytes fault → ⊥
 part_or_fault bytes head entries end faults.Header is f =
     has_header bytes head entries (footer_bytes end (length entries)) (part_begins bytes head entries end is) f
-part_or_fault bytes head entries end (faults.Broken number count) is f = f.2 (reading_of head entries end) (head.format, is)
+part_or_fault bytes head entries end (faults.Broken number count) is f = f.no_part (reading_of head entries end) (head.format, is)
 part_or_fault bytes head entries end faults.Memory is f = f

@@ -64,11 +64,11 @@ one_fault bytes Memory other h k = absurd h
 one_fault bytes Header Memory h k = absurd k
 one_fault bytes (Record n a) Memory h k = absurd k
 one_fault bytes Header Header h k = refl
-one_fault bytes Header (Record n a) h k = absurd (no_header_record bytes k.0 a k.1 h)
-one_fault bytes (Record n a) Header h k = absurd (no_header_record bytes h.0 a h.1 k)
+one_fault bytes Header (Record n a) h k = absurd (no_header_record bytes k.records a k.fault h)
+one_fault bytes (Record n a) Header h k = absurd (no_header_record bytes h.records a h.fault k)
 one_fault bytes (Record n a) (Record m b) h k =
-    let same = one_record_fault bytes h.0 k.0 a b h.1 k.1 in
-    let number : n ≡ m = h.2 ∙ ap count_of same.0 ∙ sym k.2 in
+    let same = one_record_fault bytes h.records k.records a b h.fault k.fault in
+    let number : n ≡ m = h.number ∙ ap count_of same.0 ∙ sym k.number in
     λ i. Record (number i) (same.1 i)
 
 -- ---- not both
@@ -87,7 +87,7 @@ pub not_both : (bytes : List ℕ) (head : Head) (records : List Logged) (tail : 
     → IsLogFault bytes fault → ⊥
 not_both bytes head records tail Memory log k = k
 not_both bytes head records tail Header log k = k head (flat_map spelling records ++ tail) log.is_head log.spelled
-not_both bytes head records tail (Record n a) log k = no_record_fault bytes head records k.0 tail a log k.1
+not_both bytes head records tail (Record n a) log k = no_record_fault bytes head records k.records tail a log k.fault
 
 -- ---- one record
 

@@ -8,7 +8,7 @@ use Rattle.mt_words.specs.declared.limits.Format.{Format}
 use Rattle.mt_words.specs.Limits.{magic}
 use Rattle.mt_record.specs.declared.part_text.PartHead.{PartHead}
 use Rattle.mt_record.specs.Parts.{part_head, part_head_bytes, IsPartHead}
-use Rattle.mt_record.specs.Fronts.{GoesWithMagic, HasNone, ShowsNone, IsCutFront}
+use Rattle.mt_record.specs.Fronts.{GoesWithMagic, NoneBegins, ShowsNone, IsCutFront}
 use Rattle.mt_record.proofs.Beginnings.{shows_none, cut_front}
 use Rattle.mt_record.proofs.Numbers.{AreBytes, two, four, eight, number_front}
 
@@ -35,5 +35,5 @@ part_none = shows_none IsPartHead part_head_bytes (codes "MTC") (λ (head : Part
     (λ head. (big_bytes 4 head.number ++ (big_bytes 8 head.begin ++ (big_bytes 2 head.part ++ big_bytes 2 head.parts)), refl))
 
 -- and those that do begin one where none begins them
-pub part_cut : (bytes : List ℕ) → GoesWithMagic (codes "MTC") bytes → AreBytes bytes → HasNone IsPartHead part_head_bytes bytes → IsCutFront IsPartHead part_head_bytes bytes
+pub part_cut : (bytes : List ℕ) → GoesWithMagic (codes "MTC") bytes → AreBytes bytes → NoneBegins IsPartHead part_head_bytes bytes → IsCutFront IsPartHead part_head_bytes bytes
 part_cut = cut_front IsPartHead part_head_bytes (codes "MTC") 16 part_whole

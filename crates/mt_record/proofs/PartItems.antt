@@ -1,10 +1,9 @@
 -- The header, the entries and the footer of a part, one after the other.
-use Rattle.std.proofs.Common.{◌≡◌, ◌≢◌, inl, inr, ℕ, zero, suc, ◌^◌, ◌<◌, Err, Some, None, List, [], ◌∷◌, ◌++◌, length, refl, sym, ◌∙◌, append_assoc, arith}
+use Rattle.std.proofs.Common.{◌≡◌, ◌≢◌, inl, inr, ℕ, zero, suc, ◌^◌, ◌<◌, Some, None, List, [], ◌∷◌, ◌++◌, length, refl, sym, ◌∙◌, append_assoc, arith}
 use Rattle.std.proofs.lemmas.List.{append-nil, flat_map_more}
 use Rattle.std.specs.List.{flat_map, AllByRecursion}
 use Rattle.byteorder.specs.Endian.{big_bytes}
 use Rattle.mt_words.specs.declared.record.Change.{Change}
-use Rattle.mt_words.specs.declared.limits.Limits.{Limits}
 use Rattle.mt_words.specs.Limits.{limits_of, widest}
 use Rattle.mt_words.specs.Changes.{IsEntry}
 use Rattle.mt_words.proofs.Rising.{all_push}
@@ -13,19 +12,19 @@ use Rattle.mt_record.specs.declared.part_text.PartFault.{PartFault}
 use Rattle.mt_record.specs.declared.part_text.PartFault.TheVariants as faults
 use Rattle.mt_record.specs.declared.part_items.PartItems.{PartItems}
 use Rattle.mt_record.specs.Spelling.{framed}
-use Rattle.mt_record.specs.Heads.{written}
+use Rattle.mt_record.specs.Heads.{written_format}
 use Rattle.mt_record.specs.Bodies.{AreFieldsOf, IsNextEntry}
 use Rattle.mt_record.specs.Parts.{part_head, part_head_bytes, IsPartHead, entry_spelling, footer_bytes}
-use Rattle.mt_record.specs.PartFeeding.{PartSoFar, so_far, ended, ShowsNoEntry, ShowsNoPart, HoldsPart, IsPartLeft, StepsPart}
+use Rattle.mt_record.specs.PartFeeding.{part_so_far, end_bytes, ShowsNoEntry, ShowsNoPart, HoldsPart, IsPartLeft, IsPartFaulty}
 use Rattle.mt_record.specs.Feeding.{Reads, HoldsAll}
 use Rattle.mt_record.proofs.Copying.{entry_within}
 use Rattle.mt_record.proofs.Feeds.{front_read}
 
 -- a header is read where nothing was
 pub header_read : {E : Type 0} (listed : E → List Change) (old : PartItems E) (head : PartHead) (bytes after : List ℕ) → old.head ≡ None → IsPartHead head → bytes ≡ part_head_bytes head ++ after
-    → Reads (λ (taken : Unit {0}) items. HoldsPart (so_far listed items)) old (record old { head = Some head }) bytes after × (length after < length bytes)
+    → Reads (λ (taken : Unit {0}) items. HoldsPart (part_so_far listed items)) old (record old { head = Some head }) bytes after × (length after < length bytes)
 header_read listed old head bytes after none is e =
-    front_read (λ (taken : Unit {0}) items. HoldsPart (so_far listed items)) old (record old { head = Some head }) (part_head_bytes head) bytes after e (omega arith) (λ taken front h.
+    front_read (λ (taken : Unit {0}) items. HoldsPart (part_so_far listed items)) old (record old { head = Some head }) (part_head_bytes head) bytes after e (omega arith) (λ taken front h.
     let empty : (listed old.entries ≡ []) × (old.end ≡ None) = rw none at h.lawful in
     let before : front ≡ [] = rw (none, empty.0, empty.1) at h.spelled in
     rw (before, empty.0, empty.1) (record { spelled = sym (append-nil (part_head_bytes head)); lawful = (is, tt); fits = tt }))
@@ -34,10 +33,10 @@ header_read listed old head bytes after none is e =
 pub entry_read : {E : Type 0} (listed : E → List Change) (old : PartItems E) (entries : E) (head : PartHead) (bytes fields after : List ℕ) → old.head ≡ Some head → old.end ≡ None
     → IsNextEntry (limits_of head.format) bytes fields after
     → ((entry : Change) → AreFieldsOf widest fields entry → listed entries ≡ listed old.entries ++ entry ∷ [])
-    → Reads (λ (taken : Unit {0}) items. HoldsPart (so_far listed items)) old (record old { entries = entries }) bytes after × (length after < length bytes)
+    → Reads (λ (taken : Unit {0}) items. HoldsPart (part_so_far listed items)) old (record old { entries = entries }) bytes after × (length after < length bytes)
 entry_read listed old entries head bytes fields after some open_yet next put =
     let added = put next.next (entry_within head.format fields next.next next.fields) in
-    front_read (λ (taken : Unit {0}) items. HoldsPart (so_far listed items)) old (record old { entries = entries }) (framed fields) bytes after next.spelled (omega arith) (λ taken front h.
+    front_read (λ (taken : Unit {0}) items. HoldsPart (part_so_far listed items)) old (record old { entries = entries }) (framed fields) bytes after next.spelled (omega arith) (λ taken front h.
     let lawful : IsPartHead head × AllByRecursion (IsEntry (limits_of head.format)) (listed old.entries) = rw some at h.lawful in
     let before : front ≡ part_head_bytes head ++ flat_map entry_spelling (listed old.entries) = rw (some, open_yet, append-nil) at h.spelled in
     rw (some, open_yet, added) (record {
@@ -49,9 +48,9 @@ entry_read listed old entries head bytes fields after some open_yet next put =
 -- a footer that is whole ends the part
 pub footer_read : {E : Type 0} (listed : E → List Change) (old : PartItems E) (head : PartHead) (end count : ℕ) (bytes after : List ℕ) → old.head ≡ Some head → old.end ≡ None → end < 2 ^ 64 → count < 2 ^ 32
     → count ≡ length (listed old.entries) → bytes ≡ footer_bytes end count ++ after
-    → Reads (λ (taken : Unit {0}) items. HoldsPart (so_far listed items)) old (record old { end = Some end }) bytes after × (length after < length bytes)
+    → Reads (λ (taken : Unit {0}) items. HoldsPart (part_so_far listed items)) old (record old { end = Some end }) bytes after × (length after < length bytes)
 footer_read listed old head end count bytes after some open_yet fits_end fits same e =
-    front_read (λ (taken : Unit {0}) items. HoldsPart (so_far listed items)) old (record old { end = Some end }) (footer_bytes end count) bytes after e (omega arith) (λ taken front h.
+    front_read (λ (taken : Unit {0}) items. HoldsPart (part_so_far listed items)) old (record old { end = Some end }) (footer_bytes end count) bytes after e (omega arith) (λ taken front h.
     let before : front ≡ part_head_bytes head ++ flat_map entry_spelling (listed old.entries) = rw (some, open_yet, append-nil) at h.spelled in
     rw some (record {
       spelled = (λ i. before i ++ footer_bytes end (same i)) ∙ append_assoc (part_head_bytes head) (flat_map entry_spelling (listed old.entries)) (footer_bytes end (length (listed old.entries)));
@@ -63,9 +62,9 @@ footer_read listed old head end count bytes after some open_yet fits_end fits sa
 
 -- bytes behind which there is no part are its fault
 pub broken : {E : Type 0} (listed : E → List Change) (old : PartItems E) (head : PartHead) (fault : PartFault) (bytes : List ℕ) → old.head ≡ Some head
-    → fault ≡ faults.Broken head.number (length (listed old.entries)) → ShowsNoPart (limits_of head.format) (length (listed old.entries)) (ended (so_far listed old) ++ bytes)
-    → StepsPart listed old old bytes (Err fault)
-broken listed old head fault bytes some is breaks = rw is ((λ taken front holds. holds), record { head = head; begun = some; named = refl; counted = refl; breaks = breaks })
+    → fault ≡ faults.Broken head.number (length (listed old.entries)) → ShowsNoPart (limits_of head.format) (length (listed old.entries)) (end_bytes (part_so_far listed old) ++ bytes)
+    → IsPartFaulty (part_so_far listed old) fault bytes
+broken listed old head fault bytes some is breaks = rw is (record { head = head; begun = some; named = refl; counted = refl; breaks = breaks })
 
 -- a length that no entry has is a wrong one, if it is not that of a footer
 other_than_zero : (bytes : List ℕ) (n : ℕ) (more : List ℕ) → bytes ≡ big_bytes 4 n ++ more → ((rest : List ℕ) → bytes ≢ big_bytes 4 0 ++ rest) → 0 < n
@@ -73,21 +72,32 @@ other_than_zero bytes zero more e some = absurd (some more e)
 other_than_zero bytes (suc n) more e some = omega arith
 
 -- bytes that no entry begins, nor a footer, break the part
-pub entry_shown : (limits : Limits) (count : ℕ) (bytes : List ℕ) → ShowsNoEntry limits bytes → ((rest : List ℕ) → bytes ≢ big_bytes 4 0 ++ rest) → ShowsNoPart limits count bytes
-entry_shown limits count bytes (inl h) some = inl (h, other_than_zero bytes h.number h.more h.spelled some)
-entry_shown limits count bytes (inr h) some = inr (inl h)
+pub entry_broken : {E : Type 0} (listed : E → List Change) (old : PartItems E) (head : PartHead) (fault : PartFault) (bytes : List ℕ) → old.head ≡ Some head → old.end ≡ None
+    → fault ≡ faults.Broken head.number (length (listed old.entries)) → ((rest : List ℕ) → bytes ≢ big_bytes 4 0 ++ rest) → ShowsNoEntry (limits_of head.format) bytes
+    → IsPartFaulty (part_so_far listed old) fault bytes
+entry_broken listed old head fault bytes some open_yet is other (inl h) =
+    broken listed old head fault bytes some is (rw open_yet (inl (h, other_than_zero bytes h.number h.more h.spelled other)))
+entry_broken listed old head fault bytes some open_yet is other (inr h) = broken listed old head fault bytes some is (rw open_yet (inr (inl h)))
 
 -- and so does a byte behind the footer
-pub more_shown : (limits : Limits) (s : PartSoFar) (end : ℕ) (bytes : List ℕ) → s.end ≡ Some end → 0 < length bytes → ShowsNoPart limits (length s.entries) (ended s ++ bytes)
-more_shown limits s end [] ends some = absurd (omega (arith, some))
-more_shown limits s end (byte ∷ more) ends some = rw ends (inr (inr (inr (end, byte, more, refl))))
+pub more_broken : {E : Type 0} (listed : E → List Change) (old : PartItems E) (head : PartHead) (fault : PartFault) (end : ℕ) (bytes : List ℕ) → old.head ≡ Some head → old.end ≡ Some end
+    → fault ≡ faults.Broken head.number (length (listed old.entries)) → 0 < length bytes → IsPartFaulty (part_so_far listed old) fault bytes
+more_broken listed old head fault end [] some ends is more = absurd (omega (arith, more))
+more_broken listed old head fault end (byte ∷ more) some ends is _ =
+    broken listed old head fault (byte ∷ more) some is (rw ends (inr (inr (inr (record { end = end; byte = byte; more = more; spelled = refl })))))
 
 -- ---- the beginning
 
 -- nothing was read of nothing
 pub nothing_read : {E : Type 0} (listed : E → List Change) (entries : E) → listed entries ≡ []
-    → HoldsAll (λ items. HoldsPart (so_far listed items)) (λ items. IsPartLeft (so_far listed items)) (record { head = None; entries = entries; end = None }) [] []
+    → HoldsAll (λ items. HoldsPart (part_so_far listed items)) (λ items. IsPartLeft (part_so_far listed items)) (record { head = None; entries = entries; end = None }) [] []
 nothing_read listed entries none = (
   record { front = []; joins = refl; read = rw none (record { spelled = refl; lawful = (refl, refl); fits = tt }) },
-  (part_head written 0 0 0 0, part_head_bytes (part_head written 0 0 0 0), record { number = omega arith; begin = omega arith; part = omega arith; parts = omega arith }, omega arith, refl),
+  record {
+    head = part_head written_format 0 0 0 0;
+    more = part_head_bytes (part_head written_format 0 0 0 0);
+    is_head = record { number = omega arith; begin = omega arith; part = omega arith; parts = omega arith };
+    some = omega arith;
+    begun = refl;
+  },
 )

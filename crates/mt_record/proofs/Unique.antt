@@ -43,8 +43,8 @@ pub same_column : (c d : ℕ × List ℕ) (x y : List ℕ) → FitsColumn c → 
 same_column c d x y fits_c fits_d e =
     let first : c.0 ≡ d.0 = cc in
     let rest : counted c.1 ++ x ≡ counted d.1 ++ y = cc in
-    let text = same_counted c.1 d.1 x y fits_c.1 fits_d.1 rest in
-    (λ i. (first i, text.0 i), text.1)
+    let bytes = same_counted c.1 d.1 x y fits_c.1 fits_d.1 rest in
+    (λ i. (first i, bytes.0 i), bytes.1)
 
 -- the bytes are so many columns in one way
 same_columns : (cs ds : List (ℕ × List ℕ)) → AllByRecursion FitsColumn cs → AllByRecursion FitsColumn ds → length cs ≡ length ds
@@ -62,8 +62,8 @@ pub same_carried : (cs ds : List (ℕ × List ℕ)) → AllByRecursion FitsColum
     → length cs ∷ flat_map column_bytes cs ≡ length ds ∷ flat_map column_bytes ds → cs ≡ ds
 same_carried cs ds fits_c fits_d e =
     let number : length cs ≡ length ds = ap (λ (x : List ℕ). slice_index x 0) e in
-    let texts : flat_map column_bytes cs ≡ flat_map column_bytes ds = ap (drop 1) e in
-    same_columns cs ds fits_c fits_d number texts
+    let columns : flat_map column_bytes cs ≡ flat_map column_bytes ds = ap (drop 1) e in
+    same_columns cs ds fits_c fits_d number columns
 
 -- ---- bodies
 
@@ -88,9 +88,9 @@ pub same_change : (a b : Change) → FitsChange a → FitsChange b → code_of a
 same_change a b fits_a fits_b code e =
     let left = counted a.key ++ kind_bytes a.kind in
     let right = counted b.key ++ kind_bytes b.kind in
-    let version = same_number 8 a.version b.version left right fits_a.0 fits_b.0 e in
-    let key = same_counted a.key b.key (kind_bytes a.kind) (kind_bytes b.kind) fits_a.1 fits_b.1 version.1 in
-    let kind = same_kind a.kind b.kind fits_a.2 fits_b.2 code key.1 in
+    let version = same_number 8 a.version b.version left right fits_a.version fits_b.version e in
+    let key = same_counted a.key b.key (kind_bytes a.kind) (kind_bytes b.kind) fits_a.key fits_b.key version.1 in
+    let kind = same_kind a.kind b.kind fits_a.kind fits_b.kind code key.1 in
     λ i. record { version = version.0 i; key = key.0 i; kind = kind i }
 
 -- no kind has the byte of a mark
@@ -122,16 +122,16 @@ same_body r s fits_r fits_s e =
 -- ---- frames
 
 -- the parts of what is framed, one after the other
-pub framed_apart : (text more : List ℕ) → framed text ++ more ≡ big_bytes 4 (length text) ++ (text ++ (big_bytes 4 (length text) ++ more))
-framed_apart text more =
-    append_assoc (big_bytes 4 (length text)) (text ++ big_bytes 4 (length text)) more
-    ∙ ap (λ (x : List ℕ). big_bytes 4 (length text) ++ x) (append_assoc text (big_bytes 4 (length text)) more)
+pub framed_apart : (bytes more : List ℕ) → framed bytes ++ more ≡ big_bytes 4 (length bytes) ++ (bytes ++ (big_bytes 4 (length bytes) ++ more))
+framed_apart bytes more =
+    append_assoc (big_bytes 4 (length bytes)) (bytes ++ big_bytes 4 (length bytes)) more
+    ∙ ap (λ (x : List ℕ). big_bytes 4 (length bytes) ++ x) (append_assoc bytes (big_bytes 4 (length bytes)) more)
 
 -- one list of framed bytes begins the bytes
 pub same_framed : (a b x y : List ℕ) → length a < 2 ^ 32 → length b < 2 ^ 32 → framed a ++ x ≡ framed b ++ y → (a ≡ b) × (x ≡ y)
 same_framed a b x y fits_a fits_b e =
     let apart = sym (framed_apart a x) ∙ e ∙ framed_apart b y in
     let number = same_number 4 (length a) (length b) (a ++ (big_bytes 4 (length a) ++ x)) (b ++ (big_bytes 4 (length b) ++ y)) fits_a fits_b apart in
-    let text = same_split a b (big_bytes 4 (length a) ++ x) (big_bytes 4 (length b) ++ y) number.0 number.1 in
-    let after = same_number 4 (length a) (length b) x y fits_a fits_b text.1 in
-    (text.0, after.1)
+    let bytes = same_split a b (big_bytes 4 (length a) ++ x) (big_bytes 4 (length b) ++ y) number.0 number.1 in
+    let after = same_number 4 (length a) (length b) x y fits_a fits_b bytes.1 in
+    (bytes.0, after.1)

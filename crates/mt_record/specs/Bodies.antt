@@ -22,11 +22,11 @@ pub record IsNext (limits : Limits) (low : ℕ) (bytes : List ℕ) (r : Logged) 
   pub spelled : bytes ≡ spelling r ++ after
 
 -- the timestamp and the body of the next record, and what follows it
-pub record IsNextBody (limits : Limits) (low : ℕ) (bytes : List ℕ) (timestamp : ℕ) (text after : List ℕ) : Type 0 where
+pub record IsNextBody (limits : Limits) (low : ℕ) (bytes : List ℕ) (timestamp : ℕ) (found after : List ℕ) : Type 0 where
   pub next : Logged
   pub is_next : IsNext limits low bytes next after
   pub same_time : timestamp ≡ next.timestamp
-  pub same_body : text ≡ body next
+  pub same_body : found ≡ body next
 
 -- ---- frames
 
@@ -34,10 +34,10 @@ pub record IsNextBody (limits : Limits) (low : ℕ) (bytes : List ℕ) (timestam
 abbrev pub IsWithin : ℕ → ℕ → ℕ → Type 0
 IsWithin shortest longest n = (shortest ≤ n) × (n ≤ longest)
 
--- the framed text at the front, and what follows it
-pub record IsFrame (IsLength : ℕ → Type 0) (bytes text after : List ℕ) : Type 0 where
-  pub fits : IsLength (length text)
-  pub spelled : bytes ≡ framed text ++ after
+-- the framed body at the front, and what follows it
+pub record IsFrame (IsLength : ℕ → Type 0) (bytes body after : List ℕ) : Type 0 where
+  pub fits : IsLength (length body)
+  pub spelled : bytes ≡ framed body ++ after
 
 -- why nothing framed stands at the front
 abbrev pub IsFrameFault : (ℕ → Type 0) → List ℕ → What → Type 0
@@ -75,10 +75,10 @@ abbrev pub AreNoFields : Limits → List ℕ → Type 0
 AreNoFields limits bytes = (entry : Change) → IsEntry limits entry → bytes ≢ change_bytes entry
 
 -- the fields of the next entry of a part, and what follows it
-pub record IsNextEntry (limits : Limits) (bytes text after : List ℕ) : Type 0 where
+pub record IsNextEntry (limits : Limits) (bytes body after : List ℕ) : Type 0 where
   pub next : Change
-  pub fields : AreFieldsOf limits text next
-  pub spelled : bytes ≡ framed text ++ after
+  pub fields : AreFieldsOf limits body next
+  pub spelled : bytes ≡ framed body ++ after
 
 -- ---- changes
 
@@ -93,8 +93,12 @@ abbrev pub IsNoChange : ℕ → List ℕ → Type 0
 IsNoChange code bytes = (change : Change) → FitsChange change → code_of change.kind ≡ code → bytes ≢ change_bytes change
 
 -- the fields are those of a change, of the kind of this byte, of which this holds
-abbrev pub IsChangeWith : ℕ → List ℕ → (Change → Type 0) → Type 0
-IsChangeWith code bytes P = (change : Change) × FitsChange change × (code_of change.kind ≡ code) × (bytes ≡ change_bytes change) × P change
+pub record IsChangeWith (byte : ℕ) (bytes : List ℕ) (P : Change → Type 0) : Type 0 where
+  pub change : Change
+  pub fits : FitsChange change
+  pub code : code_of change.kind ≡ byte
+  pub spelled : bytes ≡ change_bytes change
+  pub holds : P change
 
 -- the first fault of a change of the kind of this byte
 abbrev pub IsChangeFault : Limits → ℕ → List ℕ → What → Type 0
@@ -121,8 +125,11 @@ abbrev pub IsAllowedKind : Limits → ℕ → List ℕ → Kind → Type 0
 IsAllowedKind limits code bytes kind = IsKindOf code bytes kind × AllowsKind limits kind
 
 -- the fault of the kind of this byte that carries the bytes: the format does not allow it
-abbrev pub IsKindFault : Limits → ℕ → List ℕ → What → Type 0
-IsKindFault limits code bytes what = (what ≡ Columns) × (kind : Kind) × IsKindOf code bytes kind × (AllowsKind limits kind → ⊥)
+pub record IsKindFault (limits : Limits) (byte : ℕ) (bytes : List ℕ) (what : What) : Type 0 where
+  pub is_columns : what ≡ Columns
+  pub kind : Kind
+  pub is_kind : IsKindOf byte bytes kind
+  pub refused : AllowsKind limits kind → ⊥
 
 -- the bytes are these fields, one behind the other
 pub record SpellFields (bytes : List ℕ) (fields : ChangeFields) : Type 0 where
@@ -152,22 +159,22 @@ pub record AreSpelled (count : ℕ) (bytes : List ℕ) (columns : List (ℕ × L
 abbrev pub HasColumns : ℕ → List ℕ → Type 0
 HasColumns count bytes = (columns : List (ℕ × List ℕ)) × AreSpelled count bytes columns
 
--- there are so many columns spelled so, and the format does not allow them
-abbrev pub IsColumnsFault : Limits → ℕ → List ℕ → What → Type 0
-IsColumnsFault limits count bytes what = (what ≡ Columns) × (columns : List (ℕ × List ℕ)) × AreSpelled count bytes columns × (AreColumns limits columns → ⊥)
+-- there is at least one column, and the format allows them
+abbrev pub AreSomeColumns : Limits → List (ℕ × List ℕ) → Type 0
+AreSomeColumns limits columns = AreColumns limits columns × (0 < length columns)
 
--- there are so many columns spelled so, and the format does not allow a key to have just these
-abbrev pub IsSomeFault : Limits → ℕ → List ℕ → What → Type 0
-IsSomeFault limits count bytes what =
-    (what ≡ Columns) × (columns : List (ℕ × List ℕ)) × AreSpelled count bytes columns × (AreColumns limits columns → 0 < length columns → ⊥)
+-- so many columns are spelled so, and this allows them
+pub record HasAllowedColumns (Allows : List (ℕ × List ℕ) → Type 0) (count : ℕ) (bytes : List ℕ) : Type 0 where
+  pub columns : List (ℕ × List ℕ)
+  pub spelled : AreSpelled count bytes columns
+  pub allowed : Allows columns
 
--- so many columns spelled so, as the format allows them
-abbrev pub HasAllowedColumns : Limits → ℕ → List ℕ → Type 0
-HasAllowedColumns limits count bytes = (columns : List (ℕ × List ℕ)) × AreSpelled count bytes columns × AreColumns limits columns
-
--- and at least one
-abbrev pub HasSomeColumns : Limits → ℕ → List ℕ → Type 0
-HasSomeColumns limits count bytes = (columns : List (ℕ × List ℕ)) × AreSpelled count bytes columns × AreColumns limits columns × (0 < length columns)
+-- so many columns are spelled so, and this does not allow them
+pub record IsColumnsFault (Allows : List (ℕ × List ℕ) → Type 0) (count : ℕ) (bytes : List ℕ) (what : What) : Type 0 where
+  pub is_columns : what ≡ Columns
+  pub columns : List (ℕ × List ℕ)
+  pub spelled : AreSpelled count bytes columns
+  pub refused : Allows columns → ⊥
 
 -- these columns behind their number, of which there is at least one
 pub record CarriesColumns (bytes : List ℕ) (columns : List (ℕ × List ℕ)) : Type 0 where

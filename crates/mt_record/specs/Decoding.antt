@@ -33,10 +33,10 @@ kind_from false true bytes = Whole (columns_counted bytes)
 kind_from false false bytes = Put (columns_counted bytes)
 
 -- the columns that a kind sets
-abbrev pub columns_of : Kind → List (ℕ × List ℕ)
-columns_of (Put columns) = columns
-columns_of Remove = []
-columns_of (Whole columns) = columns
+abbrev pub columns_in : Kind → List (ℕ × List ℕ)
+columns_in (Put columns) = columns
+columns_in Remove = []
+columns_in (Whole columns) = columns
 
 -- those of a kind that carries the bytes; it is a remove where this is true
 abbrev pub columns_carried : Bool → List ℕ → List (ℕ × List ℕ)
@@ -100,7 +100,7 @@ decode bytes = record { timestamp = time_in bytes; change = change_unless (is_ma
 pub record IsSound (change : Change) : Type 0 where
   pub version : change.version < 2 ^ 64
   pub key : IsKey widest change.key
-  pub columns : AreColumns widest (columns_of change.kind)
+  pub columns : AreColumns widest (columns_in change.kind)
 
 -- The bytes are the body of a mark or of a change. That of an entry is spelled as a record of its kind would be.
 pub record IsBody (bytes : List ℕ) : Type 0 where

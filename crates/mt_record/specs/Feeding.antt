@@ -5,17 +5,22 @@ use Rattle.mt_record.specs.declared.feed.Feed.{Feed}
 
 -- ---- items
 
--- the text is what was read, and the rest
+-- the text is what was read, of which this holds, and the rest
 pub record HasRead (holds : List ℕ → Type 0) (text rest : List ℕ) : Type 0 where
   pub front : List ℕ
   pub joins : text ≡ front ++ rest
   pub read : holds front
 
--- items at the front of the bytes were read, and these bytes follow them
-pub record Reads {T I : Type 0} (holds : T → I → List ℕ → Type 0) (old new : I) (bytes after : List ℕ) : Type 0 where
-  pub items : List ℕ
-  pub joins : bytes ≡ items ++ after
-  pub on : (taken : T) (front : List ℕ) → holds taken old front → holds taken new (front ++ items)
+-- items at the front of the bytes were read behind what was read before, and these bytes follow them
+abbrev pub Reads : {T I : Type 0} → (T → I → List ℕ → Type 0) → I → I → List ℕ → List ℕ → Type 0
+Reads {T} holds old new bytes after = HasRead (λ items. (taken : T) (front : List ℕ) → holds taken old front → holds taken new (front ++ items)) bytes after
+
+-- what was read goes up to bytes that show the fault, whatever follows them
+pub record HasShown (is_read shows : List ℕ → Type 0) : Type 0 where
+  pub shown : List ℕ
+  pub more : List ℕ
+  pub read : is_read (shown ++ more)
+  pub fault : shows shown
 
 -- One step: nothing more can be read; or an item was read, and fewer bytes follow it; or the bytes show a fault, and what was read is what was read before.
 abbrev pub Steps : {T I F : Type 0} → (T → I → List ℕ → Type 0) → (I → List ℕ → Type 0) → (I → F → List ℕ → Type 0) → I → I → List ℕ → Result (Option (Bor (List ℕ))) F → Type 0
@@ -27,10 +32,6 @@ Steps {T} holds is_left shows old new bytes (Err fault) = ((taken : T) (front : 
 abbrev pub StepsOn : {T I F : Type 0} → (T → I → List ℕ → Type 0) → (I → List ℕ → Type 0) → (I → F → List ℕ → Type 0) → I → I → List ℕ → Result (Bor (List ℕ)) F → Type 0
 StepsOn holds is_left shows old new bytes (Ok after) = Reads holds old new bytes after.now × is_left new after.now
 StepsOn holds is_left shows old new bytes (Err fault) = (after : List ℕ) × Reads holds old new bytes after × shows new fault after
-
--- items were read, and bytes behind them show the fault, whatever follows those
-abbrev pub ReadsFault : {T I F : Type 0} → (T → I → List ℕ → Type 0) → (I → F → List ℕ → Type 0) → I → I → List ℕ → F → Type 0
-ReadsFault holds shows old new bytes fault = (shown : List ℕ) × (more : List ℕ) × Reads holds old new bytes (shown ++ more) × shows new fault shown
 
 -- ---- feeds
 
@@ -48,10 +49,7 @@ fed_by so_far feed = record { so_far = so_far feed.items; held = feed.held.items
 abbrev pub HoldsAll : {I : Type 0} → (I → List ℕ → Type 0) → (I → List ℕ → Type 0) → I → List ℕ → List ℕ → Type 0
 HoldsAll holds is_left items held text = HasRead (holds items) text held × is_left items held
 
--- bytes of the text behind what was read show the fault, whatever follows them
-abbrev pub HasShown : {I F : Type 0} → (I → List ℕ → Type 0) → (I → F → List ℕ → Type 0) → I → F → List ℕ → Type 0
-HasShown holds shows items fault text = (shown : List ℕ) × (more : List ℕ) × HasRead (holds items) text (shown ++ more) × shows items fault shown
-
 -- a feed that was fed this text: without a fault all of it is read or held back, and a fault is one that it shows
 abbrev pub IsFedBy : {I F : Type 0} → (I → List ℕ → Type 0) → (I → List ℕ → Type 0) → (I → F → List ℕ → Type 0) → I → List ℕ → Option F → List ℕ → Type 0
-IsFedBy {F = F} holds is_left shows items held answered text = (answered ≡ None → HoldsAll holds is_left items held text) × ((fault : F) → answered ≡ Some fault → HasShown holds shows items fault text)
+IsFedBy {F = F} holds is_left shows items held answered text =
+    (answered ≡ None → HoldsAll holds is_left items held text) × ((fault : F) → answered ≡ Some fault → HasShown (HasRead (holds items) text) (shows items fault))

@@ -18,16 +18,20 @@ bytes_of spelled None = []
 bytes_of spelled (Some head) = spelled head
 
 -- none of these begins the bytes
-abbrev pub HasNone : {H : Type 0} → (H → Type 0) → (H → List ℕ) → List ℕ → Type 0
-HasNone {H} Is spelled bytes = (head : H) (more : List ℕ) → Is head → bytes ≢ spelled head ++ more
+abbrev pub NoneBegins : {H : Type 0} → (H → Type 0) → (H → List ℕ) → List ℕ → Type 0
+NoneBegins {H} Is spelled bytes = (head : H) (more : List ℕ) → Is head → bytes ≢ spelled head ++ more
 
 -- none of these begins the bytes, nor do the bytes begin one
 abbrev pub ShowsNone : {H : Type 0} → (H → Type 0) → (H → List ℕ) → List ℕ → Type 0
-ShowsNone {H} Is spelled bytes = HasNone Is spelled bytes × ((head : H) (more : List ℕ) → Is head → spelled head ≢ bytes ++ more)
+ShowsNone {H} Is spelled bytes = NoneBegins Is spelled bytes × ((head : H) (more : List ℕ) → Is head → spelled head ≢ bytes ++ more)
 
 -- the bytes are the beginning of one of these, and not all of it
-abbrev pub IsCutFront : {H : Type 0} → (H → Type 0) → (H → List ℕ) → List ℕ → Type 0
-IsCutFront {H} Is spelled bytes = (head : H) × (more : List ℕ) × Is head × (0 < length more) × (spelled head ≡ bytes ++ more)
+pub record IsCutFront {H : Type 0} (Is : H → Type 0) (spelled : H → List ℕ) (bytes : List ℕ) : Type 0 where
+  pub head : H
+  pub more : List ℕ
+  pub is_head : Is head
+  pub some : 0 < length more
+  pub begun : spelled head ≡ bytes ++ more
 
 -- what was found at the front: the beginning of one of these, or one and what follows it, or that there is none
 abbrev pub FindsFront : {H E : Type 0} → (H → Type 0) → (H → List ℕ) → List ℕ → Result (Option (H × Bor (List ℕ))) E → Type 0

@@ -5,15 +5,15 @@ use Rattle.mt_words.specs.declared.limits.Format.{Format}
 use Rattle.mt_words.specs.declared.limits.Format.TheVariants.{One}
 use Rattle.mt_words.specs.Limits.{magic}
 use Rattle.mt_record.specs.declared.head.Head.{Head}
-use Rattle.mt_record.specs.Fronts.{HasNone}
+use Rattle.mt_record.specs.Fronts.{NoneBegins}
 
 -- the format in which logs and parts are written
-abbrev pub written : Format
-written = One
+abbrev pub written_format : Format
+written_format = One
 
 -- the header of a log that is written
 abbrev pub head_of : ℕ → Head
-head_of from = record { format = written; from = from }
+head_of from = record { format = written_format; from = from }
 
 abbrev pub head_bytes : Head → List ℕ
 head_bytes head = magic (codes "MTL") head.format ++ big_bytes 8 head.from
@@ -23,4 +23,4 @@ IsHead head = head.from < 2 ^ 64
 
 -- no header begins the bytes
 abbrev pub HasNoHeader : List ℕ → Type 0
-HasNoHeader bytes = HasNone IsHead head_bytes bytes
+HasNoHeader bytes = NoneBegins IsHead head_bytes bytes

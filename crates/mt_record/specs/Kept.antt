@@ -31,6 +31,6 @@ abbrev pub kept_updates : Kept → List Update
 kept_updates kept = updates_from kept.log 0 kept.records
 
 -- the update, if there is one
-abbrev pub listed : Option Update → List Update
-listed None = []
-listed (Some update) = update ∷ []
+abbrev pub as_list : Option Update → List Update
+as_list None = []
+as_list (Some update) = update ∷ []

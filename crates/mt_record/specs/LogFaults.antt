@@ -1,4 +1,4 @@
--- The one fault of bytes that are no log.
+-- The one fault of bytes that are no log, and how want of memory is left open.
 use Rattle.std.specs.Prelude.{◌≡◌, ◌≢◌, ℕ, ◌≤◌, ◌<◌, ◌^◌, List, ◌++◌, length, slice_index}
 use Rattle.std.specs.List.{flat_map}
 use Rattle.byteorder.specs.Endian.{big_bytes}
@@ -29,8 +29,10 @@ HasVersionFault change = change.version ≡ 0
 abbrev pub HasKeyFault : Limits → Change → Type 0
 HasKeyFault limits change = (0 < change.version) × (IsKey limits change.key → ⊥)
 
-abbrev pub HasColumnsFault : Limits → Change → Type 0
-HasColumnsFault limits change = (0 < change.version) × IsKey limits change.key × (AllowsKind limits change.kind → ⊥)
+pub record HasColumnsFault (limits : Limits) (change : Change) : Type 0 where
+  pub version : 0 < change.version
+  pub key : IsKey limits change.key
+  pub refused : AllowsKind limits change.kind → ⊥
 
 -- the fields of the body are those of a change of which this holds
 pub record IsBodyOfChange (bytes : List ℕ) (P : Change → Type 0) : Type 0 where
@@ -68,24 +70,24 @@ pub record HasLengthFault (IsLength : ℕ → Type 0) (rest : List ℕ) : Type 0
 
 -- a length, so many bytes and a number stand at the front
 pub record HasFrame (IsLength : ℕ → Type 0) (rest : List ℕ) : Type 0 where
-  pub text : List ℕ
+  pub body : List ℕ
   pub number : ℕ
   pub more : List ℕ
-  pub is_length : IsLength (length text)
+  pub is_length : IsLength (length body)
   pub fits : number < 2 ^ 32
-  pub spelled : rest ≡ big_bytes 4 (length text) ++ (text ++ (big_bytes 4 number ++ more))
+  pub spelled : rest ≡ big_bytes 4 (length body) ++ (body ++ (big_bytes 4 number ++ more))
 
 -- the number is not the length
 abbrev pub HasTrailerFault : (ℕ → Type 0) → List ℕ → Type 0
-HasTrailerFault IsLength rest = (frame : HasFrame IsLength rest) × (frame.number ≢ length frame.text)
+HasTrailerFault IsLength rest = (frame : HasFrame IsLength rest) × (frame.number ≢ length frame.body)
 
 -- the fault of a body that is framed
 pub record HasBodyFault (what : What) (limits : Limits) (low : ℕ) (rest : List ℕ) : Type 0 where
-  pub text : List ℕ
+  pub body : List ℕ
   pub more : List ℕ
-  pub is_length : IsRecordLength limits (length text)
-  pub spelled : rest ≡ framed text ++ more
-  pub fault : BodyFault what limits low text
+  pub is_length : IsRecordLength limits (length body)
+  pub spelled : rest ≡ framed body ++ more
+  pub fault : BodyFault what limits low body
 
 -- the first fault of what follows the records
 abbrev pub RestFault : What → Limits → ℕ → List ℕ → Type 0
@@ -102,10 +104,16 @@ pub record HasFault (bytes : List ℕ) (records : List Logged) (what : What) : T
   pub lawful : AreRecords (limits_of head.format) 0 records
   pub fault : RestFault what (limits_of head.format) (latest 0 records) rest
 
+-- a header and records of this number begin the bytes, and then a fault follows
+pub record IsRecordFault (bytes : List ℕ) (nth : ℕ) (what : What) : Type 0 where
+  pub records : List Logged
+  pub fault : HasFault bytes records what
+  pub number : nth ≡ count_of records
+
 -- the fault of the bytes, which are no log: want of memory is none
 abbrev pub IsLogFault : List ℕ → FeedFault → Type 0
 IsLogFault bytes faults.Header = HasNoHeader bytes
-IsLogFault bytes (faults.Record nth what) = (records : List Logged) × HasFault bytes records what × (nth ≡ count_of records)
+IsLogFault bytes (faults.Record nth what) = IsRecordFault bytes nth what
 IsLogFault bytes faults.Memory = ⊥
 
 -- the fault of recovery that the fault of a log is
@@ -114,11 +122,10 @@ fault_at log faults.Header = of_all.Header log
 fault_at log (faults.Record nth what) = of_all.Record log nth what
 fault_at log faults.Memory = of_all.Memory
 
--- a fault of which this holds, or want of memory, of which nothing is said
-abbrev pub OrMemory : (FeedFault → Type 0) → FeedFault → Type 0
-OrMemory P faults.Memory = Unit {0}
-OrMemory P fault = P fault
+-- this holds of the fault, unless it is want of memory, of which nothing is said
+abbrev pub OrMemory : {F : Type 0} → F → (F → Type 0) → F → Type 0
+OrMemory memory P fault = fault ≢ memory → P fault
 
 -- a fault that was answered is that of the bytes
 abbrev pub IsAnswered : List ℕ → FeedFault → Type 0
-IsAnswered bytes = OrMemory (IsLogFault bytes)
+IsAnswered bytes = OrMemory faults.Memory (IsLogFault bytes)

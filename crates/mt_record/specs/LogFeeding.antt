@@ -2,7 +2,6 @@
 use Rattle.std.specs.Prelude.{◌≡◌, ℕ, ◌⊎◌, Option, Some, None, MatchOption, Result, List, [], ◌++◌}
 use Rattle.std.specs.Borrow.{Bor}
 use Rattle.std.specs.List.{flat_map}
-use Rattle.mt_words.specs.declared.limits.Limits.{Limits}
 use Rattle.mt_words.specs.Limits.{limits_of}
 use Rattle.mt_words.specs.Changes.{Logged}
 use Rattle.mt_record.specs.declared.read.FeedFault.{FeedFault}
@@ -33,13 +32,9 @@ pub record HoldsLog (taken : List Logged) (so_far : LogSoFar) (front : List ℕ)
   pub latest : so_far.latest ≡ latest 0 (taken ++ so_far.ready)
   pub whole : so_far.whole ≡ count_of (taken ++ so_far.ready)
 
--- a rest that is no record nor a fault: nothing, or the beginning of a record
-abbrev pub IsLeft : Limits → List ℕ → Type 0
-IsLeft limits rest = (rest ≡ []) ⊎ IsTorn limits rest
-
 -- a rest from which nothing more can be read, and which shows no fault
 abbrev pub IsLogLeft : LogSoFar → List ℕ → Type 0
-IsLogLeft so_far rest = MatchOption so_far.head (IsCutFront IsHead head_bytes rest) (λ head. IsLeft (limits_of head.format) rest)
+IsLogLeft so_far rest = MatchOption so_far.head (IsCutFront IsHead head_bytes rest) (λ head. (rest ≡ []) ⊎ IsTorn (limits_of head.format) rest)
 
 -- behind the records so far, which have this number, a rest has this fault
 pub record IsFaultBehind (so_far : LogSoFar) (nth : ℕ) (what : What) (rest : List ℕ) : Type 0 where
@@ -64,7 +59,7 @@ ShowsFault bytes faults.Memory = ⊥
 
 -- a fault that a feed answered is shown
 abbrev pub IsShown : List ℕ → FeedFault → Type 0
-IsShown bytes = OrMemory (ShowsFault bytes)
+IsShown bytes = OrMemory faults.Memory (ShowsFault bytes)
 
 abbrev pub ShowsNoFault : List ℕ → Type 0
 ShowsNoFault bytes = (fault : FeedFault) → ShowsFault bytes fault → ⊥
@@ -72,13 +67,13 @@ ShowsNoFault bytes = (fault : FeedFault) → ShowsFault bytes fault → ⊥
 -- ---- items
 
 -- what was read, as contracts see it; the records are those that are told of what they were put into
-abbrev pub so_far : {R : Type 0} → (R → List Logged) → LogItems R → LogSoFar
-so_far listed items = record { head = items.head; ready = listed items.ready; latest = items.latest; whole = items.whole }
+abbrev pub log_so_far : {R : Type 0} → (R → List Logged) → LogItems R → LogSoFar
+log_so_far listed items = record { head = items.head; ready = listed items.ready; latest = items.latest; whole = items.whole }
 
 -- one step of reading a log
 abbrev pub StepsLog : {R : Type 0} → (R → List Logged) → LogItems R → LogItems R → List ℕ → Result (Option (Bor (List ℕ))) FeedFault → Type 0
 StepsLog listed old new bytes answer =
-    Steps (λ taken items. HoldsLog taken (so_far listed items)) (λ items. IsLogLeft (so_far listed items)) (λ items. IsLogFaulty (so_far listed items)) old new bytes answer
+    Steps (λ taken items. HoldsLog taken (log_so_far listed items)) (λ items. IsLogLeft (log_so_far listed items)) (λ items. IsLogFaulty (log_so_far listed items)) old new bytes answer
 
 -- ---- feeds
 

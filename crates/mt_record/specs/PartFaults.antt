@@ -8,16 +8,17 @@ use Rattle.mt_words.specs.Changes.{IsEntry}
 use Rattle.mt_record.specs.declared.part_text.PartHead.{PartHead}
 use Rattle.mt_record.specs.declared.part_text.PartFault.{PartFault}
 use Rattle.mt_record.specs.declared.part_text.PartFault.TheVariants as faults
-use Rattle.mt_record.specs.Fronts.{HasNone}
+use Rattle.mt_record.specs.Fronts.{NoneBegins}
 use Rattle.mt_record.specs.Parts.{part_head_bytes, IsPartHead, entry_spelling, PartReading, IsPartReading}
+use Rattle.mt_record.specs.LogFaults.{OrMemory}
 
 -- no header of a part begins the bytes
 abbrev pub HasNoPartHeader : List ℕ → Type 0
-HasNoPartHeader bytes = HasNone IsPartHead part_head_bytes bytes
+HasNoPartHeader bytes = NoneBegins IsPartHead part_head_bytes bytes
 
 -- no entry begins the bytes
 abbrev pub HasNoEntry : Limits → List ℕ → Type 0
-HasNoEntry limits bytes = HasNone (IsEntry limits) entry_spelling bytes
+HasNoEntry limits bytes = NoneBegins (IsEntry limits) entry_spelling bytes
 
 -- the bytes begin with a header and these whole entries, and the rest follows
 pub record BeginsPart (bytes : List ℕ) (head : PartHead) (entries : List Change) (rest : List ℕ) : Type 0 where
@@ -35,8 +36,10 @@ pub record BeginsPartOf (bytes : List ℕ) (number count : ℕ) : Type 0 where
   pub counted : count ≡ length entries
 
 -- the bytes are no part, but begin so, with no entry more
-abbrev pub IsBroken : List ℕ → ℕ → ℕ → Type 0
-IsBroken bytes number count = (front : BeginsPartOf bytes number count) × HasNoEntry (limits_of front.head.format) front.rest × ((part : PartReading) → IsPartReading bytes part → ⊥)
+pub record IsBroken (bytes : List ℕ) (number count : ℕ) : Type 0 where
+  pub front : BeginsPartOf bytes number count
+  pub no_entry : HasNoEntry (limits_of front.head.format) front.rest
+  pub no_part : (part : PartReading) → IsPartReading bytes part → ⊥
 
 -- the fault of the bytes, which are no part: want of memory is none
 abbrev pub IsPartFault : List ℕ → PartFault → Type 0
@@ -44,11 +47,6 @@ IsPartFault bytes faults.Header = HasNoPartHeader bytes
 IsPartFault bytes (faults.Broken number entries) = IsBroken bytes number entries
 IsPartFault bytes faults.Memory = ⊥
 
--- a fault of which this holds, or want of memory, of which nothing is said
-abbrev pub OrMemory : (PartFault → Type 0) → PartFault → Type 0
-OrMemory P faults.Memory = Unit {0}
-OrMemory P fault = P fault
-
 -- a fault that was answered is that of the bytes
 abbrev pub IsPartAnswered : List ℕ → PartFault → Type 0
-IsPartAnswered bytes = OrMemory (IsPartFault bytes)
+IsPartAnswered bytes = OrMemory faults.Memory (IsPartFault bytes)

@@ -11,10 +11,10 @@ use Rattle.mt_record.specs.declared.part_text.PartHead.{PartHead}
 use Rattle.mt_record.specs.declared.part_text.PartFault.{PartFault}
 use Rattle.mt_record.specs.declared.part_text.PartFault.TheVariants as faults
 use Rattle.mt_record.specs.Logs.{IsCut}
-use Rattle.mt_record.specs.LogFaults.{HasLengthFault, HasFrame}
+use Rattle.mt_record.specs.LogFaults.{HasLengthFault, HasFrame, OrMemory}
 use Rattle.mt_record.specs.Parts.{part_head_bytes, IsPartHead, entry_spelling, footer_bytes, IsEntryLength}
 use Rattle.mt_record.specs.Fronts.{bytes_of, ShowsNone, IsCutFront}
-use Rattle.mt_record.specs.PartFaults.{BeginsPartOf, OrMemory}
+use Rattle.mt_record.specs.PartFaults.{BeginsPartOf}
 use Rattle.mt_record.specs.declared.part_items.PartItems.{PartItems}
 use Rattle.mt_record.specs.Feeding.{Steps, Fed, IsFedBy}
 
@@ -27,7 +27,7 @@ HasWrongLength limits rest = (fault : HasLengthFault (IsEntryLength limits) rest
 -- the bytes begin with the length of an entry, so many bytes and a number, and these are no entry
 abbrev pub HasWrongEntry : Limits → List ℕ → Type 0
 HasWrongEntry limits rest = (frame : HasFrame (IsEntryLength limits) rest)
-    × ((entry : Change) → IsEntry limits entry → big_bytes 4 (length frame.text) ++ (frame.text ++ big_bytes 4 frame.number) ≢ entry_spelling entry)
+    × ((entry : Change) → IsEntry limits entry → big_bytes 4 (length frame.body) ++ (frame.body ++ big_bytes 4 frame.number) ≢ entry_spelling entry)
 
 -- the bytes begin with a footer that has another number than that of the entries
 pub record HasWrongCount (count : ℕ) (rest : List ℕ) : Type 0 where
@@ -39,8 +39,11 @@ pub record HasWrongCount (count : ℕ) (rest : List ℕ) : Type 0 where
   pub spelled : rest ≡ footer_bytes end number ++ more
 
 -- the bytes are a footer and at least one byte more
-abbrev pub HasMore : ℕ → List ℕ → Type 0
-HasMore count rest = (end : ℕ) × (byte : ℕ) × (more : List ℕ) × (rest ≡ footer_bytes end count ++ byte ∷ more)
+pub record HasMore (count : ℕ) (rest : List ℕ) : Type 0 where
+  pub end : ℕ
+  pub byte : ℕ
+  pub more : List ℕ
+  pub spelled : rest ≡ footer_bytes end count ++ byte ∷ more
 
 -- the bytes show that no entry begins them
 abbrev pub ShowsNoEntry : Limits → List ℕ → Type 0
@@ -62,7 +65,7 @@ ShowsPartFault bytes faults.Memory = ⊥
 
 -- a fault that a feed answered is shown
 abbrev pub IsPartShown : List ℕ → PartFault → Type 0
-IsPartShown bytes = OrMemory (ShowsPartFault bytes)
+IsPartShown bytes = OrMemory faults.Memory (ShowsPartFault bytes)
 
 abbrev pub ShowsNoPartFault : List ℕ → Type 0
 ShowsNoPartFault bytes = (fault : PartFault) → ShowsPartFault bytes fault → ⊥
@@ -76,12 +79,12 @@ pub record PartSoFar : Type 0 where
   pub end : Option ℕ
 
 -- the bytes behind the entries: those of a footer with their number, if it is whole
-abbrev pub ended : PartSoFar → List ℕ
-ended so_far = bytes_of (λ end. footer_bytes end (length so_far.entries)) so_far.end
+abbrev pub end_bytes : PartSoFar → List ℕ
+end_bytes so_far = bytes_of (λ end. footer_bytes end (length so_far.entries)) so_far.end
 
 -- the bytes are what was read: a header, entries, and a footer if it is whole, or nothing
 pub record HoldsPart (so_far : PartSoFar) (front : List ℕ) : Type 0 where
-  pub spelled : front ≡ bytes_of part_head_bytes so_far.head ++ (flat_map entry_spelling so_far.entries ++ ended so_far)
+  pub spelled : front ≡ bytes_of part_head_bytes so_far.head ++ (flat_map entry_spelling so_far.entries ++ end_bytes so_far)
   pub lawful : MatchOption so_far.head ((so_far.entries ≡ []) × (so_far.end ≡ None)) (λ head. IsPartHead head × AllByRecursion (IsEntry (limits_of head.format)) so_far.entries)
   pub fits : IfSome so_far.end (λ end. (end < 2 ^ 64) × (length so_far.entries < 2 ^ 32))
 
@@ -100,7 +103,7 @@ pub record IsBrokenBehind (so_far : PartSoFar) (number entries : ℕ) (rest : Li
   pub begun : so_far.head ≡ Some head
   pub named : number ≡ head.number
   pub counted : entries ≡ length so_far.entries
-  pub breaks : ShowsNoPart (limits_of head.format) entries (ended so_far ++ rest)
+  pub breaks : ShowsNoPart (limits_of head.format) entries (end_bytes so_far ++ rest)
 
 -- a rest that shows the fault, however it goes on: behind the footer any byte does
 abbrev pub IsPartFaulty : PartSoFar → PartFault → List ℕ → Type 0
@@ -111,13 +114,13 @@ IsPartFaulty so_far faults.Memory rest = Unit {0}
 -- ---- items
 
 -- what was read, as contracts see it; the entries are those that are told of what they were put into
-abbrev pub so_far : {E : Type 0} → (E → List Change) → PartItems E → PartSoFar
-so_far listed items = record { head = items.head; entries = listed items.entries; end = items.end }
+abbrev pub part_so_far : {E : Type 0} → (E → List Change) → PartItems E → PartSoFar
+part_so_far listed items = record { head = items.head; entries = listed items.entries; end = items.end }
 
 -- one step of reading a part, of which nothing is taken
 abbrev pub StepsPart : {E : Type 0} → (E → List Change) → PartItems E → PartItems E → List ℕ → Result (Option (Bor (List ℕ))) PartFault → Type 0
 StepsPart listed old new bytes answer =
-    Steps {T = Unit {0}} (λ taken items. HoldsPart (so_far listed items)) (λ items. IsPartLeft (so_far listed items)) (λ items. IsPartFaulty (so_far listed items)) old new bytes answer
+    Steps {T = Unit {0}} (λ taken items. HoldsPart (part_so_far listed items)) (λ items. IsPartLeft (part_so_far listed items)) (λ items. IsPartFaulty (part_so_far listed items)) old new bytes answer
 
 -- ---- feeds
 

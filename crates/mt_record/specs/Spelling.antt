@@ -71,8 +71,10 @@ FitsKind (Put columns) = (length columns < 2 ^ 8) × AllByRecursion FitsColumn c
 FitsKind Remove = Unit {0}
 FitsKind (Whole columns) = (length columns < 2 ^ 8) × AllByRecursion FitsColumn columns
 
-abbrev pub FitsChange : Change → Type 0
-FitsChange change = (change.version < 2 ^ 64) × (length change.key < 2 ^ 16) × FitsKind change.kind
+pub record FitsChange (change : Change) : Type 0 where
+  pub version : change.version < 2 ^ 64
+  pub key : length change.key < 2 ^ 16
+  pub kind : FitsKind change.kind
 
 -- a change of a kind that log records have
 abbrev pub FitsLogged : Change → Type 0

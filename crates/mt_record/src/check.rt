@@ -1,10 +1,11 @@
 //! Bodies checked as they stand: nothing is copied, and no memory is taken.
 ghost use Rattle.std.specs.Prelude.{◌≡◌, ◌≤◌, ◌<◌, ℕ, List, length, IfOk, IfErr, OnOk, OnErr};
 ghost use Rattle.mt_words.specs.Limits.{limits_of};
+ghost use Rattle.mt_words.specs.Words.{AreColumns};
 ghost use Rattle.mt_words.specs.declared.record.Change.{Change as ChangeValue};
 ghost use Rattle.mt_words.specs.declared.update.Kind.{Kind as KindValue};
 ghost use Rattle.mt_record.specs.LogFaults.{BodyFault};
-ghost use Rattle.mt_record.specs.Bodies.{IsBodyAt, AreFieldsOf, AreNoFields, IsChangeOf, IsChangeFault, HasKind, IsAllowedKind, IsKindFault, HasColumns, HasAllowedColumns, HasSomeColumns, IsColumnsFault, IsSomeFault};
+ghost use Rattle.mt_record.specs.Bodies.{IsBodyAt, AreFieldsOf, AreNoFields, IsChangeOf, IsChangeFault, HasKind, IsAllowedKind, IsKindFault, HasColumns, AreSomeColumns, HasAllowedColumns, IsColumnsFault};
 
 use crate::body::{MARK, PUT, REMOVE, WHOLE, change_fields};
 use crate::fields::{column_at, u64_at};
@@ -89,8 +90,8 @@ fn check_kind(format: Format, code: u8, bytes: &[u8]) -> Result<(), What>
 /// Checks the columns that the bytes are, of which there is to be at least one.
 fn check_some(format: Format, count: u8, bytes: &[u8]) -> Result<(), What>
     requires { HasColumns count bytes.now }
-    ensures found { OnOk result (HasSomeColumns (limits_of format) count bytes.now) }
-    ensures fault { IfErr result (IsSomeFault (limits_of format) count bytes.now) }
+    ensures found { OnOk result (HasAllowedColumns (AreSomeColumns (limits_of format)) count bytes.now) }
+    ensures fault { IfErr result (IsColumnsFault (AreSomeColumns (limits_of format)) count bytes.now) }
 {
     check_columns(format, count, bytes)?;
     if count == 0 {
@@ -102,8 +103,8 @@ fn check_some(format: Format, count: u8, bytes: &[u8]) -> Result<(), What>
 /// Checks the columns that the bytes are.
 fn check_columns(format: Format, count: u8, bytes: &[u8]) -> Result<(), What>
     requires { HasColumns count bytes.now }
-    ensures found { OnOk result (HasAllowedColumns (limits_of format) count bytes.now) }
-    ensures fault { IfErr result (IsColumnsFault (limits_of format) count bytes.now) }
+    ensures found { OnOk result (HasAllowedColumns (AreColumns (limits_of format)) count bytes.now) }
+    ensures fault { IfErr result (IsColumnsFault (AreColumns (limits_of format)) count bytes.now) }
 {
     let greatest = format.limits().column;
     let mut least = 0;

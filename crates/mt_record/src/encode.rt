@@ -5,11 +5,11 @@ ghost use Rattle.mt_words.specs.Words.{AreColumns};
 ghost use Rattle.mt_words.specs.declared.update.Kind.TheVariants.{Put};
 ghost use Rattle.mt_record.specs.Heads.{head_of, head_bytes};
 ghost use Rattle.mt_record.specs.Spelling.{code_of as code_of_kind, column_bytes, kind_bytes, change_bytes, body, spelling, IsRecordLength};
-ghost use Rattle.mt_record.specs.Decoding.{columns_of};
+ghost use Rattle.mt_record.specs.Decoding.{columns_in};
 ghost use Rattle.mt_record.specs.Adding.{HasRoom, Adds};
 
 use crate::body::{MARK, PUT, REMOVE, WHOLE};
-use crate::head::{HEADER_BYTES, LOG, WRITTEN};
+use crate::head::{HEADER_BYTES, LOG, WRITTEN_FORMAT};
 use crate::put::{put_bytes, put_column, put_counted, put_magic};
 use mt_words::{Change, Column, Kind, Memory, Record};
 
@@ -19,7 +19,7 @@ pub fn encode_log_header(from: u64, out: &mut Vec<u8>) -> Result<(), Memory>
     ensures err { OnErr result (out.new.items ≡ out.old.items) }
 {
     out.reserve(HEADER_BYTES)?;
-    put_magic(LOG, WRITTEN, out);
+    put_magic(LOG, WRITTEN_FORMAT, out);
     put_bytes(&from.to_be_bytes(), out);
     Ok(())
 }
@@ -128,7 +128,7 @@ pub fn put_change(change: &Change, out: &mut Vec<u8>)
 pub fn put_kind(kind: &Kind, out: &mut Vec<u8>)
     requires { HasRoom (length (kind_bytes kind.now)) out.old }
     ensures added { Adds (kind_bytes kind.now) out.old out.new }
-    ensures lawful { AreColumns widest (columns_of kind.now) }
+    ensures lawful { AreColumns widest (columns_in kind.now) }
 {
     match kind {
         Kind::Put(columns) | Kind::Whole(columns) => put_columns(columns.as_slice(), out),

@@ -3,12 +3,12 @@ ghost use Rattle.std.specs.Prelude.{◌≡◌, ◌<◌, ◌^◌, ◌++◌, lengt
 ghost use Rattle.std.specs.List.{flat_map};
 ghost use Rattle.std.specs.Io.{StartsWith};
 ghost use Rattle.mt_words.specs.Limits.{widest};
-ghost use Rattle.mt_record.specs.Heads.{written};
+ghost use Rattle.mt_record.specs.Heads.{written_format};
 ghost use Rattle.mt_record.specs.Spelling.{change_bytes};
 ghost use Rattle.mt_record.specs.Parts.{part_head, part_head_bytes, part_bytes, entry_spelling, footer_bytes, IsEntryLength};
 
 use crate::encode::{change_length, put_change};
-use crate::head::WRITTEN;
+use crate::head::WRITTEN_FORMAT;
 use crate::part_head::{FOOTER_BYTES, PART, PART_HEADER_BYTES};
 use crate::part_text::PartHead;
 use crate::put::{put_bytes, put_magic};
@@ -28,11 +28,11 @@ pub fn encode_part(
 ) -> Result<(), Memory>
     requires { length entries.now < 2 ^ 32 }
     ensures ok { OnOk result (out.new.items ≡
-        out.old.items ++ part_bytes (part_head written number begin part parts) entries.now end) }
+        out.old.items ++ part_bytes (part_head written_format number begin part parts) entries.now end) }
     ensures err { OnErr result (out.new.items ≡ out.old.items) }
 {
     let head = PartHead {
-        format: WRITTEN,
+        format: WRITTEN_FORMAT,
         number,
         begin,
         part,

@@ -1,6 +1,6 @@
 //! A text in pieces.
-ghost use Rattle.std.specs.Prelude.{◌≡◌, ◌<◌, ◌≤◌, ◌+◌, min, max, ◌++◌, [], ◌∷◌, List, ℕ, Some, None, Err, length, drop, IsSome, IfOk, IfErr, OnOk, OnErr};
-ghost use Rattle.mt_record.specs.Feeding.{Reads, ReadsFault, StepsOn, HoldsAll, IsFedBy};
+ghost use Rattle.std.specs.Prelude.{◌≡◌, ◌<◌, ◌≤◌, ◌+◌, min, max, ◌++◌, [], List, ℕ, Some, None, Err, length, drop, IsSome, IfOk, IfErr, OnOk};
+ghost use Rattle.mt_record.specs.Feeding.{Reads, HasShown, StepsOn, HoldsAll, IsFedBy};
 
 use crate::items::Items;
 use mt_words::Memory;
@@ -31,6 +31,7 @@ impl<I: Items> Feed<I> {
     }
 
     /// Reads the next piece, unless there was a fault, which is answered again.
+    #[tactic(auto, using(crate::proofs::Feeds::fed_on))]
     pub fn feed(&mut self, piece: &[u8]) -> Result<(), I::Fault>
         ensures fed { (taken : I.Taken) (text : List ℕ) →
             IsFedBy (I.holds taken) I.is_left I.shows self.old.items self.old.held.items self.old.fault text →
@@ -53,7 +54,7 @@ impl<I: Items> Feed<I> {
     fn read(&mut self, piece: &[u8]) -> Result<(), I::Fault>
         ensures ok { I.is_left self.old.items self.old.held.items →
             OnOk result (Reads I.holds self.old.items self.new.items (self.old.held.items ++ piece.now) self.new.held.items × I.is_left self.new.items self.new.held.items) }
-        ensures fault { IfErr result (ReadsFault I.holds I.shows self.old.items self.new.items (self.old.held.items ++ piece.now)) }
+        ensures fault { IfErr result (λ fault. HasShown (Reads I.holds self.old.items self.new.items (self.old.held.items ++ piece.now)) (I.shows self.new.items fault)) }
     {
         let mut rest = piece;
         'held: while !self.held.is_empty() {
@@ -68,13 +69,13 @@ impl<I: Items> Feed<I> {
     }
 
     /// Completes what is held back, and reads what of it is whole then; the rest of the piece.
-    #[tactic(auto, using(crate::proofs::Feeds::left_over, crate::proofs::Feeds::reads_before))]
+    #[tactic(auto, using(crate::proofs::Feeds::left_over, crate::proofs::Feeds::goes_on))]
     fn read_held<'a>(&mut self, piece: &'a [u8]) -> Result<&'a [u8], I::Fault>
         requires { 0 < length piece.now }
         ensures rest { IfOk result (λ rest.
             Reads I.holds self.old.items self.new.items (self.old.held.items ++ piece.now) (self.new.held.items ++ rest.now) × I.is_left self.new.items self.new.held.items) }
         ensures less { IfOk result (λ rest. length rest.now < length piece.now) }
-        ensures fault { IfErr result (ReadsFault I.holds I.shows self.old.items self.new.items (self.old.held.items ++ piece.now)) }
+        ensures fault { IfErr result (λ fault. HasShown (Reads I.holds self.old.items self.new.items (self.old.held.items ++ piece.now)) (I.shows self.new.items fault)) }
     {
         let wanted = self.items.bytes_wanted(&self.held).max(self.held.len() + 1);
         let rest = top_up(&mut self.held, wanted, piece)?;
@@ -116,14 +117,6 @@ fn append(held: &mut Vec<u8>, bytes: &[u8]) -> Result<(), Memory>
     ensures { OnOk result (held.new.items ≡ held.old.items ++ bytes.now) }
 {
     Ok(held.extend_from_slice(bytes)?)
-}
-
-/// Keeps what was read behind the rest.
-pub fn keep<T: Drop>(items: &mut Vec<T>, item: T) -> Result<(), Memory>
-    ensures ok { OnOk result (items.new.items ≡ items.old.items ++ item ∷ []) }
-    ensures err { OnErr result (items.new.items ≡ items.old.items) }
-{
-    Ok(items.push(item)?)
 }
 
 /// Lets go of so many bytes at the front.

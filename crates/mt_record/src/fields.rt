@@ -37,7 +37,7 @@ pub fn counted_at(bytes: &[u8]) -> Option<(&[u8], &[u8])>
     ensures found { IfSome result
         (λ x. (length x.0.now < 2 ^ 16) × (bytes.now ≡ counted x.0.now ++ x.1.now)) }
     ensures none { IfNone result
-        ((text more : List ℕ) → length text < 2 ^ 16 → bytes.now ≡ counted text ++ more → ⊥) }
+        ((front more : List ℕ) → length front < 2 ^ 16 → bytes.now ≡ counted front ++ more → ⊥) }
 {
     let (length, rest) = u16_at(bytes)?;
     rest.split_at_checked(length as usize)
@@ -51,6 +51,6 @@ pub fn column_at(bytes: &[u8]) -> Option<(u8, &[u8], &[u8])>
         FitsColumn column → bytes.now ≡ column_bytes column ++ more → ⊥) }
 {
     let (number, rest) = bytes.split_first()?;
-    let (text, rest) = counted_at(rest)?;
-    Some((*number, text, rest))
+    let (value, rest) = counted_at(rest)?;
+    Some((*number, value, rest))
 }

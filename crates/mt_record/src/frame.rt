@@ -34,7 +34,7 @@ pub fn next_record(
         (λ x. IsNextBody (limits_of format) latest bytes.now x.0 x.1.now x.2.now)) }
     ensures fault { IfErr result (λ what. RestFault what (limits_of format) latest bytes.now) }
 {
-    let Some((text, after)) = next_frame(
+    let Some((body, after)) = next_frame(
         bytes,
         SHORTEST_RECORD,
         BEFORE_CHANGE + longest_change(format),
@@ -42,8 +42,8 @@ pub fn next_record(
     else {
         return Ok(None);
     };
-    let timestamp = check_body(format, latest, text)?;
-    Ok(Some((timestamp, text, after)))
+    let timestamp = check_body(format, latest, body)?;
+    Ok(Some((timestamp, body, after)))
 }
 
 /// The fields of the entry at the front, and the bytes after it; None where they are empty or cut.
@@ -53,11 +53,11 @@ pub fn next_entry(format: Format, bytes: &[u8]) -> Result<Option<(&[u8], &[u8])>
         (λ x. IsNextEntry (limits_of format) bytes.now x.0.now x.1.now)) }
     ensures fault { OnErr result (ShowsNoEntry (limits_of format) bytes.now) }
 {
-    let Some((text, after)) = next_frame(bytes, SHORTEST_ENTRY, longest_change(format))? else {
+    let Some((body, after)) = next_frame(bytes, SHORTEST_ENTRY, longest_change(format))? else {
         return Ok(None);
     };
-    check_entry(format, text)?;
-    Ok(Some((text, after)))
+    check_entry(format, body)?;
+    Ok(Some((body, after)))
 }
 
 /// The greatest length of a change, and so of an entry: that of the longest key and of all columns, each as long as can
@@ -70,7 +70,7 @@ fn longest_change(format: Format) -> usize
     11 + limits.key + (limits.column as usize + 1) * (3 + LONGEST_VALUE)
 }
 
-/// The text between two copies of its length at the front, and the bytes after it; None where the bytes are empty or
+/// The body between two copies of its length at the front, and the bytes after it; None where the bytes are empty or
 /// cut.
 fn next_frame(bytes: &[u8], shortest: usize, longest: usize) -> Result<Option<(&[u8], &[u8])>, What>
     requires { longest < 2 ^ 32 }
@@ -86,7 +86,7 @@ fn next_frame(bytes: &[u8], shortest: usize, longest: usize) -> Result<Option<(&
     if length < shortest || length > longest {
         return Err(What::Length);
     }
-    let Some((text, rest)) = rest.split_at_checked(length) else {
+    let Some((body, rest)) = rest.split_at_checked(length) else {
         return Ok(None);
     };
     let Some((trailer, rest)) = u32_at(rest) else {
@@ -95,5 +95,5 @@ fn next_frame(bytes: &[u8], shortest: usize, longest: usize) -> Result<Option<(&
     if trailer as usize != length {
         return Err(What::Trailer);
     }
-    Ok(Some((text, rest)))
+    Ok(Some((body, rest)))
 }

@@ -13,7 +13,7 @@ use mt_words::Format;
 pub const LOG: &[u8] = b"MTL";
 
 /// The format in which logs and parts are written. Every format is read.
-pub const WRITTEN: Format = Format::One;
+pub const WRITTEN_FORMAT: Format = Format::One;
 
 /// The number of bytes of a header.
 pub const HEADER_BYTES: usize = 12;

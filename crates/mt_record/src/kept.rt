@@ -6,7 +6,6 @@ ghost use Rattle.mt_words.specs.Changes.{Logged};
 ghost use Rattle.mt_record.specs.Bodies.{IsLawfulBody, IsBodyOf, AreFields, AreFieldsOf};
 
 use crate::copy::{copy_entry, copy_record};
-use crate::feed::keep;
 use mt_words::{Entry, Memory, Record};
 
 /// Records, in the order in which they were put into it.
@@ -55,4 +54,12 @@ impl Entries for Vec<Entry> {
     fn count(&self) -> usize {
         self.len()
     }
+}
+
+/// Keeps what was read behind the rest.
+fn keep<T: Drop>(items: &mut Vec<T>, item: T) -> Result<(), Memory>
+    ensures ok { OnOk result (items.new.items ≡ items.old.items ++ item ∷ []) }
+    ensures err { OnErr result (items.new.items ≡ items.old.items) }
+{
+    Ok(items.push(item)?)
 }

@@ -3,7 +3,7 @@ ghost use Rattle.std.specs.Prelude.{◌≡◌, ◌↔◌, IsTrue, MatchOption, C
 ghost use Rattle.mt_words.specs.Limits.{widest};
 ghost use Rattle.mt_words.specs.Words.{IsKey, AreColumns};
 ghost use Rattle.mt_words.specs.Changes.{IsReset};
-ghost use Rattle.mt_record.specs.Decoding.{IsChangeBody, columns_of, update_in};
+ghost use Rattle.mt_record.specs.Decoding.{IsChangeBody, columns_in, update_in};
 
 use crate::body::PUT;
 use crate::lent_columns::LentColumns;
@@ -87,8 +87,8 @@ impl<'a> Lent<'a> {
 
     /// The columns that it sets; a remove sets none.
     pub fn columns(&self) -> LentColumns<'a>
-        ensures value { result ≡ columns_of self.now.kind }
-        ensures lawful { AreColumns widest (columns_of self.now.kind) }
+        ensures value { result ≡ columns_in self.now.kind }
+        ensures lawful { AreColumns widest (columns_in self.now.kind) }
     {
         spelled::columns(self.body)
     }
@@ -96,8 +96,8 @@ impl<'a> Lent<'a> {
     /// The bytes that it sets this column to, if it sets it.
     pub fn column(&self, number: u8) -> Option<&'a [u8]>
         ensures { MatchOption result
-            ((bytes : List ℕ) → Contains (columns_of self.now.kind) (number, bytes) → ⊥)
-            (λ bytes. Contains (columns_of self.now.kind) (number, bytes.now)) }
+            ((bytes : List ℕ) → Contains (columns_in self.now.kind) (number, bytes) → ⊥)
+            (λ bytes. Contains (columns_in self.now.kind) (number, bytes.now)) }
     {
         self.columns().find(number)
     }

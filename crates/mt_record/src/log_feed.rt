@@ -26,11 +26,11 @@ pub struct LogFeed<R: Records = Vec<Record>> {
 
 impl<R: Records> Model for LogFeed<R> {
     ghost use Rattle.mt_record.specs.Feeding.{fed_by};
-    ghost use Rattle.mt_record.specs.LogFeeding.{so_far, FedLog};
+    ghost use Rattle.mt_record.specs.LogFeeding.{log_so_far, FedLog};
 
     ghost Value = { FedLog };
 
-    ghost view = { λ f. fed_by (so_far R.listed) f.feed };
+    ghost view = { λ f. fed_by (log_so_far R.listed) f.feed };
 }
 
 impl LogFeed {

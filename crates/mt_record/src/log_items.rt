@@ -3,8 +3,8 @@ ghost use Rattle.std.specs.Prelude.{◌≡◌, ◌==◌, List, ℕ, None, Some, 
 ghost use Rattle.mt_words.specs.Changes.{Logged};
 ghost use Rattle.mt_record.specs.Logs.{IsTextIn};
 ghost use Rattle.mt_record.specs.LogFaults.{IsAnswered};
-ghost use Rattle.mt_record.specs.Feeding.{HasRead};
-ghost use Rattle.mt_record.specs.LogFeeding.{so_far, HoldsLog, IsLogLeft, IsLogFaulty, StepsLog};
+ghost use Rattle.mt_record.specs.Feeding.{HoldsAll};
+ghost use Rattle.mt_record.specs.LogFeeding.{log_so_far, HoldsLog, IsLogLeft, IsLogFaulty, StepsLog};
 
 use crate::fields::u32_at;
 use crate::frame::next_record;
@@ -32,11 +32,11 @@ impl<R: Records> Items for LogItems<R> {
 
     ghost Taken = { List Logged };
 
-    ghost holds = { λ taken items. HoldsLog taken (so_far R.listed items) };
+    ghost holds = { λ taken items. HoldsLog taken (log_so_far R.listed items) };
 
-    ghost is_left = { λ items. IsLogLeft (so_far R.listed items) };
+    ghost is_left = { λ items. IsLogLeft (log_so_far R.listed items) };
 
-    ghost shows = { λ items. IsLogFaulty (so_far R.listed items) };
+    ghost shows = { λ items. IsLogFaulty (log_so_far R.listed items) };
 
     fn read_next<'a>(&mut self, bytes: &'a [u8]) -> Step<'a, FeedFault> {
         let Some(head) = self.head else {
@@ -98,9 +98,9 @@ impl<R: Records> LogItems<R> {
     /// What was read, as a log with a torn tail or without one. An Err is the fault of a header that is cut short.
     #[tactic(auto, using(crate::proofs::LogFeeds::no_head_read))]
     pub fn finish(self, torn: bool) -> Result<LogText<R>, FeedFault>
-        ensures log { (taken : List Logged) (text left : List ℕ) → HasRead (HoldsLog taken (so_far R.listed self)) text left → IsLogLeft (so_far R.listed self) left →
+        ensures log { (taken : List Logged) (text left : List ℕ) → HoldsAll (HoldsLog taken) IsLogLeft (log_so_far R.listed self) left text →
             torn ≡ not (length left == 0) → IfOk result (IsTextIn R.listed taken text) }
-        ensures fault { (taken : List Logged) (text left : List ℕ) → HasRead (HoldsLog taken (so_far R.listed self)) text left → IsLogLeft (so_far R.listed self) left →
+        ensures fault { (taken : List Logged) (text left : List ℕ) → HoldsAll (HoldsLog taken) IsLogLeft (log_so_far R.listed self) left text →
             IfErr result (IsAnswered text) }
     {
         let LogItems {

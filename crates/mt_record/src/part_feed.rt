@@ -24,11 +24,11 @@ pub struct PartFeed<E: Entries = Vec<Entry>> {
 
 impl<E: Entries> Model for PartFeed<E> {
     ghost use Rattle.mt_record.specs.Feeding.{fed_by};
-    ghost use Rattle.mt_record.specs.PartFeeding.{so_far, FedPart};
+    ghost use Rattle.mt_record.specs.PartFeeding.{part_so_far, FedPart};
 
     ghost Value = { FedPart };
 
-    ghost view = { λ f. fed_by (so_far E.listed) f.feed };
+    ghost view = { λ f. fed_by (part_so_far E.listed) f.feed };
 }
 
 impl PartFeed {

@@ -4,8 +4,8 @@ ghost use Rattle.byteorder.specs.Endian.{big_bytes};
 ghost use Rattle.mt_record.specs.declared.part_text.PartFault.TheVariants.{Broken};
 ghost use Rattle.mt_record.specs.Parts.{IsPartText};
 ghost use Rattle.mt_record.specs.PartFaults.{IsPartAnswered};
-ghost use Rattle.mt_record.specs.Feeding.{HasRead};
-ghost use Rattle.mt_record.specs.PartFeeding.{so_far, HoldsPart, IsPartLeft, IsPartFaulty, StepsPart};
+ghost use Rattle.mt_record.specs.Feeding.{HoldsAll};
+ghost use Rattle.mt_record.specs.PartFeeding.{part_so_far, HoldsPart, IsPartLeft, IsPartFaulty, StepsPart};
 
 use crate::fields::{u32_at, u64_at};
 use crate::frame::next_entry;
@@ -31,11 +31,11 @@ impl<E: Entries> Items for PartItems<E> {
 
     ghost Taken = { Unit {0} };
 
-    ghost holds = { λ _ items. HoldsPart (so_far E.listed items) };
+    ghost holds = { λ _ items. HoldsPart (part_so_far E.listed items) };
 
-    ghost is_left = { λ items. IsPartLeft (so_far E.listed items) };
+    ghost is_left = { λ items. IsPartLeft (part_so_far E.listed items) };
 
-    ghost shows = { λ items. IsPartFaulty (so_far E.listed items) };
+    ghost shows = { λ items. IsPartFaulty (part_so_far E.listed items) };
 
     fn read_next<'a>(&mut self, bytes: &'a [u8]) -> Step<'a, PartFault> {
         let Some(head) = self.head else {
@@ -97,6 +97,7 @@ impl<E: Entries> PartItems<E> {
     }
 
     /// Reads an entry.
+    #[tactic(auto, using(crate::proofs::PartItems::entry_broken))]
     fn read_entry<'a>(&mut self, head: PartHead, bytes: &'a [u8]) -> Step<'a, PartFault>
         requires head { self.old.head ≡ Some head }
         requires open { self.old.end ≡ None }
@@ -147,9 +148,9 @@ impl<E: Entries> PartItems<E> {
     /// that is cut short.
     #[tactic(auto, using(crate::proofs::OnePartFault::no_head_read))]
     pub fn finish(self) -> Result<PartText<E>, PartFault>
-        ensures part { (text left : List ℕ) → HasRead (HoldsPart (so_far E.listed self)) text left → IsPartLeft (so_far E.listed self) left →
+        ensures part { (text left : List ℕ) → HoldsAll HoldsPart IsPartLeft (part_so_far E.listed self) left text →
             IfOk result (IsPartText E.listed text) }
-        ensures fault { (text left : List ℕ) → HasRead (HoldsPart (so_far E.listed self)) text left → IsPartLeft (so_far E.listed self) left →
+        ensures fault { (text left : List ℕ) → HoldsAll HoldsPart IsPartLeft (part_so_far E.listed self) left text →
             IfErr result (IsPartAnswered text) }
     {
         let PartItems { head, entries, end } = self;

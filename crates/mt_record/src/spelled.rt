@@ -1,7 +1,7 @@
 //! The fields of a body, lent from its bytes.
 ghost use Rattle.std.specs.Prelude.{◌≡◌, ◌↔◌, IsTrue};
 ghost use Rattle.mt_words.specs.Changes.{IsReset};
-ghost use Rattle.mt_record.specs.Decoding.{IsBody, IsChangeBody, columns_of, is_mark_in, is_remove_in, is_whole_in, time_in, version_in, key_in, carried_in, kind_in};
+ghost use Rattle.mt_record.specs.Decoding.{IsBody, IsChangeBody, columns_in, is_mark_in, is_remove_in, is_whole_in, time_in, version_in, key_in, carried_in, kind_in};
 
 use crate::body::{MARK, REMOVE, WHOLE};
 use crate::lent_columns::LentColumns;
@@ -76,7 +76,7 @@ fn carried(body: &[u8]) -> &[u8]
 /// The columns that a change sets; a remove sets none.
 pub fn columns(body: &[u8]) -> LentColumns<'_>
     requires { IsChangeBody body.now }
-    ensures { result ≡ columns_of (kind_in body.now) }
+    ensures { result ≡ columns_in (kind_in body.now) }
 {
     LentColumns::of_carried(is_remove(body), carried(body))
 }

@@ -3,7 +3,7 @@ ghost use Rattle.std.specs.Prelude.{◌≡◌, ◌<◌, ◌++◌, IfOk, OnOk, le
 ghost use Rattle.mt_words.specs.declared.update.Origin.TheVariants as origins;
 ghost use Rattle.mt_words.specs.Changes.{Logged};
 ghost use Rattle.mt_words.specs.Updates.{update_by, update_of};
-ghost use Rattle.mt_record.specs.Kept.{kept_updates, listed};
+ghost use Rattle.mt_record.specs.Kept.{kept_updates, as_list};
 
 use crate::copy::copy_record;
 use crate::kept_records::KeptRecords;
@@ -61,7 +61,7 @@ impl Updates {
     pub fn update(&self, number: usize) -> Option<Lent<'_>>
         requires { number < length self.now.records }
         ensures { (d : Logged) →
-            listed result ≡ update_of self.now.log number (slice_index_or self.now.records number d) }
+            as_list result ≡ update_of self.now.log number (slice_index_or self.now.records number d) }
     {
         let body = self.records.body(number);
         if spelled::is_mark(body) {

@@ -11,12 +11,12 @@ use Rattle.mt_record.specs.Kept.{is_mark}
 use Rattle.mt_record.specs.Logs.{LogReading}
 use Rattle.mt_record.proofs.RecordLemmas.{marks_and_updates}
 use Rattle.mt_scan.specs.PartScans.{KnownPart}
-use Rattle.mt_scan.specs.Choice.{Checkpoint, IsChosenOf}
+use Rattle.mt_scan.specs.Choice.{CheckpointReading, IsChosenOf}
 use Rattle.mt_replay.specs.declared.window.Window.{Window}
 use Rattle.mt_replay.specs.Survivors.{all_updates, in_window, is_within}
 use Rattle.mt_recover.specs.declared.report.Report.{Report}
 use Rattle.mt_recover.specs.Recovery.{Facts, records_of}
-use Rattle.mt_recover.specs.Report.{all_records, updates_in, is_early, is_late, IsFoundIn, IsReportOf}
+use Rattle.mt_recover.specs.Report.{all_records, logged_updates, is_early, is_late, IsFoundIn, IsReportOf}
 use Rattle.mt_recover.specs.Start.{MayEnd, ended}
 use Rattle.mt_tree.specs.Layers.{CountsLayers}
 use Rattle.mt_replay.specs.Walk.{IsWalk}
@@ -68,7 +68,7 @@ updates_split window (u ∷ us) in_order = omega (
 )
 
 -- a chosen checkpoint begins below the cutoff
-pub begins_below : (known : List KnownPart) (cutoff : ℕ) (chosen : Option Checkpoint) → IsChosenOf known cutoff chosen → begin_of chosen ≤ cutoff
+pub begins_below : (known : List KnownPart) (cutoff : ℕ) (chosen : Option CheckpointReading) → IsChosenOf known cutoff chosen → begin_of chosen ≤ cutoff
 begins_below known cutoff None is = omega arith
 begins_below known cutoff (Some checkpoint) is = omega (arith, is.0.ends_below, is.0.valid.make_up.begins)
 
@@ -86,19 +86,19 @@ survivors_in facts = survivors facts.cutoff facts.chosen (records_of facts.readi
 
 -- what lies below the checkpoint's begin
 abbrev pub early_in : {logs parts : List (List ℕ)} → Facts logs parts → List Update
-early_in facts = filter (is_early (begin_of facts.chosen)) (updates_in facts.readings)
+early_in facts = filter (is_early (begin_of facts.chosen)) (logged_updates facts.readings)
 
 -- what comes too late
 abbrev pub late_in : {logs parts : List (List ℕ)} → Facts logs parts → List Update
-late_in facts = filter (is_late facts.cutoff) (updates_in facts.readings)
+late_in facts = filter (is_late facts.cutoff) (logged_updates facts.readings)
 
 pub adds_up : {logs parts : List (List ℕ)} (facts : Facts logs parts) (report : Report) → IsFoundIn facts report
     → AddsUp report (length (early_in facts)) (length (survivors_in facts)) (length (late_in facts))
 adds_up facts report found =
     let window : Window = record { begin = begin_of facts.chosen; cutoff = facts.cutoff } in
     let records = records_split 0 facts.readings in
-    let both = length-append (filter (in_window window) (updates_in facts.readings)) (entry_updates facts.chosen) in
-    let times = updates_split window (updates_in facts.readings) (begins_below facts.known facts.cutoff facts.chosen facts.is_chosen) in
+    let both = length-append (filter (in_window window) (logged_updates facts.readings)) (entry_updates facts.chosen) in
+    let times = updates_split window (logged_updates facts.readings) (begins_below facts.known facts.cutoff facts.chosen facts.is_chosen) in
     record {
       marks = omega (arith, found.marks, found.records, records);
       entries = omega (arith, found.entries, both);

@@ -9,14 +9,14 @@ use Rattle.std.proofs.lemmas.List.Sums.{prefix_len_passes}
 use Rattle.std.proofs.lemmas.List.Quantifiers.{position-Some}
 use Rattle.mt_words.specs.declared.fault.Fault.TheVariants.{Gap}
 use Rattle.mt_words.specs.declared.update.Update.{Update}
-use Rattle.mt_words.specs.Walks.{Pair}
+use Rattle.mt_words.specs.Walks.{Pair, joined}
 use Rattle.mt_record.specs.Logs.{LogReading}
 use Rattle.mt_scan.specs.declared.log_scan.LogScan.{LogScan}
 use Rattle.mt_scan.specs.Cutoff.{IsCutoff, HaveNumbersOf}
 use Rattle.mt_scan.specs.PartScans.{KnownPart}
-use Rattle.mt_scan.specs.declared.checkpoint.Checkpoint.{Checkpoint as Chosen}
+use Rattle.mt_scan.specs.declared.checkpoint.Checkpoint.{Checkpoint}
 use Rattle.mt_scan.specs.declared.choice.Choice.{Choice}
-use Rattle.mt_scan.specs.Choice.{Checkpoint, IsChosenOf, IsChoiceOf, AreSkipped, AreNameless, checkpoint_in}
+use Rattle.mt_scan.specs.Choice.{CheckpointReading, IsChosenOf, IsChoiceOf, AreSkipped, AreNameless, checkpoint_in}
 use Rattle.mt_replay.specs.declared.window.Window.{Window}
 use Rattle.mt_replay.specs.Survivors.{in_window}
 use Rattle.mt_recover.specs.Survivors.{entry_updates, begin_of}
@@ -31,7 +31,6 @@ use Rattle.mt_recover.specs.declared.replayed.Replayed.{Replayed}
 use Rattle.mt_recover.specs.LogScans.{ShowAll, AreScansOf, kept}
 use Rattle.mt_recover.specs.Start.{IsStartOf, IsReplayOf, surviving}
 use Rattle.mt_tree.specs.Borders.{layer_walk}
-use Rattle.mt_replay.specs.Runs.{together}
 use Rattle.mt_replay.proofs.StepLemmas.{same_column}
 use Rattle.mt_recover.proofs.SurvivorLemmas.{survivors_apart}
 use Rattle.mt_recover.proofs.ReportLemmas.{same_updates}
@@ -132,7 +131,7 @@ abbrev pub IsCutoffOf : List LogScan → ℕ → Type 0
 IsCutoffOf scans cutoff = (readings : List LogReading) → HaveNumbersOf scans readings → IsCutoff readings cutoff
 
 -- what recovery finds in the scans of logs and in what is known of parts
-abbrev facts_of : (logs parts : List (List ℕ)) (scans : List LogScan) (known : List KnownPart) (cutoff : ℕ) (chosen : Option Checkpoint)
+abbrev facts_of : (logs parts : List (List ℕ)) (scans : List LogScan) (known : List KnownPart) (cutoff : ℕ) (chosen : Option CheckpointReading)
     → AreScansOf logs scans → AreKnown parts known → IsCutoffOf scans cutoff → IsChosenOf known cutoff chosen → Facts logs parts
 facts_of logs parts scans known cutoff chosen are know is of = record {
   readings = are.readings;
@@ -146,7 +145,7 @@ facts_of logs parts scans known cutoff chosen are know is of = record {
 }
 
 -- the least log with a gap
-pub gap_of : (logs parts : List (List ℕ)) (scans : List LogScan) (known : List KnownPart) (cutoff begin : ℕ) (chosen : Option Checkpoint) (i : ℕ)
+pub gap_of : (logs parts : List (List ℕ)) (scans : List LogScan) (known : List KnownPart) (cutoff begin : ℕ) (chosen : Option CheckpointReading) (i : ℕ)
     → AreScansOf logs scans → AreKnown parts known → IsCutoffOf scans cutoff → IsChosenOf known cutoff chosen → begin ≡ begin_of chosen
     → position (has_gap begin) scans ≡ Some i → IsVerdict logs parts (Gap i)
 gap_of logs parts scans known cutoff begin chosen i are know is of from e = (
@@ -155,7 +154,7 @@ gap_of logs parts scans known cutoff begin chosen i are know is of from e = (
 )
 
 -- recovery starts from there
-pub start_of : (logs parts : List (List ℕ)) (scans : List LogScan) (known : List KnownPart) (cutoff begin : ℕ) (choice : Choice) (report : Report) (chosen : Option Chosen)
+pub start_of : (logs parts : List (List ℕ)) (scans : List LogScan) (known : List KnownPart) (cutoff begin : ℕ) (choice : Choice) (report : Report) (chosen : Option Checkpoint)
     → (are : AreScansOf logs scans) → AreKnown parts known → IsCutoffOf scans cutoff → IsChoiceOf known cutoff choice
     → begin ≡ begin_of (option_map checkpoint_in choice.chosen) → position (has_gap begin) scans ≡ None
     → chosen ≡ choice.chosen → IsBegun scans (record { begin = begin; cutoff = cutoff }) choice report
@@ -213,7 +212,7 @@ walk_of updates moved pairs same apart walk =
 
 -- the cells of what survives
 abbrev cells_of : Replayed → List Update
-cells_of replayed = together replayed.survivors.lists.items
+cells_of replayed = joined replayed.survivors.lists.items
 
 -- the walk of what survives is the store, and the report is that of what was found
 recovered_of : (logs parts : List (List ℕ)) (replay : Replay) (report : Report) (replayed : Replayed) (keys : ℕ) (outcome : Outcome) → IsStartOf logs parts replay.scans.items (start_with replay report)

@@ -9,9 +9,9 @@ use Rattle.std.proofs.lemmas.List.Kept.{AllPairs-from_increasing}
 use Rattle.mt_record.specs.Kept.{is_mark}
 use Rattle.mt_record.specs.Logs.{LogReading}
 use Rattle.mt_scan.specs.PartScans.{KnownPart}
-use Rattle.mt_scan.specs.Choice.{Checkpoint, AreSkipped, AreNameless}
+use Rattle.mt_scan.specs.Choice.{CheckpointReading, AreSkipped, AreNameless}
 use Rattle.mt_recover.specs.Recovery.{records_of}
-use Rattle.mt_recover.specs.Report.{all_records, updates_in, is_early, is_late, Outcome, IsRecoveredOf, SaysTheSame}
+use Rattle.mt_recover.specs.Report.{all_records, logged_updates, is_early, is_late, Outcome, IsRecoveredOf, SaysTheSame}
 use Rattle.mt_recover.specs.Survivors.{begin_of, entry_updates, survivors}
 use Rattle.mt_tree.specs.Layers.{CountsLayers}
 use Rattle.mt_tree.proofs.Uniques.{one_count}
@@ -62,14 +62,14 @@ one_report logs parts outcome other is too =
         marks = (a.marks ∙ ap (λ (x : List LogReading). length (filter is_mark (all_records x))) same.0 ∙ sym b.marks) i;
         torn = (a.torn ∙ ap (λ (x : List LogReading). length (filter (λ (log : LogReading). log.torn) x)) same.0 ∙ sym b.torn) i;
         cutoff = (a.cutoff ∙ same.1 ∙ sym b.cutoff) i;
-        checkpoint = (a.checkpoint ∙ ap (option_map (λ (x : Checkpoint). x.number)) same.3 ∙ sym b.checkpoint) i;
+        checkpoint = (a.checkpoint ∙ ap (option_map (λ (x : CheckpointReading). x.number)) same.3 ∙ sym b.checkpoint) i;
         begin = (a.begin ∙ ap begin_of same.3 ∙ sym b.begin) i;
         skipped = outcome.report.skipped;
         nameless = outcome.report.nameless;
-        entries = (a.entries ∙ ap (λ (x : Option Checkpoint). length (entry_updates x)) same.3 ∙ sym b.entries) i;
+        entries = (a.entries ∙ ap (λ (x : Option CheckpointReading). length (entry_updates x)) same.3 ∙ sym b.entries) i;
         survivors = (is.report.survivors ∙ (λ j. length (survivors (same.1 j) (same.3 j) (records_of (same.0 j)))) ∙ sym too.report.survivors) i;
-        early = (is.report.early ∙ (λ j. length (filter (is_early (begin_of (same.3 j))) (updates_in (same.0 j)))) ∙ sym too.report.early) i;
-        late = (is.report.late ∙ (λ j. length (filter (is_late (same.1 j)) (updates_in (same.0 j)))) ∙ sym too.report.late) i;
+        early = (is.report.early ∙ (λ j. length (filter (is_early (begin_of (same.3 j))) (logged_updates (same.0 j)))) ∙ sym too.report.early) i;
+        late = (is.report.late ∙ (λ j. length (filter (is_late (same.1 j)) (logged_updates (same.0 j)))) ∙ sym too.report.late) i;
         keys = (is.report.keys ∙ ap length store ∙ sym too.report.keys) i;
         layers = one_count outcome.store outcome.report.layers other.report.layers is.report.layers (subst (λ w. CountsLayers w other.report.layers) (sym store) too.report.layers) i;
       };

@@ -16,7 +16,7 @@ use Rattle.mt_record.specs.LogFaults.{IsLogFault, fault_at}
 use Rattle.mt_record.proofs.OneReading.{one_reading_of, one_fault, not_both}
 use Rattle.mt_scan.specs.Cutoff.{IsCutoff}
 use Rattle.mt_scan.specs.PartScans.{KnownPart, IsKnown}
-use Rattle.mt_scan.specs.Choice.{Checkpoint, IsChosenOf}
+use Rattle.mt_scan.specs.Choice.{CheckpointReading, IsChosenOf}
 use Rattle.mt_scan.proofs.OneChoice.{one_chosen}
 use Rattle.mt_scan.proofs.OneKnown.{one_known}
 use Rattle.mt_words.proofs.Elements.{no_element}
@@ -142,7 +142,7 @@ one_first_gap : (logs parts : List (List ℕ)) (i j : ℕ) (a b : Facts logs par
 one_first_gap logs parts i j a b is too =
     let same = same_facts logs parts a b in
     let gap : IsFirst (IsGap (begin_of b.chosen) b.readings) i =
-    subst (λ (x : Option Checkpoint × List LogReading). IsFirst (IsGap (begin_of x.0) x.1) i) (λ k. (same.3 k, same.0 k)) is in
+    subst (λ (x : Option CheckpointReading × List LogReading). IsFirst (IsGap (begin_of x.0) x.1) i) (λ k. (same.3 k, same.0 k)) is in
     one_first (IsGap (begin_of b.chosen) b.readings) i j gap too
 
 -- it says that there is no log
@@ -216,7 +216,7 @@ no_verdict logs parts pairs fault is too = elim (named logs parts fault too) as 
     | inr gap ↦
         let same = same_facts logs parts gap.1 is.facts in
         let stands : IsGap (begin_of is.facts.chosen) is.facts.readings gap.0 =
-        subst (λ (x : Option Checkpoint × List LogReading). IsGap (begin_of x.0) x.1 gap.0) (λ k. (same.3 k, same.0 k)) gap.3.0 in
+        subst (λ (x : Option CheckpointReading × List LogReading). IsGap (begin_of x.0) x.1 gap.0) (λ k. (same.3 k, same.0 k)) gap.3.0 in
         is.no_gap gap.0 stands
   ]
 ]

@@ -8,12 +8,12 @@ use Rattle.std.proofs.lemmas.Option.{get_or_from_slice_get}
 use Rattle.std.proofs.lemmas.Slice.Zip.{AllZip-long}
 use Rattle.mt_words.specs.declared.fault.Memory.{Memory}
 use Rattle.mt_words.specs.declared.update.Update.{Update}
-use Rattle.mt_words.specs.Walks.{Pair, KeysRise}
+use Rattle.mt_words.specs.Walks.{Pair, KeysRise, joined}
 use Rattle.mt_words.specs.Words.{IsBelow}
 use Rattle.mt_tree.specs.Layer.{AllKeysBelow}
 use Rattle.mt_tree.proofs.Joins.{all_front, all_back}
 use Rattle.mt_replay.specs.Walk.{IsWalk}
-use Rattle.mt_replay.specs.Pieces.{IsPiece, joined}
+use Rattle.mt_replay.specs.Pieces.{IsPiece}
 use Rattle.mt_recover.proofs.SharingLemmas.{zip_at}
 
 -- ---- the numbers of pieces

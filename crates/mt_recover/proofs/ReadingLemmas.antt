@@ -1,5 +1,5 @@
 -- Logs that were read or scanned one after the other.
-use Rattle.std.proofs.Common.{◌≡◌, ℕ, zero, suc, ◌+◌, ◌<◌, List, [], ◌∷◌, ◌++◌, length, get_or, map, take, Bor, Some, sym, ap, ◌∙◌, subst, add-one, arith}
+use Rattle.std.proofs.Common.{◌≡◌, ℕ, zero, suc, ◌+◌, ◌<◌, List, [], ◌∷◌, ◌++◌, length, get_or, map, take, Bor, Some, refl, sym, ap, ◌∙◌, subst, add-one, arith}
 use Rattle.std.specs.Prelude.{slice_get}
 use Rattle.std.specs.Option.{option_map}
 use Rattle.std.proofs.lemmas.Option.{slice_get-map, slice_get-get_or}
@@ -50,9 +50,11 @@ log_at logs i d lt = slice_get-map (λ log. log.now) logs i ∙ ap (option_map (
 -- a log's fault, behind whole logs
 behind : (logs : List (List ℕ)) (scans : List LogScan) (i : ℕ) (bytes : List ℕ) (fault : FeedFault) (parts : List (List ℕ)) → slice_get logs i ≡ Some bytes → AreScansOf (take i logs) scans
     → IsAnswered bytes fault → IsVerdictOrMemory logs parts (fault_at i fault)
-behind logs scans i bytes of_log.Memory parts at are is = tt
-behind logs scans i bytes of_log.Header parts at are is = record { readings = are.readings; before = are.read; bytes = bytes; stands = at; is_fault = is }
-behind logs scans i bytes (of_log.Record nth what) parts at are is = record { readings = are.readings; before = are.read; bytes = bytes; stands = at; is_fault = is }
+behind logs scans i bytes of_log.Memory parts at are is other = absurd (other refl)
+behind logs scans i bytes of_log.Header parts at are is other =
+    record { readings = are.readings; before = are.read; bytes = bytes; stands = at; is_fault = is (λ same. other (ap (fault_at i) same)) }
+behind logs scans i bytes (of_log.Record nth what) parts at are is other =
+    record { readings = are.readings; before = are.read; bytes = bytes; stands = at; is_fault = is (λ same. other (ap (fault_at i) same)) }
 
 pub fault_behind : (logs : List (List ℕ)) (scans : List LogScan) (i : ℕ) (bytes : List ℕ) (fault : Fault) (parts : List (List ℕ)) → slice_get logs i ≡ Some bytes → AreScansOf (take i logs) scans
     → IsLogVerdict i bytes fault → IsVerdictOrMemory logs parts fault

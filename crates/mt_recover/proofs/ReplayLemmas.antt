@@ -10,12 +10,12 @@ use Rattle.mt_words.specs.declared.fault.Memory.{Memory}
 use Rattle.mt_words.specs.declared.update.Update.{Update}
 use Rattle.mt_words.specs.declared.update.Origin.TheVariants as origins
 use Rattle.mt_words.specs.Updates.{update_at}
+use Rattle.mt_words.specs.Walks.{joined}
 use Rattle.mt_scan.specs.PartScans.{KeptPart, shown_by_all}
 use Rattle.mt_scan.specs.Checkpoints.{entries_of}
 use Rattle.mt_scan.specs.declared.log_scan.LogScan.{LogScan}
 use Rattle.mt_words.proofs.Elements.{no_element, head_or_tail}
 use Rattle.mt_replay.specs.declared.window.Window.{Window}
-use Rattle.mt_replay.specs.Runs.{together}
 use Rattle.mt_replay.specs.Survivors.{in_window, wholes}
 use Rattle.mt_recover.specs.LogScans.{kept, kept_by, kept_in}
 use Rattle.std.specs.Option.{option_map}
@@ -43,9 +43,9 @@ was_there test (y ∷ ys) x at = elim (kept_head test (test y) y x ys at) as (λ
 -- ---- cells
 
 -- the updates of two lists of lists
-together_append : (lists others : List (List Update)) → together (lists ++ others) ≡ together lists ++ together others
-together_append [] others = refl
-together_append (l ∷ ls) others = ap (λ (us : List Update). l ++ us) (together_append ls others) ∙ sym (append_assoc l (together ls) (together others))
+joined_append : (lists others : List (List Update)) → joined (lists ++ others) ≡ joined lists ++ joined others
+joined_append [] others = refl
+joined_append (l ∷ ls) others = ap (λ (us : List Update). l ++ us) (joined_append ls others) ∙ sym (append_assoc l (joined ls) (joined others))
 
 -- ---- what is done of each
 
@@ -65,14 +65,14 @@ pub all_answered : {J X : Type 0} (P : J → X → Type 0) (count : ℕ) (jobs :
 all_answered P count jobs answers done all are = done_of P count jobs done (subst (AllZip (IsAnswerOf P count) jobs) are all)
 
 -- the cells of all scans
-cells_of_all : (window : Window) (scans : List LogScan) (logs : List LogSurvivors) → AllZip (IsLeftBy window) scans logs → IsPermutation (kept_in window scans) (together (cells_of logs))
+cells_of_all : (window : Window) (scans : List LogScan) (logs : List LogSurvivors) → AllZip (IsLeftBy window) scans logs → IsPermutation (kept_in window scans) (joined (cells_of logs))
 cells_of_all window [] [] all = IsPermutation-refl []
 cells_of_all window [] (l ∷ ls) all = absurd all
 cells_of_all window (s ∷ ss) [] all = absurd all
 cells_of_all window (s ∷ ss) (l ∷ ls) all =
-    subst (IsPermutation (kept_in window (s ∷ ss))) (sym (together_append l.cells.items (cells_of ls)))
-    (subst (λ (us : List Update). IsPermutation us (together l.cells.items ++ together (cells_of ls))) (sym (filter-append (in_window window) (kept_by s) (kept ss)))
-    (IsPermutation-append (filter (in_window window) (kept_by s)) (together l.cells.items) (kept_in window ss) (together (cells_of ls)) all.0.cells (cells_of_all window ss ls all.1)))
+    subst (IsPermutation (kept_in window (s ∷ ss))) (sym (joined_append l.cells.items (cells_of ls)))
+    (subst (λ (us : List Update). IsPermutation us (joined l.cells.items ++ joined (cells_of ls))) (sym (filter-append (in_window window) (kept_by s) (kept ss)))
+    (IsPermutation-append (filter (in_window window) (kept_by s)) (joined l.cells.items) (kept_in window ss) (joined (cells_of ls)) all.0.cells (cells_of_all window ss ls all.1)))
 
 -- the early updates of all scans
 early_of_all : (window : Window) (scans : List LogScan) (logs : List LogSurvivors) → AllZip (IsLeftBy window) scans logs
@@ -90,7 +90,7 @@ early_of_all window (s ∷ ss) (l ∷ ls) all = omega (
 
 -- what survives of logs and of the chosen checkpoint
 pub survivors_of_both : (replay : Replay) (logs : List LogSurvivors) (parts : List (List Update)) → AllZip (IsLeftBy replay.window) replay.scans.items logs
-    → IsPermutation (entry_updates (option_map checkpoint_in replay.chosen)) (together parts) → (survivors : Survivors) → AreBoth logs parts survivors → AreSurvivorsOf replay survivors
+    → IsPermutation (entry_updates (option_map checkpoint_in replay.chosen)) (joined parts) → (survivors : Survivors) → AreBoth logs parts survivors → AreSurvivorsOf replay survivors
 survivors_of_both replay logs parts of_logs of_parts survivors are =
     let window = replay.window in
     let scans = replay.scans.items in
@@ -98,16 +98,16 @@ survivors_of_both replay logs parts of_logs of_parts survivors are =
     record {
       early = are.early ∙ early_of_all window scans logs of_logs ∙ sym (length-filter_flat (is_early window.begin) kept_by scans);
       cells =
-          subst (IsPermutation (surviving replay)) (sym (ap together are.lists ∙ together_append cells parts))
-          (IsPermutation-append (kept_in window scans) (together cells) (entry_updates (option_map checkpoint_in replay.chosen)) (together parts) (cells_of_all window scans logs of_logs) of_parts);
+          subst (IsPermutation (surviving replay)) (sym (ap joined are.lists ∙ joined_append cells parts))
+          (IsPermutation-append (kept_in window scans) (joined cells) (entry_updates (option_map checkpoint_in replay.chosen)) (joined parts) (cells_of_all window scans logs of_logs) of_parts);
     }
 
 -- the cells of all parts
 pub cells_of_all_parts : (parts : List KeptPart) (lists : List (List Update)) → AllZip (λ part cells. IsPermutation (wholes part.entries) cells) parts lists
-    → IsPermutation (wholes (entries_of (shown_by_all parts))) (together lists)
+    → IsPermutation (wholes (entries_of (shown_by_all parts))) (joined lists)
 cells_of_all_parts [] [] all = IsPermutation-refl []
 cells_of_all_parts [] (l ∷ ls) all = absurd all
 cells_of_all_parts (p ∷ ps) [] all = absurd all
 cells_of_all_parts (p ∷ ps) (l ∷ ls) all =
-    subst (λ (us : List Update). IsPermutation us (l ++ together ls)) (sym (map-append (update_at origins.Checkpoint 0) p.entries (entries_of (shown_by_all ps))))
-    (IsPermutation-append (wholes p.entries) l (wholes (entries_of (shown_by_all ps))) (together ls) all.0 (cells_of_all_parts ps ls all.1))
+    subst (λ (us : List Update). IsPermutation us (l ++ joined ls)) (sym (map-append (update_at origins.Checkpoint 0) p.entries (entries_of (shown_by_all ps))))
+    (IsPermutation-append (wholes p.entries) l (wholes (entries_of (shown_by_all ps))) (joined ls) all.0 (cells_of_all_parts ps ls all.1))

@@ -13,14 +13,14 @@ use Rattle.mt_words.specs.declared.update.Origin.TheVariants as origins
 use Rattle.mt_words.specs.declared.update.Update.{Update}
 use Rattle.mt_words.specs.Changes.{Logged, mark_of}
 use Rattle.mt_words.specs.Updates.{update_at, update_of, updates_from}
-use Rattle.mt_record.specs.Kept.{Kept, is_mark, listed}
+use Rattle.mt_record.specs.Kept.{Kept, is_mark, as_list}
 use Rattle.mt_record.specs.Logs.{LogReading}
 use Rattle.mt_record.proofs.RecordLemmas.{updates_step}
-use Rattle.mt_scan.specs.declared.checkpoint.Checkpoint.{Checkpoint as Chosen}
+use Rattle.mt_scan.specs.declared.checkpoint.Checkpoint.{Checkpoint}
 use Rattle.mt_scan.specs.declared.log_scan.LogScan.{LogScan}
 use Rattle.mt_scan.specs.Scans.{HasNumbersOf}
 use Rattle.mt_scan.specs.PartScans.{KeptPart, shown_by_all}
-use Rattle.mt_scan.specs.Choice.{Checkpoint, checkpoint_in}
+use Rattle.mt_scan.specs.Choice.{CheckpointReading, checkpoint_in}
 use Rattle.mt_scan.specs.Checkpoints.{entries_of}
 use Rattle.mt_replay.specs.Survivors.{all_updates, wholes}
 use Rattle.mt_replay.proofs.FilterLemmas.{filter_none}
@@ -77,7 +77,7 @@ counted : (u : Update) (b : Bool) → length (cond b (u ∷ []) []) ≡ one_if (
 counted u true = refl
 counted u false = refl
 
-pub early_one : (begin : ℕ) (update : Option Update) → length (filter (is_early begin) (listed update)) ≡ one_if (list_any (is_early begin) (listed update))
+pub early_one : (begin : ℕ) (update : Option Update) → length (filter (is_early begin) (as_list update)) ≡ one_if (list_any (is_early begin) (as_list update))
 early_one begin None = refl
 early_one begin (Some u) = counted u (is_early begin u)
 
@@ -134,6 +134,6 @@ same_updates number (s ∷ ss) [] show = absurd show
 same_updates number (s ∷ ss) (l ∷ ls) show = let rest = same_updates (suc number) ss ls show.1 in λ i. show.0.updates i ++ rest i
 
 -- a checkpoint in memory has the number of what it shows
-pub same_number : (chosen : Option Chosen) → option_map (λ (checkpoint : Chosen). checkpoint.number) chosen ≡ option_map (λ (checkpoint : Checkpoint). checkpoint.number) (option_map checkpoint_in chosen)
+pub same_number : (chosen : Option Checkpoint) → option_map (λ (checkpoint : Checkpoint). checkpoint.number) chosen ≡ option_map (λ (checkpoint : CheckpointReading). checkpoint.number) (option_map checkpoint_in chosen)
 same_number None = refl
 same_number (Some checkpoint) = refl

@@ -199,7 +199,13 @@ part_faults seen log_sources front (p ∷ ps) logs number (scanned.Part (Ok scan
 part_faults seen log_sources front (p ∷ ps) logs number (scanned.Part (Err e) ∷ os) fault at may are zip first =
     let parts = some_logs seen (front ++ p ∷ ps) in
     subst (IsAnsweredIfAny seen log_sources (front ++ p ∷ ps)) first (
-      λ some. (logs, parts.0, may, parts.1, part_fault logs parts.0 number e (omega (arith, some, as_many_have seen log_sources logs may)) are zip.0.fault),
+      λ some. record {
+        logs = logs;
+        parts = parts.0;
+        logs_may = may;
+        parts_may = parts.1;
+        holds = part_fault logs parts.0 number e (omega (arith, some, as_many_have seen log_sources logs may)) are zip.0.fault;
+      },
       blames_part seen log_sources front ps p number e at zip.0.fault zip.0.steady,
     )
 
@@ -222,18 +228,18 @@ log_faults seen front (s ∷ ss) parts logs scans number (scanned.Log (Err e) �
     let more = some_logs seen ss in
     let known = some_logs seen parts in
     subst (IsAnsweredIfAny seen (front ++ s ∷ ss) parts) first (
-      λ some. (
-        logs ++ own.0 ∷ more.0,
-        known.0,
-        may_append seen front (s ∷ ss) logs (own.0 ∷ more.0) may (own.1, more.1),
-        known.1,
-        fault_among logs more.0 known.0 scans own.0 number e at are own.2,
-      ),
+      λ some. record {
+        logs = logs ++ own.0 ∷ more.0;
+        parts = known.0;
+        logs_may = may_append seen front (s ∷ ss) logs (own.0 ∷ more.0) may (own.1, more.1);
+        parts_may = known.1;
+        holds = fault_among logs more.0 known.0 scans own.0 number e at are own.2;
+      },
       blames seen front ss parts s own.0 number e (at ∙ long) own.2 zip.0.steady,
     )
 
 pub memory_fault : {S : Type 0} (seen : S → Seen) (logs parts : List S) → IsAnsweredBy seen logs parts faults.Memory
-memory_fault seen logs parts = let ls = some_logs seen logs in let ps = some_logs seen parts in ((ls.0, ps.0, ls.1, ps.1, tt), tt)
+memory_fault seen logs parts = let ls = some_logs seen logs in let ps = some_logs seen parts in (record { logs = ls.0; parts = ps.0; logs_may = ls.1; parts_may = ps.1; holds = λ other. absurd (other refl) }, tt)
 
 -- the first fault is the answer, or that memory was refused
 pub all_faults : {S : Type 0} (seen : S → Seen) (logs parts : List S) (jobs : List (Job S)) (outcomes : List Scanned) (fault : Fault) → 0 < length logs → jobs ≡ log_jobs 0 logs ++ part_jobs 0 parts → AllZip (IsScanned seen) jobs outcomes

@@ -68,12 +68,12 @@ fault_among logs rest parts scans bytes number fault at are is = by fault (subst
     by : (fault : Fault) → IsScanFault (length logs) bytes fault → IsAnsweredFrom all parts fault
     by (faults.Header log) is =
         subst (λ (n : ℕ). IsAnsweredFrom all parts (faults.Header n)) (sym is.0)
-        (record { readings = are.readings; before = before; bytes = bytes; stands = behind_front logs bytes rest; is_fault = is.1 })
+        (λ other. record { readings = are.readings; before = before; bytes = bytes; stands = behind_front logs bytes rest; is_fault = is.1 })
     by (faults.Record log nth what) is =
         subst (λ (n : ℕ). IsAnsweredFrom all parts (faults.Record n nth what)) (sym is.0)
-        (record { readings = are.readings; before = before; bytes = bytes; stands = behind_front logs bytes rest; is_fault = is.1 })
+        (λ other. record { readings = are.readings; before = before; bytes = bytes; stands = behind_front logs bytes rest; is_fault = is.1 })
     by (faults.Source log) is = subst (λ (n : ℕ). IsAnsweredFrom all parts (faults.Source n)) (sym is) (are.readings, before)
-    by faults.Memory is = tt
+    by faults.Memory is = λ other. absurd (other refl)
     by fault is = absurd is
 
 -- ---- the source that is blamed
@@ -108,7 +108,7 @@ blames_part seen logs front rest source number fault at is steady = absurd is
 -- the fault of a part, where there are logs and none has a fault
 pub part_fault : (logs parts : List (List ℕ)) (part : ℕ) (fault : Fault) → 0 < length logs → AreLogs logs → IsPartScanFault part fault → IsAnsweredFrom logs parts fault
 part_fault logs parts part (faults.PartSource i) some are is = (some, are)
-part_fault logs parts part faults.Memory some are is = tt
+part_fault logs parts part faults.Memory some are is = λ other. absurd (other refl)
 part_fault logs parts part fault some are is = absurd is
 
 -- ---- logs and parts
@@ -130,15 +130,15 @@ as_many_have seen sources logs may = sym (AllZip-long (λ source bytes. Agrees (
 
 -- the verdict on logs is what recovery from their sources answers
 pub answered_from : (logs parts : List (List ℕ)) (fault : Fault) → IsVerdictOrMemory logs parts fault → IsAnsweredFrom logs parts fault
-answered_from logs parts (faults.Source log) is = absurd is
-answered_from logs parts (faults.PartSource part) is = absurd is
+answered_from logs parts (faults.Source log) is = absurd (is (λ same. cc))
+answered_from logs parts (faults.PartSource part) is = absurd (is (λ same. cc))
 answered_from logs parts fault is = is
 
 -- and it blames no source
 pub blames_none : {S : Type 0} (seen : S → Seen) (log_sources part_sources : List S) (logs parts : List (List ℕ)) (fault : Fault) → IsVerdictOrMemory logs parts fault
     → BlamesUnsteady seen log_sources part_sources fault
-blames_none seen ls ps logs parts (faults.Source log) is = absurd is
-blames_none seen ls ps logs parts (faults.PartSource part) is = absurd is
+blames_none seen ls ps logs parts (faults.Source log) is = absurd (is (λ same. cc))
+blames_none seen ls ps logs parts (faults.PartSource part) is = absurd (is (λ same. cc))
 blames_none seen ls ps logs parts fault is = tt
 
 -- ---- recovery from what sources have
@@ -154,7 +154,7 @@ recovery_from seen logs parts scans result are recovered fails =
     let ls = are.logs in
     let ps = are.parts in
     record {
-      recovered = IfOk-weaker result _ (λ outcome. OfSources seen logs parts (λ ls ps. IsRecoveredOf ls ps outcome)) (λ outcome is. (ls.0, ps.0, ls.1, ps.1, is)) (recovered ls.0 ps.0 ls.2 ps.2);
+      recovered = IfOk-weaker result _ (λ outcome. OfSources seen logs parts (λ ls ps. IsRecoveredOf ls ps outcome)) (λ outcome is. record { logs = ls.0; parts = ps.0; logs_may = ls.1; parts_may = ps.1; holds = is }) (recovered ls.0 ps.0 ls.2 ps.2);
       fault = IfErr-weaker result _ (IsAnsweredBy seen logs parts)
-          (λ fault is. ((ls.0, ps.0, ls.1, ps.1, answered_from ls.0 ps.0 fault is), blames_none seen logs parts ls.0 ps.0 fault is)) (fails ls.0 ps.0 ls.2 ps.2);
+          (λ fault is. (record { logs = ls.0; parts = ps.0; logs_may = ls.1; parts_may = ps.1; holds = answered_from ls.0 ps.0 fault is }, blames_none seen logs parts ls.0 ps.0 fault is)) (fails ls.0 ps.0 ls.2 ps.2);
     }

@@ -4,16 +4,17 @@ use Rattle.std.proofs.lemmas.List.Elements.{Contains-append_right, Contains-appe
 use Rattle.mt_words.specs.declared.record.Change.{Change}
 use Rattle.mt_words.specs.declared.update.Origin.TheVariants as origins
 use Rattle.mt_words.specs.declared.update.Update.{Update}
-use Rattle.mt_words.specs.Words.{IsBelow}
+use Rattle.mt_words.specs.Words.{IsBelow, AreRising}
 use Rattle.mt_words.specs.Changes.{Logged}
 use Rattle.mt_words.specs.Updates.{update_at}
 use Rattle.mt_scan.specs.PartScans.{KnownPart}
-use Rattle.mt_scan.specs.Choice.{Checkpoint, EntriesRise, IsChosenOf}
+use Rattle.mt_scan.specs.Choice.{CheckpointReading, entry_keys, IsChosenOf}
 use Rattle.mt_words.proofs.Elements.{no_element, head_or_tail, head_in}
 use Rattle.mt_replay.specs.declared.window.Window.{Window}
 use Rattle.mt_replay.specs.Survivors.{in_window, log_updates, log_survivors, wholes}
 use Rattle.mt_recover.specs.Survivors.{entry_updates, begin_of, survivors}
 use Rattle.mt_replay.specs.Walk.{AreApart}
+use Rattle.mt_replay.proofs.Members.{in_map}
 use Rattle.mt_recover.proofs.Apart.{of_logs, logs_apart}
 use Rattle.mt_recover.proofs.ReplayLemmas.{was_there}
 use Rattle.mt_recover.proofs.OneWalk.{of_each, not_below_itself}
@@ -34,25 +35,25 @@ of_entry (e ∷ es) u at =
 -- ---- stamps
 
 -- a key stands in one entry
-one_entry : (entries : List Change) (a b : Change) → EntriesRise entries → Contains entries a → Contains entries b → a.key ≡ b.key → a ≡ b
+one_entry : (entries : List Change) (a b : Change) → AreRising (entry_keys entries) → Contains entries a → Contains entries b → a.key ≡ b.key → a ≡ b
 one_entry [] a b rise at here same = absurd (no_element a at)
 one_entry (e ∷ es) a b rise at here same = elim (head_or_tail e a es at) as (λ _. a ≡ b) [
   | inl first ↦ elim (head_or_tail e b es here) as (λ _. a ≡ b) [
     | inl too ↦ sym first ∙ too
     | inr later ↦
-        let below : IsBelow e.key b.key = of_each (λ (o : Change). IsBelow e.key o.key) es b rise.0 later in
+        let below : IsBelow e.key b.key = of_each (IsBelow e.key) (entry_keys es) b.key rise.0 (in_map (λ (entry : Change). entry.key) es b later) in
         absurd (not_below_itself e.key b.key (ap (λ (x : Change). x.key) first ∙ same) below)
   ]
   | inr later ↦ elim (head_or_tail e b es here) as (λ _. a ≡ b) [
     | inl first ↦
-        let below : IsBelow e.key a.key = of_each (λ (o : Change). IsBelow e.key o.key) es a rise.0 later in
+        let below : IsBelow e.key a.key = of_each (IsBelow e.key) (entry_keys es) a.key rise.0 (in_map (λ (entry : Change). entry.key) es a later) in
         absurd (not_below_itself e.key a.key (ap (λ (x : Change). x.key) first ∙ sym same) below)
     | inr too ↦ one_entry es a b rise.1 later too same
   ]
 ]
 
 -- so a key has one update of entries
-one_whole : (entries : List Change) (u w : Update) → EntriesRise entries → Contains (wholes entries) u → Contains (wholes entries) w
+one_whole : (entries : List Change) (u w : Update) → AreRising (entry_keys entries) → Contains (wholes entries) u → Contains (wholes entries) w
     → u.key ≡ w.key → u ≡ w
 one_whole entries u w rise at here same =
     let a = of_entry entries u at in
@@ -61,18 +62,18 @@ one_whole entries u w rise at here same =
     sym a.2 ∙ ap (update_at origins.Checkpoint 0) (one_entry entries a.0 b.0 rise a.1 b.1 keys) ∙ b.2
 
 -- and one of the chosen checkpoint
-one_of_chosen : (known : List KnownPart) (cutoff : ℕ) (chosen : Option Checkpoint) (u w : Update) → IsChosenOf known cutoff chosen
+one_of_chosen : (known : List KnownPart) (cutoff : ℕ) (chosen : Option CheckpointReading) (u w : Update) → IsChosenOf known cutoff chosen
     → Contains (entry_updates chosen) u → Contains (entry_updates chosen) w → u.key ≡ w.key → u ≡ w
 one_of_chosen known cutoff None u w is at here same = absurd (no_element u at)
 one_of_chosen known cutoff (Some checkpoint) u w is at here same = one_whole checkpoint.entries u w is.0.valid.make_up.rise at here same
 
 -- whose origin says so
-of_checkpoint : (chosen : Option Checkpoint) (u : Update) → Contains (entry_updates chosen) u → u.stamp.origin ≡ origins.Checkpoint
+of_checkpoint : (chosen : Option CheckpointReading) (u : Update) → Contains (entry_updates chosen) u → u.stamp.origin ≡ origins.Checkpoint
 of_checkpoint None u at = absurd (no_element u at)
 of_checkpoint (Some checkpoint) u at = ap (λ (x : Update). x.stamp.origin) (sym (of_entry checkpoint.entries u at).2)
 
 -- an update of logs and one of a checkpoint have two stamps
-two_origins : (logs : List (List Logged)) (chosen : Option Checkpoint) (u w : Update) → Contains (log_updates logs) u
+two_origins : (logs : List (List Logged)) (chosen : Option CheckpointReading) (u w : Update) → Contains (log_updates logs) u
     → Contains (entry_updates chosen) w → u.stamp ≡ w.stamp → ⊥
 two_origins logs chosen u w at here same =
     let log = of_logs 0 logs u at in
@@ -80,7 +81,7 @@ two_origins logs chosen u w at here same =
     absurd cc
 
 -- no two survivors of a key have one stamp
-pub survivors_apart : (known : List KnownPart) (cutoff : ℕ) (chosen : Option Checkpoint) (logs : List (List Logged))
+pub survivors_apart : (known : List KnownPart) (cutoff : ℕ) (chosen : Option CheckpointReading) (logs : List (List Logged))
     → IsChosenOf known cutoff chosen → AreApart (survivors cutoff chosen logs)
 survivors_apart known cutoff chosen logs is u w at here key same =
     let window : Window = record { begin = begin_of chosen; cutoff = cutoff } in

@@ -4,7 +4,7 @@ use Rattle.mt_words.specs.declared.update.Origin.TheVariants as origins
 use Rattle.mt_words.specs.declared.update.Update.{Update}
 use Rattle.mt_words.specs.declared.update.Kind.TheVariants.{Put, Whole}
 use Rattle.mt_words.specs.Changes.{Logged, mark_of, put_of, entry_of}
-use Rattle.mt_scan.specs.Choice.{Checkpoint}
+use Rattle.mt_scan.specs.Choice.{CheckpointReading}
 use Rattle.mt_recover.specs.Survivors.{survivors}
 
 -- a put of key a at timestamp 3, and a put of key b at timestamp 4
@@ -33,7 +33,7 @@ lost_beside_a_header : survivors 0 None ((put_a ∷ mark_of 5 ∷ []) ∷ [] ∷
 lost_beside_a_header = refl
 
 -- a checkpoint that begins at 4, with an entry of key a
-abbrev checkpoint : Checkpoint
+abbrev checkpoint : CheckpointReading
 checkpoint = record { number = 1; begin = 4; end = 4; entries = entry_of 1 (97 ∷ []) ((0, 122 ∷ []) ∷ []) ∷ [] }
 
 abbrev whole_a : Update

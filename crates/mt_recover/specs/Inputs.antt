@@ -14,9 +14,12 @@ abbrev pub MayHave : {S : Type 0} → (S → Seen) → List S → List (List ℕ
 MayHave seen sources all = AllZip (λ source bytes. Agrees (seen source).told bytes) sources all
 
 -- this holds of some logs and parts that the sources may have
-abbrev pub OfSources : {S : Type 0} → (S → Seen) → List S → List S → (List (List ℕ) → List (List ℕ) → Type 0) → Type 0
-OfSources seen log_sources part_sources P =
-    (logs : List (List ℕ)) × (parts : List (List ℕ)) × MayHave seen log_sources logs × MayHave seen part_sources parts × P logs parts
+pub record OfSources {S : Type 0} (seen : S → Seen) (log_sources part_sources : List S) (P : List (List ℕ) → List (List ℕ) → Type 0) : Type 0 where
+  pub logs : List (List ℕ)
+  pub parts : List (List ℕ)
+  pub logs_may : MayHave seen log_sources logs
+  pub parts_may : MayHave seen part_sources parts
+  pub holds : P logs parts
 
 -- each of the logs says something, so that none of them has a fault
 abbrev pub AreLogs : List (List ℕ) → Type 0

@@ -6,7 +6,7 @@ use Rattle.mt_words.specs.Walks.{Pair}
 use Rattle.mt_record.specs.Logs.{LogReading, IsReading}
 use Rattle.mt_scan.specs.Cutoff.{IsCutoff}
 use Rattle.mt_scan.specs.PartScans.{KnownPart, IsKnown}
-use Rattle.mt_scan.specs.Choice.{Checkpoint, IsChosenOf}
+use Rattle.mt_scan.specs.Choice.{CheckpointReading, IsChosenOf}
 use Rattle.mt_recover.specs.Survivors.{begin_of, survivors}
 use Rattle.mt_replay.specs.Walk.{IsWalk}
 
@@ -26,7 +26,7 @@ pub record Facts (logs parts : List (List ℕ)) : Type 0 where
   pub is_cutoff : IsCutoff readings cutoff
   pub known : List KnownPart
   pub are_known : AreKnown parts known
-  pub chosen : Option Checkpoint
+  pub chosen : Option CheckpointReading
   pub is_chosen : IsChosenOf known cutoff chosen
 
 -- updates that recovery needs may be missing from log i

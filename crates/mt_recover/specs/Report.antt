@@ -19,8 +19,8 @@ abbrev pub all_records : List LogReading → List Logged
 all_records readings = flat_map (λ log. log.records) readings
 
 -- the puts and removes of all logs
-abbrev pub updates_in : List LogReading → List Update
-updates_in readings = log_updates (records_of readings)
+abbrev pub logged_updates : List LogReading → List Update
+logged_updates readings = log_updates (records_of readings)
 
 -- its timestamp lies below this one
 abbrev pub is_early : ℕ → Update → Bool
@@ -47,8 +47,8 @@ pub record IsFoundIn {log_bytes part_bytes : List (List ℕ)} (facts : Facts log
 pub record IsReportOf {logs parts : List (List ℕ)} (facts : Facts logs parts) (pairs : List Pair) (report : Report) : Type 0 where
   pub found : IsFoundIn facts report
   pub survivors : report.survivors ≡ length (survivors facts.cutoff facts.chosen (records_of facts.readings))
-  pub early : report.early ≡ length (filter (is_early (begin_of facts.chosen)) (updates_in facts.readings))
-  pub late : report.late ≡ length (filter (is_late facts.cutoff) (updates_in facts.readings))
+  pub early : report.early ≡ length (filter (is_early (begin_of facts.chosen)) (logged_updates facts.readings))
+  pub late : report.late ≡ length (filter (is_late facts.cutoff) (logged_updates facts.readings))
   pub keys : report.keys ≡ length pairs
   pub layers : CountsLayers pairs report.layers
 

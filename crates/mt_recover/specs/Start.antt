@@ -10,8 +10,7 @@ use Rattle.mt_recover.specs.declared.start.Start.{Start}
 use Rattle.mt_recover.specs.Survivors.{begin_of, entry_updates}
 use Rattle.mt_recover.specs.Recovery.{Facts, IsGap}
 use Rattle.mt_recover.specs.Report.{IsFoundIn, Outcome, is_early}
-use Rattle.mt_words.specs.Walks.{Pair, IsMap}
-use Rattle.mt_replay.specs.Runs.{together}
+use Rattle.mt_words.specs.Walks.{Pair, IsMap, joined}
 use Rattle.mt_replay.specs.Walk.{IsWalk, AreApart}
 use Rattle.mt_tree.specs.Borders.{layer_walk}
 use Rattle.mt_tree.specs.Layers.{CountsLayers}
@@ -59,7 +58,7 @@ surviving replay = kept_in replay.window replay.scans.items ++ entry_updates (op
 -- the cells of what survives of a scan, and how many of its updates come early
 pub record IsLeftBy (window : Window) (scan : LogScan) (log : LogSurvivors) : Type 0 where
   pub early : log.early ≡ length (filter (is_early window.begin) (kept_by scan))
-  pub cells : IsPermutation (filter (in_window window) (kept_by scan)) (together log.cells.items)
+  pub cells : IsPermutation (filter (in_window window) (kept_by scan)) (joined log.cells.items)
 
 -- the cells of logs
 abbrev pub cells_of : List LogSurvivors → List (List Update)
@@ -73,10 +72,10 @@ pub record AreBoth (logs : List LogSurvivors) (parts : List (List Update)) (surv
 -- what survives of all scans and of the chosen checkpoint, and how many updates come early
 pub record AreSurvivorsOf (replay : Replay) (survivors : Survivors) : Type 0 where
   pub early : survivors.early ≡ length (filter (is_early replay.window.begin) (kept replay.scans.items))
-  pub cells : IsPermutation (surviving replay) (together survivors.lists.items)
+  pub cells : IsPermutation (surviving replay) (joined survivors.lists.items)
 
 -- what replaying the scans over the chosen checkpoint gives
 pub record IsReplayOf (replay : Replay) (replayed : Replayed) : Type 0 where
   pub survivors : AreSurvivorsOf replay replayed.survivors
   pub map : IsMap (layer_walk replayed.draft)
-  pub walk : AreApart (together replayed.survivors.lists.items) → IsWalk (together replayed.survivors.lists.items) (layer_walk replayed.draft)
+  pub walk : AreApart (joined replayed.survivors.lists.items) → IsWalk (joined replayed.survivors.lists.items) (layer_walk replayed.draft)

@@ -5,7 +5,7 @@ use Rattle.mt_words.specs.declared.fault.Fault.TheVariants as faults
 use Rattle.mt_record.specs.declared.read.FeedFault.{FeedFault}
 use Rattle.mt_record.specs.declared.read.FeedFault.TheVariants as of_log
 use Rattle.mt_record.specs.Logs.{LogReading}
-use Rattle.mt_record.specs.LogFaults.{IsLogFault}
+use Rattle.mt_record.specs.LogFaults.{IsLogFault, OrMemory}
 use Rattle.mt_recover.specs.Survivors.{begin_of}
 use Rattle.mt_recover.specs.Recovery.{AreReadings, Facts, IsGap}
 
@@ -31,5 +31,4 @@ IsVerdict logs parts fault = ⊥
 
 -- a fault that was answered is the verdict; nothing is said where memory was refused
 abbrev pub IsVerdictOrMemory : List (List ℕ) → List (List ℕ) → Fault → Type 0
-IsVerdictOrMemory logs parts faults.Memory = Unit {0}
-IsVerdictOrMemory logs parts fault = IsVerdict logs parts fault
+IsVerdictOrMemory logs parts = OrMemory faults.Memory (IsVerdict logs parts)

@@ -5,7 +5,7 @@ ghost use Rattle.mt_words.specs.declared.update.Update.{Update};
 ghost use Rattle.mt_words.specs.Changes.{Logged};
 ghost use Rattle.mt_words.specs.Walks.{Pair};
 ghost use Rattle.mt_scan.specs.PartScans.{KnownPart};
-ghost use Rattle.mt_scan.specs.Choice.{Checkpoint, IsChosenOf};
+ghost use Rattle.mt_scan.specs.Choice.{CheckpointReading, IsChosenOf};
 ghost use Rattle.mt_replay.specs.Survivors.{log_updates};
 ghost use Rattle.mt_recover.specs.Survivors.{survivors};
 ghost use Rattle.mt_replay.specs.Walk.{IsWalk, AreApart};
@@ -18,7 +18,7 @@ ghost use Rattle.mt_recover.specs.Verdict.{IsVerdict};
 pub fn one_walk()
     ensures apart { (logs : List (List Logged)) (a b : Update) →
         Contains (log_updates logs) a → Contains (log_updates logs) b → a.stamp ≡ b.stamp → a ≡ b }
-    ensures survivors { (parts : List KnownPart) (cutoff : ℕ) (chosen : Option Checkpoint) (logs : List (List Logged)) →
+    ensures survivors { (parts : List KnownPart) (cutoff : ℕ) (chosen : Option CheckpointReading) (logs : List (List Logged)) →
         IsChosenOf parts cutoff chosen → AreApart (survivors cutoff chosen logs) }
     ensures one { (updates : List Update) (pairs others : List Pair) →
         IsWalk updates pairs → IsWalk updates others → pairs ≡ others }

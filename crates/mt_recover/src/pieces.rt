@@ -1,9 +1,8 @@
 //! The draft of the walk of the updates of cells, piece by piece.
 ghost use Rattle.std.specs.Prelude.{◌≡◌, ◌<◌, ◌+◌, Some, ℕ, slice_get, map, length, IfOk};
-ghost use Rattle.mt_words.specs.Walks.{IsMap, KeysRise};
+ghost use Rattle.mt_words.specs.Walks.{IsMap, KeysRise, joined};
 ghost use Rattle.mt_replay.specs.Walk.{IsWalk, AreApart};
-ghost use Rattle.mt_replay.specs.Pieces.{IsPiece, IsMapIn, joined};
-ghost use Rattle.mt_replay.specs.Runs.{together};
+ghost use Rattle.mt_replay.specs.Pieces.{IsPiece, IsMapIn};
 ghost use Rattle.mt_tree.specs.Borders.{layer_walk};
 
 use crate::by_workers::{all_done, by_workers};
@@ -17,7 +16,7 @@ use std::thread::Threads;
 /// The draft of the walk of all updates, on one thread.
 pub(crate) fn replay_all(alloc: Global, lists: &[LogCells]) -> Result<Draft, Memory>
     ensures map { IfOk result (λ draft. IsMap (layer_walk draft)) }
-    ensures walk { IfOk result (λ draft. AreApart (together lists.now) → IsWalk (together lists.now) (layer_walk draft)) }
+    ensures walk { IfOk result (λ draft. AreApart (joined lists.now) → IsWalk (joined lists.now) (layer_walk draft)) }
 {
     replay_into(alloc, lists, &Cuts::none(alloc), 0, Draft::new(alloc))
 }
@@ -33,7 +32,7 @@ pub(crate) fn replay_pieces<R: Threads + Sync, G: Gate>(
     gate: &G,
 ) -> Result<Draft, Memory>
     ensures map { IfOk result (λ draft. IsMap (layer_walk draft)) }
-    ensures walk { IfOk result (λ draft. AreApart (together lists.now) → IsWalk (together lists.now) (layer_walk draft)) }
+    ensures walk { IfOk result (λ draft. AreApart (joined lists.now) → IsWalk (joined lists.now) (layer_walk draft)) }
 {
     let numbers = numbers_below(alloc, cuts.pieces())?;
     let drafts = by_workers(
@@ -44,8 +43,8 @@ pub(crate) fn replay_pieces<R: Threads + Sync, G: Gate>(
         &|worker: u32, piece: u32| -> Result<Draft, Memory>
             requires { piece < length cuts.now + 1 }
             ensures map { IfOk result (λ draft. IsMapIn cuts.entry.now piece (layer_walk draft)) }
-            ensures walk { IfOk result (λ draft. AreApart (together lists.entry.now) →
-                IsPiece (together lists.entry.now) cuts.entry.now piece (layer_walk draft)) }
+            ensures walk { IfOk result (λ draft. AreApart (joined lists.entry.now) →
+                IsPiece (joined lists.entry.now) cuts.entry.now piece (layer_walk draft)) }
         {
             gate.enter(worker, piece);
             replay_into(alloc, lists, cuts, piece, Draft::new(alloc))

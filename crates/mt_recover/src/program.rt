@@ -45,9 +45,9 @@ impl<'a> From<Fault> for Failure<'a> {
 }
 
 /// Prints the store of the log files of these names, or a line that says why there is none, and answers the exit
-/// status: 0 where it is printed, 1 for a fault of the logs, 2 where no name is given, 3 for a file that cannot be
-/// opened, for too many names and where the output fails. All files are read before any is recovered. Where nothing
-/// is printed, `out` may still have been written to.
+/// status: 0 where it is printed, 1 for a fault of the logs and for want of memory, 2 where no name is given, 3 for a
+/// file that cannot be opened, for too many names and where the output fails. All files are read before any is
+/// recovered. Where nothing is printed, `out` may still have been written to.
 pub fn dump_files<R: Files + AllocGlobal, O: Write, E: Write>(
     rt: &R,
     names: &[String],
@@ -136,8 +136,9 @@ fn read_files<'a, R: Files + AllocGlobal>(
 {
     let mut files = Vec::new(rt.alloc());
     for (log, name) in names.iter().enumerate() {
-        let Ok(file) = File::open(rt, name.as_str()) else {
-            return Err(Failure::Open(name.as_str()));
+        let file = match File::open(rt, name.as_str()) {
+            Ok(file) => file,
+            Err(error) => return Err(Unread::from(error).of_opening(name.as_str())),
         };
         let bytes = read_file(rt, file).map_err(|unread| unread.of_log(log))?;
         files.push(bytes).map_err(Fault::from)?;
@@ -150,11 +151,22 @@ fn read_files<'a, R: Files + AllocGlobal>(
 enum Unread {
     /// A growth was refused.
     Memory,
-    /// The file cannot be read whole, or has more than `MOST_BYTES`.
+    /// The file cannot be opened or read whole, or has more than `MOST_BYTES`.
     Source,
 }
 
 impl Unread {
+    /// The failure that it is, as that of the file of this name, which is not open.
+    fn of_opening<'a>(self, name: &'a str) -> Failure<'a>
+        ensures memory { self ≡ Unread.Memory → result ≡ Failure.Recovery Fault.Memory }
+        ensures source { self ≡ Unread.Source → result ≡ Failure.Open name.entry }
+    {
+        match self {
+            Unread::Memory => Failure::Recovery(Fault::Memory),
+            Unread::Source => Failure::Open(name),
+        }
+    }
+
     /// The fault of recovery that it is, as that of the log of this number.
     fn of_log(self, log: usize) -> Fault
         ensures memory { self ≡ Unread.Memory → result ≡ Fault.Memory }

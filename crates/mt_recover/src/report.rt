@@ -2,8 +2,8 @@
 ghost use Rattle.std.specs.Prelude.{◌≡◌, ◌<◌, ◌^◌, List, ℕ, length, sum_by};
 ghost use Rattle.std.specs.Fn.{FnReturnsAt};
 ghost use Rattle.std.specs.Option.{option_map};
+ghost use Rattle.mt_words.specs.Walks.{joined};
 ghost use Rattle.mt_scan.specs.Choice.{checkpoint_in, AreSkipped, AreNameless};
-ghost use Rattle.mt_replay.specs.Runs.{together};
 ghost use Rattle.mt_recover.specs.LogScans.{ShowAll};
 ghost use Rattle.mt_recover.specs.Recovery.{Facts};
 ghost use Rattle.mt_recover.specs.Start.{MayEnd, ended};
@@ -92,9 +92,9 @@ impl Report {
 
     /// The report where this survives, and the store has so many keys. What is neither early nor survives is late.
     pub(crate) fn ended(self, found: &Survivors, keys: u128) -> Report
-        requires { MayEnd self found.now.early (length (together found.now.lists.items)) }
-        ensures value { result ≡ ended self found.now.early (length (together found.now.lists.items)) keys }
-        ensures fits { length (together found.now.lists.items) < 2 ^ 128 }
+        requires { MayEnd self found.now.early (length (joined found.now.lists.items)) }
+        ensures value { result ≡ ended self found.now.early (length (joined found.now.lists.items)) keys }
+        ensures fits { length (joined found.now.lists.items) < 2 ^ 128 }
     {
         let survivors = survivor_count(&found.lists);
         let updates = self.records - self.marks;
@@ -134,7 +134,7 @@ fn entry_count(chosen: &Option<Checkpoint>) -> u128
 
 /// The updates of all cells.
 fn survivor_count(lists: &[LogCells]) -> u128
-    ensures { result ≡ length (together lists.now) }
+    ensures { result ≡ length (joined lists.now) }
 {
     total(lists, |cells| cells.len() as u64)
 }

@@ -2,9 +2,9 @@
 ghost use Rattle.std.specs.Prelude.{◌≡◌, ◌++◌, map, IfOk, IsPermutation, length, filter};
 ghost use Rattle.std.specs.List.{list_any, sum_by, AllZip};
 ghost use Rattle.std.specs.Option.{option_map};
-ghost use Rattle.mt_record.specs.Kept.{kept_updates, listed};
+ghost use Rattle.mt_words.specs.Walks.{joined};
+ghost use Rattle.mt_record.specs.Kept.{kept_updates, as_list};
 ghost use Rattle.mt_scan.specs.Choice.{checkpoint_in};
-ghost use Rattle.mt_replay.specs.Runs.{together};
 ghost use Rattle.mt_replay.specs.Survivors.{wholes};
 ghost use Rattle.mt_recover.specs.Report.{is_early};
 ghost use Rattle.mt_recover.specs.Start.{IsLeftBy, AreBoth, AreSurvivorsOf};
@@ -68,7 +68,7 @@ fn early_among(updates: &Updates, begin: u64) -> u64
 
 /// Whether this is an update below this timestamp.
 fn comes_early(update: Option<Lent<'_>>, begin: u64) -> bool
-    ensures { result ≡ list_any (is_early begin) (listed update.entry) }
+    ensures { result ≡ list_any (is_early begin) (as_list update.entry) }
 {
     update.is_some_and(|update| update.timestamp() < begin)
 }
@@ -150,7 +150,7 @@ fn all_of_logs_by<R: Threads + Sync>(
 
 /// The cells of each part of the checkpoint; none where there is none.
 fn all_of_parts(alloc: Global, chosen: Option<Checkpoint>) -> Result<Vec<LogCells>, Memory>
-    ensures { IfOk result (λ lists. IsPermutation (entry_updates (option_map checkpoint_in chosen)) (together lists.items)) }
+    ensures { IfOk result (λ lists. IsPermutation (entry_updates (option_map checkpoint_in chosen)) (joined lists.items)) }
 {
     let mut lists = Vec::new(alloc);
     let Some(checkpoint) = chosen else {
@@ -169,7 +169,7 @@ fn all_of_parts_by<R: Threads + Sync>(
     chosen: Option<Checkpoint>,
     workers: Workers,
 ) -> Result<Vec<LogCells>, Memory>
-    ensures { IfOk result (λ lists. IsPermutation (entry_updates (option_map checkpoint_in chosen)) (together lists.items)) }
+    ensures { IfOk result (λ lists. IsPermutation (entry_updates (option_map checkpoint_in chosen)) (joined lists.items)) }
 {
     let Some(checkpoint) = chosen else {
         return Ok(Vec::new(alloc));

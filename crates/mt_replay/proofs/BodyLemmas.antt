@@ -10,12 +10,12 @@ use Rattle.mt_words.specs.declared.update.Origin.TheVariants.{Checkpoint}
 use Rattle.mt_words.specs.declared.update.Update.{Update}
 use Rattle.mt_words.specs.Changes.{Logged, mark_of}
 use Rattle.mt_words.specs.Updates.{update_of, updates_from}
+use Rattle.mt_words.specs.Walks.{joined}
 use Rattle.mt_record.specs.Decoding.{update_in}
 use Rattle.mt_record.specs.Kept.{Kept}
 use Rattle.mt_record.proofs.RecordLemmas.{updates_push}
 use Rattle.mt_replay.specs.declared.window.Window.{Window}
 use Rattle.mt_replay.specs.Survivors.{in_window, first_survivors}
-use Rattle.mt_replay.specs.Runs.{together}
 use Rattle.mt_replay.specs.Bodies.{updates_at}
 
 -- ---- survivors
@@ -47,13 +47,13 @@ stretch_step window kept from i old new more below is so_far added =
 
 -- the cells of one stretch more
 pub stretch_more : (window : Window) (kept : Kept) (from end : ℕ) (lists more : List (List Update)) (stretch cells : List Update)
-    → IsPermutation (first_survivors window kept from) (together lists) → first_survivors window kept end ≡ first_survivors window kept from ++ stretch → IsPermutation stretch cells
-    → more ≡ lists ++ cells ∷ [] → IsPermutation (first_survivors window kept end) (together more)
+    → IsPermutation (first_survivors window kept from) (joined lists) → first_survivors window kept end ≡ first_survivors window kept from ++ stretch → IsPermutation stretch cells
+    → more ≡ lists ++ cells ∷ [] → IsPermutation (first_survivors window kept end) (joined more)
 stretch_more window kept from end lists more stretch cells so_far listed sorted added =
     let before = first_survivors window kept from in
-    let joined : together more ≡ together lists ++ cells = ap together added ∙ sym (flat_map_more (λ (us : List Update). us) [] lists cells) in
-    subst (λ (us : List Update). IsPermutation us (together more)) (sym listed)
-    (subst (IsPermutation (before ++ stretch)) (sym joined) (IsPermutation-append before (together lists) stretch cells so_far sorted))
+    let all : joined more ≡ joined lists ++ cells = ap joined added ∙ sym (flat_map_more (λ (us : List Update). us) [] lists cells) in
+    subst (λ (us : List Update). IsPermutation us (joined more)) (sym listed)
+    (subst (IsPermutation (before ++ stretch)) (sym all) (IsPermutation-append before (joined lists) stretch cells so_far sorted))
 
 -- ---- bodies
 

@@ -9,8 +9,9 @@ use Rattle.std.proofs.lemmas.List.{length-append, length-map, map-append, get_or
 use Rattle.std.proofs.lemmas.List.Elements.{All-contains, All-from_recursion, Contains-get_or, Contains-append_cases, Contains-append_left, Contains-append_right}
 use Rattle.mt_words.specs.declared.update.Update.{Update}
 use Rattle.mt_words.specs.Words.{IsBelow}
-use Rattle.mt_replay.specs.Cuts.{is_below, is_after, is_before, in_piece, updates_in, AreRising, AreDistinctKeys, AreDistinctWhere}
-use Rattle.mt_replay.specs.Runs.{together, keys_in}
+use Rattle.mt_words.specs.Walks.{joined}
+use Rattle.mt_replay.specs.Cuts.{is_below, is_after, is_before, in_piece, updates_in, RiseThroughout, AreDistinctKeys, AreDistinctWhere}
+use Rattle.mt_replay.specs.Runs.{keys_in}
 use Rattle.mt_replay.proofs.KeyOrder.{below_by, below_trans}
 use Rattle.mt_words.proofs.Elements.{no_element}
 use Rattle.mt_replay.proofs.Members.{all_from, of_map, in_map, of_flat_map, in_flat_map, of_filter, in_filter}
@@ -18,30 +19,30 @@ use Rattle.mt_replay.proofs.Members.{all_from, of_map, in_map, of_flat_map, in_f
 -- ---- a piece
 
 -- the keys of the parts of a piece
-pub of_parts : (cuts : List (List ℕ)) (i : ℕ) (lists parts : List (List Update)) (keys : List (List ℕ)) → parts ≡ map (updates_in cuts i) lists → AreDistinctKeys (keys_in (together parts)) keys → AreDistinctWhere (in_piece cuts i) (keys_in (together lists)) keys
+pub of_parts : (cuts : List (List ℕ)) (i : ℕ) (lists parts : List (List Update)) (keys : List (List ℕ)) → parts ≡ map (updates_in cuts i) lists → AreDistinctKeys (keys_in (joined parts)) keys → AreDistinctWhere (in_piece cuts i) (keys_in (joined lists)) keys
 of_parts cuts i lists parts keys are distinct = record {
   rise = distinct.rise;
   same = λ key. (
     λ at.
-        let u = of_map (λ (u : Update). u.key) (together parts) key ((distinct.same key).0 at) in
+        let u = of_map (λ (u : Update). u.key) (joined parts) key ((distinct.same key).0 at) in
         let part = of_flat_map (λ (us : List Update). us) parts u.0 u.1 in
         let list = of_map (updates_in cuts i) lists part.0 (subst (λ (ps : List (List Update)). Contains ps part.0) are part.1) in
         let from = of_filter (λ (v : Update). in_piece cuts i v.key) list.0 u.0 (subst (λ (us : List Update). Contains us u.0) (sym list.2) part.2) in
-        let there = in_map (λ (u : Update). u.key) (together lists) u.0 (in_flat_map (λ (us : List Update). us) lists list.0 u.0 list.1 from.0) in
-        (subst (Contains (keys_in (together lists))) u.2 there, subst (λ (k : List ℕ). in_piece cuts i k ≡ true) u.2 from.1),
+        let there = in_map (λ (u : Update). u.key) (joined lists) u.0 (in_flat_map (λ (us : List Update). us) lists list.0 u.0 list.1 from.0) in
+        (subst (Contains (keys_in (joined lists))) u.2 there, subst (λ (k : List ℕ). in_piece cuts i k ≡ true) u.2 from.1),
     λ both.
-        let u = of_map (λ (u : Update). u.key) (together lists) key both.0 in
+        let u = of_map (λ (u : Update). u.key) (joined lists) key both.0 in
         let list = of_flat_map (λ (us : List Update). us) lists u.0 u.1 in
         let passes : in_piece cuts i u.0.key ≡ true = subst (λ (k : List ℕ). in_piece cuts i k ≡ true) (sym u.2) both.1 in
         let part : Contains parts (updates_in cuts i list.0) = subst (λ (ps : List (List Update)). Contains ps (updates_in cuts i list.0)) (sym are) (in_map (updates_in cuts i) lists list.0 list.1) in
         let there = in_flat_map (λ (us : List Update). us) parts (updates_in cuts i list.0) u.0 part (in_filter (λ (v : Update). in_piece cuts i v.key) list.0 u.0 passes list.2) in
-        (distinct.same key).1 (subst (Contains (keys_in (together parts))) u.2 (in_map (λ (u : Update). u.key) (together parts) u.0 there)),
+        (distinct.same key).1 (subst (Contains (keys_in (joined parts))) u.2 (in_map (λ (u : Update). u.key) (joined parts) u.0 there)),
   );
 }
 
 -- ---- pieces in their order
 
-rise_append : (xs ys : List (List ℕ)) → AreRising xs → AreRising ys → ((a b : List ℕ) → Contains xs a → Contains ys b → IsBelow a b) → AreRising (xs ++ ys)
+rise_append : (xs ys : List (List ℕ)) → RiseThroughout xs → RiseThroughout ys → ((a b : List ℕ) → Contains xs a → Contains ys b → IsBelow a b) → RiseThroughout (xs ++ ys)
 rise_append xs ys rise too below = λ k d lt.
     let whole : length (xs ++ ys) ≡ length xs + length ys = length-append xs ys in
     elim (cases_lt (k + 1) (length xs)) as (λ _. IsBelow (slice_index_or (xs ++ ys) k d) (slice_index_or (xs ++ ys) (k + 1) d)) [
@@ -82,7 +83,7 @@ one_piece cuts all keys piece are own = record {
 }
 
 -- what is below a cut is below the next
-below_next : (cuts : List (List ℕ)) (i : ℕ) (key : List ℕ) → AreRising cuts → i < length cuts → is_below key (slice_index_or cuts i []) ≡ true → is_before (slice_get cuts (suc i)) key ≡ true
+below_next : (cuts : List (List ℕ)) (i : ℕ) (key : List ℕ) → RiseThroughout cuts → i < length cuts → is_below key (slice_index_or cuts i []) ≡ true → is_before (slice_get cuts (suc i)) key ≡ true
 below_next cuts i key rise within low = elim (cases_lt (suc i) (length cuts)) as (λ _. is_before (slice_get cuts (suc i)) key ≡ true) [
   | inl lt ↦
       let next : i + 1 ≡ suc i = omega arith in
@@ -92,7 +93,7 @@ below_next cuts i key rise within low = elim (cases_lt (suc i) (length cuts)) as
 ]
 
 -- a piece behind others
-next_piece : (cuts all keys piece : List (List ℕ)) (i : ℕ) → AreRising cuts → i < length cuts → AreDistinctWhere (in_first cuts (suc i)) all keys → AreDistinctWhere (in_piece cuts (suc i)) all piece → AreDistinctWhere (in_first cuts (suc (suc i))) all (keys ++ piece)
+next_piece : (cuts all keys piece : List (List ℕ)) (i : ℕ) → RiseThroughout cuts → i < length cuts → AreDistinctWhere (in_first cuts (suc i)) all keys → AreDistinctWhere (in_piece cuts (suc i)) all piece → AreDistinctWhere (in_first cuts (suc (suc i))) all (keys ++ piece)
 next_piece cuts all keys piece i rise within are own =
     let cut : List ℕ = slice_index_or cuts i [] in
     let there : slice_get cuts i ≡ Some cut = slice_get-get_or cuts i [] within in
@@ -115,18 +116,15 @@ next_piece cuts all keys piece i rise within are own =
       );
     }
 
-one_more : (cuts all keys piece : List (List ℕ)) (i : ℕ) → AreRising cuts → i ≤ length cuts → AreDistinctWhere (in_first cuts i) all keys → AreDistinctWhere (in_piece cuts i) all piece → AreDistinctWhere (in_first cuts (suc i)) all (keys ++ piece)
+one_more : (cuts all keys piece : List (List ℕ)) (i : ℕ) → RiseThroughout cuts → i ≤ length cuts → AreDistinctWhere (in_first cuts i) all keys → AreDistinctWhere (in_piece cuts i) all piece → AreDistinctWhere (in_first cuts (suc i)) all (keys ++ piece)
 one_more cuts all keys piece zero rise within are own = one_piece cuts all keys piece are own
 one_more cuts all keys piece (suc i) rise within are own = next_piece cuts all keys piece i rise (omega arith) are own
-
-abbrev joined : List (List (List ℕ)) → List (List ℕ)
-joined pieces = flat_map (λ piece. piece) pieces
 
 joined_more : (pieces : List (List (List ℕ))) (i : ℕ) → i < length pieces → joined (take i pieces) ++ slice_index_or pieces i [] ≡ joined (take (i + 1) pieces)
 joined_more pieces i lt = flat_map_more (λ (piece : List (List ℕ)). piece) [] (take i pieces) (slice_index_or pieces i []) ∙ ap joined (sym (take_more pieces i [] lt))
 
 -- the keys of the first pieces
-first_pieces : (cuts all : List (List ℕ)) (pieces : List (List (List ℕ))) → AreRising cuts → length pieces ≡ length cuts + 1 → ((i : ℕ) (d : List (List ℕ)) → i < length pieces → AreDistinctWhere (in_piece cuts i) all (slice_index_or pieces i d))
+first_pieces : (cuts all : List (List ℕ)) (pieces : List (List (List ℕ))) → RiseThroughout cuts → length pieces ≡ length cuts + 1 → ((i : ℕ) (d : List (List ℕ)) → i < length pieces → AreDistinctWhere (in_piece cuts i) all (slice_index_or pieces i d))
     → (count : ℕ) → count ≤ length pieces → AreDistinctWhere (in_first cuts count) all (joined (take count pieces))
 first_pieces cuts all pieces rise long each zero within = record {
   rise = λ k d lt. absurd (omega (arith, lt));
@@ -138,7 +136,7 @@ first_pieces cuts all pieces rise long each (suc i) within =
     subst (λ n. AreDistinctWhere (in_first cuts (suc i)) all (joined (take n pieces))) next (subst (AreDistinctWhere (in_first cuts (suc i)) all) (joined_more pieces i (omega arith)) more)
 
 -- the keys of all pieces
-all_pieces : (cuts all : List (List ℕ)) (pieces : List (List (List ℕ))) → AreRising cuts → length pieces ≡ length cuts + 1 → ((i : ℕ) (d : List (List ℕ)) → i < length pieces → AreDistinctWhere (in_piece cuts i) all (slice_index_or pieces i d)) → AreDistinctKeys all (joined pieces)
+all_pieces : (cuts all : List (List ℕ)) (pieces : List (List (List ℕ))) → RiseThroughout cuts → length pieces ≡ length cuts + 1 → ((i : ℕ) (d : List (List ℕ)) → i < length pieces → AreDistinctWhere (in_piece cuts i) all (slice_index_or pieces i d)) → AreDistinctKeys all (joined pieces)
 all_pieces cuts all pieces rise long each =
     let count : suc (length cuts) ≡ length pieces = omega (arith, long) in
     let last : slice_get cuts (length cuts) ≡ None = slice_get_past cuts (length cuts) (omega arith) in
@@ -163,7 +161,7 @@ of_done {V} {E} P answers done are each i d lt =
     let is : slice_index_or answers i (Ok d) ≡ Ok (slice_index_or done i d) = ap (λ (xs : List (Result V E)). slice_index_or xs i (Ok d)) are ∙ get_or-map Ok done i d (Ok d) lt in
     subst (λ (answer : Result V E). IfOk answer (P i)) is (each i (Ok d) (omega (arith, lt, long)))
 
-pub keys_joined : {B V : Type 0} (now : B → List ℕ) (items : V → List B) (cuts all : List (List ℕ)) (parts : List V) (keys : List B) → AreRising cuts → length parts ≡ length cuts + 1
+pub keys_joined : {B V : Type 0} (now : B → List ℕ) (items : V → List B) (cuts all : List (List ℕ)) (parts : List V) (keys : List B) → RiseThroughout cuts → length parts ≡ length cuts + 1
     → ((i : ℕ) (d : V) → i < length parts → AreDistinctWhere (in_piece cuts i) all (map now (items (slice_index_or parts i d)))) → keys ≡ flat_map items parts → AreDistinctKeys all (map now keys)
 keys_joined {B} {V} now items cuts all parts keys rise long each are =
     let values : V → List (List ℕ) = λ part. map now (items part) in

@@ -8,7 +8,7 @@ use Rattle.std.proofs.lemmas.Cmp.{nat_list_cmp_total, on_total}
 use Rattle.std.proofs.lemmas.List.Kept.{Contains-from_dedup, IsStrictlySortedBy-dedup}
 use Rattle.std.proofs.lemmas.List.Sorted.{IsPermutation-sym, Contains-permutation}
 use Rattle.std.proofs.lemmas.List.Elements.{All-contains, All-from_recursion}
-use Rattle.mt_replay.specs.Cuts.{AreRising}
+use Rattle.mt_replay.specs.Cuts.{RiseThroughout}
 use Rattle.mt_replay.proofs.Members.{all_from, of_map, in_map}
 use Rattle.mt_replay.proofs.DistinctLemmas.{order_of, rising}
 
@@ -17,7 +17,7 @@ abbrev pub are_same : {B : Type 0} → (B → List ℕ) → B → B → Bool
 are_same now a b = pointwise nat_eq (now a) (now b)
 
 -- keys that were sorted, and of which each was kept once, rise
-pub kept_rise : {B : Type 0} (now : B → List ℕ) (sorted kept : List B) → IsSorted (order_of now) sorted → kept ≡ dedup (are_same now) sorted → AreRising (map now kept)
+pub kept_rise : {B : Type 0} (now : B → List ℕ) (sorted kept : List B) → IsSorted (order_of now) sorted → kept ≡ dedup (are_same now) sorted → RiseThroughout (map now kept)
 kept_rise {B} now sorted kept up is =
     let strictly : IsStrictlySortedBy (order_of now) (dedup (are_same now) sorted) = IsStrictlySortedBy-dedup (on_total now nat_list_cmp_total) (λ a b. texts_ties (now a) (now b)) sorted up in
     rising now kept (subst (IsStrictlySortedBy (order_of now)) (sym is) strictly)

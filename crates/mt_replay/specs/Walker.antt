@@ -2,10 +2,9 @@
 use Rattle.std.specs.Prelude.{◌≡◌, ℕ, ◌<◌, nat_lt, if◌then◌else◌, Option, Some, None, List, [], ◌∷◌, ◌++◌, length, All, Contains, IsPermutation}
 use Rattle.mt_words.specs.declared.update.Update.{Update}
 use Rattle.mt_words.specs.Words.{IsBelow}
-use Rattle.mt_words.specs.Walks.{Pair}
+use Rattle.mt_words.specs.Walks.{Pair, joined}
 use Rattle.mt_replay.specs.Walk.{IsWalk, AreApart}
-use Rattle.mt_replay.specs.Runs.{together}
-use Rattle.mt_replay.specs.Groups.{Group, IsSound, IsGroupOf, IsMapOf}
+use Rattle.mt_replay.specs.Groups.{Group, HasLawfulColumns, IsGroupOf, IsMapOf}
 
 -- the pairs with this one behind them, unless it has no column
 abbrev pub with_pair : List Pair → List ℕ → List (ℕ × List ℕ) → List Pair
@@ -22,7 +21,7 @@ pub record AreLast (before last : List Update) (key : List ℕ) (group : Group) 
   pub same_keys : (u : Update) → Contains last u → u.key ≡ key
   pub below : (u : Update) → Contains before u → IsBelow u.key key
   pub grouped : IsGroupOf last key group
-  pub sound : All IsSound last
+  pub sound : All HasLawfulColumns last
 
 -- the updates of the last key, or none where there is no update
 abbrev pub IsInHand : List Update → List Update → Option Update → Group → Type 0
@@ -40,5 +39,5 @@ pub record IsWalkSoFar (updates : List Update) (pairs : List Pair) (first : Opti
 -- what is made of the updates of runs
 pub record IsMadeOfRuns (runs : List (List Update)) (pairs : List Pair) : Type 0 where
   pub merged : List Update
-  pub all : IsPermutation (together runs) merged
+  pub all : IsPermutation (joined runs) merged
   pub made : IsMade merged pairs

@@ -2,9 +2,10 @@
 ghost use Rattle.std.specs.Prelude.{◌≡◌, ◌≤◌, ◌<◌, ◌+◌, ◌*◌, ◌^◌, ◌↔◌, [], length, max, slice_index_or, All, IfOk, IfErr, IsSome, IfSome};
 ghost use Rattle.mt_words.specs.Limits.{widest};
 ghost use Rattle.mt_words.specs.Words.{IsKey};
-ghost use Rattle.mt_replay.specs.Cuts.{AreCuts, AreRising, IsCutFault, even_cuts, even_at};
+ghost use Rattle.mt_words.specs.Walks.{joined};
+ghost use Rattle.mt_replay.specs.Runs.{keys_of};
+ghost use Rattle.mt_replay.specs.Cuts.{AreCuts, RiseThroughout, IsCutFault, even_cuts, even_at};
 ghost use Rattle.mt_replay.specs.Even.{IsEven};
-ghost use Rattle.mt_replay.specs.Runs.{together, keys_of};
 
 use crate::LogCells;
 use crate::distinct::distinct_keys;
@@ -130,7 +131,7 @@ impl Cuts {
         lists: &[LogCells],
         pieces: Pieces,
     ) -> Result<Cuts, Memory>
-        ensures { IfOk result (IsEven (together lists.now) pieces) }
+        ensures { IfOk result (IsEven (joined lists.now) pieces) }
     {
         // One piece has no cut, whatever the keys are.
         if pieces.count == 1 {
@@ -158,7 +159,7 @@ impl Cuts {
     /// Cuts of rising keys, which lie in parts one behind the other, into pieces of about as many keys.
     fn even_of(alloc: Global, parts: &[Vec<&[u8]>], pieces: Pieces) -> Result<Cuts, Memory>
         requires few { length parts.now ≤ 4096 }
-        requires rising { AreRising (keys_of parts.now) }
+        requires rising { RiseThroughout (keys_of parts.now) }
         requires lawful { All (IsKey widest) (keys_of parts.now) }
         ensures { IfOk result (λ cuts. cuts ≡ even_cuts (keys_of parts.now) pieces) }
     {

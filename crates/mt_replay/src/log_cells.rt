@@ -2,9 +2,9 @@
 ghost use Rattle.std.specs.Prelude.{◌≡◌, ◌≤◌, ◌<◌, ◌++◌, true, false, IsTrue, IfOk, IsPermutation, List, length, filter, slice_index_or};
 ghost use Rattle.std.specs.List.Sorted.{IsPartitionPoint};
 ghost use Rattle.mt_words.specs.declared.update.Update.{Update as UpdateValue};
+ghost use Rattle.mt_words.specs.Walks.{joined};
 ghost use Rattle.mt_record.specs.Kept.{kept_updates};
 ghost use Rattle.mt_replay.specs.Survivors.{in_window, survives as survives_in, wholes, first_survivors};
-ghost use Rattle.mt_replay.specs.Runs.{together};
 ghost use Rattle.mt_replay.specs.Cuts.{is_below, InKeyOrder};
 
 use crate::Window;
@@ -63,7 +63,7 @@ impl LogCells {
     /// The updates of a log in the window, in cells of their own for each stretch of its records.
     pub fn of_log(alloc: Global, updates: &Updates, window: Window) -> Result<Vec<LogCells>, Memory>
         ensures { IfOk result (λ lists.
-            IsPermutation (filter (in_window window) (kept_updates updates.now)) (together lists.items)) }
+            IsPermutation (filter (in_window window) (kept_updates updates.now)) (joined lists.items)) }
     {
         let mut lists = Vec::new(alloc);
         // One list serves all stretches, so that its memory is met once.

@@ -4,7 +4,7 @@ ghost use Rattle.std.specs.Ordering.{nat_cmp};
 ghost use Rattle.std.specs.Cmp.Lexicographic.{slice_cmp};
 ghost use Rattle.mt_words.specs.Limits.{widest};
 ghost use Rattle.mt_words.specs.Words.{IsKey};
-ghost use Rattle.mt_record.specs.Kept.{listed};
+ghost use Rattle.mt_record.specs.Kept.{as_list};
 ghost use Rattle.mt_replay.specs.Survivors.{in_window, wholes, first_survivors};
 ghost use Rattle.mt_replay.specs.Cuts.{InKeyOrder};
 
@@ -113,7 +113,7 @@ fn add_survivor<'a>(
     update: Option<Lent<'a>>,
     window: Window,
 ) -> Result<(), Memory>
-    ensures { OnOk result (sliced.new.items ≡ sliced.old.items ++ filter (in_window window) (listed update.entry)) }
+    ensures { OnOk result (sliced.new.items ≡ sliced.old.items ++ filter (in_window window) (as_list update.entry)) }
 {
     let Some(update) = update else {
         return Ok(());

@@ -7,23 +7,25 @@ use Rattle.std.proofs.lemmas.List.{length-map, length-take-le, get_or-map, map_p
 use Rattle.std.proofs.lemmas.List.Sorted.{All-permutation, IsPermutation-map, IsPermutation-sym, IsPermutation-trans, length_permutation}
 use Rattle.std.proofs.lemmas.Map.Keys.{IsDistinct-from_apart, IsDistinct-IsPermutation, IsStrictlyIncreasing-from_distinct}
 use Rattle.std.proofs.lemmas.Cmp.{nat_eq_equiv}
+use Rattle.mt_words.specs.declared.record.Change.{Change}
+use Rattle.mt_words.specs.Words.{AreRising}
 use Rattle.mt_record.specs.Parts.{PartReading}
 use Rattle.mt_scan.specs.PartScans.{KnownPart, KeptPart, whole, broken, nameless, shown_by, shown_by_all}
-use Rattle.mt_scan.specs.Choice.{Checkpoint, IsPartAt, AreInPlace, EntriesRise, MakeUp, checkpoint_in}
+use Rattle.mt_scan.specs.Choice.{CheckpointReading, IsPartAt, AreInPlace, entry_keys, MakeUp, checkpoint_in}
 use Rattle.mt_scan.specs.Checkpoints.{MakeUpNone, AreSameTexts, IsMadeOf}
-use Rattle.mt_scan.specs.declared.checkpoint.Checkpoint.{Checkpoint as CheckpointValue}
+use Rattle.mt_scan.specs.declared.checkpoint.Checkpoint.{Checkpoint}
 use Rattle.mt_scan.proofs.OneChoice.{at_place, AreNumbered, are_numbered, same_texts}
 
 -- ---- one more part in place
 
-in_place_push : (checkpoint : Checkpoint) (count place : ℕ) (texts : List PartReading) (x : PartReading) → AreInPlace checkpoint count place texts → IsPartAt checkpoint count (place + length texts) x
+in_place_push : (checkpoint : CheckpointReading) (count place : ℕ) (texts : List PartReading) (x : PartReading) → AreInPlace checkpoint count place texts → IsPartAt checkpoint count (place + length texts) x
     → AreInPlace checkpoint count place (texts ++ x ∷ [])
 in_place_push checkpoint count place [] x are at = let e : place + 0 ≡ place = omega arith in (subst (λ (n : ℕ). IsPartAt checkpoint count n x) e at, tt)
 in_place_push checkpoint count place (y ∷ ys) x are at =
     let e : place + suc (length ys) ≡ suc place + length ys = omega arith in
     (are.0, in_place_push checkpoint count (suc place) ys x are.1 (subst (λ (n : ℕ). IsPartAt checkpoint count n x) e at))
 
-pub in_place_more : (checkpoint : Checkpoint) (count : ℕ) (texts : List KeptPart) (i : ℕ) (x : KeptPart) → i < length texts → x ≡ get_or texts i x
+pub in_place_more : (checkpoint : CheckpointReading) (count : ℕ) (texts : List KeptPart) (i : ℕ) (x : KeptPart) → i < length texts → x ≡ get_or texts i x
     → AreInPlace checkpoint count 0 (shown_by_all (take i texts)) → IsPartAt checkpoint count i (shown_by x) → AreInPlace checkpoint count 0 (shown_by_all (take (i + 1) texts))
 in_place_more checkpoint count texts i x fits at are is =
     let more : take (i + 1) texts ≡ take i texts ++ x ∷ [] = take_more texts i x fits ∙ ap (λ (y : KeptPart). take i texts ++ y ∷ []) (sym at) in
@@ -31,7 +33,7 @@ in_place_more checkpoint count texts i x fits at are is =
     let all = in_place_push checkpoint count 0 (shown_by_all (take i texts)) (shown_by x) are (subst (λ (n : ℕ). IsPartAt checkpoint count n (shown_by x)) (sym long) is) in
     subst (AreInPlace checkpoint count 0) (sym (ap (λ (ys : List KeptPart). shown_by_all ys) more ∙ map_push shown_by (take i texts) x)) all
 
-pub in_place_at : (checkpoint : Checkpoint) (count : ℕ) (texts : List KeptPart) (i : ℕ) (x : KeptPart) → i < length texts → x ≡ get_or texts i x
+pub in_place_at : (checkpoint : CheckpointReading) (count : ℕ) (texts : List KeptPart) (i : ℕ) (x : KeptPart) → i < length texts → x ≡ get_or texts i x
     → AreInPlace checkpoint count 0 (shown_by_all texts) → IsPartAt checkpoint count i (shown_by x)
 in_place_at checkpoint count texts i x fits at are =
     let is = at_place checkpoint count 0 (shown_by_all texts) i (shown_by x) are (omega (arith, fits, length-map texts shown_by)) in
@@ -40,7 +42,7 @@ in_place_at checkpoint count texts i x fits at are =
     subst (IsPartAt checkpoint count i) same (subst (λ (n : ℕ). IsPartAt checkpoint count n (get_or (shown_by_all texts) i (shown_by x))) e is)
 
 -- the same for another checkpoint of these times
-pub in_place_of : (a b : Checkpoint) (count place : ℕ) (texts : List PartReading) → a.begin ≡ b.begin → a.end ≡ b.end → AreInPlace a count place texts → AreInPlace b count place texts
+pub in_place_of : (a b : CheckpointReading) (count place : ℕ) (texts : List PartReading) → a.begin ≡ b.begin → a.end ≡ b.end → AreInPlace a count place texts → AreInPlace b count place texts
 in_place_of a b count place [] begin end are = tt
 in_place_of a b count place (x ∷ xs) begin end are =
     (record { stands = are.0.stands; parts = are.0.parts; begin_agrees = are.0.begin_agrees ∙ begin; end_agrees = are.0.end_agrees ∙ end }, in_place_of a b count (suc place) xs begin end are.1)
@@ -138,7 +140,7 @@ sorted_are_numbered sorted ordered d rise are same = λ k e fits.
 same_texts_as : (texts sorted : List KeptPart) → IsPermutation texts sorted → AreSameTexts (shown_by_all texts) (shown_by_all sorted)
 same_texts_as texts sorted moved = IsPermutation-map whole (shown_by_all texts) (shown_by_all sorted) (IsPermutation-map shown_by texts sorted moved)
 
-first_times : (checkpoint : Checkpoint) (count : ℕ) (texts : List KeptPart) (first : KeptPart) → slice_get texts 0 ≡ Some first → AreInPlace checkpoint count 0 (shown_by_all texts)
+first_times : (checkpoint : CheckpointReading) (count : ℕ) (texts : List KeptPart) (first : KeptPart) → slice_get texts 0 ≡ Some first → AreInPlace checkpoint count 0 (shown_by_all texts)
     → (checkpoint.begin ≡ first.begin) × (checkpoint.end ≡ first.end)
 first_times checkpoint count [] first at are = cc
 first_times checkpoint count (x ∷ xs) first at are =
@@ -146,7 +148,7 @@ first_times checkpoint count (x ∷ xs) first at are =
     (sym are.0.begin_agrees ∙ ap (λ (y : KeptPart). y.begin) e, sym are.0.end_agrees ∙ ap (λ (y : KeptPart). y.end) e)
 
 -- texts that make up no checkpoint in the order of their numbers make up none
-pub none_made : (texts : List KeptPart) (value : CheckpointValue) (first : KeptPart) → IsPermutation texts value.parts.items → IsNonDecreasingBy (λ (text : KeptPart). text.part) value.parts.items
+pub none_made : (texts : List KeptPart) (value : Checkpoint) (first : KeptPart) → IsPermutation texts value.parts.items → IsNonDecreasingBy (λ (text : KeptPart). text.part) value.parts.items
     → slice_get value.parts.items 0 ≡ Some first → value.begin ≡ first.begin → value.end ≡ first.end
     → (MakeUp (shown_by_all value.parts.items) (checkpoint_in value) → ⊥) → MakeUpNone (shown_by_all texts)
 none_made texts value first moved rise at begin end not checkpoint can =
@@ -163,7 +165,7 @@ none_made texts value first moved rise at begin end not checkpoint can =
       in_place = in_place_of checkpoint (checkpoint_in value) (length sorted) 0 sorted (times.0 ∙ sym begin) (times.1 ∙ sym end) make_up.in_place;
       begins = omega (arith, make_up.begins, times.0, times.1, begin, end);
       all = refl;
-      rise = subst EntriesRise make_up.all make_up.rise;
+      rise = subst (λ (entries : List Change). AreRising (entry_keys entries)) make_up.all make_up.rise;
     })
 
 -- no texts make up no checkpoint
@@ -172,6 +174,6 @@ none_of_none texts [] moved none checkpoint can =
     omega (arith, can.make_up.some, length_permutation texts [] moved, length-map texts shown_by, length-map (shown_by_all texts) whole, length-map can.ordered whole, length_permutation (map whole (shown_by_all texts)) (map whole can.ordered) can.same)
 none_of_none texts (x ∷ xs) moved none checkpoint can = cc
 
-pub made : (number : ℕ) (texts : List KeptPart) (value : CheckpointValue) → value.number ≡ number → IsPermutation texts value.parts.items
+pub made : (number : ℕ) (texts : List KeptPart) (value : Checkpoint) → value.number ≡ number → IsPermutation texts value.parts.items
     → MakeUp (shown_by_all value.parts.items) (checkpoint_in value) → IsMadeOf number (shown_by_all texts) value
 made number texts value number_is moved make_up = record { number_is = number_is; same = same_texts_as texts value.parts.items moved; make_up = make_up }

@@ -11,13 +11,13 @@ use Rattle.std.proofs.lemmas.Map.Lookups.{exact_unsigned}
 use Rattle.std.proofs.lemmas.Map.Views.{btree_map_get_iff}
 use Rattle.mt_record.specs.Parts.{PartReading}
 use Rattle.mt_scan.specs.PartScans.{KnownPart, whole, broken}
-use Rattle.mt_scan.specs.Choice.{Checkpoint, IsValid, MayBeChosen, IsChosenOf, IsSkipped, parts_of, checkpoint_in}
-use Rattle.mt_scan.specs.Groups.{IsGroupOf, IsGroupAt, AreGroupsOf, HasCheckpoint}
+use Rattle.mt_scan.specs.Choice.{CheckpointReading, IsValid, MayBeChosen, IsChosenOf, IsSkipped, parts_of, checkpoint_in}
+use Rattle.mt_scan.specs.Groups.{IsPartGroupOf, IsGroupAt, AreGroupsOf, HasCheckpoint}
 use Rattle.mt_scan.specs.Selections.{IsOffered, IsPassed, IsBestOf, IsSelectionOf, IsSelectionFor}
-use Rattle.mt_scan.specs.declared.checkpoint.Checkpoint.{Checkpoint as CheckpointValue}
+use Rattle.mt_scan.specs.declared.checkpoint.Checkpoint.{Checkpoint}
 use Rattle.mt_scan.specs.declared.selection.Selection.{Selection}
-use Rattle.mt_scan.specs.declared.group.Group.{Group}
-use Rattle.mt_scan.specs.declared.group.Group.TheVariants as groups
+use Rattle.mt_scan.specs.declared.group.PartGroup.{PartGroup}
+use Rattle.mt_scan.specs.declared.group.PartGroup.TheVariants as groups
 use Rattle.mt_scan.proofs.CheckpointLemmas.{in_place_of}
 
 -- ---- the parts of one checkpoint
@@ -30,8 +30,8 @@ not_whole (x ∷ xs) number at =
     cc (get_or-map whole (x ∷ xs) at.0 x (broken number) fits, at.2)
 
 -- the group of the parts of a valid checkpoint has it
-valid_has : (parts : List KnownPart) (group : Option Group) (checkpoint : Checkpoint) → IsGroupAt (parts_of checkpoint.number parts) group → IsValid parts checkpoint
-    → (g : Group) × (group ≡ Some g) × HasCheckpoint g checkpoint
+valid_has : (parts : List KnownPart) (group : Option PartGroup) (checkpoint : CheckpointReading) → IsGroupAt (parts_of checkpoint.number parts) group → IsValid parts checkpoint
+    → (g : PartGroup) × (group ≡ Some g) × HasCheckpoint g checkpoint
 valid_has parts None checkpoint at valid =
     let none : length (parts_of checkpoint.number parts) ≡ 0 = ap (λ (xs : List KnownPart). length xs) at in
     absurd (omega (arith, none, valid.make_up.some, length-map valid.texts whole, length_permutation (parts_of checkpoint.number parts) (map whole valid.texts) valid.are_whole))
@@ -48,7 +48,7 @@ valid_has parts (Some groups.Broken) checkpoint at valid =
     absurd (not_whole valid.texts at.0 (Contains-permutation (parts_of checkpoint.number parts) (map whole valid.texts) (broken at.0) valid.are_whole at.1))
 
 -- a checkpoint of the group of its parts is valid
-has_valid : (parts : List KnownPart) (group : Group) (checkpoint : Checkpoint) → IsGroupOf (parts_of checkpoint.number parts) group → HasCheckpoint group checkpoint → IsValid parts checkpoint
+has_valid : (parts : List KnownPart) (group : PartGroup) (checkpoint : CheckpointReading) → IsPartGroupOf (parts_of checkpoint.number parts) group → HasCheckpoint group checkpoint → IsValid parts checkpoint
 has_valid parts (groups.Whole texts) checkpoint is has = record {
   texts = has.ordered;
   are_whole = subst (λ (xs : List KnownPart). IsPermutation xs (map whole has.ordered)) (sym is.1) has.same;
@@ -56,15 +56,15 @@ has_valid parts (groups.Whole texts) checkpoint is has = record {
 }
 has_valid parts groups.Broken checkpoint is has = absurd has
 
-some_parts : (parts : List KnownPart) (group : Group) → IsGroupOf parts group → 0 < length parts
+some_parts : (parts : List KnownPart) (group : PartGroup) → IsPartGroupOf parts group → 0 < length parts
 some_parts parts (groups.Whole texts) is = is.0
 some_parts parts groups.Broken is = omega (arith, is.1.1)
 
 -- the checkpoint under another number
-abbrev numbered : ℕ → Checkpoint → Checkpoint
+abbrev numbered : ℕ → CheckpointReading → CheckpointReading
 numbered number checkpoint = record { number = number; begin = checkpoint.begin; end = checkpoint.end; entries = checkpoint.entries }
 
-numbered_has : (number : ℕ) (group : Group) (checkpoint : Checkpoint) → HasCheckpoint group checkpoint → HasCheckpoint group (numbered number checkpoint)
+numbered_has : (number : ℕ) (group : PartGroup) (checkpoint : CheckpointReading) → HasCheckpoint group checkpoint → HasCheckpoint group (numbered number checkpoint)
 numbered_has number (groups.Whole texts) checkpoint has = record {
   ordered = has.ordered;
   same = has.same;
@@ -80,14 +80,14 @@ numbered_has number groups.Broken checkpoint has = absurd has
 
 -- ---- the groups of all parts
 
-module _ (parts : List KnownPart) (all : BTreeMap ℕ Group) (are : AreGroupsOf parts all) (ordered : IsOrdered nat_cmp all) where
-  found : (number : ℕ) (group : Group) → Contains all.entries (number, group) → get nat_cmp all number ≡ Some group
+module _ (parts : List KnownPart) (all : BTreeMap ℕ PartGroup) (are : AreGroupsOf parts all) (ordered : IsOrdered nat_cmp all) where
+  found : (number : ℕ) (group : PartGroup) → Contains all.entries (number, group) → get nat_cmp all number ≡ Some group
   found number group at = (btree_map_get_iff nat_cmp_total exact_unsigned all ordered number group).1 at
 
-  group_at : (number : ℕ) (group : Group) → get nat_cmp all number ≡ Some group → IsGroupOf (parts_of number parts) group
+  group_at : (number : ℕ) (group : PartGroup) → get nat_cmp all number ≡ Some group → IsPartGroupOf (parts_of number parts) group
   group_at number group e = subst (IsGroupAt (parts_of number parts)) e (are number)
 
-  may_be_offered : (cutoff : ℕ) (checkpoint : Checkpoint) → MayBeChosen parts cutoff checkpoint → IsOffered all.entries cutoff checkpoint
+  may_be_offered : (cutoff : ℕ) (checkpoint : CheckpointReading) → MayBeChosen parts cutoff checkpoint → IsOffered all.entries cutoff checkpoint
   may_be_offered cutoff checkpoint may =
       let has = valid_has parts (get nat_cmp all checkpoint.number) checkpoint (are checkpoint.number) may.valid in
       record {
@@ -97,13 +97,13 @@ module _ (parts : List KnownPart) (all : BTreeMap ℕ Group) (are : AreGroupsOf 
         ends_below = may.ends_below;
       }
 
-  may_be_chosen : (cutoff : ℕ) (checkpoint : Checkpoint) → IsOffered all.entries cutoff checkpoint → MayBeChosen parts cutoff checkpoint
+  may_be_chosen : (cutoff : ℕ) (checkpoint : CheckpointReading) → IsOffered all.entries cutoff checkpoint → MayBeChosen parts cutoff checkpoint
   may_be_chosen cutoff checkpoint is = record {
     valid = has_valid parts is.group checkpoint (group_at checkpoint.number is.group (found checkpoint.number is.group is.stands)) is.has;
     ends_below = is.ends_below;
   }
 
-  chosen : (cutoff : ℕ) (best : Option CheckpointValue) → IsBestOf all.entries cutoff best → IsChosenOf parts cutoff (option_map checkpoint_in best)
+  chosen : (cutoff : ℕ) (best : Option Checkpoint) → IsBestOf all.entries cutoff best → IsChosenOf parts cutoff (option_map checkpoint_in best)
   chosen cutoff None is = λ other may. is other (may_be_offered cutoff other may)
   chosen cutoff (Some best) is = (may_be_chosen cutoff (checkpoint_in best) is.0, λ other may. is.1 other (may_be_offered cutoff other may))
 
@@ -115,10 +115,10 @@ module _ (parts : List KnownPart) (all : BTreeMap ℕ Group) (are : AreGroupsOf 
         invalid = λ other same valid.
             let has = valid_has parts (get nat_cmp all other.number) other (are other.number) valid in
             let one : Some is.group ≡ Some has.0 = sym e ∙ ap (λ (n : ℕ). get nat_cmp all n) (sym same) ∙ has.1 in
-            is.none other (subst (λ (g : Group). HasCheckpoint g other) (sym (same_Some is.group has.0 one)) has.2);
+            is.none other (subst (λ (g : PartGroup). HasCheckpoint g other) (sym (same_Some is.group has.0 one)) has.2);
       }
 
-  skipped_at : (number : ℕ) (group : Option Group) → get nat_cmp all number ≡ group → IsSkipped parts number → IsPassed all.entries number
+  skipped_at : (number : ℕ) (group : Option PartGroup) → get nat_cmp all number ≡ group → IsSkipped parts number → IsPassed all.entries number
   skipped_at number None e is =
       let none : parts_of number parts ≡ [] = subst (IsGroupAt (parts_of number parts)) e (are number) in
       absurd (omega (arith, is.some, ap (λ (xs : List KnownPart). length xs) none))

@@ -10,12 +10,12 @@ use Rattle.std.proofs.lemmas.Map.Views.{tells_apart}
 use Rattle.mt_record.specs.Parts.{PartReading}
 use Rattle.mt_scan.specs.PartScans.{KnownPart, whole, broken}
 use Rattle.mt_scan.specs.Choice.{belongs_to, parts_of}
-use Rattle.mt_scan.specs.Groups.{IsGroupOf, IsGroupAt, AreGroupsOf}
-use Rattle.mt_scan.specs.declared.group.Group.{Group}
-use Rattle.mt_scan.specs.declared.group.Group.TheVariants as groups
+use Rattle.mt_scan.specs.Groups.{IsPartGroupOf, IsGroupAt, AreGroupsOf}
+use Rattle.mt_scan.specs.declared.group.PartGroup.{PartGroup}
+use Rattle.mt_scan.specs.declared.group.PartGroup.TheVariants as groups
 
 -- elsewhere the groups are what they were
-abbrev pub AreOthers : BTreeMap ℕ Group → BTreeMap ℕ Group → ℕ → Type 0
+abbrev pub AreOthers : BTreeMap ℕ PartGroup → BTreeMap ℕ PartGroup → ℕ → Type 0
 AreOthers old new number = (q : ℕ) → is_eq (nat_cmp number q) ≡ false → get nat_cmp new q ≡ get nat_cmp old q
 
 differ : (n q : ℕ) → n ≢ q → is_eq (nat_cmp n q) ≡ false
@@ -39,7 +39,7 @@ pub broken_is_of : (number : ℕ) → IsOf number (broken number)
 broken_is_of number = record { own = eq-eqb number number refl; alone = λ q other. ne_eqb number q other }
 
 -- one more part of a checkpoint: its group is another, and the others stay
-pub groups_more : (parts : List KnownPart) (part : KnownPart) (number : ℕ) (old new : BTreeMap ℕ Group) → IsOf number part → IsGroupAt (parts_of number parts ++ part ∷ []) (get nat_cmp new number)
+pub groups_more : (parts : List KnownPart) (part : KnownPart) (number : ℕ) (old new : BTreeMap ℕ PartGroup) → IsOf number part → IsGroupAt (parts_of number parts ++ part ∷ []) (get nat_cmp new number)
     → AreOthers old new number → AreGroupsOf parts old → AreGroupsOf (parts ++ part ∷ []) new
 groups_more parts part number old new is own others are q = elim (cases_eq number q) as (λ _. IsGroupAt (parts_of q (parts ++ part ∷ [])) (get nat_cmp new q)) [
   | inl e ↦ subst (λ (n : ℕ). IsGroupAt (parts_of n (parts ++ part ∷ [])) (get nat_cmp new n)) e
@@ -50,20 +50,20 @@ groups_more parts part number old new is own others are q = elim (cases_eq numbe
 ]
 
 -- a broken part makes its group a broken one
-pub broken_more : (parts : List KnownPart) (number : ℕ) (old new : BTreeMap ℕ Group) → get nat_cmp new number ≡ Some groups.Broken → AreOthers old new number → AreGroupsOf parts old
+pub broken_more : (parts : List KnownPart) (number : ℕ) (old new : BTreeMap ℕ PartGroup) → get nat_cmp new number ≡ Some groups.Broken → AreOthers old new number → AreGroupsOf parts old
     → AreGroupsOf (parts ++ broken number ∷ []) new
 broken_more parts number old new is others are =
     groups_more parts (broken number) number old new (broken_is_of number)
     (subst (IsGroupAt (parts_of number parts ++ broken number ∷ [])) (sym is) (number, Contains-push (parts_of number parts) (broken number))) others are
 
 -- a group that is there gets one more whole part
-pub whole_more : (parts : List KnownPart) (part : PartReading) (old new : BTreeMap ℕ Group) (before after : Group) → get nat_cmp old part.number ≡ Some before → get nat_cmp new part.number ≡ Some after
-    → AreOthers old new part.number → ((own : List KnownPart) → IsGroupOf own before → IsGroupOf (own ++ whole part ∷ []) after) → AreGroupsOf parts old → AreGroupsOf (parts ++ whole part ∷ []) new
+pub whole_more : (parts : List KnownPart) (part : PartReading) (old new : BTreeMap ℕ PartGroup) (before after : PartGroup) → get nat_cmp old part.number ≡ Some before → get nat_cmp new part.number ≡ Some after
+    → AreOthers old new part.number → ((own : List KnownPart) → IsPartGroupOf own before → IsPartGroupOf (own ++ whole part ∷ []) after) → AreGroupsOf parts old → AreGroupsOf (parts ++ whole part ∷ []) new
 whole_more parts part old new before after was is others adds are =
     let number : ℕ = part.number in
     let there = subst (IsGroupAt (parts_of number parts)) was (are number) in
     groups_more parts (whole part) number old new (whole_is_of part) (subst (IsGroupAt (parts_of number parts ++ whole part ∷ [])) (sym is) (adds (parts_of number parts) there)) others are
 
 -- a broken group stays broken
-pub stays_broken : (parts : List KnownPart) (part : KnownPart) → IsGroupOf parts groups.Broken → IsGroupOf (parts ++ part ∷ []) groups.Broken
+pub stays_broken : (parts : List KnownPart) (part : KnownPart) → IsPartGroupOf parts groups.Broken → IsPartGroupOf (parts ++ part ∷ []) groups.Broken
 stays_broken parts part is = (is.0, Contains-append_left parts (part ∷ []) (broken is.0) is.1)

@@ -11,12 +11,12 @@ use Rattle.std.proofs.lemmas.List.Concat.{flat_map-append}
 use Rattle.std.proofs.lemmas.Cmp.{nat_list_cmp_total}
 use Rattle.mt_words.specs.declared.record.Change.{Change}
 use Rattle.mt_words.specs.declared.update.Kind.TheVariants.{Remove}
-use Rattle.mt_words.specs.Words.{IsBelow}
+use Rattle.mt_words.specs.Words.{IsBelow, AreRising}
 use Rattle.mt_record.specs.Parts.{PartReading}
 use Rattle.mt_scan.specs.PartScans.{KeptPart, shown_by, shown_by_all}
-use Rattle.mt_scan.specs.Choice.{EntriesRise}
+use Rattle.mt_scan.specs.Choice.{entry_keys}
 use Rattle.mt_scan.specs.Checkpoints.{entries_of}
-use Rattle.mt_scan.specs.Rising.{keys_of, KeysRise, listed, last_of}
+use Rattle.mt_scan.specs.Rising.{none_or_one, last_of}
 
 abbrev AreAbove : List ℕ → List (List ℕ) → Type 0
 AreAbove x xs = AllByRecursion (IsBelow x) xs
@@ -38,22 +38,22 @@ above_front x [] ys are = tt
 above_front x (y ∷ xs) ys are = (are.0, above_front x xs ys are.1)
 
 -- what rises begins with what rises
-pub rise_front : (xs ys : List (List ℕ)) → KeysRise (xs ++ ys) → KeysRise xs
+pub rise_front : (xs ys : List (List ℕ)) → AreRising (xs ++ ys) → AreRising xs
 rise_front [] ys rise = tt
 rise_front (x ∷ xs) ys rise = (above_front x xs ys rise.0, rise_front xs ys rise.1)
 
 -- behind what rises, from its last one on
-pub rise_back : (xs ys : List (List ℕ)) → KeysRise (xs ++ ys) → KeysRise (last_of xs ++ ys)
+pub rise_back : (xs ys : List (List ℕ)) → AreRising (xs ++ ys) → AreRising (last_of xs ++ ys)
 rise_back [] ys rise = rise
 rise_back (x ∷ []) ys rise = rise
 rise_back (x ∷ y ∷ xs) ys rise = rise_back (y ∷ xs) ys rise.1
 
 -- what rises, and goes on over its last one
-pub rise_on : (xs ys : List (List ℕ)) → KeysRise xs → KeysRise (last_of xs ++ ys) → KeysRise (xs ++ ys)
+pub rise_on : (xs ys : List (List ℕ)) → AreRising xs → AreRising (last_of xs ++ ys) → AreRising (xs ++ ys)
 rise_on [] ys rise on = on
 rise_on (x ∷ []) ys rise on = on
 rise_on (x ∷ y ∷ xs) ys rise on =
-    let rest : KeysRise (y ∷ xs ++ ys) = rise_on (y ∷ xs) ys rise.1 on in
+    let rest : AreRising (y ∷ xs ++ ys) = rise_on (y ∷ xs) ys rise.1 on in
     ((rise.0.0, above_all x y (xs ++ ys) rise.0.0 rest.0), rest)
 
 pub last_of_push : (xs : List (List ℕ)) (x : List ℕ) → last_of (xs ++ x ∷ []) ≡ x ∷ []
@@ -68,40 +68,40 @@ last_of_on (x ∷ y ∷ xs) ys = last_of_on (y ∷ xs) ys
 
 -- the keys rise, and this is the last of them
 pub record RiseTo (xs last : List (List ℕ)) : Type 0 where
-  pub rise : KeysRise xs
+  pub rise : AreRising xs
   pub is_last : last ≡ last_of xs
 
 -- more of them
-pub rise_to_more : (xs ys last new : List (List ℕ)) → RiseTo xs last → KeysRise (last ++ ys) → new ≡ last_of (last ++ ys) → RiseTo (xs ++ ys) new
+pub rise_to_more : (xs ys last new : List (List ℕ)) → RiseTo xs last → AreRising (last ++ ys) → new ≡ last_of (last ++ ys) → RiseTo (xs ++ ys) new
 rise_to_more xs ys last new to on is = record {
-  rise = rise_on xs ys to.rise (subst (λ (zs : List (List ℕ)). KeysRise (zs ++ ys)) to.is_last on);
+  rise = rise_on xs ys to.rise (subst (λ (zs : List (List ℕ)). AreRising (zs ++ ys)) to.is_last on);
   is_last = is ∙ ap (λ (zs : List (List ℕ)). last_of (zs ++ ys)) to.is_last ∙ sym (last_of_on xs ys);
 }
 
 -- they do not go on so
-pub rise_to_end : (xs ys zs last : List (List ℕ)) → RiseTo xs last → (KeysRise (last ++ ys) → ⊥) → KeysRise (xs ++ (ys ++ zs)) → ⊥
+pub rise_to_end : (xs ys zs last : List (List ℕ)) → RiseTo xs last → (AreRising (last ++ ys) → ⊥) → AreRising (xs ++ (ys ++ zs)) → ⊥
 rise_to_end xs ys zs last to stops rise =
-    let front = rise_front (xs ++ ys) zs (subst KeysRise (sym (append_assoc xs ys zs)) rise) in
-    stops (subst (λ (ws : List (List ℕ)). KeysRise (ws ++ ys)) (sym to.is_last) (rise_back xs ys front))
+    let front = rise_front (xs ++ ys) zs (subst AreRising (sym (append_assoc xs ys zs)) rise) in
+    stops (subst (λ (ws : List (List ℕ)). AreRising (ws ++ ys)) (sym to.is_last) (rise_back xs ys front))
 
 module _ (before xs : List (List ℕ)) (i : ℕ) (e : List ℕ) (last : List (List ℕ)) (fits : i < length xs) (at : e ≡ get_or xs i e) where
   -- one more key
-  pub key_more : RiseTo (before ++ take i xs) last → KeysRise (last ++ e ∷ []) → RiseTo (before ++ take (i + 1) xs) (e ∷ [])
+  pub key_more : RiseTo (before ++ take i xs) last → AreRising (last ++ e ∷ []) → RiseTo (before ++ take (i + 1) xs) (e ∷ [])
   key_more to on =
       let more : take (i + 1) xs ≡ take i xs ++ e ∷ [] = take_more xs i e fits ∙ ap (λ (x : List ℕ). take i xs ++ x ∷ []) (sym at) in
       let all : (before ++ take i xs) ++ e ∷ [] ≡ before ++ take (i + 1) xs = append_assoc before (take i xs) (e ∷ []) ∙ ap (λ (ys : List (List ℕ)). before ++ ys) (sym more) in
       subst (λ (ys : List (List ℕ)). RiseTo ys (e ∷ [])) all (rise_to_more (before ++ take i xs) (e ∷ []) last (e ∷ []) to on (sym (last_of_push last e)))
 
   -- a key that does not follow
-  pub key_stops : RiseTo (before ++ take i xs) last → (KeysRise (last ++ e ∷ []) → ⊥) → KeysRise (before ++ xs) → ⊥
+  pub key_stops : RiseTo (before ++ take i xs) last → (AreRising (last ++ e ∷ []) → ⊥) → AreRising (before ++ xs) → ⊥
   key_stops to stops rise =
       let rest : drop i xs ≡ e ∷ drop (i + 1) xs = drop_more xs i e fits ∙ ap (λ (x : List ℕ). x ∷ drop (i + 1) xs) (sym at) in
       let all : before ++ xs ≡ (before ++ take i xs) ++ (e ∷ [] ++ drop (i + 1) xs) =
       ap (λ (ys : List (List ℕ)). before ++ ys) (sym (take-append-drop i xs)) ∙ sym (append_assoc before (take i xs) (drop i xs)) ∙ ap (λ (ys : List (List ℕ)). (before ++ take i xs) ++ ys) rest in
-      rise_to_end (before ++ take i xs) (e ∷ []) (drop (i + 1) xs) last to stops (subst KeysRise all rise)
+      rise_to_end (before ++ take i xs) (e ∷ []) (drop (i + 1) xs) last to stops (subst AreRising all rise)
 
 -- a key follows the last one if it is over that one
-pub follows : (a b : List ℕ) → IsBelow a b ↔ KeysRise (a ∷ b ∷ [])
+pub follows : (a b : List ℕ) → IsBelow a b ↔ AreRising (a ∷ b ∷ [])
 follows a b = (λ h. ((h, tt), (tt, tt)), λ rise. rise.0.0)
 
 last_at : (xs : List (List ℕ)) (k : List ℕ) → 0 < length xs → k ≡ get_or xs (length xs - 1) k → k ∷ [] ≡ last_of xs
@@ -112,58 +112,46 @@ last_at (x ∷ y ∷ ys) k some at =
     last_at (y ∷ ys) k (omega arith) (at ∙ ap (λ (n : ℕ). get_or (x ∷ y ∷ ys) n k) e)
 
 -- some keys more have a last one of their own
-pub last_behind : (before : Option (Bor (List ℕ))) (xs : List (List ℕ)) (k : List ℕ) → 0 < length xs → k ≡ get_or xs (length xs - 1) k → k ∷ [] ≡ last_of (listed before ++ xs)
+pub last_behind : (before : Option (Bor (List ℕ))) (xs : List (List ℕ)) (k : List ℕ) → 0 < length xs → k ≡ get_or xs (length xs - 1) k → k ∷ [] ≡ last_of (none_or_one before ++ xs)
 last_behind None xs k some at = last_at xs k some at
 last_behind (Some b) [] k some at = absurd (omega (arith, some))
 last_behind (Some b) (x ∷ xs) k some at = last_at (x ∷ xs) k some at
 
 -- ---- keys of entries
 
-above_of : (key : List ℕ) (entries : List Change) → AllByRecursion (λ (other : Change). IsBelow key other.key) entries ↔ AreAbove key (keys_of entries)
-above_of key [] = (λ are. tt, λ are. tt)
-above_of key (e ∷ es) = let rest = above_of key es in (λ are. (are.0, rest.0 are.1), λ are. (are.0, rest.1 are.1))
-
--- entries rise where their keys do
-pub rise_by_keys : (entries : List Change) → EntriesRise entries ↔ KeysRise (keys_of entries)
-rise_by_keys [] = (λ rise. tt, λ rise. tt)
-rise_by_keys (e ∷ es) =
-    let above = above_of e.key es in
-    let rest = rise_by_keys es in
-    (λ rise. (above.0 rise.0, rest.0 rise.1), λ rise. (above.1 rise.0, rest.1 rise.1))
-
 -- the key of an entry, among those of all
-pub key_at : (entries : List Change) (n : ℕ) (key : List ℕ) → n < length entries → ((d : Change) → key ≡ (get_or entries n d).key) → key ≡ get_or (keys_of entries) n key
+pub key_at : (entries : List Change) (n : ℕ) (key : List ℕ) → n < length entries → ((d : Change) → key ≡ (get_or entries n d).key) → key ≡ get_or (entry_keys entries) n key
 key_at entries n key below is =
     let d : Change = record { version = 0; key = []; kind = Remove } in
     is d ∙ sym (get_or-map (λ (entry : Change). entry.key) entries n d key below)
 
 -- the keys of the entries of texts
 abbrev pub keys_in : List KeptPart → List (List ℕ)
-keys_in texts = keys_of (entries_of (shown_by_all texts))
+keys_in texts = entry_keys (entries_of (shown_by_all texts))
 
 keys_in-append : (xs ys : List KeptPart) → keys_in (xs ++ ys) ≡ keys_in xs ++ keys_in ys
 keys_in-append xs ys =
-    ap (λ (zs : List PartReading). keys_of (entries_of zs)) (map-append shown_by xs ys)
-    ∙ ap (λ (es : List Change). keys_of es) (flat_map-append (λ (text : PartReading). text.entries) (shown_by_all xs) (shown_by_all ys))
+    ap (λ (zs : List PartReading). entry_keys (entries_of zs)) (map-append shown_by xs ys)
+    ∙ ap (λ (es : List Change). entry_keys es) (flat_map-append (λ (text : PartReading). text.entries) (shown_by_all xs) (shown_by_all ys))
     ∙ map-append (λ (entry : Change). entry.key) (entries_of (shown_by_all xs)) (entries_of (shown_by_all ys))
 
 module _ (texts : List KeptPart) (i : ℕ) (text : KeptPart) (last : List (List ℕ)) (fits : i < length texts) (at : text ≡ get_or texts i text) where
   -- the keys of one more part
-  pub text_more : (new : List (List ℕ)) → RiseTo (keys_in (take i texts)) last → KeysRise (last ++ keys_of text.entries) → new ≡ last_of (last ++ keys_of text.entries) → RiseTo (keys_in (take (i + 1) texts)) new
+  pub text_more : (new : List (List ℕ)) → RiseTo (keys_in (take i texts)) last → AreRising (last ++ entry_keys text.entries) → new ≡ last_of (last ++ entry_keys text.entries) → RiseTo (keys_in (take (i + 1) texts)) new
   text_more new to on is =
-      let keys : List (List ℕ) = keys_of text.entries in
+      let keys : List (List ℕ) = entry_keys text.entries in
       let more : take (i + 1) texts ≡ take i texts ++ text ∷ [] = take_more texts i text fits ∙ ap (λ (x : KeptPart). take i texts ++ x ∷ []) (sym at) in
       let all : keys_in (take i texts) ++ keys ≡ keys_in (take (i + 1) texts) =
-      ap (λ (es : List Change). keys_in (take i texts) ++ keys_of es) (sym (append-nil text.entries)) ∙ sym (keys_in-append (take i texts) (text ∷ [])) ∙ ap (λ (xs : List KeptPart). keys_in xs) (sym more) in
+      ap (λ (es : List Change). keys_in (take i texts) ++ entry_keys es) (sym (append-nil text.entries)) ∙ sym (keys_in-append (take i texts) (text ∷ [])) ∙ ap (λ (xs : List KeptPart). keys_in xs) (sym more) in
       subst (λ (ys : List (List ℕ)). RiseTo ys new) all (rise_to_more (keys_in (take i texts)) keys last new to on is)
 
   -- a part whose keys do not follow
-  pub text_stops : RiseTo (keys_in (take i texts)) last → (KeysRise (last ++ keys_of text.entries) → ⊥) → EntriesRise (entries_of (shown_by_all texts)) → ⊥
+  pub text_stops : RiseTo (keys_in (take i texts)) last → (AreRising (last ++ entry_keys text.entries) → ⊥) → AreRising (keys_in texts) → ⊥
   text_stops to stops rise =
-      let keys : List (List ℕ) = keys_of text.entries in
+      let keys : List (List ℕ) = entry_keys text.entries in
       let rest : drop i texts ≡ text ∷ drop (i + 1) texts = drop_more texts i text fits ∙ ap (λ (x : KeptPart). x ∷ drop (i + 1) texts) (sym at) in
       let behind : keys_in (drop i texts) ≡ keys ++ keys_in (drop (i + 1) texts) =
       ap (λ (xs : List KeptPart). keys_in xs) rest ∙ map-append (λ (entry : Change). entry.key) text.entries (entries_of (shown_by_all (drop (i + 1) texts))) in
       let all : keys_in texts ≡ keys_in (take i texts) ++ (keys ++ keys_in (drop (i + 1) texts)) =
       ap (λ (xs : List KeptPart). keys_in xs) (sym (take-append-drop i texts)) ∙ keys_in-append (take i texts) (drop i texts) ∙ ap (λ (ys : List (List ℕ)). keys_in (take i texts) ++ ys) behind in
-      rise_to_end (keys_in (take i texts)) keys (keys_in (drop (i + 1) texts)) last to stops (subst KeysRise all ((rise_by_keys (entries_of (shown_by_all texts))).0 rise))
+      rise_to_end (keys_in (take i texts)) keys (keys_in (drop (i + 1) texts)) last to stops (subst AreRising all rise)

@@ -12,30 +12,30 @@ use Rattle.std.proofs.lemmas.List.Elements.{Contains-push, Contains-push_cases, 
 use Rattle.std.proofs.lemmas.List.Sorted.{IsPermutation-sym, IsPermutation-trans}
 use Rattle.mt_record.specs.Parts.{PartReading}
 use Rattle.mt_scan.specs.PartScans.{whole, shown_by_all}
-use Rattle.mt_scan.specs.Choice.{Checkpoint, AreInPlace, MakeUp, IsNoBetter, checkpoint_in}
+use Rattle.mt_scan.specs.Choice.{CheckpointReading, AreInPlace, MakeUp, IsNoBetter, checkpoint_in}
 use Rattle.mt_scan.specs.Checkpoints.{AreSameTexts}
 use Rattle.mt_scan.specs.Groups.{HasCheckpoint, HasNone, IsCheckpointOf}
-use Rattle.mt_scan.specs.Selections.{AreBelow, IsOffered, IsPassed, IsBestOf, IsSelectionOf, IsNoWorse}
-use Rattle.mt_scan.specs.declared.checkpoint.Checkpoint.{Checkpoint as CheckpointValue}
+use Rattle.mt_scan.specs.Selections.{GroupsBelow, IsOffered, IsPassed, IsBestOf, IsSelectionOf, IsNoWorse}
+use Rattle.mt_scan.specs.declared.checkpoint.Checkpoint.{Checkpoint}
 use Rattle.mt_scan.specs.declared.selection.Selection.{Selection}
-use Rattle.mt_scan.specs.declared.group.Group.{Group}
-use Rattle.mt_scan.specs.declared.group.Group.TheVariants as groups
+use Rattle.mt_scan.specs.declared.group.PartGroup.{PartGroup}
+use Rattle.mt_scan.specs.declared.group.PartGroup.TheVariants as groups
 use Rattle.mt_scan.proofs.KeysInOrder.{keys_below}
 use Rattle.mt_scan.proofs.OneChoice.{are_numbered, same_texts, same_times}
 
 -- ---- one group
 
 abbrev pub Entry : Type 0
-Entry = ℕ × Group
+Entry = ℕ × PartGroup
 
 -- two checkpoints of the same texts begin and end at the same time
-same_times_of : (a b : Checkpoint) (xs ys : List PartReading) → MakeUp xs a → MakeUp ys b → AreSameTexts xs ys → (a.begin ≡ b.begin) × (a.end ≡ b.end)
+same_times_of : (a b : CheckpointReading) (xs ys : List PartReading) → MakeUp xs a → MakeUp ys b → AreSameTexts xs ys → (a.begin ≡ b.begin) × (a.end ≡ b.end)
 same_times_of a b xs ys of_a of_b same =
     let texts : xs ≡ ys = same_texts xs ys (are_numbered a (length xs) xs of_a.in_place) (are_numbered b (length ys) ys of_b.in_place) same in
     same_times a b (length xs) (length ys) xs of_a.in_place (subst (λ (zs : List PartReading). AreInPlace b (length ys) 0 zs) (sym texts) of_b.in_place) of_a.some
 
 -- the checkpoints of a group end where the one made of it does
-one_end : (number : ℕ) (group : Group) (made : CheckpointValue) (other : Checkpoint) → IsCheckpointOf number group made → HasCheckpoint group other → other.end ≡ made.end
+one_end : (number : ℕ) (group : PartGroup) (made : Checkpoint) (other : CheckpointReading) → IsCheckpointOf number group made → HasCheckpoint group other → other.end ≡ made.end
 one_end number (groups.Whole texts) made other is has =
     let parts : List PartReading = shown_by_all made.parts.items in
     let same : AreSameTexts has.ordered parts =
@@ -43,53 +43,53 @@ one_end number (groups.Whole texts) made other is has =
     (same_times_of other (checkpoint_in made) has.ordered parts has.make_up is.make_up same).1
 one_end number groups.Broken made other is has = absurd is
 
-made_number : (number : ℕ) (group : Group) (made : CheckpointValue) → IsCheckpointOf number group made → made.number ≡ number
+made_number : (number : ℕ) (group : PartGroup) (made : Checkpoint) → IsCheckpointOf number group made → made.number ≡ number
 made_number number (groups.Whole texts) made is = is.number_is
 made_number number groups.Broken made is = absurd is
 
-made_has : (number : ℕ) (group : Group) (made : CheckpointValue) → IsCheckpointOf number group made → HasCheckpoint group (checkpoint_in made)
+made_has : (number : ℕ) (group : PartGroup) (made : Checkpoint) → IsCheckpointOf number group made → HasCheckpoint group (checkpoint_in made)
 made_has number (groups.Whole texts) made is = record { ordered = shown_by_all made.parts.items; same = is.same; make_up = is.make_up }
 made_has number groups.Broken made is = absurd is
 
 -- ---- one more group
 
 -- one of the groups, or the last
-last_or_before : (all : List Entry) (number : ℕ) (group : Group) (entry : Entry) → Contains (all ++ (number, group) ∷ []) entry → Contains all entry ⊎ ((number ≡ entry.0) × (group ≡ entry.1))
+last_or_before : (all : List Entry) (number : ℕ) (group : PartGroup) (entry : Entry) → Contains (all ++ (number, group) ∷ []) entry → Contains all entry ⊎ ((number ≡ entry.0) × (group ≡ entry.1))
 last_or_before all number group entry at = elim (Contains-push_cases all (number, group) entry at) as (λ _. Contains all entry ⊎ ((number ≡ entry.0) × (group ≡ entry.1))) [
   | inl before ↦ inl before
   | inr e ↦ inr (ap (λ (x : Entry). x.0) e, ap (λ (x : Entry). x.1) e)
 ]
 
-offered_more : (all : List Entry) (number : ℕ) (group : Group) (cutoff : ℕ) (checkpoint : Checkpoint) → IsOffered all cutoff checkpoint → IsOffered (all ++ (number, group) ∷ []) cutoff checkpoint
+offered_more : (all : List Entry) (number : ℕ) (group : PartGroup) (cutoff : ℕ) (checkpoint : CheckpointReading) → IsOffered all cutoff checkpoint → IsOffered (all ++ (number, group) ∷ []) cutoff checkpoint
 offered_more all number group cutoff checkpoint is =
     record { group = is.group; stands = Contains-append_left all ((number, group) ∷ []) (checkpoint.number, is.group) is.stands; has = is.has; ends_below = is.ends_below }
 
 -- what is offered was offered before, or is of the last group
-pub record IsLast (number : ℕ) (group : Group) (cutoff : ℕ) (checkpoint : Checkpoint) : Type 0 where
+pub record IsLast (number : ℕ) (group : PartGroup) (cutoff : ℕ) (checkpoint : CheckpointReading) : Type 0 where
   pub number_is : checkpoint.number ≡ number
   pub has : HasCheckpoint group checkpoint
   pub ends_below : checkpoint.end < cutoff
 
-offered_cases : (all : List Entry) (number : ℕ) (group : Group) (cutoff : ℕ) (checkpoint : Checkpoint) → IsOffered (all ++ (number, group) ∷ []) cutoff checkpoint
+offered_cases : (all : List Entry) (number : ℕ) (group : PartGroup) (cutoff : ℕ) (checkpoint : CheckpointReading) → IsOffered (all ++ (number, group) ∷ []) cutoff checkpoint
     → IsOffered all cutoff checkpoint ⊎ IsLast number group cutoff checkpoint
 offered_cases all number group cutoff checkpoint is =
     elim (last_or_before all number group (checkpoint.number, is.group) is.stands) as (λ _. IsOffered all cutoff checkpoint ⊎ IsLast number group cutoff checkpoint) [
       | inl before ↦ inl (record { group = is.group; stands = before; has = is.has; ends_below = is.ends_below })
-      | inr e ↦ inr (record { number_is = sym e.0; has = subst (λ (g : Group). HasCheckpoint g checkpoint) (sym e.1) is.has; ends_below = is.ends_below })
+      | inr e ↦ inr (record { number_is = sym e.0; has = subst (λ (g : PartGroup). HasCheckpoint g checkpoint) (sym e.1) is.has; ends_below = is.ends_below })
     ]
 
 -- the numbers that are passed by stay, if the last group has a checkpoint
-passed_same : (all : List Entry) (number : ℕ) (group : Group) (checkpoint : Checkpoint) (n : ℕ) → HasCheckpoint group checkpoint → IsPassed (all ++ (number, group) ∷ []) n ↔ IsPassed all n
+passed_same : (all : List Entry) (number : ℕ) (group : PartGroup) (checkpoint : CheckpointReading) (n : ℕ) → HasCheckpoint group checkpoint → IsPassed (all ++ (number, group) ∷ []) n ↔ IsPassed all n
 passed_same all number group checkpoint n has = (
   λ is. elim (last_or_before all number group (n, is.group) is.stands) as (λ _. IsPassed all n) [
     | inl before ↦ record { group = is.group; stands = before; none = is.none }
-    | inr e ↦ absurd (is.none checkpoint (subst (λ (g : Group). HasCheckpoint g checkpoint) e.1 has))
+    | inr e ↦ absurd (is.none checkpoint (subst (λ (g : PartGroup). HasCheckpoint g checkpoint) e.1 has))
   ],
   λ is. record { group = is.group; stands = Contains-append_left all ((number, group) ∷ []) (n, is.group) is.stands; none = is.none },
 )
 
 -- the last number is passed by, if its group has no checkpoint
-passed_more : (all : List Entry) (number : ℕ) (group : Group) (n : ℕ) → HasNone group → IsPassed (all ++ (number, group) ∷ []) n ↔ (IsPassed all n ⊎ (number ≡ n))
+passed_more : (all : List Entry) (number : ℕ) (group : PartGroup) (n : ℕ) → HasNone group → IsPassed (all ++ (number, group) ∷ []) n ↔ (IsPassed all n ⊎ (number ≡ n))
 passed_more all number group n none = (
   λ is. elim (last_or_before all number group (n, is.group) is.stands) as (λ _. IsPassed all n ⊎ (number ≡ n)) [
     | inl before ↦ inl (record { group = is.group; stands = before; none = is.none })
@@ -102,14 +102,14 @@ passed_more all number group n none = (
 )
 
 -- the best of the groups, if the last one has no checkpoint
-best_same : (all : List Entry) (number : ℕ) (group : Group) (cutoff : ℕ) (best : Option CheckpointValue) → HasNone group → IsBestOf all cutoff best → IsBestOf (all ++ (number, group) ∷ []) cutoff best
+best_same : (all : List Entry) (number : ℕ) (group : PartGroup) (cutoff : ℕ) (best : Option Checkpoint) → HasNone group → IsBestOf all cutoff best → IsBestOf (all ++ (number, group) ∷ []) cutoff best
 best_same all number group cutoff None none is = λ other offered. elim (offered_cases all number group cutoff other offered) as (λ _. ⊥) [ inl before ↦ is other before | inr last ↦ none other last.has ]
 best_same all number group cutoff (Some best) none is = (
   offered_more all number group cutoff (checkpoint_in best) is.0,
   λ other offered. elim (offered_cases all number group cutoff other offered) as (λ _. IsNoBetter other (checkpoint_in best)) [ inl before ↦ is.1 other before | inr last ↦ absurd (none other last.has) ],
 )
 
-module _ (all : List Entry) (number : ℕ) (group : Group) (cutoff : ℕ) (made : CheckpointValue) (is_of : IsCheckpointOf number group made) (below : AreBelow all number) where
+module _ (all : List Entry) (number : ℕ) (group : PartGroup) (cutoff : ℕ) (made : Checkpoint) (is_of : IsCheckpointOf number group made) (below : GroupsBelow all number) where
   offered : made.end < cutoff → IsOffered (all ++ (number, group) ∷ []) cutoff (checkpoint_in made)
   offered ends = record {
     group = group;
@@ -119,13 +119,13 @@ module _ (all : List Entry) (number : ℕ) (group : Group) (cutoff : ℕ) (made 
   }
 
   -- no other checkpoint of the group is better
-  no_other : (other : Checkpoint) → IsLast number group cutoff other → IsNoBetter other (checkpoint_in made)
+  no_other : (other : CheckpointReading) → IsLast number group cutoff other → IsNoBetter other (checkpoint_in made)
   no_other other last =
       let e = one_end number group made other is_of last.has in
       inr (e, omega (arith, last.number_is, made_number number group made is_of))
 
   -- the one made of the group is the best now
-  best_taken : (best : Option CheckpointValue) → IsBestOf all cutoff best → IsNoWorse cutoff best made → IsBestOf (all ++ (number, group) ∷ []) cutoff (Some made)
+  best_taken : (best : Option Checkpoint) → IsBestOf all cutoff best → IsNoWorse cutoff best made → IsBestOf (all ++ (number, group) ∷ []) cutoff (Some made)
   best_taken None is no_worse = (
     offered no_worse,
     λ other now. elim (offered_cases all number group cutoff other now) as (λ _. IsNoBetter other (checkpoint_in made)) [ inl before ↦ absurd (is other before) | inr last ↦ no_other other last ],
@@ -148,7 +148,7 @@ module _ (all : List Entry) (number : ℕ) (group : Group) (cutoff : ℕ) (made 
   )
 
   -- the best so far stays it
-  best_left : (best : Option CheckpointValue) → IsBestOf all cutoff best → (IsNoWorse cutoff best made → ⊥) → IsBestOf (all ++ (number, group) ∷ []) cutoff best
+  best_left : (best : Option Checkpoint) → IsBestOf all cutoff best → (IsNoWorse cutoff best made → ⊥) → IsBestOf (all ++ (number, group) ∷ []) cutoff best
   best_left None is worse = λ other now. elim (offered_cases all number group cutoff other now) as (λ _. ⊥) [
     | inl before ↦ is other before
     | inr last ↦ let e = one_end number group made other is_of last.has in worse (omega (arith, e, last.ends_below))
@@ -164,7 +164,7 @@ module _ (all : List Entry) (number : ℕ) (group : Group) (cutoff : ℕ) (made 
     ],
   )
 
-no_worse_or_not : (cutoff : ℕ) (best : Option CheckpointValue) (made : CheckpointValue) → IsNoWorse cutoff best made ⊎ (IsNoWorse cutoff best made → ⊥)
+no_worse_or_not : (cutoff : ℕ) (best : Option Checkpoint) (made : Checkpoint) → IsNoWorse cutoff best made ⊎ (IsNoWorse cutoff best made → ⊥)
 no_worse_or_not cutoff None made = elim (cases_lt made.end cutoff) as (λ _. IsNoWorse cutoff None made ⊎ (IsNoWorse cutoff None made → ⊥)) [ inl less ↦ inl less | inr above ↦ inr (λ h. omega (arith, above, h)) ]
 no_worse_or_not cutoff (Some best) made =
     elim (cases_lt made.end cutoff) as (λ _. IsNoWorse cutoff (Some best) made ⊎ (IsNoWorse cutoff (Some best) made → ⊥)) [
@@ -173,12 +173,12 @@ no_worse_or_not cutoff (Some best) made =
     ]
 
 -- a checkpoint was offered
-pub record IsOfferedTo (cutoff : ℕ) (made : CheckpointValue) (old new : Selection) : Type 0 where
+pub record IsOfferedTo (cutoff : ℕ) (made : Checkpoint) (old new : Selection) : Type 0 where
   pub taken : IsNoWorse cutoff old.best made → new.best ≡ Some made
   pub left : (IsNoWorse cutoff old.best made → ⊥) → new.best ≡ old.best
   pub skipped : new.skipped ≡ old.skipped
 
-pub selection_offered : (all : List Entry) (number : ℕ) (group : Group) (cutoff : ℕ) (made : CheckpointValue) (old new : Selection) → IsCheckpointOf number group made → AreBelow all number
+pub selection_offered : (all : List Entry) (number : ℕ) (group : PartGroup) (cutoff : ℕ) (made : Checkpoint) (old new : Selection) → IsCheckpointOf number group made → GroupsBelow all number
     → IsOfferedTo cutoff made old new → IsSelectionOf all cutoff old → IsSelectionOf (all ++ (number, group) ∷ []) cutoff new
 selection_offered all number group cutoff made old new is_of below offer is =
     let more : List Entry = all ++ (number, group) ∷ [] in
@@ -213,7 +213,7 @@ increasing_push xs n rise below = λ k fits.
     ]
 
 -- a number was passed by
-pub selection_passed : (all : List Entry) (number : ℕ) (group : Group) (cutoff : ℕ) (old new : Selection) → HasNone group → AreBelow all number
+pub selection_passed : (all : List Entry) (number : ℕ) (group : PartGroup) (cutoff : ℕ) (old new : Selection) → HasNone group → GroupsBelow all number
     → new.best ≡ old.best → new.skipped.items ≡ old.skipped.items ++ number ∷ [] → IsSelectionOf all cutoff old → IsSelectionOf (all ++ (number, group) ∷ []) cutoff new
 selection_passed all number group cutoff old new none below best skipped is =
     let more : List Entry = all ++ (number, group) ∷ [] in
@@ -238,5 +238,5 @@ selection_passed all number group cutoff old new none below best skipped is =
 less_is_below : (a b : ℕ) → nat_cmp a b ≡ Less → a < b
 less_is_below a b e = subst (λ (o : Ordering). MatchOrdering o (a < b) (a ≡ b) (b < a)) e (ranked a b (nat_cmp a b) refl)
 
-pub are_below : (all entries : List Entry) (number : ℕ) (group : Group) (rest : List Entry) → IsStrictlySortedBy nat_cmp (keys_of all) → all ≡ entries ++ (number, group) ∷ rest → AreBelow entries number
+pub are_below : (all entries : List Entry) (number : ℕ) (group : PartGroup) (rest : List Entry) → IsStrictlySortedBy nat_cmp (keys_of all) → all ≡ entries ++ (number, group) ∷ rest → GroupsBelow entries number
 are_below all entries number group rest sorted e = λ x at. less_is_below x.0 number (keys_below nat_cmp all entries number group rest sorted e x at)

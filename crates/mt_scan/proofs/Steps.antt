@@ -48,8 +48,8 @@ has_fault (Err f) fault failed kept = (f, kept)
 
 -- the fault of the bytes is that of their scan
 pub answered : (log : ℕ) (bytes : List ℕ) (fault : FeedFault) → IsAnswered bytes fault → IsScanFault log bytes (fault_at log fault)
-answered log bytes of_log.Header is = (refl, is)
-answered log bytes (of_log.Record nth what) is = (refl, is)
+answered log bytes of_log.Header is = (refl, is (λ same. cc))
+answered log bytes (of_log.Record nth what) is = (refl, is (λ same. cc))
 answered log bytes of_log.Memory is = tt
 
 -- what a scan of all bytes found, of bytes that the source may have

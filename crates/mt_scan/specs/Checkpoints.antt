@@ -4,8 +4,8 @@ use Rattle.std.specs.List.{flat_map}
 use Rattle.mt_words.specs.declared.record.Change.{Change}
 use Rattle.mt_record.specs.Parts.{PartReading}
 use Rattle.mt_scan.specs.PartScans.{whole, shown_by_all}
-use Rattle.mt_scan.specs.Choice.{Checkpoint, MakeUp, checkpoint_in}
-use Rattle.mt_scan.specs.declared.checkpoint.Checkpoint.{Checkpoint as CheckpointValue}
+use Rattle.mt_scan.specs.Choice.{CheckpointReading, MakeUp, checkpoint_in}
+use Rattle.mt_scan.specs.declared.checkpoint.Checkpoint.{Checkpoint}
 
 -- the entries of texts, one text behind the other
 abbrev pub entries_of : List PartReading → List Change
@@ -16,17 +16,17 @@ abbrev pub AreSameTexts : List PartReading → List PartReading → Type 0
 AreSameTexts texts others = IsPermutation (map whole texts) (map whole others)
 
 -- the texts, in some order, are the parts of the checkpoint
-pub record CanMakeUp (texts : List PartReading) (checkpoint : Checkpoint) : Type 0 where
+pub record CanMakeUp (texts : List PartReading) (checkpoint : CheckpointReading) : Type 0 where
   pub ordered : List PartReading
   pub same : AreSameTexts texts ordered
   pub make_up : MakeUp ordered checkpoint
 
 -- no checkpoint has these texts, in any order
 abbrev pub MakeUpNone : List PartReading → Type 0
-MakeUpNone texts = (checkpoint : Checkpoint) → CanMakeUp texts checkpoint → ⊥
+MakeUpNone texts = (checkpoint : CheckpointReading) → CanMakeUp texts checkpoint → ⊥
 
 -- the checkpoint of this number is made of these texts
-pub record IsMadeOf (number : ℕ) (texts : List PartReading) (made : CheckpointValue) : Type 0 where
+pub record IsMadeOf (number : ℕ) (texts : List PartReading) (made : Checkpoint) : Type 0 where
   pub number_is : made.number ≡ number
   pub same : AreSameTexts texts (shown_by_all made.parts.items)
   pub make_up : MakeUp (shown_by_all made.parts.items) (checkpoint_in made)

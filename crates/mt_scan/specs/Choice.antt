@@ -1,17 +1,17 @@
 -- Checkpoints: which are valid, and which one is chosen.
 use Rattle.std.specs.Prelude.{◌≡◌, ℕ, suc, ◌<◌, ◌≤◌, ◌⊎◌, ◌↔◌, ◌==◌, Bool, false, Option, Some, None, List, [], ◌∷◌, length, map, filter, Contains, slice_get, IsPermutation}
 use Rattle.std.specs.List.Sorted.{IsStrictlyIncreasing}
-use Rattle.std.specs.List.{flat_map, AllByRecursion}
+use Rattle.std.specs.List.{flat_map}
 use Rattle.std.specs.Option.{option_map}
 use Rattle.mt_words.specs.declared.record.Change.{Change}
-use Rattle.mt_words.specs.Words.{IsBelow}
+use Rattle.mt_words.specs.Words.{AreRising}
 use Rattle.mt_record.specs.Parts.{PartReading}
 use Rattle.mt_scan.specs.declared.choice.Choice.{Choice}
-use Rattle.mt_scan.specs.declared.checkpoint.Checkpoint.{Checkpoint as CheckpointValue}
+use Rattle.mt_scan.specs.declared.checkpoint.Checkpoint.{Checkpoint}
 use Rattle.mt_scan.specs.PartScans.{KnownPart, whole, broken, nameless, shown_by_all}
 
--- a checkpoint: its number, the timestamps from which on logs are replayed over it and at which it was complete, and its entries
-pub record Checkpoint : Type 0 where
+-- what a checkpoint says: its number, the timestamps from which on logs are replayed over it and at which it was complete, and its entries
+pub record CheckpointReading : Type 0 where
   pub number : ℕ
   pub begin : ℕ
   pub end : ℕ
@@ -28,56 +28,55 @@ abbrev pub parts_of : ℕ → List KnownPart → List KnownPart
 parts_of number parts = filter (belongs_to number) parts
 
 -- the part stands at this place among so many parts of the checkpoint, and agrees with it
-pub record IsPartAt (checkpoint : Checkpoint) (count place : ℕ) (part : PartReading) : Type 0 where
+pub record IsPartAt (checkpoint : CheckpointReading) (count place : ℕ) (part : PartReading) : Type 0 where
   pub stands : part.part ≡ place
   pub parts : part.parts ≡ count
   pub begin_agrees : part.begin ≡ checkpoint.begin
   pub end_agrees : part.end ≡ checkpoint.end
 
 -- the parts stand one behind the other, from this place on
-abbrev pub AreInPlace : Checkpoint → ℕ → ℕ → List PartReading → Type 0
+abbrev pub AreInPlace : CheckpointReading → ℕ → ℕ → List PartReading → Type 0
 AreInPlace checkpoint count place [] = Unit {0}
 AreInPlace checkpoint count place (part ∷ parts) = IsPartAt checkpoint count place part × AreInPlace checkpoint count (suc place) parts
 
--- keys strictly rise
-abbrev pub EntriesRise : List Change → Type 0
-EntriesRise [] = Unit {0}
-EntriesRise (entry ∷ entries) = AllByRecursion (λ other. IsBelow entry.key other.key) entries × EntriesRise entries
+-- the keys of entries
+abbrev pub entry_keys : List Change → List (List ℕ)
+entry_keys entries = map (λ entry. entry.key) entries
 
 -- These texts, in this order, are the parts of the checkpoint: they agree in begin, end and their number, and stand in place; it
 -- begins at its end at the latest, and its entries, one part behind the other, have rising keys.
-pub record MakeUp (texts : List PartReading) (checkpoint : Checkpoint) : Type 0 where
+pub record MakeUp (texts : List PartReading) (checkpoint : CheckpointReading) : Type 0 where
   pub some : 0 < length texts
   pub in_place : AreInPlace checkpoint (length texts) 0 texts
   pub begins : checkpoint.begin ≤ checkpoint.end
   pub all : checkpoint.entries ≡ flat_map (λ text. text.entries) texts
-  pub rise : EntriesRise checkpoint.entries
+  pub rise : AreRising (entry_keys checkpoint.entries)
 
 -- the parts with the checkpoint's number are all whole, and in some order they make it up, each of them once
-pub record IsValid (parts : List KnownPart) (checkpoint : Checkpoint) : Type 0 where
+pub record IsValid (parts : List KnownPart) (checkpoint : CheckpointReading) : Type 0 where
   pub texts : List PartReading
   pub are_whole : IsPermutation (parts_of checkpoint.number parts) (map whole texts)
   pub make_up : MakeUp texts checkpoint
 
 -- a valid checkpoint that ends below the cutoff
-pub record MayBeChosen (parts : List KnownPart) (cutoff : ℕ) (checkpoint : Checkpoint) : Type 0 where
+pub record MayBeChosen (parts : List KnownPart) (cutoff : ℕ) (checkpoint : CheckpointReading) : Type 0 where
   pub valid : IsValid parts checkpoint
   pub ends_below : checkpoint.end < cutoff
 
 -- the second one ends later, or at the same time and has no lesser number
-abbrev pub IsNoBetter : Checkpoint → Checkpoint → Type 0
+abbrev pub IsNoBetter : CheckpointReading → CheckpointReading → Type 0
 IsNoBetter a b = (a.end < b.end) ⊎ ((a.end ≡ b.end) × (a.number ≤ b.number))
 
 -- of the valid checkpoints that end below the cutoff the one with the greatest end, and then the greatest number; none where there is none
-abbrev pub IsChosenOf : List KnownPart → ℕ → Option Checkpoint → Type 0
-IsChosenOf parts cutoff None = (other : Checkpoint) → MayBeChosen parts cutoff other → ⊥
+abbrev pub IsChosenOf : List KnownPart → ℕ → Option CheckpointReading → Type 0
+IsChosenOf parts cutoff None = (other : CheckpointReading) → MayBeChosen parts cutoff other → ⊥
 IsChosenOf parts cutoff (Some chosen) =
-    MayBeChosen parts cutoff chosen × ((other : Checkpoint) → MayBeChosen parts cutoff other → IsNoBetter other chosen)
+    MayBeChosen parts cutoff chosen × ((other : CheckpointReading) → MayBeChosen parts cutoff other → IsNoBetter other chosen)
 
 -- there are parts of a checkpoint of this number, and it is not valid
 pub record IsSkipped (parts : List KnownPart) (number : ℕ) : Type 0 where
   pub some : 0 < length (parts_of number parts)
-  pub invalid : (other : Checkpoint) → other.number ≡ number → IsValid parts other → ⊥
+  pub invalid : (other : CheckpointReading) → other.number ≡ number → IsValid parts other → ⊥
 
 -- just the numbers of the invalid checkpoints, rising
 pub record AreSkipped (parts : List KnownPart) (numbers : List ℕ) : Type 0 where
@@ -90,7 +89,7 @@ pub record AreNameless (parts : List KnownPart) (positions : List ℕ) : Type 0 
   pub exact : (i : ℕ) → Contains positions i ↔ (slice_get parts i ≡ Some nameless)
 
 -- what a checkpoint in memory shows: its entries are those of its parts, one part behind the other
-abbrev pub checkpoint_in : CheckpointValue → Checkpoint
+abbrev pub checkpoint_in : Checkpoint → CheckpointReading
 checkpoint_in checkpoint = record {
   number = checkpoint.number;
   begin = checkpoint.begin;

@@ -3,36 +3,36 @@ use Rattle.std.specs.Prelude.{◌≡◌, ℕ, ◌<◌, List, [], length, map, Op
 use Rattle.std.specs.Ordering.{nat_cmp}
 use Rattle.std.specs.BTreeMap.{BTreeMap, get}
 use Rattle.mt_scan.specs.PartScans.{KnownPart, whole, broken, shown_by_all}
-use Rattle.mt_scan.specs.Choice.{Checkpoint, parts_of}
+use Rattle.mt_scan.specs.Choice.{CheckpointReading, parts_of}
 use Rattle.mt_scan.specs.Checkpoints.{CanMakeUp, IsMadeOf}
-use Rattle.mt_scan.specs.declared.group.Group.{Group}
-use Rattle.mt_scan.specs.declared.group.Group.TheVariants as groups
-use Rattle.mt_scan.specs.declared.checkpoint.Checkpoint.{Checkpoint as CheckpointValue}
+use Rattle.mt_scan.specs.declared.group.PartGroup.{PartGroup}
+use Rattle.mt_scan.specs.declared.group.PartGroup.TheVariants as groups
+use Rattle.mt_scan.specs.declared.checkpoint.Checkpoint.{Checkpoint}
 
 -- the parts of a checkpoint, in any order: they are all whole, or one of them is broken
-abbrev pub IsGroupOf : List KnownPart → Group → Type 0
-IsGroupOf parts (groups.Whole texts) = (0 < length parts) × (parts ≡ map whole (shown_by_all texts.items))
-IsGroupOf parts groups.Broken = (number : ℕ) × Contains parts (broken number)
+abbrev pub IsPartGroupOf : List KnownPart → PartGroup → Type 0
+IsPartGroupOf parts (groups.Whole texts) = (0 < length parts) × (parts ≡ map whole (shown_by_all texts.items))
+IsPartGroupOf parts groups.Broken = (number : ℕ) × Contains parts (broken number)
 
 -- there are no parts, or this is their group
-abbrev pub IsGroupAt : List KnownPart → Option Group → Type 0
+abbrev pub IsGroupAt : List KnownPart → Option PartGroup → Type 0
 IsGroupAt parts None = parts ≡ []
-IsGroupAt parts (Some group) = IsGroupOf parts group
+IsGroupAt parts (Some group) = IsPartGroupOf parts group
 
 -- the groups of the checkpoints by their numbers
-abbrev pub AreGroupsOf : List KnownPart → BTreeMap ℕ Group → Type 0
+abbrev pub AreGroupsOf : List KnownPart → BTreeMap ℕ PartGroup → Type 0
 AreGroupsOf parts all = (number : ℕ) → IsGroupAt (parts_of number parts) (get nat_cmp all number)
 
 -- the group has just the parts of the checkpoint
-abbrev pub HasCheckpoint : Group → Checkpoint → Type 0
+abbrev pub HasCheckpoint : PartGroup → CheckpointReading → Type 0
 HasCheckpoint (groups.Whole texts) checkpoint = CanMakeUp (shown_by_all texts.items) checkpoint
 HasCheckpoint groups.Broken checkpoint = ⊥
 
 -- the parts of the group make up no checkpoint
-abbrev pub HasNone : Group → Type 0
-HasNone group = (checkpoint : Checkpoint) → HasCheckpoint group checkpoint → ⊥
+abbrev pub HasNone : PartGroup → Type 0
+HasNone group = (checkpoint : CheckpointReading) → HasCheckpoint group checkpoint → ⊥
 
 -- the checkpoint of this number that is made of the group
-abbrev pub IsCheckpointOf : ℕ → Group → CheckpointValue → Type 0
+abbrev pub IsCheckpointOf : ℕ → PartGroup → Checkpoint → Type 0
 IsCheckpointOf number (groups.Whole texts) made = IsMadeOf number (shown_by_all texts.items) made
 IsCheckpointOf number groups.Broken made = ⊥

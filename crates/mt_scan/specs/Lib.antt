@@ -1,7 +1,7 @@
 pub mod Sources
 pub mod Buffers
 pub mod Lending
-pub mod Kinds
+pub mod SourceTypes
 pub mod Scans
 pub mod PartScans
 pub mod Cutoff

@@ -3,42 +3,42 @@ use Rattle.std.specs.Prelude.{ℕ, ◌<◌, ◌≤◌, ◌↔◌, List, Option, 
 use Rattle.std.specs.Option.{option_map}
 use Rattle.std.specs.List.Sorted.{IsStrictlyIncreasing}
 use Rattle.mt_scan.specs.PartScans.{KnownPart}
-use Rattle.mt_scan.specs.Choice.{Checkpoint, IsNoBetter, IsChosenOf, AreSkipped, checkpoint_in}
+use Rattle.mt_scan.specs.Choice.{CheckpointReading, IsNoBetter, IsChosenOf, AreSkipped, checkpoint_in}
 use Rattle.mt_scan.specs.Groups.{HasCheckpoint, HasNone}
-use Rattle.mt_scan.specs.declared.checkpoint.Checkpoint.{Checkpoint as CheckpointValue}
-use Rattle.mt_scan.specs.declared.group.Group.{Group}
+use Rattle.mt_scan.specs.declared.checkpoint.Checkpoint.{Checkpoint}
+use Rattle.mt_scan.specs.declared.group.PartGroup.{PartGroup}
 use Rattle.mt_scan.specs.declared.selection.Selection.{Selection}
 
--- each of these numbers is below this one
-abbrev pub AreBelow : List (ℕ × Group) → ℕ → Type 0
-AreBelow all number = (entry : ℕ × Group) → Contains all entry → entry.0 < number
+-- the numbers of these groups are below this one
+abbrev pub GroupsBelow : List (ℕ × PartGroup) → ℕ → Type 0
+GroupsBelow all number = (entry : ℕ × PartGroup) → Contains all entry → entry.0 < number
 
 -- a checkpoint of one of these groups that ends below the cutoff
-pub record IsOffered (all : List (ℕ × Group)) (cutoff : ℕ) (checkpoint : Checkpoint) : Type 0 where
-  pub group : Group
+pub record IsOffered (all : List (ℕ × PartGroup)) (cutoff : ℕ) (checkpoint : CheckpointReading) : Type 0 where
+  pub group : PartGroup
   pub stands : Contains all (checkpoint.number, group)
   pub has : HasCheckpoint group checkpoint
   pub ends_below : checkpoint.end < cutoff
 
 -- the number of one of these groups, which is of no checkpoint
-pub record IsPassed (all : List (ℕ × Group)) (number : ℕ) : Type 0 where
-  pub group : Group
+pub record IsPassed (all : List (ℕ × PartGroup)) (number : ℕ) : Type 0 where
+  pub group : PartGroup
   pub stands : Contains all (number, group)
   pub none : HasNone group
 
 -- the best of the checkpoints that are offered
-abbrev pub IsBestOf : List (ℕ × Group) → ℕ → Option CheckpointValue → Type 0
-IsBestOf all cutoff None = (other : Checkpoint) → IsOffered all cutoff other → ⊥
-IsBestOf all cutoff (Some best) = IsOffered all cutoff (checkpoint_in best) × ((other : Checkpoint) → IsOffered all cutoff other → IsNoBetter other (checkpoint_in best))
+abbrev pub IsBestOf : List (ℕ × PartGroup) → ℕ → Option Checkpoint → Type 0
+IsBestOf all cutoff None = (other : CheckpointReading) → IsOffered all cutoff other → ⊥
+IsBestOf all cutoff (Some best) = IsOffered all cutoff (checkpoint_in best) × ((other : CheckpointReading) → IsOffered all cutoff other → IsNoBetter other (checkpoint_in best))
 
 -- the best of these groups, and the numbers of those that are of no checkpoint
-pub record IsSelectionOf (all : List (ℕ × Group)) (cutoff : ℕ) (selection : Selection) : Type 0 where
+pub record IsSelectionOf (all : List (ℕ × PartGroup)) (cutoff : ℕ) (selection : Selection) : Type 0 where
   pub best : IsBestOf all cutoff selection.best
   pub rise : IsStrictlyIncreasing selection.skipped.items
   pub exact : (number : ℕ) → Contains selection.skipped.items number ↔ IsPassed all number
 
 -- a checkpoint that is to stand in the place of the best one so far
-abbrev pub IsNoWorse : ℕ → Option CheckpointValue → CheckpointValue → Type 0
+abbrev pub IsNoWorse : ℕ → Option Checkpoint → Checkpoint → Type 0
 IsNoWorse cutoff None next = next.end < cutoff
 IsNoWorse cutoff (Some best) next = (next.end < cutoff) × (best.end ≤ next.end)
 

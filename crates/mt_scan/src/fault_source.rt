@@ -3,7 +3,7 @@ ghost use Rattle.std.specs.Prelude.{◌≡◌, ◌+◌, ◌-◌, ◌≤◌, ◌<
 ghost use Rattle.mt_scan.specs.declared.source.SourceFault.TheVariants.{Device};
 ghost use Rattle.mt_scan.specs.Sources.{Advances};
 ghost use Rattle.mt_scan.specs.Buffers.{HoldsBufferOf};
-ghost use Rattle.mt_scan.specs.Kinds.{seen_of_fault, calls_left, fault_piece_size, GivesPiece};
+ghost use Rattle.mt_scan.specs.SourceTypes.{seen_of_fault, calls_left, fault_piece_size, GivesPiece};
 
 use crate::buffer::Buffer;
 use crate::slot::Slot;

@@ -1,7 +1,7 @@
 //! Parts by the numbers of their checkpoints.
 ghost use Rattle.std.specs.Prelude.{List, [], ◌∷◌, ◌++◌, map, IfOk, OnOk, MatchOption};
 ghost use Rattle.mt_scan.specs.PartScans.{KnownPart, whole, broken, shown_by, known_by};
-ghost use Rattle.mt_scan.specs.Groups.{IsGroupOf, AreGroupsOf, HasNone, IsCheckpointOf};
+ghost use Rattle.mt_scan.specs.Groups.{IsPartGroupOf, AreGroupsOf, HasNone, IsCheckpointOf};
 
 use crate::checkpoint::Checkpoint;
 use crate::part_scan::PartScan;
@@ -12,20 +12,20 @@ use std::collections::BTreeMap;
 
 /// The parts of one checkpoint.
 #[derive(Drop)]
-pub enum Group {
+pub enum PartGroup {
     /// They are whole, and stand in any order.
     Whole(Vec<PartText<KeptEntries>>),
     /// One of them is broken.
     Broken,
 }
 
-impl Group {
+impl PartGroup {
     /// Adds a whole part. After an Err it may be missing.
     fn add(&mut self, text: PartText<KeptEntries>) -> Result<(), Memory>
-        ensures { OnOk result ((parts : List KnownPart) → IsGroupOf parts self.old →
-            IsGroupOf (parts ++ whole (shown_by text) ∷ []) self.new) }
+        ensures { OnOk result ((parts : List KnownPart) → IsPartGroupOf parts self.old →
+            IsPartGroupOf (parts ++ whole (shown_by text) ∷ []) self.new) }
     {
-        if let Group::Whole(texts) = self {
+        if let PartGroup::Whole(texts) = self {
             texts.push(text)?;
         }
         Ok(())
@@ -36,14 +36,14 @@ impl Group {
         ensures { MatchOption result (HasNone self) (IsCheckpointOf number self) }
     {
         match self {
-            Group::Whole(texts) => Checkpoint::of(number, texts),
-            Group::Broken => None,
+            PartGroup::Whole(texts) => Checkpoint::of(number, texts),
+            PartGroup::Broken => None,
         }
     }
 }
 
 /// The parts of each checkpoint by its number. Those without a header belong to none.
-pub fn group_parts(alloc: Global, scans: Vec<PartScan>) -> Result<BTreeMap<u32, Group>, Memory>
+pub fn group_parts(alloc: Global, scans: Vec<PartScan>) -> Result<BTreeMap<u32, PartGroup>, Memory>
     ensures { IfOk result (AreGroupsOf (map known_by scans.items)) }
 {
     let mut groups = BTreeMap::new(alloc);
@@ -54,7 +54,11 @@ pub fn group_parts(alloc: Global, scans: Vec<PartScan>) -> Result<BTreeMap<u32, 
 }
 
 /// Adds the part of a scan to those of its checkpoint, if it has one.
-fn add_scan(alloc: Global, groups: &mut BTreeMap<u32, Group>, scan: PartScan) -> Result<(), Memory>
+fn add_scan(
+    alloc: Global,
+    groups: &mut BTreeMap<u32, PartGroup>,
+    scan: PartScan,
+) -> Result<(), Memory>
     ensures { OnOk result ((parts : List KnownPart) → AreGroupsOf parts groups.old →
         AreGroupsOf (parts ++ known_by scan ∷ []) groups.new) }
 {
@@ -68,7 +72,7 @@ fn add_scan(alloc: Global, groups: &mut BTreeMap<u32, Group>, scan: PartScan) ->
 /// Adds a whole part to those of its checkpoint.
 fn add_whole(
     alloc: Global,
-    groups: &mut BTreeMap<u32, Group>,
+    groups: &mut BTreeMap<u32, PartGroup>,
     text: PartText<KeptEntries>,
 ) -> Result<(), Memory>
     ensures { OnOk result ((parts : List KnownPart) → AreGroupsOf parts groups.old →
@@ -80,15 +84,15 @@ fn add_whole(
     }
     let mut texts = Vec::new(alloc);
     texts.push(text)?;
-    groups.insert(number, Group::Whole(texts))?;
+    groups.insert(number, PartGroup::Whole(texts))?;
     Ok(())
 }
 
 /// Notes that a part of this checkpoint is broken.
-fn add_broken(groups: &mut BTreeMap<u32, Group>, number: u32) -> Result<(), Memory>
+fn add_broken(groups: &mut BTreeMap<u32, PartGroup>, number: u32) -> Result<(), Memory>
     ensures { OnOk result ((parts : List KnownPart) → AreGroupsOf parts groups.old →
         AreGroupsOf (parts ++ broken number ∷ []) groups.new) }
 {
-    groups.insert(number, Group::Broken)?;
+    groups.insert(number, PartGroup::Broken)?;
     Ok(())
 }

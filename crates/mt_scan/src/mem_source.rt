@@ -2,7 +2,7 @@
 ghost use Rattle.std.specs.Prelude.{◌≡◌, ◌↔◌, [], IfSome, IsSome, IsTrue, Some};
 ghost use Rattle.mt_scan.specs.Sources.{Advances};
 ghost use Rattle.mt_scan.specs.Buffers.{HoldsBufferOf};
-ghost use Rattle.mt_scan.specs.Kinds.{seen_of_memory, piece_size, GivesPiece};
+ghost use Rattle.mt_scan.specs.SourceTypes.{seen_of_memory, piece_size, GivesPiece};
 
 use crate::buffer::Buffer;
 use crate::slot::Slot;

@@ -4,7 +4,7 @@ ghost use Rattle.mt_scan.specs.declared.source.SourceFault.TheVariants.{Device, 
 ghost use Rattle.mt_scan.specs.Sources.{Advances};
 ghost use Rattle.std.specs.Io.KnownBytes.{Keeps};
 ghost use Rattle.mt_scan.specs.Buffers.{HoldsBufferOf};
-ghost use Rattle.mt_scan.specs.Kinds.{seen_of_reader, reader_piece_size, HasTooMany, at_its_end, has_failed};
+ghost use Rattle.mt_scan.specs.SourceTypes.{seen_of_reader, reader_piece_size, HasTooMany, at_its_end, has_failed};
 
 use crate::buffer::Buffer;
 use crate::slot::Slot;

@@ -2,10 +2,10 @@
 ghost use Rattle.std.specs.Prelude.{◌≡◌, ◌↔◌, ℕ, List, [], ◌∷◌, ◌++◌, Some, IsTrue, IfOk, OnOk};
 ghost use Rattle.mt_scan.specs.PartScans.{KnownPart};
 ghost use Rattle.mt_scan.specs.Groups.{AreGroupsOf};
-ghost use Rattle.mt_scan.specs.Selections.{AreBelow, IsSelectionOf, IsNoWorse, IsSelectionFor};
+ghost use Rattle.mt_scan.specs.Selections.{GroupsBelow, IsSelectionOf, IsNoWorse, IsSelectionFor};
 
 use crate::checkpoint::Checkpoint;
-use crate::group::Group;
+use crate::group::PartGroup;
 use mt_words::Memory;
 use std::alloc::Global;
 use std::collections::BTreeMap;
@@ -21,8 +21,8 @@ pub struct Selection {
 
 impl Selection {
     /// Takes in the next checkpoint, by its parts.
-    fn add(&mut self, number: u32, group: Group, cutoff: u64) -> Result<(), Memory>
-        ensures { OnOk result ((all : List (ℕ × Group)) → AreBelow all number → IsSelectionOf all cutoff self.old →
+    fn add(&mut self, number: u32, group: PartGroup, cutoff: u64) -> Result<(), Memory>
+        ensures { OnOk result ((all : List (ℕ × PartGroup)) → GroupsBelow all number → IsSelectionOf all cutoff self.old →
             IsSelectionOf (all ++ (number, group) ∷ []) cutoff self.new) }
     {
         match group.into_checkpoint(number) {
@@ -55,7 +55,11 @@ impl Selection {
 }
 
 /// Selects among the checkpoints, whose parts are these.
-pub fn select(alloc: Global, groups: BTreeMap<u32, Group>, cutoff: u64) -> Result<Selection, Memory>
+pub fn select(
+    alloc: Global,
+    groups: BTreeMap<u32, PartGroup>,
+    cutoff: u64,
+) -> Result<Selection, Memory>
     ensures { IfOk result (λ selection. (parts : List KnownPart) → AreGroupsOf parts groups →
         IsSelectionFor parts cutoff selection) }
 {

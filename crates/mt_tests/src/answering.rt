@@ -1,6 +1,6 @@
 //! What `mtrecover` answers over sources that fail and on outputs that fail.
 use crate::commands::{Ends, assert_ends, words_on};
-use crate::devices::Device::{self, Closed, Full, Unflushed, Works};
+use crate::devices::Device::{self, Closed, Full, Starved, Unflushed, Works};
 use crate::devices::Output;
 use crate::logs::{LOG_A, LOG_B, PART};
 use mt_cli::{answer, command};
@@ -83,6 +83,7 @@ const FAILURES: &[(Device, Calls, Ends)] = &[
     (Full, NONE, (3, "mtrecover: output failed\n")),
     (Unflushed, NONE, (3, "mtrecover: output failed\n")),
     (Closed, NONE, (3, "mtrecover: output failed\n")),
+    (Starved, NONE, (3, "mtrecover: output failed\n")),
     // Nothing is printed where there is no store.
     (
         Full,

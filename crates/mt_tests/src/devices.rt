@@ -13,6 +13,8 @@ pub enum Device {
     Unflushed,
     /// It is a pipe whose reader is gone.
     Closed,
+    /// The system has no memory to take what is written.
+    Starved,
 }
 
 /// An output, and what was written to it.
@@ -44,6 +46,7 @@ impl Write for Output {
             Device::Full => Err(full()),
             Device::Unflushed => Ok(bytes.len()),
             Device::Closed => Err(io::Error::from(ErrorKind::BrokenPipe)),
+            Device::Starved => Err(io::Error::from(ErrorKind::OutOfMemory)),
         }
     }
 

@@ -1,8 +1,9 @@
 //! The example of the README: recovery over files.
 use crate::asserting::assert_bytes;
 use crate::commands::words_on;
-use crate::folders::{Entry, folder_with, remove};
-use crate::logs::{LOG_A, LOG_B};
+use crate::folders::Entry::Text;
+use crate::folders::{Named, folder_with, remove};
+use crate::logs::{LOG_A, LOG_B, PART};
 use mt_recover::{Inputs, MOST_BYTES, recover_one, write_dump};
 use mt_scan::{LONGEST_BUFFER, Rack, ReaderSource, Slot};
 use std::fs::{File, Files};
@@ -24,31 +25,40 @@ fn sources_of<'a, R: AllocGlobal + Files>(
     Ok(sources)
 }
 
-/// Prints the store of the logs of these names, or the fault.
+/// Prints the store of these logs and parts, or the fault.
 fn print_store<R: AllocGlobal + Files, W: Write>(
     rt: &R,
-    names: &[String],
+    logs: &[String],
+    parts: &[String],
     out: &mut W,
 ) -> io::Result<()> {
-    let Ok(mut rack) = Rack::new(rt.alloc(), names.len(), LONGEST_BUFFER) else {
+    let count = logs.len().saturating_add(parts.len());
+    let Ok(mut rack) = Rack::new(rt.alloc(), count, LONGEST_BUFFER) else {
         return Err(ErrorKind::OutOfMemory.into());
     };
-    let logs = sources_of(rt, names, rack.slots())?;
-    let parts = Vec::new(rt.alloc());
+    let (log_slots, part_slots) = rack.slots().split_at_mut(logs.len());
+    let logs = sources_of(rt, logs, log_slots)?;
+    let parts = sources_of(rt, parts, part_slots)?;
     match recover_one(rt.alloc(), Inputs { logs, parts }) {
         Ok(recovered) => write_dump(recovered.store(), out),
         Err(fault) => writeln!(out, "{fault}"),
     }
 }
 
+const FILES: &[Named] = &[
+    ("a.mtl", Text(LOG_A)),
+    ("b.mtl", Text(LOG_B)),
+    ("c.mtc", Text(PART)),
+];
+
 #[test]
 fn recovers_from_files(rt: HostRuntime) {
     let id = std::process::id(rt.process());
-    let logs = [("a.mtl", Entry::Text(LOG_A)), ("b.mtl", Entry::Text(LOG_B))];
-    let folder = folder_with(&rt, id, "example", &logs);
-    let names = words_on(&rt, "logs F/a.mtl F/b.mtl", folder.as_str());
+    let folder = folder_with(&rt, id, "example", FILES);
+    let logs = words_on(&rt, "logs F/a.mtl F/b.mtl", folder.as_str());
+    let parts = words_on(&rt, "parts F/c.mtc", folder.as_str());
     let mut out = Vec::new(rt.alloc());
-    print_store(&rt, &names, &mut out).expect(&rt, "the files");
-    assert_bytes(&rt, "", &out, b"61: 0=78\n62: 0=79\n");
+    print_store(&rt, &logs, &parts, &mut out).expect(&rt, "the files");
+    assert_bytes(&rt, "", &out, b"61: 0=6f 1=70\n62: 0=79\n");
     remove(&rt, folder.as_str());
 }

@@ -1,7 +1,7 @@
-//! Logs and parts in pieces: what is taken before they end.
+//! Logs and parts in pieces: what is taken before they end; and a log that is read at once.
 use crate::asserting::assert_same;
 use crate::logs::{LOG_A, PART};
-use mt_record::{LogFeed, PartFeed};
+use mt_record::{LogFeed, PartFeed, read_log};
 
 #[test]
 fn gives_the_records_before_the_log_ends(rt: HostRuntime) {
@@ -10,6 +10,12 @@ fn gives_the_records_before_the_log_ends(rt: HostRuntime) {
     assert_same(&rt, &feed.take().len(), &1);
     let text = feed.finish().expect(&rt, "a log");
     assert_same(&rt, &(text.last, text.whole, text.torn), &(3, 1, false));
+}
+
+#[test]
+fn reads_a_log_at_once(rt: HostRuntime) {
+    let text = read_log(rt.alloc(), LOG_A).expect(&rt, "a log");
+    assert_same(&rt, &(text.last, text.whole, text.torn), &(5, 2, false));
 }
 
 #[test]

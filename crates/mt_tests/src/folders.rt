@@ -1,7 +1,7 @@
 //! Runs of both programs on files and folders.
 use self::Entry::{DeadLink, Folder, Puts, Text, Zeros};
 use crate::commands::{BOTH_WORK, Ends, Run, assert_runs};
-use crate::devices::Device::{self, Closed, Full, Unflushed, Works};
+use crate::devices::Device::{self, Closed, Full, Starved, Unflushed, Works};
 use crate::logs::{DAMAGED_LOG, HEADER, LATE_HEADER, LOG_A, LOG_B, PART};
 use std::env::{Env, temp_dir};
 use std::fs::{self, File, Files, OpenFile};
@@ -160,6 +160,7 @@ const RUNS: &[([Device; 2], &[Run])] = &[
     ([Full, Works], ON_FAILING),
     ([Unflushed, Works], ON_FAILING),
     ([Closed, Works], ON_FAILING),
+    ([Starved, Works], ON_FAILING),
     // On an output that is full at once. No write of no bytes is made.
     (
         [Full, Works],
@@ -272,6 +273,12 @@ const FOLDERS: &[Case] = &[
         "dead-part",
         &[("a.mtl", Text(b"\0")), ("dead.mtc", DeadLink)],
         (3, "mtrecover: cannot open dead.mtc\n"),
+    ),
+    // Logs are opened first.
+    (
+        "dead-both",
+        &[("a.mtc", DeadLink), ("b.mtl", DeadLink)],
+        (3, "mtrecover: cannot open b.mtl\n"),
     ),
 ];
 

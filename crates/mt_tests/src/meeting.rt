@@ -1,5 +1,5 @@
 //! Workers that meet: what waits for another thread shows that there is one.
-ghost use Rattle.mt_scan.specs.Kinds.{seen_of_memory};
+ghost use Rattle.mt_scan.specs.SourceTypes.{seen_of_memory};
 
 use crate::asserting::assert_same;
 use crate::logs::LOG_OF_THREE;

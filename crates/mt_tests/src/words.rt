@@ -1,10 +1,12 @@
-//! Copies of columns, and the texts of faults.
+//! Copies of keys and columns, and the texts of faults.
 use crate::asserting::assert_bytes;
-use mt_words::{Columns, Fault, What};
+use mt_words::{Columns, Fault, Key, What};
 use std::process::Abort;
 
 #[test]
-fn copies_columns_in_place_and_kept(rt: HostRuntime) {
+fn copies_keys_and_columns_in_place_and_kept(rt: HostRuntime) {
+    let key = Key::new(Vec::new(rt.alloc())).expect(&rt, "a key");
+    assert!(rt; key.try_copy().is_ok());
     let copy = Columns::new(rt.alloc()).try_copy().expect(&rt, "memory");
     let kept = copy.keep(rt.alloc()).expect(&rt, "memory");
     assert!(rt; kept.try_copy().is_ok());

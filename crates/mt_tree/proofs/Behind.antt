@@ -3,11 +3,11 @@ use Rattle.std.proofs.Common.{◌≡◌, ℕ, suc, ◌+◌, ◌-◌, ◌*◌, �
 use Rattle.std.specs.List.{AllByRecursion}
 use Rattle.std.proofs.lemmas.List.{append-nil, map-append}
 use Rattle.mt_words.specs.Slices.{AreBytes, slice_in, slice_bytes}
-use Rattle.mt_words.specs.Walks.{Pair}
+use Rattle.mt_words.specs.Walks.{Pair, joined}
 use Rattle.mt_words.proofs.SliceBytes.{slice_bytes-length, slice_bytes-long, bytes_take}
 use Rattle.mt_tree.specs.Layer.{PlaceView, link, slice_at, length_at, rank_at, key_rank, pairs_at, put_before, walk, weight, IsPlace, HasNoEmptyKey, IsLayer, AllKeysBelow, Meet}
 use Rattle.mt_tree.specs.Falls.{weight-append, walk-append, layer_back}
-use Rattle.mt_tree.specs.Nodes.{joined, IsBorder}
+use Rattle.mt_tree.specs.Nodes.{IsBorder}
 use Rattle.mt_tree.specs.NodeFalls.{joined-append}
 use Rattle.mt_tree.specs.Borders.{DraftView, IsBorderList, borders_walk}
 use Rattle.mt_tree.specs.Nodes.{first_slice_of}

@@ -15,8 +15,8 @@ use Rattle.mt_words.specs.Slices.{AreBytes, slice_in, slice_bytes}
 use Rattle.mt_tree.specs.Layer.{key_rank}
 use Rattle.mt_words.proofs.SliceBytes.{bytes_take}
 use Rattle.mt_tree.specs.Layer.{PlaceView, long, link, slice_at, rank_at, pairs_at, put_before, walk, weight, IsPlace, IsLayerFrom, FitsAfter}
-use Rattle.mt_words.specs.Walks.{Pair}
-use Rattle.mt_tree.specs.Nodes.{NodeView, places, joined, borders_of, branches, IsNode, AreSeparated, SlicesFrom}
+use Rattle.mt_words.specs.Walks.{Pair, joined}
+use Rattle.mt_tree.specs.Nodes.{NodeView, places, borders_of, branches, IsNode, AreSeparated, SlicesFrom}
 use Rattle.mt_tree.specs.NodeFalls.{joined-append, all_weight}
 use Rattle.mt_tree.specs.NodeViews.{views, view_of, view_of_content, node_view, IsNodeKind}
 use Rattle.mt_tree.specs.Ranging.{from, found}

@@ -11,11 +11,10 @@ use Rattle.mt_words.proofs.SliceBytes.{slice_bytes-bytes, slice_in-append, bytes
 use Rattle.mt_tree.proofs.Ranks.{less_of_ranks}
 use Rattle.mt_words.proofs.SliceBytes.{slice_bytes-length}
 use Rattle.mt_tree.specs.Layer.{PlaceView, short, long, link, rank_at, pairs_at, put_before, walk, IsPlace, HasNoEmptyKey, IsLayerFrom, IsLayer}
-use Rattle.mt_words.specs.Walks.{Pair}
-use Rattle.mt_words.specs.Words.{IsBelow}
-use Rattle.mt_tree.specs.Layers.{under, lies_under}
-use Rattle.mt_tree.specs.Layers.{AreRising, AreHeads, CountsFrom, own, more, IsLayers, linked_walks, CountsLayers}
-use Rattle.mt_tree.specs.Nodes.{NodeView, LayerView, places, joined, IsLayerTree, IsTreeCount, AreLinked, each_borders}
+use Rattle.mt_words.specs.Walks.{Pair, joined}
+use Rattle.mt_words.specs.Words.{IsBelow, AreRising}
+use Rattle.mt_tree.specs.Layers.{under, lies_under, AreHeads, CountsFrom, own, more, IsLayers, linked_walks, CountsLayers}
+use Rattle.mt_tree.specs.Nodes.{NodeView, LayerView, places, IsLayerTree, IsTreeCount, AreLinked, each_borders}
 use Rattle.mt_tree.specs.Trees.{tree_walk, tree_count, IsTree, HasLayers}
 use Rattle.mt_tree.proofs.Finds.{pairs_rank}
 use Rattle.mt_tree.proofs.Joins.{all_append, all_weaker}

@@ -4,8 +4,8 @@ use Rattle.std.specs.Prelude.{slice_get, Some, None}
 use Rattle.std.specs.List.{AllByRecursion}
 use Rattle.std.proofs.lemmas.List.{append-nil, map-append, length-map}
 use Rattle.mt_tree.specs.Layer.{PlaceView, walk, IsPlace, IsLayer}
-use Rattle.mt_words.specs.Walks.{Pair}
-use Rattle.mt_tree.specs.Nodes.{joined, IsBorder}
+use Rattle.mt_words.specs.Walks.{Pair, joined}
+use Rattle.mt_tree.specs.Nodes.{IsBorder}
 use Rattle.mt_tree.specs.NodeFalls.{joined-append}
 use Rattle.mt_tree.specs.Borders.{DraftView, layer_walk}
 use Rattle.mt_tree.specs.Edges.{PlaceEdge, LastEdge, FirstEdge}

@@ -14,8 +14,8 @@ use Rattle.mt_tree.specs.Layer.{key_rank}
 use Rattle.mt_words.proofs.SliceBytes.{slice_in-take, slice_bytes-short, slice_bytes-long, bytes_take}
 use Rattle.mt_words.proofs.SliceBytes.{slice_bytes-length}
 use Rattle.mt_tree.specs.Layer.{PlaceView, short, long, link, slice_at, length_at, rank_at, pairs_at, put_before, walk, IsPlace, HasNoEmptyKey, IsLayerFrom, IsLayer, find_key}
-use Rattle.mt_words.specs.Walks.{Pair}
-use Rattle.mt_tree.specs.Nodes.{NodeView, places, joined, borders_of, branches, IsNode, AreSeparated, SlicesFrom}
+use Rattle.mt_words.specs.Walks.{Pair, joined}
+use Rattle.mt_tree.specs.Nodes.{NodeView, places, borders_of, branches, IsNode, AreSeparated, SlicesFrom}
 use Rattle.mt_tree.specs.NodeFalls.{joined-append, branches_length}
 use Rattle.std.proofs.Common.{Vec, Global, Bor}
 use Rattle.arrayvec.specs.declared.array_vec.ArrayVec.{ArrayVec}

@@ -3,9 +3,9 @@ use Rattle.std.proofs.Common.{◌≡◌, ◌<◌, ◌≤◌, List, [], ◌∷◌
 use Rattle.std.specs.List.{AllByRecursion, remove}
 use Rattle.std.proofs.lemmas.List.{append-nil, map-append, length-map}
 use Rattle.mt_tree.specs.Layer.{PlaceView, slice_at, IsLayer, walk, weight, AllKeysBelow}
-use Rattle.mt_words.specs.Walks.{Pair}
+use Rattle.mt_words.specs.Walks.{Pair, joined}
 use Rattle.mt_tree.specs.Falls.{weight-append, walk-append, layer_back, layer_front}
-use Rattle.mt_tree.specs.Nodes.{joined, IsBorder}
+use Rattle.mt_tree.specs.Nodes.{IsBorder}
 use Rattle.mt_tree.specs.NodeFalls.{joined-append}
 use Rattle.mt_tree.specs.Borders.{DraftView, IsBorderList, SameEnds, borders_walk, layer_walk, last_slice_of}
 use Rattle.mt_tree.specs.Nodes.{first_slice_of}

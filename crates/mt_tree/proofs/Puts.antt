@@ -4,8 +4,9 @@ use Rattle.std.proofs.Math.Seq.{take-append_seam, drop-append_seam}
 use Rattle.std.specs.List.{AllByRecursion}
 use Rattle.std.proofs.lemmas.Bool.{cases_lt}
 use Rattle.std.proofs.lemmas.List.{append-nil, map-append, length-map, take-append-drop, get_or-drop}
+use Rattle.mt_words.specs.Walks.{joined}
 use Rattle.mt_tree.specs.Layer.{PlaceView, slice_at, rank_at, IsLayer, IsLayerFrom}
-use Rattle.mt_tree.specs.Nodes.{joined, SlicesBelow, SlicesFrom, IsBorder, CutAt, OfSlice, first_slice_of}
+use Rattle.mt_tree.specs.Nodes.{SlicesBelow, SlicesFrom, IsBorder, CutAt, OfSlice, first_slice_of}
 use Rattle.mt_tree.specs.Borders.{IsBorderList, last_slice_of}
 use Rattle.mt_tree.specs.NodeFalls.{joined-append}
 use Rattle.mt_tree.specs.DraftViews.{draft_views, draft_view, border_view, border_views, IsLawfulLink, HaveLawfulLinks, HasLawfulLinks, IsOpen, IsFirstOpen, IsLastOpen, PutBehind, PutOpen}

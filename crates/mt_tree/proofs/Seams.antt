@@ -2,8 +2,9 @@
 use Rattle.std.proofs.Common.{◌≡◌, ℕ, suc, ◌*◌, ◌≤◌, List, [], ◌∷◌, ◌++◌, length, sym, refl, ap, ◌∙◌, subst, arith}
 use Rattle.std.specs.List.{AllByRecursion}
 use Rattle.std.proofs.lemmas.List.{append-nil}
+use Rattle.mt_words.specs.Walks.{joined}
 use Rattle.mt_tree.specs.Layer.{PlaceView, slice_at, rank_at, IsLayer, IsLayerFrom}
-use Rattle.mt_tree.specs.Nodes.{joined, SlicesFrom, SlicesApart, IsBorder, CutAt}
+use Rattle.mt_tree.specs.Nodes.{SlicesFrom, SlicesApart, IsBorder, CutAt}
 use Rattle.mt_tree.specs.NodeFalls.{joined-append}
 use Rattle.mt_tree.specs.Borders.{IsBorderList, SameEnds, last_slice_of}
 use Rattle.mt_tree.specs.Nodes.{first_slice_of}

@@ -6,9 +6,8 @@ use Rattle.std.specs.Ordering.{ordering_reverse, is_lt}
 use Rattle.std.specs.Cmp.Lexicographic.{nat_list_cmp_total}
 use Rattle.std.specs.declared.cmp.Ordering.TheVariants.{Less, Equal, Greater}
 use Rattle.mt_words.specs.Walks.{Pair}
-use Rattle.mt_words.specs.Words.{IsBelow}
-use Rattle.mt_tree.specs.Layers.{under}
-use Rattle.mt_tree.specs.Layers.{AreRising, AreHeads, CountsFrom, own, more, IsLayers, CountsLayers}
+use Rattle.mt_words.specs.Words.{IsBelow, AreRising}
+use Rattle.mt_tree.specs.Layers.{under, AreHeads, CountsFrom, own, more, IsLayers, CountsLayers}
 
 is_less : (o : Ordering) → is_lt o ≡ true → o ≡ Less
 is_less Less e = refl

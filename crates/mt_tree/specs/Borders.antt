@@ -2,9 +2,9 @@
 use Rattle.std.specs.Prelude.{ℕ, ◌≡◌, List, [], ◌∷◌}
 use Rattle.std.specs.List.{AllByRecursion}
 use Rattle.mt_tree.specs.Layer.{PlaceView, slice_at, IsLayer, walk}
-use Rattle.mt_words.specs.Walks.{Pair}
+use Rattle.mt_words.specs.Walks.{Pair, joined}
 use Rattle.mt_tree.specs.Layers.{linked_walks}
-use Rattle.mt_tree.specs.Nodes.{joined, IsBorder, SlicesApart, AreLinked, first_slice_of}
+use Rattle.mt_tree.specs.Nodes.{IsBorder, SlicesApart, AreLinked, first_slice_of}
 
 -- the walk of a list of borders
 abbrev pub borders_walk : List (List PlaceView) → List Pair

@@ -1,10 +1,9 @@
 -- How many trees a walk needs: its own, and one for each 8 bytes that begin two or more longer keys.
-use Rattle.std.specs.Prelude.{◌≡◌, ◌↔◌, ℕ, ◌+◌, ◌-◌, ◌^◌, ◌≤◌, ◌&&◌, Bool, min, List, [], ◌∷◌, length, take, drop, map, filter, nat_eq, nat_lt, Contains, ⊤}
+use Rattle.std.specs.Prelude.{◌≡◌, ◌↔◌, ℕ, ◌+◌, ◌-◌, ◌^◌, ◌≤◌, ◌&&◌, Bool, min, List, [], ◌∷◌, length, take, drop, map, filter, nat_eq, nat_lt, Contains}
 use Rattle.std.specs.Cmp.Lexicographic.{pointwise}
-use Rattle.std.specs.List.{AllByRecursion}
 use Rattle.mt_tree.specs.Layer.{PlaceView, short, long, link}
 use Rattle.mt_words.specs.Walks.{Pair}
-use Rattle.mt_words.specs.Words.{IsBelow}
+use Rattle.mt_words.specs.Words.{AreRising}
 
 -- the key is longer than 8 bytes and begins with these
 abbrev pub lies_under : List ℕ → List ℕ → Bool
@@ -13,11 +12,6 @@ lies_under q key = nat_lt 8 (length key) && pointwise nat_eq q (take 8 key)
 -- the pairs under 8 bytes, with those taken off their keys
 abbrev pub under : List ℕ → List Pair → List Pair
 under q w = map (λ p. (drop 8 p.0, p.1)) (filter (λ p. lies_under q p.0) w)
-
--- strictly rising lists of bytes, so that each stands there once
-abbrev pub AreRising : List (List ℕ) → Type 0
-AreRising [] = ⊤
-AreRising (q ∷ qs) = AllByRecursion (IsBelow q) qs × AreRising qs
 
 -- the lists of 8 bytes that begin two or more keys longer than 8 bytes
 pub record AreHeads (w : List Pair) (qs : List (List ℕ)) : Type 0 where

@@ -5,10 +5,11 @@ use Rattle.std.proofs.Common.{arith, ap, sym, subst, ◌∙◌, refl, append_ass
 use Rattle.std.proofs.lemmas.List.{append-nil, length-map}
 use denote.Param.Weighed.{most}
 use Rattle.mt_words.specs.Slices.{slice_bytes}
+use Rattle.mt_words.specs.Walks.{joined}
 use Rattle.mt_words.proofs.SliceBytes.{slice_bytes-length}
 use Rattle.mt_tree.specs.Layer.{PlaceView, short, long, link, pairs_at, walk, weight, IsLayerFrom, IsLayer, IsPlace, rank_at}
 use Rattle.mt_tree.specs.Falls.{weight-append, weight-put_before, walk-append}
-use Rattle.mt_tree.specs.Nodes.{NodeView, places, joined, borders_of, branches, IsNode, IsBorder}
+use Rattle.mt_tree.specs.Nodes.{NodeView, places, borders_of, branches, IsNode, IsBorder}
 use Rattle.mt_tree.specs.NodeViews.{views, view_of, view_of_content, node_view, IsNodeKind}
 use Rattle.mt_tree.specs.declared.node.Place.{Place}
 use Rattle.mt_tree.specs.declared.node.Content.{Content}

@@ -3,7 +3,7 @@ use Rattle.std.specs.Prelude.{ℕ, suc, ◌+◌, ◌-◌, ◌^◌, ◌<◌, ◌�
 use Rattle.std.specs.List.{AllByRecursion, flat_map}
 use Rattle.mt_tree.specs.Layer.{PlaceView, slice_at, walk, IsLayer}
 use Rattle.mt_tree.specs.Layers.{linked_walks}
-use Rattle.mt_words.specs.Walks.{Pair}
+use Rattle.mt_words.specs.Walks.{Pair, joined}
 
 -- what contracts see of a child: its borders in order, and how many levels lie below it
 pub record BranchView : Type 0 where
@@ -25,10 +25,6 @@ pub record LayerView : Type 0 where
 pub record NodeView : Type 0 where
   pub tree : LayerView
   pub below : List LayerView
-
--- the lists, one after another
-abbrev pub joined : List (List PlaceView) → List PlaceView
-joined = flat_map (λ b. b)
 
 -- the places of a node's borders, in order
 abbrev pub places : NodeView → List PlaceView

@@ -1,7 +1,8 @@
 //! The borders that are still open are closed, and nodes are stacked on all of them.
 ghost use Rattle.std.specs.Prelude.{◌≡◌, ◌≢◌, MatchBool, ◌<◌, ◌≤◌, ◌+◌, ◌++◌, ◌∷◌, [], suc, List, length, IfOk};
+ghost use Rattle.mt_words.specs.Walks.{joined};
 ghost use Rattle.mt_tree.specs.Layer.{PlaceView, IsLayer, IsPlace};
-ghost use Rattle.mt_tree.specs.Nodes.{places, joined, borders_of, below_of, each_borders, level_height, IsNode, IsNodeAt, IsLevel, IsLevelAt, IsBorder, border_tree, AreBelow, IsTreeCount, first_of, parent_node};
+ghost use Rattle.mt_tree.specs.Nodes.{places, borders_of, below_of, each_borders, level_height, IsNode, IsNodeAt, IsLevel, IsLevelAt, IsBorder, border_tree, AreBelow, IsTreeCount, first_of, parent_node};
 ghost use Rattle.mt_tree.specs.DraftViews.{draft_view, draft_views, border_view, layers_of, layers_of_border, layers_of_content, HasLawfulLinks};
 ghost use Rattle.mt_tree.specs.NodeViews.{views, view_of, trees_of, trees_of_content};
 

@@ -1,12 +1,16 @@
--- Stores as lists: keys in order, each with its columns.
+-- Stores as lists: keys in order, each with its columns; and lists one behind the other.
 use Rattle.std.specs.Prelude.{ℕ, ◌<◌, List, [], ◌∷◌, length, Contains}
-use Rattle.std.specs.List.{AllByRecursion}
+use Rattle.std.specs.List.{flat_map, AllByRecursion}
 use Rattle.mt_words.specs.Limits.{widest}
 use Rattle.mt_words.specs.Words.{IsKey, IsBelow, AreColumns}
 
 -- a key with its columns
 abbrev pub Pair : Type 0
 Pair = List ℕ × List (ℕ × List ℕ)
+
+-- lists, one behind the other
+abbrev pub joined : {X : Type 0} → List (List X) → List X
+joined lists = flat_map (λ list. list) lists
 
 -- keys strictly rise
 abbrev pub KeysRise : List Pair → Type 0

@@ -14,6 +14,11 @@ IsKey limits bytes = length bytes ≤ limits.key
 abbrev pub IsBelow : List ℕ → List ℕ → Type 0
 IsBelow a b = IsTrue (is_lt (slice_cmp nat_cmp a b))
 
+-- strictly rising lists of bytes, so that each stands there once
+abbrev pub AreRising : List (List ℕ) → Type 0
+AreRising [] = Unit {0}
+AreRising (key ∷ keys) = AllByRecursion (IsBelow key) keys × AreRising keys
+
 -- a column is a number and a value
 abbrev pub IsColumn : Limits → ℕ × List ℕ → Type 0
 IsColumn limits column = (column.0 ≤ limits.column) × (length column.1 ≤ LONGEST_VALUE)

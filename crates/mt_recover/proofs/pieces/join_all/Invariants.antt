@@ -1,6 +1,6 @@
 use Rattle.std.proofs.Common.{◌≡◌, ◌++◌, map}
 use Rattle.std.specs.Vec.Iter.{into_iter_items}
-use Rattle.mt_replay.specs.Pieces.{joined}
+use Rattle.mt_words.specs.Walks.{joined}
 use Rattle.mt_tree.specs.Borders.{layer_walk}
 use Rattle.mt_recover.proofs.pieces.join_all.Given as goal
 

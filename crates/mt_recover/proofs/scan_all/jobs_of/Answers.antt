@@ -8,8 +8,16 @@ pub returns-then-is_empty-clause-fault : goal.returns-then-is_empty-clause-fault
 returns-then-is_empty-clause-fault g c =
     let seen = g.S.Source.seen in
     let logs = c.args.inputs.logs in
-    let some = some_logs seen c.args.inputs.parts.items in
-    (([], some.0, none_to_have seen logs.items (no_sources logs.items _ c.is_empty.result c.is_empty.ensures logs.ok.0 c.if-is_empty.true), some.1, refl), tt)
+    let parts = some_logs seen c.args.inputs.parts.items in (
+      record {
+        logs = [];
+        parts = parts.0;
+        logs_may = none_to_have seen logs.items (no_sources logs.items _ c.is_empty.result c.is_empty.ensures logs.ok.0 c.if-is_empty.true);
+        parts_may = parts.1;
+        holds = λ other. refl;
+      },
+      tt,
+    )
 
 pub returns-in_err-number_both-clause-fault : goal.returns-in_err-number_both-clause-fault
 returns-in_err-number_both-clause-fault g c =

@@ -1,5 +1,5 @@
 use Rattle.std.proofs.Common.{◌≡◌, ◌+◌, sym, ap, arith}
-use Rattle.mt_record.specs.Kept.{kept_updates, listed}
+use Rattle.mt_record.specs.Kept.{kept_updates, as_list}
 use Rattle.mt_recover.proofs.ReportLemmas.{none_early, early_step, early_one, one_if}
 use Rattle.mt_recover.proofs.survivors.early_among.Goals as goal
 use Rattle.mt_recover.proofs.survivors.early_among.Goals.{then-comes_early, else-comes_early}
@@ -10,7 +10,7 @@ returns-then-begin-eq0 c = sym (none_early c.args.begin (kept_updates c.args.upd
 pub loop-number-preserved : goal.loop-number-preserved
 loop-number-preserved c =
     let step =
-    early_step c.args.begin c.args.updates.now c.loop-number.number (listed c.update.result) (omega (arith, c.loop-number-test.true, c.record_count-number-end.ensures)) c.update.ensures in
+    early_step c.args.begin c.args.updates.now c.loop-number.number (as_list c.update.result) (omega (arith, c.loop-number-test.true, c.record_count-number-end.ensures)) c.update.ensures in
     let one = early_one c.args.begin c.update.result in
     let said = ap one_if c.comes_early.ensures in
     let added : c.if-comes_early.count ≡ c.loop-number.count + one_if c.comes_early.result =

@@ -1,8 +1,8 @@
 use Rattle.std.proofs.Common.{◌≡◌, List, map, refl, true, subst, sym, ap, ◌∙◌}
 use Rattle.std.specs.List.{All}
 use Rattle.mt_words.specs.declared.update.Update.{Update}
+use Rattle.mt_words.specs.Walks.{joined}
 use Rattle.mt_replay.specs.Cuts.{key_below, InKeyOrder}
-use Rattle.mt_replay.specs.Runs.{together}
 use Rattle.mt_replay.proofs.KeyOrder.{key_order}
 use Rattle.mt_replay.proofs.RunLemmas.{runs_give, all_merged}
 use Rattle.mt_replay.proofs.WalkerLemmas.{front_in_order}
@@ -27,4 +27,4 @@ returns-clause-distinct c =
     let moved = all_merged items.0.items c.args.runs.items merged same (items.3 items.0.items (runs_give (λ s r. r ≡ s) (λ u j h. h) items.0.items) merged true (end, by, λ _. (end, c.in-None.ensures.steps))) in
     let rise : All InKeyOrder order.0.items = subst (λ (runs : List (List Update)). All InKeyOrder runs) (sym ordered) c.requires in
     let up : InKeyOrder merged = order.3 key_below refl key_order order.0.items (runs_give (λ s r. r ≡ s) (λ u j h. h) order.0.items) rise merged true (end, by, λ _. (end, c.in-None.ensures.steps)) in
-    of_moved (together c.args.runs.items) merged (map (λ key. key.now) c.loop-sliced.keys.items) moved (c.loop-sliced.invariant.distinct up)
+    of_moved (joined c.args.runs.items) merged (map (λ key. key.now) c.loop-sliced.keys.items) moved (c.loop-sliced.invariant.distinct up)

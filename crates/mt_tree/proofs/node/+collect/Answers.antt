@@ -3,8 +3,9 @@ use Rattle.std.specs.Prelude.{not}
 use Rattle.std.specs.Ordering.{nat_cmp, is_lt}
 use Rattle.std.specs.Cmp.Lexicographic.{slice_cmp}
 use Rattle.mt_words.specs.Slices.{slice_in, slice_bytes}
+use Rattle.mt_words.specs.Walks.{joined}
 use Rattle.mt_tree.specs.Layer.{walk, pairs_at, rank_at}
-use Rattle.mt_tree.specs.Nodes.{places, joined, borders_of}
+use Rattle.mt_tree.specs.Nodes.{places, borders_of}
 use Rattle.mt_tree.specs.NodeViews.{view_of}
 use Rattle.mt_tree.specs.Ranging.{from, found}
 use Rattle.mt_tree.proofs.Finds.{interior_is, interior_walk}

@@ -1,6 +1,7 @@
 use Rattle.std.proofs.Common.{◌≡◌, ◌≤◌, ◌+◌, ◌*◌, ◌++◌, take, length}
+use Rattle.mt_words.specs.Walks.{joined}
 use Rattle.mt_tree.specs.Layer.{weight, walk, pairs_at}
-use Rattle.mt_tree.specs.Nodes.{places, joined, borders_of}
+use Rattle.mt_tree.specs.Nodes.{places, borders_of}
 use Rattle.mt_tree.specs.NodeViews.{views, view_of}
 use Rattle.mt_tree.specs.Ranging.{from, found}
 use Rattle.mt_tree.proofs.node.+collect.Given as goal

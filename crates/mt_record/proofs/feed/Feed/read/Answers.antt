@@ -8,14 +8,14 @@ pub returns-in_err-rest-clause-fault : goal.returns-in_err-rest-clause-fault
 returns-in_err-rest-clause-fault g c =
     let p = err_from_is_err_and c.from_residual.result c.from_residual.ensures.1 in
     let step = c.in_err-rest.ensures.fault in
-    rw (p.1, p.2) (step.0, step.1, then_read g.I.Items.holds _ _ _ _ _ _ c.held.invariant.read step.2, step.3)
+    rw (p.1, p.2) (record { shown = step.shown; more = step.more; read = then_read g.I.Items.holds _ _ _ _ _ _ c.held.invariant.read step.read; fault = step.fault })
 
 pub returns-in_err-rest-2-clause-fault : goal.returns-in_err-rest-2-clause-fault
 returns-in_err-rest-2-clause-fault g c =
     let p = err_from_is_err_and c.from_residual-in_err-rest-2.result c.from_residual-in_err-rest-2.ensures.1 in
     let none = nil_if_empty c.held.self.held.items _ c.is_empty.result c.held.self.held.ok.0 c.is_empty.ensures c.held-test.false in
     let whole = c.in_err-rest-2.ensures in
-    rw (p.1, p.2) (whole.0, [], rw append-nil (then_read g.I.Items.holds _ _ _ _ _ _ (rw none at c.held.invariant.read) whole.1), whole.2)
+    rw (p.1, p.2) (record { shown = whole.0; more = []; read = rw append-nil (then_read g.I.Items.holds _ _ _ _ _ _ (rw none at c.held.invariant.read) whole.1); fault = whole.2 })
 
 pub returns-in_err-append-clause-fault : goal.returns-in_err-append-clause-fault
 returns-in_err-append-clause-fault g c =
@@ -23,8 +23,8 @@ returns-in_err-append-clause-fault g c =
     let none = nil_if_empty c.held.self.held.items _ c.is_empty.result c.held.self.held.ok.0 c.is_empty.ensures c.held-test.false in
     let whole = c.in_ok-rest-2.ensures in
     let rest = c.in_ok-rest-2.rest.now in
-    rw p.1
-    (rest, [], rw append-nil (then_read g.I.Items.holds _ _ _ _ _ _ (rw none at c.held.invariant.read) whole.0), g.met.I.Items.refused c.read_whole.new.items rest c.in_err-append.field-0.0 p.0 p.2)
+    let refused = g.met.I.Items.refused c.read_whole.new.items rest c.in_err-append.field-0.0 p.0 p.2 in
+    rw p.1 (record { shown = rest; more = []; read = rw append-nil (then_read g.I.Items.holds _ _ _ _ _ _ (rw none at c.held.invariant.read) whole.0); fault = refused })
 
 pub returns-clause-ok : goal.returns-clause-ok
 returns-clause-ok g c = λ left.

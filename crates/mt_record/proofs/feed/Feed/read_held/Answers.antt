@@ -8,7 +8,12 @@ returns-in_err-rest-clause-fault g c =
     let p = err_from_is_err_and c.from_residual.result c.from_residual.ensures.1 in
     let items = c.args.self.now.items in
     let held = c.args.self.now.held.items in
-    rw p.1 (held, c.args.piece.now, record { items = []; joins = refl; on = λ taken front is. rw append-nil is }, g.met.I.Items.refused items held c.in_err-rest.field-0.0 p.0 p.2)
+    rw p.1 (record {
+      shown = held;
+      more = c.args.piece.now;
+      read = record { front = []; joins = refl; read = λ taken front is. rw append-nil is };
+      fault = g.met.I.Items.refused items held c.in_err-rest.field-0.0 p.0 p.2;
+    })
 
 pub returns-clause-less : goal.returns-clause-less
 returns-clause-less g c =

@@ -2,7 +2,7 @@ use Rattle.std.proofs.Common.{◌≡◌, ◌++◌, List, sym, subst}
 use Rattle.std.proofs.lemmas.List.{append-nil}
 use Rattle.mt_words.specs.declared.update.Kind.{Kind}
 use Rattle.mt_words.specs.declared.update.Kind.TheVariants.{Put, Remove, Whole}
-use Rattle.mt_record.specs.Decoding.{columns_of}
+use Rattle.mt_record.specs.Decoding.{columns_in}
 use Rattle.mt_replay.specs.Cells.{Written, IsCellOf, written}
 use Rattle.mt_replay.specs.Groups.{IsLaterOf, IsResetAfter}
 use Rattle.mt_replay.proofs.GroupLemmas.{group_more}
@@ -16,7 +16,7 @@ returns-in-Put-clause-group c = λ updates key of_key is.
     let kind : u.kind ≡ Put c.in-Put.columns = c.in-Put.is in
     group_more updates u key old new of_key
     (subst (λ (k : Kind). IsResetAfter k u.stamp old.reset new.reset) (sym kind) c.apply_columns.ensures.reset)
-    (λ writes cell. subst (λ (k : Kind). IsCellOf (writes ++ written u.stamp (columns_of k)) new.slots) (sym kind) (c.apply_columns.ensures.writes writes cell))
+    (λ writes cell. subst (λ (k : Kind). IsCellOf (writes ++ written u.stamp (columns_in k)) new.slots) (sym kind) (c.apply_columns.ensures.writes writes cell))
     is
 
 pub returns-in-Remove-clause-group : goal.returns-in-Remove-clause-group
@@ -29,8 +29,8 @@ returns-in-Remove-clause-group c = λ updates key of_key is.
     (subst (λ (k : Kind). IsResetAfter k u.stamp old.reset new.reset) (sym kind) c.clear_if.ensures.reset)
     (λ writes cell.
     let same : IsCellOf writes new.slots = subst (IsCellOf writes) (sym c.clear_if.ensures.writes) cell in
-    let none : IsCellOf (writes ++ written u.stamp (columns_of Remove)) new.slots = subst (λ (ws : List Written). IsCellOf ws new.slots) (sym (append-nil writes)) same in
-    subst (λ (k : Kind). IsCellOf (writes ++ written u.stamp (columns_of k)) new.slots) (sym kind) none)
+    let none : IsCellOf (writes ++ written u.stamp (columns_in Remove)) new.slots = subst (λ (ws : List Written). IsCellOf ws new.slots) (sym (append-nil writes)) same in
+    subst (λ (k : Kind). IsCellOf (writes ++ written u.stamp (columns_in k)) new.slots) (sym kind) none)
     is
 
 pub returns-clause-group : goal.returns-clause-group
@@ -44,5 +44,5 @@ returns-clause-group c = λ updates key of_key is.
     (subst (λ (k : Kind). IsResetAfter k u.stamp old.reset new.reset) (sym kind) later)
     (λ writes cell.
     let same = subst (IsCellOf writes) (sym c.clear_if-in-Whole.ensures.writes) cell in
-    subst (λ (k : Kind). IsCellOf (writes ++ written u.stamp (columns_of k)) new.slots) (sym kind) (c.apply_columns-in-Whole.ensures.writes writes same))
+    subst (λ (k : Kind). IsCellOf (writes ++ written u.stamp (columns_in k)) new.slots) (sym kind) (c.apply_columns-in-Whole.ensures.writes writes same))
     is
