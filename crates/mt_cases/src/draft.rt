@@ -2,7 +2,9 @@
 use crate::mistake::Mistake;
 use crate::records::{entry_of, record_of};
 use crate::words::{byte_of, number_of, push_digits, small_of};
-use mt_record::{PartHead, encode_log_header, encode_part, encode_record};
+use mt_record::{
+    PartHead, encode_log_header, encode_log_header_2, encode_part, encode_part_2, encode_record,
+};
 use mt_words::{Entry, Format};
 use std::alloc::Global;
 
@@ -12,6 +14,32 @@ struct PartDraft {
     head: PartHead,
     end: u64,
     entries: Vec<Entry>,
+}
+
+impl PartDraft {
+    /// Appends the part. An entry that its format does not have is a mistake.
+    fn spell(&self, out: &mut Vec<u8>) -> Result<(), Mistake> {
+        let PartDraft { head, end, entries } = self;
+        // As many as a footer can count.
+        if entries.len() > u32::MAX as usize {
+            return Err(Mistake::Number);
+        }
+        let PartHead {
+            format,
+            number,
+            begin,
+            part,
+            parts,
+        } = *head;
+        match format {
+            Format::One if !entries.iter().all(Entry::fits_format_1) => {
+                return Err(Mistake::Format);
+            }
+            Format::One => encode_part(number, begin, part, parts, *end, entries, out)?,
+            Format::Two => encode_part_2(number, begin, part, parts, *end, entries, out)?,
+        }
+        Ok(())
+    }
 }
 
 /// A log or a part, as far as its lines were read.
@@ -36,21 +64,26 @@ impl Draft {
         }
     }
 
-    /// A log's header: `from FROM`, or nothing for 0.
+    /// A log's header: `from FROM`, or nothing for 0; perhaps with a format behind it.
     pub fn begin_log(alloc: Global, words: &[&str]) -> Result<Draft, Mistake> {
+        let (format, words) = format_of(words)?;
         let from = match words {
             [] => 0,
             ["from", from] => number_of(from)?,
             _ => return Err(Mistake::Line),
         };
         let mut bytes = Vec::new(alloc);
-        encode_log_header(from, &mut bytes)?;
+        match format {
+            Format::One => encode_log_header(from, &mut bytes)?,
+            Format::Two => encode_log_header_2(from, &mut bytes)?,
+        }
         Ok(Draft::of_bytes(true, bytes))
     }
 
-    /// A part: `PART of PARTS of checkpoint NUMBER from BEGIN to END`.
+    /// A part: `PART of PARTS of checkpoint NUMBER from BEGIN to END`; perhaps with a format behind it.
     pub fn begin_part(alloc: Global, words: &[&str]) -> Result<Draft, Mistake> {
-        let (head, end) = head_of(words)?;
+        let (format, words) = format_of(words)?;
+        let (head, end) = head_of(format, words)?;
         let entries = Vec::new(alloc);
         let mut draft = Draft::of_bytes(false, Vec::new(alloc));
         draft.part = Some(PartDraft { head, end, entries });
@@ -60,7 +93,7 @@ impl Draft {
     /// Takes a line in.
     pub fn add(&mut self, alloc: Global, words: &[&str]) -> Result<(), Mistake> {
         match words {
-            ["put" | "remove" | "mark", ..] => self.add_record(alloc, words),
+            ["put" | "remove" | "erase" | "mark", ..] => self.add_record(alloc, words),
             ["entry", rest @ ..] => self.add_entry(alloc, rest),
             ["fail", call] => self.fail_from(number_of(call)?),
             _ => {
@@ -99,28 +132,26 @@ impl Draft {
 
     /// Spells the part, if that is still to come.
     pub fn spell_part(&mut self) -> Result<(), Mistake> {
-        let Some(part) = self.part.take() else {
-            return Ok(());
-        };
-        let PartDraft { head, end, entries } = part;
-        // As many as a footer can count.
-        if entries.len() > u32::MAX as usize {
-            return Err(Mistake::Number);
+        match self.part.take() {
+            Some(part) => part.spell(&mut self.bytes),
+            None => Ok(()),
         }
-        let PartHead {
-            number,
-            begin,
-            part,
-            parts,
-            ..
-        } = head;
-        encode_part(number, begin, part, parts, end, &entries, &mut self.bytes)?;
-        Ok(())
+    }
+}
+
+/// The format that the last two words name, as in `format 2`, and the words before them. Without them it is format 1.
+fn format_of<'w, 'a>(words: &'w [&'a str]) -> Result<(Format, &'w [&'a str]), Mistake> {
+    let [rest @ .., "format", digit] = words else {
+        return Ok((Format::One, words));
+    };
+    match digit.as_bytes() {
+        [digit] => Ok((Format::of_digit(*digit).ok_or(Mistake::Number)?, rest)),
+        _ => Err(Mistake::Number),
     }
 }
 
 /// The numbers of a part.
-fn head_of(words: &[&str]) -> Result<(PartHead, u64), Mistake> {
+fn head_of(format: Format, words: &[&str]) -> Result<(PartHead, u64), Mistake> {
     let [
         part,
         "of",
@@ -137,7 +168,7 @@ fn head_of(words: &[&str]) -> Result<(PartHead, u64), Mistake> {
         return Err(Mistake::Line);
     };
     let head = PartHead {
-        format: Format::One,
+        format,
         number: small_of::<u32>(number)?,
         begin: number_of(begin)?,
         part: small_of::<u16>(part)?,

@@ -1,33 +1,39 @@
 //! Records and entries, as lines spell them.
 use crate::mistake::Mistake;
 use crate::words::{bytes_of, number_of, small_of};
-use mt_words::{Columns, Entry, Key, Record};
+use mt_words::{Columns, Entry, Key, Numbers, Record};
 use std::alloc::Global;
 
-/// The record that a line spells: `put KEY VERSION TIMESTAMP NUMBER=VALUE ..`, `remove KEY VERSION TIMESTAMP` or
-/// `mark TIMESTAMP`.
+/// The record that a line spells: `mark TIMESTAMP`, or one of those that change a key.
 pub fn record_of(alloc: Global, words: &[&str]) -> Result<Record, Mistake> {
     match words {
-        ["put", key, version, timestamp, columns @ ..] => {
-            let columns = columns_of(alloc, columns)?;
+        ["mark", timestamp] => Ok(Record::mark(number_of(timestamp)?)),
+        [kind, key, version, timestamp, carried @ ..] => {
             let key = key_of(alloc, key)?;
             let (version, timestamp) = (number_of(version)?, number_of(timestamp)?);
-            Record::put(timestamp, version, key, columns).ok_or(Mistake::Unlawful)
+            change_of(alloc, kind, key, version, timestamp, carried)
         }
-        ["remove", rest @ ..] => remove_of(alloc, rest),
-        ["mark", timestamp] => Ok(Record::mark(number_of(timestamp)?)),
         _ => Err(Mistake::Line),
     }
 }
 
-/// The remove that the words behind `remove` spell.
-fn remove_of(alloc: Global, words: &[&str]) -> Result<Record, Mistake> {
-    let [key, version, timestamp] = words else {
-        return Err(Mistake::Line);
+/// The record of a kind that changes the key: `put KEY VERSION TIMESTAMP NUMBER=VALUE ..`, `remove KEY VERSION TIMESTAMP`
+/// or `erase KEY VERSION TIMESTAMP NUMBER ..`.
+fn change_of(
+    alloc: Global,
+    kind: &str,
+    key: Key,
+    version: u64,
+    timestamp: u64,
+    carried: &[&str],
+) -> Result<Record, Mistake> {
+    let record = match (kind, carried) {
+        ("put", columns) => Record::put(timestamp, version, key, columns_of(alloc, columns)?),
+        ("remove", []) => Record::remove(timestamp, version, key),
+        ("erase", numbers) => Record::erase(timestamp, version, key, numbers_of(alloc, numbers)?),
+        _ => return Err(Mistake::Line),
     };
-    let key = key_of(alloc, key)?;
-    let (version, timestamp) = (number_of(version)?, number_of(timestamp)?);
-    Record::remove(timestamp, version, key).ok_or(Mistake::Unlawful)
+    record.ok_or(Mistake::Unlawful)
 }
 
 /// The entry that the words behind `entry` spell: `KEY VERSION NUMBER=VALUE ..`.
@@ -64,4 +70,13 @@ fn push_column(alloc: Global, word: &str, columns: &mut Columns) -> Result<(), M
         Ok(()) => Ok(()),
         Err(_) => Err(Mistake::Column),
     }
+}
+
+/// The numbers of columns that words spell.
+fn numbers_of(alloc: Global, words: &[&str]) -> Result<Numbers, Mistake> {
+    let mut numbers = Vec::new(alloc);
+    for word in words {
+        numbers.push(small_of::<u8>(word)?)?;
+    }
+    Numbers::new(&numbers).ok_or(Mistake::Unlawful)
 }

@@ -12,7 +12,7 @@ pub enum Failure<'a> {
     /// The words cannot be read, as where one is not UTF-8.
     #[error("cannot read the words")]
     Words,
-    /// The key is not hexadecimal, or too long.
+    /// The key is not hexadecimal, or has more than `LONGEST_KEY` bytes.
     #[error("bad key")]
     Key,
     /// The folder of this name cannot be listed, or an entry's name is not UTF-8.

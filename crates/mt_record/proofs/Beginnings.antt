@@ -7,10 +7,10 @@ use Rattle.std.specs.Option.{is_some}
 use Rattle.byteorder.specs.Endian.{big_bytes, big_from}
 use Rattle.byteorder.specs.Numbers.{big_from-lt}
 use Rattle.mt_words.specs.declared.limits.Format.{Format}
-use Rattle.mt_words.specs.Limits.{limits_of, magic}
+use Rattle.mt_words.specs.Limits.{limits_of, widest_format, magic}
 use Rattle.mt_record.specs.declared.head.Head.{Head}
 use Rattle.mt_record.specs.Fronts.{GoTogether, GoesWithMagic, NoneBegins, ShowsNone, IsCutFront}
-use Rattle.mt_record.specs.Heads.{written_format, IsHead, head_bytes}
+use Rattle.mt_record.specs.Heads.{IsHead, head_bytes}
 use Rattle.mt_record.proofs.Feeds.{apart}
 use Rattle.mt_record.proofs.Numbers.{AreBytes, bytes_front, bytes_back, bytes_padded, eight}
 
@@ -91,8 +91,8 @@ behind_digit letters bytes rest after digit format e tail same =
 -- what letters begin with begins letters and a digit
 letters_go : (letters bytes more : List ℕ) → letters ≡ bytes ++ more → GoesWithMagic letters bytes
 letters_go letters bytes more e =
-    let digit = (limits_of written_format).digit ∷ [] in
-    (written_format, inl (more ++ digit, ap (λ (x : List ℕ). x ++ digit) e ∙ append_assoc bytes more digit))
+    let digit = (limits_of widest_format).digit ∷ [] in
+    (widest_format, inl (more ++ digit, ap (λ (x : List ℕ). x ++ digit) e ∙ append_assoc bytes more digit))
 
 -- bytes that begin with no letters and digit, and do not begin the letters, do not go with them
 goes_not : (letters bytes : List ℕ) → ((format : Format) (more : List ℕ) → bytes ≢ magic letters format ++ more) → ((rest : List ℕ) → letters ≢ bytes ++ rest)

@@ -1,13 +1,19 @@
 -- The fields of a change, and what its kind carries.
-use Rattle.std.proofs.Common.{◌≡◌, ◌↔◌, ◌⊎◌, inl, inr, ℕ, suc, ◌-◌, ◌<◌, ◌^◌, List, [], ◌∷◌, ◌++◌, length, take, drop, refl, sym, ap, ◌∙◌, arith}
+use Rattle.std.proofs.Common.{◌≡◌, ◌↔◌, ◌⊎◌, inl, inr, IsTrue, eqb, ℕ, suc, ◌-◌, ◌<◌, ◌^◌, List, [], ◌∷◌, ◌++◌, length, take, drop, refl, sym, ap, ◌∙◌, arith}
 use Rattle.std.proofs.lemmas.List.{take_all}
+use Rattle.std.proofs.lemmas.Bool.{eqb-true, eq-eqb}
+use Rattle.mt_record.proofs.Numbers.{AreBytes}
 use Rattle.std.specs.Prelude.{slice_index}
 use Rattle.std.specs.List.{flat_map, AllByRecursion}
 use Rattle.byteorder.specs.Endian.{big_bytes}
+use Rattle.mt_words.specs.declared.code.Code.{Code}
+use Rattle.mt_words.specs.declared.code.Code.TheVariants as codes
+use Rattle.mt_words.specs.declared.code.Payload.TheVariants as payloads
 use Rattle.mt_words.specs.declared.record.Change.{Change}
 use Rattle.mt_words.specs.declared.update.Kind.{Kind as AnyKind}
-use Rattle.mt_words.specs.declared.update.Kind.TheVariants.{Put, Remove, Whole}
+use Rattle.mt_words.specs.declared.update.Kind.TheVariants.{Put, Remove, Whole, Erase}
 use Rattle.mt_words.specs.declared.limits.Limits.{Limits}
+use Rattle.mt_words.specs.Codes.{byte_of, payload_of}
 use Rattle.mt_words.specs.Words.{IsKey}
 use Rattle.mt_record.specs.declared.body.ChangeFields.{ChangeFields}
 use Rattle.mt_words.specs.declared.fault.What.{What}
@@ -41,6 +47,32 @@ columns_of_kind byte count bytes is (Put cs, of) = carried_columns count bytes c
 columns_of_kind byte count bytes (inl one) (Remove, of) = absurd (apart 1 2 (omega arith) (sym (of.code ∙ one)))
 columns_of_kind byte count bytes (inr none) (Remove, of) = absurd (apart 0 2 (omega arith) (sym (of.code ∙ none)))
 columns_of_kind byte count bytes is (Whole cs, of) = carried_columns count bytes cs of.spelled of.fits.1
+columns_of_kind byte count bytes (inl one) (Erase ns, of) = absurd (apart 1 4 (omega arith) (sym (of.code ∙ one)))
+columns_of_kind byte count bytes (inr none) (Erase ns, of) = absurd (apart 0 4 (omega arith) (sym (of.code ∙ none)))
+
+-- numbers behind how many they are
+pub erase_of_numbers : (count : ℕ) (bytes : List ℕ) → count < 2 ^ 8 → length bytes ≡ count → AllByRecursion (λ number. number < 2 ^ 8) bytes → IsKindOf 4 (count ∷ bytes) (Erase bytes)
+erase_of_numbers count bytes fits same small = record { code = refl; spelled = λ i. sym same i ∷ bytes; fits = (omega (arith, same), small) }
+
+-- an erase carries nothing else
+pub numbers_of_kind : (count : ℕ) (bytes : List ℕ) → HasKind 4 (count ∷ bytes) → length bytes ≡ count
+numbers_of_kind count bytes (Put cs, of) = absurd (apart 1 4 (omega arith) of.code)
+numbers_of_kind count bytes (Remove, of) = absurd (apart 2 4 (omega arith) of.code)
+numbers_of_kind count bytes (Whole cs, of) = absurd (apart 0 4 (omega arith) of.code)
+numbers_of_kind count bytes (Erase ns, of) = ap length (ap (drop 1) of.spelled) ∙ ap (λ (x : List ℕ). slice_index x 0) (sym of.spelled)
+
+-- codes by what they carry
+pub columns_byte : (code : Code) → payload_of code ≡ payloads.Columns → HasColumnsByte (byte_of code)
+columns_byte codes.Whole is = inr refl
+columns_byte codes.Put is = inl refl
+columns_byte codes.Remove is = absurd cc
+columns_byte codes.Erase is = absurd cc
+
+pub numbers_byte : (code : Code) → payload_of code ≡ payloads.Numbers → byte_of code ≡ 4
+numbers_byte codes.Whole is = absurd cc
+numbers_byte codes.Put is = absurd cc
+numbers_byte codes.Remove is = absurd cc
+numbers_byte codes.Erase is = refl
 
 -- columns behind their number are what a kind with such a byte carries
 kind_of_columns : (byte count : ℕ) (bytes : List ℕ) → HasColumnsByte byte → count < 2 ^ 8 → HasColumns count bytes → HasKind byte (count ∷ bytes)
@@ -54,6 +86,22 @@ columns_are_kind byte [] is some fits = absurd (omega (arith, some))
 columns_are_kind byte (count ∷ bytes) is some fits =
     let whole : take (suc (length bytes) - 1) bytes ≡ bytes = take_all (suc (length bytes) - 1) bytes (omega arith) in
     rw whole (kind_of_columns byte count bytes is fits, columns_of_kind byte count bytes is)
+
+-- each is a byte
+all_bytes : (xs : List ℕ) → AreBytes xs → AllByRecursion (λ x. x < 2 ^ 8) xs
+all_bytes [] small = tt
+all_bytes (x ∷ xs) small = (small 0, all_bytes xs (λ i. small (suc i)))
+
+-- bytes are numbers behind how many they are where they are what an erase carries
+pub numbers_are_kind : (byte count : ℕ) (bytes : List ℕ) → byte ≡ 4 → 0 < length bytes → AreBytes bytes → count ≡ slice_index bytes 0
+    → IsTrue (eqb (length (take (length bytes - 1) (drop 1 bytes))) count) ↔ HasKind byte bytes
+numbers_are_kind byte count [] is some small same = absurd (omega (arith, some))
+numbers_are_kind byte count (c ∷ rest) is some small same =
+    let whole : take (suc (length rest) - 1) rest ≡ rest = take_all (suc (length rest) - 1) rest (omega arith) in
+    rw (whole, is, same) (
+      λ t. (Erase rest, erase_of_numbers c rest (small 0) (eqb-true (length rest) c t) (all_bytes rest (λ i. small (suc i)))),
+      λ h. eq-eqb (length rest) c (numbers_of_kind c rest h),
+    )
 
 -- columns that are refused make the put refused
 put_fault : (limits : Limits) (count : ℕ) (bytes : List ℕ) → count < 2 ^ 8 → (what : What) → IsColumnsFault (AreSomeColumns limits) count bytes what

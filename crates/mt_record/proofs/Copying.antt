@@ -5,15 +5,20 @@ use Rattle.std.specs.Prelude.{slice_index, IfSome}
 use Rattle.std.specs.List.{flat_map}
 use Rattle.byteorder.specs.Endian.{big_bytes}
 use Rattle.mt_words.specs.declared.limits.Format.{Format}
+use Rattle.mt_words.specs.declared.code.Code.{Code}
+use Rattle.mt_words.specs.declared.code.Code.TheVariants as codes
 use Rattle.mt_words.specs.declared.record.Change.{Change}
 use Rattle.mt_words.specs.declared.update.Kind.{Kind}
-use Rattle.mt_words.specs.declared.update.Kind.TheVariants.{Put, Remove, Whole}
+use Rattle.mt_words.specs.declared.update.Kind.TheVariants.{Put, Remove, Whole, Erase}
 use Rattle.mt_words.specs.Limits.{limits_of, widest, widest_format}
+use Rattle.mt_words.specs.Codes.{byte_of}
 use Rattle.mt_words.specs.Words.{IsColumn, AreColumns, CanFollow}
-use Rattle.mt_words.specs.Changes.{Logged, changed, remove_of, put_of, AllowsKind, IsLogged, IsLoggedChange, IsWhole}
+use Rattle.mt_words.specs.Changes.{Logged, changed, remove_of, put_of, erase_of, AllowsKind, IsLogged, IsLoggedChange, IsWhole}
 use Rattle.mt_words.proofs.Formats.{change_within}
-use Rattle.mt_record.specs.Spelling.{column_bytes, code_of, kind_bytes, change_bytes, body_of, FitsColumn, FitsChange}
-use Rattle.mt_record.specs.Bodies.{IsBodyOf, IsLawfulBody, AreFieldsOf, CarriesColumns}
+use Rattle.mt_record.specs.Spelling.{column_bytes, kind_byte, kind_bytes, change_bytes, body_of, FitsColumn, FitsChange}
+use Rattle.mt_record.specs.declared.body.ChangeFields.{ChangeFields}
+use Rattle.mt_record.specs.Bodies.{IsBodyOf, IsLawfulBody, AreFieldsOf, SpellFields, CarriesColumns, CarriesNumbers}
+use Rattle.mt_record.proofs.Changes.{same_fields}
 use Rattle.mt_record.proofs.Columns.{all_at, may_follow}
 use Rattle.mt_record.proofs.Unique.{apart, same_number, same_column, same_carried, same_change, same_body}
 use Rattle.mt_record.proofs.Lawful.{put_fits, lawful_fits}
@@ -31,7 +36,7 @@ same_columns bytes a b is too = same_carried a b (put_fits widest_format a is.la
 pub record Carries (byte : ℕ) (rest : List ℕ) : Type 0 where
   pub change : Change
   pub lawful : IsLoggedChange widest change
-  pub code : code_of change.kind ≡ byte
+  pub code : kind_byte change.kind ≡ byte
   pub spelled : rest ≡ change_bytes change
 
 -- the body of a record that is no mark
@@ -48,30 +53,79 @@ carries bytes fields rest code t (r, is) e fits tail other = by r.change is.lawf
 pub changed_body : (bytes fields rest : List ℕ) (code t : ℕ) (has : Carries code rest) → bytes ≡ code ∷ fields → t < 2 ^ 64 → fields ≡ big_bytes 8 t ++ rest
     → IsBodyOf widest 0 bytes (changed t has.change)
 changed_body bytes fields rest code t has e fits tail =
-    record { lawful = (fits, has.lawful); rises = omega arith; spelled = e ∙ (λ i. sym has.code i ∷ tail i) ∙ ap (λ (x : List ℕ). code_of has.change.kind ∷ (big_bytes 8 t ++ x)) has.spelled }
-
--- ---- kinds
+    record { lawful = (fits, has.lawful); rises = omega arith; spelled = e ∙ (λ i. sym has.code i ∷ tail i) ∙ ap (λ (x : List ℕ). kind_byte has.change.kind ∷ (big_bytes 8 t ++ x)) has.spelled }
 
 pub change_fits : (change : Change) → IsLoggedChange widest change → FitsChange change
 change_fits change lawful = (lawful_fits widest_format (changed 0 change) (omega arith, lawful)).1.0
 
+-- no code has the byte of a mark
+pub no_mark_code : (code : Code) (byte : ℕ) → byte_of code ≡ byte → byte ≡ 3 → ⊥
+no_mark_code codes.Whole byte code mark = apart 0 3 (omega arith) (code ∙ mark)
+no_mark_code codes.Put byte code mark = apart 1 3 (omega arith) (code ∙ mark)
+no_mark_code codes.Remove byte code mark = apart 2 3 (omega arith) (code ∙ mark)
+no_mark_code codes.Erase byte code mark = apart 3 4 (omega arith) (sym (code ∙ mark))
+
+-- the fields of this code that were read of a body, and the change that they say
+pub record AreRead (bytes : List ℕ) (code : Code) (t : ℕ) (fields : ChangeFields) : Type 0 where
+  pub change : Change
+  pub lawful : IsLoggedChange widest change
+  pub byte : kind_byte change.kind ≡ byte_of code
+  pub body : IsBodyOf widest 0 bytes (changed t change)
+  pub version : fields.version ≡ change.version
+  pub key : fields.key.now ≡ change.key
+  pub carried : fields.carried.now ≡ kind_bytes change.kind
+
+pub read_fields : (bytes tail rest : List ℕ) (code : Code) (byte t : ℕ) (fields : ChangeFields) → IsLawfulBody bytes → bytes ≡ byte ∷ tail → t < 2 ^ 64 → tail ≡ big_bytes 8 t ++ rest
+    → byte_of code ≡ byte → SpellFields rest fields → AreRead bytes code t fields
+read_fields bytes tail rest code byte t fields lawful e fits split says spelled =
+    let has = carries bytes tail rest byte t lawful e fits split (no_mark_code code byte says) in
+    let same = same_fields rest fields has.change spelled (change_fits has.change has.lawful) has.spelled in
+    record {
+      change = has.change;
+      lawful = has.lawful;
+      byte = has.code ∙ sym says;
+      body = changed_body bytes tail rest byte t has e fits split;
+      version = same.0;
+      key = same.1;
+      carried = same.2;
+    }
+
+-- ---- kinds
+
 -- a kind with the byte of a remove is one
-pub is_remove : (kind : Kind) → code_of kind ≡ 2 → kind ≡ Remove
+pub is_remove : (kind : Kind) → kind_byte kind ≡ 2 → kind ≡ Remove
 is_remove (Put columns) code = absurd (apart 1 2 (omega arith) code)
 is_remove Remove code = refl
 is_remove (Whole columns) code = absurd (apart 0 2 (omega arith) code)
+is_remove (Erase numbers) code = absurd (apart 2 4 (omega arith) (sym code))
 
--- another one that records have is a put of what it carries
-pub is_put : (kind : Kind) → AllowsKind widest kind → IsLogged kind → (code_of kind ≡ 2 → ⊥) → (columns : List (ℕ × List ℕ)) × (kind ≡ Put columns) × CarriesColumns (kind_bytes kind) columns
-is_put (Put columns) allows logged other = (columns, refl, record { lawful = allows.0; some = allows.1; spelled = refl })
-is_put Remove allows logged other = absurd (other refl)
-is_put (Whole columns) allows logged other = absurd logged
+-- one with the byte of an erase is an erase of what it carries
+pub is_erase : (kind : Kind) → AllowsKind widest kind → kind_byte kind ≡ 4 → (numbers : List ℕ) × (kind ≡ Erase numbers) × CarriesNumbers (kind_bytes kind) numbers
+is_erase (Put columns) allows code = absurd (apart 1 4 (omega arith) code)
+is_erase Remove allows code = absurd (apart 2 4 (omega arith) code)
+is_erase (Whole columns) allows code = absurd (apart 0 4 (omega arith) code)
+is_erase (Erase numbers) allows code = (numbers, refl, record { lawful = allows.1; some = allows.2; spelled = refl })
+
+-- one with the byte of a put is a put of what it carries
+pub is_put : (kind : Kind) → AllowsKind widest kind → kind_byte kind ≡ 1 → (columns : List (ℕ × List ℕ)) × (kind ≡ Put columns) × CarriesColumns (kind_bytes kind) columns
+is_put (Put columns) allows byte = (columns, refl, record { lawful = allows.0; some = allows.1; spelled = refl })
+is_put Remove allows byte = absurd (apart 1 2 (omega arith) (sym byte))
+is_put (Whole columns) allows byte = absurd (apart 0 1 (omega arith) byte)
+is_put (Erase numbers) allows byte = absurd (apart 1 4 (omega arith) (sym byte))
+
+-- no record has the byte of a whole
+pub no_whole : (kind : Kind) → IsLogged kind → kind_byte kind ≡ 0 → ⊥
+no_whole (Put columns) logged byte = apart 0 1 (omega arith) (sym byte)
+no_whole Remove logged byte = apart 0 2 (omega arith) (sym byte)
+no_whole (Whole columns) logged byte = logged
+no_whole (Erase numbers) logged byte = apart 0 4 (omega arith) (sym byte)
 
 -- and that of an entry a whole
 pub is_whole : (kind : Kind) → AllowsKind widest kind → IsWhole kind → (columns : List (ℕ × List ℕ)) × (kind ≡ Whole columns) × CarriesColumns (kind_bytes kind) columns
 is_whole (Put columns) allows whole = absurd whole
 is_whole Remove allows whole = absurd whole
 is_whole (Whole columns) allows whole = (columns, refl, record { lawful = allows.0; some = allows.1; spelled = refl })
+is_whole (Erase numbers) allows whole = absurd whole
 
 -- ---- columns, one after the other
 
@@ -132,17 +186,29 @@ none_left bytes rest columns i end are all =
 -- ---- records and entries made anew
 
 -- a remove is made of its fields
-pub remove_is : (t version : ℕ) (key : List ℕ) (change : Change) → code_of change.kind ≡ 2 → version ≡ change.version → key ≡ change.key → changed t change ≡ remove_of t version key
+pub remove_is : (t version : ℕ) (key : List ℕ) (change : Change) → kind_byte change.kind ≡ 2 → version ≡ change.version → key ≡ change.key → changed t change ≡ remove_of t version key
 remove_is t version key change code same_version same_key =
     λ i. record { timestamp = t; change = Some (record { version = sym same_version i; key = sym same_key i; kind = is_remove change.kind code i }) }
 
 -- a put of its fields and the columns that are carried
-pub put_is : (t version : ℕ) (key carried : List ℕ) (columns : List (ℕ × List ℕ)) (change : Change) → IsLoggedChange widest change → (code_of change.kind ≡ 2 → ⊥) → version ≡ change.version
+pub put_is : (t version : ℕ) (key carried : List ℕ) (columns : List (ℕ × List ℕ)) (change : Change) → IsLoggedChange widest change → kind_byte change.kind ≡ 1 → version ≡ change.version
     → key ≡ change.key → carried ≡ kind_bytes change.kind → CarriesColumns carried columns → changed t change ≡ put_of t version key columns
-put_is t version key carried columns change lawful other same_version same_key same_carried is =
-    let put = is_put change.kind lawful.0.kind lawful.1 other in
+put_is t version key carried columns change lawful byte same_version same_key same_carried is =
+    let put = is_put change.kind lawful.0.kind byte in
     let same = same_columns (kind_bytes change.kind) put.0 columns put.2 (subst (λ (b : List ℕ). CarriesColumns b columns) same_carried is) in
     λ i. record { timestamp = t; change = Some (record { version = sym same_version i; key = sym same_key i; kind = (put.1 ∙ ap Put same) i }) }
+
+-- one list of numbers is carried so
+pub same_numbers : (bytes a b : List ℕ) → CarriesNumbers bytes a → CarriesNumbers bytes b → a ≡ b
+same_numbers bytes a b is too = ap (drop 1) (sym is.spelled ∙ too.spelled)
+
+-- an erase of its fields and the numbers that are carried
+pub erase_is : (t version : ℕ) (key carried numbers : List ℕ) (change : Change) → IsLoggedChange widest change → kind_byte change.kind ≡ 4 → version ≡ change.version
+    → key ≡ change.key → carried ≡ kind_bytes change.kind → CarriesNumbers carried numbers → changed t change ≡ erase_of t version key numbers
+erase_is t version key carried numbers change lawful code same_version same_key same_carried is =
+    let erase = is_erase change.kind lawful.0.kind code in
+    let same = same_numbers (kind_bytes change.kind) erase.0 numbers erase.2 (subst (λ (b : List ℕ). CarriesNumbers b numbers) same_carried is) in
+    λ i. record { timestamp = t; change = Some (record { version = sym same_version i; key = sym same_key i; kind = (erase.1 ∙ ap Erase same) i }) }
 
 -- one record has a body
 pub same_record : (bytes : List ℕ) (a b : Logged) → IsBodyOf widest 0 bytes a → IsBodyOf widest 0 bytes b → a ≡ b

@@ -1,24 +1,29 @@
 -- A body says the record that it spells.
-use Rattle.std.proofs.Common.{◌≡◌, ℕ, suc, eqb, ◌^◌, ◌<◌, ◌+◌, ◌-◌, List, [], ◌∷◌, ◌++◌, length, take, drop, Option, Some, None, Bool, true, false, refl, sym, ap, subst, ◌∙◌, append_assoc, arith}
+use Rattle.std.proofs.Common.{◌≡◌, ℕ, suc, eqb, ◌^◌, ◌<◌, ◌≤◌, ◌+◌, ◌-◌, List, [], ◌∷◌, ◌++◌, length, take, drop, Option, Some, None, Bool, true, false, ◌↔◌, refl, sym, ap, subst, ◌∙◌, append_assoc, arith}
 use Rattle.std.proofs.Math.Seq.{take-append_seam, drop-append_seam}
-use Rattle.std.proofs.lemmas.List.{append-nil, take_rest, drop-drop}
+use Rattle.std.proofs.lemmas.List.{append-nil, take_all, take_rest, drop-drop}
 use Rattle.std.specs.Prelude.{IfSome, slice_index}
 use Rattle.std.specs.List.{flat_map, AllByRecursion}
 use Rattle.byteorder.specs.Endian.{big_bytes, big_from}
 use Rattle.byteorder.specs.Numbers.{big_number-reads_back}
+use Rattle.mt_words.specs.declared.code.Code.{Code}
+use Rattle.mt_words.specs.declared.code.Code.TheVariants as codes
+use Rattle.mt_words.specs.declared.code.Payload.TheVariants as payloads
 use Rattle.mt_words.specs.declared.record.Change.{Change}
 use Rattle.mt_words.specs.declared.update.Kind.{Kind}
-use Rattle.mt_words.specs.declared.update.Kind.TheVariants.{Put, Remove, Whole}
+use Rattle.mt_words.specs.declared.update.Kind.TheVariants.{Put, Remove, Whole, Erase}
 use Rattle.mt_words.specs.declared.update.Update.{Update}
 use Rattle.mt_words.specs.Limits.{widest, widest_format}
-use Rattle.mt_words.specs.Words.{IsColumn, AreColumns}
-use Rattle.mt_words.specs.Changes.{Logged, changed, IsLawful, IsLawfulChange, IsLoggedChange, AllowsKind}
+use Rattle.mt_words.specs.Codes.{code_of, byte_of, payload_of, Clears}
+use Rattle.mt_words.specs.Words.{IsColumn, AreNumbers}
+use Rattle.mt_words.specs.Changes.{Logged, changed, IsLawful, IsLawfulChange, IsLoggedChange, AllowsKind, AreWrites, IsReset, erased, writes_of}
+use Rattle.mt_words.proofs.WriteLemmas.{set_writes, set_columns, erase_writes, erase_numbers}
 use Rattle.mt_words.specs.Updates.{update_at}
-use Rattle.mt_record.specs.Spelling.{counted, column_bytes, code_of, kind_bytes, body_of, body, FitsColumn, FitsKind, FitsChange}
-use Rattle.mt_record.proofs.Lawful.{key_room, put_fits}
+use Rattle.mt_record.specs.Spelling.{counted, column_bytes, kind_byte, kind_bytes, body_of, body, FitsColumn, FitsKind, FitsChange}
+use Rattle.mt_record.proofs.Lawful.{key_room, put_fits, erase_fits}
 use Rattle.mt_record.specs.Bodies.{AreSpelled}
 use Rattle.mt_record.proofs.Unique.{same_column}
-use Rattle.mt_record.specs.Decoding.{columns_from, columns_counted, columns_carried, columns_in, kind_from, change_unless, is_mark_in, is_remove_in, is_whole_in, time_in, version_in, key_length_in, key_in, carried_in, kind_in, change_in, update_in, change_unless, decode, IsSound, IsBody, IsChangeBody, IsEntryBody, IsCarried, AreLent, AreCounted}
+use Rattle.mt_record.specs.Decoding.{columns_from, columns_counted, numbers_counted, writes_from, writes_carried, kind_from, change_unless, is_mark_in, code_from, code_in, time_in, version_in, key_length_in, key_in, carried_in, kind_in, change_in, update_in, change_unless, decode, IsSound, IsBody, IsChangeBody, IsEntryBody, IsCarried, AreLentColumns, AreLentNumbers, AreCounted}
 
 -- ---- fields
 
@@ -81,11 +86,11 @@ unfolding is_mark_in
 mark_back t below = λ i. record { timestamp = time_back 3 t [] below i; change = None }
 
 -- a change of the kind of this byte, which carries what the kind is made of
-changed_back : (byte t v : ℕ) (key carried : List ℕ) (kind : Kind) → eqb byte 3 ≡ false → kind_from (eqb byte 2) (eqb byte 0) carried ≡ kind → t < 2 ^ 64 → v < 2 ^ 64 → length key < 2 ^ 16
+changed_back : (byte t v : ℕ) (key carried : List ℕ) (kind : Kind) → eqb byte 3 ≡ false → kind_from (code_from byte) carried ≡ kind → t < 2 ^ 64 → v < 2 ^ 64 → length key < 2 ^ 16
     → decode (change_body byte t key v carried) ≡ changed t (record { version = v; key = key; kind = kind })
-unfolding is_mark_in is_remove_in is_whole_in
+unfolding is_mark_in code_in
 changed_back byte t v key carried kind no_mark is fits_t fits_v fits_key =
-    let made = ap (kind_from (eqb byte 2) (eqb byte 0)) (carried_back byte t v key carried fits_key) ∙ is in
+    let made = ap (kind_from (code_from byte)) (carried_back byte t v key carried fits_key) ∙ is in
     λ i. record {
       timestamp = time_back byte t (big_bytes 8 v ++ (counted key ++ carried)) fits_t i;
       change = change_unless (no_mark i) (record { version = version_back byte t v key carried fits_v i; key = key_back byte t v key carried fits_key i; kind = made i });
@@ -99,26 +104,29 @@ change_back t change fits_t fits = by_kind change.kind fits.kind
     by_kind (Put cs) fit = changed_back 1 t change.version change.key (kind_bytes (Put cs)) (Put cs) refl (ap Put (some_back cs fit.1)) fits_t fits.version fits.key
     by_kind Remove fit = changed_back 2 t change.version change.key [] Remove refl refl fits_t fits.version fits.key
     by_kind (Whole cs) fit = changed_back 0 t change.version change.key (kind_bytes (Whole cs)) (Whole cs) refl (ap Whole (some_back cs fit.1)) fits_t fits.version fits.key
+    by_kind (Erase ns) fit = changed_back 4 t change.version change.key (kind_bytes (Erase ns)) (Erase ns) refl (ap Erase (take_all (length ns) ns (omega arith))) fits_t fits.version fits.key
 
 -- ---- a record
 
 -- a change fits its fields
 fits_of : (change : Change) → IsSound change → FitsChange change
-fits_of change sound = record { version = sound.version; key = omega (arith, sound.key, key_room widest_format); kind = by_kind change.kind sound.columns }
+fits_of change sound = record { version = sound.version; key = omega (arith, sound.key, key_room widest_format); kind = by_kind change.kind sound.writes }
   where
-    by_kind : (kind : Kind) → AreColumns widest (columns_in kind) → FitsKind kind
-    by_kind (Put cs) are = put_fits widest_format cs are
+    by_kind : (kind : Kind) → AreWrites widest (writes_of kind) → FitsKind kind
+    by_kind (Put cs) are = put_fits widest_format cs (set_columns widest cs are)
     by_kind Remove are = tt
-    by_kind (Whole cs) are = put_fits widest_format cs are
+    by_kind (Whole cs) are = put_fits widest_format cs (set_columns widest cs are)
+    by_kind (Erase ns) are = erase_fits widest_format ns (erase_numbers widest ns are)
 
 -- a lawful change is sound
 pub lawful_sound : (change : Change) → IsLawfulChange widest change → IsSound change
-lawful_sound change lawful = record { version = lawful.version_fits; key = lawful.key; columns = by_kind change.kind lawful.kind }
+lawful_sound change lawful = record { version = lawful.version_fits; key = lawful.key; writes = by_kind change.kind lawful.kind }
   where
-    by_kind : (kind : Kind) → AllowsKind widest kind → AreColumns widest (columns_in kind)
-    by_kind (Put cs) allowed = allowed.0
+    by_kind : (kind : Kind) → AllowsKind widest kind → AreWrites widest (writes_of kind)
+    by_kind (Put cs) allowed = set_writes widest cs allowed.0
     by_kind Remove allowed = (tt, tt)
-    by_kind (Whole cs) allowed = allowed.0
+    by_kind (Whole cs) allowed = set_writes widest cs allowed.0
+    by_kind (Erase ns) allowed = erase_writes widest ns allowed.1
 
 record_back : (t : ℕ) (change : Option Change) → t < 2 ^ 64 → IfSome change IsSound → decode (body_of t change) ≡ record { timestamp = t; change = change }
 record_back t None below sound = mark_back t below
@@ -169,7 +177,7 @@ update_says bytes u below sound same =
 
 -- the body of a change, by its fields
 pub spelled_change : (bytes : List ℕ) → IsChangeBody bytes
-    → bytes ≡ change_body (code_of (kind_in bytes)) (time_in bytes) (key_in bytes) (version_in bytes) (kind_bytes (kind_in bytes))
+    → bytes ≡ change_body (kind_byte (kind_in bytes)) (time_in bytes) (key_in bytes) (version_in bytes) (kind_bytes (kind_in bytes))
 spelled_change bytes is = is.0.spelled ∙ ap (λ (mark : Bool). body_of (time_in bytes) (change_unless mark (change_in bytes))) is.1
 
 pub change_sound : (bytes : List ℕ) → IsChangeBody bytes → IsSound (change_in bytes)
@@ -183,42 +191,82 @@ pub carried_spelled : (bytes : List ℕ) → IsChangeBody bytes → (carried_in 
 carried_spelled bytes is =
     let same = spelled_change bytes is in
     let fit = change_fits bytes is in
-    (ap carried_in same ∙ carried_back (code_of (kind_in bytes)) (time_in bytes) (version_in bytes) (key_in bytes) (kind_bytes (kind_in bytes)) fit.key, fit.kind)
+    (ap carried_in same ∙ carried_back (kind_byte (kind_in bytes)) (time_in bytes) (version_in bytes) (key_in bytes) (kind_bytes (kind_in bytes)) fit.key, fit.kind)
 
--- nothing, or columns behind their number
-pub carried_is : (bytes : List ℕ) → IsChangeBody bytes → IsCarried (is_remove_in bytes) (carried_in bytes)
+-- nothing, or writes behind their number
+pub carried_is : (bytes : List ℕ) → IsChangeBody bytes → IsCarried (payload_of (code_in bytes)) (carried_in bytes)
 carried_is bytes is =
     let spelled = carried_spelled bytes is in
-    by_kind (is_remove_in bytes) (is_whole_in bytes) spelled.0 spelled.1 (change_sound bytes is).columns
+    by_code (code_in bytes) spelled.0 spelled.1 (change_sound bytes is).writes
   where
     counted_are : (carried : List ℕ) → carried ≡ length (columns_counted carried) ∷ flat_map column_bytes (columns_counted carried)
-        → AllByRecursion FitsColumn (columns_counted carried) → AllByRecursion (IsColumn widest) (columns_counted carried) → AreCounted carried
+        → AllByRecursion FitsColumn (columns_counted carried) → AllByRecursion (IsColumn widest) (columns_counted carried) → AreCounted payloads.Columns carried
     counted_are carried same fits lawful = record {
       some = omega (arith, ap length same);
-      columns = record {
+      writes = record {
         spelled = record { number = ap (λ (xs : List ℕ). slice_index xs 0) (sym same); spelled = ap (drop 1) same; fits = fits };
         lawful = lawful;
       };
     }
 
-    by_kind : (remove whole : Bool) → carried_in bytes ≡ kind_bytes (kind_from remove whole (carried_in bytes)) → FitsKind (kind_from remove whole (carried_in bytes))
-        → AreColumns widest (columns_in (kind_from remove whole (carried_in bytes))) → IsCarried remove (carried_in bytes)
-    by_kind true whole same fits are = same
-    by_kind false true same fits are = counted_are (carried_in bytes) same fits.1 are.0
-    by_kind false false same fits are = counted_are (carried_in bytes) same fits.1 are.0
+    numbers_are : (carried : List ℕ) → carried ≡ length (numbers_counted carried) ∷ numbers_counted carried → AreNumbers widest (numbers_counted carried) → AreCounted payloads.Numbers carried
+    numbers_are carried same are =
+        let rest : drop 1 carried ≡ numbers_counted carried = ap (drop 1) same in
+        record {
+          some = omega (arith, ap length same);
+          writes = record {
+            number = ap length rest ∙ ap (λ (xs : List ℕ). slice_index xs 0) (sym same);
+            lawful = subst (AllByRecursion (λ number. number ≤ widest.column)) (sym rest) are.0;
+          };
+        }
 
--- those columns are the ones that the kind sets
-pub carried_columns : (remove whole : Bool) (bytes : List ℕ) → columns_carried remove bytes ≡ columns_in (kind_from remove whole bytes)
-carried_columns true whole bytes = refl
-carried_columns false true bytes = refl
-carried_columns false false bytes = refl
+    by_code : (code : Code) → carried_in bytes ≡ kind_bytes (kind_from code (carried_in bytes)) → FitsKind (kind_from code (carried_in bytes))
+        → AreWrites widest (writes_of (kind_from code (carried_in bytes))) → IsCarried (payload_of code) (carried_in bytes)
+    by_code codes.Whole same fits are = counted_are (carried_in bytes) same fits.1 (set_columns widest (columns_counted (carried_in bytes)) are).0
+    by_code codes.Put same fits are = counted_are (carried_in bytes) same fits.1 (set_columns widest (columns_counted (carried_in bytes)) are).0
+    by_code codes.Remove same fits are = same
+    by_code codes.Erase same fits are = numbers_are (carried_in bytes) same (erase_numbers widest (numbers_counted (carried_in bytes)) are)
+
+-- those writes are the ones of the kind
+pub carried_writes : (code : Code) (bytes : List ℕ) → writes_carried (payload_of code) bytes ≡ writes_of (kind_from code bytes)
+carried_writes codes.Whole bytes = refl
+carried_writes codes.Put bytes = refl
+carried_writes codes.Remove bytes = refl
+carried_writes codes.Erase bytes = refl
+
+-- ---- codes
+
+-- the kind of a code has that code
+same_code : (code : Code) (bytes : List ℕ) → code_of (kind_from code bytes) ≡ code
+same_code codes.Whole bytes = refl
+same_code codes.Put bytes = refl
+same_code codes.Remove bytes = refl
+same_code codes.Erase bytes = refl
+
+pub code_clears : (bytes : List ℕ) → Clears (code_in bytes) ↔ IsReset (kind_in bytes)
+code_clears bytes = rw (same_code (code_in bytes) (carried_in bytes)) (λ clears. clears, λ clears. clears)
+
+-- a code's byte says the code
+pub code_read : (code : Code) (bytes : List ℕ) → byte_of code ≡ slice_index bytes 0 → code ≡ code_in bytes
+unfolding code_in
+code_read code bytes same = back code ∙ ap code_from same
+  where
+    back : (code : Code) → code ≡ code_from (byte_of code)
+    back codes.Whole = refl
+    back codes.Put = refl
+    back codes.Remove = refl
+    back codes.Erase = refl
+
+-- a change begins with the byte of its code
+pub code_first : (bytes : List ℕ) → IsChangeBody bytes → byte_of (code_in bytes) ≡ slice_index bytes 0
+code_first bytes is = ap byte_of (sym (same_code (code_in bytes) (carried_in bytes))) ∙ sym (ap (λ (xs : List ℕ). slice_index xs 0) (spelled_change bytes is))
 
 -- ---- columns, one after the other
 
 -- the columns are the one at the front and those behind it
 pub next_column : (n left : ℕ) (bytes after : List ℕ) (c : ℕ × List ℕ) → left ≡ suc n → FitsColumn c → bytes ≡ column_bytes c ++ after
-    → AreLent left bytes
-    → (columns_from left bytes ≡ c ∷ columns_from n after) × IsColumn widest c × AreLent n after
+    → AreLentColumns left bytes
+    → (columns_from left bytes ≡ c ∷ columns_from n after) × IsColumn widest c × AreLentColumns n after
 next_column n left bytes after c more fit same are =
     let length_is = counted_front c.1 after fit.1 in
     let front = take_front (big_from 0 2 (counted c.1 ++ after)) c.1 after length_is in
@@ -238,6 +286,13 @@ next_column n left bytes after c more fit same are =
         lawful = lawful.1;
       },
     )
+
+-- the writes of numbers are the one at the front and those behind it
+pub next_number : (n left : ℕ) (bytes after : List ℕ) (number : ℕ) → left ≡ suc n → bytes ≡ number ∷ after → AreLentNumbers left bytes
+    → (writes_from payloads.Numbers left bytes ≡ erased number ∷ writes_from payloads.Numbers n after) × (number ≤ widest.column) × AreLentNumbers n after
+next_number n left bytes after number more same are =
+    let all : AllByRecursion (λ number. number ≤ widest.column) (number ∷ after) = subst (AllByRecursion (λ number. number ≤ widest.column)) same are.lawful in
+    (λ i. writes_from payloads.Numbers (more i) (same i), all.0, record { number = omega (arith, are.number, more, ap length same); lawful = all.1 })
 
 -- what stands behind the key, from the place that the length gives
 pub carried_at : (bytes : List ℕ) (n : ℕ) → n ≡ key_length_in bytes → drop (19 + n) bytes ≡ carried_in bytes

@@ -8,14 +8,18 @@ use Rattle.std.specs.Prelude.{Vec}
 use Rattle.std.specs.List.{flat_map}
 use Rattle.byteorder.specs.Endian.{big_bytes}
 use Rattle.mt_words.specs.Limits.{widest, widest_format}
-use Rattle.mt_words.specs.Words.{AreColumns}
+use Rattle.mt_words.specs.Words.{AreColumns, AreNumbers}
 use Rattle.mt_words.specs.declared.record.Change.{Change}
 use Rattle.mt_words.specs.Changes.{Logged, IsLawful}
 use Rattle.mt_record.specs.Spelling.{column_bytes, change_bytes, body_of, framed, IsRecordLength}
 use Rattle.mt_record.specs.Adding.{HasRoom, Adds}
-use Rattle.mt_record.proofs.Lawful.{put_fits, columns_length, lawful_length}
+use Rattle.mt_record.proofs.Lawful.{put_fits, erase_fits, columns_length, lawful_length}
 
 -- ---- columns
+
+-- there are few numbers
+pub few_numbers : (ns : List ℕ) → AreNumbers widest ns → length ns < 2 ^ 8
+few_numbers ns are = (erase_fits widest_format ns are).0
 
 -- there are few columns
 pub few_columns : (cs : List (ℕ × List ℕ)) → AreColumns widest cs → length cs < 2 ^ 8

@@ -7,7 +7,7 @@ use Rattle.std.specs.List.{flat_map}
 use Rattle.std.proofs.lemmas.List.{length-append, flat_map_more, take_all}
 use Rattle.mt_words.specs.declared.record.Change.{Change}
 use Rattle.mt_words.specs.declared.update.Kind.{Kind}
-use Rattle.mt_words.specs.declared.update.Kind.TheVariants.{Put, Remove, Whole}
+use Rattle.mt_words.specs.declared.update.Kind.TheVariants.{Put, Remove, Whole, Erase}
 use Rattle.mt_words.specs.declared.limits.Format.{Format}
 use Rattle.mt_words.specs.declared.limits.Limits.{Limits}
 use Rattle.mt_words.specs.Limits.{limits_of}
@@ -26,6 +26,7 @@ kind_least : (limits : Limits) (kind : Kind) → AllowsKind limits kind → IsWh
 kind_least limits (Put cs) allowed whole = absurd whole
 kind_least limits Remove allowed whole = absurd whole
 kind_least limits (Whole cs) allowed whole = omega (arith, some_columns cs allowed.1)
+kind_least limits (Erase ns) allowed whole = absurd whole
 
 -- the fields of an entry have a lawful length
 pub entry_length : (limits : Limits) (change : Change) → IsEntry limits change → IsEntryLength limits (length (change_bytes change))

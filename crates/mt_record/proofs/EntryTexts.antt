@@ -7,10 +7,10 @@ use Rattle.mt_words.specs.declared.fault.What.TheVariants.{Length, Trailer, Kind
 use Rattle.mt_words.specs.declared.limits.Format.{Format}
 use Rattle.mt_words.specs.declared.record.Change.{Change}
 use Rattle.mt_words.specs.declared.update.Kind.{Kind as AnyKind}
-use Rattle.mt_words.specs.declared.update.Kind.TheVariants.{Put, Remove, Whole}
+use Rattle.mt_words.specs.declared.update.Kind.TheVariants.{Put, Remove, Whole, Erase}
 use Rattle.mt_words.specs.Limits.{limits_of}
 use Rattle.mt_words.specs.Changes.{IsWhole, IsEntry}
-use Rattle.mt_record.specs.Spelling.{code_of, change_bytes, framed, FitsChange}
+use Rattle.mt_record.specs.Spelling.{kind_byte, change_bytes, framed, FitsChange}
 use Rattle.mt_record.specs.LogFaults.{HasTrailerFault}
 use Rattle.mt_record.specs.Parts.{IsEntryLength}
 use Rattle.mt_record.specs.PartFeeding.{HasWrongEntry, ShowsNoEntry}
@@ -27,10 +27,11 @@ entry_fits format change entry =
     record { version = entry.0.version_fits; key = omega (arith, entry.0.key, key); kind = kind_fits format change.kind entry.0.kind }
 
 -- wholes have one byte
-pub whole_code : (kind : AnyKind) → IsWhole kind → code_of kind ≡ 0
+pub whole_code : (kind : AnyKind) → IsWhole kind → kind_byte kind ≡ 0
 whole_code (Put columns) whole = absurd whole
 whole_code Remove whole = absurd whole
 whole_code (Whole columns) whole = refl
+whole_code (Erase numbers) whole = absurd whole
 
 -- where the fields are those of a change of which this holds, they are those of no entry of which it does not
 other_entry : (format : Format) (bytes : List ℕ) (P : Change → Type 0) → IsChangeWith 0 bytes P → ((entry : Change) → IsEntry (limits_of format) entry → P entry → ⊥)

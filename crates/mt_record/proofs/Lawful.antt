@@ -6,12 +6,13 @@ use Rattle.std.specs.List.{flat_map, AllByRecursion}
 use Rattle.mt_words.specs.declared.limits.Format.{Format}
 use Rattle.mt_words.specs.declared.record.Change.{Change}
 use Rattle.mt_words.specs.declared.update.Kind.{Kind}
-use Rattle.mt_words.specs.declared.update.Kind.TheVariants.{Put, Remove, Whole}
+use Rattle.mt_words.specs.declared.update.Kind.TheVariants.{Put, Remove, Whole, Erase}
 use Rattle.mt_words.specs.declared.limits.Limits.{Limits}
 use Rattle.mt_words.specs.Limits.{limits_of}
-use Rattle.mt_words.specs.Words.{IsColumn, AreColumns, NumbersRise}
+use Rattle.mt_words.specs.Words.{IsColumn, AreColumns, AreNumbers}
 use Rattle.mt_words.specs.Changes.{Logged, IsLawful, IsLoggedChange, AllowsKind}
 use Rattle.mt_words.proofs.Formats.{within}
+use Rattle.mt_words.proofs.Rising.{numbers_room, columns_below, columns_room}
 use Rattle.mt_record.specs.Spelling.{column_bytes, kind_bytes, body_of, body, IsRecordLength, FitsColumn, FitsKind, FitsLogged, Fits}
 
 -- ---- the limits of the formats
@@ -33,12 +34,8 @@ length_fits format n is =
 -- ---- columns
 
 -- rising numbers leave so many columns at the most
-columns_room : (limits : Limits) (low : ℕ) (cs : List (ℕ × List ℕ)) → low ≤ suc limits.column → AllByRecursion (IsColumn limits) cs → NumbersRise low cs
-    → low + length cs ≤ suc limits.column
-columns_room limits low [] least all rise = omega arith
-columns_room limits low (c ∷ cs) least all rise =
-    let rest = columns_room limits (suc c.0) cs (omega (arith, all.0.0)) all.1 rise.1 in
-    omega (arith, rest, rise.0)
+few_columns : (limits : Limits) (cs : List (ℕ × List ℕ)) → AreColumns limits cs → length cs ≤ suc limits.column
+few_columns limits cs are = columns_room cs (suc limits.column) are.1 (columns_below limits cs are.0)
 
 -- columns fit their fields
 columns_fit : (format : Format) (cs : List (ℕ × List ℕ)) → AllByRecursion (IsColumn (limits_of format)) cs → AllByRecursion FitsColumn cs
@@ -59,15 +56,27 @@ columns_length limits (c ∷ cs) all =
 -- columns fit the fields of a put
 pub put_fits : (format : Format) (cs : List (ℕ × List ℕ)) → AreColumns (limits_of format) cs → FitsKind (Put cs)
 put_fits format cs are =
-    let room = columns_room (limits_of format) 0 cs (omega arith) are.0 are.1 in
+    let room = few_columns (limits_of format) cs are in
     let most = column_room format in
     (omega (arith, room, most), columns_fit format cs are.0)
+
+-- numbers fit the fields of an erase
+pub erase_fits : (format : Format) (ns : List ℕ) → AreNumbers (limits_of format) ns → FitsKind (Erase ns)
+erase_fits format ns are =
+    let room = numbers_room (limits_of format) ns are in
+    let most = column_room format in
+    (omega (arith, room, most), bytes ns are.0)
+  where
+    bytes : (ms : List ℕ) → AllByRecursion (λ number. number ≤ (limits_of format).column) ms → AllByRecursion (λ number. number < 2 ^ 8) ms
+    bytes [] all = tt
+    bytes (m ∷ ms) all = (omega (arith, all.0, column_room format), bytes ms all.1)
 
 -- what a kind carries fits its fields
 pub kind_fits : (format : Format) (kind : Kind) → AllowsKind (limits_of format) kind → FitsKind kind
 kind_fits format (Put columns) allowed = put_fits format columns allowed.0
 kind_fits format Remove allowed = tt
 kind_fits format (Whole columns) allowed = put_fits format columns allowed.0
+kind_fits format (Erase numbers) allowed = erase_fits format numbers allowed.1
 
 -- a change fits its fields
 change_fits : (format : Format) (change : Option Change) → IfSome change (IsLoggedChange (limits_of format)) → IfSome change FitsLogged
@@ -83,7 +92,7 @@ lawful_fits format r lawful = (lawful.0, change_fits format r.change lawful.1)
 -- how long columns behind their number are at the most
 carried_length : (limits : Limits) (cs : List (ℕ × List ℕ)) → AreColumns limits cs → suc (length (flat_map column_bytes cs)) ≤ 1 + suc limits.column * 65538
 carried_length limits cs are =
-    let room = columns_room limits 0 cs (omega arith) are.0 are.1 in
+    let room = few_columns limits cs are in
     let columns = columns_length limits cs are.0 in
     omega (arith, columns, room)
 
@@ -92,6 +101,9 @@ pub kind_length : (limits : Limits) (kind : Kind) → AllowsKind limits kind →
 kind_length limits (Put columns) allowed = carried_length limits columns allowed.0
 kind_length limits Remove allowed = omega arith
 kind_length limits (Whole columns) allowed = carried_length limits columns allowed.0
+kind_length limits (Erase numbers) allowed =
+    let room = numbers_room limits numbers allowed.1 in
+    omega (arith, room)
 
 -- a body is no shorter and no longer than it may be
 body_length : (limits : Limits) (t : ℕ) (change : Option Change) → IfSome change (IsLoggedChange limits) → IsRecordLength limits (length (body_of t change))

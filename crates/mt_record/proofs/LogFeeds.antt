@@ -8,7 +8,7 @@ use Rattle.mt_words.specs.declared.fault.What.TheVariants.{Length, Trailer}
 use Rattle.mt_words.specs.declared.limits.Format.{Format}
 use Rattle.mt_words.specs.declared.limits.Limits.{Limits}
 use Rattle.mt_words.specs.declared.record.Change.{Change}
-use Rattle.mt_words.specs.Limits.{limits_of, widest}
+use Rattle.mt_words.specs.Limits.{limits_of, widest, widest_format}
 use Rattle.mt_words.specs.Changes.{Logged, IsLoggedChange}
 use Rattle.mt_words.proofs.Formats.{change_within}
 use Rattle.mt_record.specs.declared.read.FeedFault.{FeedFault}
@@ -101,7 +101,7 @@ pub nothing_read : {R : Type 0} (listed : R → List Logged) (records : R) → l
     → HoldsAll (λ items. HoldsLog [] (log_so_far listed items)) (λ items. IsLogLeft (log_so_far listed items)) (record { head = None; ready = records; latest = 0; whole = 0 }) [] []
 nothing_read listed records none = (
   record { front = []; joins = refl; read = rw none (record { spelled = refl; lawful = refl; latest = refl; whole = refl }) },
-  record { head = head_of 0; more = head_bytes (head_of 0); is_head = omega arith; some = omega arith; begun = refl },
+  record { head = head_of widest_format 0; more = head_bytes (head_of widest_format 0); is_head = omega arith; some = omega arith; begun = refl },
 )
 
 -- ---- the end

@@ -5,14 +5,14 @@ use Rattle.byteorder.specs.Endian.{big_bytes}
 use Rattle.mt_words.specs.declared.limits.Format.{Format}
 use Rattle.mt_words.specs.declared.record.Change.{Change}
 use Rattle.mt_words.specs.declared.update.Kind.{Kind as AnyKind}
-use Rattle.mt_words.specs.declared.update.Kind.TheVariants.{Put, Remove, Whole}
+use Rattle.mt_words.specs.declared.update.Kind.TheVariants.{Put, Remove, Whole, Erase}
 use Rattle.mt_words.specs.declared.fault.What.{What}
 use Rattle.mt_words.specs.declared.fault.What.TheVariants.{Length, Trailer, Kind, Frame, Version, Key, Columns, Clock}
 use Rattle.mt_words.specs.declared.limits.Limits.{Limits}
 use Rattle.mt_words.specs.Limits.{limits_of}
 use Rattle.mt_words.specs.Words.{IsKey}
 use Rattle.mt_words.specs.Changes.{Logged, changed, AllowsKind, IsLawful, IsLogged, IsLoggedChange}
-use Rattle.mt_record.specs.Spelling.{code_of, body_of, body, framed, spelling, FitsLogged, Fits, IsRecordLength}
+use Rattle.mt_record.specs.Spelling.{kind_byte, body_of, body, framed, spelling, Fits, IsRecordLength}
 use Rattle.mt_record.specs.Logs.{IsTorn}
 use Rattle.mt_record.specs.LogFaults.{IsKindByte, HasLengthFault, HasFrame, BodyFault, RestFault}
 use Rattle.mt_record.proofs.Unique.{same_split, same_number, same_body}
@@ -80,23 +80,24 @@ one_body limits low bytes a b h k = one_name h k (λ _ _ f g. one_name f g one_r
         let there = subst (FieldFault a limits low) (same_body x.0 y.0 x.1 y.1 (sym x.2 ∙ y.2)) f in
         one_name there g (λ _ _ f g. one_name f g (λ _ _ f g. one_name f g (λ _ _ f g. f.0 ∙ sym g.0)))
 
--- every format has each kind of record
-kind_byte : (format : Format) (kind : AnyKind) → IsLogged kind → IsKindByte (limits_of format) (code_of kind)
-kind_byte format (Put columns) logged = (omega arith, omega (arith, (within format).kinds))
-kind_byte format Remove logged = (omega arith, omega (arith, (within format).kinds))
-kind_byte format (Whole columns) logged = absurd logged
+-- a format has each kind of record that it allows
+has_kind_byte : (format : Format) (kind : AnyKind) → AllowsKind (limits_of format) kind → IsLogged kind → IsKindByte (limits_of format) (kind_byte kind)
+has_kind_byte format (Put columns) allowed logged = (omega arith, omega (arith, (within format).kinds))
+has_kind_byte format Remove allowed logged = (omega arith, omega (arith, (within format).kinds))
+has_kind_byte format (Whole columns) allowed logged = absurd logged
+has_kind_byte format (Erase numbers) allowed logged = (omega arith, allowed.0)
 
 -- so that a body begins with the byte of a kind
-body_byte : (format : Format) (t : ℕ) (change : Option Change) → IfSome change FitsLogged → IsKindByte (limits_of format) (slice_index (body_of t change) 0)
-body_byte format t None fits = (omega arith, (within format).kinds)
-body_byte format t (Some change) fits = kind_byte format change.kind fits.1
+body_byte : (format : Format) (t : ℕ) (change : Option Change) → IfSome change (IsLoggedChange (limits_of format)) → IsKindByte (limits_of format) (slice_index (body_of t change) 0)
+body_byte format t None lawful = (omega arith, (within format).kinds)
+body_byte format t (Some change) lawful = has_kind_byte format change.kind lawful.0.kind lawful.1
 
 -- the body of a lawful record in time has no fault
 no_body : (format : Format) (low : ℕ) (r : Logged) (a : What) → IsLawful (limits_of format) r → low ≤ r.timestamp → TestedBody a (limits_of format) low (body r) → ⊥
 no_body format low r a is le h =
     let fits = lawful_fits format r is in
     let lawful_change = passes (limits_of format) r.change is.1 in
-    none_fails (body_byte format r.timestamp r.change fits.1) (λ _ f. none_fails (r, fits, refl) (λ x g.
+    none_fails (body_byte format r.timestamp r.change is.1) (λ _ f. none_fails (r, fits, refl) (λ x g.
     none_fails lawful_change.0 (λ _ g. none_fails lawful_change.1 (λ _ g. none_fails lawful_change.2 (λ _ late. omega (arith, late.1, le)) g) g)
     (subst (FieldFault a (limits_of format) low) (same_body x.0 r x.1 fits (sym x.2)) g)) f) h
 

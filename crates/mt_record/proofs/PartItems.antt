@@ -4,7 +4,7 @@ use Rattle.std.proofs.lemmas.List.{append-nil, flat_map_more}
 use Rattle.std.specs.List.{flat_map, AllByRecursion}
 use Rattle.byteorder.specs.Endian.{big_bytes}
 use Rattle.mt_words.specs.declared.record.Change.{Change}
-use Rattle.mt_words.specs.Limits.{limits_of, widest}
+use Rattle.mt_words.specs.Limits.{limits_of, widest, widest_format}
 use Rattle.mt_words.specs.Changes.{IsEntry}
 use Rattle.mt_words.proofs.Rising.{all_push}
 use Rattle.mt_record.specs.declared.part_text.PartHead.{PartHead}
@@ -12,7 +12,6 @@ use Rattle.mt_record.specs.declared.part_text.PartFault.{PartFault}
 use Rattle.mt_record.specs.declared.part_text.PartFault.TheVariants as faults
 use Rattle.mt_record.specs.declared.part_items.PartItems.{PartItems}
 use Rattle.mt_record.specs.Spelling.{framed}
-use Rattle.mt_record.specs.Heads.{written_format}
 use Rattle.mt_record.specs.Bodies.{AreFieldsOf, IsNextEntry}
 use Rattle.mt_record.specs.Parts.{part_head, part_head_bytes, IsPartHead, entry_spelling, footer_bytes}
 use Rattle.mt_record.specs.PartFeeding.{part_so_far, end_bytes, ShowsNoEntry, ShowsNoPart, HoldsPart, IsPartLeft, IsPartFaulty}
@@ -94,8 +93,8 @@ pub nothing_read : {E : Type 0} (listed : E → List Change) (entries : E) → l
 nothing_read listed entries none = (
   record { front = []; joins = refl; read = rw none (record { spelled = refl; lawful = (refl, refl); fits = tt }) },
   record {
-    head = part_head written_format 0 0 0 0;
-    more = part_head_bytes (part_head written_format 0 0 0 0);
+    head = part_head widest_format 0 0 0 0;
+    more = part_head_bytes (part_head widest_format 0 0 0 0);
     is_head = record { number = omega arith; begin = omega arith; part = omega arith; parts = omega arith };
     some = omega arith;
     begun = refl;

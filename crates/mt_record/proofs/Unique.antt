@@ -6,9 +6,9 @@ use Rattle.byteorder.specs.Endian.{big_bytes, big_from}
 use Rattle.byteorder.specs.Numbers.{big_number-reads_back, length-bytes_high_first}
 use Rattle.mt_words.specs.declared.record.Change.{Change}
 use Rattle.mt_words.specs.declared.update.Kind.{Kind}
-use Rattle.mt_words.specs.declared.update.Kind.TheVariants.{Put, Remove, Whole}
+use Rattle.mt_words.specs.declared.update.Kind.TheVariants.{Put, Remove, Whole, Erase}
 use Rattle.mt_words.specs.Changes.{Logged}
-use Rattle.mt_record.specs.Spelling.{counted, column_bytes, code_of, kind_bytes, change_bytes, body_of, body, framed, FitsColumn, FitsKind, FitsChange, FitsLogged, Fits}
+use Rattle.mt_record.specs.Spelling.{counted, column_bytes, kind_byte, kind_bytes, change_bytes, body_of, body, framed, FitsColumn, FitsKind, FitsChange, FitsLogged, Fits}
 
 -- ---- fields
 
@@ -72,19 +72,26 @@ pub apart : (a b : ℕ) → a < b → a ≡ b → ⊥
 apart a b below same = omega arith
 
 -- what a kind carries is that of one kind of this byte
-same_kind : (a b : Kind) → FitsKind a → FitsKind b → code_of a ≡ code_of b → kind_bytes a ≡ kind_bytes b → a ≡ b
+same_kind : (a b : Kind) → FitsKind a → FitsKind b → kind_byte a ≡ kind_byte b → kind_bytes a ≡ kind_bytes b → a ≡ b
 same_kind (Put cs) (Put ds) fits_a fits_b code e = ap Put (same_carried cs ds fits_a.1 fits_b.1 e)
 same_kind (Put cs) Remove fits_a fits_b code e = absurd (apart 1 2 (omega arith) code)
 same_kind (Put cs) (Whole ds) fits_a fits_b code e = absurd (apart 0 1 (omega arith) (sym code))
+same_kind (Put cs) (Erase ms) fits_a fits_b code e = absurd (apart 1 4 (omega arith) code)
 same_kind Remove (Put ds) fits_a fits_b code e = absurd (apart 1 2 (omega arith) (sym code))
 same_kind Remove Remove fits_a fits_b code e = refl
 same_kind Remove (Whole ds) fits_a fits_b code e = absurd (apart 0 2 (omega arith) (sym code))
+same_kind Remove (Erase ms) fits_a fits_b code e = absurd (apart 2 4 (omega arith) code)
 same_kind (Whole cs) (Put ds) fits_a fits_b code e = absurd (apart 0 1 (omega arith) code)
 same_kind (Whole cs) Remove fits_a fits_b code e = absurd (apart 0 2 (omega arith) code)
 same_kind (Whole cs) (Whole ds) fits_a fits_b code e = ap Whole (same_carried cs ds fits_a.1 fits_b.1 e)
+same_kind (Whole cs) (Erase ms) fits_a fits_b code e = absurd (apart 0 4 (omega arith) code)
+same_kind (Erase ns) (Put ds) fits_a fits_b code e = absurd (apart 1 4 (omega arith) (sym code))
+same_kind (Erase ns) Remove fits_a fits_b code e = absurd (apart 2 4 (omega arith) (sym code))
+same_kind (Erase ns) (Whole ds) fits_a fits_b code e = absurd (apart 0 4 (omega arith) (sym code))
+same_kind (Erase ns) (Erase ms) fits_a fits_b code e = ap Erase (ap (drop 1) e)
 
 -- the fields of a change are those of one change
-pub same_change : (a b : Change) → FitsChange a → FitsChange b → code_of a.kind ≡ code_of b.kind → change_bytes a ≡ change_bytes b → a ≡ b
+pub same_change : (a b : Change) → FitsChange a → FitsChange b → kind_byte a.kind ≡ kind_byte b.kind → change_bytes a ≡ change_bytes b → a ≡ b
 same_change a b fits_a fits_b code e =
     let left = counted a.key ++ kind_bytes a.kind in
     let right = counted b.key ++ kind_bytes b.kind in
@@ -94,10 +101,11 @@ same_change a b fits_a fits_b code e =
     λ i. record { version = version.0 i; key = key.0 i; kind = kind i }
 
 -- no kind has the byte of a mark
-pub no_mark : (kind : Kind) → 3 ≡ code_of kind → ⊥
+pub no_mark : (kind : Kind) → 3 ≡ kind_byte kind → ⊥
 no_mark (Put columns) same = apart 1 3 (omega arith) (sym same)
 no_mark Remove same = apart 2 3 (omega arith) (sym same)
 no_mark (Whole columns) same = apart 0 3 (omega arith) (sym same)
+no_mark (Erase numbers) same = apart 3 4 (omega arith) same
 
 -- the bytes are the body of one record
 same_body_of : (t u : ℕ) (a b : Option Change) → t < 2 ^ 64 → u < 2 ^ 64 → IfSome a FitsLogged → IfSome b FitsLogged
@@ -108,7 +116,7 @@ same_body_of t u None None fits_t fits_u fits_a fits_b e =
 same_body_of t u None (Some b) fits_t fits_u fits_a fits_b e = absurd (no_mark b.kind (ap (λ (x : List ℕ). slice_index x 0) e))
 same_body_of t u (Some a) None fits_t fits_u fits_a fits_b e = absurd (no_mark a.kind (sym (ap (λ (x : List ℕ). slice_index x 0) e)))
 same_body_of t u (Some a) (Some b) fits_t fits_u fits_a fits_b e =
-    let code : code_of a.kind ≡ code_of b.kind = ap (λ (x : List ℕ). slice_index x 0) e in
+    let code : kind_byte a.kind ≡ kind_byte b.kind = ap (λ (x : List ℕ). slice_index x 0) e in
     let tails : big_bytes 8 t ++ change_bytes a ≡ big_bytes 8 u ++ change_bytes b = ap (drop 1) e in
     let time = same_number 8 t u (change_bytes a) (change_bytes b) fits_t fits_u tails in
     (time.0, ap Some (same_change a b fits_a.0 fits_b.0 code time.1))

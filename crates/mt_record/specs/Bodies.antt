@@ -6,13 +6,13 @@ use Rattle.mt_words.specs.declared.fault.What.{What}
 use Rattle.mt_words.specs.declared.fault.What.TheVariants.{Length, Trailer, Frame, Version, Key, Columns}
 use Rattle.mt_words.specs.declared.record.Change.{Change}
 use Rattle.mt_words.specs.declared.update.Kind.{Kind}
-use Rattle.mt_words.specs.declared.update.Kind.TheVariants.{Put}
+use Rattle.mt_words.specs.declared.update.Kind.TheVariants.{Put, Erase}
 use Rattle.mt_words.specs.declared.limits.Limits.{Limits}
 use Rattle.mt_words.specs.Limits.{widest}
-use Rattle.mt_words.specs.Words.{AreColumns}
+use Rattle.mt_words.specs.Words.{AreColumns, AreNumbers}
 use Rattle.mt_words.specs.Changes.{Logged, IsLawful, IsLawfulChange, AllowsKind, IsEntry}
 use Rattle.mt_record.specs.declared.body.ChangeFields.{ChangeFields}
-use Rattle.mt_record.specs.Spelling.{counted, column_bytes, code_of, kind_bytes, change_bytes, body, framed, spelling, FitsColumn, FitsKind, FitsChange}
+use Rattle.mt_record.specs.Spelling.{counted, column_bytes, kind_byte, kind_bytes, change_bytes, body, framed, spelling, FitsColumn, FitsKind, FitsChange}
 use Rattle.mt_record.specs.LogFaults.{HasLengthFault, HasTrailerFault, HasVersionFault, HasKeyFault, HasColumnsFault}
 
 -- the next record of a log, and what follows it
@@ -85,18 +85,18 @@ pub record IsNextEntry (limits : Limits) (bytes body after : List ℕ) : Type 0 
 -- the bytes are a change of the kind of this byte
 pub record IsChangeOf (limits : Limits) (byte : ℕ) (bytes : List ℕ) (change : Change) : Type 0 where
   pub lawful : IsLawfulChange limits change
-  pub code : code_of change.kind ≡ byte
+  pub code : kind_byte change.kind ≡ byte
   pub spelled : bytes ≡ change_bytes change
 
 -- the bytes are no change of the kind of this byte
 abbrev pub IsNoChange : ℕ → List ℕ → Type 0
-IsNoChange code bytes = (change : Change) → FitsChange change → code_of change.kind ≡ code → bytes ≢ change_bytes change
+IsNoChange code bytes = (change : Change) → FitsChange change → kind_byte change.kind ≡ code → bytes ≢ change_bytes change
 
 -- the fields are those of a change, of the kind of this byte, of which this holds
 pub record IsChangeWith (byte : ℕ) (bytes : List ℕ) (P : Change → Type 0) : Type 0 where
   pub change : Change
   pub fits : FitsChange change
-  pub code : code_of change.kind ≡ byte
+  pub code : kind_byte change.kind ≡ byte
   pub spelled : bytes ≡ change_bytes change
   pub holds : P change
 
@@ -112,7 +112,7 @@ IsChangeFault limits code bytes what = ⊥
 
 -- the bytes are what the kind, which has this byte, carries
 pub record IsKindOf (byte : ℕ) (bytes : List ℕ) (kind : Kind) : Type 0 where
-  pub code : code_of kind ≡ byte
+  pub code : kind_byte kind ≡ byte
   pub spelled : bytes ≡ kind_bytes kind
   pub fits : FitsKind kind
 
@@ -175,6 +175,12 @@ pub record IsColumnsFault (Allows : List (ℕ × List ℕ) → Type 0) (count : 
   pub columns : List (ℕ × List ℕ)
   pub spelled : AreSpelled count bytes columns
   pub refused : Allows columns → ⊥
+
+-- these numbers of columns behind how many they are, which is at least one
+pub record CarriesNumbers (bytes numbers : List ℕ) : Type 0 where
+  pub lawful : AreNumbers widest numbers
+  pub some : 0 < length numbers
+  pub spelled : bytes ≡ kind_bytes (Erase numbers)
 
 -- these columns behind their number, of which there is at least one
 pub record CarriesColumns (bytes : List ℕ) (columns : List (ℕ × List ℕ)) : Type 0 where

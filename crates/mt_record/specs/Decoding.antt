@@ -1,15 +1,19 @@
 -- What a body says, read back from its bytes.
-use Rattle.std.specs.Prelude.{◌≡◌, ◌<◌, ◌^◌, ℕ, zero, suc, Bool, true, false, eqb, List, [], ◌∷◌, length, take, drop, slice_index, Option, Some, None, IfSome, MatchBool}
+use Rattle.std.specs.Prelude.{◌≡◌, ◌≤◌, ◌<◌, ◌^◌, ℕ, zero, suc, Bool, true, false, eqb, List, [], ◌∷◌, length, map, take, drop, slice_index, Option, Some, None, IfSome}
 use Rattle.std.specs.List.{AllByRecursion}
 use Rattle.byteorder.specs.Endian.{big_from}
+use Rattle.mt_words.specs.declared.code.Code.{Code}
+use Rattle.mt_words.specs.declared.code.Code.TheVariants as codes
+use Rattle.mt_words.specs.declared.code.Payload.{Payload}
+use Rattle.mt_words.specs.declared.code.Payload.TheVariants as payloads
 use Rattle.mt_words.specs.declared.record.Change.{Change}
 use Rattle.mt_words.specs.declared.update.Origin.{Origin}
 use Rattle.mt_words.specs.declared.update.Kind.{Kind}
-use Rattle.mt_words.specs.declared.update.Kind.TheVariants.{Put, Remove, Whole}
+use Rattle.mt_words.specs.declared.update.Kind.TheVariants.{Put, Remove, Whole, Erase}
 use Rattle.mt_words.specs.declared.update.Update.{Update}
 use Rattle.mt_words.specs.Limits.{widest}
-use Rattle.mt_words.specs.Words.{IsKey, IsColumn, AreColumns}
-use Rattle.mt_words.specs.Changes.{Logged}
+use Rattle.mt_words.specs.Words.{IsKey, IsColumn}
+use Rattle.mt_words.specs.Changes.{Logged, Write, set, erased, writes_of, AreWrites}
 use Rattle.mt_words.specs.Updates.{update_at}
 use Rattle.mt_record.specs.Spelling.{body}
 use Rattle.mt_record.specs.Bodies.{AreSpelled}
@@ -26,22 +30,36 @@ columns_from (suc n) bytes =
 abbrev pub columns_counted : List ℕ → List (ℕ × List ℕ)
 columns_counted bytes = columns_from (slice_index bytes 0) (drop 1 bytes)
 
--- the kind that carries the bytes: a remove where the first is true, a whole where the second is, and else a put
-abbrev pub kind_from : Bool → Bool → List ℕ → Kind
-kind_from true whole bytes = Remove
-kind_from false true bytes = Whole (columns_counted bytes)
-kind_from false false bytes = Put (columns_counted bytes)
+-- numbers of columns behind how many they are
+abbrev pub numbers_counted : List ℕ → List ℕ
+numbers_counted bytes = take (slice_index bytes 0) (drop 1 bytes)
 
--- the columns that a kind sets
-abbrev pub columns_in : Kind → List (ℕ × List ℕ)
-columns_in (Put columns) = columns
-columns_in Remove = []
-columns_in (Whole columns) = columns
+-- the code of this byte; a remove's stands for that of any other byte, which is not looked at
+abbrev pub code_from : ℕ → Code
+code_from byte = by (eqb byte 0) (eqb byte 1) (eqb byte 4)
+  where
+    by : Bool → Bool → Bool → Code
+    by true put erase = codes.Whole
+    by false true erase = codes.Put
+    by false false true = codes.Erase
+    by false false false = codes.Remove
 
--- those of a kind that carries the bytes; it is a remove where this is true
-abbrev pub columns_carried : Bool → List ℕ → List (ℕ × List ℕ)
-columns_carried true bytes = []
-columns_carried false bytes = columns_counted bytes
+-- the kind of this code that carries the bytes
+abbrev pub kind_from : Code → List ℕ → Kind
+kind_from codes.Whole bytes = Whole (columns_counted bytes)
+kind_from codes.Put bytes = Put (columns_counted bytes)
+kind_from codes.Remove bytes = Remove
+kind_from codes.Erase bytes = Erase (numbers_counted bytes)
+
+-- so many writes from the front
+abbrev pub writes_from : Payload → ℕ → List ℕ → List Write
+writes_from payloads.Nothing count bytes = []
+writes_from payloads.Columns count bytes = map set (columns_from count bytes)
+writes_from payloads.Numbers count bytes = map erased (take count bytes)
+
+-- the writes of a change that carries the bytes
+abbrev pub writes_carried : Payload → List ℕ → List Write
+writes_carried payload bytes = writes_from payload (slice_index bytes 0) (drop 1 bytes)
 
 -- ---- the fields of a body
 
@@ -49,12 +67,9 @@ columns_carried false bytes = columns_counted bytes
 unfoldable pub is_mark_in : List ℕ → Bool
 is_mark_in bytes = eqb (slice_index bytes 0) 3
 
-unfoldable pub is_remove_in : List ℕ → Bool
-is_remove_in bytes = eqb (slice_index bytes 0) 2
-
--- it is that of an entry of a checkpoint
-unfoldable pub is_whole_in : List ℕ → Bool
-is_whole_in bytes = eqb (slice_index bytes 0) 0
+-- the code of its change
+unfoldable pub code_in : List ℕ → Code
+code_in bytes = code_from (slice_index bytes 0)
 
 unfoldable pub time_in : List ℕ → ℕ
 time_in bytes = big_from 0 8 (drop 1 bytes)
@@ -75,7 +90,7 @@ unfolding key_length_in
 carried_in bytes = drop (key_length_in bytes) (drop 19 bytes)
 
 abbrev pub kind_in : List ℕ → Kind
-kind_in bytes = kind_from (is_remove_in bytes) (is_whole_in bytes) (carried_in bytes)
+kind_in bytes = kind_from (code_in bytes) (carried_in bytes)
 
 -- ---- the record
 
@@ -96,11 +111,11 @@ change_unless false change = Some change
 abbrev pub decode : List ℕ → Logged
 decode bytes = record { timestamp = time_in bytes; change = change_unless (is_mark_in bytes) (change_in bytes) }
 
--- what an update in memory may do: what is lawful, but its version may be 0, and it may set no column
+-- what an update in memory may do: what is lawful, but its version may be 0, and it may write no column
 pub record IsSound (change : Change) : Type 0 where
   pub version : change.version < 2 ^ 64
   pub key : IsKey widest change.key
-  pub columns : AreColumns widest (columns_in change.kind)
+  pub writes : AreWrites widest (writes_of change.kind)
 
 -- The bytes are the body of a mark or of a change. That of an entry is spelled as a record of its kind would be.
 pub record IsBody (bytes : List ℕ) : Type 0 where
@@ -117,18 +132,31 @@ pub record IsEntryBody (bytes : List ℕ) : Type 0 where
   pub change : IsChangeBody bytes
   pub no_time : time_in bytes ≡ 0
 
--- ---- columns that are lent
+-- ---- writes that are lent
 
 -- so many lawful columns are spelled so
-pub record AreLent (count : ℕ) (bytes : List ℕ) : Type 0 where
+pub record AreLentColumns (count : ℕ) (bytes : List ℕ) : Type 0 where
   pub spelled : AreSpelled count bytes (columns_from count bytes)
   pub lawful : AllByRecursion (IsColumn widest) (columns_from count bytes)
 
--- lawful columns behind their number
-pub record AreCounted (bytes : List ℕ) : Type 0 where
-  pub some : 0 < length bytes
-  pub columns : AreLent (slice_index bytes 0) (drop 1 bytes)
+-- so many lawful numbers
+pub record AreLentNumbers (count : ℕ) (bytes : List ℕ) : Type 0 where
+  pub number : length bytes ≡ count
+  pub lawful : AllByRecursion (λ number. number ≤ widest.column) bytes
 
--- what is carried, by a remove where this is true: nothing, or columns
-abbrev pub IsCarried : Bool → List ℕ → Type 0
-IsCarried remove bytes = MatchBool remove (bytes ≡ []) (AreCounted bytes)
+-- so many lawful writes
+abbrev pub AreLent : Payload → ℕ → List ℕ → Type 0
+AreLent payloads.Nothing count bytes = Unit {0}
+AreLent payloads.Columns count bytes = AreLentColumns count bytes
+AreLent payloads.Numbers count bytes = AreLentNumbers count bytes
+
+-- lawful writes, after their count
+pub record AreCounted (payload : Payload) (bytes : List ℕ) : Type 0 where
+  pub some : 0 < length bytes
+  pub writes : AreLent payload (slice_index bytes 0) (drop 1 bytes)
+
+-- what a change carries: nothing, or lawful writes after their count
+abbrev pub IsCarried : Payload → List ℕ → Type 0
+IsCarried payloads.Nothing bytes = (bytes ≡ [])
+IsCarried payloads.Columns bytes = AreCounted payloads.Columns bytes
+IsCarried payloads.Numbers bytes = AreCounted payloads.Numbers bytes

@@ -2,18 +2,13 @@
 use Rattle.std.specs.Prelude.{ℕ, ◌<◌, ◌^◌, List, ◌++◌, codes}
 use Rattle.byteorder.specs.Endian.{big_bytes}
 use Rattle.mt_words.specs.declared.limits.Format.{Format}
-use Rattle.mt_words.specs.declared.limits.Format.TheVariants.{One}
 use Rattle.mt_words.specs.Limits.{magic}
 use Rattle.mt_record.specs.declared.head.Head.{Head}
 use Rattle.mt_record.specs.Fronts.{NoneBegins}
 
--- the format in which logs and parts are written
-abbrev pub written_format : Format
-written_format = One
-
--- the header of a log that is written
-abbrev pub head_of : ℕ → Head
-head_of from = record { format = written_format; from = from }
+-- the header of a log of this format
+abbrev pub head_of : Format → ℕ → Head
+head_of format from = record { format = format; from = from }
 
 abbrev pub head_bytes : Head → List ℕ
 head_bytes head = magic (codes "MTL") head.format ++ big_bytes 8 head.from

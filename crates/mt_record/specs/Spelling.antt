@@ -5,8 +5,9 @@ use Rattle.byteorder.specs.Endian.{big_bytes}
 use Rattle.mt_words.specs.declared.limits.TheConstants.{LONGEST_VALUE}
 use Rattle.mt_words.specs.declared.record.Change.{Change}
 use Rattle.mt_words.specs.declared.update.Kind.{Kind}
-use Rattle.mt_words.specs.declared.update.Kind.TheVariants.{Put, Remove, Whole}
+use Rattle.mt_words.specs.declared.update.Kind.TheVariants.{Put, Remove, Whole, Erase}
 use Rattle.mt_words.specs.declared.limits.Limits.{Limits}
+use Rattle.mt_words.specs.Codes.{code_of, byte_of}
 use Rattle.mt_words.specs.Changes.{Logged, IsLogged}
 
 -- bytes behind their length
@@ -17,26 +18,25 @@ counted bytes = big_bytes 2 (length bytes) ++ bytes
 abbrev pub column_bytes : ℕ × List ℕ → List ℕ
 column_bytes column = column.0 ∷ counted column.1
 
--- the byte of a kind; that of a mark is 3, and that of a whole, which no record has, is 0
-abbrev pub code_of : Kind → ℕ
-code_of (Put columns) = 1
-code_of Remove = 2
-code_of (Whole columns) = 0
+-- the byte of a kind
+abbrev pub kind_byte : Kind → ℕ
+kind_byte kind = byte_of (code_of kind)
 
--- what a kind carries: a put and a whole their columns behind their number, a remove nothing
+-- what a kind carries: a put and a whole their columns behind their number, an erase its numbers, a remove nothing
 abbrev pub kind_bytes : Kind → List ℕ
 kind_bytes (Put columns) = length columns ∷ flat_map column_bytes columns
 kind_bytes Remove = []
 kind_bytes (Whole columns) = length columns ∷ flat_map column_bytes columns
+kind_bytes (Erase numbers) = length numbers ∷ numbers
 
 -- the version, the counted key, and what the kind carries
 abbrev pub change_bytes : Change → List ℕ
 change_bytes change = big_bytes 8 change.version ++ (counted change.key ++ kind_bytes change.kind)
 
--- the byte of the kind, the timestamp, and the change, if there is one
+-- the byte of the kind, the timestamp, and the change, if there is one; a mark has the byte 3
 abbrev pub body_of : ℕ → Option Change → List ℕ
 body_of timestamp None = 3 ∷ big_bytes 8 timestamp
-body_of timestamp (Some change) = code_of change.kind ∷ (big_bytes 8 timestamp ++ change_bytes change)
+body_of timestamp (Some change) = kind_byte change.kind ∷ (big_bytes 8 timestamp ++ change_bytes change)
 
 abbrev pub body : Logged → List ℕ
 body r = body_of r.timestamp r.change
@@ -70,6 +70,7 @@ abbrev pub FitsKind : Kind → Type 0
 FitsKind (Put columns) = (length columns < 2 ^ 8) × AllByRecursion FitsColumn columns
 FitsKind Remove = Unit {0}
 FitsKind (Whole columns) = (length columns < 2 ^ 8) × AllByRecursion FitsColumn columns
+FitsKind (Erase numbers) = (length numbers < 2 ^ 8) × AllByRecursion (λ number. number < 2 ^ 8) numbers
 
 pub record FitsChange (change : Change) : Type 0 where
   pub version : change.version < 2 ^ 64

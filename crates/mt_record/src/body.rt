@@ -1,20 +1,13 @@
 //! The fields of bodies: what stands between the two lengths of a record or of an entry, as it stands there.
 ghost use Rattle.std.specs.Prelude.{◌↔◌, IfSome, IfNone, IsTrue};
+ghost use Rattle.mt_words.specs.Codes.{byte_of};
 ghost use Rattle.mt_record.specs.Bodies.{AreChangeFields, SpellFields, HasNoFields, IsNoChange, HasKind, HasColumns};
 
 use crate::fields::{column_at, counted_at, u64_at};
+use mt_words::{Code, Payload};
 
-/// The byte of a put.
-pub const PUT: u8 = 1;
-
-/// The byte of a remove.
-pub const REMOVE: u8 = 2;
-
-/// The byte of a mark.
+/// The byte of a mark, which is no change and has no code.
 pub const MARK: u8 = 3;
-
-/// The byte of a whole, which no record has.
-pub const WHOLE: u8 = 0;
 
 /// The fields of a change as they stand among its bytes.
 #[derive(Clone, Copy)]
@@ -25,10 +18,10 @@ pub struct ChangeFields<'a> {
     pub carried: &'a [u8],
 }
 
-/// The fields of a change of the kind of this byte, where the bytes are just those.
-pub fn change_fields(code: u8, bytes: &[u8]) -> Option<ChangeFields<'_>>
-    ensures found { IfSome result (AreChangeFields code bytes.now) }
-    ensures none { IfNone result (IsNoChange code bytes.now) }
+/// The fields of a change of this code, where the bytes are just those.
+pub fn change_fields(code: Code, bytes: &[u8]) -> Option<ChangeFields<'_>>
+    ensures found { IfSome result (AreChangeFields (byte_of code) bytes.now) }
+    ensures none { IfNone result (IsNoChange (byte_of code) bytes.now) }
 {
     let fields = fields_at(bytes)?;
     if !has_kind(code, fields.carried) {
@@ -51,15 +44,15 @@ pub fn fields_at(bytes: &[u8]) -> Option<ChangeFields<'_>>
     })
 }
 
-/// Whether the bytes are just what a kind of this byte carries.
-fn has_kind(code: u8, bytes: &[u8]) -> bool
-    ensures { IsTrue result ↔ HasKind code bytes.now }
+/// Whether the bytes are just what a change of this code carries.
+fn has_kind(code: Code, bytes: &[u8]) -> bool
+    ensures { IsTrue result ↔ HasKind (byte_of code) bytes.now }
 {
-    match (code, bytes) {
-        (PUT, [count, columns @ ..]) => has_columns(*count, columns),
-        (WHOLE, [count, columns @ ..]) => has_columns(*count, columns),
-        (REMOVE, []) => true,
-        _ => false,
+    match (code.payload(), bytes) {
+        (Payload::Nothing, _) => bytes.is_empty(),
+        (Payload::Columns, [count, columns @ ..]) => has_columns(*count, columns),
+        (Payload::Numbers, [count, numbers @ ..]) => numbers.len() == usize::from(*count),
+        (_, []) => false,
     }
 }
 

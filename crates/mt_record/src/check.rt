@@ -1,15 +1,17 @@
 //! Bodies checked as they stand: nothing is copied, and no memory is taken.
 ghost use Rattle.std.specs.Prelude.{◌≡◌, ◌≤◌, ◌<◌, ℕ, List, length, IfOk, IfErr, OnOk, OnErr};
 ghost use Rattle.mt_words.specs.Limits.{limits_of};
-ghost use Rattle.mt_words.specs.Words.{AreColumns};
+ghost use Rattle.mt_words.specs.Codes.{byte_of};
+ghost use Rattle.mt_words.specs.Words.{AreColumns, AreNumbers};
+ghost use Rattle.mt_words.specs.declared.fault.What.TheVariants.{Columns};
 ghost use Rattle.mt_words.specs.declared.record.Change.{Change as ChangeValue};
 ghost use Rattle.mt_words.specs.declared.update.Kind.{Kind as KindValue};
 ghost use Rattle.mt_record.specs.LogFaults.{BodyFault};
 ghost use Rattle.mt_record.specs.Bodies.{IsBodyAt, AreFieldsOf, AreNoFields, IsChangeOf, IsChangeFault, HasKind, IsAllowedKind, IsKindFault, HasColumns, AreSomeColumns, HasAllowedColumns, IsColumnsFault};
 
-use crate::body::{MARK, PUT, REMOVE, WHOLE, change_fields};
+use crate::body::change_fields;
 use crate::fields::{column_at, u64_at};
-use mt_words::{Format, What};
+use mt_words::{Code, Format, Numbers, Payload, What};
 
 /// Checks the body of a record behind one of timestamp `latest`; its timestamp.
 pub fn check_body(format: Format, latest: u64, bytes: &[u8]) -> Result<u64, What>
@@ -28,22 +30,23 @@ fn check_record(format: Format, bytes: &[u8]) -> Result<u64, What>
     ensures found { IfOk result (IsBodyAt (limits_of format) 0 bytes.now) }
     ensures fault { IfErr result (λ what. (low : ℕ) → BodyFault what (limits_of format) low bytes.now) }
 {
-    let [code, fields @ ..] = bytes else {
+    let [byte, fields @ ..] = bytes else {
         return Err(What::Kind);
     };
-    if *code == WHOLE || *code > format.limits().kind {
+    if *byte == Code::Whole.byte() || *byte > format.limits().kind {
         return Err(What::Kind);
     }
     let Some((timestamp, rest)) = u64_at(fields) else {
         return Err(What::Frame);
     };
-    match (*code, rest) {
-        (MARK, []) => Ok(timestamp),
-        (MARK, _) => Err(What::Frame),
-        (code, _) => {
+    match (Code::of_byte(*byte), rest) {
+        (Some(code), _) => {
             check_change(format, code, rest)?;
             Ok(timestamp)
         }
+        // A mark: the one byte of a record that is no change's.
+        (None, []) => Ok(timestamp),
+        (None, _) => Err(What::Frame),
     }
 }
 
@@ -52,13 +55,14 @@ pub fn check_entry(format: Format, bytes: &[u8]) -> Result<(), What>
     ensures found { OnOk result ((entry : ChangeValue) × AreFieldsOf (limits_of format) bytes.now entry) }
     ensures fault { OnErr result (AreNoFields (limits_of format) bytes.now) }
 {
-    check_change(format, WHOLE, bytes)
+    check_change(format, Code::Whole, bytes)
 }
 
-/// Checks the change that the bytes are, of the kind of this byte. All faults are tested in their order.
-fn check_change(format: Format, code: u8, bytes: &[u8]) -> Result<(), What>
-    ensures found { OnOk result ((change : ChangeValue) × IsChangeOf (limits_of format) code bytes.now change) }
-    ensures fault { IfErr result (IsChangeFault (limits_of format) code bytes.now) }
+/// Checks the change of this code that the bytes are. All faults are tested in their order.
+fn check_change(format: Format, code: Code, bytes: &[u8]) -> Result<(), What>
+    requires { byte_of code ≤ (limits_of format).kind }
+    ensures found { OnOk result ((change : ChangeValue) × IsChangeOf (limits_of format) (byte_of code) bytes.now change) }
+    ensures fault { IfErr result (IsChangeFault (limits_of format) (byte_of code) bytes.now) }
 {
     let Some(fields) = change_fields(code, bytes) else {
         return Err(What::Frame);
@@ -73,17 +77,29 @@ fn check_change(format: Format, code: u8, bytes: &[u8]) -> Result<(), What>
     Ok(())
 }
 
-/// Checks the kind of this byte that carries the bytes.
-fn check_kind(format: Format, code: u8, bytes: &[u8]) -> Result<(), What>
-    requires { HasKind code bytes.now }
-    ensures found { OnOk result ((kind : KindValue) × IsAllowedKind (limits_of format) code bytes.now kind) }
-    ensures fault { IfErr result (IsKindFault (limits_of format) code bytes.now) }
+/// Checks what a change of this code carries.
+fn check_kind(format: Format, code: Code, bytes: &[u8]) -> Result<(), What>
+    requires within { byte_of code ≤ (limits_of format).kind }
+    requires kind { HasKind (byte_of code) bytes.now }
+    ensures found { OnOk result ((kind : KindValue) × IsAllowedKind (limits_of format) (byte_of code) bytes.now kind) }
+    ensures fault { IfErr result (IsKindFault (limits_of format) (byte_of code) bytes.now) }
 {
-    match (code, bytes) {
-        (PUT, [count, columns @ ..]) => check_some(format, *count, columns),
-        (WHOLE, [count, columns @ ..]) => check_some(format, *count, columns),
-        (REMOVE, []) => Ok(()),
-        _ => unreachable!(),
+    match (code.payload(), bytes) {
+        (Payload::Nothing, _) => Ok(()),
+        (Payload::Columns, [count, columns @ ..]) => check_some(format, *count, columns),
+        (Payload::Numbers, [_, numbers @ ..]) => check_numbers(format, numbers),
+        (_, []) => unreachable!(),
+    }
+}
+
+/// Checks the numbers of an erase, of which there is to be at least one.
+fn check_numbers(format: Format, numbers: &[u8]) -> Result<(), What>
+    ensures found { OnOk result (AreNumbers (limits_of format) numbers.now × (0 < length numbers.now)) }
+    ensures fault { IfErr result (λ what. (what ≡ Columns) × (AreNumbers (limits_of format) numbers.now × (0 < length numbers.now) → ⊥)) }
+{
+    match Numbers::new(numbers) {
+        Some(numbers) if numbers.are_up_to(format.limits().column) => Ok(()),
+        _ => Err(What::Columns),
     }
 }
 

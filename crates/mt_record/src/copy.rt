@@ -2,11 +2,11 @@
 //! copies it once more where it is short.
 ghost use Rattle.std.specs.Prelude.{◌≡◌, ℕ, List, IfOk};
 ghost use Rattle.mt_words.specs.Limits.{widest};
-ghost use Rattle.mt_record.specs.Bodies.{IsLawfulBody, IsBodyOf, AreFields, AreFieldsOf, CarriesColumns};
+ghost use Rattle.mt_record.specs.Bodies.{IsLawfulBody, IsBodyOf, AreFields, AreFieldsOf, CarriesColumns, CarriesNumbers};
 
-use crate::body::{MARK, REMOVE, fields_at};
+use crate::body::fields_at;
 use crate::fields::{column_at, u64_at};
-use mt_words::{Columns, Entry, Key, Memory, Record};
+use mt_words::{Code, Columns, Entry, Key, Memory, Numbers, Record};
 use std::alloc::Global;
 
 /// The record of this body.
@@ -14,24 +14,30 @@ pub fn copy_record(alloc: Global, bytes: &[u8]) -> Result<Record, Memory>
     requires { IsLawfulBody bytes.now }
     ensures { IfOk result (IsBodyOf widest 0 bytes.now) }
 {
-    let Some((code, fields)) = bytes.split_first() else {
+    let Some((byte, fields)) = bytes.split_first() else {
         unreachable!();
     };
     let Some((timestamp, rest)) = u64_at(fields) else {
         unreachable!();
     };
-    if *code == MARK {
+    let Some(code) = Code::of_byte(*byte) else {
         return Ok(Record::mark(timestamp));
-    }
+    };
     let Some(fields) = fields_at(rest) else {
         unreachable!();
     };
     let key = Key::copy_of(alloc, fields.key)?;
-    let record = if *code == REMOVE {
-        Record::remove(timestamp, fields.version, key)
-    } else {
-        let columns = copy_columns(alloc, fields.carried)?;
-        Record::put(timestamp, fields.version, key, columns)
+    let record = match code {
+        Code::Put => {
+            let columns = copy_columns(alloc, fields.carried)?;
+            Record::put(timestamp, fields.version, key, columns)
+        }
+        Code::Remove => Record::remove(timestamp, fields.version, key),
+        Code::Erase => {
+            let numbers = copy_numbers(fields.carried);
+            Record::erase(timestamp, fields.version, key, numbers)
+        }
+        Code::Whole => unreachable!(),
     };
     let Some(record) = record else {
         unreachable!();
@@ -53,6 +59,20 @@ pub fn copy_entry(alloc: Global, bytes: &[u8]) -> Result<Entry, Memory>
         unreachable!();
     };
     Ok(entry)
+}
+
+/// The numbers that the bytes are, behind how many they are.
+fn copy_numbers(bytes: &[u8]) -> Numbers
+    requires { (numbers : List ℕ) × CarriesNumbers bytes.now numbers }
+    ensures { CarriesNumbers bytes.now result }
+{
+    let Some((_, numbers)) = bytes.split_first() else {
+        unreachable!();
+    };
+    let Some(numbers) = Numbers::new(numbers) else {
+        unreachable!();
+    };
+    numbers
 }
 
 /// The columns that the bytes are, behind their number.

@@ -1,25 +1,42 @@
 //! Logs written as bytes. The room for all bytes is made first: where it is refused, nothing was written.
 ghost use Rattle.std.specs.Prelude.{◌≡◌, ◌<◌, ◌^◌, ◌++◌, length, OnOk, OnErr};
 ghost use Rattle.mt_words.specs.Limits.{widest};
-ghost use Rattle.mt_words.specs.Words.{AreColumns};
-ghost use Rattle.mt_words.specs.declared.update.Kind.TheVariants.{Put};
+ghost use Rattle.mt_words.specs.declared.limits.Format.TheVariants.{One, Two};
+ghost use Rattle.mt_words.specs.Words.{AreColumns, AreNumbers};
+ghost use Rattle.mt_words.specs.Changes.{AreWrites, writes_of};
+ghost use Rattle.mt_words.specs.declared.update.Kind.TheVariants.{Put, Erase};
 ghost use Rattle.mt_record.specs.Heads.{head_of, head_bytes};
-ghost use Rattle.mt_record.specs.Spelling.{code_of as code_of_kind, column_bytes, kind_bytes, change_bytes, body, spelling, IsRecordLength};
-ghost use Rattle.mt_record.specs.Decoding.{columns_in};
+ghost use Rattle.mt_record.specs.Spelling.{column_bytes, kind_bytes, change_bytes, body, spelling, IsRecordLength};
 ghost use Rattle.mt_record.specs.Adding.{HasRoom, Adds};
 
-use crate::body::{MARK, PUT, REMOVE, WHOLE};
-use crate::head::{HEADER_BYTES, LOG, WRITTEN_FORMAT};
+use crate::body::MARK;
+use crate::head::{HEADER_BYTES, LOG};
 use crate::put::{put_bytes, put_column, put_counted, put_magic};
-use mt_words::{Change, Column, Kind, Memory, Record};
+use mt_words::{Change, Column, Format, Kind, Memory, Record};
 
 /// Appends the header of a log from which updates below `from` may be missing. On an Err nothing is appended.
 pub fn encode_log_header(from: u64, out: &mut Vec<u8>) -> Result<(), Memory>
-    ensures ok { OnOk result (out.new.items ≡ out.old.items ++ head_bytes (head_of from)) }
+    ensures ok { OnOk result (out.new.items ≡ out.old.items ++ head_bytes (head_of One from)) }
+    ensures err { OnErr result (out.new.items ≡ out.old.items) }
+{
+    append_header(Format::One, from, out)
+}
+
+/// Appends the header of a log of format 2. On an Err nothing is appended.
+pub fn encode_log_header_2(from: u64, out: &mut Vec<u8>) -> Result<(), Memory>
+    ensures ok { OnOk result (out.new.items ≡ out.old.items ++ head_bytes (head_of Two from)) }
+    ensures err { OnErr result (out.new.items ≡ out.old.items) }
+{
+    append_header(Format::Two, from, out)
+}
+
+/// Appends the header of a log of this format. On an Err nothing is appended.
+fn append_header(format: Format, from: u64, out: &mut Vec<u8>) -> Result<(), Memory>
+    ensures ok { OnOk result (out.new.items ≡ out.old.items ++ head_bytes (head_of format from)) }
     ensures err { OnErr result (out.new.items ≡ out.old.items) }
 {
     out.reserve(HEADER_BYTES)?;
-    put_magic(LOG, WRITTEN_FORMAT, out);
+    put_magic(LOG, format, out);
     put_bytes(&from.to_be_bytes(), out);
     Ok(())
 }
@@ -63,6 +80,7 @@ pub fn kind_length(kind: &Kind) -> usize
     match kind {
         Kind::Put(columns) | Kind::Whole(columns) => columns_length(columns.as_slice()),
         Kind::Remove => 0,
+        Kind::Erase(numbers) => 1 + numbers.as_slice().len(),
     }
 }
 
@@ -96,21 +114,10 @@ fn put_body(record: &Record, out: &mut Vec<u8>)
             put_bytes(&record.timestamp().to_be_bytes(), out);
         }
         Some(change) => {
-            put_bytes(&[code_of(&change.kind)], out);
+            put_bytes(&[change.kind.code().byte()], out);
             put_bytes(&record.timestamp().to_be_bytes(), out);
             put_change(change, out);
         }
-    }
-}
-
-/// The byte of the kind.
-pub fn code_of(kind: &Kind) -> u8
-    ensures { result ≡ code_of_kind kind.now }
-{
-    match kind {
-        Kind::Put(_) => PUT,
-        Kind::Remove => REMOVE,
-        Kind::Whole(_) => WHOLE,
     }
 }
 
@@ -128,12 +135,23 @@ pub fn put_change(change: &Change, out: &mut Vec<u8>)
 pub fn put_kind(kind: &Kind, out: &mut Vec<u8>)
     requires { HasRoom (length (kind_bytes kind.now)) out.old }
     ensures added { Adds (kind_bytes kind.now) out.old out.new }
-    ensures lawful { AreColumns widest (columns_in kind.now) }
+    ensures lawful { AreWrites widest (writes_of kind.now) }
 {
     match kind {
         Kind::Put(columns) | Kind::Whole(columns) => put_columns(columns.as_slice(), out),
         Kind::Remove => {}
+        Kind::Erase(numbers) => put_numbers(numbers.as_slice(), out),
     }
+}
+
+/// Appends the numbers behind how many they are.
+fn put_numbers(numbers: &[u8], out: &mut Vec<u8>)
+    requires lawful { AreNumbers widest numbers.now }
+    requires room { HasRoom (length (kind_bytes (Erase numbers.now))) out.old }
+    ensures { Adds (kind_bytes (Erase numbers.now)) out.old out.new }
+{
+    put_bytes(&[numbers.len() as u8], out);
+    put_bytes(numbers, out);
 }
 
 /// Appends the columns behind their number.

@@ -1,23 +1,49 @@
 //! Parts of checkpoints written as bytes.
-ghost use Rattle.std.specs.Prelude.{◌≡◌, ◌<◌, ◌^◌, ◌++◌, length, OnOk, OnErr};
+ghost use Rattle.std.specs.Prelude.{◌≡◌, ◌<◌, ◌^◌, ◌++◌, length, All, OnOk, OnErr};
 ghost use Rattle.std.specs.List.{flat_map};
 ghost use Rattle.std.specs.Io.{StartsWith};
-ghost use Rattle.mt_words.specs.Limits.{widest};
-ghost use Rattle.mt_record.specs.Heads.{written_format};
+ghost use Rattle.mt_words.specs.declared.limits.Format.TheVariants.{One, Two};
+ghost use Rattle.mt_words.specs.Limits.{limits_of};
+ghost use Rattle.mt_words.specs.Changes.{IsEntry};
 ghost use Rattle.mt_record.specs.Spelling.{change_bytes};
 ghost use Rattle.mt_record.specs.Parts.{part_head, part_head_bytes, part_bytes, entry_spelling, footer_bytes, IsEntryLength};
 
 use crate::encode::{change_length, put_change};
-use crate::head::WRITTEN_FORMAT;
 use crate::part_head::{FOOTER_BYTES, PART, PART_HEADER_BYTES};
 use crate::part_text::PartHead;
 use crate::put::{put_bytes, put_magic};
-use mt_words::{Entry, Memory};
+use mt_words::{Entry, Format, Memory};
 
 /// Appends a part of the checkpoint of this number, from its timestamp `begin` to its timestamp `end`: the part of
-/// number `part`, of `parts`, with these entries, of which there are fewer than 2^32. On an Err nothing is appended.
-/// Whether the parts make a valid checkpoint is not looked at.
+/// number `part`, of `parts`, with these entries, of which there are fewer than 2^32, and which format 1 has. On an Err
+/// nothing is appended. Whether the parts make a valid checkpoint is not looked at.
 pub fn encode_part(
+    number: u32,
+    begin: u64,
+    part: u16,
+    parts: u16,
+    end: u64,
+    entries: &[Entry],
+    out: &mut Vec<u8>,
+) -> Result<(), Memory>
+    requires few { length entries.now < 2 ^ 32 }
+    requires fit { All (IsEntry (limits_of One)) entries.now }
+    ensures ok { OnOk result (out.new.items ≡
+        out.old.items ++ part_bytes (part_head One number begin part parts) entries.now end) }
+    ensures err { OnErr result (out.new.items ≡ out.old.items) }
+{
+    let head = PartHead {
+        format: Format::One,
+        number,
+        begin,
+        part,
+        parts,
+    };
+    append_part(head, end, entries, out)
+}
+
+/// Appends a part of format 2, which has any entry. On an Err nothing is appended.
+pub fn encode_part_2(
     number: u32,
     begin: u64,
     part: u16,
@@ -28,16 +54,25 @@ pub fn encode_part(
 ) -> Result<(), Memory>
     requires { length entries.now < 2 ^ 32 }
     ensures ok { OnOk result (out.new.items ≡
-        out.old.items ++ part_bytes (part_head written_format number begin part parts) entries.now end) }
+        out.old.items ++ part_bytes (part_head Two number begin part parts) entries.now end) }
     ensures err { OnErr result (out.new.items ≡ out.old.items) }
 {
     let head = PartHead {
-        format: WRITTEN_FORMAT,
+        format: Format::Two,
         number,
         begin,
         part,
         parts,
     };
+    append_part(head, end, entries, out)
+}
+
+/// Appends the part with this header. On an Err nothing is appended.
+fn append_part(head: PartHead, end: u64, entries: &[Entry], out: &mut Vec<u8>) -> Result<(), Memory>
+    requires { length entries.now < 2 ^ 32 }
+    ensures ok { OnOk result (out.new.items ≡ out.old.items ++ part_bytes head entries.now end) }
+    ensures err { OnErr result (out.new.items ≡ out.old.items) }
+{
     let start = out.len();
     append_header(head, out)?;
     let outcome = append_rest(end, entries, out);
@@ -90,7 +125,7 @@ fn append_entry(entry: &Entry, out: &mut Vec<u8>) -> Result<(), Memory>
 /// How many bytes the fields of the entry take.
 fn entry_length(entry: &Entry) -> usize
     ensures value { result ≡ length (change_bytes entry.now) }
-    ensures lawful { IsEntryLength widest result }
+    ensures lawful { IsEntryLength (limits_of Two) result }
 {
     change_length(entry.change())
 }

@@ -12,9 +12,6 @@ use mt_words::Format;
 /// The letters that a log begins with.
 pub const LOG: &[u8] = b"MTL";
 
-/// The format in which logs and parts are written. Every format is read.
-pub const WRITTEN_FORMAT: Format = Format::One;
-
 /// The number of bytes of a header.
 pub const HEADER_BYTES: usize = 12;
 

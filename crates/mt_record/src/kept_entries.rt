@@ -4,17 +4,16 @@ ghost use Rattle.mt_words.specs.declared.record.Change.{Change};
 ghost use Rattle.mt_words.specs.declared.update.Origin.TheVariants as origins;
 ghost use Rattle.mt_words.specs.Updates.{update_at};
 
-use crate::body::WHOLE;
 use crate::kept::Entries;
 use crate::lent::Lent;
 use crate::spelled;
 use crate::texts::Texts;
-use mt_words::{Memory, Origin};
+use mt_words::{Code, Memory, Origin};
 use std::alloc::Global;
 use std::marker::Model;
 
-/// What the body of an entry has before its fields: the byte of its kind, and a timestamp of 0.
-const BEFORE_FIELDS: &[u8] = &[WHOLE, 0, 0, 0, 0, 0, 0, 0, 0];
+/// What the body of an entry has before its fields: the byte of a whole, and a timestamp of 0.
+const BEFORE_FIELDS: &[u8] = &[Code::Whole as u8, 0, 0, 0, 0, 0, 0, 0, 0];
 
 /// Entries of a checkpoint: their bodies, spelled as those of records of their kind would be. So they are lent as
 /// updates are.

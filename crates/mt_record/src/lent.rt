@@ -1,12 +1,11 @@
 //! An update that is lent from its body.
-ghost use Rattle.std.specs.Prelude.{◌≡◌, ◌↔◌, IsTrue, MatchOption, Contains, ℕ, List};
+ghost use Rattle.std.specs.Prelude.{◌≡◌, ◌↔◌, IsTrue};
 ghost use Rattle.mt_words.specs.Limits.{widest};
-ghost use Rattle.mt_words.specs.Words.{IsKey, AreColumns};
-ghost use Rattle.mt_words.specs.Changes.{IsReset};
-ghost use Rattle.mt_record.specs.Decoding.{IsChangeBody, columns_in, update_in};
+ghost use Rattle.mt_words.specs.Words.{IsKey};
+ghost use Rattle.mt_words.specs.Changes.{IsReset, AreWrites, writes_of};
+ghost use Rattle.mt_record.specs.Decoding.{IsChangeBody, update_in};
 
-use crate::body::PUT;
-use crate::lent_columns::LentColumns;
+use crate::lent_writes::LentWrites;
 use crate::spelled;
 use mt_words::{Origin, Stamp};
 use std::marker::Model;
@@ -85,20 +84,11 @@ impl<'a> Lent<'a> {
         spelled::is_reset(self.body)
     }
 
-    /// The columns that it sets; a remove sets none.
-    pub fn columns(&self) -> LentColumns<'a>
-        ensures value { result ≡ columns_in self.now.kind }
-        ensures lawful { AreColumns widest (columns_in self.now.kind) }
+    /// What it writes; a remove writes nothing.
+    pub fn writes(&self) -> LentWrites<'a>
+        ensures value { result ≡ writes_of self.now.kind }
+        ensures lawful { AreWrites widest (writes_of self.now.kind) }
     {
-        spelled::columns(self.body)
-    }
-
-    /// The bytes that it sets this column to, if it sets it.
-    pub fn column(&self, number: u8) -> Option<&'a [u8]>
-        ensures { MatchOption result
-            ((bytes : List ℕ) → Contains (columns_in self.now.kind) (number, bytes) → ⊥)
-            (λ bytes. Contains (columns_in self.now.kind) (number, bytes.now)) }
-    {
-        self.columns().find(number)
+        spelled::writes(self.body)
     }
 }

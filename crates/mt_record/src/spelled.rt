@@ -1,11 +1,12 @@
 //! The fields of a body, lent from its bytes.
 ghost use Rattle.std.specs.Prelude.{◌≡◌, ◌↔◌, IsTrue};
-ghost use Rattle.mt_words.specs.Changes.{IsReset};
-ghost use Rattle.mt_record.specs.Decoding.{IsBody, IsChangeBody, columns_in, is_mark_in, is_remove_in, is_whole_in, time_in, version_in, key_in, carried_in, kind_in};
+ghost use Rattle.mt_words.specs.Changes.{IsReset, writes_of};
+ghost use Rattle.mt_record.specs.Decoding.{IsBody, IsChangeBody, is_mark_in, code_in, time_in, version_in, key_in, carried_in, kind_in};
 
-use crate::body::{MARK, REMOVE, WHOLE};
-use crate::lent_columns::LentColumns;
+use crate::body::MARK;
+use crate::lent_writes::LentWrites;
 use byteorder::{BigEndian, ByteOrder};
+use mt_words::Code;
 
 /// Whether it is that of a mark.
 pub fn is_mark(body: &[u8]) -> bool
@@ -23,28 +24,24 @@ pub fn timestamp(body: &[u8]) -> u64
     BigEndian::read_u64(&body[1..])
 }
 
-/// Whether it is that of a remove.
-pub fn is_remove(body: &[u8]) -> bool
-    requires { IsBody body.now }
-    ensures { result ≡ is_remove_in body.now }
+/// The code of a change.
+fn code(body: &[u8]) -> Code
+    requires { IsChangeBody body.now }
+    ensures { result ≡ code_in body.now }
 {
-    body[0] == REMOVE
-}
-
-/// Whether it is that of an entry of a checkpoint.
-fn is_whole(body: &[u8]) -> bool
-    requires { IsBody body.now }
-    ensures { result ≡ is_whole_in body.now }
-{
-    body[0] == WHOLE
+    let Some(code) = Code::of_byte(body[0]) else {
+        unreachable!();
+    };
+    code
 }
 
 /// Whether a change clears all columns of its key, before it sets its own.
+#[tactic(auto, using(crate::proofs::Decodes::code_clears))]
 pub fn is_reset(body: &[u8]) -> bool
     requires { IsChangeBody body.now }
     ensures { IsTrue result ↔ IsReset (kind_in body.now) }
 {
-    is_remove(body) || is_whole(body)
+    code(body).clears()
 }
 
 /// The version of a change.
@@ -73,10 +70,10 @@ fn carried(body: &[u8]) -> &[u8]
     &body[19 + length..]
 }
 
-/// The columns that a change sets; a remove sets none.
-pub fn columns(body: &[u8]) -> LentColumns<'_>
+/// What a change writes; a remove writes nothing.
+pub fn writes(body: &[u8]) -> LentWrites<'_>
     requires { IsChangeBody body.now }
-    ensures { result ≡ columns_in (kind_in body.now) }
+    ensures { result ≡ writes_of (kind_in body.now) }
 {
-    LentColumns::of_carried(is_remove(body), carried(body))
+    LentWrites::of_carried(code(body).payload(), carried(body))
 }

@@ -2,7 +2,7 @@
 ghost use Rattle.std.specs.Prelude.{◌≡◌, IfOk};
 ghost use Rattle.mt_record.specs.Decoding.{IsChangeBody, update_in};
 
-use crate::encode::{code_of, kind_length, put_kind};
+use crate::encode::{kind_length, put_kind};
 use crate::put::{put_bytes, put_counted};
 use mt_words::{Memory, Update};
 use std::alloc::Global;
@@ -14,7 +14,7 @@ pub fn body_of_update(alloc: Global, update: &Update) -> Result<Vec<u8>, Memory>
 {
     let key = update.key.as_bytes();
     let mut body = Vec::with_capacity(alloc, 19 + key.len() + kind_length(&update.kind))?;
-    put_bytes(&[code_of(&update.kind)], &mut body);
+    put_bytes(&[update.kind.code().byte()], &mut body);
     put_bytes(&update.timestamp.to_be_bytes(), &mut body);
     put_bytes(&update.stamp.version.to_be_bytes(), &mut body);
     put_counted(key, &mut body);

@@ -18,7 +18,7 @@ use Rattle.mt_recover.specs.Survivors.{begin_of, survivors, entry_updates}
 abbrev pub all_records : List LogReading → List Logged
 all_records readings = flat_map (λ log. log.records) readings
 
--- the puts and removes of all logs
+-- the puts, removes and erases of all logs
 abbrev pub logged_updates : List LogReading → List Update
 logged_updates readings = log_updates (records_of readings)
 

@@ -14,8 +14,8 @@ use crate::survivors::Survivors;
 use mt_replay::{LogCells, Window};
 use mt_scan::{Checkpoint, Choice, LogScan};
 
-/// What recovery found in logs and parts, and what became of it. The updates of logs are their puts and removes. Each
-/// whole record of a log is a mark, or an update that is early, late or survives.
+/// What recovery found in logs and parts, and what became of it. The updates of logs are their puts, removes and erases.
+/// Each whole record of a log is a mark, or an update that is early, late or survives.
 #[derive(Debug, Drop)]
 pub struct Report {
     /// How many logs there are.

@@ -5,7 +5,7 @@ use Rattle.std.proofs.lemmas.List.Elements.{Contains-append_left, Contains-appen
 use Rattle.mt_words.specs.declared.update.Stamp.{Stamp}
 use Rattle.mt_words.specs.declared.update.Update.{Update}
 use Rattle.mt_words.specs.Limits.{widest}
-use Rattle.mt_words.specs.Words.{IsColumn}
+use Rattle.mt_words.specs.Changes.{IsWrite}
 use Rattle.mt_words.specs.Changes.{IsReset}
 use Rattle.mt_words.specs.Stamps.{IsAtMost}
 use Rattle.mt_replay.specs.Cells.{Written, Slots, IsNewer, IsNewestOf, IsGreatest, IsUnwritten, IsCellOf}
@@ -111,7 +111,7 @@ pub record AreBoth (old add : Slots) (n : ℕ) (new left : Slots) : Type 0 where
 -- all places
 pub both_cells : (old add : Slots) (new left : Slots) (writes others : List Written) → AreBoth old add MOST_COLUMNS new left → IsCellOf writes old → IsCellOf others add → IsCellOf (writes ++ others) new
 both_cells old add new left writes others are was is = record {
-  within = λ w at. elim (Contains-append_cases writes others w at) as (λ _. IsColumn widest w.1) [ inl here ↦ was.within w here | inr there ↦ is.within w there ];
+  within = λ w at. elim (Contains-append_cases writes others w at) as (λ _. IsWrite widest w.1) [ inl here ↦ was.within w here | inr there ↦ is.within w there ];
   places = are.places ∙ was.places;
   each = λ number slot at.
       let lt : number < length new = slice_get_within new number slot at in

@@ -8,7 +8,7 @@ use Rattle.mt_words.specs.declared.update.Update.{Update}
 use Rattle.mt_words.specs.Changes.{Writes}
 use Rattle.mt_words.specs.Stamps.{IsAtMost}
 use Rattle.mt_replay.specs.Cells.{Written, Slots, IsCellOf}
-use Rattle.mt_replay.specs.Groups.{Group, HasLawfulColumns, IsWriteOf, IsGreatestReset, IsResetOf, IsGroupOf}
+use Rattle.mt_replay.specs.Groups.{Group, HasLawfulWrites, IsWriteOf, IsGreatestReset, IsResetOf, IsGroupOf}
 use Rattle.mt_replay.specs.Walk.{AreApart}
 use Rattle.mt_replay.proofs.StampLemmas.{same_stamp}
 use Rattle.mt_replay.proofs.CellLemmas.{IsRight}
@@ -34,11 +34,11 @@ one_reset updates others key (Some a) (Some b) same is other =
 abbrev IsOnce : List Written → Type 0
 IsOnce writes = (a b : Written) → Contains writes a → Contains writes b → a.1.0 ≡ b.1.0 → a.0 ≡ b.0 → a ≡ b
 
-one_write : (updates : List Update) (key : List ℕ) (a b : Written) → AreApart updates → All HasLawfulColumns updates → IsWriteOf updates key a → IsWriteOf updates key b → a.1.0 ≡ b.1.0 → a.0 ≡ b.0 → a ≡ b
+one_write : (updates : List Update) (key : List ℕ) (a b : Written) → AreApart updates → All HasLawfulWrites updates → IsWriteOf updates key a → IsWriteOf updates key b → a.1.0 ≡ b.1.0 → a.0 ≡ b.0 → a ≡ b
 one_write updates key a b apart sound is other number stamp =
     let one : other.update ≡ is.update = apart other.update is.update other.stands is.stands (other.of_key ∙ sym is.of_key) (other.stamp ∙ sym stamp ∙ sym is.stamp) in
-    let writes : Writes is.update.kind a.1.0 (Some b.1.1) = subst (λ (n : ℕ). Writes is.update.kind n (Some b.1.1)) (sym number) (subst (λ (u : Update). Writes u.kind b.1.0 (Some b.1.1)) one other.writes) in
-    let bytes : a.1.1 ≡ b.1.1 = same_bytes is.update.kind a.1.0 a.1.1 b.1.1 (All-contains HasLawfulColumns updates is.update sound is.stands) is.writes writes in
+    let writes : Writes is.update.kind a.1.0 b.1.1 = subst (λ (n : ℕ). Writes is.update.kind n b.1.1) (sym number) (subst (λ (u : Update). Writes u.kind b.1.0 b.1.1) one other.writes) in
+    let bytes : a.1.1 ≡ b.1.1 = same_bytes is.update.kind a.1.0 a.1.1 b.1.1 (All-contains HasLawfulWrites updates is.update sound is.stands) is.writes writes in
     λ i. (stamp i, (number i, bytes i))
 
 -- the same updates write the same
@@ -68,7 +68,7 @@ one_slots : (writes : List Written) (slots others : Slots) → IsOnce writes →
 one_slots writes slots others once is other = by_places slots others (is.places ∙ sym other.places) (λ k a b at there. one_slot writes k a b once (is.each k a at) (other.each k b there))
 
 -- two groups of the same updates, of which no two share a stamp, are one
-pub one_group : (updates others : List Update) (key : List ℕ) (group other : Group) → AreApart updates → All HasLawfulColumns updates → ((u : Update) → Contains updates u ↔ Contains others u)
+pub one_group : (updates others : List Update) (key : List ℕ) (group other : Group) → AreApart updates → All HasLawfulWrites updates → ((u : Update) → Contains updates u ↔ Contains others u)
     → IsGroupOf updates key group → IsGroupOf others key other → group ≡ other
 one_group updates others key group other apart sound same is also =
     let reset : group.reset ≡ other.reset = one_reset updates others key group.reset other.reset same is.reset also.reset in

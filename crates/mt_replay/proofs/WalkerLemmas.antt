@@ -13,7 +13,7 @@ use Rattle.mt_words.specs.Walks.{Pair, KeysRise}
 use Rattle.mt_replay.specs.Walk.{AreApart}
 use Rattle.mt_replay.specs.Cuts.{is_below, key_below, InKeyOrder}
 use Rattle.mt_replay.specs.Cells.{Written, IsCellOf, IsColumnsOf}
-use Rattle.mt_replay.specs.Groups.{Group, HasLawfulColumns, IsGroupOf}
+use Rattle.mt_replay.specs.Groups.{Group, HasLawfulWrites, IsGroupOf}
 use Rattle.mt_replay.specs.Walker.{with_pair, IsMade, AreLast, IsWalkSoFar}
 use Rattle.mt_words.proofs.Elements.{no_element, head_in}
 use Rattle.mt_replay.proofs.KeyOrder.{key_order}
@@ -100,7 +100,7 @@ not_at_key (Some f) key is = λ e. true≢false (sym (is.1 e))
 -- ---- one update more
 
 -- of the last key
-more_last : (before last : List Update) (update : Update) (key : List ℕ) (old new : Group) → AreLast before last key old → update.key ≡ key → IsGroupOf (last ++ update ∷ []) key new → HasLawfulColumns update
+more_last : (before last : List Update) (update : Update) (key : List ℕ) (old new : Group) → AreLast before last key old → update.key ≡ key → IsGroupOf (last ++ update ∷ []) key new → HasLawfulWrites update
     → AreLast before (last ++ update ∷ []) key new
 more_last before last update key old new are of_key group sound = record {
   some = omega (arith, are.some, length-append last (update ∷ []));
@@ -110,11 +110,11 @@ more_last before last update key old new are of_key group sound = record {
   ];
   below = are.below;
   grouped = group;
-  sound = All-push HasLawfulColumns last update are.sound sound;
+  sound = All-push HasLawfulWrites last update are.sound sound;
 }
 
 pub see_same : (updates : List Update) (update : Update) (pairs : List Pair) (first : Option Update) (old new : Group) → IsWalkSoFar updates pairs first old → MatchOption first (true ≡ false) (λ f. f.key ≡ update.key)
-    → ((us : List Update) (key : List ℕ) → update.key ≡ key → IsGroupOf us key old → IsGroupOf (us ++ update ∷ []) key new) → HasLawfulColumns update → IsWalkSoFar (updates ++ update ∷ []) pairs first new
+    → ((us : List Update) (key : List ℕ) → update.key ≡ key → IsGroupOf us key old → IsGroupOf (us ++ update ∷ []) key new) → HasLawfulWrites update → IsWalkSoFar (updates ++ update ∷ []) pairs first new
 see_same updates update pairs None old new so_far same sees sound = absurd (true≢false same)
 see_same updates update pairs (Some first) old new so_far same sees sound =
     let last = so_far.last in
@@ -156,7 +156,7 @@ next_above updates update pairs (Some first) group so_far order apart u at =
     ]
 
 pub see_next : (updates : List Update) (update : Update) (old new : List Pair) (first : Option Update) (group fresh : Group) → IsWalkSoFar updates old first group → InKeyOrder (updates ++ update ∷ []) → MatchOption first (Unit {0}) (λ f. f.key ≡ update.key → ⊥)
-    → IsMade updates new → IsGroupOf (update ∷ []) update.key fresh → HasLawfulColumns update → IsWalkSoFar (updates ++ update ∷ []) new (Some update) fresh
+    → IsMade updates new → IsGroupOf (update ∷ []) update.key fresh → HasLawfulWrites update → IsWalkSoFar (updates ++ update ∷ []) new (Some update) fresh
 see_next updates update old new first group fresh so_far order apart made begun sound = record {
   before = updates;
   last = update ∷ [];
@@ -167,6 +167,6 @@ see_next updates update old new first group fresh so_far order apart made begun 
     same_keys = λ u at. elim (Contains-push_cases [] update u at) as (λ _. u.key ≡ update.key) [ inl none ↦ absurd (no_element u none) | inr e ↦ ap (λ (v : Update). v.key) (sym e) ];
     below = next_above updates update old first group so_far order apart;
     grouped = begun;
-    sound = All-push HasLawfulColumns [] update (λ i x lt. absurd (omega arith)) sound;
+    sound = All-push HasLawfulWrites [] update (λ i x lt. absurd (omega arith)) sound;
   };
 }

@@ -2,7 +2,7 @@
 use Rattle.std.specs.Prelude.{ℕ, suc, ◌&&◌, ◌||◌, Bool, true, false, nat_lt, nat_le, List, [], ◌∷◌, ◌++◌, map, filter, take}
 use Rattle.mt_words.specs.declared.record.Change.{Change}
 use Rattle.mt_words.specs.declared.update.Kind.{Kind}
-use Rattle.mt_words.specs.declared.update.Kind.TheVariants.{Put, Remove, Whole}
+use Rattle.mt_words.specs.declared.update.Kind.TheVariants.{Put, Remove, Whole, Erase}
 use Rattle.mt_words.specs.declared.update.Origin.TheVariants as origins
 use Rattle.mt_words.specs.declared.update.Update.{Update}
 use Rattle.mt_words.specs.Changes.{Logged}
@@ -43,6 +43,7 @@ abbrev pub is_whole : Kind → Bool
 is_whole (Put columns) = false
 is_whole Remove = false
 is_whole (Whole columns) = true
+is_whole (Erase numbers) = false
 
 -- a log update survives in the window; the entry of a checkpoint has no timestamp to look at, and survives
 abbrev pub survives : Window → Update → Bool

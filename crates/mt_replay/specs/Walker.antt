@@ -4,7 +4,7 @@ use Rattle.mt_words.specs.declared.update.Update.{Update}
 use Rattle.mt_words.specs.Words.{IsBelow}
 use Rattle.mt_words.specs.Walks.{Pair, joined}
 use Rattle.mt_replay.specs.Walk.{IsWalk, AreApart}
-use Rattle.mt_replay.specs.Groups.{Group, HasLawfulColumns, IsGroupOf, IsMapOf}
+use Rattle.mt_replay.specs.Groups.{Group, HasLawfulWrites, IsGroupOf, IsMapOf}
 
 -- the pairs with this one behind them, unless it has no column
 abbrev pub with_pair : List Pair → List ℕ → List (ℕ × List ℕ) → List Pair
@@ -21,7 +21,7 @@ pub record AreLast (before last : List Update) (key : List ℕ) (group : Group) 
   pub same_keys : (u : Update) → Contains last u → u.key ≡ key
   pub below : (u : Update) → Contains before u → IsBelow u.key key
   pub grouped : IsGroupOf last key group
-  pub sound : All HasLawfulColumns last
+  pub sound : All HasLawfulWrites last
 
 -- the updates of the last key, or none where there is no update
 abbrev pub IsInHand : List Update → List Update → Option Update → Group → Type 0

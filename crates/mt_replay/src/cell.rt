@@ -4,7 +4,7 @@ ghost use Rattle.mt_words.specs.declared.update.Update.{Update as UpdateValue};
 ghost use Rattle.mt_words.specs.Limits.{widest};
 ghost use Rattle.mt_words.specs.Words.{AreColumns};
 ghost use Rattle.mt_replay.specs.Walk.{AreApart};
-ghost use Rattle.mt_replay.specs.Groups.{IsGroupOf, HasLawfulColumns, AreColumnsOf};
+ghost use Rattle.mt_replay.specs.Groups.{IsGroupOf, HasLawfulWrites, AreColumnsOf};
 
 use crate::group::Group;
 use mt_words::{Columns, Kept, Memory, Update, Value};
@@ -41,7 +41,7 @@ impl Cell {
     pub fn apply(&mut self, update: Update)
         ensures cell { (updates : List UpdateValue) (key : List ℕ) → update.key ≡ key →
             IsGroupOf updates key self.old → IsGroupOf (updates ++ update ∷ []) key self.new }
-        ensures sound { HasLawfulColumns update }
+        ensures sound { HasLawfulWrites update }
     {
         self.group.apply(update);
     }
@@ -60,7 +60,7 @@ impl Cell {
     pub fn columns(&self, alloc: Global) -> Result<Columns<Kept>, Memory>
         ensures lawful { IfOk result (AreColumns widest) }
         ensures exact { IfOk result (λ columns. (updates : List UpdateValue) (key : List ℕ) →
-            IsGroupOf updates key self.now → AreApart updates → All HasLawfulColumns updates →
+            IsGroupOf updates key self.now → AreApart updates → All HasLawfulWrites updates →
             AreColumnsOf updates key columns) }
     {
         self.group.columns(alloc)

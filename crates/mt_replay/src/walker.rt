@@ -2,7 +2,7 @@
 ghost use Rattle.std.specs.Prelude.{◌≡◌, ◌↔◌, ◌++◌, [], ◌∷◌, List, ℕ, None, Some, false, IsTrue, MatchOption, IfOk, OnOk};
 ghost use Rattle.mt_words.specs.declared.update.Update.{Update as UpdateValue};
 ghost use Rattle.mt_replay.specs.Cuts.{InKeyOrder};
-ghost use Rattle.mt_replay.specs.Groups.{HasLawfulColumns, IsGroupOf};
+ghost use Rattle.mt_replay.specs.Groups.{HasLawfulWrites, IsGroupOf};
 ghost use Rattle.mt_replay.specs.Walker.{IsMade, IsWalkSoFar};
 
 use crate::group::Group;
@@ -74,7 +74,7 @@ impl<'a, S: PairSink> Walker<'a, S> {
         ensures sink { self.new.sink ≡ self.old.sink }
         ensures first { self.new.first ≡ Some update.entry }
         ensures group { IsGroupOf (update.entry ∷ []) update.entry.key self.new.group }
-        ensures sound { HasLawfulColumns update.entry }
+        ensures sound { HasLawfulWrites update.entry }
     {
         self.group.clear();
         self.group.see(update.update());

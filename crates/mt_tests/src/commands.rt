@@ -202,24 +202,33 @@ fn prints_help_and_the_faults_of_words(rt: HostRuntime) {
     assert_runs(&rt, "F", BOTH_WORK, UNTAKEN);
 }
 
-/// What begins a line, a text that stands so often behind it, and how the run ends.
-const LONG: &[(&str, &str, usize, Ends)] = &[
+/// What begins a line, a text that stands so often behind it, the rest of the line, and how the run ends.
+const LONG: &[(&str, &str, usize, &str, Ends)] = &[
+    ("mtrecover get F ", "6b", 4096, "", TAKEN_KEY),
+    ("mtrecover get F ", "6b", 4097, "", BAD_KEY),
+    ("mtrecover range F ", "6b", 4096, " 1", TAKEN_KEY),
+    ("mtrecover range F ", "6b", 4097, " 1", BAD_KEY),
     (
-        "mtrecover get F ",
-        "6b",
-        1024,
-        (3, "mtrecover: cannot list F\n"),
+        "mtdump",
+        " none",
+        512,
+        "",
+        (3, "mtdump: cannot open none\n"),
     ),
-    ("mtrecover get F ", "6b", 1025, (2, "mtrecover: bad key\n")),
-    ("mtdump", " none", 512, (3, "mtdump: cannot open none\n")),
-    ("mtdump", " none", 513, (3, "mtdump: too many files\n")),
+    ("mtdump", " none", 513, "", (3, "mtdump: too many files\n")),
 ];
+
+/// The key is taken, and then there is no folder F.
+const TAKEN_KEY: Ends = (3, "mtrecover: cannot list F\n");
+
+/// The key is refused.
+const BAD_KEY: Ends = (2, "mtrecover: bad key\n");
 
 #[test]
 fn takes_the_longest_key_and_the_most_files_and_none_past_them(rt: HostRuntime) {
-    for (line, more, times, expected) in LONG {
+    for (line, more, times, rest, expected) in LONG {
         let more = more.repeat(rt.alloc(), *times).expect(&rt, "memory");
-        let line = format!(in rt.alloc(); "{line}{more}").expect(&rt, "memory");
+        let line = format!(in rt.alloc(); "{line}{more}{rest}").expect(&rt, "memory");
         assert_run(&rt, "F", line.as_str(), BOTH_WORK, *expected);
     }
 }

@@ -9,6 +9,8 @@ mod asserting;
 #[cfg(test)]
 mod commands;
 #[cfg(test)]
+mod deepest;
+#[cfg(test)]
 mod devices;
 #[cfg(test)]
 mod example;

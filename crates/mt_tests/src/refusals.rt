@@ -11,9 +11,10 @@ use std::alloc::Global;
 use std::process::Abort;
 use std::thread::Threads;
 
-/// A log from 2 on, of a put of key a at version 3 and a mark.
-const LATE_LOG: &[u8] = b"MTL1\0\0\0\0\0\0\0\x02\
+/// A log of format 2, from 2 on: a put of key a at version 3, an erase of its column 1 at version 4, and a mark.
+const LATE_LOG: &[u8] = b"MTL2\0\0\0\0\0\0\0\x02\
     \0\0\0\x19\x01\0\0\0\0\0\0\0\x05\0\0\0\0\0\0\0\x03\0\x01a\x01\0\0\x01n\0\0\0\x19\
+    \0\0\0\x16\x04\0\0\0\0\0\0\0\x06\0\0\0\0\0\0\0\x04\0\x01a\x01\x01\0\0\0\x16\
     \0\0\0\x09\x03\0\0\0\0\0\0\0\x0a\0\0\0\x09";
 
 /// The answer has this value in column 0 of this key, or is a want of memory.
@@ -46,14 +47,16 @@ fn sources_of<'a>(
     Some(sources)
 }
 
-/// What recovery of these texts, so many logs and then parts, by two workers in two pieces answers, unless memory for the
-/// sources is refused.
-fn recover_by_two<R: AllocGlobal + Threads + Sync>(
+/// What recovery of these texts, so many logs and then parts, by so many workers in so many pieces answers, unless memory
+/// for the sources is refused. There are at most two texts.
+pub fn recover_by<R: AllocGlobal + Threads + Sync>(
     rt: &R,
+    workers: u32,
+    pieces: u32,
     texts: &[&[u8]],
     log_count: usize,
 ) -> Option<Result<Recovered, Fault>> {
-    let (pieces, workers) = (Pieces::new(2)?, Workers::new(2)?);
+    let (pieces, workers) = (Pieces::new(pieces)?, Workers::new(workers)?);
     let mut rack = Rack::new(rt.alloc(), 2, 16).ok()?;
     let mut logs = sources_of(rt.alloc(), texts, rack.slots())?;
     let parts = logs.split_off(log_count.min(logs.len())).ok()?;
@@ -70,14 +73,14 @@ fn a_refused_growth_is_memory(rt: HostRuntime) {
 
 #[test]
 fn a_refused_growth_of_recovery_by_two_workers_is_memory(rt: HostRuntime) {
-    if let Some(answer) = recover_by_two(&rt, &[LOG_A, LOG_B], 2) {
+    if let Some(answer) = recover_by(&rt, 2, 2, &[LOG_A, LOG_B], 2) {
         assert_value(&rt, answer, b"b", b"y");
     }
 }
 
 #[test]
 fn a_refused_growth_of_recovery_by_two_workers_over_a_checkpoint_is_memory(rt: HostRuntime) {
-    if let Some(answer) = recover_by_two(&rt, &[LATE_LOG, PART], 1) {
+    if let Some(answer) = recover_by(&rt, 2, 2, &[LATE_LOG, PART], 1) {
         assert_value(&rt, answer, b"a", b"n");
     }
 }

@@ -61,7 +61,7 @@ const FAMILIES: &[(&[&[u8]], u64)] = &[
         ],
         4,
     ),
-    (&[&[b'k'; 1023], &[b'k'; 1024]], 128),
+    (&[&[b'k'; 4095], &[b'k'; 4096]], 512),
     (ZEROS_AND_ONES, 2),
 ];
 
@@ -122,14 +122,15 @@ fn assert_all<R: Abort + AllocGlobal>(rt: &R, tree: &Tree, keys: &[&[u8]]) {
 
 #[test]
 fn keys_of_equal_bytes_are_found(rt: HostRuntime) {
-    let longest = [b'k'; 1024];
+    let longest = [b'k'; 4096];
     let mut keys = Vec::new(rt.alloc());
-    for length in 0..=longest.len() {
-        let key = &longest[..length.min(longest.len())];
+    // Every fifth length: that leaves each remainder by 8, and takes a fifth of the time.
+    for fives in 0..=longest.len() / 5 {
+        let key = &longest[..longest.len().min(fives * 5)];
         keys.push(key).expect(&rt, "memory");
     }
-    let tree = tree_of(rt.alloc(), &keys, 512).expect(&rt, "memory");
-    assert_same(&rt, &tree.layers(), &128);
+    let tree = tree_of(rt.alloc(), &keys, 410).expect(&rt, "memory");
+    assert_same(&rt, &tree.layers(), &512);
     assert_all(&rt, &tree, &keys);
 }
 

@@ -173,7 +173,8 @@ pub fn above(left: &Draft, right: &Draft) -> bool
 }
 
 impl Tree {
-    /// The columns of a key.
+    /// Returns the columns of this key, or None if it is absent. The key may have any length: no key of a tree is longer
+    /// than `LONGEST_KEY` bytes, so a longer one is absent.
     pub fn get(&self, key: &[u8]) -> Option<&Columns<Kept>>
         ensures { MatchOption result
             ((columns : List (ℕ × List ℕ)) → Contains (tree_walk self.now) (key.now, columns) → ⊥)

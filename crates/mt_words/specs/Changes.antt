@@ -1,10 +1,14 @@
 -- What a record of a log and the entry of a checkpoint say, what a format allows of them, and what they do to their key.
-use Rattle.std.specs.Prelude.{ℕ, ◌<◌, ◌^◌, List, length, Contains, Option, Some, None, IfSome}
+use Rattle.std.specs.Prelude.{ℕ, ◌≤◌, ◌<◌, ◌^◌, List, [], length, map, Contains, Option, Some, None, IfSome}
 use Rattle.mt_words.specs.declared.record.Change.{Change}
 use Rattle.mt_words.specs.declared.update.Kind.{Kind}
-use Rattle.mt_words.specs.declared.update.Kind.TheVariants.{Put, Remove, Whole}
+use Rattle.mt_words.specs.declared.update.Kind.TheVariants.{Put, Remove, Whole, Erase}
+use Rattle.mt_words.specs.declared.code.Code.TheVariants as codes
 use Rattle.mt_words.specs.declared.limits.Limits.{Limits}
-use Rattle.mt_words.specs.Words.{IsKey, AreColumns}
+use Rattle.std.specs.List.{AllByRecursion}
+use Rattle.mt_words.specs.declared.limits.TheConstants.{LONGEST_VALUE}
+use Rattle.mt_words.specs.Codes.{code_of, byte_of, Clears}
+use Rattle.mt_words.specs.Words.{IsKey, AreColumns, AreNumbers, Rise}
 
 -- a record, lawful or not: a timestamp and, but for a mark, a change
 pub record Logged : Type 0 where
@@ -23,15 +27,19 @@ put_of timestamp version key columns = changed timestamp (record { version = ver
 abbrev pub remove_of : ℕ → ℕ → List ℕ → Logged
 remove_of timestamp version key = changed timestamp (record { version = version; key = key; kind = Remove })
 
+abbrev pub erase_of : ℕ → ℕ → List ℕ → List ℕ → Logged
+erase_of timestamp version key numbers = changed timestamp (record { version = version; key = key; kind = Erase numbers })
+
 -- the entry of a checkpoint
 abbrev pub entry_of : ℕ → List ℕ → List (ℕ × List ℕ) → Change
 entry_of version key columns = record { version = version; key = key; kind = Whole columns }
 
--- a put and a whole have at least one column
+-- a put and a whole have at least one column, and an erase, which only some formats have, at least one number
 abbrev pub AllowsKind : Limits → Kind → Type 0
 AllowsKind limits (Put columns) = AreColumns limits columns × (0 < length columns)
 AllowsKind limits Remove = Unit {0}
 AllowsKind limits (Whole columns) = AreColumns limits columns × (0 < length columns)
+AllowsKind limits (Erase numbers) = (byte_of codes.Erase ≤ limits.kind) × AreNumbers limits numbers × (0 < length numbers)
 
 -- a lawful change: a version above 0, a key, and what its kind allows
 pub record IsLawfulChange (limits : Limits) (change : Change) : Type 0 where
@@ -45,6 +53,7 @@ abbrev pub IsLogged : Kind → Type 0
 IsLogged (Put columns) = Unit {0}
 IsLogged Remove = Unit {0}
 IsLogged (Whole columns) = ⊥
+IsLogged (Erase numbers) = Unit {0}
 
 -- a lawful change that a log record may carry
 abbrev pub IsLoggedChange : Limits → Change → Type 0
@@ -59,21 +68,40 @@ abbrev pub IsWhole : Kind → Type 0
 IsWhole (Put columns) = ⊥
 IsWhole Remove = ⊥
 IsWhole (Whole columns) = Unit {0}
+IsWhole (Erase numbers) = ⊥
 
 -- a lawful entry of a checkpoint
 abbrev pub IsEntry : Limits → Change → Type 0
 IsEntry limits change = IsLawfulChange limits change × IsWhole change.kind
 
--- a change of this kind writes the column: it sets it to bytes, or to none
+-- a write of a column: the bytes that it sets the column to, or none, where it erases it
+abbrev pub Write : Type 0
+Write = ℕ × Option (List ℕ)
+
+abbrev pub set : ℕ × List ℕ → Write
+set column = (column.0, Some column.1)
+
+abbrev pub erased : ℕ → Write
+erased number = (number, None)
+
+-- what a change of this kind writes
+abbrev pub writes_of : Kind → List Write
+writes_of (Put columns) = map set columns
+writes_of Remove = []
+writes_of (Whole columns) = map set columns
+writes_of (Erase numbers) = map erased numbers
+
 abbrev pub Writes : Kind → ℕ → Option (List ℕ) → Type 0
-Writes (Put columns) number (Some bytes) = Contains columns (number, bytes)
-Writes (Put columns) number None = ⊥
-Writes Remove number bytes = ⊥
-Writes (Whole columns) number (Some bytes) = Contains columns (number, bytes)
-Writes (Whole columns) number None = ⊥
+Writes kind number bytes = Contains (writes_of kind) (number, bytes)
+
+-- a write of a column that a format allows
+abbrev pub IsWrite : Limits → Write → Type 0
+IsWrite limits write = (write.0 ≤ limits.column) × IfSome write.1 (λ bytes. length bytes ≤ LONGEST_VALUE)
+
+-- writes of columns whose numbers strictly rise, so that each is written once
+abbrev pub AreWrites : Limits → List Write → Type 0
+AreWrites limits writes = AllByRecursion (IsWrite limits) writes × Rise 0 (map (λ write. write.0) writes)
 
 -- a change of this kind clears all columns of its key
 abbrev pub IsReset : Kind → Type 0
-IsReset (Put columns) = ⊥
-IsReset Remove = Unit {0}
-IsReset (Whole columns) = Unit {0}
+IsReset kind = Clears (code_of kind)

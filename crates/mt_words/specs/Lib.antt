@@ -1,5 +1,6 @@
 pub mod Limits
 pub mod Words
+pub mod Codes
 pub mod Changes
 pub mod Stamps
 pub mod Updates

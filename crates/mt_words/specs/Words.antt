@@ -1,5 +1,5 @@
 -- Which bytes are keys, and which pairs of a number and bytes are columns.
-use Rattle.std.specs.Prelude.{ℕ, suc, ◌≤◌, ◌<◌, List, [], ◌∷◌, length, IsTrue}
+use Rattle.std.specs.Prelude.{ℕ, suc, ◌≤◌, ◌<◌, List, [], ◌∷◌, length, map, IsTrue}
 use Rattle.std.specs.List.{AllByRecursion}
 use Rattle.std.specs.Ordering.{nat_cmp, is_lt}
 use Rattle.std.specs.Cmp.Lexicographic.{slice_cmp}
@@ -24,13 +24,28 @@ abbrev pub IsColumn : Limits → ℕ × List ℕ → Type 0
 IsColumn limits column = (column.0 ≤ limits.column) × (length column.1 ≤ LONGEST_VALUE)
 
 -- each number is below this one
+abbrev pub AreBelow : List ℕ → ℕ → Type 0
+AreBelow numbers limit = AllByRecursion (λ number. number < limit) numbers
+
+-- from low on, the numbers strictly rise
+abbrev pub Rise : ℕ → List ℕ → Type 0
+Rise low [] = Unit {0}
+Rise low (number ∷ numbers) = (low ≤ number) × Rise (suc number) numbers
+
+-- numbers of columns, in order, each once
+abbrev pub AreNumbers : Limits → List ℕ → Type 0
+AreNumbers limits numbers = AllByRecursion (λ number. number ≤ limits.column) numbers × Rise 0 numbers
+
+abbrev pub numbers_in : List (ℕ × List ℕ) → List ℕ
+numbers_in columns = map (λ column. column.0) columns
+
+-- the number of each column is below this one
 abbrev pub NumbersBelow : List (ℕ × List ℕ) → ℕ → Type 0
 NumbersBelow columns number = AllByRecursion (λ column. column.0 < number) columns
 
--- from low on, the numbers strictly rise
+-- from low on, the numbers of the columns strictly rise
 abbrev pub NumbersRise : ℕ → List (ℕ × List ℕ) → Type 0
-NumbersRise low [] = Unit {0}
-NumbersRise low (column ∷ columns) = (low ≤ column.0) × NumbersRise (suc column.0) columns
+NumbersRise low columns = Rise low (numbers_in columns)
 
 -- columns of one key, by strictly rising numbers
 abbrev pub AreColumns : Limits → List (ℕ × List ℕ) → Type 0

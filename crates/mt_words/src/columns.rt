@@ -1,6 +1,7 @@
 //! Columns.
 ghost use Rattle.std.specs.Prelude.{◌≡◌, ◌≤◌, ◌<◌, ◌↔◌, [], ◌∷◌, ◌++◌, List, ℕ, length, IsOk, OnOk, IfErr, IfOk, OnErr, IfSome, IfNone, IsTrue, MatchOption, Contains};
 ghost use Rattle.mt_words.specs.declared.limits.TheConstants.{GREATEST_COLUMN};
+ghost use Rattle.mt_words.specs.declared.limits.Limits.{Limits};
 ghost use Rattle.mt_words.specs.Limits.{widest};
 ghost use Rattle.mt_words.specs.Words.{AreColumns, CanFollow, NumbersRise, NumbersBelow};
 
@@ -103,6 +104,17 @@ impl<S: Storage> Columns<S> {
         ensures lawful { AreColumns widest self.now }
     {
         self.storage.as_slice()
+    }
+
+    /// Whether there is a column, and none has a number above this one.
+    pub fn are_some_up_to(&self, greatest: u8) -> bool
+        ensures { (limits : Limits) → limits.column ≡ greatest →
+            IsTrue result ↔ (AreColumns limits self.now × (0 < length self.now)) }
+    {
+        match self.storage.as_slice().last() {
+            None => false,
+            Some(last) => last.number <= greatest,
+        }
     }
 
     /// Equal columns. Refuses only where memory was refused.

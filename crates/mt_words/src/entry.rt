@@ -1,9 +1,10 @@
 //! Entries of a checkpoint.
-ghost use Rattle.std.specs.Prelude.{◌≡◌, ◌<◌, ◌↔◌, length, IsSome, IfSome};
-ghost use Rattle.mt_words.specs.Limits.{widest};
+ghost use Rattle.std.specs.Prelude.{◌≡◌, ◌<◌, ◌↔◌, length, IsSome, IfSome, IsTrue};
+ghost use Rattle.mt_words.specs.declared.limits.Format.TheVariants.{One};
+ghost use Rattle.mt_words.specs.Limits.{limits_of, widest};
 ghost use Rattle.mt_words.specs.Changes.{IsEntry, entry_of};
 
-use crate::{Change, Columns, Key, Kind};
+use crate::{Change, Columns, Format, Key, Kind};
 use std::marker::Model;
 
 /// A lawful entry of a checkpoint: a key with its version, from 1 on, and all its columns, of which there is at least
@@ -43,6 +44,13 @@ impl Entry {
                 kind: Kind::Whole(columns),
             },
         })
+    }
+
+    /// Whether format 1 has such an entry.
+    pub fn fits_format_1(&self) -> bool
+        ensures { IsTrue result ↔ IsEntry (limits_of One) self.now }
+    {
+        self.change.fits(Format::One)
     }
 
     /// What it does to its key.

@@ -1,22 +1,26 @@
 //! The words of the store: keys, columns, log records, entries of checkpoints, updates with their stamps, and faults.
 #![tactic(auto)]
 
+mod code;
 mod columns;
 mod entry;
 mod fault;
 mod key;
 mod limits;
+mod numbers;
 mod record;
 mod sink;
 mod slice;
 mod storage;
 mod update;
 
+pub use code::{Code, Payload};
 pub use columns::{Column, Columns, Value};
 pub use entry::Entry;
 pub use fault::{Fault, Memory, What};
 pub use key::Key;
 pub use limits::{Format, GREATEST_COLUMN, LONGEST_KEY, LONGEST_VALUE, Limits, MOST_COLUMNS};
+pub use numbers::Numbers;
 pub use record::{Change, Record};
 pub use sink::PairSink;
 pub use slice::{slice_at, slice_bytes, slice_of};

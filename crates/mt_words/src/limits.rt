@@ -8,6 +8,8 @@ ghost use Rattle.mt_words.specs.Limits.{limits_of};
 pub enum Format {
     /// Keys of at most 1,024 bytes, columns 0 to 15, puts, removes and marks.
     One,
+    /// Keys of at most 4,096 bytes, columns 0 to 63, and erases besides.
+    Two,
 }
 
 /// What a format allows.
@@ -24,13 +26,13 @@ pub struct Limits {
 }
 
 /// The most bytes of a key, in any format.
-pub const LONGEST_KEY: usize = 1024;
+pub const LONGEST_KEY: usize = 4096;
 
 /// The greatest column number, in any format.
-pub const GREATEST_COLUMN: u8 = 15;
+pub const GREATEST_COLUMN: u8 = 63;
 
 /// The most columns of a key, in any format: one for each number.
-pub const MOST_COLUMNS: usize = 16;
+pub const MOST_COLUMNS: usize = 64;
 
 /// The most bytes of a column's value.
 pub const LONGEST_VALUE: usize = 65_535;
@@ -45,9 +47,15 @@ impl Format {
         match self {
             Format::One => Limits {
                 digit: b'1',
+                key: 1024,
+                column: 15,
+                kind: 3,
+            },
+            Format::Two => Limits {
+                digit: b'2',
                 key: LONGEST_KEY,
                 column: GREATEST_COLUMN,
-                kind: 3,
+                kind: 4,
             },
         }
     }
@@ -59,6 +67,7 @@ impl Format {
     {
         match digit {
             b'1' => Some(Format::One),
+            b'2' => Some(Format::Two),
             _ => None,
         }
     }

@@ -1,9 +1,10 @@
 //! Records of a log.
-ghost use Rattle.std.specs.Prelude.{◌≡◌, ◌<◌, ◌↔◌, length, Some, None, IsSome, IfSome, MatchOption};
-ghost use Rattle.mt_words.specs.Limits.{widest};
-ghost use Rattle.mt_words.specs.Changes.{IsLawful, mark_of, put_of, remove_of};
+ghost use Rattle.std.specs.Prelude.{◌≡◌, ◌<◌, ◌↔◌, length, Some, None, IsSome, IfSome, IsTrue, MatchOption};
+ghost use Rattle.mt_words.specs.declared.limits.Format.TheVariants.{One};
+ghost use Rattle.mt_words.specs.Limits.{limits_of, widest};
+ghost use Rattle.mt_words.specs.Changes.{AllowsKind, IsLogged, IsLawful, IsLawfulChange, mark_of, put_of, remove_of, erase_of, changed};
 
-use crate::{Columns, Key, Kind};
+use crate::{Columns, Format, Key, Kind, Numbers};
 use std::marker::Model;
 
 /// A change of one key.
@@ -15,6 +16,16 @@ pub struct Change {
     pub key: Key,
     /// What it does to the key.
     pub kind: Kind,
+}
+
+impl Change {
+    /// Whether the format allows it.
+    pub fn fits(&self, format: Format) -> bool
+        ensures { IsTrue result ↔ IsLawfulChange (limits_of format) self.now }
+    {
+        let fits_key = self.key.as_bytes().len() <= format.limits().key;
+        self.version != 0 && fits_key && self.kind.fits(format)
+    }
 }
 
 /// A lawful record of a log: a timestamp and, but for a mark, a change.
@@ -51,25 +62,37 @@ impl Record {
         ensures accepted { IsSome result ↔ ((0 < version) × (0 < length columns)) }
         ensures value { IfSome result (λ made. made ≡ put_of timestamp version key columns) }
     {
-        // It tells the proof that the key is lawful.
-        let _ = key.as_bytes();
-        if version == 0 || columns.len() == 0 {
+        if columns.len() == 0 {
             return None;
         }
-        Some(Record {
-            timestamp,
-            change: Some(Change {
-                version,
-                key,
-                kind: Kind::Put(columns),
-            }),
-        })
+        Record::of_kind(timestamp, version, key, Kind::Put(columns))
     }
 
     /// A remove of the key. None where the version is 0.
     pub fn remove(timestamp: u64, version: u64, key: Key) -> Option<Record>
         ensures accepted { IsSome result ↔ (0 < version) }
         ensures value { IfSome result (λ made. made ≡ remove_of timestamp version key) }
+    {
+        Record::of_kind(timestamp, version, key, Kind::Remove)
+    }
+
+    /// An erase of these columns of the key. None where the version is 0.
+    pub fn erase(timestamp: u64, version: u64, key: Key, numbers: Numbers) -> Option<Record>
+        ensures accepted { IsSome result ↔ (0 < version) }
+        ensures value { IfSome result (λ made. made ≡ erase_of timestamp version key numbers) }
+    {
+        // It tells the proof that the numbers are lawful.
+        let _ = numbers.as_slice();
+        Record::of_kind(timestamp, version, key, Kind::Erase(numbers))
+    }
+
+    /// A change of this kind. None where the version is 0.
+    fn of_kind(timestamp: u64, version: u64, key: Key, kind: Kind) -> Option<Record>
+        requires lawful { AllowsKind widest kind }
+        requires logged { IsLogged kind }
+        ensures accepted { IsSome result ↔ (0 < version) }
+        ensures value { IfSome result (λ made. made ≡
+            changed timestamp (record { version = version; key = key; kind = kind })) }
     {
         // It tells the proof that the key is lawful.
         let _ = key.as_bytes();
@@ -78,12 +101,18 @@ impl Record {
         }
         Some(Record {
             timestamp,
-            change: Some(Change {
-                version,
-                key,
-                kind: Kind::Remove,
-            }),
+            change: Some(Change { version, key, kind }),
         })
+    }
+
+    /// Whether format 1 has such a record.
+    pub fn fits_format_1(&self) -> bool
+        ensures { IsTrue result ↔ IsLawful (limits_of One) self.now }
+    {
+        match &self.change {
+            None => true,
+            Some(change) => change.fits(Format::One),
+        }
     }
 
     /// Its timestamp.

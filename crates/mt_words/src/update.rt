@@ -1,8 +1,11 @@
 //! Updates and their order.
-ghost use Rattle.std.specs.Prelude.{◌↔◌, IsTrue};
+ghost use Rattle.std.specs.Prelude.{◌≡◌, ◌↔◌, IsTrue};
+ghost use Rattle.mt_words.specs.Limits.{limits_of};
+ghost use Rattle.mt_words.specs.Codes.{code_of};
+ghost use Rattle.mt_words.specs.Changes.{AllowsKind};
 ghost use Rattle.mt_words.specs.Stamps.{IsOlder};
 
-use crate::{Columns, Key};
+use crate::{Code, Columns, Format, Key, Numbers};
 
 /// What an update does to its key.
 #[derive(Debug, Drop)]
@@ -13,6 +16,36 @@ pub enum Kind {
     Remove,
     /// Clears all columns, and then sets these: the entry of a checkpoint.
     Whole(Columns),
+    /// Erases these columns, and leaves the others.
+    Erase(Numbers),
+}
+
+impl Kind {
+    /// Its code.
+    pub fn code(&self) -> Code
+        ensures { result ≡ code_of self.now }
+    {
+        match self {
+            Kind::Put(_) => Code::Put,
+            Kind::Remove => Code::Remove,
+            Kind::Whole(_) => Code::Whole,
+            Kind::Erase(_) => Code::Erase,
+        }
+    }
+
+    /// Whether the format allows it.
+    pub fn fits(&self, format: Format) -> bool
+        ensures { IsTrue result ↔ AllowsKind (limits_of format) self.now }
+    {
+        let limits = format.limits();
+        match self {
+            Kind::Put(columns) | Kind::Whole(columns) => columns.are_some_up_to(limits.column),
+            Kind::Remove => true,
+            Kind::Erase(numbers) => {
+                limits.kind >= Code::Erase.byte() && numbers.are_up_to(limits.column)
+            }
+        }
+    }
 }
 
 /// Where an update comes from. At one version log updates are ordered by the position of their log, then by

@@ -1,8 +1,10 @@
-use Rattle.std.proofs.Common.{◌≡◌, ◌++◌, List, sym, subst}
+use Rattle.std.proofs.Common.{◌≡◌, ◌++◌, ℕ, List, map, sym, subst}
 use Rattle.std.proofs.lemmas.List.{append-nil}
 use Rattle.mt_words.specs.declared.update.Kind.{Kind}
-use Rattle.mt_words.specs.declared.update.Kind.TheVariants.{Put, Remove, Whole}
-use Rattle.mt_record.specs.Decoding.{columns_in}
+use Rattle.mt_words.specs.declared.update.Kind.TheVariants.{Put, Remove, Whole, Erase}
+use Rattle.mt_words.specs.Limits.{widest}
+use Rattle.mt_words.specs.Changes.{erased, writes_of}
+use Rattle.mt_words.proofs.WriteLemmas.{set_writes, erase_writes}
 use Rattle.mt_replay.specs.Cells.{Written, IsCellOf, written}
 use Rattle.mt_replay.specs.Groups.{IsLaterOf, IsResetAfter}
 use Rattle.mt_replay.proofs.GroupLemmas.{group_more}
@@ -16,7 +18,7 @@ returns-in-Put-clause-group c = λ updates key of_key is.
     let kind : u.kind ≡ Put c.in-Put.columns = c.in-Put.is in
     group_more updates u key old new of_key
     (subst (λ (k : Kind). IsResetAfter k u.stamp old.reset new.reset) (sym kind) c.apply_columns.ensures.reset)
-    (λ writes cell. subst (λ (k : Kind). IsCellOf (writes ++ written u.stamp (columns_in k)) new.slots) (sym kind) (c.apply_columns.ensures.writes writes cell))
+    (λ writes cell. subst (λ (k : Kind). IsCellOf (writes ++ written u.stamp (writes_of k)) new.slots) (sym kind) (c.apply_columns.ensures.writes writes cell))
     is
 
 pub returns-in-Remove-clause-group : goal.returns-in-Remove-clause-group
@@ -29,8 +31,8 @@ returns-in-Remove-clause-group c = λ updates key of_key is.
     (subst (λ (k : Kind). IsResetAfter k u.stamp old.reset new.reset) (sym kind) c.clear_if.ensures.reset)
     (λ writes cell.
     let same : IsCellOf writes new.slots = subst (IsCellOf writes) (sym c.clear_if.ensures.writes) cell in
-    let none : IsCellOf (writes ++ written u.stamp (columns_in Remove)) new.slots = subst (λ (ws : List Written). IsCellOf ws new.slots) (sym (append-nil writes)) same in
-    subst (λ (k : Kind). IsCellOf (writes ++ written u.stamp (columns_in k)) new.slots) (sym kind) none)
+    let none : IsCellOf (writes ++ written u.stamp (writes_of Remove)) new.slots = subst (λ (ws : List Written). IsCellOf ws new.slots) (sym (append-nil writes)) same in
+    subst (λ (k : Kind). IsCellOf (writes ++ written u.stamp (writes_of k)) new.slots) (sym kind) none)
     is
 
 pub returns-clause-group : goal.returns-clause-group
@@ -44,5 +46,27 @@ returns-clause-group c = λ updates key of_key is.
     (subst (λ (k : Kind). IsResetAfter k u.stamp old.reset new.reset) (sym kind) later)
     (λ writes cell.
     let same = subst (IsCellOf writes) (sym c.clear_if-in-Whole.ensures.writes) cell in
-    subst (λ (k : Kind). IsCellOf (writes ++ written u.stamp (columns_in k)) new.slots) (sym kind) (c.apply_columns-in-Whole.ensures.writes writes same))
+    subst (λ (k : Kind). IsCellOf (writes ++ written u.stamp (writes_of k)) new.slots) (sym kind) (c.apply_columns-in-Whole.ensures.writes writes same))
     is
+
+pub returns-in-Erase-clause-group : goal.returns-in-Erase-clause-group
+returns-in-Erase-clause-group c = λ updates key of_key is.
+    let u = c.args.update in
+    let old = c.args.self.now in
+    let new = c.apply_numbers.new.self in
+    let kind : u.kind ≡ Erase c.in-Erase.numbers = c.in-Erase.is in
+    group_more updates u key old new of_key
+    (subst (λ (k : Kind). IsResetAfter k u.stamp old.reset new.reset) (sym kind) c.apply_numbers.ensures.reset)
+    (λ writes cell.
+    let taken = subst (λ (ns : List ℕ). IsCellOf (writes ++ written u.stamp (map erased ns)) new.slots) c.as_slice.ensures.value (c.apply_numbers.ensures.writes writes cell) in
+    subst (λ (k : Kind). IsCellOf (writes ++ written u.stamp (writes_of k)) new.slots) (sym kind) taken)
+    is
+
+pub returns-in-Put-clause-sound : goal.returns-in-Put-clause-sound
+returns-in-Put-clause-sound c = rw c.in-Put.is (set_writes widest c.in-Put.columns c.apply_columns.ensures.lawful)
+
+pub returns-in-Erase-clause-sound : goal.returns-in-Erase-clause-sound
+returns-in-Erase-clause-sound c = rw c.in-Erase.is (erase_writes widest c.in-Erase.numbers c.as_slice.ensures.lawful.0)
+
+pub returns-clause-sound : goal.returns-clause-sound
+returns-clause-sound c = rw c.in-Whole.is (set_writes widest c.in-Whole.columns c.apply_columns-in-Whole.ensures.lawful)

@@ -1,4 +1,5 @@
-use Rattle.std.proofs.Common.{◌≡◌, ◌∙◌, ◌++◌, ◌∷◌, [], ℕ, List, subst, sym, ap, append_assoc}
+use Rattle.std.proofs.Common.{◌≡◌, ◌∙◌, ◌++◌, ◌∷◌, [], ℕ, List, map, subst, sym, ap, append_assoc}
+use Rattle.mt_words.specs.Changes.{set}
 use Rattle.mt_replay.specs.Cells.{IsCellOf, written}
 use Rattle.mt_replay.proofs.BothLemmas.{cell_swapped}
 use Rattle.mt_replay.proofs.group.Group+Value.apply_columns.Goals as goal
@@ -12,12 +13,12 @@ loop-column-preserved c =
       seen = column ∷ seen;
       were = c.loop-column.invariant.were ∙ ap (λ (first : List (ℕ × List ℕ)). first ++ seen) last ∙ append_assoc c.pop.new.self (column ∷ []) seen;
       reset = c.keep.ensures.reset ∙ c.loop-column.invariant.reset;
-      cell = λ writes is. cell_swapped writes (written c.args.stamp seen) ((c.args.stamp, column) ∷ []) c.keep.new.self.slots
-          (c.keep.ensures.writes (writes ++ written c.args.stamp seen) (c.loop-column.invariant.cell writes is));
+      cell = λ writes is. cell_swapped writes (written c.args.stamp (map set seen)) ((c.args.stamp, set column) ∷ []) c.keep.new.self.slots
+          (c.keep.ensures.writes (writes ++ written c.args.stamp (map set seen)) (c.loop-column.invariant.cell writes is));
     }
 
 pub returns-clause-writes : goal.returns-clause-writes
 returns-clause-writes c = λ writes is.
     let seen : List (ℕ × List ℕ) = c.loop-column.invariant.seen in
     let all : c.args.columns ≡ seen = c.loop-column.invariant.were ∙ ap (λ (first : List (ℕ × List ℕ)). first ++ seen) c.in_default.ensures.none.0 in
-    subst (λ (columns : List (ℕ × List ℕ)). IsCellOf (writes ++ written c.args.stamp columns) c.loop-column.self.slots) (sym all) (c.loop-column.invariant.cell writes is)
+    subst (λ (columns : List (ℕ × List ℕ)). IsCellOf (writes ++ written c.args.stamp (map set columns)) c.loop-column.self.slots) (sym all) (c.loop-column.invariant.cell writes is)

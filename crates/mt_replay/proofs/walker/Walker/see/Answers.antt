@@ -1,13 +1,13 @@
 use Rattle.std.proofs.Common.{◌≡◌, ◌++◌, [], ◌∷◌, ℕ, List, Option, sym, subst}
 use Rattle.mt_words.specs.declared.update.Update.{Update}
-use Rattle.mt_replay.specs.Groups.{HasLawfulColumns, IsGroupOf}
+use Rattle.mt_replay.specs.Groups.{HasLawfulWrites, IsGroupOf}
 use Rattle.mt_replay.specs.Walker.{IsMade, IsWalkSoFar}
 use Rattle.mt_replay.proofs.WalkerLemmas.{at_key, not_at_key, see_same, see_next}
 use Rattle.mt_replay.proofs.walker.Walker.see.Goals as goal
 
 pub returns-then-is_at : goal.returns-then-is_at
 returns-then-is_at g c = λ updates order so_far.
-    let sees = subst (λ (u : Update). ((us : List Update) (key : List ℕ) → u.key ≡ key → IsGroupOf us key c.args.self.now.group → IsGroupOf (us ++ u ∷ []) key c.see.new.self) × HasLawfulColumns u) c.update.ensures (c.see.ensures.group, c.see.ensures.sound) in
+    let sees = subst (λ (u : Update). ((us : List Update) (key : List ℕ) → u.key ≡ key → IsGroupOf us key c.args.self.now.group → IsGroupOf (us ++ u ∷ []) key c.see.new.self) × HasLawfulWrites u) c.update.ensures (c.see.ensures.group, c.see.ensures.sound) in
     see_same updates c.args.update (g.S.PairSink.pairs c.args.self.now.sink) c.args.self.now.first c.args.self.now.group c.see.new.self so_far
     (at_key c.args.self.now.first c.args.update.key c.if-is_at.ensures) sees.0 sees.1
 

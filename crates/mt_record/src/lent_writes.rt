@@ -1,0 +1,82 @@
+//! Writes of columns, lent from their bytes one after the other.
+ghost use Rattle.std.specs.Prelude.{◌≡◌, [], ◌∷◌, List, ℕ, IfSome, IfNone};
+ghost use Rattle.std.specs.Option.{option_map};
+ghost use Rattle.mt_words.specs.Limits.{widest};
+ghost use Rattle.mt_words.specs.Changes.{IsWrite};
+ghost use Rattle.mt_record.specs.Decoding.{IsCarried, writes_carried};
+
+use crate::fields::column_at;
+use mt_words::Payload;
+use std::marker::Model;
+
+/// The writes that are left.
+#[derive(Drop)]
+pub struct LentWrites<'a> {
+    /// How they are spelled.
+    payload: Payload,
+    left: u8,
+    bytes: &'a [u8],
+}
+
+impl<'a> Model for LentWrites<'a> {
+    ghost use Rattle.std.specs.Prelude.{List};
+    ghost use Rattle.mt_words.specs.Changes.{Write};
+    ghost use Rattle.mt_record.specs.Decoding.{writes_from, AreLent};
+
+    ghost Value = { List Write };
+
+    ghost view = { λ w. writes_from w.payload w.left w.bytes.now };
+
+    ghost invariant = { λ w. AreLent w.payload w.left w.bytes.now };
+}
+
+impl<'a> LentWrites<'a> {
+    /// Those of a change that carries these bytes.
+    pub(crate) fn of_carried(payload: Payload, carried: &'a [u8]) -> LentWrites<'a>
+        requires { IsCarried payload carried.now }
+        ensures { result ≡ writes_carried payload carried.now }
+    {
+        match payload {
+            Payload::Nothing => LentWrites {
+                payload,
+                left: 0,
+                bytes: carried,
+            },
+            Payload::Columns | Payload::Numbers => LentWrites {
+                payload,
+                left: carried[0],
+                bytes: &carried[1..],
+            },
+        }
+    }
+
+    /// Takes the next write off: its number, and its bytes, which an erase has not.
+    pub fn next(&mut self) -> Option<(u8, Option<&'a [u8]>)>
+        ensures some { IfSome result (λ write. self.old ≡ (write.0, option_map (λ bytes. bytes.now) write.1) ∷ self.new) }
+        ensures lawful { IfSome result (λ write. IsWrite widest (write.0, option_map (λ bytes. bytes.now) write.1)) }
+        ensures none { IfNone result ((self.old ≡ []) × (self.new ≡ [])) }
+    {
+        if self.left == 0 {
+            return None;
+        }
+        match self.payload {
+            Payload::Nothing => None,
+            Payload::Columns => {
+                let Some((number, bytes, after)) = column_at(self.bytes) else {
+                    unreachable!();
+                };
+                self.left -= 1;
+                self.bytes = after;
+                Some((number, Some(bytes)))
+            }
+            Payload::Numbers => {
+                let Some((number, after)) = self.bytes.split_first() else {
+                    unreachable!();
+                };
+                self.left -= 1;
+                self.bytes = after;
+                Some((*number, None))
+            }
+        }
+    }
+}
