@@ -64,7 +64,7 @@ impl Draft {
         }
     }
 
-    /// A log's header: `from FROM`, or nothing for 0; perhaps with a format behind it.
+    /// A log's header: `from FROM`, or nothing for 0; then a format, or nothing for format 1.
     pub fn begin_log(alloc: Global, words: &[&str]) -> Result<Draft, Mistake> {
         let (format, words) = format_of(words)?;
         let from = match words {
@@ -80,7 +80,7 @@ impl Draft {
         Ok(Draft::of_bytes(true, bytes))
     }
 
-    /// A part: `PART of PARTS of checkpoint NUMBER from BEGIN to END`; perhaps with a format behind it.
+    /// A part: `PART of PARTS of checkpoint NUMBER from BEGIN to END`; then a format, or nothing for format 1.
     pub fn begin_part(alloc: Global, words: &[&str]) -> Result<Draft, Mistake> {
         let (format, words) = format_of(words)?;
         let (head, end) = head_of(format, words)?;

@@ -176,13 +176,13 @@ pub record IsColumnsFault (Allows : List (ℕ × List ℕ) → Type 0) (count : 
   pub spelled : AreSpelled count bytes columns
   pub refused : Allows columns → ⊥
 
--- these numbers of columns behind how many they are, which is at least one
+-- these column numbers after their count, of which there is at least one
 pub record CarriesNumbers (bytes numbers : List ℕ) : Type 0 where
   pub lawful : AreNumbers widest numbers
   pub some : 0 < length numbers
   pub spelled : bytes ≡ kind_bytes (Erase numbers)
 
--- these columns behind their number, of which there is at least one
+-- these columns after their count, of which there is at least one
 pub record CarriesColumns (bytes : List ℕ) (columns : List (ℕ × List ℕ)) : Type 0 where
   pub lawful : AreColumns widest columns
   pub some : 0 < length columns

@@ -12,6 +12,7 @@ use Rattle.mt_words.specs.declared.update.Kind.{Kind}
 use Rattle.mt_words.specs.declared.update.Kind.TheVariants.{Put, Remove, Whole, Erase}
 use Rattle.mt_words.specs.declared.update.Update.{Update}
 use Rattle.mt_words.specs.Limits.{widest}
+use Rattle.mt_words.specs.Codes.{byte_of}
 use Rattle.mt_words.specs.Words.{IsKey, IsColumn}
 use Rattle.mt_words.specs.Changes.{Logged, Write, set, erased, writes_of, AreWrites}
 use Rattle.mt_words.specs.Updates.{update_at}
@@ -26,17 +27,17 @@ columns_from zero bytes = []
 columns_from (suc n) bytes =
     (slice_index bytes 0, take (big_from 0 2 (drop 1 bytes)) (drop 3 bytes)) ∷ columns_from n (drop (big_from 0 2 (drop 1 bytes)) (drop 3 bytes))
 
--- columns behind their number
+-- columns after their count
 abbrev pub columns_counted : List ℕ → List (ℕ × List ℕ)
 columns_counted bytes = columns_from (slice_index bytes 0) (drop 1 bytes)
 
--- numbers of columns behind how many they are
+-- column numbers after their count
 abbrev pub numbers_counted : List ℕ → List ℕ
 numbers_counted bytes = take (slice_index bytes 0) (drop 1 bytes)
 
 -- the code of this byte; a remove's stands for that of any other byte, which is not looked at
 abbrev pub code_from : ℕ → Code
-code_from byte = by (eqb byte 0) (eqb byte 1) (eqb byte 4)
+code_from byte = by (eqb byte (byte_of codes.Whole)) (eqb byte (byte_of codes.Put)) (eqb byte (byte_of codes.Erase))
   where
     by : Bool → Bool → Bool → Code
     by true put erase = codes.Whole

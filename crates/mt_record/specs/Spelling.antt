@@ -22,7 +22,7 @@ column_bytes column = column.0 ∷ counted column.1
 abbrev pub kind_byte : Kind → ℕ
 kind_byte kind = byte_of (code_of kind)
 
--- what a kind carries: a put and a whole their columns behind their number, an erase its numbers, a remove nothing
+-- what a kind carries: a put and a whole their columns after the count of them, an erase its column numbers after theirs, a remove nothing
 abbrev pub kind_bytes : Kind → List ℕ
 kind_bytes (Put columns) = length columns ∷ flat_map column_bytes columns
 kind_bytes Remove = []

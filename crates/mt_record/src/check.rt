@@ -1,4 +1,4 @@
-//! Bodies checked as they stand: nothing is copied, and no memory is taken.
+//! Bodies checked as they stand, and no memory is taken. Only the numbers of an erase are copied, in place.
 ghost use Rattle.std.specs.Prelude.{◌≡◌, ◌≤◌, ◌<◌, ℕ, List, length, IfOk, IfErr, OnOk, OnErr};
 ghost use Rattle.mt_words.specs.Limits.{limits_of};
 ghost use Rattle.mt_words.specs.Codes.{byte_of};

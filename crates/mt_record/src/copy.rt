@@ -61,7 +61,7 @@ pub fn copy_entry(alloc: Global, bytes: &[u8]) -> Result<Entry, Memory>
     Ok(entry)
 }
 
-/// The numbers that the bytes are, behind how many they are.
+/// Copies the numbers of an erase, which stand after their count.
 fn copy_numbers(bytes: &[u8]) -> Numbers
     requires { (numbers : List ℕ) × CarriesNumbers bytes.now numbers }
     ensures { CarriesNumbers bytes.now result }
@@ -75,7 +75,7 @@ fn copy_numbers(bytes: &[u8]) -> Numbers
     numbers
 }
 
-/// The columns that the bytes are, behind their number.
+/// Copies the columns, which stand after their count.
 fn copy_columns(alloc: Global, bytes: &[u8]) -> Result<Columns, Memory>
     requires { (columns : List (ℕ × List ℕ)) × CarriesColumns bytes.now columns }
     ensures { IfOk result (CarriesColumns bytes.now) }

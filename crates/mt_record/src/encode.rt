@@ -14,7 +14,8 @@ use crate::head::{HEADER_BYTES, LOG};
 use crate::put::{put_bytes, put_column, put_counted, put_magic};
 use mt_words::{Change, Column, Format, Kind, Memory, Record};
 
-/// Appends the header of a log from which updates below `from` may be missing. On an Err nothing is appended.
+/// Appends the header of a log of format 1, from which updates below `from` may be missing. On an Err nothing is
+/// appended.
 pub fn encode_log_header(from: u64, out: &mut Vec<u8>) -> Result<(), Memory>
     ensures ok { OnOk result (out.new.items ≡ out.old.items ++ head_bytes (head_of One from)) }
     ensures err { OnErr result (out.new.items ≡ out.old.items) }
@@ -22,7 +23,7 @@ pub fn encode_log_header(from: u64, out: &mut Vec<u8>) -> Result<(), Memory>
     append_header(Format::One, from, out)
 }
 
-/// Appends the header of a log of format 2. On an Err nothing is appended.
+/// Appends the header of a log of format 2, likewise. On an Err nothing is appended.
 pub fn encode_log_header_2(from: u64, out: &mut Vec<u8>) -> Result<(), Memory>
     ensures ok { OnOk result (out.new.items ≡ out.old.items ++ head_bytes (head_of Two from)) }
     ensures err { OnErr result (out.new.items ≡ out.old.items) }
@@ -144,7 +145,7 @@ pub fn put_kind(kind: &Kind, out: &mut Vec<u8>)
     }
 }
 
-/// Appends the numbers behind how many they are.
+/// Appends the count of the numbers, and the numbers.
 fn put_numbers(numbers: &[u8], out: &mut Vec<u8>)
     requires lawful { AreNumbers widest numbers.now }
     requires room { HasRoom (length (kind_bytes (Erase numbers.now))) out.old }
@@ -154,7 +155,7 @@ fn put_numbers(numbers: &[u8], out: &mut Vec<u8>)
     put_bytes(numbers, out);
 }
 
-/// Appends the columns behind their number.
+/// Appends the count of the columns, and the columns.
 fn put_columns(columns: &[Column], out: &mut Vec<u8>)
     requires lawful { AreColumns widest columns.now }
     requires room { HasRoom (length (kind_bytes (Put columns.now))) out.old }

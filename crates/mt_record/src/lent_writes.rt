@@ -50,7 +50,7 @@ impl<'a> LentWrites<'a> {
         }
     }
 
-    /// Takes the next write off: its number, and its bytes, which an erase has not.
+    /// Takes the next write off: its column number and its bytes, None for an erase.
     pub fn next(&mut self) -> Option<(u8, Option<&'a [u8]>)>
         ensures some { IfSome result (λ write. self.old ≡ (write.0, option_map (λ bytes. bytes.now) write.1) ∷ self.new) }
         ensures lawful { IfSome result (λ write. IsWrite widest (write.0, option_map (λ bytes. bytes.now) write.1)) }

@@ -202,7 +202,7 @@ fn prints_help_and_the_faults_of_words(rt: HostRuntime) {
     assert_runs(&rt, "F", BOTH_WORK, UNTAKEN);
 }
 
-/// What begins a line, a text that stands so often behind it, the rest of the line, and how the run ends.
+/// What begins a line, a text that follows it so often, the rest of the line, and how the run ends.
 const LONG: &[(&str, &str, usize, &str, Ends)] = &[
     ("mtrecover get F ", "6b", 4096, "", TAKEN_KEY),
     ("mtrecover get F ", "6b", 4097, "", BAD_KEY),

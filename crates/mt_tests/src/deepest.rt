@@ -11,7 +11,7 @@ const SHARED: &[u8] = &[b'k'; 4095];
 /// What stands before the key of a put at timestamp 1.
 const BEFORE_KEY: &[u8] = b"\0\0\x10\x18\x01\0\0\0\0\0\0\0\x01\0\0\0\0\0\0\0\x01\x10\0";
 
-/// What stands behind it.
+/// What follows it.
 const BEHIND_KEY: &[u8] = b"\x01\0\0\x01x\0\0\x10\x18";
 
 /// A log of format 2, of puts of four keys, and a mark.
