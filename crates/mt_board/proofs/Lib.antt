@@ -1,0 +1,4 @@
+pub mod Sums
+pub mod Keeps
+pub mod Closes
+pub mod Drawing

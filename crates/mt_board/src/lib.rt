@@ -1,0 +1,32 @@
+//! A board from which threads draw work, and on which they share the least number that any of them noted.
+//!
+//! A `Board` has the numbers from 0 up to a total, and gives each out once, in rising order. Whoever holds a `Pass` of
+//! the board may `claim` the next number, `note` a number of its own, and ask for the `least` one noted so far. Each is
+//! one atomic step through a `&Board`: no call waits for another thread. `Board::close` takes all passes back, and its
+//! contract says what they did together, however the threads' steps were interleaved. `Closed` has the least number.
+//!
+//! ```
+//! let (board, mut passes) = Board::open(alloc, 3, 1)?;
+//! for pass in &mut passes {
+//!     while let Some(number) = board.claim(pass) {
+//!         board.note(pass, work_on(number));
+//!     }
+//! }
+//! if let Ok(closed) = board.close(passes) {
+//!     // Each of 0, 1 and 2 was worked on once.
+//!     report(closed.least);
+//! }
+//! ```
+//!
+//! Begin with `board.rt` and `specs/Board.antt`, which are the statement. `view.rt` and `specs/Rule.antt` have the rule
+//! that each step keeps.
+#![tactic(auto)]
+
+mod board;
+mod pass;
+#[cfg(test)]
+mod tests;
+mod view;
+
+pub use board::{Board, BoardFault, Closed, MOST_NUMBERS, MOST_PASSES};
+pub use pass::Pass;

@@ -1,0 +1,38 @@
+//! Passes: the right to draw from a board.
+ghost use Rattle.std.specs.Prelude.{◌≡◌};
+
+use crate::view::SeatView;
+use atomic_table::Seat;
+use std::marker::Model;
+
+/// The right to draw from one board, and to note and see its least number. A pass is never copied, so a contract knows
+/// all that it did: the numbers that it drew, the least one that it noted, and those that it saw.
+#[derive(Drop)]
+pub struct Pass {
+    pub(crate) number: u32,
+    /// Whether a claim found that no number is left.
+    pub(crate) done: bool,
+    pub(crate) seat: Seat<(), SeatView>,
+}
+
+impl Model for Pass {
+    ghost use Rattle.mt_board.specs.Board.{PassView};
+
+    ghost Value = { PassView };
+
+    ghost use Rattle.std.specs.Prelude.{◌≡◌, [], if◌then◌else◌};
+    ghost use Rattle.mt_board.specs.Rule.{pass_view};
+
+    ghost view = { λ p. pass_view p.seat.table_id p.number p.done p.seat.me.0 };
+
+    ghost invariant = { λ p. (p.seat.me.1 ≡ []) × (p.seat.me.0.parts ≡ 1) × (p.seat.me.0.done ≡ (if p.done then 1 else 0)) };
+}
+
+impl Pass {
+    /// Returns which of the board's passes it is, counted from 0.
+    pub fn number(&self) -> u32
+        ensures { result ≡ self.now.number }
+    {
+        self.number
+    }
+}
