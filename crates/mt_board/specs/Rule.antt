@@ -17,7 +17,7 @@ BoardTable = State (Unit {0}) SeatView
 abbrev pub Sitter : Type 0
 Sitter = Me (Unit {0}) SeatView
 
--- a seat that speaks for so many passes, which have done nothing
+-- a seat that speaks for this number of passes, none of which has done anything
 abbrev pub idle_view : Counts → ℕ → SeatView
 idle_view k parts = record { counts = k; parts = parts; draws = []; done = 0; noted = nothing_noted; looks = [] }
 

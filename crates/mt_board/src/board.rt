@@ -70,7 +70,7 @@ pub struct Closed {
 }
 
 impl Board {
-    /// Opens a board with the numbers below `total` and so many passes. The passes stand in the order of their numbers.
+    /// Opens a board with the numbers below `total`, and returns it with its passes, in order of their numbers.
     ///
     /// Answers `Total` above `MOST_NUMBERS`, and then `Passes` unless there are 1 to `MOST_PASSES`.
     pub fn open(alloc: Global, total: u32, passes: u32) -> Result<(Board, Vec<Pass>), BoardFault>

@@ -5,7 +5,7 @@ ghost use Rattle.std.specs.Prelude.{◌≡◌};
 use crate::{Board, BoardFault, Pass};
 use std::process::Abort;
 
-/// A board with so many numbers and two passes, in the order of their numbers.
+/// A board with `total` numbers, and its two passes in order.
 fn open_for_two<R: Abort + AllocGlobal>(rt: &R, total: u32) -> (Board, Pass, Pass)
     ensures { (result.1.board ≡ result.0) × (result.2.board ≡ result.0) }
 {

@@ -287,7 +287,7 @@ next_column n left bytes after c more fit same are =
       },
     )
 
--- the writes of numbers are the one at the front and those behind it
+-- the writes of numbers are the one at the front and those after it
 pub next_number : (n left : ℕ) (bytes after : List ℕ) (number : ℕ) → left ≡ suc n → bytes ≡ number ∷ after → AreLentNumbers left bytes
     → (writes_from payloads.Numbers left bytes ≡ erased number ∷ writes_from payloads.Numbers n after) × (number ≤ widest.column) × AreLentNumbers n after
 next_number n left bytes after number more same are =

@@ -176,13 +176,13 @@ pub record IsColumnsFault (Allows : List (ℕ × List ℕ) → Type 0) (count : 
   pub spelled : AreSpelled count bytes columns
   pub refused : Allows columns → ⊥
 
--- these column numbers after their count, of which there is at least one
+-- the bytes are these column numbers, at least one, after their count
 pub record CarriesNumbers (bytes numbers : List ℕ) : Type 0 where
   pub lawful : AreNumbers widest numbers
   pub some : 0 < length numbers
   pub spelled : bytes ≡ kind_bytes (Erase numbers)
 
--- these columns after their count, of which there is at least one
+-- the bytes are these columns, at least one, after their count
 pub record CarriesColumns (bytes : List ℕ) (columns : List (ℕ × List ℕ)) : Type 0 where
   pub lawful : AreColumns widest columns
   pub some : 0 < length columns

@@ -52,7 +52,7 @@ kind_from codes.Put bytes = Put (columns_counted bytes)
 kind_from codes.Remove bytes = Remove
 kind_from codes.Erase bytes = Erase (numbers_counted bytes)
 
--- so many writes from the front
+-- the writes at the front, as many as counted
 abbrev pub writes_from : Payload → ℕ → List ℕ → List Write
 writes_from payloads.Nothing count bytes = []
 writes_from payloads.Columns count bytes = map set (columns_from count bytes)
@@ -140,12 +140,12 @@ pub record AreLentColumns (count : ℕ) (bytes : List ℕ) : Type 0 where
   pub spelled : AreSpelled count bytes (columns_from count bytes)
   pub lawful : AllByRecursion (IsColumn widest) (columns_from count bytes)
 
--- so many lawful numbers
+-- lawful numbers, as many as counted
 pub record AreLentNumbers (count : ℕ) (bytes : List ℕ) : Type 0 where
   pub number : length bytes ≡ count
   pub lawful : AllByRecursion (λ number. number ≤ widest.column) bytes
 
--- so many lawful writes
+-- lawful writes, as many as counted
 abbrev pub AreLent : Payload → ℕ → List ℕ → Type 0
 AreLent payloads.Nothing count bytes = Unit {0}
 AreLent payloads.Columns count bytes = AreLentColumns count bytes

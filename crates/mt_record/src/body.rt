@@ -18,7 +18,7 @@ pub struct ChangeFields<'a> {
     pub carried: &'a [u8],
 }
 
-/// The fields of a change of this code, where the bytes are just those.
+/// The fields of a change of this code, if the bytes are just those.
 pub fn change_fields(code: Code, bytes: &[u8]) -> Option<ChangeFields<'_>>
     ensures found { IfSome result (AreChangeFields (byte_of code) bytes.now) }
     ensures none { IfNone result (IsNoChange (byte_of code) bytes.now) }

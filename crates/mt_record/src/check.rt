@@ -92,7 +92,7 @@ fn check_kind(format: Format, code: Code, bytes: &[u8]) -> Result<(), What>
     }
 }
 
-/// Checks the numbers of an erase, of which there is to be at least one.
+/// Checks the numbers of an erase: there must be at least one.
 fn check_numbers(format: Format, numbers: &[u8]) -> Result<(), What>
     ensures found { OnOk result (AreNumbers (limits_of format) numbers.now × (0 < length numbers.now)) }
     ensures fault { IfErr result (λ what. (what ≡ Columns) × (AreNumbers (limits_of format) numbers.now × (0 < length numbers.now) → ⊥)) }
