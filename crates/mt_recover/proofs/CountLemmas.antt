@@ -17,7 +17,8 @@ use Rattle.mt_replay.specs.Survivors.{all_updates, in_window, is_within}
 use Rattle.mt_recover.specs.declared.report.Report.{Report}
 use Rattle.mt_recover.specs.Recovery.{Facts, records_of}
 use Rattle.mt_recover.specs.Report.{all_records, logged_updates, is_early, is_late, IsFoundIn, IsReportOf}
-use Rattle.mt_recover.specs.Start.{MayEnd, ended}
+use Rattle.mt_recover.specs.declared.report.Counts.{Counts}
+use Rattle.mt_recover.specs.Prepared.{AreCountsOf, HasRoomFor, report_of}
 use Rattle.mt_tree.specs.Layers.{CountsLayers}
 use Rattle.mt_replay.specs.Walk.{IsWalk}
 use Rattle.mt_replay.proofs.StepLemmas.{key_of_pair, below_itself}
@@ -107,35 +108,23 @@ adds_up facts report found =
 
 -- ---- what recovery reports
 
-pub may_end : {logs parts : List (List ℕ)} (facts : Facts logs parts) (report : Report) → IsFoundIn facts report → MayEnd report (length (early_in facts)) (length (survivors_in facts))
-may_end facts report found =
-    let adds = adds_up facts report found in
+pub room_for : {logs parts : List (List ℕ)} (facts : Facts logs parts) (counts : Counts) → AreCountsOf facts counts → HasRoomFor counts (length (early_in facts)) (length (survivors_in facts))
+room_for facts counts are =
+    let adds = adds_up facts (report_of counts 0 0 0 0) (are 0 0 0 0) in
     record { marks = adds.marks; entries = adds.entries; updates = omega (arith, adds.marks, adds.entries, adds.all) }
 
--- its report is that of the facts
-pub ended_is : {logs parts : List (List ℕ)} (facts : Facts logs parts) (pairs : List Pair) (report : Report) (early survivors keys layers : ℕ)
-    → IsFoundIn facts report → early ≡ length (early_in facts) → survivors ≡ length (survivors_in facts) → keys ≡ length pairs → CountsLayers pairs layers
-    → IsReportOf facts pairs (record (ended report early survivors keys) { layers = layers })
-ended_is facts pairs report early survivors keys layers found before same many counts =
-    let adds = adds_up facts report found in
+-- the report of the counts is that of the facts
+pub report_is : {logs parts : List (List ℕ)} (facts : Facts logs parts) (counts : Counts) (pairs : List Pair) (early survivors layers : ℕ) → AreCountsOf facts counts
+    → early ≡ length (early_in facts) → survivors ≡ length (survivors_in facts) → CountsLayers pairs layers → IsReportOf facts pairs (report_of counts early survivors (length pairs) layers)
+report_is facts counts pairs early survivors layers are before same count =
+    let adds = adds_up facts (report_of counts 0 0 0 0) (are 0 0 0 0) in
     record {
-      found = record {
-        logs = found.logs;
-        records = found.records;
-        marks = found.marks;
-        torn = found.torn;
-        cutoff = found.cutoff;
-        checkpoint = found.checkpoint;
-        begin = found.begin;
-        skipped = found.skipped;
-        nameless = found.nameless;
-        entries = found.entries;
-      };
+      found = are early survivors (length pairs) layers;
       survivors = same;
       early = before;
       late = omega (arith, before, same, adds.marks, adds.entries, adds.all);
-      keys = many;
-      layers = counts;
+      keys = refl;
+      layers = count;
     }
 
 -- ---- the keys of a walk

@@ -2,10 +2,9 @@ pub mod Apart
 pub mod ReplayLemmas
 pub mod OneWalk
 pub mod SurvivorLemmas
-pub mod ReadingLemmas
 pub mod SourceLemmas
 pub mod CountLemmas
-pub mod FactLemmas
+pub mod FoundLemmas
 pub mod DumpLemmas
 pub mod OneVerdict
 pub mod OneReport
@@ -14,3 +13,7 @@ pub mod PiecesLemmas
 pub mod SharingLemmas
 pub mod ScanLemmas
 pub mod ReportLemmas
+pub mod Preparing
+pub mod Assembles
+pub mod Works
+pub mod Claims

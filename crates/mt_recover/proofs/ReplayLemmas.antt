@@ -1,5 +1,5 @@
 -- The surviving updates, scan by scan.
-use Rattle.std.proofs.Common.{sum_by, length, arith, ◌≡◌, ◌⊎◌, inl, inr, ℕ, ◌<◌, map, Result, Ok, IfOk, Bool, true, false, List, [], ◌∷◌, ◌++◌, Contains, IsPermutation, refl, sym, ap, ◌∙◌, subst, append_assoc}
+use Rattle.std.proofs.Common.{sum_by, length, arith, ◌≡◌, ◌⊎◌, inl, inr, map, Result, Ok, IfOk, Bool, true, false, List, [], ◌∷◌, ◌++◌, Contains, IsPermutation, refl, sym, ap, ◌∙◌, subst, append_assoc}
 use Rattle.std.specs.Prelude.{cond}
 use Rattle.std.specs.List.{filter, AllZip}
 use Rattle.std.proofs.lemmas.List.{map-append}
@@ -18,15 +18,10 @@ use Rattle.mt_words.proofs.Elements.{no_element, head_or_tail}
 use Rattle.mt_replay.specs.declared.window.Window.{Window}
 use Rattle.mt_replay.specs.Survivors.{in_window, wholes}
 use Rattle.mt_recover.specs.LogScans.{kept, kept_by, kept_in}
-use Rattle.std.specs.Option.{option_map}
-use Rattle.mt_scan.specs.Choice.{checkpoint_in}
-use Rattle.mt_recover.specs.declared.replayed.Replay.{Replay}
 use Rattle.mt_recover.specs.declared.survivors.LogSurvivors.{LogSurvivors}
-use Rattle.mt_recover.specs.declared.survivors.Survivors.{Survivors}
-use Rattle.mt_recover.specs.Start.{surviving, IsLeftBy, cells_of, AreBoth, AreSurvivorsOf}
+use Rattle.mt_recover.specs.Prepared.{IsLeftBy, cells_of, early_of}
 use Rattle.mt_recover.specs.Report.{is_early}
 use Rattle.mt_recover.proofs.ReportLemmas.{length-filter_flat}
-use Rattle.mt_recover.specs.Survivors.{entry_updates}
 
 -- what a filter keeps was there
 kept_head : {A : Type 0} (test : A → Bool) (b : Bool) (y x : A) (ys : List A) → Contains (cond b (y ∷ filter test ys) (filter test ys)) x → (y ≡ x) ⊎ Contains (filter test ys) x
@@ -49,20 +44,17 @@ joined_append (l ∷ ls) others = ap (λ (us : List Update). l ++ us) (joined_ap
 
 -- ---- what is done of each
 
--- the answer of a job of which this is to hold, by some worker
-abbrev pub IsAnswerOf : {J X : Type 0} → (J → X → Type 0) → ℕ → J → Result X Memory → Type 0
-IsAnswerOf P count job answer = (worker : ℕ) × (worker < count) × IfOk answer (P job)
-
-done_of : {J X : Type 0} (P : J → X → Type 0) (count : ℕ) (jobs : List J) (done : List X) → AllZip (IsAnswerOf P count) jobs (map Ok done) → AllZip P jobs done
-done_of P count [] [] all = tt
-done_of P count [] (d ∷ ds) all = absurd all
-done_of P count (j ∷ js) [] all = absurd all
-done_of P count (j ∷ js) (d ∷ ds) all = (all.0.2, done_of P count js ds all.1)
-
 -- what is done of jobs, where none ran out of memory
-pub all_answered : {J X : Type 0} (P : J → X → Type 0) (count : ℕ) (jobs : List J) (answers : List (Result X Memory)) (done : List X)
-    → AllZip (IsAnswerOf P count) jobs answers → answers ≡ map Ok done → AllZip P jobs done
-all_answered P count jobs answers done all are = done_of P count jobs done (subst (AllZip (IsAnswerOf P count) jobs) are all)
+pub all_answered : {J X : Type 0} (P : J → X → Type 0) (jobs : List J) (answers : List (Result X Memory)) (done : List X) → AllZip (λ job answer. IfOk answer (P job)) jobs answers → answers ≡ map Ok done → AllZip P jobs done
+all_answered P [] answers [] all are = tt
+all_answered P [] [] (d ∷ ds) all are = absurd cc
+all_answered P [] (a ∷ rest) (d ∷ ds) all are = absurd all
+all_answered P (j ∷ js) [] done all are = absurd all
+all_answered P (j ∷ js) (a ∷ rest) [] all are = absurd cc
+all_answered P (j ∷ js) (a ∷ rest) (d ∷ ds) all are =
+    let first : a ≡ Ok d = cc in
+    let later : rest ≡ map Ok ds = cc in
+    (subst (λ answer. IfOk answer (P j)) first all.0, all_answered P js rest ds all.1 later)
 
 -- the cells of all scans
 cells_of_all : (window : Window) (scans : List LogScan) (logs : List LogSurvivors) → AllZip (IsLeftBy window) scans logs → IsPermutation (kept_in window scans) (joined (cells_of logs))
@@ -76,7 +68,7 @@ cells_of_all window (s ∷ ss) (l ∷ ls) all =
 
 -- the early updates of all scans
 early_of_all : (window : Window) (scans : List LogScan) (logs : List LogSurvivors) → AllZip (IsLeftBy window) scans logs
-    → sum_by (λ log. log.early) logs ≡ sum_by (λ scan. length (filter (is_early window.begin) (kept_by scan))) scans
+    → early_of logs ≡ sum_by (λ scan. length (filter (is_early window.begin) (kept_by scan))) scans
 early_of_all window [] [] all = refl
 early_of_all window [] (l ∷ ls) all = absurd all
 early_of_all window (s ∷ ss) [] all = absurd all
@@ -89,18 +81,15 @@ early_of_all window (s ∷ ss) (l ∷ ls) all = omega (
 )
 
 -- what survives of logs and of the chosen checkpoint
-pub survivors_of_both : (replay : Replay) (logs : List LogSurvivors) (parts : List (List Update)) → AllZip (IsLeftBy replay.window) replay.scans.items logs
-    → IsPermutation (entry_updates (option_map checkpoint_in replay.chosen)) (joined parts) → (survivors : Survivors) → AreBoth logs parts survivors → AreSurvivorsOf replay survivors
-survivors_of_both replay logs parts of_logs of_parts survivors are =
-    let window = replay.window in
-    let scans = replay.scans.items in
+pub cells_of_both : (window : Window) (scans : List LogScan) (logs : List LogSurvivors) (entries : List Update) (parts : List (List Update)) → AllZip (IsLeftBy window) scans logs → IsPermutation entries (joined parts)
+    → IsPermutation (kept_in window scans ++ entries) (joined (cells_of logs ++ parts))
+cells_of_both window scans logs entries parts of_logs of_parts =
     let cells = cells_of logs in
-    record {
-      early = are.early ∙ early_of_all window scans logs of_logs ∙ sym (length-filter_flat (is_early window.begin) kept_by scans);
-      cells =
-          subst (IsPermutation (surviving replay)) (sym (ap joined are.lists ∙ joined_append cells parts))
-          (IsPermutation-append (kept_in window scans) (joined cells) (entry_updates (option_map checkpoint_in replay.chosen)) (joined parts) (cells_of_all window scans logs of_logs) of_parts);
-    }
+    subst (IsPermutation (kept_in window scans ++ entries)) (sym (joined_append cells parts)) (IsPermutation-append (kept_in window scans) (joined cells) entries (joined parts) (cells_of_all window scans logs of_logs) of_parts)
+
+-- and how many updates come early
+pub early_of_both : (window : Window) (scans : List LogScan) (logs : List LogSurvivors) → AllZip (IsLeftBy window) scans logs → early_of logs ≡ length (filter (is_early window.begin) (kept scans))
+early_of_both window scans logs of_logs = early_of_all window scans logs of_logs ∙ sym (length-filter_flat (is_early window.begin) kept_by scans)
 
 -- the cells of all parts
 pub cells_of_all_parts : (parts : List KeptPart) (lists : List (List Update)) → AllZip (λ part cells. IsPermutation (wholes part.entries) cells) parts lists

@@ -1,13 +1,15 @@
--- Sources that were scanned one after the other.
-use Rattle.std.proofs.Common.{◌≡◌, ◌∙◌, ℕ, zero, suc, ◌<◌, Bool, true, false, IsTrue, List, [], ◌∷◌, ◌++◌, length, map, take, Some, Err, refl, sym, ap, subst, arith}
-use Rattle.std.proofs.lemmas.List.{nil_from_length, take_at}
-use Rattle.std.proofs.lemmas.Slice.Zip.{AllZip-long}
-use Rattle.std.proofs.lemmas.Bool.Decides.{nat_tests}
+-- From what scans answer to the logs and parts that their sources may have.
+use Rattle.std.proofs.Common.{◌≡◌, ◌∙◌, ◌⊎◌, inl, inr, ℕ, zero, suc, ◌+◌, ◌<◌, Bool, true, false, IsTrue, List, [], ◌∷◌, ◌++◌, length, map, take, Option, Some, None, Ok, Err, refl, sym, ap, subst, add-zero, arith}
+use Rattle.std.specs.Prelude.{slice_get, Result, IsSomeAnd}
+use Rattle.std.specs.Option.{option_map}
+use Rattle.std.proofs.lemmas.List.{take_at}
+use Rattle.std.proofs.lemmas.Option.{slice_get-map}
 use Rattle.std.proofs.lemmas.Result.{IfOk-weaker, IfErr-weaker}
-use Rattle.std.specs.Prelude.{◌==◌, slice_get, Result, IfOk, IfErr}
+use Rattle.std.proofs.lemmas.Slice.Zip.{AllZip-long}
 use Rattle.mt_words.specs.declared.fault.Fault.{Fault}
 use Rattle.mt_words.specs.declared.fault.Fault.TheVariants as faults
-use Rattle.mt_record.specs.Logs.{LogReading, IsReading}
+use Rattle.mt_words.specs.declared.fault.Memory.{Memory}
+use Rattle.mt_record.specs.Logs.{LogReading}
 use Rattle.mt_scan.specs.declared.log_scan.LogScan.{LogScan}
 use Rattle.mt_scan.specs.declared.part_scan.PartScan.{PartScan}
 use Rattle.mt_scan.specs.Sources.{Seen, Agrees}
@@ -15,146 +17,274 @@ use Rattle.mt_scan.specs.Scans.{IsScanFault, failures_of}
 use Rattle.mt_scan.specs.PartScans.{known_by, IsPartScanFault}
 use Rattle.mt_scan.proofs.Telling.{some_bytes}
 use Rattle.mt_recover.specs.Recovery.{AreReadings, AreKnown}
+use Rattle.mt_recover.specs.Verdict.{IsVerdictOrMemory, IsAnsweredFrom}
+use Rattle.mt_recover.specs.LogScans.{ShowAll}
+use Rattle.mt_recover.specs.Inputs.{MayHave, OfSources, BlamesUnsteady, IsAnsweredBy, IsRecoveryFrom}
 use Rattle.mt_recover.specs.Report.{Outcome, IsRecoveredOf}
-use Rattle.mt_recover.specs.Verdict.{IsVerdictOrMemory}
-use Rattle.mt_recover.specs.LogScans.{ShowAll, AreScansOf}
-use Rattle.mt_recover.specs.declared.scan_all.Scans.{Scans}
-use Rattle.mt_recover.specs.ScanJobs.{AreScans}
-use Rattle.mt_recover.specs.Inputs.{MayHave, OfSources, AreLogs, IsAnsweredFrom, BlamesUnsteady, IsAnsweredBy, IsRecoveryFrom}
+use Rattle.mt_recover.specs.Sharing.{IsFirstErr}
+use Rattle.mt_recover.specs.Outcomes.{IsLogOutcome, IsPartOutcome, AllFrom, read_parts, in_memory}
 
 -- ---- what sources may have
 
 -- all sources may have some bytes
-pub some_logs : {S : Type 0} (seen : S → Seen) (sources : List S) → (logs : List (List ℕ)) × MayHave seen sources logs
-some_logs seen [] = ([], tt)
-some_logs seen (s ∷ ss) =
-    let here = some_bytes (seen s).told in
-    let rest = some_logs seen ss in
+some_logs : (sources : List Seen) → (logs : List (List ℕ)) × MayHave (λ seen. seen) sources logs
+some_logs [] = ([], tt)
+some_logs (s ∷ ss) =
+    let here = some_bytes s.told in
+    let rest = some_logs ss in
     (here.0 ∷ rest.0, (here.1, rest.1))
 
 -- what sources may have, behind what others may have
-pub may_append : {S : Type 0} (seen : S → Seen) (sources others : List S) (logs more : List (List ℕ)) → MayHave seen sources logs → MayHave seen others more
-    → MayHave seen (sources ++ others) (logs ++ more)
-may_append seen [] others [] more may too = too
-may_append seen [] others (l ∷ ls) more may too = absurd may
-may_append seen (s ∷ ss) others [] more may too = absurd may
-may_append seen (s ∷ ss) others (l ∷ ls) more may too = (may.0, may_append seen ss others ls more may.1 too)
+may_append : (sources others : List Seen) (logs more : List (List ℕ)) → MayHave (λ seen. seen) sources logs → MayHave (λ seen. seen) others more → MayHave (λ seen. seen) (sources ++ others) (logs ++ more)
+may_append [] others [] more may too = too
+may_append [] others (l ∷ ls) more may too = absurd may
+may_append (s ∷ ss) others [] more may too = absurd may
+may_append (s ∷ ss) others (l ∷ ls) more may too = (may.0, may_append ss others ls more may.1 too)
 
--- ---- the fault of a log behind whole logs
+-- ---- whole logs, and parts that were scanned
 
-as_many_scans : (number : ℕ) (scans : List LogScan) (readings : List LogReading) → ShowAll number scans readings → length scans ≡ length readings
-as_many_scans number [] [] show = refl
-as_many_scans number [] (r ∷ rs) show = absurd show
-as_many_scans number (s ∷ ss) [] show = absurd show
-as_many_scans number (s ∷ ss) (r ∷ rs) show = ap suc (as_many_scans (suc number) ss rs show.1)
+-- logs that the sources may have, and what the scans show of them, where the first is of this number
+pub record AreWhole (number : ℕ) (sources : List Seen) (scans : List LogScan) : Type 0 where
+  pub logs : List (List ℕ)
+  pub readings : List LogReading
+  pub may : MayHave (λ seen. seen) sources logs
+  pub read : AreReadings logs readings
+  pub show : ShowAll number scans readings
 
-pub behind_front : {A : Type 0} (front : List A) (x : A) (rest : List A) → slice_get (front ++ x ∷ rest) (length front) ≡ Some x
+pub whole_logs : (number : ℕ) (sources : List Seen) (scans : List LogScan) → AllFrom IsLogOutcome number sources (map Ok scans) → AreWhole number sources scans
+whole_logs number [] [] all = record { logs = []; readings = []; may = tt; read = tt; show = tt }
+whole_logs number [] (x ∷ xs) all = absurd all
+whole_logs number (s ∷ ss) [] all = absurd all
+whole_logs number (s ∷ ss) (x ∷ xs) all =
+    let own = all.0.scan in
+    let rest = whole_logs (suc number) ss xs all.1 in
+    record {
+      logs = own.0 ∷ rest.logs;
+      readings = own.2.log ∷ rest.readings;
+      may = (own.1, rest.may);
+      read = (own.2.is_reading, rest.read);
+      show = (own.2.shows, rest.show);
+    }
+
+-- there are as many logs as sources
+as_many_logs : (number : ℕ) (sources : List Seen) (scans : List LogScan) (are : AreWhole number sources scans) → length are.logs ≡ length sources
+as_many_logs number sources scans are = AllZip-long (λ seen bytes. Agrees seen.told bytes) sources are.logs are.may
+
+pub known_parts : (number : ℕ) (sources : List Seen) (scans : List PartScan) → AllFrom IsPartOutcome number sources (map Ok scans) → (parts : List (List ℕ)) × MayHave (λ seen. seen) sources parts × AreKnown parts (map known_by scans)
+known_parts number [] [] all = ([], tt, tt)
+known_parts number [] (x ∷ xs) all = absurd all
+known_parts number (s ∷ ss) [] all = absurd all
+known_parts number (s ∷ ss) (x ∷ xs) all =
+    let own = all.0.scan in
+    let rest = known_parts (suc number) ss xs all.1 in
+    (own.0 ∷ rest.0, (own.1, rest.1), (own.2, rest.2))
+
+-- ---- the first fault
+
+-- the source of an outcome, and those before it
+record IsSplit {A B : Type 0} (R : ℕ → A → B → Type 0) (number : ℕ) (xs : List A) (before : List B) (y : B) : Type 0 where
+  front : List A
+  x : A
+  back : List A
+  are : xs ≡ front ++ x ∷ back
+  all_before : AllFrom R number front before
+  place : ℕ
+  place_is : place ≡ number + length front
+  holds : R place x y
+
+split : {A B : Type 0} (R : ℕ → A → B → Type 0) (number : ℕ) (xs : List A) (before : List B) (y : B) (after : List B) → AllFrom R number xs (before ++ y ∷ after) → IsSplit R number xs before y
+split R number [] [] y after all = absurd all
+split R number [] (b ∷ bs) y after all = absurd all
+split R number (x ∷ xs) [] y after all = record { front = []; x = x; back = xs; are = refl; all_before = tt; place = number; place_is = sym (add-zero number); holds = all.0 }
+split R number (x ∷ xs) (b ∷ bs) y after all =
+    let rest = split R (suc number) xs bs y after all.1 in
+    let next : rest.place ≡ number + length (x ∷ rest.front) = omega (arith, rest.place_is) in
+    record { front = x ∷ rest.front; x = rest.x; back = rest.back; are = ap (λ l. x ∷ l) rest.are; all_before = (all.0, rest.all_before); place = rest.place; place_is = next; holds = rest.holds }
+
+behind_front : {A : Type 0} (front : List A) (x : A) (rest : List A) → slice_get (front ++ x ∷ rest) (length front) ≡ Some x
 behind_front [] x rest = refl
 behind_front (y ∷ ys) x rest = behind_front ys x rest
-
-pub fault_among : (logs rest parts : List (List ℕ)) (scans : List LogScan) (bytes : List ℕ) (number : ℕ) (fault : Fault) → number ≡ length scans → AreScansOf logs scans
-    → IsScanFault number bytes fault → IsAnsweredFrom (logs ++ bytes ∷ rest) parts fault
-fault_among logs rest parts scans bytes number fault at are is = by fault (subst (λ (n : ℕ). IsScanFault n bytes fault) here is)
-  where
-    here : number ≡ length logs
-    here = at ∙ as_many_scans 0 scans are.readings are.show ∙ AllZip-long IsReading logs are.readings are.read
-
-    all : List (List ℕ)
-    all = logs ++ bytes ∷ rest
-
-    before : AreReadings (take (length logs) all) are.readings
-    before = subst (λ (x : List (List ℕ)). AreReadings x are.readings) (sym (take_at logs (bytes ∷ rest) (length logs) refl)) are.read
-
-    by : (fault : Fault) → IsScanFault (length logs) bytes fault → IsAnsweredFrom all parts fault
-    by (faults.Header log) is =
-        subst (λ (n : ℕ). IsAnsweredFrom all parts (faults.Header n)) (sym is.0)
-        (λ other. record { readings = are.readings; before = before; bytes = bytes; stands = behind_front logs bytes rest; is_fault = is.1 })
-    by (faults.Record log nth what) is =
-        subst (λ (n : ℕ). IsAnsweredFrom all parts (faults.Record n nth what)) (sym is.0)
-        (λ other. record { readings = are.readings; before = before; bytes = bytes; stands = behind_front logs bytes rest; is_fault = is.1 })
-    by (faults.Source log) is = subst (λ (n : ℕ). IsAnsweredFrom all parts (faults.Source n)) (sym is) (are.readings, before)
-    by faults.Memory is = λ other. absurd (other refl)
-    by fault is = absurd is
-
--- ---- the source that is blamed
 
 not_steady : (steady : Bool) → (IsTrue steady → suc zero ≡ zero) → steady ≡ false
 not_steady true h = absurd (omega (arith, h refl))
 not_steady false h = refl
 
-pub blames : {S : Type 0} (seen : S → Seen) (front rest parts : List S) (source : S) (bytes : List ℕ) (number : ℕ) (fault : Fault) → number ≡ length front
-    → IsScanFault number bytes fault → (IsTrue (seen source).steady → failures_of {X = LogScan} (Err fault) ≡ 0) → BlamesUnsteady seen (front ++ source ∷ rest) parts fault
-blames {S} seen front rest parts source bytes number fault at is steady = by fault is steady
+-- the fault of a log behind whole logs
+fault_of_log : (logs rest parts : List (List ℕ)) (readings : List LogReading) (bytes : List ℕ) (fault : Fault) → AreReadings logs readings → IsScanFault (length logs) bytes fault → IsAnsweredFrom (logs ++ bytes ∷ rest) parts fault
+fault_of_log logs rest parts readings bytes fault read is = by fault is
   where
-    all : List S
-    all = front ++ source ∷ rest
+    all : List (List ℕ)
+    all = logs ++ bytes ∷ rest
 
-    by : (fault : Fault) → IsScanFault number bytes fault → (IsTrue (seen source).steady → failures_of {X = LogScan} (Err fault) ≡ 0) → BlamesUnsteady seen all parts fault
-    by (faults.Source log) is steady =
-        rw (is ∙ at, behind_front front source rest) (not_steady (seen source).steady steady)
-    by (faults.PartSource part) is steady = absurd is
-    by fault is steady = tt
+    before : AreReadings (take (length logs) all) readings
+    before = subst (λ (x : List (List ℕ)). AreReadings x readings) (sym (take_at logs (bytes ∷ rest) (length logs) refl)) read
 
--- ---- parts
+    by : (fault : Fault) → IsScanFault (length logs) bytes fault → IsAnsweredFrom all parts fault
+    by (faults.Header log) is =
+        subst (λ (n : ℕ). IsAnsweredFrom all parts (faults.Header n)) (sym is.0)
+        (λ other. record { readings = readings; before = before; bytes = bytes; stands = behind_front logs bytes rest; is_fault = is.1 })
+    by (faults.Record log nth what) is =
+        subst (λ (n : ℕ). IsAnsweredFrom all parts (faults.Record n nth what)) (sym is.0)
+        (λ other. record { readings = readings; before = before; bytes = bytes; stands = behind_front logs bytes rest; is_fault = is.1 })
+    by (faults.Source log) is = subst (λ (n : ℕ). IsAnsweredFrom all parts (faults.Source n)) (sym is) (readings, before)
+    by faults.Memory is = λ other. absurd (other refl)
+    by fault is = absurd is
 
--- the source of a part that is blamed
-pub blames_part : {S : Type 0} (seen : S → Seen) (logs front rest : List S) (source : S) (number : ℕ) (fault : Fault) → number ≡ length front
-    → IsPartScanFault number fault → (IsTrue (seen source).steady → failures_of {X = PartScan} (Err fault) ≡ 0) → BlamesUnsteady seen logs (front ++ source ∷ rest) fault
-blames_part seen logs front rest source number (faults.PartSource part) at is steady =
-    rw (is ∙ at, behind_front front source rest) (not_steady (seen source).steady steady)
-blames_part seen logs front rest source number faults.Memory at is steady = tt
-blames_part seen logs front rest source number fault at is steady = absurd is
+-- the source of a log that is blamed
+blames_log : (front back parts : List Seen) (source : Seen) (bytes : List ℕ) (fault : Fault) → IsScanFault (length front) bytes fault → (IsTrue source.steady → failures_of {X = LogScan} (Err fault) ≡ 0)
+    → BlamesUnsteady (λ seen. seen) (front ++ source ∷ back) parts fault
+blames_log front back parts source bytes (faults.Source log) is steady = rw (is, behind_front front source back) (not_steady source.steady steady)
+blames_log front back parts source bytes (faults.PartSource part) is steady = absurd is
+blames_log front back parts source bytes fault is steady = tt
+
+-- the least log that has a fault
+pub log_refused : (sources parts : List Seen) (outcomes : List (Result LogScan Fault)) (fault : Fault) → AllFrom IsLogOutcome 0 sources outcomes → IsFirstErr outcomes fault → IsAnsweredBy (λ seen. seen) sources parts fault
+log_refused sources parts outcomes fault all first =
+    let at = split IsLogOutcome 0 sources (map Ok first.done) (Err fault) first.rest (subst (AllFrom IsLogOutcome 0 sources) first.stands all) in
+    let whole = whole_logs 0 at.front first.done at.all_before in
+    let own = at.holds.fault in
+    let more = some_logs at.back in
+    let known = some_logs parts in
+    let place : at.place ≡ length at.front = omega (arith, at.place_is) in
+    let here = subst (λ (n : ℕ). IsScanFault n own.0 fault) (place ∙ sym (as_many_logs 0 at.front first.done whole)) own.2 in
+    rw at.are (
+      record {
+        logs = whole.logs ++ own.0 ∷ more.0;
+        parts = known.0;
+        logs_may = may_append at.front (at.x ∷ at.back) whole.logs (own.0 ∷ more.0) whole.may (own.1, more.1);
+        parts_may = known.1;
+        holds = fault_of_log whole.logs more.0 known.0 whole.readings own.0 fault whole.read here;
+      },
+      blames_log at.front at.back parts at.x own.0 fault (subst (λ (n : ℕ). IsScanFault n own.0 fault) place own.2) at.holds.steady,
+    )
 
 -- the fault of a part, where there are logs and none has a fault
-pub part_fault : (logs parts : List (List ℕ)) (part : ℕ) (fault : Fault) → 0 < length logs → AreLogs logs → IsPartScanFault part fault → IsAnsweredFrom logs parts fault
-part_fault logs parts part (faults.PartSource i) some are is = (some, are)
-part_fault logs parts part faults.Memory some are is = λ other. absurd (other refl)
-part_fault logs parts part fault some are is = absurd is
+fault_of_part : (logs parts : List (List ℕ)) (readings : List LogReading) (part : ℕ) (fault : Fault) → 0 < length logs → AreReadings logs readings → IsPartScanFault part fault → IsAnsweredFrom logs parts fault
+fault_of_part logs parts readings part (faults.PartSource i) some read is = (some, (readings, read))
+fault_of_part logs parts readings part faults.Memory some read is = λ other. absurd (other refl)
+fault_of_part logs parts readings part fault some read is = absurd is
 
--- ---- logs and parts
+-- the source of a part that is blamed
+blames_part : (logs front back : List Seen) (source : Seen) (fault : Fault) → IsPartScanFault (length front) fault → (IsTrue source.steady → failures_of {X = PartScan} (Err fault) ≡ 0)
+    → BlamesUnsteady (λ seen. seen) logs (front ++ source ∷ back) fault
+blames_part logs front back source (faults.PartSource part) is steady = rw (is, behind_front front source back) (not_steady source.steady steady)
+blames_part logs front back source faults.Memory is steady = tt
+blames_part logs front back source fault is steady = absurd is
 
--- where the test says that there are no sources, there are none
-pub no_sources : {S : Type 0} (sources : List S) (n : ℕ) (empty : Bool) → empty ≡ (n == 0) → n ≡ length sources → empty ≡ true → sources ≡ []
-no_sources sources n empty test same is =
-    let zero : (n == 0) ≡ true = sym test ∙ is in
-    nil_from_length sources (grind (arith, nat_tests))
+-- the least part whose source failed
+pub part_refused : (sources parts : List Seen) (scans : List LogScan) (outcomes : List (Result PartScan Fault)) (fault : Fault) → AllFrom IsLogOutcome 0 sources (map Ok scans) → AllFrom IsPartOutcome 0 (read_parts sources parts) outcomes
+    → IsFirstErr outcomes fault → IsAnsweredBy (λ seen. seen) sources parts fault
+part_refused [] parts scans outcomes fault logs all first = absurd (no_outcome (map Ok first.done) (subst (AllFrom IsPartOutcome 0 []) first.stands all))
+  where
+    no_outcome : (before : List (Result PartScan Fault)) → AllFrom IsPartOutcome 0 [] (before ++ Err fault ∷ first.rest) → ⊥
+    no_outcome [] all = all
+    no_outcome (b ∷ bs) all = all
+part_refused (s ∷ ss) parts scans outcomes fault logs all first =
+    let at = split IsPartOutcome 0 parts (map Ok first.done) (Err fault) first.rest (subst (AllFrom IsPartOutcome 0 parts) first.stands all) in
+    let place : at.place ≡ length at.front = omega (arith, at.place_is) in
+    let whole = whole_logs 0 (s ∷ ss) scans logs in
+    let known = some_logs parts in (
+      record {
+        logs = whole.logs;
+        parts = known.0;
+        logs_may = whole.may;
+        parts_may = known.1;
+        holds = fault_of_part whole.logs known.0 whole.readings at.place fault (omega (arith, as_many_logs 0 (s ∷ ss) scans whole)) whole.read at.holds.fault;
+      },
+      subst (λ (l : List Seen). BlamesUnsteady (λ seen. seen) (s ∷ ss) l fault) (sym at.are) (blames_part (s ∷ ss) at.front at.back at.x fault (subst (λ (n : ℕ). IsPartScanFault n fault) place at.holds.fault) at.holds.steady),
+    )
 
--- no sources have no logs
-pub none_to_have : {S : Type 0} (seen : S → Seen) (sources : List S) → sources ≡ [] → MayHave seen sources []
-none_to_have seen [] none = tt
-none_to_have seen (s ∷ ss) none = absurd cc
+-- there is no log
+pub none_refused : (sources parts : List Seen) (scans : List LogScan) → AllFrom IsLogOutcome 0 sources (map Ok scans) → scans ≡ [] → IsAnsweredBy (λ seen. seen) sources parts faults.NoLogs
+none_refused [] parts scans all none = let ps = some_logs parts in (record { logs = []; parts = ps.0; logs_may = tt; parts_may = ps.1; holds = λ other. refl }, tt)
+none_refused (s ∷ ss) parts [] all none = absurd all
+none_refused (s ∷ ss) parts (x ∷ xs) all none = absurd cc
 
--- there are as many logs as sources
-pub as_many_have : {S : Type 0} (seen : S → Seen) (sources : List S) (logs : List (List ℕ)) → MayHave seen sources logs → length sources ≡ length logs
-as_many_have seen sources logs may = sym (AllZip-long (λ source bytes. Agrees (seen source).told bytes) sources logs may)
+-- memory was refused
+pub memory_refused : (sources parts : List Seen) (fault : Fault) → fault ≡ faults.Memory → IsAnsweredBy (λ seen. seen) sources parts fault
+memory_refused sources parts fault is =
+    let ls = some_logs sources in
+    let ps = some_logs parts in
+    rw is (record { logs = ls.0; parts = ps.0; logs_may = ls.1; parts_may = ps.1; holds = λ other. absurd (other refl) }, tt)
 
--- the verdict on logs is what recovery from their sources answers
-pub answered_from : (logs parts : List (List ℕ)) (fault : Fault) → IsVerdictOrMemory logs parts fault → IsAnsweredFrom logs parts fault
-answered_from logs parts (faults.Source log) is = absurd (is (λ same. cc))
-answered_from logs parts (faults.PartSource part) is = absurd (is (λ same. cc))
-answered_from logs parts fault is = is
+-- what is answered, or that memory was refused
+pub or_memory : (sources parts : List Seen) (fault : Fault) {P : Type 0} → (P → IsAnsweredBy (λ seen. seen) sources parts fault) → P ⊎ ((memory : Memory) × (fault ≡ faults.Memory)) → IsAnsweredBy (λ seen. seen) sources parts fault
+or_memory sources parts fault answers (inl is) = answers is
+or_memory sources parts fault answers (inr is) = memory_refused sources parts fault is.1
 
--- and it blames no source
-pub blames_none : {S : Type 0} (seen : S → Seen) (log_sources part_sources : List S) (logs parts : List (List ℕ)) (fault : Fault) → IsVerdictOrMemory logs parts fault
-    → BlamesUnsteady seen log_sources part_sources fault
-blames_none seen ls ps logs parts (faults.Source log) is = absurd (is (λ same. cc))
-blames_none seen ls ps logs parts (faults.PartSource part) is = absurd (is (λ same. cc))
-blames_none seen ls ps logs parts fault is = tt
+-- ---- from what is seen of sources to the sources
 
--- ---- recovery from what sources have
+may_seen : {S : Type 0} (seen : S → Seen) (sources : List S) (all : List (List ℕ)) → MayHave (λ seen. seen) (map seen sources) all → MayHave seen sources all
+may_seen seen [] [] may = tt
+may_seen seen [] (b ∷ bs) may = absurd may
+may_seen seen (s ∷ ss) [] may = absurd may
+may_seen seen (s ∷ ss) (b ∷ bs) may = (may.0, may_seen seen ss bs may.1)
 
--- what is said of all logs and parts that have these scans
-abbrev pub OfScans : Scans → (List (List ℕ) → List (List ℕ) → Type 0) → Type 0
-OfScans scans P = (logs parts : List (List ℕ)) → AreScansOf logs scans.logs.items → AreKnown parts (map known_by scans.parts.items) → P logs parts
+-- what is said of what is seen of sources is said of the sources
+pub of_seen : {S : Type 0} (seen : S → Seen) (logs parts : List S) (P : List (List ℕ) → List (List ℕ) → Type 0) → OfSources (λ seen. seen) (map seen logs) (map seen parts) P → OfSources seen logs parts P
+of_seen seen logs parts P of = record {
+  logs = of.logs;
+  parts = of.parts;
+  logs_may = may_seen seen logs of.logs of.logs_may;
+  parts_may = may_seen seen parts of.parts of.parts_may;
+  holds = of.holds;
+}
 
--- what is recovered from scans is recovered from their sources
-pub recovery_from : {S : Type 0} (seen : S → Seen) (logs parts : List S) (scans : Scans) (result : Result Outcome Fault) → AreScans seen logs parts scans
-    → OfScans scans (λ ls ps. IfOk result (IsRecoveredOf ls ps)) → OfScans scans (λ ls ps. IfErr result (IsVerdictOrMemory ls ps)) → IsRecoveryFrom seen logs parts result
-recovery_from seen logs parts scans result are recovered fails =
-    let ls = are.logs in
-    let ps = are.parts in
-    record {
-      recovered = IfOk-weaker result _ (λ outcome. OfSources seen logs parts (λ ls ps. IsRecoveredOf ls ps outcome)) (λ outcome is. record { logs = ls.0; parts = ps.0; logs_may = ls.1; parts_may = ps.1; holds = is }) (recovered ls.0 ps.0 ls.2 ps.2);
-      fault = IfErr-weaker result _ (IsAnsweredBy seen logs parts)
-          (λ fault is. (record { logs = ls.0; parts = ps.0; logs_may = ls.1; parts_may = ps.1; holds = answered_from ls.0 ps.0 fault is }, blames_none seen logs parts ls.0 ps.0 fault is)) (fails ls.0 ps.0 ls.2 ps.2);
-    }
+unsteady_seen : {S : Type 0} (seen : S → Seen) (sources : List S) (i : ℕ) → IsSomeAnd (slice_get (map seen sources) i) (λ source. source.steady ≡ false) → IsSomeAnd (slice_get sources i) (λ source. (seen source).steady ≡ false)
+unsteady_seen {S} seen sources i at = by (slice_get sources i) (subst (λ (o : Option Seen). IsSomeAnd o (λ source. source.steady ≡ false)) (slice_get-map seen sources i) at)
+  where
+    by : (source : Option S) → IsSomeAnd (option_map seen source) (λ source. source.steady ≡ false) → IsSomeAnd source (λ source. (seen source).steady ≡ false)
+    by None at = at
+    by (Some source) at = at
+
+-- a fault that is answered for what is seen of sources is answered for the sources
+pub answered_seen : {S : Type 0} (seen : S → Seen) (logs parts : List S) (fault : Fault) → IsAnsweredBy (λ seen. seen) (map seen logs) (map seen parts) fault → IsAnsweredBy seen logs parts fault
+answered_seen seen logs parts fault is = (of_seen seen logs parts (λ ls ps. IsAnsweredFrom ls ps fault) is.0, blamed fault is.1)
+  where
+    blamed : (fault : Fault) → BlamesUnsteady (λ seen. seen) (map seen logs) (map seen parts) fault → BlamesUnsteady seen logs parts fault
+    blamed (faults.Source i) is = unsteady_seen seen logs i is
+    blamed (faults.PartSource i) is = unsteady_seen seen parts i is
+    blamed fault is = tt
+
+-- and so is what recovery answers
+pub recovery_seen : {S : Type 0} (seen : S → Seen) (logs parts : List S) (result : Result Outcome Fault) → IsRecoveryFrom (λ seen. seen) (map seen logs) (map seen parts) result → IsRecoveryFrom seen logs parts result
+recovery_seen seen logs parts result is = record {
+  recovered = IfOk-weaker result _ _ (λ outcome of. of_seen seen logs parts (λ ls ps. IsRecoveredOf ls ps outcome) of) is.recovered;
+  fault = IfErr-weaker result _ _ (λ fault by. answered_seen seen logs parts fault by) is.fault;
+}
+
+-- recovery was refused memory
+pub recovery_without_memory : {S : Type 0} (seen : S → Seen) (logs parts : List S) (result : Result Outcome Fault) → result ≡ Err faults.Memory → IsRecoveryFrom seen logs parts result
+recovery_without_memory seen logs parts result is = rw is (record { recovered = tt; fault = answered_seen seen logs parts faults.Memory (memory_refused (map seen logs) (map seen parts) faults.Memory refl) })
+
+-- ---- logs in memory
+
+-- bytes in memory have no other
+may_in_memory : (logs all : List (List ℕ)) → MayHave (λ seen. seen) (map in_memory logs) all → logs ≡ all
+may_in_memory [] [] may = refl
+may_in_memory [] (b ∷ bs) may = absurd may
+may_in_memory (l ∷ ls) [] may = absurd may
+may_in_memory (l ∷ ls) (b ∷ bs) may = λ i. may.0 i ∷ may_in_memory ls bs may.1 i
+
+none_to_have : (all : List (List ℕ)) → MayHave (λ seen. seen) [] all → [] ≡ all
+none_to_have [] may = refl
+none_to_have (b ∷ bs) may = absurd may
+
+-- what is said of logs in memory is said of their bytes
+pub of_memory : (logs : List (List ℕ)) (P : List (List ℕ) → List (List ℕ) → Type 0) → OfSources (λ seen. seen) (map in_memory logs) [] P → P logs []
+of_memory logs P of = rw (may_in_memory logs of.logs of.logs_may, none_to_have of.parts of.parts_may) of.holds
+
+-- no log in memory is blamed
+steady_in_memory : (logs : List (List ℕ)) (i : ℕ) → IsSomeAnd (slice_get (map in_memory logs) i) (λ source. source.steady ≡ false) → ⊥
+steady_in_memory [] i at = at
+steady_in_memory (l ∷ ls) zero at = absurd cc
+steady_in_memory (l ∷ ls) (suc i) at = steady_in_memory ls i at
+
+-- a fault that is answered for logs in memory is that of their bytes
+pub answered_in_memory : (logs : List (List ℕ)) (fault : Fault) → IsAnsweredBy (λ seen. seen) (map in_memory logs) [] fault → IsVerdictOrMemory logs [] fault
+answered_in_memory logs fault is = by fault (of_memory logs (λ ls ps. IsAnsweredFrom ls ps fault) is.0) is.1
+  where
+    by : (fault : Fault) → IsAnsweredFrom logs [] fault → BlamesUnsteady (λ seen. seen) (map in_memory logs) [] fault → IsVerdictOrMemory logs [] fault
+    by (faults.Source i) is blames = absurd (steady_in_memory logs i blames)
+    by (faults.PartSource i) is blames = absurd blames
+    by fault is blames = is

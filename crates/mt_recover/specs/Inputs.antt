@@ -1,13 +1,11 @@
 -- Sources of logs and parts, and what recovery from them answers.
-use Rattle.std.specs.Prelude.{◌≡◌, false, ℕ, ◌<◌, IsSomeAnd, IfOk, IfErr, List, Result, length, slice_get, take}
+use Rattle.std.specs.Prelude.{◌≡◌, false, ℕ, IsSomeAnd, IfOk, IfErr, List, Result, slice_get}
 use Rattle.std.specs.List.{AllZip}
 use Rattle.mt_words.specs.declared.fault.Fault.{Fault}
 use Rattle.mt_words.specs.declared.fault.Fault.TheVariants as faults
-use Rattle.mt_record.specs.Logs.{LogReading}
 use Rattle.mt_scan.specs.Sources.{Seen, Agrees}
-use Rattle.mt_recover.specs.Recovery.{AreReadings}
 use Rattle.mt_recover.specs.Report.{Outcome, IsRecoveredOf}
-use Rattle.mt_recover.specs.Verdict.{IsVerdictOrMemory}
+use Rattle.mt_recover.specs.Verdict.{IsAnsweredFrom}
 
 -- the sources may have these bytes: just those that they tell, or any where they tell none
 abbrev pub MayHave : {S : Type 0} → (S → Seen) → List S → List (List ℕ) → Type 0
@@ -20,17 +18,6 @@ pub record OfSources {S : Type 0} (seen : S → Seen) (log_sources part_sources 
   pub logs_may : MayHave seen log_sources logs
   pub parts_may : MayHave seen part_sources parts
   pub holds : P logs parts
-
--- each of the logs says something, so that none of them has a fault
-abbrev pub AreLogs : List (List ℕ) → Type 0
-AreLogs logs = (readings : List LogReading) × AreReadings logs readings
-
--- The fault that recovery from sources answers: a source's where no log before it has a fault, or that of a part's where there
--- are logs and none of them has one; else that of recovery.
-abbrev pub IsAnsweredFrom : List (List ℕ) → List (List ℕ) → Fault → Type 0
-IsAnsweredFrom logs parts (faults.Source i) = AreLogs (take i logs)
-IsAnsweredFrom logs parts (faults.PartSource i) = (0 < length logs) × AreLogs logs
-IsAnsweredFrom logs parts fault = IsVerdictOrMemory logs parts fault
 
 -- a source that is blamed is not steady
 abbrev pub BlamesUnsteady : {S : Type 0} → (S → Seen) → List S → List S → Fault → Type 0

@@ -4,7 +4,11 @@ pub mod Report
 pub mod Verdict
 pub mod Dump
 pub mod LogScans
-pub mod Start
+pub mod Found
 pub mod Inputs
+pub mod Job
+pub mod Hauls
+pub mod Prepared
+pub mod Assembling
 pub mod Sharing
-pub mod ScanJobs
+pub mod Outcomes

@@ -8,7 +8,6 @@ use Rattle.mt_scan.specs.declared.log_scan.LogScan.{LogScan}
 use Rattle.mt_scan.specs.Scans.{ShowsLog}
 use Rattle.mt_replay.specs.declared.window.Window.{Window}
 use Rattle.mt_replay.specs.Survivors.{in_window}
-use Rattle.mt_recover.specs.Recovery.{AreReadings}
 
 -- each scan shows what its log says; the logs are numbered from this number on
 abbrev pub ShowAll : ℕ → List LogScan → List LogReading → Type 0
@@ -16,12 +15,6 @@ ShowAll number [] [] = Unit {0}
 ShowAll number (scan ∷ scans) (log ∷ readings) = ShowsLog number scan log × ShowAll (suc number) scans readings
 ShowAll number [] (log ∷ readings) = ⊥
 ShowAll number (scan ∷ scans) [] = ⊥
-
--- the scans of these logs
-pub record AreScansOf (logs : List (List ℕ)) (scans : List LogScan) : Type 0 where
-  pub readings : List LogReading
-  pub read : AreReadings logs readings
-  pub show : ShowAll 0 scans readings
 
 -- the updates that a scan kept
 abbrev pub kept_by : LogScan → List Update

@@ -1,10 +1,17 @@
 -- Jobs that are shared out among workers.
-use Rattle.std.specs.Prelude.{◌≡◌, ℕ, suc, ◌%◌, Some, List, [], ◌∷◌, ◌++◌, slice_get, slice_set}
+use Rattle.std.specs.Prelude.{◌≡◌, List, [], ◌∷◌, ◌++◌, map, Result, Ok, Err}
 use Rattle.std.specs.List.{AllByRecursion}
 
--- The jobs, numbered from this number on, stand in the shares and nothing else does: each in that which its number leaves when divided
--- by how many shares there are, above those that come after it.
-abbrev pub AreDealt : {J : Type 0} → ℕ → ℕ → List J → List (List J) → Type 0
-AreDealt count number [] shares = AllByRecursion (λ share. share ≡ []) shares
-AreDealt {J} count number (job ∷ jobs) shares = (rest : List J) × (slice_get shares (number % count) ≡ Some (rest ++ job ∷ []))
-    × AreDealt count (suc number) jobs (slice_set shares (number % count) rest)
+-- The jobs stand in the shares, and nothing else does: the first of them at the front of the first share, the next one at
+-- the front of the next share, and so in turn.
+abbrev pub AreDealt : {J : Type 0} → List J → List (List J) → Type 0
+AreDealt [] shares = AllByRecursion (λ share. share ≡ []) shares
+AreDealt (job ∷ jobs) [] = ⊥
+AreDealt (job ∷ jobs) ([] ∷ shares) = ⊥
+AreDealt (job ∷ jobs) ((first ∷ rest) ∷ shares) = (first ≡ job) × AreDealt jobs (shares ++ rest ∷ [])
+
+-- the first error among answers
+pub record IsFirstErr {X E : Type 0} (answers : List (Result X E)) (err : E) : Type 0 where
+  pub done : List X
+  pub rest : List (Result X E)
+  pub stands : answers ≡ map Ok done ++ Err err ∷ rest

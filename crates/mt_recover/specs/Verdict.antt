@@ -1,5 +1,5 @@
 -- The one fault that recovery names where there is no store.
-use Rattle.std.specs.Prelude.{◌≡◌, ℕ, ◌<◌, Some, List, [], slice_get, take}
+use Rattle.std.specs.Prelude.{◌≡◌, ℕ, ◌<◌, Some, List, [], length, slice_get, take}
 use Rattle.mt_words.specs.declared.fault.Fault.{Fault}
 use Rattle.mt_words.specs.declared.fault.Fault.TheVariants as faults
 use Rattle.mt_record.specs.declared.read.FeedFault.{FeedFault}
@@ -32,3 +32,14 @@ IsVerdict logs parts fault = ⊥
 -- a fault that was answered is the verdict; nothing is said where memory was refused
 abbrev pub IsVerdictOrMemory : List (List ℕ) → List (List ℕ) → Fault → Type 0
 IsVerdictOrMemory logs parts = OrMemory faults.Memory (IsVerdict logs parts)
+
+-- each of the logs says something, so that none of them has a fault
+abbrev pub AreLogs : List (List ℕ) → Type 0
+AreLogs logs = (readings : List LogReading) × AreReadings logs readings
+
+-- The fault that recovery from sources answers: a source's where no log before it has a fault, or that of a part's where there
+-- are logs and none of them has one; else that of recovery.
+abbrev pub IsAnsweredFrom : List (List ℕ) → List (List ℕ) → Fault → Type 0
+IsAnsweredFrom logs parts (faults.Source i) = AreLogs (take i logs)
+IsAnsweredFrom logs parts (faults.PartSource i) = (0 < length logs) × AreLogs logs
+IsAnsweredFrom logs parts fault = IsVerdictOrMemory logs parts fault

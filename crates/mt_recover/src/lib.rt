@@ -1,24 +1,30 @@
 //! Recovery of a store from update logs and checkpoint parts, and its text.
 #![tactic(auto)]
 
+mod assembling;
 mod by_workers;
 mod dump;
+mod found;
+mod haul;
+mod job;
 mod laws;
-mod pieces;
+mod prepared;
 mod program;
-mod read_logs;
 mod recovery;
-mod replayed;
 mod report;
 mod report_text;
-mod scan_all;
-mod start;
+mod scans;
 mod store;
 mod survivors;
 mod workers;
+mod working;
 
+pub use assembling::assemble;
 pub use dump::{write_dump, write_pair};
+pub use haul::Haul;
+pub use job::{Job, prepare};
 pub use laws::{one_report, one_verdict, one_walk};
+pub use mt_board::Pass;
 pub use mt_replay::{Cuts, Pieces};
 pub use mt_tree::{Hit, Visitor, Wanted};
 pub use program::{MOST_BYTES, MOST_FILES, dump_files};
@@ -26,3 +32,4 @@ pub use recovery::{Inputs, Recovered, recover, recover_logs, recover_one};
 pub use report::Report;
 pub use store::Store;
 pub use workers::{Cutting, Gate, NoGate, Workers};
+pub use working::work;

@@ -1,28 +1,28 @@
 //! Recovery from sources, on one thread or by workers, and from logs in memory.
-ghost use Rattle.std.specs.Prelude.{◌≡◌, [], List, ℕ, map, Option, Result, IfOk, IfErr};
-ghost use Rattle.std.specs.Thread.{IsSync};
-ghost use Rattle.mt_words.specs.declared.fault.Memory.{Memory as MemoryValue};
-ghost use Rattle.mt_words.specs.Walks.{IsMap};
-ghost use Rattle.mt_scan.specs.PartScans.{known_by};
-ghost use Rattle.mt_tree.specs.Borders.{layer_walk};
-ghost use Rattle.mt_recover.specs.LogScans.{AreScansOf};
-ghost use Rattle.mt_recover.specs.declared.replayed.Replay.{Replay as ReplayValue};
-ghost use Rattle.mt_recover.specs.declared.replayed.Replayed.{Replayed as ReplayedValue};
-ghost use Rattle.mt_recover.specs.Start.{IsReplayOf, IsFinishOf};
-ghost use Rattle.mt_recover.specs.Recovery.{AreKnown};
+ghost use Rattle.std.specs.Prelude.{◌≡◌, [], List, ℕ, map, length, All, IfOk, IfErr, IfSome};
+ghost use Rattle.mt_scan.specs.Sources.{Seen};
+ghost use Rattle.mt_recover.specs.Hauls.{HasWorked, HaveWorked};
+ghost use Rattle.mt_recover.specs.Inputs.{IsRecoveryFrom};
+ghost use Rattle.mt_recover.specs.Found.{IsFoundOf};
+ghost use Rattle.mt_recover.specs.Outcomes.{AreOutcomes};
+ghost use Rattle.mt_recover.specs.Prepared.{IsFound};
 ghost use Rattle.mt_recover.specs.Report.{IsRecoveredOf};
 ghost use Rattle.mt_recover.specs.Verdict.{IsVerdictOrMemory};
-ghost use Rattle.mt_recover.specs.Inputs.{IsRecoveryFrom};
 
-use crate::read_logs::read_logs;
-use crate::replayed::{Replay, Replayed, replay_by, replay_one};
+use crate::assembling::assemble;
+use crate::by_workers::by_workers;
+use crate::found::{Found, find};
+use crate::haul::Haul;
+use crate::job::{Job, prepare};
+use crate::prepared::Prepared;
 use crate::report::Report;
-use crate::scan_all::{Scans, scan_all, scan_one};
-use crate::start::Start;
+use crate::scans::{Outcomes, scan_memory, scan_one};
 use crate::store::Store;
 use crate::workers::{Cutting, Gate, Workers};
+use crate::working::work;
+use mt_board::Pass;
+use mt_replay::Cuts;
 use mt_scan::Source;
-use mt_tree::Draft;
 use mt_words::{Fault, Memory};
 use std::alloc::Global;
 use std::marker::Model;
@@ -54,18 +54,11 @@ impl Model for Recovered {
 }
 
 impl Recovered {
-    /// What was recovered, where this is the draft of the store, and the report but for its layers.
-    pub(crate) fn finish(draft: Draft, report: Report) -> Result<Recovered, Memory>
-        requires { IsMap (layer_walk draft) }
-        ensures { IfOk result (IsFinishOf (layer_walk draft) report) }
+    /// A store and its report.
+    pub(crate) fn of(store: Store, report: Report) -> Recovered
+        ensures { result ≡ record { store = store; report = report } }
     {
-        let tree = draft.finish()?;
-        let report = Report {
-            layers: tree.layers(),
-            ..report
-        };
-        let store = Store::of(tree);
-        Ok(Recovered { store, report })
+        Recovered { store, report }
     }
 
     /// The store.
@@ -95,13 +88,13 @@ impl Recovered {
 pub fn recover_one<S: Source>(alloc: Global, inputs: Inputs<S>) -> Result<Recovered, Fault>
     ensures { IsRecoveryFrom S.seen inputs.logs.items inputs.parts.items result }
 {
-    let scans = scan_one(alloc, inputs)?;
-    recover_scans(alloc, scans, replay_one)
+    let outcomes = scan_one(alloc, inputs)?;
+    recover_scanned(alloc, outcomes)
 }
 
-/// What `recover_one` answers, by so many workers and with the keys cut so: neither changes the answer. The workers run
-/// by fork and join, each in a thread of its own where one can be made. Each scans its share of the logs and parts,
-/// makes the cells of its share, and replays its share of the pieces, of which each is entered at the gate before.
+/// What `recover_one` answers, by so many workers and with the keys cut so: neither changes the answer. It prepares the
+/// job, works on it by each worker, in a thread of its own where one can be made, and assembles the store: workers run
+/// by fork and join.
 ///
 /// An Err is that of `recover_one`, whichever worker ended first. All logs and parts are scanned before one is named.
 pub fn recover<R: Threads + Sync, S: Source + Send, G: Gate>(
@@ -114,15 +107,9 @@ pub fn recover<R: Threads + Sync, S: Source + Send, G: Gate>(
 ) -> Result<Recovered, Fault>
     ensures { IsRecoveryFrom S.seen inputs.logs.items inputs.parts.items result }
 {
-    let scans = scan_all(rt, alloc, inputs, workers)?;
-    recover_scans(
-        alloc,
-        scans,
-        |alloc: Global, replay: Replay| -> Result<Replayed, Memory>
-            requires { IsSync R.row }
-            ensures { IfOk result (IsReplayOf replay) }
-        { replay_by(rt, alloc, replay, workers, cutting, gate) },
-    )
+    let (job, passes) = prepare(rt, alloc, inputs, workers, cutting)?;
+    let (passes, hauls) = work_all(rt, alloc, &job, passes, workers, gate)?;
+    assemble(alloc, job, hauls, passes)
 }
 
 /// The store of the logs whose bytes are these, without a checkpoint, and its report, on one thread. The position of a
@@ -131,43 +118,85 @@ pub fn recover_logs(alloc: Global, logs: &[&[u8]]) -> Result<Recovered, Fault>
     ensures recovered { IfOk result (IsRecoveredOf (map (λ log. log.now) logs.now) []) }
     ensures fault { IfErr result (IsVerdictOrMemory (map (λ log. log.now) logs.now) []) }
 {
-    let scans = Scans {
-        logs: read_logs(alloc, logs)?,
-        parts: Vec::new(alloc),
-    };
-    recover_scans(alloc, scans, replay_one)
+    let outcomes = scan_memory(alloc, logs)?;
+    recover_scanned(alloc, outcomes)
 }
 
-/// The store of the logs and parts whose scans are these, each in the order of their numbers, and its report, where
-/// this is done to replay. An Err is `NoLogs`, the least log with a gap, or `Memory`.
-pub(crate) fn recover_scans<F: FnOnce(Global, Replay) -> Result<Replayed, Memory> + Drop>(
-    alloc: Global,
-    scans: Scans,
-    replays: F,
-) -> Result<Recovered, Fault>
-    requires scanned { (logs : List (List ℕ)) × AreScansOf logs scans.logs.items }
-    requires known { (part_bytes : List (List ℕ)) × AreKnown part_bytes (map known_by scans.parts.items) }
-    requires replays { (replay : ReplayValue) → F.pre replays alloc replay }
-    requires replayed { (replay : ReplayValue) (answer : Result ReplayedValue MemoryValue) →
-        F.post replays alloc replay answer → IfOk answer (IsReplayOf replay) }
-    ensures recovered { (logs part_bytes : List (List ℕ)) → AreScansOf logs scans.logs.items →
-        AreKnown part_bytes (map known_by scans.parts.items) → IfOk result (IsRecoveredOf logs part_bytes) }
-    ensures fault { (logs part_bytes : List (List ℕ)) → AreScansOf logs scans.logs.items →
-        AreKnown part_bytes (map known_by scans.parts.items) → IfErr result (IsVerdictOrMemory logs part_bytes) }
+/// What recovery answers if the scans of logs and parts answer this, on one thread and in one piece.
+fn recover_scanned(alloc: Global, outcomes: Outcomes) -> Result<Recovered, Fault>
+    requires { (logs parts : List Seen) × AreOutcomes logs parts outcomes }
+    ensures { (logs parts : List Seen) → AreOutcomes logs parts outcomes → IsRecoveryFrom (λ seen. seen) logs parts result }
 {
-    let Scans { logs, parts } = scans;
-    let Start {
-        window,
-        chosen,
-        report,
-    } = Start::of(alloc, &logs, parts)?;
-    let replay = Replay {
-        scans: logs,
-        window,
-        chosen,
-    };
-    let Replayed { survivors, draft } = replays(alloc, replay)?;
-    let report = report.ended(&survivors, draft.len());
-    drop(survivors);
-    Ok(Recovered::finish(draft, report)?)
+    let found = find(alloc, outcomes)?;
+    Ok(replay_whole(alloc, found)?)
+}
+
+/// What is recovered of what was found.
+fn replay_whole(alloc: Global, found: Found) -> Result<Recovered, Memory>
+    requires { IsFound found }
+    ensures { (logs parts : List (List ℕ)) → IsFoundOf logs parts found → IfOk result (IsRecoveredOf logs parts) }
+{
+    let prepared = Prepared::on_one_thread(alloc, found)?;
+    let draft = prepared.replay(alloc, &Cuts::none(alloc), 0)?;
+    prepared.finish(draft)
+}
+
+/// What a worker gives back: its pass, and the haul of all that it drew. None if it ran out of memory.
+type Worked = Option<(Pass, Haul)>;
+
+/// Each worker works on the job with a pass of its own, by fork and join.
+fn work_all<R: Threads + Sync, G: Gate>(
+    rt: &R,
+    alloc: Global,
+    job: &Job,
+    passes: Vec<Pass>,
+    workers: Workers,
+    gate: &G,
+) -> Result<(Vec<Pass>, Vec<Haul>), Memory>
+    requires { All (λ pass. (pass.board ≡ job.now.board) × (pass.draws ≡ [])) passes.items }
+    ensures many { IfOk result (λ worked. length worked.0.items ≡ length passes.items) }
+    ensures worked { IfOk result (λ worked. HaveWorked job.now worked.0.items worked.1.items) }
+{
+    let worked = by_workers(
+        rt,
+        alloc,
+        passes,
+        workers,
+        &|pass: Pass| -> Worked
+            requires { (pass.board ≡ job.now.board) × (pass.draws ≡ []) }
+            ensures { IfSome result (λ worked. HasWorked job.entry.now worked.0 worked.1) }
+        { work_with(alloc, job, pass, gate) },
+    )?;
+    settle(alloc, job, worked)
+}
+
+/// Works with a pass, and gives it back with the haul.
+fn work_with<G: Gate>(alloc: Global, job: &Job, mut pass: Pass, gate: &G) -> Worked
+    requires { (pass.board ≡ job.now.board) × (pass.draws ≡ []) }
+    ensures { IfSome result (λ worked. HasWorked job.now worked.0 worked.1) }
+{
+    let haul = work(alloc, job, &mut pass, gate).ok()?;
+    Some((pass, haul))
+}
+
+/// The passes and the hauls, if no worker ran out of memory.
+fn settle(
+    alloc: Global,
+    job: &Job,
+    mut worked: Vec<Worked>,
+) -> Result<(Vec<Pass>, Vec<Haul>), Memory>
+    requires { All (λ done. IfSome done (λ worked. HasWorked job.now worked.0 worked.1)) worked.items }
+    ensures many { IfOk result (λ settled. length settled.0.items ≡ length worked.items) }
+    ensures worked { IfOk result (λ settled. HaveWorked job.now settled.0.items settled.1.items) }
+{
+    let mut passes = Vec::new(alloc);
+    let mut hauls = Vec::new(alloc);
+    while let Some(done) = worked.pop() {
+        let Some((pass, haul)) = done else {
+            return Err(Memory);
+        };
+        passes.push(pass)?;
+        hauls.push(haul)?;
+    }
+    Ok((passes, hauls))
 }

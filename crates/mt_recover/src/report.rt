@@ -1,17 +1,13 @@
 //! What recovery found in logs and parts, and what became of it.
-ghost use Rattle.std.specs.Prelude.{◌≡◌, ◌<◌, ◌^◌, List, ℕ, length, sum_by};
+ghost use Rattle.std.specs.Prelude.{◌≡◌, List, ℕ, length, sum_by};
 ghost use Rattle.std.specs.Fn.{FnReturnsAt};
 ghost use Rattle.std.specs.Option.{option_map};
-ghost use Rattle.mt_words.specs.Walks.{joined};
-ghost use Rattle.mt_scan.specs.Choice.{checkpoint_in, AreSkipped, AreNameless};
-ghost use Rattle.mt_recover.specs.LogScans.{ShowAll};
-ghost use Rattle.mt_recover.specs.Recovery.{Facts};
-ghost use Rattle.mt_recover.specs.Start.{MayEnd, ended};
-ghost use Rattle.mt_recover.specs.Report.{IsFoundIn};
-ghost use Rattle.mt_recover.specs.Survivors.{begin_of, entry_updates};
+ghost use Rattle.mt_scan.specs.Choice.{checkpoint_in};
+ghost use Rattle.mt_recover.specs.Found.{IsFoundOf};
+ghost use Rattle.mt_recover.specs.Prepared.{AreCountsOf, HasRoomFor, report_of};
+ghost use Rattle.mt_recover.specs.Survivors.{entry_updates};
 
-use crate::survivors::Survivors;
-use mt_replay::{LogCells, Window};
+use crate::found::Found;
 use mt_scan::{Checkpoint, Choice, LogScan};
 
 /// What recovery found in logs and parts, and what became of it. The updates of logs are their puts, removes and erases.
@@ -51,29 +47,42 @@ pub struct Report {
     pub layers: u64,
 }
 
-impl Report {
-    /// What is known before anything is replayed: all but `survivors`, `early`, `late`, `keys` and `layers`, which are 0.
-    pub(crate) fn begun(
-        scans: &[LogScan],
-        window: Window,
-        choice: Choice,
-    ) -> (Report, Option<Checkpoint>)
-        ensures chosen { result.1 ≡ choice.chosen }
-        ensures found { (logs parts : List (List ℕ)) (facts : Facts logs parts) → ShowAll 0 scans.now facts.readings →
-            window ≡ record { begin = begin_of facts.chosen; cutoff = facts.cutoff } →
-            option_map checkpoint_in choice.chosen ≡ facts.chosen →
-            AreSkipped facts.known choice.skipped.items → AreNameless facts.known choice.nameless.items →
-            IsFoundIn facts result.0 }
+/// What is counted before anything is replayed.
+#[derive(Drop)]
+pub(crate) struct Counts {
+    pub logs: usize,
+    pub records: u128,
+    pub marks: u128,
+    pub torn: usize,
+    pub cutoff: u64,
+    pub checkpoint: Option<u32>,
+    pub begin: u64,
+    pub skipped: Vec<u32>,
+    pub nameless: Vec<usize>,
+    pub entries: u128,
+}
+
+impl Counts {
+    /// Counts what was found. Returns also what of it is replayed: the scans, and the chosen checkpoint.
+    pub fn of(found: Found) -> (Counts, Vec<LogScan>, Option<Checkpoint>)
+        ensures scans { result.1 ≡ found.scans }
+        ensures chosen { result.2 ≡ found.choice.chosen }
+        ensures counts { (logs parts : List (List ℕ)) (is : IsFoundOf logs parts found) → AreCountsOf is.facts result.0 }
     {
+        let Found {
+            scans,
+            window,
+            choice,
+        } = found;
         let Choice {
             chosen,
             skipped,
             nameless,
         } = choice;
-        let report = Report {
+        let counts = Counts {
             logs: scans.len(),
-            records: total(scans, |scan| scan.whole),
-            marks: total(scans, |scan| scan.marks),
+            records: total(&scans, |scan| scan.whole),
+            marks: total(&scans, |scan| scan.marks),
             torn: scans.iter().filter(|scan| scan.torn).count(),
             cutoff: window.cutoff,
             checkpoint: chosen.as_ref().map(|checkpoint| checkpoint.number),
@@ -81,30 +90,45 @@ impl Report {
             skipped,
             nameless,
             entries: entry_count(&chosen),
-            survivors: 0,
-            early: 0,
-            late: 0,
-            keys: 0,
-            layers: 0,
         };
-        (report, chosen)
+        (counts, scans, chosen)
     }
 
-    /// The report where this survives, and the store has so many keys. What is neither early nor survives is late.
-    pub(crate) fn ended(self, found: &Survivors, keys: u128) -> Report
-        requires { MayEnd self found.now.early (length (joined found.now.lists.items)) }
-        ensures value { result ≡ ended self found.now.early (length (joined found.now.lists.items)) keys }
-        ensures fits { length (joined found.now.lists.items) < 2 ^ 128 }
+    /// The report of these counts, and of so many early updates, survivors, keys and layers.
+    pub fn report(self, early: u128, survivors: u128, keys: u128, layers: u64) -> Report
+        requires { HasRoomFor self early survivors }
+        ensures { result ≡ report_of self early survivors keys layers }
     {
-        let survivors = survivor_count(&found.lists);
         let updates = self.records - self.marks;
-        let late = updates - found.early - (survivors - self.entries);
+        let late = updates - early - (survivors - self.entries);
+        let Counts {
+            logs,
+            records,
+            marks,
+            torn,
+            cutoff,
+            checkpoint,
+            begin,
+            skipped,
+            nameless,
+            entries,
+        } = self;
         Report {
+            logs,
+            records,
+            marks,
+            torn,
+            cutoff,
+            checkpoint,
+            begin,
+            skipped,
+            nameless,
+            entries,
             survivors,
-            early: found.early,
+            early,
             late,
             keys,
-            ..self
+            layers,
         }
     }
 }
@@ -130,11 +154,4 @@ fn entry_count(chosen: &Option<Checkpoint>) -> u128
         Some(checkpoint) => total(&checkpoint.parts, |part| part.entries.len() as u64),
         None => 0,
     }
-}
-
-/// The updates of all cells.
-fn survivor_count(lists: &[LogCells]) -> u128
-    ensures { result ≡ length (joined lists.now) }
-{
-    total(lists, |cells| cells.len() as u64)
 }

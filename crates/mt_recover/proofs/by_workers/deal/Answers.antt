@@ -1,51 +1,31 @@
-use Rattle.std.proofs.Common.{◌≡◌, ◌∙◌, ◌<◌, ◌%◌, ◌++◌, ◌∷◌, [], ℕ, suc, length, map, sym, ap, subst, append-nil, arith}
-use Rattle.std.proofs.Math.Nat.{mod-lt}
-use Rattle.std.proofs.lemmas.List.{length-append, length-set}
-use Rattle.std.proofs.lemmas.List.Elements.{All-set}
-use Rattle.mt_recover.specs.declared.by_workers.Share.{Share}
+use Rattle.std.proofs.Common.{◌∷◌, [], ◌++◌, ◌∙◌, ◌-◌, ℕ, map, sym, ap, subst, append-nil, append_assoc, arith, rules}
+use Rattle.std.specs.Prelude.{take, drop}
+use Rattle.std.proofs.Math.Seq.{take-nil}
+use Rattle.std.proofs.lemmas.List.{length-drop, length-set, take-append-drop}
 use Rattle.mt_recover.specs.Sharing.{AreDealt}
-use Rattle.mt_recover.proofs.SharingLemmas.{none_dealt, one_dealt, taken_off, all_dealt}
+use Rattle.mt_recover.proofs.SharingLemmas.{none_dealt, dealt_more}
 use Rattle.mt_recover.proofs.by_workers.deal.Goals as goal
 
 pub loop-job-init : goal.loop-job-init
-loop-job-init g c = record {
-  long = c.in_ok-shares.ensures.long;
-  workers = c.in_ok-shares.ensures.workers;
-  dealt = ([], sym (append-nil c.args.jobs.items), none_dealt (λ share. share.jobs.items) c.in_ok-shares.shares.items c.in_ok-shares.ensures.empty);
-}
+loop-job-init g c =
+    let made = c.in_ok-resize_with.ensures.items in
+    let none = none_dealt (λ share. share.items) _ _ made.1 made.0 (λ p q share step. search rules) made.3 in
+    record {
+      some = omega (arith, c.in_ok-resize_with.ensures.len, c.resize_with.new.self.ok.0);
+      dealt = ([], sym (append-nil c.args.jobs.items), subst (λ shares. AreDealt [] (map (λ share. share.items) shares)) (sym made.2) (rw (c.new-shares.ensures.items, take-nil) none));
+    }
 
 pub loop-job-preserved : goal.loop-job-preserved
 loop-job-preserved g c =
     let I = c.loop-job.invariant in
     let shares = c.loop-job.shares.items in
-    let left = c.pop.new.self.items in
-    let job = c.in-Some.job in
-    let turn : ℕ = c.len.result % c.len-in-Some.result in
-    let share : Share _ = record { worker = c.index_mut.result.now.worker; jobs = c.push.new.self } in
-    let number : length left ≡ c.len.result = omega (arith, c.len.ensures, c.pop.new.self.ok.0) in
-    let count : c.args.workers ≡ c.len-in-Some.result = omega (arith, c.len-in-Some.ensures, c.loop-job.shares.ok.0, I.long) in
-    let below : turn < c.len-in-Some.result = mod-lt c.len.result (omega (arith, count, c.requires)) in
-    let within : turn < length shares = omega (arith, below, count, I.long) in
-    let own = c.index_mut.ensures.value in
-    let popped : c.loop-job.jobs.items ≡ left ++ job ∷ [] = c.in-Some.ensures.items in
-    let long : length c.loop-job.jobs.items ≡ suc (length left) = omega (arith, ap length popped, length-append left (job ∷ [])) in
+    let cut : ℕ = c.loop-job.shares.len - 1 in
     record {
-      long = length-set shares turn share ∙ I.long;
-      workers = All-set (λ share. share.worker < c.args.workers) shares turn share (subst (λ (s : Share _). s.worker < c.args.workers) (sym own) (I.workers turn c.index_mut.result.now within)) I.workers;
+      some = omega (arith, length-set c.rotate_right.new.self.items 0 c.push_front.new.self, c.rotate_right.ensures.len, c.loop-job.shares.ok.0, c.rotate_right.new.self.ok.0, I.some);
       dealt = (
-        job ∷ I.dealt.0,
-        taken_off c.args.jobs.items c.loop-job.jobs.items left I.dealt.0 job I.dealt.1 popped,
-        one_dealt (λ share. share.jobs.items) c.args.workers (length left) turn job I.dealt.0 shares c.index_mut.result.now share (λ i. sym number i % sym count i) within (sym own) c.in_ok-push.ensures.items
-            (subst (λ (n : ℕ). AreDealt c.args.workers n I.dealt.0 (map (λ share. share.jobs.items) shares)) long I.dealt.2),
+        c.in-Some.job ∷ I.dealt.0,
+        I.dealt.1 ∙ ap (λ js. js ++ I.dealt.0) c.in-Some.ensures.items ∙ append_assoc c.pop.new.self.items (c.in-Some.job ∷ []) I.dealt.0,
+        dealt_more (λ share. share.items) c.in-Some.job I.dealt.0 (take cut shares) (drop cut shares) shares c.rotate_right.new.self.items c.index_mut.result.now c.push_front.new.self (sym (take-append-drop cut shares))
+            (omega (arith, length-drop cut shares, c.loop-job.shares.ok.0, I.some)) c.rotate_right.ensures.items c.index_mut.ensures.value c.in_ok-push_front.ensures.items I.dealt.2,
       );
-    }
-
-pub returns : goal.returns
-returns g c =
-    let I = c.loop-job.invariant in
-    let jobs = c.loop-job.jobs in
-    record {
-      long = I.long;
-      workers = I.workers;
-      dealt = all_dealt c.args.workers c.args.jobs.items jobs.items I.dealt.0 _ I.dealt.1 (omega (arith, c.in_default.ensures.cases.0, jobs.ok.0)) I.dealt.2;
     }

@@ -1,14 +1,18 @@
-use Rattle.std.proofs.Common.{◌≡◌, [], List, map, sym, subst}
-use Rattle.mt_scan.specs.declared.part_scan.PartScan.{PartScan}
-use Rattle.mt_scan.specs.PartScans.{known_by}
-use Rattle.mt_recover.specs.Recovery.{AreKnown}
+use Rattle.std.proofs.Common.{[], map}
+use Rattle.std.proofs.lemmas.Result.{IfOk-weaker, IfErr-weaker}
+use Rattle.mt_recover.specs.Outcomes.{in_memory}
+use Rattle.mt_recover.specs.Report.{IsRecoveredOf}
+use Rattle.mt_recover.proofs.SourceLemmas.{of_memory, answered_in_memory}
 use Rattle.mt_recover.proofs.recovery.recover_logs.Goals as goal
 
-none_known : (parts : List PartScan) → parts ≡ [] → AreKnown [] (map known_by parts)
-none_known parts none = subst (λ (parts : List PartScan). AreKnown [] (map known_by parts)) (sym none) tt
-
-pub recover_scans-requires-clause-known : goal.recover_scans-requires-clause-known
-recover_scans-requires-clause-known c = ([], none_known c.new.result.items c.new.ensures.items)
+pub returns-clause-recovered : goal.returns-clause-recovered
+returns-clause-recovered c =
+    let logs = map (λ log. log.now) c.args.logs.now in
+    let is = c.recover_scanned.ensures (map in_memory logs) [] c.in_ok-outcomes.ensures in
+    IfOk-weaker c.recover_scanned.result _ _ (λ outcome of. of_memory logs (λ ls ps. IsRecoveredOf ls ps outcome) of) is.recovered
 
 pub returns-clause-fault : goal.returns-clause-fault
-returns-clause-fault c = c.recover_scans.ensures.fault (map (λ log. log.now) c.args.logs.now) [] c.in_ok-read_logs.ensures.read (none_known c.new.result.items c.new.ensures.items)
+returns-clause-fault c =
+    let logs = map (λ log. log.now) c.args.logs.now in
+    let is = c.recover_scanned.ensures (map in_memory logs) [] c.in_ok-outcomes.ensures in
+    IfErr-weaker c.recover_scanned.result _ _ (λ fault by. answered_in_memory logs fault by) is.fault

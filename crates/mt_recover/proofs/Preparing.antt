@@ -1,0 +1,103 @@
+-- From what is found to what is prepared, and from that to what is recovered.
+use Rattle.std.proofs.Common.{◌≡◌, ◌∙◌, ◌^◌, ℕ, ◌<◌, List, ◌++◌, length, Contains, IsPermutation, sym, subst, arith}
+use Rattle.std.specs.Prelude.{filter}
+use Rattle.std.specs.List.{AllZip}
+use Rattle.std.specs.Option.{option_map}
+use Rattle.std.proofs.lemmas.List.Sorted.{IsPermutation-sym, Contains-permutation, length_permutation}
+use Rattle.mt_words.specs.declared.update.Update.{Update}
+use Rattle.mt_words.specs.Walks.{Pair, joined}
+use Rattle.mt_scan.specs.Choice.{checkpoint_in}
+use Rattle.mt_replay.specs.Survivors.{in_window}
+use Rattle.mt_replay.specs.Walk.{AreApart, IsWalk}
+use Rattle.mt_replay.proofs.StepLemmas.{same_column}
+use Rattle.mt_tree.specs.Trees.{IsCount}
+use Rattle.mt_recover.specs.declared.found.Found.{Found}
+use Rattle.mt_recover.specs.declared.report.Counts.{Counts}
+use Rattle.mt_recover.specs.declared.survivors.LogSurvivors.{LogSurvivors}
+use Rattle.mt_recover.specs.Found.{IsFoundOf}
+use Rattle.mt_recover.specs.LogScans.{kept, kept_in}
+use Rattle.mt_recover.specs.Prepared.{PreparedView, IsPreparedOf, IsMadeOf, AreCountsOf, HasRoomFor, IsLeftBy, cells_of, early_of}
+use Rattle.mt_recover.specs.Recovery.{records_of}
+use Rattle.mt_recover.specs.Report.{Outcome, IsRecoveredOf, IsReportOf, is_early}
+use Rattle.mt_recover.specs.Survivors.{entry_updates}
+use Rattle.mt_recover.proofs.CountLemmas.{survivors_in, early_in, room_for, report_is, walk_few}
+use Rattle.mt_recover.proofs.ReplayLemmas.{cells_of_both, early_of_both}
+use Rattle.mt_recover.proofs.ReportLemmas.{same_updates}
+use Rattle.mt_recover.proofs.SurvivorLemmas.{survivors_apart}
+
+-- what survives of the scans is what survives of their logs
+same_survivors : (logs parts : List (List ℕ)) (found : Found) (is : IsFoundOf logs parts found) → kept_in found.window found.scans.items ++ entry_updates (option_map checkpoint_in found.choice.chosen) ≡ survivors_in is.facts
+same_survivors logs parts found is =
+    let updates = same_updates 0 found.scans.items is.facts.readings is.show in
+    λ i. filter (in_window (is.window i)) (updates i) ++ entry_updates (is.chosen i)
+
+-- and as many come early
+same_early : (logs parts : List (List ℕ)) (found : Found) (is : IsFoundOf logs parts found) → length (filter (is_early found.window.begin) (kept found.scans.items)) ≡ length (early_in is.facts)
+same_early logs parts found is =
+    let updates = same_updates 0 found.scans.items is.facts.readings is.show in
+    λ i. length (filter (is_early (is.window i).begin) (updates i))
+
+-- updates in another order have stamps as much apart
+apart_moved : (updates moved : List Update) → IsPermutation updates moved → AreApart updates → AreApart moved
+apart_moved updates moved same apart a b at here =
+    let from : (u : Update) → Contains moved u → Contains updates u = λ u at. Contains-permutation moved updates u (IsPermutation-sym updates moved same) at in
+    apart a b (from a at) (from b here)
+
+-- and have the same walk
+walk_moved : (updates moved : List Update) (pairs : List Pair) → IsPermutation updates moved → IsWalk moved pairs → IsWalk updates pairs
+walk_moved updates moved pairs same is =
+    let into : (u : Update) → Contains updates u → Contains moved u = λ u at. Contains-permutation updates moved u same at in
+    let from : (u : Update) → Contains moved u → Contains updates u = λ u at. Contains-permutation moved updates u (IsPermutation-sym updates moved same) at in
+    record {
+      map = is.map;
+      exact = λ key number bytes. (
+        λ holds. same_column moved updates key number bytes (λ u at _. from u at) (λ u at _. into u at) ((is.exact key number bytes).0 holds),
+        λ has. (is.exact key number bytes).1 (same_column updates moved key number bytes (λ u at _. into u at) (λ u at _. from u at) has),
+      );
+    }
+
+-- ---- what is prepared
+
+module _ (logs parts : List (List ℕ)) (found : Found) (is : IsFoundOf logs parts found) (of_logs : List LogSurvivors) (of_parts : List (List Update))
+    (left : AllZip (IsLeftBy found.window) found.scans.items of_logs) (entries : IsPermutation (entry_updates (option_map checkpoint_in found.choice.chosen)) (joined of_parts)) where
+  abbrev moved : List Update
+  moved = joined (cells_of of_logs ++ of_parts)
+
+  updates_are : IsPermutation (survivors_in is.facts) moved
+  updates_are = subst (λ (us : List Update). IsPermutation us moved) (same_survivors logs parts found is) (cells_of_both found.window found.scans.items of_logs _ of_parts left entries)
+
+  early_is : early_of of_logs ≡ length (early_in is.facts)
+  early_is = early_of_both found.window found.scans.items of_logs left ∙ same_early logs parts found is
+
+  many : length moved ≡ length (survivors_in is.facts)
+  many = length_permutation (survivors_in is.facts) moved updates_are
+
+  -- their stamps are apart
+  pub are_apart : AreApart (joined (cells_of of_logs ++ of_parts))
+  are_apart = apart_moved (survivors_in is.facts) moved updates_are (survivors_apart is.facts.known is.facts.cutoff is.facts.chosen (records_of is.facts.readings) is.facts.is_chosen)
+
+  -- the counts have room for them
+  pub have_room : (counts : Counts) → AreCountsOf is.facts counts → HasRoomFor counts (early_of of_logs) (length (joined (cells_of of_logs ++ of_parts)))
+  have_room counts are = rw (early_is, many) (room_for is.facts counts are)
+
+  -- and they are prepared of the logs and parts
+  pub is_prepared : (counts : Counts) → AreCountsOf is.facts counts → IsPreparedOf logs parts (record { updates = joined (cells_of of_logs ++ of_parts); early = early_of of_logs; counts = counts })
+  is_prepared counts are = record {
+    facts = is.facts;
+    no_gap = is.no_gap;
+    updates = updates_are;
+    report = λ pairs layers count. report_is is.facts counts pairs (early_of of_logs) (length moved) layers are early_is many count;
+  }
+
+-- ---- what is recovered
+
+-- the keys of a walk are counted exactly
+pub count_is : (updates : List Update) (pairs : List Pair) (survivors keys : ℕ) → IsWalk updates pairs → survivors ≡ length updates → survivors < 2 ^ 128 → IsCount pairs keys → keys ≡ length pairs
+count_is updates pairs survivors keys walk same fits count = omega (arith, count, same, fits, walk_few updates pairs walk)
+
+-- what is made of what was prepared is recovered
+pub made_is : (logs parts : List (List ℕ)) (prepared : PreparedView) (outcome : Outcome) → IsPreparedOf logs parts prepared → IsMadeOf prepared outcome → IsRecoveredOf logs parts outcome
+made_is logs parts prepared outcome is made = record {
+  store = record { facts = is.facts; no_gap = is.no_gap; walk = walk_moved (survivors_in is.facts) prepared.updates outcome.store is.updates made.walk };
+  report = subst (IsReportOf is.facts outcome.store) (sym made.report) (is.report outcome.store outcome.report.layers made.layers);
+}

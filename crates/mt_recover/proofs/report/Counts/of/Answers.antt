@@ -1,0 +1,32 @@
+use Rattle.std.proofs.Common.{◌≡◌, ◌∙◌, Option, length, ap, rules}
+use Rattle.std.specs.List.{count_by, sum_by}
+use Rattle.std.specs.Option.{option_map}
+use Rattle.mt_scan.specs.declared.checkpoint.Checkpoint.{Checkpoint}
+use Rattle.mt_scan.specs.declared.log_scan.LogScan.{LogScan}
+use Rattle.mt_scan.specs.Choice.{CheckpointReading}
+use Rattle.mt_replay.specs.declared.window.Window.{Window}
+use Rattle.mt_recover.specs.Survivors.{entry_updates}
+use Rattle.mt_recover.proofs.ReportLemmas.{as_many, records_counted, marks_counted, torn_counted, same_number}
+use Rattle.mt_recover.proofs.report.Counts.of.Goals as goal
+
+pub returns-clause-counts : goal.returns-clause-counts
+returns-clause-counts c =
+    let found = c.args.found in
+    let scans = found.scans.items in
+    let records : c.total.result ≡ sum_by (λ (scan : LogScan). scan.whole) scans = c.total.ensures (λ (scan : LogScan). scan.whole) (λ x n e. search rules) ∙ ap (sum_by (λ (scan : LogScan). scan.whole)) c.deref.ensures.value in
+    let marks : c.total-2.result ≡ sum_by (λ (scan : LogScan). scan.marks) scans = c.total-2.ensures (λ (scan : LogScan). scan.marks) (λ x n e. search rules) ∙ ap (sum_by (λ (scan : LogScan). scan.marks)) c.deref-2.ensures.value in
+    let torn : c.count.result ≡ count_by (λ (scan : LogScan). scan.torn) scans = search rules in
+    let number : c.map.result ≡ option_map (λ (checkpoint : Checkpoint). checkpoint.number) found.choice.chosen = search rules in
+    let logs_are : c.len.result ≡ length scans = search rules in
+    λ logs parts is early survivors keys layers. record {
+      logs = logs_are ∙ as_many logs scans is.facts.readings 0 is.facts.read is.show;
+      records = records ∙ records_counted scans is.facts.readings is.show;
+      marks = marks ∙ marks_counted scans is.facts.readings is.show;
+      torn = torn ∙ torn_counted scans is.facts.readings is.show;
+      cutoff = ap (λ (w : Window). w.cutoff) is.window;
+      checkpoint = number ∙ same_number found.choice.chosen ∙ ap (λ (o : Option CheckpointReading). option_map (λ (checkpoint : CheckpointReading). checkpoint.number) o) is.chosen;
+      begin = ap (λ (w : Window). w.begin) is.window;
+      skipped = is.skipped;
+      nameless = is.nameless;
+      entries = c.entry_count.ensures ∙ ap (λ (o : Option CheckpointReading). length (entry_updates o)) is.chosen;
+    }

@@ -1,0 +1,69 @@
+//! What recovery finds in logs and parts, or why it refuses them.
+ghost use Rattle.std.specs.Prelude.{◌≡◌, List, position, nat_lt, IfOk, IfErr};
+ghost use Rattle.std.specs.Option.{option_map};
+ghost use Rattle.mt_scan.specs.Choice.{checkpoint_in};
+ghost use Rattle.mt_scan.specs.Sources.{Seen};
+ghost use Rattle.mt_recover.specs.Found.{IsFoundOf};
+ghost use Rattle.mt_recover.specs.Inputs.{OfSources, IsAnsweredBy};
+ghost use Rattle.mt_recover.specs.Outcomes.{AreOutcomes};
+ghost use Rattle.mt_recover.specs.Survivors.{begin_of as begin_in};
+
+use crate::by_workers::all_done;
+use crate::scans::Outcomes;
+use mt_replay::Window;
+use mt_scan::{Checkpoint, Choice, LogScan, choose, cutoff};
+use mt_words::Fault;
+use std::alloc::Global;
+
+/// What recovery finds in its inputs: nothing is refused any more.
+#[derive(Drop)]
+pub(crate) struct Found {
+    /// The scans of the logs, in the order of their numbers.
+    pub scans: Vec<LogScan>,
+    /// The timestamps at which updates of logs survive.
+    pub window: Window,
+    /// The checkpoint over which they are replayed, and the parts that are of no use.
+    pub choice: Choice,
+}
+
+/// Finds from where recovery starts. An Err is the first of these: `NoLogs`; the fault of the least log that has one; that
+/// of the least part whose source failed; `Gap` of the least log with one. `Memory` may come in place of any.
+pub(crate) fn find(alloc: Global, outcomes: Outcomes) -> Result<Found, Fault>
+    ensures found { (logs parts : List Seen) → AreOutcomes logs parts outcomes →
+        IfOk result (λ found. OfSources (λ seen. seen) logs parts (λ ls ps. IsFoundOf ls ps found)) }
+    ensures fault { (logs parts : List Seen) → AreOutcomes logs parts outcomes →
+        IfErr result (IsAnsweredBy (λ seen. seen) logs parts) }
+{
+    let scans = all_done(alloc, outcomes.logs)?;
+    let parts = all_done(alloc, outcomes.parts)?;
+    let Some(cutoff) = cutoff(&scans) else {
+        return Err(Fault::NoLogs);
+    };
+    let choice = choose(alloc, parts, cutoff)?;
+    let begin = begin_of(&choice.chosen);
+    if let Some(log) = first_gap(&scans, begin) {
+        return Err(Fault::Gap { log });
+    }
+    Ok(Found {
+        scans,
+        window: Window { begin, cutoff },
+        choice,
+    })
+}
+
+/// Returns the timestamp from which on logs are replayed.
+fn begin_of(chosen: &Option<Checkpoint>) -> u64
+    ensures { result ≡ begin_in (option_map checkpoint_in chosen.now) }
+{
+    match chosen {
+        Some(checkpoint) => checkpoint.begin,
+        None => 0,
+    }
+}
+
+/// Returns the first log from which updates at or past `begin` may be missing.
+fn first_gap(scans: &[LogScan], begin: u64) -> Option<usize>
+    ensures { result ≡ position (λ scan. nat_lt begin scan.from) scans.now }
+{
+    scans.iter().position(|scan| begin < scan.from)
+}

@@ -1,0 +1,109 @@
+//! Recovery as a job: its pieces are claimed, replayed, and assembled to the store.
+ghost use Rattle.std.specs.Prelude.{◌≡◌, ◌+◌, ◌<◌, List, ℕ, length, IfOk, IfErr};
+ghost use Rattle.mt_board.specs.Board.{fresh_passes};
+ghost use Rattle.mt_words.specs.Walks.{joined};
+ghost use Rattle.mt_recover.specs.Inputs.{IsAnsweredBy, OfSources};
+ghost use Rattle.mt_recover.specs.Job.{AreCutBy};
+ghost use Rattle.mt_recover.specs.Found.{IsFoundOf};
+ghost use Rattle.mt_recover.specs.Prepared.{IsFound, IsPreparedOf};
+
+use crate::found::{Found, find};
+use crate::prepared::Prepared;
+use crate::recovery::Inputs;
+use crate::scans::scan_all;
+use crate::workers::{Cutting, Workers};
+use mt_board::{Board, Pass};
+use mt_replay::{Cuts, LogCells};
+use mt_scan::Source;
+use mt_words::{Fault, Memory};
+use std::alloc::Global;
+use std::marker::Model;
+use std::thread::Threads;
+
+/// What is left to do once logs and parts are scanned: to replay pieces of the keys, by any threads, and to assemble
+/// them. Whoever holds a `Pass` of the job may `work` on it.
+#[derive(Drop)]
+pub struct Job {
+    pub(crate) prepared: Prepared,
+    pub(crate) cuts: Cuts,
+    /// It gives out the numbers of the pieces.
+    pub(crate) board: Board,
+}
+
+impl Model for Job {
+    ghost use Rattle.std.specs.Prelude.{◌≡◌, ◌+◌, length};
+    ghost use Rattle.mt_recover.specs.Job.{JobView};
+
+    ghost Value = { JobView };
+
+    ghost view = { λ j. record { prepared = j.prepared; cuts = j.cuts; board = j.board } };
+
+    ghost invariant = { λ j. j.board.total ≡ length j.cuts + 1 };
+}
+
+/// Scans the sources by so many workers, and prepares the job of their store, with a pass for each worker, in order of
+/// their numbers.
+///
+/// An Err is that of `recover`.
+pub fn prepare<R: Threads + Sync, S: Source + Send>(
+    rt: &R,
+    alloc: Global,
+    inputs: Inputs<S>,
+    workers: Workers,
+    cutting: Cutting,
+) -> Result<(Job, Vec<Pass>), Fault>
+    ensures job { IfOk result (λ opened. OfSources S.seen inputs.logs.items inputs.parts.items (λ logs parts. IsPreparedOf logs parts opened.0.prepared)) }
+    ensures cuts { IfOk result (λ opened. AreCutBy cutting opened.0.prepared.updates opened.0.cuts) }
+    ensures pieces { IfOk result (λ opened. opened.0.board.total ≡ length opened.0.cuts + 1) }
+    ensures passes { IfOk result (λ opened. (opened.0.board.passes ≡ workers) × (opened.1.items ≡ fresh_passes opened.0.board workers)) }
+    ensures some { IfOk result (λ opened. 0 < opened.0.board.passes) }
+    ensures fault { IfErr result (IsAnsweredBy S.seen inputs.logs.items inputs.parts.items) }
+{
+    let outcomes = scan_all(rt, alloc, inputs, workers)?;
+    let found = find(alloc, outcomes)?;
+    Ok(open(rt, alloc, found, workers, cutting)?)
+}
+
+/// The job of what was found, and its passes.
+fn open<R: Threads + Sync>(
+    rt: &R,
+    alloc: Global,
+    found: Found,
+    workers: Workers,
+    cutting: Cutting,
+) -> Result<(Job, Vec<Pass>), Memory>
+    requires { IsFound found }
+    ensures job { (logs parts : List (List ℕ)) → IsFoundOf logs parts found → IfOk result (λ opened. IsPreparedOf logs parts opened.0.prepared) }
+    ensures cuts { IfOk result (λ opened. AreCutBy cutting opened.0.prepared.updates opened.0.cuts) }
+    ensures pieces { IfOk result (λ opened. opened.0.board.total ≡ length opened.0.cuts + 1) }
+    ensures passes { IfOk result (λ opened. (opened.0.board.passes ≡ workers) × (opened.1.items ≡ fresh_passes opened.0.board workers)) }
+    ensures some { IfOk result (λ opened. 0 < opened.0.board.passes) }
+{
+    let prepared = Prepared::by_workers(rt, alloc, found, workers)?;
+    let cuts = cuts_of(rt, alloc, &prepared.lists, cutting)?;
+    let Ok((board, passes)) = Board::open(alloc, cuts.pieces(), workers.count()) else {
+        return Err(Memory);
+    };
+    let job = Job {
+        prepared,
+        cuts,
+        board,
+    };
+    Ok((job, passes))
+}
+
+/// Where the keys of these cells are cut.
+fn cuts_of<R: Threads + Sync>(
+    rt: &R,
+    alloc: Global,
+    lists: &[LogCells],
+    cutting: Cutting,
+) -> Result<Cuts, Memory>
+    ensures { IfOk result (AreCutBy cutting (joined lists.now)) }
+{
+    match cutting {
+        Cutting::Even(pieces) => Cuts::even(rt, alloc, lists, pieces),
+        Cutting::Sampled(pieces) => Cuts::sampled(rt, alloc, lists, pieces),
+        Cutting::At(cuts) => Ok(cuts),
+    }
+}
