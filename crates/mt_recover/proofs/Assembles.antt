@@ -1,22 +1,24 @@
 -- Pieces at their places, and what of them is missing.
-use Rattle.std.proofs.Common.{◌≡◌, ◌∙◌, ℕ, zero, suc, ◌+◌, ◌<◌, ⊎_elim, List, [], ◌∷◌, ◌++◌, map, length, true, false, Bool, Option, Some, None, refl, sym, ap, subst, arith, cond}
-use Rattle.std.specs.Prelude.{slice_get, slice_set, slice_index_or, nat_eq}
+use Rattle.std.proofs.Common.{◌≡◌, ◌∙◌, ℕ, zero, suc, ◌+◌, ◌<◌, ⊎_elim, List, [], ◌∷◌, ◌++◌, map, length, true, false, Bool, Contains, IsPermutation, refl, sym, ap, subst, arith, cond}
+use Rattle.std.specs.Prelude.{slice_index_or, nat_eq}
 use Rattle.std.specs.List.{All}
+use Rattle.std.specs.List.Sorted.{IsNonDecreasingBy}
 use Rattle.std.proofs.lemmas.Bool.{cases_eq}
 use Rattle.std.proofs.lemmas.Bool.Decides.{nat_tests}
-use Rattle.std.proofs.lemmas.List.{map-append, length-map, get_or-map, get_or-set_same, get_or-set_other}
+use Rattle.std.proofs.lemmas.List.{map-append, length-append, length-map, length_push, get_or-map, get_or_append_left}
+use Rattle.std.proofs.Math.Seq.{get_or-append_seam}
 use Rattle.std.proofs.lemmas.List.Sums.{sum_by-append, sum_by-cons}
-use Rattle.std.proofs.lemmas.List.Elements.{All-nil, All-append, All-head, All-tail, All-contains, All-weaker}
-use Rattle.std.proofs.lemmas.Option.{slice_get_within, get_or_from_slice_get}
-use Rattle.mt_board.specs.Board.{PassView, times, times_drawn}
+use Rattle.std.proofs.lemmas.List.Sorted.{IsPermutation-sym, Contains-permutation, All-permutation, IsPermutation-map, sum_by-IsPermutation}
+use Rattle.std.proofs.lemmas.List.Elements.{All-nil, All-append, All-head, All-tail, All-push, All-contains, All-weaker, Contains-append_left, Contains-append_right}
 use Rattle.mt_words.specs.declared.fault.Fault.{Fault}
 use Rattle.mt_words.specs.declared.fault.Fault.TheVariants as faults
+use Rattle.mt_board.specs.Board.{PassView, times, times_drawn}
 use Rattle.mt_replay.specs.Pieces.{IsPiece, ArePieces}
 use Rattle.mt_tree.specs.Borders.{DraftView, empty_draft, layer_walk}
-use Rattle.mt_recover.specs.declared.haul.Piece.{Piece}
-use Rattle.mt_recover.specs.Assembling.{all_held, StandsAt, IsFirstEmpty, IsEmptyPlace}
 use Rattle.mt_recover.specs.declared.haul.Haul.{Haul}
-use Rattle.mt_recover.specs.Hauls.{numbers, IsHaulOf, times_held, IsFirstMissing, IsLeftOut, AllCameBack}
+use Rattle.mt_recover.specs.declared.haul.Piece.{Piece}
+use Rattle.mt_recover.specs.Assembling.{all_held, AreDraftsOf, times_numbered, IsFirstLacking, IsLacking}
+use Rattle.mt_recover.specs.Hauls.{numbers, IsHaulOf, times_held, IsLeftOut, AllCameBack}
 use Rattle.mt_recover.specs.Job.{JobView, IsPieceOf}
 
 -- what a haul of the job holds under a number is the piece of that number
@@ -37,25 +39,6 @@ is_same a = grind (arith, nat_tests)
 -- one more in front
 times_cons : (x y : ℕ) (ys : List ℕ) → times x (y ∷ ys) ≡ cond {A = ℕ} (nat_eq y x) 1 0 + times x ys
 times_cons x y ys = sum_by-cons (λ (z : ℕ). cond (nat_eq z x) 1 0) y ys
-
-stands_other : (piece : Piece) (last : List Piece) (i : ℕ) (o : Option DraftView) → (piece.number ≡ i → ⊥) → StandsAt last i o → StandsAt (piece ∷ last) i o
-stands_other piece last i None ne h =
-    let no : cond {A = ℕ} (nat_eq piece.number i) 1 0 ≡ 0 = ap (λ (b : Bool). cond {A = ℕ} b 1 0) (not_same piece.number i ne) in
-    omega (arith, no, times_cons i piece.number (map number_of last), h)
-stands_other piece last i (Some d) ne h = (suc h.0, omega (arith, h.1), h.2)
-
--- one more piece at its place
-pub stands_after : (places after : List (Option DraftView)) (piece : Piece) (last : List Piece) (count : ℕ) → length places ≡ count → piece.number < count → after ≡ slice_set places piece.number (Some piece.draft)
-    → ((i : ℕ) → i < count → StandsAt last i (slice_index_or places i None)) → (i : ℕ) → i < count → StandsAt (piece ∷ last) i (slice_index_or after i None)
-stands_after places after piece last count long within is each i lt =
-    let n : ℕ = piece.number in
-    let at : slice_index_or after n None ≡ Some piece.draft = ap (λ (l : List (Option DraftView)). slice_index_or l n None) is ∙ get_or-set_same places n (Some piece.draft) None (omega (arith, long, within)) in
-    let here : StandsAt (piece ∷ last) n (slice_index_or after n None) = subst (λ (o : Option DraftView). StandsAt (piece ∷ last) n o) (sym at) (zero, omega arith, refl) in ⊎_elim
-    (λ (same : i ≡ n). subst (λ (k : ℕ). StandsAt (piece ∷ last) k (slice_index_or after k None)) (sym same) here)
-    (λ (ne : i ≡ n → ⊥).
-    subst (λ (o : Option DraftView). StandsAt (piece ∷ last) i o) (sym (ap (λ (l : List (Option DraftView)). slice_index_or l i None) is ∙ get_or-set_other places n i (Some piece.draft) None ne))
-    (stands_other piece last i (slice_index_or places i None) (λ e. ne (sym e)) (each i lt)))
-    (cases_eq i n)
 
 -- ---- hauls
 
@@ -81,75 +64,111 @@ counted (p ∷ ps) r zero lt is =
     omega (arith, one, times_cons r.number p.number (map number_of ps))
 counted (p ∷ ps) r (suc k) lt is = let more = counted ps r k (omega (arith, lt)) is in omega (arith, more, times_cons r.number p.number (map number_of ps))
 
--- the numbers of what is held are those of pieces
-pub held_within : (job : JobView) (hauls : List Haul) (pieces : List Piece) (count : ℕ) → pieces ≡ all_held hauls → count ≡ job.board.total → All (IsHaulOf job) hauls → All (λ (piece : Piece). piece.number < count) pieces
-held_within job hauls pieces count held total are =
-    All-weaker (IsHeldBy job) (λ (piece : Piece). piece.number < count) (λ piece is. omega (arith, is.0, total)) pieces (subst (All (IsHeldBy job)) (sym held) (held_each job hauls are))
+-- a piece that is there has its number
+there : (pieces : List Piece) (k : ℕ) (draft : DraftView) → Contains pieces (record { number = k; draft = draft }) → 0 < times_numbered k pieces
+there pieces k draft at = counted pieces (record { number = k; draft = draft }) at.0 at.1 at.2
 
--- ---- what is missing
+-- a number that no piece has
+none_numbered : (pieces : List Piece) (number : ℕ) → All (λ (piece : Piece). piece.number ≡ number → ⊥) pieces → times_numbered number pieces ≡ 0
+none_numbered [] number all = refl
+none_numbered (p ∷ ps) number all =
+    let no : cond {A = ℕ} (nat_eq p.number number) 1 0 ≡ 0 = ap (λ (b : Bool). cond {A = ℕ} b 1 0) (not_same p.number number (All-head (λ (piece : Piece). piece.number ≡ number → ⊥) p ps all)) in
+    omega (arith, no, times_cons number p.number (map number_of ps), none_numbered ps number (All-tail (λ (piece : Piece). piece.number ≡ number → ⊥) p ps all))
 
-module _ (job : JobView) (hauls : List Haul) (pieces : List Piece) (count : ℕ) (places : List (Option DraftView)) (held : pieces ≡ all_held hauls) (total : count ≡ job.board.total) (long : length places ≡ count)
-    (stand : (n : ℕ) → n < count → StandsAt pieces n (slice_index_or places n None)) where
-  each : (n : ℕ) → n < job.board.total → StandsAt (all_held hauls) n (slice_index_or places n None)
-  each n lt = subst (λ (ps : List Piece). StandsAt ps n (slice_index_or places n None)) held (stand n (omega (arith, lt, total)))
+-- ---- drafts in order
 
-  missing_first : (i : ℕ) → IsFirstEmpty places i → IsFirstMissing job hauls i
-  missing_first i gap =
-      let within : i < job.board.total = omega (arith, slice_get_within places i None gap.empty, long, total) in
-      let empty : StandsAt (all_held hauls) i None = subst (λ (o : Option DraftView). StandsAt (all_held hauls) i o) (get_or_from_slice_get places i None None gap.empty) (each i within) in record {
-        within = within;
-        missing = sym (times_all i hauls) ∙ empty;
-        first = λ j lt.
-            let there = gap.first j lt in
-            let in_job : j < job.board.total = omega (arith, slice_get_within places j (Some there.0) there.1, long, total) in
-            let stands : StandsAt (all_held hauls) j (Some there.0) = subst (λ (o : Option DraftView). StandsAt (all_held hauls) j o) (get_or_from_slice_get places j (Some there.0) None there.1) (each j in_job) in
-            let some = counted (all_held hauls) (record { number = j; draft = there.0 }) stands.0 stands.1 stands.2 in
-            omega (arith, some, times_all j hauls);
-      }
+-- those passed over so far, of sorted pieces: none has the number that comes next
+abbrev pub NoneIsNext : List Piece → List DraftView → Type 0
+NoneIsNext pieces drafts = All (λ (piece : Piece). piece.number ≡ length drafts → ⊥) pieces
 
-  pub left_out : (fault : Fault) → IsEmptyPlace places fault → IsLeftOut job hauls fault
-  left_out (faults.Missing i) gap = missing_first i gap
-  left_out faults.Memory gap = tt
-  left_out fault gap = absurd gap
+-- the next piece has the next number
+pub taken : (all done rest : List Piece) (piece : Piece) (drafts after : List DraftView) → IsNonDecreasingBy number_of all → done ++ piece ∷ rest ≡ all → piece.number ≡ length drafts → after ≡ drafts ++ piece.draft ∷ []
+    → AreDraftsOf done drafts → AreDraftsOf (done ++ piece ∷ []) after × NoneIsNext (done ++ piece ∷ []) after
+taken all done rest piece drafts after sorted whole next is are = (by_place, All-push (λ (p : Piece). p.number ≡ length after → ⊥) done piece below last)
+  where
+    long : length after ≡ length drafts + 1
+    long = omega (arith, ap length is, length_push drafts piece.draft)
+
+    by_place : AreDraftsOf (done ++ piece ∷ []) after
+    by_place k d lt = ⊎_elim
+        (λ (same : k ≡ length drafts).
+        let at : slice_index_or after k d ≡ piece.draft = (λ i. slice_index_or (is i) (same i) d) ∙ get_or-append_seam drafts piece.draft [] d in
+        let one : piece ≡ record { number = k; draft = slice_index_or after k d } = λ i. record { number = (next ∙ sym same) i; draft = sym at i } in
+        subst (Contains (done ++ piece ∷ [])) one (Contains-append_right done (piece ∷ []) piece (zero, omega arith, refl)))
+        (λ (other : k ≡ length drafts → ⊥).
+        let before : k < length drafts = omega (arith, lt, long, other) in
+        let at : slice_index_or after k d ≡ slice_index_or drafts k d = ap (λ (l : List DraftView). slice_index_or l k d) is ∙ get_or_append_left drafts (piece.draft ∷ []) d k before in
+        subst (λ (x : DraftView). Contains (done ++ piece ∷ []) (record { number = k; draft = x })) (sym at) (Contains-append_left done (piece ∷ []) _ (are k d before)))
+        (cases_eq k (length drafts))
+
+    below : All (λ (p : Piece). p.number ≡ length after → ⊥) done
+    below k d lt same =
+        let here : slice_index_or all k d ≡ slice_index_or done k d = ap (λ (l : List Piece). slice_index_or l k d) (sym whole) ∙ get_or_append_left done (piece ∷ rest) d k lt in
+        let seam : slice_index_or all (length done) d ≡ piece = ap (λ (l : List Piece). slice_index_or l (length done) d) (sym whole) ∙ get_or-append_seam done piece rest d in
+        let in_all : length done < length all = omega (arith, ap length (sym whole), length-append done (piece ∷ rest)) in
+        let falls = sorted k (length done) d (omega (arith, lt)) in_all in
+        omega (arith, falls, ap number_of here, ap number_of seam, same, next, long)
+
+    last : piece.number ≡ length after → ⊥
+    last same = omega (arith, same, next, long)
+
+-- the next piece has another number
+pub passed : (done : List Piece) (piece : Piece) (drafts : List DraftView) → (piece.number ≡ length drafts → ⊥) → AreDraftsOf done drafts → NoneIsNext done drafts
+    → AreDraftsOf (done ++ piece ∷ []) drafts × NoneIsNext (done ++ piece ∷ []) drafts
+passed done piece drafts other are none = (λ k d lt. Contains-append_left done (piece ∷ []) _ (are k d lt), All-push (λ (p : Piece). p.number ≡ length drafts → ⊥) done piece none other)
+
+-- there is a draft for each number
+pub all_taken : (pieces : List Piece) (drafts : List DraftView) (count : ℕ) → All (λ (piece : Piece). piece.number < count) pieces → AreDraftsOf pieces drafts → (length drafts < count → ⊥) → length drafts ≡ count
+all_taken pieces drafts count within are enough = ⊎_elim (λ (same : length drafts ≡ count). same)
+    (λ (other : length drafts ≡ count → ⊥).
+    let more : count < length drafts = omega (arith, other, enough) in
+    let at = All-contains (λ (piece : Piece). piece.number < count) pieces _ within (are count empty_draft more) in
+    absurd (omega (arith, at)))
+    (cases_eq (length drafts) count)
+
+-- or the next number is lacking
+pub next_lacks : (pieces : List Piece) (drafts : List DraftView) (count : ℕ) → length drafts < count → AreDraftsOf pieces drafts → NoneIsNext pieces drafts → IsFirstLacking pieces count (length drafts)
+next_lacks pieces drafts count below are none = record {
+  within = below;
+  lacking = none_numbered pieces (length drafts) none;
+  first = λ k lt. there pieces k (slice_index_or drafts k empty_draft) (are k empty_draft lt);
+}
+
+-- ---- the pieces of a job
+
+module _ (job : JobView) (hauls : List Haul) (pieces : List Piece) (count : ℕ) (held : IsPermutation (all_held hauls) pieces) (total : count ≡ job.board.total) where
+  -- there are as many of a number
+  same_times : (number : ℕ) → times_numbered number pieces ≡ times_held number hauls
+  same_times number = sum_by-IsPermutation (λ (n : ℕ). cond (nat_eq n number) 1 0) (map number_of (all_held hauls)) (map number_of pieces) (IsPermutation-map number_of (all_held hauls) pieces held) ∙ times_all number hauls
+
+  -- what is held has numbers of pieces
+  pub held_within : All (IsHaulOf job) hauls → All (λ (piece : Piece). piece.number < count) pieces
+  held_within are = All-permutation (λ (piece : Piece). piece.number < count) (all_held hauls) pieces held (All-weaker (IsHeldBy job) (λ (piece : Piece). piece.number < count) (λ piece is. omega (arith, is.0, total)) (all_held hauls) (held_each job hauls are))
+
+  pub left_out : (fault : Fault) → IsLacking pieces count fault → IsLeftOut job hauls fault
+  left_out (faults.Missing i) lacks = record {
+    within = omega (arith, lacks.within, total);
+    missing = omega (arith, lacks.lacking, same_times i);
+    first = λ k lt. omega (arith, lacks.first k lt, same_times k);
+  }
+  left_out faults.Memory lacks = tt
+  left_out fault lacks = absurd lacks
 
   -- where each piece was drawn and each draw is there, nothing is missing
-  pub none_left_out : (passes : List PassView) (fault : Fault) → AllCameBack job hauls passes → ((x : ℕ) → x < job.board.total → 0 < times_drawn x passes) → IsEmptyPlace places fault → fault ≡ faults.Memory
-  none_left_out passes (faults.Missing i) back drawn gap =
-      let first = missing_first i gap in
-      let held = back.held i (drawn i first.within) in
-      absurd (omega (arith, held, first.missing))
-  none_left_out passes faults.Memory back drawn gap = refl
-  none_left_out passes fault back drawn gap = absurd gap
+  pub none_left_out : (passes : List PassView) (fault : Fault) → AllCameBack job hauls passes → ((x : ℕ) → x < job.board.total → 0 < times_drawn x passes) → IsLacking pieces count fault → fault ≡ faults.Memory
+  none_left_out passes (faults.Missing i) back drawn lacks =
+      let held = back.held i (drawn i (omega (arith, lacks.within, total))) in
+      absurd (omega (arith, held, lacks.lacking, same_times i))
+  none_left_out passes faults.Memory back drawn lacks = refl
+  none_left_out passes fault back drawn lacks = absurd lacks
 
-  -- what stands at all places are the pieces
-  pub in_order : (drafts : List DraftView) → job.board.total ≡ length job.cuts + 1 → All (IsHaulOf job) hauls → places ≡ map Some drafts → ArePieces job.prepared.updates job.cuts (map layer_walk drafts)
-  in_order drafts cut are is =
-      let same : length drafts ≡ job.board.total = omega (arith, ap length is, length-map drafts Some, long, total) in
-      record {
-        count = omega (arith, length-map drafts layer_walk, same, cut);
-        each = λ k d lt.
-            let within : k < length drafts = omega (arith, lt, length-map drafts layer_walk) in
-            let draft : DraftView = slice_index_or drafts k empty_draft in
-            let at : slice_index_or places k None ≡ Some draft = ap (λ (l : List (Option DraftView)). slice_index_or l k None) is ∙ get_or-map Some drafts k empty_draft None within in
-            let stands : StandsAt (all_held hauls) k (Some draft) = subst (λ (o : Option DraftView). StandsAt (all_held hauls) k o) at (each k (omega (arith, within, same))) in
-            let one = All-contains (IsHeldBy job) (all_held hauls) (record { number = k; draft = draft }) (held_each job hauls are) stands in
-            subst (IsPiece job.prepared.updates job.cuts k) (sym (get_or-map layer_walk drafts k empty_draft d within)) one.1;
-      }
-
--- ---- the first place without a draft
-
-at_gap : (drafts : List DraftView) (rest : List (Option DraftView)) → slice_get (map Some drafts ++ None ∷ rest) (length drafts) ≡ Some None
-at_gap [] rest = refl
-at_gap (d ∷ ds) rest = at_gap ds rest
-
-before_gap : (drafts : List DraftView) (rest : List (Option DraftView)) (j : ℕ) → j < length drafts → (draft : DraftView) × (slice_get (map Some drafts ++ rest) j ≡ Some (Some draft))
-before_gap [] rest j lt = absurd (omega (arith, lt))
-before_gap (d ∷ ds) rest zero lt = (d, refl)
-before_gap (d ∷ ds) rest (suc j) lt = before_gap ds rest j (omega (arith, lt))
-
-pub gap_here : (all yielded left rest : List (Option DraftView)) (drafts : List DraftView) (n : ℕ) → yielded ++ left ≡ all → left ≡ None ∷ rest → yielded ≡ map Some drafts → n ≡ length drafts → IsFirstEmpty all n
-gap_here all yielded left rest drafts n whole next are count =
-    let split : map Some drafts ++ None ∷ rest ≡ all = (λ i. sym are i ++ sym next i) ∙ whole in record {
-      empty = ap (λ (k : ℕ). slice_get all k) count ∙ ap (λ (l : List (Option DraftView)). slice_get l (length drafts)) (sym split) ∙ at_gap drafts rest;
-      first = λ j lt. let b = before_gap drafts (None ∷ rest) j (omega (arith, lt, count)) in (b.0, ap (λ (l : List (Option DraftView)). slice_get l j) (sym split) ∙ b.1);
-    }
+  -- the drafts in order are those of the pieces
+  pub in_order : (drafts : List DraftView) → job.board.total ≡ length job.cuts + 1 → All (IsHaulOf job) hauls → length drafts ≡ count → AreDraftsOf pieces drafts → ArePieces job.prepared.updates job.cuts (map layer_walk drafts)
+  in_order drafts cut hauls_are long are = record {
+    count = omega (arith, length-map drafts layer_walk, long, total, cut);
+    each = λ k d lt.
+        let within : k < length drafts = omega (arith, lt, length-map drafts layer_walk) in
+        let at = Contains-permutation pieces (all_held hauls) _ (IsPermutation-sym (all_held hauls) pieces held) (are k empty_draft within) in
+        let one = All-contains (IsHeldBy job) (all_held hauls) _ (held_each job hauls hauls_are) at in
+        subst (IsPiece job.prepared.updates job.cuts k) (sym (get_or-map layer_walk drafts k empty_draft d within)) one.1;
+  }

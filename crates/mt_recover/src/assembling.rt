@@ -1,10 +1,11 @@
 //! The store of a job, assembled of the pieces that workers hauled.
-ghost use Rattle.std.specs.Prelude.{◌≡◌, ◌<◌, ◌≤◌, ℕ, List, length, map, slice_index_or, slice_set, All, IfOk, IfErr, Some, None};
+ghost use Rattle.std.specs.Prelude.{◌≡◌, ◌<◌, ◌≤◌, ℕ, List, length, map, All, IfOk, IfErr, IsPermutation};
+ghost use Rattle.std.specs.List.Sorted.{IsNonDecreasingBy};
 ghost use Rattle.mt_words.specs.declared.fault.Fault.TheVariants as faults;
 ghost use Rattle.mt_words.specs.Walks.{KeysRise, joined};
 ghost use Rattle.mt_board.specs.Board.{times_drawn, SomeIsDone};
 ghost use Rattle.mt_tree.specs.Borders.{layer_walk};
-ghost use Rattle.mt_recover.specs.Assembling.{all_held, StandsAt, IsEmptyPlace};
+ghost use Rattle.mt_recover.specs.Assembling.{all_held, AreDraftsOf, IsLacking};
 ghost use Rattle.mt_recover.specs.Hauls.{AllCameBack, IsHaulOf, IsLeftOut};
 ghost use Rattle.mt_recover.specs.Prepared.{IsMadeOf, IsPreparedOf};
 ghost use Rattle.mt_recover.specs.Report.{IsRecoveredOf};
@@ -41,8 +42,8 @@ pub fn assemble(
         board,
     } = job;
     close(board, passes);
-    let places = place(alloc, pieces_of(alloc, hauls)?, cuts.pieces() as usize)?;
-    let drafts = all_there(alloc, places)?;
+    let pieces = by_number(pieces_of(alloc, hauls)?);
+    let drafts = in_order(alloc, pieces, cuts.pieces())?;
     pieces_make_the_walk();
     Ok(prepared.finish(join_all(alloc, drafts)?)?)
 }
@@ -71,55 +72,36 @@ fn pieces_of(alloc: Global, hauls: Vec<Haul>) -> Result<Vec<Piece>, Memory>
     Ok(pieces)
 }
 
-/// The drafts of the pieces at the places of their numbers. Of two pieces with one number the first stands there.
-fn place(alloc: Global, pieces: Vec<Piece>, count: usize) -> Result<Vec<Option<Draft>>, Memory>
-    requires { All (λ piece. piece.number < count) pieces.items }
-    ensures long { IfOk result (λ places. length places.items ≡ count) }
-    ensures each { IfOk result (λ places. (number : ℕ) → number < count →
-        StandsAt pieces.items number (slice_index_or places.items number None)) }
+/// The pieces, sorted by their numbers.
+fn by_number(pieces: Vec<Piece>) -> Vec<Piece>
+    ensures same { IsPermutation pieces.items result.items }
+    ensures sorted { IsNonDecreasingBy (λ piece. piece.number) result.items }
 {
     let mut pieces = pieces;
-    let mut places = no_drafts(alloc, count)?;
-    while let Some(piece) = pieces.pop() {
-        put(&mut places, piece);
-    }
-    Ok(places)
+    pieces.sort_unstable_by_key(|piece| piece.number);
+    pieces
 }
 
-/// Puts the piece at the place of its number.
-fn put(places: &mut Vec<Option<Draft>>, piece: Piece)
-    requires { piece.number < length places.old.items }
-    ensures { places.new.items ≡ slice_set places.old.items piece.number (Some piece.draft) }
-{
-    let Piece { number, draft } = piece;
-    places[number as usize] = Some(draft);
-}
-
-/// So many places without a draft.
-fn no_drafts(alloc: Global, count: usize) -> Result<Vec<Option<Draft>>, Memory>
-    ensures long { IfOk result (λ places. length places.items ≡ count) }
-    ensures none { IfOk result (λ places. All (λ place. place ≡ None) places.items) }
-{
-    let mut places = Vec::with_capacity(alloc, count)?;
-    for one in 0..count {
-        places.push(None)?;
-    }
-    Ok(places)
-}
-
-/// The drafts in the order of their places, if each place has one. An Err is the first that has none, or `Memory`.
-fn all_there(alloc: Global, places: Vec<Option<Draft>>) -> Result<Vec<Draft>, Fault>
-    requires { length places.items ≤ 4096 }
-    ensures drafts { IfOk result (λ drafts. places.items ≡ map Some drafts.items) }
-    ensures missing { IfErr result (IsEmptyPlace places.items) }
+/// The drafts of sorted pieces, one for each number below `count`. Of two pieces with one number the first is taken.
+/// An Err is the least number that no piece has, or `Memory`.
+fn in_order(alloc: Global, pieces: Vec<Piece>, count: u32) -> Result<Vec<Draft>, Fault>
+    requires sorted { IsNonDecreasingBy (λ piece. piece.number) pieces.items }
+    requires within { All (λ piece. piece.number < count) pieces.items }
+    ensures long { IfOk result (λ drafts. length drafts.items ≡ count) }
+    ensures drafts { IfOk result (λ drafts. AreDraftsOf pieces.items drafts.items) }
+    ensures missing { IfErr result (IsLacking pieces.items count) }
 {
     let mut drafts = Vec::new(alloc);
-    for place in places {
-        let Some(draft) = place else {
-            let piece = drafts.len() as u32;
-            return Err(Fault::Missing { piece });
-        };
+    for piece in pieces {
+        let Piece { number, draft } = piece;
+        if number as usize != drafts.len() {
+            continue;
+        }
         drafts.push(draft)?;
+    }
+    if drafts.len() < count as usize {
+        let piece = drafts.len() as u32;
+        return Err(Fault::Missing { piece });
     }
     Ok(drafts)
 }

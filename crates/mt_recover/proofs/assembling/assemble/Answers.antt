@@ -1,4 +1,4 @@
-use Rattle.std.proofs.Common.{rules, ◌≡◌, ◌∙◌, ◌+◌, ◌<◌, ℕ, List, length, map, ap, sym, subst, arith}
+use Rattle.std.proofs.Common.{IsPermutation, rules, ◌≡◌, ◌∙◌, ◌+◌, ◌<◌, ℕ, List, length, map, ap, sym, subst, arith}
 use Rattle.mt_board.specs.Board.{BoardId, times_drawn}
 use Rattle.mt_words.specs.declared.fault.Fault.TheVariants as faults
 use Rattle.mt_words.specs.declared.update.Update.{Update}
@@ -6,6 +6,9 @@ use Rattle.mt_words.specs.Walks.{joined}
 use Rattle.mt_replay.specs.Cuts.{AreCuts}
 use Rattle.mt_replay.specs.Walk.{IsWalk}
 use Rattle.mt_tree.specs.Borders.{layer_walk}
+use Rattle.mt_recover.specs.declared.haul.Haul.{Haul}
+use Rattle.mt_recover.specs.declared.haul.Piece.{Piece}
+use Rattle.mt_recover.specs.Assembling.{all_held}
 use Rattle.mt_recover.specs.Hauls.{IsLeftOut}
 use Rattle.mt_recover.specs.Job.{JobView}
 use Rattle.mt_recover.specs.Prepared.{PreparedView, IsMadeOf}
@@ -17,25 +20,31 @@ use Rattle.mt_recover.proofs.assembling.assemble.Goals as goal
 total_is : (job inside : JobView) (pieces : ℕ) → inside ≡ job → inside.board.total ≡ length inside.cuts + 1 → pieces ≡ length inside.cuts + 1 → pieces ≡ job.board.total
 total_is job inside pieces same total count = count ∙ sym total ∙ ap (λ (j : JobView). j.board.total) same
 
-pub place-requires : goal.place-requires
-place-requires c =
-    held_within c.args.job c.args.hauls.items c.in_ok-pieces_of.field-0.items c.pieces.result c.in_ok-pieces_of.ensures (total_is c.args.job _ c.pieces.result c.job.view_is c.job.invariant (search rules)) c.requires.hauls
+-- the pieces by number are those of the hauls
+same_pieces : (hauls : List Haul) (held sorted : List Piece) → held ≡ all_held hauls → IsPermutation held sorted → IsPermutation (all_held hauls) sorted
+same_pieces hauls held sorted are same = subst (λ (pieces : List Piece). IsPermutation pieces sorted) are same
+
+pub in_order-requires-clause-within : goal.in_order-requires-clause-within
+in_order-requires-clause-within c =
+    held_within c.args.job c.args.hauls.items c.by_number-pieces.result.items c.pieces.result (same_pieces c.args.hauls.items c.in_ok-pieces_of.field-0.items c.by_number-pieces.result.items c.in_ok-pieces_of.ensures c.by_number-pieces.ensures.same)
+    (total_is c.args.job _ c.pieces.result c.job.view_is c.job.invariant (search rules)) c.requires.hauls
 
 pub returns-in_err-drafts-clause-missing : goal.returns-in_err-drafts-clause-missing
 returns-in_err-drafts-clause-missing c =
     let total = total_is c.args.job _ c.pieces.result c.job.view_is c.job.invariant (search rules) in
-    let h : IsLeftOut c.args.job c.args.hauls.items c.in_err-drafts.field-0.0 =
-    left_out c.args.job c.args.hauls.items c.in_ok-pieces_of.field-0.items c.pieces.result c.in_ok-places.places.items c.in_ok-pieces_of.ensures total c.in_ok-places.ensures.long c.in_ok-places.ensures.each c.in_err-drafts.field-0.0 c.in_err-drafts.ensures.missing in
+    let same = same_pieces c.args.hauls.items c.in_ok-pieces_of.field-0.items c.by_number-pieces.result.items c.in_ok-pieces_of.ensures c.by_number-pieces.ensures.same in
+    let h : IsLeftOut c.args.job c.args.hauls.items c.in_err-drafts.field-0.0 = left_out c.args.job c.args.hauls.items c.by_number-pieces.result.items c.pieces.result same total c.in_err-drafts.field-0.0 c.in_err-drafts.ensures.missing in
     search (rules, h)
 
 pub returns-in_err-drafts-clause-drawn : goal.returns-in_err-drafts-clause-drawn
 returns-in_err-drafts-clause-drawn c back =
     let total = total_is c.args.job _ c.pieces.result c.job.view_is c.job.invariant (search rules) in
-    let same : c.job.inside.board ≡ c.args.job.board = ap (λ (j : JobView). j.board) c.job.view_is in
+    let same = same_pieces c.args.hauls.items c.in_ok-pieces_of.field-0.items c.by_number-pieces.result.items c.in_ok-pieces_of.ensures c.by_number-pieces.ensures.same in
+    let board : c.job.inside.board ≡ c.args.job.board = ap (λ (j : JobView). j.board) c.job.view_is in
     let drawn : (x : ℕ) → x < c.args.job.board.total → 0 < times_drawn x c.args.passes.items =
-    λ x lt. c.close.ensures (omega (arith, back.many, ap (λ (b : BoardId). b.passes) same)) back.done x (omega (arith, lt, ap (λ (b : BoardId). b.total) same)) in
+    λ x lt. c.close.ensures (omega (arith, back.many, ap (λ (b : BoardId). b.passes) board)) back.done x (omega (arith, lt, ap (λ (b : BoardId). b.total) board)) in
     let h : c.in_err-drafts.field-0.0 ≡ faults.Memory =
-    none_left_out c.args.job c.args.hauls.items c.in_ok-pieces_of.field-0.items c.pieces.result c.in_ok-places.places.items c.in_ok-pieces_of.ensures total c.in_ok-places.ensures.long c.in_ok-places.ensures.each c.args.passes.items c.in_err-drafts.field-0.0 back drawn c.in_err-drafts.ensures.missing in
+    none_left_out c.args.job c.args.hauls.items c.by_number-pieces.result.items c.pieces.result same total c.args.passes.items c.in_err-drafts.field-0.0 back drawn c.in_err-drafts.ensures.missing in
     search (rules, h)
 
 -- the drafts in their order are the walk
@@ -43,11 +52,11 @@ walk_is : (c : goal.After-pieces_make_the_walk) → IsWalk c.args.job.prepared.u
 walk_is c =
     let job = c.args.job in
     let total = total_is job _ c.pieces.result c.job.view_is c.job.invariant (search rules) in
+    let same = same_pieces c.args.hauls.items c.in_ok-pieces_of.field-0.items c.by_number-pieces.result.items c.in_ok-pieces_of.ensures c.by_number-pieces.ensures.same in
     let cut = subst (λ (j : JobView). j.board.total ≡ length j.cuts + 1) c.job.view_is c.job.invariant in
     let lawful = subst (λ (j : JobView). AreCuts j.cuts) c.job.view_is c.pieces.ensures.lawful in
     c.pieces_make_the_walk.ensures.walk job.prepared.updates job.cuts (map layer_walk c.in_ok-drafts.drafts.items) lawful
-    (in_order job c.args.hauls.items c.in_ok-pieces_of.field-0.items c.pieces.result c.in_ok-places.places.items c.in_ok-pieces_of.ensures total c.in_ok-places.ensures.long c.in_ok-places.ensures.each c.in_ok-drafts.drafts.items cut c.requires.hauls
-    c.in_ok-drafts.ensures.drafts)
+    (in_order job c.args.hauls.items c.by_number-pieces.result.items c.pieces.result same total c.in_ok-drafts.drafts.items cut c.requires.hauls c.in_ok-drafts.ensures.long c.in_ok-drafts.ensures.drafts)
 
 pub join_all-requires : goal.join_all-requires
 join_all-requires c = (walk_is c).map.0
