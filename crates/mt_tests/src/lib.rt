@@ -7,6 +7,8 @@ mod answering;
 #[cfg(test)]
 mod asserting;
 #[cfg(test)]
+mod claiming;
+#[cfg(test)]
 mod commands;
 #[cfg(test)]
 mod deepest;

@@ -1,12 +1,18 @@
 //! Workers that meet: what waits for another thread shows that there is one.
+ghost use Rattle.std.specs.Prelude.{◌≡◌, IfOk};
+ghost use Rattle.mt_board.specs.Board.{fresh_passes};
 ghost use Rattle.mt_scan.specs.SourceTypes.{seen_of_memory};
 
 use crate::asserting::assert_same;
 use crate::logs::LOG_OF_THREE;
-use mt_recover::{Cutting, Gate, Inputs, NoGate, Pieces, Recovered, Workers, recover, recover_one};
+use mt_board::Pass;
+use mt_recover::{
+    Cuts, Cutting, Gate, Inputs, Job, NoGate, Recovered, Workers, prepare, recover, recover_one,
+};
 use mt_scan::{MemSource, Rack, Source, SourceFault};
-use mt_words::Fault;
+use mt_words::{Fault, Key};
 use std::process::Abort;
+use std::slice;
 use std::sync::atomic::{AtomicU64, Ordering};
 use std::thread::Threads;
 
@@ -23,28 +29,52 @@ fn is_reached_in_time(count: &AtomicU64, number: u64) -> bool {
     false
 }
 
-/// Holds the first worker that enters until another one has entered.
-#[derive(Clone, Copy)]
-struct Meeting<'a> {
+/// Holds the first worker that enters until the others have entered so often.
+#[derive(Drop)]
+pub struct Meeting {
+    /// How often the others are to enter.
+    wanted: u64,
     /// The first worker, counted from 1 on; 0 before it.
-    first: &'a AtomicU64,
-    /// 1 once another worker has entered.
-    met: &'a AtomicU64,
+    first: AtomicU64,
+    /// How often the first worker has entered.
+    own: AtomicU64,
+    /// How often the others have.
+    others: AtomicU64,
 }
 
-impl Gate for Meeting<'_> {
+impl Meeting {
+    /// Nobody has entered.
+    pub fn new(wanted: u64) -> Meeting {
+        Meeting {
+            wanted,
+            first: AtomicU64::new(0),
+            own: AtomicU64::new(0),
+            others: AtomicU64::new(0),
+        }
+    }
+
+    /// How often the first worker has entered, and how often the others have.
+    pub fn entries(&self) -> (u64, u64) {
+        let own = self.own.load(Ordering::SeqCst);
+        (own, self.others.load(Ordering::SeqCst))
+    }
+}
+
+impl Gate for Meeting {
     fn enter(&self, worker: u32, _piece: u32) {
-        let own = u64::from(worker).saturating_add(1);
+        let worker = u64::from(worker).saturating_add(1);
         let first = self
             .first
-            .compare_exchange(0, own, Ordering::SeqCst, Ordering::SeqCst);
-        match first {
+            .compare_exchange(0, worker, Ordering::SeqCst, Ordering::SeqCst);
+        let count = match first {
             Ok(_) => {
-                is_reached_in_time(self.met, 1);
+                is_reached_in_time(&self.others, self.wanted);
+                &self.own
             }
-            Err(first) if first != own => self.met.store(1, Ordering::SeqCst),
-            Err(_) => {}
-        }
+            Err(first) if first == worker => &self.own,
+            Err(_) => &self.others,
+        };
+        count.fetch_add(1, Ordering::SeqCst);
     }
 }
 
@@ -98,48 +128,74 @@ fn sources_that_wait<'a, R: Abort + AllocGlobal>(
     sources
 }
 
-/// What two workers recover in three pieces.
-fn recover_by_two<R: Abort + AllocGlobal + Threads + Sync, G: Gate>(
+/// Cuts at the keys of these letters.
+fn cuts_at<R: Abort + AllocGlobal>(rt: &R, letters: &[u8]) -> Cutting {
+    let mut keys = Vec::new(rt.alloc());
+    for letter in letters {
+        let bytes = Vec::from_slice(rt.alloc(), slice::from_ref(letter)).expect(rt, "memory");
+        keys.push(Key::new(bytes).expect(rt, "a key"))
+            .expect(rt, "memory");
+    }
+    Cutting::At(Cuts::new(keys).expect(rt, "letters that rise"))
+}
+
+/// The job for two workers of what is cut at these letters.
+pub fn prepare_for_two<R: Abort + AllocGlobal + Threads + Sync, S: Source + Send>(
     rt: &R,
-    inputs: Inputs<Waiting<'_>>,
+    inputs: Inputs<S>,
+    letters: &[u8],
+) -> Result<(Job, Vec<Pass>), Fault>
+    ensures { IfOk result (λ opened. opened.1.items ≡ fresh_passes opened.0.board 2) }
+{
+    let workers = Workers::new(2).expect(rt, "two workers");
+    prepare(rt, rt.alloc(), inputs, workers, cuts_at(rt, letters))
+}
+
+/// What two workers recover in four pieces, cut at c, d and e.
+pub fn recover_by_two<R: Abort + AllocGlobal + Threads + Sync, S: Source + Send, G: Gate>(
+    rt: &R,
+    inputs: Inputs<S>,
     gate: &G,
 ) -> Result<Recovered, Fault> {
     let workers = Workers::new(2).expect(rt, "two workers");
-    let cutting = Cutting::Even(Pieces::new(3).expect(rt, "three pieces"));
-    recover(rt, rt.alloc(), inputs, workers, cutting, gate)
+    recover(rt, rt.alloc(), inputs, workers, cuts_at(rt, b"cde"), gate)
 }
 
 #[test]
 fn two_workers_meet_in_scans_and_at_a_gate(rt: HostRuntime) {
     let mut rack = Rack::new(rt.alloc(), 2, 16).expect(&rt, "memory");
-    let (first, met) = (AtomicU64::new(0), AtomicU64::new(0));
     let (begun, scans) = (AtomicU64::new(0), AtomicU64::new(0));
-    let gate = Meeting {
-        first: &first,
-        met: &met,
-    };
+    let gate = Meeting::new(1);
     let logs = sources_that_wait(&rt, &mut rack, &begun, &scans);
     let parts = Vec::new(rt.alloc());
     let recovered = recover_by_two(&rt, Inputs { logs, parts }, &gate);
     assert!(rt; recovered.is_ok());
     assert_same(&rt, &scans.load(Ordering::SeqCst), &2);
-    assert_same(&rt, &met.load(Ordering::SeqCst), &1);
+    assert!(rt; gate.entries().1 > 0);
+}
+
+/// The fault of inputs, in each way to recover them.
+fn fault_of<R: Abort + AllocGlobal + Threads + Sync, S: Source + Send>(
+    rt: &R,
+    inputs: Inputs<S>,
+    way: u32,
+) -> Option<Fault> {
+    match way {
+        0 => recover_one(rt.alloc(), inputs).err(),
+        1 => recover_by_two(rt, inputs, &NoGate).err(),
+        _ => prepare_for_two(rt, inputs, b"").err(),
+    }
 }
 
 #[test]
 fn without_a_log_no_part_is_read(rt: HostRuntime) {
     let (begun, met) = (AtomicU64::new(0), AtomicU64::new(0));
-    for by_two in [false, true] {
+    for way in 0..3 {
         let mut rack = Rack::new(rt.alloc(), 2, 16).expect(&rt, "memory");
         let logs = Vec::new(rt.alloc());
         let parts = sources_that_wait(&rt, &mut rack, &begun, &met);
-        let inputs = Inputs { logs, parts };
-        let answer = if by_two {
-            recover_by_two(&rt, inputs, &NoGate)
-        } else {
-            recover_one(rt.alloc(), inputs)
-        };
-        assert_same(&rt, &answer.err(), &Some(Fault::NoLogs));
+        let fault = fault_of(&rt, Inputs { logs, parts }, way);
+        assert_same(&rt, &fault, &Some(Fault::NoLogs));
     }
     assert_same(&rt, &begun.load(Ordering::SeqCst), &0);
 }
