@@ -1,29 +1,34 @@
 -- What recovery finds in the scans of logs and parts.
 use Rattle.std.proofs.Common.{◌≡◌, ◌∙◌, ℕ, zero, suc, ◌<◌, ◌≤◌, Bool, true, false, List, [], ◌∷◌, length, get_or, map, Some, None, Ok, refl, sym, ap, subst, arith}
-use Rattle.std.specs.Prelude.{◌↔◌, nat_lt, cond, Vec}
+use Rattle.std.specs.Prelude.{◌↔◌, nat_lt, cond, Vec, Result}
 use Rattle.std.specs.Global.{Global}
 use Rattle.std.specs.List.{position, position_or_len}
 use Rattle.std.specs.Option.{option_map}
 use Rattle.std.proofs.lemmas.Bool.Decides.{nat_tests}
 use Rattle.std.proofs.lemmas.List.Sums.{fails_before_first}
 use Rattle.std.proofs.lemmas.List.Quantifiers.{position-Some}
+use Rattle.mt_words.specs.declared.fault.Fault.{Fault}
 use Rattle.mt_words.specs.declared.fault.Fault.TheVariants as faults
+use Rattle.mt_words.proofs.Elements.{head_in, tail_in}
+use Rattle.mt_board.specs.Board.{least_of, nothing_noted}
 use Rattle.mt_record.specs.Logs.{LogReading}
 use Rattle.mt_scan.specs.declared.choice.Choice.{Choice}
 use Rattle.mt_scan.specs.declared.log_scan.LogScan.{LogScan}
 use Rattle.mt_scan.specs.declared.part_scan.PartScan.{PartScan}
 use Rattle.mt_scan.specs.Choice.{IsChoiceOf, checkpoint_in}
-use Rattle.mt_scan.specs.Cutoff.{IsCutoff, HaveNumbersOf}
+use Rattle.mt_scan.specs.Cutoff.{HasLast, IsCutoff, HaveNumbersOf}
+use Rattle.mt_scan.proofs.Drops.{shows_lower}
 use Rattle.mt_scan.specs.PartScans.{known_by}
 use Rattle.mt_scan.specs.Sources.{Seen}
 use Rattle.mt_recover.specs.Found.{IsFoundOf}
 use Rattle.mt_recover.specs.Inputs.{OfSources}
 use Rattle.mt_recover.specs.LogScans.{ShowAll}
-use Rattle.mt_recover.specs.Outcomes.{AreOutcomes, IsLogOutcome, IsPartOutcome, AllFrom, read_parts}
+use Rattle.mt_recover.specs.Outcomes.{AreOutcomes, IsLogOutcome, IsPartOutcome, AllFrom, lasts, read_parts}
 use Rattle.mt_recover.specs.declared.scans.Outcomes.{Outcomes}
 use Rattle.mt_recover.specs.Recovery.{Facts, IsGap}
 use Rattle.mt_recover.specs.Survivors.{begin_of}
 use Rattle.mt_recover.specs.Verdict.{IsFirst, IsVerdict}
+use Rattle.mt_recover.proofs.ReportLemmas.{numbers_of}
 use Rattle.mt_recover.proofs.SourceLemmas.{whole_logs, known_parts}
 
 -- ---- gaps
@@ -77,27 +82,39 @@ first_gap begin (s ∷ ss) readings i are e =
 
 -- ---- what recovery finds
 
--- the numbers of scans that show all are those of the logs
-numbers_of : (number : ℕ) (scans : List LogScan) (readings : List LogReading) → ShowAll number scans readings → HaveNumbersOf scans readings
-numbers_of number [] [] show = tt
-numbers_of number [] (l ∷ ls) show = absurd show
-numbers_of number (s ∷ ss) [] show = absurd show
-numbers_of number (s ∷ ss) (l ∷ ls) show = (show.0.numbers, numbers_of (suc number) ss ls show.1)
+-- scans that show all below a floor do so below a lower one
+lowered : (floor lower number : ℕ) (scans : List LogScan) (readings : List LogReading) → lower ≤ floor → ShowAll floor number scans readings → ShowAll lower number scans readings
+lowered floor lower number [] [] le show = tt
+lowered floor lower number [] (l ∷ ls) le show = absurd show
+lowered floor lower number (s ∷ ss) [] le show = absurd show
+lowered floor lower number (s ∷ ss) (l ∷ ls) le show = (shows_lower number floor lower s l le show.0, lowered floor lower (suc number) ss ls le show.1)
+
+-- what is at most the last timestamp of each log is at most the least of the scans'
+at_most_lasts : (cutoff : ℕ) (scans : List LogScan) (readings : List LogReading) → cutoff ≤ nothing_noted → HaveNumbersOf scans readings → ((last : ℕ) → HasLast readings last → cutoff ≤ last) → cutoff ≤ least_of (lasts (map Ok scans))
+at_most_lasts cutoff [] readings small are least = small
+at_most_lasts cutoff (s ∷ ss) [] small are least = absurd are
+at_most_lasts cutoff (s ∷ ss) (l ∷ ls) small are least =
+    let here = least s.last (record { log = l; stands = head_in l ls; is_last = are.0.last }) in
+    let rest = at_most_lasts cutoff ss ls small are.1 (λ last has. least last (record { log = has.log; stands = tail_in l has.log ls has.stands; is_last = has.is_last })) in
+    omega (arith, here, rest)
 
 -- what the scans and the choice show of logs and parts
 pub record AreShown (scans : List LogScan) (cutoff : ℕ) (choice : Choice) (logs parts : List (List ℕ)) : Type 0 where
   pub facts : Facts logs parts
-  pub show : ShowAll 0 scans facts.readings
+  pub show : ShowAll facts.cutoff 0 scans facts.readings
   pub cutoff_is : cutoff ≡ facts.cutoff
   pub choice_is : IsChoiceOf facts.known facts.cutoff choice
   pub chosen : option_map checkpoint_in choice.chosen ≡ facts.chosen
 
-shown_by : (sources parts : List Seen) (scans : List LogScan) (part_scans : List PartScan) (cutoff : ℕ) (choice : Choice) → AllFrom IsLogOutcome 0 sources (map Ok scans) → AllFrom IsPartOutcome 0 (read_parts sources parts) (map Ok part_scans)
+shown_by : (sources parts : List Seen) (scans : List LogScan) (part_scans : List PartScan) (cutoff : ℕ) (choice : Choice) → AllFrom (IsLogOutcome (least_of (lasts (map Ok scans)))) 0 sources (map Ok scans) → cutoff ≤ nothing_noted → AllFrom IsPartOutcome 0 (read_parts sources parts) (map Ok part_scans)
     → ((readings : List LogReading) → HaveNumbersOf scans readings → IsCutoff readings cutoff) → IsChoiceOf (map known_by part_scans) cutoff choice → OfSources (λ seen. seen) sources parts (AreShown scans cutoff choice)
-shown_by [] parts [] part_scans cutoff choice logs_are parts_are is of = let last = (is [] tt).has in absurd (omega (arith, last.stands.1))
-shown_by [] parts (x ∷ xs) part_scans cutoff choice logs_are parts_are is of = absurd logs_are
-shown_by (s ∷ ss) parts scans part_scans cutoff choice logs_are parts_are is of =
-    let whole = whole_logs 0 (s ∷ ss) scans logs_are in
+shown_by [] parts [] part_scans cutoff choice logs_are small parts_are is of = let last = (is [] tt).has in absurd (omega (arith, last.stands.1))
+shown_by [] parts (x ∷ xs) part_scans cutoff choice logs_are small parts_are is of = absurd logs_are
+shown_by (s ∷ ss) parts scans part_scans cutoff choice logs_are small parts_are is of =
+    let floor : ℕ = least_of (lasts (map Ok scans)) in
+    let whole = whole_logs floor 0 (s ∷ ss) scans logs_are in
+    let numbers = numbers_of floor 0 scans whole.readings whole.show in
+    let is_cutoff = is whole.readings numbers in
     let known = known_parts 0 parts part_scans parts_are in
     record {
       logs = whole.logs;
@@ -109,13 +126,13 @@ shown_by (s ∷ ss) parts scans part_scans cutoff choice logs_are parts_are is o
           readings = whole.readings;
           read = whole.read;
           cutoff = cutoff;
-          is_cutoff = is whole.readings (numbers_of 0 scans whole.readings whole.show);
+          is_cutoff = is_cutoff;
           known = map known_by part_scans;
           are_known = known.2;
           chosen = option_map checkpoint_in choice.chosen;
           is_chosen = of.chosen;
         };
-        show = whole.show;
+        show = lowered floor cutoff 0 scans whole.readings (at_most_lasts cutoff scans whole.readings small numbers (λ last has. is_cutoff.least last has)) whole.show;
         cutoff_is = refl;
         choice_is = of;
         chosen = refl;
@@ -123,11 +140,11 @@ shown_by (s ∷ ss) parts scans part_scans cutoff choice logs_are parts_are is o
     }
 
 -- where none has a fault and there is a cutoff, this is shown of what the sources may have
-pub are_shown : (sources parts : List Seen) (outcomes : Outcomes) (scans lent : List LogScan) (part_scans : List PartScan) (cutoff : ℕ) (choice : Choice) → AreOutcomes sources parts outcomes → outcomes.logs.items ≡ map Ok scans
+pub are_shown : (sources parts : List Seen) (outcomes : Outcomes) (scans lent : List LogScan) (part_scans : List PartScan) (cutoff : ℕ) (choice : Choice) → AreOutcomes sources parts outcomes → cutoff ≤ nothing_noted → outcomes.logs.items ≡ map Ok scans
     → outcomes.parts.items ≡ map Ok part_scans → lent ≡ scans → ((readings : List LogReading) → HaveNumbersOf lent readings → IsCutoff readings cutoff) → IsChoiceOf (map known_by part_scans) cutoff choice
     → OfSources (λ seen. seen) sources parts (AreShown scans cutoff choice)
-are_shown sources parts outcomes scans lent part_scans cutoff choice are logs_done parts_done same is of =
-    shown_by sources parts scans part_scans cutoff choice (subst (AllFrom IsLogOutcome 0 sources) logs_done are.logs_are) (subst (AllFrom IsPartOutcome 0 (read_parts sources parts)) parts_done are.parts_are)
+are_shown sources parts outcomes scans lent part_scans cutoff choice are small logs_done parts_done same is of =
+    shown_by sources parts scans part_scans cutoff choice (subst (λ (outcomes : List (Result LogScan Fault)). AllFrom (IsLogOutcome (least_of (lasts outcomes))) 0 sources outcomes) logs_done are.logs_are) small (subst (AllFrom IsPartOutcome 0 (read_parts sources parts)) parts_done are.parts_are)
     (subst (λ (x : List LogScan). (readings : List LogReading) → HaveNumbersOf x readings → IsCutoff readings cutoff) same is) of
 
 -- what holds of all that is shown so holds of what the sources have
@@ -140,7 +157,7 @@ pub gap_of : (logs parts : List (List ℕ)) (scans lent : List LogScan) (cutoff 
     → AreShown scans cutoff choice logs parts → IsVerdict logs parts (faults.Gap i)
 gap_of logs parts scans lent cutoff begin choice i from same e are =
     let at = ap (position (has_gap begin)) (sym same) ∙ e in
-    (are.facts, subst (λ (n : ℕ). IsFirst (IsGap n are.facts.readings) i) (from ∙ ap begin_of are.chosen) (first_gap begin scans are.facts.readings i (numbers_of 0 scans are.facts.readings are.show) at))
+    (are.facts, subst (λ (n : ℕ). IsFirst (IsGap n are.facts.readings) i) (from ∙ ap begin_of are.chosen) (first_gap begin scans are.facts.readings i (numbers_of are.facts.cutoff 0 scans are.facts.readings are.show) at))
 
 -- no log has a gap
 pub found_of : (logs parts : List (List ℕ)) (scans : Vec LogScan Global) (lent : List LogScan) (cutoff begin : ℕ) (choice : Choice) → begin ≡ begin_of (option_map checkpoint_in choice.chosen) → lent ≡ scans.items
@@ -151,7 +168,7 @@ found_of logs parts scans lent cutoff begin choice from same e are =
     record {
       facts = are.facts;
       show = are.show;
-      no_gap = subst (λ (n : ℕ). (i : ℕ) → IsGap n are.facts.readings i → ⊥) begins (no_gap begin scans.items are.facts.readings (numbers_of 0 scans.items are.facts.readings are.show) none);
+      no_gap = subst (λ (n : ℕ). (i : ℕ) → IsGap n are.facts.readings i → ⊥) begins (no_gap begin scans.items are.facts.readings (numbers_of are.facts.cutoff 0 scans.items are.facts.readings are.show) none);
       window = λ i. record { begin = begins i; cutoff = are.cutoff_is i };
       chosen = are.chosen;
       skipped = are.choice_is.skipped;

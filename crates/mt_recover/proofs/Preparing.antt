@@ -1,13 +1,15 @@
 -- From what is found to what is prepared, and from that to what is recovered.
-use Rattle.std.proofs.Common.{◌≡◌, ◌∙◌, ◌^◌, ℕ, ◌<◌, List, ◌++◌, length, Contains, IsPermutation, sym, subst, arith}
-use Rattle.std.specs.Prelude.{filter}
+use Rattle.std.proofs.Common.{◌≡◌, ◌∙◌, ◌^◌, ℕ, ◌<◌, ◌≤◌, Bool, false, List, ◌++◌, length, Contains, IsPermutation, sym, ap, subst, arith}
+use Rattle.std.specs.Prelude.{filter, nat_lt}
+use Rattle.std.proofs.lemmas.Bool.Decides.{nat_tests}
 use Rattle.std.specs.List.{AllZip}
 use Rattle.std.specs.Option.{option_map}
 use Rattle.std.proofs.lemmas.List.Sorted.{IsPermutation-sym, Contains-permutation, length_permutation}
 use Rattle.mt_words.specs.declared.update.Update.{Update}
 use Rattle.mt_words.specs.Walks.{Pair, joined}
 use Rattle.mt_scan.specs.Choice.{checkpoint_in}
-use Rattle.mt_replay.specs.Survivors.{in_window}
+use Rattle.mt_replay.specs.declared.window.Window.{Window}
+use Rattle.mt_replay.specs.Survivors.{in_window, is_within}
 use Rattle.mt_replay.specs.Walk.{AreApart, IsWalk}
 use Rattle.mt_replay.proofs.StepLemmas.{same_column}
 use Rattle.mt_tree.specs.Trees.{IsCount}
@@ -18,24 +20,34 @@ use Rattle.mt_recover.specs.Found.{IsFoundOf}
 use Rattle.mt_recover.specs.LogScans.{kept, kept_in}
 use Rattle.mt_recover.specs.Prepared.{PreparedView, IsPreparedOf, IsMadeOf, AreCountsOf, HasRoomFor, IsLeftBy, cells_of, early_of}
 use Rattle.mt_recover.specs.Recovery.{records_of}
-use Rattle.mt_recover.specs.Report.{Outcome, IsRecoveredOf, IsReportOf, is_early}
+use Rattle.mt_recover.specs.Report.{Outcome, IsRecoveredOf, IsReportOf, is_early, logged_updates}
 use Rattle.mt_recover.specs.Survivors.{entry_updates}
-use Rattle.mt_recover.proofs.CountLemmas.{survivors_in, early_in, room_for, report_is, walk_few}
+use Rattle.mt_recover.proofs.CountLemmas.{begins_below, survivors_in, early_in, room_for, report_is, walk_few}
 use Rattle.mt_recover.proofs.ReplayLemmas.{cells_of_both, early_of_both}
 use Rattle.mt_recover.proofs.ReportLemmas.{same_updates}
 use Rattle.mt_recover.proofs.SurvivorLemmas.{survivors_apart}
 
+-- nothing at or past the cutoff lies in the window
+past_window : (window : Window) (cutoff time : ℕ) → window.cutoff ≡ cutoff → cutoff ≤ time → is_within window time ≡ false
+past_window window cutoff time is past = grind (arith, nat_tests)
+
+-- and nothing comes early
+not_early : (begin cutoff time : ℕ) → begin ≤ cutoff → cutoff ≤ time → nat_lt time begin ≡ false
+not_early begin cutoff time in_order past = grind (arith, nat_tests)
+
 -- what survives of the scans is what survives of their logs
 same_survivors : (logs parts : List (List ℕ)) (found : Found) (is : IsFoundOf logs parts found) → kept_in found.window found.scans.items ++ entry_updates (option_map checkpoint_in found.choice.chosen) ≡ survivors_in is.facts
 same_survivors logs parts found is =
-    let updates = same_updates 0 found.scans.items is.facts.readings is.show in
-    λ i. filter (in_window (is.window i)) (updates i) ++ entry_updates (is.chosen i)
+    let updates = same_updates (in_window found.window) is.facts.cutoff 0 found.scans.items is.facts.readings (λ u past. past_window found.window is.facts.cutoff u.timestamp (ap (λ (w : Window). w.cutoff) is.window) past) is.show in
+    (λ i. updates i ++ entry_updates (is.chosen i)) ∙ (λ i. filter (in_window (is.window i)) (logged_updates is.facts.readings) ++ entry_updates is.facts.chosen)
 
 -- and as many come early
 same_early : (logs parts : List (List ℕ)) (found : Found) (is : IsFoundOf logs parts found) → length (filter (is_early found.window.begin) (kept found.scans.items)) ≡ length (early_in is.facts)
 same_early logs parts found is =
-    let updates = same_updates 0 found.scans.items is.facts.readings is.show in
-    λ i. length (filter (is_early (is.window i).begin) (updates i))
+    let begins = ap (λ (w : Window). w.begin) is.window in
+    let none : (u : Update) → is.facts.cutoff ≤ u.timestamp → is_early found.window.begin u ≡ false =
+    λ u past. not_early found.window.begin is.facts.cutoff u.timestamp (omega (arith, begins, begins_below is.facts.known is.facts.cutoff is.facts.chosen is.facts.is_chosen)) past in
+    ap length (same_updates (is_early found.window.begin) is.facts.cutoff 0 found.scans.items is.facts.readings none is.show ∙ ap (λ (begin : ℕ). filter (is_early begin) (logged_updates is.facts.readings)) begins)
 
 -- updates in another order have stamps as much apart
 apart_moved : (updates moved : List Update) → IsPermutation updates moved → AreApart updates → AreApart moved

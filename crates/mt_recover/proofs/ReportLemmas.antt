@@ -1,5 +1,5 @@
 -- What a report counts, log by log and part by part.
-use Rattle.std.proofs.Common.{◌≡◌, ◌∙◌, ℕ, suc, ◌+◌, ◌<◌, Bool, true, false, cond, Option, Some, None, List, [], ◌∷◌, ◌++◌, length, get_or, take, refl, sym, ap, arith}
+use Rattle.std.proofs.Common.{◌≡◌, ◌∙◌, ℕ, suc, ◌+◌, ◌<◌, ◌≤◌, Bool, true, false, cond, Option, Some, None, List, [], ◌∷◌, ◌++◌, length, get_or, take, refl, sym, ap, arith}
 use Rattle.std.specs.Prelude.{nat_lt, ◌||◌}
 use Rattle.std.specs.List.{filter, flat_map, sum_by, count_by, list_any}
 use Rattle.std.specs.Option.{option_map}
@@ -7,6 +7,7 @@ use Rattle.std.proofs.lemmas.Bool.Decides.{nat_tests}
 use Rattle.std.proofs.lemmas.List.{length-append, length-map}
 use Rattle.std.proofs.lemmas.List.Concat.{length-flat_map}
 use Rattle.std.proofs.lemmas.List.Elements.{filter-append}
+use Rattle.std.proofs.lemmas.Slice.Zip.{AllZip-long}
 use Rattle.std.proofs.lemmas.List.Sums.{sum_by-cons, length-filter}
 use Rattle.mt_words.specs.declared.record.Change.{Change}
 use Rattle.mt_words.specs.declared.update.Origin.TheVariants as origins
@@ -14,17 +15,19 @@ use Rattle.mt_words.specs.declared.update.Update.{Update}
 use Rattle.mt_words.specs.Changes.{Logged, mark_of}
 use Rattle.mt_words.specs.Updates.{update_at, update_of, updates_from}
 use Rattle.mt_record.specs.Kept.{Kept, is_mark, as_list}
-use Rattle.mt_record.specs.Logs.{LogReading}
+use Rattle.mt_record.specs.Logs.{LogReading, IsReading}
 use Rattle.mt_record.proofs.RecordLemmas.{updates_step}
 use Rattle.mt_scan.specs.declared.checkpoint.Checkpoint.{Checkpoint}
 use Rattle.mt_scan.specs.declared.log_scan.LogScan.{LogScan}
+use Rattle.mt_scan.specs.Cutoff.{HaveNumbersOf}
 use Rattle.mt_scan.specs.Scans.{HasNumbersOf}
 use Rattle.mt_scan.specs.PartScans.{KeptPart, shown_by_all}
 use Rattle.mt_scan.specs.Choice.{CheckpointReading, checkpoint_in}
 use Rattle.mt_scan.specs.Checkpoints.{entries_of}
+use Rattle.mt_scan.proofs.Drops.{same_kept}
 use Rattle.mt_replay.specs.Survivors.{all_updates, wholes}
 use Rattle.mt_replay.proofs.FilterLemmas.{filter_none}
-use Rattle.mt_recover.specs.LogScans.{ShowAll, kept}
+use Rattle.mt_recover.specs.LogScans.{ShowAll, kept, kept_by}
 use Rattle.mt_recover.specs.Recovery.{AreReadings, records_of}
 use Rattle.mt_recover.specs.Report.{all_records, is_early}
 
@@ -91,47 +94,52 @@ none_early begin updates zero = ap length (filter_none (is_early begin) updates 
 -- ---- scans and what their logs say
 
 -- there are as many logs as scans
-pub as_many : (logs : List (List ℕ)) (scans : List LogScan) (readings : List LogReading) (number : ℕ) → AreReadings logs readings → ShowAll number scans readings → length scans ≡ length logs
-as_many [] [] [] number read show = refl
-as_many [] [] (l ∷ ls) number read show = absurd read
-as_many [] (s ∷ ss) [] number read show = absurd show
-as_many [] (s ∷ ss) (l ∷ ls) number read show = absurd read
-as_many (b ∷ bs) scans [] number read show = absurd read
-as_many (b ∷ bs) [] (l ∷ ls) number read show = absurd show
-as_many (b ∷ bs) (s ∷ ss) (l ∷ ls) number read show = ap suc (as_many bs ss ls (suc number) read.1 show.1)
+pub as_many : (logs : List (List ℕ)) (scans : List LogScan) (readings : List LogReading) → AreReadings logs readings → HaveNumbersOf scans readings → length scans ≡ length logs
+as_many logs scans readings read numbers = sym (AllZip-long HasNumbersOf scans readings numbers) ∙ AllZip-long IsReading logs readings read
 
 -- a number of each scan that is one of its log
 same_sums : (of_scan : LogScan → ℕ) (of_log : LogReading → ℕ) → ((scan : LogScan) (log : LogReading) → HasNumbersOf scan log → of_scan scan ≡ of_log log)
-    → (number : ℕ) (scans : List LogScan) (readings : List LogReading) → ShowAll number scans readings → sum_by of_scan scans ≡ sum_by of_log readings
-same_sums of_scan of_log same number [] [] show = refl
-same_sums of_scan of_log same number [] (l ∷ ls) show = absurd show
-same_sums of_scan of_log same number (s ∷ ss) [] show = absurd show
-same_sums of_scan of_log same number (s ∷ ss) (l ∷ ls) show =
-    omega (arith, sum_by-cons of_scan s ss, sum_by-cons of_log l ls, same s l show.0.numbers, same_sums of_scan of_log same (suc number) ss ls show.1)
+    → (scans : List LogScan) (readings : List LogReading) → HaveNumbersOf scans readings → sum_by of_scan scans ≡ sum_by of_log readings
+same_sums of_scan of_log same [] [] numbers = refl
+same_sums of_scan of_log same [] (l ∷ ls) numbers = absurd numbers
+same_sums of_scan of_log same (s ∷ ss) [] numbers = absurd numbers
+same_sums of_scan of_log same (s ∷ ss) (l ∷ ls) numbers =
+    omega (arith, sum_by-cons of_scan s ss, sum_by-cons of_log l ls, same s l numbers.0, same_sums of_scan of_log same ss ls numbers.1)
 
-pub records_counted : (scans : List LogScan) (readings : List LogReading) → ShowAll 0 scans readings → sum_by (λ (scan : LogScan). scan.whole) scans ≡ length (all_records readings)
-records_counted scans readings show =
-    same_sums (λ (scan : LogScan). scan.whole) (λ (log : LogReading). length log.records) (λ s l is. is.whole) 0 scans readings show
+pub records_counted : (scans : List LogScan) (readings : List LogReading) → HaveNumbersOf scans readings → sum_by (λ (scan : LogScan). scan.whole) scans ≡ length (all_records readings)
+records_counted scans readings numbers =
+    same_sums (λ (scan : LogScan). scan.whole) (λ (log : LogReading). length log.records) (λ s l is. is.whole) scans readings numbers
     ∙ sym (length-flat_map (λ (log : LogReading). log.records) readings)
 
-pub marks_counted : (scans : List LogScan) (readings : List LogReading) → ShowAll 0 scans readings
+pub marks_counted : (scans : List LogScan) (readings : List LogReading) → HaveNumbersOf scans readings
     → sum_by (λ (scan : LogScan). scan.marks) scans ≡ length (filter is_mark (all_records readings))
-marks_counted scans readings show =
-    same_sums (λ (scan : LogScan). scan.marks) (λ (log : LogReading). length (filter is_mark log.records)) (λ s l is. is.marks) 0 scans readings show
+marks_counted scans readings numbers =
+    same_sums (λ (scan : LogScan). scan.marks) (λ (log : LogReading). length (filter is_mark log.records)) (λ s l is. is.marks) scans readings numbers
     ∙ sym (length-filter_flat is_mark (λ (log : LogReading). log.records) readings)
 
-pub torn_counted : (scans : List LogScan) (readings : List LogReading) → ShowAll 0 scans readings
+pub torn_counted : (scans : List LogScan) (readings : List LogReading) → HaveNumbersOf scans readings
     → count_by (λ (scan : LogScan). scan.torn) scans ≡ length (filter (λ (log : LogReading). log.torn) readings)
-torn_counted scans readings show =
-    same_sums (λ (scan : LogScan). one_if scan.torn) (λ (log : LogReading). one_if log.torn) (λ s l is. ap one_if is.torn) 0 scans readings show
+torn_counted scans readings numbers =
+    same_sums (λ (scan : LogScan). one_if scan.torn) (λ (log : LogReading). one_if log.torn) (λ s l is. ap one_if is.torn) scans readings numbers
     ∙ sym (length-filter (λ (log : LogReading). log.torn) readings)
 
--- what the scans kept are the updates of the logs
-pub same_updates : (number : ℕ) (scans : List LogScan) (readings : List LogReading) → ShowAll number scans readings → kept scans ≡ all_updates number (records_of readings)
-same_updates number [] [] show = refl
-same_updates number [] (l ∷ ls) show = absurd show
-same_updates number (s ∷ ss) [] show = absurd show
-same_updates number (s ∷ ss) (l ∷ ls) show = let rest = same_updates (suc number) ss ls show.1 in λ i. show.0.updates i ++ rest i
+-- the numbers of scans that show their logs are those of the logs
+pub numbers_of : (floor number : ℕ) (scans : List LogScan) (readings : List LogReading) → ShowAll floor number scans readings → HaveNumbersOf scans readings
+numbers_of floor number [] [] show = tt
+numbers_of floor number [] (l ∷ ls) show = absurd show
+numbers_of floor number (s ∷ ss) [] show = absurd show
+numbers_of floor number (s ∷ ss) (l ∷ ls) show = (show.0.numbers, numbers_of floor (suc number) ss ls show.1)
+
+-- a filter that keeps nothing at or past the floor keeps the same of what the scans kept and of the updates of the logs
+pub same_updates : (keeps : Update → Bool) (floor number : ℕ) (scans : List LogScan) (readings : List LogReading) → ((update : Update) → floor ≤ update.timestamp → keeps update ≡ false) → ShowAll floor number scans readings
+    → filter keeps (kept scans) ≡ filter keeps (all_updates number (records_of readings))
+same_updates keeps floor number [] [] none show = refl
+same_updates keeps floor number [] (l ∷ ls) none show = absurd show
+same_updates keeps floor number (s ∷ ss) [] none show = absurd show
+same_updates keeps floor number (s ∷ ss) (l ∷ ls) none show =
+    filter-append keeps (kept_by s) (kept ss)
+    ∙ (λ i. same_kept keeps number floor s l none show.0 i ++ same_updates keeps floor (suc number) ss ls none show.1 i)
+    ∙ sym (filter-append keeps (updates_from number 0 l.records) (all_updates (suc number) (records_of ls)))
 
 -- a checkpoint in memory has the number of what it shows
 pub same_number : (chosen : Option Checkpoint) → option_map (λ (checkpoint : Checkpoint). checkpoint.number) chosen ≡ option_map (λ (checkpoint : CheckpointReading). checkpoint.number) (option_map checkpoint_in chosen)

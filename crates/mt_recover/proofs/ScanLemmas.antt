@@ -1,24 +1,34 @@
 -- Sources as one list of jobs, and what their scans answer.
-use Rattle.std.proofs.Common.{◌≡◌, ◌∙◌, ℕ, suc, ◌+◌, ◌<◌, List, [], ◌∷◌, ◌++◌, length, get_or, map, take, Bor, Option, Some, None, Ok, Err, refl, sym, ap, subst, add-one, add-zero, arith}
-use Rattle.std.specs.Prelude.{Result, IfOk, IfErr}
+use Rattle.std.proofs.Common.{◌≡◌, ◌∙◌, ℕ, zero, suc, ◌+◌, ◌<◌, ◌≤◌, min, List, [], ◌∷◌, ◌++◌, length, get_or, map, take, Bor, Option, Some, None, Ok, Err, refl, sym, ap, subst, add-one, add-zero, arith}
+use Rattle.std.specs.Prelude.{Result, IfOk, IfErr, OnErr, IsTrue}
 use Rattle.std.specs.Option.{option_to_list}
-use Rattle.std.specs.List.{AllZip, cons_option, filter_map}
+use Rattle.std.specs.List.{All, AllByRecursion, AllZip, cons_option, filter_map}
 use Rattle.std.proofs.Math.Seq.{take-suc}
-use Rattle.std.proofs.lemmas.List.{get_or-map, length-map}
-use Rattle.std.proofs.lemmas.List.Elements.{filter_map-append}
+use Rattle.std.proofs.lemmas.List.{get_or-map, length-map, map-append}
+use Rattle.std.proofs.lemmas.List.Elements.{All-cons, All-head, All-nil, All-push, All-tail, filter_map-append}
+use Rattle.std.proofs.lemmas.Slice.Zip.{AllZip-long, all_zipped_more}
 use Rattle.mt_words.specs.declared.fault.Fault.{Fault}
 use Rattle.mt_record.specs.declared.read.FeedFault.{FeedFault}
 use Rattle.mt_record.specs.declared.read.FeedFault.TheVariants as of_log
 use Rattle.mt_record.specs.LogFaults.{IsAnswered, fault_at}
+use Rattle.mt_board.specs.Board.{BoardId, PassView, fresh_pass, fresh_passes, least_of, least_noted, nothing_noted, SawNoneBelow}
 use Rattle.mt_scan.specs.declared.log_scan.LogScan.{LogScan}
+use Rattle.mt_scan.specs.Dropping.{HasLooked, IsSharedScan}
+use Rattle.mt_scan.proofs.Drops.{under_looks, shows_lower, shows_all}
 use Rattle.mt_scan.specs.Sources.{Seen}
-use Rattle.mt_scan.specs.Scans.{IsScanOf, IsScanFault, IsLogVerdict, failures_of}
+use Rattle.mt_scan.specs.Scans.{IsScanOf, IsScanFault, IsLogVerdict, OfTold, failures_of}
 use Rattle.mt_recover.specs.declared.scans.Outcomes.{Outcomes}
 use Rattle.mt_recover.specs.declared.scans.ScanJob.{ScanJob}
 use Rattle.mt_recover.specs.declared.scans.Kind.{Kind}
 use Rattle.mt_recover.specs.declared.scans.Scanned.{Scanned}
 use Rattle.mt_recover.specs.declared.scans.Scanned.TheVariants as scanned
-use Rattle.mt_recover.specs.Outcomes.{IsLogOutcome, IsPartOutcome, AllFrom, AreOutcomes, read_parts, in_memory, numbered, log_jobs, part_jobs, IsScanned, logs_in, parts_in}
+use Rattle.mt_recover.specs.declared.scans.Kind.TheVariants as kinds
+use Rattle.mt_recover.specs.Outcomes.{IsLogOutcome, IsPartOutcome, AllFrom, AreOutcomes, last_in, lasts, read_parts, in_memory}
+use Rattle.mt_recover.specs.declared.scans.Scans.{Scans}
+use Rattle.mt_recover.specs.declared.scans.Share.{Share}
+use Rattle.mt_recover.specs.Scanning.{numbered, log_jobs, part_jobs, IsOutcome, IsScanned, IsFresh, HasScanned, AreGathered, answers_of, passes_of, log_in, logs_in, parts_in}
+use Rattle.mt_recover.specs.Sharing.{AreDealt}
+use Rattle.mt_recover.proofs.SharingLemmas.{dealt_answers, zip_says}
 
 -- ---- numbered jobs
 
@@ -53,36 +63,216 @@ next_told {X} tells answers answer told new are pushed =
     one (Some x) = refl
 
 -- the answers of parts, from this part on
-part_answers : {S : Type 0} (seen : S → Seen) (log part : ℕ) (parts : List S) (answers : List Scanned) → AllZip (IsScanned seen) (part_jobs part parts) answers
-    → AllFrom IsLogOutcome log [] (logs_in answers) × AllFrom IsPartOutcome part (map seen parts) (parts_in answers)
-part_answers seen log part [] [] zip = (tt, tt)
-part_answers seen log part [] (a ∷ rest) zip = absurd zip
-part_answers seen log part (p ∷ ps) [] zip = absurd zip
-part_answers seen log part (p ∷ ps) (scanned.Log outcome ∷ rest) zip = absurd zip.0
-part_answers seen log part (p ∷ ps) (scanned.Part outcome ∷ rest) zip =
-    let later = part_answers seen log (suc part) ps rest zip.1 in
+part_answers : {S : Type 0} (seen : S → Seen) (floor log part : ℕ) (parts : List S) (answers : List Scanned) → AllZip (IsScanned seen floor) (part_jobs part parts) answers
+    → AllFrom (IsLogOutcome floor) log [] (logs_in answers) × AllFrom IsPartOutcome part (map seen parts) (parts_in answers)
+part_answers seen floor log part [] [] zip = (tt, tt)
+part_answers seen floor log part [] (a ∷ rest) zip = absurd zip
+part_answers seen floor log part (p ∷ ps) [] zip = absurd zip
+part_answers seen floor log part (p ∷ ps) (scanned.Log outcome ∷ rest) zip = absurd zip.0
+part_answers seen floor log part (p ∷ ps) (scanned.Part outcome ∷ rest) zip =
+    let later = part_answers seen floor log (suc part) ps rest zip.1 in
     (later.0, (zip.0, later.1))
 
 -- those of logs, from this log on, and then of all parts
-all_answers : {S : Type 0} (seen : S → Seen) (log : ℕ) (logs parts : List S) (answers : List Scanned) → AllZip (IsScanned seen) (log_jobs log logs ++ part_jobs 0 parts) answers
-    → AllFrom IsLogOutcome log (map seen logs) (logs_in answers) × AllFrom IsPartOutcome 0 (map seen parts) (parts_in answers)
-all_answers seen log [] parts answers zip = part_answers seen log 0 parts answers zip
-all_answers seen log (l ∷ ls) parts [] zip = absurd zip
-all_answers seen log (l ∷ ls) parts (scanned.Part outcome ∷ rest) zip = absurd zip.0
-all_answers seen log (l ∷ ls) parts (scanned.Log outcome ∷ rest) zip =
-    let later = all_answers seen (suc log) ls parts rest zip.1 in
+all_answers : {S : Type 0} (seen : S → Seen) (floor log : ℕ) (logs parts : List S) (answers : List Scanned) → AllZip (IsScanned seen floor) (log_jobs log logs ++ part_jobs 0 parts) answers
+    → AllFrom (IsLogOutcome floor) log (map seen logs) (logs_in answers) × AllFrom IsPartOutcome 0 (map seen parts) (parts_in answers)
+all_answers seen floor log [] parts answers zip = part_answers seen floor log 0 parts answers zip
+all_answers seen floor log (l ∷ ls) parts [] zip = absurd zip
+all_answers seen floor log (l ∷ ls) parts (scanned.Part outcome ∷ rest) zip = absurd zip.0
+all_answers seen floor log (l ∷ ls) parts (scanned.Log outcome ∷ rest) zip =
+    let later = all_answers seen floor (suc log) ls parts rest zip.1 in
     ((zip.0, later.0), later.1)
 
 -- the outcomes of logs and parts
-pub outcomes_of : {S : Type 0} (seen : S → Seen) (logs parts : List S) (jobs : List (ScanJob S)) (answers : List Scanned) (outcomes : Outcomes) → jobs ≡ log_jobs 0 logs ++ part_jobs 0 (read_parts logs parts)
-    → AllZip (IsScanned seen) jobs answers → outcomes.logs.items ≡ logs_in answers → outcomes.parts.items ≡ parts_in answers → AreOutcomes (map seen logs) (map seen parts) outcomes
+outcomes_of : {S : Type 0} (seen : S → Seen) (logs parts : List S) (jobs : List (ScanJob S)) (answers : List Scanned) (outcomes : Outcomes) → jobs ≡ log_jobs 0 logs ++ part_jobs 0 (read_parts logs parts)
+    → AllZip (IsScanned seen (least_of (lasts (logs_in answers)))) jobs answers → outcomes.logs.items ≡ logs_in answers → outcomes.parts.items ≡ parts_in answers → AreOutcomes (map seen logs) (map seen parts) outcomes
 outcomes_of {S} seen logs parts jobs answers outcomes same zip logs_are parts_are =
-    let both = all_answers seen 0 logs (read_parts logs parts) answers (subst (λ (js : List (ScanJob S)). AllZip (IsScanned seen) js answers) same zip) in
+    let floor : ℕ = least_of (lasts (logs_in answers)) in
+    let both = all_answers seen floor 0 logs (read_parts logs parts) answers (subst (λ (js : List (ScanJob S)). AllZip (IsScanned seen floor) js answers) same zip) in
     record { logs_are = rw logs_are both.0; parts_are = rw (parts_are, read logs) both.1 }
   where
     read : (logs : List S) → read_parts (map seen logs) (map seen parts) ≡ map seen (read_parts logs parts)
     read [] = refl
     read (l ∷ ls) = refl
+
+-- ---- scans that share a board
+
+-- a lower floor
+pub scanned_lower : {S : Type 0} (seen : S → Seen) (floor lower : ℕ) (job : ScanJob S) (answer : Scanned) → lower ≤ floor → IsScanned seen floor job answer → IsScanned seen lower job answer
+scanned_lower seen floor lower job answer le is = by job.kind answer is
+  where
+    outcome : (o : Result LogScan Fault) → IsLogOutcome floor job.number (seen job.source) o → IsLogOutcome lower job.number (seen job.source) o
+    outcome (Ok scan) is = record {
+      scan = (is.scan.0, is.scan.1, record { log = is.scan.2.log; is_reading = is.scan.2.is_reading; shows = shows_lower job.number floor lower scan is.scan.2.log le is.scan.2.shows });
+      fault = tt;
+      steady = is.steady;
+    }
+    outcome (Err fault) is = record { scan = tt; fault = is.fault; steady = is.steady }
+
+    by : (kind : Kind) (answer : Scanned) → IsOutcome floor kind job.number (seen job.source) answer → IsOutcome lower kind job.number (seen job.source) answer
+    by kinds.Log (scanned.Log o) is = outcome o is
+    by kinds.Part (scanned.Part o) is = is
+    by kinds.Log (scanned.Part o) is = absurd is
+    by kinds.Part (scanned.Log o) is = absurd is
+
+-- the least of numbers
+pub least_small : (xs : List ℕ) → least_of xs ≤ nothing_noted
+least_small [] = omega arith
+least_small (x ∷ xs) = let rest = least_small xs in omega (arith, rest)
+
+least_both : (xs ys : List ℕ) → least_of (xs ++ ys) ≡ min (least_of xs) (least_of ys)
+least_both [] ys = omega (arith, least_small ys)
+least_both (x ∷ xs) ys = let rest = least_both xs ys in omega (arith, rest)
+
+-- no source was scanned
+pub none_scanned : {S : Type 0} (seen : S → Seen) (pass : PassView) → pass.noted ≤ nothing_noted → HasScanned seen [] [] pass pass
+none_scanned seen pass small = record { board = refl; noted = omega (arith, small); falls = omega arith; answered = tt }
+
+-- the source of a log was scanned
+pub log_scanned : {S : Type 0} (seen : S → Seen) (job : ScanJob S) (answer : Result LogScan Fault) (before after : PassView) → job.kind ≡ kinds.Log → before.noted ≤ nothing_noted
+    → IfOk answer (λ scan. OfTold (seen job.source).told (λ bytes. IsSharedScan job.number before after bytes scan)) → IfErr answer (λ fault. OfTold (seen job.source).told (λ bytes. IsScanFault job.number bytes fault))
+    → OnErr answer ((first : ℕ) × HasLooked first before after) → (IsTrue (seen job.source).steady → failures_of answer ≡ 0) → HasScanned seen (job ∷ []) (scanned.Log answer ∷ []) before after
+log_scanned {S} seen job (Ok scan) before after kind small is fails unnoted steady =
+    let shared = is.2 in
+    let outcome : IsLogOutcome (least_of after.looks) job.number (seen job.source) (Ok scan) = record { scan = (is.0, is.1, shared.is); fault = tt; steady = steady } in
+    record {
+      board = ap (λ (p : PassView). p.board) shared.looked.rest;
+      noted = omega (arith, ap (λ (p : PassView). p.noted) shared.looked.rest, small);
+      falls = omega (arith, ap least_of shared.looked.looks, least_both before.looks (shared.first ∷ shared.looked.more));
+      answered = (rw kind outcome, tt);
+    }
+log_scanned {S} seen job (Err fault) before after kind small is fails unnoted steady =
+    let outcome : IsLogOutcome (least_of after.looks) job.number (seen job.source) (Err fault) = record { scan = tt; fault = fails; steady = steady } in
+    record {
+      board = ap (λ (p : PassView). p.board) unnoted.1.rest;
+      noted = omega (arith, ap (λ (p : PassView). p.noted) unnoted.1.rest, small);
+      falls = omega (arith, ap least_of unnoted.1.looks, least_both before.looks (unnoted.0 ∷ unnoted.1.more));
+      answered = (rw kind outcome, tt);
+    }
+
+-- one more source was scanned
+pub scanned_next : {S : Type 0} (seen : S → Seen) (jobs : List (ScanJob S)) (job : ScanJob S) (answers : List Scanned) (answer : Scanned) (before middle after : PassView) → HasScanned seen jobs answers before middle
+    → HasScanned seen (job ∷ []) (answer ∷ []) middle after → HasScanned seen (jobs ++ job ∷ []) (answers ++ answer ∷ []) before after
+scanned_next seen jobs job answers answer before middle after was is =
+    let logs : lasts (logs_in (answers ++ answer ∷ [])) ≡ lasts (logs_in answers) ++ lasts (logs_in (answer ∷ [])) =
+    ap lasts (filter_map-append log_in answers (answer ∷ [])) ∙ filter_map-append last_in (logs_in answers) (logs_in (answer ∷ [])) in
+    record {
+      board = is.board ∙ was.board;
+      noted = omega (arith, is.noted, was.noted, ap least_of logs, least_both (lasts (logs_in answers)) (lasts (logs_in (answer ∷ []))));
+      falls = omega (arith, is.falls, was.falls);
+      answered = all_zipped_more _ jobs answers job answer
+          (zip_says (IsScanned seen (least_of after.looks)) (IsScanned seen (least_of middle.looks)) jobs answers (λ j a at. scanned_lower seen (least_of middle.looks) (least_of after.looks) j a is.falls at) was.answered) is.answered.0;
+    }
+
+-- ---- passes that are given out
+
+-- those of a new board
+passes_fresh : (board : BoardId) (n : ℕ) → All (IsFresh board) (fresh_passes board n)
+passes_fresh board zero = All-nil (IsFresh board)
+passes_fresh board (suc n) = All-push (IsFresh board) (fresh_passes board n) (fresh_pass board n) (passes_fresh board n) refl
+
+pub shares_fresh : {S : Type 0} (board : BoardId) (n : ℕ) (shares : List (Share S)) (passes : List PassView) → map (λ share. share.pass) shares ≡ passes → passes ≡ fresh_passes board n → All (λ share. IsFresh board share.pass) shares
+shares_fresh {S} board n shares passes are fresh = by shares (subst (All (IsFresh board)) (sym (are ∙ fresh)) (passes_fresh board n))
+  where
+    by : (shares : List (Share S)) → All (IsFresh board) (map (λ share. share.pass) shares) → All (λ share. IsFresh board share.pass) shares
+    by [] all = All-nil (λ (share : Share S). IsFresh board share.pass)
+    by (s ∷ ss) all = All-cons (λ (share : Share S). IsFresh board share.pass) s ss (All-head (IsFresh board) s.pass (map (λ share. share.pass) ss) all) (by ss (All-tail (IsFresh board) s.pass (map (λ share. share.pass) ss) all))
+
+-- a list of what is made of elements in two steps
+pub in_two_steps : {A B C : Type 0} (f : A → B) (h : B → C) (xs : List A) (ys : List B) → map f xs ≡ ys → map (λ x. h (f x)) xs ≡ map h ys
+in_two_steps {A} {B} {C} f h xs ys are = by xs ∙ ap (map h) are
+  where
+    by : (xs : List A) → map (λ x. h (f x)) xs ≡ map h (map f xs)
+    by [] = refl
+    by (x ∷ rest) = ap (λ (l : List C). h (f x) ∷ l) (by rest)
+
+-- ---- the scans of all workers
+
+-- the last timestamps of the logs that were scanned whole
+abbrev lasts_in : List Scanned → List ℕ
+lasts_in answers = lasts (logs_in answers)
+
+-- the least of them
+abbrev least_in : List Scanned → ℕ
+least_in answers = least_of (lasts_in answers)
+
+least_first : (answer : Scanned) (answers : List Scanned) → least_in (answer ∷ answers) ≡ min (least_in (answer ∷ [])) (least_in answers)
+least_first (scanned.Part outcome) answers = omega (arith, least_small (lasts_in answers))
+least_first (scanned.Log (Err fault)) answers = omega (arith, least_small (lasts_in answers))
+least_first (scanned.Log (Ok scan)) answers = omega (arith, least_small (lasts_in answers))
+
+-- that of answers that are dealt is the least of all shares
+least_dealt : (answers : List Scanned) (parts : List (List Scanned)) → AreDealt answers parts → least_in answers ≡ least_of (map least_in parts)
+least_dealt [] parts dealt = none parts dealt
+  where
+    none : (parts : List (List Scanned)) → AllByRecursion (λ part. part ≡ []) parts → nothing_noted ≡ least_of (map least_in parts)
+    none [] dealt = refl
+    none (p ∷ ps) dealt = let rest = none ps dealt.1 in omega (arith, ap least_in dealt.0, rest)
+least_dealt (a ∷ later) [] dealt = absurd dealt
+least_dealt (a ∷ later) ([] ∷ ps) dealt = absurd dealt
+least_dealt (a ∷ later) ((x ∷ xs) ∷ ps) dealt =
+    let rest = least_dealt later (ps ++ xs ∷ []) dealt.1 in
+    omega (
+      arith,
+      least_first a later,
+      least_first x xs,
+      ap (λ (y : Scanned). least_in (y ∷ [])) dealt.0,
+      rest,
+      ap least_of (map-append least_in ps (xs ∷ [])),
+      least_both (map least_in ps) (least_in xs ∷ []),
+      least_small (lasts_in xs),
+    )
+
+-- where passes noted no other numbers, theirs is the least
+least_of_all : {S : Type 0} (seen : S → Seen) (board : BoardId) (shares : List (Share S)) (all : List Scans) → All (λ share. IsFresh board share.pass) shares
+    → AllZip (λ share scans. HasScanned seen share.jobs.items (answers_of scans) share.pass scans.pass) shares all → least_noted (passes_of all) ≡ least_of (map least_in (map answers_of all))
+least_of_all seen board [] [] fresh zip = refl
+least_of_all seen board [] (x ∷ xs) fresh zip = absurd zip
+least_of_all seen board (s ∷ ss) [] fresh zip = absurd zip
+least_of_all {S} seen board (s ∷ ss) (x ∷ xs) fresh zip =
+    let P : Share S → Type 0 = λ share. IsFresh board share.pass in
+    omega (
+      arith,
+      zip.0.noted,
+      ap (λ (p : PassView). p.noted) (All-head P s ss fresh),
+      least_small (lasts_in (answers_of x)),
+      least_of_all seen board ss xs (All-tail P s ss fresh) zip.1,
+    )
+
+-- what no pass saw below is the floor of all scans
+all_above : {S : Type 0} (seen : S → Seen) (floor : ℕ) (shares : List (Share S)) (all : List Scans) → floor ≤ nothing_noted → SawNoneBelow floor (passes_of all)
+    → AllZip (λ share scans. HasScanned seen share.jobs.items (answers_of scans) share.pass scans.pass) shares all → AllZip (AllZip (IsScanned seen floor)) (map (λ share. share.jobs.items) shares) (map answers_of all)
+all_above seen floor [] [] small saw zip = tt
+all_above seen floor [] (x ∷ xs) small saw zip = absurd zip
+all_above seen floor (s ∷ ss) [] small saw zip = absurd zip
+all_above seen floor (s ∷ ss) (x ∷ xs) small saw zip =
+    let P : PassView → Type 0 = λ pass. All (λ look. floor ≤ look) pass.looks in
+    let low = under_looks floor x.pass.looks small (All-head P x.pass (passes_of xs) saw) in (
+      zip_says (IsScanned seen floor) (IsScanned seen (least_of x.pass.looks)) s.jobs.items (answers_of x) (λ j a at. scanned_lower seen (least_of x.pass.looks) floor j a low at) zip.0.answered,
+      all_above seen floor ss xs small (All-tail P x.pass (passes_of xs) saw) zip.1,
+    )
+
+-- what was gathered of all workers
+pub outcomes_gathered : {S : Type 0} (seen : S → Seen) (logs parts : List S) (jobs : List (ScanJob S)) (shares : List (Share S)) (all : List Scans) (board : BoardId) (outcomes : Outcomes)
+    → jobs ≡ log_jobs 0 logs ++ part_jobs 0 (read_parts logs parts) → AreDealt jobs (map (λ share. share.jobs.items) shares) → All (λ share. IsFresh board share.pass) shares → board.passes ≡ length shares
+    → AllZip (λ share scans. HasScanned seen share.jobs.items (answers_of scans) share.pass scans.pass) shares all → AreGathered board all outcomes → AreOutcomes (map seen logs) (map seen parts) outcomes
+outcomes_gathered seen logs parts jobs shares all board outcomes same dealt fresh many zip gathered =
+    let least : ℕ = least_noted (passes_of all) in
+    let saw = gathered.saw (omega (arith, many, AllZip-long (λ share scans. HasScanned seen share.jobs.items (answers_of scans) share.pass scans.pass) shares all zip)) in
+    let small = least_small (map (λ (p : PassView). p.noted) (passes_of all)) in
+    let answered = dealt_answers (IsScanned seen least) jobs (map (λ share. share.jobs.items) shares) (map answers_of all) dealt (all_above seen least shares all small saw zip) in
+    let floor : least ≡ least_in answered.0 = least_of_all seen board shares all fresh zip ∙ sym (least_dealt answered.0 (map answers_of all) answered.2) in
+    outcomes_of seen logs parts jobs answered.0 outcomes same (subst (λ (n : ℕ). AllZip (IsScanned seen n) jobs answered.0) floor answered.1) (gathered.logs answered.0 answered.2) (gathered.parts answered.0 answered.2)
+
+-- the boards of passes that were fresh
+pub boards_are : {S : Type 0} (seen : S → Seen) (board : BoardId) (shares : List (Share S)) (all : List Scans) → All (λ share. IsFresh board share.pass) shares
+    → AllZip (λ share scans. HasScanned seen share.jobs.items (answers_of scans) share.pass scans.pass) shares all → All (λ scans. scans.pass.board ≡ board) all
+boards_are seen board [] [] fresh zip = All-nil (λ (x : Scans). x.pass.board ≡ board)
+boards_are seen board [] (x ∷ xs) fresh zip = absurd zip
+boards_are seen board (s ∷ ss) [] fresh zip = absurd zip
+boards_are {S} seen board (s ∷ ss) (x ∷ xs) fresh zip =
+    let P : Share S → Type 0 = λ share. IsFresh board share.pass in
+    All-cons (λ (y : Scans). y.pass.board ≡ board) x xs (zip.0.board ∙ ap (λ (p : PassView). p.board) (All-head P s ss fresh)) (boards_are seen board ss xs (All-tail P s ss fresh) zip.1)
 
 -- ---- logs in memory
 
@@ -92,9 +282,9 @@ fault_in_memory log bytes of_log.Memory is = (tt, refl)
 fault_in_memory log bytes of_log.Header is = ((refl, is (λ same. cc)), refl)
 fault_in_memory log bytes (of_log.Record nth what) is = ((refl, is (λ same. cc)), refl)
 
-outcome_in_memory : (log : ℕ) (bytes : List ℕ) (outcome : Result LogScan Fault) → IfOk outcome (IsScanOf log bytes) → IfErr outcome (IsLogVerdict log bytes) → IsLogOutcome log (in_memory bytes) outcome
-outcome_in_memory log bytes (Ok scan) is fails = record { scan = (bytes, refl, is); fault = tt; steady = λ _. refl }
-outcome_in_memory log bytes (Err fault) is fails =
+outcome_in_memory : (floor log : ℕ) (bytes : List ℕ) (outcome : Result LogScan Fault) → IfOk outcome (IsScanOf log bytes) → IfErr outcome (IsLogVerdict log bytes) → IsLogOutcome floor log (in_memory bytes) outcome
+outcome_in_memory floor log bytes (Ok scan) is fails = record { scan = (bytes, refl, record { log = is.log; is_reading = is.is_reading; shows = shows_all log floor scan is.log is.shows }); fault = tt; steady = λ _. refl }
+outcome_in_memory floor log bytes (Err fault) is fails =
     let both = fault_in_memory log bytes fails.of_bytes fails.answered in
     rw fails.is (record { scan = tt; fault = (bytes, refl, both.0); steady = λ _. both.1 })
 
@@ -108,15 +298,15 @@ all_from_push R number (a ∷ rest) (b ∷ bs) x y all one =
     (all.0, all_from_push R (suc number) rest bs x y all.1 (subst (λ (n : ℕ). R n x y) next one))
 
 -- the scan of the next log
-pub scanned_more : (logs : List (Bor (List ℕ))) (outcomes new : List (Result LogScan Fault)) (log : ℕ) (d : Bor (List ℕ)) (outcome : Result LogScan Fault) → log < length logs → log ≡ length outcomes
+pub scanned_more : (floor : ℕ) (logs : List (Bor (List ℕ))) (outcomes new : List (Result LogScan Fault)) (log : ℕ) (d : Bor (List ℕ)) (outcome : Result LogScan Fault) → log < length logs → log ≡ length outcomes
     → IfOk outcome (IsScanOf log (get_or logs log d).now) → IfErr outcome (IsLogVerdict log (get_or logs log d).now) → new ≡ outcomes ++ outcome ∷ []
-    → AllFrom IsLogOutcome 0 (take log (map in_memory (map (λ log. log.now) logs))) outcomes → AllFrom IsLogOutcome 0 (take (log + 1) (map in_memory (map (λ log. log.now) logs))) new
-scanned_more logs outcomes new log d outcome lt at is fails pushed are =
+    → AllFrom (IsLogOutcome floor) 0 (take log (map in_memory (map (λ log. log.now) logs))) outcomes → AllFrom (IsLogOutcome floor) 0 (take (log + 1) (map in_memory (map (λ log. log.now) logs))) new
+scanned_more floor logs outcomes new log d outcome lt at is fails pushed are =
     let all : List (List ℕ) = map (λ log. log.now) logs in
     let seen : List Seen = map in_memory all in
     let within : log < length all = omega (arith, lt, length-map logs (λ log. log.now)) in
     let own : get_or seen log (in_memory d.now) ≡ in_memory (get_or logs log d).now = get_or-map in_memory all log d.now (in_memory d.now) within ∙ ap in_memory (get_or-map (λ log. log.now) logs log d d.now lt) in
     let place : log ≡ 0 + length outcomes = omega (arith, at) in
-    let one = subst (λ (n : ℕ). IsLogOutcome n (in_memory (get_or logs log d).now) outcome) place (outcome_in_memory log (get_or logs log d).now outcome is fails) in
+    let one = subst (λ (n : ℕ). IsLogOutcome floor n (in_memory (get_or logs log d).now) outcome) place (outcome_in_memory floor log (get_or logs log d).now outcome is fails) in
     rw (pushed, add-one, take-suc seen log (in_memory d.now) (omega (arith, within, length-map all in_memory)), own)
-    (all_from_push IsLogOutcome 0 (take log seen) outcomes (in_memory (get_or logs log d).now) outcome are one)
+    (all_from_push (IsLogOutcome floor) 0 (take log seen) outcomes (in_memory (get_or logs log d).now) outcome are one)

@@ -10,7 +10,7 @@ use Rattle.mt_recover.specs.Survivors.{begin_of}
 -- what recovery finds in logs and parts
 pub record IsFoundOf (logs parts : List (List ℕ)) (found : Found) : Type 0 where
   pub facts : Facts logs parts
-  pub show : ShowAll 0 found.scans.items facts.readings
+  pub show : ShowAll facts.cutoff 0 found.scans.items facts.readings
   pub no_gap : (i : ℕ) → IsGap (begin_of facts.chosen) facts.readings i → ⊥
   pub window : found.window ≡ record { begin = begin_of facts.chosen; cutoff = facts.cutoff }
   pub chosen : option_map checkpoint_in found.choice.chosen ≡ facts.chosen

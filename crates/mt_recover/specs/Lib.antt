@@ -12,3 +12,4 @@ pub mod Prepared
 pub mod Assembling
 pub mod Sharing
 pub mod Outcomes
+pub mod Scanning

@@ -5,16 +5,16 @@ use Rattle.mt_words.specs.declared.update.Update.{Update}
 use Rattle.mt_record.specs.Kept.{kept_updates}
 use Rattle.mt_record.specs.Logs.{LogReading}
 use Rattle.mt_scan.specs.declared.log_scan.LogScan.{LogScan}
-use Rattle.mt_scan.specs.Scans.{ShowsLog}
+use Rattle.mt_scan.specs.Dropping.{ShowsBelow}
 use Rattle.mt_replay.specs.declared.window.Window.{Window}
 use Rattle.mt_replay.specs.Survivors.{in_window}
 
--- each scan shows what its log says; the logs are numbered from this number on
-abbrev pub ShowAll : ℕ → List LogScan → List LogReading → Type 0
-ShowAll number [] [] = Unit {0}
-ShowAll number (scan ∷ scans) (log ∷ readings) = ShowsLog number scan log × ShowAll (suc number) scans readings
-ShowAll number [] (log ∷ readings) = ⊥
-ShowAll number (scan ∷ scans) [] = ⊥
+-- each scan shows what its log says below `floor`; the logs are numbered from this number on
+abbrev pub ShowAll : ℕ → ℕ → List LogScan → List LogReading → Type 0
+ShowAll floor number [] [] = Unit {0}
+ShowAll floor number (scan ∷ scans) (log ∷ readings) = ShowsBelow number floor scan log × ShowAll floor (suc number) scans readings
+ShowAll floor number [] (log ∷ readings) = ⊥
+ShowAll floor number (scan ∷ scans) [] = ⊥
 
 -- the updates that a scan kept
 abbrev pub kept_by : LogScan → List Update

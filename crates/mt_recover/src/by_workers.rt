@@ -1,5 +1,5 @@
 //! Work that is shared out among threads.
-ghost use Rattle.std.specs.Prelude.{◌≡◌, ◌⊎◌, ◌<◌, [], List, map, length, All, IfOk, IfErr};
+ghost use Rattle.std.specs.Prelude.{◌≡◌, ◌⊎◌, ◌<◌, ◌≤◌, [], List, map, length, max, All, IfOk, IfErr};
 ghost use Rattle.std.specs.List.{AllZip};
 ghost use Rattle.std.specs.Vec.Iter.{into_iter_items};
 ghost use Rattle.mt_words.specs.declared.fault.Memory.{Memory as MemoryValue};
@@ -25,7 +25,7 @@ pub(crate) fn by_workers<R: Threads + Sync, J: Send + Drop, X: Send + Drop, F: F
     requires { All (λ job. F.pre work.now job) jobs.items }
     ensures { IfOk result (λ answers. AllZip (λ job answer. F.post work.now job answer) jobs.items answers.items) }
 {
-    let shares = deal(alloc, jobs, workers)?;
+    let shares = deal(alloc, jobs, workers.count())?;
     let parts = thread::map_vec(
         rt,
         shares,
@@ -70,11 +70,16 @@ pub(crate) fn all_done<X: Drop, E: Drop + From<Memory>>(
 
 /// Deals the jobs to one share for each worker, but to no more shares than there are jobs, so that no thread is made for
 /// nothing. The last job is dealt first: the share of the job just dealt stands first.
-fn deal<J: Drop>(alloc: Global, jobs: Vec<J>, workers: Workers) -> Result<Vec<VecDeque<J>>, Memory>
+pub(crate) fn deal<J: Drop>(
+    alloc: Global,
+    jobs: Vec<J>,
+    workers: u32,
+) -> Result<Vec<VecDeque<J>>, Memory>
     ensures some { IfOk result (λ shares. 0 < length shares.items) }
+    ensures few { IfOk result (λ shares. length shares.items ≤ max 1 workers) }
     ensures dealt { IfOk result (λ shares. AreDealt jobs.items (map (λ share. share.items) shares.items)) }
 {
-    let count = (workers.count() as usize).min(jobs.len()).max(1);
+    let count = (workers as usize).min(jobs.len()).max(1);
     let mut shares = Vec::new(alloc);
     shares.resize_with(count, || VecDeque::new(alloc))?;
     let mut jobs = jobs;
@@ -86,7 +91,7 @@ fn deal<J: Drop>(alloc: Global, jobs: Vec<J>, workers: Workers) -> Result<Vec<Ve
 }
 
 /// Gathers the answers of shares in the order of their jobs.
-fn gather<X: Drop>(alloc: Global, parts: Vec<IntoIter<X>>) -> Result<Vec<X>, Memory>
+pub(crate) fn gather<X: Drop>(alloc: Global, parts: Vec<IntoIter<X>>) -> Result<Vec<X>, Memory>
     requires { 0 < length parts.items }
     ensures { IfOk result (λ gathered. (answers : List X) → AreDealt answers (map into_iter_items parts.items) → gathered.items ≡ answers) }
 {

@@ -1,13 +1,22 @@
-//! Scans of all logs and checkpoint parts.
-ghost use Rattle.std.specs.Prelude.{◌≡◌, ◌++◌, [], map, IfOk, OnOk, option_to_list};
-ghost use Rattle.mt_recover.specs.Outcomes.{AreOutcomes, IsScanned, numbered, log_jobs, part_jobs, log_in, part_in, logs_in, parts_in, read_parts, in_memory};
+//! Scans of all logs and checkpoint parts. Those of logs share a board, so that each can drop what comes too late for
+//! another.
+ghost use Rattle.std.specs.Prelude.{◌≡◌, ◌<◌, ◌≤◌, ◌++◌, [], ◌∷◌, map, length, All, IfOk, OnOk, option_to_list};
+ghost use Rattle.std.specs.Vec.Iter.{into_iter_items};
+ghost use Rattle.mt_board.specs.Board.{least_noted, nothing_noted, SawNoneBelow};
+ghost use Rattle.mt_recover.specs.Outcomes.{AreOutcomes, in_memory, read_parts};
+ghost use Rattle.mt_recover.specs.Scanning.{AreGathered, HasScanned, IsFresh, numbered, log_jobs, part_jobs, log_in, part_in, logs_in, parts_in, passes_of};
+ghost use Rattle.mt_recover.specs.Sharing.{AreDealt};
 
-use crate::by_workers::{by_workers, in_turn};
+use crate::by_workers::{all_done, deal, gather, in_turn};
 use crate::{Inputs, Workers};
-use mt_scan::{LogScan, PartScan, Source, scan_bytes, scan_log, scan_part};
+use mt_board::{Board, Pass};
+use mt_scan::{LogScan, PartScan, Source, scan_bytes, scan_part, scan_shared};
 use mt_words::{Fault, Memory};
 use std::alloc::Global;
+use std::collections::VecDeque;
+use std::thread;
 use std::thread::Threads;
+use std::vec::IntoIter;
 
 /// What the scans of the logs and of the parts answered, each in the order of their numbers.
 #[derive(Drop)]
@@ -54,17 +63,39 @@ enum Scanned {
     Part(Result<PartScan, Fault>),
 }
 
+/// The sources that a worker scans, and its pass to the board of all scans.
+#[derive(Drop)]
+struct Share<S> {
+    jobs: VecDeque<ScanJob<S>>,
+    pass: Pass,
+}
+
+/// What a worker's scans answered, and its pass.
+#[derive(Drop)]
+struct Scans {
+    answers: IntoIter<Scanned>,
+    pass: Pass,
+}
+
 /// Scans the logs and then the parts, one after the other. Each source is dropped when it is scanned. Without a log
-/// nothing is read.
+/// nothing is read. An update is dropped if it comes too late for a log that was scanned before.
 pub(crate) fn scan_one<S: Source>(alloc: Global, inputs: Inputs<S>) -> Result<Outcomes, Memory>
     ensures { IfOk result (AreOutcomes (map S.seen inputs.logs.items) (map S.seen inputs.parts.items)) }
 {
     let jobs = jobs_of(alloc, inputs)?;
-    let scanned = in_turn(alloc, jobs, &|job: ScanJob<S>| { scan(alloc, job) })?;
-    outcomes_of(alloc, scanned)
+    let (board, shares) = share_out(alloc, jobs, 1)?;
+    let scans = in_turn(
+        alloc,
+        shares,
+        &|share: Share<S>| -> Result<Scans, Memory>
+            requires { IsFresh board share.pass }
+            ensures { IfOk result (λ scans. HasScanned S.seen share.jobs.items (into_iter_items scans.answers) share.pass scans.pass) }
+        { scan_share(alloc, &board, share) },
+    )?;
+    gather_scans(alloc, board, all_done(alloc, scans)?)
 }
 
-/// The same by so many threads.
+/// The same by so many threads. An update is dropped if it comes too late for a log that any of them has scanned.
 pub(crate) fn scan_all<R: Threads + Sync, S: Source + Send>(
     rt: &R,
     alloc: Global,
@@ -74,14 +105,16 @@ pub(crate) fn scan_all<R: Threads + Sync, S: Source + Send>(
     ensures { IfOk result (AreOutcomes (map S.seen inputs.logs.items) (map S.seen inputs.parts.items)) }
 {
     let jobs = jobs_of(alloc, inputs)?;
-    let scanned = by_workers(
+    let (board, shares) = share_out(alloc, jobs, workers.count())?;
+    let scans = thread::map_vec(
         rt,
-        alloc,
-        jobs,
-        workers,
-        &|job: ScanJob<S>| { scan(alloc, job) },
+        shares,
+        &|share: Share<S>| -> Result<Scans, Memory>
+            requires { IsFresh board share.pass }
+            ensures { IfOk result (λ scans. HasScanned S.seen share.jobs.items (into_iter_items scans.answers) share.pass scans.pass) }
+        { scan_share(alloc, &board, share) },
     )?;
-    outcomes_of(alloc, scanned)
+    gather_scans(alloc, board, all_done(alloc, scans)?)
 }
 
 /// Scans logs in memory, one after the other. There are no parts.
@@ -133,9 +166,63 @@ fn number_all<S: Drop>(
     Ok(jobs)
 }
 
+/// Deals the jobs to a share for each of so many workers, with passes to a new board.
+fn share_out<S: Drop>(
+    alloc: Global,
+    jobs: Vec<ScanJob<S>>,
+    workers: u32,
+) -> Result<(Board, Vec<Share<S>>), Memory>
+    ensures dealt { IfOk result (λ shared. AreDealt jobs.items (map (λ share. share.jobs.items) shared.1.items)) }
+    ensures fresh { IfOk result (λ shared. All (λ share. IsFresh shared.0 share.pass) shared.1.items) }
+    ensures some { IfOk result (λ shared. 0 < length shared.1.items) }
+    ensures many { IfOk result (λ shared. shared.0.passes ≡ length shared.1.items) }
+{
+    let dealt = deal(alloc, jobs, workers)?;
+    let Ok((board, passes)) = Board::open(alloc, 0, dealt.len() as u32) else {
+        return Err(Memory);
+    };
+    let shares = with_passes(alloc, dealt, passes)?;
+    Ok((board, shares))
+}
+
+/// The shares of these jobs, each with a pass.
+fn with_passes<S: Drop>(
+    alloc: Global,
+    dealt: Vec<VecDeque<ScanJob<S>>>,
+    passes: Vec<Pass>,
+) -> Result<Vec<Share<S>>, Memory>
+    requires { length dealt.items ≡ length passes.items }
+    ensures jobs { IfOk result (λ shares. map (λ share. share.jobs) shares.items ≡ dealt.items) }
+    ensures passes { IfOk result (λ shares. map (λ share. share.pass) shares.items ≡ passes.items) }
+{
+    let mut shares = Vec::new(alloc);
+    for (jobs, pass) in dealt.into_iter().zip(passes) {
+        shares.push(Share { jobs, pass })?;
+    }
+    Ok(shares)
+}
+
+/// Scans the sources of a share, one after the other.
+fn scan_share<S: Source>(alloc: Global, board: &Board, share: Share<S>) -> Result<Scans, Memory>
+    requires { IsFresh board.now share.pass }
+    ensures { IfOk result (λ scans. HasScanned S.seen share.jobs.items (into_iter_items scans.answers) share.pass scans.pass) }
+{
+    let Share { jobs, mut pass } = share;
+    let mut answers = Vec::with_capacity(alloc, jobs.len())?;
+    for job in Vec::from(jobs) {
+        answers.push(scan(alloc, job, board, &mut pass))?;
+    }
+    Ok(Scans {
+        answers: answers.into_iter(),
+        pass,
+    })
+}
+
 /// Scans the source of a job.
-fn scan<S: Source>(alloc: Global, job: ScanJob<S>) -> Scanned
-    ensures { IsScanned S.seen job result }
+fn scan<S: Source>(alloc: Global, job: ScanJob<S>, board: &Board, pass: &mut Pass) -> Scanned
+    requires board { pass.old.board ≡ board.now }
+    requires noted { pass.old.noted ≤ nothing_noted }
+    ensures { HasScanned S.seen (job ∷ []) (result ∷ []) pass.old pass.new }
 {
     let ScanJob {
         kind,
@@ -143,9 +230,42 @@ fn scan<S: Source>(alloc: Global, job: ScanJob<S>) -> Scanned
         mut source,
     } = job;
     match kind {
-        Kind::Log => Scanned::Log(scan_log(alloc, &mut source, number)),
+        Kind::Log => Scanned::Log(scan_shared(alloc, &mut source, number, board, pass)),
         Kind::Part => Scanned::Part(scan_part(alloc, &mut source, number)),
     }
+}
+
+/// Gathers the answers of all workers, and closes the board.
+fn gather_scans(alloc: Global, board: Board, scans: Vec<Scans>) -> Result<Outcomes, Memory>
+    requires some { 0 < length scans.items }
+    requires boards { All (λ scans. scans.pass.board ≡ board) scans.items }
+    ensures { IfOk result (AreGathered board scans.items) }
+{
+    let (passes, answers) = split(alloc, scans)?;
+    close(board, passes);
+    outcomes_of(alloc, gather(alloc, answers)?)
+}
+
+/// The passes of workers, and their answers.
+fn split(alloc: Global, scans: Vec<Scans>) -> Result<(Vec<Pass>, Vec<IntoIter<Scanned>>), Memory>
+    ensures passes { IfOk result (λ split. split.0.items ≡ passes_of scans.items) }
+    ensures answers { IfOk result (λ split. split.1.items ≡ map (λ scans. scans.answers) scans.items) }
+{
+    let mut passes = Vec::new(alloc);
+    let mut answers = Vec::new(alloc);
+    for one in scans {
+        passes.push(one.pass)?;
+        answers.push(one.answers)?;
+    }
+    Ok((passes, answers))
+}
+
+/// Closes the board of scans: none of its passes saw a number below the least that was noted.
+fn close(board: Board, passes: Vec<Pass>)
+    requires { All (λ pass. pass.board ≡ board) passes.items }
+    ensures { board.passes ≤ length passes.items → SawNoneBelow (least_noted passes.items) passes.items }
+{
+    let _closed = board.close(passes);
 }
 
 /// Tells the answers of logs from those of parts.

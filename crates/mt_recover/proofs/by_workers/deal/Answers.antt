@@ -12,6 +12,7 @@ loop-job-init g c =
     let none = none_dealt (λ share. share.items) _ _ made.1 made.0 (λ p q share step. search rules) made.3 in
     record {
       some = omega (arith, c.in_ok-resize_with.ensures.len, c.resize_with.new.self.ok.0);
+      few = omega (arith, c.in_ok-resize_with.ensures.len, c.resize_with.new.self.ok.0, c.max-count.ensures, c.min.ensures);
       dealt = ([], sym (append-nil c.args.jobs.items), subst (λ shares. AreDealt [] (map (λ share. share.items) shares)) (sym made.2) (rw (c.new-shares.ensures.items, take-nil) none));
     }
 
@@ -22,6 +23,7 @@ loop-job-preserved g c =
     let cut : ℕ = c.loop-job.shares.len - 1 in
     record {
       some = omega (arith, length-set c.rotate_right.new.self.items 0 c.push_front.new.self, c.rotate_right.ensures.len, c.loop-job.shares.ok.0, c.rotate_right.new.self.ok.0, I.some);
+      few = omega (arith, length-set c.rotate_right.new.self.items 0 c.push_front.new.self, c.rotate_right.ensures.len, c.loop-job.shares.ok.0, c.rotate_right.new.self.ok.0, I.few);
       dealt = (
         c.in-Some.job ∷ I.dealt.0,
         I.dealt.1 ∙ ap (λ js. js ++ I.dealt.0) c.in-Some.ensures.items ∙ append_assoc c.pop.new.self.items (c.in-Some.job ∷ []) I.dealt.0,

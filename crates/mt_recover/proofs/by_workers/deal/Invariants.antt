@@ -1,4 +1,4 @@
-use Rattle.std.proofs.Common.{◌≡◌, ◌<◌, ◌++◌, List, length, map}
+use Rattle.std.proofs.Common.{◌≡◌, ◌<◌, ◌≤◌, ◌++◌, List, length, map, max}
 use Rattle.mt_recover.specs.Sharing.{AreDealt}
 use Rattle.mt_recover.proofs.by_workers.deal.Given as goal
 
@@ -6,6 +6,7 @@ use Rattle.mt_recover.proofs.by_workers.deal.Given as goal
 abbrev pub invariant-loop-job : goal.invariant-loop-job
 invariant-loop-job g l = record {
   some : 0 < length l.shares.items;
+  few : length l.shares.items ≤ max 1 l.fn.workers;
   dealt : (last : List _) × (l.fn.jobs.items ≡ l.jobs.items ++ last) × AreDealt last (map (λ share. share.items) l.shares.items);
 }
 

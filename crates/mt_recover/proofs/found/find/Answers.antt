@@ -1,7 +1,8 @@
-use Rattle.std.proofs.Common.{◌∙◌, refl, sym, subst}
+use Rattle.std.proofs.Common.{rules, ◌∙◌, ℕ, refl, sym, subst}
 use Rattle.std.proofs.lemmas.Result.{err_from_is_err_and}
 use Rattle.mt_words.specs.declared.fault.Fault.TheVariants as faults
-use Rattle.mt_recover.specs.Outcomes.{AllFrom, IsLogOutcome}
+use Rattle.mt_board.specs.Board.{least_of}
+use Rattle.mt_recover.specs.Outcomes.{AllFrom, IsLogOutcome, lasts}
 use Rattle.mt_recover.proofs.SourceLemmas.{log_refused, part_refused, none_refused, memory_refused, or_memory}
 use Rattle.mt_recover.proofs.FoundLemmas.{are_shown, of_shown, gap_of, found_of}
 use Rattle.mt_recover.proofs.found.find.Goals as goal
@@ -9,17 +10,19 @@ use Rattle.mt_recover.proofs.found.find.Goals as goal
 pub returns-in_err-scans-clause-fault : goal.returns-in_err-scans-clause-fault
 returns-in_err-scans-clause-fault c = λ logs parts are.
     let p = err_from_is_err_and c.from_residual.result c.from_residual.ensures.1 in
-    rw (p.1, p.2) (or_memory logs parts c.in_err-scans.field-0.0 (log_refused logs parts c.args.outcomes.logs.items c.in_err-scans.field-0.0 are.logs_are) c.in_err-scans.ensures.fault)
+    rw (p.1, p.2) (or_memory logs parts c.in_err-scans.field-0.0 (log_refused (least_of (lasts c.args.outcomes.logs.items)) logs parts c.args.outcomes.logs.items c.in_err-scans.field-0.0 are.logs_are) c.in_err-scans.ensures.fault)
 
 pub returns-in_err-parts-clause-fault : goal.returns-in_err-parts-clause-fault
 returns-in_err-parts-clause-fault c = λ logs parts are.
     let p = err_from_is_err_and c.from_residual-in_err-parts.result c.from_residual-in_err-parts.ensures.1 in
-    let scanned = subst (AllFrom IsLogOutcome 0 logs) c.in_ok-scans.ensures.done are.logs_are in
-    rw (p.1, p.2) (or_memory logs parts c.in_err-parts.field-0.0 (part_refused logs parts c.in_ok-scans.scans.items c.args.outcomes.parts.items c.in_err-parts.field-0.0 scanned are.parts_are) c.in_err-parts.ensures.fault)
+    let floor : ℕ = least_of (lasts c.args.outcomes.logs.items) in
+    let scanned = subst (AllFrom (IsLogOutcome floor) 0 logs) c.in_ok-scans.ensures.done are.logs_are in
+    rw (p.1, p.2) (or_memory logs parts c.in_err-parts.field-0.0 (part_refused floor logs parts c.in_ok-scans.scans.items c.args.outcomes.parts.items c.in_err-parts.field-0.0 scanned are.parts_are) c.in_err-parts.ensures.fault)
 
 pub returns-in_default-clause-fault : goal.returns-in_default-clause-fault
 returns-in_default-clause-fault c = λ logs parts are.
-    none_refused logs parts c.in_ok-scans.scans.items (subst (AllFrom IsLogOutcome 0 logs) c.in_ok-scans.ensures.done are.logs_are) (sym c.deref.ensures.value ∙ c.in_default.ensures.none)
+    let floor : ℕ = least_of (lasts c.args.outcomes.logs.items) in
+    none_refused floor logs parts c.in_ok-scans.scans.items (subst (AllFrom (IsLogOutcome floor) 0 logs) c.in_ok-scans.ensures.done are.logs_are) (sym c.deref.ensures.value ∙ c.in_default.ensures.none)
 
 pub returns-in_err-choice-clause-fault : goal.returns-in_err-choice-clause-fault
 returns-in_err-choice-clause-fault c = λ logs parts are.
@@ -28,12 +31,12 @@ returns-in_err-choice-clause-fault c = λ logs parts are.
 
 pub returns-in-Some-first_gap-clause-fault : goal.returns-in-Some-first_gap-clause-fault
 returns-in-Some-first_gap-clause-fault c = λ logs parts are.
-    let of = are_shown logs parts c.args.outcomes c.in_ok-scans.scans.items c.deref.result.now c.in_ok-parts.parts.items c.in-Some.cutoff c.in_ok-choice.choice are c.in_ok-scans.ensures.done c.in_ok-parts.ensures.done
+    let of = are_shown logs parts c.args.outcomes c.in_ok-scans.scans.items c.deref.result.now c.in_ok-parts.parts.items c.in-Some.cutoff c.in_ok-choice.choice are (search rules) c.in_ok-scans.ensures.done c.in_ok-parts.ensures.done
     c.deref.ensures.value c.in-Some.ensures.found c.in_ok-choice.ensures in
     (of_shown _ of (λ ls ps is other. gap_of ls ps c.in_ok-scans.scans.items _ c.in-Some.cutoff _ c.in_ok-choice.choice c.in-Some-first_gap.log c.begin_of-begin.ensures c.deref-2.ensures.value (sym c.in-Some-first_gap.ensures) is), tt)
 
 pub returns-clause-found : goal.returns-clause-found
 returns-clause-found c = λ logs parts are.
-    let of = are_shown logs parts c.args.outcomes c.in_ok-scans.scans.items c.deref.result.now c.in_ok-parts.parts.items c.in-Some.cutoff c.in_ok-choice.choice are c.in_ok-scans.ensures.done c.in_ok-parts.ensures.done
+    let of = are_shown logs parts c.args.outcomes c.in_ok-scans.scans.items c.deref.result.now c.in_ok-parts.parts.items c.in-Some.cutoff c.in_ok-choice.choice are (search rules) c.in_ok-scans.ensures.done c.in_ok-parts.ensures.done
     c.deref.ensures.value c.in-Some.ensures.found c.in_ok-choice.ensures in
     of_shown _ of (λ ls ps is. found_of ls ps c.in_ok-scans.scans _ c.in-Some.cutoff _ c.in_ok-choice.choice c.begin_of-begin.ensures c.deref-2.ensures.value (sym c.in_default-first_gap.ensures) is)

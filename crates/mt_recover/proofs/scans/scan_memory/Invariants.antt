@@ -1,4 +1,4 @@
-use Rattle.std.proofs.Common.{◌≡◌, length, map, take}
+use Rattle.std.proofs.Common.{◌≡◌, ℕ, length, map, take}
 use Rattle.mt_recover.specs.Outcomes.{AllFrom, IsLogOutcome, in_memory}
 use Rattle.mt_recover.proofs.scans.scan_memory.Given as goal
 
@@ -6,5 +6,5 @@ use Rattle.mt_recover.proofs.scans.scan_memory.Given as goal
 abbrev pub invariant-loop-log : goal.invariant-loop-log
 invariant-loop-log l = record {
   number_is : l.log ≡ length l.outcomes.items;
-  are : AllFrom IsLogOutcome 0 (take l.log (map in_memory (map (λ log. log.now) l.logs))) l.outcomes.items;
+  are : (floor : ℕ) → AllFrom (IsLogOutcome floor) 0 (take l.log (map in_memory (map (λ log. log.now) l.logs))) l.outcomes.items;
 }

@@ -6,7 +6,7 @@ use Rattle.mt_scan.specs.declared.log_scan.LogScan.{LogScan}
 use Rattle.mt_scan.specs.Choice.{CheckpointReading}
 use Rattle.mt_replay.specs.declared.window.Window.{Window}
 use Rattle.mt_recover.specs.Survivors.{entry_updates}
-use Rattle.mt_recover.proofs.ReportLemmas.{as_many, records_counted, marks_counted, torn_counted, same_number}
+use Rattle.mt_recover.proofs.ReportLemmas.{as_many, records_counted, marks_counted, torn_counted, numbers_of, same_number}
 use Rattle.mt_recover.proofs.report.Counts.of.Goals as goal
 
 pub returns-clause-counts : goal.returns-clause-counts
@@ -18,11 +18,13 @@ returns-clause-counts c =
     let torn : c.count.result ≡ count_by (λ (scan : LogScan). scan.torn) scans = search rules in
     let number : c.map.result ≡ option_map (λ (checkpoint : Checkpoint). checkpoint.number) found.choice.chosen = search rules in
     let logs_are : c.len.result ≡ length scans = search rules in
-    λ logs parts is early survivors keys layers. record {
-      logs = logs_are ∙ as_many logs scans is.facts.readings 0 is.facts.read is.show;
-      records = records ∙ records_counted scans is.facts.readings is.show;
-      marks = marks ∙ marks_counted scans is.facts.readings is.show;
-      torn = torn ∙ torn_counted scans is.facts.readings is.show;
+    λ logs parts is early survivors keys layers.
+    let numbers = numbers_of is.facts.cutoff 0 scans is.facts.readings is.show in
+    record {
+      logs = logs_are ∙ as_many logs scans is.facts.readings is.facts.read numbers;
+      records = records ∙ records_counted scans is.facts.readings numbers;
+      marks = marks ∙ marks_counted scans is.facts.readings numbers;
+      torn = torn ∙ torn_counted scans is.facts.readings numbers;
       cutoff = ap (λ (w : Window). w.cutoff) is.window;
       checkpoint = number ∙ same_number found.choice.chosen ∙ ap (λ (o : Option CheckpointReading). option_map (λ (checkpoint : CheckpointReading). checkpoint.number) o) is.chosen;
       begin = ap (λ (w : Window). w.begin) is.window;

@@ -1,0 +1,88 @@
+-- How sources are scanned by workers, each with a pass to the board that the scans share.
+use Rattle.std.specs.Prelude.{◌≡◌, ℕ, suc, ◌≤◌, min, Option, Some, None, List, [], ◌∷◌, length, map, Result}
+use Rattle.std.specs.List.{AllZip, filter_map}
+use Rattle.std.specs.Vec.Iter.{into_iter_items}
+use Rattle.mt_words.specs.declared.fault.Fault.{Fault}
+use Rattle.mt_scan.specs.declared.log_scan.LogScan.{LogScan}
+use Rattle.mt_scan.specs.declared.part_scan.PartScan.{PartScan}
+use Rattle.mt_scan.specs.Sources.{Seen}
+use Rattle.mt_board.specs.Board.{BoardId, PassView, fresh_pass, least_of, least_noted, SawNoneBelow}
+use Rattle.mt_recover.specs.declared.scans.Kind.{Kind}
+use Rattle.mt_recover.specs.declared.scans.Kind.TheVariants as kinds
+use Rattle.mt_recover.specs.declared.scans.Outcomes.{Outcomes}
+use Rattle.mt_recover.specs.declared.scans.ScanJob.{ScanJob}
+use Rattle.mt_recover.specs.declared.scans.Scanned.{Scanned}
+use Rattle.mt_recover.specs.declared.scans.Scanned.TheVariants as scanned
+use Rattle.mt_recover.specs.declared.scans.Scans.{Scans}
+use Rattle.mt_recover.specs.Outcomes.{IsLogOutcome, IsPartOutcome, lasts}
+use Rattle.mt_recover.specs.Sharing.{AreDealt}
+
+-- ---- one list of jobs
+
+-- the jobs of sources of this kind, numbered from this number on
+abbrev pub numbered : {S : Type 0} → Kind → ℕ → List S → List (ScanJob S)
+numbered kind number [] = []
+numbered kind number (source ∷ sources) = record { kind = kind; number = number; source = source } ∷ numbered kind (suc number) sources
+
+-- the jobs of logs
+abbrev pub log_jobs : {S : Type 0} → ℕ → List S → List (ScanJob S)
+log_jobs = numbered kinds.Log
+
+-- the jobs of parts
+abbrev pub part_jobs : {S : Type 0} → ℕ → List S → List (ScanJob S)
+part_jobs = numbered kinds.Part
+
+-- what the scan of a source of this kind answers
+abbrev pub IsOutcome : ℕ → Kind → ℕ → Seen → Scanned → Type 0
+IsOutcome floor kinds.Log log seen (scanned.Log outcome) = IsLogOutcome floor log seen outcome
+IsOutcome floor kinds.Part part seen (scanned.Part outcome) = IsPartOutcome part seen outcome
+IsOutcome floor kinds.Log log seen (scanned.Part outcome) = ⊥
+IsOutcome floor kinds.Part part seen (scanned.Log outcome) = ⊥
+
+-- what the scan of a job's source answers, if no update below `floor` was dropped
+abbrev pub IsScanned : {S : Type 0} → (S → Seen) → ℕ → ScanJob S → Scanned → Type 0
+IsScanned seen floor job answer = IsOutcome floor job.kind job.number (seen job.source) answer
+
+abbrev pub log_in : Scanned → Option (Result LogScan Fault)
+log_in (scanned.Log outcome) = Some outcome
+log_in (scanned.Part outcome) = None
+
+abbrev pub part_in : Scanned → Option (Result PartScan Fault)
+part_in (scanned.Log outcome) = None
+part_in (scanned.Part outcome) = Some outcome
+
+-- what the scans of logs answered
+abbrev pub logs_in : List Scanned → List (Result LogScan Fault)
+logs_in = filter_map log_in
+
+-- what the scans of parts answered
+abbrev pub parts_in : List Scanned → List (Result PartScan Fault)
+parts_in = filter_map part_in
+
+-- ---- workers
+
+-- a pass of this board that has done nothing
+abbrev pub IsFresh : BoardId → PassView → Type 0
+IsFresh board pass = pass ≡ fresh_pass board pass.number
+
+-- The sources of these jobs were scanned, with a pass: it noted the last timestamp of each log that was scanned whole, and no other, and
+-- no update was dropped below the least number that it saw.
+pub record HasScanned {S : Type 0} (seen : S → Seen) (jobs : List (ScanJob S)) (answers : List Scanned) (before after : PassView) : Type 0 where
+  pub board : after.board ≡ before.board
+  pub noted : after.noted ≡ min before.noted (least_of (lasts (logs_in answers)))
+  pub falls : least_of after.looks ≤ least_of before.looks
+  pub answered : AllZip (IsScanned seen (least_of after.looks)) jobs answers
+
+-- the answers of a worker
+abbrev pub answers_of : Scans → List Scanned
+answers_of scans = into_iter_items scans.answers
+
+-- the passes of workers
+abbrev pub passes_of : List Scans → List PassView
+passes_of all = map (λ scans. scans.pass) all
+
+-- what workers answered was gathered, and their board closed
+pub record AreGathered (board : BoardId) (all : List Scans) (outcomes : Outcomes) : Type 0 where
+  pub logs : (answers : List Scanned) → AreDealt answers (map answers_of all) → outcomes.logs.items ≡ logs_in answers
+  pub parts : (answers : List Scanned) → AreDealt answers (map answers_of all) → outcomes.parts.items ≡ parts_in answers
+  pub saw : board.passes ≤ length all → SawNoneBelow (least_noted (passes_of all)) (passes_of all)

@@ -1,0 +1,53 @@
+-- What a scan drops does not survive.
+use Rattle.std.proofs.Common.{◌≡◌, ◌∙◌, ℕ, ◌≤◌, List, [], ◌∷◌, ◌++◌, Bool, false, refl, sym, ap, arith, cond}
+use Rattle.std.specs.List.{All, filter}
+use Rattle.std.proofs.lemmas.List.{append-nil}
+use Rattle.std.proofs.lemmas.List.Elements.{All-head, All-tail, All-nil, All-weaker}
+use Rattle.mt_words.specs.declared.update.Update.{Update}
+use Rattle.mt_words.specs.Updates.{updates_from}
+use Rattle.mt_record.specs.Logs.{LogReading}
+use Rattle.mt_record.specs.Kept.{kept_updates}
+use Rattle.mt_board.specs.Board.{least_of, nothing_noted}
+use Rattle.mt_scan.specs.declared.log_scan.LogScan.{LogScan}
+use Rattle.mt_scan.specs.Scans.{ShowsLog}
+use Rattle.mt_scan.specs.Dropping.{ShowsBelow}
+
+filter_front : (p : Update → Bool) (front back : List Update) → filter p back ≡ [] → filter p (front ++ back) ≡ filter p front
+filter_front p [] back none = none
+filter_front p (u ∷ us) back none = ap (λ (l : List Update). cond (p u) (u ∷ l) l) (filter_front p us back none)
+
+none_kept : (keeps : Update → Bool) (floor : ℕ) (late : List Update) → ((update : Update) → floor ≤ update.timestamp → keeps update ≡ false) → All (λ (u : Update). floor ≤ u.timestamp) late → filter keeps late ≡ []
+none_kept keeps floor [] none past = refl
+none_kept keeps floor (u ∷ us) none past =
+    let P : Update → Type 0 = λ (w : Update). floor ≤ w.timestamp in
+    ap (λ (b : Bool). cond b (u ∷ filter keeps us) (filter keeps us)) (none u (All-head P u us past)) ∙ none_kept keeps floor us none (All-tail P u us past)
+
+-- a filter that keeps nothing at or past the floor keeps the same of what the scan kept and of all updates of the log
+pub same_kept : (keeps : Update → Bool) (number floor : ℕ) (scan : LogScan) (log : LogReading) → ((update : Update) → floor ≤ update.timestamp → keeps update ≡ false) → ShowsBelow number floor scan log
+    → filter keeps (kept_updates scan.updates) ≡ filter keeps (updates_from number 0 log.records)
+same_kept keeps number floor scan log none s = sym (filter_front keeps (kept_updates scan.updates) s.late (none_kept keeps floor s.late none s.past)) ∙ ap (filter keeps) s.updates
+
+-- a scan that shows all below a floor does so below a lower one
+pub shows_lower : (number floor lower : ℕ) (scan : LogScan) (log : LogReading) → lower ≤ floor → ShowsBelow number floor scan log → ShowsBelow number lower scan log
+shows_lower number floor lower scan log le s = record {
+  numbers = s.numbers;
+  late = s.late;
+  updates = s.updates;
+  past = All-weaker (λ (u : Update). floor ≤ u.timestamp) (λ (u : Update). lower ≤ u.timestamp) (λ u is. omega (arith, is, le)) s.late s.past;
+  dropped = s.dropped;
+}
+
+-- a scan that dropped nothing shows all below any floor
+pub shows_all : (number floor : ℕ) (scan : LogScan) (log : LogReading) → ShowsLog number scan log → ShowsBelow number floor scan log
+shows_all number floor scan log s = record {
+  numbers = s.numbers;
+  late = [];
+  updates = append-nil (kept_updates scan.updates) ∙ s.updates;
+  past = All-nil (λ (u : Update). floor ≤ u.timestamp);
+  dropped = s.dropped;
+}
+
+-- what no look found below lies at or below the least look
+pub under_looks : (least : ℕ) (looks : List ℕ) → least ≤ nothing_noted → All (λ x. least ≤ x) looks → least ≤ least_of looks
+under_looks least [] small all = small
+under_looks least (x ∷ xs) small all = omega (arith, All-head (λ (y : ℕ). least ≤ y) x xs all, under_looks least xs small (All-tail (λ (y : ℕ). least ≤ y) x xs all))

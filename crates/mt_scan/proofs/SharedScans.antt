@@ -1,0 +1,97 @@
+-- The scan of a feed that dropped what came too late.
+use Rattle.std.proofs.Common.{◌≡◌, ◌∙◌, ℕ, suc, ◌+◌, ◌<◌, ◌≤◌, ◌^◌, List, [], ◌∷◌, ◌++◌, length, Option, Some, None, refl, sym, ap, subst, append_assoc, arith}
+use Rattle.std.specs.List.{All, filter, flat_map}
+use Rattle.std.proofs.lemmas.List.{append-nil, length-append}
+use Rattle.std.proofs.lemmas.List.Elements.{All-append, All-nil, All-cons, All-head, All-tail}
+use Rattle.mt_words.specs.declared.record.Change.{Change}
+use Rattle.mt_words.specs.declared.update.Update.{Update}
+use Rattle.mt_words.specs.Changes.{Logged}
+use Rattle.mt_words.specs.Updates.{updates_from, update_of}
+use Rattle.mt_record.specs.declared.read.LogText.{LogText}
+use Rattle.mt_record.specs.Spelling.{spelling}
+use Rattle.mt_record.specs.Heads.{head_bytes}
+use Rattle.mt_record.specs.Kept.{is_mark}
+use Rattle.mt_record.specs.Logs.{LogReading, IsReading, IsTextIn}
+use Rattle.mt_record.proofs.RecordLemmas.{marks_and_updates}
+use Rattle.mt_scan.specs.declared.shared_feed.SharedFeed.{SharedFeed}
+use Rattle.mt_scan.specs.Dropping.{IsScanBelow, KeepsBelow}
+use Rattle.mt_scan.specs.SharedFeeding.{taken_of, kept_in, scan_from, HasKept, HoldsKept, IsFedBelow}
+use Rattle.mt_scan.proofs.SharedFeeds.{count_both}
+
+-- records have no more bytes than there are of them
+spelled_long : (rs : List Logged) → length rs ≤ length (flat_map spelling rs)
+spelled_long [] = omega arith
+spelled_long (r ∷ rs) =
+    let rest = spelled_long rs in
+    let one : 1 ≤ length (spelling r) = omega arith in
+    omega (arith, rest, one, length-append (spelling r) (flat_map spelling rs))
+
+pub reading_long : (bytes : List ℕ) (log : LogReading) → IsReading bytes log → length log.records ≤ length bytes
+reading_long bytes log is =
+    let spelled = ap length is.is_log.spelled in
+    omega (arith, spelled, length-append (head_bytes log.head) (flat_map spelling log.records ++ is.tail), length-append (flat_map spelling log.records) is.tail, spelled_long log.records)
+
+updates_both : (log nth : ℕ) (xs ys : List Logged) → updates_from log nth xs ++ updates_from log (nth + length xs) ys ≡ updates_from log nth (xs ++ ys)
+updates_both log nth [] ys = ap (λ (n : ℕ). updates_from log n ys) (omega arith)
+updates_both log nth (x ∷ xs) ys =
+    append_assoc (update_of log nth x) (updates_from log (suc nth) xs) (updates_from log (nth + length (x ∷ xs)) ys)
+    ∙ ap (λ (us : List Update). update_of log nth x ++ us) (ap (λ (n : ℕ). updates_from log (suc nth) xs ++ updates_from log n ys) (omega arith) ∙ updates_both log (suc nth) xs ys)
+
+-- what holds of the timestamps of records holds of those of their updates
+all_updates : (P : ℕ → Type 0) (log nth : ℕ) (rs : List Logged) → All (λ r. P r.timestamp) rs → All (λ u. P u.timestamp) (updates_from log nth rs)
+all_updates P log nth [] all = All-nil (λ (u : Update). P u.timestamp)
+all_updates P log nth (r ∷ rs) all =
+    All-append (λ (u : Update). P u.timestamp) (update_of log nth r) (updates_from log (suc nth) rs) (one r.change refl)
+    (all_updates P log (suc nth) rs (All-tail (λ (q : Logged). P q.timestamp) r rs all))
+  where
+    one : (change : Option Change) → r.change ≡ change → All (λ (u : Update). P u.timestamp) (update_of log nth r)
+    one None is = rw is (All-nil (λ (u : Update). P u.timestamp))
+    one (Some change) is = rw is (All-cons (λ (u : Update). P u.timestamp) _ [] (All-head (λ (q : Logged). P q.timestamp) r rs all) (All-nil (λ (u : Update). P u.timestamp)))
+
+-- the records of the log are those that were kept and those that were dropped
+joins : (first floor : ℕ) (kept : Option (List Logged)) (late ready records : List Logged) (text : LogText (List Logged)) → HasKept first floor kept late → HoldsKept first kept ready → text.records ≡ ready
+    → (taken_of kept ++ late) ++ text.records ≡ records → kept_in kept text ++ late ≡ records
+joins first floor None late ready records text has holds same is =
+    ap (λ (l : List Logged). text.records ++ l) has ∙ append-nil text.records ∙ ap (λ (l : List Logged). l ++ text.records) (sym has) ∙ is
+joins first floor (Some kept) late ready records text has holds same is =
+    sym (append-nil (kept ++ late)) ∙ ap (λ (l : List Logged). (kept ++ late) ++ l) (sym (same ∙ holds)) ∙ is
+
+below : (first floor : ℕ) (kept : Option (List Logged)) (late ready : List Logged) (text : LogText (List Logged)) → HasKept first floor kept late → HoldsKept first kept ready → text.records ≡ ready
+    → All (λ r. r.timestamp < first) (kept_in kept text)
+below first floor None late ready text has holds same = subst (All (λ (r : Logged). r.timestamp < first)) (sym same) holds
+below first floor (Some kept) late ready text has holds same = has.1
+
+pub scan_is : (shared : SharedFeed) (first floor number : ℕ) (bytes : List ℕ) (text : LogText (List Logged)) (h : IsFedBelow shared first floor bytes) → length bytes < 2 ^ 64 → shared.feed.fault ≡ None
+    → IsTextIn (λ records. records) (taken_of shared.kept ++ h.behind.late) bytes text → text.records ≡ shared.feed.so_far.ready
+    → IsScanBelow number floor bytes (scan_from number text shared.kept shared.dropped shared.marks) × KeepsBelow first (scan_from number text shared.kept shared.dropped shared.marks)
+scan_is shared first floor number bytes text h small sound is same =
+    let late : List Logged = h.behind.late in
+    let early : List Logged = kept_in shared.kept text in
+    let has = h.behind.kept sound in
+    let holds = h.holds sound in
+    let all : early ++ late ≡ is.log.records = joins first floor shared.kept late shared.feed.so_far.ready is.log.records text has holds same is.shows.records in
+    let long = reading_long bytes is.log is.is_reading in
+    let lengths = ap length all in
+    let parts = length-append early late in
+    let marks : length (filter is_mark is.log.records) ≡ length (filter is_mark early) + length (filter is_mark late) = ap (λ (rs : List Logged). length (filter is_mark rs)) (sym all) ∙ count_both early late in
+    let some = marks_and_updates number 0 early in
+    let others = marks_and_updates number (0 + length early) late in (
+      record {
+        log = is.log;
+        is_reading = is.is_reading;
+        shows = record {
+          numbers = record {
+            from = is.shows.from;
+            last = is.shows.last;
+            whole = omega (arith, is.shows.whole, long, small);
+            marks = omega (arith, marks, h.behind.marks, some, others, lengths, parts, long, small);
+            torn = is.shows.torn;
+          };
+          late = updates_from number (0 + length early) late;
+          updates = updates_both number 0 early late ∙ ap (updates_from number 0) all;
+          dropped = omega (arith, h.behind.dropped, others, lengths, parts, long, small);
+          past = all_updates (λ (n : ℕ). floor ≤ n) number (0 + length early) late h.behind.past;
+        };
+      },
+      all_updates (λ (n : ℕ). n < first) number 0 early (below first floor shared.kept late shared.feed.so_far.ready text has holds same),
+    )
