@@ -131,22 +131,22 @@ none_scanned seen pass small = record { board = refl; noted = omega (arith, smal
 -- the source of a log was scanned
 pub log_scanned : {S : Type 0} (seen : S → Seen) (job : ScanJob S) (answer : Result LogScan Fault) (before after : PassView) → job.kind ≡ kinds.Log → before.noted ≤ nothing_noted
     → IfOk answer (λ scan. OfTold (seen job.source).told (λ bytes. IsSharedScan job.number before after bytes scan)) → IfErr answer (λ fault. OfTold (seen job.source).told (λ bytes. IsScanFault job.number bytes fault))
-    → OnErr answer ((first : ℕ) × HasLooked first before after) → (IsTrue (seen job.source).steady → failures_of answer ≡ 0) → HasScanned seen (job ∷ []) (scanned.Log answer ∷ []) before after
+    → OnErr answer (HasLooked before after) → (IsTrue (seen job.source).steady → failures_of answer ≡ 0) → HasScanned seen (job ∷ []) (scanned.Log answer ∷ []) before after
 log_scanned {S} seen job (Ok scan) before after kind small is fails unnoted steady =
     let shared = is.2 in
     let outcome : IsLogOutcome (least_of after.looks) job.number (seen job.source) (Ok scan) = record { scan = (is.0, is.1, shared.is); fault = tt; steady = steady } in
     record {
       board = ap (λ (p : PassView). p.board) shared.looked.rest;
       noted = omega (arith, ap (λ (p : PassView). p.noted) shared.looked.rest, small);
-      falls = omega (arith, ap least_of shared.looked.looks, least_both before.looks (shared.first ∷ shared.looked.more));
+      falls = omega (arith, ap least_of shared.looked.looks, least_both before.looks (shared.looked.first ∷ shared.looked.more));
       answered = (rw kind outcome, tt);
     }
 log_scanned {S} seen job (Err fault) before after kind small is fails unnoted steady =
     let outcome : IsLogOutcome (least_of after.looks) job.number (seen job.source) (Err fault) = record { scan = tt; fault = fails; steady = steady } in
     record {
-      board = ap (λ (p : PassView). p.board) unnoted.1.rest;
-      noted = omega (arith, ap (λ (p : PassView). p.noted) unnoted.1.rest, small);
-      falls = omega (arith, ap least_of unnoted.1.looks, least_both before.looks (unnoted.0 ∷ unnoted.1.more));
+      board = ap (λ (p : PassView). p.board) unnoted.rest;
+      noted = omega (arith, ap (λ (p : PassView). p.noted) unnoted.rest, small);
+      falls = omega (arith, ap least_of unnoted.looks, least_both before.looks (unnoted.first ∷ unnoted.more));
       answered = (rw kind outcome, tt);
     }
 

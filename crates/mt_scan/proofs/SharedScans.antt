@@ -13,10 +13,10 @@ use Rattle.mt_record.specs.Heads.{head_bytes}
 use Rattle.mt_record.specs.Kept.{is_mark}
 use Rattle.mt_record.specs.Logs.{LogReading, IsReading, IsTextIn}
 use Rattle.mt_record.proofs.RecordLemmas.{marks_and_updates}
-use Rattle.mt_scan.specs.declared.shared_feed.SharedFeed.{SharedFeed}
+use Rattle.mt_scan.specs.declared.dropping_feed.DroppingFeed.{DroppingFeed}
 use Rattle.mt_scan.specs.Dropping.{IsScanBelow, KeepsBelow}
-use Rattle.mt_scan.specs.SharedFeeding.{taken_of, kept_in, scan_from, HasKept, HoldsKept, IsFedBelow}
-use Rattle.mt_scan.proofs.SharedFeeds.{count_both}
+use Rattle.mt_scan.specs.DroppingFeeds.{taken_of, kept_in, scan_from, GoesOn, KeepsRecords, IsFedBelow}
+use Rattle.mt_scan.proofs.DroppingFeeds.{count_both}
 
 -- records have no more bytes than there are of them
 spelled_long : (rs : List Logged) → length rs ≤ length (flat_map spelling rs)
@@ -49,27 +49,25 @@ all_updates P log nth (r ∷ rs) all =
     one (Some change) is = rw is (All-cons (λ (u : Update). P u.timestamp) _ [] (All-head (λ (q : Logged). P q.timestamp) r rs all) (All-nil (λ (u : Update). P u.timestamp)))
 
 -- the records of the log are those that were kept and those that were dropped
-joins : (first floor : ℕ) (kept : Option (List Logged)) (late ready records : List Logged) (text : LogText (List Logged)) → HasKept first floor kept late → HoldsKept first kept ready → text.records ≡ ready
+joins : (floor : ℕ) (kept : Option (List Logged)) (late ready records : List Logged) (text : LogText (List Logged)) → GoesOn floor kept late → KeepsRecords floor kept ready → text.records ≡ ready
     → (taken_of kept ++ late) ++ text.records ≡ records → kept_in kept text ++ late ≡ records
-joins first floor None late ready records text has holds same is =
-    ap (λ (l : List Logged). text.records ++ l) has ∙ append-nil text.records ∙ ap (λ (l : List Logged). l ++ text.records) (sym has) ∙ is
-joins first floor (Some kept) late ready records text has holds same is =
-    sym (append-nil (kept ++ late)) ∙ ap (λ (l : List Logged). (kept ++ late) ++ l) (sym (same ∙ holds)) ∙ is
+joins floor None late ready records text none keeps same is =
+    ap (λ (l : List Logged). text.records ++ l) none ∙ append-nil text.records ∙ ap (λ (l : List Logged). l ++ text.records) (sym none) ∙ is
+joins floor (Some kept) late ready records text goes_on keeps same is =
+    sym (append-nil (kept ++ late)) ∙ ap (λ (l : List Logged). (kept ++ late) ++ l) (sym (same ∙ keeps.0)) ∙ is
 
-below : (first floor : ℕ) (kept : Option (List Logged)) (late ready : List Logged) (text : LogText (List Logged)) → HasKept first floor kept late → HoldsKept first kept ready → text.records ≡ ready
-    → All (λ r. r.timestamp < first) (kept_in kept text)
-below first floor None late ready text has holds same = subst (All (λ (r : Logged). r.timestamp < first)) (sym same) holds
-below first floor (Some kept) late ready text has holds same = has.1
+below : (floor : ℕ) (kept : Option (List Logged)) (ready : List Logged) (text : LogText (List Logged)) → KeepsRecords floor kept ready → text.records ≡ ready → All (λ r. r.timestamp < floor) (kept_in kept text)
+below floor None ready text keeps same = subst (All (λ (r : Logged). r.timestamp < floor)) (sym same) keeps
+below floor (Some kept) ready text keeps same = keeps.1
 
-pub scan_is : (shared : SharedFeed) (first floor number : ℕ) (bytes : List ℕ) (text : LogText (List Logged)) (h : IsFedBelow shared first floor bytes) → length bytes < 2 ^ 64 → shared.feed.fault ≡ None
-    → IsTextIn (λ records. records) (taken_of shared.kept ++ h.behind.late) bytes text → text.records ≡ shared.feed.so_far.ready
-    → IsScanBelow number floor bytes (scan_from number text shared.kept shared.dropped shared.marks) × KeepsBelow first (scan_from number text shared.kept shared.dropped shared.marks)
-scan_is shared first floor number bytes text h small sound is same =
-    let late : List Logged = h.behind.late in
-    let early : List Logged = kept_in shared.kept text in
-    let has = h.behind.kept sound in
-    let holds = h.holds sound in
-    let all : early ++ late ≡ is.log.records = joins first floor shared.kept late shared.feed.so_far.ready is.log.records text has holds same is.shows.records in
+pub scan_is : (feed : DroppingFeed) (floor number : ℕ) (bytes : List ℕ) (text : LogText (List Logged)) (h : IsFedBelow feed floor bytes) → length bytes < 2 ^ 64 → feed.feed.fault ≡ None
+    → IsTextIn (λ records. records) (taken_of feed.kept ++ h.read.late) bytes text → text.records ≡ feed.feed.so_far.ready
+    → IsScanBelow number floor bytes (scan_from number text feed.kept feed.dropped feed.marks) × KeepsBelow floor (scan_from number text feed.kept feed.dropped feed.marks)
+scan_is feed floor number bytes text h small sound is same =
+    let late : List Logged = h.read.late in
+    let early : List Logged = kept_in feed.kept text in
+    let keeps = h.keeps sound in
+    let all : early ++ late ≡ is.log.records = joins floor feed.kept late feed.feed.so_far.ready is.log.records text (h.read.goes_on sound) keeps same is.shows.records in
     let long = reading_long bytes is.log is.is_reading in
     let lengths = ap length all in
     let parts = length-append early late in
@@ -84,14 +82,14 @@ scan_is shared first floor number bytes text h small sound is same =
             from = is.shows.from;
             last = is.shows.last;
             whole = omega (arith, is.shows.whole, long, small);
-            marks = omega (arith, marks, h.behind.marks, some, others, lengths, parts, long, small);
+            marks = omega (arith, marks, h.read.marks, some, others, lengths, parts, long, small);
             torn = is.shows.torn;
           };
           late = updates_from number (0 + length early) late;
           updates = updates_both number 0 early late ∙ ap (updates_from number 0) all;
-          dropped = omega (arith, h.behind.dropped, others, lengths, parts, long, small);
-          past = all_updates (λ (n : ℕ). floor ≤ n) number (0 + length early) late h.behind.past;
+          past = all_updates (λ (n : ℕ). floor ≤ n) number (0 + length early) late h.read.past;
+          dropped = omega (arith, h.read.dropped, others, lengths, parts, long, small);
         };
       },
-      all_updates (λ (n : ℕ). n < first) number 0 early (below first floor shared.kept late shared.feed.so_far.ready text has holds same),
+      all_updates (λ (n : ℕ). n < floor) number 0 early (below floor feed.kept feed.feed.so_far.ready text keeps same),
     )

@@ -1,128 +1,128 @@
 -- The steps of a shared scan.
-use Rattle.std.proofs.Common.{◌≡◌, min, ◌⊎◌, inl, inr, ◌∙◌, ℕ, ◌+◌, ◌<◌, ◌≤◌, ◌^◌, List, [], ◌∷◌, ◌++◌, length, Bool, true, false, Result, Ok, Err, get_or, refl, sym, ap, subst, append_assoc, length-append, arith, cond}
+use Rattle.std.proofs.Common.{◌≡◌, min, ◌⊎◌, inl, inr, ◌∙◌, ℕ, ◌+◌, ◌<◌, ◌≤◌, ◌^◌, List, [], ◌∷◌, ◌++◌, length, Bool, Option, Some, None, Result, Ok, Err, refl, sym, ap, subst, append_assoc, append-nil, length-append, arith}
 use Rattle.std.proofs.lemmas.Bool.{false≢true}
-use Rattle.std.specs.List.{All}
-use Rattle.std.specs.Result.{IfOk, OnOk, IsErr, is_err}
+use Rattle.std.specs.Prelude.{nat_lt, true, false}
+use Rattle.std.proofs.lemmas.Bool.Decides.{nat_tests}
+use Rattle.std.specs.Result.{OnOk, IsErr, is_err}
 use Rattle.std.specs.Io.KnownBytes.{Consumes, IsAtEnd}
-use Rattle.std.proofs.Math.Seq.{get_or-append_seam}
 use Rattle.mt_board.specs.Board.{PassView, least_of, nothing_noted}
+use Rattle.mt_scan.specs.declared.dropping_feed.DroppingFeed.{DroppingFeed}
 use Rattle.mt_scan.specs.Sources.{Seen}
-use Rattle.mt_scan.specs.Keeping.{NeedsNoMore}
-use Rattle.mt_scan.specs.Dropping.{HasLooked, FeedsBelow, HasSharedPiece, HasSharedAll}
+use Rattle.mt_scan.specs.Dropping.{HasLooked}
+use Rattle.mt_scan.specs.DroppingFeeds.{IsFedBelow, HasStopped}
+use Rattle.mt_scan.specs.Sharing.{FeedsBelow, SharesPiece, SharesAll}
+use Rattle.mt_scan.proofs.DroppingFeeds.{stays_fed}
 use Rattle.mt_scan.proofs.Telling.{goes_on, handed_out, all_handed_out}
-use Rattle.mt_scan.proofs.Drops.{under_looks}
 
--- these bytes were handed out and fed, below the first look and down to the least
-pub record HasSharedSoFar {F : Type 0} (was_fed : F → ℕ → ℕ → List ℕ → Type 0) (has_stopped : F → Type 0) (begun now : Seen) (feed : F) (before after : PassView) (more : Bool) : Type 0 where
-  pub first : ℕ
-  pub looked : HasLooked first before after
+-- these bytes were handed out and fed, below the least number that the pass has seen
+pub record HasShared (begun now : Seen) (feed : DroppingFeed) (before after : PassView) : Type 0 where
+  pub more : List ℕ
+  pub looks : after.looks ≡ before.looks ++ more
+  pub rest : after ≡ record before { looks = after.looks }
   pub bytes : List ℕ
   pub handed_out : Consumes begun.told now.told bytes
-  pub falls : now.bound + length bytes ≤ begun.bound
-  pub bounded : begun.bound < 2 ^ 64
-  pub fed : was_fed feed first (least_of after.looks) bytes
-  pub stops : more ≡ false → IsAtEnd now.told ⊎ has_stopped feed
+  pub fed : IsFedBelow feed (least_of after.looks) bytes
+  pub bounded : now.bound < 2 ^ 64 → now.bound + length bytes < 2 ^ 64
 
 -- ---- looks
 
-pub least_last : (xs : List ℕ) (x : ℕ) → x ≤ least_of xs → x ≤ nothing_noted → least_of (xs ++ x ∷ []) ≡ x
-least_last [] x low small = omega (arith, small)
-least_last (y ∷ ys) x low small = let rest = least_last ys x (omega (arith, low)) small in omega (arith, low, rest)
+least_small : (xs : List ℕ) → least_of xs ≤ nothing_noted
+least_small [] = omega arith
+least_small (x ∷ xs) = let rest = least_small xs in omega (arith, rest)
 
--- one more look
-pub looked_on : (first floor : ℕ) (before old new : PassView) → HasLooked first before old → new ≡ record old { looks = old.looks ++ floor ∷ [] } → HasLooked first before new
-looked_on first floor before old new h is =
-    let looks : new.looks ≡ old.looks ++ floor ∷ [] = ap (λ (p : PassView). p.looks) is in record {
-      more = h.more ++ floor ∷ [];
-      looks = looks ∙ ap (λ (l : List ℕ). l ++ floor ∷ []) h.looks ∙ append_assoc before.looks (first ∷ h.more) (floor ∷ []);
-      rest = is ∙ ap (λ (p : PassView). record p { looks = old.looks ++ floor ∷ [] }) h.rest ∙ ap (λ (l : List ℕ). record before { looks = l }) (sym looks);
-    }
+least_last : (xs : List ℕ) (x : ℕ) → x ≤ least_of xs → least_of (xs ++ x ∷ []) ≡ x
+least_last [] x low = omega (arith, low)
+least_last (y ∷ ys) x low = let rest = least_last ys x (omega (arith, low)) in omega (arith, low, rest)
 
--- a look that is below all before it is below the first
-pub below_first : (first floor : ℕ) (before old : PassView) → HasLooked first before old → All (λ x. floor ≤ x) old.looks → floor ≤ first
-below_first first floor before old h seen =
-    let there : All (λ x. floor ≤ x) (before.looks ++ first ∷ h.more) = subst (All (λ x. floor ≤ x)) h.looks seen in
-    let at : floor ≤ get_or (before.looks ++ first ∷ h.more) (length before.looks) 0 = there (length before.looks) 0 (omega (arith, length-append before.looks (first ∷ h.more))) in
-    omega (arith, at, get_or-append_seam before.looks first h.more 0)
+looked_on : (before middle after : PassView) (floor : ℕ) → middle ≡ record before { looks = middle.looks } → after ≡ record middle { looks = middle.looks ++ floor ∷ [] } → after ≡ record before { looks = after.looks }
+looked_on before middle after floor was is =
+    let looks : after.looks ≡ middle.looks ++ floor ∷ [] = ap (λ (p : PassView). p.looks) is in
+    is ∙ ap (λ (p : PassView). record p { looks = middle.looks ++ floor ∷ [] }) was ∙ ap (λ (l : List ℕ). record before { looks = l }) (sym looks)
 
-module _ {F SourceFault : Type 0} (was_fed : F → ℕ → ℕ → List ℕ → Type 0) (has_stopped : F → Type 0) where
-  -- the first piece
-  pub first_shared : (begun now : Seen) (old new : F) (before after : PassView) (answer : Result Bool SourceFault) (more : Bool) → answer ≡ Ok more
-      → HasSharedPiece was_fed has_stopped begun now old new before after answer → ((floor : ℕ) → was_fed old floor floor [])
-      → HasSharedSoFar was_fed has_stopped begun now new before after more
-  first_shared begun now old new before after answer more ok h new_feed =
-      let f : FeedsBelow (λ feed. was_fed feed h.floor h.floor) has_stopped begun now new [] more =
-      subst (λ (a : Result Bool SourceFault). IfOk a (FeedsBelow (λ feed. was_fed feed h.floor h.floor) has_stopped begun now new [])) ok (h.fed h.floor [] (omega arith) (new_feed h.floor)) in
-      let looks : after.looks ≡ before.looks ++ h.floor ∷ [] = ap (λ (p : PassView). p.looks) h.looked in
-      let least : least_of after.looks ≡ h.floor = ap least_of looks ∙ least_last before.looks h.floor (under_looks h.floor before.looks h.small h.seen_above) h.small in record {
-        first = h.floor;
-        looked = record { more = []; looks = looks; rest = h.looked ∙ ap (λ (l : List ℕ). record before { looks = l }) (sym looks) };
-        bytes = f.piece;
-        handed_out = f.next;
-        falls = f.falls;
-        bounded = h.bounded;
-        fed = subst (λ (n : ℕ). was_fed new h.floor n f.piece) (sym least) f.fed;
-        stops = f.stops;
-      }
+-- ---- pieces
 
-  -- one more
-  pub next_shared : (begun seen now : Seen) (old new : F) (before middle after : PassView) (was : Bool) (answer : Result Bool SourceFault) (more : Bool) → answer ≡ Ok more
-      → ((first floor lower : ℕ) (bytes : List ℕ) → lower ≤ floor → was_fed old first floor bytes → was_fed old first lower bytes)
-      → HasSharedSoFar was_fed has_stopped begun seen old before middle was → HasSharedPiece was_fed has_stopped seen now old new middle after answer
-      → HasSharedSoFar was_fed has_stopped begun now new before after more
-  next_shared begun seen now old new before middle after was answer more ok lowered s h =
-      let low : h.floor ≤ least_of middle.looks = under_looks h.floor middle.looks h.small h.seen_above in
-      let old_fed : was_fed old s.first h.floor s.bytes = lowered s.first (least_of middle.looks) h.floor s.bytes low s.fed in
-      let f : FeedsBelow (λ feed. was_fed feed s.first h.floor) has_stopped seen now new s.bytes more =
-      subst (λ (a : Result Bool SourceFault). IfOk a (FeedsBelow (λ feed. was_fed feed s.first h.floor) has_stopped seen now new s.bytes)) ok
-      (h.fed s.first s.bytes (below_first s.first h.floor before middle s.looked h.seen_above) old_fed) in
-      let looks : after.looks ≡ middle.looks ++ h.floor ∷ [] = ap (λ (p : PassView). p.looks) h.looked in
-      let least : least_of after.looks ≡ h.floor = ap least_of looks ∙ least_last middle.looks h.floor low h.small in record {
-        first = s.first;
-        looked = looked_on s.first h.floor before middle after s.looked h.looked;
-        bytes = s.bytes ++ f.piece;
-        handed_out = goes_on begun.told seen.told now.told s.bytes f.piece s.handed_out f.next;
-        falls = omega (arith, s.falls, f.falls, length-append s.bytes f.piece);
-        bounded = s.bounded;
-        fed = subst (λ (n : ℕ). was_fed new s.first n (s.bytes ++ f.piece)) (sym least) f.fed;
-        stops = f.stops;
-      }
+-- a piece with bytes, and one without
+pub some_bytes : (count : ℕ) → nat_lt 0 count ≡ true → 0 < count
+some_bytes count is = grind (arith, nat_tests)
 
--- the end
-pub all_shared : {F : Type 0} (was_fed : F → ℕ → ℕ → List ℕ → Type 0) (has_stopped : F → Type 0) (begun now : Seen) (feed : F) (before after : PassView) (more : Bool) → more ≡ false
-    → ((first floor : ℕ) → has_stopped feed → NeedsNoMore (λ f. was_fed f first floor) feed)
-    → HasSharedSoFar was_fed has_stopped begun now feed before after more → HasSharedAll was_fed has_stopped begun.told feed before after
-all_shared {F} was_fed has_stopped begun now feed before after more done stays s = by (s.stops done)
+pub no_bytes : (count : ℕ) → nat_lt 0 count ≡ false → count ≡ 0
+no_bytes count is = grind (arith, nat_tests)
+
+-- none
+pub none_shared : (seen : Seen) (feed : DroppingFeed) (pass : PassView) → ((floor : ℕ) → IsFedBelow feed floor []) → HasShared seen seen feed pass pass
+none_shared seen feed pass new = record {
+  more = [];
+  looks = sym (append-nil pass.looks);
+  rest = refl;
+  bytes = [];
+  handed_out = nothing seen.told;
+  fed = new (least_of pass.looks);
+  bounded = λ small. omega (arith, small);
+}
   where
-    by : IsAtEnd now.told ⊎ has_stopped feed → HasSharedAll was_fed has_stopped begun.told feed before after
-    by (inl ends) = record {
-      bytes = s.bytes;
-      agrees = all_handed_out begun.told now.told s.bytes s.handed_out ends;
-      first = s.first;
-      looked = s.looked;
-      fed = s.fed;
-      few = inr (omega (arith, s.falls, s.bounded));
-    }
-    by (inr stopped) =
-        let rest = handed_out begun.told now.told s.bytes s.handed_out in record {
-          bytes = s.bytes ++ rest.0;
-          agrees = rest.1;
-          first = s.first;
-          looked = s.looked;
-          fed = stays s.first (least_of after.looks) stopped s.bytes rest.0 s.fed;
-          few = inl stopped;
+    nothing : (told : Option (List ℕ)) → Consumes told told []
+    nothing None = tt
+    nothing (Some told) = refl
+
+module _ {SourceFault : Type 0} (begun seen now : Seen) (old new : DroppingFeed) (before middle after : PassView) (s : HasShared begun seen old before middle) where
+  -- one more look
+  pub has_looked : (answer : Result Bool SourceFault) → SharesPiece seen now old new middle after answer → HasLooked before after
+  has_looked answer h = by s.more refl
+    where
+      looks : after.looks ≡ (before.looks ++ s.more) ++ h.floor ∷ []
+      looks = ap (λ (p : PassView). p.looks) h.looked ∙ ap (λ (l : List ℕ). l ++ h.floor ∷ []) s.looks
+
+      rest : after ≡ record before { looks = after.looks }
+      rest = looked_on before middle after h.floor s.rest h.looked
+
+      by : (more : List ℕ) → s.more ≡ more → HasLooked before after
+      by [] is = record { first = h.floor; more = []; looks = looks ∙ append_assoc before.looks s.more (h.floor ∷ []) ∙ ap (λ (l : List ℕ). before.looks ++ (l ++ h.floor ∷ [])) is; rest = rest }
+      by (x ∷ xs) is = record { first = x; more = xs ++ h.floor ∷ []; looks = looks ∙ append_assoc before.looks s.more (h.floor ∷ []) ∙ ap (λ (l : List ℕ). before.looks ++ (l ++ h.floor ∷ [])) is; rest = rest }
+
+  -- what the next one is fed below
+  module _ (more : Bool) (answer : Result Bool SourceFault) (ok : answer ≡ Ok more) (h : SharesPiece seen now old new middle after answer) where
+    pub feeds : FeedsBelow h.floor seen now new s.bytes more
+    feeds = rw ok at (h.fed (least_of middle.looks) s.bytes h.low s.fed)
+
+    -- one more piece
+    pub next_shared : HasShared begun now new before after
+    next_shared =
+        let looks : after.looks ≡ middle.looks ++ h.floor ∷ [] = ap (λ (p : PassView). p.looks) h.looked in
+        let least : least_of after.looks ≡ h.floor = ap least_of looks ∙ least_last middle.looks h.floor h.low in
+        let short = s.bounded h.bounded in record {
+          more = s.more ++ h.floor ∷ [];
+          looks = looks ∙ ap (λ (l : List ℕ). l ++ h.floor ∷ []) s.looks ∙ append_assoc before.looks s.more (h.floor ∷ []);
+          rest = looked_on before middle after h.floor s.rest h.looked;
+          bytes = s.bytes ++ feeds.piece;
+          handed_out = goes_on begun.told seen.told now.told s.bytes feeds.piece s.handed_out feeds.next;
+          fed = subst (λ (n : ℕ). IsFedBelow new n (s.bytes ++ feeds.piece)) (sym least) feeds.fed;
+          bounded = λ small. omega (arith, short, feeds.falls, length-append s.bytes feeds.piece);
         }
 
--- what is left of a loop that goes on while there is more
-pub nearer_end : (was more : Bool) (before after : ℕ) → was ≡ true → (more ≡ true → after < before) → cond more (after + 1) 0 < cond was (before + 1) 0
-nearer_end false more before after is nearer = absurd (false≢true is)
-nearer_end true true before after is nearer = let less = nearer refl in omega (arith, less)
-nearer_end true false before after is nearer = omega arith
+    -- the last one
+    pub all_shared : more ≡ false → SharesAll begun.told new after
+    unfolding next_shared
+    all_shared last = by (feeds.stops last)
+      where
+        bytes : List ℕ
+        bytes = s.bytes ++ feeds.piece
+
+        few : length bytes < 2 ^ 64
+        few = let short = s.bounded h.bounded in omega (arith, short, feeds.falls, length-append s.bytes feeds.piece)
+
+        by : IsAtEnd now.told ⊎ HasStopped new → SharesAll begun.told new after
+        by (inl ends) = record { bytes = bytes; agrees = all_handed_out begun.told now.told bytes next_shared.handed_out ends; fed = next_shared.fed; few = inr few }
+        by (inr stopped) =
+            let rest = handed_out begun.told now.told bytes next_shared.handed_out in
+            record { bytes = bytes ++ rest.0; agrees = rest.1; fed = stays_fed new (least_of after.looks) bytes rest.0 stopped next_shared.fed; few = inl stopped }
+
+-- ---- the scan
 
 -- the log's last timestamp was noted after all looks
-pub noted_on : (first last : ℕ) (before old new : PassView) → HasLooked first before old → new ≡ record old { noted = min old.noted last } → HasLooked first (record before { noted = min before.noted last }) new
-noted_on first last before old new h is =
+pub noted_on : (last : ℕ) (before old new : PassView) → HasLooked before old → new ≡ record old { noted = min old.noted last } → HasLooked (record before { noted = min before.noted last }) new
+noted_on last before old new h is =
     let looks : new.looks ≡ old.looks = ap (λ (p : PassView). p.looks) is in record {
+      first = h.first;
       more = h.more;
       looks = looks ∙ h.looks;
       rest = is ∙ ap (λ (p : PassView). record p { noted = min p.noted last }) h.rest ∙ ap (λ (l : List ℕ). record before { noted = min before.noted last; looks = l }) (sym looks);

@@ -1,8 +1,8 @@
 use Rattle.std.proofs.Common.{rules, ◌∙◌, ◌<◌, ◌^◌, ℕ, List, length, refl, sym, ap, subst}
 use Rattle.mt_board.specs.Board.{PassView, least_of}
 use Rattle.mt_scan.specs.Scans.{IsScanFault, OfTold}
-use Rattle.mt_scan.specs.Dropping.{IsScanBelow, KeepsBelow, HasSharedAll}
-use Rattle.mt_scan.specs.SharedFeeding.{IsFedBelow, HasStopped}
+use Rattle.mt_scan.specs.Dropping.{IsScanBelow, KeepsBelow}
+use Rattle.mt_scan.specs.Sharing.{SharesAll}
 use Rattle.mt_scan.proofs.Telling.{some_bytes}
 use Rattle.mt_scan.proofs.Steps.{answered}
 use Rattle.mt_scan.proofs.Shares.{noted_on, few_bytes, not_err}
@@ -16,24 +16,23 @@ returns-then-is_err-clause-fault g c =
 pub returns-in_err-scan-clause-fault : goal.returns-in_err-scan-clause-fault
 returns-in_err-scan-clause-fault g c =
     let told = (g.S.Source.seen c.args.source.now).told in
-    let s = not_err (HasSharedAll IsFedBelow HasStopped told c.feed_all_shared.new.feed c.args.pass.now c.feed_all_shared.new.pass) c.feed_all_shared.result c.feed_all_shared.ensures.fed (sym c.is_err.ensures.value ∙ c.if-is_err.false) in
-    let is = c.in_err-scan.ensures.fault s.first (least_of c.feed_all_shared.new.pass.looks) s.bytes s.fed in
+    let s = not_err (SharesAll told c.feed_all_shared.new.feed c.feed_all_shared.new.pass) c.feed_all_shared.result c.feed_all_shared.ensures.fed (sym c.is_err.ensures.value ∙ c.if-is_err.false) in
+    let is = c.in_err-scan.ensures.fault (least_of c.feed_all_shared.new.pass.looks) s.bytes s.fed in
     let h : OfTold told (λ bytes. IsScanFault c.args.log bytes c.in_err-scan.field-0.0) = (s.bytes, s.agrees, subst (IsScanFault c.args.log s.bytes) (sym is.is) (answered c.args.log s.bytes is.of_bytes is.answered)) in
     search (rules, h)
 
 pub returns-clause-scan : goal.returns-clause-scan
 returns-clause-scan g c =
     let told = (g.S.Source.seen c.args.source.now).told in
-    let s = not_err (HasSharedAll IsFedBelow HasStopped told c.feed_all_shared.new.feed c.args.pass.now c.feed_all_shared.new.pass) c.feed_all_shared.result c.feed_all_shared.ensures.fed (sym c.is_err.ensures.value ∙ c.if-is_err.false) in
+    let s = not_err (SharesAll told c.feed_all_shared.new.feed c.feed_all_shared.new.pass) c.feed_all_shared.result c.feed_all_shared.ensures.fed (sym c.is_err.ensures.value ∙ c.if-is_err.false) in
     let few : length s.bytes < 2 ^ 64 = few_bytes (length s.bytes) c.finish_below.result c.in_ok-scan.scan s.few c.finish_below.ensures.stopped c.in_ok-scan.was in
-    let is : IsScanBelow c.args.log (least_of c.feed_all_shared.new.pass.looks) s.bytes c.in_ok-scan.scan × KeepsBelow s.first c.in_ok-scan.scan = c.in_ok-scan.ensures.scan s.first (least_of c.feed_all_shared.new.pass.looks) s.bytes s.fed few in
+    let is : IsScanBelow c.args.log (least_of c.feed_all_shared.new.pass.looks) s.bytes c.in_ok-scan.scan × KeepsBelow (least_of c.feed_all_shared.new.pass.looks) c.in_ok-scan.scan = c.in_ok-scan.ensures.scan (least_of c.feed_all_shared.new.pass.looks) s.bytes s.fed few in
     let looks = ap (λ (p : PassView). p.looks) c.note.ensures in (
       s.bytes,
       s.agrees,
       record {
-        first = s.first;
-        looked = noted_on s.first c.in_ok-scan.scan.last c.args.pass.now c.feed_all_shared.new.pass c.note.new.pass s.looked c.note.ensures;
+        looked = noted_on c.in_ok-scan.scan.last c.args.pass.now c.feed_all_shared.new.pass c.note.new.pass c.feed_all_shared.ensures.looked c.note.ensures;
         is = subst (λ (l : List ℕ). IsScanBelow c.args.log (least_of l) s.bytes c.in_ok-scan.scan) (sym looks) is.0;
-        kept = is.1;
+        kept = subst (λ (l : List ℕ). KeepsBelow (least_of l) c.in_ok-scan.scan) (sym looks) is.1;
       },
     )

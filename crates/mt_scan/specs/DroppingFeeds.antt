@@ -1,0 +1,60 @@
+-- The feed of a scan that drops what comes too late.
+use Rattle.std.specs.Prelude.{◌≡◌, ℕ, ◌-◌, ◌≤◌, ◌<◌, ◌+◌, ◌^◌, min, Option, Some, None, List, [], ◌++◌, length, filter, All, IsSome}
+use Rattle.mt_words.specs.Changes.{Logged}
+use Rattle.mt_record.specs.Kept.{is_mark}
+use Rattle.mt_record.specs.Logs.{count_of, latest}
+use Rattle.mt_record.specs.LogFeeding.{IsLogFed}
+use Rattle.mt_record.specs.declared.read.LogText.{LogText}
+use Rattle.mt_scan.specs.declared.log_scan.LogScan.{LogScan}
+use Rattle.mt_scan.specs.declared.dropping_feed.DroppingFeed.{DroppingFeed}
+
+-- the records that were taken out of the feed to be kept
+abbrev pub taken_of : Option (List Logged) → List Logged
+taken_of None = []
+taken_of (Some kept) = kept
+
+-- what follows is to be looked at, if nothing was dropped; else all of it lies at or past `floor`, since timestamps do not fall
+abbrev pub GoesOn : ℕ → Option (List Logged) → List Logged → Type 0
+GoesOn floor None late = late ≡ []
+GoesOn floor (Some kept) late = floor ≤ latest 0 (kept ++ late)
+
+-- These bytes were fed, and of what they say these last records were dropped: all lie at or past `floor`, and so many updates and marks
+-- are among them.
+pub record HasRead (feed : DroppingFeed) (floor : ℕ) (bytes : List ℕ) : Type 0 where
+  pub late : List Logged
+  pub fed : IsLogFed feed.feed bytes (taken_of feed.kept ++ late)
+  pub past : All (λ r. floor ≤ r.timestamp) late
+  pub marks : feed.marks ≡ count_of (filter is_mark late)
+  pub dropped : feed.dropped ≡ min (length late - length (filter is_mark late)) (2 ^ 64 - 1)
+  pub goes_on : feed.feed.fault ≡ None → GoesOn floor feed.kept late
+
+-- what is kept, in the feed or taken out of it, lies below `floor`
+abbrev pub KeepsRecords : ℕ → Option (List Logged) → List Logged → Type 0
+KeepsRecords floor None ready = All (λ r. r.timestamp < floor) ready
+KeepsRecords floor (Some kept) ready = (ready ≡ []) × All (λ r. r.timestamp < floor) kept
+
+-- these bytes were fed: just the records at or past `floor` were dropped
+pub record IsFedBelow (feed : DroppingFeed) (floor : ℕ) (bytes : List ℕ) : Type 0 where
+  pub read : HasRead feed floor bytes
+  pub keeps : feed.feed.fault ≡ None → KeepsRecords floor feed.kept feed.feed.so_far.ready
+
+-- it has a fault, which more bytes do not change
+abbrev pub HasStopped : DroppingFeed → Type 0
+HasStopped feed = IsSome feed.feed.fault
+
+-- the records that a scan keeps, if its text is this
+abbrev pub kept_in : Option (List Logged) → LogText (List Logged) → List Logged
+kept_in None text = text.records
+kept_in (Some kept) text = kept
+
+-- the scan of the log of this number with this text, if so many updates and marks were dropped
+abbrev pub scan_from : ℕ → LogText (List Logged) → Option (List Logged) → ℕ → ℕ → LogScan
+scan_from log text kept dropped marks = record {
+  from = text.from;
+  last = text.last;
+  whole = text.whole;
+  marks = min (count_of (filter is_mark (kept_in kept text)) + marks) (2 ^ 64 - 1);
+  updates = record { log = log; records = kept_in kept text };
+  dropped = dropped;
+  torn = text.torn;
+}
