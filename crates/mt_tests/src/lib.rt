@@ -35,6 +35,8 @@ mod replaying;
 #[cfg(test)]
 mod scanning;
 #[cfg(test)]
+mod sharing;
+#[cfg(test)]
 mod tree;
 #[cfg(test)]
 mod words;

@@ -1,0 +1,169 @@
+//! Scans that share the cutoff: what one pass noted, the scan of another finds.
+ghost use Rattle.std.specs.Prelude.{◌≡◌};
+
+use crate::asserting::assert_same;
+use crate::logs::{LOG_FROM_3_TO_9, LOG_WITH_A_BAD_TRAILER};
+use mt_board::{Board, Pass};
+use mt_scan::{LogScan, MemSource, Rack, Source, SourceFault, scan_shared};
+use mt_words::{Fault, What};
+use std::marker::Model;
+use std::process::Abort;
+
+/// A board without numbers, and its two passes in order.
+fn open<R: Abort + AllocGlobal>(rt: &R) -> (Board, Pass, Pass)
+    ensures { (result.1.board ≡ result.0) × (result.2.board ≡ result.0) }
+{
+    let opened = Board::open(rt.alloc(), 0, 2);
+    let (board, mut passes) = opened.expect(rt, "a board");
+    let second = passes.pop().expect(rt, "a second pass");
+    let first = passes.pop().expect(rt, "a first pass");
+    (board, first, second)
+}
+
+/// The least number of the board, closed with its two passes.
+fn close<R: Abort + AllocGlobal>(rt: &R, board: Board, first: Pass, second: Pass) -> u64
+    requires { (first.board ≡ board) × (second.board ≡ board) }
+{
+    let passes = vec![in rt.alloc(); first, second].expect(rt, "memory");
+    let closed = board.close(passes).ok();
+    closed.expect(rt, "a board closed").least
+}
+
+/// What a scan of the source as log 0 answers. The pass stays the board's.
+fn scan<R: AllocGlobal, S: Source>(
+    rt: &R,
+    source: &mut S,
+    board: &Board,
+    pass: &mut Pass,
+) -> Result<LogScan, Fault>
+    requires { pass.old.board ≡ board.now }
+    ensures { pass.new.board ≡ board.now }
+{
+    scan_shared(rt.alloc(), source, 0, board, pass)
+}
+
+/// What the first pass scans of the log in pieces of this size, if the second pass noted this before. The number is the
+/// board's least one once it is closed.
+fn scan_after<R: Abort + AllocGlobal>(
+    rt: &R,
+    noted: Option<u64>,
+    log: &[u8],
+    size: usize,
+) -> (Result<LogScan, Fault>, u64) {
+    let (board, mut first, mut second) = open(rt);
+    if let Some(number) = noted {
+        board.note(&mut second, number);
+    }
+    let mut rack = Rack::new(rt.alloc(), 1, size.clamp(1, 65_536)).expect(rt, "memory");
+    let slot = rack.slots().first_mut().expect(rt, "a slot");
+    let mut source = MemSource::new(log, slot).expect(rt, "a full slot");
+    let answer = scan(rt, &mut source, &board, &mut first);
+    (answer, close(rt, board, first, second))
+}
+
+/// The scan is that of the log from 3 to 9, with so many updates kept and so many dropped.
+fn assert_scan<R: Abort>(rt: &R, answer: Result<LogScan, Fault>, kept: usize, dropped: u64) {
+    let scan = answer.expect(rt, "a scan");
+    assert_same(rt, &(scan.updates.len(), scan.dropped), &(kept, dropped));
+    assert_same(rt, &(scan.marks, scan.whole), &(1, 4));
+    assert_same(rt, &(scan.last, scan.torn), &(9, false));
+}
+
+/// Sizes of pieces: each byte alone, less than a record, and more than the log.
+const SIZES: [usize; 3] = [1, 16, 65_536];
+
+#[test]
+fn updates_at_or_past_the_least_number_are_dropped(rt: HostRuntime) {
+    for size in SIZES {
+        let (answer, least) = scan_after(&rt, Some(5), LOG_FROM_3_TO_9, size);
+        assert_scan(&rt, answer, 1, 2);
+        assert_same(&rt, &least, &5);
+    }
+}
+
+#[test]
+fn a_scan_keeps_all_where_nothing_was_noted(rt: HostRuntime) {
+    for size in SIZES {
+        let (answer, least) = scan_after(&rt, None, LOG_FROM_3_TO_9, size);
+        assert_scan(&rt, answer, 3, 0);
+        assert_same(&rt, &least, &9);
+    }
+}
+
+#[test]
+fn a_scan_with_a_fault_notes_nothing(rt: HostRuntime) {
+    let trailer = Fault::Record {
+        log: 0,
+        nth: 3,
+        what: What::Trailer,
+    };
+    for (noted, expected) in [(Some(5), 5), (None, u64::MAX)] {
+        let (answer, least) = scan_after(&rt, noted, LOG_WITH_A_BAD_TRAILER, 16);
+        assert_same(&rt, &answer.err(), &Some(trailer));
+        assert_same(&rt, &least, &expected);
+    }
+}
+
+/// How many bytes the first piece has: the header and a put.
+const FIRST_PIECE: usize = 45;
+
+/// Bytes in two pieces, and a pass that notes 5 while the first one is handed out.
+#[derive(Drop)]
+struct Noting<'a> {
+    board: &'a Board,
+    pass: Pass,
+    shown: &'a [u8],
+    rest: &'a [u8],
+}
+
+impl<'a> Model for Noting<'a> {
+    ghost use Rattle.std.specs.Prelude.{◌≡◌, Some, length, true, false};
+    ghost use Rattle.mt_scan.specs.Sources.{Seen};
+
+    ghost Value = { Seen };
+
+    ghost view = { λ noting. record {
+      told = Some noting.rest.now;
+      bound = length noting.rest.now;
+      failures = 0;
+      steady = true;
+      shown = noting.shown.now;
+      spent = false;
+    } };
+
+    ghost invariant = { λ noting. noting.pass.board ≡ noting.board.now };
+}
+
+impl Source for Noting<'_> {
+    ghost seen = { λ noting. noting };
+
+    fn advance(&mut self) -> Result<usize, SourceFault> {
+        // Before the first call no bytes are shown.
+        let count = if self.shown.is_empty() {
+            self.board.note(&mut self.pass, 5);
+            self.rest.len().min(FIRST_PIECE)
+        } else {
+            self.rest.len()
+        };
+        (self.shown, self.rest) = self.rest.split_at(count);
+        Ok(count)
+    }
+
+    fn piece(&self) -> &[u8] {
+        self.shown
+    }
+}
+
+#[test]
+fn a_scan_finds_what_is_noted_meanwhile(rt: HostRuntime) {
+    let (board, mut first, second) = open(&rt);
+    let mut source = Noting {
+        board: &board,
+        pass: second,
+        shown: &[],
+        rest: LOG_FROM_3_TO_9,
+    };
+    let answer = scan(&rt, &mut source, &board, &mut first);
+    assert_scan(&rt, answer, 1, 2);
+    assert_same(&rt, &board.least(&mut first), &5);
+}
