@@ -87,10 +87,7 @@ pub(crate) fn scan_one<S: Source>(alloc: Global, inputs: Inputs<S>) -> Result<Ou
     let scans = in_turn(
         alloc,
         shares,
-        &|share: Share<S>| -> Result<Scans, Memory>
-            requires { IsFresh board share.pass }
-            ensures { IfOk result (λ scans. HasScanned S.seen share.jobs.items (into_iter_items scans.answers) share.pass scans.pass) }
-        { scan_share(alloc, &board, share) },
+        &|share: Share<S>| { scan_share(alloc, &board, share) },
     )?;
     gather_scans(alloc, board, all_done(alloc, scans)?)
 }
@@ -109,10 +106,7 @@ pub(crate) fn scan_all<R: Threads + Sync, S: Source + Send>(
     let scans = thread::map_vec(
         rt,
         shares,
-        &|share: Share<S>| -> Result<Scans, Memory>
-            requires { IsFresh board share.pass }
-            ensures { IfOk result (λ scans. HasScanned S.seen share.jobs.items (into_iter_items scans.answers) share.pass scans.pass) }
-        { scan_share(alloc, &board, share) },
+        &|share: Share<S>| { scan_share(alloc, &board, share) },
     )?;
     gather_scans(alloc, board, all_done(alloc, scans)?)
 }

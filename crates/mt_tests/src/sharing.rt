@@ -4,7 +4,7 @@ ghost use Rattle.std.specs.Prelude.{◌≡◌};
 use crate::asserting::assert_same;
 use crate::logs::{LOG_FROM_3_TO_9, LOG_WITH_A_BAD_TRAILER};
 use mt_board::{Board, Pass};
-use mt_scan::{LogScan, MemSource, Rack, Source, SourceFault, scan_shared};
+use mt_scan::{LogScan, MemSource, Rack, Source, SourceFault, scan_log, scan_shared};
 use mt_words::{Fault, What};
 use std::marker::Model;
 use std::process::Abort;
@@ -88,6 +88,14 @@ fn a_scan_keeps_all_where_nothing_was_noted(rt: HostRuntime) {
         assert_scan(&rt, answer, 3, 0);
         assert_same(&rt, &least, &9);
     }
+}
+
+#[test]
+fn a_scan_by_itself_keeps_all(rt: HostRuntime) {
+    let mut rack = Rack::new(rt.alloc(), 1, 16).expect(&rt, "memory");
+    let slot = rack.slots().first_mut().expect(&rt, "a slot");
+    let mut source = MemSource::new(LOG_FROM_3_TO_9, slot).expect(&rt, "a full slot");
+    assert_scan(&rt, scan_log(rt.alloc(), &mut source, 0), 3, 0);
 }
 
 #[test]
