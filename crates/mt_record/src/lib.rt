@@ -34,7 +34,7 @@ mod updates;
 pub use encode::{encode_log_header, encode_log_header_2, encode_record};
 pub use encode_parts::{encode_part, encode_part_2};
 pub use kept_entries::KeptEntries;
-pub use kept_records::{Gone, KeptRecords};
+pub use kept_records::{Dropped, KeptRecords};
 pub use laws::{one_part, one_reading};
 pub use lent::Lent;
 pub use lent_writes::LentWrites;

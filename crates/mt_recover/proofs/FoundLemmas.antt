@@ -82,12 +82,12 @@ first_gap begin (s ∷ ss) readings i are e =
 
 -- ---- what recovery finds
 
--- scans that show all below a floor do so below a lower one
-lowered : (floor lower number : ℕ) (scans : List LogScan) (readings : List LogReading) → lower ≤ floor → ShowAll floor number scans readings → ShowAll lower number scans readings
-lowered floor lower number [] [] le show = tt
-lowered floor lower number [] (l ∷ ls) le show = absurd show
-lowered floor lower number (s ∷ ss) [] le show = absurd show
-lowered floor lower number (s ∷ ss) (l ∷ ls) le show = (shows_lower number floor lower s l le show.0, lowered floor lower (suc number) ss ls le show.1)
+-- scans that show all below a limit do so below a lower one
+lowered : (limit lower number : ℕ) (scans : List LogScan) (readings : List LogReading) → lower ≤ limit → ShowAll limit number scans readings → ShowAll lower number scans readings
+lowered limit lower number [] [] le show = tt
+lowered limit lower number [] (l ∷ ls) le show = absurd show
+lowered limit lower number (s ∷ ss) [] le show = absurd show
+lowered limit lower number (s ∷ ss) (l ∷ ls) le show = (shows_lower number limit lower s l le show.0, lowered limit lower (suc number) ss ls le show.1)
 
 -- what is at most the last timestamp of each log is at most the least of the scans'
 at_most_lasts : (cutoff : ℕ) (scans : List LogScan) (readings : List LogReading) → cutoff ≤ nothing_noted → HaveNumbersOf scans readings → ((last : ℕ) → HasLast readings last → cutoff ≤ last) → cutoff ≤ least_of (lasts (map Ok scans))
@@ -111,9 +111,9 @@ shown_by : (sources parts : List Seen) (scans : List LogScan) (part_scans : List
 shown_by [] parts [] part_scans cutoff choice logs_are small parts_are is of = let last = (is [] tt).has in absurd (omega (arith, last.stands.1))
 shown_by [] parts (x ∷ xs) part_scans cutoff choice logs_are small parts_are is of = absurd logs_are
 shown_by (s ∷ ss) parts scans part_scans cutoff choice logs_are small parts_are is of =
-    let floor : ℕ = least_of (lasts (map Ok scans)) in
-    let whole = whole_logs floor 0 (s ∷ ss) scans logs_are in
-    let numbers = numbers_of floor 0 scans whole.readings whole.show in
+    let limit : ℕ = least_of (lasts (map Ok scans)) in
+    let whole = whole_logs limit 0 (s ∷ ss) scans logs_are in
+    let numbers = numbers_of limit 0 scans whole.readings whole.show in
     let is_cutoff = is whole.readings numbers in
     let known = known_parts 0 parts part_scans parts_are in
     record {
@@ -132,7 +132,7 @@ shown_by (s ∷ ss) parts scans part_scans cutoff choice logs_are small parts_ar
           chosen = option_map checkpoint_in choice.chosen;
           is_chosen = of.chosen;
         };
-        show = lowered floor cutoff 0 scans whole.readings (at_most_lasts cutoff scans whole.readings small numbers (λ last has. is_cutoff.least last has)) whole.show;
+        show = lowered limit cutoff 0 scans whole.readings (at_most_lasts cutoff scans whole.readings small numbers (λ last has. is_cutoff.least last has)) whole.show;
         cutoff_is = refl;
         choice_is = of;
         chosen = refl;

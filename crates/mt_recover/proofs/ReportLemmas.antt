@@ -124,21 +124,21 @@ torn_counted scans readings numbers =
     ∙ sym (length-filter (λ (log : LogReading). log.torn) readings)
 
 -- the numbers of scans that show their logs are those of the logs
-pub numbers_of : (floor number : ℕ) (scans : List LogScan) (readings : List LogReading) → ShowAll floor number scans readings → HaveNumbersOf scans readings
-numbers_of floor number [] [] show = tt
-numbers_of floor number [] (l ∷ ls) show = absurd show
-numbers_of floor number (s ∷ ss) [] show = absurd show
-numbers_of floor number (s ∷ ss) (l ∷ ls) show = (show.0.numbers, numbers_of floor (suc number) ss ls show.1)
+pub numbers_of : (limit number : ℕ) (scans : List LogScan) (readings : List LogReading) → ShowAll limit number scans readings → HaveNumbersOf scans readings
+numbers_of limit number [] [] show = tt
+numbers_of limit number [] (l ∷ ls) show = absurd show
+numbers_of limit number (s ∷ ss) [] show = absurd show
+numbers_of limit number (s ∷ ss) (l ∷ ls) show = (show.0.numbers, numbers_of limit (suc number) ss ls show.1)
 
--- a filter that keeps nothing at or past the floor keeps the same of what the scans kept and of the updates of the logs
-pub same_updates : (keeps : Update → Bool) (floor number : ℕ) (scans : List LogScan) (readings : List LogReading) → ((update : Update) → floor ≤ update.timestamp → keeps update ≡ false) → ShowAll floor number scans readings
+-- a filter that keeps nothing at or past the limit keeps the same of what the scans kept and of the updates of the logs
+pub same_updates : (keeps : Update → Bool) (limit number : ℕ) (scans : List LogScan) (readings : List LogReading) → ((update : Update) → limit ≤ update.timestamp → keeps update ≡ false) → ShowAll limit number scans readings
     → filter keeps (kept scans) ≡ filter keeps (all_updates number (records_of readings))
-same_updates keeps floor number [] [] none show = refl
-same_updates keeps floor number [] (l ∷ ls) none show = absurd show
-same_updates keeps floor number (s ∷ ss) [] none show = absurd show
-same_updates keeps floor number (s ∷ ss) (l ∷ ls) none show =
+same_updates keeps limit number [] [] none show = refl
+same_updates keeps limit number [] (l ∷ ls) none show = absurd show
+same_updates keeps limit number (s ∷ ss) [] none show = absurd show
+same_updates keeps limit number (s ∷ ss) (l ∷ ls) none show =
     filter-append keeps (kept_by s) (kept ss)
-    ∙ (λ i. same_kept keeps number floor s l none show.0 i ++ same_updates keeps floor (suc number) ss ls none show.1 i)
+    ∙ (λ i. same_kept keeps number limit s l none show.0 i ++ same_updates keeps limit (suc number) ss ls none show.1 i)
     ∙ sym (filter-append keeps (updates_from number 0 l.records) (all_updates (suc number) (records_of ls)))
 
 -- a checkpoint in memory has the number of what it shows

@@ -63,32 +63,32 @@ next_told {X} tells answers answer told new are pushed =
     one (Some x) = refl
 
 -- the answers of parts, from this part on
-part_answers : {S : Type 0} (seen : S → Seen) (floor log part : ℕ) (parts : List S) (answers : List Scanned) → AllZip (IsScanned seen floor) (part_jobs part parts) answers
-    → AllFrom (IsLogOutcome floor) log [] (logs_in answers) × AllFrom IsPartOutcome part (map seen parts) (parts_in answers)
-part_answers seen floor log part [] [] zip = (tt, tt)
-part_answers seen floor log part [] (a ∷ rest) zip = absurd zip
-part_answers seen floor log part (p ∷ ps) [] zip = absurd zip
-part_answers seen floor log part (p ∷ ps) (scanned.Log outcome ∷ rest) zip = absurd zip.0
-part_answers seen floor log part (p ∷ ps) (scanned.Part outcome ∷ rest) zip =
-    let later = part_answers seen floor log (suc part) ps rest zip.1 in
+part_answers : {S : Type 0} (seen : S → Seen) (limit log part : ℕ) (parts : List S) (answers : List Scanned) → AllZip (IsScanned seen limit) (part_jobs part parts) answers
+    → AllFrom (IsLogOutcome limit) log [] (logs_in answers) × AllFrom IsPartOutcome part (map seen parts) (parts_in answers)
+part_answers seen limit log part [] [] zip = (tt, tt)
+part_answers seen limit log part [] (a ∷ rest) zip = absurd zip
+part_answers seen limit log part (p ∷ ps) [] zip = absurd zip
+part_answers seen limit log part (p ∷ ps) (scanned.Log outcome ∷ rest) zip = absurd zip.0
+part_answers seen limit log part (p ∷ ps) (scanned.Part outcome ∷ rest) zip =
+    let later = part_answers seen limit log (suc part) ps rest zip.1 in
     (later.0, (zip.0, later.1))
 
 -- those of logs, from this log on, and then of all parts
-all_answers : {S : Type 0} (seen : S → Seen) (floor log : ℕ) (logs parts : List S) (answers : List Scanned) → AllZip (IsScanned seen floor) (log_jobs log logs ++ part_jobs 0 parts) answers
-    → AllFrom (IsLogOutcome floor) log (map seen logs) (logs_in answers) × AllFrom IsPartOutcome 0 (map seen parts) (parts_in answers)
-all_answers seen floor log [] parts answers zip = part_answers seen floor log 0 parts answers zip
-all_answers seen floor log (l ∷ ls) parts [] zip = absurd zip
-all_answers seen floor log (l ∷ ls) parts (scanned.Part outcome ∷ rest) zip = absurd zip.0
-all_answers seen floor log (l ∷ ls) parts (scanned.Log outcome ∷ rest) zip =
-    let later = all_answers seen floor (suc log) ls parts rest zip.1 in
+all_answers : {S : Type 0} (seen : S → Seen) (limit log : ℕ) (logs parts : List S) (answers : List Scanned) → AllZip (IsScanned seen limit) (log_jobs log logs ++ part_jobs 0 parts) answers
+    → AllFrom (IsLogOutcome limit) log (map seen logs) (logs_in answers) × AllFrom IsPartOutcome 0 (map seen parts) (parts_in answers)
+all_answers seen limit log [] parts answers zip = part_answers seen limit log 0 parts answers zip
+all_answers seen limit log (l ∷ ls) parts [] zip = absurd zip
+all_answers seen limit log (l ∷ ls) parts (scanned.Part outcome ∷ rest) zip = absurd zip.0
+all_answers seen limit log (l ∷ ls) parts (scanned.Log outcome ∷ rest) zip =
+    let later = all_answers seen limit (suc log) ls parts rest zip.1 in
     ((zip.0, later.0), later.1)
 
 -- the outcomes of logs and parts
 outcomes_of : {S : Type 0} (seen : S → Seen) (logs parts : List S) (jobs : List (ScanJob S)) (answers : List Scanned) (outcomes : Outcomes) → jobs ≡ log_jobs 0 logs ++ part_jobs 0 (read_parts logs parts)
     → AllZip (IsScanned seen (least_of (lasts (logs_in answers)))) jobs answers → outcomes.logs.items ≡ logs_in answers → outcomes.parts.items ≡ parts_in answers → AreOutcomes (map seen logs) (map seen parts) outcomes
 outcomes_of {S} seen logs parts jobs answers outcomes same zip logs_are parts_are =
-    let floor : ℕ = least_of (lasts (logs_in answers)) in
-    let both = all_answers seen floor 0 logs (read_parts logs parts) answers (subst (λ (js : List (ScanJob S)). AllZip (IsScanned seen floor) js answers) same zip) in
+    let limit : ℕ = least_of (lasts (logs_in answers)) in
+    let both = all_answers seen limit 0 logs (read_parts logs parts) answers (subst (λ (js : List (ScanJob S)). AllZip (IsScanned seen limit) js answers) same zip) in
     record { logs_are = rw logs_are both.0; parts_are = rw (parts_are, read logs) both.1 }
   where
     read : (logs : List S) → read_parts (map seen logs) (map seen parts) ≡ map seen (read_parts logs parts)
@@ -97,19 +97,19 @@ outcomes_of {S} seen logs parts jobs answers outcomes same zip logs_are parts_ar
 
 -- ---- scans that share a board
 
--- a lower floor
-pub scanned_lower : {S : Type 0} (seen : S → Seen) (floor lower : ℕ) (job : ScanJob S) (answer : Scanned) → lower ≤ floor → IsScanned seen floor job answer → IsScanned seen lower job answer
-scanned_lower seen floor lower job answer le is = by job.kind answer is
+-- a lower limit
+pub scanned_lower : {S : Type 0} (seen : S → Seen) (limit lower : ℕ) (job : ScanJob S) (answer : Scanned) → lower ≤ limit → IsScanned seen limit job answer → IsScanned seen lower job answer
+scanned_lower seen limit lower job answer le is = by job.kind answer is
   where
-    outcome : (o : Result LogScan Fault) → IsLogOutcome floor job.number (seen job.source) o → IsLogOutcome lower job.number (seen job.source) o
+    outcome : (o : Result LogScan Fault) → IsLogOutcome limit job.number (seen job.source) o → IsLogOutcome lower job.number (seen job.source) o
     outcome (Ok scan) is = record {
-      scan = (is.scan.0, is.scan.1, record { log = is.scan.2.log; is_reading = is.scan.2.is_reading; shows = shows_lower job.number floor lower scan is.scan.2.log le is.scan.2.shows });
+      scan = (is.scan.0, is.scan.1, record { log = is.scan.2.log; is_reading = is.scan.2.is_reading; shows = shows_lower job.number limit lower scan is.scan.2.log le is.scan.2.shows });
       fault = tt;
       steady = is.steady;
     }
     outcome (Err fault) is = record { scan = tt; fault = is.fault; steady = is.steady }
 
-    by : (kind : Kind) (answer : Scanned) → IsOutcome floor kind job.number (seen job.source) answer → IsOutcome lower kind job.number (seen job.source) answer
+    by : (kind : Kind) (answer : Scanned) → IsOutcome limit kind job.number (seen job.source) answer → IsOutcome lower kind job.number (seen job.source) answer
     by kinds.Log (scanned.Log o) is = outcome o is
     by kinds.Part (scanned.Part o) is = is
     by kinds.Log (scanned.Part o) is = absurd is
@@ -131,22 +131,22 @@ none_scanned seen pass small = record { board = refl; noted = omega (arith, smal
 -- the source of a log was scanned
 pub log_scanned : {S : Type 0} (seen : S → Seen) (job : ScanJob S) (answer : Result LogScan Fault) (before after : PassView) → job.kind ≡ kinds.Log → before.noted ≤ nothing_noted
     → IfOk answer (λ scan. OfTold (seen job.source).told (λ bytes. IsSharedScan job.number before after bytes scan)) → IfErr answer (λ fault. OfTold (seen job.source).told (λ bytes. IsScanFault job.number bytes fault))
-    → OnErr answer (HasLooked before after) → (IsTrue (seen job.source).steady → failures_of answer ≡ 0) → HasScanned seen (job ∷ []) (scanned.Log answer ∷ []) before after
+    → OnErr answer (HasLooked before after × (after.noted ≡ before.noted)) → (IsTrue (seen job.source).steady → failures_of answer ≡ 0) → HasScanned seen (job ∷ []) (scanned.Log answer ∷ []) before after
 log_scanned {S} seen job (Ok scan) before after kind small is fails unnoted steady =
     let shared = is.2 in
     let outcome : IsLogOutcome (least_of after.looks) job.number (seen job.source) (Ok scan) = record { scan = (is.0, is.1, shared.is); fault = tt; steady = steady } in
     record {
       board = ap (λ (p : PassView). p.board) shared.looked.rest;
-      noted = omega (arith, ap (λ (p : PassView). p.noted) shared.looked.rest, small);
+      noted = omega (arith, shared.noted, small);
       falls = omega (arith, ap least_of shared.looked.looks, least_both before.looks (shared.looked.first ∷ shared.looked.more));
       answered = (rw kind outcome, tt);
     }
 log_scanned {S} seen job (Err fault) before after kind small is fails unnoted steady =
     let outcome : IsLogOutcome (least_of after.looks) job.number (seen job.source) (Err fault) = record { scan = tt; fault = fails; steady = steady } in
     record {
-      board = ap (λ (p : PassView). p.board) unnoted.rest;
-      noted = omega (arith, ap (λ (p : PassView). p.noted) unnoted.rest, small);
-      falls = omega (arith, ap least_of unnoted.looks, least_both before.looks (unnoted.first ∷ unnoted.more));
+      board = ap (λ (p : PassView). p.board) unnoted.0.rest;
+      noted = omega (arith, unnoted.1, small);
+      falls = omega (arith, ap least_of unnoted.0.looks, least_both before.looks (unnoted.0.first ∷ unnoted.0.more));
       answered = (rw kind outcome, tt);
     }
 
@@ -239,17 +239,17 @@ least_of_all {S} seen board (s ∷ ss) (x ∷ xs) fresh zip =
       least_of_all seen board ss xs (All-tail P s ss fresh) zip.1,
     )
 
--- what no pass saw below is the floor of all scans
-all_above : {S : Type 0} (seen : S → Seen) (floor : ℕ) (shares : List (Share S)) (all : List Scans) → floor ≤ nothing_noted → SawNoneBelow floor (passes_of all)
-    → AllZip (λ share scans. HasScanned seen share.jobs.items (answers_of scans) share.pass scans.pass) shares all → AllZip (AllZip (IsScanned seen floor)) (map (λ share. share.jobs.items) shares) (map answers_of all)
-all_above seen floor [] [] small saw zip = tt
-all_above seen floor [] (x ∷ xs) small saw zip = absurd zip
-all_above seen floor (s ∷ ss) [] small saw zip = absurd zip
-all_above seen floor (s ∷ ss) (x ∷ xs) small saw zip =
-    let P : PassView → Type 0 = λ pass. All (λ look. floor ≤ look) pass.looks in
-    let low = under_looks floor x.pass.looks small (All-head P x.pass (passes_of xs) saw) in (
-      zip_says (IsScanned seen floor) (IsScanned seen (least_of x.pass.looks)) s.jobs.items (answers_of x) (λ j a at. scanned_lower seen (least_of x.pass.looks) floor j a low at) zip.0.answered,
-      all_above seen floor ss xs small (All-tail P x.pass (passes_of xs) saw) zip.1,
+-- what no pass saw below is the limit of all scans
+all_above : {S : Type 0} (seen : S → Seen) (limit : ℕ) (shares : List (Share S)) (all : List Scans) → limit ≤ nothing_noted → SawNoneBelow limit (passes_of all)
+    → AllZip (λ share scans. HasScanned seen share.jobs.items (answers_of scans) share.pass scans.pass) shares all → AllZip (AllZip (IsScanned seen limit)) (map (λ share. share.jobs.items) shares) (map answers_of all)
+all_above seen limit [] [] small saw zip = tt
+all_above seen limit [] (x ∷ xs) small saw zip = absurd zip
+all_above seen limit (s ∷ ss) [] small saw zip = absurd zip
+all_above seen limit (s ∷ ss) (x ∷ xs) small saw zip =
+    let P : PassView → Type 0 = λ pass. All (λ look. limit ≤ look) pass.looks in
+    let low = under_looks limit x.pass.looks small (All-head P x.pass (passes_of xs) saw) in (
+      zip_says (IsScanned seen limit) (IsScanned seen (least_of x.pass.looks)) s.jobs.items (answers_of x) (λ j a at. scanned_lower seen (least_of x.pass.looks) limit j a low at) zip.0.answered,
+      all_above seen limit ss xs small (All-tail P x.pass (passes_of xs) saw) zip.1,
     )
 
 -- what was gathered of all workers
@@ -261,8 +261,8 @@ outcomes_gathered seen logs parts jobs shares all board outcomes same dealt fres
     let saw = gathered.saw (omega (arith, many, AllZip-long (λ share scans. HasScanned seen share.jobs.items (answers_of scans) share.pass scans.pass) shares all zip)) in
     let small = least_small (map (λ (p : PassView). p.noted) (passes_of all)) in
     let answered = dealt_answers (IsScanned seen least) jobs (map (λ share. share.jobs.items) shares) (map answers_of all) dealt (all_above seen least shares all small saw zip) in
-    let floor : least ≡ least_in answered.0 = least_of_all seen board shares all fresh zip ∙ sym (least_dealt answered.0 (map answers_of all) answered.2) in
-    outcomes_of seen logs parts jobs answered.0 outcomes same (subst (λ (n : ℕ). AllZip (IsScanned seen n) jobs answered.0) floor answered.1) (gathered.logs answered.0 answered.2) (gathered.parts answered.0 answered.2)
+    let limit : least ≡ least_in answered.0 = least_of_all seen board shares all fresh zip ∙ sym (least_dealt answered.0 (map answers_of all) answered.2) in
+    outcomes_of seen logs parts jobs answered.0 outcomes same (subst (λ (n : ℕ). AllZip (IsScanned seen n) jobs answered.0) limit answered.1) (gathered.logs answered.0 answered.2) (gathered.parts answered.0 answered.2)
 
 -- the boards of passes that were fresh
 pub boards_are : {S : Type 0} (seen : S → Seen) (board : BoardId) (shares : List (Share S)) (all : List Scans) → All (λ share. IsFresh board share.pass) shares
@@ -282,9 +282,9 @@ fault_in_memory log bytes of_log.Memory is = (tt, refl)
 fault_in_memory log bytes of_log.Header is = ((refl, is (λ same. cc)), refl)
 fault_in_memory log bytes (of_log.Record nth what) is = ((refl, is (λ same. cc)), refl)
 
-outcome_in_memory : (floor log : ℕ) (bytes : List ℕ) (outcome : Result LogScan Fault) → IfOk outcome (IsScanOf log bytes) → IfErr outcome (IsLogVerdict log bytes) → IsLogOutcome floor log (in_memory bytes) outcome
-outcome_in_memory floor log bytes (Ok scan) is fails = record { scan = (bytes, refl, record { log = is.log; is_reading = is.is_reading; shows = shows_all log floor scan is.log is.shows }); fault = tt; steady = λ _. refl }
-outcome_in_memory floor log bytes (Err fault) is fails =
+outcome_in_memory : (limit log : ℕ) (bytes : List ℕ) (outcome : Result LogScan Fault) → IfOk outcome (IsScanOf log bytes) → IfErr outcome (IsLogVerdict log bytes) → IsLogOutcome limit log (in_memory bytes) outcome
+outcome_in_memory limit log bytes (Ok scan) is fails = record { scan = (bytes, refl, record { log = is.log; is_reading = is.is_reading; shows = shows_all log limit scan is.log is.shows }); fault = tt; steady = λ _. refl }
+outcome_in_memory limit log bytes (Err fault) is fails =
     let both = fault_in_memory log bytes fails.of_bytes fails.answered in
     rw fails.is (record { scan = tt; fault = (bytes, refl, both.0); steady = λ _. both.1 })
 
@@ -298,15 +298,15 @@ all_from_push R number (a ∷ rest) (b ∷ bs) x y all one =
     (all.0, all_from_push R (suc number) rest bs x y all.1 (subst (λ (n : ℕ). R n x y) next one))
 
 -- the scan of the next log
-pub scanned_more : (floor : ℕ) (logs : List (Bor (List ℕ))) (outcomes new : List (Result LogScan Fault)) (log : ℕ) (d : Bor (List ℕ)) (outcome : Result LogScan Fault) → log < length logs → log ≡ length outcomes
+pub scanned_more : (limit : ℕ) (logs : List (Bor (List ℕ))) (outcomes new : List (Result LogScan Fault)) (log : ℕ) (d : Bor (List ℕ)) (outcome : Result LogScan Fault) → log < length logs → log ≡ length outcomes
     → IfOk outcome (IsScanOf log (get_or logs log d).now) → IfErr outcome (IsLogVerdict log (get_or logs log d).now) → new ≡ outcomes ++ outcome ∷ []
-    → AllFrom (IsLogOutcome floor) 0 (take log (map in_memory (map (λ log. log.now) logs))) outcomes → AllFrom (IsLogOutcome floor) 0 (take (log + 1) (map in_memory (map (λ log. log.now) logs))) new
-scanned_more floor logs outcomes new log d outcome lt at is fails pushed are =
+    → AllFrom (IsLogOutcome limit) 0 (take log (map in_memory (map (λ log. log.now) logs))) outcomes → AllFrom (IsLogOutcome limit) 0 (take (log + 1) (map in_memory (map (λ log. log.now) logs))) new
+scanned_more limit logs outcomes new log d outcome lt at is fails pushed are =
     let all : List (List ℕ) = map (λ log. log.now) logs in
     let seen : List Seen = map in_memory all in
     let within : log < length all = omega (arith, lt, length-map logs (λ log. log.now)) in
     let own : get_or seen log (in_memory d.now) ≡ in_memory (get_or logs log d).now = get_or-map in_memory all log d.now (in_memory d.now) within ∙ ap in_memory (get_or-map (λ log. log.now) logs log d d.now lt) in
     let place : log ≡ 0 + length outcomes = omega (arith, at) in
-    let one = subst (λ (n : ℕ). IsLogOutcome floor n (in_memory (get_or logs log d).now) outcome) place (outcome_in_memory floor log (get_or logs log d).now outcome is fails) in
+    let one = subst (λ (n : ℕ). IsLogOutcome limit n (in_memory (get_or logs log d).now) outcome) place (outcome_in_memory limit log (get_or logs log d).now outcome is fails) in
     rw (pushed, add-one, take-suc seen log (in_memory d.now) (omega (arith, within, length-map all in_memory)), own)
-    (all_from_push (IsLogOutcome floor) 0 (take log seen) outcomes (in_memory (get_or logs log d).now) outcome are one)
+    (all_from_push (IsLogOutcome limit) 0 (take log seen) outcomes (in_memory (get_or logs log d).now) outcome are one)

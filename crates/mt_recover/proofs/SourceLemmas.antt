@@ -44,20 +44,20 @@ may_append (s ∷ ss) others (l ∷ ls) more may too = (may.0, may_append ss oth
 -- ---- whole logs, and parts that were scanned
 
 -- logs that the sources may have, and what the scans show of them, where the first is of this number
-pub record AreWhole (floor number : ℕ) (sources : List Seen) (scans : List LogScan) : Type 0 where
+pub record AreWhole (limit number : ℕ) (sources : List Seen) (scans : List LogScan) : Type 0 where
   pub logs : List (List ℕ)
   pub readings : List LogReading
   pub may : MayHave (λ seen. seen) sources logs
   pub read : AreReadings logs readings
-  pub show : ShowAll floor number scans readings
+  pub show : ShowAll limit number scans readings
 
-pub whole_logs : (floor number : ℕ) (sources : List Seen) (scans : List LogScan) → AllFrom (IsLogOutcome floor) number sources (map Ok scans) → AreWhole floor number sources scans
-whole_logs floor number [] [] all = record { logs = []; readings = []; may = tt; read = tt; show = tt }
-whole_logs floor number [] (x ∷ xs) all = absurd all
-whole_logs floor number (s ∷ ss) [] all = absurd all
-whole_logs floor number (s ∷ ss) (x ∷ xs) all =
+pub whole_logs : (limit number : ℕ) (sources : List Seen) (scans : List LogScan) → AllFrom (IsLogOutcome limit) number sources (map Ok scans) → AreWhole limit number sources scans
+whole_logs limit number [] [] all = record { logs = []; readings = []; may = tt; read = tt; show = tt }
+whole_logs limit number [] (x ∷ xs) all = absurd all
+whole_logs limit number (s ∷ ss) [] all = absurd all
+whole_logs limit number (s ∷ ss) (x ∷ xs) all =
     let own = all.0.scan in
-    let rest = whole_logs floor (suc number) ss xs all.1 in
+    let rest = whole_logs limit (suc number) ss xs all.1 in
     record {
       logs = own.0 ∷ rest.logs;
       readings = own.2.log ∷ rest.readings;
@@ -67,8 +67,8 @@ whole_logs floor number (s ∷ ss) (x ∷ xs) all =
     }
 
 -- there are as many logs as sources
-as_many_logs : (floor number : ℕ) (sources : List Seen) (scans : List LogScan) (are : AreWhole floor number sources scans) → length are.logs ≡ length sources
-as_many_logs floor number sources scans are = AllZip-long (λ seen bytes. Agrees seen.told bytes) sources are.logs are.may
+as_many_logs : (limit number : ℕ) (sources : List Seen) (scans : List LogScan) (are : AreWhole limit number sources scans) → length are.logs ≡ length sources
+as_many_logs limit number sources scans are = AllZip-long (λ seen bytes. Agrees seen.told bytes) sources are.logs are.may
 
 pub known_parts : (number : ℕ) (sources : List Seen) (scans : List PartScan) → AllFrom IsPartOutcome number sources (map Ok scans) → (parts : List (List ℕ)) × MayHave (λ seen. seen) sources parts × AreKnown parts (map known_by scans)
 known_parts number [] [] all = ([], tt, tt)
@@ -138,15 +138,15 @@ blames_log front back parts source bytes (faults.PartSource part) is steady = ab
 blames_log front back parts source bytes fault is steady = tt
 
 -- the least log that has a fault
-pub log_refused : (floor : ℕ) (sources parts : List Seen) (outcomes : List (Result LogScan Fault)) (fault : Fault) → AllFrom (IsLogOutcome floor) 0 sources outcomes → IsFirstErr outcomes fault → IsAnsweredBy (λ seen. seen) sources parts fault
-log_refused floor sources parts outcomes fault all first =
-    let at = split (IsLogOutcome floor) 0 sources (map Ok first.done) (Err fault) first.rest (subst (AllFrom (IsLogOutcome floor) 0 sources) first.stands all) in
-    let whole = whole_logs floor 0 at.front first.done at.all_before in
+pub log_refused : (limit : ℕ) (sources parts : List Seen) (outcomes : List (Result LogScan Fault)) (fault : Fault) → AllFrom (IsLogOutcome limit) 0 sources outcomes → IsFirstErr outcomes fault → IsAnsweredBy (λ seen. seen) sources parts fault
+log_refused limit sources parts outcomes fault all first =
+    let at = split (IsLogOutcome limit) 0 sources (map Ok first.done) (Err fault) first.rest (subst (AllFrom (IsLogOutcome limit) 0 sources) first.stands all) in
+    let whole = whole_logs limit 0 at.front first.done at.all_before in
     let own = at.holds.fault in
     let more = some_logs at.back in
     let known = some_logs parts in
     let place : at.place ≡ length at.front = omega (arith, at.place_is) in
-    let here = subst (λ (n : ℕ). IsScanFault n own.0 fault) (place ∙ sym (as_many_logs floor 0 at.front first.done whole)) own.2 in
+    let here = subst (λ (n : ℕ). IsScanFault n own.0 fault) (place ∙ sym (as_many_logs limit 0 at.front first.done whole)) own.2 in
     rw at.are (
       record {
         logs = whole.logs ++ own.0 ∷ more.0;
@@ -172,33 +172,33 @@ blames_part logs front back source faults.Memory is steady = tt
 blames_part logs front back source fault is steady = absurd is
 
 -- the least part whose source failed
-pub part_refused : (floor : ℕ) (sources parts : List Seen) (scans : List LogScan) (outcomes : List (Result PartScan Fault)) (fault : Fault) → AllFrom (IsLogOutcome floor) 0 sources (map Ok scans) → AllFrom IsPartOutcome 0 (read_parts sources parts) outcomes
+pub part_refused : (limit : ℕ) (sources parts : List Seen) (scans : List LogScan) (outcomes : List (Result PartScan Fault)) (fault : Fault) → AllFrom (IsLogOutcome limit) 0 sources (map Ok scans) → AllFrom IsPartOutcome 0 (read_parts sources parts) outcomes
     → IsFirstErr outcomes fault → IsAnsweredBy (λ seen. seen) sources parts fault
-part_refused floor [] parts scans outcomes fault logs all first = absurd (no_outcome (map Ok first.done) (subst (AllFrom IsPartOutcome 0 []) first.stands all))
+part_refused limit [] parts scans outcomes fault logs all first = absurd (no_outcome (map Ok first.done) (subst (AllFrom IsPartOutcome 0 []) first.stands all))
   where
     no_outcome : (before : List (Result PartScan Fault)) → AllFrom IsPartOutcome 0 [] (before ++ Err fault ∷ first.rest) → ⊥
     no_outcome [] all = all
     no_outcome (b ∷ bs) all = all
-part_refused floor (s ∷ ss) parts scans outcomes fault logs all first =
+part_refused limit (s ∷ ss) parts scans outcomes fault logs all first =
     let at = split IsPartOutcome 0 parts (map Ok first.done) (Err fault) first.rest (subst (AllFrom IsPartOutcome 0 parts) first.stands all) in
     let place : at.place ≡ length at.front = omega (arith, at.place_is) in
-    let whole = whole_logs floor 0 (s ∷ ss) scans logs in
+    let whole = whole_logs limit 0 (s ∷ ss) scans logs in
     let known = some_logs parts in (
       record {
         logs = whole.logs;
         parts = known.0;
         logs_may = whole.may;
         parts_may = known.1;
-        holds = fault_of_part whole.logs known.0 whole.readings at.place fault (omega (arith, as_many_logs floor 0 (s ∷ ss) scans whole)) whole.read at.holds.fault;
+        holds = fault_of_part whole.logs known.0 whole.readings at.place fault (omega (arith, as_many_logs limit 0 (s ∷ ss) scans whole)) whole.read at.holds.fault;
       },
       subst (λ (l : List Seen). BlamesUnsteady (λ seen. seen) (s ∷ ss) l fault) (sym at.are) (blames_part (s ∷ ss) at.front at.back at.x fault (subst (λ (n : ℕ). IsPartScanFault n fault) place at.holds.fault) at.holds.steady),
     )
 
 -- there is no log
-pub none_refused : (floor : ℕ) (sources parts : List Seen) (scans : List LogScan) → AllFrom (IsLogOutcome floor) 0 sources (map Ok scans) → scans ≡ [] → IsAnsweredBy (λ seen. seen) sources parts faults.NoLogs
-none_refused floor [] parts scans all none = let ps = some_logs parts in (record { logs = []; parts = ps.0; logs_may = tt; parts_may = ps.1; holds = λ other. refl }, tt)
-none_refused floor (s ∷ ss) parts [] all none = absurd all
-none_refused floor (s ∷ ss) parts (x ∷ xs) all none = absurd cc
+pub none_refused : (limit : ℕ) (sources parts : List Seen) (scans : List LogScan) → AllFrom (IsLogOutcome limit) 0 sources (map Ok scans) → scans ≡ [] → IsAnsweredBy (λ seen. seen) sources parts faults.NoLogs
+none_refused limit [] parts scans all none = let ps = some_logs parts in (record { logs = []; parts = ps.0; logs_may = tt; parts_may = ps.1; holds = λ other. refl }, tt)
+none_refused limit (s ∷ ss) parts [] all none = absurd all
+none_refused limit (s ∷ ss) parts (x ∷ xs) all none = absurd cc
 
 -- memory was refused
 pub memory_refused : (sources parts : List Seen) (fault : Fault) → fault ≡ faults.Memory → IsAnsweredBy (λ seen. seen) sources parts fault

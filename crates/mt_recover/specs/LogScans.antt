@@ -5,16 +5,16 @@ use Rattle.mt_words.specs.declared.update.Update.{Update}
 use Rattle.mt_record.specs.Kept.{kept_updates}
 use Rattle.mt_record.specs.Logs.{LogReading}
 use Rattle.mt_scan.specs.declared.log_scan.LogScan.{LogScan}
-use Rattle.mt_scan.specs.Dropping.{ShowsBelow}
+use Rattle.mt_scan.specs.Dropping.{ShowsAllBelow}
 use Rattle.mt_replay.specs.declared.window.Window.{Window}
 use Rattle.mt_replay.specs.Survivors.{in_window}
 
--- each scan shows what its log says below `floor`; the logs are numbered from this number on
+-- each scan shows what its log says, with all updates below `limit`; the logs are numbered from this number on
 abbrev pub ShowAll : ℕ → ℕ → List LogScan → List LogReading → Type 0
-ShowAll floor number [] [] = Unit {0}
-ShowAll floor number (scan ∷ scans) (log ∷ readings) = ShowsBelow number floor scan log × ShowAll floor (suc number) scans readings
-ShowAll floor number [] (log ∷ readings) = ⊥
-ShowAll floor number (scan ∷ scans) [] = ⊥
+ShowAll limit number [] [] = Unit {0}
+ShowAll limit number (scan ∷ scans) (log ∷ readings) = ShowsAllBelow limit number scan log × ShowAll limit (suc number) scans readings
+ShowAll limit number [] (log ∷ readings) = ⊥
+ShowAll limit number (scan ∷ scans) [] = ⊥
 
 -- the updates that a scan kept
 abbrev pub kept_by : LogScan → List Update

@@ -7,13 +7,13 @@ use Rattle.mt_scan.specs.declared.log_scan.LogScan.{LogScan}
 use Rattle.mt_scan.specs.declared.part_scan.PartScan.{PartScan}
 use Rattle.mt_scan.specs.Sources.{Seen}
 use Rattle.mt_scan.specs.Scans.{OfTold, IsScanFault, failures_of}
-use Rattle.mt_scan.specs.Dropping.{IsScanBelow}
+use Rattle.mt_scan.specs.Dropping.{HasAllBelow}
 use Rattle.mt_scan.specs.PartScans.{IsKnown, known_by, IsPartScanFault}
 use Rattle.mt_recover.specs.declared.scans.Outcomes.{Outcomes}
 
--- what the scan of a log answers, if no update below `floor` was dropped
-pub record IsLogOutcome (floor log : ℕ) (seen : Seen) (outcome : Result LogScan Fault) : Type 0 where
-  pub scan : IfOk outcome (λ scan. OfTold seen.told (λ bytes. IsScanBelow log floor bytes scan))
+-- what the scan of a log answers, which dropped no update below `limit`
+pub record IsLogOutcome (limit log : ℕ) (seen : Seen) (outcome : Result LogScan Fault) : Type 0 where
+  pub scan : IfOk outcome (λ scan. OfTold seen.told (λ bytes. HasAllBelow limit log bytes scan))
   pub fault : IfErr outcome (λ fault. OfTold seen.told (λ bytes. IsScanFault log bytes fault))
   pub steady : IsTrue seen.steady → failures_of outcome ≡ 0
 
@@ -40,11 +40,11 @@ abbrev pub last_in : Result LogScan Fault → Option ℕ
 last_in (Ok scan) = Some scan.last
 last_in (Err fault) = None
 
--- those of all logs
+-- those of all such logs
 abbrev pub lasts : List (Result LogScan Fault) → List ℕ
 lasts = filter_map last_in
 
--- what the scans of logs and parts answer: no update was dropped below the last timestamps of all logs that were scanned whole
+-- what the scans of logs and parts answer, which dropped no update below the least last timestamp of the logs that were scanned whole
 pub record AreOutcomes (logs parts : List Seen) (outcomes : Outcomes) : Type 0 where
   pub logs_are : AllFrom (IsLogOutcome (least_of (lasts outcomes.logs.items))) 0 logs outcomes.logs.items
   pub parts_are : AllFrom IsPartOutcome 0 (read_parts logs parts) outcomes.parts.items

@@ -34,14 +34,14 @@ part_jobs = numbered kinds.Part
 
 -- what the scan of a source of this kind answers
 abbrev pub IsOutcome : ℕ → Kind → ℕ → Seen → Scanned → Type 0
-IsOutcome floor kinds.Log log seen (scanned.Log outcome) = IsLogOutcome floor log seen outcome
-IsOutcome floor kinds.Part part seen (scanned.Part outcome) = IsPartOutcome part seen outcome
-IsOutcome floor kinds.Log log seen (scanned.Part outcome) = ⊥
-IsOutcome floor kinds.Part part seen (scanned.Log outcome) = ⊥
+IsOutcome limit kinds.Log log seen (scanned.Log outcome) = IsLogOutcome limit log seen outcome
+IsOutcome limit kinds.Part part seen (scanned.Part outcome) = IsPartOutcome part seen outcome
+IsOutcome limit kinds.Log log seen (scanned.Part outcome) = ⊥
+IsOutcome limit kinds.Part part seen (scanned.Log outcome) = ⊥
 
--- what the scan of a job's source answers, if no update below `floor` was dropped
+-- what the scan of a job's source answers, which dropped no update below `limit`
 abbrev pub IsScanned : {S : Type 0} → (S → Seen) → ℕ → ScanJob S → Scanned → Type 0
-IsScanned seen floor job answer = IsOutcome floor job.kind job.number (seen job.source) answer
+IsScanned seen limit job answer = IsOutcome limit job.kind job.number (seen job.source) answer
 
 abbrev pub log_in : Scanned → Option (Result LogScan Fault)
 log_in (scanned.Log outcome) = Some outcome
@@ -65,8 +65,8 @@ parts_in = filter_map part_in
 abbrev pub IsFresh : BoardId → PassView → Type 0
 IsFresh board pass = pass ≡ fresh_pass board pass.number
 
--- The sources of these jobs were scanned, with a pass: it noted the last timestamp of each log that was scanned whole, and no other, and
--- no update was dropped below the least number that it saw.
+-- The sources of these jobs were scanned, with a pass: it noted the last timestamp of each log that was scanned whole, and no other number,
+-- and no update was dropped below the least number that it saw.
 pub record HasScanned {S : Type 0} (seen : S → Seen) (jobs : List (ScanJob S)) (answers : List Scanned) (before after : PassView) : Type 0 where
   pub board : after.board ≡ before.board
   pub noted : after.noted ≡ min before.noted (least_of (lasts (logs_in answers)))

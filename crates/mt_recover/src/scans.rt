@@ -87,12 +87,12 @@ pub(crate) fn scan_one<S: Source>(alloc: Global, inputs: Inputs<S>) -> Result<Ou
     let scans = in_turn(
         alloc,
         shares,
-        &|share: Share<S>| { scan_share(alloc, &board, share) },
+        &|share: Share<S>| { scan_jobs(alloc, &board, share) },
     )?;
     gather_scans(alloc, board, all_done(alloc, scans)?)
 }
 
-/// The same by so many threads. An update is dropped if it comes too late for a log that any of them has scanned.
+/// The same by several threads. An update is dropped if it comes too late for a log that any of them has scanned.
 pub(crate) fn scan_all<R: Threads + Sync, S: Source + Send>(
     rt: &R,
     alloc: Global,
@@ -106,7 +106,7 @@ pub(crate) fn scan_all<R: Threads + Sync, S: Source + Send>(
     let scans = thread::map_vec(
         rt,
         shares,
-        &|share: Share<S>| { scan_share(alloc, &board, share) },
+        &|share: Share<S>| { scan_jobs(alloc, &board, share) },
     )?;
     gather_scans(alloc, board, all_done(alloc, scans)?)
 }
@@ -160,7 +160,7 @@ fn number_all<S: Drop>(
     Ok(jobs)
 }
 
-/// Deals the jobs to a share for each of so many workers, with passes to a new board.
+/// Deals the jobs to a share for each worker, with a pass to a new board.
 fn share_out<S: Drop>(
     alloc: Global,
     jobs: Vec<ScanJob<S>>,
@@ -197,7 +197,7 @@ fn with_passes<S: Drop>(
 }
 
 /// Scans the sources of a share, one after the other.
-fn scan_share<S: Source>(alloc: Global, board: &Board, share: Share<S>) -> Result<Scans, Memory>
+fn scan_jobs<S: Source>(alloc: Global, board: &Board, share: Share<S>) -> Result<Scans, Memory>
     requires { IsFresh board.now share.pass }
     ensures { IfOk result (λ scans. HasScanned S.seen share.jobs.items (into_iter_items scans.answers) share.pass scans.pass) }
 {

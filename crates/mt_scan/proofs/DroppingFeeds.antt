@@ -13,8 +13,8 @@ use Rattle.mt_record.specs.Logs.{latest}
 use Rattle.mt_record.specs.declared.read.FeedFault.{FeedFault}
 use Rattle.mt_record.specs.LogFeeding.{IsLogFed, FedLog, HoldsLog, IsLogLeft, IsLogFaulty}
 use Rattle.mt_record.proofs.Feeds.{fed_on}
-use Rattle.mt_record.specs.declared.kept_records.Gone.{Gone}
-use Rattle.mt_record.specs.Cutting.{HasCut, HaveGone}
+use Rattle.mt_record.specs.declared.kept_records.Dropped.{Dropped}
+use Rattle.mt_record.specs.Cutting.{HasCut, IsCountOf}
 use Rattle.mt_record.proofs.RecordLemmas.{marks_and_updates}
 use Rattle.mt_scan.specs.declared.dropping_feed.DroppingFeed.{DroppingFeed}
 use Rattle.mt_scan.specs.DroppingFeeds.{taken_of, GoesOn, KeepsRecords, HasRead, IsFedBelow}
@@ -28,32 +28,32 @@ module _ (feed : FedLog) (bytes taken : List _) (fed : IsLogFed feed bytes taken
   pub fed_latest : feed.so_far.latest ≡ latest 0 (taken ++ feed.so_far.ready)
   fed_latest = let held = fed.0 sound in held.0.read.latest
 
--- the floor falls
-lowered : (feed : DroppingFeed) (floor lower : ℕ) (bytes : List ℕ) → lower ≤ floor → HasRead feed floor bytes → HasRead feed lower bytes
-lowered feed floor lower bytes le h = record {
+-- the limit falls
+lowered : (feed : DroppingFeed) (limit lower : ℕ) (bytes : List ℕ) → lower ≤ limit → HasRead feed limit bytes → HasRead feed lower bytes
+lowered feed limit lower bytes le h = record {
   late = h.late;
   fed = h.fed;
-  past = All-weaker (λ (r : Logged). floor ≤ r.timestamp) (λ (r : Logged). lower ≤ r.timestamp) (λ r is. omega (arith, is, le)) h.late h.past;
+  past = All-weaker (λ (r : Logged). limit ≤ r.timestamp) (λ (r : Logged). lower ≤ r.timestamp) (λ r is. omega (arith, is, le)) h.late h.past;
   marks = h.marks;
   dropped = h.dropped;
   goes_on = λ sound. by feed.kept (h.goes_on sound);
 }
   where
-    by : (kept : Option (List Logged)) → GoesOn floor kept h.late → GoesOn lower kept h.late
+    by : (kept : Option (List Logged)) → GoesOn limit kept h.late → GoesOn lower kept h.late
     by None is = is
     by (Some kept) is = omega (arith, is, le)
 
 -- ---- dropping
 
 -- nothing comes too late
-pub none_late : (feed : DroppingFeed) (floor : ℕ) (bytes : List ℕ) → HasRead feed floor bytes → feed.feed.fault ≡ None → feed.kept ≡ None → feed.feed.so_far.latest < floor → IsFedBelow feed floor bytes
-none_late feed floor bytes h sound none below =
+pub none_late : (feed : DroppingFeed) (limit : ℕ) (bytes : List ℕ) → HasRead feed limit bytes → feed.feed.fault ≡ None → feed.kept ≡ None → feed.feed.so_far.latest < limit → IsFedBelow feed limit bytes
+none_late feed limit bytes h sound none below =
     let late : h.late ≡ [] = rw none at (h.goes_on sound) in
     let taken : taken_of feed.kept ++ h.late ≡ [] = (λ i. taken_of (none i) ++ late i) in
     let fed = subst (IsLogFed feed.feed bytes) taken h.fed in
     let rise = fed_rise feed.feed bytes [] fed sound in
     let last = fed_latest feed.feed bytes [] fed sound in
-    let all = all_below 0 floor feed.feed.so_far.ready rise (omega (arith, last, below)) in
+    let all = all_below 0 limit feed.feed.so_far.ready rise (omega (arith, last, below)) in
     record { read = h; keeps = λ sound. rw none all }
 
 pub count_both : (xs ys : List Logged) → length (filter is_mark (xs ++ ys)) ≡ length (filter is_mark xs) + length (filter is_mark ys)
@@ -64,34 +64,34 @@ others : (rs : List Logged) → length (filter is_mark rs) ≤ length rs
 others rs = omega (arith, marks_and_updates 0 0 rs)
 
 -- something came too late before: so does all that the feed has, and what is kept is cut once more
-pub more_late : (old new : DroppingFeed) (floor : ℕ) (bytes : List ℕ) (was kept : List Logged) (gone later : Gone) → HasRead old floor bytes → old.feed.fault ≡ None → old.kept ≡ Some was → new.kept ≡ Some kept
+pub more_late : (old new : DroppingFeed) (limit : ℕ) (bytes : List ℕ) (was kept : List Logged) (gone later : Dropped) → HasRead old limit bytes → old.feed.fault ≡ None → old.kept ≡ Some was → new.kept ≡ Some kept
     → new.feed ≡ record old.feed { so_far = record old.feed.so_far { ready = [] } } → ((taken : List Logged) → IsLogFed old.feed bytes taken → IsLogFed new.feed bytes (taken ++ old.feed.so_far.ready))
-    → HaveGone old.feed.so_far.ready later → HasCut floor was kept gone → new.marks ≡ min (min (old.marks + gone.marks) (2 ^ 64 - 1) + later.marks) (2 ^ 64 - 1)
-    → new.dropped ≡ min (min (old.dropped + gone.updates) (2 ^ 64 - 1) + later.updates) (2 ^ 64 - 1) → IsFedBelow new floor bytes
-more_late old new floor bytes was kept gone later h sound some same taken_is feeds went cut marks dropped =
+    → IsCountOf old.feed.so_far.ready later → HasCut limit was kept gone → new.marks ≡ min (min (old.marks + gone.marks) (2 ^ 64 - 1) + later.marks) (2 ^ 64 - 1)
+    → new.dropped ≡ min (min (old.dropped + gone.updates) (2 ^ 64 - 1) + later.updates) (2 ^ 64 - 1) → IsFedBelow new limit bytes
+more_late old new limit bytes was kept gone later h sound some same taken_is feeds went cut marks dropped =
     let ready : List Logged = old.feed.so_far.ready in
-    let goes_on : floor ≤ latest 0 (was ++ h.late) = rw some at (h.goes_on sound) in
+    let goes_on : limit ≤ latest 0 (was ++ h.late) = rw some at (h.goes_on sound) in
     let rise : Rise 0 ((was ++ h.late) ++ ready) = subst (λ (k : Option (List Logged)). Rise 0 ((taken_of k ++ h.late) ++ ready)) some (fed_rise old.feed bytes (taken_of old.kept ++ h.late) h.fed sound) in
-    let past = all_past floor (latest 0 (was ++ h.late)) ready (rise_behind 0 (was ++ h.late) ready rise) goes_on in
+    let past = all_past limit (latest 0 (was ++ h.late)) ready (rise_behind 0 (was ++ h.late) ready rise) goes_on in
     let up = never_falls (latest 0 (was ++ h.late)) ready (rise_behind 0 (was ++ h.late) ready rise) in
     let last = latest_behind 0 (was ++ h.late) ready in
     let all : (was ++ h.late) ++ ready ≡ kept ++ (cut.late ++ (h.late ++ ready)) =
     append_assoc was h.late ready ∙ ap (λ (l : List Logged). l ++ (h.late ++ ready)) cut.joins ∙ append_assoc kept cut.late (h.late ++ ready) in
     let kept_rise : Rise 0 kept = rise_front 0 kept (cut.late ++ (h.late ++ ready)) (subst (Rise 0) all rise) in
     let fed : IsLogFed new.feed bytes ((was ++ h.late) ++ ready) = subst (λ (k : Option (List Logged)). IsLogFed new.feed bytes ((taken_of k ++ h.late) ++ ready)) some (feeds (taken_of old.kept ++ h.late) h.fed) in
-    let read : HasRead new floor bytes = record {
+    let read : HasRead new limit bytes = record {
       late = cut.late ++ (h.late ++ ready);
       fed = subst (IsLogFed new.feed bytes) (all ∙ ap (λ (k : Option (List Logged)). taken_of k ++ (cut.late ++ (h.late ++ ready))) (sym same)) fed;
-      past = All-append (λ (r : Logged). floor ≤ r.timestamp) cut.late (h.late ++ ready) cut.past (All-append (λ (r : Logged). floor ≤ r.timestamp) h.late ready h.past past);
-      marks = omega (arith, marks, h.marks, went.marks, cut.have_gone.marks, count_both cut.late (h.late ++ ready), count_both h.late ready);
+      past = All-append (λ (r : Logged). limit ≤ r.timestamp) cut.late (h.late ++ ready) cut.past (All-append (λ (r : Logged). limit ≤ r.timestamp) h.late ready h.past past);
+      marks = omega (arith, marks, h.marks, went.marks, cut.counted.marks, count_both cut.late (h.late ++ ready), count_both h.late ready);
       dropped = omega (
         arith,
         dropped,
         h.dropped,
         went.marks,
         went.count,
-        cut.have_gone.marks,
-        cut.have_gone.count,
+        cut.counted.marks,
+        cut.counted.count,
         count_both cut.late (h.late ++ ready),
         count_both h.late ready,
         length-append cut.late (h.late ++ ready),
@@ -100,13 +100,13 @@ more_late old new floor bytes was kept gone later h sound some same taken_is fee
       );
       goes_on = λ _. rw same (omega (arith, goes_on, up, last, ap (latest 0) all));
     } in
-    record { read = read; keeps = λ _. rw same (ap (λ (f : FedLog). f.so_far.ready) taken_is, cut_below floor floor kept kept_rise cut.ends (omega arith)) }
+    record { read = read; keeps = λ _. rw same (ap (λ (f : FedLog). f.so_far.ready) taken_is, cut_below limit limit kept kept_rise cut.ends (omega arith)) }
 
 -- the first record that comes too late, and all behind it
-pub first_late : (old new : DroppingFeed) (floor : ℕ) (bytes : List ℕ) (kept : List Logged) (gone : Gone) → HasRead old floor bytes → old.feed.fault ≡ None → old.kept ≡ None → new.kept ≡ Some kept
+pub first_late : (old new : DroppingFeed) (limit : ℕ) (bytes : List ℕ) (kept : List Logged) (gone : Dropped) → HasRead old limit bytes → old.feed.fault ≡ None → old.kept ≡ None → new.kept ≡ Some kept
     → new.feed ≡ record old.feed { so_far = record old.feed.so_far { ready = [] } } → ((taken : List Logged) → IsLogFed old.feed bytes taken → IsLogFed new.feed bytes (taken ++ old.feed.so_far.ready))
-    → HasCut floor old.feed.so_far.ready kept gone → floor ≤ old.feed.so_far.latest → new.marks ≡ min (old.marks + gone.marks) (2 ^ 64 - 1) → new.dropped ≡ min (old.dropped + gone.updates) (2 ^ 64 - 1) → IsFedBelow new floor bytes
-first_late old new floor bytes kept gone h sound none some taken_is feeds cut past marks dropped =
+    → HasCut limit old.feed.so_far.ready kept gone → limit ≤ old.feed.so_far.latest → new.marks ≡ min (old.marks + gone.marks) (2 ^ 64 - 1) → new.dropped ≡ min (old.dropped + gone.updates) (2 ^ 64 - 1) → IsFedBelow new limit bytes
+first_late old new limit bytes kept gone h sound none some taken_is feeds cut past marks dropped =
     let ready : List Logged = old.feed.so_far.ready in
     let late : h.late ≡ [] = rw none at (h.goes_on sound) in
     let taken : taken_of old.kept ++ h.late ≡ [] = (λ i. taken_of (none i) ++ late i) in
@@ -115,19 +115,19 @@ first_late old new floor bytes kept gone h sound none some taken_is feeds cut pa
     let last = fed_latest old.feed bytes [] fed sound in
     let kept_rise : Rise 0 kept = rise_front 0 kept cut.late (subst (Rise 0) cut.joins rise) in
     let no_marks : length (filter is_mark h.late) ≡ 0 = ap (λ (l : List Logged). length (filter is_mark l)) late in
-    let read : HasRead new floor bytes = record {
+    let read : HasRead new limit bytes = record {
       late = cut.late;
       fed = subst (IsLogFed new.feed bytes) (cut.joins ∙ ap (λ (k : Option (List Logged)). taken_of k ++ cut.late) (sym some)) (feeds [] fed);
       past = cut.past;
-      marks = omega (arith, marks, h.marks, no_marks, cut.have_gone.marks);
-      dropped = omega (arith, dropped, h.dropped, ap length late, cut.have_gone.count, cut.have_gone.marks);
+      marks = omega (arith, marks, h.marks, no_marks, cut.counted.marks);
+      dropped = omega (arith, dropped, h.dropped, ap length late, cut.counted.count, cut.counted.marks);
       goes_on = λ _. rw some (omega (arith, past, last, ap (latest 0) cut.joins));
     } in
-    record { read = read; keeps = λ _. rw some (ap (λ (f : FedLog). f.so_far.ready) taken_is, cut_below floor floor kept kept_rise cut.ends (omega arith)) }
+    record { read = read; keeps = λ _. rw some (ap (λ (f : FedLog). f.so_far.ready) taken_is, cut_below limit limit kept kept_rise cut.ends (omega arith)) }
 
 -- a fault stays, whatever follows
-pub stays_fed : (feed : DroppingFeed) (floor : ℕ) (bytes more : List ℕ) → IsSome feed.feed.fault → IsFedBelow feed floor bytes → IsFedBelow feed floor (bytes ++ more)
-stays_fed feed floor bytes more stopped h =
+pub stays_fed : (feed : DroppingFeed) (limit : ℕ) (bytes more : List ℕ) → IsSome feed.feed.fault → IsFedBelow feed limit bytes → IsFedBelow feed limit (bytes ++ more)
+stays_fed feed limit bytes more stopped h =
     let there = fault_of feed.feed.fault stopped in
     let never : (P : Type 0) → feed.feed.fault ≡ None → P = λ P sound. absurd (none-some there.0 (sym sound ∙ there.1)) in
     record {
@@ -137,9 +137,9 @@ stays_fed feed floor bytes more stopped h =
         past = h.read.past;
         marks = h.read.marks;
         dropped = h.read.dropped;
-        goes_on = λ sound. never (GoesOn floor feed.kept h.read.late) sound;
+        goes_on = λ sound. never (GoesOn limit feed.kept h.read.late) sound;
       };
-      keeps = λ sound. never (KeepsRecords floor feed.kept feed.feed.so_far.ready) sound;
+      keeps = λ sound. never (KeepsRecords limit feed.kept feed.feed.so_far.ready) sound;
     }
   where
     fault_of : (o : Option FeedFault) → IsSome o → (f : FeedFault) × (o ≡ Some f)
@@ -156,10 +156,10 @@ pub now_sound : {X F : Type 0} (P : Type 0) (answer : Result X F) → OnOk answe
 now_sound P (Ok x) on ok = on
 now_sound P (Err f) on ok = absurd (false≢true ok)
 
--- one more piece, under a floor that may have fallen
-pub read_on : (old new : DroppingFeed) (was floor : ℕ) (bytes piece : List ℕ) (h : IsFedBelow old was bytes) → floor ≤ was → new ≡ record old { feed = new.feed } → old.feed.fault ≡ None
-    → IsLogFed new.feed (bytes ++ piece) (taken_of old.kept ++ h.read.late) → HasRead new floor (bytes ++ piece)
-read_on old new was floor bytes piece h le same sound fed = lowered new was floor (bytes ++ piece) le (record {
+-- one more piece, under a limit that may have fallen
+pub read_on : (old new : DroppingFeed) (was limit : ℕ) (bytes piece : List ℕ) (h : IsFedBelow old was bytes) → limit ≤ was → new ≡ record old { feed = new.feed } → old.feed.fault ≡ None
+    → IsLogFed new.feed (bytes ++ piece) (taken_of old.kept ++ h.read.late) → HasRead new limit (bytes ++ piece)
+read_on old new was limit bytes piece h le same sound fed = lowered new was limit (bytes ++ piece) le (record {
   late = h.read.late;
   fed = subst (λ (k : Option (List Logged)). IsLogFed new.feed (bytes ++ piece) (taken_of k ++ h.read.late)) (sym (ap (λ (f : DroppingFeed). f.kept) same)) fed;
   past = h.read.past;
@@ -169,12 +169,12 @@ read_on old new was floor bytes piece h le same sound fed = lowered new was floo
 })
 
 -- a piece that shows a fault
-pub read_fault : (old new : DroppingFeed) (was floor : ℕ) (bytes piece : List ℕ) (fault : FeedFault) (h : IsFedBelow old was bytes) → floor ≤ was → new ≡ record old { feed = new.feed } → new.feed.fault ≡ Some fault
-    → IsLogFed new.feed (bytes ++ piece) (taken_of old.kept ++ h.read.late) → IsFedBelow new floor (bytes ++ piece)
-read_fault old new was floor bytes piece fault h le same there fed =
+pub read_fault : (old new : DroppingFeed) (was limit : ℕ) (bytes piece : List ℕ) (fault : FeedFault) (h : IsFedBelow old was bytes) → limit ≤ was → new ≡ record old { feed = new.feed } → new.feed.fault ≡ Some fault
+    → IsLogFed new.feed (bytes ++ piece) (taken_of old.kept ++ h.read.late) → IsFedBelow new limit (bytes ++ piece)
+read_fault old new was limit bytes piece fault h le same there fed =
     let never : (P : Type 0) → new.feed.fault ≡ None → P = λ P sound. absurd (none-some fault (sym sound ∙ there)) in
     record {
-      read = lowered new was floor (bytes ++ piece) le (record {
+      read = lowered new was limit (bytes ++ piece) le (record {
         late = h.read.late;
         fed = subst (λ (k : Option (List Logged)). IsLogFed new.feed (bytes ++ piece) (taken_of k ++ h.read.late)) (sym (ap (λ (f : DroppingFeed). f.kept) same)) fed;
         past = h.read.past;
@@ -182,5 +182,5 @@ read_fault old new was floor bytes piece fault h le same there fed =
         dropped = ap (λ (f : DroppingFeed). f.dropped) same ∙ h.read.dropped;
         goes_on = λ sound. never (GoesOn was new.kept h.read.late) sound;
       });
-      keeps = λ sound. never (KeepsRecords floor new.kept new.feed.so_far.ready) sound;
+      keeps = λ sound. never (KeepsRecords limit new.kept new.feed.so_far.ready) sound;
     }

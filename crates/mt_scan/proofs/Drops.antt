@@ -10,40 +10,40 @@ use Rattle.mt_record.specs.Kept.{kept_updates}
 use Rattle.mt_board.specs.Board.{least_of, nothing_noted}
 use Rattle.mt_scan.specs.declared.log_scan.LogScan.{LogScan}
 use Rattle.mt_scan.specs.Scans.{ShowsLog}
-use Rattle.mt_scan.specs.Dropping.{ShowsBelow}
+use Rattle.mt_scan.specs.Dropping.{ShowsAllBelow}
 
 filter_front : (p : Update → Bool) (front back : List Update) → filter p back ≡ [] → filter p (front ++ back) ≡ filter p front
 filter_front p [] back none = none
 filter_front p (u ∷ us) back none = ap (λ (l : List Update). cond (p u) (u ∷ l) l) (filter_front p us back none)
 
-none_kept : (keeps : Update → Bool) (floor : ℕ) (late : List Update) → ((update : Update) → floor ≤ update.timestamp → keeps update ≡ false) → All (λ (u : Update). floor ≤ u.timestamp) late → filter keeps late ≡ []
-none_kept keeps floor [] none past = refl
-none_kept keeps floor (u ∷ us) none past =
-    let P : Update → Type 0 = λ (w : Update). floor ≤ w.timestamp in
-    ap (λ (b : Bool). cond b (u ∷ filter keeps us) (filter keeps us)) (none u (All-head P u us past)) ∙ none_kept keeps floor us none (All-tail P u us past)
+none_kept : (keeps : Update → Bool) (limit : ℕ) (late : List Update) → ((update : Update) → limit ≤ update.timestamp → keeps update ≡ false) → All (λ (u : Update). limit ≤ u.timestamp) late → filter keeps late ≡ []
+none_kept keeps limit [] none past = refl
+none_kept keeps limit (u ∷ us) none past =
+    let P : Update → Type 0 = λ (w : Update). limit ≤ w.timestamp in
+    ap (λ (b : Bool). cond b (u ∷ filter keeps us) (filter keeps us)) (none u (All-head P u us past)) ∙ none_kept keeps limit us none (All-tail P u us past)
 
--- a filter that keeps nothing at or past the floor keeps the same of what the scan kept and of all updates of the log
-pub same_kept : (keeps : Update → Bool) (number floor : ℕ) (scan : LogScan) (log : LogReading) → ((update : Update) → floor ≤ update.timestamp → keeps update ≡ false) → ShowsBelow number floor scan log
+-- a filter that keeps nothing at or past the limit keeps the same of what the scan kept and of all updates of the log
+pub same_kept : (keeps : Update → Bool) (number limit : ℕ) (scan : LogScan) (log : LogReading) → ((update : Update) → limit ≤ update.timestamp → keeps update ≡ false) → ShowsAllBelow limit number scan log
     → filter keeps (kept_updates scan.updates) ≡ filter keeps (updates_from number 0 log.records)
-same_kept keeps number floor scan log none s = sym (filter_front keeps (kept_updates scan.updates) s.late (none_kept keeps floor s.late none s.past)) ∙ ap (filter keeps) s.updates
+same_kept keeps number limit scan log none s = sym (filter_front keeps (kept_updates scan.updates) s.lost (none_kept keeps limit s.lost none s.past)) ∙ ap (filter keeps) s.updates
 
--- a scan that shows all below a floor does so below a lower one
-pub shows_lower : (number floor lower : ℕ) (scan : LogScan) (log : LogReading) → lower ≤ floor → ShowsBelow number floor scan log → ShowsBelow number lower scan log
-shows_lower number floor lower scan log le s = record {
+-- a scan that shows all below a limit does so below a lower one
+pub shows_lower : (number limit lower : ℕ) (scan : LogScan) (log : LogReading) → lower ≤ limit → ShowsAllBelow limit number scan log → ShowsAllBelow lower number scan log
+shows_lower number limit lower scan log le s = record {
   numbers = s.numbers;
-  late = s.late;
+  lost = s.lost;
   updates = s.updates;
-  past = All-weaker (λ (u : Update). floor ≤ u.timestamp) (λ (u : Update). lower ≤ u.timestamp) (λ u is. omega (arith, is, le)) s.late s.past;
+  past = All-weaker (λ (u : Update). limit ≤ u.timestamp) (λ (u : Update). lower ≤ u.timestamp) (λ u is. omega (arith, is, le)) s.lost s.past;
   dropped = s.dropped;
 }
 
--- a scan that dropped nothing shows all below any floor
-pub shows_all : (number floor : ℕ) (scan : LogScan) (log : LogReading) → ShowsLog number scan log → ShowsBelow number floor scan log
-shows_all number floor scan log s = record {
+-- a scan that dropped nothing shows all below any limit
+pub shows_all : (number limit : ℕ) (scan : LogScan) (log : LogReading) → ShowsLog number scan log → ShowsAllBelow limit number scan log
+shows_all number limit scan log s = record {
   numbers = s.numbers;
-  late = [];
+  lost = [];
   updates = append-nil (kept_updates scan.updates) ∙ s.updates;
-  past = All-nil (λ (u : Update). floor ≤ u.timestamp);
+  past = All-nil (λ (u : Update). limit ≤ u.timestamp);
   dropped = s.dropped;
 }
 

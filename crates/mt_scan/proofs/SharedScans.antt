@@ -14,7 +14,7 @@ use Rattle.mt_record.specs.Kept.{is_mark}
 use Rattle.mt_record.specs.Logs.{LogReading, IsReading, IsTextIn}
 use Rattle.mt_record.proofs.RecordLemmas.{marks_and_updates}
 use Rattle.mt_scan.specs.declared.dropping_feed.DroppingFeed.{DroppingFeed}
-use Rattle.mt_scan.specs.Dropping.{IsScanBelow, KeepsBelow}
+use Rattle.mt_scan.specs.Dropping.{HasAllBelow, KeepsOnlyBelow}
 use Rattle.mt_scan.specs.DroppingFeeds.{taken_of, kept_in, scan_from, GoesOn, KeepsRecords, IsFedBelow}
 use Rattle.mt_scan.proofs.DroppingFeeds.{count_both}
 
@@ -49,25 +49,25 @@ all_updates P log nth (r ∷ rs) all =
     one (Some change) is = rw is (All-cons (λ (u : Update). P u.timestamp) _ [] (All-head (λ (q : Logged). P q.timestamp) r rs all) (All-nil (λ (u : Update). P u.timestamp)))
 
 -- the records of the log are those that were kept and those that were dropped
-joins : (floor : ℕ) (kept : Option (List Logged)) (late ready records : List Logged) (text : LogText (List Logged)) → GoesOn floor kept late → KeepsRecords floor kept ready → text.records ≡ ready
+joins : (limit : ℕ) (kept : Option (List Logged)) (late ready records : List Logged) (text : LogText (List Logged)) → GoesOn limit kept late → KeepsRecords limit kept ready → text.records ≡ ready
     → (taken_of kept ++ late) ++ text.records ≡ records → kept_in kept text ++ late ≡ records
-joins floor None late ready records text none keeps same is =
+joins limit None late ready records text none keeps same is =
     ap (λ (l : List Logged). text.records ++ l) none ∙ append-nil text.records ∙ ap (λ (l : List Logged). l ++ text.records) (sym none) ∙ is
-joins floor (Some kept) late ready records text goes_on keeps same is =
+joins limit (Some kept) late ready records text goes_on keeps same is =
     sym (append-nil (kept ++ late)) ∙ ap (λ (l : List Logged). (kept ++ late) ++ l) (sym (same ∙ keeps.0)) ∙ is
 
-below : (floor : ℕ) (kept : Option (List Logged)) (ready : List Logged) (text : LogText (List Logged)) → KeepsRecords floor kept ready → text.records ≡ ready → All (λ r. r.timestamp < floor) (kept_in kept text)
-below floor None ready text keeps same = subst (All (λ (r : Logged). r.timestamp < floor)) (sym same) keeps
-below floor (Some kept) ready text keeps same = keeps.1
+below : (limit : ℕ) (kept : Option (List Logged)) (ready : List Logged) (text : LogText (List Logged)) → KeepsRecords limit kept ready → text.records ≡ ready → All (λ r. r.timestamp < limit) (kept_in kept text)
+below limit None ready text keeps same = subst (All (λ (r : Logged). r.timestamp < limit)) (sym same) keeps
+below limit (Some kept) ready text keeps same = keeps.1
 
-pub scan_is : (feed : DroppingFeed) (floor number : ℕ) (bytes : List ℕ) (text : LogText (List Logged)) (h : IsFedBelow feed floor bytes) → length bytes < 2 ^ 64 → feed.feed.fault ≡ None
+pub scan_is : (feed : DroppingFeed) (limit number : ℕ) (bytes : List ℕ) (text : LogText (List Logged)) (h : IsFedBelow feed limit bytes) → length bytes < 2 ^ 64 → feed.feed.fault ≡ None
     → IsTextIn (λ records. records) (taken_of feed.kept ++ h.read.late) bytes text → text.records ≡ feed.feed.so_far.ready
-    → IsScanBelow number floor bytes (scan_from number text feed.kept feed.dropped feed.marks) × KeepsBelow floor (scan_from number text feed.kept feed.dropped feed.marks)
-scan_is feed floor number bytes text h small sound is same =
+    → HasAllBelow limit number bytes (scan_from number text feed.kept feed.dropped feed.marks) × KeepsOnlyBelow limit (scan_from number text feed.kept feed.dropped feed.marks)
+scan_is feed limit number bytes text h small sound is same =
     let late : List Logged = h.read.late in
     let early : List Logged = kept_in feed.kept text in
     let keeps = h.keeps sound in
-    let all : early ++ late ≡ is.log.records = joins floor feed.kept late feed.feed.so_far.ready is.log.records text (h.read.goes_on sound) keeps same is.shows.records in
+    let all : early ++ late ≡ is.log.records = joins limit feed.kept late feed.feed.so_far.ready is.log.records text (h.read.goes_on sound) keeps same is.shows.records in
     let long = reading_long bytes is.log is.is_reading in
     let lengths = ap length all in
     let parts = length-append early late in
@@ -85,11 +85,11 @@ scan_is feed floor number bytes text h small sound is same =
             marks = omega (arith, marks, h.read.marks, some, others, lengths, parts, long, small);
             torn = is.shows.torn;
           };
-          late = updates_from number (0 + length early) late;
+          lost = updates_from number (0 + length early) late;
           updates = updates_both number 0 early late ∙ ap (updates_from number 0) all;
-          past = all_updates (λ (n : ℕ). floor ≤ n) number (0 + length early) late h.read.past;
+          past = all_updates (λ (n : ℕ). limit ≤ n) number (0 + length early) late h.read.past;
           dropped = omega (arith, h.read.dropped, others, lengths, parts, long, small);
         };
       },
-      all_updates (λ (n : ℕ). n < floor) number 0 early (below floor feed.kept feed.feed.so_far.ready text keeps same),
+      all_updates (λ (n : ℕ). n < limit) number 0 early (below limit feed.kept feed.feed.so_far.ready text keeps same),
     )

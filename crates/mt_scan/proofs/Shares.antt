@@ -1,7 +1,7 @@
 -- The steps of a shared scan.
 use Rattle.std.proofs.Common.{◌≡◌, min, ◌⊎◌, inl, inr, ◌∙◌, ℕ, ◌+◌, ◌<◌, ◌≤◌, ◌^◌, List, [], ◌∷◌, ◌++◌, length, Bool, Option, Some, None, Result, Ok, Err, refl, sym, ap, subst, append_assoc, append-nil, length-append, arith}
 use Rattle.std.proofs.lemmas.Bool.{false≢true}
-use Rattle.std.specs.Prelude.{nat_lt, true, false}
+use Rattle.std.specs.Prelude.{nat_lt, true, false, ◌&&◌}
 use Rattle.std.proofs.lemmas.Bool.Decides.{nat_tests}
 use Rattle.std.specs.Result.{OnOk, IsErr, is_err}
 use Rattle.std.specs.Io.KnownBytes.{Consumes, IsAtEnd}
@@ -10,7 +10,7 @@ use Rattle.mt_scan.specs.declared.dropping_feed.DroppingFeed.{DroppingFeed}
 use Rattle.mt_scan.specs.Sources.{Seen}
 use Rattle.mt_scan.specs.Dropping.{HasLooked}
 use Rattle.mt_scan.specs.DroppingFeeds.{IsFedBelow, HasStopped}
-use Rattle.mt_scan.specs.Sharing.{FeedsBelow, SharesPiece, SharesAll}
+use Rattle.mt_scan.specs.SharedScans.{FeedsBelow, SharesPiece, SharesAll}
 use Rattle.mt_scan.proofs.DroppingFeeds.{stays_fed}
 use Rattle.mt_scan.proofs.Telling.{goes_on, handed_out, all_handed_out}
 
@@ -34,22 +34,24 @@ least_last : (xs : List ℕ) (x : ℕ) → x ≤ least_of xs → least_of (xs ++
 least_last [] x low = omega (arith, low)
 least_last (y ∷ ys) x low = let rest = least_last ys x (omega (arith, low)) in omega (arith, low, rest)
 
-looked_on : (before middle after : PassView) (floor : ℕ) → middle ≡ record before { looks = middle.looks } → after ≡ record middle { looks = middle.looks ++ floor ∷ [] } → after ≡ record before { looks = after.looks }
-looked_on before middle after floor was is =
-    let looks : after.looks ≡ middle.looks ++ floor ∷ [] = ap (λ (p : PassView). p.looks) is in
-    is ∙ ap (λ (p : PassView). record p { looks = middle.looks ++ floor ∷ [] }) was ∙ ap (λ (l : List ℕ). record before { looks = l }) (sym looks)
+looked_on : (before middle after : PassView) (limit : ℕ) → middle ≡ record before { looks = middle.looks } → after ≡ record middle { looks = middle.looks ++ limit ∷ [] } → after ≡ record before { looks = after.looks }
+looked_on before middle after limit was is =
+    let looks : after.looks ≡ middle.looks ++ limit ∷ [] = ap (λ (p : PassView). p.looks) is in
+    is ∙ ap (λ (p : PassView). record p { looks = middle.looks ++ limit ∷ [] }) was ∙ ap (λ (l : List ℕ). record before { looks = l }) (sym looks)
 
 -- ---- pieces
 
--- a piece with bytes, and one without
-pub some_bytes : (count : ℕ) → nat_lt 0 count ≡ true → 0 < count
-some_bytes count is = grind (arith, nat_tests)
+-- more is to follow a piece with bytes, if the feed goes on
+pub more_bytes : (goes_on : Bool) (count : ℕ) → (goes_on && nat_lt 0 count) ≡ true → 0 < count
+more_bytes true count is = grind (arith, nat_tests)
+more_bytes false count is = absurd (false≢true is)
 
-pub no_bytes : (count : ℕ) → nat_lt 0 count ≡ false → count ≡ 0
-no_bytes count is = grind (arith, nat_tests)
+pub no_more : (goes_on : Bool) (count : ℕ) → (goes_on && nat_lt 0 count) ≡ false → (goes_on ≡ false) ⊎ (count ≡ 0)
+no_more true count is = inr (grind (arith, nat_tests))
+no_more false count is = inl refl
 
 -- none
-pub none_shared : (seen : Seen) (feed : DroppingFeed) (pass : PassView) → ((floor : ℕ) → IsFedBelow feed floor []) → HasShared seen seen feed pass pass
+pub none_shared : (seen : Seen) (feed : DroppingFeed) (pass : PassView) → ((limit : ℕ) → IsFedBelow feed limit []) → HasShared seen seen feed pass pass
 none_shared seen feed pass new = record {
   more = [];
   looks = sym (append-nil pass.looks);
@@ -66,33 +68,44 @@ none_shared seen feed pass new = record {
 
 module _ {SourceFault : Type 0} (begun seen now : Seen) (old new : DroppingFeed) (before middle after : PassView) (s : HasShared begun seen old before middle) where
   -- one more look
-  pub has_looked : (answer : Result Bool SourceFault) → SharesPiece seen now old new middle after answer → HasLooked before after
-  has_looked answer h = by s.more refl
+  pub has_looked : (answer : Result Bool SourceFault) → SharesPiece seen now old new middle after answer → HasLooked before after × (after.noted ≡ before.noted)
+  has_looked answer h = (by s.more refl, noted)
     where
-      looks : after.looks ≡ (before.looks ++ s.more) ++ h.floor ∷ []
-      looks = ap (λ (p : PassView). p.looks) h.looked ∙ ap (λ (l : List ℕ). l ++ h.floor ∷ []) s.looks
+      looks : after.looks ≡ (before.looks ++ s.more) ++ h.limit ∷ []
+      looks = ap (λ (p : PassView). p.looks) h.looked ∙ ap (λ (l : List ℕ). l ++ h.limit ∷ []) s.looks
 
       rest : after ≡ record before { looks = after.looks }
-      rest = looked_on before middle after h.floor s.rest h.looked
+      rest = looked_on before middle after h.limit s.rest h.looked
+
+      noted : after.noted ≡ before.noted
+      noted = ap (λ (p : PassView). p.noted) rest
+
+      low : least_of after.looks ≤ before.noted
+      low =
+          let least : least_of after.looks ≡ h.limit = ap (λ (p : PassView). least_of p.looks) h.looked ∙ least_last middle.looks h.limit h.low in
+          omega (arith, least, h.noted, ap (λ (p : PassView). p.noted) s.rest)
+
+      all : after ≡ record before { looks = after.looks; noted = after.noted }
+      all = rest ∙ ap (λ (n : ℕ). record before { looks = after.looks; noted = n }) (sym noted)
 
       by : (more : List ℕ) → s.more ≡ more → HasLooked before after
-      by [] is = record { first = h.floor; more = []; looks = looks ∙ append_assoc before.looks s.more (h.floor ∷ []) ∙ ap (λ (l : List ℕ). before.looks ++ (l ++ h.floor ∷ [])) is; rest = rest }
-      by (x ∷ xs) is = record { first = x; more = xs ++ h.floor ∷ []; looks = looks ∙ append_assoc before.looks s.more (h.floor ∷ []) ∙ ap (λ (l : List ℕ). before.looks ++ (l ++ h.floor ∷ [])) is; rest = rest }
+      by [] is = record { first = h.limit; more = []; looks = looks ∙ append_assoc before.looks s.more (h.limit ∷ []) ∙ ap (λ (l : List ℕ). before.looks ++ (l ++ h.limit ∷ [])) is; low = low; rest = all }
+      by (x ∷ xs) is = record { first = x; more = xs ++ h.limit ∷ []; looks = looks ∙ append_assoc before.looks s.more (h.limit ∷ []) ∙ ap (λ (l : List ℕ). before.looks ++ (l ++ h.limit ∷ [])) is; low = low; rest = all }
 
   -- what the next one is fed below
   module _ (more : Bool) (answer : Result Bool SourceFault) (ok : answer ≡ Ok more) (h : SharesPiece seen now old new middle after answer) where
-    pub feeds : FeedsBelow h.floor seen now new s.bytes more
+    pub feeds : FeedsBelow h.limit seen now new s.bytes more
     feeds = rw ok at (h.fed (least_of middle.looks) s.bytes h.low s.fed)
 
     -- one more piece
     pub next_shared : HasShared begun now new before after
     next_shared =
-        let looks : after.looks ≡ middle.looks ++ h.floor ∷ [] = ap (λ (p : PassView). p.looks) h.looked in
-        let least : least_of after.looks ≡ h.floor = ap least_of looks ∙ least_last middle.looks h.floor h.low in
+        let looks : after.looks ≡ middle.looks ++ h.limit ∷ [] = ap (λ (p : PassView). p.looks) h.looked in
+        let least : least_of after.looks ≡ h.limit = ap least_of looks ∙ least_last middle.looks h.limit h.low in
         let short = s.bounded h.bounded in record {
-          more = s.more ++ h.floor ∷ [];
-          looks = looks ∙ ap (λ (l : List ℕ). l ++ h.floor ∷ []) s.looks ∙ append_assoc before.looks s.more (h.floor ∷ []);
-          rest = looked_on before middle after h.floor s.rest h.looked;
+          more = s.more ++ h.limit ∷ [];
+          looks = looks ∙ ap (λ (l : List ℕ). l ++ h.limit ∷ []) s.looks ∙ append_assoc before.looks s.more (h.limit ∷ []);
+          rest = looked_on before middle after h.limit s.rest h.looked;
           bytes = s.bytes ++ feeds.piece;
           handed_out = goes_on begun.told seen.told now.told s.bytes feeds.piece s.handed_out feeds.next;
           fed = subst (λ (n : ℕ). IsFedBelow new n (s.bytes ++ feeds.piece)) (sym least) feeds.fed;
@@ -119,13 +132,15 @@ module _ {SourceFault : Type 0} (begun seen now : Seen) (old new : DroppingFeed)
 -- ---- the scan
 
 -- the log's last timestamp was noted after all looks
-pub noted_on : (last : ℕ) (before old new : PassView) → HasLooked before old → new ≡ record old { noted = min old.noted last } → HasLooked (record before { noted = min before.noted last }) new
+pub noted_on : (last : ℕ) (before old new : PassView) → HasLooked before old → new ≡ record old { noted = min old.noted last } → HasLooked before new
 noted_on last before old new h is =
-    let looks : new.looks ≡ old.looks = ap (λ (p : PassView). p.looks) is in record {
+    let looks : new.looks ≡ old.looks = ap (λ (p : PassView). p.looks) is in
+    let noted : new.noted ≡ min old.noted last = ap (λ (p : PassView). p.noted) is in record {
       first = h.first;
       more = h.more;
       looks = looks ∙ h.looks;
-      rest = is ∙ ap (λ (p : PassView). record p { noted = min p.noted last }) h.rest ∙ ap (λ (l : List ℕ). record before { noted = min before.noted last; looks = l }) (sym looks);
+      low = omega (arith, ap least_of looks, h.low);
+      rest = is ∙ ap (λ (p : PassView). record p { noted = min old.noted last }) h.rest ∙ (λ i. record before { looks = sym looks i; noted = sym noted i });
     }
 
 -- a scan that did not stop has few bytes

@@ -13,30 +13,30 @@ abbrev pub taken_of : Option (List Logged) → List Logged
 taken_of None = []
 taken_of (Some kept) = kept
 
--- what follows is to be looked at, if nothing was dropped; else all of it lies at or past `floor`, since timestamps do not fall
+-- what follows is to be looked at, if nothing was dropped; else all of it lies at or past `limit`, since timestamps do not fall
 abbrev pub GoesOn : ℕ → Option (List Logged) → List Logged → Type 0
-GoesOn floor None late = late ≡ []
-GoesOn floor (Some kept) late = floor ≤ latest 0 (kept ++ late)
+GoesOn limit None late = late ≡ []
+GoesOn limit (Some kept) late = limit ≤ latest 0 (kept ++ late)
 
--- These bytes were fed, and of what they say these last records were dropped: all lie at or past `floor`, and so many updates and marks
+-- These bytes were fed, and of what they say these last records were dropped: all lie at or past `limit`, and so many updates and marks
 -- are among them.
-pub record HasRead (feed : DroppingFeed) (floor : ℕ) (bytes : List ℕ) : Type 0 where
+pub record HasRead (feed : DroppingFeed) (limit : ℕ) (bytes : List ℕ) : Type 0 where
   pub late : List Logged
   pub fed : IsLogFed feed.feed bytes (taken_of feed.kept ++ late)
-  pub past : All (λ r. floor ≤ r.timestamp) late
+  pub past : All (λ r. limit ≤ r.timestamp) late
   pub marks : feed.marks ≡ count_of (filter is_mark late)
   pub dropped : feed.dropped ≡ min (length late - length (filter is_mark late)) (2 ^ 64 - 1)
-  pub goes_on : feed.feed.fault ≡ None → GoesOn floor feed.kept late
+  pub goes_on : feed.feed.fault ≡ None → GoesOn limit feed.kept late
 
--- what is kept, in the feed or taken out of it, lies below `floor`
+-- what is kept, in the feed or taken out of it, lies below `limit`
 abbrev pub KeepsRecords : ℕ → Option (List Logged) → List Logged → Type 0
-KeepsRecords floor None ready = All (λ r. r.timestamp < floor) ready
-KeepsRecords floor (Some kept) ready = (ready ≡ []) × All (λ r. r.timestamp < floor) kept
+KeepsRecords limit None ready = All (λ r. r.timestamp < limit) ready
+KeepsRecords limit (Some kept) ready = (ready ≡ []) × All (λ r. r.timestamp < limit) kept
 
--- these bytes were fed: just the records at or past `floor` were dropped
-pub record IsFedBelow (feed : DroppingFeed) (floor : ℕ) (bytes : List ℕ) : Type 0 where
-  pub read : HasRead feed floor bytes
-  pub keeps : feed.feed.fault ≡ None → KeepsRecords floor feed.kept feed.feed.so_far.ready
+-- these bytes were fed: just the records at or past `limit` were dropped
+pub record IsFedBelow (feed : DroppingFeed) (limit : ℕ) (bytes : List ℕ) : Type 0 where
+  pub read : HasRead feed limit bytes
+  pub keeps : feed.feed.fault ≡ None → KeepsRecords limit feed.kept feed.feed.so_far.ready
 
 -- it has a fault, which more bytes do not change
 abbrev pub HasStopped : DroppingFeed → Type 0

@@ -1,19 +1,19 @@
 //! The feed of a scan that drops what comes too late.
 ghost use Rattle.std.specs.Prelude.{◌≡◌, None, false, ◌≤◌, ◌<◌, ◌++◌, ◌^◌, [], List, ℕ, length, min, ◌+◌, ◌-◌, IfOk, IfErr, IsErr};
 ghost use Rattle.mt_scan.specs.Scans.{IsLogVerdict, failures_of};
-ghost use Rattle.mt_scan.specs.Dropping.{IsScanBelow, KeepsBelow};
+ghost use Rattle.mt_scan.specs.Dropping.{HasAllBelow, KeepsOnlyBelow};
 ghost use Rattle.mt_scan.specs.DroppingFeeds.{IsFedBelow, HasRead, HasStopped, scan_from};
 
 use crate::log_scan::LogScan;
-use mt_record::{Gone, KeptRecords, LogFeed, LogText, Updates};
+use mt_record::{Dropped, KeptRecords, LogFeed, LogText, Updates};
 use mt_words::Fault;
 use std::alloc::Global;
 
-/// Reads a log in pieces, and keeps its records below a floor that may fall from piece to piece.
+/// Reads a log in pieces, and keeps its records below a limit, which may fall from piece to piece.
 #[derive(Drop)]
 pub struct DroppingFeed {
     feed: LogFeed<KeptRecords>,
-    /// The records below the floor, once others were dropped. Until then the feed has them.
+    /// The records below the limit, once others were dropped. Until then the feed has them.
     kept: Option<KeptRecords>,
     /// How many updates were dropped, as far as a u64 counts.
     dropped: u64,
@@ -24,7 +24,7 @@ pub struct DroppingFeed {
 impl DroppingFeed {
     /// A feed that was fed nothing.
     pub fn new(alloc: Global) -> DroppingFeed
-        ensures { (floor : ℕ) → IsFedBelow result floor [] }
+        ensures { (limit : ℕ) → IsFedBelow result limit [] }
     {
         DroppingFeed {
             feed: LogFeed::keeping(alloc),
@@ -34,35 +34,35 @@ impl DroppingFeed {
         }
     }
 
-    /// Feeds the next piece, and drops what lies at or past the floor. False after a fault, which more bytes do not
+    /// Feeds the next piece, and drops what lies at or past the limit. False after a fault, which more bytes do not
     /// change.
-    pub fn feed_below(&mut self, piece: &[u8], floor: u64) -> bool
-        ensures fed { (before : ℕ) (bytes : List ℕ) → floor ≤ before → IsFedBelow self.old before bytes →
-            IsFedBelow self.new floor (bytes ++ piece.now) }
+    pub fn feed_below(&mut self, piece: &[u8], limit: u64) -> bool
+        ensures fed { (before : ℕ) (bytes : List ℕ) → limit ≤ before → IsFedBelow self.old before bytes →
+            IsFedBelow self.new limit (bytes ++ piece.now) }
         ensures stops { result ≡ false → HasStopped self.new }
     {
         let goes_on = self.feed.feed(piece).is_ok();
         if goes_on {
-            self.drop_late(floor);
+            self.drop_late(limit);
         }
         goes_on
     }
 
-    /// Drops the records that lie at or past the floor. Timestamps do not fall, so these are the last ones.
-    fn drop_late(&mut self, floor: u64)
-        ensures { (bytes : List ℕ) → self.old.feed.fault ≡ None → HasRead self.old floor bytes → IsFedBelow self.new floor bytes }
+    /// Drops the records that lie at or past the limit. Timestamps do not fall, so these are the last ones.
+    fn drop_late(&mut self, limit: u64)
+        ensures { (bytes : List ℕ) → self.old.feed.fault ≡ None → HasRead self.old limit bytes → IsFedBelow self.new limit bytes }
     {
         match &mut self.kept {
             Some(kept) => {
                 let later = self.feed.drop_kept();
-                let gone = kept.cut(floor);
+                let gone = kept.cut(limit);
                 self.count(gone);
                 self.count(later);
             }
             None => {
-                if self.feed.latest() >= floor {
+                if self.feed.latest() >= limit {
                     let mut kept = self.feed.take_kept();
-                    let first = kept.cut(floor);
+                    let first = kept.cut(limit);
                     self.kept = Some(kept);
                     self.count(first);
                 }
@@ -71,18 +71,18 @@ impl DroppingFeed {
     }
 
     /// Counts records that were dropped.
-    fn count(&mut self, gone: Gone)
-        ensures { self.new ≡ record self.old { marks = min (self.old.marks + gone.marks) (2 ^ 64 - 1); dropped = min (self.old.dropped + gone.updates) (2 ^ 64 - 1) } }
+    fn count(&mut self, more: Dropped)
+        ensures { self.new ≡ record self.old { marks = min (self.old.marks + more.marks) (2 ^ 64 - 1); dropped = min (self.old.dropped + more.updates) (2 ^ 64 - 1) } }
     {
-        self.marks = self.marks.saturating_add(gone.marks);
-        self.dropped = self.dropped.saturating_add(gone.updates);
+        self.marks = self.marks.saturating_add(more.marks);
+        self.dropped = self.dropped.saturating_add(more.updates);
     }
 
     /// The scan of the log of this number that was fed, or its fault.
-    pub fn finish_below(self, log: usize) -> Result<LogScan, Fault>
-        ensures scan { (floor : ℕ) (bytes : List ℕ) → IsFedBelow self floor bytes → length bytes < 2 ^ 64 →
-            IfOk result (λ scan. IsScanBelow log floor bytes scan × KeepsBelow floor scan) }
-        ensures fault { (floor : ℕ) (bytes : List ℕ) → IsFedBelow self floor bytes → IfErr result (IsLogVerdict log bytes) }
+    pub fn finish(self, log: usize) -> Result<LogScan, Fault>
+        ensures scan { (limit : ℕ) (bytes : List ℕ) → IsFedBelow self limit bytes → length bytes < 2 ^ 64 →
+            IfOk result (λ scan. HasAllBelow limit log bytes scan × KeepsOnlyBelow limit scan) }
+        ensures fault { (limit : ℕ) (bytes : List ℕ) → IsFedBelow self limit bytes → IfErr result (IsLogVerdict log bytes) }
         ensures stopped { HasStopped self → IsErr result }
         ensures no_source { failures_of result ≡ 0 }
     {

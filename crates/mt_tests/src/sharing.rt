@@ -115,13 +115,14 @@ fn a_scan_with_a_fault_notes_nothing(rt: HostRuntime) {
 /// How many bytes the first piece has: the header and a put.
 const FIRST_PIECE: usize = 45;
 
-/// Bytes in two pieces, and a pass that notes 5 while the first one is handed out.
+/// Bytes in two pieces, and a pass that notes 5 while the first one is handed out, and another number at the end.
 #[derive(Drop)]
 struct Noting<'a> {
     board: &'a Board,
     pass: Pass,
     shown: &'a [u8],
     rest: &'a [u8],
+    at_end: u64,
 }
 
 impl<'a> Model for Noting<'a> {
@@ -146,6 +147,9 @@ impl Source for Noting<'_> {
     ghost seen = { λ noting. noting };
 
     fn advance(&mut self) -> Result<usize, SourceFault> {
+        if self.rest.is_empty() {
+            self.board.note(&mut self.pass, self.at_end);
+        }
         // Before the first call no bytes are shown.
         let count = if self.shown.is_empty() {
             self.board.note(&mut self.pass, 5);
@@ -162,16 +166,27 @@ impl Source for Noting<'_> {
     }
 }
 
-#[test]
-fn a_scan_finds_what_is_noted_meanwhile(rt: HostRuntime) {
-    let (board, mut first, second) = open(&rt);
+/// Scans that source: what is kept lies below 5. The number is the least one afterwards.
+fn scan_noting<R: Abort + AllocGlobal>(rt: &R, at_end: u64) -> u64 {
+    let (board, mut first, second) = open(rt);
     let mut source = Noting {
         board: &board,
         pass: second,
         shown: &[],
         rest: LOG_FROM_3_TO_9,
+        at_end,
     };
-    let answer = scan(&rt, &mut source, &board, &mut first);
-    assert_scan(&rt, answer, 1, 2);
-    assert_same(&rt, &board.least(&mut first), &5);
+    let answer = scan(rt, &mut source, &board, &mut first);
+    assert_scan(rt, answer, 1, 2);
+    board.least(&mut first)
+}
+
+#[test]
+fn a_scan_finds_what_is_noted_meanwhile(rt: HostRuntime) {
+    assert_same(&rt, &scan_noting(&rt, u64::MAX), &5);
+}
+
+#[test]
+fn a_scan_looks_before_the_last_call_of_its_source(rt: HostRuntime) {
+    assert_same(&rt, &scan_noting(&rt, 2), &2);
 }

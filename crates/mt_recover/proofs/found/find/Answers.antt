@@ -15,14 +15,14 @@ returns-in_err-scans-clause-fault c = λ logs parts are.
 pub returns-in_err-parts-clause-fault : goal.returns-in_err-parts-clause-fault
 returns-in_err-parts-clause-fault c = λ logs parts are.
     let p = err_from_is_err_and c.from_residual-in_err-parts.result c.from_residual-in_err-parts.ensures.1 in
-    let floor : ℕ = least_of (lasts c.args.outcomes.logs.items) in
-    let scanned = subst (AllFrom (IsLogOutcome floor) 0 logs) c.in_ok-scans.ensures.done are.logs_are in
-    rw (p.1, p.2) (or_memory logs parts c.in_err-parts.field-0.0 (part_refused floor logs parts c.in_ok-scans.scans.items c.args.outcomes.parts.items c.in_err-parts.field-0.0 scanned are.parts_are) c.in_err-parts.ensures.fault)
+    let limit : ℕ = least_of (lasts c.args.outcomes.logs.items) in
+    let scanned = subst (AllFrom (IsLogOutcome limit) 0 logs) c.in_ok-scans.ensures.done are.logs_are in
+    rw (p.1, p.2) (or_memory logs parts c.in_err-parts.field-0.0 (part_refused limit logs parts c.in_ok-scans.scans.items c.args.outcomes.parts.items c.in_err-parts.field-0.0 scanned are.parts_are) c.in_err-parts.ensures.fault)
 
 pub returns-in_default-clause-fault : goal.returns-in_default-clause-fault
 returns-in_default-clause-fault c = λ logs parts are.
-    let floor : ℕ = least_of (lasts c.args.outcomes.logs.items) in
-    none_refused floor logs parts c.in_ok-scans.scans.items (subst (AllFrom (IsLogOutcome floor) 0 logs) c.in_ok-scans.ensures.done are.logs_are) (sym c.deref.ensures.value ∙ c.in_default.ensures.none)
+    let limit : ℕ = least_of (lasts c.args.outcomes.logs.items) in
+    none_refused limit logs parts c.in_ok-scans.scans.items (subst (AllFrom (IsLogOutcome limit) 0 logs) c.in_ok-scans.ensures.done are.logs_are) (sym c.deref.ensures.value ∙ c.in_default.ensures.none)
 
 pub returns-in_err-choice-clause-fault : goal.returns-in_err-choice-clause-fault
 returns-in_err-choice-clause-fault c = λ logs parts are.

@@ -9,6 +9,6 @@ loop-log-preserved c =
     let outcomes = c.loop-log.outcomes.items in
     record {
       number_is = rw c.in_ok-push.ensures.items (omega (arith, length-append outcomes (c.scan_bytes.result ∷ []), I.number_is));
-      are = λ floor. scanned_more floor c.args.logs.now outcomes c.push.new.self.items c.loop-log.log (record { ref_ptr = (0, 0); now = [] }) c.scan_bytes.result c.loop-log-test.true I.number_is c.scan_bytes.ensures.scan c.scan_bytes.ensures.fault
-          c.in_ok-push.ensures.items (I.are floor);
+      are = λ limit. scanned_more limit c.args.logs.now outcomes c.push.new.self.items c.loop-log.log (record { ref_ptr = (0, 0); now = [] }) c.scan_bytes.result c.loop-log-test.true I.number_is c.scan_bytes.ensures.scan c.scan_bytes.ensures.fault
+          c.in_ok-push.ensures.items (I.are limit);
     }

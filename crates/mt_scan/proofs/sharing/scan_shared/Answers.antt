@@ -1,8 +1,8 @@
-use Rattle.std.proofs.Common.{rules, ◌∙◌, ◌<◌, ◌^◌, ℕ, List, length, refl, sym, ap, subst}
+use Rattle.std.proofs.Common.{rules, ◌∙◌, ◌<◌, ◌^◌, ℕ, List, length, min, refl, sym, ap, subst}
 use Rattle.mt_board.specs.Board.{PassView, least_of}
 use Rattle.mt_scan.specs.Scans.{IsScanFault, OfTold}
-use Rattle.mt_scan.specs.Dropping.{IsScanBelow, KeepsBelow}
-use Rattle.mt_scan.specs.Sharing.{SharesAll}
+use Rattle.mt_scan.specs.Dropping.{HasAllBelow, KeepsOnlyBelow}
+use Rattle.mt_scan.specs.SharedScans.{SharesAll}
 use Rattle.mt_scan.proofs.Telling.{some_bytes}
 use Rattle.mt_scan.proofs.Steps.{answered}
 use Rattle.mt_scan.proofs.Shares.{noted_on, few_bytes, not_err}
@@ -25,14 +25,15 @@ pub returns-clause-scan : goal.returns-clause-scan
 returns-clause-scan g c =
     let told = (g.S.Source.seen c.args.source.now).told in
     let s = not_err (SharesAll told c.feed_all_shared.new.feed c.feed_all_shared.new.pass) c.feed_all_shared.result c.feed_all_shared.ensures.fed (sym c.is_err.ensures.value ∙ c.if-is_err.false) in
-    let few : length s.bytes < 2 ^ 64 = few_bytes (length s.bytes) c.finish_below.result c.in_ok-scan.scan s.few c.finish_below.ensures.stopped c.in_ok-scan.was in
-    let is : IsScanBelow c.args.log (least_of c.feed_all_shared.new.pass.looks) s.bytes c.in_ok-scan.scan × KeepsBelow (least_of c.feed_all_shared.new.pass.looks) c.in_ok-scan.scan = c.in_ok-scan.ensures.scan (least_of c.feed_all_shared.new.pass.looks) s.bytes s.fed few in
+    let few : length s.bytes < 2 ^ 64 = few_bytes (length s.bytes) c.finish.result c.in_ok-scan.scan s.few c.finish.ensures.stopped c.in_ok-scan.was in
+    let is : HasAllBelow (least_of c.feed_all_shared.new.pass.looks) c.args.log s.bytes c.in_ok-scan.scan × KeepsOnlyBelow (least_of c.feed_all_shared.new.pass.looks) c.in_ok-scan.scan = c.in_ok-scan.ensures.scan (least_of c.feed_all_shared.new.pass.looks) s.bytes s.fed few in
     let looks = ap (λ (p : PassView). p.looks) c.note.ensures in (
       s.bytes,
       s.agrees,
       record {
-        looked = noted_on c.in_ok-scan.scan.last c.args.pass.now c.feed_all_shared.new.pass c.note.new.pass c.feed_all_shared.ensures.looked c.note.ensures;
-        is = subst (λ (l : List ℕ). IsScanBelow c.args.log (least_of l) s.bytes c.in_ok-scan.scan) (sym looks) is.0;
-        kept = subst (λ (l : List ℕ). KeepsBelow (least_of l) c.in_ok-scan.scan) (sym looks) is.1;
+        looked = noted_on c.in_ok-scan.scan.last c.args.pass.now c.feed_all_shared.new.pass c.note.new.pass c.feed_all_shared.ensures.looked.0 c.note.ensures;
+        noted = ap (λ (p : PassView). p.noted) c.note.ensures ∙ ap (λ (n : ℕ). min n c.in_ok-scan.scan.last) c.feed_all_shared.ensures.looked.1;
+        is = subst (λ (l : List ℕ). HasAllBelow (least_of l) c.args.log s.bytes c.in_ok-scan.scan) (sym looks) is.0;
+        kept = subst (λ (l : List ℕ). KeepsOnlyBelow (least_of l) c.in_ok-scan.scan) (sym looks) is.1;
       },
     )

@@ -25,11 +25,11 @@ returns-in-Some c bytes sound h =
       dropped = min ((first i).dropped + later.updates) (2 ^ 64 - 1);
       marks = min ((first i).marks + later.marks) (2 ^ 64 - 1);
     }) in
-    subst (λ (f : DroppingFeed). IsFedBelow f c.args.floor bytes) (sym counted)
-    (more_late old new c.args.floor bytes c.in-Some.kept c.cut-gone.new.self gone later h sound c.in-Some.is refl c.drop_kept-later.ensures.rest (c.drop_kept-later.ensures.fed bytes) c.drop_kept-later.ensures.gone c.cut-gone.ensures refl refl)
+    subst (λ (f : DroppingFeed). IsFedBelow f c.args.limit bytes) (sym counted)
+    (more_late old new c.args.limit bytes c.in-Some.kept c.cut-gone.new.self gone later h sound c.in-Some.is refl c.drop_kept-later.ensures.rest (c.drop_kept-later.ensures.fed bytes) c.drop_kept-later.ensures.gone c.cut-gone.ensures refl refl)
 
-pub returns-then-latest-floor : goal.returns-then-latest-floor
-returns-then-latest-floor c bytes sound h =
+pub returns-then-latest-limit : goal.returns-then-latest-limit
+returns-then-latest-limit c bytes sound h =
     let old : DroppingFeed = c.args.self.now in
     let gone = c.cut-first.result in
     let kept = c.cut-first.new.self in
@@ -40,10 +40,10 @@ returns-then-latest-floor c bytes sound h =
       marks = min (old.marks + gone.marks) (2 ^ 64 - 1);
     } in
     let ready = c.take_kept-kept.ensures.records in
-    let cut : HasCut c.args.floor c.take_kept-kept.result kept gone = c.cut-first.ensures in
-    subst (λ (f : DroppingFeed). IsFedBelow f c.args.floor bytes) (sym c.count-then-latest-floor.ensures)
-    (first_late old new c.args.floor bytes kept gone h sound c.in-None.is refl c.take_kept-kept.ensures.rest (λ taken fed. subst (λ (rs : List Logged). IsLogFed new.feed bytes (taken ++ rs)) ready (c.take_kept-kept.ensures.fed bytes taken fed))
-    (subst (λ (rs : List Logged). HasCut c.args.floor rs kept gone) ready cut) (omega (arith, c.latest.ensures, c.if-latest-floor.true)) refl refl)
+    let cut : HasCut c.args.limit c.take_kept-kept.result kept gone = c.cut-first.ensures in
+    subst (λ (f : DroppingFeed). IsFedBelow f c.args.limit bytes) (sym c.count-then-latest-limit.ensures)
+    (first_late old new c.args.limit bytes kept gone h sound c.in-None.is refl c.take_kept-kept.ensures.rest (λ taken fed. subst (λ (rs : List Logged). IsLogFed new.feed bytes (taken ++ rs)) ready (c.take_kept-kept.ensures.fed bytes taken fed))
+    (subst (λ (rs : List Logged). HasCut c.args.limit rs kept gone) ready cut) (omega (arith, c.latest.ensures, c.if-latest-limit.true)) refl refl)
 
-pub returns-else-latest-floor : goal.returns-else-latest-floor
-returns-else-latest-floor c bytes sound h = none_late c.args.self.now c.args.floor bytes h sound c.in-None.is (omega (arith, c.latest.ensures, c.if-latest-floor.false))
+pub returns-else-latest-limit : goal.returns-else-latest-limit
+returns-else-latest-limit c bytes sound h = none_late c.args.self.now c.args.limit bytes h sound c.in-None.is (omega (arith, c.latest.ensures, c.if-latest-limit.false))

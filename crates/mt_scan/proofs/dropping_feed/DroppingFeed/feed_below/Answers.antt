@@ -12,11 +12,11 @@ returns-then-goes_on-clause-fed c was bytes le h =
     let ok = sym c.is_ok-goes_on.ensures.value ∙ c.if-goes_on.true in
     let before = was_sound old.feed.fault c.feed.result c.feed.ensures.again ok in
     let now = now_sound (c.feed.new.self.fault ≡ None) c.feed.result c.feed.ensures.sound ok in
-    c.drop_late.ensures (bytes ++ c.args.piece.now) now (read_on old new was c.args.floor bytes c.args.piece.now h le refl before (c.feed.ensures.fed bytes (taken_of old.kept ++ h.read.late) h.read.fed))
+    c.drop_late.ensures (bytes ++ c.args.piece.now) now (read_on old new was c.args.limit bytes c.args.piece.now h le refl before (c.feed.ensures.fed bytes (taken_of old.kept ++ h.read.late) h.read.fed))
 
 pub returns-else-goes_on-clause-fed : goal.returns-else-goes_on-clause-fed
 returns-else-goes_on-clause-fed c was bytes le h =
     let old : DroppingFeed = c.args.self.now in
     let new : DroppingFeed = record old { feed = c.feed.new.self } in
     let there = has_fault c.feed.result c.feed.new.self.fault (sym c.is_ok-goes_on.ensures.value ∙ c.if-goes_on.false) c.feed.ensures.kept in
-    read_fault old new was c.args.floor bytes c.args.piece.now there.0 h le refl there.1 (c.feed.ensures.fed bytes (taken_of old.kept ++ h.read.late) h.read.fed)
+    read_fault old new was c.args.limit bytes c.args.piece.now there.0 h le refl there.1 (c.feed.ensures.fed bytes (taken_of old.kept ++ h.read.late) h.read.fed)

@@ -1,7 +1,7 @@
 use Rattle.std.proofs.Common.{◌≡◌, ◌++◌}
 use Rattle.std.specs.Vec.Iter.{into_iter_items}
 use Rattle.mt_recover.specs.Scanning.{HasScanned}
-use Rattle.mt_recover.proofs.scans.scan_share.Given as goal
+use Rattle.mt_recover.proofs.scans.scan_jobs.Given as goal
 
 -- the first sources are scanned
 abbrev pub invariant-loop-job : goal.invariant-loop-job

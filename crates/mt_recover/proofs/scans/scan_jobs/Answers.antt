@@ -1,7 +1,7 @@
 use Rattle.std.proofs.Common.{append_assoc, ap, arith}
 use Rattle.mt_board.specs.Board.{PassView}
 use Rattle.mt_recover.proofs.ScanLemmas.{scanned_next}
-use Rattle.mt_recover.proofs.scans.scan_share.Goals as goal
+use Rattle.mt_recover.proofs.scans.scan_jobs.Goals as goal
 
 pub loop-job-preserved : goal.loop-job-preserved
 loop-job-preserved g c =

@@ -6,22 +6,23 @@ use Rattle.mt_scan.specs.declared.dropping_feed.DroppingFeed.{DroppingFeed}
 use Rattle.mt_scan.specs.DroppingFeeds.{IsFedBelow, HasStopped}
 use Rattle.mt_scan.specs.Sources.{Seen, Agrees}
 
--- The next piece of the source was fed below `floor`, if there is one. None is to follow at the end, and where the feed has stopped.
-pub record FeedsBelow (floor : ℕ) (before after : Seen) (feed : DroppingFeed) (bytes : List ℕ) (more : Bool) : Type 0 where
+-- The next piece of the source was fed below `limit`, if there is one. None is to follow at the end, and where the feed has stopped.
+pub record FeedsBelow (limit : ℕ) (before after : Seen) (feed : DroppingFeed) (bytes : List ℕ) (more : Bool) : Type 0 where
   pub piece : List ℕ
   pub next : Consumes before.told after.told piece
-  pub fed : IsFedBelow feed floor (bytes ++ piece)
+  pub fed : IsFedBelow feed limit (bytes ++ piece)
   pub falls : after.bound + length piece ≤ before.bound
   pub some : more ≡ true → 0 < length piece
   pub stops : more ≡ false → IsAtEnd after.told ⊎ HasStopped feed
 
--- the pass looked once, and what it found is the floor of the next piece
+-- the pass looked once, and what it found is the limit of the next piece
 pub record SharesPiece {SourceFault : Type 0} (seen now : Seen) (old new : DroppingFeed) (before after : PassView) (result : Result Bool SourceFault) : Type 0 where
-  pub floor : ℕ
-  pub looked : after ≡ record before { looks = before.looks ++ floor ∷ [] }
-  pub low : floor ≤ least_of before.looks
+  pub limit : ℕ
+  pub looked : after ≡ record before { looks = before.looks ++ limit ∷ [] }
+  pub low : limit ≤ least_of before.looks
+  pub noted : limit ≤ before.noted
   pub bounded : seen.bound < 2 ^ 64
-  pub fed : (was : ℕ) (bytes : List ℕ) → floor ≤ was → IsFedBelow old was bytes → IfOk result (FeedsBelow floor seen now new bytes)
+  pub fed : (was : ℕ) (bytes : List ℕ) → limit ≤ was → IsFedBelow old was bytes → IfOk result (FeedsBelow limit seen now new bytes)
 
 -- All bytes of a source that tells this were fed, below the least number that the pass has seen. They are few, or the feed has stopped.
 pub record SharesAll (told : Option (List ℕ)) (feed : DroppingFeed) (pass : PassView) : Type 0 where
