@@ -19,11 +19,18 @@ fn with<'a>(
     program?.subcommand(words?)
 }
 
+/// The exit statuses.
+const STATUSES: &str =
+    "Exit status: 0 done, 1 no store (a fault), 2 bad arguments, 3 folder, file or output failed";
+
 /// The program without its subcommands.
 fn program<'a>(alloc: Global) -> Result<Command<'a>, AllocError> {
     let program = Command::new(alloc, "mtrecover")
-        .version("1.0")
-        .about("Recovers the store of a folder of update logs and checkpoint parts")
+        .version("1.0 (file formats 1 and 2)")
+        .about(
+            "Recovers the store of a folder of update logs and checkpoint parts, and answers queries on it",
+        )
+        .after_help(STATUSES)
         .no_binary_name(true)
         .arg_required_else_help(true)
         .subcommand_required(true);
@@ -32,21 +39,21 @@ fn program<'a>(alloc: Global) -> Result<Command<'a>, AllocError> {
 
 /// The words of `report`.
 fn report<'a>(alloc: Global) -> Result<Command<'a>, AllocError> {
-    let about = "Prints what recovery found in the logs and parts, and what became of it";
+    let about = "Prints what recovery found in the logs and parts, as NAME=VALUE lines";
     let example = "Example: mtrecover report examples/store";
     subcommand(alloc, "report", about, example)
 }
 
 /// The words of `get`.
 fn get<'a>(alloc: Global) -> Result<Command<'a>, AllocError> {
-    let about = "Prints the pair of a key, or `absent`";
+    let about = "Prints a key with its columns, or `absent`";
     let example = "Example: mtrecover get examples/store 666967";
     subcommand(alloc, "get", about, example)?.arg(key(alloc))
 }
 
 /// The words of `range`.
 fn range<'a>(alloc: Global) -> Result<Command<'a>, AllocError> {
-    let about = "Prints the first pairs at or after a key";
+    let about = "Prints the first keys at or after a key, with their columns";
     let example = "Example: mtrecover range examples/store 6b 2";
     subcommand(alloc, "range", about, example)?
         .arg(key(alloc))?
@@ -56,7 +63,7 @@ fn range<'a>(alloc: Global) -> Result<Command<'a>, AllocError> {
 /// The words of `dump`.
 fn dump<'a>(alloc: Global) -> Result<Command<'a>, AllocError> {
     let example = "Example: mtrecover dump examples/store --workers 8";
-    subcommand(alloc, "dump", "Prints all pairs", example)
+    subcommand(alloc, "dump", "Prints all keys with their columns", example)
 }
 
 /// The words that each subcommand takes.
@@ -76,17 +83,17 @@ fn subcommand<'a>(
 
 /// The word of the folder.
 fn folder<'a>(alloc: Global) -> Arg<'a> {
-    arg!(in alloc; <DIR> "The folder of logs (.mtl) and checkpoint parts (.mtc)")
+    arg!(in alloc; <DIR> "The folder with the logs (.mtl) and checkpoint parts (.mtc)")
 }
 
 /// The word of the key.
 fn key<'a>(alloc: Global) -> Arg<'a> {
-    arg!(in alloc; <KEY> "The key in hexadecimal; the empty word is the empty key")
+    arg!(in alloc; <KEY> "The key in hexadecimal; '' is the empty key")
 }
 
 /// The word of how many pairs.
 fn count<'a>(alloc: Global) -> Arg<'a> {
-    arg!(in alloc; <COUNT> "The most pairs to print").value_parser(ValueParser::unsigned(
+    arg!(in alloc; <COUNT> "Print at most this many keys").value_parser(ValueParser::unsigned(
         0,
         u64::from(u32::MAX),
     ))
@@ -94,14 +101,14 @@ fn count<'a>(alloc: Global) -> Arg<'a> {
 
 /// The option of the workers.
 fn workers<'a>(alloc: Global) -> Arg<'a> {
-    arg!(in alloc; --workers <N> "How many threads recover: 1 to 64")
+    arg!(in alloc; --workers <N> "Number of threads: 1 to 64")
         .value_parser(ValueParser::unsigned(1, 64))
         .default_value("4")
 }
 
 /// The option of the pieces.
 fn pieces<'a>(alloc: Global) -> Arg<'a> {
-    arg!(in alloc; --pieces <P> "Into how many pieces at most the keys are cut: 1 to 4096")
+    arg!(in alloc; --pieces <P> "Cut the keys into at most this many ranges, which threads replay: 1 to 4096")
         .value_parser(ValueParser::unsigned(1, 4096))
         .default_value("16")
 }

@@ -186,15 +186,15 @@ const UNTAKEN: &[Run] = &[
     ("mtrecover get F 6", (2, "mtrecover: bad key\n")),
     ("mtrecover range F 6g 1", (2, "mtrecover: bad key\n")),
     ("mtrecover --help", (0, "Recovers the store..")),
-    ("mtrecover help range", (0, "Prints the first pairs..")),
+    ("mtrecover help range", (0, "Prints the first keys..")),
     (
         "mtrecover get --help",
         (
             0,
-            "Prints the pair of a key, or `absent`\n\nUsage: mtrecover get [OPTIONS] <DIR> <KEY>\n..",
+            "Prints a key with its columns, or `absent`\n\nUsage: mtrecover get [OPTIONS] <DIR> <KEY>\n..",
         ),
     ),
-    ("mtrecover --version", (0, "mtrecover 1.0\n")),
+    ("mtrecover --version", (0, "mtrecover 1.0 (file formats 1 and 2)\n")),
 ];
 
 #[test]
