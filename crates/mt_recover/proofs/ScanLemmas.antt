@@ -14,7 +14,7 @@ use Rattle.mt_record.specs.LogFaults.{IsAnswered, fault_at}
 use Rattle.mt_board.specs.Board.{BoardId, PassView, fresh_pass, fresh_passes, least_of, least_noted, nothing_noted, SawNoneBelow}
 use Rattle.mt_scan.specs.declared.log_scan.LogScan.{LogScan}
 use Rattle.mt_scan.specs.Dropping.{HasLooked, IsSharedScan}
-use Rattle.mt_scan.proofs.Drops.{under_looks, shows_lower, shows_all}
+use Rattle.mt_scan.proofs.Drops.{least_small, under_looks, shows_lower, shows_all}
 use Rattle.mt_scan.specs.Sources.{Seen}
 use Rattle.mt_scan.specs.Scans.{IsScanOf, IsScanFault, IsLogVerdict, OfTold, failures_of}
 use Rattle.mt_recover.specs.declared.scans.Outcomes.{Outcomes}
@@ -116,10 +116,6 @@ scanned_lower seen limit lower job answer le is = by job.kind answer is
     by kinds.Part (scanned.Log o) is = absurd is
 
 -- the least of numbers
-pub least_small : (xs : List ℕ) → least_of xs ≤ nothing_noted
-least_small [] = omega arith
-least_small (x ∷ xs) = let rest = least_small xs in omega (arith, rest)
-
 least_both : (xs ys : List ℕ) → least_of (xs ++ ys) ≡ min (least_of xs) (least_of ys)
 least_both [] ys = omega (arith, least_small ys)
 least_both (x ∷ xs) ys = let rest = least_both xs ys in omega (arith, rest)

@@ -3,17 +3,17 @@ ghost use Rattle.std.specs.Prelude.{◌≡◌, ◌<◌, ◌≤◌, ℕ, List, le
 ghost use Rattle.std.specs.List.Sorted.{IsNonDecreasingBy};
 ghost use Rattle.mt_words.specs.declared.fault.Fault.TheVariants as faults;
 ghost use Rattle.mt_words.specs.Walks.{KeysRise, joined};
-ghost use Rattle.mt_board.specs.Board.{times_drawn, SomeIsDone};
 ghost use Rattle.mt_tree.specs.Borders.{layer_walk};
 ghost use Rattle.mt_recover.specs.Assembling.{all_held, AreDraftsOf, IsLacking};
 ghost use Rattle.mt_recover.specs.Hauls.{AllCameBack, IsHaulOf, IsLeftOut};
 ghost use Rattle.mt_recover.specs.Prepared.{IsMadeOf, IsPreparedOf};
 ghost use Rattle.mt_recover.specs.Report.{IsRecoveredOf};
 
+use crate::by_workers::close;
 use crate::haul::{Haul, Piece};
 use crate::job::Job;
 use crate::recovery::Recovered;
-use mt_board::{Board, Pass};
+use mt_board::Pass;
 use mt_replay::pieces_make_the_walk;
 use mt_tree::Draft;
 use mt_words::{Fault, Memory};
@@ -46,15 +46,6 @@ pub fn assemble(
     let drafts = in_order(alloc, pieces, cuts.pieces())?;
     pieces_make_the_walk();
     Ok(prepared.finish(join_all(alloc, drafts)?)?)
-}
-
-/// Closes the board: if all its passes are back, one of which found that no number is left, each was drawn.
-fn close(board: Board, passes: Vec<Pass>)
-    requires { All (λ pass. pass.board ≡ board) passes.items }
-    ensures { board.passes ≤ length passes.items → SomeIsDone passes.items →
-        (number : ℕ) → number < board.total → 0 < times_drawn number passes.items }
-{
-    let _closed = board.close(passes);
 }
 
 /// The pieces of all hauls.

@@ -1,11 +1,13 @@
-//! Work that is shared out among threads.
-ghost use Rattle.std.specs.Prelude.{◌≡◌, ◌⊎◌, ◌<◌, ◌≤◌, [], List, map, length, max, All, IfOk, IfErr};
+//! Work that is dealt to threads.
+ghost use Rattle.std.specs.Prelude.{◌≡◌, ◌⊎◌, ◌<◌, ◌≤◌, ℕ, [], List, map, length, max, All, IfOk, IfErr};
 ghost use Rattle.std.specs.List.{AllZip};
 ghost use Rattle.std.specs.Vec.Iter.{into_iter_items};
 ghost use Rattle.mt_words.specs.declared.fault.Memory.{Memory as MemoryValue};
+ghost use Rattle.mt_board.specs.Board.{least_noted, times_drawn, SawNoneBelow, SomeIsDone};
 ghost use Rattle.mt_recover.specs.Sharing.{AreDealt, IsFirstErr};
 
 use crate::Workers;
+use mt_board::{Board, Pass};
 use mt_words::Memory;
 use std::alloc::Global;
 use std::collections::VecDeque;
@@ -102,4 +104,15 @@ pub(crate) fn gather<X: Drop>(alloc: Global, parts: Vec<IntoIter<X>>) -> Result<
         parts.rotate_left(1);
     }
     Ok(answers)
+}
+
+/// Closes a board whose passes are back. No pass saw a number below the least that was noted. If a pass found that no
+/// number was left, each number was drawn.
+pub(crate) fn close(board: Board, passes: Vec<Pass>)
+    requires { All (λ pass. pass.board ≡ board) passes.items }
+    ensures saw { board.passes ≤ length passes.items → SawNoneBelow (least_noted passes.items) passes.items }
+    ensures drawn { board.passes ≤ length passes.items → SomeIsDone passes.items →
+        (number : ℕ) → number < board.total → 0 < times_drawn number passes.items }
+{
+    let _closed = board.close(passes);
 }

@@ -2,12 +2,12 @@
 //! another.
 ghost use Rattle.std.specs.Prelude.{◌≡◌, ◌<◌, ◌≤◌, ◌++◌, [], ◌∷◌, map, length, All, IfOk, OnOk, option_to_list};
 ghost use Rattle.std.specs.Vec.Iter.{into_iter_items};
-ghost use Rattle.mt_board.specs.Board.{least_noted, nothing_noted, SawNoneBelow};
+ghost use Rattle.mt_board.specs.Board.{nothing_noted};
 ghost use Rattle.mt_recover.specs.Outcomes.{AreOutcomes, in_memory, read_parts};
 ghost use Rattle.mt_recover.specs.Scanning.{AreGathered, HasScanned, IsFresh, numbered, log_jobs, part_jobs, log_in, part_in, logs_in, parts_in, passes_of};
 ghost use Rattle.mt_recover.specs.Sharing.{AreDealt};
 
-use crate::by_workers::{all_done, deal, gather, in_turn};
+use crate::by_workers::{all_done, close, deal, gather, in_turn};
 use crate::{Inputs, Workers};
 use mt_board::{Board, Pass};
 use mt_scan::{LogScan, PartScan, Source, scan_bytes, scan_part, scan_shared};
@@ -252,14 +252,6 @@ fn split(alloc: Global, scans: Vec<Scans>) -> Result<(Vec<Pass>, Vec<IntoIter<Sc
         answers.push(one.answers)?;
     }
     Ok((passes, answers))
-}
-
-/// Closes the board of scans: none of its passes saw a number below the least that was noted.
-fn close(board: Board, passes: Vec<Pass>)
-    requires { All (λ pass. pass.board ≡ board) passes.items }
-    ensures { board.passes ≤ length passes.items → SawNoneBelow (least_noted passes.items) passes.items }
-{
-    let _closed = board.close(passes);
 }
 
 /// Tells the answers of logs from those of parts.

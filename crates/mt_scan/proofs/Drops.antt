@@ -12,6 +12,11 @@ use Rattle.mt_scan.specs.declared.log_scan.LogScan.{LogScan}
 use Rattle.mt_scan.specs.Scans.{ShowsLog}
 use Rattle.mt_scan.specs.Dropping.{ShowsAllBelow}
 
+-- the least of numbers is no greater than that of none
+pub least_small : (xs : List ℕ) → least_of xs ≤ nothing_noted
+least_small [] = omega arith
+least_small (x ∷ xs) = let rest = least_small xs in omega (arith, rest)
+
 filter_front : (p : Update → Bool) (front back : List Update) → filter p back ≡ [] → filter p (front ++ back) ≡ filter p front
 filter_front p [] back none = none
 filter_front p (u ∷ us) back none = ap (λ (l : List Update). cond (p u) (u ∷ l) l) (filter_front p us back none)

@@ -5,13 +5,14 @@ use Rattle.std.specs.Prelude.{nat_lt, true, false, ◌&&◌}
 use Rattle.std.proofs.lemmas.Bool.Decides.{nat_tests}
 use Rattle.std.specs.Result.{OnOk, IsErr, is_err}
 use Rattle.std.specs.Io.KnownBytes.{Consumes, IsAtEnd}
-use Rattle.mt_board.specs.Board.{PassView, least_of, nothing_noted}
+use Rattle.mt_board.specs.Board.{PassView, least_of}
 use Rattle.mt_scan.specs.declared.dropping_feed.DroppingFeed.{DroppingFeed}
 use Rattle.mt_scan.specs.Sources.{Seen}
 use Rattle.mt_scan.specs.Dropping.{HasLooked}
 use Rattle.mt_scan.specs.DroppingFeeds.{IsFedBelow, HasStopped}
 use Rattle.mt_scan.specs.SharedScans.{FeedsBelow, SharesPiece, SharesAll}
 use Rattle.mt_scan.proofs.DroppingFeeds.{stays_fed}
+use Rattle.mt_scan.proofs.Drops.{least_small}
 use Rattle.mt_scan.proofs.Telling.{goes_on, handed_out, all_handed_out}
 
 -- these bytes were handed out and fed, below the least number that the pass has seen
@@ -25,10 +26,6 @@ pub record HasShared (begun now : Seen) (feed : DroppingFeed) (before after : Pa
   pub bounded : now.bound < 2 ^ 64 → now.bound + length bytes < 2 ^ 64
 
 -- ---- looks
-
-least_small : (xs : List ℕ) → least_of xs ≤ nothing_noted
-least_small [] = omega arith
-least_small (x ∷ xs) = let rest = least_small xs in omega (arith, rest)
 
 least_last : (xs : List ℕ) (x : ℕ) → x ≤ least_of xs → least_of (xs ++ x ∷ []) ≡ x
 least_last [] x low = omega (arith, low)

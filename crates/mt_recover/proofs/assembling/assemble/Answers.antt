@@ -42,7 +42,7 @@ returns-in_err-drafts-clause-drawn c back =
     let same = same_pieces c.args.hauls.items c.in_ok-pieces_of.field-0.items c.by_number-pieces.result.items c.in_ok-pieces_of.ensures c.by_number-pieces.ensures.same in
     let board : c.job.inside.board ≡ c.args.job.board = ap (λ (j : JobView). j.board) c.job.view_is in
     let drawn : (x : ℕ) → x < c.args.job.board.total → 0 < times_drawn x c.args.passes.items =
-    λ x lt. c.close.ensures (omega (arith, back.many, ap (λ (b : BoardId). b.passes) board)) back.done x (omega (arith, lt, ap (λ (b : BoardId). b.total) board)) in
+    λ x lt. c.close.ensures.drawn (omega (arith, back.many, ap (λ (b : BoardId). b.passes) board)) back.done x (omega (arith, lt, ap (λ (b : BoardId). b.total) board)) in
     let h : c.in_err-drafts.field-0.0 ≡ faults.Memory =
     none_left_out c.args.job c.args.hauls.items c.by_number-pieces.result.items c.pieces.result same total c.args.passes.items c.in_err-drafts.field-0.0 back drawn c.in_err-drafts.ensures.missing in
     search (rules, h)

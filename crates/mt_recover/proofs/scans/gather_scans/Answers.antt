@@ -20,6 +20,6 @@ returns c =
       logs = λ answers dealt. are.0 ∙ ap logs_in (c.in_ok-gather.ensures answers (rw (sym same) dealt));
       parts = λ answers dealt. are.1 ∙ ap parts_in (c.in_ok-gather.ensures answers (rw (sym same) dealt));
       saw = λ many. subst (λ (passes : List PassView). SawNoneBelow (least_noted passes) passes) c.in_ok-passes.ensures.passes
-          (c.close.ensures (omega (arith, many, ap length c.in_ok-passes.ensures.passes, length-map c.args.scans.items (λ scans. scans.pass))));
+          (c.close.ensures.saw (omega (arith, many, ap length c.in_ok-passes.ensures.passes, length-map c.args.scans.items (λ scans. scans.pass))));
     })
     c.outcomes_of.ensures
