@@ -1,4 +1,5 @@
-//! The fields of bodies: what stands between the two lengths of a record or of an entry, as it stands there.
+//! Splits the change in a body into its fields, without copying. A body is what stands between the two lengths of a
+//! record or an entry.
 ghost use Rattle.std.specs.Prelude.{◌↔◌, IfSome, IfNone, IsTrue};
 ghost use Rattle.mt_words.specs.Codes.{byte_of};
 ghost use Rattle.mt_record.specs.Bodies.{AreChangeFields, SpellFields, HasNoFields, IsNoChange, HasKind, HasColumns};
@@ -6,19 +7,19 @@ ghost use Rattle.mt_record.specs.Bodies.{AreChangeFields, SpellFields, HasNoFiel
 use crate::fields::{column_at, counted_at, u64_at};
 use mt_words::{Code, Payload};
 
-/// The byte of a mark, which is no change and has no code.
+/// The kind byte of a mark. A mark changes nothing, so it has no code.
 pub const MARK: u8 = 3;
 
-/// The fields of a change as they stand among its bytes.
+/// The fields of a change, borrowed from its bytes.
 #[derive(Clone, Copy)]
 pub struct ChangeFields<'a> {
     pub version: u64,
     pub key: &'a [u8],
-    /// What its kind carries.
+    /// The bytes after the key: what its kind carries.
     pub carried: &'a [u8],
 }
 
-/// The fields of a change of this code, if the bytes are just those.
+/// Returns the fields of a change of this code. Returns None if they do not end exactly with the bytes.
 pub fn change_fields(code: Code, bytes: &[u8]) -> Option<ChangeFields<'_>>
     ensures found { IfSome result (AreChangeFields (byte_of code) bytes.now) }
     ensures none { IfNone result (IsNoChange (byte_of code) bytes.now) }
@@ -30,7 +31,8 @@ pub fn change_fields(code: Code, bytes: &[u8]) -> Option<ChangeFields<'_>>
     Some(fields)
 }
 
-/// The fields of a change, whatever its kind carries.
+/// Returns the fields of a change, whatever its kind carries. Returns None if the bytes are too short for a version and
+/// a key.
 pub fn fields_at(bytes: &[u8]) -> Option<ChangeFields<'_>>
     ensures found { IfSome result (SpellFields bytes.now) }
     ensures none { IfNone result (HasNoFields bytes.now) }
@@ -44,7 +46,7 @@ pub fn fields_at(bytes: &[u8]) -> Option<ChangeFields<'_>>
     })
 }
 
-/// Whether the bytes are just what a change of this code carries.
+/// Returns whether the bytes are exactly what a change of this code carries.
 fn has_kind(code: Code, bytes: &[u8]) -> bool
     ensures { IsTrue result ↔ HasKind (byte_of code) bytes.now }
 {
@@ -56,7 +58,7 @@ fn has_kind(code: Code, bytes: &[u8]) -> bool
     }
 }
 
-/// Whether the bytes are just so many columns.
+/// Returns whether the bytes are exactly `count` columns.
 fn has_columns(count: u8, bytes: &[u8]) -> bool
     ensures { IsTrue result ↔ HasColumns count bytes.now }
 {

@@ -1,4 +1,5 @@
-//! Bodies checked as they stand, and no memory is taken. Only the numbers of an erase are copied, in place.
+//! Validates bodies where they lie, without allocating. Only the column numbers of an erase are copied, into a fixed
+//! array.
 ghost use Rattle.std.specs.Prelude.{◌≡◌, ◌≤◌, ◌<◌, ℕ, List, length, IfOk, IfErr, OnOk, OnErr};
 ghost use Rattle.mt_words.specs.Limits.{limits_of};
 ghost use Rattle.mt_words.specs.Codes.{byte_of};
@@ -13,7 +14,8 @@ use crate::body::change_fields;
 use crate::fields::{column_at, u64_at};
 use mt_words::{Code, Format, Numbers, Payload, What};
 
-/// Checks the body of a record behind one of timestamp `latest`; its timestamp.
+/// Checks the body of a record and returns its timestamp. `latest` is the timestamp of the record before it.
+/// Err: the first fault of the body.
 pub fn check_body(format: Format, latest: u64, bytes: &[u8]) -> Result<u64, What>
     ensures found { IfOk result (IsBodyAt (limits_of format) latest bytes.now) }
     ensures fault { IfErr result (λ what. BodyFault what (limits_of format) latest bytes.now) }
@@ -25,7 +27,7 @@ pub fn check_body(format: Format, latest: u64, bytes: &[u8]) -> Result<u64, What
     Ok(timestamp)
 }
 
-/// Checks the body of a record, whatever stands before it; its timestamp.
+/// Checks the body of a record, whatever record comes before it, and returns its timestamp.
 fn check_record(format: Format, bytes: &[u8]) -> Result<u64, What>
     ensures found { IfOk result (IsBodyAt (limits_of format) 0 bytes.now) }
     ensures fault { IfErr result (λ what. (low : ℕ) → BodyFault what (limits_of format) low bytes.now) }
@@ -44,13 +46,13 @@ fn check_record(format: Format, bytes: &[u8]) -> Result<u64, What>
             check_change(format, code, rest)?;
             Ok(timestamp)
         }
-        // A mark: the one byte of a record that is no change's.
+        // A mark: the only kind of record without a code.
         (None, []) => Ok(timestamp),
         (None, _) => Err(What::Frame),
     }
 }
 
-/// Checks the fields of an entry.
+/// Checks the fields of an entry. Err: the first fault of the fields.
 pub fn check_entry(format: Format, bytes: &[u8]) -> Result<(), What>
     ensures found { OnOk result ((entry : ChangeValue) × AreFieldsOf (limits_of format) bytes.now entry) }
     ensures fault { OnErr result (AreNoFields (limits_of format) bytes.now) }
@@ -58,7 +60,7 @@ pub fn check_entry(format: Format, bytes: &[u8]) -> Result<(), What>
     check_change(format, Code::Whole, bytes)
 }
 
-/// Checks the change of this code that the bytes are. All faults are tested in their order.
+/// Checks that the bytes are a change of this code. Faults are tested in the order of `What`.
 fn check_change(format: Format, code: Code, bytes: &[u8]) -> Result<(), What>
     requires { byte_of code ≤ (limits_of format).kind }
     ensures found { OnOk result ((change : ChangeValue) × IsChangeOf (limits_of format) (byte_of code) bytes.now change) }
@@ -92,7 +94,7 @@ fn check_kind(format: Format, code: Code, bytes: &[u8]) -> Result<(), What>
     }
 }
 
-/// Checks the numbers of an erase: there must be at least one.
+/// Checks the column numbers of an erase. There must be at least one.
 fn check_numbers(format: Format, numbers: &[u8]) -> Result<(), What>
     ensures found { OnOk result (AreNumbers (limits_of format) numbers.now × (0 < length numbers.now)) }
     ensures fault { IfErr result (λ what. (what ≡ Columns) × (AreNumbers (limits_of format) numbers.now × (0 < length numbers.now) → ⊥)) }
@@ -103,7 +105,7 @@ fn check_numbers(format: Format, numbers: &[u8]) -> Result<(), What>
     }
 }
 
-/// Checks the columns that the bytes are, of which there is to be at least one.
+/// Checks bytes that are `count` columns. There must be at least one.
 fn check_some(format: Format, count: u8, bytes: &[u8]) -> Result<(), What>
     requires { HasColumns count bytes.now }
     ensures found { OnOk result (HasAllowedColumns (AreSomeColumns (limits_of format)) count bytes.now) }
@@ -116,7 +118,7 @@ fn check_some(format: Format, count: u8, bytes: &[u8]) -> Result<(), What>
     Ok(())
 }
 
-/// Checks the columns that the bytes are.
+/// Checks bytes that are `count` columns.
 fn check_columns(format: Format, count: u8, bytes: &[u8]) -> Result<(), What>
     requires { HasColumns count bytes.now }
     ensures found { OnOk result (HasAllowedColumns (AreColumns (limits_of format)) count bytes.now) }

@@ -1,5 +1,5 @@
-//! Checked bodies copied: the key straight to where it will stay, and each value into a list, out of which its column
-//! copies it once more where it is short.
+//! Decodes validated bodies into owned records and entries. A key is copied straight to where it will stay. A value is
+//! copied into a `Vec`, and a short one is then copied once more, inline.
 ghost use Rattle.std.specs.Prelude.{◌≡◌, ℕ, List, IfOk};
 ghost use Rattle.mt_words.specs.Limits.{widest};
 ghost use Rattle.mt_record.specs.Bodies.{IsLawfulBody, IsBodyOf, AreFields, AreFieldsOf, CarriesColumns, CarriesNumbers};
@@ -9,7 +9,7 @@ use crate::fields::{column_at, u64_at};
 use mt_words::{Code, Columns, Entry, Key, Memory, Numbers, Record};
 use std::alloc::Global;
 
-/// The record of this body.
+/// Returns the record with this body, with copies of its key and its values. Err: out of memory.
 pub fn copy_record(alloc: Global, bytes: &[u8]) -> Result<Record, Memory>
     requires { IsLawfulBody bytes.now }
     ensures { IfOk result (IsBodyOf widest 0 bytes.now) }
@@ -45,7 +45,7 @@ pub fn copy_record(alloc: Global, bytes: &[u8]) -> Result<Record, Memory>
     Ok(record)
 }
 
-/// The entry with these fields.
+/// Returns the entry with these fields, with copies of its key and its values. Err: out of memory.
 pub fn copy_entry(alloc: Global, bytes: &[u8]) -> Result<Entry, Memory>
     requires { AreFields bytes.now }
     ensures { IfOk result (AreFieldsOf widest bytes.now) }
@@ -61,7 +61,7 @@ pub fn copy_entry(alloc: Global, bytes: &[u8]) -> Result<Entry, Memory>
     Ok(entry)
 }
 
-/// Copies the numbers of an erase, which stand after their count.
+/// Copies the column numbers of an erase. The bytes begin with their count.
 fn copy_numbers(bytes: &[u8]) -> Numbers
     requires { (numbers : List ℕ) × CarriesNumbers bytes.now numbers }
     ensures { CarriesNumbers bytes.now result }
@@ -75,7 +75,7 @@ fn copy_numbers(bytes: &[u8]) -> Numbers
     numbers
 }
 
-/// Copies the columns, which stand after their count.
+/// Copies columns. The bytes begin with their count. Err: out of memory.
 fn copy_columns(alloc: Global, bytes: &[u8]) -> Result<Columns, Memory>
     requires { (columns : List (ℕ × List ℕ)) × CarriesColumns bytes.now columns }
     ensures { IfOk result (CarriesColumns bytes.now) }

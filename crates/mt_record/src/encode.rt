@@ -1,4 +1,4 @@
-//! Logs written as bytes. The room for all bytes is made first: where it is refused, nothing was written.
+//! Encodes logs. Room for all bytes is reserved first, so a failed allocation writes nothing.
 ghost use Rattle.std.specs.Prelude.{◌≡◌, ◌<◌, ◌^◌, ◌++◌, length, OnOk, OnErr};
 ghost use Rattle.mt_words.specs.Limits.{widest};
 ghost use Rattle.mt_words.specs.declared.limits.Format.TheVariants.{One, Two};
@@ -14,8 +14,8 @@ use crate::head::{HEADER_BYTES, LOG};
 use crate::put::{put_bytes, put_column, put_counted, put_magic};
 use mt_words::{Change, Column, Format, Kind, Memory, Record};
 
-/// Appends the header of a log of format 1, from which updates below `from` may be missing. On an Err nothing is
-/// appended.
+/// Appends the header of a log of format 1. Updates below the timestamp `from` may be missing from the log.
+/// Err: out of memory; nothing is appended.
 pub fn encode_log_header(from: u64, out: &mut Vec<u8>) -> Result<(), Memory>
     ensures ok { OnOk result (out.new.items ≡ out.old.items ++ head_bytes (head_of One from)) }
     ensures err { OnErr result (out.new.items ≡ out.old.items) }
@@ -23,7 +23,8 @@ pub fn encode_log_header(from: u64, out: &mut Vec<u8>) -> Result<(), Memory>
     append_header(Format::One, from, out)
 }
 
-/// Appends the header of a log of format 2, likewise. On an Err nothing is appended.
+/// Appends the header of a log of format 2. Updates below the timestamp `from` may be missing from the log.
+/// Err: out of memory; nothing is appended.
 pub fn encode_log_header_2(from: u64, out: &mut Vec<u8>) -> Result<(), Memory>
     ensures ok { OnOk result (out.new.items ≡ out.old.items ++ head_bytes (head_of Two from)) }
     ensures err { OnErr result (out.new.items ≡ out.old.items) }
@@ -31,7 +32,7 @@ pub fn encode_log_header_2(from: u64, out: &mut Vec<u8>) -> Result<(), Memory>
     append_header(Format::Two, from, out)
 }
 
-/// Appends the header of a log of this format. On an Err nothing is appended.
+/// Appends the header of a log of this format. Err: out of memory; nothing is appended.
 fn append_header(format: Format, from: u64, out: &mut Vec<u8>) -> Result<(), Memory>
     ensures ok { OnOk result (out.new.items ≡ out.old.items ++ head_bytes (head_of format from)) }
     ensures err { OnErr result (out.new.items ≡ out.old.items) }
@@ -42,7 +43,7 @@ fn append_header(format: Format, from: u64, out: &mut Vec<u8>) -> Result<(), Mem
     Ok(())
 }
 
-/// Appends the record. On an Err nothing is appended.
+/// Appends the record. Err: out of memory; nothing is appended.
 pub fn encode_record(record: &Record, out: &mut Vec<u8>) -> Result<(), Memory>
     ensures ok { OnOk result (out.new.items ≡ out.old.items ++ spelling «record».now) }
     ensures err { OnErr result (out.new.items ≡ out.old.items) }
@@ -55,7 +56,7 @@ pub fn encode_record(record: &Record, out: &mut Vec<u8>) -> Result<(), Memory>
     Ok(())
 }
 
-/// How many bytes the body of the record takes.
+/// Returns the number of bytes in the record's body.
 fn body_length(record: &Record) -> usize
     ensures value { result ≡ length (body «record».now) }
     ensures lawful { IsRecordLength widest result }
@@ -66,14 +67,14 @@ fn body_length(record: &Record) -> usize
     }
 }
 
-/// How many bytes the version, the key and the columns take.
+/// Returns the number of bytes of the version, the key and what the kind carries.
 pub fn change_length(change: &Change) -> usize
     ensures { result ≡ length (change_bytes change.now) }
 {
     10 + change.key.as_bytes().len() + kind_length(&change.kind)
 }
 
-/// How many bytes take what the kind carries.
+/// Returns the number of bytes of what the kind carries.
 pub fn kind_length(kind: &Kind) -> usize
     ensures value { result ≡ length (kind_bytes kind.now) }
     ensures few { result < 2 ^ 25 }
@@ -85,7 +86,7 @@ pub fn kind_length(kind: &Kind) -> usize
     }
 }
 
-/// How many bytes the columns take, with their number.
+/// Returns the number of bytes of the columns and of their count.
 fn columns_length(columns: &[Column]) -> usize
     requires { AreColumns widest columns.now }
     ensures { result ≡ length (kind_bytes (Put columns.now)) }
@@ -97,7 +98,7 @@ fn columns_length(columns: &[Column]) -> usize
     length
 }
 
-/// How many bytes the column takes.
+/// Returns the number of bytes of the encoded column.
 fn column_length(column: &Column) -> usize
     ensures { result ≡ length (column_bytes column.now) }
 {
@@ -145,7 +146,7 @@ pub fn put_kind(kind: &Kind, out: &mut Vec<u8>)
     }
 }
 
-/// Appends the count of the numbers, and the numbers.
+/// Appends the count of the column numbers, then the numbers.
 fn put_numbers(numbers: &[u8], out: &mut Vec<u8>)
     requires lawful { AreNumbers widest numbers.now }
     requires room { HasRoom (length (kind_bytes (Erase numbers.now))) out.old }
@@ -155,7 +156,7 @@ fn put_numbers(numbers: &[u8], out: &mut Vec<u8>)
     put_bytes(numbers, out);
 }
 
-/// Appends the count of the columns, and the columns.
+/// Appends the count of the columns, then the columns.
 fn put_columns(columns: &[Column], out: &mut Vec<u8>)
     requires lawful { AreColumns widest columns.now }
     requires room { HasRoom (length (kind_bytes (Put columns.now))) out.old }

@@ -1,4 +1,4 @@
-//! Parts of checkpoints written as bytes.
+//! Encodes parts of checkpoints.
 ghost use Rattle.std.specs.Prelude.{◌≡◌, ◌<◌, ◌^◌, ◌++◌, length, All, OnOk, OnErr};
 ghost use Rattle.std.specs.List.{flat_map};
 ghost use Rattle.std.specs.Io.{StartsWith};
@@ -14,9 +14,10 @@ use crate::part_text::PartHead;
 use crate::put::{put_bytes, put_magic};
 use mt_words::{Entry, Format, Memory};
 
-/// Appends a part of the checkpoint of this number, from its timestamp `begin` to its timestamp `end`: the part of
-/// number `part`, of `parts`, with these entries, of which there are fewer than 2^32, and which format 1 has. On an Err
-/// nothing is appended. Whether the parts make a valid checkpoint is not looked at.
+/// Appends a part of format 1: part `part` of the `parts` parts of checkpoint `number`, with these entries. The
+/// checkpoint begins at the timestamp `begin` and ends at the timestamp `end`. There must be fewer than 2^32 entries,
+/// and format 1 must allow each. Whether the parts make a valid checkpoint is not checked.
+/// Err: out of memory; nothing is appended.
 pub fn encode_part(
     number: u32,
     begin: u64,
@@ -42,7 +43,8 @@ pub fn encode_part(
     append_part(head, end, entries, out)
 }
 
-/// Appends a part of format 2, which has any entry. On an Err nothing is appended.
+/// Appends a part of format 2, which allows any entry. Otherwise it does the same as `encode_part`.
+/// Err: out of memory; nothing is appended.
 pub fn encode_part_2(
     number: u32,
     begin: u64,
@@ -67,7 +69,7 @@ pub fn encode_part_2(
     append_part(head, end, entries, out)
 }
 
-/// Appends the part with this header. On an Err nothing is appended.
+/// Appends the part with this header. Err: out of memory; nothing is appended.
 fn append_part(head: PartHead, end: u64, entries: &[Entry], out: &mut Vec<u8>) -> Result<(), Memory>
     requires { length entries.now < 2 ^ 32 }
     ensures ok { OnOk result (out.new.items ≡ out.old.items ++ part_bytes head entries.now end) }
@@ -82,7 +84,7 @@ fn append_part(head: PartHead, end: u64, entries: &[Entry], out: &mut Vec<u8>) -
     outcome
 }
 
-/// Appends the header. On an Err nothing is appended.
+/// Appends the header. Err: out of memory; nothing is appended.
 fn append_header(head: PartHead, out: &mut Vec<u8>) -> Result<(), Memory>
     ensures ok { OnOk result (out.new.items ≡ out.old.items ++ part_head_bytes head) }
     ensures err { OnErr result (out.new.items ≡ out.old.items) }
@@ -96,7 +98,7 @@ fn append_header(head: PartHead, out: &mut Vec<u8>) -> Result<(), Memory>
     Ok(())
 }
 
-/// Appends what stands behind the header. On an Err some of it may be appended.
+/// Appends what follows the header: the entries and the footer. Err: out of memory; some of it may be appended.
 fn append_rest(end: u64, entries: &[Entry], out: &mut Vec<u8>) -> Result<(), Memory>
     requires { length entries.now < 2 ^ 32 }
     ensures ok { OnOk result (out.new.items ≡
@@ -109,7 +111,7 @@ fn append_rest(end: u64, entries: &[Entry], out: &mut Vec<u8>) -> Result<(), Mem
     append_footer(end, entries.len() as u32, out)
 }
 
-/// Appends the entry. On an Err nothing is appended.
+/// Appends the entry. Err: out of memory; nothing is appended.
 fn append_entry(entry: &Entry, out: &mut Vec<u8>) -> Result<(), Memory>
     ensures ok { OnOk result (out.new.items ≡ out.old.items ++ entry_spelling entry.now) }
     ensures err { OnErr result (out.new.items ≡ out.old.items) }
@@ -122,7 +124,7 @@ fn append_entry(entry: &Entry, out: &mut Vec<u8>) -> Result<(), Memory>
     Ok(())
 }
 
-/// How many bytes the fields of the entry take.
+/// Returns the number of bytes of the entry's fields.
 fn entry_length(entry: &Entry) -> usize
     ensures value { result ≡ length (change_bytes entry.now) }
     ensures lawful { IsEntryLength (limits_of Two) result }
@@ -130,7 +132,7 @@ fn entry_length(entry: &Entry) -> usize
     change_length(entry.change())
 }
 
-/// Appends the footer. On an Err nothing is appended.
+/// Appends the footer. Err: out of memory; nothing is appended.
 fn append_footer(end: u64, count: u32, out: &mut Vec<u8>) -> Result<(), Memory>
     ensures ok { OnOk result (out.new.items ≡ out.old.items ++ footer_bytes end count) }
     ensures err { OnErr result (out.new.items ≡ out.old.items) }

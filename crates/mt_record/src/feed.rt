@@ -1,4 +1,4 @@
-//! A text in pieces.
+//! Reads input that comes in chunks. `LogFeed` and `PartFeed` share this code.
 ghost use Rattle.std.specs.Prelude.{◌≡◌, ◌<◌, ◌≤◌, ◌+◌, min, max, ◌++◌, [], List, ℕ, Some, None, Err, length, drop, IsSome, IfOk, IfErr, OnOk};
 ghost use Rattle.mt_record.specs.Feeding.{Reads, HasShown, StepsOn, HoldsAll, IsFedBy};
 
@@ -6,18 +6,18 @@ use crate::items::Items;
 use mt_words::Memory;
 use std::alloc::Global;
 
-/// What the pieces so far said, and what they leave over.
+/// What was read from the chunks so far, and the bytes that are left over.
 #[derive(Drop)]
 pub struct Feed<I: Items> {
     pub items: I,
-    /// The beginning of an item, which the next pieces complete.
+    /// The beginning of an item that the next chunks complete.
     pub held: Vec<u8>,
-    /// The fault that was answered, if there was one.
+    /// The fault that was returned, if there was one.
     pub fault: Option<I::Fault>,
 }
 
 impl<I: Items> Feed<I> {
-    /// A feed that was fed nothing.
+    /// Creates a feed for these items, to which no chunk was fed.
     pub fn new(alloc: Global, items: I) -> Feed<I>
         ensures fed { (taken : I.Taken) → HoldsAll (I.holds taken) I.is_left items [] [] →
             IsFedBy (I.holds taken) I.is_left I.shows result.items result.held.items result.fault [] }
@@ -30,7 +30,9 @@ impl<I: Items> Feed<I> {
         }
     }
 
-    /// Reads the next piece, unless there was a fault, which is answered again.
+    /// Reads the next chunk.
+    /// Err: the fault that the bytes show, or out of memory. After an Err, each call returns the same fault and reads
+    /// nothing.
     #[tactic(auto, using(crate::proofs::Feeds::fed_on))]
     pub fn feed(&mut self, piece: &[u8]) -> Result<(), I::Fault>
         ensures fed { (taken : I.Taken) (text : List ℕ) →
@@ -49,7 +51,8 @@ impl<I: Items> Feed<I> {
         outcome
     }
 
-    /// Reads the next piece: what it completes straight from the piece where it lies whole in it.
+    /// Reads the next chunk. An item that lies completely in the chunk is read straight from it. What is left is held
+    /// back.
     #[tactic(auto, using(crate::proofs::Feeds::then_read, crate::proofs::Feeds::nil_if_empty))]
     fn read(&mut self, piece: &[u8]) -> Result<(), I::Fault>
         ensures ok { I.is_left self.old.items self.old.held.items →
@@ -68,7 +71,8 @@ impl<I: Items> Feed<I> {
         Ok(())
     }
 
-    /// Completes what is held back, and reads what of it is whole then; the rest of the piece.
+    /// Appends bytes of the chunk to those held back, and reads the items that are then complete. Returns the rest of
+    /// the chunk.
     #[tactic(auto, using(crate::proofs::Feeds::left_over, crate::proofs::Feeds::goes_on))]
     fn read_held<'a>(&mut self, piece: &'a [u8]) -> Result<&'a [u8], I::Fault>
         requires { 0 < length piece.now }
@@ -86,7 +90,7 @@ impl<I: Items> Feed<I> {
     }
 }
 
-/// Reads the whole items at the front, and gives the bytes after them, in which no more can be read.
+/// Reads the complete items at the front. Returns the bytes after them, from which no further item can be read.
 #[tactic(auto, using(crate::proofs::Feeds::then_read))]
 fn read_whole<'a, I: Items>(items: &mut I, bytes: &'a [u8]) -> Result<&'a [u8], I::Fault>
     ensures { StepsOn I.holds I.is_left I.shows items.old items.new bytes.now result }
@@ -100,8 +104,8 @@ fn read_whole<'a, I: Items>(items: &mut I, bytes: &'a [u8]) -> Result<&'a [u8], 
     }
 }
 
-/// Moves bytes from the front of the piece to those held, until these are so many or the piece is empty; the rest of
-/// the piece.
+/// Moves bytes from the front of the chunk to `held`, until `held` has `wanted` bytes or the chunk is empty. Returns
+/// the rest of the chunk.
 fn top_up<'a>(held: &mut Vec<u8>, wanted: usize, piece: &'a [u8]) -> Result<&'a [u8], Memory>
     ensures joins { IfOk result (λ rest. held.new.items ++ rest.now ≡ held.old.items ++ piece.now) }
     ensures size { OnOk result (length held.new.items ≡ max (length held.old.items) (min wanted (length held.old.items + length piece.now))) }
@@ -112,14 +116,14 @@ fn top_up<'a>(held: &mut Vec<u8>, wanted: usize, piece: &'a [u8]) -> Result<&'a 
     Ok(rest)
 }
 
-/// Holds these bytes too.
+/// Appends these bytes to `held`.
 fn append(held: &mut Vec<u8>, bytes: &[u8]) -> Result<(), Memory>
     ensures { OnOk result (held.new.items ≡ held.old.items ++ bytes.now) }
 {
     Ok(held.extend_from_slice(bytes)?)
 }
 
-/// Lets go of so many bytes at the front.
+/// Removes the first `count` bytes.
 fn drop_front(held: &mut Vec<u8>, count: usize)
     requires { count ≤ length held.old.items }
     ensures { held.new.items ≡ drop count held.old.items }

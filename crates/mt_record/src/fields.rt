@@ -1,11 +1,11 @@
-//! Fields from the front of bytes. Each gives the bytes behind it too; none is copied.
+//! Reads fields from the front of bytes. Each function also returns the bytes after the field. Nothing is copied.
 ghost use Rattle.std.specs.Prelude.{◌≡◌, ◌<◌, ◌^◌, ◌++◌, List, ℕ, length, IfSome, IfNone};
 ghost use Rattle.byteorder.specs.Endian.{big_bytes};
 ghost use Rattle.mt_record.specs.Spelling.{counted, column_bytes, FitsColumn};
 
 use byteorder::{BigEndian, ByteOrder};
 
-/// A number of two bytes.
+/// Reads a number of two bytes. Returns None if there are fewer.
 pub fn u16_at(bytes: &[u8]) -> Option<(u16, &[u8])>
     ensures found { IfSome result (λ x. (x.0 < 2 ^ 16) × (bytes.now ≡ big_bytes 2 x.0 ++ x.1.now)) }
     ensures none { IfNone result (length bytes.now < 2) }
@@ -14,7 +14,7 @@ pub fn u16_at(bytes: &[u8]) -> Option<(u16, &[u8])>
     Some((BigEndian::read_u16(bytes), rest))
 }
 
-/// A number of four bytes.
+/// Reads a number of four bytes. Returns None if there are fewer.
 pub fn u32_at(bytes: &[u8]) -> Option<(u32, &[u8])>
     ensures found { IfSome result (λ x. (x.0 < 2 ^ 32) × (bytes.now ≡ big_bytes 4 x.0 ++ x.1.now)) }
     ensures none { IfNone result (length bytes.now < 4) }
@@ -23,7 +23,7 @@ pub fn u32_at(bytes: &[u8]) -> Option<(u32, &[u8])>
     Some((BigEndian::read_u32(bytes), rest))
 }
 
-/// A number of eight bytes.
+/// Reads a number of eight bytes. Returns None if there are fewer.
 pub fn u64_at(bytes: &[u8]) -> Option<(u64, &[u8])>
     ensures found { IfSome result (λ x. (x.0 < 2 ^ 64) × (bytes.now ≡ big_bytes 8 x.0 ++ x.1.now)) }
     ensures none { IfNone result (length bytes.now < 8) }
@@ -32,7 +32,7 @@ pub fn u64_at(bytes: &[u8]) -> Option<(u64, &[u8])>
     Some((BigEndian::read_u64(bytes), rest))
 }
 
-/// Bytes behind their length.
+/// Reads a length of two bytes, and that many bytes after it. Returns None if there are fewer.
 pub fn counted_at(bytes: &[u8]) -> Option<(&[u8], &[u8])>
     ensures found { IfSome result
         (λ x. (length x.0.now < 2 ^ 16) × (bytes.now ≡ counted x.0.now ++ x.1.now)) }
@@ -43,7 +43,7 @@ pub fn counted_at(bytes: &[u8]) -> Option<(&[u8], &[u8])>
     rest.split_at_checked(length as usize)
 }
 
-/// A column: its number and its bytes.
+/// Reads a column: its number and its bytes. Returns None if the bytes end before the column does.
 pub fn column_at(bytes: &[u8]) -> Option<(u8, &[u8], &[u8])>
     ensures found { IfSome result (λ x.
         FitsColumn (x.0, x.1.now) × (bytes.now ≡ column_bytes (x.0, x.1.now) ++ x.2.now)) }

@@ -1,4 +1,4 @@
-//! One record or entry at the front of bytes, in its frame of two lengths.
+//! Reads the record or entry at the front of bytes. It is framed: its length stands before and after its body.
 ghost use Rattle.std.specs.Prelude.{◌≡◌, ◌<◌, ◌^◌, ◌⊎◌, ◌+◌, ◌*◌, suc, [], length, IfOk, IfErr, OnErr, MatchOption};
 ghost use Rattle.mt_words.specs.declared.limits.TheConstants.{LONGEST_VALUE};
 ghost use Rattle.mt_words.specs.Limits.{limits_of};
@@ -13,17 +13,18 @@ use crate::check::{check_body, check_entry};
 use crate::fields::u32_at;
 use mt_words::{Format, LONGEST_VALUE, What};
 
-/// The number of bytes of a body before its change: the byte of its kind, and its timestamp.
+/// The number of bytes in a body before its change: the kind byte and the timestamp.
 const BEFORE_CHANGE: usize = 9;
 
-/// The least length of a body: that of a mark.
+/// The least length of a record's body: that of a mark.
 const SHORTEST_RECORD: usize = BEFORE_CHANGE;
 
 /// The least length of an entry: that of the empty key with one empty column.
 const SHORTEST_ENTRY: usize = 14;
 
-/// The timestamp and the body of the record at the front, behind one of timestamp `latest`, and the bytes after it;
-/// None where they are empty or torn.
+/// Returns the timestamp and the body of the record at the front, and the bytes after it. `latest` is the timestamp of
+/// the record before it. Returns None if the bytes are empty or a torn tail.
+/// Err: what is wrong with the record.
 pub fn next_record(
     format: Format,
     latest: u64,
@@ -46,7 +47,9 @@ pub fn next_record(
     Ok(Some((timestamp, body, after)))
 }
 
-/// The fields of the entry at the front, and the bytes after it; None where they are empty or cut.
+/// Returns the fields of the entry at the front, and the bytes after it. Returns None if the bytes are empty or cut
+/// short.
+/// Err: the bytes do not begin with an entry, however they go on.
 pub fn next_entry(format: Format, bytes: &[u8]) -> Result<Option<(&[u8], &[u8])>, What>
     ensures found { IfOk result (λ found. MatchOption found
         ((bytes.now ≡ []) ⊎ IsCut (IsEntryLength (limits_of format)) bytes.now)
@@ -60,8 +63,8 @@ pub fn next_entry(format: Format, bytes: &[u8]) -> Result<Option<(&[u8], &[u8])>
     Ok(Some((body, after)))
 }
 
-/// The greatest length of a change, and so of an entry: that of the longest key and of all columns, each as long as can
-/// be.
+/// Returns the greatest length of a change, and so of an entry: that of a change with the longest key and with all
+/// columns, each as long as possible.
 fn longest_change(format: Format) -> usize
     ensures value { result ≡ longest_change_of (limits_of format) }
     ensures fits { result < 2 ^ 31 }
@@ -70,8 +73,9 @@ fn longest_change(format: Format) -> usize
     11 + limits.key + (limits.column as usize + 1) * (3 + LONGEST_VALUE)
 }
 
-/// The body between two copies of its length at the front, and the bytes after it; None where the bytes are empty or
-/// cut.
+/// Returns the body at the front, between two copies of its length, and the bytes after it. Returns None if the bytes
+/// are empty or cut short.
+/// Err: the length is out of range, or its two copies differ.
 fn next_frame(bytes: &[u8], shortest: usize, longest: usize) -> Result<Option<(&[u8], &[u8])>, What>
     requires { longest < 2 ^ 32 }
     ensures found { IfOk result (λ found. MatchOption found

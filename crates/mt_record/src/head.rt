@@ -12,7 +12,7 @@ use mt_words::Format;
 /// The letters that a log begins with.
 pub const LOG: &[u8] = b"MTL";
 
-/// The number of bytes of a header.
+/// The number of bytes in the header of a log.
 pub const HEADER_BYTES: usize = 12;
 
 /// The header of a log.
@@ -23,7 +23,7 @@ pub struct Head {
     pub from: u64,
 }
 
-/// The header at the front, and the bytes behind it.
+/// Returns the header at the front and the bytes after it. Returns None if the bytes do not begin with a header.
 fn header_at(bytes: &[u8]) -> Option<(Head, &[u8])>
     ensures found { IfSome result (λ x. IsHead x.0 × (bytes.now ≡ head_bytes x.0 ++ x.1.now)) }
     ensures none { IfNone result (HasNoHeader bytes.now) }
@@ -33,7 +33,9 @@ fn header_at(bytes: &[u8]) -> Option<(Head, &[u8])>
     Some((Head { format, from }, rest))
 }
 
-/// The header at the front, and the bytes after it; None where they only begin one. An Err where they begin none.
+/// Returns the header at the front and the bytes after it. Returns None if the bytes are only the beginning of a
+/// header.
+/// Err: the bytes neither begin with a header nor are the beginning of one.
 pub fn next_header(bytes: &[u8]) -> Result<Option<(Head, &[u8])>, NoMagic>
     ensures { FindsFront IsHead head_bytes bytes.now result }
 {

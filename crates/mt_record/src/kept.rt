@@ -1,4 +1,4 @@
-//! What the records of a log and the entries of a part are put into, as they are read.
+//! The collections into which the records of a log and the entries of a part are read.
 ghost use Rattle.std.specs.Prelude.{◌≡◌, ◌++◌, [], ◌∷◌, List, length, OnOk, OnErr};
 ghost use Rattle.mt_words.specs.declared.record.Change.{Change};
 ghost use Rattle.mt_words.specs.Limits.{widest};
@@ -8,11 +8,11 @@ ghost use Rattle.mt_record.specs.Bodies.{IsLawfulBody, IsBodyOf, AreFields, AreF
 use crate::copy::{copy_entry, copy_record};
 use mt_words::{Entry, Memory, Record};
 
-/// Records, in the order in which they were put into it.
+/// A collection of records, in the order in which they were added.
 pub trait Records: Drop {
     ghost listed: { Self → List Logged };
 
-    /// Puts the record of this body behind the others.
+    /// Appends the record with this body. Err: out of memory; no record is appended.
     fn put_record(&mut self, body: &[u8]) -> Result<(), Memory>
         requires { IsLawfulBody body.now }
         ensures ok { (r : Logged) → IsBodyOf widest 0 body.now r → OnOk result (listed self.new ≡ listed self.old ++ r ∷ []) }
@@ -28,17 +28,17 @@ impl Records for Vec<Record> {
     }
 }
 
-/// Entries of a checkpoint, in the order in which they were put into it.
+/// A collection of entries of a checkpoint, in the order in which they were added.
 pub trait Entries: Drop {
     ghost listed: { Self → List Change };
 
-    /// Puts the entry with these fields behind the others.
+    /// Appends the entry with these fields. Err: out of memory; no entry is appended.
     fn put_entry(&mut self, fields: &[u8]) -> Result<(), Memory>
         requires { AreFields fields.now }
         ensures ok { (entry : Change) → AreFieldsOf widest fields.now entry → OnOk result (listed self.new ≡ listed self.old ++ entry ∷ []) }
         ensures err { OnErr result (listed self.new ≡ listed self.old) };
 
-    /// How many there are.
+    /// Returns the number of entries.
     fn count(&self) -> usize
         ensures { result ≡ length (listed self.now) };
 }
@@ -56,7 +56,7 @@ impl Entries for Vec<Entry> {
     }
 }
 
-/// Keeps what was read behind the rest.
+/// Appends the item that was read. Err: out of memory; nothing is appended.
 fn keep<T: Drop>(items: &mut Vec<T>, item: T) -> Result<(), Memory>
     ensures ok { OnOk result (items.new.items ≡ items.old.items ++ item ∷ []) }
     ensures err { OnErr result (items.new.items ≡ items.old.items) }

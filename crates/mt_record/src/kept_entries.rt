@@ -1,4 +1,4 @@
-//! Entries of a checkpoint, as bodies.
+//! Entries of a checkpoint, kept as bodies.
 ghost use Rattle.std.specs.Prelude.{◌≡◌, ◌<◌, [], length, slice_index_or};
 ghost use Rattle.mt_words.specs.declared.record.Change.{Change};
 ghost use Rattle.mt_words.specs.declared.update.Origin.TheVariants as origins;
@@ -12,11 +12,11 @@ use mt_words::{Code, Memory, Origin};
 use std::alloc::Global;
 use std::marker::Model;
 
-/// What the body of an entry has before its fields: the byte of a whole, and a timestamp of 0.
+/// The bytes before the fields in the body of an entry: the code `Whole` and a timestamp of 0.
 const BEFORE_FIELDS: &[u8] = &[Code::Whole as u8, 0, 0, 0, 0, 0, 0, 0, 0];
 
-/// Entries of a checkpoint: their bodies, spelled as those of records of their kind would be. So they are lent as
-/// updates are.
+/// Entries of a checkpoint, kept as bodies. They are encoded like bodies of records, with the code `Whole`, so they can
+/// be read as updates.
 #[derive(Debug, Drop)]
 pub struct KeptEntries {
     bodies: Texts,
@@ -35,7 +35,7 @@ impl Model for KeptEntries {
 }
 
 impl KeptEntries {
-    /// No entry.
+    /// Creates an empty list of entries.
     pub(crate) fn new(alloc: Global) -> KeptEntries
         ensures { result ≡ [] }
     {
@@ -44,14 +44,14 @@ impl KeptEntries {
         }
     }
 
-    /// How many entries there are.
+    /// Returns the number of entries.
     pub fn len(&self) -> usize
         ensures { result ≡ length self.now }
     {
         self.bodies.len()
     }
 
-    /// The update of the entry of this number.
+    /// Returns the update of the entry of this number.
     pub fn update(&self, number: usize) -> Lent<'_>
         requires { number < length self.now }
         ensures { (d : Change) → result ≡ update_at origins.Checkpoint 0 (slice_index_or self.now number d) }
@@ -59,7 +59,7 @@ impl KeptEntries {
         Lent::of(Origin::Checkpoint, self.bodies.get(number))
     }
 
-    /// The key of the entry of this number.
+    /// Returns the key of the entry of this number.
     pub fn key(&self, number: usize) -> &[u8]
         requires { number < length self.now }
         ensures { (d : Change) → result.now ≡ (slice_index_or self.now number d).key }

@@ -1,4 +1,4 @@
-//! What holds of all bytes.
+//! Laws that hold for all bytes.
 ghost use Rattle.std.specs.Prelude.{◌≡◌, ◌++◌, ℕ, List, []};
 ghost use Rattle.mt_words.specs.declared.limits.Format.{Format};
 ghost use Rattle.mt_words.specs.Limits.{limits_of};
@@ -14,8 +14,8 @@ ghost use Rattle.mt_record.specs.declared.part_text.PartFault.{PartFault};
 ghost use Rattle.mt_record.specs.Parts.{IsPart, entry_spelling};
 ghost use Rattle.mt_record.specs.PartFaults.{IsPartFault};
 
-/// Bytes are one log in one way, or have one fault, and never both; and no spelling of a record begins that of another
-/// one. A law: it has nothing to run.
+/// Bytes are a log in at most one way and have at most one fault, never both. No encoding of a record begins the
+/// encoding of another record. This is a law: it has nothing to run.
 pub fn one_reading()
     ensures one_log { (bytes : List ℕ) (head other : Head) (records others : List Logged) (tail rest : List ℕ) →
         IsLog bytes head records tail → IsLog bytes other others rest →
@@ -29,8 +29,8 @@ pub fn one_reading()
         (r ≡ s) × (more ≡ []) }
 {}
 
-/// Bytes are one part of a checkpoint in one way, or have one fault, and never both; and no spelling of an entry begins
-/// that of another one. A law: it has nothing to run.
+/// Bytes are a part of a checkpoint in at most one way and have at most one fault, never both. No encoding of an entry
+/// begins the encoding of another entry. This is a law: it has nothing to run.
 pub fn one_part()
     ensures one_part { (bytes : List ℕ) (head other : PartHead) (entries others : List Change) (end fin : ℕ) →
         IsPart bytes head entries end → IsPart bytes other others fin →

@@ -1,4 +1,4 @@
-//! An update that is lent from its body.
+//! An update that is borrowed from its body.
 ghost use Rattle.std.specs.Prelude.{◌≡◌, ◌↔◌, IsTrue};
 ghost use Rattle.mt_words.specs.Limits.{widest};
 ghost use Rattle.mt_words.specs.Words.{IsKey};
@@ -10,7 +10,7 @@ use crate::spelled;
 use mt_words::{Origin, Stamp};
 use std::marker::Model;
 
-/// An update: its body, and where it comes from.
+/// An update: a reference to its body, and where it comes from.
 #[derive(Drop)]
 pub struct Lent<'a> {
     origin: Origin,
@@ -29,7 +29,7 @@ impl<'a> Model for Lent<'a> {
 }
 
 impl<'a> Lent<'a> {
-    /// The update of this origin and body.
+    /// Returns the update with this origin and this body.
     pub fn of(origin: Origin, body: &'a [u8]) -> Lent<'a>
         requires { IsChangeBody body.now }
         ensures { result ≡ update_in origin body.now }
@@ -37,14 +37,14 @@ impl<'a> Lent<'a> {
         Lent { origin, body }
     }
 
-    /// Where it comes from.
+    /// Returns where the update comes from.
     pub fn origin(&self) -> Origin
         ensures { result ≡ self.now.stamp.origin }
     {
         self.origin
     }
 
-    /// Its body.
+    /// Returns its body.
     pub fn body(&self) -> &'a [u8]
         ensures lawful { IsChangeBody result.now }
         ensures says { update_in self.now.stamp.origin result.now ≡ self.now }
@@ -52,7 +52,7 @@ impl<'a> Lent<'a> {
         self.body
     }
 
-    /// The key that it changes.
+    /// Returns the key that it changes.
     pub fn key(&self) -> &'a [u8]
         ensures value { result.now ≡ self.now.key }
         ensures lawful { IsKey widest self.now.key }
@@ -60,7 +60,7 @@ impl<'a> Lent<'a> {
         spelled::key(self.body)
     }
 
-    /// Its place among the updates of the key.
+    /// Returns its place among the updates of the key.
     pub fn stamp(&self) -> Stamp
         ensures { result ≡ self.now.stamp }
     {
@@ -70,21 +70,21 @@ impl<'a> Lent<'a> {
         }
     }
 
-    /// The timestamp of its record.
+    /// Returns the timestamp of its record.
     pub fn timestamp(&self) -> u64
         ensures { result ≡ self.now.timestamp }
     {
         spelled::timestamp(self.body)
     }
 
-    /// Whether it clears all columns of its key, before it sets its own.
+    /// Returns whether it clears all columns of its key before it sets its own.
     pub fn is_reset(&self) -> bool
         ensures { IsTrue result ↔ IsReset self.now.kind }
     {
         spelled::is_reset(self.body)
     }
 
-    /// What it writes; a remove writes nothing.
+    /// Returns what it writes. A remove writes nothing.
     pub fn writes(&self) -> LentWrites<'a>
         ensures value { result ≡ writes_of self.now.kind }
         ensures lawful { AreWrites widest (writes_of self.now.kind) }

@@ -1,4 +1,4 @@
-//! Writes of columns, lent from their bytes one after the other.
+//! Writes of columns, borrowed from their bytes one after another.
 ghost use Rattle.std.specs.Prelude.{◌≡◌, [], ◌∷◌, List, ℕ, IfSome, IfNone};
 ghost use Rattle.std.specs.Option.{option_map};
 ghost use Rattle.mt_words.specs.Limits.{widest};
@@ -9,10 +9,10 @@ use crate::fields::column_at;
 use mt_words::Payload;
 use std::marker::Model;
 
-/// The writes that are left.
+/// The writes of an update that are left to take.
 #[derive(Drop)]
 pub struct LentWrites<'a> {
-    /// How they are spelled.
+    /// How they are encoded.
     payload: Payload,
     left: u8,
     bytes: &'a [u8],
@@ -31,7 +31,7 @@ impl<'a> Model for LentWrites<'a> {
 }
 
 impl<'a> LentWrites<'a> {
-    /// Those of a change that carries these bytes.
+    /// Returns the writes of a change that carries these bytes.
     pub(crate) fn of_carried(payload: Payload, carried: &'a [u8]) -> LentWrites<'a>
         requires { IsCarried payload carried.now }
         ensures { result ≡ writes_carried payload carried.now }
@@ -50,7 +50,8 @@ impl<'a> LentWrites<'a> {
         }
     }
 
-    /// Takes the next write off: its column number and its bytes, None for an erase.
+    /// Removes the next write and returns its column number and its bytes. An erase has no bytes. Returns None if no
+    /// write is left.
     pub fn next(&mut self) -> Option<(u8, Option<&'a [u8]>)>
         ensures some { IfSome result (λ write. self.old ≡ (write.0, option_map (λ bytes. bytes.now) write.1) ∷ self.new) }
         ensures lawful { IfSome result (λ write. IsWrite widest (write.0, option_map (λ bytes. bytes.now) write.1)) }

@@ -1,4 +1,4 @@
-//! Logs and parts of checkpoints as bytes: the formats, reading and writing them.
+//! Reads and writes logs and parts of checkpoints as bytes, in both formats.
 #![tactic(auto)]
 
 mod body;

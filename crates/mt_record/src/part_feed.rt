@@ -1,4 +1,4 @@
-//! A part in pieces.
+//! Reads a part that comes in chunks.
 ghost use Rattle.std.specs.Prelude.{◌≡◌, ◌++◌, [], List, ℕ, Some, None, IsSome, IfOk, IfErr, OnOk};
 ghost use Rattle.mt_record.specs.declared.part_text.PartFault.{PartFault as FaultValue};
 ghost use Rattle.mt_record.specs.Parts.{IsPartText};
@@ -14,9 +14,9 @@ use mt_words::Entry;
 use std::alloc::Global;
 use std::marker::Model;
 
-/// Reads a part of a checkpoint that comes in pieces of any size. It holds back no more than the beginning of the
-/// header, of one entry or of the footer; an entry that lies whole in a piece is copied from there alone. Its work is
-/// linear in the bytes, however they are cut. `E` is what the entries are put into.
+/// A reader of a part of a checkpoint that comes in chunks of any size. It collects the entries in an `E`. It holds
+/// back only the beginning of the header, of one entry or of the footer. An entry that lies completely in one chunk is
+/// copied straight from that chunk. The work is linear in the number of bytes, however they are cut.
 #[derive(Drop)]
 pub struct PartFeed<E: Entries = Vec<Entry>> {
     feed: Feed<PartItems<E>>,
@@ -32,7 +32,7 @@ impl<E: Entries> Model for PartFeed<E> {
 }
 
 impl PartFeed {
-    /// A feed that was fed nothing.
+    /// Creates a feed to which no chunk was fed.
     pub fn new(alloc: Global) -> PartFeed
         ensures fed { IsPartFed result [] }
         ensures sound { result.fault ≡ None }
@@ -42,7 +42,7 @@ impl PartFeed {
 }
 
 impl PartFeed<KeptEntries> {
-    /// A feed that was fed nothing, and keeps the bodies of entries.
+    /// Creates a feed to which no chunk was fed. It keeps the bodies of entries.
     pub fn keeping(alloc: Global) -> PartFeed<KeptEntries>
         ensures fed { IsPartFed result [] }
         ensures sound { result.fault ≡ None }
@@ -52,7 +52,7 @@ impl PartFeed<KeptEntries> {
 }
 
 impl<E: Entries> PartFeed<E> {
-    /// A feed that was fed nothing, for entries to be put into what is empty.
+    /// Creates a feed to which no chunk was fed. It collects entries in `entries`, which must be empty.
     fn filling(alloc: Global, entries: E) -> PartFeed<E>
         requires { E.listed entries ≡ [] }
         ensures fed { IsPartFed result [] }
@@ -68,8 +68,9 @@ impl<E: Entries> PartFeed<E> {
         }
     }
 
-    /// Reads the next piece. An Err is the fault that the bytes so far show, in the first call after which they show
-    /// it, or `Memory` where a growth was refused; each later call, and `finish`, answers it again.
+    /// Reads the next chunk.
+    /// Err: the fault that the bytes so far show, or `Memory` if an allocation failed. The first call after which the
+    /// bytes show the fault returns it. Each later call, and `finish`, returns it again.
     pub fn feed(&mut self, piece: &[u8]) -> Result<(), PartFault>
         ensures fed { (bytes : List ℕ) → IsPartFed self.old bytes → IsPartFed self.new (bytes ++ piece.now) }
         ensures ok { (bytes : List ℕ) → IsPartFed self.old bytes →
@@ -84,8 +85,8 @@ impl<E: Entries> PartFeed<E> {
         self.feed.feed(piece)
     }
 
-    /// What the bytes say as a part. An Err is the one fault of the bytes, a part that is cut short among them, or
-    /// `Memory` where a growth was refused.
+    /// Returns what the bytes say as a part.
+    /// Err: the one fault of the bytes, or `Memory` if an allocation failed. A part that is cut short is a fault too.
     pub fn finish(self) -> Result<PartText<E>, PartFault>
         ensures part { (bytes : List ℕ) → IsPartFed self bytes → IfOk result (IsPartText E.listed bytes) }
         ensures fault { (bytes : List ℕ) → IsPartFed self bytes → IfErr result (IsPartAnswered bytes) }

@@ -1,4 +1,4 @@
-//! Headers of parts, and how long a footer is.
+//! Headers of parts, and the length of a footer.
 #![tactic(auto, using(crate::proofs::PartBeginnings::part_cut))]
 
 ghost use Rattle.std.specs.Prelude.{◌≡◌, ◌++◌, IfSome, IfNone};
@@ -13,13 +13,13 @@ use crate::part_text::PartHead;
 /// The letters that a part begins with.
 pub const PART: &[u8] = b"MTC";
 
-/// The number of bytes of a part's header.
+/// The number of bytes in the header of a part.
 pub const PART_HEADER_BYTES: usize = 20;
 
-/// The number of bytes of a part's footer.
+/// The number of bytes in the footer of a part.
 pub const FOOTER_BYTES: usize = 16;
 
-/// The header at the front, and the bytes behind it.
+/// Returns the header at the front and the bytes after it. Returns None if the bytes do not begin with a header.
 fn part_header_at(bytes: &[u8]) -> Option<(PartHead, &[u8])>
     ensures found { IfSome result (λ x. IsPartHead x.0 × (bytes.now ≡ part_head_bytes x.0 ++ x.1.now)) }
     ensures none { IfNone result (HasNoPartHeader bytes.now) }
@@ -39,7 +39,9 @@ fn part_header_at(bytes: &[u8]) -> Option<(PartHead, &[u8])>
     Some((head, rest))
 }
 
-/// The header at the front, and the bytes after it; None where they only begin one. An Err where they begin none.
+/// Returns the header at the front and the bytes after it. Returns None if the bytes are only the beginning of a
+/// header.
+/// Err: the bytes neither begin with a header nor are the beginning of one.
 pub fn next_part_header(bytes: &[u8]) -> Result<Option<(PartHead, &[u8])>, NoMagic>
     ensures { FindsFront IsPartHead part_head_bytes bytes.now result }
 {

@@ -1,4 +1,4 @@
-//! The items of a part, one behind the other: its header, its entries and its footer.
+//! The items of a part, in order: its header, its entries and its footer.
 ghost use Rattle.std.specs.Prelude.{◌≡◌, ◌≢◌, ◌++◌, List, ℕ, None, Some, IfOk, IfErr, length};
 ghost use Rattle.byteorder.specs.Endian.{big_bytes};
 ghost use Rattle.mt_record.specs.declared.part_text.PartFault.TheVariants.{Broken};
@@ -18,11 +18,11 @@ use crate::part_text::{PartFault, PartHead, PartText};
 /// What was read of a part so far.
 #[derive(Drop)]
 pub struct PartItems<E: Entries> {
-    /// Its header, once that is whole.
+    /// The header, once it is complete.
     pub head: Option<PartHead>,
     /// The entries, in order.
     pub entries: E,
-    /// Where its checkpoint ends, once the footer is whole.
+    /// The timestamp at which the checkpoint ends, once the footer is complete.
     pub end: Option<u64>,
 }
 
@@ -50,7 +50,8 @@ impl<E: Entries> Items for PartItems<E> {
         Err(self.broken(head))
     }
 
-    /// That of the header, or of a length, and then of what it begins.
+    /// Returns the number of bytes of a header until the header is read. Then it returns 4, for the length that begins
+    /// an entry or a footer. Once that length is held, it returns the number of bytes of the complete entry or footer.
     fn bytes_wanted(&self, held: &[u8]) -> usize {
         if self.head.is_none() {
             return PART_HEADER_BYTES;
@@ -114,7 +115,7 @@ impl<E: Entries> PartItems<E> {
         }
     }
 
-    /// Reads the footer, of which this follows its length of zero.
+    /// Reads the footer. The bytes are those after its length of zero.
     #[tactic(auto, using(crate::proofs::PartItems::footer_read))]
     fn read_footer<'a>(&mut self, head: PartHead, bytes: &'a [u8]) -> Step<'a, PartFault>
         requires head { self.old.head ≡ Some head }
@@ -134,7 +135,7 @@ impl<E: Entries> PartItems<E> {
         Ok(Some(after))
     }
 
-    /// The fault of a part that is broken behind the entries so far.
+    /// Returns the fault of a part that is broken after the entries so far.
     fn broken(&self, head: PartHead) -> PartFault
         ensures { result ≡ Broken head.number (length (E.listed self.now.entries)) }
     {
@@ -144,8 +145,7 @@ impl<E: Entries> PartItems<E> {
         }
     }
 
-    /// What was read, as a part behind which nothing more came than could not be read. An Err is the fault of a part
-    /// that is cut short.
+    /// Returns what was read as a part, if its header and its footer are complete. Err: the part is cut short.
     #[tactic(auto, using(crate::proofs::OnePartFault::no_head_read))]
     pub fn finish(self) -> Result<PartText<E>, PartFault>
         ensures part { (text left : List ℕ) → HoldsAll HoldsPart IsPartLeft (part_so_far E.listed self) left text →

@@ -1,4 +1,4 @@
-//! What parts of checkpoints say, and why bytes are none.
+//! What a part of a checkpoint says, and why bytes are not a part.
 ghost use Rattle.std.specs.Prelude.{◌≡◌};
 ghost use Rattle.mt_record.specs.declared.part_text.PartFault.TheVariants as faults;
 
@@ -11,24 +11,24 @@ pub struct PartHead {
     pub format: Format,
     /// The number of its checkpoint.
     pub number: u32,
-    /// The timestamp from which on logs are replayed over the checkpoint.
+    /// The timestamp from which logs are replayed over the checkpoint.
     pub begin: u64,
-    /// The part's own number, from 0 on.
+    /// The number of this part, counted from 0.
     pub part: u16,
-    /// How many parts the checkpoint has.
+    /// The number of parts in the checkpoint.
     pub parts: u16,
 }
 
-/// A part that was read. `E` is what its entries were put into.
+/// A part that was read. `E` is the collection that holds its entries.
 #[derive(Debug, Drop)]
 pub struct PartText<E = Vec<Entry>> {
     /// The number of its checkpoint.
     pub number: u32,
-    /// The timestamp from which on logs are replayed over the checkpoint.
+    /// The timestamp from which logs are replayed over the checkpoint.
     pub begin: u64,
-    /// The part's own number, from 0 on.
+    /// The number of this part, counted from 0.
     pub part: u16,
-    /// How many parts the checkpoint has.
+    /// The number of parts in the checkpoint.
     pub parts: u16,
     /// The entries, in order.
     pub entries: E,
@@ -36,16 +36,16 @@ pub struct PartText<E = Vec<Entry>> {
     pub end: u64,
 }
 
-/// Why bytes are not read as a part.
+/// Why bytes cannot be read as a part.
 #[derive(Clone, Copy, Debug, PartialEq, Eq, Error)]
 pub enum PartFault {
-    /// They do not begin with a header.
+    /// The bytes do not begin with a header.
     #[error("header")]
     Header,
-    /// They begin as a part of the checkpoint of this number and so many whole entries, and are none.
+    /// The bytes begin like a part of checkpoint `number`, with `entries` complete entries, but are not a part.
     #[error("checkpoint {number} is broken after {entries} entries")]
     Broken { number: u32, entries: u64 },
-    /// A growth was refused.
+    /// An allocation failed.
     #[error("no memory")]
     Memory,
 }

@@ -1,4 +1,4 @@
-//! Fields at the end of bytes, in room that was made before. Each is copied once.
+//! Appends fields to bytes, in room that was reserved before. Each field is copied once.
 ghost use Rattle.std.specs.Prelude.{◌<◌, ◌^◌, length};
 ghost use Rattle.mt_words.specs.Limits.{magic};
 ghost use Rattle.mt_record.specs.Spelling.{counted, column_bytes, FitsColumn};
@@ -6,7 +6,7 @@ ghost use Rattle.mt_record.specs.Adding.{HasRoom, Adds};
 
 use mt_words::{Column, Format};
 
-/// Bytes.
+/// Appends the bytes.
 pub fn put_bytes(bytes: &[u8], out: &mut Vec<u8>)
     requires { HasRoom (length bytes.now) out.old }
     ensures { Adds bytes.now out.old out.new }
@@ -16,7 +16,7 @@ pub fn put_bytes(bytes: &[u8], out: &mut Vec<u8>)
     };
 }
 
-/// What a file of the format begins with: these letters, and its digit.
+/// Appends what a file of the format begins with: these letters and the digit of the format.
 pub fn put_magic(letters: &[u8], format: Format, out: &mut Vec<u8>)
     requires { HasRoom (length (magic letters.now format)) out.old }
     ensures { Adds (magic letters.now format) out.old out.new }
@@ -25,7 +25,7 @@ pub fn put_magic(letters: &[u8], format: Format, out: &mut Vec<u8>)
     put_bytes(&[format.limits().digit], out);
 }
 
-/// Bytes behind their length.
+/// Appends the length of the bytes, then the bytes.
 pub fn put_counted(bytes: &[u8], out: &mut Vec<u8>)
     requires short { length bytes.now < 2 ^ 16 }
     requires room { HasRoom (length (counted bytes.now)) out.old }
@@ -36,7 +36,7 @@ pub fn put_counted(bytes: &[u8], out: &mut Vec<u8>)
     put_bytes(bytes, out);
 }
 
-/// A column: its number and its bytes.
+/// Appends a column: its number, then its bytes with their length.
 pub fn put_column(column: &Column, out: &mut Vec<u8>)
     requires fits { FitsColumn column.now }
     requires room { HasRoom (length (column_bytes column.now)) out.old }

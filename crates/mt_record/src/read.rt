@@ -1,4 +1,4 @@
-//! Whole logs.
+//! What a log says, why bytes are not a log, and `read_log` for a log whose bytes are all in memory.
 ghost use Rattle.std.specs.Prelude.{◌≡◌, IfOk, IfErr};
 ghost use Rattle.mt_record.specs.declared.read.FeedFault.TheVariants as faults;
 ghost use Rattle.mt_record.specs.Logs.{IsTextOf};
@@ -14,32 +14,32 @@ use thiserror::Error;
 pub struct LogText<R = Vec<Record>> {
     /// Updates below this timestamp may be missing.
     pub from: u64,
-    /// The last timestamp: the greatest of `from` and the timestamps of the whole records.
+    /// The last timestamp: the greatest of `from` and the timestamps of the complete records.
     pub last: u64,
-    /// The whole records, in order, in what they were put into.
+    /// The complete records that were not taken before, in order.
     pub records: R,
-    /// How many whole records there are.
+    /// The number of complete records, with those that were taken before, counted up to 2^64 - 1.
     pub whole: u64,
-    /// Whether a torn tail follows them.
+    /// Whether a torn tail follows the complete records.
     pub torn: bool,
 }
 
-/// Why bytes are not read as a log.
+/// Why bytes cannot be read as a log.
 #[derive(Clone, Copy, Debug, PartialEq, Eq, Error)]
 pub enum FeedFault {
-    /// They do not begin with a header.
+    /// The bytes do not begin with a header.
     #[error("header")]
     Header,
-    /// So many whole records follow the header, and then neither a record nor a torn tail.
+    /// After the header and `nth` complete records comes neither a record nor a torn tail.
     #[error("record {nth}: {what}")]
     Record { nth: u64, what: What },
-    /// A growth was refused.
+    /// An allocation failed.
     #[error("no memory")]
     Memory,
 }
 
 impl FeedFault {
-    /// The fault of recovery that it is, as that of this log.
+    /// Returns this fault as a fault of recovery, for the log of this number.
     pub fn of_log(self, log: usize) -> Fault
         ensures { result ≡ fault_at log self }
     {
@@ -59,8 +59,7 @@ impl From<Memory> for FeedFault {
     }
 }
 
-/// Reads a whole log, in one pass over its bytes. An Err is the one fault of the bytes, or `Memory` where a growth
-/// was refused.
+/// Reads a log in one pass over all its bytes. Err: the one fault of the bytes, or `Memory` if an allocation failed.
 pub fn read_log(alloc: Global, bytes: &[u8]) -> Result<LogText, FeedFault>
     ensures log { IfOk result (IsTextOf bytes.now) }
     ensures fault { IfErr result (IsAnswered bytes.now) }

@@ -1,4 +1,4 @@
-//! The fields of a body, lent from its bytes.
+//! Reads the fields of a validated body, without copying.
 ghost use Rattle.std.specs.Prelude.{◌≡◌, ◌↔◌, IsTrue};
 ghost use Rattle.mt_words.specs.Changes.{IsReset, writes_of};
 ghost use Rattle.mt_record.specs.Decoding.{IsBody, IsChangeBody, is_mark_in, code_in, time_in, version_in, key_in, carried_in, kind_in};
@@ -8,7 +8,7 @@ use crate::lent_writes::LentWrites;
 use byteorder::{BigEndian, ByteOrder};
 use mt_words::Code;
 
-/// Whether it is that of a mark.
+/// Returns whether the body is that of a mark.
 pub fn is_mark(body: &[u8]) -> bool
     requires { IsBody body.now }
     ensures { result ≡ is_mark_in body.now }
@@ -16,7 +16,7 @@ pub fn is_mark(body: &[u8]) -> bool
     body[0] == MARK
 }
 
-/// Its timestamp.
+/// Returns the timestamp of the body.
 pub fn timestamp(body: &[u8]) -> u64
     requires { IsBody body.now }
     ensures { result ≡ time_in body.now }
@@ -24,7 +24,7 @@ pub fn timestamp(body: &[u8]) -> u64
     BigEndian::read_u64(&body[1..])
 }
 
-/// The code of a change.
+/// Returns the code of a change.
 fn code(body: &[u8]) -> Code
     requires { IsChangeBody body.now }
     ensures { result ≡ code_in body.now }
@@ -35,7 +35,7 @@ fn code(body: &[u8]) -> Code
     code
 }
 
-/// Whether a change clears all columns of its key, before it sets its own.
+/// Returns whether a change clears all columns of its key before it sets its own.
 #[tactic(auto, using(crate::proofs::Decodes::code_clears))]
 pub fn is_reset(body: &[u8]) -> bool
     requires { IsChangeBody body.now }
@@ -44,7 +44,7 @@ pub fn is_reset(body: &[u8]) -> bool
     code(body).clears()
 }
 
-/// The version of a change.
+/// Returns the version of a change.
 pub fn version(body: &[u8]) -> u64
     requires { IsChangeBody body.now }
     ensures { result ≡ version_in body.now }
@@ -52,7 +52,7 @@ pub fn version(body: &[u8]) -> u64
     BigEndian::read_u64(&body[9..])
 }
 
-/// The key of a change.
+/// Returns the key of a change.
 pub fn key(body: &[u8]) -> &[u8]
     requires { IsChangeBody body.now }
     ensures { result.now ≡ key_in body.now }
@@ -61,7 +61,7 @@ pub fn key(body: &[u8]) -> &[u8]
     &body[19..19 + length]
 }
 
-/// What the kind of a change carries.
+/// Returns the bytes that the kind of a change carries.
 fn carried(body: &[u8]) -> &[u8]
     requires { IsChangeBody body.now }
     ensures { result.now ≡ carried_in body.now }
@@ -70,7 +70,7 @@ fn carried(body: &[u8]) -> &[u8]
     &body[19 + length..]
 }
 
-/// What a change writes; a remove writes nothing.
+/// Returns what a change writes. A remove writes nothing.
 pub fn writes(body: &[u8]) -> LentWrites<'_>
     requires { IsChangeBody body.now }
     ensures { result ≡ writes_of (kind_in body.now) }

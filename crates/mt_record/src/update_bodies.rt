@@ -1,4 +1,4 @@
-//! Updates in memory, spelled as bodies.
+//! Encodes updates in memory as bodies.
 ghost use Rattle.std.specs.Prelude.{◌≡◌, IfOk};
 ghost use Rattle.mt_record.specs.Decoding.{IsChangeBody, update_in};
 
@@ -7,7 +7,7 @@ use crate::put::{put_bytes, put_counted};
 use mt_words::{Memory, Update};
 use std::alloc::Global;
 
-/// The body of an update, be it lawful or not.
+/// Returns the body of an update, whether the update is lawful or not. Err: out of memory.
 pub fn body_of_update(alloc: Global, update: &Update) -> Result<Vec<u8>, Memory>
     ensures lawful { IfOk result (λ body. IsChangeBody body.items) }
     ensures says { IfOk result (λ body. update_in update.now.stamp.origin body.items ≡ update.now) }

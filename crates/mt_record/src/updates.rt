@@ -1,4 +1,4 @@
-//! The updates of a log, lent from its records.
+//! The updates of a log, borrowed from its records.
 ghost use Rattle.std.specs.Prelude.{◌≡◌, ◌<◌, ◌++◌, IfOk, OnOk, length, slice_index_or};
 ghost use Rattle.mt_words.specs.declared.update.Origin.TheVariants as origins;
 ghost use Rattle.mt_words.specs.Changes.{Logged};
@@ -13,7 +13,7 @@ use mt_words::{Change, Memory, Origin, Record, Stamp, Update};
 use std::alloc::Global;
 use std::marker::Model;
 
-/// The updates of a log, by its records.
+/// The updates of a log, kept as its records.
 #[derive(Debug, Drop)]
 pub struct Updates {
     log: usize,
@@ -29,35 +29,35 @@ impl Model for Updates {
 }
 
 impl Updates {
-    /// The updates that these records of the log of this number make.
+    /// Returns the updates that these records make, in the log of this number.
     pub fn of(log: usize, records: KeptRecords) -> Updates
         ensures { result ≡ record { log = log; records = records } }
     {
         Updates { log, records }
     }
 
-    /// The number of the log.
+    /// Returns the number of the log.
     pub fn log(&self) -> usize
         ensures { result ≡ self.now.log }
     {
         self.log
     }
 
-    /// How many records there are, marks included.
+    /// Returns the number of records, marks included.
     pub fn record_count(&self) -> usize
         ensures { result ≡ length self.now.records }
     {
         self.records.len()
     }
 
-    /// How many updates there are.
+    /// Returns the number of updates.
     pub fn len(&self) -> usize
         ensures { result ≡ length (kept_updates self.now) }
     {
         self.records.len() - self.records.marks() as usize
     }
 
-    /// The update of the record of this number, which a mark has not.
+    /// Returns the update of the record of this number. Returns None if the record is a mark.
     pub fn update(&self, number: usize) -> Option<Lent<'_>>
         requires { number < length self.now.records }
         ensures { (d : Logged) →
@@ -70,7 +70,7 @@ impl Updates {
         Some(Lent::of(self.origin(number), body))
     }
 
-    /// All of them, each with a copy of its key and its values.
+    /// Returns all updates, each with a copy of its key and its values. Err: out of memory.
     pub fn into_vec(self, alloc: Global) -> Result<Vec<Update>, Memory>
         ensures { IfOk result (λ updates. updates.items ≡ kept_updates self) }
     {
@@ -82,7 +82,7 @@ impl Updates {
         Ok(updates)
     }
 
-    /// Where the update of the record of this number comes from.
+    /// Returns where the update of the record of this number comes from.
     fn origin(&self, number: usize) -> Origin
         ensures { result ≡ origins.Log self.now.log number }
     {
@@ -93,7 +93,7 @@ impl Updates {
     }
 }
 
-/// Adds the update of a record, which a mark has not.
+/// Appends the update of a record, if the record is not a mark. Err: out of memory.
 fn push_update(updates: &mut Vec<Update>, origin: Origin, logged: Record) -> Result<(), Memory>
     ensures { OnOk result (updates.new.items ≡
         updates.old.items ++ update_by origin logged.timestamp logged.change) }
