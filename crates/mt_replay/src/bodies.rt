@@ -8,7 +8,7 @@ use mt_words::{Memory, Origin};
 use std::alloc::Global;
 use std::marker::Model;
 
-/// Updates: their bodies, one behind the other in one buffer, each with its origin.
+/// Updates, each with its origin and its body. The bodies lie one after another in one buffer.
 #[derive(Drop)]
 pub(crate) struct Bodies {
     origins: Vec<Origin>,
@@ -28,7 +28,8 @@ impl Model for Bodies {
 }
 
 impl Bodies {
-    /// No update, with room for so many, whose bodies have so many bytes together.
+    /// Creates an empty list with room for `updates` updates whose bodies have `bytes` bytes in all.
+    /// Err: out of memory.
     pub(crate) fn with_capacity(
         alloc: Global,
         updates: usize,
@@ -42,14 +43,14 @@ impl Bodies {
         })
     }
 
-    /// How many updates there are.
+    /// Returns the number of updates.
     pub(crate) fn len(&self) -> usize
         ensures { result ≡ length self.now }
     {
         self.origins.len()
     }
 
-    /// The update at this place.
+    /// Returns the update at this place.
     pub(crate) fn get(&self, at: usize) -> Lent<'_>
         requires { at < length self.now }
         ensures { (d : UpdateValue) → result ≡ slice_index_or self.now at d }
@@ -57,7 +58,7 @@ impl Bodies {
         Lent::of(self.origins[at], self.texts.get(at))
     }
 
-    /// Adds the update of this origin and body behind the others.
+    /// Appends the update with this origin and this body. Err: out of memory; nothing is appended.
     pub(crate) fn push(&mut self, origin: Origin, body: &[u8]) -> Result<(), Memory>
         requires { IsChangeBody body.now }
         ensures ok { OnOk result (self.new ≡ self.old ++ update_in origin body.now ∷ []) }

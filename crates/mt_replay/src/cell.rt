@@ -1,4 +1,4 @@
-//! What the updates of one key leave, for a caller that holds updates in memory.
+//! The result of the updates of one key, for a caller that holds updates in memory.
 ghost use Rattle.std.specs.Prelude.{◌≡◌, ◌++◌, [], ◌∷◌, List, ℕ, IfOk, All};
 ghost use Rattle.mt_words.specs.declared.update.Update.{Update as UpdateValue};
 ghost use Rattle.mt_words.specs.Limits.{widest};
@@ -11,9 +11,9 @@ use mt_words::{Columns, Kept, Memory, Update, Value};
 use std::alloc::Global;
 use std::marker::Model;
 
-/// What the updates of one key leave, in whatever order they come: the greatest stamp at which the key was cleared, and
-/// for each column its write with the greatest stamp. It has a place for each column, so taking in an update or another
-/// cell takes no memory, and the bytes of the writes are moved.
+/// The result of the updates of one key, in any order: the greatest stamp at which the key was cleared, and for each
+/// column the write with the greatest stamp. It has a place for each column, so applying an update or merging another
+/// cell does not allocate. The bytes of the writes are moved.
 #[derive(Drop)]
 pub struct Cell {
     group: Group<Value>,
@@ -28,7 +28,7 @@ impl Model for Cell {
 }
 
 impl Cell {
-    /// That of no update.
+    /// Creates the cell of no update.
     pub fn empty() -> Cell
         ensures { (key : List ℕ) → IsGroupOf [] key result }
     {
@@ -37,7 +37,7 @@ impl Cell {
         }
     }
 
-    /// Takes in an update of the key.
+    /// Applies an update of the key.
     pub fn apply(&mut self, update: Update)
         ensures cell { (updates : List UpdateValue) (key : List ℕ) → update.key ≡ key →
             IsGroupOf updates key self.old → IsGroupOf (updates ++ update ∷ []) key self.new }
@@ -46,7 +46,7 @@ impl Cell {
         self.group.apply(update);
     }
 
-    /// The cell of the updates of both. Where two writes of a column have one stamp, this cell's is kept.
+    /// Returns the cell of the updates of both. If two writes of a column have the same stamp, it keeps this cell's.
     pub fn merge(self, other: Cell) -> Cell
         ensures { (updates others : List UpdateValue) (key : List ℕ) → IsGroupOf updates key self →
             IsGroupOf others key other → IsGroupOf (updates ++ others) key result }
@@ -56,7 +56,8 @@ impl Cell {
         }
     }
 
-    /// Copies of the columns that the updates leave to the key, in no more room than they need.
+    /// Returns copies of the columns that the key has after the updates, in no more memory than they need.
+    /// Err: out of memory.
     pub fn columns(&self, alloc: Global) -> Result<Columns<Kept>, Memory>
         ensures lawful { IfOk result (AreColumns widest) }
         ensures exact { IfOk result (λ columns. (updates : List UpdateValue) (key : List ℕ) →

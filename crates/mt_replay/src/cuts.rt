@@ -1,4 +1,4 @@
-//! Cuts of the keys into pieces.
+//! Cuts that divide the keys into pieces.
 ghost use Rattle.std.specs.Prelude.{◌≡◌, ◌≤◌, ◌<◌, ◌+◌, ◌*◌, ◌^◌, ◌↔◌, [], length, max, slice_index_or, All, IfOk, IfErr, IsSome, IfSome};
 ghost use Rattle.mt_words.specs.Limits.{widest};
 ghost use Rattle.mt_words.specs.Words.{IsKey};
@@ -16,25 +16,25 @@ use std::marker::Model;
 use std::slice;
 use std::thread::Threads;
 
-/// The most cuts.
+/// The greatest number of cuts.
 pub const MOST_CUTS: usize = 4095;
 
-/// The most pieces.
+/// The greatest number of pieces.
 const MOST_PIECES: u32 = 4096;
 
-/// The most pieces in which keys are looked for, each by a thread of its own.
+/// The greatest number of pieces in which distinct keys are searched for. Each piece has a thread of its own.
 const ROUGH_PIECES: Pieces = Pieces { count: 16 };
 
-/// Why keys are no cuts.
+/// Why keys are not cuts.
 #[derive(Clone, Copy, Debug, PartialEq, Eq)]
 pub enum CutFault {
-    /// This key is not above the one before it.
+    /// The key at place `at` is not above the one before it.
     NotRising { at: usize },
-    /// There are more than `MOST_CUTS`.
+    /// There are more than `MOST_CUTS` keys.
     TooMany,
 }
 
-/// Keys that strictly rise, at most `MOST_CUTS`. Each begins a piece; the first piece has what lies before them all.
+/// At most `MOST_CUTS` keys that strictly rise. Each begins a piece. The first piece has the keys below them all.
 #[derive(Debug, Drop)]
 pub struct Cuts {
     keys: Vec<Key>,
@@ -51,7 +51,7 @@ impl Model for Cuts {
     ghost invariant = { λ c. AreCuts c.keys.items };
 }
 
-/// How many pieces are asked for: 1 to 4,096.
+/// A requested number of pieces: 1 to 4,096.
 #[derive(Clone, Copy, Debug)]
 pub struct Pieces {
     count: u32,
@@ -70,7 +70,7 @@ impl Model for Pieces {
 }
 
 impl Pieces {
-    /// So many pieces. None where that is 0 or more than 4,096.
+    /// Returns this number of pieces. Returns None if it is 0 or more than 4,096.
     pub fn new(count: u32) -> Option<Pieces>
         ensures accepted { IsSome result ↔ (0 < count) × (count ≤ 4096) }
         ensures value { IfSome result (λ pieces. pieces ≡ count) }
@@ -83,7 +83,7 @@ impl Pieces {
 }
 
 impl Cuts {
-    /// Cuts at these keys.
+    /// Creates cuts at these keys. Err: the keys do not strictly rise, or there are more than `MOST_CUTS`.
     pub fn new(keys: Vec<Key>) -> Result<Cuts, CutFault>
         ensures cuts { IfOk result (λ cuts. (cuts ≡ keys.items) × AreCuts cuts) }
         ensures fault { IfErr result (IsCutFault keys.items) }
@@ -99,7 +99,7 @@ impl Cuts {
         Ok(Cuts { keys })
     }
 
-    /// No cut: all keys are one piece.
+    /// Creates an empty list of cuts: all keys are one piece.
     pub fn none(alloc: Global) -> Cuts
         ensures { result ≡ [] }
     {
@@ -108,7 +108,7 @@ impl Cuts {
         }
     }
 
-    /// How many pieces the cuts make.
+    /// Returns the number of pieces that the cuts make.
     pub fn pieces(&self) -> u32
         ensures value { result ≡ length self.now + 1 }
         ensures lawful { AreCuts self.now }
@@ -116,7 +116,7 @@ impl Cuts {
         self.keys.len() as u32 + 1
     }
 
-    /// The keys.
+    /// Returns the keys.
     pub(crate) fn keys(&self) -> &[Key]
         ensures value { result.now ≡ self.now }
         ensures lawful { AreCuts self.now }
@@ -124,7 +124,8 @@ impl Cuts {
         &self.keys
     }
 
-    /// Cuts of the keys that updates have into pieces of about as many keys.
+    /// Returns cuts that divide the keys of the updates into pieces with about the same number of keys each.
+    /// Err: out of memory.
     pub fn even(
         rt: &(impl Threads + Sync),
         alloc: Global,
@@ -142,8 +143,9 @@ impl Cuts {
         Cuts::even_of(alloc, &parts, pieces)
     }
 
-    /// Cuts into no more than so many pieces of roughly as many updates, found among a few of the keys. They are found
-    /// much sooner than even ones, which ask for all keys.
+    /// Returns cuts into at most `pieces` pieces with roughly the same number of updates each, found in a sample of the
+    /// keys. They are found much sooner than even cuts, which need all keys.
+    /// Err: out of memory.
     pub fn sampled(
         rt: &(impl Threads + Sync),
         alloc: Global,
@@ -156,7 +158,8 @@ impl Cuts {
         Cuts::even_of(alloc, slice::from_ref(&keys), pieces)
     }
 
-    /// Cuts of rising keys, which lie in parts one behind the other, into pieces of about as many keys.
+    /// Returns cuts of rising keys into pieces with about the same number of keys each. The keys are given in parts,
+    /// one part after another.
     fn even_of(alloc: Global, parts: &[Vec<&[u8]>], pieces: Pieces) -> Result<Cuts, Memory>
         requires few { length parts.now ≤ 4096 }
         requires rising { RiseThroughout (keys_of parts.now) }
@@ -169,7 +172,7 @@ impl Cuts {
     }
 }
 
-/// The keys at which so many even pieces begin.
+/// Returns the keys at which the pieces after the first begin, for `pieces` even pieces.
 fn even_keys(alloc: Global, parts: &[Vec<&[u8]>], pieces: u128) -> Result<Vec<Key>, Memory>
     requires few { length parts.now ≤ 4096 }
     requires lawful { All (IsKey widest) (keys_of parts.now) }
@@ -187,7 +190,7 @@ fn even_keys(alloc: Global, parts: &[Vec<&[u8]>], pieces: u128) -> Result<Vec<Ke
     Ok(cuts)
 }
 
-/// How many keys the parts have. It is exact: a part has fewer than 2^64 keys.
+/// Returns the number of keys in the parts. It is exact: a part has fewer than 2^64 keys.
 fn key_count(parts: &[Vec<&[u8]>]) -> u128
     ensures value { result ≡ length (keys_of parts.now) }
     ensures fits { result ≤ length parts.now * 2 ^ 64 }
@@ -199,7 +202,7 @@ fn key_count(parts: &[Vec<&[u8]>]) -> u128
     count
 }
 
-/// The key at a place, where the parts stand one behind the other.
+/// Returns the key at this place. Places count through all parts in order.
 fn key_at<'a>(parts: &[Vec<&'a [u8]>], place: u128) -> &'a [u8]
     requires { place < length (keys_of parts.now) }
     ensures { result.now ≡ slice_index_or (keys_of parts.now) place [] }

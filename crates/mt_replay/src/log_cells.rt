@@ -1,4 +1,4 @@
-//! The surviving updates of a log, by rising key.
+//! The surviving updates of a log, sorted by key.
 ghost use Rattle.std.specs.Prelude.{◌≡◌, ◌≤◌, ◌<◌, ◌++◌, true, false, IsTrue, IfOk, IsPermutation, List, length, filter, slice_index_or};
 ghost use Rattle.std.specs.List.Sorted.{IsPartitionPoint};
 ghost use Rattle.mt_words.specs.declared.update.Update.{Update as UpdateValue};
@@ -16,21 +16,21 @@ use mt_words::{Memory, Update};
 use std::alloc::Global;
 use std::marker::Model;
 
-/// How many records of a log are put in order together. So many have room in the caches of a processor, where to sort
-/// them and to copy their bodies takes much less time; to merge a few more lists takes less than is spared.
+/// The number of records of a log that are sorted together. That many fit into the caches of a processor, where sorting
+/// them and copying their bodies takes much less time. Merging a few more runs costs less than this saves.
 const STRETCH: usize = 131_072;
 
 /// Where the updates of cells lie.
 #[derive(Drop)]
 enum Held {
-    /// In bodies that were put in order.
+    /// In bodies that were sorted.
     Sorted(Bodies),
     /// In entries, as they were read.
     Read(KeptEntries),
 }
 
-/// The surviving updates of a log, or the entries of the chosen checkpoint, by rising key. Their bodies lie in that
-/// order too, so that to go over them is to go over memory.
+/// The surviving updates of a log, or the entries of the chosen checkpoint, sorted by key. Their bodies lie in the same
+/// order, so that replay reads memory in order.
 #[derive(Drop)]
 pub struct LogCells {
     held: Held,
@@ -50,8 +50,9 @@ impl Model for LogCells {
 }
 
 impl LogCells {
-    /// The updates that survive. Each is spelled on the way: where they are bodies already, `of_log` and `of_entries`
-    /// spare that.
+    /// Returns the updates that survive. It encodes each of them. If they are bodies already, `of_log` and `of_entries`
+    /// avoid that.
+    /// Err: out of memory.
     pub fn of(alloc: Global, updates: Vec<Update>, window: Window) -> Result<LogCells, Memory>
         ensures { IfOk result (λ cells. IsPermutation (filter (survives_in window) updates.items) cells) }
     {
@@ -60,13 +61,14 @@ impl LogCells {
         in_order(alloc, &mut sliced)
     }
 
-    /// The updates of a log in the window, in cells of their own for each stretch of its records.
+    /// Returns the updates of a log that are in the window, as one sorted run for each 131,072 records.
+    /// Err: out of memory.
     pub fn of_log(alloc: Global, updates: &Updates, window: Window) -> Result<Vec<LogCells>, Memory>
         ensures { IfOk result (λ lists.
             IsPermutation (filter (in_window window) (kept_updates updates.now)) (joined lists.items)) }
     {
         let mut lists = Vec::new(alloc);
-        // One list serves all stretches, so that its memory is met once.
+        // One list serves all runs, so that its memory is touched for the first time only once.
         let mut sliced = Vec::new(alloc);
         let mut from = 0;
         while from < updates.record_count() {
@@ -78,8 +80,9 @@ impl LogCells {
         Ok(lists)
     }
 
-    /// The entries of a checkpoint: no window leaves one out. Where their keys rise already, as those of a valid
-    /// checkpoint do, they stay where they are.
+    /// Returns the entries of a checkpoint. No window leaves any out. If their keys rise already, as in a valid
+    /// checkpoint, the entries stay where they are.
+    /// Err: out of memory.
     pub fn of_entries(alloc: Global, entries: KeptEntries) -> Result<LogCells, Memory>
         ensures { IfOk result (λ cells. IsPermutation (wholes entries) cells) }
     {
@@ -91,7 +94,7 @@ impl LogCells {
         in_order(alloc, &mut sliced)
     }
 
-    /// How many updates there are.
+    /// Returns the number of updates.
     pub fn len(&self) -> usize
         ensures value { result ≡ length self.now }
         ensures in_order { InKeyOrder self.now }
@@ -102,7 +105,7 @@ impl LogCells {
         }
     }
 
-    /// The update at this place.
+    /// Returns the update at this place.
     pub fn get(&self, at: usize) -> Lent<'_>
         requires { at < length self.now }
         ensures { (d : UpdateValue) → result ≡ slice_index_or self.now at d }
@@ -113,7 +116,7 @@ impl LogCells {
         }
     }
 
-    /// How many updates have keys below this one.
+    /// Returns the number of updates whose keys are below this one.
     pub fn place_of(&self, key: &[u8]) -> usize
         ensures within { result ≤ length self.now }
         ensures point { IsPartitionPoint (λ update. is_below update.key key.now ≡ true)
@@ -134,14 +137,14 @@ impl LogCells {
     }
 }
 
-/// Whether the first key lies below the second.
+/// Returns whether the first key is below the second.
 fn comes_before(first: &[u8], second: &[u8]) -> bool
     ensures { result ≡ is_below first.now second.now }
 {
     first.cmp(second).is_lt()
 }
 
-/// Whether no entry's key lies below that of the entry before it.
+/// Returns whether no entry's key is below that of the entry before it.
 fn are_in_order(entries: &KeptEntries) -> bool
     ensures { IsTrue result → InKeyOrder (wholes entries.now) }
 {
@@ -155,7 +158,7 @@ fn are_in_order(entries: &KeptEntries) -> bool
     true
 }
 
-/// Cells of these updates, which are put in order by their keys.
+/// Sorts these updates by key, and returns cells of them.
 fn in_order(alloc: Global, sliced: &mut Vec<Sliced<'_>>) -> Result<LogCells, Memory>
     ensures { IfOk result (λ cells. IsPermutation sliced.old.items cells) }
 {
@@ -163,7 +166,7 @@ fn in_order(alloc: Global, sliced: &mut Vec<Sliced<'_>>) -> Result<LogCells, Mem
     gather(alloc, size_of(sliced), sliced)
 }
 
-/// How many bytes the bodies of these updates have together, as far as a usize counts.
+/// Returns the number of bytes of the bodies of these updates, counted up to the greatest `usize`.
 fn size_of(updates: &[Sliced<'_>]) -> usize {
     let mut size = 0usize;
     for sliced in updates {
@@ -172,7 +175,7 @@ fn size_of(updates: &[Sliced<'_>]) -> usize {
     size
 }
 
-/// Cells of these updates, whose bodies have so many bytes at the most.
+/// Returns cells of these updates. Room for `size` bytes of bodies is reserved.
 fn gather(alloc: Global, size: usize, updates: &[Sliced<'_>]) -> Result<LogCells, Memory>
     requires { InKeyOrder updates.now }
     ensures { IfOk result (λ cells. cells ≡ updates.now) }

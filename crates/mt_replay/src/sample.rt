@@ -1,4 +1,4 @@
-//! Some of the keys that updates have.
+//! A sample of the keys of updates.
 ghost use Rattle.std.specs.Prelude.{◌<◌, ◌≤◌, map, All, IfOk, OnOk};
 ghost use Rattle.mt_words.specs.Limits.{widest};
 ghost use Rattle.mt_words.specs.Words.{IsKey};
@@ -10,11 +10,12 @@ use rayon::prelude::*;
 use std::alloc::Global;
 use std::thread::Threads;
 
-/// How many keys are in the sample for each piece, or about so many: enough that none gets much more than its share, and
-/// that there are some of each stretch of a long log.
+/// The approximate number of sampled keys for each piece. It is large enough that no piece gets much more than its
+/// share, and that the sample has keys of each sorted run of a long log.
 const KEYS_OF_PIECE: usize = 64;
 
-/// Keys at equal distances in the lists, each once, in order: some for each of so many pieces.
+/// Returns keys at equal distances in the lists, each once, in order: some for each of `pieces` pieces.
+/// Err: out of memory.
 pub(crate) fn sample<'a>(
     rt: &(impl Threads + Sync),
     alloc: Global,
@@ -32,8 +33,8 @@ pub(crate) fn sample<'a>(
     Ok(keys)
 }
 
-/// The distance at which no more than so many keys are taken. It is the same for all lists, so that a long one has more
-/// of the keys than a short one.
+/// Returns the distance at which at most `most` keys are taken. It is the same for all lists, so a long list gives more
+/// keys than a short one.
 fn distance_for(lists: &[LogCells], most: usize) -> usize
     requires { 0 < most }
     ensures { 0 < result }
@@ -45,7 +46,7 @@ fn distance_for(lists: &[LogCells], most: usize) -> usize
     updates.div_ceil(most).max(1)
 }
 
-/// Keys at this distance in each list.
+/// Returns the keys at this distance in each list.
 fn some_keys(alloc: Global, lists: &[LogCells], distance: usize) -> Result<Vec<&[u8]>, Memory>
     requires { 0 < distance }
     ensures { IfOk result (λ keys. All (IsKey widest) (map (λ key. key.now) keys.items)) }
@@ -57,7 +58,7 @@ fn some_keys(alloc: Global, lists: &[LogCells], distance: usize) -> Result<Vec<&
     Ok(keys)
 }
 
-/// Adds keys at this distance, each from the middle of those that it stands for.
+/// Appends keys at this distance. Each is from the middle of the keys that it stands for.
 fn add_some<'a>(
     keys: &mut Vec<&'a [u8]>,
     cells: &'a LogCells,

@@ -1,4 +1,5 @@
-//! Updates that are lent from their bodies, each with the slices of its key: those that survive, and their order.
+//! Updates that are borrowed from their bodies, each with the slices of its key: which of them survive, and their
+//! order.
 ghost use Rattle.std.specs.Prelude.{◌≡◌, ◌≤◌, ◌++◌, IfOk, OnOk, IsPermutation, length, filter};
 ghost use Rattle.std.specs.Ordering.{nat_cmp};
 ghost use Rattle.std.specs.Cmp.Lexicographic.{slice_cmp};
@@ -16,11 +17,11 @@ use std::alloc::Global;
 use std::cmp::Ordering;
 use std::marker::Model;
 
-/// The bytes that two slices hold.
+/// The number of bytes in two slices.
 const TWO_SLICES: usize = 16;
 
-/// An update with the first two slices of its key, and the length of the key. To compare keys of at most 16 bytes no
-/// body is read.
+/// An update with the first two slices of its key, and the length of the key. Comparing keys of at most 16 bytes reads
+/// no body.
 #[derive(Drop)]
 pub(crate) struct Sliced<'a> {
     slice: u64,
@@ -41,7 +42,7 @@ impl<'a> Model for Sliced<'a> {
 }
 
 impl<'a> Sliced<'a> {
-    /// The update, with what its key gives.
+    /// Returns the update with the slices and the length of its key.
     pub(crate) fn of(update: Lent<'a>) -> Sliced<'a>
         ensures { result ≡ update.entry }
     {
@@ -54,14 +55,14 @@ impl<'a> Sliced<'a> {
         }
     }
 
-    /// The update.
+    /// Returns the update.
     pub(crate) fn update(&self) -> &Lent<'a>
         ensures { result.now ≡ self.now }
     {
         &self.update
     }
 
-    /// The key that it changes.
+    /// Returns the key that it changes.
     pub(crate) fn key(&self) -> &'a [u8]
         ensures value { result.now ≡ self.now.key }
         ensures lawful { IsKey widest self.now.key }
@@ -69,7 +70,7 @@ impl<'a> Sliced<'a> {
         self.update.key()
     }
 
-    /// The order of their keys.
+    /// Compares the keys of two updates.
     pub(crate) fn compare(&self, other: &Sliced<'_>) -> Ordering
         ensures { result ≡ slice_cmp nat_cmp self.now.key other.now.key }
     {
@@ -86,8 +87,9 @@ impl<'a> Sliced<'a> {
     }
 }
 
-/// Puts the updates in the window, of the records from one on until before another, in the place of those that were
-/// listed.
+/// Clears the list, and fills it with the updates in the window, of the records from `from` up to, but not including,
+/// `end`.
+/// Err: out of memory.
 pub(crate) fn list_survivors<'a>(
     sliced: &mut Vec<Sliced<'a>>,
     updates: &'a Updates,
@@ -107,7 +109,7 @@ pub(crate) fn list_survivors<'a>(
     Ok(())
 }
 
-/// Adds an update, if there is one and it is in the window.
+/// Appends an update, if there is one and it is in the window.
 fn add_survivor<'a>(
     sliced: &mut Vec<Sliced<'a>>,
     update: Option<Lent<'a>>,
@@ -125,7 +127,7 @@ fn add_survivor<'a>(
     Ok(())
 }
 
-/// The updates of all entries.
+/// Returns the updates of all entries. Err: out of memory.
 pub(crate) fn all_entries(alloc: Global, entries: &KeptEntries) -> Result<Vec<Sliced<'_>>, Memory>
     ensures { IfOk result (λ sliced. sliced.items ≡ wholes entries.now) }
 {
@@ -136,7 +138,7 @@ pub(crate) fn all_entries(alloc: Global, entries: &KeptEntries) -> Result<Vec<Sl
     Ok(sliced)
 }
 
-/// The updates of all bodies.
+/// Returns the updates of all bodies. Err: out of memory.
 pub(crate) fn all_bodies(alloc: Global, bodies: &Bodies) -> Result<Vec<Sliced<'_>>, Memory>
     ensures { IfOk result (λ sliced. sliced.items ≡ bodies.now) }
 {
@@ -147,7 +149,7 @@ pub(crate) fn all_bodies(alloc: Global, bodies: &Bodies) -> Result<Vec<Sliced<'_
     Ok(sliced)
 }
 
-/// Sorts updates by their keys, those of one key in any order.
+/// Sorts updates by their keys. The updates of one key come out in any order.
 pub(crate) fn sort_by_key(updates: &mut Vec<Sliced<'_>>)
     ensures same { IsPermutation updates.old.items updates.new.items }
     ensures in_order { InKeyOrder updates.new.items }

@@ -1,4 +1,4 @@
-//! Updates in memory as bodies.
+//! Encodes updates in memory as bodies.
 ghost use Rattle.std.specs.Prelude.{◌≡◌, ◌++◌, [], ◌∷◌, IfOk, OnOk, filter};
 ghost use Rattle.mt_replay.specs.Survivors.{survives as survives_in};
 
@@ -8,7 +8,7 @@ use mt_record::body_of_update;
 use mt_words::{Kind, Memory, Update};
 use std::alloc::Global;
 
-/// The updates that survive, spelled as bodies.
+/// Returns the updates that survive, encoded as bodies. Err: out of memory.
 pub(crate) fn spell(alloc: Global, updates: &[Update], window: Window) -> Result<Bodies, Memory>
     ensures { IfOk result (λ bodies. bodies ≡ filter (survives_in window) updates.now) }
 {
@@ -19,7 +19,7 @@ pub(crate) fn spell(alloc: Global, updates: &[Update], window: Window) -> Result
     Ok(bodies)
 }
 
-/// Adds the body of an update, if it survives.
+/// Appends the body of an update, if the update survives.
 fn add_body(
     alloc: Global,
     bodies: &mut Bodies,
@@ -36,7 +36,7 @@ fn add_body(
     Ok(())
 }
 
-/// Whether an update survives: an entry always, and any other in the window.
+/// Returns whether an update survives. An entry always does. Any other update survives if it is in the window.
 fn survives(update: &Update, window: Window) -> bool
     ensures { result ≡ survives_in window update.now }
 {

@@ -10,7 +10,8 @@ use crate::sliced::Sliced;
 use mt_words::{Memory, PairSink};
 use std::alloc::Global;
 
-/// The walk of the updates so far: the pairs of all keys but the last, and of the last the first update and the group.
+/// The walk of the updates so far: the pairs of all keys but the last, and the first update and the group of the last
+/// key.
 #[derive(Drop)]
 pub(crate) struct Walker<'a, S> {
     sink: S,
@@ -19,7 +20,7 @@ pub(crate) struct Walker<'a, S> {
 }
 
 impl<'a, S: PairSink> Walker<'a, S> {
-    /// The walk of no update, into a sink that holds no pair.
+    /// Creates the walk of no update. The sink must be empty.
     pub(crate) fn new(sink: S) -> Walker<'a, S>
         requires { S.pairs sink ≡ [] }
         ensures { IsWalkSoFar [] (S.pairs result.sink) result.first result.group }
@@ -31,7 +32,7 @@ impl<'a, S: PairSink> Walker<'a, S> {
         }
     }
 
-    /// Goes on by an update.
+    /// Adds the next update to the walk. Err: out of memory.
     pub(crate) fn see(&mut self, alloc: Global, update: Sliced<'a>) -> Result<(), Memory>
         requires { (updates : List UpdateValue) × IsWalkSoFar updates (S.pairs self.old.sink) self.old.first self.old.group }
         ensures { OnOk result ((updates : List UpdateValue) → InKeyOrder (updates ++ update.entry ∷ []) →
@@ -47,7 +48,7 @@ impl<'a, S: PairSink> Walker<'a, S> {
         Ok(())
     }
 
-    /// The walk of all updates that it has seen.
+    /// Returns the sink with the walk of all updates. Err: out of memory.
     pub(crate) fn into_sink(self, alloc: Global) -> Result<S, Memory>
         requires { (updates : List UpdateValue) × IsWalkSoFar updates (S.pairs self.sink) self.first self.group }
         ensures { IfOk result (λ sink. (updates : List UpdateValue) →
@@ -59,7 +60,7 @@ impl<'a, S: PairSink> Walker<'a, S> {
         Ok(sink)
     }
 
-    /// Whether the update is of the last key.
+    /// Returns whether the update is of the last key.
     fn is_at(&self, update: &Sliced<'_>) -> bool
         ensures { MatchOption self.now.first (result ≡ false) (λ first. IsTrue result ↔ (first.key ≡ update.now.key)) }
     {
@@ -69,7 +70,7 @@ impl<'a, S: PairSink> Walker<'a, S> {
         }
     }
 
-    /// Begins the group of the key of an update, which is its first.
+    /// Begins the group of a key with its first update.
     fn begin(&mut self, update: Sliced<'a>)
         ensures sink { self.new.sink ≡ self.old.sink }
         ensures first { self.new.first ≡ Some update.entry }
@@ -81,7 +82,7 @@ impl<'a, S: PairSink> Walker<'a, S> {
         self.first = Some(update);
     }
 
-    /// Adds the pair of the last key, if it has any column.
+    /// Appends the pair of the last key, if it has any column.
     fn close(&mut self, alloc: Global) -> Result<(), Memory>
         requires { (updates : List UpdateValue) × IsWalkSoFar updates (S.pairs self.old.sink) self.old.first self.old.group }
         ensures { OnOk result ((updates : List UpdateValue) →

@@ -2,7 +2,7 @@
 ghost use Rattle.std.specs.Prelude.{◌≡◌};
 ghost use Rattle.mt_replay.specs.Survivors.{is_within};
 
-/// From `begin` on, until below `cutoff`.
+/// The timestamps from `begin` up to, but not including, `cutoff`.
 #[derive(Clone, Copy, Debug)]
 pub struct Window {
     /// The first timestamp.
@@ -12,7 +12,7 @@ pub struct Window {
 }
 
 impl Window {
-    /// Whether an update of this timestamp survives.
+    /// Returns whether a log update of this timestamp survives.
     pub fn contains(self, timestamp: u64) -> bool
         ensures { result ≡ is_within self timestamp }
     {
