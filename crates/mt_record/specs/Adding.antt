@@ -1,11 +1,11 @@
--- Bytes at the end of a vector.
+-- Appending bytes to a vector.
 use Rattle.std.specs.Prelude.{◌≡◌, ℕ, ◌+◌, ◌≤◌, List, ◌++◌, length, Vec, vec_len, vec_capacity}
 
--- there is room for so many bytes more
+-- the vector has room for `count` more bytes
 abbrev pub HasRoom : {Z : Type 0} → ℕ → Vec ℕ Z → Type 0
 HasRoom count out = vec_len out + count ≤ vec_capacity out
 
--- the bytes were added at the end, in room that was there
+-- the bytes were appended, and the capacity did not shrink
 pub record Adds {Z : Type 0} (bytes : List ℕ) (old new : Vec ℕ Z) : Type 0 where
   pub items : new.items ≡ old.items ++ bytes
   pub len : vec_len new ≡ vec_len old + length bytes

@@ -1,4 +1,4 @@
--- What the steps of reading a record or an entry give.
+-- What the steps of reading a record or an entry return.
 use Rattle.std.specs.Prelude.{◌≡◌, ◌≢◌, ℕ, ◌≤◌, ◌<◌, ◌^◌, List, ◌++◌, length}
 use Rattle.std.specs.List.{flat_map, AllByRecursion}
 use Rattle.byteorder.specs.Endian.{big_bytes}
@@ -15,13 +15,13 @@ use Rattle.mt_record.specs.declared.body.ChangeFields.{ChangeFields}
 use Rattle.mt_record.specs.Spelling.{counted, column_bytes, kind_byte, kind_bytes, change_bytes, body, framed, spelling, FitsColumn, FitsKind, FitsChange}
 use Rattle.mt_record.specs.LogFaults.{HasLengthFault, HasTrailerFault, HasVersionFault, HasKeyFault, HasColumnsFault}
 
--- the next record of a log, and what follows it
+-- the bytes are the encoding of this lawful record, whose timestamp is at least `low`, and then `after`
 pub record IsNext (limits : Limits) (low : ℕ) (bytes : List ℕ) (r : Logged) (after : List ℕ) : Type 0 where
   pub lawful : IsLawful limits r
   pub rises : low ≤ r.timestamp
   pub spelled : bytes ≡ spelling r ++ after
 
--- the timestamp and the body of the next record, and what follows it
+-- the bytes begin with such a record, with this timestamp and the body `found`, and `after` follows
 pub record IsNextBody (limits : Limits) (low : ℕ) (bytes : List ℕ) (timestamp : ℕ) (found after : List ℕ) : Type 0 where
   pub next : Logged
   pub is_next : IsNext limits low bytes next after
@@ -30,16 +30,16 @@ pub record IsNextBody (limits : Limits) (low : ℕ) (bytes : List ℕ) (timestam
 
 -- ---- frames
 
--- from the least length to the greatest
+-- the length is between the shortest and the longest, both allowed
 abbrev pub IsWithin : ℕ → ℕ → ℕ → Type 0
 IsWithin shortest longest n = (shortest ≤ n) × (n ≤ longest)
 
--- the framed body at the front, and what follows it
+-- the bytes are this body in its frame and then `after`, and the length of the body is allowed
 pub record IsFrame (IsLength : ℕ → Type 0) (bytes body after : List ℕ) : Type 0 where
   pub fits : IsLength (length body)
   pub spelled : bytes ≡ framed body ++ after
 
--- why nothing framed stands at the front
+-- why the bytes do not begin with a frame: the length is not allowed, or the number after the body is not the length
 abbrev pub IsFrameFault : (ℕ → Type 0) → List ℕ → What → Type 0
 IsFrameFault IsLength bytes Length = HasLengthFault IsLength bytes
 IsFrameFault IsLength bytes Trailer = HasTrailerFault IsLength bytes
@@ -47,34 +47,34 @@ IsFrameFault IsLength bytes what = ⊥
 
 -- ---- bodies
 
--- the bytes are the body of this record
+-- the bytes are the body of this lawful record, whose timestamp is at least `low`
 pub record IsBodyOf (limits : Limits) (low : ℕ) (bytes : List ℕ) (r : Logged) : Type 0 where
   pub lawful : IsLawful limits r
   pub rises : low ≤ r.timestamp
   pub spelled : bytes ≡ body r
 
--- the bytes are the body of a record of this timestamp
+-- the bytes are the body of a lawful record with this timestamp, which is at least `low`
 abbrev pub IsBodyAt : Limits → ℕ → List ℕ → ℕ → Type 0
 IsBodyAt limits low bytes timestamp = (r : Logged) × IsBodyOf limits low bytes r × (timestamp ≡ r.timestamp)
 
--- the bytes are the body of a record that some format allows
+-- the bytes are the body of a record that the widest format allows
 abbrev pub IsLawfulBody : List ℕ → Type 0
 IsLawfulBody bytes = (r : Logged) × IsBodyOf widest 0 bytes r
 
--- the bytes are the fields of this entry
+-- the bytes are the fields of this lawful entry
 pub record AreFieldsOf (limits : Limits) (bytes : List ℕ) (entry : Change) : Type 0 where
   pub lawful : IsEntry limits entry
   pub spelled : bytes ≡ change_bytes entry
 
--- the bytes are the fields of an entry that some format allows
+-- the bytes are the fields of an entry that the widest format allows
 abbrev pub AreFields : List ℕ → Type 0
 AreFields bytes = (entry : Change) × AreFieldsOf widest bytes entry
 
--- the bytes are the fields of no entry
+-- the bytes are the fields of no lawful entry
 abbrev pub AreNoFields : Limits → List ℕ → Type 0
 AreNoFields limits bytes = (entry : Change) → IsEntry limits entry → bytes ≢ change_bytes entry
 
--- the fields of the next entry of a part, and what follows it
+-- the bytes are `body` in its frame and then `after`, and `body` is the fields of a lawful entry
 pub record IsNextEntry (limits : Limits) (bytes body after : List ℕ) : Type 0 where
   pub next : Change
   pub fields : AreFieldsOf limits body next
@@ -82,17 +82,17 @@ pub record IsNextEntry (limits : Limits) (bytes body after : List ℕ) : Type 0 
 
 -- ---- changes
 
--- the bytes are a change of the kind of this byte
+-- the bytes are the fields of this lawful change, whose kind has this byte
 pub record IsChangeOf (limits : Limits) (byte : ℕ) (bytes : List ℕ) (change : Change) : Type 0 where
   pub lawful : IsLawfulChange limits change
   pub code : kind_byte change.kind ≡ byte
   pub spelled : bytes ≡ change_bytes change
 
--- the bytes are no change of the kind of this byte
+-- the bytes are the fields of no change whose kind has this byte, lawful or not
 abbrev pub IsNoChange : ℕ → List ℕ → Type 0
 IsNoChange code bytes = (change : Change) → FitsChange change → kind_byte change.kind ≡ code → bytes ≢ change_bytes change
 
--- the fields are those of a change, of the kind of this byte, of which this holds
+-- the bytes are the fields of a change, lawful or not, whose kind has this byte and for which `P` holds
 pub record IsChangeWith (byte : ℕ) (bytes : List ℕ) (P : Change → Type 0) : Type 0 where
   pub change : Change
   pub fits : FitsChange change
@@ -100,7 +100,7 @@ pub record IsChangeWith (byte : ℕ) (bytes : List ℕ) (P : Change → Type 0) 
   pub spelled : bytes ≡ change_bytes change
   pub holds : P change
 
--- the first fault of a change of the kind of this byte
+-- the first fault of bytes that should be the fields of a change whose kind has this byte
 abbrev pub IsChangeFault : Limits → ℕ → List ℕ → What → Type 0
 IsChangeFault limits code bytes Frame = IsNoChange code bytes
 IsChangeFault limits code bytes Version = IsChangeWith code bytes HasVersionFault
@@ -110,38 +110,38 @@ IsChangeFault limits code bytes what = ⊥
 
 -- ---- kinds
 
--- the bytes are what the kind, which has this byte, carries
+-- the kind has this byte, carries these bytes and fits its fields
 pub record IsKindOf (byte : ℕ) (bytes : List ℕ) (kind : Kind) : Type 0 where
   pub code : kind_byte kind ≡ byte
   pub spelled : bytes ≡ kind_bytes kind
   pub fits : FitsKind kind
 
--- some kind of this byte carries the bytes
+-- some kind with this byte carries the bytes
 abbrev pub HasKind : ℕ → List ℕ → Type 0
 HasKind code bytes = (kind : Kind) × IsKindOf code bytes kind
 
--- the kind of this byte that carries the bytes, as the format allows it
+-- the kind has this byte and carries these bytes, and the format allows it
 abbrev pub IsAllowedKind : Limits → ℕ → List ℕ → Kind → Type 0
 IsAllowedKind limits code bytes kind = IsKindOf code bytes kind × AllowsKind limits kind
 
--- the fault of the kind of this byte that carries the bytes: the format does not allow it
+-- the fault is `Columns`: a kind has this byte and carries these bytes, but the format does not allow it
 pub record IsKindFault (limits : Limits) (byte : ℕ) (bytes : List ℕ) (what : What) : Type 0 where
   pub is_columns : what ≡ Columns
   pub kind : Kind
   pub is_kind : IsKindOf byte bytes kind
   pub refused : AllowsKind limits kind → ⊥
 
--- the bytes are these fields, one behind the other
+-- the bytes are these fields, one after the other
 pub record SpellFields (bytes : List ℕ) (fields : ChangeFields) : Type 0 where
   pub spelled : bytes ≡ big_bytes 8 fields.version ++ (counted fields.key.now ++ fields.carried.now)
   pub version_fits : fields.version < 2 ^ 64
   pub key_fits : length fields.key.now < 2 ^ 16
 
--- the bytes are no fields of a change, whatever its kind carries
+-- the bytes are not the fields of any change, whatever bytes its kind carries
 abbrev pub HasNoFields : List ℕ → Type 0
 HasNoFields bytes = (version : ℕ) (key carried : List ℕ) → version < 2 ^ 64 → length key < 2 ^ 16 → bytes ≢ big_bytes 8 version ++ (counted key ++ carried)
 
--- the fields of a change of the kind of this byte
+-- the bytes are these fields of a change whose kind has this byte
 pub record AreChangeFields (code : ℕ) (bytes : List ℕ) (fields : ChangeFields) : Type 0 where
   pub spelled : bytes ≡ big_bytes 8 fields.version ++ (counted fields.key.now ++ fields.carried.now)
   pub version_fits : fields.version < 2 ^ 64
@@ -150,7 +150,7 @@ pub record AreChangeFields (code : ℕ) (bytes : List ℕ) (fields : ChangeField
 
 -- ---- columns
 
--- so many columns are spelled so
+-- the bytes are the encodings of these columns, and there are `count` of them
 pub record AreSpelled (count : ℕ) (bytes : List ℕ) (columns : List (ℕ × List ℕ)) : Type 0 where
   pub number : length columns ≡ count
   pub spelled : bytes ≡ flat_map column_bytes columns
@@ -163,26 +163,26 @@ HasColumns count bytes = (columns : List (ℕ × List ℕ)) × AreSpelled count 
 abbrev pub AreSomeColumns : Limits → List (ℕ × List ℕ) → Type 0
 AreSomeColumns limits columns = AreColumns limits columns × (0 < length columns)
 
--- so many columns are spelled so, and this allows them
+-- the bytes are the encodings of `count` columns, and `Allows` holds for these
 pub record HasAllowedColumns (Allows : List (ℕ × List ℕ) → Type 0) (count : ℕ) (bytes : List ℕ) : Type 0 where
   pub columns : List (ℕ × List ℕ)
   pub spelled : AreSpelled count bytes columns
   pub allowed : Allows columns
 
--- so many columns are spelled so, and this does not allow them
+-- the fault is `Columns`: the bytes are the encodings of `count` columns, and `Allows` does not hold for these
 pub record IsColumnsFault (Allows : List (ℕ × List ℕ) → Type 0) (count : ℕ) (bytes : List ℕ) (what : What) : Type 0 where
   pub is_columns : what ≡ Columns
   pub columns : List (ℕ × List ℕ)
   pub spelled : AreSpelled count bytes columns
   pub refused : Allows columns → ⊥
 
--- the bytes are these column numbers, at least one, after their count
+-- the bytes are a count and then these column numbers: at least one, and allowed by the widest format
 pub record CarriesNumbers (bytes numbers : List ℕ) : Type 0 where
   pub lawful : AreNumbers widest numbers
   pub some : 0 < length numbers
   pub spelled : bytes ≡ kind_bytes (Erase numbers)
 
--- the bytes are these columns, at least one, after their count
+-- the bytes are a count and then these columns: at least one, and allowed by the widest format
 pub record CarriesColumns (bytes : List ℕ) (columns : List (ℕ × List ℕ)) : Type 0 where
   pub lawful : AreColumns widest columns
   pub some : 0 < length columns

@@ -1,4 +1,4 @@
--- What a body says, read back from its bytes.
+-- Decoding: what record the bytes of a body encode.
 use Rattle.std.specs.Prelude.{◌≡◌, ◌≤◌, ◌<◌, ◌^◌, ℕ, zero, suc, Bool, true, false, eqb, List, [], ◌∷◌, length, map, take, drop, slice_index, Option, Some, None, IfSome}
 use Rattle.std.specs.List.{AllByRecursion}
 use Rattle.byteorder.specs.Endian.{big_from}
@@ -19,23 +19,23 @@ use Rattle.mt_words.specs.Updates.{update_at}
 use Rattle.mt_record.specs.Spelling.{body}
 use Rattle.mt_record.specs.Bodies.{AreSpelled}
 
--- ---- the fields, wherever they stand
+-- ---- fields at the front of bytes
 
--- so many columns from the front
+-- decodes this many columns from the front
 abbrev pub columns_from : ℕ → List ℕ → List (ℕ × List ℕ)
 columns_from zero bytes = []
 columns_from (suc n) bytes =
     (slice_index bytes 0, take (big_from 0 2 (drop 1 bytes)) (drop 3 bytes)) ∷ columns_from n (drop (big_from 0 2 (drop 1 bytes)) (drop 3 bytes))
 
--- columns after their count
+-- decodes a count, then that many columns
 abbrev pub columns_counted : List ℕ → List (ℕ × List ℕ)
 columns_counted bytes = columns_from (slice_index bytes 0) (drop 1 bytes)
 
--- column numbers after their count
+-- decodes a count, then that many column numbers
 abbrev pub numbers_counted : List ℕ → List ℕ
 numbers_counted bytes = take (slice_index bytes 0) (drop 1 bytes)
 
--- the code of this byte; a remove's stands for that of any other byte, which is not looked at
+-- the code with this byte; any byte but those of `Whole`, `Put` and `Erase` gives `Remove`, unchecked
 abbrev pub code_from : ℕ → Code
 code_from byte = by (eqb byte (byte_of codes.Whole)) (eqb byte (byte_of codes.Put)) (eqb byte (byte_of codes.Erase))
   where
@@ -45,30 +45,30 @@ code_from byte = by (eqb byte (byte_of codes.Whole)) (eqb byte (byte_of codes.Pu
     by false false true = codes.Erase
     by false false false = codes.Remove
 
--- the kind of this code that carries the bytes
+-- the kind with this code that carries the bytes
 abbrev pub kind_from : Code → List ℕ → Kind
 kind_from codes.Whole bytes = Whole (columns_counted bytes)
 kind_from codes.Put bytes = Put (columns_counted bytes)
 kind_from codes.Remove bytes = Remove
 kind_from codes.Erase bytes = Erase (numbers_counted bytes)
 
--- the writes at the front, as many as counted
+-- decodes `count` writes from the front
 abbrev pub writes_from : Payload → ℕ → List ℕ → List Write
 writes_from payloads.Nothing count bytes = []
 writes_from payloads.Columns count bytes = map set (columns_from count bytes)
 writes_from payloads.Numbers count bytes = map erased (take count bytes)
 
--- the writes of a change that carries the bytes
+-- the writes of a change that carries the bytes: a count, then that many writes
 abbrev pub writes_carried : Payload → List ℕ → List Write
 writes_carried payload bytes = writes_from payload (slice_index bytes 0) (drop 1 bytes)
 
 -- ---- the fields of a body
 
--- it is a mark
+-- whether the body is that of a mark
 unfoldable pub is_mark_in : List ℕ → Bool
 is_mark_in bytes = eqb (slice_index bytes 0) 3
 
--- the code of its change
+-- the code of the body's change
 unfoldable pub code_in : List ℕ → Code
 code_in bytes = code_from (slice_index bytes 0)
 
@@ -85,7 +85,7 @@ unfoldable pub key_in : List ℕ → List ℕ
 unfolding key_length_in
 key_in bytes = take (key_length_in bytes) (drop 19 bytes)
 
--- what its kind carries
+-- the bytes that the change's kind carries: all bytes after the key
 unfoldable pub carried_in : List ℕ → List ℕ
 unfolding key_length_in
 carried_in bytes = drop (key_length_in bytes) (drop 19 bytes)
@@ -95,68 +95,68 @@ kind_in bytes = kind_from (code_in bytes) (carried_in bytes)
 
 -- ---- the record
 
--- the change that the body of a change says
+-- the change that the body of a change encodes
 abbrev pub change_in : List ℕ → Change
 change_in bytes = record { version = version_in bytes; key = key_in bytes; kind = kind_in bytes }
 
--- the update that it makes
+-- the update that the body of a change encodes, with this origin
 abbrev pub update_in : Origin → List ℕ → Update
 update_in origin bytes = update_at origin (time_in bytes) (change_in bytes)
 
--- none, where this is true
+-- `None` if this is true, else the change
 abbrev pub change_unless : Bool → Change → Option Change
 change_unless true change = None
 change_unless false change = Some change
 
--- the record that the bytes say
+-- the record that the bytes encode
 abbrev pub decode : List ℕ → Logged
 decode bytes = record { timestamp = time_in bytes; change = change_unless (is_mark_in bytes) (change_in bytes) }
 
--- what an update in memory may do: what is lawful, but its version may be 0, and it may write no column
+-- a sound change, which an update in memory may have: like a lawful one, but its version may be 0, and it may write no column
 pub record IsSound (change : Change) : Type 0 where
   pub version : change.version < 2 ^ 64
   pub key : IsKey widest change.key
   pub writes : AreWrites widest (writes_of change.kind)
 
--- The bytes are the body of a mark or of a change. That of an entry is spelled as a record of its kind would be.
+-- The bytes are the body of a mark or of a sound change. The body of an entry is encoded as a record of its kind would be.
 pub record IsBody (bytes : List ℕ) : Type 0 where
   pub time : time_in bytes < 2 ^ 64
   pub change : IfSome (decode bytes).change IsSound
   pub spelled : bytes ≡ body (decode bytes)
 
--- and it is no mark's
+-- the bytes are the body of a change, not of a mark
 abbrev pub IsChangeBody : List ℕ → Type 0
 IsChangeBody bytes = IsBody bytes × (is_mark_in bytes ≡ false)
 
--- and it is that of an entry, whose timestamp is not looked at
+-- the bytes are the body of a change with timestamp 0, as the body of an entry is
 pub record IsEntryBody (bytes : List ℕ) : Type 0 where
   pub change : IsChangeBody bytes
   pub no_time : time_in bytes ≡ 0
 
--- ---- writes that are lent
+-- ---- borrowed writes
 
--- so many lawful columns are spelled so
+-- the bytes are the encodings of `count` columns, each lawful in the widest format
 pub record AreLentColumns (count : ℕ) (bytes : List ℕ) : Type 0 where
   pub spelled : AreSpelled count bytes (columns_from count bytes)
   pub lawful : AllByRecursion (IsColumn widest) (columns_from count bytes)
 
--- lawful numbers, as many as counted
+-- the bytes are `count` column numbers, each lawful in the widest format
 pub record AreLentNumbers (count : ℕ) (bytes : List ℕ) : Type 0 where
   pub number : length bytes ≡ count
   pub lawful : AllByRecursion (λ number. number ≤ widest.column) bytes
 
--- lawful writes, as many as counted
+-- the bytes are `count` such writes of this payload; if the payload is `Nothing`, they may be any bytes
 abbrev pub AreLent : Payload → ℕ → List ℕ → Type 0
 AreLent payloads.Nothing count bytes = Unit {0}
 AreLent payloads.Columns count bytes = AreLentColumns count bytes
 AreLent payloads.Numbers count bytes = AreLentNumbers count bytes
 
--- lawful writes, after their count
+-- the bytes are a count, then that many such writes
 pub record AreCounted (payload : Payload) (bytes : List ℕ) : Type 0 where
   pub some : 0 < length bytes
   pub writes : AreLent payload (slice_index bytes 0) (drop 1 bytes)
 
--- what a change carries: nothing, or lawful writes after their count
+-- what a change with this payload carries: nothing, or a count and that many such writes
 abbrev pub IsCarried : Payload → List ℕ → Type 0
 IsCarried payloads.Nothing bytes = (bytes ≡ [])
 IsCarried payloads.Columns bytes = AreCounted payloads.Columns bytes

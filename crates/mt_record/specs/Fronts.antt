@@ -1,31 +1,31 @@
--- What bytes begin with, whatever it is that is spelled there.
+-- What bytes begin with, for any type that has an encoding.
 use Rattle.std.specs.Prelude.{◌≡◌, ◌≢◌, ◌<◌, ◌⊎◌, ℕ, Option, Some, None, Result, Ok, Err, List, [], ◌++◌, length}
 use Rattle.std.specs.Borrow.{Bor}
 use Rattle.mt_words.specs.declared.limits.Format.{Format}
 use Rattle.mt_words.specs.Limits.{magic}
 
--- of two lists of bytes one begins the other
+-- one of the two lists of bytes is a prefix of the other
 abbrev pub GoTogether : List ℕ → List ℕ → Type 0
 GoTogether a b = ((more : List ℕ) × (a ≡ b ++ more)) ⊎ ((more : List ℕ) × (b ≡ a ++ more))
 
--- the bytes begin with what files of some format begin with, or begin that
+-- the bytes begin with the magic of some format, or are a prefix of it
 abbrev pub GoesWithMagic : List ℕ → List ℕ → Type 0
 GoesWithMagic letters bytes = (format : Format) × GoTogether (magic letters format) bytes
 
--- the bytes of one of these, or none where there is none
+-- the encoding of the value, or no bytes if there is none
 abbrev pub bytes_of : {H : Type 0} → (H → List ℕ) → Option H → List ℕ
 bytes_of spelled None = []
 bytes_of spelled (Some head) = spelled head
 
--- none of these begins the bytes
+-- the bytes begin with the encoding of no value that satisfies `Is`
 abbrev pub NoneBegins : {H : Type 0} → (H → Type 0) → (H → List ℕ) → List ℕ → Type 0
 NoneBegins {H} Is spelled bytes = (head : H) (more : List ℕ) → Is head → bytes ≢ spelled head ++ more
 
--- none of these begins the bytes, nor do the bytes begin one
+-- the bytes neither begin with the encoding of such a value nor are a prefix of one
 abbrev pub ShowsNone : {H : Type 0} → (H → Type 0) → (H → List ℕ) → List ℕ → Type 0
 ShowsNone {H} Is spelled bytes = NoneBegins Is spelled bytes × ((head : H) (more : List ℕ) → Is head → spelled head ≢ bytes ++ more)
 
--- the bytes are the beginning of one of these, and not all of it
+-- the bytes are a proper prefix of the encoding of such a value
 pub record IsCutFront {H : Type 0} (Is : H → Type 0) (spelled : H → List ℕ) (bytes : List ℕ) : Type 0 where
   pub head : H
   pub more : List ℕ
@@ -33,7 +33,8 @@ pub record IsCutFront {H : Type 0} (Is : H → Type 0) (spelled : H → List ℕ
   pub some : 0 < length more
   pub begun : spelled head ≡ bytes ++ more
 
--- what was found at the front: the beginning of one of these, or one and what follows it, or that there is none
+-- What was found at the front. `Ok(None)`: a proper prefix of an encoding. `Ok(Some)`: a value, and the bytes after its encoding.
+-- `Err`: there is no such value, whatever bytes follow.
 abbrev pub FindsFront : {H E : Type 0} → (H → Type 0) → (H → List ℕ) → List ℕ → Result (Option (H × Bor (List ℕ))) E → Type 0
 FindsFront Is spelled bytes (Ok None) = IsCutFront Is spelled bytes
 FindsFront Is spelled bytes (Ok (Some x)) = Is x.0 × (bytes ≡ spelled x.0 ++ x.1.now)

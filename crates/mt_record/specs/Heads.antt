@@ -6,7 +6,7 @@ use Rattle.mt_words.specs.Limits.{magic}
 use Rattle.mt_record.specs.declared.head.Head.{Head}
 use Rattle.mt_record.specs.Fronts.{NoneBegins}
 
--- the header of a log of this format
+-- the header of a log with this format and this `from`
 abbrev pub head_of : Format → ℕ → Head
 head_of format from = record { format = format; from = from }
 
@@ -16,6 +16,6 @@ head_bytes head = magic (codes "MTL") head.format ++ big_bytes 8 head.from
 abbrev pub IsHead : Head → Type 0
 IsHead head = head.from < 2 ^ 64
 
--- no header begins the bytes
+-- the bytes begin with no header
 abbrev pub HasNoHeader : List ℕ → Type 0
 HasNoHeader bytes = NoneBegins IsHead head_bytes bytes

@@ -1,4 +1,4 @@
--- The one fault of bytes that are no log, and how want of memory is left open.
+-- The one fault of bytes that are not a log. Nothing is claimed about running out of memory.
 use Rattle.std.specs.Prelude.{◌≡◌, ◌≢◌, ℕ, ◌≤◌, ◌<◌, ◌^◌, List, ◌++◌, length, slice_index}
 use Rattle.std.specs.List.{flat_map}
 use Rattle.byteorder.specs.Endian.{big_bytes}
@@ -18,11 +18,11 @@ use Rattle.mt_record.specs.declared.head.Head.{Head}
 use Rattle.mt_record.specs.Heads.{IsHead, head_bytes, HasNoHeader}
 use Rattle.mt_record.specs.Logs.{AreRecords, latest, count_of}
 
--- the byte of a kind of record that a format has
+-- the byte is that of a kind of record that the format has
 abbrev pub IsKindByte : Limits → ℕ → Type 0
 IsKindByte limits byte = (1 ≤ byte) × (byte ≤ limits.kind)
 
--- The first of version, key and columns that a format does not allow.
+-- The first of version, key and columns that the format does not allow.
 abbrev pub HasVersionFault : Change → Type 0
 HasVersionFault change = change.version ≡ 0
 
@@ -34,7 +34,7 @@ pub record HasColumnsFault (limits : Limits) (change : Change) : Type 0 where
   pub key : IsKey limits change.key
   pub refused : AllowsKind limits change.kind → ⊥
 
--- the fields of the body are those of a change of which this holds
+-- the bytes are the body of a record, lawful or not, with a change for which `P` holds
 pub record IsBodyOfChange (bytes : List ℕ) (P : Change → Type 0) : Type 0 where
   pub timestamp : ℕ
   pub change : Change
@@ -42,14 +42,15 @@ pub record IsBodyOfChange (bytes : List ℕ) (P : Change → Type 0) : Type 0 wh
   pub spelled : bytes ≡ body (changed timestamp change)
   pub holds : P change
 
--- the body is that of a lawful record whose timestamp falls below the one before
+-- the bytes are the body of a lawful record whose timestamp is below `low`, that of the record before it
 pub record IsBodyOfEarlier (limits : Limits) (low : ℕ) (bytes : List ℕ) : Type 0 where
   pub logged : Logged
   pub lawful : IsLawful limits logged
   pub spelled : bytes ≡ body logged
   pub earlier : logged.timestamp < low
 
--- The first fault of a body behind a record of timestamp low. All but Kind: its byte is that of a kind that the format has. Frame: its bytes are the fields of no record of its kind.
+-- The first fault of a body after a record with timestamp `low`. For all but `Kind`, the format has the kind of the first byte.
+-- `Frame`: the bytes are the body of no record, lawful or not.
 abbrev pub BodyFault : What → Limits → ℕ → List ℕ → Type 0
 BodyFault Length limits low bytes = ⊥
 BodyFault Trailer limits low bytes = ⊥
@@ -60,7 +61,7 @@ BodyFault Key limits low bytes = IsKindByte limits (slice_index bytes 0) × IsBo
 BodyFault Columns limits low bytes = IsKindByte limits (slice_index bytes 0) × IsBodyOfChange bytes (HasColumnsFault limits)
 BodyFault Clock limits low bytes = IsKindByte limits (slice_index bytes 0) × IsBodyOfEarlier limits low bytes
 
--- a length stands at the front that nothing framed has
+-- the bytes begin with a length that is not allowed
 pub record HasLengthFault (IsLength : ℕ → Type 0) (rest : List ℕ) : Type 0 where
   pub number : ℕ
   pub more : List ℕ
@@ -68,7 +69,7 @@ pub record HasLengthFault (IsLength : ℕ → Type 0) (rest : List ℕ) : Type 0
   pub spelled : rest ≡ big_bytes 4 number ++ more
   pub wrong : IsLength number → ⊥
 
--- a length, so many bytes and a number stand at the front
+-- the bytes begin with an allowed length, that many bytes, and a number
 pub record HasFrame (IsLength : ℕ → Type 0) (rest : List ℕ) : Type 0 where
   pub body : List ℕ
   pub number : ℕ
@@ -77,11 +78,11 @@ pub record HasFrame (IsLength : ℕ → Type 0) (rest : List ℕ) : Type 0 where
   pub fits : number < 2 ^ 32
   pub spelled : rest ≡ big_bytes 4 (length body) ++ (body ++ (big_bytes 4 number ++ more))
 
--- the number is not the length
+-- the bytes begin with such a length, bytes and number, but the number is not the length
 abbrev pub HasTrailerFault : (ℕ → Type 0) → List ℕ → Type 0
 HasTrailerFault IsLength rest = (frame : HasFrame IsLength rest) × (frame.number ≢ length frame.body)
 
--- the fault of a body that is framed
+-- the bytes begin with a framed body of an allowed length, and the body has this fault
 pub record HasBodyFault (what : What) (limits : Limits) (low : ℕ) (rest : List ℕ) : Type 0 where
   pub body : List ℕ
   pub more : List ℕ
@@ -89,13 +90,13 @@ pub record HasBodyFault (what : What) (limits : Limits) (low : ℕ) (rest : List
   pub spelled : rest ≡ framed body ++ more
   pub fault : BodyFault what limits low body
 
--- the first fault of what follows the records
+-- the first fault of the bytes after the records
 abbrev pub RestFault : What → Limits → ℕ → List ℕ → Type 0
 RestFault Length limits low rest = HasLengthFault (IsRecordLength limits) rest
 RestFault Trailer limits low rest = HasTrailerFault (IsRecordLength limits) rest
 RestFault what limits low rest = HasBodyFault what limits low rest
 
--- a header and these records begin the bytes, and then a fault follows
+-- the bytes begin with a header and these records, and what follows has this fault
 pub record HasFault (bytes : List ℕ) (records : List Logged) (what : What) : Type 0 where
   pub head : Head
   pub rest : List ℕ
@@ -104,28 +105,28 @@ pub record HasFault (bytes : List ℕ) (records : List Logged) (what : What) : T
   pub lawful : AreRecords (limits_of head.format) 0 records
   pub fault : RestFault what (limits_of head.format) (latest 0 records) rest
 
--- a header and records of this number begin the bytes, and then a fault follows
+-- the bytes begin with a header and `nth` records, as far as a u64 counts, and what follows has this fault
 pub record IsRecordFault (bytes : List ℕ) (nth : ℕ) (what : What) : Type 0 where
   pub records : List Logged
   pub fault : HasFault bytes records what
   pub number : nth ≡ count_of records
 
--- the fault of the bytes, which are no log: want of memory is none
+-- the fault of bytes that are not a log, which is never `Memory`
 abbrev pub IsLogFault : List ℕ → FeedFault → Type 0
 IsLogFault bytes faults.Header = HasNoHeader bytes
 IsLogFault bytes (faults.Record nth what) = IsRecordFault bytes nth what
 IsLogFault bytes faults.Memory = ⊥
 
--- the fault of recovery that the fault of a log is
+-- the fault of this log as a fault of recovery
 abbrev pub fault_at : ℕ → FeedFault → Fault
 fault_at log faults.Header = of_all.Header log
 fault_at log (faults.Record nth what) = of_all.Record log nth what
 fault_at log faults.Memory = of_all.Memory
 
--- this holds of the fault, unless it is want of memory, of which nothing is said
+-- `P` holds for the fault, unless the fault is `memory`, that is out of memory; then nothing is claimed
 abbrev pub OrMemory : {F : Type 0} → F → (F → Type 0) → F → Type 0
 OrMemory memory P fault = fault ≢ memory → P fault
 
--- a fault that was answered is that of the bytes
+-- a returned fault is the fault of the bytes, unless it is `Memory`
 abbrev pub IsAnswered : List ℕ → FeedFault → Type 0
 IsAnswered bytes = OrMemory faults.Memory (IsLogFault bytes)

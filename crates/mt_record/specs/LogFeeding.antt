@@ -1,4 +1,4 @@
--- A log in pieces: what a feed has read, and which faults the bytes so far show.
+-- A log in chunks: what a feed has read, and which faults the bytes so far show.
 use Rattle.std.specs.Prelude.{◌≡◌, ℕ, ◌⊎◌, Option, Some, None, MatchOption, Result, List, [], ◌++◌}
 use Rattle.std.specs.Borrow.{Bor}
 use Rattle.std.specs.List.{flat_map}
@@ -18,32 +18,33 @@ use Rattle.mt_record.specs.Feeding.{Steps, Fed, IsFedBy}
 
 -- ---- what was read
 
--- what was read of a log: its header, if that is whole; the records that were not yet taken; the timestamp of the last one; how many there are
+-- What was read of a log: its header, if complete, and the records not yet taken.
+-- `latest` is the timestamp of the last record, and `whole` the number of records; both include the records taken.
 pub record LogSoFar : Type 0 where
   pub head : Option Head
   pub ready : List Logged
   pub latest : ℕ
   pub whole : ℕ
 
--- the bytes are what was read: a header and records, of which these were taken, or nothing
+-- the bytes read are a header and lawful records, or nothing; the records are those taken and then those not yet taken
 pub record HoldsLog (taken : List Logged) (so_far : LogSoFar) (front : List ℕ) : Type 0 where
   pub spelled : front ≡ bytes_of head_bytes so_far.head ++ flat_map spelling (taken ++ so_far.ready)
   pub lawful : MatchOption so_far.head (taken ++ so_far.ready ≡ []) (λ head. IsHead head × AreRecords (limits_of head.format) 0 (taken ++ so_far.ready))
   pub latest : so_far.latest ≡ latest 0 (taken ++ so_far.ready)
   pub whole : so_far.whole ≡ count_of (taken ++ so_far.ready)
 
--- a rest from which nothing more can be read, and which shows no fault
+-- nothing more can be read from the rest, and it shows no fault
 abbrev pub IsLogLeft : LogSoFar → List ℕ → Type 0
 IsLogLeft so_far rest = MatchOption so_far.head (IsCutFront IsHead head_bytes rest) (λ head. (rest ≡ []) ⊎ IsTorn (limits_of head.format) rest)
 
--- behind the records so far, which have this number, a rest has this fault
+-- after the records so far, `nth` of them, the rest has this fault
 pub record IsFaultBehind (so_far : LogSoFar) (nth : ℕ) (what : What) (rest : List ℕ) : Type 0 where
   pub head : Head
   pub begun : so_far.head ≡ Some head
   pub number : nth ≡ so_far.whole
   pub fault : RestFault what (limits_of head.format) so_far.latest rest
 
--- a rest that shows the fault, however it goes on
+-- the rest shows the fault, whatever bytes follow; for `Memory` nothing is required
 abbrev pub IsLogFaulty : LogSoFar → FeedFault → List ℕ → Type 0
 IsLogFaulty so_far faults.Header rest = (so_far.head ≡ None) × ShowsNone IsHead head_bytes rest
 IsLogFaulty so_far (faults.Record nth what) rest = IsFaultBehind so_far nth what rest
@@ -51,13 +52,13 @@ IsLogFaulty so_far faults.Memory rest = Unit {0}
 
 -- ---- faults that are shown
 
--- the bytes so far show the fault, however they go on
+-- the bytes so far show the fault, whatever bytes follow; they never show `Memory`
 abbrev pub ShowsFault : List ℕ → FeedFault → Type 0
 ShowsFault bytes faults.Header = ShowsNone IsHead head_bytes bytes
 ShowsFault bytes (faults.Record nth what) = IsLogFault bytes (faults.Record nth what)
 ShowsFault bytes faults.Memory = ⊥
 
--- a fault that a feed answered is shown
+-- the bytes show the fault that a feed returned, unless it is `Memory`
 abbrev pub IsShown : List ℕ → FeedFault → Type 0
 IsShown bytes = OrMemory faults.Memory (ShowsFault bytes)
 
@@ -66,7 +67,7 @@ ShowsNoFault bytes = (fault : FeedFault) → ShowsFault bytes fault → ⊥
 
 -- ---- items
 
--- what was read, as contracts see it; the records are those that are told of what they were put into
+-- what was read, as contracts see it; `listed` gives the records in the collection that the feed fills
 abbrev pub log_so_far : {R : Type 0} → (R → List Logged) → LogItems R → LogSoFar
 log_so_far listed items = record { head = items.head; ready = listed items.ready; latest = items.latest; whole = items.whole }
 
@@ -77,10 +78,10 @@ StepsLog listed old new bytes answer =
 
 -- ---- feeds
 
--- what a contract sees of a feed
+-- what contracts see of a log's feed
 abbrev pub FedLog : Type 0
 FedLog = Fed LogSoFar FeedFault
 
--- a feed that was fed these bytes, and from which these records were taken
+-- the feed was fed these bytes, and these records were taken from it
 abbrev pub IsLogFed : FedLog → List ℕ → List Logged → Type 0
 IsLogFed feed bytes taken = IsFedBy (HoldsLog taken) IsLogLeft IsLogFaulty feed.so_far feed.held feed.fault bytes

@@ -1,4 +1,4 @@
--- Which bytes are a log, what it says, and its last timestamp.
+-- Which bytes are a log, what the log contains, and its last timestamp.
 use Rattle.std.specs.Prelude.{◌≡◌, ℕ, ◌+◌, ◌-◌, ◌≤◌, ◌<◌, ◌^◌, ◌↔◌, ◌⊎◌, min, Bool, IsTrue, List, [], ◌∷◌, ◌++◌, length, map, Contains, All, Vec}
 use Rattle.std.specs.Global.{Global}
 use Rattle.std.specs.List.{flat_map}
@@ -11,17 +11,17 @@ use Rattle.mt_record.specs.Spelling.{spelling, IsRecordLength}
 use Rattle.mt_record.specs.declared.head.Head.{Head}
 use Rattle.mt_record.specs.Heads.{IsHead, head_bytes}
 
--- lawful records whose timestamps never fall, from low on
+-- lawful records whose timestamps are at least `low` and never fall
 abbrev pub AreRecords : Limits → ℕ → List Logged → Type 0
 AreRecords limits low [] = Unit {0}
 AreRecords limits low (r ∷ rs) = IsLawful limits r × (low ≤ r.timestamp) × AreRecords limits r.timestamp rs
 
--- the timestamp of the last record, or low where there is none
+-- the timestamp of the last record, or `low` if there is none
 abbrev pub latest : ℕ → List Logged → ℕ
 latest low [] = low
 latest low (r ∷ rs) = latest r.timestamp rs
 
--- a lawful length, and fewer bytes than it asks for
+-- an allowed length, followed by fewer bytes than the body and the second length need
 pub record IsCutFrame (IsLength : ℕ → Type 0) (rest : List ℕ) : Type 0 where
   pub number : ℕ
   pub more : List ℕ
@@ -29,11 +29,11 @@ pub record IsCutFrame (IsLength : ℕ → Type 0) (rest : List ℕ) : Type 0 whe
   pub spelled : rest ≡ big_bytes 4 number ++ more
   pub short : length more < number + 4
 
--- the beginning of something framed: one to three bytes, or a lawful length and too few bytes
+-- the beginning of a frame: one to three bytes, or an allowed length and too few bytes after it
 abbrev pub IsCut : (ℕ → Type 0) → List ℕ → Type 0
 IsCut IsLength rest = ((0 < length rest) × (length rest < 4)) ⊎ IsCutFrame IsLength rest
 
--- a torn tail: the beginning of a record, of which no more than the length is looked at
+-- a torn tail: the beginning of a record; only its length is checked
 abbrev pub IsTorn : Limits → List ℕ → Type 0
 IsTorn limits rest = IsCut (IsRecordLength limits) rest
 
@@ -44,7 +44,7 @@ pub record IsLog (bytes : List ℕ) (head : Head) (records : List Logged) (tail 
   pub lawful : AreRecords (limits_of head.format) 0 records
   pub ends : (tail ≡ []) ⊎ IsTorn (limits_of head.format) tail
 
--- what a log says
+-- what a log contains, and whether its tail is torn
 pub record LogReading : Type 0 where
   pub head : Head
   pub records : List Logged
@@ -63,11 +63,11 @@ times_of log = log.head.from ∷ map (λ r. r.timestamp) log.records
 abbrev pub IsLast : LogReading → ℕ → Type 0
 IsLast log n = Contains (times_of log) n × All (λ time. time ≤ n) (times_of log)
 
--- how many records there are, as far as a u64 counts
+-- the number of records, or 2^64 - 1 if there are more
 abbrev pub count_of : List Logged → ℕ
 count_of records = min (length records) (2 ^ 64 - 1)
 
--- the text shows what the log says, of which these records were taken before; those of the text are told of what they were put into
+-- the `LogText` agrees with the log; its own records, as `listed` gives them, come after those taken before
 pub record ShowsIn {R : Type 0} (listed : R → List Logged) (taken : List Logged) (text : LogText R) (log : LogReading) : Type 0 where
   pub from : text.from ≡ log.head.from
   pub last : IsLast log text.last
@@ -75,20 +75,20 @@ pub record ShowsIn {R : Type 0} (listed : R → List Logged) (taken : List Logge
   pub whole : text.whole ≡ count_of log.records
   pub torn : text.torn ≡ log.torn
 
--- the text of the log that the bytes are, of which these records were taken before
+-- the bytes are a log, and the `LogText` agrees with it, after the records taken before
 pub record IsTextIn {R : Type 0} (listed : R → List Logged) (taken : List Logged) (bytes : List ℕ) (text : LogText R) : Type 0 where
   pub log : LogReading
   pub is_reading : IsReading bytes log
   pub shows : ShowsIn listed taken text log
 
--- those of a text with a vector of records
+-- the same for a `LogText` with a vector of records
 abbrev pub IsTextAfter : List Logged → List ℕ → LogText (Vec Logged Global) → Type 0
 IsTextAfter taken bytes text = IsTextIn (λ records. records.items) taken bytes text
 
--- the text of the log that the bytes are
+-- the same if no records were taken before
 abbrev pub IsTextOf : List ℕ → LogText (Vec Logged Global) → Type 0
 IsTextOf bytes text = IsTextAfter [] bytes text
 
--- and that whose records are kept as bodies
+-- the bytes are a log, and the `LogText`, whose records are kept as bodies, agrees with it
 abbrev pub IsKeptTextOf : List ℕ → LogText (List Logged) → Type 0
 IsKeptTextOf bytes text = IsTextIn (λ records. records) [] bytes text

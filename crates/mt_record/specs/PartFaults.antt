@@ -1,4 +1,4 @@
--- The one fault of bytes that are no part of a checkpoint.
+-- The one fault of bytes that are not a part of a checkpoint.
 use Rattle.std.specs.Prelude.{◌≡◌, ℕ, List, ◌++◌, length}
 use Rattle.std.specs.List.{flat_map, AllByRecursion}
 use Rattle.mt_words.specs.declared.record.Change.{Change}
@@ -12,21 +12,21 @@ use Rattle.mt_record.specs.Fronts.{NoneBegins}
 use Rattle.mt_record.specs.Parts.{part_head_bytes, IsPartHead, entry_spelling, PartReading, IsPartReading}
 use Rattle.mt_record.specs.LogFaults.{OrMemory}
 
--- no header of a part begins the bytes
+-- the bytes begin with no header of a part
 abbrev pub HasNoPartHeader : List ℕ → Type 0
 HasNoPartHeader bytes = NoneBegins IsPartHead part_head_bytes bytes
 
--- no entry begins the bytes
+-- the bytes begin with no lawful entry
 abbrev pub HasNoEntry : Limits → List ℕ → Type 0
 HasNoEntry limits bytes = NoneBegins (IsEntry limits) entry_spelling bytes
 
--- the bytes begin with a header and these whole entries, and the rest follows
+-- the bytes are this header, these lawful entries, and then the rest
 pub record BeginsPart (bytes : List ℕ) (head : PartHead) (entries : List Change) (rest : List ℕ) : Type 0 where
   pub spelled : bytes ≡ part_head_bytes head ++ (flat_map entry_spelling entries ++ rest)
   pub is_head : IsPartHead head
   pub lawful : AllByRecursion (IsEntry (limits_of head.format)) entries
 
--- the bytes begin with the header of a part of the checkpoint of this number, and with so many whole entries
+-- the bytes begin with the header of a part of checkpoint `number`, and then `count` lawful entries
 pub record BeginsPartOf (bytes : List ℕ) (number count : ℕ) : Type 0 where
   pub head : PartHead
   pub entries : List Change
@@ -35,18 +35,18 @@ pub record BeginsPartOf (bytes : List ℕ) (number count : ℕ) : Type 0 where
   pub named : number ≡ head.number
   pub counted : count ≡ length entries
 
--- the bytes are no part, but begin so, with no entry more
+-- the bytes begin like that, with no further entry, and are not a part
 pub record IsBroken (bytes : List ℕ) (number count : ℕ) : Type 0 where
   pub front : BeginsPartOf bytes number count
   pub no_entry : HasNoEntry (limits_of front.head.format) front.rest
   pub no_part : (part : PartReading) → IsPartReading bytes part → ⊥
 
--- the fault of the bytes, which are no part: want of memory is none
+-- the fault of bytes that are not a part, which is never `Memory`
 abbrev pub IsPartFault : List ℕ → PartFault → Type 0
 IsPartFault bytes faults.Header = HasNoPartHeader bytes
 IsPartFault bytes (faults.Broken number entries) = IsBroken bytes number entries
 IsPartFault bytes faults.Memory = ⊥
 
--- a fault that was answered is that of the bytes
+-- a returned fault is the fault of the bytes, unless it is `Memory`
 abbrev pub IsPartAnswered : List ℕ → PartFault → Type 0
 IsPartAnswered bytes = OrMemory faults.Memory (IsPartFault bytes)

@@ -1,4 +1,4 @@
--- Parts of checkpoints: how they are spelled, and which bytes are a part.
+-- Parts of checkpoints: how they are encoded, and which bytes are a part.
 use Rattle.std.specs.Prelude.{◌≡◌, ℕ, ◌≤◌, ◌<◌, ◌^◌, List, ◌++◌, length, codes}
 use Rattle.std.specs.List.{flat_map, AllByRecursion}
 use Rattle.byteorder.specs.Endian.{big_bytes}
@@ -11,7 +11,7 @@ use Rattle.mt_record.specs.declared.part_text.PartHead.{PartHead}
 use Rattle.mt_record.specs.declared.part_text.PartText.{PartText}
 use Rattle.mt_record.specs.Spelling.{change_bytes, framed, longest_change}
 
--- the header of a part: the number of its checkpoint, where that begins, the part's own number, and how many parts there are
+-- the header of a part: its format, the number and the begin of its checkpoint, the part's own number, and the number of parts
 abbrev pub part_head : Format → ℕ → ℕ → ℕ → ℕ → PartHead
 part_head format number begin part parts = record { format = format; number = number; begin = begin; part = part; parts = parts }
 
@@ -24,23 +24,23 @@ pub record IsPartHead (head : PartHead) : Type 0 where
   pub part : head.part < 2 ^ 16
   pub parts : head.parts < 2 ^ 16
 
--- the spelling of an entry: its change between two copies of its length
+-- the encoding of an entry: the fields of its change in a frame
 abbrev pub entry_spelling : Change → List ℕ
 entry_spelling change = framed (change_bytes change)
 
--- the length that an entry may have: from that of the empty key with an empty column on
+-- an entry may have this length: from that of an empty key with one empty column to that of the longest change
 abbrev pub IsEntryLength : Limits → ℕ → Type 0
 IsEntryLength limits n = (14 ≤ n) × (n ≤ longest_change limits)
 
--- what ends a part: a length of zero, where its checkpoint ends, and how many entries the part has
+-- the footer of a part: a length of zero, where its checkpoint ends, and the number of entries
 abbrev pub footer_bytes : ℕ → ℕ → List ℕ
 footer_bytes end count = big_bytes 4 0 ++ (big_bytes 8 end ++ big_bytes 4 count)
 
--- a header, lawful entries, and a footer with their number
+-- the bytes of a header, entries, and a footer with the number of entries
 abbrev pub part_bytes : PartHead → List Change → ℕ → List ℕ
 part_bytes head entries end = part_head_bytes head ++ (flat_map entry_spelling entries ++ footer_bytes end (length entries))
 
--- a part: just such bytes, and no more
+-- the bytes are a part: exactly such bytes, with a lawful header, lawful entries, and numbers that fit the footer
 pub record IsPart (bytes : List ℕ) (head : PartHead) (entries : List Change) (end : ℕ) : Type 0 where
   pub spelled : bytes ≡ part_bytes head entries end
   pub is_head : IsPartHead head
@@ -48,7 +48,7 @@ pub record IsPart (bytes : List ℕ) (head : PartHead) (entries : List Change) (
   pub fits : end < 2 ^ 64
   pub count : length entries < 2 ^ 32
 
--- what a part says, in whatever format
+-- what a part contains, whatever its format
 pub record PartReading : Type 0 where
   pub number : ℕ
   pub begin : ℕ
@@ -60,10 +60,10 @@ pub record PartReading : Type 0 where
 abbrev pub IsPartReading : List ℕ → PartReading → Type 0
 IsPartReading bytes part = (format : Format) × IsPart bytes (part_head format part.number part.begin part.part part.parts) part.entries part.end
 
--- what the text of a part shows; the entries are those that are told of what they were put into
+-- what a `PartText` contains; `listed` gives the entries in the collection that was filled
 abbrev pub shown_in : {E : Type 0} → (E → List Change) → PartText E → PartReading
 shown_in listed text = record { number = text.number; begin = text.begin; part = text.part; parts = text.parts; entries = listed text.entries; end = text.end }
 
--- the text of the part that the bytes are
+-- the bytes are a part, and the `PartText` agrees with it
 abbrev pub IsPartText : {E : Type 0} → (E → List Change) → List ℕ → PartText E → Type 0
 IsPartText listed bytes text = IsPartReading bytes (shown_in listed text)

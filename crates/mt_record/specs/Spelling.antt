@@ -1,4 +1,4 @@
--- How records are spelled.
+-- How records are encoded.
 use Rattle.std.specs.Prelude.{ℕ, suc, ◌+◌, ◌*◌, ◌≤◌, ◌<◌, ◌^◌, List, [], ◌∷◌, ◌++◌, length, Option, Some, None, IfSome}
 use Rattle.std.specs.List.{flat_map, AllByRecursion}
 use Rattle.byteorder.specs.Endian.{big_bytes}
@@ -10,11 +10,11 @@ use Rattle.mt_words.specs.declared.limits.Limits.{Limits}
 use Rattle.mt_words.specs.Codes.{code_of, byte_of}
 use Rattle.mt_words.specs.Changes.{Logged, IsLogged}
 
--- bytes behind their length
+-- bytes after their two-byte length
 abbrev pub counted : List ℕ → List ℕ
 counted bytes = big_bytes 2 (length bytes) ++ bytes
 
--- a column's number, and its counted bytes
+-- the encoding of a column: its number, and its counted value
 abbrev pub column_bytes : ℕ × List ℕ → List ℕ
 column_bytes column = column.0 ∷ counted column.1
 
@@ -22,18 +22,18 @@ column_bytes column = column.0 ∷ counted column.1
 abbrev pub kind_byte : Kind → ℕ
 kind_byte kind = byte_of (code_of kind)
 
--- what a kind carries: a put and a whole their columns after the count of them, an erase its column numbers after theirs, a remove nothing
+-- what a kind carries: for a put or a `Whole` a count and the columns, for an erase a count and the column numbers, for a remove nothing
 abbrev pub kind_bytes : Kind → List ℕ
 kind_bytes (Put columns) = length columns ∷ flat_map column_bytes columns
 kind_bytes Remove = []
 kind_bytes (Whole columns) = length columns ∷ flat_map column_bytes columns
 kind_bytes (Erase numbers) = length numbers ∷ numbers
 
--- the version, the counted key, and what the kind carries
+-- the fields of a change: its version, its counted key, and what its kind carries
 abbrev pub change_bytes : Change → List ℕ
 change_bytes change = big_bytes 8 change.version ++ (counted change.key ++ kind_bytes change.kind)
 
--- the byte of the kind, the timestamp, and the change, if there is one; a mark has the byte 3
+-- the body of a record: the byte of its kind, its timestamp, and the fields of its change; a mark has byte 3 and no change
 abbrev pub body_of : ℕ → Option Change → List ℕ
 body_of timestamp None = 3 ∷ big_bytes 8 timestamp
 body_of timestamp (Some change) = kind_byte change.kind ∷ (big_bytes 8 timestamp ++ change_bytes change)
@@ -41,23 +41,23 @@ body_of timestamp (Some change) = kind_byte change.kind ∷ (big_bytes 8 timesta
 abbrev pub body : Logged → List ℕ
 body r = body_of r.timestamp r.change
 
--- bytes between two copies of their length
+-- a frame: the bytes between two copies of their four-byte length
 abbrev pub framed : List ℕ → List ℕ
 framed bytes = big_bytes 4 (length bytes) ++ (bytes ++ big_bytes 4 (length bytes))
 
--- the spelling of a record
+-- the encoding of a record: its body in a frame
 abbrev pub spelling : Logged → List ℕ
 spelling r = framed (body r)
 
--- the length of the greatest change: a put of the longest key and of all columns, each as long as can be
+-- the length of the longest change: a put with the longest key and all columns, each with the longest value
 abbrev pub longest_change : Limits → ℕ
 longest_change limits = 11 + limits.key + suc limits.column * (3 + LONGEST_VALUE)
 
--- and of its body: the byte of the kind and the timestamp stand before it
+-- the length of the longest body: the byte of the kind and the timestamp come before the change
 abbrev pub longest_record : Limits → ℕ
 longest_record limits = 9 + longest_change limits
 
--- the length that a body may have: from that of a mark on
+-- a body may have this length: from that of a mark to that of the longest body
 abbrev pub IsRecordLength : Limits → ℕ → Type 0
 IsRecordLength limits n = (9 ≤ n) × (n ≤ longest_record limits)
 
@@ -77,7 +77,7 @@ pub record FitsChange (change : Change) : Type 0 where
   pub key : length change.key < 2 ^ 16
   pub kind : FitsKind change.kind
 
--- a change of a kind that log records have
+-- a change that fits its fields, of a kind that log records have
 abbrev pub FitsLogged : Change → Type 0
 FitsLogged change = FitsChange change × IsLogged change.kind
 
