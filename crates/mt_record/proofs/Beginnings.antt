@@ -1,4 +1,4 @@
--- What texts begin with: a header, or bytes that begin one.
+-- What inputs begin with: a header, or a prefix of one.
 use Rattle.std.proofs.Common.{◌≡◌, ◌≢◌, inl, inr, ℕ, ◌<◌, Bool, true, false, List, [], ◌∷◌, ◌++◌, length, take, drop, replicate, refl, sym, ap, ◌∙◌, subst, append_assoc, arith}
 use Rattle.std.proofs.lemmas.List.{length-append, append-nil, nil_from_length, take-append-drop, length-take-le, length-replicate}
 use Rattle.std.proofs.lemmas.Bool.{false≢true}
@@ -14,14 +14,14 @@ use Rattle.mt_record.specs.Heads.{IsHead, head_bytes}
 use Rattle.mt_record.proofs.Feeds.{apart}
 use Rattle.mt_record.proofs.Numbers.{AreBytes, bytes_front, bytes_back, bytes_padded, eight}
 
--- ---- fronts, whatever is spelled there
+-- ---- prefixes, for any type that has an encoding
 
--- one that does not begin the bytes has more
+-- if the bytes begin with no encoding, but are a prefix of one, the prefix is proper
 lacks : {H : Type 0} (Is : H → Type 0) (spelled : H → List ℕ) (head : H) (bytes more : List ℕ) → Is head → NoneBegins Is spelled bytes → spelled head ≡ bytes ++ more → 0 < length more
 lacks Is spelled head bytes [] is none e = absurd (none head [] is (sym (append-nil bytes) ∙ sym e ∙ sym (append-nil (spelled head))))
 lacks Is spelled head bytes (x ∷ more) is none e = omega arith
 
--- bytes that are only the beginning of one begin with none, where all are of one length
+-- if all encodings have the same length, a proper prefix of one begins with none
 pub cut_none : {H : Type 0} (Is : H → Type 0) (spelled : H → List ℕ) (size : ℕ) → ((head : H) → length (spelled head) ≡ size) → (bytes : List ℕ) → IsCutFront Is spelled bytes
     → NoneBegins Is spelled bytes
 cut_none Is spelled size long bytes cut other rest too f =
@@ -29,7 +29,8 @@ cut_none Is spelled size long bytes cut other rest too f =
     let front = ap length f ∙ length-append (spelled other) rest in
     omega (arith, whole, front, cut.some, long cut.head, long other)
 
--- where all begin with letters and the digit of a format, bytes that do not go with those show that there is none
+-- Bytes go with a magic if they begin with it or are a prefix of it.
+-- If every encoding begins with a magic, bytes that go with no magic show that there is none.
 pub shows_none : {H : Type 0} (Is : H → Type 0) (spelled : H → List ℕ) (letters : List ℕ) (format_of : H → Format)
     → ((head : H) → (rest : List ℕ) × (spelled head ≡ magic letters (format_of head) ++ rest)) → (bytes : List ℕ) → (GoesWithMagic letters bytes → ⊥) → ShowsNone Is spelled bytes
 shows_none Is spelled letters format_of begins bytes not_so = (
@@ -42,14 +43,14 @@ shows_none Is spelled letters format_of begins bytes not_so = (
       not_so (format_of head, apart (magic letters (format_of head)) bytes begin.0 more (sym begin.1 ∙ e)),
 )
 
--- Where so many bytes behind the digit are the rest of one, bytes that go with letters and a digit begin as one does.
+-- If a magic followed by any `size` bytes is an encoding, bytes that go with a magic go with an encoding.
 module _ {H : Type 0} (Is : H → Type 0) (spelled : H → List ℕ) (letters : List ℕ) (size : ℕ)
     (whole : (format : Format) (xs : List ℕ) → length xs ≡ size → AreBytes xs → (head : H) × Is head × (spelled head ≡ magic letters format ++ xs)) where
-  -- one that begins as the bytes do: with all of them, or with as many as it has
+  -- the bytes go with an encoding: they begin with it or are a prefix of it
   abbrev BeginsAlike : List ℕ → Type 0
   BeginsAlike bytes = (head : H) × Is head × GoTogether (spelled head) bytes
 
-  -- letters, a digit and a tail that begin as the bytes do, or are some more of them, begin one when zeros follow
+  -- if the bytes are a prefix of a magic and a tail, they go with an encoding: zeros complete the tail
   tail_alike : (format : Format) (bytes tail more : List ℕ) → magic letters format ++ tail ≡ bytes ++ more → AreBytes tail → BeginsAlike bytes
   tail_alike format bytes tail more e small =
       let first = magic letters format in
@@ -67,7 +68,7 @@ module _ {H : Type 0} (Is : H → Type 0) (spelled : H → List ℕ) (letters : 
   alike bytes (format, inr u) small =
       tail_alike format bytes u.0 [] (sym u.1 ∙ sym (append-nil bytes)) (bytes_back (magic letters format) u.0 (subst AreBytes u.1 small))
 
-  -- so that they are the beginning of one where they begin with none
+  -- so bytes that go with a magic and begin with no encoding are a proper prefix of one
   pub cut_front : (bytes : List ℕ) → GoesWithMagic letters bytes → AreBytes bytes → NoneBegins Is spelled bytes → IsCutFront Is spelled bytes
   cut_front bytes goes small none =
       let one = alike bytes goes small in
@@ -76,25 +77,25 @@ module _ {H : Type 0} (Is : H → Type 0) (spelled : H → List ℕ) (letters : 
         | inr u ↦ absurd (none one.0 u.0 one.1 u.1)
       ]
 
--- ---- letters and a digit
+-- ---- magics: letters and a digit
 
--- letters begin bytes that begin with them and the digit of a format
+-- bytes that begin with a magic begin with its letters and then its digit
 pub letters_begin : (letters bytes more : List ℕ) (format : Format) → bytes ≡ magic letters format ++ more → bytes ≡ letters ++ ((limits_of format).digit ∷ more)
 letters_begin letters bytes more format e = e ∙ append_assoc letters ((limits_of format).digit ∷ []) more
 
--- bytes behind letters and a digit
+-- bytes that begin with letters and then the digit of a format begin with a magic
 pub behind_digit : (letters bytes rest after : List ℕ) (digit : ℕ) (format : Format) → bytes ≡ letters ++ rest → rest ≡ digit ∷ after → (limits_of format).digit ≡ digit
     → bytes ≡ magic letters format ++ after
 behind_digit letters bytes rest after digit format e tail same =
     e ∙ ap (λ (x : List ℕ). letters ++ x) (tail ∙ ap (λ (n : ℕ). n ∷ after) (sym same)) ∙ sym (append_assoc letters ((limits_of format).digit ∷ []) after)
 
--- what letters begin with begins letters and a digit
+-- a prefix of the letters goes with a magic
 letters_go : (letters bytes more : List ℕ) → letters ≡ bytes ++ more → GoesWithMagic letters bytes
 letters_go letters bytes more e =
     let digit = (limits_of widest_format).digit ∷ [] in
     (widest_format, inl (more ++ digit, ap (λ (x : List ℕ). x ++ digit) e ∙ append_assoc bytes more digit))
 
--- bytes that begin with no letters and digit, and do not begin the letters, do not go with them
+-- bytes that begin with no magic and are no prefix of the letters go with no magic
 goes_not : (letters bytes : List ℕ) → ((format : Format) (more : List ℕ) → bytes ≢ magic letters format ++ more) → ((rest : List ℕ) → letters ≢ bytes ++ rest)
     → GoesWithMagic letters bytes → ⊥
 goes_not letters bytes none longer (format, inr u) = none format u.0 u.1
@@ -110,7 +111,7 @@ goes_not letters bytes none longer (format, inl (x ∷ more, e)) = elim (apart l
         let back = ap length behind ∙ length-append letters tail in
         nil_from_length tail (omega (arith, front, back, length-append letters ((limits_of format).digit ∷ [])))
 
--- where no letters and digit begin the bytes, these go with them just where they begin the letters
+-- bytes that begin with no magic go with one exactly if they are a prefix of the letters
 pub letters_left : {X : Type 0} (letters bytes : List ℕ) (found : Option X) (starts : Bool) → false ≡ is_some found
     → IfNone found ((format : Format) (more : List ℕ) → bytes ≢ magic letters format ++ more)
     → (starts ≡ true → letters ≡ bytes ++ drop (length bytes) letters) × ((rest : List ℕ) → letters ≡ bytes ++ rest → starts ≡ true)
@@ -121,15 +122,15 @@ letters_left letters bytes None false test none tells = goes_not letters bytes n
 
 -- ---- logs
 
--- eight bytes behind the digit are a `from`
+-- eight bytes after the magic are a `from`
 pub log_whole : (format : Format) (xs : List ℕ) → length xs ≡ 8 → AreBytes xs → (head : Head) × IsHead head × (head_bytes head ≡ magic (codes "MTL") format ++ xs)
 log_whole format xs long small =
     (record { format = format; from = big_from 0 8 xs }, big_from-lt 0 8 xs small, ap (λ (x : List ℕ). magic (codes "MTL") format ++ x) (eight xs long small))
 
--- bytes that do not go with the letters and a digit show that there is no header
+-- bytes that do not go with the magic of a log show that there is no header
 pub log_none : (bytes : List ℕ) → (GoesWithMagic (codes "MTL") bytes → ⊥) → ShowsNone IsHead head_bytes bytes
 log_none = shows_none IsHead head_bytes (codes "MTL") (λ (head : Head). head.format) (λ head. (big_bytes 8 head.from, refl))
 
--- and those that do begin one where none begins them
+-- bytes that go with it and begin with no header are a proper prefix of one
 pub log_cut : (bytes : List ℕ) → GoesWithMagic (codes "MTL") bytes → AreBytes bytes → NoneBegins IsHead head_bytes bytes → IsCutFront IsHead head_bytes bytes
 log_cut = cut_front IsHead head_bytes (codes "MTL") 8 log_whole

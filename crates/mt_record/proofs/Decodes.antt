@@ -1,4 +1,4 @@
--- A body says the record that it spells.
+-- Decoding a body gives the record that it encodes.
 use Rattle.std.proofs.Common.{◌≡◌, ℕ, suc, eqb, ◌^◌, ◌<◌, ◌≤◌, ◌+◌, ◌-◌, List, [], ◌∷◌, ◌++◌, length, take, drop, Option, Some, None, Bool, true, false, ◌↔◌, refl, sym, ap, subst, ◌∙◌, append_assoc, arith}
 use Rattle.std.proofs.Math.Seq.{take-append_seam, drop-append_seam}
 use Rattle.std.proofs.lemmas.List.{append-nil, take_all, take_rest, drop-drop}
@@ -27,7 +27,7 @@ use Rattle.mt_record.specs.Decoding.{columns_from, columns_counted, numbers_coun
 
 -- ---- fields
 
--- counted bytes at the front
+-- the length of counted bytes is read back
 counted_front : (front more : List ℕ) → length front < 2 ^ 16 → big_from 0 2 (counted front ++ more) ≡ length front
 counted_front front more below = big_number-reads_back 2 (length front) (front ++ more) below
 
@@ -37,7 +37,7 @@ take_front n front more same = subst (λ m. take m (front ++ more) ≡ front) (s
 drop_front : (n : ℕ) (front more : List ℕ) → n ≡ length front → drop n (front ++ more) ≡ more
 drop_front n front more same = subst (λ m. drop m (front ++ more) ≡ more) (sym same) (drop-append_seam front more)
 
--- spelled columns are read back
+-- encoded columns decode to the same columns
 pub columns_back : (cs : List (ℕ × List ℕ)) (more : List ℕ) → AllByRecursion FitsColumn cs → columns_from (length cs) (flat_map column_bytes cs ++ more) ≡ cs
 columns_back [] more all = refl
 columns_back (c ∷ cs) more all =
@@ -51,7 +51,7 @@ columns_back (c ∷ cs) more all =
 
 -- ---- the fields of a body
 
--- the body of a change, and what stands where
+-- the body of a change, field by field; each field is read back below
 abbrev change_body : ℕ → ℕ → List ℕ → ℕ → List ℕ → List ℕ
 change_body code t key v carried = code ∷ (big_bytes 8 t ++ (big_bytes 8 v ++ (counted key ++ carried)))
 
@@ -77,7 +77,7 @@ carried_back code t v key carried below = drop_front (key_length_in (change_body
 
 -- ---- the kind
 
--- spelled columns behind their number are read back
+-- encoded columns with nothing after them decode to the same columns
 some_back : (cs : List (ℕ × List ℕ)) → AllByRecursion FitsColumn cs → columns_from (length cs) (flat_map column_bytes cs) ≡ cs
 some_back cs all = subst (λ bytes. columns_from (length cs) bytes ≡ cs) (append-nil (flat_map column_bytes cs)) (columns_back cs [] all)
 
@@ -85,7 +85,7 @@ mark_back : (t : ℕ) → t < 2 ^ 64 → decode (body_of t None) ≡ record { ti
 unfolding is_mark_in
 mark_back t below = λ i. record { timestamp = time_back 3 t [] below i; change = None }
 
--- a change of the kind of this byte, which carries what the kind is made of
+-- the body of a change decodes to that change if its byte and the bytes carried decode to its kind
 changed_back : (byte t v : ℕ) (key carried : List ℕ) (kind : Kind) → eqb byte 3 ≡ false → kind_from (code_from byte) carried ≡ kind → t < 2 ^ 64 → v < 2 ^ 64 → length key < 2 ^ 16
     → decode (change_body byte t key v carried) ≡ changed t (record { version = v; key = key; kind = kind })
 unfolding is_mark_in code_in
@@ -108,7 +108,7 @@ change_back t change fits_t fits = by_kind change.kind fits.kind
 
 -- ---- a record
 
--- a change fits its fields
+-- a sound change fits its fields
 fits_of : (change : Change) → IsSound change → FitsChange change
 fits_of change sound = record { version = sound.version; key = omega (arith, sound.key, key_room widest_format); kind = by_kind change.kind sound.writes }
   where
@@ -132,7 +132,7 @@ record_back : (t : ℕ) (change : Option Change) → t < 2 ^ 64 → IfSome chang
 record_back t None below sound = mark_back t below
 record_back t (Some change) below sound = change_back t change below (fits_of change sound)
 
--- the bytes of the body of a mark or of a change are a body, which says just that
+-- the body of a mark or of a sound change satisfies `IsBody` and decodes to its record
 pub says : (bytes : List ℕ) (r : Logged) → r.timestamp < 2 ^ 64 → IfSome r.change IsSound → bytes ≡ body r → (decode bytes ≡ r) × IsBody bytes
 says bytes r below sound same =
     let back : decode bytes ≡ r = ap decode same ∙ record_back r.timestamp r.change below sound in (
@@ -144,7 +144,7 @@ says bytes r below sound same =
       },
     )
 
--- so are those of a lawful record's body
+-- so does the body of a lawful record
 pub body_says : (bytes : List ℕ) (r : Logged) → IsLawful widest r → bytes ≡ body r → (decode bytes ≡ r) × IsBody bytes
 body_says bytes r lawful same = says bytes r lawful.0 (sound_change r.change lawful.1) same
   where
@@ -152,19 +152,19 @@ body_says bytes r lawful same = says bytes r lawful.0 (sound_change r.change law
     sound_change None is = tt
     sound_change (Some change) is = lawful_sound change is.0
 
--- what is no mark says its change
+-- if `change_unless` gives a change, there is no mark, and it is the change that was passed
 unmarked : (mark : Bool) (a b : Change) → change_unless mark a ≡ Some b → (mark ≡ false) × (a ≡ b)
 unmarked true a b same = absurd cc
 unmarked false a b same = (refl, cc)
 
--- the body of a lawful entry says the entry
+-- the body of a lawful entry decodes to the entry
 pub entry_says : (bytes : List ℕ) (entry : Change) → IsLawfulChange widest entry → bytes ≡ body_of 0 (Some entry) → (change_in bytes ≡ entry) × IsEntryBody bytes
 entry_says bytes entry lawful same =
     let back = says bytes (changed 0 entry) (omega arith) (lawful_sound entry lawful) same in
     let change = unmarked (is_mark_in bytes) (change_in bytes) entry (ap (λ (r : Logged). r.change) back.0) in
     (change.1, record { change = (back.1, change.0); no_time = ap (λ (r : Logged). r.timestamp) back.0 })
 
--- and so does that of an update
+-- the body of an update decodes to the update
 pub update_says : (bytes : List ℕ) (u : Update) → u.timestamp < 2 ^ 64 → IsSound (record { version = u.stamp.version; key = u.key; kind = u.kind })
     → bytes ≡ body_of u.timestamp (Some (record { version = u.stamp.version; key = u.key; kind = u.kind })) → IsChangeBody bytes × (update_in u.stamp.origin bytes ≡ u)
 update_says bytes u below sound same =
@@ -173,9 +173,9 @@ update_says bytes u below sound same =
     let time = ap (λ (r : Logged). r.timestamp) back.0 in
     ((back.1, change.0), λ i. update_at u.stamp.origin (time i) (change.1 i))
 
--- ---- room
+-- ---- what a change carries
 
--- the body of a change, by its fields
+-- the body of a change is the encoding of its decoded fields
 pub spelled_change : (bytes : List ℕ) → IsChangeBody bytes
     → bytes ≡ change_body (kind_byte (kind_in bytes)) (time_in bytes) (key_in bytes) (version_in bytes) (kind_bytes (kind_in bytes))
 spelled_change bytes is = is.0.spelled ∙ ap (λ (mark : Bool). body_of (time_in bytes) (change_unless mark (change_in bytes))) is.1
@@ -186,14 +186,14 @@ change_sound bytes is = subst (λ (mark : Bool). IfSome (change_unless mark (cha
 change_fits : (bytes : List ℕ) → IsChangeBody bytes → FitsChange (change_in bytes)
 change_fits bytes is = fits_of (change_in bytes) (change_sound bytes is)
 
--- what its kind carries is spelled so
+-- the bytes carried are those of the decoded kind, which fits its fields
 pub carried_spelled : (bytes : List ℕ) → IsChangeBody bytes → (carried_in bytes ≡ kind_bytes (kind_in bytes)) × FitsKind (kind_in bytes)
 carried_spelled bytes is =
     let same = spelled_change bytes is in
     let fit = change_fits bytes is in
     (ap carried_in same ∙ carried_back (kind_byte (kind_in bytes)) (time_in bytes) (version_in bytes) (key_in bytes) (kind_bytes (kind_in bytes)) fit.key, fit.kind)
 
--- nothing, or writes behind their number
+-- the bytes carried are nothing, or a count and that many lawful writes
 pub carried_is : (bytes : List ℕ) → IsChangeBody bytes → IsCarried (payload_of (code_in bytes)) (carried_in bytes)
 carried_is bytes is =
     let spelled = carried_spelled bytes is in
@@ -227,7 +227,7 @@ carried_is bytes is =
     by_code codes.Remove same fits are = same
     by_code codes.Erase same fits are = numbers_are (carried_in bytes) same (erase_numbers widest (numbers_counted (carried_in bytes)) are)
 
--- those writes are the ones of the kind
+-- the writes decoded from the bytes carried are those of the kind
 pub carried_writes : (code : Code) (bytes : List ℕ) → writes_carried (payload_of code) bytes ≡ writes_of (kind_from code bytes)
 carried_writes codes.Whole bytes = refl
 carried_writes codes.Put bytes = refl
@@ -236,7 +236,7 @@ carried_writes codes.Erase bytes = refl
 
 -- ---- codes
 
--- the kind of a code has that code
+-- the kind decoded by a code has that code
 same_code : (code : Code) (bytes : List ℕ) → code_of (kind_from code bytes) ≡ code
 same_code codes.Whole bytes = refl
 same_code codes.Put bytes = refl
@@ -246,7 +246,7 @@ same_code codes.Erase bytes = refl
 pub code_clears : (bytes : List ℕ) → Clears (code_in bytes) ↔ IsReset (kind_in bytes)
 code_clears bytes = rw (same_code (code_in bytes) (carried_in bytes)) (λ clears. clears, λ clears. clears)
 
--- a code's byte says the code
+-- the code whose byte is the body's first byte is the code of the body
 pub code_read : (code : Code) (bytes : List ℕ) → byte_of code ≡ slice_index bytes 0 → code ≡ code_in bytes
 unfolding code_in
 code_read code bytes same = back code ∙ ap code_from same
@@ -257,13 +257,13 @@ code_read code bytes same = back code ∙ ap code_from same
     back codes.Remove = refl
     back codes.Erase = refl
 
--- a change begins with the byte of its code
+-- the body of a change begins with the byte of its code
 pub code_first : (bytes : List ℕ) → IsChangeBody bytes → byte_of (code_in bytes) ≡ slice_index bytes 0
 code_first bytes is = ap byte_of (sym (same_code (code_in bytes) (carried_in bytes))) ∙ sym (ap (λ (xs : List ℕ). slice_index xs 0) (spelled_change bytes is))
 
 -- ---- columns, one after the other
 
--- the columns are the one at the front and those behind it
+-- the decoded columns are the one at the front and those after it
 pub next_column : (n left : ℕ) (bytes after : List ℕ) (c : ℕ × List ℕ) → left ≡ suc n → FitsColumn c → bytes ≡ column_bytes c ++ after
     → AreLentColumns left bytes
     → (columns_from left bytes ≡ c ∷ columns_from n after) × IsColumn widest c × AreLentColumns n after
@@ -287,19 +287,19 @@ next_column n left bytes after c more fit same are =
       },
     )
 
--- the writes of numbers are the one at the front and those after it
+-- the writes of numbers are that of the number at the front and those after it
 pub next_number : (n left : ℕ) (bytes after : List ℕ) (number : ℕ) → left ≡ suc n → bytes ≡ number ∷ after → AreLentNumbers left bytes
     → (writes_from payloads.Numbers left bytes ≡ erased number ∷ writes_from payloads.Numbers n after) × (number ≤ widest.column) × AreLentNumbers n after
 next_number n left bytes after number more same are =
     let all : AllByRecursion (λ number. number ≤ widest.column) (number ∷ after) = subst (AllByRecursion (λ number. number ≤ widest.column)) same are.lawful in
     (λ i. writes_from payloads.Numbers (more i) (same i), all.0, record { number = omega (arith, are.number, more, ap length same); lawful = all.1 })
 
--- what stands behind the key, from the place that the length gives
+-- the bytes carried begin after the key, whose length is given
 pub carried_at : (bytes : List ℕ) (n : ℕ) → n ≡ key_length_in bytes → drop (19 + n) bytes ≡ carried_in bytes
 unfolding carried_in
 carried_at bytes n same = sym (drop-drop n 19 bytes) ∙ ap (λ m. drop m (drop 19 bytes)) same
 
--- the length of the key, as it is read
+-- the length of the key, as the program reads it
 pub key_length_read : (bytes : List ℕ) (n : ℕ) → n ≡ big_from 0 2 (take (length bytes - 17) (drop 17 bytes)) → n ≡ key_length_in bytes
 unfolding key_length_in
 key_length_read bytes n same = same ∙ ap (big_from 0 2) (take_rest bytes 17)

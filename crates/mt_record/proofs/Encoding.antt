@@ -1,4 +1,4 @@
--- Records written one field after the other.
+-- Encoding records, one field after the other.
 use Rattle.std.proofs.Common.{◌≡◌, ℕ, suc, ◌+◌, ◌*◌, ◌^◌, ◌<◌, ◌≤◌, List, [], ◌∷◌, ◌++◌, length, take, get_or, Option, Some, sym, ap, ◌∙◌, subst, append_assoc, arith}
 use Rattle.std.proofs.Math.Seq.{take-suc}
 use Rattle.std.proofs.lemmas.List.{append-nil, length-append}
@@ -17,21 +17,21 @@ use Rattle.mt_record.proofs.Lawful.{put_fits, erase_fits, columns_length, lawful
 
 -- ---- columns
 
--- there are few numbers
+-- lawful column numbers are few enough for a count of one byte
 pub few_numbers : (ns : List ℕ) → AreNumbers widest ns → length ns < 2 ^ 8
 few_numbers ns are = (erase_fits widest_format ns are).0
 
--- there are few columns
+-- so are lawful columns
 pub few_columns : (cs : List (ℕ × List ℕ)) → AreColumns widest cs → length cs < 2 ^ 8
 few_columns cs are = (put_fits widest_format cs are).0
 
 -- ---- the first columns
 
--- the bytes of the first columns
+-- the bytes of the first `i` columns
 abbrev pub first_bytes : ℕ → List (ℕ × List ℕ) → List ℕ
 first_bytes i cs = flat_map column_bytes (take i cs)
 
--- the bytes of the first columns and of one more
+-- the bytes of one more column are appended
 one_more : (cs : List (ℕ × List ℕ)) (i : ℕ) (c : ℕ × List ℕ) → i < length cs → c ≡ get_or cs i c → first_bytes (i + 1) cs ≡ first_bytes i cs ++ column_bytes c
 one_more cs i c below is =
     let next : i + 1 ≡ suc i = omega arith in
@@ -40,25 +40,25 @@ one_more cs i c below is =
     ap (flat_map column_bytes) front ∙ flat_map-append column_bytes (take i cs) (c ∷ [])
     ∙ ap (λ (x : List ℕ). first_bytes i cs ++ x) (flat_map-cons column_bytes c [] ∙ append-nil (column_bytes c))
 
--- how many bytes the first columns and one more take
+-- the length of one more column is added
 pub one_more_length : (cs : List (ℕ × List ℕ)) (i : ℕ) (c : ℕ × List ℕ) → i < length cs → c ≡ get_or cs i c
     → length (first_bytes (i + 1) cs) ≡ length (first_bytes i cs) + length (column_bytes c)
 one_more_length cs i c below is = ap length (one_more cs i c below is) ∙ length-append (first_bytes i cs) (column_bytes c)
 
--- the first columns and one more take no more bytes than all
+-- the first columns and one more are no longer than all columns
 pub part_length : (cs : List (ℕ × List ℕ)) (i : ℕ) (c : ℕ × List ℕ) → i < length cs → c ≡ get_or cs i c
     → length (first_bytes i cs) + length (column_bytes c) ≤ length (flat_map column_bytes cs)
 part_length cs i c below is =
     subst (λ (d : ℕ × List ℕ). length (first_bytes i cs) + length (column_bytes d) ≤ length (flat_map column_bytes cs)) (sym is)
     (length-flat_map-take column_bytes cs i c below)
 
--- columns take few bytes
+-- lawful columns take at most 65538 * 255 bytes
 pub few_bytes : (cs : List (ℕ × List ℕ)) → AreColumns widest cs → length (flat_map column_bytes cs) ≤ 65538 * 255
 few_bytes cs are = omega (arith, columns_length widest cs are.0, few_columns cs are)
 
 -- ---- adding
 
--- bytes added one after the other
+-- bytes appended in two steps are appended together
 pub adds_both : {Z : Type 0} {a b c : Vec ℕ Z} {xs ys : List ℕ} → Adds xs a b → Adds ys b c → Adds (xs ++ ys) a c
 adds_both {a = a} {xs = xs} {ys = ys} first then = record {
   items = then.items ∙ ap (λ (x : List ℕ). x ++ ys) first.items ∙ append_assoc a.items xs ys;
@@ -66,19 +66,19 @@ adds_both {a = a} {xs = xs} {ys = ys} first then = record {
   room = omega (arith, first.room, then.room);
 }
 
--- a body between two copies of its length, behind what stood there
+-- a length, a body and the length again, appended in this order, are the framed body after what was there
 pub adds_framed : {Z : Type 0} {old body : List ℕ} {n : ℕ} {a b c d : Vec ℕ Z} → n ≡ length body → a.items ≡ old → Adds (big_bytes 4 n) a b → Adds body b c
     → Adds (big_bytes 4 n) c d → d.items ≡ old ++ framed body
 adds_framed is same first second third = rw (← is, ← same) (adds_both first (adds_both second third)).items
 
--- there is room for one column behind the first ones
+-- there is room for one more column after the first ones
 pub column_room : {Z : Type 0} (cs : List (ℕ × List ℕ)) (i n : ℕ) (c : ℕ × List ℕ) (old out : Vec ℕ Z) → i < length cs → c ≡ get_or cs i c
     → Adds (n ∷ first_bytes i cs) old out → HasRoom (length (n ∷ flat_map column_bytes cs)) old → HasRoom (length (column_bytes c)) out
 column_room cs i n c old out below is so_far room = omega (arith, so_far.len, so_far.room, room, part_length cs i c below is)
 
 -- ---- records
 
--- how long the body of a lawful record is, by its change
+-- the body of a lawful record with a change has an allowed length: 9 and that of the change
 pub changed_length : (r : Logged) (change : Change) → IsLawful widest r → r.change ≡ Some change → IsRecordLength widest (9 + length (change_bytes change))
 changed_length r change lawful is =
     let here : IsRecordLength widest (length (body_of r.timestamp (Some change))) =

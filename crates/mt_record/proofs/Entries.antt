@@ -1,4 +1,4 @@
--- Entries of checkpoints, and the parts that they stand in.
+-- Entries of checkpoints, and the parts that hold them.
 use Rattle.std.proofs.Common.{◌≡◌, ◌∙◌, ℕ, suc, ◌+◌, ◌^◌, ◌<◌, ◌≤◌, List, [], ◌∷◌, ◌++◌, length, take, get_or, sym, ap, append_assoc, arith}
 use Rattle.std.proofs.Math.Seq.{take-suc, take-append_seam}
 use Rattle.std.specs.Prelude.{Result, Ok, Err, OnOk, OnErr}
@@ -17,7 +17,7 @@ use Rattle.mt_record.specs.Spelling.{column_bytes, kind_bytes, change_bytes}
 use Rattle.mt_record.specs.Parts.{entry_spelling, IsEntryLength}
 use Rattle.mt_record.proofs.Lawful.{kind_length}
 
--- a column takes at least three bytes
+-- one or more columns take at least three bytes
 some_columns : (cs : List (ℕ × List ℕ)) → 0 < length cs → 3 ≤ length (flat_map column_bytes cs)
 some_columns [] some = omega (arith, some)
 some_columns (c ∷ cs) some = omega (arith, length-append c.1 (flat_map column_bytes cs))
@@ -28,7 +28,7 @@ kind_least limits Remove allowed whole = absurd whole
 kind_least limits (Whole cs) allowed whole = omega (arith, some_columns cs allowed.1)
 kind_least limits (Erase ns) allowed whole = absurd whole
 
--- the fields of an entry have a lawful length
+-- the fields of a lawful entry have an allowed length
 pub entry_length : (limits : Limits) (change : Change) → IsEntry limits change → IsEntryLength limits (length (change_bytes change))
 entry_length limits change entry =
     let least = kind_least limits change.kind entry.0.kind entry.1 in
@@ -36,7 +36,7 @@ entry_length limits change entry =
     let fields = length-append change.key (kind_bytes change.kind) in
     (omega (arith, least, fields), omega (arith, most, fields, entry.0.key))
 
--- the length of an entry is short enough for its four bytes
+-- the length of an entry fits in its four bytes
 pub short_entry : (format : Format) (n : ℕ) → IsEntryLength (limits_of format) n → n < 2 ^ 32
 short_entry format n is =
     let room = within format in
@@ -44,7 +44,7 @@ short_entry format n is =
 
 -- ---- parts
 
--- the first entries and one more
+-- one more entry is appended to the first ones
 pub one_more_entry : (out new : List ℕ) (entries : List Change) (i : ℕ) (entry : Change) → i < length entries → entry ≡ get_or entries i entry
     → new ≡ (out ++ flat_map entry_spelling (take i entries)) ++ entry_spelling entry → new ≡ out ++ flat_map entry_spelling (take (i + 1) entries)
 one_more_entry out new entries i entry below is e =
@@ -53,14 +53,14 @@ one_more_entry out new entries i entry below is e =
     ap (λ (n : ℕ). take n entries) next ∙ take-suc entries i entry below ∙ ap (λ (d : Change). take i entries ++ d ∷ []) (sym is) in
     e ∙ flat_map_more entry_spelling out (take i entries) entry ∙ ap (λ (x : List Change). out ++ flat_map entry_spelling x) (sym front)
 
--- all entries, and what ends them
+-- all entries, and then what ends them
 pub entries_ended : (out made new : List ℕ) (entries : List Change) (i : ℕ) (end : List ℕ) → length entries ≤ i
     → made ≡ out ++ flat_map entry_spelling (take i entries) → new ≡ made ++ end → new ≡ out ++ (flat_map entry_spelling entries ++ end)
 entries_ended out made new entries i end all so_far e =
     let made_is = so_far ∙ ap (λ (cs : List Change). out ++ flat_map entry_spelling cs) (take_all i entries all) in
     e ∙ ap (λ (x : List ℕ). x ++ end) made_is ∙ append_assoc out (flat_map entry_spelling entries) end
 
--- what stood there stays in front, whether more was added behind it or not
+-- the bytes that were there stay in front, whether more are appended or not
 pub front_kept : {T E : Type 0} (answer : Result T E) (out more made end new : List ℕ) → made ≡ out ++ more → OnOk answer (new ≡ made ++ end) → OnErr answer (new ≡ made) → StartsWith new out
 front_kept (Ok done) out more made end new so_far ok err = rw (ok, so_far, append_assoc) (take-append_seam out (more ++ end))
 front_kept (Err why) out more made end new so_far ok err = rw (err, so_far) (take-append_seam out more)

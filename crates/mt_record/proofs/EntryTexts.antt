@@ -20,27 +20,27 @@ use Rattle.mt_record.proofs.Frames.{body_frame}
 use Rattle.mt_record.proofs.Entries.{entry_length, short_entry}
 use Rattle.mt_record.proofs.Lawful.{key_room, kind_fits}
 
--- an entry fits its fields
+-- a lawful entry fits its fields
 pub entry_fits : (format : Format) (change : Change) → IsEntry (limits_of format) change → FitsChange change
 entry_fits format change entry =
     let key = key_room format in
     record { version = entry.0.version_fits; key = omega (arith, entry.0.key, key); kind = kind_fits format change.kind entry.0.kind }
 
--- wholes have one byte
+-- a `Whole` has byte 0
 pub whole_code : (kind : AnyKind) → IsWhole kind → kind_byte kind ≡ 0
 whole_code (Put columns) whole = absurd whole
 whole_code Remove whole = absurd whole
 whole_code (Whole columns) whole = refl
 whole_code (Erase numbers) whole = absurd whole
 
--- where the fields are those of a change of which this holds, they are those of no entry of which it does not
+-- if the bytes are the fields of a change for which `P` holds, and `P` holds for no lawful entry, they are the fields of no entry
 other_entry : (format : Format) (bytes : List ℕ) (P : Change → Type 0) → IsChangeWith 0 bytes P → ((entry : Change) → IsEntry (limits_of format) entry → P entry → ⊥)
     → (entry : Change) → IsEntry (limits_of format) entry → bytes ≢ change_bytes entry
 other_entry format bytes P has refused entry is e =
     let same : has.change ≡ entry = same_change has.change entry has.fits (entry_fits format entry is) (has.code ∙ sym (whole_code entry.kind is.1)) (sym has.spelled ∙ e) in
     refused entry is (subst P same has.holds)
 
--- bytes with the fault of a whole are the fields of no entry
+-- bytes with a fault of a `Whole` are the fields of no entry
 pub no_entry_text : (format : Format) (bytes : List ℕ) (what : What) → IsChangeFault (limits_of format) 0 bytes what → AreNoFields (limits_of format) bytes
 no_entry_text format bytes Length h entry is e = h
 no_entry_text format bytes Trailer h entry is e = h
@@ -54,7 +54,7 @@ no_entry_text format bytes Clock h entry is e = h
 
 -- ---- frames
 
--- the parts of what is framed as an entry is
+-- if a length, a body and a number are the frame of some fields, the body is these fields, and the number is their length
 same_parts : (body fields : List ℕ) (n : ℕ) → length body < 2 ^ 32 → length fields < 2 ^ 32 → n < 2 ^ 32
     → big_bytes 4 (length body) ++ (body ++ big_bytes 4 n) ≡ framed fields → (body ≡ fields) × (n ≡ length fields)
 same_parts body fields n fits_body fits_fields fits_n e =
@@ -62,7 +62,7 @@ same_parts body fields n fits_body fits_fields fits_n e =
     let split = same_split body fields (big_bytes 4 n) (big_bytes 4 (length fields)) number.0 number.1 in
     (split.0, (same_number 4 n (length fields) [] [] fits_n fits_fields split.1).0)
 
--- the fields of an entry are short enough for their length
+-- the length of an entry's fields fits in four bytes
 short_fields : (format : Format) (entry : Change) → IsEntry (limits_of format) entry → length (change_bytes entry) < 2 ^ 32
 short_fields format entry is = short_entry format (length (change_bytes entry)) (entry_length (limits_of format) entry is)
 
@@ -74,7 +74,7 @@ wrong_entry format bytes body after frame none = (
   λ entry is e. none entry is (same_parts body (change_bytes entry) (length body) (short_entry format (length body) frame.fits) (short_fields format entry is) (short_entry format (length body) frame.fits) e).0,
 )
 
--- another number behind the framed bytes makes a wrong entry too
+-- a number after the body that is not its length makes a wrong entry too
 other_length : (format : Format) (bytes : List ℕ) → HasTrailerFault (IsEntryLength (limits_of format)) bytes → HasWrongEntry (limits_of format) bytes
 other_length format bytes (f, differs) = (
   f,
@@ -83,7 +83,7 @@ other_length format bytes (f, differs) = (
       differs (parts.1 ∙ ap length (sym parts.0)),
 )
 
--- what is framed wrongly is no entry
+-- bytes with a frame fault show that they begin with no entry
 pub frame_no_entry : (format : Format) (bytes : List ℕ) (what : What) → IsFrameFault (IsEntryLength (limits_of format)) bytes what → ShowsNoEntry (limits_of format) bytes
 frame_no_entry format bytes Length h = inl h
 frame_no_entry format bytes Trailer h = inr (other_length format bytes h)
@@ -94,7 +94,7 @@ frame_no_entry format bytes Key h = absurd h
 frame_no_entry format bytes Columns h = absurd h
 frame_no_entry format bytes Clock h = absurd h
 
--- the fault of a whole is that of an entry
+-- if a check returns a fault of a `Whole`, the bytes are the fields of no entry
 pub entry_fault : (format : Format) (bytes : List ℕ) (outcome : Result (Unit {0}) What) → IfErr outcome (IsChangeFault (limits_of format) 0 bytes) → OnErr outcome (AreNoFields (limits_of format) bytes)
 entry_fault format bytes (Ok u) h = tt
 entry_fault format bytes (Err what) h = no_entry_text format bytes what h

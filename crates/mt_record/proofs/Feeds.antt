@@ -11,11 +11,11 @@ use Rattle.mt_record.specs.Feeding.{HasRead, Reads, HasShown, HoldsAll, IsFedBy}
 
 -- ---- bytes
 
--- what stands behind a front stands behind it when more bytes follow
+-- a prefix of some bytes is still one when more bytes follow
 pub behind_on : (front rest after more : List ℕ) → rest ≡ front ++ after → rest ++ more ≡ front ++ (after ++ more)
 behind_on front rest after more e = ap (λ (x : List ℕ). x ++ more) e ∙ append_assoc front after more
 
--- of two lists that go on to the same one, one begins the other
+-- of two prefixes of the same list, one is a prefix of the other
 pub apart : (a b x y : List ℕ) → a ++ x ≡ b ++ y → GoTogether a b
 apart [] b x y e = inr (b, refl)
 apart (p ∷ a) [] x y e = inl (p ∷ a, refl)
@@ -27,7 +27,7 @@ apart (p ∷ a) (q ∷ b) x y e =
       | inr u ↦ inr (u.0, λ i. sym first i ∷ u.1 i)
     ]
 
--- bytes that show none of these show none when more bytes follow
+-- if bytes show that there is no such value, they still do when more bytes follow
 pub shows_none_on : {H : Type 0} (Is : H → Type 0) (spelled : H → List ℕ) (bytes more : List ℕ) → ShowsNone Is spelled bytes → ShowsNone Is spelled (bytes ++ more)
 shows_none_on Is spelled bytes more h = (
   λ head after is e. elim (apart bytes (spelled head) more after e) as (λ _. ⊥) [
@@ -39,7 +39,7 @@ shows_none_on Is spelled bytes more h = (
 
 -- ---- items
 
--- items read one after the other
+-- two reads, one after the other, are one read
 pub then_read : {T I : Type 0} (holds : T → I → List ℕ → Type 0) (old middle new : I) (bytes rest after : List ℕ) → Reads holds old middle bytes rest → Reads holds middle new rest after
     → Reads holds old new bytes after
 then_read holds old middle new bytes rest after first next = record {
@@ -49,7 +49,7 @@ then_read holds old middle new bytes rest after first next = record {
       subst (λ (x : List ℕ). holds taken new x) (append_assoc front first.front next.front) (next.read taken (front ++ first.front) (first.read taken front is));
 }
 
--- items read at the front of the rest go to what was read
+-- items read at the front of the rest are added to what was read
 pub read_on : {T I : Type 0} (holds : T → I → List ℕ → Type 0) (taken : T) (old new : I) (text bytes after : List ℕ) → HasRead (holds taken old) text bytes → Reads holds old new bytes after
     → HasRead (holds taken new) text after
 read_on holds taken old new text bytes after has next = record {
@@ -58,18 +58,18 @@ read_on holds taken old new text bytes after has next = record {
   read = next.read taken has.front has.read;
 }
 
--- what was read is the same when more bytes follow
+-- what was read stays the same when more bytes follow
 pub goes_on : (holds : List ℕ → Type 0) (text rest more : List ℕ) → HasRead holds text rest → HasRead holds (text ++ more) (rest ++ more)
 goes_on holds text rest more has = record { front = has.front; joins = behind_on has.front text rest more has.joins; read = has.read }
 
--- what stands at the front is read
+-- an item at the front is read, and fewer bytes are left
 pub front_read : {T I : Type 0} (holds : T → I → List ℕ → Type 0) (old new : I) (front bytes after : List ℕ) → bytes ≡ front ++ after → 0 < length front
     → ((taken : T) (before : List ℕ) → holds taken old before → holds taken new (before ++ front)) → Reads holds old new bytes after × (length after < length bytes)
 front_read holds old new front bytes after joins some on = (record { front = front; joins = joins; read = on }, omega (arith, ap length joins, length-append front after, some))
 
--- ---- the text
+-- ---- the input
 
--- a feed that has a fault was fed whatever follows, too
+-- a feed that has a fault counts as fed with any bytes that follow
 pub fed_on : {I F : Type 0} (holds : I → List ℕ → Type 0) (is_left : I → List ℕ → Type 0) (shows : I → F → List ℕ → Type 0) (items : I) (held : List ℕ) (answered : Option F) (fault : F) (text more : List ℕ)
     → answered ≡ Some fault → IsFedBy holds is_left shows items held answered text → IsFedBy holds is_left shows items held answered (text ++ more)
 fed_on holds is_left shows items held answered fault text more failed fed = (
@@ -79,7 +79,7 @@ fed_on holds is_left shows items held answered fault text more failed fed = (
       record { shown = h.shown; more = h.more ++ more; read = rw (← append_assoc h.shown h.more more) (goes_on (holds items) text (h.shown ++ h.more) more h.read); fault = h.fault },
 )
 
--- a feed reads a piece: what it held and the piece are read, but for what it holds then, or they show a fault
+-- a feed reads a chunk: the held bytes and the chunk are read, except for the bytes that it holds then, or they show a fault
 pub fed_next : {T I F : Type 0} (holds : T → I → List ℕ → Type 0) (is_left : I → List ℕ → Type 0) (shows : I → F → List ℕ → Type 0) (taken : T) (old new : I) (held left text piece : List ℕ)
     (answer : Result (Unit {0}) F) → HoldsAll (holds taken) is_left old held text → (is_left old held → OnOk answer (Reads holds old new (held ++ piece) left × is_left new left))
     → IfErr answer (λ fault. HasShown (Reads holds old new (held ++ piece)) (shows new fault)) → IsFedBy (holds taken) is_left shows new left (result_err answer) (text ++ piece)
@@ -104,7 +104,7 @@ fed_next {F = F} holds is_left shows taken old new held left text piece (Err fau
 pub nil_if_empty : (xs : List ℕ) (len : ℕ) (empty : Bool) → len ≡ length xs → empty ≡ (len == 0) → empty ≡ true → xs ≡ []
 nil_if_empty xs len empty number test outcome = nil_from_length xs (sym number ∙ (Decides-eqb len 0).0 (sym test ∙ outcome))
 
--- where items at the front are dropped the rest is left
+-- if the items at the front are dropped, the rest is left
 pub left_over : (held items left : List ℕ) (len : ℕ) → held ≡ items ++ left → len ≡ length held → drop (len - length left) held ≡ left
 left_over held items left len e so_many =
     let number : len - length left ≡ length items = omega (arith, so_many, ap length e, length-append items left) in

@@ -1,4 +1,4 @@
--- A body between its two lengths, and its faults.
+-- Frames (bodies between two copies of their length), and their faults.
 use Rattle.std.proofs.Common.{◌≡◌, ◌≢◌, ◌⊎◌, inl, inr, ℕ, ◌+◌, ◌^◌, ◌<◌, ◌≤◌, List, [], ◌++◌, length, take, drop, sym, ap, ◌∙◌, subst, append_assoc, arith}
 use Rattle.std.proofs.lemmas.List.{length-append, take-append-drop}
 use Rattle.byteorder.specs.Endian.{big_bytes}
@@ -12,11 +12,11 @@ use Rattle.mt_record.specs.LogFaults.{HasLengthFault, HasFrame, HasTrailerFault,
 use Rattle.mt_record.proofs.Unique.{same_number, framed_apart}
 use Rattle.mt_record.proofs.Feeds.{behind_on}
 
--- a list in two parts
+-- a list in two parts: its first n elements, and the others
 pub parts : (n : ℕ) (bytes front back : List ℕ) → front ≡ take n bytes → back ≡ drop n bytes → bytes ≡ front ++ back
 parts n bytes front back f b = sym (take-append-drop n bytes) ∙ λ i. sym f i ++ sym b i
 
--- another number behind the body is the frame's fault
+-- a number after the body that is not its length is a trailer fault
 pub trailer_fault : (IsLength : ℕ → Type 0) (rest a b c body : List ℕ) (n trailer : ℕ) → IsLength n → rest ≡ big_bytes 4 n ++ a
     → a ≡ body ++ b → b ≡ big_bytes 4 trailer ++ c → length body ≡ n → trailer < 2 ^ 32 → (trailer ≢ n) → HasTrailerFault IsLength rest
 trailer_fault IsLength rest a b c body n trailer is ea eb ec number small differ = (
@@ -33,7 +33,7 @@ trailer_fault IsLength rest a b c body n trailer is ea eb ec number small differ
   rw number differ,
 )
 
--- Of lengths that four bytes can hold.
+-- For lengths that fit in four bytes.
 module _ (IsLength : ℕ → Type 0) (small : (n : ℕ) → IsLength n → n < 2 ^ 32) where
   -- a body between two copies of its length is a frame
   abbrev pub body_frame : (rest body more : List ℕ) → IsLength (length body) → rest ≡ framed body ++ more → HasFrame IsLength rest
@@ -46,7 +46,7 @@ module _ (IsLength : ℕ → Type 0) (small : (n : ℕ) → IsLength n → n < 2
     spelled = e ∙ framed_apart body more;
   }
 
-  -- a length, and enough bytes for it
+  -- the bytes begin with a length, and enough bytes follow if the length is allowed
   pub record Begins (rest : List ℕ) : Type 0 where
     pub number : ℕ
     pub more : List ℕ
@@ -54,7 +54,7 @@ module _ (IsLength : ℕ → Type 0) (small : (n : ℕ) → IsLength n → n < 2
     pub spelled : rest ≡ big_bytes 4 number ++ more
     pub enough : IsLength number → number + 4 ≤ length more
 
-  -- where there is a frame, there are enough bytes
+  -- if there is a frame, there are enough bytes
   abbrev pub frame_begins : (rest : List ℕ) → HasFrame IsLength rest → Begins rest
   frame_begins rest f =
       let behind = big_bytes 4 f.number ++ f.more in
@@ -67,11 +67,11 @@ module _ (IsLength : ℕ → Type 0) (small : (n : ℕ) → IsLength n → n < 2
         enough = λ is. omega (arith, all);
       }
 
-  -- a wrong length asks for no bytes
+  -- a length that is not allowed asks for no bytes
   abbrev pub wrong_begins : (rest : List ℕ) → HasLengthFault IsLength rest → Begins rest
   wrong_begins rest h = record { number = h.number; more = h.more; fits = h.fits; spelled = h.spelled; enough = λ is. absurd (h.wrong is) }
 
-  -- a rest that is empty or cut has too few
+  -- an empty or cut rest has too few bytes
   pub none_begins : (rest : List ℕ) → (rest ≡ []) ⊎ IsCut IsLength rest → Begins rest → ⊥
   none_begins rest (inl e) b = let n : length rest ≡ 0 = ap length e in let m = ap length b.spelled in omega (arith, n, m)
   none_begins rest (inr (inl short)) b = let m = ap length b.spelled in omega (arith, m, short.1)
@@ -83,7 +83,7 @@ module _ (IsLength : ℕ → Type 0) (small : (n : ℕ) → IsLength n → n < 2
 
 -- ---- more bytes
 
--- a wrong length stays one when more bytes follow
+-- a length that is not allowed stays so when more bytes follow
 abbrev pub length_fault_on : (IsLength : ℕ → Type 0) (rest more : List ℕ) → HasLengthFault IsLength rest → HasLengthFault IsLength (rest ++ more)
 length_fault_on IsLength rest more h = record {
   number = h.number;
@@ -93,7 +93,7 @@ length_fault_on IsLength rest more h = record {
   wrong = h.wrong;
 }
 
--- and so does a frame
+-- a frame stays a frame when more bytes follow
 abbrev pub frame_on : (IsLength : ℕ → Type 0) (rest more : List ℕ) → HasFrame IsLength rest → HasFrame IsLength (rest ++ more)
 frame_on IsLength rest more f = record {
   body = f.body;
@@ -104,7 +104,7 @@ frame_on IsLength rest more f = record {
   spelled = ap (λ (x : List ℕ). x ++ more) f.spelled ∙ simp append_assoc;
 }
 
--- why no record is framed is why there is none
+-- a fault of a record's frame is the fault of the rest
 pub rest_fault : (limits : Limits) (low : ℕ) (rest : List ℕ) (what : What) → IsFrameFault (IsRecordLength limits) rest what → RestFault what limits low rest
 rest_fault limits low rest Length h = h
 rest_fault limits low rest Trailer h = h

@@ -10,19 +10,19 @@ use Rattle.mt_record.specs.Decoding.{change_in, IsEntryBody}
 use Rattle.mt_record.proofs.Decodes.{entry_says}
 use Rattle.mt_record.proofs.EntryTexts.{whole_code}
 
--- an entry's number is that of its body
+-- the number of an entry is also that of a body
 pub within : (bodies : List (List ℕ)) (entries : List Change) (n : ℕ) → map change_in bodies ≡ entries → n < length entries → n < length bodies
 within bodies entries n same below =
     let long : length (map change_in bodies) ≡ length entries = ap length same in
     omega (arith, below, long, length-map bodies change_in)
 
--- the entry that the body of a number says
+-- the body with a number encodes the entry with that number
 pub change_at : (bodies : List (List ℕ)) (entries : List Change) (body : List ℕ) (n : ℕ) (d : Change) → map change_in bodies ≡ entries → n < length entries
     → body ≡ get_or bodies n [] → change_in body ≡ get_or entries n d
 change_at bodies entries body n d same below is =
     ap change_in is ∙ sym (get_or-map change_in bodies n [] d (within bodies entries n same below)) ∙ ap (λ (cs : List Change). get_or cs n d) same
 
--- what stands before the fields of an entry makes them the body that says it
+-- nine zeros before the fields of an entry make the body that encodes it
 pub fields_say : (fields : List ℕ) (entry : Change) → AreFieldsOf widest fields entry
     → (change_in (0 ∷ 0 ∷ 0 ∷ 0 ∷ 0 ∷ 0 ∷ 0 ∷ 0 ∷ 0 ∷ fields) ≡ entry) × IsEntryBody (0 ∷ 0 ∷ 0 ∷ 0 ∷ 0 ∷ 0 ∷ 0 ∷ 0 ∷ 0 ∷ fields)
 fields_say fields entry are =
@@ -30,7 +30,7 @@ fields_say fields entry are =
     λ i. sym (whole_code entry.kind are.lawful.1) i ∷ 0 ∷ 0 ∷ 0 ∷ 0 ∷ 0 ∷ 0 ∷ 0 ∷ 0 ∷ are.spelled i in
     entry_says (0 ∷ 0 ∷ 0 ∷ 0 ∷ 0 ∷ 0 ∷ 0 ∷ 0 ∷ 0 ∷ fields) entry are.lawful.0 spelled
 
--- one body more is one entry more
+-- one more body is one more entry
 pub entry_more : (bodies new : List (List ℕ)) (entries : List Change) (body : List ℕ) (entry : Change) → map change_in bodies ≡ entries → new ≡ bodies ++ body ∷ []
     → change_in body ≡ entry → map change_in new ≡ entries ++ entry ∷ []
 entry_more bodies new entries body entry same added says =

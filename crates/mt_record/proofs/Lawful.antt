@@ -17,15 +17,15 @@ use Rattle.mt_record.specs.Spelling.{column_bytes, kind_bytes, body_of, body, Is
 
 -- ---- the limits of the formats
 
--- keys are short enough for their length
+-- the length of a key fits in two bytes
 pub key_room : (format : Format) → (limits_of format).key < 2 ^ 16
 key_room format = omega (arith, (within format).key)
 
--- column numbers are bytes, and so is how many there are
+-- column numbers fit in a byte, and so does the count of columns
 column_room : (format : Format) → suc (limits_of format).column < 2 ^ 8
 column_room format = omega (arith, (within format).column)
 
--- bodies are short enough for their length
+-- the length of a body fits in four bytes
 pub length_fits : (format : Format) (n : ℕ) → IsRecordLength (limits_of format) n → n < 2 ^ 32
 length_fits format n is =
     let room = within format in
@@ -33,18 +33,18 @@ length_fits format n is =
 
 -- ---- columns
 
--- rising numbers leave so many columns at the most
+-- lawful columns are at most as many as there are column numbers
 few_columns : (limits : Limits) (cs : List (ℕ × List ℕ)) → AreColumns limits cs → length cs ≤ suc limits.column
 few_columns limits cs are = columns_room cs (suc limits.column) are.1 (columns_below limits cs are.0)
 
--- columns fit their fields
+-- lawful columns fit their fields
 columns_fit : (format : Format) (cs : List (ℕ × List ℕ)) → AllByRecursion (IsColumn (limits_of format)) cs → AllByRecursion FitsColumn cs
 columns_fit format [] all = tt
 columns_fit format (c ∷ cs) all =
     let room = column_room format in
     ((omega (arith, all.0.0), omega (arith, all.0.1)), columns_fit format cs all.1)
 
--- how long columns are at the most
+-- lawful columns take at most 65538 bytes each
 pub columns_length : (limits : Limits) (cs : List (ℕ × List ℕ)) → AllByRecursion (IsColumn limits) cs → length (flat_map column_bytes cs) ≤ 65538 * length cs
 columns_length limits [] all = omega arith
 columns_length limits (c ∷ cs) all =
@@ -53,14 +53,14 @@ columns_length limits (c ∷ cs) all =
 
 -- ---- records
 
--- columns fit the fields of a put
+-- lawful columns fit the fields of a put
 pub put_fits : (format : Format) (cs : List (ℕ × List ℕ)) → AreColumns (limits_of format) cs → FitsKind (Put cs)
 put_fits format cs are =
     let room = few_columns (limits_of format) cs are in
     let most = column_room format in
     (omega (arith, room, most), columns_fit format cs are.0)
 
--- numbers fit the fields of an erase
+-- lawful numbers fit the fields of an erase
 pub erase_fits : (format : Format) (ns : List ℕ) → AreNumbers (limits_of format) ns → FitsKind (Erase ns)
 erase_fits format ns are =
     let room = numbers_room (limits_of format) ns are in
@@ -71,14 +71,14 @@ erase_fits format ns are =
     bytes [] all = tt
     bytes (m ∷ ms) all = (omega (arith, all.0, column_room format), bytes ms all.1)
 
--- what a kind carries fits its fields
+-- what an allowed kind carries fits its fields
 pub kind_fits : (format : Format) (kind : Kind) → AllowsKind (limits_of format) kind → FitsKind kind
 kind_fits format (Put columns) allowed = put_fits format columns allowed.0
 kind_fits format Remove allowed = tt
 kind_fits format (Whole columns) allowed = put_fits format columns allowed.0
 kind_fits format (Erase numbers) allowed = erase_fits format numbers allowed.1
 
--- a change fits its fields
+-- a lawful change fits its fields
 change_fits : (format : Format) (change : Option Change) → IfSome change (IsLoggedChange (limits_of format)) → IfSome change FitsLogged
 change_fits format None lawful = tt
 change_fits format (Some change) lawful =
@@ -89,14 +89,14 @@ change_fits format (Some change) lawful =
 pub lawful_fits : (format : Format) (r : Logged) → IsLawful (limits_of format) r → Fits r
 lawful_fits format r lawful = (lawful.0, change_fits format r.change lawful.1)
 
--- how long columns behind their number are at the most
+-- a count and lawful columns take at most 1 byte, and 65538 for each column number
 carried_length : (limits : Limits) (cs : List (ℕ × List ℕ)) → AreColumns limits cs → suc (length (flat_map column_bytes cs)) ≤ 1 + suc limits.column * 65538
 carried_length limits cs are =
     let room = few_columns limits cs are in
     let columns = columns_length limits cs are.0 in
     omega (arith, columns, room)
 
--- how long what a kind carries is at the most
+-- so does what an allowed kind carries
 pub kind_length : (limits : Limits) (kind : Kind) → AllowsKind limits kind → length (kind_bytes kind) ≤ 1 + suc limits.column * 65538
 kind_length limits (Put columns) allowed = carried_length limits columns allowed.0
 kind_length limits Remove allowed = omega arith
@@ -105,7 +105,7 @@ kind_length limits (Erase numbers) allowed =
     let room = numbers_room limits numbers allowed.1 in
     omega (arith, room)
 
--- a body is no shorter and no longer than it may be
+-- the body of a lawful record, by its timestamp and change, has an allowed length
 body_length : (limits : Limits) (t : ℕ) (change : Option Change) → IfSome change (IsLoggedChange limits) → IsRecordLength limits (length (body_of t change))
 body_length limits t None lawful = (omega arith, omega arith)
 body_length limits t (Some change) lawful =
@@ -113,6 +113,6 @@ body_length limits t (Some change) lawful =
     let all = length-append change.key (kind_bytes change.kind) in
     (omega (arith, all), omega (arith, all, carried, lawful.0.key))
 
--- the body of a lawful record has a lawful length
+-- the body of a lawful record has an allowed length
 pub lawful_length : (limits : Limits) (r : Logged) → IsLawful limits r → IsRecordLength limits (length (body r))
 lawful_length limits r lawful = body_length limits r.timestamp r.change lawful.1

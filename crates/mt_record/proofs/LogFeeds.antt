@@ -1,4 +1,4 @@
--- The items of a log one behind the other, and what its feed was fed.
+-- The items of a log, one after the other, and what its feed was fed.
 use Rattle.std.proofs.Common.{◌≡◌, ◌⊎◌, ℕ, ◌+◌, ◌-◌, ◌^◌, ◌<◌, min, max, Option, Some, None, List, [], ◌∷◌, ◌++◌, length, refl, sym, ap, ◌∙◌, subst, append_assoc, arith}
 use Rattle.std.proofs.lemmas.List.{length-append, append-nil, flat_map_more}
 use Rattle.std.specs.Prelude.{◌==◌, Bool, not, IfSome}
@@ -31,27 +31,27 @@ use Rattle.mt_record.proofs.Feeds.{behind_on, shows_none_on, front_read}
 
 -- ---- what was read
 
--- without a header nothing was
+-- if no header was read, nothing was: the rest is the input
 unread : (taken : List Logged) (s : LogSoFar) (text rest : List ℕ) → s.head ≡ None → HasRead (HoldsLog taken s) text rest → rest ≡ text
 unread taken s text rest none reads =
     let empty : taken ++ s.ready ≡ [] = rw none at reads.read.lawful in
     sym (reads.joins ∙ ap (λ (x : List ℕ). x ++ rest) (rw (none, empty) at reads.read.spelled))
 
--- with a header the text is that, what is spelled of lawful records, and the rest
+-- if a header was read, the input is the header, the encodings of lawful records, and the rest
 begun : (taken : List Logged) (s : LogSoFar) (head : Head) (text rest : List ℕ) → s.head ≡ Some head → HasRead (HoldsLog taken s) text rest
     → (text ≡ head_bytes head ++ (flat_map spelling (taken ++ s.ready) ++ rest)) × IsHead head × AreRecords (limits_of head.format) 0 (taken ++ s.ready)
 begun taken s head text rest some reads =
     let lawful : IsHead head × AreRecords (limits_of head.format) 0 (taken ++ s.ready) = rw some at reads.read.lawful in
     (reads.joins ∙ behind_on (head_bytes head) reads.front (flat_map spelling (taken ++ s.ready)) rest (rw some at reads.read.spelled), lawful.0, lawful.1)
 
--- and with a rest that is no record nor a fault it is a log
+-- if a header was read and the rest is empty or torn, the input is a log
 is_log : (taken : List Logged) (s : LogSoFar) (head : Head) (text left : List ℕ) → s.head ≡ Some head → HasRead (HoldsLog taken s) text left → (left ≡ []) ⊎ IsTorn (limits_of head.format) left
     → IsLog text head (taken ++ s.ready) left
 is_log taken s head text left some reads ends = let is = begun taken s head text left some reads in record { spelled = is.0; is_head = is.1; lawful = is.2; ends = ends }
 
 -- ---- items
 
--- a header is read where nothing was
+-- the header is read if nothing was read before
 pub header_read : {R : Type 0} (listed : R → List Logged) (old : LogItems R) (head : Head) (bytes after : List ℕ) → old.head ≡ None → IsHead head → bytes ≡ head_bytes head ++ after
     → Reads (λ taken items. HoldsLog taken (log_so_far listed items)) old (record old { head = Some head }) bytes after × (length after < length bytes)
 header_read listed old head bytes after none is e =
@@ -65,12 +65,12 @@ header_read listed old head bytes after none is e =
       whole = h.whole;
     })
 
--- a change that a format allows is one that some format allows
+-- if a format allows a change, so does the widest format
 logged_within : (format : Format) (o : Option Change) → IfSome o (IsLoggedChange (limits_of format)) → IfSome o (IsLoggedChange widest)
 logged_within format None logged = tt
 logged_within format (Some change) logged = (change_within format change logged.0, logged.1)
 
--- a record is read behind those before it
+-- a record is read after those before it
 pub record_read : {R : Type 0} (listed : R → List Logged) (old : LogItems R) (ready : R) (head : Head) (bytes body after : List ℕ) (time whole : ℕ) → old.head ≡ Some head
     → IsNextBody (limits_of head.format) old.latest bytes time body after
     → ((r : Logged) → IsBodyOf widest 0 body r → listed ready ≡ listed old.ready ++ r ∷ []) → whole ≡ min (old.whole + 1) (2 ^ 64 - 1)
@@ -96,7 +96,7 @@ record_read listed old ready head bytes body after time whole some found put cou
 
 -- ---- the beginning
 
--- nothing was read of nothing
+-- a new feed has read nothing, and holds nothing
 pub nothing_read : {R : Type 0} (listed : R → List Logged) (records : R) → listed records ≡ []
     → HoldsAll (λ items. HoldsLog [] (log_so_far listed items)) (λ items. IsLogLeft (log_so_far listed items)) (record { head = None; ready = records; latest = 0; whole = 0 }) [] []
 nothing_read listed records none = (
@@ -106,11 +106,11 @@ nothing_read listed records none = (
 
 -- ---- the end
 
--- without a header there is none
+-- if no header was read, the input has none
 pub no_head_read : (taken : List Logged) (s : LogSoFar) (text left : List ℕ) → s.head ≡ None → HoldsAll (HoldsLog taken) IsLogLeft s left text → HasNoHeader text
 no_head_read taken s text left none (reads, rest) = subst HasNoHeader (unread taken s text left none reads) (cut_none IsHead head_bytes 12 (λ head. refl) left (rw none at rest))
 
--- what was read with a header is a log
+-- if a header was read, the input is a log
 pub text_read : {R : Type 0} (listed : R → List Logged) (items : LogItems R) (taken : List Logged) (text left : List ℕ) (head : Head) (last : ℕ) (torn : Bool) → items.head ≡ Some head
     → HoldsAll (HoldsLog taken) IsLogLeft (log_so_far listed items) left text → torn ≡ not (length left == 0) → last ≡ max head.from items.latest
     → IsTextIn listed taken text (record { from = head.from; last = last; records = items.ready; whole = items.whole; torn = torn })
@@ -134,20 +134,20 @@ text_read listed items taken text left head last torn some (reads, rest) test gr
 
 -- ---- faults
 
--- a fault that is shown is that of the bytes
+-- a fault that the bytes show is the fault of the bytes
 pub shown_fault : (fault : FeedFault) (bytes : List ℕ) → ShowsFault bytes fault → IsLogFault bytes fault
 shown_fault faults.Header bytes h = h.0
 shown_fault (faults.Record nth what) bytes h = h
 shown_fault faults.Memory bytes h = h
 
--- bytes that begin a header show no fault
+-- a proper prefix of a header shows no fault
 cut_shows_none : (bytes : List ℕ) → IsCutFront IsHead head_bytes bytes → ShowsNoFault bytes
 cut_shows_none bytes cut faults.Header h = h.1 cut.head cut.more cut.is_head cut.begun
 cut_shows_none bytes cut (faults.Record nth what) h =
     cut_none IsHead head_bytes 12 (λ head. refl) bytes cut h.fault.head (flat_map spelling h.records ++ h.fault.rest) h.fault.is_head h.fault.spelled
 cut_shows_none bytes cut faults.Memory h = h
 
--- a feed in good order shows no fault
+-- the input of a feed without a fault shows no fault
 pub fed_shows_none : (taken : List Logged) (s : LogSoFar) (held text : List ℕ) → HoldsAll (HoldsLog taken) IsLogLeft s held text → ShowsNoFault text
 fed_shows_none taken s held text (reads, left) = by s.head refl
   where
@@ -167,7 +167,7 @@ rest_fault_on what limits low rest more h = record {
   fault = h.fault;
 }
 
--- the fault of a feed that failed is shown
+-- the input of a feed that failed shows its fault
 pub fed_shows : (taken : List Logged) (s : LogSoFar) (fault : FeedFault) (text : List ℕ) → HasShown (HasRead (HoldsLog taken s) text) (IsLogFaulty s fault) → IsShown text fault
 fed_shows taken s faults.Header text h other =
     subst (ShowsNone IsHead head_bytes) (unread taken s text (h.shown ++ h.more) h.fault.0 h.read) (shows_none_on IsHead head_bytes h.shown h.more h.fault.1)

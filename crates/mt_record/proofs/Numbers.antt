@@ -5,22 +5,22 @@ use Rattle.std.proofs.lemmas.Nat.{be_bytes_2, be_bytes_4, be_bytes_8}
 use Rattle.byteorder.specs.Endian.{big_bytes, big_from}
 use Rattle.byteorder.specs.Numbers.{big_from-lt, big_from-take}
 
--- each number is a byte, and so is what is read past the end
+-- each number is a byte, and so is the 0 that is read past the end
 abbrev pub AreBytes : List ℕ → Type 0
 AreBytes xs = (i : ℕ) → get_or xs i 0 < 256
 
--- the first part of bytes is bytes
+-- every prefix of a list of bytes is a list of bytes
 pub bytes_front : (a b : List ℕ) → AreBytes (a ++ b) → AreBytes a
 bytes_front [] b h i = omega arith
 bytes_front (x ∷ a) b h zero = h zero
 bytes_front (x ∷ a) b h (suc i) = bytes_front a b (λ j. h (suc j)) i
 
--- the last part of bytes is bytes
+-- every suffix of a list of bytes is a list of bytes
 pub bytes_back : (a b : List ℕ) → AreBytes (a ++ b) → AreBytes b
 bytes_back [] b h = h
 bytes_back (x ∷ a) b h = bytes_back a b (λ j. h (suc j))
 
--- zeros behind bytes are bytes too
+-- bytes followed by zeros are bytes
 pub bytes_padded : (a : List ℕ) (k : ℕ) → AreBytes a → AreBytes (a ++ replicate k 0)
 bytes_padded [] zero h i = omega arith
 bytes_padded [] (suc k) h zero = omega arith
@@ -28,7 +28,7 @@ bytes_padded [] (suc k) h (suc i) = bytes_padded [] k h i
 bytes_padded (x ∷ a) k h zero = h zero
 bytes_padded (x ∷ a) k h (suc i) = bytes_padded a k (λ j. h (suc j)) i
 
--- two, four or eight bytes are those of the number in them
+-- two, four or eight bytes encode the number that is read from them
 pub two : (xs : List ℕ) → length xs ≡ 2 → AreBytes xs → big_bytes 2 (big_from 0 2 xs) ≡ xs
 two xs long small = be_bytes_2 xs (big_from 0 2 xs) long small (omega arith)
 
@@ -38,7 +38,7 @@ four xs long small = be_bytes_4 xs (big_from 0 4 xs) long small (omega arith)
 pub eight : (xs : List ℕ) → length xs ≡ 8 → AreBytes xs → big_bytes 8 (big_from 0 8 xs) ≡ xs
 eight xs long small = be_bytes_8 xs (big_from 0 8 xs) long small (omega arith)
 
--- bytes begin with those of the number in the first ones
+-- bytes begin with the encoding of the number that is read from the first n
 pub number_front : (n : ℕ) (xs : List ℕ) → ((ys : List ℕ) → length ys ≡ n → AreBytes ys → big_bytes n (big_from 0 n ys) ≡ ys) → n ≤ length xs → AreBytes xs
     → (big_from 0 n xs < 256 ^ n) × (xs ≡ big_bytes n (big_from 0 n xs) ++ drop n xs) × AreBytes (drop n xs)
 number_front n xs spelled long small =

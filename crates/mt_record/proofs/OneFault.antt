@@ -1,4 +1,4 @@
--- What follows the records has one fault at the most, and none where it is empty, torn or begins with a record.
+-- The bytes after the records have at most one fault, and none if they are empty, torn or begin with a record.
 use Rattle.std.proofs.Common.{◌≡◌, ◌≢◌, ◌⊎◌, inl, inr, ℕ, ◌<◌, ◌≤◌, List, [], ◌++◌, length, Option, Some, None, refl, sym, ◌∙◌, subst, arith}
 use Rattle.std.specs.Prelude.{slice_index, IfSome}
 use Rattle.byteorder.specs.Endian.{big_bytes}
@@ -20,21 +20,21 @@ use Rattle.mt_words.proofs.Formats.{within}
 use Rattle.mt_record.proofs.Frames.{body_frame, Begins, frame_begins, wrong_begins, none_begins}
 use Rattle.mt_record.proofs.Lawful.{length_fits, lawful_fits, lawful_length}
 
--- ---- tests, one behind the other
+-- ---- tests, one after the other
 
--- the first test fails, and the fault has its name, or it passes, and one behind it fails
+-- the first test fails, and the fault has its name; or it passes, and a later one fails
 data Fails (what name : What) (Test : Type 0) (Behind : Test → Type 0) : Type 0 where
   here : what ≡ name → (Test → ⊥) → Fails what name Test Behind
   behind : (passed : Test) → Behind passed → Fails what name Test Behind
 
--- of two faults that the first test shows each has its name
+-- the same tests find only one fault, if the later tests do
 one_name : {a b name : What} {Test : Type 0} {A B : Test → Type 0} → Fails a name Test A → Fails b name Test B → ((p q : Test) → A p → B q → a ≡ b) → a ≡ b
 one_name (here x fails) (here y too) next = x ∙ sym y
 one_name (here x fails) (behind q y) next = absurd (fails q)
 one_name (behind p x) (here y fails) next = absurd (fails p)
 one_name (behind p x) (behind q y) next = next p q x y
 
--- what passes the first test and those behind it has no fault
+-- if the first test and the later ones pass, there is no fault
 none_fails : {what name : What} {Test : Type 0} {Behind : Test → Type 0} → Test → ((p : Test) → Behind p → ⊥) → Fails what name Test Behind → ⊥
 none_fails passed next (here x fails) = fails passed
 none_fails passed next (behind p x) = next p x
@@ -47,18 +47,18 @@ FieldFault what limits low r =
     Fails what Version (IfSome r.change (λ change. 0 < change.version)) (λ _. Fails what Key (IfSome r.change (λ change. IsKey limits change.key))
     (λ _. Fails what Columns (IfSome r.change (λ change. AllowsKind limits change.kind)) (λ _. (what ≡ Clock) × (r.timestamp < low))))
 
--- and with a body: the byte of its kind, its bytes as those of a record, or its fields
+-- what is wrong with a body: the byte of its kind, its form as that of a record, or its fields
 abbrev TestedBody : What → Limits → ℕ → List ℕ → Type 0
 TestedBody what limits low bytes =
     Fails what Kind (IsKindByte limits (slice_index bytes 0)) (λ _. Fails what Frame ((r : Logged) × Fits r × (bytes ≡ body r)) (λ read. FieldFault what limits low read.0))
 
--- a lawful change passes
+-- a lawful change passes these tests
 passes : (limits : Limits) (change : Option Change) → IfSome change (IsLoggedChange limits)
     → IfSome change (λ c. 0 < c.version) × IfSome change (λ c. IsKey limits c.key) × IfSome change (λ c. AllowsKind limits c.kind)
 passes limits None lawful = (tt, tt, tt)
 passes limits (Some change) lawful = (lawful.0.version, lawful.0.key, lawful.0.kind)
 
--- a fault of a body is one of the tests
+-- a fault of a body is a failed test
 tested_body : (what : What) (format : Format) (low : ℕ) (bytes : List ℕ) → BodyFault what (limits_of format) low bytes → TestedBody what (limits_of format) low bytes
 tested_body Length format low bytes h = absurd h
 tested_body Trailer format low bytes h = absurd h
@@ -71,7 +71,7 @@ tested_body Clock format low bytes (byte, h) =
     let lawful_change = passes (limits_of format) h.logged.change h.lawful.1 in
     behind byte (behind (h.logged, lawful_fits format h.logged h.lawful, h.spelled) (behind lawful_change.0 (behind lawful_change.1 (behind lawful_change.2 (refl, h.earlier)))))
 
--- a body has one fault
+-- a body has at most one fault
 one_body : (limits : Limits) (low : ℕ) (bytes : List ℕ) (a b : What) → TestedBody a limits low bytes → TestedBody b limits low bytes → a ≡ b
 one_body limits low bytes a b h k = one_name h k (λ _ _ f g. one_name f g one_read)
   where
@@ -80,19 +80,19 @@ one_body limits low bytes a b h k = one_name h k (λ _ _ f g. one_name f g one_r
         let there = subst (FieldFault a limits low) (same_body x.0 y.0 x.1 y.1 (sym x.2 ∙ y.2)) f in
         one_name there g (λ _ _ f g. one_name f g (λ _ _ f g. one_name f g (λ _ _ f g. f.0 ∙ sym g.0)))
 
--- a format has each kind of record that it allows
+-- if a format allows a kind of record, it has the kind's byte
 has_kind_byte : (format : Format) (kind : AnyKind) → AllowsKind (limits_of format) kind → IsLogged kind → IsKindByte (limits_of format) (kind_byte kind)
 has_kind_byte format (Put columns) allowed logged = (omega arith, omega (arith, (within format).kinds))
 has_kind_byte format Remove allowed logged = (omega arith, omega (arith, (within format).kinds))
 has_kind_byte format (Whole columns) allowed logged = absurd logged
 has_kind_byte format (Erase numbers) allowed logged = (omega arith, allowed.0)
 
--- so that a body begins with the byte of a kind
+-- so the body of a lawful record begins with such a byte
 body_byte : (format : Format) (t : ℕ) (change : Option Change) → IfSome change (IsLoggedChange (limits_of format)) → IsKindByte (limits_of format) (slice_index (body_of t change) 0)
 body_byte format t None lawful = (omega arith, (within format).kinds)
 body_byte format t (Some change) lawful = has_kind_byte format change.kind lawful.0.kind lawful.1
 
--- the body of a lawful record in time has no fault
+-- the body of a lawful record whose timestamp is at least `low` has no fault
 no_body : (format : Format) (low : ℕ) (r : Logged) (a : What) → IsLawful (limits_of format) r → low ≤ r.timestamp → TestedBody a (limits_of format) low (body r) → ⊥
 no_body format low r a is le h =
     let fits = lawful_fits format r is in
@@ -101,17 +101,17 @@ no_body format low r a is le h =
     none_fails lawful_change.0 (λ _ g. none_fails lawful_change.1 (λ _ g. none_fails lawful_change.2 (λ _ late. omega (arith, late.1, le)) g) g)
     (subst (FieldFault a (limits_of format) low) (same_body x.0 r x.1 fits (sym x.2)) g)) f) h
 
--- ---- one fault of a rest
+-- ---- one fault of the rest
 
--- a lawful length, so many bytes and a number
+-- an allowed length, that many bytes, and a number
 abbrev Frames : Limits → List ℕ → Type 0
 Frames limits rest = HasFrame (IsRecordLength limits) rest
 
--- what is wrong with framed bytes: the number behind them, or the body that they are
+-- what is wrong with framed bytes: the number after them, or the body that they are
 abbrev TestedFrame : What → Limits → ℕ → List ℕ → ℕ → Type 0
 TestedFrame what limits low bytes n = Fails what Trailer (n ≡ length bytes) (λ _. TestedBody what limits low bytes)
 
--- and with a rest: its length, or what that frames
+-- what is wrong with the rest: its length, or what is in its frame
 abbrev TestedRest : What → Limits → ℕ → List ℕ → Type 0
 TestedRest what limits low rest = ((what ≡ Length) × HasLengthFault (IsRecordLength limits) rest) ⊎ ((f : Frames limits rest) × TestedFrame what limits low f.body f.number)
 
@@ -119,7 +119,7 @@ TestedRest what limits low rest = ((what ≡ Length) × HasLengthFault (IsRecord
 abbrev body_frames : (format : Format) (rest bytes more : List ℕ) → IsRecordLength (limits_of format) (length bytes) → rest ≡ framed bytes ++ more → Frames (limits_of format) rest
 body_frames format rest bytes more is e = body_frame (IsRecordLength (limits_of format)) (length_fits format) rest bytes more is e
 
--- a fault of a rest is one of the tests
+-- a fault of the rest is a failed test
 tested_rest : (what : What) (format : Format) (low : ℕ) (rest : List ℕ) → RestFault what (limits_of format) low rest → TestedRest what (limits_of format) low rest
 tested_rest what format low rest = by what
   where
@@ -139,7 +139,7 @@ no_length format rest h f =
     let same = same_number 4 h.number (length f.body) h.more (f.body ++ (big_bytes 4 f.number ++ f.more)) h.fits fits (sym h.spelled ∙ f.spelled) in
     h.wrong (subst (IsRecordLength (limits_of format)) (sym same.0) f.is_length)
 
--- one frame begins a rest
+-- the rest begins with only one frame
 same_frame : (format : Format) (rest : List ℕ) (what : What) (low : ℕ) (f g : Frames (limits_of format) rest) → TestedFrame what (limits_of format) low f.body f.number
     → TestedFrame what (limits_of format) low g.body g.number
 same_frame format rest what low f g h =
@@ -152,7 +152,7 @@ same_frame format rest what low f g h =
     let numbers = same_number 4 f.number g.number f.more g.more f.fits g.fits bodies.1 in
     subst (λ (p : List ℕ × ℕ). TestedFrame what (limits_of format) low p.0 p.1) (λ i. (bodies.0 i, numbers.0 i)) h
 
--- a rest has one fault
+-- the rest has at most one fault
 pub one_rest : (format : Format) (low : ℕ) (rest : List ℕ) (a b : What) → RestFault a (limits_of format) low rest → RestFault b (limits_of format) low rest
     → a ≡ b
 one_rest format low rest a b h k = both (tested_rest a format low rest h) (tested_rest b format low rest k)
@@ -165,11 +165,11 @@ one_rest format low rest a b h k = both (tested_rest a format low rest h) (teste
 
 -- ---- what ends the records
 
--- no lawful record in time begins the rest
+-- the rest begins with no lawful record whose timestamp is at least `low`
 abbrev pub Stops : Limits → ℕ → List ℕ → Type 0
 Stops limits low rest = (r : Logged) (after : List ℕ) → IsLawful limits r → low ≤ r.timestamp → rest ≢ spelling r ++ after
 
--- a rest with a fault begins with no record
+-- if the rest has a fault, it begins with no such record
 pub fault_stops : (format : Format) (low : ℕ) (rest : List ℕ) (a : What) → RestFault a (limits_of format) low rest → Stops (limits_of format) low rest
 fault_stops format low rest a h r after is le e =
     let own = body_frames format rest (body r) after (lawful_length (limits_of format) r is) e in
@@ -178,16 +178,16 @@ fault_stops format low rest a h r after is le e =
       | inr x ↦ none_fails refl (λ _ f. no_body format low r a is le f) (same_frame format rest a low x.0 own x.1)
     ]
 
--- a tail that is empty or torn has too few bytes for what stands at its front
+-- an empty or torn tail has too few bytes for the length at its front
 no_end : (format : Format) (rest : List ℕ) → (rest ≡ []) ⊎ IsTorn (limits_of format) rest → Begins (IsRecordLength (limits_of format)) (length_fits format) rest → ⊥
 no_end format rest = none_begins (IsRecordLength (limits_of format)) (length_fits format) rest
 
--- so that it begins with no record
+-- so it begins with no such record
 pub end_stops : (format : Format) (low : ℕ) (rest : List ℕ) → (rest ≡ []) ⊎ IsTorn (limits_of format) rest → Stops (limits_of format) low rest
 end_stops format low rest ends r after is le e =
     no_end format rest ends (frame_begins (IsRecordLength (limits_of format)) (length_fits format) rest (body_frames format rest (body r) after (lawful_length (limits_of format) r is) e))
 
--- and has no fault
+-- and it has no fault
 pub fault_no_end : (format : Format) (low : ℕ) (rest : List ℕ) (a : What) → RestFault a (limits_of format) low rest
     → (rest ≡ []) ⊎ IsTorn (limits_of format) rest → ⊥
 fault_no_end format low rest a h ends = elim (tested_rest a format low rest h) as (λ _. ⊥) [

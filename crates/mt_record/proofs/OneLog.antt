@@ -1,4 +1,4 @@
--- Bytes are one header, one list of records and one rest.
+-- Bytes split in only one way into a header, records and the rest.
 use Rattle.std.proofs.Common.{◌≡◌, ℕ, List, [], ◌∷◌, ◌++◌, length, drop, refl, sym, ap, ◌∙◌, subst, append_assoc}
 use Rattle.std.specs.Prelude.{slice_index}
 use Rattle.std.specs.List.{flat_map}
@@ -15,7 +15,7 @@ use Rattle.mt_record.proofs.Unique.{same_number, same_body, same_framed}
 use Rattle.mt_record.proofs.Lawful.{length_fits, lawful_fits, lawful_length}
 use Rattle.mt_record.proofs.OneFault.{Stops}
 
--- one header begins the bytes
+-- bytes begin with only one header
 same_head : (a b : Head) (x y : List ℕ) → IsHead a → IsHead b → head_bytes a ++ x ≡ head_bytes b ++ y → (a ≡ b) × (x ≡ y)
 same_head a b x y is_a is_b e =
     let format = same_format a.format b.format (ap (λ (bytes : List ℕ). slice_index bytes 3) e) in
@@ -23,7 +23,7 @@ same_head a b x y is_a is_b e =
     let from = same_number 8 a.from b.from x y is_a is_b tails in
     (λ i. record { format = format i; from = from.0 i }, from.1)
 
--- one list of records, up to a rest that begins with none, begins the bytes
+-- bytes begin with only one list of records, if no further record follows
 same_records : (format : Format) (low : ℕ) (rs ss : List Logged) (x y : List ℕ) → AreRecords (limits_of format) low rs → AreRecords (limits_of format) low ss
     → flat_map spelling rs ++ x ≡ flat_map spelling ss ++ y → Stops (limits_of format) (latest low rs) x → Stops (limits_of format) (latest low ss) y
     → (rs ≡ ss) × (x ≡ y)
@@ -44,7 +44,7 @@ same_records format low (r ∷ rs) (s ∷ ss) x y are_r are_s e stop_x stop_y =
     let rest = same_records format r.timestamp rs ss x y are_r.2 are same.1 stop_x stop in
     (λ i. first i ∷ rest.0 i, rest.1)
 
--- one header and one list of records, up to a rest that begins with none, begin the bytes
+-- bytes begin with only one header and one list of records, if no further record follows
 pub same_log : (a b : Head) (rs ss : List Logged) (x y : List ℕ) → IsHead a → IsHead b → AreRecords (limits_of a.format) 0 rs → AreRecords (limits_of b.format) 0 ss
     → head_bytes a ++ (flat_map spelling rs ++ x) ≡ head_bytes b ++ (flat_map spelling ss ++ y) → Stops (limits_of a.format) (latest 0 rs) x
     → Stops (limits_of b.format) (latest 0 ss) y → (a ≡ b) × (rs ≡ ss) × (x ≡ y)

@@ -1,4 +1,4 @@
--- Bytes are one part of a checkpoint, and one entry at the most begins them.
+-- Bytes are at most one part of a checkpoint, and begin with at most one entry.
 use Rattle.std.proofs.Common.{◌≡◌, ◌∙◌, ℕ, ◌<◌, ◌^◌, List, [], ◌∷◌, ◌++◌, length, drop, refl, sym, ap, subst, append_assoc, arith}
 use Rattle.std.proofs.lemmas.List.{append-nil}
 use Rattle.std.specs.Prelude.{slice_index}
@@ -19,7 +19,7 @@ use Rattle.mt_record.proofs.EntryTexts.{entry_fits, whole_code}
 
 -- ---- entries
 
--- one entry begins the bytes
+-- bytes begin with at most one entry
 pub same_entry : (format : Format) (a b : Change) (x y : List ℕ) → IsEntry (limits_of format) a → IsEntry (limits_of format) b
     → entry_spelling a ++ x ≡ entry_spelling b ++ y → (a ≡ b) × (x ≡ y)
 same_entry format a b x y is_a is_b e =
@@ -29,12 +29,12 @@ same_entry format a b x y is_a is_b e =
     let code = whole_code a.kind is_a.1 ∙ sym (whole_code b.kind is_b.1) in
     (same_change a b (entry_fits format a is_a) (entry_fits format b is_b) code same.0, same.1)
 
--- no spelling of an entry begins that of another one
+-- no entry's encoding begins another's
 pub entry_free : (format : Format) (a b : Change) (more : List ℕ) → IsEntry (limits_of format) a → IsEntry (limits_of format) b
     → entry_spelling b ≡ entry_spelling a ++ more → (a ≡ b) × (more ≡ [])
 entry_free format a b more is_a is_b e = same_entry format a b more [] is_a is_b (sym e ∙ sym (append-nil (entry_spelling b)))
 
--- bytes whose length no entry has begin with none
+-- bytes that begin with a length that no entry has begin with no entry
 pub length_no_entry : (format : Format) (rest : List ℕ) (n : ℕ) (more : List ℕ) → n < 2 ^ 32 → (IsEntryLength (limits_of format) n → ⊥) → rest ≡ big_bytes 4 n ++ more
     → HasNoEntry (limits_of format) rest
 length_no_entry format rest n more fits wrong e entry behind is other =
@@ -44,13 +44,13 @@ length_no_entry format rest n more fits wrong e entry behind is other =
     (sym e ∙ other ∙ framed_apart fields behind) in
     wrong (subst (IsEntryLength (limits_of format)) (sym same.0) long)
 
--- and so does no footer
+-- bytes that begin with a footer begin with no entry
 pub footer_no_entry : (format : Format) (rest more : List ℕ) (end count : ℕ) → rest ≡ footer_bytes end count ++ more → HasNoEntry (limits_of format) rest
 footer_no_entry format rest more end count e = length_no_entry format rest 0 (big_bytes 8 end ++ (big_bytes 4 count ++ more)) (omega arith) (λ is. omega (arith, is.0)) e
 
 -- ---- parts
 
--- entries and a rest that begins with none are the bytes in one way
+-- bytes begin with only one list of entries, if no further entry follows
 same_rest : (format : Format) (xs ys : List Change) (a b : List ℕ) → AllByRecursion (IsEntry (limits_of format)) xs → AllByRecursion (IsEntry (limits_of format)) ys
     → HasNoEntry (limits_of format) a → HasNoEntry (limits_of format) b → flat_map entry_spelling xs ++ a ≡ flat_map entry_spelling ys ++ b → (xs ≡ ys) × (a ≡ b)
 same_rest format [] [] a b are too none_a none_b e = (refl, e)
@@ -62,7 +62,7 @@ same_rest format (x ∷ xs) (y ∷ ys) a b are too none_a none_b e =
     let rest = same_rest format xs ys a b are.1 too.1 none_a none_b first.1 in
     (λ i. first.0 i ∷ rest.0 i, rest.1)
 
--- one header begins the bytes
+-- bytes begin with only one header
 pub same_head : (a b : PartHead) (x y : List ℕ) → IsPartHead a → IsPartHead b → part_head_bytes a ++ x ≡ part_head_bytes b ++ y → (a ≡ b) × (x ≡ y)
 same_head a b x y is_a is_b e =
     let split = same_split (part_head_bytes a) (part_head_bytes b) x y refl e in
@@ -76,7 +76,7 @@ same_head a b x y is_a is_b e =
     let parts = same_number 2 a.parts b.parts [] [] is_a.parts is_b.parts (append-nil (big_bytes 2 a.parts) ∙ part.1 ∙ sym (append-nil (big_bytes 2 b.parts))) in
     (λ i. record { format = format i; number = number.0 i; begin = begin.0 i; part = part.0 i; parts = parts.0 i }, split.1)
 
--- bytes begin with one header and one list of whole entries
+-- bytes begin with only one header and one list of complete entries, if no further entry follows
 pub same_beginning : (bytes : List ℕ) (h k : PartHead) (xs ys : List Change) (a b : List ℕ) → BeginsPart bytes h xs a → BeginsPart bytes k ys b → HasNoEntry (limits_of h.format) a
     → HasNoEntry (limits_of k.format) b → (h ≡ k) × (xs ≡ ys) × (a ≡ b)
 same_beginning bytes h k xs ys a b p q none_a none_b =
@@ -86,11 +86,11 @@ same_beginning bytes h k xs ys a b p q none_a none_b =
     let rest = same_rest k.format xs ys a b lawful q.lawful none none_b heads.1 in
     (heads.0, rest.0, rest.1)
 
--- a part begins with its header and its entries, and then its footer follows
+-- a part begins with its header and its entries, and its footer follows
 pub part_begins : (bytes : List ℕ) (head : PartHead) (entries : List Change) (end : ℕ) → IsPart bytes head entries end → BeginsPart bytes head entries (footer_bytes end (length entries))
 part_begins bytes head entries end is = record { spelled = is.spelled; is_head = is.is_head; lawful = is.lawful }
 
--- bytes are a part in one way
+-- bytes are a part in only one way
 pub one_part : (bytes : List ℕ) (head other : PartHead) (entries others : List Change) (end fin : ℕ) → IsPart bytes head entries end → IsPart bytes other others fin
     → (head ≡ other) × (entries ≡ others) × (end ≡ fin)
 one_part bytes head other entries others end fin a b =

@@ -1,4 +1,4 @@
--- Bytes are a part or have one fault, and what shows a fault.
+-- Bytes have at most one fault, and none if they are a part. Which bytes show a fault.
 use Rattle.std.proofs.Common.{◌≡◌, ◌⊎◌, inl, inr, ◌∙◌, ℕ, ◌<◌, ◌≤◌, ◌^◌, Option, Some, None, List, [], ◌∷◌, ◌++◌, length, refl, sym, ap, subst, append_assoc, arith}
 use Rattle.std.proofs.lemmas.List.{append-nil}
 use Rattle.std.specs.List.{flat_map, AllByRecursion}
@@ -25,23 +25,23 @@ use Rattle.mt_record.proofs.Beginnings.{cut_none}
 use Rattle.mt_record.proofs.Frames.{body_frame, Begins, frame_begins, wrong_begins, none_begins, length_fault_on, frame_on}
 use Rattle.mt_record.proofs.Feeds.{behind_on, shows_none_on}
 
--- ---- what stands at the front of a rest
+-- ---- what the rest begins with
 
--- Of parts of one format.
+-- For parts of one format.
 module _ (format : Format) where
   abbrev limits : Limits
   limits = limits_of format
 
-  -- enough bytes for the length at the front, and for a footer, which it begins where it is zero
+  -- the rest has enough bytes for the length at its front, and for a footer if that length is zero
   record Whole (rest : List ℕ) : Type 0 where
     begins : Begins (IsEntryLength limits) (short_entry format) rest
     footer : begins.number ≡ 0 → 12 ≤ length begins.more
 
-  -- framed bytes are whole, lawful or not
+  -- framed bytes are complete, lawful or not
   frame_whole : (rest : List ℕ) → HasFrame (IsEntryLength limits) rest → Whole rest
   frame_whole rest f = record { begins = frame_begins (IsEntryLength limits) (short_entry format) rest f; footer = λ zero. omega (arith, zero, f.is_length.0) }
 
-  -- and so is a length that no entry has, nor a footer
+  -- so is a wrong length, which neither an entry nor a footer has
   wrong_whole : (rest : List ℕ) → HasWrongLength limits rest → Whole rest
   wrong_whole rest (h, some) = record { begins = wrong_begins (IsEntryLength limits) (short_entry format) rest h; footer = λ zero. omega (arith, zero, some) }
 
@@ -49,7 +49,7 @@ module _ (format : Format) where
   entry_frame : (rest more : List ℕ) (entry : Change) → IsEntry limits entry → rest ≡ entry_spelling entry ++ more → HasFrame (IsEntryLength limits) rest
   entry_frame rest more entry is e = body_frame (IsEntryLength limits) (short_entry format) rest (change_bytes entry) more (entry_length limits entry is) e
 
-  -- and a footer is whole
+  -- a footer is complete
   footer_whole : (rest more : List ℕ) (end count : ℕ) → rest ≡ footer_bytes end count ++ more → Whole rest
   footer_whole rest more end count e = record {
     begins = record {
@@ -62,7 +62,7 @@ module _ (format : Format) where
     footer = λ zero. omega arith;
   }
 
-  -- a rest in which nothing more can be read has nothing whole at its front
+  -- if nothing more can be read from the rest, it begins with nothing complete
   none_left : (rest : List ℕ) → (rest ≡ []) ⊎ IsCutItem limits rest → Whole rest → ⊥
   none_left rest (inl none) whole = none_begins (IsEntryLength limits) (short_entry format) rest (inl none) whole.begins
   none_left rest (inr (inl cut)) whole = none_begins (IsEntryLength limits) (short_entry format) rest (inr cut) whole.begins
@@ -71,13 +71,13 @@ module _ (format : Format) where
       let enough = whole.footer (sym same.0) in
       omega (arith, enough, ap length same.1, short)
 
-  -- so that it begins with no entry
+  -- so it begins with no entry
   left_no_entry : (rest : List ℕ) → (rest ≡ []) ⊎ IsCutItem limits rest → HasNoEntry limits rest
   left_no_entry rest left entry more is e = none_left rest left (frame_whole rest (entry_frame rest more entry is e))
 
   -- ---- what shows that there is no part
 
-  -- what is framed wrongly is no entry
+  -- bytes with a wrong entry at the front begin with no entry
   wrong_no_entry : (rest : List ℕ) → HasWrongEntry limits rest → HasNoEntry limits rest
   wrong_no_entry rest (f, no_entry) entry behind is other =
       let fields = change_bytes entry in
@@ -95,14 +95,14 @@ module _ (format : Format) where
   shown_no_entry count rest (inr (inr (inl h))) = footer_no_entry format rest h.more h.end h.number h.spelled
   shown_no_entry count rest (inr (inr (inr h))) = footer_no_entry format rest (h.byte ∷ h.more) h.end count h.spelled
 
-  -- a rest in which nothing more can be read shows nothing
+  -- if nothing more can be read from the rest, it does not show that there is no part
   left_shows_none : (count : ℕ) (rest : List ℕ) → (rest ≡ []) ⊎ IsCutItem limits rest → ShowsNoPart limits count rest → ⊥
   left_shows_none count rest left (inl h) = none_left rest left (wrong_whole rest h)
   left_shows_none count rest left (inr (inl h)) = none_left rest left (frame_whole rest h.0)
   left_shows_none count rest left (inr (inr (inl h))) = none_left rest left (footer_whole rest h.more h.end h.number h.spelled)
   left_shows_none count rest left (inr (inr (inr h))) = none_left rest left (footer_whole rest (h.byte ∷ h.more) h.end count h.spelled)
 
-  -- a footer with the number of the entries shows nothing
+  -- nor does a footer with the right number of entries and nothing after it
   footer_shows_none : (count end : ℕ) (rest : List ℕ) → end < 2 ^ 64 → count < 2 ^ 32 → rest ≡ footer_bytes end count → ShowsNoPart limits count rest → ⊥
   footer_shows_none count end rest fits_end fits e (inl (h, some)) =
       let same = same_number 4 h.number 0 h.more (big_bytes 8 end ++ big_bytes 4 count) h.fits (omega arith) (sym h.spelled ∙ e) in
@@ -118,7 +118,7 @@ module _ (format : Format) where
       h.differs (same_number 4 h.number count h.more [] h.fits fits counts).0
   footer_shows_none count end rest fits_end fits e (inr (inr (inr h))) = let all = ap length (sym h.spelled ∙ e) in omega (arith, all)
 
--- what shows that there is no part shows it when more bytes follow
+-- bytes that show that there is no part still do when more bytes follow
 no_part_on : (allowed : Limits) (count : ℕ) (rest more : List ℕ) → ShowsNoPart allowed count rest → ShowsNoPart allowed count (rest ++ more)
 no_part_on allowed count rest more (inl (h, some)) = inl (length_fault_on (IsEntryLength allowed) rest more h, some)
 no_part_on allowed count rest more (inr (inl (f, no_entry))) = inr (inl (frame_on (IsEntryLength allowed) rest more f, no_entry))
@@ -137,7 +137,7 @@ no_part_on allowed count rest more (inr (inr (inr h))) = inr (inr (inr (record {
   spelled = behind_on (footer_bytes h.end count) rest (h.byte ∷ h.more) more h.spelled;
 })))
 
--- what begins bytes, up to a rest that begins with no entry, is all of a part but its footer
+-- if bytes are a part and begin with entries that no further entry follows, these are its entries and the rest is its footer
 up_to_footer : (bytes rest : List ℕ) (head other : PartHead) (entries others : List Change) (end : ℕ) → BeginsPart bytes head entries rest → HasNoEntry (limits_of head.format) rest
     → IsPart bytes other others end → (entries ≡ others) × (rest ≡ footer_bytes end (length entries))
 up_to_footer bytes rest head other entries others end begins none is =
@@ -148,7 +148,7 @@ up_to_footer bytes rest head other entries others end begins none is =
 
 -- ---- one fault
 
--- where what follows the entries shows that there is no part, the bytes are none
+-- if the bytes after the entries show that there is no part, there is none
 shown_no_part : (bytes : List ℕ) (head : PartHead) (entries : List Change) (rest : List ℕ) → BeginsPart bytes head entries rest → ShowsNoPart (limits_of head.format) (length entries) rest
     → (part : PartReading) → IsPartReading bytes part → ⊥
 shown_no_part bytes head entries rest begins shown part is =
@@ -157,14 +157,14 @@ shown_no_part bytes head entries rest begins shown part is =
     let few : length entries < 2 ^ 32 = subst (λ (xs : List Change). length xs < 2 ^ 32) (sym same.0) is.1.count in
     footer_shows_none head.format (length entries) part.end rest is.1.fits few same.1 shown
 
--- and where nothing more can be read behind them, too
+-- nor is there one if nothing more can be read from the bytes after the entries
 left_no_part : (bytes : List ℕ) (head : PartHead) (entries : List Change) (rest : List ℕ) → BeginsPart bytes head entries rest → (rest ≡ []) ⊎ IsCutItem (limits_of head.format) rest
     → (part : PartReading) → IsPartReading bytes part → ⊥
 left_no_part bytes head entries rest begins left part is =
     let same = up_to_footer bytes rest head _ entries part.entries part.end begins (left_no_entry head.format rest left) is.1 in
     none_left head.format rest left (footer_whole head.format rest [] part.end (length entries) (same.1 ∙ sym (append-nil (footer_bytes part.end (length entries)))))
 
--- a fault that is shown is that of the bytes
+-- a fault that the bytes show is the fault of the bytes
 pub shown_fault : (fault : PartFault) (bytes : List ℕ) → ShowsPartFault bytes fault → IsPartFault bytes fault
 shown_fault faults.Header bytes h = h.0
 shown_fault (faults.Broken number entries) bytes (front, h) =
@@ -176,20 +176,20 @@ shown_fault (faults.Broken number entries) bytes (front, h) =
     }
 shown_fault faults.Memory bytes h = h
 
--- bytes that only begin a header hold none
+-- a proper prefix of a header begins with no header
 cut_no_header : (bytes : List ℕ) → IsCutFront IsPartHead part_head_bytes bytes → HasNoPartHeader bytes
 cut_no_header bytes cut = cut_none IsPartHead part_head_bytes 20 (λ head. refl) bytes cut
 
--- ---- no fault in good order
+-- ---- bytes that show no fault
 
--- bytes that begin a part's header show no fault
+-- a proper prefix of a part's header shows no fault
 cut_shows_none : (bytes : List ℕ) → IsCutFront IsPartHead part_head_bytes bytes → ShowsNoPartFault bytes
 cut_shows_none bytes cut faults.Header h = h.1 cut.head cut.more cut.is_head cut.begun
 cut_shows_none bytes cut (faults.Broken number entries) (front, h) =
     cut_no_header bytes cut front.head (flat_map entry_spelling front.entries ++ front.rest) front.begins.is_head front.begins.spelled
 cut_shows_none bytes cut faults.Memory h = h
 
--- bytes that a part begins to be show no fault
+-- a header, entries and the beginning of a further item, which may be empty, show no fault
 begun_shows_none : (bytes : List ℕ) (head : PartHead) (entries : List Change) (rest : List ℕ) → BeginsPart bytes head entries rest → (rest ≡ []) ⊎ IsCutItem (limits_of head.format) rest
     → ShowsNoPartFault bytes
 begun_shows_none bytes head entries rest begins left faults.Header h = h.0 head (flat_map entry_spelling entries ++ rest) begins.is_head begins.spelled
@@ -198,7 +198,7 @@ begun_shows_none bytes head entries rest begins left (faults.Broken number count
     left_shows_none head.format count rest left (subst (λ (p : PartHead × List ℕ). ShowsNoPart (limits_of p.0.format) count p.1) (λ i. (sym same.0 i, sym same.2 i)) h)
 begun_shows_none bytes head entries rest begins left faults.Memory h = h
 
--- what a part with this header says
+-- what a part with this header, these entries and this end contains
 abbrev reading_of : PartHead → List Change → ℕ → PartReading
 reading_of head entries end = record { number = head.number; begin = head.begin; part = head.part; parts = head.parts; entries = entries; end = end }
 
@@ -208,13 +208,13 @@ part_shows_none bytes head entries end is faults.Header h = h.0 head _ is.is_hea
 part_shows_none bytes head entries end is (faults.Broken number count) h = (shown_fault (faults.Broken number count) bytes h).no_part (reading_of head entries end) (head.format, is)
 part_shows_none bytes head entries end is faults.Memory h = h
 
--- bytes of which nothing was read are what is left
+-- if no header was read, nothing was: the rest is the input
 unread : (s : PartSoFar) (text rest : List ℕ) → s.head ≡ None → HasRead (HoldsPart s) text rest → rest ≡ text
 unread s text rest none reads =
     let empty : (s.entries ≡ []) × (s.end ≡ None) = rw none at reads.read.lawful in
     sym (reads.joins ∙ ap (λ (x : List ℕ). x ++ rest) (rw (none, empty.0, empty.1) at reads.read.spelled))
 
--- what was read behind a header, and then the rest, begins a part
+-- if a header was read, the input begins like a part: the header, the entries, the footer if it was read, and the rest
 begun : (s : PartSoFar) (head : PartHead) (text rest : List ℕ) → s.head ≡ Some head → HasRead (HoldsPart s) text rest → BeginsPart text head s.entries (end_bytes s ++ rest)
 begun s head text rest some reads =
     let lawful : IsPartHead head × AllByRecursion (IsEntry (limits_of head.format)) s.entries = rw some at reads.read.lawful in
@@ -224,11 +224,11 @@ begun s head text rest some reads =
       lawful = lawful.1;
     }
 
--- what is left behind a header is nothing, or the beginning of an item
+-- what is left after a header is nothing, or the beginning of an item
 left_item : (s : PartSoFar) (head : PartHead) (left : List ℕ) → s.head ≡ Some head → IsPartLeft s left → (left ≡ []) ⊎ IsCutItem (limits_of head.format) left
 left_item s head left some rest = elim (rw some at rest) as (λ _. (left ≡ []) ⊎ IsCutItem (limits_of head.format) left) [ inl e ↦ inl e | inr cut ↦ inr cut.1 ]
 
--- with a header and a footer, behind which nothing is left, it is a part
+-- if a header and a footer were read, nothing is left, and the input is a part
 pub part_read : (s : PartSoFar) (head : PartHead) (end : ℕ) (text left : List ℕ) → s.head ≡ Some head → s.end ≡ Some end → HoldsAll HoldsPart IsPartLeft s left text → IsPart text head s.entries end
 part_read s head end text left some ends (reads, rest) =
     let none : left ≡ [] = elim (rw some at rest) as (λ _. left ≡ []) [ inl e ↦ e | inr cut ↦ cc ] in
@@ -238,7 +238,7 @@ part_read s head end text left some ends (reads, rest) =
 
 -- ---- feeds
 
--- a feed in good order shows no fault
+-- the input of a feed without a fault shows no fault
 pub fed_shows_none : (s : PartSoFar) (held text : List ℕ) → HoldsAll HoldsPart IsPartLeft s held text → ShowsNoPartFault text
 fed_shows_none s held text (reads, left) = by s.head s.end refl refl
   where
@@ -247,7 +247,7 @@ fed_shows_none s held text (reads, left) = by s.head s.end refl refl
     by (Some head) None some none = begun_shows_none text head s.entries held (rw none at (begun s head text held some reads)) (left_item s head held some left)
     by (Some head) (Some end) some ends = part_shows_none text head s.entries end (part_read s head end text held some ends (reads, left))
 
--- the fault of a feed that failed is shown
+-- the input of a feed that failed shows its fault
 pub fed_shows : (s : PartSoFar) (fault : PartFault) (text : List ℕ) → HasShown (HasRead (HoldsPart s) text) (IsPartFaulty s fault) → IsPartShown text fault
 fed_shows s faults.Header text h other =
     subst (ShowsNone IsPartHead part_head_bytes) (unread s text (h.shown ++ h.more) h.fault.0 h.read) (shows_none_on IsPartHead part_head_bytes h.shown h.more h.fault.1)
@@ -267,7 +267,7 @@ fed_shows s faults.Memory text h other = absurd (other refl)
 
 -- ---- the end
 
--- without a footer it is broken
+-- if a header but no footer was read, the input is a broken part
 pub no_footer_read : (s : PartSoFar) (text left : List ℕ) (head : PartHead) → s.head ≡ Some head → s.end ≡ None → HoldsAll HoldsPart IsPartLeft s left text
     → IsBroken text head.number (length s.entries)
 no_footer_read s text left head some none (reads, rest) =
@@ -279,17 +279,17 @@ no_footer_read s text left head some none (reads, rest) =
       no_part = left_no_part text head s.entries left begins cut;
     }
 
--- without a header it has none
+-- if no header was read, the input has none
 pub no_head_read : (s : PartSoFar) (text left : List ℕ) → s.head ≡ None → HoldsAll HoldsPart IsPartLeft s left text → HasNoPartHeader text
 no_head_read s text left none (reads, rest) = subst HasNoPartHeader (unread s text left none reads) (cut_no_header left (rw none at rest))
 
--- ---- at most one answer
+-- ---- at most one fault, and a part has none
 
--- a header that begins the bytes leaves none without one
+-- bytes that begin like a part have a header
 has_header : (bytes : List ℕ) (head : PartHead) (entries : List Change) (rest : List ℕ) → BeginsPart bytes head entries rest → HasNoPartHeader bytes → ⊥
 has_header bytes head entries rest begins none = none head (flat_map entry_spelling entries ++ rest) begins.is_head begins.spelled
 
--- bytes have one fault at the most
+-- bytes have at most one fault
 pub one_part_fault : (bytes : List ℕ) (fault other : PartFault) → IsPartFault bytes fault → IsPartFault bytes other → fault ≡ other
 one_part_fault bytes faults.Header faults.Header f g = refl
 one_part_fault bytes faults.Header (faults.Broken number entries) f g = absurd (has_header bytes g.front.head g.front.entries g.front.rest g.front.begins f)
@@ -305,7 +305,7 @@ one_part_fault bytes faults.Memory other f g = absurd f
 one_part_fault bytes faults.Header faults.Memory f g = absurd g
 one_part_fault bytes (faults.Broken number entries) faults.Memory f g = absurd g
 
--- and none where they are a part
+-- a part has no fault
 pub part_or_fault : (bytes : List ℕ) (head : PartHead) (entries : List Change) (end : ℕ) (fault : PartFault) → IsPart bytes head entries end → IsPartFault bytes fault → ⊥
 part_or_fault bytes head entries end faults.Header is f =
     has_header bytes head entries (footer_bytes end (length entries)) (part_begins bytes head entries end is) f

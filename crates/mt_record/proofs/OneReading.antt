@@ -1,4 +1,4 @@
--- Bytes are one log or have one fault, and never both, and one record at the most.
+-- Bytes are at most one log, have at most one fault, and never both; no record's encoding begins another's.
 use Rattle.std.proofs.Common.{◌≡◌, ◌↔◌, ℕ, Bool, true, false, List, [], ◌++◌, length, refl, sym, ap, ◌∙◌, subst}
 use Rattle.std.proofs.lemmas.Bool.{false≢true}
 use Rattle.std.proofs.lemmas.List.{append-nil}
@@ -22,21 +22,21 @@ use Rattle.mt_record.proofs.OneLog.{same_log}
 
 -- ---- one log
 
--- bytes are a log in one way: one header, one list of records and one tail
+-- bytes are a log in only one way: with one header, one list of records and one tail
 pub one_log : (bytes : List ℕ) (head other : Head) (records others : List Logged) (tail rest : List ℕ) → IsLog bytes head records tail
     → IsLog bytes other others rest → (head ≡ other) × (records ≡ others) × (tail ≡ rest)
 one_log bytes head other records others tail rest a b =
     same_log head other records others tail rest a.is_head b.is_head a.lawful b.lawful (sym a.spelled ∙ b.spelled)
     (end_stops head.format (latest 0 records) tail a.ends) (end_stops other.format (latest 0 others) rest b.ends)
 
--- truth values that tell the same are one
+-- two truth values of the same statement are equal
 same_bool : (p q : Bool) (P : Type 0) → IsTrue p ↔ P → IsTrue q ↔ P → p ≡ q
 same_bool false false P a b = refl
 same_bool true true P a b = refl
 same_bool false true P a b = absurd (false≢true (a.1 (b.0 refl)))
 same_bool true false P a b = absurd (false≢true (b.1 (a.0 refl)))
 
--- bytes say one thing as a log
+-- bytes have only one reading as a log
 pub one_reading_of : (bytes : List ℕ) (a b : LogReading) → IsReading bytes a → IsReading bytes b → a ≡ b
 one_reading_of bytes a b h k =
     let same = one_log bytes a.head b.head a.records b.records h.tail k.tail h.is_log k.is_log in
@@ -46,7 +46,7 @@ one_reading_of bytes a b h k =
 
 -- ---- one fault
 
--- a fault behind records is one, and so are the records
+-- bytes have only one list of records before a fault, and only one fault after it
 one_record_fault : (bytes : List ℕ) (rs ss : List Logged) (a b : What) → HasFault bytes rs a → HasFault bytes ss b → (rs ≡ ss) × (a ≡ b)
 one_record_fault bytes rs ss a b h k =
     let same = same_log h.head k.head rs ss h.rest k.rest h.is_head k.is_head h.lawful k.lawful (sym h.spelled ∙ k.spelled)
@@ -54,11 +54,11 @@ one_record_fault bytes rs ss a b h k =
     let there = subst (λ (p : Head × List Logged × List ℕ). RestFault a (limits_of p.0.format) (latest 0 p.1) p.2) (λ i. (same.0 i, same.1 i, same.2 i)) h.fault in
     (same.1, one_rest k.head.format (latest 0 ss) k.rest a b there k.fault)
 
--- where records are before a fault there is a header
+-- if bytes have a fault after records, they begin with a header
 no_header_record : (bytes : List ℕ) (rs : List Logged) (a : What) → HasFault bytes rs a → HasNoHeader bytes → ⊥
 no_header_record bytes rs a h none = none h.head (flat_map spelling rs ++ h.rest) h.is_head h.spelled
 
--- bytes have one fault
+-- bytes have at most one fault
 pub one_fault : (bytes : List ℕ) (fault other : FeedFault) → IsLogFault bytes fault → IsLogFault bytes other → fault ≡ other
 one_fault bytes Memory other h k = absurd h
 one_fault bytes Header Memory h k = absurd k
@@ -73,7 +73,7 @@ one_fault bytes (Record n a) (Record m b) h k =
 
 -- ---- not both
 
--- bytes with a fault behind records are no log
+-- bytes with a fault after records are not a log
 no_record_fault : (bytes : List ℕ) (head : Head) (rs ss : List Logged) (tail : List ℕ) (a : What) → IsLog bytes head rs tail → HasFault bytes ss a → ⊥
 no_record_fault bytes head rs ss tail a log k =
     let same = same_log head k.head rs ss tail k.rest log.is_head k.is_head log.lawful k.lawful (sym log.spelled ∙ k.spelled)
@@ -91,7 +91,7 @@ not_both bytes head records tail (Record n a) log k = no_record_fault bytes head
 
 -- ---- one record
 
--- no spelling of a record begins that of another one
+-- no record's encoding begins another's
 pub prefix_free : (format : Format) (r s : Logged) (more : List ℕ) → IsLawful (limits_of format) r → IsLawful (limits_of format) s
     → spelling s ≡ spelling r ++ more → (r ≡ s) × (more ≡ [])
 prefix_free format r s more is_r is_s e =

@@ -12,7 +12,7 @@ use Rattle.mt_record.specs.Fronts.{GoesWithMagic, NoneBegins, ShowsNone, IsCutFr
 use Rattle.mt_record.proofs.Beginnings.{shows_none, cut_front}
 use Rattle.mt_record.proofs.Numbers.{AreBytes, two, four, eight, number_front}
 
--- the bytes behind the digit are those of a header
+-- the bytes after the magic are the numbers of a header
 pub part_whole : (format : Format) (xs : List ℕ) → length xs ≡ 16 → AreBytes xs → (head : PartHead) × IsPartHead head × (part_head_bytes head ≡ magic (codes "MTC") format ++ xs)
 part_whole format xs long small =
     let behind = drop 4 xs in
@@ -29,11 +29,11 @@ part_whole format xs long small =
       λ i. magic (codes "MTC") format ++ sym whole i,
     )
 
--- bytes that do not go with the letters and a digit show that there is no header
+-- bytes that do not go with the magic of a part show that there is no header
 pub part_none : (bytes : List ℕ) → (GoesWithMagic (codes "MTC") bytes → ⊥) → ShowsNone IsPartHead part_head_bytes bytes
 part_none = shows_none IsPartHead part_head_bytes (codes "MTC") (λ (head : PartHead). head.format)
     (λ head. (big_bytes 4 head.number ++ (big_bytes 8 head.begin ++ (big_bytes 2 head.part ++ big_bytes 2 head.parts)), refl))
 
--- and those that do begin one where none begins them
+-- bytes that go with it and begin with no header are a proper prefix of one
 pub part_cut : (bytes : List ℕ) → GoesWithMagic (codes "MTC") bytes → AreBytes bytes → NoneBegins IsPartHead part_head_bytes bytes → IsCutFront IsPartHead part_head_bytes bytes
 part_cut = cut_front IsPartHead part_head_bytes (codes "MTC") 16 part_whole

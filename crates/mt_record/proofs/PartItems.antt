@@ -19,7 +19,7 @@ use Rattle.mt_record.specs.Feeding.{Reads, HoldsAll}
 use Rattle.mt_record.proofs.Copying.{entry_within}
 use Rattle.mt_record.proofs.Feeds.{front_read}
 
--- a header is read where nothing was
+-- the header is read if nothing was read before
 pub header_read : {E : Type 0} (listed : E → List Change) (old : PartItems E) (head : PartHead) (bytes after : List ℕ) → old.head ≡ None → IsPartHead head → bytes ≡ part_head_bytes head ++ after
     → Reads (λ (taken : Unit {0}) items. HoldsPart (part_so_far listed items)) old (record old { head = Some head }) bytes after × (length after < length bytes)
 header_read listed old head bytes after none is e =
@@ -28,7 +28,7 @@ header_read listed old head bytes after none is e =
     let before : front ≡ [] = rw (none, empty.0, empty.1) at h.spelled in
     rw (before, empty.0, empty.1) (record { spelled = sym (append-nil (part_head_bytes head)); lawful = (is, tt); fits = tt }))
 
--- a whole entry is read
+-- a complete entry is read after those before it
 pub entry_read : {E : Type 0} (listed : E → List Change) (old : PartItems E) (entries : E) (head : PartHead) (bytes fields after : List ℕ) → old.head ≡ Some head → old.end ≡ None
     → IsNextEntry (limits_of head.format) bytes fields after
     → ((entry : Change) → AreFieldsOf widest fields entry → listed entries ≡ listed old.entries ++ entry ∷ [])
@@ -44,7 +44,7 @@ entry_read listed old entries head bytes fields after some open_yet next put =
       fits = tt;
     }))
 
--- a footer that is whole ends the part
+-- a complete footer with the right number of entries ends the part
 pub footer_read : {E : Type 0} (listed : E → List Change) (old : PartItems E) (head : PartHead) (end count : ℕ) (bytes after : List ℕ) → old.head ≡ Some head → old.end ≡ None → end < 2 ^ 64 → count < 2 ^ 32
     → count ≡ length (listed old.entries) → bytes ≡ footer_bytes end count ++ after
     → Reads (λ (taken : Unit {0}) items. HoldsPart (part_so_far listed items)) old (record old { end = Some end }) bytes after × (length after < length bytes)
@@ -59,18 +59,18 @@ footer_read listed old head end count bytes after some open_yet fits_end fits sa
 
 -- ---- faults
 
--- bytes behind which there is no part are its fault
+-- bytes that show that there is no part show that this part is broken
 pub broken : {E : Type 0} (listed : E → List Change) (old : PartItems E) (head : PartHead) (fault : PartFault) (bytes : List ℕ) → old.head ≡ Some head
     → fault ≡ faults.Broken head.number (length (listed old.entries)) → ShowsNoPart (limits_of head.format) (length (listed old.entries)) (end_bytes (part_so_far listed old) ++ bytes)
     → IsPartFaulty (part_so_far listed old) fault bytes
 broken listed old head fault bytes some is breaks = rw is (record { head = head; begun = some; named = refl; counted = refl; breaks = breaks })
 
--- a length that no entry has is a wrong one, if it is not that of a footer
+-- if the bytes begin with a length, but not with a length of zero, it is above zero
 other_than_zero : (bytes : List ℕ) (n : ℕ) (more : List ℕ) → bytes ≡ big_bytes 4 n ++ more → ((rest : List ℕ) → bytes ≢ big_bytes 4 0 ++ rest) → 0 < n
 other_than_zero bytes zero more e some = absurd (some more e)
 other_than_zero bytes (suc n) more e some = omega arith
 
--- bytes that no entry begins, nor a footer, break the part
+-- bytes that begin with neither an entry nor a footer break the part
 pub entry_broken : {E : Type 0} (listed : E → List Change) (old : PartItems E) (head : PartHead) (fault : PartFault) (bytes : List ℕ) → old.head ≡ Some head → old.end ≡ None
     → fault ≡ faults.Broken head.number (length (listed old.entries)) → ((rest : List ℕ) → bytes ≢ big_bytes 4 0 ++ rest) → ShowsNoEntry (limits_of head.format) bytes
     → IsPartFaulty (part_so_far listed old) fault bytes
@@ -78,7 +78,7 @@ entry_broken listed old head fault bytes some open_yet is other (inl h) =
     broken listed old head fault bytes some is (rw open_yet (inl (h, other_than_zero bytes h.number h.more h.spelled other)))
 entry_broken listed old head fault bytes some open_yet is other (inr h) = broken listed old head fault bytes some is (rw open_yet (inr (inl h)))
 
--- and so does a byte behind the footer
+-- so does a byte after the footer
 pub more_broken : {E : Type 0} (listed : E → List Change) (old : PartItems E) (head : PartHead) (fault : PartFault) (end : ℕ) (bytes : List ℕ) → old.head ≡ Some head → old.end ≡ Some end
     → fault ≡ faults.Broken head.number (length (listed old.entries)) → 0 < length bytes → IsPartFaulty (part_so_far listed old) fault bytes
 more_broken listed old head fault end [] some ends is more = absurd (omega (arith, more))
@@ -87,7 +87,7 @@ more_broken listed old head fault end (byte ∷ more) some ends is _ =
 
 -- ---- the beginning
 
--- nothing was read of nothing
+-- a new feed has read nothing and holds nothing
 pub nothing_read : {E : Type 0} (listed : E → List Change) (entries : E) → listed entries ≡ []
     → HoldsAll (λ items. HoldsPart (part_so_far listed items)) (λ items. IsPartLeft (part_so_far listed items)) (record { head = None; entries = entries; end = None }) [] []
 nothing_read listed entries none = (

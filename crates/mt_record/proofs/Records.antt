@@ -1,4 +1,4 @@
--- Records one after the other, and the greatest of their timestamps.
+-- Records, one after the other, and the greatest of their timestamps.
 use Rattle.std.proofs.Common.{◌≡◌, ◌⊎◌, inl, inr, ℕ, zero, suc, ◌<◌, ◌≤◌, List, [], ◌∷◌, ◌++◌, length, max, map, refl, ap, rules, arith}
 use Rattle.std.proofs.lemmas.Bool.{cases_lt, false≢true}
 use Rattle.std.proofs.lemmas.List.Elements.{All-nil, All-cons, All-weaker, Contains-append_right}
@@ -7,50 +7,50 @@ use Rattle.mt_words.specs.declared.limits.Limits.{Limits}
 use Rattle.mt_words.specs.Changes.{Logged, IsLawful}
 use Rattle.mt_record.specs.Logs.{AreRecords, latest, LogReading, IsLast, IsTorn}
 
--- ---- one record more
+-- ---- one more record
 
--- a lawful record that does not fall may follow records
+-- a lawful record whose timestamp does not fall may follow the others
 pub records_push : (limits : Limits) (low : ℕ) (rs : List Logged) (r : Logged) → AreRecords limits low rs → IsLawful limits r → latest low rs ≤ r.timestamp
     → AreRecords limits low (rs ++ r ∷ [])
 records_push limits low [] r are lawful rises = (lawful, rises, tt)
 records_push limits low (s ∷ rs) r are lawful rises = (are.0, are.1, records_push limits s.timestamp rs r are.2 lawful rises)
 
--- the timestamp of the last record is that of the one added
+-- after one more record, the last timestamp is that of this record
 pub latest_push : (low : ℕ) (rs : List Logged) (r : Logged) → latest low (rs ++ r ∷ []) ≡ r.timestamp
 latest_push low [] r = refl
 latest_push low (s ∷ rs) r = latest_push s.timestamp rs r
 
 -- ---- the greatest timestamp
 
--- the timestamps
+-- the timestamps of records
 abbrev times : List Logged → List ℕ
 times rs = map (λ r. r.timestamp) rs
 
--- the last timestamp is not below the first bound
+-- the last timestamp is at least `low`
 latest_least : (limits : Limits) (low : ℕ) (rs : List Logged) → AreRecords limits low rs → low ≤ latest low rs
 latest_least limits low [] are = omega arith
 latest_least limits low (r ∷ rs) are = omega (arith, are.1, latest_least limits r.timestamp rs are.2)
 
--- no timestamp is above the last
+-- no timestamp is above the last one
 latest_most : (limits : Limits) (low : ℕ) (rs : List Logged) → AreRecords limits low rs → All (λ time. time ≤ latest low rs) (times rs)
 latest_most limits low [] are = All-nil (λ time. time ≤ low)
 latest_most limits low (r ∷ rs) are =
     All-cons (λ time. time ≤ latest r.timestamp rs) r.timestamp (times rs) (latest_least limits r.timestamp rs are.2) (latest_most limits r.timestamp rs are.2)
 
--- a first element is one of the elements
+-- the first element of a list is in it
 first_in : (x : ℕ) (xs : List ℕ) → Contains (x ∷ xs) x
 first_in x xs = (0, omega arith, refl)
 
--- an element of a list is one behind another too
+-- an element of a list is still in it when another is put in front
 behind : (y : ℕ) (xs : List ℕ) (x : ℕ) → Contains xs x → Contains (y ∷ xs) x
 behind y xs x is = Contains-append_right (y ∷ []) xs x is
 
--- the last timestamp is the bound or one of the timestamps
+-- the last timestamp is `low` or one of the timestamps
 latest_in : (low : ℕ) (rs : List Logged) → Contains (low ∷ times rs) (latest low rs)
 latest_in low [] = first_in low []
 latest_in low (r ∷ rs) = behind low (times (r ∷ rs)) (latest r.timestamp rs) (latest_in r.timestamp rs)
 
--- `from` takes the place of 0 where it is not below
+-- the greater of `from` and n is still in the list if `from` takes the place of 0
 raised : (from n : ℕ) (xs : List ℕ) → Contains (0 ∷ xs) n → (from < n) ⊎ (n ≤ from) → Contains (from ∷ xs) (max from n)
 raised from n xs is (inr most) = let same : max from n ≡ from = omega arith in rw same (first_in from xs)
 raised from n xs (zero, lt, e) (inl above) = absurd (omega (arith, e, above))
@@ -73,7 +73,7 @@ torn_some : (limits : Limits) (rest : List ℕ) → IsTorn limits rest → 0 < l
 torn_some limits rest (inl few) = few.0
 torn_some limits rest (inr cut) = let all = ap length cut.spelled in omega (arith, all)
 
--- where a tail is empty or torn, it is torn where it is not empty
+-- a tail that is empty or torn is torn exactly if it is not empty
 pub tells_torn : (limits : Limits) (rest : List ℕ) (empty : Bool) → empty ≡ (length rest == 0) → (rest ≡ []) ⊎ IsTorn limits rest
     → IsTrue (not empty) ↔ IsTorn limits rest
 tells_torn limits [] empty is ends = (λ some. absurd (false≢true (rw is at some)), λ torn. absurd (omega (arith, torn_some limits [] torn)))

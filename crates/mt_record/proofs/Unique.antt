@@ -1,4 +1,4 @@
--- What stands at the front of bytes is the only thing of its kind that does.
+-- Bytes begin with at most one thing of each kind.
 use Rattle.std.proofs.Common.{◌≡◌, ℕ, ◌^◌, ◌<◌, List, [], ◌∷◌, ◌++◌, length, drop, Option, Some, None, refl, sym, ap, ◌∙◌, append_assoc, arith}
 use Rattle.std.specs.Prelude.{slice_index, IfSome}
 use Rattle.std.specs.List.{flat_map, AllByRecursion}
@@ -12,7 +12,7 @@ use Rattle.mt_record.specs.Spelling.{counted, column_bytes, kind_byte, kind_byte
 
 -- ---- fields
 
--- fronts of one length are equal, and so is what follows them
+-- prefixes of the same length are equal, and so is what follows them
 pub same_split : {A : Type 0} (a b x y : List A) → length a ≡ length b → a ++ x ≡ b ++ y → (a ≡ b) × (x ≡ y)
 same_split [] [] x y same e = (refl, e)
 same_split [] (q ∷ b) x y same e = absurd (omega arith)
@@ -23,14 +23,14 @@ same_split (p ∷ a) (q ∷ b) x y same e =
     let fronts : a ≡ b = rest.0 in
     (cc, rest.1)
 
--- one number begins the bytes
+-- bytes begin with only one number
 pub same_number : (n a b : ℕ) (x y : List ℕ) → a < 256 ^ n → b < 256 ^ n → big_bytes n a ++ x ≡ big_bytes n b ++ y → (a ≡ b) × (x ≡ y)
 same_number n a b x y fits_a fits_b e = (
   sym (big_number-reads_back n a x fits_a) ∙ ap (big_from 0 n) e ∙ big_number-reads_back n b y fits_b,
   (same_split (big_bytes n a) (big_bytes n b) x y (length-bytes_high_first n a ∙ sym (length-bytes_high_first n b)) e).1,
 )
 
--- one list of counted bytes begins the bytes
+-- bytes begin with only one list of counted bytes
 pub same_counted : (a b x y : List ℕ) → length a < 2 ^ 16 → length b < 2 ^ 16 → counted a ++ x ≡ counted b ++ y → (a ≡ b) × (x ≡ y)
 same_counted a b x y fits_a fits_b e =
     let apart : big_bytes 2 (length a) ++ (a ++ x) ≡ big_bytes 2 (length b) ++ (b ++ y) =
@@ -38,7 +38,7 @@ same_counted a b x y fits_a fits_b e =
     let number = same_number 2 (length a) (length b) (a ++ x) (b ++ y) fits_a fits_b apart in
     same_split a b x y number.0 number.1
 
--- one column begins the bytes
+-- bytes begin with only one column
 pub same_column : (c d : ℕ × List ℕ) (x y : List ℕ) → FitsColumn c → FitsColumn d → column_bytes c ++ x ≡ column_bytes d ++ y → (c ≡ d) × (x ≡ y)
 same_column c d x y fits_c fits_d e =
     let first : c.0 ≡ d.0 = cc in
@@ -46,7 +46,7 @@ same_column c d x y fits_c fits_d e =
     let bytes = same_counted c.1 d.1 x y fits_c.1 fits_d.1 rest in
     (λ i. (first i, bytes.0 i), bytes.1)
 
--- the bytes are so many columns in one way
+-- bytes are a given number of columns in only one way
 same_columns : (cs ds : List (ℕ × List ℕ)) → AllByRecursion FitsColumn cs → AllByRecursion FitsColumn ds → length cs ≡ length ds
     → flat_map column_bytes cs ≡ flat_map column_bytes ds → cs ≡ ds
 same_columns [] [] fits_c fits_d number e = refl
@@ -57,7 +57,7 @@ same_columns (c ∷ cs) (d ∷ ds) fits_c fits_d number e =
     let rest = same_columns cs ds fits_c.1 fits_d.1 (omega arith) first.1 in
     λ i. first.0 i ∷ rest i
 
--- the bytes are columns behind their number in one way
+-- bytes are a count and its columns in only one way
 pub same_carried : (cs ds : List (ℕ × List ℕ)) → AllByRecursion FitsColumn cs → AllByRecursion FitsColumn ds
     → length cs ∷ flat_map column_bytes cs ≡ length ds ∷ flat_map column_bytes ds → cs ≡ ds
 same_carried cs ds fits_c fits_d e =
@@ -67,11 +67,11 @@ same_carried cs ds fits_c fits_d e =
 
 -- ---- bodies
 
--- a number is no greater one
+-- a number is not equal to a greater one
 pub apart : (a b : ℕ) → a < b → a ≡ b → ⊥
 apart a b below same = omega arith
 
--- what a kind carries is that of one kind of this byte
+-- the same bytes are carried by only one kind with the same byte
 same_kind : (a b : Kind) → FitsKind a → FitsKind b → kind_byte a ≡ kind_byte b → kind_bytes a ≡ kind_bytes b → a ≡ b
 same_kind (Put cs) (Put ds) fits_a fits_b code e = ap Put (same_carried cs ds fits_a.1 fits_b.1 e)
 same_kind (Put cs) Remove fits_a fits_b code e = absurd (apart 1 2 (omega arith) code)
@@ -90,7 +90,7 @@ same_kind (Erase ns) Remove fits_a fits_b code e = absurd (apart 2 4 (omega arit
 same_kind (Erase ns) (Whole ds) fits_a fits_b code e = absurd (apart 0 4 (omega arith) (sym code))
 same_kind (Erase ns) (Erase ms) fits_a fits_b code e = ap Erase (ap (drop 1) e)
 
--- the fields of a change are those of one change
+-- bytes are the fields of only one change whose kind has this byte
 pub same_change : (a b : Change) → FitsChange a → FitsChange b → kind_byte a.kind ≡ kind_byte b.kind → change_bytes a ≡ change_bytes b → a ≡ b
 same_change a b fits_a fits_b code e =
     let left = counted a.key ++ kind_bytes a.kind in
@@ -107,7 +107,7 @@ no_mark Remove same = apart 2 3 (omega arith) (sym same)
 no_mark (Whole columns) same = apart 0 3 (omega arith) (sym same)
 no_mark (Erase numbers) same = apart 3 4 (omega arith) same
 
--- the bytes are the body of one record
+-- bytes are the body of only one timestamp and change
 same_body_of : (t u : ℕ) (a b : Option Change) → t < 2 ^ 64 → u < 2 ^ 64 → IfSome a FitsLogged → IfSome b FitsLogged
     → body_of t a ≡ body_of u b → (t ≡ u) × (a ≡ b)
 same_body_of t u None None fits_t fits_u fits_a fits_b e =
@@ -121,7 +121,7 @@ same_body_of t u (Some a) (Some b) fits_t fits_u fits_a fits_b e =
     let time = same_number 8 t u (change_bytes a) (change_bytes b) fits_t fits_u tails in
     (time.0, ap Some (same_change a b fits_a.0 fits_b.0 code time.1))
 
--- the bytes are the body of one record
+-- bytes are the body of only one record
 pub same_body : (r s : Logged) → Fits r → Fits s → body r ≡ body s → r ≡ s
 same_body r s fits_r fits_s e =
     let same = same_body_of r.timestamp s.timestamp r.change s.change fits_r.0 fits_s.0 fits_r.1 fits_s.1 e in
@@ -129,13 +129,13 @@ same_body r s fits_r fits_s e =
 
 -- ---- frames
 
--- the parts of what is framed, one after the other
+-- a frame is a length, the bytes and the length again
 pub framed_apart : (bytes more : List ℕ) → framed bytes ++ more ≡ big_bytes 4 (length bytes) ++ (bytes ++ (big_bytes 4 (length bytes) ++ more))
 framed_apart bytes more =
     append_assoc (big_bytes 4 (length bytes)) (bytes ++ big_bytes 4 (length bytes)) more
     ∙ ap (λ (x : List ℕ). big_bytes 4 (length bytes) ++ x) (append_assoc bytes (big_bytes 4 (length bytes)) more)
 
--- one list of framed bytes begins the bytes
+-- bytes begin with only one frame
 pub same_framed : (a b x y : List ℕ) → length a < 2 ^ 32 → length b < 2 ^ 32 → framed a ++ x ≡ framed b ++ y → (a ≡ b) × (x ≡ y)
 same_framed a b x y fits_a fits_b e =
     let apart = sym (framed_apart a x) ∙ e ∙ framed_apart b y in

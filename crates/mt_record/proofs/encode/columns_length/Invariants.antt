@@ -2,6 +2,6 @@ use Rattle.std.proofs.Common.{◌≡◌, ◌+◌, length}
 use Rattle.mt_record.proofs.Encoding.{first_bytes}
 use Rattle.mt_record.proofs.encode.columns_length.Given as goal
 
--- the length of the first columns, and a byte for their number
+-- the length so far is that of the first columns, and one byte for the count
 abbrev pub invariant-loop-column : goal.invariant-loop-column
 invariant-loop-column l = l.length ≡ 1 + length (first_bytes l.column-index l.columns)

@@ -3,6 +3,6 @@ use Rattle.mt_record.specs.Adding.{Adds}
 use Rattle.mt_record.proofs.Encoding.{first_bytes}
 use Rattle.mt_record.proofs.encode.put_columns.Given as goal
 
--- the first columns are added, behind the number of all
+-- the count of all columns and the first columns were appended
 abbrev pub invariant-loop-column : goal.invariant-loop-column
 invariant-loop-column l = Adds (length l.columns ∷ first_bytes l.column-index l.columns) l.fn.out l.out

@@ -2,7 +2,7 @@ use Rattle.std.proofs.Common.{◌++◌, length}
 use Rattle.mt_record.specs.Feeding.{Reads}
 use Rattle.mt_record.proofs.feed.Feed.read.Given as goal
 
--- all bytes are read and held back but for the rest of the piece
+-- all bytes are read or held back, except for the rest of the chunk
 abbrev pub invariant-held : goal.invariant-held
 invariant-held g l = record {
   read : Reads g.I.Items.holds l.initial.self.items l.self.items (l.initial.self.held.items ++ l.piece) (l.self.held.items ++ l.rest);

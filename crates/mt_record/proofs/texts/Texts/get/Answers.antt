@@ -3,7 +3,7 @@ use Rattle.mt_record.specs.Texts.{start_at, texts_from}
 use Rattle.mt_record.proofs.TextLemmas.{texts_count, text_part}
 use Rattle.mt_record.proofs.texts.Texts.get.Goals as goal
 
--- the number is below that of the ends
+-- the number of a text is below the number of ends
 below_ends : (bytes ends : List ℕ) (texts : List (List ℕ)) (at : ℕ) → texts_from 0 bytes ends ≡ texts → at < length texts → at < length ends
 below_ends bytes ends texts at same below =
     let count = texts_count 0 bytes ends in
