@@ -1,4 +1,4 @@
--- A pair is put behind the places of a layer.
+-- A pair is appended to the places of a layer.
 use Rattle.std.proofs.Common.{◌≡◌, ℕ, suc, ◌+◌, ◌-◌, ◌*◌, ◌^◌, ◌<◌, ◌≤◌, List, [], ◌∷◌, ◌++◌, length, drop, get_or, sym, ap, ◌∙◌, subst, arith, append_assoc, length-append, length-drop, Vec, Global}
 use Rattle.std.specs.List.{AllByRecursion}
 use Rattle.std.proofs.lemmas.List.{append-nil, map-append}
@@ -193,7 +193,7 @@ module _ (fs : List (List PlaceView)) (l : List PlaceView) (v : List (List Place
   pub opened_light : weight (walk l) ≤ weight (borders_walk v)
   opened_light = omega (arith, ap weight o.is, weight-append (walk (joined fs)) (walk l))
 
--- more borders in its place, which begin as it does
+-- other borders that begin with the same slice replace the last one
 pub opened_put : (fs : List Border) (l : List PlaceView) (v : List (List PlaceView)) → Opened (border_views fs) l v → (places : List DraftPlace) (new : List Border) (p : Pair) → PutBehind places fs new
     → walk (draft_views places) ≡ walk l ++ p ∷ [] → first_slice_of (draft_views places) ≡ first_slice_of l → IsBorderList (border_views new) × (borders_walk (border_views new) ≡ borders_walk v ++ p ∷ [])
 opened_put fs l v o places new p put pairs first =

@@ -139,7 +139,7 @@ kids_kept start s (n ∷ ns) b h f l =
     ∙ (λ i. slices_kept start 0 (places n) b h.0.tree.layer (all_weaker (λ p. s ≤ slice_at p) (λ p. slice_in start < slice_at p) (λ p le. omega arith) (places n) f.0) i ++ kids_kept start s ns b h.1 f.1 l i)
     ∙ sym (kids_walk n ns)
 
--- the child at the start, and all later ones whole
+-- the pairs at or after the start are those of the child at the start, and all pairs of the later children
 pub kids_from : (start : List ℕ) (ss : List ℕ) (ns : List NodeView) (i : ℕ) (d : NodeView) → AreBytes start → AllByRecursion IsNode ns → AreSeparated ss (branches ns) → length ss + 1 ≡ length ns → i ≤ length ss
     → ((j : ℕ) → j < i → get_or ss j 0 ≤ slice_in start) → (i < length ss → slice_in start < get_or ss i 0)
     → from start (walk (joined (borders_of ns))) ≡ from start (walk (places (get_or ns i d))) ++ walk (joined (borders_of (drop (suc i) ns)))
@@ -155,7 +155,7 @@ kids_from start (s ∷ ss) (n ∷ ns) (suc i) d b h a e l before after =
     ∙ ap (λ (z : List Pair). z ++ from start (walk (joined (borders_of ns)))) (slices_gone start 0 (places n) b h.0.tree.layer (all_weaker (λ p. slice_at p < s) (λ p. slice_at p < slice_in start) (λ p lt. omega arith) (places n) a.0))
     ∙ kids_from start ss ns i d b h.1 a.2 (omega arith) (omega arith) (λ j lt. before (suc j) (omega arith)) (λ lt. after (omega arith))
 
--- ---- what is gone over below a node
+-- ---- what is visited below a node
 fits_kid : (k : ℕ) (ks : List NodeView) (i : ℕ) (d : NodeView) → FitsAfter k (walk (joined (borders_of ks))) → i < length ks → FitsAfter k (walk (places (get_or ks i d)))
 fits_kid k [] i d h l = absurd (omega arith)
 fits_kid k (n ∷ ns) zero d h l = all_front (λ p. k + length p.0 ≤ widest.key) (walk (places n)) (walk (joined (borders_of ns))) (subst (FitsAfter k) (kids_walk n ns) h)
@@ -166,7 +166,7 @@ fits_view k [] i d h l = absurd (omega arith)
 fits_view k (x ∷ xs) zero d h l = all_front (λ p. k + length p.0 ≤ widest.key) (pairs_at (view_of x)) (walk (views xs)) h
 fits_view k (x ∷ xs) (suc i) d h l = fits_view k xs i d (all_back (λ p. k + length p.0 ≤ widest.key) (pairs_at (view_of x)) (walk (views xs)) h) (omega arith)
 
--- a place of its border
+-- a place of a node's border
 pub record IsPlaceIn (n : NodeView) (k : ℕ) (x : Place) : Type 0 where
   pub light : weight (pairs_at (view_of x)) ≤ weight (walk (places n))
   pub lawful : IsPlace (view_of x)
@@ -232,7 +232,7 @@ views_then n old mid new prefix own start w ys i x p l at e f =
     ∙ ap (λ (z : List Pair). take n (old ++ found prefix w (from start z)))
     (sym (ap walk (views_more ys i x l at) ∙ walk-append (views (take i ys)) (view_of x ∷ []) ∙ ap (λ (z : List Pair). before ++ z) (append-nil here)))
 
--- all children: the one at the start, then the later ones
+-- all children: the child at the start, then the later ones
 pub kids_done : (n : ℕ) (old mid new : List Hit) (prefix start : List ℕ) (w : List Bool) (whole : List Pair) (ks : List NodeView) (x : NodeView) (at i : ℕ)
     → whole ≡ from start (walk (places x)) ++ walk (joined (borders_of (drop (suc at) ks))) → length (take (length ks - (at + 1)) (drop (at + 1) ks)) ≤ i
     → mid ≡ take n (old ++ found prefix w (from start (walk (places x))))

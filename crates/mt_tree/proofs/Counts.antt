@@ -1,4 +1,4 @@
--- How many trees a layer needs, by its links.
+-- The number of trees that a layer needs, by its links.
 use Rattle.std.proofs.Common.{◌≡◌, ◌≢◌, ℕ, zero, suc, ◌+◌, ◌-◌, ◌*◌, ◌^◌, ◌<◌, ◌≤◌, min, Bool, true, false, Option, Some, None, List, [], ◌∷◌, ◌++◌, length, take, drop, sym, refl, ap, ◌∙◌, subst, arith, append_assoc, length-append}
 use Rattle.std.specs.Prelude.{Contains, nat_eq, nat_lt, ◌&&◌}
 use Rattle.std.specs.List.{AllByRecursion}
@@ -19,12 +19,12 @@ use Rattle.mt_tree.specs.Trees.{tree_walk, tree_count, IsTree, HasLayers}
 use Rattle.mt_tree.proofs.Finds.{pairs_rank}
 use Rattle.mt_tree.proofs.Joins.{all_append, all_weaker}
 
--- the numbers of trees of these walks, in sum
+-- the sum of the numbers of trees of these walks
 abbrev SumsLayers : List (List Pair) → ℕ → Type 0
 SumsLayers [] n = n ≡ 0
 SumsLayers (w ∷ ws) n = (a : ℕ) × (b : ℕ) × IsLayers w a × SumsLayers ws b × (n ≡ a + b)
 
--- the numbers of trees below the links of these places, in sum
+-- the sum of the numbers of trees below the links of these places
 abbrev SumsLinks : List PlaceView → ℕ → Type 0
 SumsLinks ps = SumsLayers (linked_walks ps)
 
@@ -41,7 +41,7 @@ under-append q (p ∷ v) w = by (under-append q v w) (lies_under q p.0) refl
     by rest true e = rw e (ap (λ (z : List Pair). (drop 8 p.0, p.1) ∷ z) rest)
     by rest false e = rw e rest
 
--- a key that lies under 8 bytes has them, and more
+-- a key that lies under 8 bytes begins with them and is longer
 pub record LiesUnder (q k : List ℕ) : Type 0 where
   pub longer : 8 < length k
   pub same : q ≡ take 8 k
@@ -54,7 +54,7 @@ lies_under_is q k e = by (nat_lt 8 (length k)) (pointwise nat_eq q (take 8 k)) r
     by true false f g h = cc
     by false b f g h = cc
 
--- under the bytes of a slice
+-- a key that lies under the bytes of a slice has the rank of the slice's longer keys
 rank_of_long : (k : List ℕ) (s : ℕ) → s < 2 ^ 64 → LiesUnder (slice_bytes s) k → key_rank k ≡ s * 10 + 9
 rank_of_long k s h u =
     let long : 8 < length k = u.longer in
@@ -83,7 +83,7 @@ under_hit q (p ∷ w) e h =
     under_step q (q ++ p.0, p.1) (put_before q w) true (under_here q p.0 e h.0)
     ∙ (λ i. (drop_at q p.0 8 e i, p.1) ∷ under_hit q w e h.1 i)
 
--- other 8 bytes
+-- under other 8 bytes lies none of these pairs
 under_other : (q r : List ℕ) (w : List Pair) → length q ≡ 8 → (r ≡ q → ⊥) → under r (put_before q w) ≡ []
 under_other q r [] e n = refl
 under_other q r (p ∷ w) e n = by (under_other q r w e n) (lies_under r (q ++ p.0)) refl
@@ -159,7 +159,7 @@ counts v (link s w ∷ ps) n e h =
     subst (CountsFrom v (slice_bytes s ∷ heads_at ps)) sum
     (more (subst (λ (z : List Pair). AreHeads z l.heads) (sym e.0) l.are) (subst (λ (z : List Pair). CountsFrom z l.heads h.0) (sym e.0) l.counts) (counts v ps h.1 e.1 h.3))
 
--- ---- they rise
+-- ---- the heads rise
 rank_of_slice : (s : ℕ) → s < 2 ^ 64 → key_rank (slice_bytes s) ≡ s * 10 + 8
 rank_of_slice s h =
     let slice : slice_in (slice_bytes s) ≡ s = ap slice_in (sym (append-nil (slice_bytes s))) ∙ slice_in-append s [] h in
@@ -183,7 +183,7 @@ heads_rise low (short r l c ∷ ps) f = heads_rise (suc (r * 10 + l)) ps f.2
 heads_rise low (long r t c ∷ ps) f = heads_rise (suc (r * 10 + 9)) ps f.2
 heads_rise low (link r w ∷ ps) f = (heads_above r (suc (r * 10 + 9)) ps f.0.0 (omega arith) f.2, heads_rise (suc (r * 10 + 9)) ps f.2)
 
--- ---- they are all
+-- ---- there are no other heads
 has_two : (low : ℕ) (v : List Pair) (ps : List PlaceView) (q : List ℕ) → IsLayerFrom low ps → Serves v ps → Contains (heads_at ps) q → 2 ≤ length (under q v)
 has_two low v [] q h e m = absurd (let lt = m.1 in omega arith)
 has_two low v (short s l c ∷ ps) q h e m = has_two (suc (s * 10 + l)) v ps q h.2 e m
@@ -258,13 +258,13 @@ pub tree_layers : (t : Option NodeView) → IsTree t → IsLayers (tree_walk t) 
 tree_layers None h = layers_are [] 0 tt refl
 tree_layers (Some n) h = layers_are (places n) (length n.below) h.tree.layer (sums_linked (linked_walks (places n)) n.below h.below.lawful h.below.linked)
 
--- a tree with its count
+-- the count of a tree is the number of trees of its walk
 pub counted : (root t : Option NodeView) (layers : ℕ) → root ≡ t → IsTree root → HasLayers root layers → CountsLayers (tree_walk t) layers × HasLayers t layers
 counted root t layers e h k =
     let lawful : IsTree t = subst IsTree e h in
     let count : HasLayers t layers = subst (λ (z : Option NodeView). HasLayers z layers) e k in
     (record { number = tree_count t; is = tree_layers t lawful; stops = count }, count)
 
--- one list of trees after another
+-- the count of two lists of trees is the sum of their counts, capped
 pub counted_more : (ts us : List LayerView) (x y z : ℕ) → IsTreeCount ts x → IsTreeCount us y → z ≡ min (x + y) (2 ^ 64 - 1) → IsTreeCount (ts ++ us) z
 counted_more ts us x y z a b e = omega (arith, length-append ts us, a, b, e)

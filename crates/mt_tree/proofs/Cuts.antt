@@ -6,7 +6,7 @@ use Rattle.mt_tree.specs.Nodes.{NodeView, border, none, borders_of, SlicesFrom, 
 use Rattle.mt_tree.proofs.Joins.{length_at-le}
 
 -- ---- layers and their parts
--- slices of places from a rank on
+-- places from a rank on have slices at or above that rank's
 pub slices_from : (low s : ℕ) (ps : List PlaceView) → s * 10 ≤ low → IsLayerFrom low ps → SlicesFrom s ps
 slices_from low s [] le h = tt
 slices_from low s (p ∷ ps) le h =

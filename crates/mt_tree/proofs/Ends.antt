@@ -63,7 +63,7 @@ counted_push f xs ys p x y z h k is e =
     subst (λ (w : List LayerView). IsTreeCount w z) (sym trees) (counted_more (flat_map f xs) (f p) x y z h k is)
 
 -- ---- the layers below links, one by one
--- the next element is carried from what is left to what is done
+-- the next element moves from what is left to what is done
 pub carried : {X Y Z : Type 0} (f : X → List Z) (g : Y → List Z) (xs ys : List X) (left next : List Y) (x : X) (y : Y) (all : List Z) → flat_map f xs ++ flat_map g left ≡ all → left ≡ y ∷ next → f x ≡ g y → ys ≡ xs ++ x ∷ [] → flat_map f ys ++ flat_map g next ≡ all
 carried f g xs ys left next x y all e k same h =
     ap (λ z. z ++ flat_map g next) (ap (flat_map f) h ∙ flat_map-append f xs (x ∷ []) ∙ ap (λ z. flat_map f xs ++ z) (append-nil (f x) ∙ same))

@@ -93,7 +93,7 @@ rank_from low [] i d h l = absurd (omega arith)
 rank_from low (p ∷ ps) zero d h l = h.1
 rank_from low (p ∷ ps) (suc i) d h l = let le : low ≤ rank_at p = h.1 in omega (arith, rank_from (suc (rank_at p)) ps i d h.2 (omega arith))
 
--- the whole walk is searched at one place
+-- to find a key in the walk, it is enough to look at the place of its rank
 pub walk_find : (k : List ℕ) (low : ℕ) (ps : List PlaceView) (i : ℕ) (d : PlaceView) → IsLayerFrom low ps → i < length ps → rank_at (get_or ps i d) ≡ key_rank k → find_key k (walk ps) ≡ find_key k (pairs_at (get_or ps i d))
 walk_find k low [] i d h l e = absurd (omega arith)
 walk_find k low (p ∷ ps) zero d h l e = find-front k (pairs_at p) (walk ps) (above_miss k (suc (rank_at p)) ps h.2 (omega arith))
@@ -211,7 +211,7 @@ interior_is k ss ks h f =
 pub interior_walk : (k : NodeKind) (v : NodeView) (ss : Box (ArrayVec ℕ 15 (Unit {0}))) (ks : Vec NodeView Global) → node_view k ≡ v → k ≡ Interior ss ks → walk (places v) ≡ walk (joined (borders_of ks.items))
 interior_walk k v ss ks e f = ap (λ (n : NodeView). walk (places n)) (sym e ∙ ap node_view f)
 
--- ---- what a border's place answers
+-- ---- what a border's place returns
 pub record FoundAt (k : List ℕ) (w : List Pair) (x : Place) : Type 0 where
   pub lawful : IsPlace (view_of x)
   pub ranks : rank_at (view_of x) ≡ key_rank k
@@ -253,7 +253,7 @@ module _ (k : List ℕ) (w : List Pair) (x : Place) (f : FoundAt k w x) (bytes :
   pub link_case : (n : NodeView) → x.content ≡ Link n → find_key k w ≡ find_key (drop 8 k) (walk (places n))
   link_case n e = let g = at_held (Link n) e in g.2 ∙ link_hit k x.slice (walk (places n)) bytes g.1
 
--- a key that no place of the border has
+-- a key is absent if no place of the border has its rank
 pub not_found : (k : List ℕ) (w : List Pair) (xs ys : List Place) (s : ℕ) → w ≡ walk (views xs) → IsLayer (views xs) → ys ≡ xs → s ≡ slice_in k
     → All (λ p. rank_at p ≡ s * 10 + min (length k) 9 → ⊥) (views ys) → find_key k w ≡ None
 not_found k w xs ys s e layer same slice none =

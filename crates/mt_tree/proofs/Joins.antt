@@ -83,7 +83,7 @@ length_at-le (short s l c) h = let fits : l ≤ 8 = h.1 in omega arith
 length_at-le (long s t c) h = omega arith
 length_at-le (link s w) h = omega arith
 
--- places whose keys lie below one another rise, or meet
+-- if all keys of one place are below those of another, the two places rise or meet
 pub ranks_seam : (p q : PlaceView) → IsPlace p → IsPlace q → AllKeysBelow (pairs_at p) (pairs_at q) → (rank_at p < rank_at q) ⊎ Meet p q
 ranks_seam p q hp hq below = by (first_pair p hp) (first_pair q hq)
   where
@@ -102,7 +102,7 @@ ranks_seam p q hp hq below = by (first_pair p hp) (first_pair q hq)
         decide f.key g.key f.ranks g.ranks (ranks_of_less f.key g.key f.bytes g.bytes less)
 
 -- ---- layers
--- the last place gives way to one of its rank or a higher one, and what follows
+-- the last place may be replaced by one of its rank or a higher one, and what follows that
 pub layer_seam : (low : ℕ) (xs : List PlaceView) (p q : PlaceView) (ys : List PlaceView) → IsLayerFrom low (xs ++ p ∷ []) → IsPlace q → rank_at p ≤ rank_at q → IsLayerFrom (suc (rank_at q)) ys → IsLayerFrom low (xs ++ q ∷ ys)
 layer_seam low [] p q ys h k le rest = let from : low ≤ rank_at p = h.1 in (k, omega arith, rest)
 layer_seam low (x ∷ xs) p q ys h k le rest = (h.0, h.1, layer_seam (suc (rank_at x)) xs p q ys h.2 k le rest)
@@ -115,7 +115,7 @@ last_place low (x ∷ xs) p h = last_place (suc (rank_at x)) xs p h.2
 views-append : (xs ys : List DraftPlace) → draft_views (xs ++ ys) ≡ draft_views xs ++ draft_views ys
 views-append = map-append draft_view
 
--- what is left of a place's list once its last was taken, or its first
+-- two layers, the first's keys below the second's: the first ends with the place p, the second begins with the place q
 pub record Seam (xs : List DraftPlace) (p q : DraftPlace) (ys : List DraftPlace) : Type 0 where
   pub left : IsLayer (draft_views (xs ++ p ∷ []))
   pub right : IsLayer (draft_views (q ∷ ys))
@@ -139,7 +139,7 @@ module _ (xs : List DraftPlace) (p q : DraftPlace) (ys : List DraftPlace) (s : S
       below_first (pairs_at (draft_view p)) (pairs_at (draft_view q)) (walk (draft_views ys))
       (all_back _ (walk (draft_views xs)) (pairs_at (draft_view p)) (subst (λ v. AllKeysBelow v (walk (draft_views (q ∷ ys)))) left_walk s.below))
 
-  -- apart, both stay as they are
+  -- if they do not meet, both places stay as they are
   pub apart_layer : (Meet (draft_view p) (draft_view q) → ⊥) → IsLayer (draft_views (xs ++ p ∷ q ∷ ys))
   apart_layer apart = subst IsLayer (sym (views-append xs (p ∷ q ∷ ys))) (by (ranks_seam (draft_view p) (draft_view q) last_lawful first_lawful below_at_seam))
     where
@@ -147,7 +147,7 @@ module _ (xs : List DraftPlace) (p q : DraftPlace) (ys : List DraftPlace) (s : S
       by (inl h) = layer_seam 0 (draft_views xs) (draft_view p) (draft_view p) (draft_view q ∷ draft_views ys) left_layer last_lawful (omega arith) (first_lawful, h, s.right.2)
       by (inr m) = absurd (apart m)
 
-  -- where they meet, one place takes the place of both
+  -- if they meet, one place replaces both
   pub merged_layer : (m : DraftPlace) → Meet (draft_view p) (draft_view q) → IsPlace (draft_view m) → rank_at (draft_view m) ≡ rank_at (draft_view p) → IsLayer (draft_views (xs ++ m ∷ ys))
   merged_layer m meet lawful same =
       let e : slice_at (draft_view p) ≡ slice_at (draft_view q) = meet.0 in
@@ -156,11 +156,11 @@ module _ (xs : List DraftPlace) (p q : DraftPlace) (ys : List DraftPlace) (s : S
       let ranks : rank_at (draft_view q) ≡ rank_at (draft_view m) = omega arith in
       subst IsLayer (sym (views-append xs (m ∷ ys))) (layer_seam 0 (draft_views xs) (draft_view p) (draft_view m) (draft_views ys) left_layer lawful (omega arith) (subst (λ r. IsLayerFrom (suc r) (draft_views ys)) ranks s.right.2))
 
-  -- what lies below the last place is lighter than its layer
+  -- the last place is no heavier than its layer
   pub last_weight : weight (pairs_at (draft_view p)) ≤ weight (walk (draft_views (xs ++ p ∷ [])))
   last_weight = omega (arith, ap weight left_walk, weight-append (walk (draft_views xs)) (pairs_at (draft_view p)))
 
--- the first element that was taken from a list
+-- a list is the first element that was taken from it, and the rest
 pub first_removed : {X : Type 0} (xs : List X) (x : X) (rest : List X) → 0 < length xs → x ≡ get_or xs 0 x → rest ≡ remove xs 0 → xs ≡ x ∷ rest
 first_removed [] x rest h e f = absurd (omega arith)
 first_removed (y ∷ ys) x rest h e f = λ i. sym e i ∷ sym f i
@@ -168,7 +168,7 @@ first_removed (y ∷ ys) x rest h e f = λ i. sym e i ∷ sym f i
 pub put_before-append : (b : List ℕ) (v w : List Pair) → put_before b (v ++ w) ≡ put_before b v ++ put_before b w
 put_before-append b v w = map-append (λ p. (b ++ p.0, p.1)) v w
 
--- the weight of what has 8 bytes put before each key
+-- pairs are lighter than the same pairs with 8 bytes put before each key
 pub below_lighter : (b : List ℕ) (w : List Pair) → length b ≡ 8 → 0 < length w → weight w < weight (put_before b w)
 below_lighter b w e h =
     let eight : length b * length w ≡ 8 * length w = ap (λ n. n * length w) e in
@@ -187,7 +187,7 @@ slice_at-lt (short s l c) h = h.0
 slice_at-lt (long s t c) h = h.0
 slice_at-lt (link s w) h = h.0
 
--- the walks below two places that meet, and the joined one
+-- the walks below two places that meet, and the joined walk
 pub record Merging (p q : DraftPlace) (upper lower joined : List Pair) : Type 0 where
   pub meet : Meet (draft_view p) (draft_view q)
   pub upper_is : put_before (slice_bytes p.slice) upper ≡ pairs_at (draft_view p)
@@ -210,7 +210,7 @@ module _ (p q : DraftPlace) (upper lower joined : List Pair) (m : Merging p q up
   pub merged_rank : rank_at (link p.slice joined) ≡ rank_at (draft_view p)
   merged_rank = let e : length_at (draft_view p) ≡ 9 = m.meet.1 in omega (arith, slice_at-draft p, e)
 
--- keys below the place that both share
+-- if two places meet, the keys below the first are below the keys below the second
 pub below_shared : (p q : DraftPlace) (upper lower : List Pair) → Meet (draft_view p) (draft_view q) → put_before (slice_bytes p.slice) upper ≡ pairs_at (draft_view p) → put_before (slice_bytes q.slice) lower ≡ pairs_at (draft_view q)
     → AllKeysBelow (pairs_at (draft_view p)) (pairs_at (draft_view q)) → AllKeysBelow upper lower
 below_shared p q upper lower meet eu el below =
@@ -218,12 +218,12 @@ below_shared p q upper lower meet eu el below =
     (subst (λ s. AllKeysBelow (put_before (slice_bytes p.slice) upper) (put_before (slice_bytes s) lower)) (sym (same_slice p q meet))
     (subst (λ w. AllKeysBelow (put_before (slice_bytes p.slice) upper) w) (sym el) (subst (λ w. AllKeysBelow w (pairs_at (draft_view q))) (sym eu) below)))
 
--- of a rising walk, what comes before a pair is below it
+-- in a rising walk, the keys before a pair are below its key
 pub rising_middle : (v : List Pair) (p : Pair) (w : List Pair) → KeysRise (v ++ p ∷ w) → AllKeysBelow v (p ∷ [])
 rising_middle [] p w h = tt
 rising_middle (x ∷ v) p w h = (((all_back _ v (p ∷ w) h.0).0, tt), rising_middle v p w h.1)
 
--- and what stands at the front rises
+-- the front of a rising walk rises
 pub rising_front : (v w : List Pair) → KeysRise (v ++ w) → KeysRise v
 rising_front [] w h = tt
 rising_front (x ∷ v) w h = (all_front (λ q. IsBelow x.0 q.0) v w h.0, rising_front v w h.1)

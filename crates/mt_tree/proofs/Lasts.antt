@@ -7,7 +7,7 @@ use Rattle.mt_tree.specs.declared.layer.DraftPlace.{DraftPlace}
 use Rattle.mt_tree.proofs.Joins.{slice_at-draft, all_weaker}
 use Rattle.mt_tree.proofs.Cuts.{slices_from}
 
--- from the first place on whose slice is not below
+-- from a place on whose slice is not below s, no slice is below s
 pub from_here : (low s : ℕ) (ps : List DraftPlace) (i : ℕ) (x : DraftPlace) → IsLayerFrom low (draft_views ps) → i < length ps → x ≡ get_or ps i x → s ≤ x.slice → SlicesFrom s (draft_views (drop i ps))
 from_here low s [] i x h lt e le = absurd (omega arith)
 from_here low s (p ∷ ps) zero x h lt e le =

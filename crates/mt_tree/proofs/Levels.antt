@@ -108,7 +108,7 @@ borders_some : (h : ℕ) (ns : List NodeView) → AllByRecursion (IsNodeAt h) ns
 borders_some h [] a some = absurd (omega arith)
 borders_some h (n ∷ ns) a some = let one : 1 ≤ length n.tree.borders = a.0.1.tree.some in omega (arith, length-append n.tree.borders (borders_of ns))
 
--- what holds of each part of each node
+-- what holds for each part of each node holds for the parts of all nodes
 all_parts : {X : Type 0} (P : X → Type 0) (f : NodeView → List X) (h : ℕ) (ns : List NodeView) → ((n : NodeView) → IsNode n → AllByRecursion P (f n)) → AllByRecursion (IsNodeAt h) ns → AllByRecursion P (flat_map f ns)
 all_parts P f h [] g a = tt
 all_parts P f h (n ∷ ns) g a = all_append P (f n) (flat_map f ns) (g n a.0.1) (all_parts P f h ns g a.1)
@@ -195,7 +195,7 @@ first_is k v ss ks n h e f g = by ks.items refl
         ap first_of is ∙ sym (first_kid m ms nodes.0) ∙ ap (λ (z : List NodeView). first_slice_of (joined (borders_of z))) (sym same) ∙ ap first_of (sym (ap node_view f) ∙ e)
 
 -- ---- one level up
--- the children that get their parent, and what is left
+-- the children that get their parent are a level
 pub level_children : (h : ℕ) (kids rest : List NodeView) → IsLevelAt h (kids ++ rest) → IsLevel kids
 level_children h kids rest l = level_is h kids (level_front h kids rest l)
 
@@ -203,7 +203,7 @@ pub height_of : (h : ℕ) (kids rest : List NodeView) → IsLevelAt h (kids ++ r
 height_of h [] rest l some = absurd (omega arith)
 height_of h (k ∷ kids) rest l some = l.nodes.0.0
 
--- a parent stands for its children
+-- a parent has what its children have
 pub under_parent : {X : Type 0} (f : NodeView → List X) (upper kids rest : List NodeView) (all : List X) → f (parent_node kids) ≡ flat_map f kids
     → flat_map f upper ++ flat_map f (kids ++ rest) ≡ all → flat_map f (upper ++ parent_node kids ∷ []) ++ flat_map f rest ≡ all
 under_parent f upper kids rest all has e =

@@ -67,20 +67,20 @@ stored_are bs h = record { own = h.own; below = borders_lawful bs h.links; linke
 abbrev lawful : DraftPlace → Type 0
 lawful p = IsLawfulLink p.content
 
--- the last border and those before it
+-- lawful links of a layer: those of the last border, and those of the borders before it
 pub links_parted : (lb fs : List Border) (l : Vec DraftPlace Global) → AllByRecursion HasLawfulLinks lb → lb ≡ fs ++ Open l ∷ [] → AllByRecursion HasLawfulLinks fs × HaveLawfulLinks l.items
 links_parted lb fs l h e =
     let both : AllByRecursion HasLawfulLinks (fs ++ Open l ∷ []) = subst (AllByRecursion HasLawfulLinks) e h in
     (all_front HasLawfulLinks fs (Open l ∷ []) both, (all_back HasLawfulLinks fs (Open l ∷ []) both).0)
 
--- the first border and those after it
+-- lawful links of a layer: those of the first border, and those of the borders after it
 pub links_first : (rb bs : List Border) (f : Vec DraftPlace Global) → AllByRecursion HasLawfulLinks rb → rb ≡ Open f ∷ bs → HaveLawfulLinks f.items × AllByRecursion HasLawfulLinks bs
 links_first rb bs f h e = subst (AllByRecursion HasLawfulLinks) e h
 
 links_put : (places : List DraftPlace) (old new : List Border) → AllByRecursion HasLawfulLinks old → HaveLawfulLinks places → PutBehind places old new → AllByRecursion HasLawfulLinks new
 links_put places old new h k put = subst (AllByRecursion HasLawfulLinks) (sym put.behind) (all_append HasLawfulLinks old put.more h (put.links k))
 
--- other places were put in place of the last border
+-- if other places replaced the last border, the layer is lawful
 pub put_stored : (lb fs new : List Border) (l : Vec DraftPlace Global) (places : List DraftPlace) → IsBorderList (border_views new) → IsStored lb → lb ≡ fs ++ Open l ∷ [] → HaveLawfulLinks places → 1 ≤ length places → PutOpen places fs new → IsStored new
 put_stored lb fs new l places own h e k some put = record {
   own = own;
@@ -101,7 +101,7 @@ more_some places old new put some = by put.more refl
         let more = ap (λ (z : List Border). length z) e in
         omega (arith, behind, more, length-append old put.more)
 
--- and in place of two neighbours
+-- if other places replaced the two borders at a seam, the layer is lawful
 pub seam_stored : (lb rb fs bs seam whole : List Border) (l f : Vec DraftPlace Global) (left right : List DraftPlace) (vl : List (List PlaceView)) → Sides (border_views fs) (border_views bs) (draft_views l.items) (draft_views f.items) vl
     → IsStored lb → IsStored rb → lb ≡ fs ++ Open l ∷ [] → rb ≡ Open f ∷ bs → length left ≡ length l.items → SameEnds (draft_views l.items) (draft_views f.items) (draft_views left ++ draft_views right)
     → HaveLawfulLinks (left ++ right) → PutOpen (left ++ right) fs seam → whole ≡ seam ++ bs → IsStored whole
@@ -119,16 +119,16 @@ seam_stored lb rb fs bs seam whole l f left right vl s h k e g same ends links p
 pub links_then : (places after : List DraftPlace) (p : DraftPlace) → HaveLawfulLinks places → IsLawfulLink p.content → after ≡ places ++ p ∷ [] → HaveLawfulLinks after
 links_then places after p h k e = subst HaveLawfulLinks (sym e) (all_append lawful places (p ∷ []) h (k, tt))
 
--- another place stands where the last one was
+-- links stay lawful if another place, with a lawful link, replaced the last one
 pub links_changed : (places xs after : List DraftPlace) (p m : DraftPlace) → HaveLawfulLinks places → places ≡ xs ++ p ∷ [] → IsLawfulLink m.content → after ≡ xs ++ m ∷ [] → HaveLawfulLinks after
 links_changed places xs after p m h e k f = links_then xs after m (all_front lawful xs (p ∷ []) (subst HaveLawfulLinks e h)) k f
 
--- two lists of places, where one place took the place of the last and the first
+-- likewise if one place replaced the last of one list and the first of the next
 pub links_merged : (l r xs ys places rest : List DraftPlace) (p q m : DraftPlace) → HaveLawfulLinks l → HaveLawfulLinks r → l ≡ xs ++ p ∷ [] → r ≡ q ∷ ys → IsLawfulLink m.content → places ≡ xs ++ m ∷ [] → rest ≡ ys → HaveLawfulLinks (places ++ rest)
 links_merged l r xs ys places rest p q m h k e f lawful_m g i =
     let later : HaveLawfulLinks rest = subst HaveLawfulLinks (sym i) (subst HaveLawfulLinks f k).1 in
     all_append lawful places rest (links_changed l xs places p m h e lawful_m g) later
 
--- and where both stayed
+-- likewise if two lists of places stayed as they are
 pub links_kept : (l r places rest : List DraftPlace) → HaveLawfulLinks l → HaveLawfulLinks r → places ≡ l → rest ≡ r → HaveLawfulLinks (places ++ rest)
 links_kept l r places rest h k e f = all_append lawful places rest (subst HaveLawfulLinks (sym e) h) (subst HaveLawfulLinks (sym f) k)

@@ -30,7 +30,7 @@ pub same_first : (r : List DraftPlace) (x y : DraftPlace) → 1 ≤ length r →
 same_first [] x y h e f = absurd (omega arith)
 same_first (z ∷ r) x y h e f = e ∙ sym f
 
--- lists on both sides of a place
+-- the views of two lists, the first of which ends with a place, are the views of the places in one list
 glued : (xs places rest ys : List DraftPlace) (p : DraftPlace) → places ≡ xs ++ p ∷ [] → rest ≡ ys → draft_views places ++ draft_views rest ≡ draft_views (xs ++ p ∷ ys)
 glued xs places rest ys p e f = (λ i. draft_views (e i) ++ draft_views (f i)) ∙ sym (map-append draft_view (xs ++ p ∷ []) ys) ∙ ap draft_views (append_assoc xs (p ∷ []) ys)
 
@@ -47,7 +47,7 @@ last_kept (x ∷ []) [] h = absurd (omega arith)
 last_kept (x ∷ []) (y ∷ ys) h = refl
 last_kept (x ∷ z ∷ xs) ys h = last_kept (z ∷ xs) ys h
 
--- both lists stayed as they are
+-- if both lists stayed as they are, so did the slices at the ends
 pub ends_kept : (l r places rest : List DraftPlace) → 1 ≤ length l → 1 ≤ length r → places ≡ l → rest ≡ r → SameEnds (draft_views l) (draft_views r) (draft_views places ++ draft_views rest)
 ends_kept l r places rest h k e f =
     let same : draft_views places ++ draft_views rest ≡ draft_views l ++ draft_views r = (λ i. draft_views (e i) ++ draft_views (f i)) in
@@ -64,7 +64,7 @@ last_merged : (xs ys : List PlaceView) (m q : PlaceView) → slice_at m ≡ slic
 last_merged xs [] m q e = last_kept xs (m ∷ []) (omega arith) ∙ e
 last_merged xs (y ∷ ys) m q e = last_kept xs (m ∷ y ∷ ys) (omega arith)
 
--- one place took the place of two
+-- if one place replaced the two at the seam, the slices at the ends stayed
 pub ends_merged : (l r xs ys places rest : List DraftPlace) (p q m : DraftPlace) → l ≡ xs ++ p ∷ [] → r ≡ q ∷ ys → places ≡ xs ++ m ∷ [] → rest ≡ ys → m.slice ≡ p.slice → p.slice ≡ q.slice → SameEnds (draft_views l) (draft_views r) (draft_views places ++ draft_views rest)
 ends_merged l r xs ys places rest p q m dl dr e f s t =
     let whole : draft_views places ++ draft_views rest ≡ draft_views xs ++ draft_view m ∷ draft_views ys = glued xs places rest ys m e f ∙ map-append draft_view xs (m ∷ ys) in
@@ -123,7 +123,7 @@ module _ (fs bs : List (List PlaceView)) (l f : List PlaceView) (vl : List (List
       last [] h = h.0
       last (g ∷ gs) h = last gs h.1
 
--- what is put in place of the borders at the seam
+-- borders that replace the two at the seam make a lawful list with the others
 pub seam_put : (fs bs seam whole : List Border) (l f left right : List DraftPlace) (vl : List (List PlaceView)) → Sides (border_views fs) (border_views bs) (draft_views l) (draft_views f) vl
     → PutBehind (left ++ right) fs seam → whole ≡ seam ++ bs → length left ≡ length l → SameEnds (draft_views l) (draft_views f) (draft_views left ++ draft_views right) → IsBorderList (border_views whole)
 seam_put fs bs seam whole l f left right vl s put e same ends =

@@ -1,4 +1,4 @@
--- Where walks lie below one another, by their edges.
+-- Whether one walk lies below another, by their edges.
 use Rattle.std.proofs.Common.{◌≡◌, ◌≢◌, ℕ, zero, suc, ◌+◌, ◌-◌, ◌*◌, ◌^◌, ◌<◌, ◌≤◌, min, List, [], ◌∷◌, ◌++◌, length, take, drop, sym, refl, ap, ◌∙◌, subst, inl, inr, ◌⊎◌, arith}
 use Rattle.std.specs.List.{AllByRecursion}
 use Rattle.std.proofs.lemmas.List.{append-nil, length-map}
@@ -96,11 +96,11 @@ below_ranks rank (p ∷ v) w hv hw low high = (one w hw high, below_ranks rank v
         let from : rank ≤ key_rank q.0 = r.0 in
         (less_of_ranks p.0 q.0 hv.0 h.0 (omega arith), one w h.1 r.1)
 
--- one rank is lower, or both are that of the keys longer than 8 of one slice
+-- the first rank is lower, or both are the rank of the keys longer than 8 bytes of one slice
 abbrev CanBeBelow : ℕ → ℕ → Type 0
 CanBeBelow a b = (a < b) ⊎ ((a ≡ b) × ((n : ℕ) (s : ℕ) → a ≡ s * 10 + n → n ≤ 9 → n ≡ 9))
 
--- a pair of either side's edge
+-- if all keys of one edge are below those of another, its rank can be below
 first_pair_ranks : (a b : ℕ) (v w : List Pair) → 0 < length v → 0 < length w → HasBytes v → HasBytes w → AllByRecursion (λ p. key_rank p.0 ≡ a) v → AllByRecursion (λ q. key_rank q.0 ≡ b) w → AllKeysBelow v w → CanBeBelow a b
 first_pair_ranks a b [] w sv sw hv hw rv rw' below = absurd (omega arith)
 first_pair_ranks a b (p ∷ v) [] sv sw hv hw rv rw' below = absurd (omega arith)
@@ -147,7 +147,7 @@ module _ (v w b d : List Pair) (s m t n : ℕ) (f : LastEdge v s m b) (g : First
   edges_order : AllKeysBelow v w → CanBeBelow (s * 10 + m) (t * 10 + n)
   edges_order h = first_pair_ranks (s * 10 + m) (t * 10 + n) f.top g.top f.edge.some g.edge.some top_bytes top_bytes' f.edge.ranks g.edge.ranks (tops_below h)
 
-  -- both longer than 8, and of one slice: what lies below decides
+  -- if both are longer than 8 and of one slice, what lies below decides
   edges_down : s ≡ t → m ≡ 9 → n ≡ 9 → AllKeysBelow v w → AllKeysBelow b d
   edges_down e k l h =
       below_unprefixed (slice_bytes s) b d
@@ -205,7 +205,7 @@ module _ (v w b d : List Pair) (s m t n : ℕ) (f : LastEdge v s m b) (g : First
       let nine' : n ≡ 9 = omega arith in
       (edges_up same nine nine', edges_down same nine nine')
 
--- what lies below the last place is lighter
+-- what lies below the last place of a walk is lighter than the walk
 pub edge_falls : (v b : List Pair) (s m : ℕ) → LastEdge v s m b → m ≡ 9 → weight b < weight v
 edge_falls v b s m f e =
     let top = f.edge.rests e in

@@ -1,4 +1,4 @@
--- Places are put behind borders, as borders that are cut between slices.
+-- Places are appended to borders, as borders that are cut between slices.
 use Rattle.std.proofs.Common.{◌≡◌, ◌≢◌, ℕ, suc, ◌+◌, ◌-◌, ◌^◌, ◌<◌, ◌≤◌, min, List, [], ◌∷◌, ◌++◌, get_or, length, take, drop, sym, refl, ap, ◌∙◌, subst, inl, inr, ◌⊎◌, arith, append_assoc, length-append, Vec, Global}
 use Rattle.std.proofs.Math.Seq.{take-append_seam, drop-append_seam}
 use Rattle.std.specs.List.{AllByRecursion}
@@ -27,7 +27,7 @@ joined_views-append bs ds = ap joined (borders-append bs ds) ∙ joined-append (
 pub parted : (ps xs ys : List DraftPlace) (i : ℕ) → xs ≡ take i ps → ys ≡ drop i ps → xs ++ ys ≡ ps
 parted ps xs ys i e f = (λ j. e j ++ f j) ∙ take-append-drop i ps
 
--- parts of places as they are seen
+-- the views of a list's two parts are the views of the list
 pub views_parted : (xs ys ps : List DraftPlace) → xs ++ ys ≡ ps → draft_views xs ++ draft_views ys ≡ draft_views ps
 views_parted xs ys ps e = sym (map-append draft_view xs ys) ∙ ap draft_views e
 
@@ -67,7 +67,7 @@ pub last_rest : (b : Border) (bs : List Border) → IsLastOpen (b ∷ bs) → Is
 last_rest b [] h = tt
 last_rest b (c ∷ bs) h = h
 
--- ---- borders put behind others
+-- ---- borders appended to others
 pub put_none : (old : List Border) (places : List DraftPlace) → places ≡ [] → PutOpen places old old
 put_none old places e = record {
   put = record { more = []; behind = sym (append-nil old); same = sym (ap draft_views e); lawful = (tt, tt, tt); links = λ h. tt; first = λ h. h };
@@ -131,7 +131,7 @@ cut_at s (x ∷ xs) ys below from =
     let lt : slice_at x < s = below.0 in
     (all_weaker (λ q. s ≤ slice_at q) (λ q. suc (slice_at x) ≤ slice_at q) (λ q le. omega arith) ys from, cut_at s xs ys below.1 from)
 
--- between two slices
+-- a cut may stand between two slices that differ
 cut_between : (low : ℕ) (xs ys : List PlaceView) → IsLayerFrom low (xs ++ ys) → 1 ≤ length xs → 1 ≤ length ys → last_slice_of xs ≢ first_slice_of ys → CutAt xs ys
 cut_between low [] ys h a b n = tt
 cut_between low (p ∷ []) [] h a b n = absurd (omega arith)
@@ -152,7 +152,7 @@ of_slice : (s : ℕ) (ys : List PlaceView) → SlicesFrom s ys → AllByRecursio
 of_slice s [] from upto = tt
 of_slice s (y ∷ ys) from upto = let le : s ≤ slice_at y = from.0 in let up : slice_at y ≤ s = upto.0 in (omega arith, of_slice s ys from.1 upto.1)
 
--- places from a slice on, none of which is above it
+-- places from a slice on are at most ten, if none is above it
 run_short : (s : ℕ) (ys : List PlaceView) → IsLayer ys → SlicesFrom s ys → AllByRecursion (λ p. slice_at p ≤ s) ys → length ys ≤ 10
 run_short s ys h from upto = run_few s ys h (of_slice s ys from upto)
 
@@ -166,7 +166,7 @@ behind_some s ps xs [] some last e below =
     let lt = last_below s ps some (subst (SlicesBelow s) (sym (append-nil xs) ∙ e) below) in absurd (omega arith)
 behind_some s ps xs (y ∷ ys) some last e below = omega arith
 
--- sixteen places, cut before their last slice
+-- places cut into two layers of at most 15 places; sixteen places are cut so, before their last slice
 pub record Halves (all xs ys : List PlaceView) : Type 0 where
   pub whole : xs ++ ys ≡ all
   pub first : IsLayer xs × (length xs ≤ 15)
@@ -212,7 +212,7 @@ slices_fit : (low : ℕ) (ps : List PlaceView) → IsLayerFrom low ps → AllByR
 slices_fit low [] h = tt
 slices_fit low (p ∷ ps) h = (slice_at-lt p h.0, slices_fit (suc (rank_at p)) ps h.2)
 
--- two borders that share a slice, cut before it and behind it
+-- places cut into three layers of at most 15 places; two borders that share a slice are cut so, before the slice and after it
 pub record Thirds (xs run ys : List PlaceView) : Type 0 where
   pub first : IsLayer xs × (length xs ≤ 15)
   pub second : IsLayer run × (length run ≤ 15)
@@ -265,7 +265,7 @@ thirds s next left right xs rest run ys h l r last first is e f below from_rest 
         let few = run_short s ys ys_layer (all_back (λ p. s ≤ slice_at p) run ys from) upto in
         omega arith
 
--- and put behind borders in three
+-- the three parts are appended to borders, one by one
 pub put_thirds : (all xs rest run ys : List DraftPlace) (a b c d : List Border) → xs ++ rest ≡ all → run ++ ys ≡ rest → Thirds (draft_views xs) (draft_views run) (draft_views ys) → PutOpen xs a b → PutOpen run b c → PutOpen ys c d → PutOpen all a d
 put_thirds all xs rest run ys a b c d f g t p q r =
     let before : CutAt (draft_views xs) (draft_views (run ++ ys)) = subst (CutAt (draft_views xs)) (sym (map-append draft_view run ys)) t.before in
@@ -283,7 +283,7 @@ first_slice_is : (xs : List DraftPlace) (x : DraftPlace) → 1 ≤ length xs →
 first_slice_is [] x h e = absurd (omega arith)
 first_slice_is (y ∷ xs) x h e = slice_at-draft y ∙ ap (λ (z : DraftPlace). z.slice) (sym e)
 
--- of places that are more than one border holds
+-- if two lists are more than one border holds: the last slice of the left list, and the first slice of the right one
 pub seam_slices : (left right : List DraftPlace) (x y : DraftPlace) (n : ℕ) → IsBorder (draft_views left) → 15 < length left + length right → x ≡ get_or left (n - 1) x → n ≡ length left → y ≡ get_or right 0 y
     → (last_slice_of (draft_views left) ≡ x.slice) × (first_slice_of (draft_views right) ≡ y.slice)
 seam_slices left right x y n b many last whole first =
@@ -306,7 +306,7 @@ pub halves : (ps xs ys : List DraftPlace) (x : DraftPlace) (n : ℕ) → IsLayer
 halves ps xs ys x n h many last whole e below from =
     sixteen x.slice (draft_views ps) (draft_views xs) (draft_views ys) h (length-map ps draft_view ∙ many) (last_slice_is ps x (omega arith) (last ∙ ap (λ (k : ℕ). get_or ps (k - 1) x) whole)) (views_parted xs ys ps e) below from
 
--- two lists, one behind the other, are what lies before their seam and what lies from there on
+-- of two lists, one after the other, the left is what lies before the seam, and the right what lies from there on
 pub at_seam : (left right all : List DraftPlace) (seam : ℕ) → all ≡ left ++ right → seam ≡ length left → (take seam all ≡ left) × (drop seam all ≡ right)
 at_seam left right all seam e l = ((λ i. take (l i) (e i)) ∙ take-append_seam left right, (λ i. drop (l i) (e i)) ∙ drop-append_seam left right)
 

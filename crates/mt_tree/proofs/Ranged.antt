@@ -37,11 +37,11 @@ take_few zero a = omega arith
 take_few (suc n) [] = omega arith
 take_few (suc n) (x ∷ a) = omega (arith, take_few n a)
 
--- one part after another
+-- the hits of one part, and then of the next, are those of both
 pub then_found : (n : ℕ) (old mid new a b : List Hit) → mid ≡ take n (old ++ a) → new ≡ take n (mid ++ b) → new ≡ take n (old ++ (a ++ b))
 then_found n old mid new a b e f = f ∙ ap (λ z. take n (z ++ b)) e ∙ take_take-append n (old ++ a) b ∙ ap (take n) (append_assoc old a b)
 
--- ---- what lies where
+-- ---- pairs before and after the start
 filter-append : {X : Type 0} (t : X → Bool) (xs ys : List X) → filter t (xs ++ ys) ≡ filter t xs ++ filter t ys
 filter-append t [] ys = refl
 filter-append t (x ∷ xs) ys = by (filter-append t xs ys) (t x) refl
@@ -56,7 +56,7 @@ from-append start v w = filter-append (λ p. not (is_lt (slice_cmp nat_cmp p.0 s
 pub found-append : (prefix : List ℕ) (w : List Bool) (u v : List Pair) → found prefix w (u ++ v) ≡ found prefix w u ++ found prefix w v
 found-append prefix w u v = map-append (λ p. record { key = prefix ++ p.0; columns = wanted_of w p.1 }) u v
 
--- pairs before the start
+-- pairs before the start are left out
 pub from_gone : (start : List ℕ) (w : List Pair) → AreBytes (take 8 start) → HasBytes w → AllByRecursion (λ p. key_rank p.0 < key_rank start) w → from start w ≡ []
 from_gone start [] hs h l = refl
 from_gone start (p ∷ w) hs h l =
@@ -75,7 +75,7 @@ not_less start key hs h l = by (slice_cmp nat_cmp key start) refl
     by Equal e = refl
     by Greater e = refl
 
--- pairs after the start
+-- pairs after the start are kept
 pub from_kept : (start : List ℕ) (w : List Pair) → AreBytes (take 8 start) → HasBytes w → AllByRecursion (λ p. key_rank start < key_rank p.0) w → from start w ≡ w
 from_kept start [] hs h l = refl
 from_kept start (p ∷ w) hs h l = rw (not_less start p.0 hs h.0 l.0) (ap (λ z. p ∷ z) (from_kept start w hs h.1 l.1))
@@ -89,7 +89,7 @@ pub from_empty : (w : List Pair) → from [] w ≡ w
 from_empty [] = refl
 from_empty (p ∷ w) = rw (never_less p.0) (ap (λ z. p ∷ z) (from_empty w))
 
--- below a slice that the start shares
+-- if the start and all keys begin with the same bytes, their rests decide
 pub from_prefixed : (b rest : List ℕ) (w : List Pair) → from (b ++ rest) (put_before b w) ≡ put_before b (from rest w)
 from_prefixed b rest [] = refl
 from_prefixed b rest (p ∷ w) = by (from_prefixed b rest w) (is_lt (slice_cmp nat_cmp p.0 rest)) refl
@@ -101,7 +101,7 @@ from_prefixed b rest (p ∷ w) = by (from_prefixed b rest w) (is_lt (slice_cmp n
     by tail true e = rw (step ∙ e, e) tail
     by tail false e = rw (step ∙ e, e) (ap (λ z. (b ++ p.0, p.1) ∷ z) tail)
 
--- hits below a longer prefix
+-- the last bytes of the prefix may as well stand before each key
 pub found-put_before : (prefix b : List ℕ) (w : List Bool) (u : List Pair) → found (prefix ++ b) w u ≡ found prefix w (put_before b u)
 found-put_before prefix b w [] = refl
 found-put_before prefix b w (p ∷ u) = λ i. record { key = append_assoc prefix b p.0 i; columns = wanted_of w p.1 } ∷ found-put_before prefix b w u i
@@ -142,7 +142,7 @@ module _ (start : List ℕ) (bytes : AreBytes start) where
           let same : take l (slice_bytes s) ≡ start = rw (len, slice) (slice_bytes-short start few (bytes_take 8 start bytes)) in
           one_kept start (take l (slice_bytes s)) c (ap (λ (z : List ℕ). is_lt (slice_cmp nat_cmp z start)) same ∙ never_itself start)
 
-  -- what lies below a place of longer keys: where the start has its place there its rest decides, else all is kept
+  -- what lies below a place of longer keys: if the start has its place there, its rest decides; otherwise all pairs are kept
   pub below_from : (s : ℕ) (w : List Pair) (rest : List ℕ) → s < 2 ^ 64 → HasNoEmptyKey w → key_rank start ≤ s * 10 + 9 → (s * 10 + 9 ≡ key_rank start → rest ≡ drop 8 start) → (s * 10 + 9 ≢ key_rank start → rest ≡ [])
       → from start (put_before (slice_bytes s) w) ≡ put_before (slice_bytes s) (from rest w)
   below_from s w rest h some le here past = by (cases_lt (key_rank start) (s * 10 + 9))

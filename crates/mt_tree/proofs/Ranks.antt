@@ -1,4 +1,4 @@
--- The order of keys is that of their places, and where they share one that of their rests.
+-- Keys are in the order of their places. Keys that share a place are in the order of their rests.
 use Rattle.std.proofs.Common.{◌≡◌, ℕ, ◌+◌, ◌*◌, ◌<◌, ◌≤◌, min, true, false, List, length, take, drop, Ordering, sym, refl, ap, ◌∙◌, inl, inr, ◌⊎◌, arith}
 use Rattle.std.specs.declared.cmp.Ordering.TheVariants.{Less, Equal, Greater}
 use Rattle.std.specs.Ordering.{nat_cmp, ordering_then, MatchOrdering, is_lt}
@@ -11,7 +11,7 @@ use Rattle.mt_words.specs.Words.{IsBelow}
 use Rattle.mt_words.proofs.SliceBytes.{by_ranks}
 use Rattle.mt_tree.specs.Layer.{key_rank}
 
--- a key below another has a lower rank, or both are long and one slice's, and the rests decide
+-- two keys have one rank, are longer than 8 bytes, and their rests decide
 pub record IsBelowAt (x y : List ℕ) : Type 0 where
   pub same_rank : key_rank x ≡ key_rank y
   pub long : 8 < length x
@@ -30,6 +30,7 @@ decide f g m n rest a b less = by (nat_cmp f g) (nat_cmp m n) (ranked f g _ refl
     by Equal Greater h k e = cc
     by Greater q h k e = cc
 
+-- a key below another has a lower rank, or both are long and of one slice, and the rests decide
 pub ranks_of_less : (x y : List ℕ) → AreBytes (take 8 x) → AreBytes (take 8 y) → IsBelow x y → (key_rank x < key_rank y) ⊎ IsBelowAt x y
 ranks_of_less x y p q less =
     by (decide (slice_in x) (slice_in y) (min (length x) 9) (min (length y) 9) (slice_cmp nat_cmp (drop 8 x) (drop 8 y)) (omega arith) (omega arith) (ap is_lt (sym (by_ranks x y p q)) ∙ less))
@@ -48,7 +49,7 @@ ranks_of_less x y p q less =
         let m : min (length x) 9 ≡ min (length y) 9 = h.1 in
         inr (record { same_rank = omega arith; long = long m h.2 (cases_lt 8 (length x)); rests = h.2 })
 
--- and a lower rank is a lower key
+-- a key with a lower rank than another is below it
 pub less_of_ranks : (x y : List ℕ) → AreBytes (take 8 x) → AreBytes (take 8 y) → key_rank x < key_rank y → IsBelow x y
 less_of_ranks x y p q low = ap is_lt (by_ranks x y p q) ∙ by (nat_cmp (slice_in x) (slice_in y)) (nat_cmp (min (length x) 9) (min (length y) 9)) (ranked (slice_in x) (slice_in y) _ refl) (ranked (min (length x) 9) (min (length y) 9) _ refl)
   where

@@ -12,7 +12,7 @@ use Rattle.mt_tree.proofs.Joins.{all_append, all_weaker, all_front, all_back, le
 use Rattle.mt_tree.proofs.Cuts.{slices_from}
 use Rattle.mt_tree.specs.Falls.{layer_back, layer_front}
 
--- lists of borders, one after the other
+-- two lists of borders with slices apart make one such list, if the first list's slices are below the second's
 apart_append : (fs bs : List (List PlaceView)) → SlicesApart fs → SlicesApart bs → AllByRecursion (λ a. CutAt a (joined bs)) fs → SlicesApart (fs ++ bs)
 apart_append [] bs h k c = k
 apart_append (a ∷ fs) bs h k c =
@@ -104,7 +104,7 @@ each_over [] l ps some e h c = tt
 each_over (a ∷ fs) l ps some e h c =
     (cut_over a ps h (all_weaker (λ x. suc (slice_at x) ≤ first_slice_of l) (λ x. suc (slice_at x) ≤ first_slice_of ps) (λ x le. omega arith) a (first_over a l some c.0)), each_over fs l ps some e h c.1)
 
--- the seam of two lists of borders is opened and closed again
+-- the two borders at the seam of two lists may be replaced by others with the same slices at the ends
 pub seam_are : (fs : List (List PlaceView)) (l f : List PlaceView) (bs seam : List (List PlaceView)) → IsBorderList (fs ++ l ∷ []) → IsBorderList (f ∷ bs) → IsBorderList seam → 1 ≤ length l → 1 ≤ length (joined seam) → SameEnds l f (joined seam) → IsBorderList (fs ++ (seam ++ bs))
 seam_are fs l f bs seam left right h some seam_some ends =
     let front = front_apart fs l left.1 in
@@ -121,7 +121,7 @@ seam_are fs l f bs seam left right h some seam_some ends =
     first_kept [] ys k = absurd (omega arith)
     first_kept (x ∷ xs) ys k = refl
 
--- the last border gives way to others that begin as it does
+-- the last border may be replaced by others that begin with the same slice
 pub behind_are : (fs : List (List PlaceView)) (l : List PlaceView) (parts : List (List PlaceView)) → IsBorderList (fs ++ l ∷ []) → IsBorderList parts → 1 ≤ length l → first_slice_of (joined parts) ≡ first_slice_of l → IsBorderList (fs ++ parts)
 behind_are fs l parts left are some first =
     let front = front_apart fs l left.1 in

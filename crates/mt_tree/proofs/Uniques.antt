@@ -1,4 +1,4 @@
--- A walk has one number of trees.
+-- A walk has only one number of trees.
 use Rattle.std.proofs.Common.{◌≡◌, ℕ, zero, suc, ◌+◌, ◌-◌, ◌^◌, ◌<◌, min, List, [], ◌∷◌, length, sym, refl, ap, ◌∙◌, subst, true, Ordering, inl, inr, ◌⊎◌, arith}
 use Rattle.std.specs.Prelude.{Contains}
 use Rattle.std.specs.List.{AllByRecursion}
@@ -35,7 +35,7 @@ first q qs = (0, omega arith, refl)
 later : (q : List ℕ) (qs : List (List ℕ)) (r : List ℕ) → Contains qs r → Contains (q ∷ qs) r
 later q qs r m = let l : m.0 < length qs = m.1 in (suc m.0, omega arith, m.2)
 
--- rising lists with the same members are one
+-- rising lists with the same members are equal
 same_rising : (qs rs : List (List ℕ)) → AreRising qs → AreRising rs → ((x : List ℕ) → Contains qs x → Contains rs x) → ((x : List ℕ) → Contains rs x → Contains qs x) → qs ≡ rs
 same_rising [] [] h k f g = refl
 same_rising [] (r ∷ rs) h k f g = absurd (let m = g r (first r rs) in let l = m.1 in omega arith)

@@ -1,4 +1,4 @@
--- A walk shows the pairs of places and children under the bytes that stand before them.
+-- A walk shows the pairs of places and children with the bytes of the prefix before their keys.
 use Rattle.std.proofs.Common.{◌≡◌, ℕ, ◌+◌, ◌≤◌, List, [], ◌∷◌, ◌++◌, length, take, refl, sym, ap, ◌∙◌, subst, arith, append_assoc, length-append, Vec, Global}
 use Rattle.smallvec.specs.SmallVec.{SmallVec}
 use Rattle.mt_words.specs.Limits.{widest}
@@ -37,7 +37,7 @@ module _ (s : ℕ) (h : Content) (before bytes : List ℕ) (is_bytes : bytes ≡
     pub link_shown : (n : NodeView) → h ≡ Link n → put_before prefix (walk (places n)) ≡ put_before before (pairs_at (view_of_content s h))
     link_shown n e = deeper_shown (walk (places n)) ∙ ap (λ (z : Content). put_before before (pairs_at (view_of_content s z))) (sym e)
 
--- there is room for the bytes of a slice that links
+-- the prefix has room for the bytes of a slice that links
 room_before : (n : ℕ) (bytes : List ℕ) (w : List Pair) → 2 ≤ length w → FitsAfter n (put_before bytes w) → n + length bytes ≤ widest.key
 room_before n bytes [] some fits = absurd (omega arith)
 room_before n bytes (p ∷ w) some fits = let le = fits.0 in omega (arith, length-append bytes p.0)
@@ -47,6 +47,6 @@ link_room s n h below bytes e f place fits =
     let lawful : IsPlace (link s (walk (places below))) = subst (λ (z : Content). IsPlace (view_of_content s z)) e place in
     subst (λ (z : List ℕ). n + length z ≤ widest.key) (sym f) (room_before n (slice_bytes s) (walk (places below)) lawful.1 (subst (λ (z : Content). FitsAfter n (pairs_at (view_of_content s z))) e fits))
 
--- the same pairs, at the same state
+-- equal pairs were shown, up to an equal state
 pub moved : {A : Type 0} (shown : A → A → List Pair → Type 0) (a b c : A) (v w : List Pair) → c ≡ b → v ≡ w → shown a b v → shown a c w
 moved {A} shown a b c v w e f s = subst (λ (x : A). shown a x w) (sym e) (subst (shown a b) f s)

@@ -30,7 +30,7 @@ below_next low [] i d rise lt = absurd (omega arith)
 below_next low (c ∷ cs) zero d rise lt = tt
 below_next low (c ∷ cs) (suc i) d rise lt = (omega (arith, rise_from (suc c.0) cs i d rise.1 (omega arith)), below_next (suc c.0) cs i d rise.1 (omega arith))
 
--- the next column may stand behind those of the earlier ones that are wanted
+-- the next column may follow the earlier ones that are wanted
 pub next_follows : (flags : List Bool) (columns : List (ℕ × List ℕ)) (i : ℕ) (d : ℕ × List ℕ) → AreColumns widest columns → i < length columns
     → CanFollow widest (wanted_of flags (take i columns)) (get_or columns i d)
 next_follows flags columns i d are lt = (
@@ -38,7 +38,7 @@ next_follows flags columns i d are lt = (
   all_kept (λ (c : ℕ × List ℕ). c.0 < (get_or columns i d).0) (λ (c : ℕ × List ℕ). wants flags c.0) (take i columns) (below_next 0 columns i d are.1 lt),
 )
 
--- where all numbers are wanted, all columns of a key are
+-- if all numbers are wanted, all columns of a key are
 pub all_wanted : (flags : List Bool) (columns : List (ℕ × List ℕ)) → ((number : ℕ) → number ≤ GREATEST_COLUMN → wants flags number ≡ true) → AreColumns widest columns
     → wanted_of flags columns ≡ columns
 all_wanted flags columns all are = each columns are.0

@@ -1,4 +1,4 @@
--- A draft: each of its layers is a list of borders, each with all places of its slices.
+-- Drafts. Each layer of a draft is a list of borders, and each border has all places of its slices.
 use Rattle.std.specs.Prelude.{ℕ, ◌≡◌, List, [], ◌∷◌}
 use Rattle.std.specs.List.{AllByRecursion}
 use Rattle.mt_tree.specs.Layer.{PlaceView, slice_at, IsLayer, walk}
@@ -10,16 +10,17 @@ use Rattle.mt_tree.specs.Nodes.{IsBorder, SlicesApart, AreLinked, first_slice_of
 abbrev pub borders_walk : List (List PlaceView) → List Pair
 borders_walk bs = walk (joined bs)
 
--- the law of one layer's borders: 1 to 15 places in each, no slice in two of them, and their places are a lawful layer
+-- the law of one layer's borders: each has 1 to 15 places, no slice is in two of them, and their places are a lawful layer
 abbrev pub IsBorderList : List (List PlaceView) → Type 0
 IsBorderList bs = AllByRecursion IsBorder bs × SlicesApart bs × IsLayer (joined bs)
 
--- what contracts see of a draft: the borders of its outermost layer, in order, and those of the layers below the links of its places, each layer before those below its own links
+-- what contracts see of a draft: the borders of its outermost layer, in order, and the borders of each layer below a link,
+-- each layer before the layers below its own links
 pub record DraftView : Type 0 where
   pub borders : List (List PlaceView)
   pub below : List (List (List PlaceView))
 
--- the draft of no pairs
+-- the draft without pairs
 abbrev pub empty_draft : DraftView
 empty_draft = record { borders = []; below = [] }
 
@@ -27,13 +28,14 @@ empty_draft = record { borders = []; below = [] }
 abbrev pub layer_walk : DraftView → List Pair
 layer_walk d = borders_walk d.borders
 
--- the law of a draft: the borders of its outermost layer are lawful, and so are those of each layer below a link, at any depth
+-- the law of a draft: the borders of its outermost layer are lawful, so are those of each layer in `below`,
+-- and `below` has just the layers below links, at any depth
 pub record AreBorders (d : DraftView) : Type 0 where
   pub own : IsBorderList d.borders
   pub below : AllByRecursion IsBorderList d.below
   pub linked : AreLinked (linked_walks (joined d.borders)) d.below
 
--- the slice of the last place
+-- the slice of the last place, or 0 if there is none
 abbrev pub last_slice_of : List PlaceView → ℕ
 last_slice_of [] = 0
 last_slice_of (p ∷ []) = slice_at p

@@ -30,7 +30,7 @@ border_view (Closed f) = views f.made.items
 abbrev pub border_views : List Border → List (List PlaceView)
 border_views = map border_view
 
--- the borders of the layers below a place's link, the linked one first
+-- the borders of each layer below a place's link, the linked layer first
 abbrev pub layers_of_content : DraftContent → List (List (List PlaceView))
 layers_of_content (Short l c) = []
 layers_of_content (Suffix t c) = []
@@ -46,7 +46,7 @@ layers_of_border (Closed f) = each_borders (trees_of f.made.items)
 abbrev pub draft_of : List Border → DraftView
 draft_of bs = record { borders = border_views bs; below = flat_map layers_of_border bs }
 
--- a linked layer is lawful
+-- if this is a link, the linked layer is lawful
 abbrev pub IsLawfulLink : DraftContent → Type 0
 IsLawfulLink (Short l c) = ⊤
 IsLawfulLink (Suffix t c) = ⊤
@@ -55,7 +55,7 @@ IsLawfulLink (Link l) = AreBorders l
 abbrev pub HaveLawfulLinks : List DraftPlace → Type 0
 HaveLawfulLinks = AllByRecursion (λ p. IsLawfulLink p.content)
 
--- the layers that a border's places link to are lawful; those of a closed one are trees, and counted
+-- the layers that a border's places link to are lawful; those of a sealed border are lawful trees, with their count
 abbrev pub HasLawfulLinks : Border → Type 0
 HasLawfulLinks (Open ps) = HaveLawfulLinks ps.items
 HasLawfulLinks (Closed f) = AreBelow (views f.made.items) (trees_of f.made.items) × IsTreeCount (trees_of f.made.items) f.below
@@ -64,7 +64,7 @@ abbrev pub IsOpen : Border → Type 0
 IsOpen (Open ps) = ⊤
 IsOpen (Closed f) = ⊥
 
--- an open border of these places
+-- the border is open and has these places
 abbrev pub IsOpened : Border → List DraftPlace → Type 0
 IsOpened (Open ps) xs = xs ≡ ps.items
 IsOpened (Closed f) xs = ⊥
@@ -74,20 +74,21 @@ abbrev pub IsFirstOpen : List Border → Type 0
 IsFirstOpen [] = ⊤
 IsFirstOpen (b ∷ bs) = IsOpen b
 
--- and the last
+-- the last border, if there is one, is open
 abbrev pub IsLastOpen : List Border → Type 0
 IsLastOpen [] = ⊤
 IsLastOpen (b ∷ []) = IsOpen b
 IsLastOpen (b ∷ c ∷ bs) = IsLastOpen (c ∷ bs)
 
--- the law of a stored layer: its borders are lawful, and so is each layer that its places link to; the first border and the last are open
+-- the law of a stored layer: its borders are lawful, and so is each layer that its places link to; the first and the last border are open
 pub record IsStored (bs : List Border) : Type 0 where
   pub own : IsBorderList (border_views bs)
   pub links : AllByRecursion HasLawfulLinks bs
   pub first : IsFirstOpen bs
   pub last : IsLastOpen bs
 
--- behind the borders stand more, of these places; where the first was open, it is
+-- the new borders are the old ones and then more: these have just these places and are lawful, and their links are lawful if those of the
+-- places are; if the first border was open, it still is
 pub record PutBehind (places : List DraftPlace) (old new : List Border) : Type 0 where
   pub more : List Border
   pub behind : new ≡ old ++ more
@@ -96,7 +97,7 @@ pub record PutBehind (places : List DraftPlace) (old new : List Border) : Type 0
   pub links : HaveLawfulLinks places → AllByRecursion HasLawfulLinks more
   pub first : IsFirstOpen old → IsFirstOpen new
 
--- likewise, and the last border is open: one of these places, or where there are none, if it was
+-- likewise, and the last border is open if there are any of these places, or if it was open before
 pub record PutOpen (places : List DraftPlace) (old new : List Border) : Type 0 where
   pub put : PutBehind places old new
   pub last : 1 ≤ length places → IsLastOpen new

@@ -6,7 +6,7 @@ use Rattle.mt_tree.specs.Layer.{key_rank}
 use Rattle.mt_tree.specs.Layer.{PlaceView, slice_at, length_at, pairs_at, put_before}
 use Rattle.mt_words.specs.Walks.{Pair}
 
--- a place has this slice and length, and where it is longer than 8 these pairs lie below it
+-- the place has this slice and length, and if the length is 9, which means longer than 8, these pairs lie below it
 pub record PlaceEdge (p : PlaceView) (slice len : ℕ) (below : List Pair) : Type 0 where
   pub slices : slice ≡ slice_at p
   pub lengths : len ≡ length_at p
@@ -15,7 +15,8 @@ pub record PlaceEdge (p : PlaceView) (slice len : ℕ) (below : List Pair) : Typ
 abbrev pub HasBytes : List Pair → Type 0
 HasBytes = AllByRecursion (λ p. AreBytes (take 8 p.0))
 
--- these pairs of a walk are those of one slice and length
+-- `top` has at least one pair, and all are of this slice and of this length, which is at most 9; if it is 9, they are the pairs of `below`
+-- with the slice's bytes put before each key; the keys of the walk begin with bytes
 pub record IsEdge (w top : List Pair) (slice len : ℕ) (below : List Pair) : Type 0 where
   pub bytes : HasBytes w
   pub fits : len ≤ 9
@@ -23,7 +24,7 @@ pub record IsEdge (w top : List Pair) (slice len : ℕ) (below : List Pair) : Ty
   pub ranks : AllByRecursion (λ p. key_rank p.0 ≡ slice * 10 + len) top
   pub rests : len ≡ 9 → put_before (slice_bytes slice) below ≡ top
 
--- they are the last, and all others have lower ones
+-- the walk ends with an edge of this slice and length, and all pairs before it have lower ranks
 pub record LastEdge (w : List Pair) (slice len : ℕ) (below : List Pair) : Type 0 where
   pub before : List Pair
   pub top : List Pair
@@ -31,7 +32,7 @@ pub record LastEdge (w : List Pair) (slice len : ℕ) (below : List Pair) : Type
   pub lower : AllByRecursion (λ p. key_rank p.0 < slice * 10 + len) before
   pub edge : IsEdge w top slice len below
 
--- likewise the first
+-- the walk begins with an edge of this slice and length, and all pairs after it have higher ranks
 pub record FirstEdge (w : List Pair) (slice len : ℕ) (below : List Pair) : Type 0 where
   pub after : List Pair
   pub top : List Pair

@@ -52,7 +52,7 @@ pub layer_back : (low : ℕ) (xs ys : List PlaceView) → IsLayerFrom low (xs ++
 layer_back low [] ys h = h
 layer_back low (x ∷ xs) ys h = let from : low ≤ rank_at x = h.1 in layer_weaker (suc (rank_at x)) low ys (omega arith) (layer_back (suc (rank_at x)) xs ys h.2)
 
--- a closed border holds nodes, which are no drafts
+-- a sealed border holds nodes, not drafts
 border_falls : (b : Border) → IsLayerFrom 0 (border_view b) → deep-Border b ≤ weight (walk (border_view b))
 border_falls (Open ps) h = omega (arith, places_fall 0 ps.items h)
 border_falls (Closed f) h = omega arith

@@ -1,4 +1,4 @@
--- A layer of the tree as a list of places, in each of which contracts see the pairs that it stands for.
+-- A layer of the tree as a list of places. Of each place, contracts see the pairs that it stands for.
 use Rattle.std.specs.Prelude.{ℕ, suc, ◌+◌, ◌*◌, ◌^◌, ◌<◌, ◌≤◌, ◌≡◌, List, [], ◌∷◌, ◌++◌, length, take, drop, map, min, ⊤, Option, Some, None, if◌then◌else◌, nat_eq}
 use Rattle.std.specs.List.{AllByRecursion, flat_map}
 use Rattle.std.specs.Cmp.Lexicographic.{pointwise}
@@ -7,7 +7,7 @@ use Rattle.mt_words.specs.Slices.{slice_in, slice_bytes}
 use Rattle.mt_words.specs.Walks.{Pair}
 use Rattle.mt_words.specs.Words.{IsBelow}
 
--- what contracts see of a place of a layer: its slice, and what it holds; of a linked layer they see the walk
+-- what contracts see of a place of a layer: its slice and what it holds; of a linked layer, they see the walk
 pub data PlaceView : Type 0 where
   short : ℕ → ℕ → List (ℕ × List ℕ) → PlaceView  -- slice, length, columns
   long : ℕ → List ℕ → List (ℕ × List ℕ) → PlaceView  -- slice, suffix, columns
@@ -18,17 +18,17 @@ slice_at (short s l c) = s
 slice_at (long s t c) = s
 slice_at (link s w) = s
 
--- the length of a place, where 9 stands for longer than 8
+-- the length of a place; 9 means longer than 8
 abbrev pub length_at : PlaceView → ℕ
 length_at (short s l c) = l
 length_at (long s t c) = 9
 length_at (link s w) = 9
 
--- places rise by slice, then by length; a slice has ten ranks
+-- the rank of a place: ten times its slice, and its length; so places rise by slice, then by length
 abbrev pub rank_at : PlaceView → ℕ
 rank_at p = slice_at p * 10 + length_at p
 
--- where a key has its place: by its slice, then by its length, where all keys longer than 8 bytes count as 9
+-- the rank of a key's place: ten times the key's slice, and its length; all keys longer than 8 bytes count as 9
 abbrev pub key_rank : List ℕ → ℕ
 key_rank key = slice_in key * 10 + min (length key) 9
 
@@ -36,7 +36,7 @@ key_rank key = slice_in key * 10 + min (length key) 9
 abbrev pub put_before : List ℕ → List Pair → List Pair
 put_before bytes w = map (λ p. (bytes ++ p.0, p.1)) w
 
--- the pairs that a place stands for: the slice's first bytes, or all eight and what stands below them
+-- the pairs that a place stands for: their keys are the slice's first bytes, or all eight and then what lies below them
 abbrev pub pairs_at : PlaceView → List Pair
 pairs_at (short s l c) = (take l (slice_bytes s), c) ∷ []
 pairs_at (long s t c) = (slice_bytes s ++ t, c) ∷ []
@@ -46,17 +46,18 @@ pairs_at (link s w) = put_before (slice_bytes s) w
 abbrev pub walk : List PlaceView → List Pair
 walk = flat_map pairs_at
 
--- so length 0 stands in the outermost layer alone
+-- no key is empty; as this holds below each link, only the outermost layer has length 0
 abbrev pub HasNoEmptyKey : List Pair → Type 0
 HasNoEmptyKey = AllByRecursion (λ p. 0 < length p.0)
 
--- a place: a slice that is zero past its length, a suffix of at least one byte, or a link to at least two pairs
+-- the law of a place: its slice fits 64 bits, and it has a length of at most 8 with a slice that is zero past it, or a suffix of at least
+-- one byte, or a link to at least two pairs, none with an empty key
 abbrev pub IsPlace : PlaceView → Type 0
 IsPlace (short s l c) = (s < 2 ^ 64) × (l ≤ 8) × AllByRecursion (λ b. b ≡ 0) (drop l (slice_bytes s))
 IsPlace (long s t c) = (s < 2 ^ 64) × (0 < length t)
 IsPlace (link s w) = (s < 2 ^ 64) × (2 ≤ length w) × HasNoEmptyKey w
 
--- lawful places that strictly rise, from a rank on
+-- lawful places whose ranks strictly rise, from this rank on
 abbrev pub IsLayerFrom : ℕ → List PlaceView → Type 0
 IsLayerFrom low [] = ⊤
 IsLayerFrom low (p ∷ ps) = IsPlace p × (low ≤ rank_at p) × IsLayerFrom (suc (rank_at p)) ps
@@ -65,7 +66,7 @@ IsLayerFrom low (p ∷ ps) = IsPlace p × (low ≤ rank_at p) × IsLayerFrom (su
 abbrev pub IsLayer : List PlaceView → Type 0
 IsLayer = IsLayerFrom 0
 
--- how much a walk holds: its key bytes, and one for each pair
+-- the weight of a walk: the number of its key bytes, and one for each pair
 abbrev pub weight : List Pair → ℕ
 weight [] = 0
 weight (p ∷ w) = suc (length p.0) + weight w
@@ -74,15 +75,15 @@ weight (p ∷ w) = suc (length p.0) + weight w
 abbrev pub AllKeysBelow : List Pair → List Pair → Type 0
 AllKeysBelow v w = AllByRecursion (λ p. AllByRecursion (λ q. IsBelow p.0 q.0) w) v
 
--- two places of one slice for keys longer than 8 bytes
+-- two places of one slice, both for keys longer than 8 bytes
 abbrev pub Meet : PlaceView → PlaceView → Type 0
 Meet p q = (slice_at p ≡ slice_at q) × (length_at p ≡ 9) × (length_at q ≡ 9)
 
--- the columns of a key, of its first pair
+-- the columns of the first pair with this key, or none if no pair has it
 abbrev pub find_key : List ℕ → List Pair → Option (List (ℕ × List ℕ))
 find_key key [] = None
 find_key key (p ∷ w) = (if pointwise nat_eq key p.0 then Some p.1 else find_key key w)
 
--- with so many bytes before them, the keys are still keys
+-- with n bytes before them, the keys are still no longer than a key may be
 abbrev pub FitsAfter : ℕ → List Pair → Type 0
 FitsAfter n = AllByRecursion (λ p. n + length p.0 ≤ widest.key)

@@ -1,24 +1,24 @@
--- How many trees a walk needs: its own, and one for each 8 bytes that begin two or more longer keys.
+-- The number of trees that a walk needs: its own, and one for each 8 bytes that begin two or more longer keys of a layer.
 use Rattle.std.specs.Prelude.{◌≡◌, ◌↔◌, ℕ, ◌+◌, ◌-◌, ◌^◌, ◌≤◌, ◌&&◌, Bool, min, List, [], ◌∷◌, length, take, drop, map, filter, nat_eq, nat_lt, Contains}
 use Rattle.std.specs.Cmp.Lexicographic.{pointwise}
 use Rattle.mt_tree.specs.Layer.{PlaceView, short, long, link}
 use Rattle.mt_words.specs.Walks.{Pair}
 use Rattle.mt_words.specs.Words.{AreRising}
 
--- the key is longer than 8 bytes and begins with these
+-- whether the key is longer than 8 bytes and these are its first 8
 abbrev pub lies_under : List ℕ → List ℕ → Bool
 lies_under q key = nat_lt 8 (length key) && pointwise nat_eq q (take 8 key)
 
--- the pairs under 8 bytes, with those taken off their keys
+-- the pairs whose keys lie under these 8 bytes, with the 8 bytes taken off each key
 abbrev pub under : List ℕ → List Pair → List Pair
 under q w = map (λ p. (drop 8 p.0, p.1)) (filter (λ p. lies_under q p.0) w)
 
--- the lists of 8 bytes that begin two or more keys longer than 8 bytes
+-- the heads of a walk, which rise: the lists of 8 bytes that begin two or more keys longer than 8 bytes
 pub record AreHeads (w : List Pair) (qs : List (List ℕ)) : Type 0 where
   pub rising : AreRising qs
   pub each : (q : List ℕ) → Contains qs q ↔ (2 ≤ length (under q w))
 
--- one, and the numbers of trees of what lies under each of these heads
+-- one, plus the number of trees of what lies under each of these heads
 pub data CountsFrom : List Pair → List (List ℕ) → ℕ → Type 0 where
   own : {w : List Pair} → CountsFrom w [] 1
   more : {w : List Pair} {q : List ℕ} {qs rs : List (List ℕ)} {m n : ℕ} → AreHeads (under q w) rs → CountsFrom (under q w) rs m → CountsFrom w qs n → CountsFrom w (q ∷ qs) (m + n)
@@ -29,7 +29,7 @@ pub record IsLayers (w : List Pair) (n : ℕ) : Type 0 where
   pub are : AreHeads w heads
   pub counts : CountsFrom w heads n
 
--- the number of trees, or the greatest number that a machine word holds
+-- the number of trees, capped at the greatest number that 64 bits hold
 pub record CountsLayers (w : List Pair) (r : ℕ) : Type 0 where
   pub number : ℕ
   pub is : IsLayers w number

@@ -35,7 +35,7 @@ pub joined-append : (cs bs : List (List PlaceView)) → joined (cs ++ bs) ≡ jo
 joined-append [] bs = refl
 joined-append (c ∷ cs) bs = ap (λ w. c ++ w) (joined-append cs bs) ∙ sym (append_assoc c (joined cs) (joined bs))
 
--- a place stands for a pair at least
+-- a place stands for at least one pair
 place_some : (p : PlaceView) → IsPlace p → 1 ≤ weight (pairs_at p)
 place_some (short s l c) h = omega arith
 place_some (long s t c) h = omega arith

@@ -20,7 +20,7 @@ view_of p = view_of_content p.slice p.content
 abbrev pub views : List Place → List PlaceView
 views = map view_of
 
--- the trees below a place's link, the linked one first
+-- the trees below a place's link, the linked tree first
 abbrev pub trees_of_content : Content → List LayerView
 trees_of_content (Short l c) = []
 trees_of_content (Suffix t c) = []

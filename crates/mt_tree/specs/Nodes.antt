@@ -5,7 +5,7 @@ use Rattle.mt_tree.specs.Layer.{PlaceView, slice_at, walk, IsLayer}
 use Rattle.mt_tree.specs.Layers.{linked_walks}
 use Rattle.mt_words.specs.Walks.{Pair, joined}
 
--- what contracts see of a child: its borders in order, and how many levels lie below it
+-- what contracts see of a child: its borders in order, and the number of levels below it
 pub record BranchView : Type 0 where
   pub borders : List (List PlaceView)
   pub height : ℕ
@@ -15,13 +15,14 @@ pub record InteriorView : Type 0 where
   pub separators : List ℕ
   pub children : List BranchView
 
--- what contracts see of the tree of one layer: its borders in order, how many levels lie below its root, and its interior nodes, each before those below it
+-- what contracts see of the tree of one layer: its borders in order, the number of levels below its root, and its interior nodes,
+-- each before those below it
 pub record LayerView : Type 0 where
   pub borders : List (List PlaceView)
   pub height : ℕ
   pub interiors : List InteriorView
 
--- what contracts see of a node: the tree that it is the root of, and the trees below the links of its places, each before those below its own links
+-- what contracts see of a node: the tree whose root it is, and the trees below the links of its places, each before those below its own links
 pub record NodeView : Type 0 where
   pub tree : LayerView
   pub below : List LayerView
@@ -34,7 +35,7 @@ places n = joined n.tree.borders
 abbrev pub SlicesBelow : ℕ → List PlaceView → Type 0
 SlicesBelow s = AllByRecursion (λ p. slice_at p < s)
 
--- or at or above it
+-- the slices of these places are at or above this one
 abbrev pub SlicesFrom : ℕ → List PlaceView → Type 0
 SlicesFrom s = AllByRecursion (λ p. s ≤ slice_at p)
 
@@ -42,18 +43,18 @@ SlicesFrom s = AllByRecursion (λ p. s ≤ slice_at p)
 abbrev pub IsBorder : List PlaceView → Type 0
 IsBorder b = (1 ≤ length b) × (length b ≤ 15)
 
--- no slice stands in two borders
+-- each slice of a border is below all slices of the borders after it; so no slice is in two borders
 abbrev pub SlicesApart : List (List PlaceView) → Type 0
 SlicesApart [] = ⊤
 SlicesApart (b ∷ bs) = AllByRecursion (λ p. SlicesFrom (suc (slice_at p)) (joined bs)) b × SlicesApart bs
 
--- slices left of a separator are below it, slices right of it are at or above it
+-- for each separator, the slices of the child just left of it are below it, and those of all children right of it are at or above it
 abbrev pub AreSeparated : List ℕ → List BranchView → Type 0
 AreSeparated [] ks = ⊤
 AreSeparated (s ∷ ss) [] = ⊤
 AreSeparated (s ∷ ss) (k ∷ ks) = SlicesBelow s (joined k.borders) × AllByRecursion (λ b. SlicesFrom s (joined b.borders)) ks × AreSeparated ss ks
 
--- an interior node has 2 to 16 children, and one separator between each two neighbours
+-- an interior node has 2 to 16 children, and between each two neighbours one separator, which separates their slices
 pub record IsInterior (n : InteriorView) : Type 0 where
   pub two : 2 ≤ length n.children
   pub most : length n.children ≤ 16
@@ -68,11 +69,12 @@ pub data HaveInteriors : List BranchView → List InteriorView → Type 0 where
   interior : {n : InteriorView} {h : ℕ} {ks : List BranchView} {ns : List InteriorView} → AllByRecursion (λ b. b.height ≡ h) n.children → HaveInteriors (n.children ++ ks) ns
       → HaveInteriors (record { borders = flat_map (λ b. b.borders) n.children; height = suc h } ∷ ks) (n ∷ ns)
 
--- a tree as the node above sees it
+-- a tree, as the node above its root sees it
 abbrev pub as_branch : LayerView → BranchView
 as_branch t = record { borders = t.borders; height = t.height }
 
--- the law of the tree of one layer: 1 to 15 places in each border, no slice in two of them, the places are a lawful layer, and above the borders stand lawful interior nodes
+-- the law of the tree of one layer: it has at least one border, each border has 1 to 15 places, no slice is in two of them, the places are
+-- a lawful layer, and lawful interior nodes stand above the borders
 pub record IsLayerTree (t : LayerView) : Type 0 where
   pub some : 1 ≤ length t.borders
   pub each : AllByRecursion IsBorder t.borders
@@ -81,7 +83,8 @@ pub record IsLayerTree (t : LayerView) : Type 0 where
   pub interiors : AllByRecursion IsInterior t.interiors
   pub shape : HaveInteriors (as_branch t ∷ []) t.interiors
 
--- these layers, each of them a list of borders, have these walks, in order, where each layer comes before those below its own links
+-- these layers, each a list of borders, have these walks, in order; each layer comes before the layers below its own links, which are
+-- listed too
 abbrev pub AreLinked : List (List Pair) → List (List (List PlaceView)) → Type 0
 AreLinked ws [] = ws ≡ []
 AreLinked [] (l ∷ ls) = ⊥
@@ -91,12 +94,12 @@ AreLinked (w ∷ ws) (l ∷ ls) = (w ≡ walk (joined l)) × AreLinked (linked_w
 abbrev pub each_borders : List LayerView → List (List (List PlaceView))
 each_borders = map (λ t. t.borders)
 
--- the trees of the links of these places, each before those below its own links, all lawful
+-- the trees below the links of these places, each before those below its own links, all lawful
 pub record AreBelow (ps : List PlaceView) (ts : List LayerView) : Type 0 where
   pub lawful : AllByRecursion IsLayerTree ts
   pub linked : AreLinked (linked_walks ps) (each_borders ts)
 
--- how many trees there are, or the greatest number that a machine word holds
+-- the number of trees, capped at the greatest number that 64 bits hold
 abbrev pub IsTreeCount : List LayerView → ℕ → Type 0
 IsTreeCount ts count = count ≡ min (length ts) (2 ^ 64 - 1)
 
@@ -109,37 +112,37 @@ pub record IsNode (n : NodeView) : Type 0 where
 abbrev pub borders_of : List NodeView → List (List PlaceView)
 borders_of = flat_map (λ n. n.tree.borders)
 
--- the interior nodes of their trees
+-- the interior nodes of these nodes' trees
 abbrev pub interiors_of : List NodeView → List InteriorView
 interiors_of = flat_map (λ n. n.tree.interiors)
 
--- the trees below their links
+-- the trees below these nodes' links
 abbrev pub below_of : List NodeView → List LayerView
 below_of = flat_map (λ n. n.below)
 
--- the nodes as children
+-- these nodes as children
 abbrev pub branches : List NodeView → List BranchView
 branches = map (λ n. as_branch n.tree)
 
--- the height of nodes of one height
+-- the height of the first node, or 0 if there is none
 abbrev pub level_height : List NodeView → ℕ
 level_height [] = 0
 level_height (n ∷ ns) = n.tree.height
 
--- a node of this height
+-- a lawful node of this height
 abbrev pub IsNodeAt : ℕ → NodeView → Type 0
 IsNodeAt h n = (n.tree.height ≡ h) × IsNode n
 
--- the slice of the first place
+-- the slice of the first place, or 0 if there is none
 abbrev pub first_slice_of : List PlaceView → ℕ
 first_slice_of [] = 0
 first_slice_of (p ∷ ps) = slice_at p
 
--- the least slice of a node's places
+-- the slice of a node's first place
 abbrev pub first_of : NodeView → ℕ
 first_of n = first_slice_of (places n)
 
--- the node of these separators and children
+-- the interior node with these separators and children
 abbrev pub interior_node : List ℕ → List NodeView → NodeView
 interior_node ss ns = record {
   tree = record {
@@ -150,17 +153,17 @@ interior_node ss ns = record {
   below = below_of ns;
 }
 
--- the node above these: their first slices, but for the first one's, separate them
+-- the node above these: the first slices of all nodes but the first separate them
 abbrev pub parent_node : List NodeView → NodeView
 parent_node ns = interior_node (map first_of (drop 1 ns)) ns
 
--- nodes of one height that hold the borders of a lawful layer, in order
+-- lawful nodes of this height, whose borders, in order, share no slice and have the places of a lawful layer
 pub record IsLevelAt (h : ℕ) (ns : List NodeView) : Type 0 where
   pub nodes : AllByRecursion (IsNodeAt h) ns
   pub apart : SlicesApart (borders_of ns)
   pub layer : IsLayer (joined (borders_of ns))
 
--- likewise, of the height that the first one has
+-- likewise, of the first node's height
 abbrev pub IsLevel : List NodeView → Type 0
 IsLevel ns = IsLevelAt (level_height ns) ns
 

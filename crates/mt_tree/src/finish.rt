@@ -1,4 +1,4 @@
-//! The borders that are still open are closed, and nodes are stacked on all of them.
+//! Finishing a draft: borders that are still open are sealed, and nodes are stacked on all borders.
 ghost use Rattle.std.specs.Prelude.{◌≡◌, ◌≢◌, MatchBool, ◌<◌, ◌≤◌, ◌+◌, ◌++◌, ◌∷◌, [], suc, List, length, IfOk};
 ghost use Rattle.mt_words.specs.Walks.{joined};
 ghost use Rattle.mt_tree.specs.Layer.{PlaceView, IsLayer, IsPlace};
@@ -13,7 +13,7 @@ use mt_words::Memory;
 use std::alloc::Global;
 use std::mem;
 
-/// The node above these.
+/// Creates the node above these children. Err: out of memory.
 fn parent(alloc: Global, children: Vec<Node>) -> Result<Node, Memory>
     requires level { IsLevel children.items }
     requires two { 2 ≤ length children.items }
@@ -30,14 +30,15 @@ fn parent(alloc: Global, children: Vec<Node>) -> Result<Node, Memory>
     })
 }
 
-/// Whether so many children get their parent, where so many nodes are left: a single node is never left over.
+/// Returns whether `count` children get their parent now, if `left` more nodes follow. A single node is never left
+/// over.
 fn closes(count: usize, left: usize) -> bool
     ensures { MatchBool result ((left ≢ 0 → 15 ≤ count) × (count ≡ 15 → left ≢ 0 → left ≡ 2)) ((left ≢ 0) × (count ≢ 16) × (count ≡ 15 → left ≢ 2)) }
 {
     left == 0 || count == 16 || count == 15 && left == 2
 }
 
-/// The nodes one level up, of 2 to 16 children each.
+/// Returns the nodes one level up, of 2 to 16 children each. Err: out of memory.
 fn level_up(alloc: Global, nodes: Vec<Node>) -> Result<Vec<Node>, Memory>
     requires lawful { IsLevel nodes.items }
     requires two { 2 ≤ length nodes.items }
@@ -61,7 +62,7 @@ fn level_up(alloc: Global, nodes: Vec<Node>) -> Result<Vec<Node>, Memory>
     Ok(upper)
 }
 
-/// The tree over these nodes.
+/// Stacks a tree on these borders and returns its root. Err: out of memory.
 fn stack(alloc: Global, borders: Vec<Node>) -> Result<Node, Memory>
     requires lawful { IsLevelAt 0 borders.items }
     requires some { 1 ≤ length borders.items }
@@ -79,15 +80,15 @@ fn stack(alloc: Global, borders: Vec<Node>) -> Result<Node, Memory>
     Ok(root)
 }
 
-/// What was made of a draft's layer, border or place, and the number of trees below its links, which stops at the
-/// greatest number.
+/// What was made of a draft's layer, border or place, and the number of trees below its links, capped at the greatest
+/// `u64`.
 #[derive(Drop)]
 pub(crate) struct Finished<T> {
     pub(crate) made: T,
     pub(crate) below: u64,
 }
 
-/// The tree of a layer: interiors are put over its borders.
+/// Finishes a layer into a tree: puts interior nodes over its borders. Err: out of memory.
 #[cycle(finish)]
 pub(crate) fn finish(alloc: Global, layer: Layer) -> Result<Finished<Node>, Memory>
     requires some { 1 ≤ length layer.borders }
@@ -107,6 +108,7 @@ pub(crate) fn finish(alloc: Global, layer: Layer) -> Result<Finished<Node>, Memo
     Ok(Finished { made, below })
 }
 
+/// Finishes a border into a node. Err: out of memory.
 #[cycle(finish)]
 fn finish_border(alloc: Global, border: Border) -> Result<Finished<Node>, Memory>
     requires some { IsBorder (border_view border) }
@@ -124,7 +126,7 @@ fn finish_border(alloc: Global, border: Border) -> Result<Finished<Node>, Memory
     Ok(Finished { made, below })
 }
 
-/// The places of this border, with all that lies below them finished.
+/// Seals a border: returns its places, with all that lies below them finished. Err: out of memory.
 #[cycle(finish)]
 fn close_border(alloc: Global, border: Border) -> Result<Finished<Vec<Place>>, Memory>
     requires lawful { IsLayer (border_view border) }
@@ -140,7 +142,7 @@ fn close_border(alloc: Global, border: Border) -> Result<Finished<Vec<Place>>, M
     }
 }
 
-/// These places, with all that lies below them finished.
+/// Seals places: returns them with all that lies below them finished. Err: out of memory.
 #[cycle(finish)]
 pub(crate) fn close(alloc: Global, places: Vec<DraftPlace>) -> Result<Finished<Vec<Place>>, Memory>
     requires { IsLayer (draft_views places.items) }
@@ -159,6 +161,7 @@ pub(crate) fn close(alloc: Global, places: Vec<DraftPlace>) -> Result<Finished<V
     Ok(Finished { made, below })
 }
 
+/// Finishes a place, with all that lies below it. Err: out of memory.
 #[cycle(finish)]
 fn finish_place(alloc: Global, place: DraftPlace) -> Result<Finished<Place>, Memory>
     requires lawful { IsPlace (draft_view place) }

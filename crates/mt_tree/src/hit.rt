@@ -1,4 +1,4 @@
-//! What a query of a range answers.
+//! The hits that a range query returns.
 ghost use Rattle.std.specs.Prelude.{◌≡◌, IfOk};
 ghost use Rattle.mt_tree.specs.Range.{wanted_of};
 
@@ -6,16 +6,16 @@ use crate::wanted::Wanted;
 use mt_words::{Columns, Kept, Key, Memory};
 use std::alloc::Global;
 
-/// A pair of a range, with those of its columns that are wanted, which may be none.
+/// A pair of a range, with only its wanted columns. It may have none of them.
 #[derive(Debug, Drop)]
 pub struct Hit {
     /// The key.
     pub key: Key,
-    /// The columns that are wanted.
+    /// Its wanted columns.
     pub columns: Columns<Kept>,
 }
 
-/// Copies of the columns that are wanted.
+/// Copies the wanted columns. Err: out of memory.
 pub(crate) fn copy_wanted(
     alloc: Global,
     columns: &Columns<Kept>,

@@ -1,4 +1,4 @@
-//! A layer under construction: a list of borders, each of them a list of places.
+//! A layer under construction: a list of borders, each a list of places.
 ghost use Rattle.std.specs.Prelude.{◌≡◌, ◌≤◌, ◌+◌, MatchBool, ◌<◌, ◌++◌, ◌∷◌, ◌↔◌, [], length, take, drop, IfOk, OnOk, IsTrue};
 ghost use Rattle.mt_tree.specs.Layer.{IsLayer, walk, pairs_at, put_before, length_at, IsPlace, HasNoEmptyKey, AllKeysBelow, Meet};
 ghost use Rattle.mt_tree.specs.DraftViews.{draft_view, draft_views, IsLawfulLink, HaveLawfulLinks, IsOpen, IsOpened, PutBehind, PutOpen};
@@ -13,6 +13,7 @@ use mt_words::{Columns, Kept, Memory, slice_of};
 use std::alloc::Global;
 use std::marker::Model;
 
+/// A layer under construction: its borders, in order.
 #[cycle(layer)]
 #[derive(Drop)]
 pub(crate) struct Layer {
@@ -23,13 +24,14 @@ pub(crate) struct Layer {
 #[cycle(layer)]
 #[derive(Drop)]
 pub(crate) enum Border {
-    /// A push or a join may still change it, or it stood at the seam of a join. The first border of a layer is open, and the
-    /// last.
+    /// A push or a join may still change it, or it stood at the seam of a join. The first and the last border of a
+    /// layer are open.
     Open(Vec<DraftPlace>),
-    /// All that lies below its places is finished.
+    /// A sealed border: all that lies below its places is finished.
     Closed(Finished<Vec<Place>>),
 }
 
+/// A place of a layer under construction: a slice, and what the place holds.
 #[cycle(layer)]
 #[derive(Drop)]
 pub(crate) struct DraftPlace {
@@ -37,11 +39,15 @@ pub(crate) struct DraftPlace {
     pub(crate) content: DraftContent,
 }
 
+/// What a place of a layer under construction holds.
 #[cycle(layer)]
 #[derive(Drop)]
 pub(crate) enum DraftContent {
+    /// A key of at most 8 bytes in this layer: its length and its columns.
     Short(u8, Columns<Kept>),
+    /// One longer key: its bytes after the slice, and its columns.
     Suffix(Suffix, Columns<Kept>),
+    /// Two or more longer keys: the layer of their bytes after the slice.
     Link(Layer),
 }
 
@@ -66,7 +72,7 @@ impl Model for Layer {
 }
 
 impl Border {
-    /// The places of an open border.
+    /// Returns the places of an open border.
     pub(crate) fn places(&self) -> &[DraftPlace]
         requires { IsOpen self.now }
         ensures { IsOpened self.now result.now }
@@ -77,7 +83,7 @@ impl Border {
         }
     }
 
-    /// Likewise, where the border is used up.
+    /// Takes the places out of an open border.
     fn into_places(self) -> Vec<DraftPlace>
         requires { IsOpen self }
         ensures { self ≡ Open result }
@@ -89,7 +95,7 @@ impl Border {
     }
 }
 
-/// The place of a lone key.
+/// Creates the place of a lone key. Err: out of memory.
 fn place_for(alloc: Global, key: &[u8], columns: Columns<Kept>) -> Result<DraftPlace, Memory>
     ensures lawful { IfOk result (λ p. IsPlace (draft_view p)) }
     ensures links { IfOk result (λ p. IsLawfulLink p.content) }
@@ -111,6 +117,7 @@ fn place_for(alloc: Global, key: &[u8], columns: Columns<Kept>) -> Result<DraftP
 }
 
 impl DraftPlace {
+    /// Returns whether the place holds keys longer than 8 bytes.
     fn is_long(&self) -> bool
         requires { IsPlace (draft_view self.now) }
         ensures { IsTrue result ↔ (length_at (draft_view self.now) ≡ 9) }
@@ -122,7 +129,7 @@ impl DraftPlace {
         }
     }
 
-    /// Whether a key of this slice and length has its place here, below the slice.
+    /// Returns whether a key of this slice and length has its place here and is longer than 8 bytes.
     fn meets_key(&self, slice: u64, len: usize) -> bool
         requires { IsPlace (draft_view self.now) }
         ensures { IsTrue result ↔ ((self.now.slice ≡ slice) × (length_at (draft_view self.now) ≡ 9) × (8 < len)) }
@@ -130,7 +137,7 @@ impl DraftPlace {
         self.slice == slice && self.is_long() && len > 8
     }
 
-    /// Whether both hold keys longer than 8 bytes of one slice.
+    /// Returns whether both places hold keys longer than 8 bytes of one slice.
     fn meets(&self, other: &DraftPlace) -> bool
         requires lawful { IsPlace (draft_view self.now) }
         requires other_lawful { IsPlace (draft_view other.now) }
@@ -140,7 +147,8 @@ impl DraftPlace {
     }
 }
 
-/// The places of a border, and a pair behind them: a place of its own, or below the last place, where that is the pair's too.
+/// Appends a pair to the places of a border. If the last place is also the pair's, the pair goes below it. Otherwise
+/// it gets a place of its own. Err: out of memory.
 #[cycle(push)]
 fn follow(
     alloc: Global,
@@ -177,7 +185,7 @@ fn follow(
     Ok(places)
 }
 
-/// How many of these places have a slice below this one.
+/// Returns the number of places whose slice is below this one.
 fn count_below(places: &[DraftPlace], slice: u64) -> usize
     requires { IsLayer (draft_views places.now) }
     ensures few { result ≤ length places.now }
@@ -192,7 +200,7 @@ fn count_below(places: &[DraftPlace], slice: u64) -> usize
     places.len()
 }
 
-/// Takes off the places from this slice on.
+/// Splits off the places from this slice on and returns them. Err: out of memory.
 fn split_before(places: &mut Vec<DraftPlace>, slice: u64) -> Result<Vec<DraftPlace>, Memory>
     requires { IsLayer (draft_views places.old.items) }
     ensures same { IfOk result (λ rest. places.new.items ++ rest.items ≡ places.old.items) }
@@ -203,7 +211,7 @@ fn split_before(places: &mut Vec<DraftPlace>, slice: u64) -> Result<Vec<DraftPla
     Ok(places.split_off(start)?)
 }
 
-/// Puts these places behind the borders, as one more where there are any.
+/// Appends these places as one open border, if there are any. Err: out of memory.
 fn push_border(borders: &mut Vec<Border>, places: Vec<DraftPlace>) -> Result<(), Memory>
     requires lawful { IsLayer (draft_views places.items) }
     requires few { length places.items ≤ 15 }
@@ -216,7 +224,8 @@ fn push_border(borders: &mut Vec<Border>, places: Vec<DraftPlace>) -> Result<(),
     Ok(())
 }
 
-/// Puts these places behind the borders, where further ones follow: closed, unless they are the first.
+/// Appends these places as a border that others will follow. It is sealed, unless it is the layer's first: only the
+/// first and the last border can still change. Err: out of memory.
 fn push_closed(
     alloc: Global,
     borders: &mut Vec<Border>,
@@ -235,8 +244,8 @@ fn push_closed(
     Ok(())
 }
 
-/// Puts up to 16 places behind the borders. Sixteen are cut before the last slice, of which there are at most ten; no
-/// push changes those before the cut any more.
+/// Appends up to 16 places to the borders. Sixteen places are cut before the last slice, which has at most ten of
+/// them. No further push changes the places before the cut. Err: out of memory.
 fn push_cut(alloc: Global, borders: &mut Vec<Border>, places: Vec<DraftPlace>) -> Result<(), Memory>
     requires lawful { IsLayer (draft_views places.items) }
     requires some { 1 ≤ length places.items }
@@ -254,7 +263,9 @@ fn push_cut(alloc: Global, borders: &mut Vec<Border>, places: Vec<DraftPlace>) -
     push_border(borders, places)
 }
 
-/// Two neighbouring lists of places: where the last place of the first and the first of the second hold longer keys of one slice, one link takes their place.
+/// Merges two neighbouring lists of places at their seam. If the last place of the first list and the first place of
+/// the second hold longer keys of one slice, one link at the end of the first list replaces both. Otherwise both lists
+/// stay as they are. Err: out of memory.
 #[cycle(join)]
 fn meet(
     alloc: Global,
@@ -294,7 +305,8 @@ fn meet(
     Ok((places, rest))
 }
 
-/// Puts places behind the borders, where one slice ends those before the seam and begins those from there on. Its places, at most ten, get a border of their own.
+/// Appends places whose seam lies within a slice: the slice ends the places before the seam and begins those after
+/// it. Its places, at most ten, get a border of their own. Err: out of memory.
 fn push_around(
     borders: &mut Vec<Border>,
     places: Vec<DraftPlace>,
@@ -309,14 +321,15 @@ fn push_around(
     let mut places = places;
     let slice = places[seam].slice;
     let mut run = split_before(&mut places, slice)?;
-    // Nothing lies above the greatest slice: its places are then those above, and the run has none.
+    // No slice lies above the greatest one. If this is it, `above` takes all its places, and `run` is left with none.
     let above = split_before(&mut run, slice.saturating_add(1))?;
     push_border(borders, places)?;
     push_border(borders, run)?;
     push_border(borders, above)
 }
 
-/// Puts two neighbouring lists of places behind the borders. Most often each stays as it is, or both go into one border.
+/// Appends two neighbouring lists of places to the borders. Most often each list becomes a border, or both together
+/// become one. Err: out of memory.
 fn push_both(
     borders: &mut Vec<Border>,
     left: Vec<DraftPlace>,
@@ -343,6 +356,7 @@ fn push_both(
 }
 
 impl Layer {
+    /// Creates an empty layer.
     pub(crate) fn new(alloc: Global) -> Layer
         ensures { result ≡ empty_draft }
     {
@@ -351,17 +365,19 @@ impl Layer {
         }
     }
 
+    /// Returns the allocator of the layer.
     pub(crate) fn allocator(&self) -> Global {
         *self.borders.allocator()
     }
 
+    /// Returns whether the layer has no border.
     pub(crate) fn is_empty(&self) -> bool
         ensures { MatchBool result (self.now ≡ empty_draft) (1 ≤ length self.now.borders) }
     {
         self.borders.is_empty()
     }
 
-    /// The layer of one key, to which another is soon added.
+    /// Creates the layer of one key, to which another is soon added. Err: out of memory.
     fn single(alloc: Global, key: &[u8], columns: Columns<Kept>) -> Result<Layer, Memory>
         ensures pairs { IfOk result (λ l. layer_walk l ≡ (key.now, columns) ∷ []) }
         ensures lawful { IfOk result AreBorders }
@@ -374,7 +390,7 @@ impl Layer {
         Ok(Layer { borders })
     }
 
-    /// What lies below a place of longer keys.
+    /// Returns what lies below a place of longer keys. Err: out of memory.
     fn below(alloc: Global, place: DraftPlace) -> Result<Layer, Memory>
         requires lawful { IsPlace (draft_view place) }
         requires long { length_at (draft_view place) ≡ 9 }
@@ -389,7 +405,8 @@ impl Layer {
         }
     }
 
-    /// One layer of two, where all keys of the first are below all keys of the second. Only the borders at the seam are opened.
+    /// Joins two layers. All keys of the first must be below all keys of the second. Only the two borders at the seam
+    /// change. Err: out of memory.
     #[cycle(join)]
     pub(crate) fn join(alloc: Global, left: Layer, right: Layer) -> Result<Layer, Memory>
         requires { AllKeysBelow (layer_walk left) (layer_walk right) }
@@ -412,7 +429,7 @@ impl Layer {
         Ok(Layer { borders })
     }
 
-    /// One more pair, whose key is above all keys of the layer. Only its last border is opened.
+    /// Appends a pair. Its key must be above all keys of the layer. Only the last border changes. Err: out of memory.
     #[cycle(push)]
     pub(crate) fn push(
         alloc: Global,

@@ -1,4 +1,4 @@
-//! The layered tree over keys, and queries of it.
+//! The layered tree over keys, and its queries.
 #![tactic(auto)]
 
 mod finish;

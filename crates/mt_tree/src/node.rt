@@ -11,20 +11,24 @@ use mt_words::{Columns, Kept, slice_of};
 use smallvec::SmallVec;
 use std::marker::Model;
 
+/// A node of a finished tree.
 #[cycle(node)]
 #[derive(Drop)]
 pub(crate) struct Node {
     pub(crate) kind: NodeKind,
 }
 
+/// A border or an interior node.
 #[cycle(node)]
 #[derive(Drop)]
 pub(crate) enum NodeKind {
+    /// Its places.
     Border(Vec<Place>),
-    /// Separators and children. Boxed, the separators do not make a border larger.
+    /// Separators and children. The separators are boxed, so that they do not make a border larger.
     Interior(Box<ArrayVec<u64, 15>>, Vec<Node>),
 }
 
+/// A place of a border: a slice, and what the place holds.
 #[cycle(node)]
 #[derive(Drop)]
 pub(crate) struct Place {
@@ -32,17 +36,21 @@ pub(crate) struct Place {
     pub(crate) content: Content,
 }
 
-/// How many bytes of a suffix lie in its place.
+/// The most bytes of a suffix that are stored in its place.
 const SHORT_SUFFIX: usize = 16;
 
-/// What a key longer than 8 bytes has behind them. Most have a few, which take no memory of their own.
+/// The bytes of a longer key after its first 8. Most keys have few of them, which need no allocation of their own.
 pub(crate) type Suffix = SmallVec<u8, SHORT_SUFFIX>;
 
+/// What a place of a border holds.
 #[cycle(node)]
 #[derive(Drop)]
 pub(crate) enum Content {
+    /// A key of at most 8 bytes in this layer: its length and its columns.
     Short(u8, Columns<Kept>),
+    /// One longer key: its bytes after the slice, and its columns.
     Suffix(Suffix, Columns<Kept>),
+    /// Two or more longer keys: the tree of their bytes after the slice.
     Link(Node),
 }
 
@@ -67,7 +75,7 @@ impl Model for Node {
 }
 
 impl Node {
-    /// The least slice of its places.
+    /// Returns the least slice of the node's places.
     pub(crate) fn first_slice(&self) -> u64
         ensures { result ≡ first_of self.now }
     {
@@ -79,7 +87,7 @@ impl Node {
 }
 
 impl Place {
-    /// Whether this place stands before that of a key of this slice and length.
+    /// Returns whether this place stands before the place of a key of this slice and length.
     pub(crate) fn lies_before(&self, slice: u64, len: usize) -> bool
         requires { IsPlace (view_of self.now) }
         ensures { IsTrue result ↔ (rank_at (view_of self.now) < slice * 10 + min len 9) }
@@ -88,7 +96,7 @@ impl Place {
         self.slice < slice || self.slice == slice && here < len.min(9)
     }
 
-    /// The length of its keys in this layer, where 9 is longer than 8.
+    /// Returns the length of the place's keys in this layer. 9 means longer than 8.
     fn length(&self) -> usize
         requires { IsPlace (view_of self.now) }
         ensures value { result ≡ length_at (view_of self.now) }
@@ -101,7 +109,7 @@ impl Place {
         }
     }
 
-    /// Whether a key of this slice and length has its place here.
+    /// Returns whether a key of this slice and length has its place here.
     pub(crate) fn is_place_of(&self, slice: u64, len: usize) -> bool
         requires { IsPlace (view_of self.now) }
         ensures { IsTrue result ↔ (rank_at (view_of self.now) ≡ slice * 10 + min len 9) }
@@ -110,7 +118,7 @@ impl Place {
     }
 }
 
-/// The place of a key of this slice and length.
+/// Returns the index of the place of a key of this slice and length, or None if there is none.
 fn find_place(places: &[Place], slice: u64, len: usize) -> Option<usize>
     requires { AllByRecursion IsPlace (views places.now) }
     ensures found { IfSome result (λ at. at < length places.now) }
@@ -126,7 +134,7 @@ fn find_place(places: &[Place], slice: u64, len: usize) -> Option<usize>
 }
 
 impl Node {
-    /// The columns of a key.
+    /// Returns the columns of a key, or None if it is absent.
     pub(crate) fn get(&self, key: &[u8]) -> Option<&Columns<Kept>>
         ensures { option_copied result ≡ find_key key.now (walk (places self.now)) }
     {
@@ -154,7 +162,7 @@ impl Node {
     }
 }
 
-/// The child whose slices the slice is among.
+/// Returns the index of the child that the slice belongs to.
 pub(crate) fn child_at(separators: &[u64], slice: u64) -> usize
     ensures bound { result ≤ length separators.now }
     ensures before { (k : ℕ) → k < result → slice_index separators.now k ≤ slice }

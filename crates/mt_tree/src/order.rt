@@ -1,4 +1,4 @@
-//! Whether all keys of a layer lie below all keys of another.
+//! Whether all keys of one layer lie below all keys of another.
 ghost use Rattle.std.specs.Prelude.{◌≡◌, ◌↔◌, [], ◌∷◌, IsTrue, MatchOption};
 ghost use Rattle.mt_tree.specs.Layer.{AllKeysBelow, IsPlace};
 ghost use Rattle.mt_tree.specs.DraftViews.{draft_view};
@@ -8,14 +8,15 @@ ghost use Rattle.mt_tree.specs.Sides.{side_walk};
 use crate::layer::{DraftContent, DraftPlace, Layer};
 use mt_words::{Columns, Kept, slice_of};
 
-/// One pair, or the pairs of a layer.
+/// One side of a comparison: one pair, or the pairs of a layer.
 #[derive(Clone, Copy)]
 pub(crate) enum Side<'a> {
     Lone(&'a [u8], &'a Columns<Kept>),
     Whole(&'a Layer),
 }
 
-/// The first or the last place of a side: its slice, its length, where 9 is longer than 8, and then the pairs below it.
+/// The first or the last place of a side: its slice, its length, and, if the length is 9, the pairs below it. Length 9
+/// means longer than 8.
 #[derive(Clone, Copy)]
 pub(crate) struct Edge<'a> {
     slice: u64,
@@ -23,6 +24,7 @@ pub(crate) struct Edge<'a> {
     below: Side<'a>,
 }
 
+/// Returns the edge of a single pair, which is both its first and its last place.
 fn edge_of_pair<'a>(key: &'a [u8], columns: &'a Columns<Kept>) -> Edge<'a>
     ensures last { LastEdge ((key.now, columns.now) ∷ []) result.slice result.length (side_walk result.below) }
     ensures first { FirstEdge ((key.now, columns.now) ∷ []) result.slice result.length (side_walk result.below) }
@@ -34,6 +36,7 @@ fn edge_of_pair<'a>(key: &'a [u8], columns: &'a Columns<Kept>) -> Edge<'a>
     }
 }
 
+/// Returns a place as an edge.
 fn edge_of_place<'a>(place: &'a DraftPlace) -> Edge<'a>
     requires { IsPlace (draft_view place.now) }
     ensures { PlaceEdge (draft_view place.now) result.slice result.length (side_walk result.below) }
@@ -58,6 +61,7 @@ fn edge_of_place<'a>(place: &'a DraftPlace) -> Edge<'a>
     }
 }
 
+/// Returns the last place of a side, or None if the side has no pair.
 fn last_edge<'a>(side: Side<'a>) -> Option<Edge<'a>>
     ensures { MatchOption result (side_walk side.entry ≡ []) (λ e. LastEdge (side_walk side.entry) e.slice e.length (side_walk e.below)) }
 {
@@ -67,6 +71,7 @@ fn last_edge<'a>(side: Side<'a>) -> Option<Edge<'a>>
     }
 }
 
+/// Returns the first place of a side, or None if the side has no pair.
 fn first_edge<'a>(side: Side<'a>) -> Option<Edge<'a>>
     ensures { MatchOption result (side_walk side.entry ≡ []) (λ e. FirstEdge (side_walk side.entry) e.slice e.length (side_walk e.below)) }
 {
@@ -76,7 +81,7 @@ fn first_edge<'a>(side: Side<'a>) -> Option<Edge<'a>>
     }
 }
 
-/// Whether all keys of the left side lie below all keys of the right side.
+/// Returns whether all keys of the left side lie below all keys of the right side.
 pub(crate) fn lies_below(left: Side, right: Side) -> bool
     ensures { IsTrue result ↔ AllKeysBelow (side_walk left.entry) (side_walk right.entry) }
 {

@@ -1,4 +1,4 @@
-//! Ranges of keys.
+//! Queries of ranges of keys.
 ghost use Rattle.std.specs.Prelude.{◌≡◌, ◌≢◌, ◌≤◌, ◌<◌, ◌+◌, ◌*◌, ◌++◌, ◌∷◌, [], length, take, drop, min, not, OnOk};
 ghost use Rattle.std.specs.Ordering.{nat_cmp, is_lt};
 ghost use Rattle.std.specs.Cmp.Lexicographic.{slice_cmp};
@@ -14,7 +14,7 @@ use crate::node::{Content, Node, NodeKind, Place, child_at};
 use crate::wanted::Wanted;
 use mt_words::{Columns, Kept, Key, Memory, slice_bytes, slice_of};
 
-/// One more hit.
+/// Appends a hit: its key is the prefix and then the tail. Err: out of memory.
 fn emit(
     prefix: &Vec<u8>,
     tail: &[u8],
@@ -36,7 +36,7 @@ fn emit(
     Ok(())
 }
 
-/// Whether a key is at or after another.
+/// Returns whether a key is at or after the start.
 fn reaches(key: &[u8], start: &[u8]) -> bool
     ensures { result ≡ not (is_lt (slice_cmp nat_cmp key.now start.now)) }
 {
@@ -44,7 +44,8 @@ fn reaches(key: &[u8], start: &[u8]) -> bool
 }
 
 impl Place {
-    /// Where the start has its place here, its bytes past the slice decide; else all that stands here comes after it.
+    /// Returns the start for what lies below this place. If the start has its place here, its bytes after the slice
+    /// decide. Otherwise all pairs of this place come after the start, and the result is empty.
     fn rest_of<'a>(&self, start: &'a [u8], slice: u64) -> &'a [u8]
         requires lawful { IsPlace (view_of self.now) }
         requires slice { slice ≡ slice_in start.now }
@@ -58,7 +59,8 @@ impl Place {
         }
     }
 
-    /// Adds this place's pairs that are at or after the start, as long as there are fewer than n hits.
+    /// Appends this place's pairs that are at or after the start, as long as there are fewer than `n` hits. Err: out of
+    /// memory.
     #[cycle(collect)]
     fn collect(
         &self,
@@ -106,7 +108,8 @@ impl Place {
 }
 
 impl Node {
-    /// Adds the pairs at or after the start, as long as there are fewer than n hits.
+    /// Appends the node's pairs that are at or after the start, as long as there are fewer than `n` hits. Err: out of
+    /// memory.
     #[cycle(collect)]
     pub(crate) fn collect(
         &self,
@@ -121,7 +124,7 @@ impl Node {
         ensures prefix { OnOk result (prefix.new.items ≡ prefix.old.items) }
         ensures hits { OnOk result (hits.new.items ≡ take n (hits.old.items ++ found prefix.old.items wanted (from start.now (walk (places self.now))))) }
     {
-        // After enough hits the loops below step over what is left of each node on the way, and no more.
+        // Once there are enough hits, the loops below only step over the rest of each node on the way.
         if hits.len() >= n {
             return Ok(());
         }

@@ -1,4 +1,4 @@
-//! Drafts and trees.
+//! Drafts, and the trees that they are finished into.
 ghost use Rattle.std.specs.Prelude.{ℕ, ◌≡◌, ◌↔◌, ◌++◌, ◌∷◌, [], ◌<◌, List, min, ◌^◌, ◌-◌, Contains, MatchOption, IfOk, OnOk, OnErr, IsTrue};
 ghost use Rattle.mt_tree.specs.Layer.{AllKeysBelow};
 ghost use Rattle.mt_words.specs.Limits.{widest};
@@ -22,11 +22,11 @@ use std::alloc::Global;
 use std::marker::Model;
 use std::mem;
 
-/// A layered tree under construction: lists of borders, which join at their seams.
+/// A layered tree under construction. Its layers are lists of borders, which join at their seams.
 #[derive(Drop)]
 pub struct Draft {
     layer: Layer,
-    /// How many pairs there are.
+    /// The number of pairs, capped at the greatest `u128`.
     count: u128,
 }
 
@@ -43,15 +43,15 @@ impl Model for Draft {
     ghost invariant = { λ d. AreBorders d.layer × FitsAfter 0 (layer_walk d.layer) × IsCount (layer_walk d.layer) d.count };
 }
 
-/// A layered tree: nodes with what they hold.
+/// A finished layered tree: its nodes, with what they hold.
 pub struct Tree {
     alloc: Global,
     root: Option<Node>,
-    /// How many trees there are, counted as they were finished.
+    /// The number of trees, capped at the greatest `u64`. They were counted as they were finished.
     layers: u64,
 }
 
-/// In words, as that of `Columns` is.
+/// Written out rather than derived, as that of `Columns` is.
 impl Drop for Tree {
     fn drop(self) {
         let Tree {
@@ -76,7 +76,7 @@ impl Model for Tree {
 }
 
 impl Draft {
-    /// No pair.
+    /// Creates an empty draft.
     pub fn new(alloc: Global) -> Draft
         ensures { result ≡ empty_draft }
     {
@@ -86,14 +86,14 @@ impl Draft {
         }
     }
 
-    /// How many pairs there are, which stops at the greatest number.
+    /// Returns the number of pairs, capped at the greatest `u128`.
     pub fn len(&self) -> u128
         ensures { IsCount (layer_walk self.now) result }
     {
         self.count
     }
 
-    /// Adds a pair whose key is above all keys of the draft. Where memory was refused the draft is empty.
+    /// Appends a pair. Its key must be above all keys of the draft. Err: out of memory; the draft is then empty.
     pub fn push(&mut self, key: &[u8], columns: Columns<Kept>) -> Result<(), Memory>
         requires lawful { IsKey widest key.now }
         requires rises { KeysRise (layer_walk self.old ++ (key.now, columns) ∷ []) }
@@ -109,7 +109,7 @@ impl Draft {
         Ok(())
     }
 
-    /// The draft of pairs with strictly rising keys.
+    /// Bulk loads a draft from pairs whose keys strictly rise. Err: out of memory.
     pub fn build(alloc: Global, pairs: Vec<(Key, Columns<Kept>)>) -> Result<Draft, Memory>
         requires { KeysRise pairs.items }
         ensures pairs { IfOk result (λ d. layer_walk d ≡ pairs.items) }
@@ -122,7 +122,7 @@ impl Draft {
         Ok(draft)
     }
 
-    /// One draft of two, where all keys of the first lie below all keys of the second.
+    /// Joins two drafts. All keys of the first must lie below all keys of the second. Err: out of memory.
     pub fn join(left: Draft, right: Draft) -> Result<Draft, Memory>
         requires { AllKeysBelow (layer_walk left) (layer_walk right) }
         ensures pairs { IfOk result (λ d. layer_walk d ≡ layer_walk left ++ layer_walk right) }
@@ -134,7 +134,7 @@ impl Draft {
         Ok(Draft { layer, count })
     }
 
-    /// The tree of a draft.
+    /// Finishes the draft into a tree. Err: out of memory.
     pub fn finish(self) -> Result<Tree, Memory>
         ensures borders { IfOk result (λ t. tree_borders t ≡ self.borders) }
         ensures below { IfOk result (λ t. tree_below t ≡ self.below) }
@@ -165,7 +165,7 @@ impl PairSink for Draft {
     }
 }
 
-/// Whether all keys of the first draft lie below all keys of the second.
+/// Returns whether all keys of the first draft lie below all keys of the second.
 pub fn above(left: &Draft, right: &Draft) -> bool
     ensures { IsTrue result ↔ AllKeysBelow (layer_walk left.now) (layer_walk right.now) }
 {
@@ -173,8 +173,8 @@ pub fn above(left: &Draft, right: &Draft) -> bool
 }
 
 impl Tree {
-    /// Returns the columns of this key, or None if it is absent. The key may have any length: no key of a tree is longer
-    /// than `LONGEST_KEY` bytes, so a longer one is absent.
+    /// Returns the columns of this key, or None if it is absent. The key may have any length. No key of a tree is
+    /// longer than `LONGEST_KEY` bytes, so a longer one is absent.
     pub fn get(&self, key: &[u8]) -> Option<&Columns<Kept>>
         ensures { MatchOption result
             ((columns : List (ℕ × List ℕ)) → Contains (tree_walk self.now) (key.now, columns) → ⊥)
@@ -186,7 +186,8 @@ impl Tree {
         }
     }
 
-    /// The first n pairs whose key is at or after the start, with the columns that are wanted.
+    /// Returns the first `n` pairs whose keys are at or after the start, each with its wanted columns. Err: out of
+    /// memory.
     pub fn getrange(&self, start: &[u8], n: usize, wanted: Wanted) -> Result<Vec<Hit>, Memory>
         ensures { IfOk result (λ found. found.items ≡ hits wanted (tree_walk self.now) start.now n) }
     {
@@ -199,7 +200,8 @@ impl Tree {
         Ok(hits)
     }
 
-    /// Shows all pairs in order, and takes no memory. After an Err of the visitor no further pair is shown.
+    /// Shows all pairs to the visitor in key order, without allocating. Err: the visitor's first error; no further pair
+    /// is shown.
     pub fn visit<T, V: Visitor<T>>(&self, visitor: &V, target: &mut T) -> Result<(), V::Error>
         ensures { OnOk result (V.shown target.old target.new (tree_walk self.now)) }
     {
@@ -209,7 +211,7 @@ impl Tree {
         }
     }
 
-    /// The number of trees, which stops at the greatest number.
+    /// Returns the number of trees, capped at the greatest `u64`.
     pub fn layers(&self) -> u64
         ensures counts { CountsLayers (tree_walk self.now) result }
         ensures exact { (n : ℕ) → IsLayers (tree_walk self.now) n → result ≡ min n (2 ^ 64 - 1) }

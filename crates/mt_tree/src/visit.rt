@@ -11,30 +11,30 @@ use crate::node::{Content, Node, NodeKind, Place};
 use arrayvec::ArrayVec;
 use mt_words::{Columns, Kept, LONGEST_KEY, slice_bytes};
 
-/// What is done with each pair of a walk.
+/// The action on each pair of a walk.
 pub trait Visitor<T> {
-    /// Why a pair was not taken.
+    /// The reason why a pair was not taken.
     type Error;
 
-    /// Between these two states of the target these pairs were shown, in this order.
+    /// Between these two states of the target, these pairs were shown, in this order.
     ghost shown: { T → T → List Pair → Type 0 };
 
-    /// Shows one pair.
+    /// Shows one pair. Err: the pair was not taken.
     fn visit(&self, target: &mut T, key: &[u8], columns: &Columns<Kept>) -> Result<(), Self::Error>
         requires { IsKey widest key.now }
         ensures { OnOk result (shown target.old target.new ((key.now, columns.now) ∷ [])) };
 
-    /// A target that stays was shown no pair.
+    /// A target that did not change was shown no pair.
     ghost none: { (target : T) → shown target target [] };
 
-    /// What is shown later stands behind.
+    /// Pairs that are shown later come after the earlier ones.
     ghost more: { (a b c : T) (v w : List Pair) → shown a b v → shown b c w → shown a c (v ++ w) };
 }
 
-/// The bytes of a key as far down as the walk is.
+/// The first bytes of a key, down to the layer that the walk is in.
 type Bytes = ArrayVec<u8, LONGEST_KEY>;
 
-/// More bytes.
+/// Appends bytes to the prefix.
 fn extend(prefix: &mut Bytes, bytes: &[u8])
     requires { length prefix.old.items + length bytes.now ≤ widest.key }
     ensures { prefix.new.items ≡ prefix.old.items ++ bytes.now }
@@ -44,7 +44,7 @@ fn extend(prefix: &mut Bytes, bytes: &[u8])
     };
 }
 
-/// Shows the pair whose key ends with this tail.
+/// Shows the pair whose key is the prefix and then this tail. Err: the pair was not taken.
 fn show<T, V: Visitor<T>>(
     prefix: &mut Bytes,
     tail: &[u8],
@@ -64,7 +64,7 @@ fn show<T, V: Visitor<T>>(
 }
 
 impl Place {
-    /// Shows this place's pairs.
+    /// Shows this place's pairs. Err: a pair was not taken.
     #[cycle(visit)]
     fn visit<T, V: Visitor<T>>(
         &self,
@@ -99,7 +99,7 @@ impl Place {
 }
 
 impl Node {
-    /// Shows the pairs of its places.
+    /// Shows this node's pairs. Err: a pair was not taken.
     #[cycle(visit)]
     pub(crate) fn visit<T, V: Visitor<T>>(
         &self,

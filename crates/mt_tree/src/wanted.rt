@@ -1,4 +1,4 @@
-//! Which columns a query wants.
+//! The choice of columns that a query wants.
 ghost use Rattle.std.specs.Prelude.{◌≡◌, ◌≤◌, ◌↔◌, ℕ, List, IsSome, IfSome, true, nat_eq};
 ghost use Rattle.std.specs.List.{AllByRecursion, list_any};
 ghost use Rattle.mt_words.specs.declared.limits.TheConstants.{GREATEST_COLUMN};
@@ -12,7 +12,7 @@ use std::marker::Model;
 /// The columns that a query wants.
 #[derive(Clone, Copy, Debug)]
 pub struct Wanted {
-    /// For each number, whether it is wanted.
+    /// For each column number, whether it is wanted.
     flags: [bool; MOST_COLUMNS],
 }
 
@@ -27,7 +27,7 @@ impl Model for Wanted {
 }
 
 impl Wanted {
-    /// All columns.
+    /// Creates the choice of all columns.
     pub fn all() -> Wanted
         ensures value { (number : ℕ) → number ≤ GREATEST_COLUMN → wants result number ≡ true }
         ensures whole { (columns : List (ℕ × List ℕ)) → AreColumns widest columns →
@@ -38,7 +38,8 @@ impl Wanted {
         }
     }
 
-    /// The columns of these numbers, in any order. None where one is above `GREATEST_COLUMN`.
+    /// Creates the choice of the columns of these numbers, in any order. Returns None if a number is above
+    /// `GREATEST_COLUMN`.
     pub fn only(numbers: &[u8]) -> Option<Wanted>
         ensures accepted { IsSome result ↔ AllByRecursion (λ number. number ≤ GREATEST_COLUMN) numbers.now }
         ensures value { IfSome result (λ wanted. (number : ℕ) →
@@ -54,7 +55,7 @@ impl Wanted {
         Some(Wanted { flags })
     }
 
-    /// Whether the column of this number is wanted.
+    /// Returns whether the column of this number is wanted.
     pub(crate) fn has(self, number: u8) -> bool
         ensures { result ≡ wants self number }
     {

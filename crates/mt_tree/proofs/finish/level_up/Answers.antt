@@ -8,7 +8,7 @@ use Rattle.mt_tree.proofs.Joins.{all_append}
 use Rattle.mt_tree.proofs.Levels.{moved, level_back, level_children, height_of, under_parent}
 use Rattle.mt_tree.proofs.finish.level_up.Goals as goal
 
--- the children, the new one among them, and what is left
+-- the children, the new one among them, and the nodes that are left, are a level
 with_next : (h : ℕ) (kids rest next gathered given : List NodeView) (node : NodeView) → IsLevelAt h (kids ++ rest) → rest ≡ node ∷ next → gathered ≡ kids ++ node ∷ [] → given ≡ gathered → IsLevelAt h (given ++ next)
 with_next h kids rest next gathered given node l e f g =
     subst (IsLevelAt h) (moved kids rest next node e ∙ ap (λ (z : List NodeView). z ++ next) (sym f ∙ sym g)) l

@@ -124,7 +124,7 @@ Layer::join-returns-clause-lawful t c =
     stored_are _ (seam_stored _ _ _ _ _ _ _ _ _ _ _ s c.left.invariant c.right.invariant (open_end _ _ _ _ c.in-Some.ensures.items c.into_places.ensures) (open_first _ _ _ _ some c.remove-first.ensures.value c.remove-first.ensures.items c.into_places-2.ensures)
     c.in_ok-last.ensures.same c.in_ok-last.ensures.slices c.in_ok-last.ensures.links c.in_ok-push_both.ensures c.in_ok-append.ensures.items)
 
--- one of the two has no borders
+-- one of the two layers has no borders
 pub Layer::join-returns-in_default-clause-lawful : goal.Layer::join-returns-in_default-clause-lawful
 Layer::join-returns-in_default-clause-lawful t c = stored_are _ c.right.invariant
 

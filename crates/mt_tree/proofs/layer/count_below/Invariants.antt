@@ -3,6 +3,6 @@ use Rattle.mt_tree.specs.Nodes.{SlicesBelow}
 use Rattle.mt_tree.specs.DraftViews.{draft_views}
 use Rattle.mt_tree.proofs.layer.count_below.Given as goal
 
--- the slices so far are below
+-- the slices so far are below the given one
 abbrev pub invariant-loop-at : goal.invariant-loop-at
 invariant-loop-at l = SlicesBelow l.slice (draft_views (take l.at l.places))
