@@ -20,7 +20,7 @@ use Rattle.mt_replay.specs.Bodies.{updates_at}
 
 -- ---- survivors
 
--- those of one record more
+-- the survivors of one record more
 survivors_step : (window : Window) (kept : Kept) (i : ℕ) (more : List Update) → i < length kept.records
     → ((d : Logged) → more ≡ update_of kept.log i (get_or kept.records i d))
     → first_survivors window kept i ++ filter (in_window window) more ≡ first_survivors window kept (i + 1)
@@ -34,7 +34,7 @@ survivors_step window kept i more below is =
     ∙ ap (filter (in_window window)) (sym pushed)
     ∙ ap (λ (rs : List Logged). filter (in_window window) (updates_from kept.log 0 rs)) (sym longer)
 
--- the same in a stretch, behind those of the records before it
+-- likewise for a range of records: its survivors follow those of the records before it
 pub stretch_step : (window : Window) (kept : Kept) (from i : ℕ) (old new more : List Update) → i < length kept.records
     → ((d : Logged) → more ≡ update_of kept.log i (get_or kept.records i d))
     → first_survivors window kept i ≡ first_survivors window kept from ++ old → new ≡ old ++ filter (in_window window) more
@@ -45,7 +45,7 @@ stretch_step window kept from i old new more below is so_far added =
     ∙ append_assoc (first_survivors window kept from) old (filter (in_window window) more)
     ∙ ap (λ (us : List Update). first_survivors window kept from ++ us) (sym added)
 
--- the cells of one stretch more
+-- the cells of one sorted run more
 pub stretch_more : (window : Window) (kept : Kept) (from end : ℕ) (lists more : List (List Update)) (stretch cells : List Update)
     → IsPermutation (first_survivors window kept from) (joined lists) → first_survivors window kept end ≡ first_survivors window kept from ++ stretch → IsPermutation stretch cells
     → more ≡ lists ++ cells ∷ [] → IsPermutation (first_survivors window kept end) (joined more)
@@ -70,7 +70,7 @@ update_at_place (o ∷ os) [] k d same below = absurd (omega (arith, same))
 update_at_place (o ∷ os) (b ∷ bs) zero d same below = refl
 update_at_place (o ∷ os) (b ∷ bs) (suc k) d same below = update_at_place os bs k d (omega (arith, same)) (omega (arith, below))
 
--- a place is that of an origin
+-- the place of an update is the place of an origin
 pub place_within : (origins : List Origin) (bodies : List (List ℕ)) (updates : List Update) (at : ℕ) → updates_at origins bodies ≡ updates
     → length origins ≡ length bodies → at < length updates → at < length origins
 place_within origins bodies updates at same long below =

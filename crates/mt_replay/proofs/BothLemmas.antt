@@ -26,7 +26,7 @@ same_right writes others number (Some g) same is = record {
   greatest = λ w at of. is.greatest w ((same w).1 at) of;
 }
 
--- a cell is one of any list of the same writes
+-- a cell of some writes is a cell of any list of the same writes
 pub same_cell : (writes others : List Written) (slots : Slots) → ((w : Written) → Contains writes w ↔ Contains others w) → IsCellOf writes slots → IsCellOf others slots
 same_cell writes others slots same is = record {
   within = λ w at. is.within w ((same w).1 at);
@@ -34,7 +34,7 @@ same_cell writes others slots same is = record {
   each = λ number slot at. same_right writes others number slot same (is.each number slot at);
 }
 
--- of three lists the last two change places
+-- the last two of three lists may be swapped
 swapped : (a b c : List Written) (w : Written) → Contains ((a ++ b) ++ c) w → Contains (a ++ (c ++ b)) w
 swapped a b c w at = elim (Contains-append_cases (a ++ b) c w at) as (λ _. Contains (a ++ (c ++ b)) w) [
   | inl first ↦ elim (Contains-append_cases a b w first) as (λ _. Contains (a ++ (c ++ b)) w) [
@@ -53,13 +53,13 @@ swapped_back a b c w at = elim (Contains-append_cases a (c ++ b) w at) as (λ _.
   ]
 ]
 
--- writes that came last may stand before others
+-- the writes that came last may stand before others
 pub cell_swapped : (a b c : List Written) (slots : Slots) → IsCellOf ((a ++ b) ++ c) slots → IsCellOf (a ++ (c ++ b)) slots
 cell_swapped a b c slots is = same_cell ((a ++ b) ++ c) (a ++ (c ++ b)) slots (λ w. (swapped a b c w, swapped_back a b c w)) is
 
 -- ---- the writes of both
 
--- the others have no write of the column
+-- if the others have no write of the column, its slot stays right
 first_right : (writes others : List Written) (number : ℕ) (slot : Option Written) → IsUnwritten others number → IsRight writes number slot → IsRight (writes ++ others) number slot
 first_right writes others number None never none = λ w at of. elim (Contains-append_cases writes others w at) as (λ _. ⊥) [ inl here ↦ none w here of | inr there ↦ never w there of ]
 first_right writes others number (Some g) never is = record {
@@ -91,7 +91,7 @@ first_stays writes others number (Some h) g stays was is = elim (older_or_not h.
   }
 ]
 
--- the greater of the greatest writes of a column
+-- the greater of two greatest writes of a column is the greatest of both lists
 right_both : (writes others : List Written) (number : ℕ) (old add new : Option Written) → IsNewestOf old add new → IsRight writes number old → IsRight others number add → IsRight (writes ++ others) number new
 right_both writes others number old None new newest was none = subst (IsRight (writes ++ others) number) (sym newest) (first_right writes others number old none was)
 right_both writes others number old (Some g) new newest was is = elim (decide old g) as (λ _. IsRight (writes ++ others) number new) [
@@ -99,16 +99,16 @@ right_both writes others number old (Some g) new newest was is = elim (decide ol
   | inr stays ↦ subst (IsRight (writes ++ others) number) (sym (newest.1 stays)) (first_stays writes others number old g stays was is)
 ]
 
--- ---- the places, one by one
+-- ---- the slots, one by one
 
--- the places below n of the old slots have taken in those of the added slots, and the others are as they were
+-- the old slots below n have taken in the added slots below n, and all other slots are as they were
 pub record AreBoth (old add : Slots) (n : ℕ) (new left : Slots) : Type 0 where
   pub places : length new ≡ length old
   pub stays : IsLeft old n new
   pub waits : IsLeft add n left
   pub newest : (k : ℕ) (a b slot : Option Written) → k < n → slice_get old k ≡ Some a → slice_get add k ≡ Some b → slice_get new k ≡ Some slot → IsNewestOf a b slot
 
--- all places
+-- once all slots have taken in the added ones, they are the cell of both lists
 pub both_cells : (old add : Slots) (new left : Slots) (writes others : List Written) → AreBoth old add MOST_COLUMNS new left → IsCellOf writes old → IsCellOf others add → IsCellOf (writes ++ others) new
 both_cells old add new left writes others are was is = record {
   within = λ w at. elim (Contains-append_cases writes others w at) as (λ _. IsWrite widest w.1) [ inl here ↦ was.within w here | inr there ↦ is.within w there ];
@@ -127,7 +127,7 @@ both_cells old add new left writes others are was is = record {
 
 -- ---- the resets of both
 
--- the greatest reset of some updates is that of more, where no other is greater
+-- the greatest reset of some updates is that of more updates, if no other reset is greater
 still_greatest : (some more : List Update) (key : List ℕ) (stamp : Stamp) → ((u : Update) → Contains some u → Contains more u) → ((u : Update) → Contains more u → u.key ≡ key → IsReset u.kind → Contains some u ⊎ IsAtMost u.stamp stamp)
     → IsGreatestReset some key stamp → IsGreatestReset more key stamp
 still_greatest some more key stamp stand others is = record {
@@ -149,7 +149,7 @@ second_reset : (updates others : List Update) (key : List ℕ) (stamp : Stamp) �
 second_reset updates others key stamp most = still_greatest others (updates ++ others) key stamp (Contains-append_right updates others)
     (λ u at of_key resets. elim (Contains-append_cases updates others u at) as (λ _. Contains others u ⊎ IsAtMost u.stamp stamp) [ inl here ↦ inr (most u here of_key resets) | inr there ↦ inl there ])
 
--- the others do not reset the key
+-- if the others do not reset the key, the reset stays
 reset_alone : (updates others : List Update) (key : List ℕ) (reset : Option Stamp) → IsResetOf others key None → IsResetOf updates key reset → IsResetOf (updates ++ others) key reset
 reset_alone updates others key None never none = λ u at of_key resets. elim (Contains-append_cases updates others u at) as (λ _. ⊥) [ inl here ↦ none u here of_key resets | inr there ↦ never u there of_key resets ]
 reset_alone updates others key (Some stamp) never is = first_reset updates others key stamp (λ u at of_key resets. absurd (never u at of_key resets)) is
@@ -176,7 +176,7 @@ of_one updates others key w is = elim (Contains-append_cases updates others is.u
   | inr there ↦ inr (record { update = is.update; stands = there; of_key = is.of_key; stamp = is.stamp; writes = is.writes })
 ]
 
--- the group of two sets of updates, where these are the writes of the second
+-- the group of two sets of updates, if these are the writes of the second
 pub group_with : (updates others : List Update) (key : List ℕ) (old new : Group) (more : List Written) → ((writes : List Written) → IsCellOf writes old.slots → IsCellOf (writes ++ more) new.slots)
     → ((w : Written) → Contains more w ↔ IsWriteOf others key w) → IsResetOf (updates ++ others) key new.reset → IsGroupOf updates key old → IsGroupOf (updates ++ others) key new
 group_with updates others key old new more cell each reset was = record {

@@ -1,4 +1,4 @@
--- The keys of pieces, one piece behind the other.
+-- The keys of pieces, one piece after the other.
 use Rattle.std.proofs.Common.{◌≡◌, inl, inr, ℕ, zero, suc, ◌+◌, ◌-◌, ◌<◌, ◌≤◌, Bool, true, false, List, [], ◌∷◌, ◌++◌, length, map, take, Option, Some, None, Result, Ok, IfOk, Contains, refl, sym, ap, ◌∙◌, subst, arith}
 use Rattle.std.specs.Prelude.{slice_get, slice_index_or}
 use Rattle.std.specs.List.{All, flat_map}
@@ -18,7 +18,7 @@ use Rattle.mt_replay.proofs.Members.{all_from, of_map, in_map, of_flat_map, in_f
 
 -- ---- a piece
 
--- the keys of the parts of a piece
+-- the keys of the parts that lie in a piece are the keys of the piece
 pub of_parts : (cuts : List (List ℕ)) (i : ℕ) (lists parts : List (List Update)) (keys : List (List ℕ)) → parts ≡ map (updates_in cuts i) lists → AreDistinctKeys (keys_in (joined parts)) keys → AreDistinctWhere (in_piece cuts i) (keys_in (joined lists)) keys
 of_parts cuts i lists parts keys are distinct = record {
   rise = distinct.rise;
@@ -92,7 +92,7 @@ below_next cuts i key rise within low = elim (cases_lt (suc i) (length cuts)) as
   | inr past ↦ ap (λ (cut : Option (List ℕ)). is_before cut key) (slice_get_past cuts (suc i) past)
 ]
 
--- a piece behind others
+-- one more piece after others
 next_piece : (cuts all keys piece : List (List ℕ)) (i : ℕ) → RiseThroughout cuts → i < length cuts → AreDistinctWhere (in_first cuts (suc i)) all keys → AreDistinctWhere (in_piece cuts (suc i)) all piece → AreDistinctWhere (in_first cuts (suc (suc i))) all (keys ++ piece)
 next_piece cuts all keys piece i rise within are own =
     let cut : List ℕ = slice_index_or cuts i [] in
@@ -148,13 +148,13 @@ all_pieces cuts all pieces rise long each =
       same = λ key. (λ at. ((keys.same key).0 at).0, λ at. (keys.same key).1 (at, ap (λ (cut : Option (List ℕ)). is_before cut key) last));
     }
 
--- ---- lent keys
+-- ---- borrowed keys
 
 values_joined : {B V : Type 0} (now : B → List ℕ) (items : V → List B) (parts : List V) → map now (flat_map items parts) ≡ joined (map (λ part. map now (items part)) parts)
 values_joined now items [] = refl
 values_joined now items (part ∷ parts) = map-append now (items part) (flat_map items parts) ∙ ap (λ (ks : List (List ℕ)). map now (items part) ++ ks) (values_joined now items parts)
 
--- what holds of each answer holds of what was done
+-- what holds for each result holds for what was done
 pub of_done : {V E : Type 0} (P : ℕ → V → Type 0) (answers : List (Result V E)) (done : List V) → answers ≡ map Ok done → ((i : ℕ) (d : Result V E) → i < length answers → IfOk (slice_index_or answers i d) (P i)) → (i : ℕ) (d : V) → i < length done → P i (slice_index_or done i d)
 of_done {V} {E} P answers done are each i d lt =
     let long : length answers ≡ length done = ap (λ (xs : List (Result V E)). length xs) are ∙ length-map done Ok in

@@ -1,4 +1,4 @@
--- The cell of a key is one, in whatever order its updates come.
+-- A key has only one cell, in whatever order its updates come.
 use Rattle.std.proofs.Common.{◌≡◌, ◌↔◌, ℕ, zero, suc, List, [], ◌∷◌, length, Option, Some, None, Contains, refl, sym, ap, ◌∙◌, subst, arith}
 use Rattle.std.specs.Prelude.{slice_get}
 use Rattle.std.specs.List.{All}
@@ -17,7 +17,7 @@ use Rattle.mt_replay.proofs.ExactLemmas.{same_bytes}
 
 -- ---- resets
 
--- a greatest reset is at most one of the same updates
+-- the greatest reset of some updates is at most that of updates that include them
 below_other : (updates others : List Update) (key : List ℕ) (a b : Stamp) → ((u : Update) → Contains updates u → Contains others u) → IsGreatestReset updates key a → IsGreatestReset others key b → IsAtMost a b
 below_other updates others key a b all is other = subst (λ (s : Stamp). IsAtMost s b) is.at_stamp (other.greatest is.update (all is.update is.stands) is.of_key is.resets)
 
@@ -30,7 +30,7 @@ one_reset updates others key (Some a) (Some b) same is other =
 
 -- ---- writes
 
--- two writes of a column at one stamp are one
+-- two writes of a column at one stamp are the same write
 abbrev IsOnce : List Written → Type 0
 IsOnce writes = (a b : Written) → Contains writes a → Contains writes b → a.1.0 ≡ b.1.0 → a.0 ≡ b.0 → a ≡ b
 
@@ -41,7 +41,7 @@ one_write updates key a b apart sound is other number stamp =
     let bytes : a.1.1 ≡ b.1.1 = same_bytes is.update.kind a.1.0 a.1.1 b.1.1 (All-contains HasLawfulWrites updates is.update sound is.stands) is.writes writes in
     λ i. (stamp i, (number i, bytes i))
 
--- the same updates write the same
+-- a write of some updates is a write of any updates that include them
 same_writes : (updates others : List Update) (key : List ℕ) (w : Written) → ((u : Update) → Contains updates u → Contains others u) → IsWriteOf updates key w → IsWriteOf others key w
 same_writes updates others key w all is = record { update = is.update; stands = all is.update is.stands; of_key = is.of_key; stamp = is.stamp; writes = is.writes }
 
@@ -52,9 +52,9 @@ one_slot writes number (Some a) None once is none = absurd (none a is.stands is.
 one_slot writes number (Some a) (Some b) once is other =
     ap Some (once a b is.stands other.stands (is.of_column ∙ sym other.of_column) (same_stamp a.0 b.0 (other.greatest a is.stands is.of_column) (is.greatest b other.stands other.of_column)))
 
--- ---- places
+-- ---- slots
 
--- two lists that agree at each place are one
+-- two lists that agree at each place are equal
 by_places : {A : Type 0} (xs ys : List A) → length xs ≡ length ys → ((k : ℕ) (x y : A) → slice_get xs k ≡ Some x → slice_get ys k ≡ Some y → x ≡ y) → xs ≡ ys
 by_places [] [] same each = refl
 by_places [] (y ∷ ys) same each = absurd (omega arith)
@@ -67,7 +67,7 @@ by_places {A} (x ∷ xs) (y ∷ ys) same each =
 one_slots : (writes : List Written) (slots others : Slots) → IsOnce writes → IsCellOf writes slots → IsCellOf writes others → slots ≡ others
 one_slots writes slots others once is other = by_places slots others (is.places ∙ sym other.places) (λ k a b at there. one_slot writes k a b once (is.each k a at) (other.each k b there))
 
--- two groups of the same updates, of which no two share a stamp, are one
+-- two groups of the same updates are equal, if no two of the updates share a stamp
 pub one_group : (updates others : List Update) (key : List ℕ) (group other : Group) → AreApart updates → All HasLawfulWrites updates → ((u : Update) → Contains updates u ↔ Contains others u)
     → IsGroupOf updates key group → IsGroupOf others key other → group ≡ other
 one_group updates others key group other apart sound same is also =

@@ -12,17 +12,17 @@ use Rattle.mt_replay.specs.Cuts.{RiseThroughout}
 use Rattle.mt_replay.proofs.Members.{all_from, of_map, in_map}
 use Rattle.mt_replay.proofs.DistinctLemmas.{order_of, rising}
 
--- whether two lent keys are equal
+-- whether two borrowed keys are equal
 abbrev pub are_same : {B : Type 0} → (B → List ℕ) → B → B → Bool
 are_same now a b = pointwise nat_eq (now a) (now b)
 
--- keys that were sorted, and of which each was kept once, rise
+-- keys that were sorted and kept once each rise
 pub kept_rise : {B : Type 0} (now : B → List ℕ) (sorted kept : List B) → IsSorted (order_of now) sorted → kept ≡ dedup (are_same now) sorted → RiseThroughout (map now kept)
 kept_rise {B} now sorted kept up is =
     let strictly : IsStrictlySortedBy (order_of now) (dedup (are_same now) sorted) = IsStrictlySortedBy-dedup (on_total now nat_list_cmp_total) (λ a b. texts_ties (now a) (now b)) sorted up in
     rising now kept (subst (IsStrictlySortedBy (order_of now)) (sym is) strictly)
 
--- and what holds of all holds of them
+-- what holds for all keys holds for those that were kept
 pub kept_each : {B : Type 0} (P : List ℕ → Type 0) (now : B → List ℕ) (keys sorted kept : List B) → IsPermutation keys sorted → kept ≡ dedup (are_same now) sorted → All P (map now keys) → All P (map now kept)
 kept_each {B} P now keys sorted kept moved is all = All-from_recursion P (map now kept) (all_from P (map now kept) (λ key at.
     let one = of_map now kept key at in

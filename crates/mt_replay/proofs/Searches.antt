@@ -9,7 +9,7 @@ use Rattle.std.proofs.lemmas.List.Sorted.{searchable_from_sorted}
 use Rattle.mt_words.specs.declared.update.Update.{Update}
 use Rattle.mt_replay.specs.Cuts.{is_below, key_below}
 
--- ---- the three answers of a comparison as numbers
+-- ---- the three results of a comparison as numbers
 
 under_rank : (o : Ordering) → is_lt o ≡ true → ordering_index o ≡ 0
 under_rank Less h = refl
@@ -37,14 +37,14 @@ rises : (us : List Update) (key : List ℕ) → IsSortedBy key_below us → (i j
     → ordering_index (slice_cmp nat_cmp (get_or us i d).key key) ≤ ordering_index (slice_cmp nat_cmp (get_or us j d).key key)
 rises us key sorted i j d up within = searchable_from_sorted nat_list_cmp_total (λ (u : Update). u.key) us key sorted i j d up within
 
--- below the key, so are those before
+-- if an update is below the key, so are those before it
 pub all_under : (us : List Update) (key : List ℕ) (at : ℕ) → IsSortedBy key_below us → at < length us → ((d : Update) → is_below (get_or us at d).key key ≡ true)
     → (k : ℕ) (d : Update) → k < at + 1 → is_below (get_or us k d).key key ≡ true
 all_under us key at sorted within here k d before =
     let rise = rises us key sorted k at d (omega (arith, before)) within in
     rank_under (slice_cmp nat_cmp (get_or us k d).key key) (omega (arith, rise, under_rank (slice_cmp nat_cmp (get_or us at d).key key) (here d)))
 
--- not below it, nor are those behind
+-- if an update is not below the key, neither are those after it
 pub none_under : (us : List Update) (key : List ℕ) (at : ℕ) → IsSortedBy key_below us → ((d : Update) → is_below (get_or us at d).key key ≡ false)
     → (k : ℕ) (d : Update) → at ≤ k → k < length us → is_below (get_or us k d).key key ≡ false
 none_under us key at sorted here k d behind within =

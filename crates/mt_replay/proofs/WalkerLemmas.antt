@@ -22,7 +22,7 @@ use Rattle.mt_replay.proofs.StepLemmas.{AddsPair, map_more, rises_above, walk_mo
 
 -- ---- updates in the order of their keys
 
--- updates in order without the last
+-- updates in order without the last are in order
 pub front_in_order : (updates : List Update) (update : Update) → InKeyOrder (updates ++ update ∷ []) → InKeyOrder updates
 front_in_order updates update order = λ k d low below.
     let whole : length (updates ++ update ∷ []) ≡ length updates + 1 = length-append updates (update ∷ []) in
@@ -41,7 +41,7 @@ not_below_last updates update u order at =
 
 -- ---- the pair of the last key
 
--- what is made of no more updates than were made
+-- if there is no last key, what was made stays
 close_none : (updates before last : List Update) (pairs : List Pair) → updates ≡ before ++ last → IsMade before pairs → (before ≡ []) × (last ≡ []) → IsMade updates pairs
 close_none updates before last pairs split made none =
     let same : before ≡ updates = sym (append-nil before) ∙ ap (λ (us : List Update). before ++ us) (sym none.1) ∙ sym split in
@@ -87,7 +87,7 @@ some_added pairs key columns some = ap (λ b. if b then pairs ++ (key, columns) 
 pub none_added : (pairs : List Pair) (key : List ℕ) (columns : List (ℕ × List ℕ)) → length columns ≡ 0 → pairs ≡ with_pair pairs key columns
 none_added pairs key columns none = ap (λ n. if nat_lt 0 n then pairs ++ (key, columns) ∷ [] else pairs) (sym none)
 
--- ---- whether it is of the last key
+-- ---- whether an update is of the last key
 
 pub at_key : (first : Option Update) (key : List ℕ) → MatchOption first (true ≡ false) (λ f. IsTrue true ↔ (f.key ≡ key)) → MatchOption first (true ≡ false) (λ f. f.key ≡ key)
 at_key None key is = is
@@ -99,7 +99,7 @@ not_at_key (Some f) key is = λ e. true≢false (sym (is.1 e))
 
 -- ---- one update more
 
--- of the last key
+-- an update of the last key
 more_last : (before last : List Update) (update : Update) (key : List ℕ) (old new : Group) → AreLast before last key old → update.key ≡ key → IsGroupOf (last ++ update ∷ []) key new → HasLawfulWrites update
     → AreLast before (last ++ update ∷ []) key new
 more_last before last update key old new are of_key group sound = record {
@@ -131,7 +131,7 @@ some_in : (updates : List Update) → 0 < length updates → (u : Update) × Con
 some_in [] some = absurd (omega arith)
 some_in (u ∷ us) some = (u, head_in u us)
 
--- of another key, which lies above all before it
+-- an update of another key, which lies above all keys before it
 next_above : (updates : List Update) (update : Update) (pairs : List Pair) (first : Option Update) (group : Group) → IsWalkSoFar updates pairs first group → InKeyOrder (updates ++ update ∷ []) → MatchOption first (Unit {0}) (λ f. f.key ≡ update.key → ⊥)
     → (u : Update) → Contains updates u → IsBelow u.key update.key
 next_above updates update pairs None group so_far order apart u at =

@@ -1,4 +1,4 @@
--- Where the updates of cells lie.
+-- Where the updates of cells are held.
 use Rattle.std.specs.Prelude.{List}
 use Rattle.mt_words.specs.declared.update.Update.{Update}
 use Rattle.mt_replay.specs.declared.log_cells.Held.{Held}

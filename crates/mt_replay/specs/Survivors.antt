@@ -10,7 +10,7 @@ use Rattle.mt_words.specs.Updates.{update_at, updates_from}
 use Rattle.mt_record.specs.Kept.{Kept}
 use Rattle.mt_replay.specs.declared.window.Window.{Window}
 
--- the updates of logs, which are numbered from log on
+-- the updates of these logs, numbered from `log` on
 abbrev pub all_updates : ℕ → List (List Logged) → List Update
 all_updates log [] = []
 all_updates log (rs ∷ rss) = updates_from log 0 rs ++ all_updates (suc log) rss
@@ -19,18 +19,18 @@ all_updates log (rs ∷ rss) = updates_from log 0 rs ++ all_updates (suc log) rs
 abbrev pub log_updates : List (List Logged) → List Update
 log_updates logs = all_updates 0 logs
 
--- the updates that entries make, each of its key as a whole
+-- the updates that entries make, each for its whole key
 abbrev pub wholes : List Change → List Update
 wholes entries = map (update_at origins.Checkpoint 0) entries
 
--- from begin on, until below the cutoff
+-- whether the timestamp is at or after the window's begin and below its cutoff
 abbrev pub is_within : Window → ℕ → Bool
 is_within window timestamp = nat_le window.begin timestamp && nat_lt timestamp window.cutoff
 
 abbrev pub in_window : Window → Update → Bool
 in_window window update = is_within window update.timestamp
 
--- those of the first records of a log, so many
+-- the updates in the window of the first `count` records of a log
 abbrev pub first_survivors : Window → Kept → ℕ → List Update
 first_survivors window kept count = filter (in_window window) (updates_from kept.log 0 (take count kept.records))
 
@@ -38,13 +38,13 @@ first_survivors window kept count = filter (in_window window) (updates_from kept
 abbrev pub log_survivors : Window → List (List Logged) → List Update
 log_survivors window logs = filter (in_window window) (log_updates logs)
 
--- it is the entry of a checkpoint
+-- whether this is the entry of a checkpoint
 abbrev pub is_whole : Kind → Bool
 is_whole (Put columns) = false
 is_whole Remove = false
 is_whole (Whole columns) = true
 is_whole (Erase numbers) = false
 
--- a log update survives in the window; the entry of a checkpoint has no timestamp to look at, and survives
+-- whether an update survives: a log update if it is in the window, and the entry of a checkpoint, which has no timestamp, always
 abbrev pub survives : Window → Update → Bool
 survives window update = is_whole update.kind || in_window window update

@@ -6,16 +6,16 @@ use Rattle.mt_words.specs.Walks.{Pair, joined}
 use Rattle.mt_replay.specs.Walk.{IsWalk, AreApart}
 use Rattle.mt_replay.specs.Groups.{Group, HasLawfulWrites, IsGroupOf, IsMapOf}
 
--- the pairs with this one behind them, unless it has no column
+-- the pairs, and then this one, unless it has no column
 abbrev pub with_pair : List Pair → List ℕ → List (ℕ × List ℕ) → List Pair
 with_pair pairs key columns = if nat_lt 0 (length columns) then pairs ++ (key, columns) ∷ [] else pairs
 
--- a map of these updates, which is their walk where they are apart
+-- a map of these updates, which is their walk if they are apart
 pub record IsMade (updates : List Update) (pairs : List Pair) : Type 0 where
   pub map : IsMapOf updates pairs
   pub walk : AreApart updates → IsWalk updates pairs
 
--- the updates of one key with their group, behind updates of lower keys
+-- updates of one key, at least one, with lawful writes and with their group, after updates of lower keys
 pub record AreLast (before last : List Update) (key : List ℕ) (group : Group) : Type 0 where
   pub some : 0 < length last
   pub same_keys : (u : Update) → Contains last u → u.key ≡ key
@@ -23,12 +23,12 @@ pub record AreLast (before last : List Update) (key : List ℕ) (group : Group) 
   pub grouped : IsGroupOf last key group
   pub sound : All HasLawfulWrites last
 
--- the updates of the last key, or none where there is no update
+-- the updates of the last key with their group, or none if there is no update
 abbrev pub IsInHand : List Update → List Update → Option Update → Group → Type 0
 IsInHand before last None group = (before ≡ []) × (last ≡ [])
 IsInHand before last (Some first) group = AreLast before last first.key group
 
--- the pairs of all keys but the last, and the group of the last, whose first update is this one
+-- the pairs of all keys but the last, and the group of the last key, which is the key of `first`
 pub record IsWalkSoFar (updates : List Update) (pairs : List Pair) (first : Option Update) (group : Group) : Type 0 where
   pub before : List Update
   pub last : List Update
@@ -36,7 +36,7 @@ pub record IsWalkSoFar (updates : List Update) (pairs : List Pair) (first : Opti
   pub made : IsMade before pairs
   pub in_hand : IsInHand before last first group
 
--- what is made of the updates of runs
+-- what is made of the merged updates of these runs
 pub record IsMadeOfRuns (runs : List (List Update)) (pairs : List Pair) : Type 0 where
   pub merged : List Update
   pub all : IsPermutation (joined runs) merged

@@ -6,7 +6,7 @@ use Rattle.mt_replay.specs.Cuts.{InKeyOrder, AreDistinctKeys}
 use Rattle.mt_replay.specs.Runs.{keys_in}
 use Rattle.mt_replay.proofs.distinct.merged_keys.Given as goal
 
--- each key of what came so far
+-- each key of the updates so far, once
 abbrev pub invariant-loop-sliced : goal.invariant-loop-sliced
 invariant-loop-sliced l = record {
   distinct : InKeyOrder l.yielded → AreDistinctKeys (keys_in l.yielded) (map (λ key. key.now) l.keys.items);

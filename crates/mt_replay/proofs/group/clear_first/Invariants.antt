@@ -5,7 +5,7 @@ use Rattle.mt_replay.specs.Cells.{Written}
 use Rattle.mt_replay.specs.Groups.{AreFreeFrom}
 use Rattle.mt_replay.proofs.group.clear_first.Given as goal
 
--- the places so far are free, as those from the end on are
+-- the slots so far are free, and so are those from the end on
 abbrev pub invariant-loop-number : goal.invariant-loop-number
 invariant-loop-number g l = record {
   long : length l.writes ≡ MOST_COLUMNS;

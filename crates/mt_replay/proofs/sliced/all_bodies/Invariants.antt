@@ -1,6 +1,6 @@
 use Rattle.std.proofs.Common.{◌≡◌, take}
 use Rattle.mt_replay.proofs.sliced.all_bodies.Given as goal
 
--- those of the first bodies
+-- the updates of the first bodies
 abbrev pub invariant-loop-at : goal.invariant-loop-at
 invariant-loop-at l = l.sliced.items ≡ take l.at l.bodies

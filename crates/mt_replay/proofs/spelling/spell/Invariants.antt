@@ -3,6 +3,6 @@ use Rattle.std.specs.Prelude.{filter}
 use Rattle.mt_replay.specs.Survivors.{survives}
 use Rattle.mt_replay.proofs.spelling.spell.Given as goal
 
--- those of the first updates
+-- the survivors of the first updates
 abbrev pub invariant-loop-update : goal.invariant-loop-update
 invariant-loop-update l = l.bodies ≡ filter (survives l.window) (take l.update-index l.updates)

@@ -3,7 +3,7 @@ use Rattle.mt_words.specs.Changes.{set}
 use Rattle.mt_replay.specs.Cells.{Written, IsCellOf, written}
 use Rattle.mt_replay.proofs.group.Group+Value.apply_columns.Given as goal
 
--- the columns that were taken off are taken in
+-- the group has taken in the columns that were popped
 abbrev pub invariant-loop-column : goal.invariant-loop-column
 invariant-loop-column l = record {
   seen : List (ℕ × List ℕ);

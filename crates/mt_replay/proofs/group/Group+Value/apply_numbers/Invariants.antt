@@ -3,7 +3,7 @@ use Rattle.mt_words.specs.Changes.{erased}
 use Rattle.mt_replay.specs.Cells.{Written, IsCellOf, written}
 use Rattle.mt_replay.proofs.group.Group+Value.apply_numbers.Given as goal
 
--- the numbers so far are taken in
+-- the group has taken in the numbers so far
 abbrev pub invariant-loop-number : goal.invariant-loop-number
 invariant-loop-number l = record {
   reset : l.self.reset ≡ l.fn.self.reset;

@@ -3,7 +3,7 @@ use Rattle.mt_words.specs.Changes.{Write}
 use Rattle.mt_replay.specs.Cells.{Written, IsCellOf, written}
 use Rattle.mt_replay.proofs.group.Group+ref+slice+u8.see_writes.Given as goal
 
--- the columns that were taken off are taken in
+-- the group has taken in the writes that were read
 abbrev pub invariant-loop-number : goal.invariant-loop-number
 invariant-loop-number l = record {
   seen : List Write;

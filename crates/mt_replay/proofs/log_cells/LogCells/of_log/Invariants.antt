@@ -3,7 +3,7 @@ use Rattle.mt_words.specs.Walks.{joined}
 use Rattle.mt_replay.specs.Survivors.{first_survivors}
 use Rattle.mt_replay.proofs.log_cells.LogCells.of_log.Given as goal
 
--- the cells of the stretches so far
+-- the cells of the sorted runs so far
 abbrev pub invariant-loop-from : goal.invariant-loop-from
 invariant-loop-from l = record {
   within : l.from ≤ length l.updates.records;

@@ -4,7 +4,7 @@ use Rattle.mt_words.specs.declared.update.Update.{Update}
 use Rattle.mt_replay.specs.Cuts.{is_below}
 use Rattle.mt_replay.proofs.log_cells.LogCells.place_of.Given as goal
 
--- the place lies between the two
+-- the place lies between `low` and `high`
 abbrev pub invariant-loop-low : goal.invariant-loop-low
 invariant-loop-low l = record {
   rises : l.low ≤ l.high;

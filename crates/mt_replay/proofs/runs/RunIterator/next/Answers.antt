@@ -2,7 +2,7 @@ use Rattle.std.proofs.Common.{◌≡◌, ℕ, suc, ◌+◌, ◌-◌, ◌<◌, �
 use Rattle.mt_words.specs.declared.update.Update.{Update}
 use Rattle.mt_replay.proofs.runs.RunIterator.next.Goals as goal
 
--- the first of what is left, and the rest
+-- what is left is its first update and the rest
 first_left : (us : List Update) (at end : ℕ) (u : Update) → at < end → end ≤ length us → u ≡ get_or us at u
     → take (end - at) (drop at us) ≡ u ∷ take (end - (at + 1)) (drop (at + 1) us)
 first_left us at end u below within is =
