@@ -13,7 +13,7 @@ use Rattle.mt_replay.specs.Survivors.{all_updates}
 
 -- ---- one record
 
--- the update of a change has this origin
+-- each update of a change has this origin
 of_change : (origin : Origin) (timestamp : ℕ) (change : Option Change) (u : Update) → Contains (update_by origin timestamp change) u
     → u.stamp.origin ≡ origin
 of_change origin timestamp None u at = absurd (no_element u at)
@@ -23,7 +23,7 @@ of_change origin timestamp (Some change) u at =
       | inr e ↦ ap (λ (x : Update). x.stamp.origin) (sym e)
     ]
 
--- a change makes one update
+-- a change makes at most one update
 same_change : (origin : Origin) (timestamp : ℕ) (change : Option Change) (u w : Update) → Contains (update_by origin timestamp change) u
     → Contains (update_by origin timestamp change) w → u ≡ w
 same_change origin timestamp None u w at here = absurd (no_element u at)
@@ -34,17 +34,17 @@ same_change origin timestamp (Some change) u w at here =
       | inr e ↦ elim (Contains-push_cases [] p w here) as (λ _. u ≡ w) [ inl none ↦ absurd (no_element w none) | inr f ↦ sym e ∙ f ]
     ]
 
--- the update of a record names its log and its number
+-- each update of a record names its log and its number
 one_update : (log nth : ℕ) (r : Logged) (u : Update) → Contains (update_of log nth r) u → u.stamp.origin ≡ origins.Log log nth
 one_update log nth r u at = of_change (origins.Log log nth) r.timestamp r.change u at
 
--- a record makes one update
+-- a record makes at most one update
 same_update : (log nth : ℕ) (r : Logged) (u w : Update) → Contains (update_of log nth r) u → Contains (update_of log nth r) w → u ≡ w
 same_update log nth r u w at here = same_change (origins.Log log nth) r.timestamp r.change u w at here
 
 -- ---- one log
 
--- the updates of records numbered from nth on
+-- each update of these records names the log, and a number from nth on
 of_log : (log nth : ℕ) (rs : List Logged) (u : Update) → Contains (updates_from log nth rs) u
     → (n : ℕ) × (u.stamp.origin ≡ origins.Log log n) × (nth ≤ n)
 of_log log nth [] u at = absurd (no_element u at)
@@ -55,11 +55,11 @@ of_log log nth (r ∷ rs) u at =
       | inr later ↦ let is = of_log log (suc nth) rs u later in let from : suc nth ≤ is.0 = is.2 in (is.0, is.1, omega arith)
     ]
 
--- records of two numbers have two origins
+-- records of different numbers have different origins
 two_records : (log nth n : ℕ) → suc nth ≤ n → origins.Log log nth ≡ origins.Log log n → ⊥
 two_records log nth n from same = let e : nth ≡ n = cc in omega arith
 
--- two updates of one log with one stamp are one
+-- two updates of one log with the same stamp are equal
 log_apart : (log nth : ℕ) (rs : List Logged) (u w : Update) → Contains (updates_from log nth rs) u → Contains (updates_from log nth rs) w
     → u.stamp ≡ w.stamp → u ≡ w
 log_apart log nth [] u w at here same = absurd (no_element u at)
@@ -82,7 +82,7 @@ log_apart log nth (r ∷ rs) u w at here same =
 
 -- ---- all logs
 
--- the updates of logs numbered from log on
+-- each update of these logs names a log from this number on
 pub of_logs : (log : ℕ) (logs : List (List Logged)) (u : Update) → Contains (all_updates log logs) u
     → (k n : ℕ) × (u.stamp.origin ≡ origins.Log k n) × (log ≤ k)
 of_logs log [] u at = absurd (no_element u at)
@@ -93,11 +93,11 @@ of_logs log (l ∷ ls) u at =
       | inr later ↦ let is = of_logs (suc log) ls u later in let from : suc log ≤ is.0 = is.3 in (is.0, is.1, is.2, omega arith)
     ]
 
--- records of two logs have two origins
+-- records of different logs have different origins
 two_logs : (log k m n : ℕ) → suc log ≤ k → origins.Log log m ≡ origins.Log k n → ⊥
 two_logs log k m n from same = let e : log ≡ k = cc in omega arith
 
--- two updates of logs with one stamp are one
+-- two updates of logs with the same stamp are equal
 pub logs_apart : (log : ℕ) (logs : List (List Logged)) (u w : Update) → Contains (all_updates log logs) u
     → Contains (all_updates log logs) w → u.stamp ≡ w.stamp → u ≡ w
 logs_apart log [] u w at here same = absurd (no_element u at)

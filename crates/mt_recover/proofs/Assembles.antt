@@ -1,4 +1,4 @@
--- Pieces at their places, and what of them is missing.
+-- Pieces at their places, and the pieces that are missing.
 use Rattle.std.proofs.Common.{◌≡◌, ◌∙◌, ℕ, zero, suc, ◌+◌, ◌<◌, ⊎_elim, List, [], ◌∷◌, ◌++◌, map, length, true, false, Bool, Contains, IsPermutation, refl, sym, ap, subst, arith, cond}
 use Rattle.std.specs.Prelude.{slice_index_or, nat_eq}
 use Rattle.std.specs.List.{All}
@@ -21,7 +21,7 @@ use Rattle.mt_recover.specs.Assembling.{all_held, AreDraftsOf, times_numbered, I
 use Rattle.mt_recover.specs.Hauls.{numbers, IsHaulOf, times_held, IsLeftOut, AllCameBack}
 use Rattle.mt_recover.specs.Job.{JobView, IsPieceOf}
 
--- what a haul of the job holds under a number is the piece of that number
+-- a held piece is the job's piece of its number
 abbrev pub IsHeldBy : JobView → Piece → Type 0
 IsHeldBy job piece = IsPieceOf job piece.number (layer_walk piece.draft)
 
@@ -36,7 +36,7 @@ not_same a b ne = grind (arith, nat_tests)
 is_same : (a : ℕ) → nat_eq a a ≡ true
 is_same a = grind (arith, nat_tests)
 
--- one more in front
+-- how often x stands in a list with one more number in front
 times_cons : (x y : ℕ) (ys : List ℕ) → times x (y ∷ ys) ≡ cond {A = ℕ} (nat_eq y x) 1 0 + times x ys
 times_cons x y ys = sum_by-cons (λ (z : ℕ). cond (nat_eq z x) 1 0) y ys
 
@@ -46,7 +46,7 @@ held_each : (job : JobView) (hauls : List Haul) → All (IsHaulOf job) hauls →
 held_each job [] all = All-nil (IsHeldBy job)
 held_each job (h ∷ hs) all = All-append (IsHeldBy job) h.pieces.items (all_held hs) (All-head (IsHaulOf job) h hs all).pieces (held_each job hs (All-tail (IsHaulOf job) h hs all))
 
--- how often a piece stands among those of all hauls
+-- a number stands among the pieces of all hauls as often as the hauls hold it
 times_all : (x : ℕ) (hauls : List Haul) → times x (map number_of (all_held hauls)) ≡ times_held x hauls
 times_all x [] = refl
 times_all x (h ∷ hs) = omega (
@@ -64,11 +64,11 @@ counted (p ∷ ps) r zero lt is =
     omega (arith, one, times_cons r.number p.number (map number_of ps))
 counted (p ∷ ps) r (suc k) lt is = let more = counted ps r k (omega (arith, lt)) is in omega (arith, more, times_cons r.number p.number (map number_of ps))
 
--- a piece that is there has its number
+-- if there is a piece of number k, some piece is numbered k
 there : (pieces : List Piece) (k : ℕ) (draft : DraftView) → Contains pieces (record { number = k; draft = draft }) → 0 < times_numbered k pieces
 there pieces k draft at = counted pieces (record { number = k; draft = draft }) at.0 at.1 at.2
 
--- a number that no piece has
+-- if no piece has the number, it is counted 0 times
 none_numbered : (pieces : List Piece) (number : ℕ) → All (λ (piece : Piece). piece.number ≡ number → ⊥) pieces → times_numbered number pieces ≡ 0
 none_numbered [] number all = refl
 none_numbered (p ∷ ps) number all =
@@ -77,11 +77,11 @@ none_numbered (p ∷ ps) number all =
 
 -- ---- drafts in order
 
--- those passed over so far, of sorted pieces: none has the number that comes next
+-- none of the pieces so far has the next number, which is the number of drafts
 abbrev pub NoneIsNext : List Piece → List DraftView → Type 0
 NoneIsNext pieces drafts = All (λ (piece : Piece). piece.number ≡ length drafts → ⊥) pieces
 
--- the next piece has the next number
+-- if the next piece has the next number, its draft is taken
 pub taken : (all done rest : List Piece) (piece : Piece) (drafts after : List DraftView) → IsNonDecreasingBy number_of all → done ++ piece ∷ rest ≡ all → piece.number ≡ length drafts → after ≡ drafts ++ piece.draft ∷ []
     → AreDraftsOf done drafts → AreDraftsOf (done ++ piece ∷ []) after × NoneIsNext (done ++ piece ∷ []) after
 taken all done rest piece drafts after sorted whole next is are = (by_place, All-push (λ (p : Piece). p.number ≡ length after → ⊥) done piece below last)
@@ -112,12 +112,12 @@ taken all done rest piece drafts after sorted whole next is are = (by_place, All
     last : piece.number ≡ length after → ⊥
     last same = omega (arith, same, next, long)
 
--- the next piece has another number
+-- if the next piece has another number, it is passed over
 pub passed : (done : List Piece) (piece : Piece) (drafts : List DraftView) → (piece.number ≡ length drafts → ⊥) → AreDraftsOf done drafts → NoneIsNext done drafts
     → AreDraftsOf (done ++ piece ∷ []) drafts × NoneIsNext (done ++ piece ∷ []) drafts
 passed done piece drafts other are none = (λ k d lt. Contains-append_left done (piece ∷ []) _ (are k d lt), All-push (λ (p : Piece). p.number ≡ length drafts → ⊥) done piece none other)
 
--- there is a draft for each number
+-- if the drafts are not too few, there is one for each number
 pub all_taken : (pieces : List Piece) (drafts : List DraftView) (count : ℕ) → All (λ (piece : Piece). piece.number < count) pieces → AreDraftsOf pieces drafts → (length drafts < count → ⊥) → length drafts ≡ count
 all_taken pieces drafts count within are enough = ⊎_elim (λ (same : length drafts ≡ count). same)
     (λ (other : length drafts ≡ count → ⊥).
@@ -126,7 +126,7 @@ all_taken pieces drafts count within are enough = ⊎_elim (λ (same : length dr
     absurd (omega (arith, at)))
     (cases_eq (length drafts) count)
 
--- or the next number is lacking
+-- if they are too few, the next number is the least that no piece has
 pub next_lacks : (pieces : List Piece) (drafts : List DraftView) (count : ℕ) → length drafts < count → AreDraftsOf pieces drafts → NoneIsNext pieces drafts → IsFirstLacking pieces count (length drafts)
 next_lacks pieces drafts count below are none = record {
   within = below;
@@ -137,11 +137,11 @@ next_lacks pieces drafts count below are none = record {
 -- ---- the pieces of a job
 
 module _ (job : JobView) (hauls : List Haul) (pieces : List Piece) (count : ℕ) (held : IsPermutation (all_held hauls) pieces) (total : count ≡ job.board.total) where
-  -- there are as many of a number
+  -- the pieces have a number as often as the hauls hold it
   same_times : (number : ℕ) → times_numbered number pieces ≡ times_held number hauls
   same_times number = sum_by-IsPermutation (λ (n : ℕ). cond (nat_eq n number) 1 0) (map number_of (all_held hauls)) (map number_of pieces) (IsPermutation-map number_of (all_held hauls) pieces held) ∙ times_all number hauls
 
-  -- what is held has numbers of pieces
+  -- the pieces have numbers below the count
   pub held_within : All (IsHaulOf job) hauls → All (λ (piece : Piece). piece.number < count) pieces
   held_within are = All-permutation (λ (piece : Piece). piece.number < count) (all_held hauls) pieces held (All-weaker (IsHeldBy job) (λ (piece : Piece). piece.number < count) (λ piece is. omega (arith, is.0, total)) (all_held hauls) (held_each job hauls are))
 
@@ -154,7 +154,7 @@ module _ (job : JobView) (hauls : List Haul) (pieces : List Piece) (count : ℕ)
   left_out faults.Memory lacks = tt
   left_out fault lacks = absurd lacks
 
-  -- where each piece was drawn and each draw is there, nothing is missing
+  -- if each piece was drawn and each piece drawn is held, nothing is missing
   pub none_left_out : (passes : List PassView) (fault : Fault) → AllCameBack job hauls passes → ((x : ℕ) → x < job.board.total → 0 < times_drawn x passes) → IsLacking pieces count fault → fault ≡ faults.Memory
   none_left_out passes (faults.Missing i) back drawn lacks =
       let held = back.held i (drawn i (omega (arith, lacks.within, total))) in
@@ -162,7 +162,7 @@ module _ (job : JobView) (hauls : List Haul) (pieces : List Piece) (count : ℕ)
   none_left_out passes faults.Memory back drawn lacks = refl
   none_left_out passes fault back drawn lacks = absurd lacks
 
-  -- the drafts in order are those of the pieces
+  -- the drafts in order are those of the job's pieces
   pub in_order : (drafts : List DraftView) → job.board.total ≡ length job.cuts + 1 → All (IsHaulOf job) hauls → length drafts ≡ count → AreDraftsOf pieces drafts → ArePieces job.prepared.updates job.cuts (map layer_walk drafts)
   in_order drafts cut hauls_are long are = record {
     count = omega (arith, length-map drafts layer_walk, long, total, cut);

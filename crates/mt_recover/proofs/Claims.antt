@@ -1,8 +1,8 @@
--- What a pass draws, and the pieces that are kept of it.
+-- The numbers that a pass draws, and the pieces that are kept for them.
 use Rattle.std.proofs.Common.{◌≡◌, ◌∙◌, ℕ, List, [], ◌∷◌, ◌++◌, sym, ap, append_assoc}
 use Rattle.mt_board.specs.Board.{PassView}
 
--- one more draw behind those of this call
+-- one more draw, after those of this call
 pub drew_on : (start now next : PassView) (drawn after : List ℕ) (n : ℕ) → now ≡ record start { draws = start.draws ++ drawn } → next ≡ record now { draws = now.draws ++ n ∷ [] } → after ≡ drawn ++ n ∷ []
     → next ≡ record start { draws = start.draws ++ after }
 drew_on start now next drawn after n was is more =

@@ -1,4 +1,4 @@
--- How many updates there are: of the records of logs, and by where their timestamps lie.
+-- How many updates the records of logs make, and where their timestamps lie.
 use Rattle.std.proofs.Common.{◌≡◌, ◌∙◌, inl, inr, zero, sym, subst, Contains, ◌++◌, ℕ, suc, ◌+◌, ◌≤◌, Bool, true, false, List, [], ◌∷◌, length, Option, Some, None, refl, ap, arith}
 use Rattle.std.specs.Prelude.{cond, nat_lt, nat_le, filter}
 use Rattle.std.proofs.lemmas.Bool.Decides.{nat_tests}
@@ -29,7 +29,7 @@ use Rattle.mt_recover.specs.Survivors.{begin_of, survivors, entry_updates}
 
 -- ---- the records of logs
 
--- each is a mark or makes an update
+-- each record is a mark or makes an update
 pub records_split : (log : ℕ) (readings : List LogReading)
     → length (all_updates log (records_of readings)) + length (filter is_mark (all_records readings)) ≡ length (all_records readings)
 records_split log [] = refl
@@ -45,17 +45,17 @@ records_split log (l ∷ ls) = omega (
 
 -- ---- timestamps
 
--- one more element, which passes or does not
+-- a list with one more element, if the test passes, is longer by one
 length_by : {A : Type 0} (b : Bool) (x : A) (xs : List A) → length (cond b (x ∷ xs) xs) ≡ cond b 1 0 + length xs
 length_by true x xs = omega arith
 length_by false x xs = omega arith
 
--- a timestamp lies before the window, in it or behind it
+-- a timestamp lies before the window, in it or after it, and in one of these only
 lies_once : (window : Window) (time : ℕ) → window.begin ≤ window.cutoff
     → cond (nat_lt time window.begin) 1 0 + (cond (is_within window time) 1 0 + cond (nat_le window.cutoff time) 1 0) ≡ 1
 lies_once window time in_order = grind (arith, nat_tests)
 
--- so all updates are those before the window, those in it and those behind it
+-- so the updates before the window, in it and after it add up to all updates
 pub updates_split : (window : Window) (updates : List Update) → window.begin ≤ window.cutoff
     → length (filter (is_early window.begin) updates) + (length (filter (in_window window) updates) + length (filter (is_late window.cutoff) updates)) ≡ length updates
 updates_split window [] in_order = refl
@@ -68,28 +68,28 @@ updates_split window (u ∷ us) in_order = omega (
   updates_split window us in_order,
 )
 
--- a chosen checkpoint begins below the cutoff
+-- recovery begins at or below the cutoff
 pub begins_below : (known : List KnownPart) (cutoff : ℕ) (chosen : Option CheckpointReading) → IsChosenOf known cutoff chosen → begin_of chosen ≤ cutoff
 begins_below known cutoff None is = omega arith
 begins_below known cutoff (Some checkpoint) is = omega (arith, is.0.ends_below, is.0.valid.make_up.begins)
 
 -- ---- what was found
 
--- each record of a log is a mark, or an update that is early, survives or is late; and each entry survives
+-- the records and entries add up: each record is a mark, or an update that is early, survives or is late; and each entry survives
 pub record AddsUp (report : Report) (early survivors late : ℕ) : Type 0 where
   pub marks : report.marks ≤ report.records
   pub entries : report.entries ≤ survivors
   pub all : report.marks + (early + (late + survivors)) ≡ report.records + report.entries
 
--- what survives of the facts
+-- the updates that survive
 abbrev pub survivors_in : {logs parts : List (List ℕ)} → Facts logs parts → List Update
 survivors_in facts = survivors facts.cutoff facts.chosen (records_of facts.readings)
 
--- what lies below the checkpoint's begin
+-- the updates below the checkpoint's begin
 abbrev pub early_in : {logs parts : List (List ℕ)} → Facts logs parts → List Update
 early_in facts = filter (is_early (begin_of facts.chosen)) (logged_updates facts.readings)
 
--- what comes too late
+-- the updates that come too late
 abbrev pub late_in : {logs parts : List (List ℕ)} → Facts logs parts → List Update
 late_in facts = filter (is_late facts.cutoff) (logged_updates facts.readings)
 
@@ -129,13 +129,13 @@ report_is facts counts pairs early survivors layers are before same count =
 
 -- ---- the keys of a walk
 
--- an element, and those on both sides of it
+-- a list that has x is what is before x, then x, then what is after x
 around : {X : Type 0} (xs : List X) (x : X) → Contains xs x → (front : List X) × (back : List X) × (xs ≡ front ++ x ∷ back)
 around [] x at = absurd (no_element x at)
 around (y ∷ ys) x (zero, lt, e) = ([], ys, ap (λ z. z ∷ ys) e)
 around (y ∷ ys) x (suc i, lt, e) = let rest = around ys x (i, omega (arith, lt), e) in (y ∷ rest.0, rest.1, ap (λ zs. y ∷ zs) rest.2)
 
--- rising keys of updates are no more than the updates
+-- if each key is that of an update, rising keys are at most as many as the updates
 keys_few : (pairs : List Pair) (updates : List Update) → KeysRise pairs → ((p : Pair) → Contains pairs p → (u : Update) × Contains updates u × (u.key ≡ p.0))
     → length pairs ≤ length updates
 keys_few [] updates rise has = omega arith

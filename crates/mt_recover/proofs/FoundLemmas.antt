@@ -46,7 +46,7 @@ at_least a b e = grind (arith, nat_tests)
 less : (a b : ℕ) → nat_lt a b ≡ true → a < b
 less a b e = grind (arith, nat_tests)
 
--- a log has a gap just where its scan has one
+-- a log has a gap if and only if its scan has one
 gap_at : (begin : ℕ) (scans : List LogScan) (readings : List LogReading) (i : ℕ) (d : LogScan) → HaveNumbersOf scans readings → IsGap begin readings i ↔ (i < length scans) × (begin < (get_or scans i d).from)
 gap_at begin [] [] i d are = (λ gap. absurd gap, λ at. absurd (omega (arith, at.0)))
 gap_at begin [] (l ∷ ls) i d are = absurd are
@@ -56,7 +56,7 @@ gap_at begin (s ∷ ss) (l ∷ ls) (suc i) d are =
     let rest = gap_at begin ss ls i d are.1 in
     (λ gap. (omega (arith, (rest.0 gap).0), (rest.0 gap).1), λ at. rest.1 (omega (arith, at.0), at.1))
 
--- no scan has a gap, so no log has one
+-- if no scan has a gap, no log has one
 no_gap : (begin : ℕ) (scans : List LogScan) (readings : List LogReading) → HaveNumbersOf scans readings → position (has_gap begin) scans ≡ None → (i : ℕ) → IsGap begin readings i → ⊥
 no_gap begin [] [] are e i gap = gap
 no_gap begin [] (l ∷ ls) are e i gap = are
@@ -82,14 +82,14 @@ first_gap begin (s ∷ ss) readings i are e =
 
 -- ---- what recovery finds
 
--- scans that show all below a limit do so below a lower one
+-- scans that show all updates below a limit show all below a lower limit
 lowered : (limit lower number : ℕ) (scans : List LogScan) (readings : List LogReading) → lower ≤ limit → ShowAll limit number scans readings → ShowAll lower number scans readings
 lowered limit lower number [] [] le show = tt
 lowered limit lower number [] (l ∷ ls) le show = absurd show
 lowered limit lower number (s ∷ ss) [] le show = absurd show
 lowered limit lower number (s ∷ ss) (l ∷ ls) le show = (shows_lower number limit lower s l le show.0, lowered limit lower (suc number) ss ls le show.1)
 
--- what is at most the last timestamp of each log is at most the least of the scans'
+-- a cutoff that is at most the last timestamp of each log is at most the least of the scans' last timestamps
 at_most_lasts : (cutoff : ℕ) (scans : List LogScan) (readings : List LogReading) → cutoff ≤ nothing_noted → HaveNumbersOf scans readings → ((last : ℕ) → HasLast readings last → cutoff ≤ last) → cutoff ≤ least_of (lasts (map Ok scans))
 at_most_lasts cutoff [] readings small are least = small
 at_most_lasts cutoff (s ∷ ss) [] small are least = absurd are
@@ -139,7 +139,7 @@ shown_by (s ∷ ss) parts scans part_scans cutoff choice logs_are small parts_ar
       };
     }
 
--- where none has a fault and there is a cutoff, this is shown of what the sources may have
+-- if no scan has a fault and there is a cutoff, this is shown of some logs and parts that the sources may have
 pub are_shown : (sources parts : List Seen) (outcomes : Outcomes) (scans lent : List LogScan) (part_scans : List PartScan) (cutoff : ℕ) (choice : Choice) → AreOutcomes sources parts outcomes → cutoff ≤ nothing_noted → outcomes.logs.items ≡ map Ok scans
     → outcomes.parts.items ≡ map Ok part_scans → lent ≡ scans → ((readings : List LogReading) → HaveNumbersOf lent readings → IsCutoff readings cutoff) → IsChoiceOf (map known_by part_scans) cutoff choice
     → OfSources (λ seen. seen) sources parts (AreShown scans cutoff choice)
@@ -147,19 +147,19 @@ are_shown sources parts outcomes scans lent part_scans cutoff choice are small l
     shown_by sources parts scans part_scans cutoff choice (subst (λ (outcomes : List (Result LogScan Fault)). AllFrom (IsLogOutcome (least_of (lasts outcomes))) 0 sources outcomes) logs_done are.logs_are) small (subst (AllFrom IsPartOutcome 0 (read_parts sources parts)) parts_done are.parts_are)
     (subst (λ (x : List LogScan). (readings : List LogReading) → HaveNumbersOf x readings → IsCutoff readings cutoff) same is) of
 
--- what holds of all that is shown so holds of what the sources have
+-- what holds for all logs and parts that are shown so holds for some that the sources may have
 pub of_shown : {sources parts : List Seen} {scans : List LogScan} {cutoff : ℕ} {choice : Choice} (P : List (List ℕ) → List (List ℕ) → Type 0) → OfSources (λ seen. seen) sources parts (AreShown scans cutoff choice)
     → ((logs parts : List (List ℕ)) → AreShown scans cutoff choice logs parts → P logs parts) → OfSources (λ seen. seen) sources parts P
 of_shown P of holds = record { logs = of.logs; parts = of.parts; logs_may = of.logs_may; parts_may = of.parts_may; holds = holds of.logs of.parts of.holds }
 
--- the least log with a gap
+-- if a scan has a gap, the verdict names the least log with one
 pub gap_of : (logs parts : List (List ℕ)) (scans lent : List LogScan) (cutoff begin : ℕ) (choice : Choice) (i : ℕ) → begin ≡ begin_of (option_map checkpoint_in choice.chosen) → lent ≡ scans → position (has_gap begin) lent ≡ Some i
     → AreShown scans cutoff choice logs parts → IsVerdict logs parts (faults.Gap i)
 gap_of logs parts scans lent cutoff begin choice i from same e are =
     let at = ap (position (has_gap begin)) (sym same) ∙ e in
     (are.facts, subst (λ (n : ℕ). IsFirst (IsGap n are.facts.readings) i) (from ∙ ap begin_of are.chosen) (first_gap begin scans are.facts.readings i (numbers_of are.facts.cutoff 0 scans are.facts.readings are.show) at))
 
--- no log has a gap
+-- if no scan has a gap, this is what recovery finds
 pub found_of : (logs parts : List (List ℕ)) (scans : Vec LogScan Global) (lent : List LogScan) (cutoff begin : ℕ) (choice : Choice) → begin ≡ begin_of (option_map checkpoint_in choice.chosen) → lent ≡ scans.items
     → position (has_gap begin) lent ≡ None → AreShown scans.items cutoff choice logs parts → IsFoundOf logs parts (record { scans = scans; window = record { begin = begin; cutoff = cutoff }; choice = choice })
 found_of logs parts scans lent cutoff begin choice from same e are =

@@ -1,4 +1,4 @@
--- Logs and parts have one report, but for where its lists lie.
+-- Logs and parts have one report, apart from where its lists are stored.
 use Rattle.std.proofs.Common.{◌≡◌, ◌∙◌, ℕ, ◌+◌, ◌<◌, suc, Option, List, [], ◌∷◌, length, Contains, sym, ap, subst, arith}
 use Rattle.std.specs.Prelude.{filter}
 use Rattle.std.specs.Option.{option_map}
@@ -28,7 +28,7 @@ rises (x ∷ xs) pairs = (
   rises xs (λ i j d lt within. pairs (suc i) (suc j) d (omega (arith, lt)) (omega (arith, within))),
 )
 
--- numbers that rise are told by which they are
+-- rising lists with the same numbers are equal
 same_numbers : (xs ys : List ℕ) → IsStrictlyIncreasing xs → IsStrictlyIncreasing ys → ((n : ℕ) → Contains xs n → Contains ys n)
     → ((n : ℕ) → Contains ys n → Contains xs n) → xs ≡ ys
 same_numbers xs ys rise_x rise_y into from = same_lists (λ (a b : ℕ). a < b) (λ a b lt gt. omega (arith, lt, gt)) xs ys

@@ -1,4 +1,4 @@
--- Logs and parts have one store or one fault: what recovery finds in them is one, and no log is also faulty.
+-- Logs and parts have at most one store or one fault: recovery finds the same facts in them each time, and no log with a reading has a fault.
 use Rattle.std.proofs.Common.{◌≡◌, ◌⊎◌, inl, inr, ℕ, zero, suc, ◌<◌, ◌≤◌, List, [], ◌∷◌, take, Option, Some, None, Contains}
 use Rattle.std.proofs.Common.{refl, sym, ap, ◌∙◌, subst, arith}
 use Rattle.std.specs.Prelude.{slice_get}
@@ -29,7 +29,7 @@ use Rattle.mt_recover.proofs.CountLemmas.{survivors_in}
 
 -- ---- readings
 
--- where each element has one partner, a list has one list of partners
+-- if each element has at most one partner, a list has at most one list of partners
 one_zip : {A B : Type 0} (R : A → B → Type 0) → ((x : A) (y z : B) → R x y → R x z → y ≡ z) → (xs : List A) (ys zs : List B) → AllZip R xs ys → AllZip R xs zs
     → ys ≡ zs
 one_zip R one [] [] [] are too = refl
@@ -42,7 +42,7 @@ one_zip R one (x ∷ xs) (y ∷ ys) (z ∷ zs) are too =
     let rest = one_zip R one xs ys zs are.1 too.1 in
     λ i. first i ∷ rest i
 
--- among readings, each log has one
+-- if logs have readings, each of them has one
 reading_at : (logs : List (List ℕ)) (readings : List LogReading) (i : ℕ) (bytes : List ℕ) → AreReadings logs readings
     → slice_get logs i ≡ Some bytes → (log : LogReading) × IsReading bytes log
 reading_at [] readings i bytes are at = absurd cc
@@ -57,7 +57,7 @@ among_first [] (suc j) i lt = refl
 among_first (l ∷ ls) (suc j) zero lt = refl
 among_first (l ∷ ls) (suc j) (suc i) lt = among_first ls j i (omega arith)
 
--- a log that is read has no fault
+-- a log with a reading has no fault
 no_fault_at : (logs : List (List ℕ)) (readings : List LogReading) (i : ℕ) (bytes : List ℕ) (fault : FeedFault) → AreReadings logs readings
     → slice_get logs i ≡ Some bytes → IsLogFault bytes fault → ⊥
 no_fault_at logs readings i bytes fault are at is_fault =
@@ -70,7 +70,7 @@ no_fault_at logs readings i bytes fault are at is_fault =
 cutoff_at_most : (readings : List LogReading) (cutoff other : ℕ) → IsCutoff readings cutoff → IsCutoff readings other → cutoff ≤ other
 cutoff_at_most readings cutoff other is too = is.least other too.has
 
--- recovery finds one thing in logs and parts
+-- recovery finds the same facts in the same logs and parts
 pub same_facts : (logs parts : List (List ℕ)) (a b : Facts logs parts)
     → (a.readings ≡ b.readings) × (a.cutoff ≡ b.cutoff) × (a.known ≡ b.known) × (a.chosen ≡ b.chosen)
 same_facts logs parts a b =
@@ -84,12 +84,12 @@ same_facts logs parts a b =
     subst (λ (x : List KnownPart × ℕ). IsChosenOf x.0 x.1 a.chosen) (λ i. (known i, cutoff i)) a.is_chosen in
     (readings, cutoff, known, one_chosen b.known b.cutoff a.chosen b.chosen chosen b.is_chosen)
 
--- no list of readings of no logs has an element
+-- the readings of no logs have no element
 no_log : (readings : List LogReading) (log : LogReading) → AreReadings [] readings → Contains readings log → ⊥
 no_log [] log are at = no_element log at
 no_log (r ∷ rs) log are at = absurd are
 
--- where something is found, there is a log
+-- if there are facts, there is a log
 no_log_no_facts : (logs parts : List (List ℕ)) (facts : Facts logs parts) → logs ≡ [] → ⊥
 no_log_no_facts logs parts facts none =
     let read : AreReadings [] facts.readings = subst (λ (x : List (List ℕ)). AreReadings x facts.readings) none facts.read in
@@ -97,7 +97,7 @@ no_log_no_facts logs parts facts none =
 
 -- ---- stores
 
--- logs and parts have one store
+-- logs and parts have at most one store
 pub one_store : (logs parts : List (List ℕ)) (pairs others : List Pair) → IsStoreOf logs parts pairs → IsStoreOf logs parts others
     → pairs ≡ others
 one_store logs parts pairs others is too =
@@ -108,12 +108,12 @@ one_store logs parts pairs others is too =
 
 -- ---- faults
 
--- before the first fault there is none
+-- no log before the first fault has one
 none_before : (logs : List (List ℕ)) (i j : ℕ) (fault other : FeedFault) → i < j → IsFirstFault logs i fault → IsFirstFault logs j other → ⊥
 none_before logs i j fault other lt is too =
     no_fault_at (take j logs) too.readings i is.bytes fault too.before (among_first logs j i lt ∙ is.stands) is.is_fault
 
--- logs have one first fault
+-- logs have at most one first fault
 one_first_fault : (logs : List (List ℕ)) (i j : ℕ) (fault other : FeedFault) → IsFirstFault logs i fault → IsFirstFault logs j other
     → fault_at i fault ≡ fault_at j other
 one_first_fault logs i j fault other is too = elim (cases_order i j) as (λ _. fault_at i fault ≡ fault_at j other) [
@@ -129,14 +129,14 @@ one_first_fault logs i j fault other is too = elim (cases_order i j) as (λ _. f
   ]
 ]
 
--- the first of what is true is one
+-- at most one number is the least for which P holds
 one_first : (P : ℕ → Type 0) (i j : ℕ) → IsFirst P i → IsFirst P j → i ≡ j
 one_first P i j is too = elim (cases_order i j) as (λ _. i ≡ j) [
   | inl same ↦ same
   | inr apart ↦ elim apart as (λ _. i ≡ j) [ inl lt ↦ absurd (too.1 i lt is.0) | inr gt ↦ absurd (is.1 j gt too.0) ]
 ]
 
--- logs and parts have one first gap
+-- logs and parts have at most one first gap
 one_first_gap : (logs parts : List (List ℕ)) (i j : ℕ) (a b : Facts logs parts) → IsFirst (IsGap (begin_of a.chosen) a.readings) i
     → IsFirst (IsGap (begin_of b.chosen) b.readings) j → i ≡ j
 one_first_gap logs parts i j a b is too =
@@ -145,20 +145,20 @@ one_first_gap logs parts i j a b is too =
     subst (λ (x : Option CheckpointReading × List LogReading). IsFirst (IsGap (begin_of x.0) x.1) i) (λ k. (same.3 k, same.0 k)) is in
     one_first (IsGap (begin_of b.chosen) b.readings) i j gap too
 
--- it says that there is no log
+-- the fault says that there is no log
 abbrev NamesNone : List (List ℕ) → Fault → Type 0
 NamesNone logs fault = (fault ≡ faults.NoLogs) × (logs ≡ [])
 
--- it names the first fault of a log
+-- the fault is the first fault of a log
 abbrev NamesFault : List (List ℕ) → Fault → Type 0
 NamesFault logs fault = (i : ℕ) × (of : FeedFault) × (fault ≡ fault_at i of) × IsFirstFault logs i of
 
--- it names the first gap
+-- the fault is the first gap
 abbrev NamesGap : List (List ℕ) → List (List ℕ) → Fault → Type 0
 NamesGap logs parts fault = (i : ℕ) × (facts : Facts logs parts) × (fault ≡ faults.Gap i)
     × IsFirst (IsGap (begin_of facts.chosen) facts.readings) i
 
--- a verdict names one of the three
+-- a verdict is one of these three
 named : (logs parts : List (List ℕ)) (fault : Fault) → IsVerdict logs parts fault
     → NamesNone logs fault ⊎ (NamesFault logs fault ⊎ NamesGap logs parts fault)
 named logs parts faults.NoLogs is = inl (refl, is)
@@ -167,17 +167,17 @@ named logs parts (faults.Record i nth what) is = inr (inl (i, of_log.Record nth 
 named logs parts (faults.Gap i) is = inr (inr (i, is.0, refl, is.1))
 named logs parts fault is = absurd is
 
--- where there is no log, none has a fault
+-- if there is no log, none has a fault
 none_not_fault : (logs : List (List ℕ)) (i : ℕ) (fault : FeedFault) → logs ≡ [] → IsFirstFault logs i fault → ⊥
 none_not_fault logs i fault none is =
     let at : None ≡ Some is.bytes = ap (λ (x : List (List ℕ)). slice_get x i) (sym none) ∙ is.stands in
     absurd cc
 
--- where all logs are read, none has a fault
+-- if there are facts, no log has a fault
 facts_not_fault : (logs parts : List (List ℕ)) (i : ℕ) (fault : FeedFault) → Facts logs parts → IsFirstFault logs i fault → ⊥
 facts_not_fault logs parts i fault facts is = no_fault_at logs facts.readings i is.bytes fault facts.read is.stands is.is_fault
 
--- logs and parts have one verdict
+-- logs and parts have at most one verdict
 pub one_verdict : (logs parts : List (List ℕ)) (fault other : Fault) → IsVerdict logs parts fault → IsVerdict logs parts other
     → fault ≡ other
 one_verdict logs parts fault other is too = elim (named logs parts fault is) as (λ _. fault ≡ other) [

@@ -1,4 +1,4 @@
--- Updates have one walk: keys and column numbers strictly rise, so a walk is told by what it holds.
+-- Updates have at most one walk: keys and column numbers strictly rise, so what a walk holds determines it.
 use Rattle.std.proofs.Common.{◌≡◌, inl, inr, ℕ, suc, ◌<◌, ◌≤◌, true, List, [], ◌∷◌, length, Contains, refl, sym, ap, ◌∙◌, subst, arith}
 use Rattle.std.specs.List.{AllByRecursion}
 use Rattle.std.specs.Cmp.Lexicographic.{slice_cmp}
@@ -16,7 +16,7 @@ use Rattle.mt_replay.specs.Walk.{IsWalk}
 
 -- ---- lists whose elements rise
 
--- each element is before all that stand behind it
+-- each element is before all that come after it in the list
 abbrev pub Rises : {A : Type 0} → (A → A → Type 0) → List A → Type 0
 Rises Before [] = Unit {0}
 Rises Before (x ∷ xs) = AllByRecursion (Before x) xs × Rises Before xs
@@ -36,7 +36,7 @@ same_head Before one_way x y xs ys low_x low_y at here = elim (head_or_tail y x 
   ]
 ]
 
--- behind equal heads, what is in one list is in the other
+-- if two rising lists have equal heads, what is in one tail and in the other list is in the other tail
 in_tail : {A : Type 0} (Before : A → A → Type 0) → ((a b : A) → Before a b → Before b a → ⊥) → (x y a : A) (xs ys : List A)
     → x ≡ y → AllByRecursion (Before x) xs → Contains (y ∷ ys) a → Contains xs a → Contains ys a
 in_tail Before one_way x y a xs ys same low at here = elim (head_or_tail y a ys at) as (λ _. Contains ys a) [
@@ -62,7 +62,7 @@ same_lists Before one_way (x ∷ xs) (y ∷ ys) rise_x rise_y into from =
 
 -- ---- columns
 
--- rising numbers are above what they rise from
+-- numbers that rise from `low` are above each number below `low`
 all_above : (low : ℕ) (c : ℕ × List ℕ) (columns : List (ℕ × List ℕ)) → c.0 < low → NumbersRise low columns
     → AllByRecursion (λ (d : ℕ × List ℕ). c.0 < d.0) columns
 all_above low c [] lt rise = tt
@@ -77,11 +77,11 @@ columns_rise : (low : ℕ) (columns : List (ℕ × List ℕ)) → NumbersRise lo
 columns_rise low [] rise = tt
 columns_rise low (c ∷ cs) rise = (all_above (suc c.0) c cs (omega arith) rise.1, columns_rise (suc c.0) cs rise.1)
 
--- of two numbers one is below at most
+-- two column numbers are not each below the other
 one_below : (c d : ℕ × List ℕ) → c.0 < d.0 → d.0 < c.0 → ⊥
 one_below c d lt gt = omega arith
 
--- columns of the same numbers and bytes are equal
+-- columns are equal if each list holds what the other holds
 same_columns : (cs ds : List (ℕ × List ℕ)) → AreColumns widest cs → AreColumns widest ds
     → ((c : ℕ × List ℕ) → Contains cs c → Contains ds c) → ((c : ℕ × List ℕ) → Contains ds c → Contains cs c) → cs ≡ ds
 same_columns cs ds are_c are_d into from =
@@ -102,7 +102,7 @@ one_less Less Greater e lt gt = absurd cc
 one_less Equal b e lt gt = absurd cc
 one_less Greater b e lt gt = absurd cc
 
--- of two keys one is below at most
+-- two keys are not each below the other
 one_key_below : (p q : Pair) → IsBelow p.0 q.0 → IsBelow q.0 p.0 → ⊥
 one_key_below p q lt gt = one_less (slice_cmp nat_cmp p.0 q.0) (slice_cmp nat_cmp q.0 p.0) (nat_list_cmp_total.antisymm p.0 q.0) lt gt
 
@@ -112,7 +112,7 @@ not_below_itself a b e lt =
     let itself : IsBelow a a = subst (IsBelow a) (sym e) lt in
     one_less (slice_cmp nat_cmp a a) (slice_cmp nat_cmp a a) (nat_list_cmp_total.antisymm a a) itself itself
 
--- a key stands in one pair
+-- pairs of one list with the same key have the same columns
 one_pair : (pairs : List Pair) (p q : Pair) → KeysRise pairs → Contains pairs p → Contains pairs q → p.0 ≡ q.0 → p.1 ≡ q.1
 one_pair [] p q rise at here same = absurd (no_element p at)
 one_pair (r ∷ rs) p q rise at here same = elim (head_or_tail r p rs at) as (λ _. p.1 ≡ q.1) [
@@ -132,16 +132,16 @@ one_pair (r ∷ rs) p q rise at here same = elim (head_or_tail r p rs at) as (λ
 
 -- ---- walks
 
--- the first of columns, of which there is one
+-- columns that are not empty have a first one
 first_of_columns : (columns : List (ℕ × List ℕ)) → 0 < length columns → (c : ℕ × List ℕ) × Contains columns c
 first_of_columns [] some = absurd (omega arith)
 first_of_columns (c ∷ cs) some = (c, head_in c cs)
 
--- all that the second list holds the first holds
+-- the first list holds all that the second list holds
 abbrev Covers : List Pair → List Pair → Type 0
 Covers pairs others = (key : List ℕ) (number : ℕ) (bytes : List ℕ) → Holds others key number bytes → Holds pairs key number bytes
 
--- of maps that hold the same, each column under a key of the one is under that key of the other
+-- if the others hold all that the pairs hold, each column of a key among the pairs is a column of that key among the others
 column_too : (pairs others : List Pair) (p q : Pair) → KeysRise others → Covers others pairs → Contains pairs p → Contains others q
     → p.0 ≡ q.0 → (c : ℕ × List ℕ) → Contains p.1 c → Contains q.1 c
 column_too pairs others p q rise covers at here same c column =
@@ -149,7 +149,7 @@ column_too pairs others p q rise covers at here same c column =
     let columns : holds.0 ≡ q.1 = one_pair others (p.0, holds.0) q rise holds.1 here same in
     subst (λ (x : List (ℕ × List ℕ)). Contains x c) columns holds.2
 
--- of maps that hold the same, a pair of the one is a pair of the other
+-- if two maps hold the same, a pair of one is a pair of the other
 pair_too : (pairs others : List Pair) (p : Pair) → IsMap pairs → IsMap others → Covers others pairs → Covers pairs others
     → Contains pairs p → Contains others p
 pair_too pairs others p is_map is_other into from at =
@@ -168,7 +168,7 @@ same_maps pairs others is_map is_other into from =
     same_lists (λ (p q : Pair). IsBelow p.0 q.0) one_key_below pairs others (pairs_rise pairs is_map.0) (pairs_rise others is_other.0)
     (λ p at. pair_too pairs others p is_map is_other into from at) (λ p at. pair_too others pairs p is_other is_map from into at)
 
--- updates have one walk
+-- updates have at most one walk
 pub one_walk : (updates : List Update) (pairs others : List Pair) → IsWalk updates pairs → IsWalk updates others → pairs ≡ others
 one_walk updates pairs others is too = same_maps pairs others is.map too.map
     (λ key number bytes holds. (too.exact key number bytes).1 ((is.exact key number bytes).0 holds))

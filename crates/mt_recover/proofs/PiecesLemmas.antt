@@ -1,4 +1,4 @@
--- Pieces as a walk.
+-- Pieces that make a walk.
 use Rattle.std.proofs.Common.{◌≡◌, ◌∙◌, ◌++◌, ap, append_assoc, ℕ, List, [], ◌∷◌, map, refl, sym, subst}
 use Rattle.std.proofs.lemmas.List.{append-nil}
 use Rattle.mt_words.specs.declared.update.Update.{Update}
@@ -11,7 +11,7 @@ use Rattle.mt_replay.specs.Pieces.{IsPiece}
 
 -- ---- pieces
 
--- where nothing is cut, the one piece is the walk
+-- without cuts the one piece is the walk
 only_piece : (updates : List Update) (pairs : List Pair) → IsPiece updates [] 0 pairs → IsWalk updates pairs
 only_piece updates pairs is = record {
   map = is.map;
@@ -23,7 +23,7 @@ uncut_piece updates cuts pairs none is = only_piece updates pairs (subst (λ (ks
 
 -- ---- drafts in order
 
--- keys that rise through two lists are below each other
+-- if keys rise through two lists, those of the first list are below those of the second
 front_below : (v w : List Pair) → KeysRise (v ++ w) → AllKeysBelow v w
 front_below [] w rise = tt
 front_below (p ∷ v) w rise = (all_back (λ (q : Pair). IsBelow p.0 q.0) v w rise.0, front_below v w rise.1)
@@ -36,7 +36,7 @@ joined_more : {X : Type 0} (of : X → List Pair) (done rest : List X) → joine
 joined_more of [] rest = refl
 joined_more of (x ∷ xs) rest = ap (λ w. of x ++ w) (joined_more of xs rest) ∙ sym (append_assoc (of x) (joined (map of xs)) (joined (map of rest)))
 
--- what is joined so far lies below the next
+-- the pairs joined so far lie below those of the next draft
 pub next_above : {X : Type 0} (of : X → List Pair) (done left : List X) (x : X) (rest all : List X) (whole : List Pair) → done ++ left ≡ all → left ≡ x ∷ rest → whole ≡ joined (map of done)
     → KeysRise (joined (map of all)) → AllKeysBelow whole (of x)
 next_above of done left x rest all whole parts next is rise =
@@ -44,6 +44,6 @@ next_above of done left x rest all whole parts next is rise =
     let below = front_below (joined (map of done)) (of x ++ joined (map of rest)) (subst KeysRise split rise) in
     subst (λ w. AllKeysBelow w (of x)) (sym is) (below_front (joined (map of done)) (of x) (joined (map of rest)) below)
 
--- what is joined with the next
+-- the pairs joined so far, with those of the next draft, are the pairs of one draft more
 pub join_next : {X : Type 0} (of : X → List Pair) (done : List X) (x : X) (whole new : List Pair) → whole ≡ joined (map of done) → new ≡ whole ++ of x → new ≡ joined (map of (done ++ x ∷ []))
 join_next of done x whole new is more = more ∙ (λ i. is i ++ sym (append-nil (of x)) i) ∙ sym (joined_more of done (x ∷ []))

@@ -27,11 +27,11 @@ use Rattle.mt_recover.proofs.ReplayLemmas.{cells_of_both, early_of_both}
 use Rattle.mt_recover.proofs.ReportLemmas.{same_updates}
 use Rattle.mt_recover.proofs.SurvivorLemmas.{survivors_apart}
 
--- nothing at or past the cutoff lies in the window
+-- nothing at or after the cutoff lies in the window
 past_window : (window : Window) (cutoff time : ℕ) → window.cutoff ≡ cutoff → cutoff ≤ time → is_within window time ≡ false
 past_window window cutoff time is past = grind (arith, nat_tests)
 
--- and nothing comes early
+-- and nothing at or after the cutoff is early
 not_early : (begin cutoff time : ℕ) → begin ≤ cutoff → cutoff ≤ time → nat_lt time begin ≡ false
 not_early begin cutoff time in_order past = grind (arith, nat_tests)
 
@@ -41,7 +41,7 @@ same_survivors logs parts found is =
     let updates = same_updates (in_window found.window) is.facts.cutoff 0 found.scans.items is.facts.readings (λ u past. past_window found.window is.facts.cutoff u.timestamp (ap (λ (w : Window). w.cutoff) is.window) past) is.show in
     (λ i. updates i ++ entry_updates (is.chosen i)) ∙ (λ i. filter (in_window (is.window i)) (logged_updates is.facts.readings) ++ entry_updates is.facts.chosen)
 
--- and as many come early
+-- and the scans have as many early updates as their logs
 same_early : (logs parts : List (List ℕ)) (found : Found) (is : IsFoundOf logs parts found) → length (filter (is_early found.window.begin) (kept found.scans.items)) ≡ length (early_in is.facts)
 same_early logs parts found is =
     let begins = ap (λ (w : Window). w.begin) is.window in
@@ -49,13 +49,13 @@ same_early logs parts found is =
     λ u past. not_early found.window.begin is.facts.cutoff u.timestamp (omega (arith, begins, begins_below is.facts.known is.facts.cutoff is.facts.chosen is.facts.is_chosen)) past in
     ap length (same_updates (is_early found.window.begin) is.facts.cutoff 0 found.scans.items is.facts.readings none is.show ∙ ap (λ (begin : ℕ). filter (is_early begin) (logged_updates is.facts.readings)) begins)
 
--- updates in another order have stamps as much apart
+-- stamps that are apart stay apart if the updates are put in another order
 apart_moved : (updates moved : List Update) → IsPermutation updates moved → AreApart updates → AreApart moved
 apart_moved updates moved same apart a b at here =
     let from : (u : Update) → Contains moved u → Contains updates u = λ u at. Contains-permutation moved updates u (IsPermutation-sym updates moved same) at in
     apart a b (from a at) (from b here)
 
--- and have the same walk
+-- and the updates in another order have the same walk
 walk_moved : (updates moved : List Update) (pairs : List Pair) → IsPermutation updates moved → IsWalk moved pairs → IsWalk updates pairs
 walk_moved updates moved pairs same is =
     let into : (u : Update) → Contains updates u → Contains moved u = λ u at. Contains-permutation updates moved u same at in
@@ -84,15 +84,15 @@ module _ (logs parts : List (List ℕ)) (found : Found) (is : IsFoundOf logs par
   many : length moved ≡ length (survivors_in is.facts)
   many = length_permutation (survivors_in is.facts) moved updates_are
 
-  -- their stamps are apart
+  -- the stamps of the cells are apart
   pub are_apart : AreApart (joined (cells_of of_logs ++ of_parts))
   are_apart = apart_moved (survivors_in is.facts) moved updates_are (survivors_apart is.facts.known is.facts.cutoff is.facts.chosen (records_of is.facts.readings) is.facts.is_chosen)
 
-  -- the counts have room for them
+  -- the counts have room for the early updates and for the cells
   pub have_room : (counts : Counts) → AreCountsOf is.facts counts → HasRoomFor counts (early_of of_logs) (length (joined (cells_of of_logs ++ of_parts)))
   have_room counts are = rw (early_is, many) (room_for is.facts counts are)
 
-  -- and they are prepared of the logs and parts
+  -- and the cells are what is prepared from the logs and parts
   pub is_prepared : (counts : Counts) → AreCountsOf is.facts counts → IsPreparedOf logs parts (record { updates = joined (cells_of of_logs ++ of_parts); early = early_of of_logs; counts = counts })
   is_prepared counts are = record {
     facts = is.facts;
@@ -107,7 +107,7 @@ module _ (logs parts : List (List ℕ)) (found : Found) (is : IsFoundOf logs par
 pub count_is : (updates : List Update) (pairs : List Pair) (survivors keys : ℕ) → IsWalk updates pairs → survivors ≡ length updates → survivors < 2 ^ 128 → IsCount pairs keys → keys ≡ length pairs
 count_is updates pairs survivors keys walk same fits count = omega (arith, count, same, fits, walk_few updates pairs walk)
 
--- what is made of what was prepared is recovered
+-- what is made from what was prepared is the outcome of the logs and parts
 pub made_is : (logs parts : List (List ℕ)) (prepared : PreparedView) (outcome : Outcome) → IsPreparedOf logs parts prepared → IsMadeOf prepared outcome → IsRecoveredOf logs parts outcome
 made_is logs parts prepared outcome is made = record {
   store = record { facts = is.facts; no_gap = is.no_gap; walk = walk_moved (survivors_in is.facts) prepared.updates outcome.store is.updates made.walk };

@@ -23,7 +23,7 @@ use Rattle.mt_recover.specs.Prepared.{IsLeftBy, cells_of, early_of}
 use Rattle.mt_recover.specs.Report.{is_early}
 use Rattle.mt_recover.proofs.ReportLemmas.{length-filter_flat}
 
--- what a filter keeps was there
+-- an element that a filter keeps of a list is the head or is kept of the tail
 kept_head : {A : Type 0} (test : A → Bool) (b : Bool) (y x : A) (ys : List A) → Contains (cond b (y ∷ filter test ys) (filter test ys)) x → (y ≡ x) ⊎ Contains (filter test ys) x
 kept_head test true y x ys at = head_or_tail y x (filter test ys) at
 kept_head test false y x ys at = inr at
@@ -37,14 +37,14 @@ was_there test (y ∷ ys) x at = elim (kept_head test (test y) y x ys at) as (λ
 
 -- ---- cells
 
--- the updates of two lists of lists
+-- the updates of two lists of lists are those of the first and then those of the second
 joined_append : (lists others : List (List Update)) → joined (lists ++ others) ≡ joined lists ++ joined others
 joined_append [] others = refl
 joined_append (l ∷ ls) others = ap (λ (us : List Update). l ++ us) (joined_append ls others) ∙ sym (append_assoc l (joined ls) (joined others))
 
--- ---- what is done of each
+-- ---- what each job gave
 
--- what is done of jobs, where none ran out of memory
+-- if no job ran out of memory, P holds for the jobs and what they gave
 pub all_answered : {J X : Type 0} (P : J → X → Type 0) (jobs : List J) (answers : List (Result X Memory)) (done : List X) → AllZip (λ job answer. IfOk answer (P job)) jobs answers → answers ≡ map Ok done → AllZip P jobs done
 all_answered P [] answers [] all are = tt
 all_answered P [] [] (d ∷ ds) all are = absurd cc
@@ -56,7 +56,7 @@ all_answered P (j ∷ js) (a ∷ rest) (d ∷ ds) all are =
     let later : rest ≡ map Ok ds = cc in
     (subst (λ answer. IfOk answer (P j)) first all.0, all_answered P js rest ds all.1 later)
 
--- the cells of all scans
+-- the cells of all logs have the kept updates in the window
 cells_of_all : (window : Window) (scans : List LogScan) (logs : List LogSurvivors) → AllZip (IsLeftBy window) scans logs → IsPermutation (kept_in window scans) (joined (cells_of logs))
 cells_of_all window [] [] all = IsPermutation-refl []
 cells_of_all window [] (l ∷ ls) all = absurd all
@@ -66,7 +66,7 @@ cells_of_all window (s ∷ ss) (l ∷ ls) all =
     (subst (λ (us : List Update). IsPermutation us (joined l.cells.items ++ joined (cells_of ls))) (sym (filter-append (in_window window) (kept_by s) (kept ss)))
     (IsPermutation-append (filter (in_window window) (kept_by s)) (joined l.cells.items) (kept_in window ss) (joined (cells_of ls)) all.0.cells (cells_of_all window ss ls all.1)))
 
--- the early updates of all scans
+-- the early updates of all logs are counted scan by scan
 early_of_all : (window : Window) (scans : List LogScan) (logs : List LogSurvivors) → AllZip (IsLeftBy window) scans logs
     → early_of logs ≡ sum_by (λ scan. length (filter (is_early window.begin) (kept_by scan))) scans
 early_of_all window [] [] all = refl
@@ -80,18 +80,18 @@ early_of_all window (s ∷ ss) (l ∷ ls) all = omega (
   early_of_all window ss ls all.1,
 )
 
--- what survives of logs and of the chosen checkpoint
+-- the cells of logs and parts have what survives of the logs and of the chosen checkpoint
 pub cells_of_both : (window : Window) (scans : List LogScan) (logs : List LogSurvivors) (entries : List Update) (parts : List (List Update)) → AllZip (IsLeftBy window) scans logs → IsPermutation entries (joined parts)
     → IsPermutation (kept_in window scans ++ entries) (joined (cells_of logs ++ parts))
 cells_of_both window scans logs entries parts of_logs of_parts =
     let cells = cells_of logs in
     subst (IsPermutation (kept_in window scans ++ entries)) (sym (joined_append cells parts)) (IsPermutation-append (kept_in window scans) (joined cells) entries (joined parts) (cells_of_all window scans logs of_logs) of_parts)
 
--- and how many updates come early
+-- and the count of early updates is that of all scans
 pub early_of_both : (window : Window) (scans : List LogScan) (logs : List LogSurvivors) → AllZip (IsLeftBy window) scans logs → early_of logs ≡ length (filter (is_early window.begin) (kept scans))
 early_of_both window scans logs of_logs = early_of_all window scans logs of_logs ∙ sym (length-filter_flat (is_early window.begin) kept_by scans)
 
--- the cells of all parts
+-- the cells of all parts have the updates of all entries
 pub cells_of_all_parts : (parts : List KeptPart) (lists : List (List Update)) → AllZip (λ part cells. IsPermutation (wholes part.entries) cells) parts lists
     → IsPermutation (wholes (entries_of (shown_by_all parts))) (joined lists)
 cells_of_all_parts [] [] all = IsPermutation-refl []

@@ -56,11 +56,11 @@ entries_counted parts =
 
 -- ---- early updates
 
--- how many updates of the first records are early
+-- the number of early updates among the first records
 abbrev pub early_of_first : ℕ → Kept → ℕ → ℕ
 early_of_first begin kept count = length (filter (is_early begin) (updates_from kept.log 0 (take count kept.records)))
 
--- those of one record more
+-- one record more adds its early updates
 pub early_step : (begin : ℕ) (kept : Kept) (i : ℕ) (more : List Update) → i < length kept.records → ((d : Logged) → more ≡ update_of kept.log i (get_or kept.records i d))
     → early_of_first begin kept (i + 1) ≡ early_of_first begin kept i + length (filter (is_early begin) more)
 early_step begin kept i more below is =
@@ -75,7 +75,7 @@ early_step begin kept i more below is =
 abbrev pub one_if : Bool → ℕ
 one_if test = cond test 1 0
 
--- one update counts where it is early
+-- one update counts 1 if the test holds, and else 0
 counted : (u : Update) (b : Bool) → length (cond b (u ∷ []) []) ≡ one_if (b || false)
 counted u true = refl
 counted u false = refl
@@ -84,7 +84,7 @@ pub early_one : (begin : ℕ) (update : Option Update) → length (filter (is_ea
 early_one begin None = refl
 early_one begin (Some u) = counted u (is_early begin u)
 
--- nothing lies below 0
+-- no timestamp is below 0
 not_below : (time begin : ℕ) → begin ≡ 0 → nat_lt time begin ≡ false
 not_below time begin zero = grind (arith, nat_tests)
 
@@ -97,7 +97,7 @@ none_early begin updates zero = ap length (filter_none (is_early begin) updates 
 pub as_many : (logs : List (List ℕ)) (scans : List LogScan) (readings : List LogReading) → AreReadings logs readings → HaveNumbersOf scans readings → length scans ≡ length logs
 as_many logs scans readings read numbers = sym (AllZip-long HasNumbersOf scans readings numbers) ∙ AllZip-long IsReading logs readings read
 
--- a number of each scan that is one of its log
+-- if a number of each scan is one of its log, the sums over all are equal
 same_sums : (of_scan : LogScan → ℕ) (of_log : LogReading → ℕ) → ((scan : LogScan) (log : LogReading) → HasNumbersOf scan log → of_scan scan ≡ of_log log)
     → (scans : List LogScan) (readings : List LogReading) → HaveNumbersOf scans readings → sum_by of_scan scans ≡ sum_by of_log readings
 same_sums of_scan of_log same [] [] numbers = refl
@@ -123,14 +123,14 @@ torn_counted scans readings numbers =
     same_sums (λ (scan : LogScan). one_if scan.torn) (λ (log : LogReading). one_if log.torn) (λ s l is. ap one_if is.torn) scans readings numbers
     ∙ sym (length-filter (λ (log : LogReading). log.torn) readings)
 
--- the numbers of scans that show their logs are those of the logs
+-- scans that show their logs have the numbers of the logs
 pub numbers_of : (limit number : ℕ) (scans : List LogScan) (readings : List LogReading) → ShowAll limit number scans readings → HaveNumbersOf scans readings
 numbers_of limit number [] [] show = tt
 numbers_of limit number [] (l ∷ ls) show = absurd show
 numbers_of limit number (s ∷ ss) [] show = absurd show
 numbers_of limit number (s ∷ ss) (l ∷ ls) show = (show.0.numbers, numbers_of limit (suc number) ss ls show.1)
 
--- a filter that keeps nothing at or past the limit keeps the same of what the scans kept and of the updates of the logs
+-- a filter that keeps nothing at or after the limit keeps the same updates of the scans as of their logs
 pub same_updates : (keeps : Update → Bool) (limit number : ℕ) (scans : List LogScan) (readings : List LogReading) → ((update : Update) → limit ≤ update.timestamp → keeps update ≡ false) → ShowAll limit number scans readings
     → filter keeps (kept scans) ≡ filter keeps (all_updates number (records_of readings))
 same_updates keeps limit number [] [] none show = refl
@@ -141,7 +141,7 @@ same_updates keeps limit number (s ∷ ss) (l ∷ ls) none show =
     ∙ (λ i. same_kept keeps number limit s l none show.0 i ++ same_updates keeps limit (suc number) ss ls none show.1 i)
     ∙ sym (filter-append keeps (updates_from number 0 l.records) (all_updates (suc number) (records_of ls)))
 
--- a checkpoint in memory has the number of what it shows
+-- a checkpoint in memory has the number of the checkpoint that it shows
 pub same_number : (chosen : Option Checkpoint) → option_map (λ (checkpoint : Checkpoint). checkpoint.number) chosen ≡ option_map (λ (checkpoint : CheckpointReading). checkpoint.number) (option_map checkpoint_in chosen)
 same_number None = refl
 same_number (Some checkpoint) = refl

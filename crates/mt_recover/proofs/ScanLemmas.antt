@@ -1,4 +1,4 @@
--- Sources as one list of jobs, and what their scans answer.
+-- Sources as one list of jobs, and the answers of their scans.
 use Rattle.std.proofs.Common.{◌≡◌, ◌∙◌, ℕ, zero, suc, ◌+◌, ◌<◌, ◌≤◌, min, List, [], ◌∷◌, ◌++◌, length, get_or, map, take, Bor, Option, Some, None, Ok, Err, refl, sym, ap, subst, add-one, add-zero, arith}
 use Rattle.std.specs.Prelude.{Result, IfOk, IfErr, OnErr, IsTrue}
 use Rattle.std.specs.Option.{option_to_list}
@@ -44,16 +44,16 @@ numbered-more kind number (s ∷ ss) source =
     ap (λ js. record { kind = kind; number = number; source = s } ∷ js)
     (numbered-more kind (suc number) ss source ∙ ap (λ (k : ℕ). numbered kind (suc number) ss ++ record { kind = kind; number = k; source = source } ∷ []) next)
 
--- the next job
+-- the job of one more source has the next number
 pub next_job : {S : Type 0} (kind : Kind) (jobs new : List (ScanJob S)) (sources : List S) (source : S) (number : ℕ) → jobs ≡ numbered kind 0 sources → number ≡ length jobs
     → new ≡ jobs ++ record { kind = kind; number = number; source = source } ∷ [] → new ≡ numbered kind 0 (sources ++ source ∷ [])
 next_job kind jobs new sources source number are at pushed =
     let place : number ≡ 0 + length sources = omega (arith, at, ap length are, length-numbered kind 0 sources) in
     pushed ∙ (λ i. are i ++ record { kind = kind; number = place i; source = source } ∷ []) ∙ sym (numbered-more kind 0 sources source)
 
--- ---- what the scans of jobs answer, told apart
+-- ---- the answers of scans, separated into those of logs and of parts
 
--- what one more answer tells
+-- one more answer is appended to those of its kind
 pub next_told : {X : Type 0} (tells : Scanned → Option X) (answers : List Scanned) (answer : Scanned) (told new : List X) → told ≡ filter_map tells answers → new ≡ told ++ option_to_list (tells answer) → new ≡ filter_map tells (answers ++ answer ∷ [])
 next_told {X} tells answers answer told new are pushed =
     pushed ∙ (λ i. are i ++ option_to_list (tells answer)) ∙ ap (λ l. filter_map tells answers ++ l) (one (tells answer)) ∙ sym (filter_map-append tells answers (answer ∷ []))
@@ -62,7 +62,7 @@ next_told {X} tells answers answer told new are pushed =
     one None = refl
     one (Some x) = refl
 
--- the answers of parts, from this part on
+-- the answers of parts, numbered from this part on
 part_answers : {S : Type 0} (seen : S → Seen) (limit log part : ℕ) (parts : List S) (answers : List Scanned) → AllZip (IsScanned seen limit) (part_jobs part parts) answers
     → AllFrom (IsLogOutcome limit) log [] (logs_in answers) × AllFrom IsPartOutcome part (map seen parts) (parts_in answers)
 part_answers seen limit log part [] [] zip = (tt, tt)
@@ -73,7 +73,7 @@ part_answers seen limit log part (p ∷ ps) (scanned.Part outcome ∷ rest) zip 
     let later = part_answers seen limit log (suc part) ps rest zip.1 in
     (later.0, (zip.0, later.1))
 
--- those of logs, from this log on, and then of all parts
+-- the answers of logs, numbered from this log on, and then of all parts
 all_answers : {S : Type 0} (seen : S → Seen) (limit log : ℕ) (logs parts : List S) (answers : List Scanned) → AllZip (IsScanned seen limit) (log_jobs log logs ++ part_jobs 0 parts) answers
     → AllFrom (IsLogOutcome limit) log (map seen logs) (logs_in answers) × AllFrom IsPartOutcome 0 (map seen parts) (parts_in answers)
 all_answers seen limit log [] parts answers zip = part_answers seen limit log 0 parts answers zip
@@ -83,7 +83,7 @@ all_answers seen limit log (l ∷ ls) parts (scanned.Log outcome ∷ rest) zip =
     let later = all_answers seen limit (suc log) ls parts rest zip.1 in
     ((zip.0, later.0), later.1)
 
--- the outcomes of logs and parts
+-- the answers of all jobs are the outcomes of logs and parts
 outcomes_of : {S : Type 0} (seen : S → Seen) (logs parts : List S) (jobs : List (ScanJob S)) (answers : List Scanned) (outcomes : Outcomes) → jobs ≡ log_jobs 0 logs ++ part_jobs 0 (read_parts logs parts)
     → AllZip (IsScanned seen (least_of (lasts (logs_in answers)))) jobs answers → outcomes.logs.items ≡ logs_in answers → outcomes.parts.items ≡ parts_in answers → AreOutcomes (map seen logs) (map seen parts) outcomes
 outcomes_of {S} seen logs parts jobs answers outcomes same zip logs_are parts_are =
@@ -97,7 +97,7 @@ outcomes_of {S} seen logs parts jobs answers outcomes same zip logs_are parts_ar
 
 -- ---- scans that share a board
 
--- a lower limit
+-- an answer that dropped nothing below a limit dropped nothing below a lower limit
 pub scanned_lower : {S : Type 0} (seen : S → Seen) (limit lower : ℕ) (job : ScanJob S) (answer : Scanned) → lower ≤ limit → IsScanned seen limit job answer → IsScanned seen lower job answer
 scanned_lower seen limit lower job answer le is = by job.kind answer is
   where
@@ -160,9 +160,9 @@ scanned_next seen jobs job answers answer before middle after was is =
           (zip_says (IsScanned seen (least_of after.looks)) (IsScanned seen (least_of middle.looks)) jobs answers (λ j a at. scanned_lower seen (least_of middle.looks) (least_of after.looks) j a is.falls at) was.answered) is.answered.0;
     }
 
--- ---- passes that are given out
+-- ---- fresh passes
 
--- those of a new board
+-- the passes of a new board are fresh
 passes_fresh : (board : BoardId) (n : ℕ) → All (IsFresh board) (fresh_passes board n)
 passes_fresh board zero = All-nil (IsFresh board)
 passes_fresh board (suc n) = All-push (IsFresh board) (fresh_passes board n) (fresh_pass board n) (passes_fresh board n) refl
@@ -174,7 +174,7 @@ shares_fresh {S} board n shares passes are fresh = by shares (subst (All (IsFres
     by [] all = All-nil (λ (share : Share S). IsFresh board share.pass)
     by (s ∷ ss) all = All-cons (λ (share : Share S). IsFresh board share.pass) s ss (All-head (IsFresh board) s.pass (map (λ share. share.pass) ss) all) (by ss (All-tail (IsFresh board) s.pass (map (λ share. share.pass) ss) all))
 
--- a list of what is made of elements in two steps
+-- mapping in two steps is mapping by both at once
 pub in_two_steps : {A B C : Type 0} (f : A → B) (h : B → C) (xs : List A) (ys : List B) → map f xs ≡ ys → map (λ x. h (f x)) xs ≡ map h ys
 in_two_steps {A} {B} {C} f h xs ys are = by xs ∙ ap (map h) are
   where
@@ -184,11 +184,11 @@ in_two_steps {A} {B} {C} f h xs ys are = by xs ∙ ap (map h) are
 
 -- ---- the scans of all workers
 
--- the last timestamps of the logs that were scanned whole
+-- the last timestamps of the logs whose scan is Ok
 abbrev lasts_in : List Scanned → List ℕ
 lasts_in answers = lasts (logs_in answers)
 
--- the least of them
+-- the least of these timestamps
 abbrev least_in : List Scanned → ℕ
 least_in answers = least_of (lasts_in answers)
 
@@ -197,7 +197,7 @@ least_first (scanned.Part outcome) answers = omega (arith, least_small (lasts_in
 least_first (scanned.Log (Err fault)) answers = omega (arith, least_small (lasts_in answers))
 least_first (scanned.Log (Ok scan)) answers = omega (arith, least_small (lasts_in answers))
 
--- that of answers that are dealt is the least of all shares
+-- the least timestamp of dealt answers is the least of the shares' least timestamps
 least_dealt : (answers : List Scanned) (parts : List (List Scanned)) → AreDealt answers parts → least_in answers ≡ least_of (map least_in parts)
 least_dealt [] parts dealt = none parts dealt
   where
@@ -219,7 +219,7 @@ least_dealt (a ∷ later) ((x ∷ xs) ∷ ps) dealt =
       least_small (lasts_in xs),
     )
 
--- where passes noted no other numbers, theirs is the least
+-- if fresh passes noted only the timestamps of their own answers, the least number noted is the least of them all
 least_of_all : {S : Type 0} (seen : S → Seen) (board : BoardId) (shares : List (Share S)) (all : List Scans) → All (λ share. IsFresh board share.pass) shares
     → AllZip (λ share scans. HasScanned seen share.jobs.items (answers_of scans) share.pass scans.pass) shares all → least_noted (passes_of all) ≡ least_of (map least_in (map answers_of all))
 least_of_all seen board [] [] fresh zip = refl
@@ -235,7 +235,7 @@ least_of_all {S} seen board (s ∷ ss) (x ∷ xs) fresh zip =
       least_of_all seen board ss xs (All-tail P s ss fresh) zip.1,
     )
 
--- what no pass saw below is the limit of all scans
+-- if no pass saw a number below the limit, no scan dropped an update below it
 all_above : {S : Type 0} (seen : S → Seen) (limit : ℕ) (shares : List (Share S)) (all : List Scans) → limit ≤ nothing_noted → SawNoneBelow limit (passes_of all)
     → AllZip (λ share scans. HasScanned seen share.jobs.items (answers_of scans) share.pass scans.pass) shares all → AllZip (AllZip (IsScanned seen limit)) (map (λ share. share.jobs.items) shares) (map answers_of all)
 all_above seen limit [] [] small saw zip = tt
@@ -248,7 +248,7 @@ all_above seen limit (s ∷ ss) (x ∷ xs) small saw zip =
       all_above seen limit ss xs small (All-tail P x.pass (passes_of xs) saw) zip.1,
     )
 
--- what was gathered of all workers
+-- the answers gathered from all workers are the outcomes of logs and parts
 pub outcomes_gathered : {S : Type 0} (seen : S → Seen) (logs parts : List S) (jobs : List (ScanJob S)) (shares : List (Share S)) (all : List Scans) (board : BoardId) (outcomes : Outcomes)
     → jobs ≡ log_jobs 0 logs ++ part_jobs 0 (read_parts logs parts) → AreDealt jobs (map (λ share. share.jobs.items) shares) → All (λ share. IsFresh board share.pass) shares → board.passes ≡ length shares
     → AllZip (λ share scans. HasScanned seen share.jobs.items (answers_of scans) share.pass scans.pass) shares all → AreGathered board all outcomes → AreOutcomes (map seen logs) (map seen parts) outcomes
@@ -260,7 +260,7 @@ outcomes_gathered seen logs parts jobs shares all board outcomes same dealt fres
     let limit : least ≡ least_in answered.0 = least_of_all seen board shares all fresh zip ∙ sym (least_dealt answered.0 (map answers_of all) answered.2) in
     outcomes_of seen logs parts jobs answered.0 outcomes same (subst (λ (n : ℕ). AllZip (IsScanned seen n) jobs answered.0) limit answered.1) (gathered.logs answered.0 answered.2) (gathered.parts answered.0 answered.2)
 
--- the boards of passes that were fresh
+-- passes that were fresh are still passes of their board
 pub boards_are : {S : Type 0} (seen : S → Seen) (board : BoardId) (shares : List (Share S)) (all : List Scans) → All (λ share. IsFresh board share.pass) shares
     → AllZip (λ share scans. HasScanned seen share.jobs.items (answers_of scans) share.pass scans.pass) shares all → All (λ scans. scans.pass.board ≡ board) all
 boards_are seen board [] [] fresh zip = All-nil (λ (x : Scans). x.pass.board ≡ board)
@@ -272,7 +272,7 @@ boards_are {S} seen board (s ∷ ss) (x ∷ xs) fresh zip =
 
 -- ---- logs in memory
 
--- a verdict on bytes is a fault of their scan, and no source failed
+-- the verdict on bytes in memory is a fault of their scan, and no source failed
 fault_in_memory : (log : ℕ) (bytes : List ℕ) (fault : FeedFault) → IsAnswered bytes fault → IsScanFault log bytes (fault_at log fault) × (failures_of {X = LogScan} (Err (fault_at log fault)) ≡ 0)
 fault_in_memory log bytes of_log.Memory is = (tt, refl)
 fault_in_memory log bytes of_log.Header is = ((refl, is (λ same. cc)), refl)
@@ -284,7 +284,7 @@ outcome_in_memory limit log bytes (Err fault) is fails =
     let both = fault_in_memory log bytes fails.of_bytes fails.answered in
     rw fails.is (record { scan = tt; fault = (bytes, refl, both.0); steady = λ _. both.1 })
 
--- one more
+-- one more item in each list
 all_from_push : {A B : Type 0} (R : ℕ → A → B → Type 0) (number : ℕ) (xs : List A) (ys : List B) (x : A) (y : B) → AllFrom R number xs ys → R (number + length ys) x y → AllFrom R number (xs ++ x ∷ []) (ys ++ y ∷ [])
 all_from_push R number [] [] x y all one = (rw add-zero at one, tt)
 all_from_push R number [] (b ∷ bs) x y all one = absurd all

@@ -12,13 +12,13 @@ use Rattle.mt_recover.specs.Sharing.{AreDealt}
 
 -- ---- dealing
 
--- no job, to shares that are made without any
+-- no job is dealt to shares that are made empty
 pub none_dealt : {J X F : Type 0} (f : X → List J) (step : F → X → F → Type 0) (from to : F) (shares : List X) → ((p q : F) (share : X) → step p share q → f share ≡ []) → FoldsTo step from shares to
     → AreDealt [] (map f shares)
 none_dealt f step from to [] empty made = tt
 none_dealt f step from to (s ∷ ss) empty made = (empty from made.0 s made.1, none_dealt f step made.0 to ss empty made.2)
 
--- one more job, before those that are dealt
+-- one more job is dealt in front of those that are dealt
 pub dealt_more : {J X : Type 0} (f : X → List J) (job : J) (last : List J) (front back shares turned : List X) (old new : X) → shares ≡ front ++ back → length back ≡ 1 → turned ≡ back ++ front
     → old ≡ slice_index_or turned 0 old → f new ≡ job ∷ f old → AreDealt last (map f shares) → AreDealt (job ∷ last) (map f (slice_set turned 0 new))
 dealt_more f job last front [] shares turned old new are one turn at is dealt = absurd (omega (arith, one))
@@ -27,7 +27,7 @@ dealt_more f job last front (b ∷ []) shares turned old new are one turn at is 
     let own : f new ≡ job ∷ f b = is ∙ ap (λ x. job ∷ f x) (at ∙ ap (λ l. slice_index_or l 0 old) turn) in
     rw (turn, own) (refl, subst (AreDealt last) (ap (map f) are ∙ map-append f front (b ∷ [])) dealt)
 
--- what holds of all jobs holds of those of each share
+-- what holds for all jobs holds for the jobs of each share
 pub dealt_each : {J : Type 0} (P : J → Type 0) (jobs : List J) (shares : List (List J)) → AreDealt jobs shares → All P jobs → All (All P) shares
 dealt_each P [] [] dealt all = All-nil (All P)
 dealt_each P [] (s ∷ ss) dealt all = All-cons (All P) s ss (subst (All P) (sym dealt.0) (All-nil P)) (dealt_each P [] ss dealt.1 all)
@@ -69,26 +69,26 @@ next_gathered f (r ∷ rs) (p ∷ ps) old new answer some at is dealt =
     let both : AreDealt (r ∷ rs) ((answer ∷ f new) ∷ map f ps) = subst (λ share. AreDealt (r ∷ rs) (share ∷ map f ps)) own dealt in
     (rs, ap (λ x. x ∷ rs) (sym both.0), rw (take-append_seam [] ps) (subst (AreDealt rs) (sym (map-append f ps (new ∷ []))) both.1))
 
--- where the next share is empty, none is left
+-- if the next share is empty, no answer is left
 pub none_left : {X Y : Type 0} (f : Y → List X) (rest : List X) (parts : List Y) (old : Y) → 0 < length parts → old ≡ slice_index_or parts 0 old → length (f old) ≡ 0 → AreDealt rest (map f parts) → rest ≡ []
 none_left f [] parts old some at empty dealt = refl
 none_left f (r ∷ rs) [] old some at empty dealt = absurd dealt
 none_left f (r ∷ rs) (p ∷ ps) old some at empty dealt =
     absurd (subst (λ share. AreDealt (r ∷ rs) (share ∷ map f ps)) (ap f (sym at) ∙ nil_from_length (f old) empty) dealt)
 
--- ---- lists that are gone through
+-- ---- lists that are walked through
 
--- what was gone through is all, where nothing is left
+-- if nothing is left, what was walked through is the complete list
 pub all_yielded : {A : Type 0} (all yielded left : List A) → yielded ++ left ≡ all → length left ≡ 0 → yielded ≡ all
 all_yielded all yielded left whole end = sym (append-nil yielded) ∙ ap (λ l. yielded ++ l) (sym (nil_from_length left end)) ∙ whole
 
--- one more answer that is there
+-- one more answer that is Ok
 pub done_more : {X E : Type 0} (answers : List (Result X E)) (done after : List X) (answer : Result X E) (one : X) → answers ≡ map Ok done → answer ≡ Ok one → after ≡ done ++ one ∷ [] → answers ++ answer ∷ [] ≡ map Ok after
 done_more answers done after answer one are is pushed = ap (λ l. l ++ answer ∷ []) are ∙ ap (λ a. map Ok done ++ a ∷ []) is ∙ sym (map-append Ok done (one ∷ [])) ∙ ap (map Ok) (sym pushed)
 
 -- ---- all shares
 
--- what each call answers, for all of them
+-- if each call gives R, R holds for all jobs and their answers
 pub zip_of_jobs : {A B F : Type 0} (R : A → B → Type 0) (g : Shared F (A × Unit {0}) B) (f : F) (xs : List A) (ys : List B) → length ys ≡ length xs → GivesJobs g f xs ys → ((x : A) (y : B) → g.post f (x, tt) y → R x y) → AllZip R xs ys
 zip_of_jobs {A} {B} R g f xs ys long gives each = zip_by_index R xs ys long (λ i x y lt p q.
     let given = (gives i y lt).1 in
@@ -103,7 +103,7 @@ zip_of_jobs {A} {B} R g f xs ys long gives each = zip_by_index R xs ys long (λ 
     zip_by_index R (x ∷ xs) (y ∷ ys) long each =
         (each 0 x y (omega arith) refl refl, zip_by_index R xs ys (omega (arith, long)) (λ i a b lt p q. each (suc i) a b (omega (arith, lt)) p q))
 
--- the answers of shares that are all done
+-- if all shares are done, their answers fit their jobs
 pub shares_done : {S Y J X E : Type 0} (R : J → X → Type 0) (f : S → List J) (h : Y → List X) (shares : List S) (parts : List (Result Y E)) (done : List Y) → AllZip (λ share part. IfOk part (λ answers. AllZip R (f share) (h answers))) shares parts
     → parts ≡ map Ok done → AllZip (AllZip R) (map f shares) (map h done)
 shares_done {S} {Y} {J} {X} {E} R f h shares parts done zip are = by shares done (subst (AllZip Q shares) are zip)
@@ -119,7 +119,7 @@ shares_done {S} {Y} {J} {X} {E} R f h shares parts done zip are = by shares done
 
 -- ---- answers
 
--- what the answers say
+-- if Q implies R, answers for which Q holds are answers for which R holds
 pub zip_says : {J X : Type 0} (R Q : J → X → Type 0) (jobs : List J) (answers : List X) → ((job : J) (answer : X) → Q job answer → R job answer) → AllZip Q jobs answers → AllZip R jobs answers
 zip_says R Q [] [] says zip = tt
 zip_says R Q [] (x ∷ xs) says zip = absurd zip

@@ -1,4 +1,4 @@
--- From what scans answer to the logs and parts that their sources may have.
+-- From the answers of scans to the logs and parts that their sources may have.
 use Rattle.std.proofs.Common.{◌≡◌, ◌∙◌, ◌⊎◌, inl, inr, ℕ, zero, suc, ◌+◌, ◌<◌, Bool, true, false, IsTrue, List, [], ◌∷◌, ◌++◌, length, map, take, Option, Some, None, Ok, Err, refl, sym, ap, subst, add-zero, arith}
 use Rattle.std.specs.Prelude.{slice_get, Result, IsSomeAnd}
 use Rattle.std.specs.Option.{option_map}
@@ -34,16 +34,16 @@ some_logs (s ∷ ss) =
     let rest = some_logs ss in
     (here.0 ∷ rest.0, (here.1, rest.1))
 
--- what sources may have, behind what others may have
+-- what sources may have, followed by what others may have
 may_append : (sources others : List Seen) (logs more : List (List ℕ)) → MayHave (λ seen. seen) sources logs → MayHave (λ seen. seen) others more → MayHave (λ seen. seen) (sources ++ others) (logs ++ more)
 may_append [] others [] more may too = too
 may_append [] others (l ∷ ls) more may too = absurd may
 may_append (s ∷ ss) others [] more may too = absurd may
 may_append (s ∷ ss) others (l ∷ ls) more may too = (may.0, may_append ss others ls more may.1 too)
 
--- ---- whole logs, and parts that were scanned
+-- ---- logs and parts whose scans are Ok
 
--- logs that the sources may have, and what the scans show of them, where the first is of this number
+-- logs that the sources may have, numbered from this number on, and what the scans show of them
 pub record AreWhole (limit number : ℕ) (sources : List Seen) (scans : List LogScan) : Type 0 where
   pub logs : List (List ℕ)
   pub readings : List LogReading
@@ -81,7 +81,7 @@ known_parts number (s ∷ ss) (x ∷ xs) all =
 
 -- ---- the first fault
 
--- the source of an outcome, and those before it
+-- the source of an outcome, and the sources before it
 record IsSplit {A B : Type 0} (R : ℕ → A → B → Type 0) (number : ℕ) (xs : List A) (before : List B) (y : B) : Type 0 where
   front : List A
   x : A
@@ -109,7 +109,7 @@ not_steady : (steady : Bool) → (IsTrue steady → suc zero ≡ zero) → stead
 not_steady true h = absurd (omega (arith, h refl))
 not_steady false h = refl
 
--- the fault of a log behind whole logs
+-- the fault of a log that comes after logs with readings
 fault_of_log : (logs rest parts : List (List ℕ)) (readings : List LogReading) (bytes : List ℕ) (fault : Fault) → AreReadings logs readings → IsScanFault (length logs) bytes fault → IsAnsweredFrom (logs ++ bytes ∷ rest) parts fault
 fault_of_log logs rest parts readings bytes fault read is = by fault is
   where
@@ -130,14 +130,14 @@ fault_of_log logs rest parts readings bytes fault read is = by fault is
     by faults.Memory is = λ other. absurd (other refl)
     by fault is = absurd is
 
--- the source of a log that is blamed
+-- if the fault blames the source of a log, that source is not steady
 blames_log : (front back parts : List Seen) (source : Seen) (bytes : List ℕ) (fault : Fault) → IsScanFault (length front) bytes fault → (IsTrue source.steady → failures_of {X = LogScan} (Err fault) ≡ 0)
     → BlamesUnsteady (λ seen. seen) (front ++ source ∷ back) parts fault
 blames_log front back parts source bytes (faults.Source log) is steady = rw (is, behind_front front source back) (not_steady source.steady steady)
 blames_log front back parts source bytes (faults.PartSource part) is steady = absurd is
 blames_log front back parts source bytes fault is steady = tt
 
--- the least log that has a fault
+-- recovery may return the fault of the least log that has one
 pub log_refused : (limit : ℕ) (sources parts : List Seen) (outcomes : List (Result LogScan Fault)) (fault : Fault) → AllFrom (IsLogOutcome limit) 0 sources outcomes → IsFirstErr outcomes fault → IsAnsweredBy (λ seen. seen) sources parts fault
 log_refused limit sources parts outcomes fault all first =
     let at = split (IsLogOutcome limit) 0 sources (map Ok first.done) (Err fault) first.rest (subst (AllFrom (IsLogOutcome limit) 0 sources) first.stands all) in
@@ -158,20 +158,20 @@ log_refused limit sources parts outcomes fault all first =
       blames_log at.front at.back parts at.x own.0 fault (subst (λ (n : ℕ). IsScanFault n own.0 fault) place own.2) at.holds.steady,
     )
 
--- the fault of a part, where there are logs and none has a fault
+-- the fault of a part, if there are logs and none has a fault
 fault_of_part : (logs parts : List (List ℕ)) (readings : List LogReading) (part : ℕ) (fault : Fault) → 0 < length logs → AreReadings logs readings → IsPartScanFault part fault → IsAnsweredFrom logs parts fault
 fault_of_part logs parts readings part (faults.PartSource i) some read is = (some, (readings, read))
 fault_of_part logs parts readings part faults.Memory some read is = λ other. absurd (other refl)
 fault_of_part logs parts readings part fault some read is = absurd is
 
--- the source of a part that is blamed
+-- if the fault blames the source of a part, that source is not steady
 blames_part : (logs front back : List Seen) (source : Seen) (fault : Fault) → IsPartScanFault (length front) fault → (IsTrue source.steady → failures_of {X = PartScan} (Err fault) ≡ 0)
     → BlamesUnsteady (λ seen. seen) logs (front ++ source ∷ back) fault
 blames_part logs front back source (faults.PartSource part) is steady = rw (is, behind_front front source back) (not_steady source.steady steady)
 blames_part logs front back source faults.Memory is steady = tt
 blames_part logs front back source fault is steady = absurd is
 
--- the least part whose source failed
+-- recovery may return the fault of the least part whose source failed
 pub part_refused : (limit : ℕ) (sources parts : List Seen) (scans : List LogScan) (outcomes : List (Result PartScan Fault)) (fault : Fault) → AllFrom (IsLogOutcome limit) 0 sources (map Ok scans) → AllFrom IsPartOutcome 0 (read_parts sources parts) outcomes
     → IsFirstErr outcomes fault → IsAnsweredBy (λ seen. seen) sources parts fault
 part_refused limit [] parts scans outcomes fault logs all first = absurd (no_outcome (map Ok first.done) (subst (AllFrom IsPartOutcome 0 []) first.stands all))
@@ -194,20 +194,20 @@ part_refused limit (s ∷ ss) parts scans outcomes fault logs all first =
       subst (λ (l : List Seen). BlamesUnsteady (λ seen. seen) (s ∷ ss) l fault) (sym at.are) (blames_part (s ∷ ss) at.front at.back at.x fault (subst (λ (n : ℕ). IsPartScanFault n fault) place at.holds.fault) at.holds.steady),
     )
 
--- there is no log
+-- recovery may return `NoLogs` if there is no log
 pub none_refused : (limit : ℕ) (sources parts : List Seen) (scans : List LogScan) → AllFrom (IsLogOutcome limit) 0 sources (map Ok scans) → scans ≡ [] → IsAnsweredBy (λ seen. seen) sources parts faults.NoLogs
 none_refused limit [] parts scans all none = let ps = some_logs parts in (record { logs = []; parts = ps.0; logs_may = tt; parts_may = ps.1; holds = λ other. refl }, tt)
 none_refused limit (s ∷ ss) parts [] all none = absurd all
 none_refused limit (s ∷ ss) parts (x ∷ xs) all none = absurd cc
 
--- memory was refused
+-- recovery may return `Memory`
 pub memory_refused : (sources parts : List Seen) (fault : Fault) → fault ≡ faults.Memory → IsAnsweredBy (λ seen. seen) sources parts fault
 memory_refused sources parts fault is =
     let ls = some_logs sources in
     let ps = some_logs parts in
     rw is (record { logs = ls.0; parts = ps.0; logs_may = ls.1; parts_may = ps.1; holds = λ other. absurd (other refl) }, tt)
 
--- what is answered, or that memory was refused
+-- recovery may return this fault, or `Memory`
 pub or_memory : (sources parts : List Seen) (fault : Fault) {P : Type 0} → (P → IsAnsweredBy (λ seen. seen) sources parts fault) → P ⊎ ((memory : Memory) × (fault ≡ faults.Memory)) → IsAnsweredBy (λ seen. seen) sources parts fault
 or_memory sources parts fault answers (inl is) = answers is
 or_memory sources parts fault answers (inr is) = memory_refused sources parts fault is.1
@@ -220,7 +220,7 @@ may_seen seen [] (b ∷ bs) may = absurd may
 may_seen seen (s ∷ ss) [] may = absurd may
 may_seen seen (s ∷ ss) (b ∷ bs) may = (may.0, may_seen seen ss bs may.1)
 
--- what is said of what is seen of sources is said of the sources
+-- what holds for what is seen of sources holds for the sources
 pub of_seen : {S : Type 0} (seen : S → Seen) (logs parts : List S) (P : List (List ℕ) → List (List ℕ) → Type 0) → OfSources (λ seen. seen) (map seen logs) (map seen parts) P → OfSources seen logs parts P
 of_seen seen logs parts P of = record {
   logs = of.logs;
@@ -237,7 +237,7 @@ unsteady_seen {S} seen sources i at = by (slice_get sources i) (subst (λ (o : O
     by None at = at
     by (Some source) at = at
 
--- a fault that is answered for what is seen of sources is answered for the sources
+-- a fault that recovery may return for what is seen of sources is one for the sources
 pub answered_seen : {S : Type 0} (seen : S → Seen) (logs parts : List S) (fault : Fault) → IsAnsweredBy (λ seen. seen) (map seen logs) (map seen parts) fault → IsAnsweredBy seen logs parts fault
 answered_seen seen logs parts fault is = (of_seen seen logs parts (λ ls ps. IsAnsweredFrom ls ps fault) is.0, blamed fault is.1)
   where
@@ -246,20 +246,20 @@ answered_seen seen logs parts fault is = (of_seen seen logs parts (λ ls ps. IsA
     blamed (faults.PartSource i) is = unsteady_seen seen parts i is
     blamed fault is = tt
 
--- and so is what recovery answers
+-- and so is a result of recovery
 pub recovery_seen : {S : Type 0} (seen : S → Seen) (logs parts : List S) (result : Result Outcome Fault) → IsRecoveryFrom (λ seen. seen) (map seen logs) (map seen parts) result → IsRecoveryFrom seen logs parts result
 recovery_seen seen logs parts result is = record {
   recovered = IfOk-weaker result _ _ (λ outcome of. of_seen seen logs parts (λ ls ps. IsRecoveredOf ls ps outcome) of) is.recovered;
   fault = IfErr-weaker result _ _ (λ fault by. answered_seen seen logs parts fault by) is.fault;
 }
 
--- recovery was refused memory
+-- recovery may run out of memory
 pub recovery_without_memory : {S : Type 0} (seen : S → Seen) (logs parts : List S) (result : Result Outcome Fault) → result ≡ Err faults.Memory → IsRecoveryFrom seen logs parts result
 recovery_without_memory seen logs parts result is = rw is (record { recovered = tt; fault = answered_seen seen logs parts faults.Memory (memory_refused (map seen logs) (map seen parts) faults.Memory refl) })
 
 -- ---- logs in memory
 
--- bytes in memory have no other
+-- logs in memory may have only their own bytes
 may_in_memory : (logs all : List (List ℕ)) → MayHave (λ seen. seen) (map in_memory logs) all → logs ≡ all
 may_in_memory [] [] may = refl
 may_in_memory [] (b ∷ bs) may = absurd may
@@ -270,7 +270,7 @@ none_to_have : (all : List (List ℕ)) → MayHave (λ seen. seen) [] all → []
 none_to_have [] may = refl
 none_to_have (b ∷ bs) may = absurd may
 
--- what is said of logs in memory is said of their bytes
+-- what holds for logs in memory holds for their bytes
 pub of_memory : (logs : List (List ℕ)) (P : List (List ℕ) → List (List ℕ) → Type 0) → OfSources (λ seen. seen) (map in_memory logs) [] P → P logs []
 of_memory logs P of = rw (may_in_memory logs of.logs of.logs_may, none_to_have of.parts of.parts_may) of.holds
 
@@ -280,7 +280,7 @@ steady_in_memory [] i at = at
 steady_in_memory (l ∷ ls) zero at = absurd cc
 steady_in_memory (l ∷ ls) (suc i) at = steady_in_memory ls i at
 
--- a fault that is answered for logs in memory is that of their bytes
+-- a fault that recovery returns for logs in memory is the verdict on their bytes, or `Memory`
 pub answered_in_memory : (logs : List (List ℕ)) (fault : Fault) → IsAnsweredBy (λ seen. seen) (map in_memory logs) [] fault → IsVerdictOrMemory logs [] fault
 answered_in_memory logs fault is = by fault (of_memory logs (λ ls ps. IsAnsweredFrom ls ps fault) is.0) is.1
   where

@@ -1,4 +1,4 @@
--- What survives of logs and of a chosen checkpoint: no two updates of a key have one stamp.
+-- What survives of logs and of a chosen checkpoint: no two survivors of a key share a stamp.
 use Rattle.std.proofs.Common.{◌≡◌, inl, inr, ℕ, List, [], ◌∷◌, Option, Some, None, Contains, sym, ap, ◌∙◌}
 use Rattle.std.proofs.lemmas.List.Elements.{Contains-append_right, Contains-append_cases}
 use Rattle.mt_words.specs.declared.record.Change.{Change}
@@ -21,7 +21,7 @@ use Rattle.mt_recover.proofs.OneWalk.{of_each, not_below_itself}
 
 -- ---- the updates of entries
 
--- each is that of an entry
+-- each update is that of an entry
 of_entry : (entries : List Change) (u : Update) → Contains (wholes entries) u
     → (entry : Change) × Contains entries entry × (update_at origins.Checkpoint 0 entry ≡ u)
 of_entry [] u at = absurd (no_element u at)
@@ -34,7 +34,7 @@ of_entry (e ∷ es) u at =
 
 -- ---- stamps
 
--- a key stands in one entry
+-- a key stands in at most one entry
 one_entry : (entries : List Change) (a b : Change) → AreRising (entry_keys entries) → Contains entries a → Contains entries b → a.key ≡ b.key → a ≡ b
 one_entry [] a b rise at here same = absurd (no_element a at)
 one_entry (e ∷ es) a b rise at here same = elim (head_or_tail e a es at) as (λ _. a ≡ b) [
@@ -52,7 +52,7 @@ one_entry (e ∷ es) a b rise at here same = elim (head_or_tail e a es at) as (�
   ]
 ]
 
--- so a key has one update of entries
+-- so a key has at most one update of entries
 one_whole : (entries : List Change) (u w : Update) → AreRising (entry_keys entries) → Contains (wholes entries) u → Contains (wholes entries) w
     → u.key ≡ w.key → u ≡ w
 one_whole entries u w rise at here same =
@@ -61,18 +61,18 @@ one_whole entries u w rise at here same =
     let keys : a.0.key ≡ b.0.key = ap (λ (x : Update). x.key) a.2 ∙ same ∙ sym (ap (λ (x : Update). x.key) b.2) in
     sym a.2 ∙ ap (update_at origins.Checkpoint 0) (one_entry entries a.0 b.0 rise a.1 b.1 keys) ∙ b.2
 
--- and one of the chosen checkpoint
+-- and at most one update of the chosen checkpoint
 one_of_chosen : (known : List KnownPart) (cutoff : ℕ) (chosen : Option CheckpointReading) (u w : Update) → IsChosenOf known cutoff chosen
     → Contains (entry_updates chosen) u → Contains (entry_updates chosen) w → u.key ≡ w.key → u ≡ w
 one_of_chosen known cutoff None u w is at here same = absurd (no_element u at)
 one_of_chosen known cutoff (Some checkpoint) u w is at here same = one_whole checkpoint.entries u w is.0.valid.make_up.rise at here same
 
--- whose origin says so
+-- the origin of such an update is the checkpoint
 of_checkpoint : (chosen : Option CheckpointReading) (u : Update) → Contains (entry_updates chosen) u → u.stamp.origin ≡ origins.Checkpoint
 of_checkpoint None u at = absurd (no_element u at)
 of_checkpoint (Some checkpoint) u at = ap (λ (x : Update). x.stamp.origin) (sym (of_entry checkpoint.entries u at).2)
 
--- an update of logs and one of a checkpoint have two stamps
+-- an update of logs and one of a checkpoint have different stamps
 two_origins : (logs : List (List Logged)) (chosen : Option CheckpointReading) (u w : Update) → Contains (log_updates logs) u
     → Contains (entry_updates chosen) w → u.stamp ≡ w.stamp → ⊥
 two_origins logs chosen u w at here same =
@@ -80,7 +80,7 @@ two_origins logs chosen u w at here same =
     let one : origins.Log log.0 log.1 ≡ origins.Checkpoint = sym log.2 ∙ ap (λ (x : _). x.origin) same ∙ of_checkpoint chosen w here in
     absurd cc
 
--- no two survivors of a key have one stamp
+-- no two survivors of a key share a stamp
 pub survivors_apart : (known : List KnownPart) (cutoff : ℕ) (chosen : Option CheckpointReading) (logs : List (List Logged))
     → IsChosenOf known cutoff chosen → AreApart (survivors cutoff chosen logs)
 survivors_apart known cutoff chosen logs is u w at here key same =

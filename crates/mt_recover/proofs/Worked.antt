@@ -28,7 +28,7 @@ both_survive = refl
 lost_at_the_cutoff : survivors 3 None ((put_a ∷ []) ∷ []) ≡ []
 lost_at_the_cutoff = refl
 
--- beside a log of a header alone nothing survives
+-- beside a log that is only a header nothing survives
 lost_beside_a_header : survivors 0 None ((put_a ∷ mark_of 5 ∷ []) ∷ [] ∷ []) ≡ []
 lost_beside_a_header = refl
 
@@ -39,6 +39,6 @@ checkpoint = record { number = 1; begin = 4; end = 4; entries = entry_of 1 (97 �
 abbrev whole_a : Update
 whole_a = record { key = 97 ∷ []; stamp = record { version = 1; origin = origins.Checkpoint }; timestamp = 0; kind = Whole ((0, 122 ∷ []) ∷ []) }
 
--- over it the put below 4 is lost, that at 4 survives, and the entry does, which no window tests
+-- over it the put below 4 is lost and the put at 4 survives; the entry survives too, since no window tests it
 over_a_checkpoint : survivors 5 (Some checkpoint) ((put_a ∷ mark_of 5 ∷ []) ∷ (put_b ∷ mark_of 6 ∷ []) ∷ []) ≡ update_b ∷ whole_a ∷ []
 over_a_checkpoint = refl

@@ -1,4 +1,4 @@
--- What workers give back.
+-- The passes and hauls that workers return.
 use Rattle.std.proofs.Common.{◌≡◌, ℕ, zero, suc, ◌≤◌, List, [], ◌∷◌, ◌++◌, length, refl, sym, ap, subst, arith, Bool, cond}
 use Rattle.std.specs.List.{All, AllZip}
 use Rattle.std.proofs.lemmas.List.{length_push}
@@ -10,7 +10,7 @@ use Rattle.mt_recover.specs.declared.haul.Haul.{Haul}
 use Rattle.mt_recover.specs.Hauls.{numbers, IsHaulOf, times_held, HasWorked, HaveWorked, AllCameBack}
 use Rattle.mt_recover.specs.Job.{JobView}
 
--- one more worker
+-- one more worker has worked
 pub worked_more : (job : JobView) (passes after : List PassView) (hauls more : List Haul) (pass : PassView) (haul : Haul) → HaveWorked job passes hauls → HasWorked job pass haul → after ≡ passes ++ pass ∷ [] → more ≡ hauls ++ haul ∷ []
     → HaveWorked job after more
 worked_more job passes after hauls more pass haul have has is also = record {
@@ -28,18 +28,18 @@ worked_more job passes after hauls more pass haul have has is also = record {
   );
 }
 
--- no worker
+-- no worker has worked
 pub none_worked : (job : JobView) → HaveWorked job [] []
 none_worked job = record { boards = All-nil (λ (p : PassView). p.board ≡ job.board); are_hauls = All-nil (IsHaulOf job); done = All-nil (λ (p : PassView). IsTrue p.done); held = λ x. refl }
 
--- where all are done, one is
+-- if all passes are done, one is
 some_done : (passes : List PassView) → 1 ≤ length passes → All (λ (p : PassView). IsTrue p.done) passes → SomeIsDone passes
 some_done [] some all = absurd (omega (arith, some))
 some_done (p ∷ ps) some all =
     let one : cond {A = ℕ} p.done 1 0 ≡ 1 = ap (λ (b : Bool). cond {A = ℕ} b 1 0) (all 0 p (omega arith)) in
     omega (arith, one, sum_by-cons (λ (q : PassView). cond {A = ℕ} q.done 1 0) p ps)
 
--- where all have worked, all came back
+-- if all have worked, all passes came back
 pub all_back : (job : JobView) (passes : List PassView) (hauls : List Haul) → HaveWorked job passes hauls → job.board.passes ≤ length passes → 1 ≤ length passes → AllCameBack job hauls passes
 all_back job passes hauls have many some = record {
   many = many;
@@ -47,12 +47,12 @@ all_back job passes hauls have many some = record {
   held = λ x drawn. omega (arith, have.held x, drawn);
 }
 
--- the passes of a new board
+-- a new board has this many fresh passes
 pub length-fresh : (b : BoardId) (n : ℕ) → length (fresh_passes b n) ≡ n
 length-fresh b zero = refl
 length-fresh b (suc n) = omega (arith, length_push (fresh_passes b n) (fresh_pass b n), length-fresh b n)
 
--- what holds of each answer
+-- what holds for each answer in turn holds for all
 pub zip_each : {X Y : Type 0} (Q : Y → Type 0) (xs : List X) (ys : List Y) → AllZip (λ x y. Q y) xs ys → All Q ys
 zip_each Q [] [] zip = All-nil Q
 zip_each Q [] (y ∷ ys) zip = absurd zip

@@ -13,11 +13,11 @@ use Rattle.mt_recover.specs.Hauls.{held_by}
 abbrev pub all_held : List Haul → List Piece
 all_held hauls = flat_map held_by hauls
 
--- each draft is that of a piece which has its place as its number
+-- each draft is that of a piece whose number is the place of the draft
 abbrev pub AreDraftsOf : List Piece → List DraftView → Type 0
 AreDraftsOf pieces drafts = (k : ℕ) (d : DraftView) → k < length drafts → Contains pieces (record { number = k; draft = slice_index_or drafts k d })
 
--- how many pieces have the number
+-- how many pieces have this number
 abbrev pub times_numbered : ℕ → List Piece → ℕ
 times_numbered number pieces = times number (map (λ piece. piece.number) pieces)
 
@@ -27,7 +27,7 @@ pub record IsFirstLacking (pieces : List Piece) (count number : ℕ) : Type 0 wh
   pub lacking : times_numbered number pieces ≡ 0
   pub first : (other : ℕ) → other < number → 0 < times_numbered other pieces
 
--- a number that is lacking; nothing is said where memory was refused
+-- the fault is `Missing` with the least number below the count that no piece has, or it is `Memory`
 abbrev pub IsLacking : List Piece → ℕ → Fault → Type 0
 IsLacking pieces count (faults.Missing piece) = IsFirstLacking pieces count piece
 IsLacking pieces count faults.Memory = Unit {0}

@@ -11,28 +11,28 @@ use Rattle.mt_recover.specs.Recovery.{IsStoreOf}
 use Rattle.mt_recover.specs.declared.program.Failure.{Failure}
 use Rattle.mt_recover.specs.declared.program.Failure.TheVariants.{NoFiles, TooManyFiles, Open, Recovery, Output}
 
--- a space, the number, an equals sign, and the bytes in lower hexadecimal
+-- a space, the number, an equals sign, and the bytes in lowercase hexadecimal
 abbrev pub column_text : ℕ × List ℕ → List ℕ
 column_text column = codes " " ++ (decimal column.0 ++ (codes "=" ++ encode_lower column.1))
 
--- the key in lower hexadecimal, a colon, the columns, and a line feed
+-- the key in lowercase hexadecimal, a colon, the columns, and a line feed
 abbrev pub pair_text : Pair → List ℕ
 pair_text pair = encode_lower pair.0 ++ (codes ":" ++ (flat_map column_text pair.1 ++ codes "\n"))
 
 abbrev pub dump_text : List Pair → List ℕ
 dump_text pairs = flat_map pair_text pairs
 
--- two dumps printed one behind the other are the dump of both
+-- two dumps printed one after the other are the dump of both lists of pairs
 pub dump_both : (a b c : Option (List ℕ)) (v w : List Pair) → Appends a b (dump_text v) → Appends b c (dump_text w) → Appends a c (dump_text (v ++ w))
 dump_both a b c v w first second = subst (Appends a c) (sym (flat_map-append pair_text v w)) (Appends-trans a b c (dump_text v) (dump_text w) first second)
 
--- the store of so many logs
+-- the pairs are the store of some logs of this count, without parts
 pub record IsStoreOfSome (count : ℕ) (pairs : List Pair) : Type 0 where
   pub logs : List (List ℕ)
   pub number : length logs ≡ count
   pub is_store : IsStoreOf logs [] pairs
 
--- the text of the store of so many logs was appended: which logs, no contract can say of files
+-- the text of the store of some logs of this count was appended; which logs, no contract can say of files
 pub record IsPrinted (count : ℕ) (old new : Option (List ℕ)) : Type 0 where
   pub pairs : List Pair
   pub is_store : IsStoreOfSome count pairs

@@ -7,7 +7,8 @@ use Rattle.mt_recover.specs.LogScans.{ShowAll}
 use Rattle.mt_recover.specs.Recovery.{Facts, IsGap}
 use Rattle.mt_recover.specs.Survivors.{begin_of}
 
--- what recovery finds in logs and parts
+-- what was found in logs and parts: the scans show what the logs say, no log has a gap, and the window, the chosen checkpoint, the skipped and the
+-- nameless are those of the facts
 pub record IsFoundOf (logs parts : List (List ℕ)) (found : Found) : Type 0 where
   pub facts : Facts logs parts
   pub show : ShowAll facts.cutoff 0 found.scans.items facts.readings

@@ -12,16 +12,16 @@ use Rattle.mt_recover.specs.Job.{JobView, IsPieceOf}
 abbrev pub held_by : Haul → List Piece
 held_by haul = haul.pieces.items
 
--- their numbers
+-- the numbers of the pieces that a haul holds
 abbrev pub numbers : Haul → List ℕ
 numbers haul = map (λ piece. piece.number) (held_by haul)
 
--- a haul of this job: what it holds under a number is the piece of that number
+-- a haul of this job: each piece that it holds is the job's piece of that number
 pub record IsHaulOf (job : JobView) (haul : Haul) : Type 0 where
   pub same : haul.of.value ≡ job
   pub pieces : All (λ piece. IsPieceOf job piece.number (layer_walk piece.draft)) (held_by haul)
 
--- how often hauls hold the piece
+-- how often the hauls hold the piece of this number
 abbrev pub times_held : ℕ → List Haul → ℕ
 times_held number hauls = sum_by (λ haul. times number (numbers haul)) hauls
 
@@ -31,26 +31,27 @@ pub record IsFirstMissing (job : JobView) (hauls : List Haul) (number : ℕ) : T
   pub missing : times_held number hauls ≡ 0
   pub first : (other : ℕ) → other < number → 0 < times_held other hauls
 
--- why hauls do not make the job's store: a piece is missing; nothing is said where memory was refused
+-- the fault is `Missing` with the least piece that no haul holds, or it is `Memory`
 abbrev pub IsLeftOut : JobView → List Haul → Fault → Type 0
 IsLeftOut job hauls (faults.Missing piece) = IsFirstMissing job hauls piece
 IsLeftOut job hauls faults.Memory = Unit {0}
 IsLeftOut job hauls fault = ⊥
 
--- all passes are back, one of which found that no piece is left, and a haul holds each piece that they drew
+-- all passes came back, one of them found that no piece is left, and a haul holds each piece that the passes drew
 pub record AllCameBack (job : JobView) (hauls : List Haul) (passes : List PassView) : Type 0 where
   pub many : job.board.passes ≤ length passes
   pub done : SomeIsDone passes
   pub held : (number : ℕ) → 0 < times_drawn number passes → 0 < times_held number hauls
 
--- what a worker gives back that drew in one call only: its pass, which found that no piece is left, and the haul of all its draws
+-- the result of a worker that drew in one call only: its pass, which found that no piece is left, and the haul of all that it drew
 pub record HasWorked (job : JobView) (pass : PassView) (haul : Haul) : Type 0 where
   pub board : pass.board ≡ job.board
   pub done : IsTrue pass.done
   pub is_haul : IsHaulOf job haul
   pub draws : pass.draws ≡ numbers haul
 
--- passes and hauls of workers that each drew in one call only
+-- the passes and hauls of workers that each drew in one call only: each pass found that no piece is left, and the hauls hold each piece as often as
+-- the passes drew it
 pub record HaveWorked (job : JobView) (passes : List PassView) (hauls : List Haul) : Type 0 where
   pub boards : All (λ pass. pass.board ≡ job.board) passes
   pub are_hauls : All (IsHaulOf job) hauls

@@ -1,4 +1,4 @@
--- Sources of logs and parts, and what recovery from them answers.
+-- Sources of logs and parts, and what recovery from them returns.
 use Rattle.std.specs.Prelude.{◌≡◌, false, ℕ, IsSomeAnd, IfOk, IfErr, List, Result, slice_get}
 use Rattle.std.specs.List.{AllZip}
 use Rattle.mt_words.specs.declared.fault.Fault.{Fault}
@@ -7,11 +7,11 @@ use Rattle.mt_scan.specs.Sources.{Seen, Agrees}
 use Rattle.mt_recover.specs.Report.{Outcome, IsRecoveredOf}
 use Rattle.mt_recover.specs.Verdict.{IsAnsweredFrom}
 
--- the sources may have these bytes: just those that they tell, or any where they tell none
+-- the sources may have these bytes: exactly those that a source reports, or any bytes if it reports none
 abbrev pub MayHave : {S : Type 0} → (S → Seen) → List S → List (List ℕ) → Type 0
 MayHave seen sources all = AllZip (λ source bytes. Agrees (seen source).told bytes) sources all
 
--- this holds of some logs and parts that the sources may have
+-- `P` holds for some logs and parts that the sources may have
 pub record OfSources {S : Type 0} (seen : S → Seen) (log_sources part_sources : List S) (P : List (List ℕ) → List (List ℕ) → Type 0) : Type 0 where
   pub logs : List (List ℕ)
   pub parts : List (List ℕ)
@@ -19,17 +19,17 @@ pub record OfSources {S : Type 0} (seen : S → Seen) (log_sources part_sources 
   pub parts_may : MayHave seen part_sources parts
   pub holds : P logs parts
 
--- a source that is blamed is not steady
+-- if the fault blames a source, that source is not steady
 abbrev pub BlamesUnsteady : {S : Type 0} → (S → Seen) → List S → List S → Fault → Type 0
 BlamesUnsteady seen logs parts (faults.Source i) = IsSomeAnd (slice_get logs i) (λ source. (seen source).steady ≡ false)
 BlamesUnsteady seen logs parts (faults.PartSource i) = IsSomeAnd (slice_get parts i) (λ source. (seen source).steady ≡ false)
 BlamesUnsteady seen logs parts fault = Unit {0}
 
--- what an answered fault of these sources says
+-- the fault is one that recovery may return for some logs and parts that the sources may have, and it blames no steady source
 abbrev pub IsAnsweredBy : {S : Type 0} → (S → Seen) → List S → List S → Fault → Type 0
 IsAnsweredBy seen logs parts fault = OfSources seen logs parts (λ ls ps. IsAnsweredFrom ls ps fault) × BlamesUnsteady seen logs parts fault
 
--- what recovery from these sources answers
+-- a result of recovery from these sources: Ok is recovered from some logs and parts that they may have, Err is a fault that `IsAnsweredBy` allows
 pub record IsRecoveryFrom {S : Type 0} (seen : S → Seen) (logs parts : List S) (result : Result Outcome Fault) : Type 0 where
   pub recovered : IfOk result (λ recovered. OfSources seen logs parts (λ ls ps. IsRecoveredOf ls ps recovered))
   pub fault : IfErr result (IsAnsweredBy seen logs parts)

@@ -15,7 +15,7 @@ pub record JobView : Type 0 where
   pub cuts : List (List ℕ)
   pub board : BoardId
 
--- the updates are cut as was asked: into just the even pieces, or some pieces and no more, or at just the keys given
+-- the cuts are as asked for: the even cuts into this many pieces, or cuts into at most this many pieces, or exactly the given cuts
 abbrev pub AreCutBy : Cutting → List Update → List (List ℕ) → Type 0
 AreCutBy (Even pieces) updates cuts = IsEven updates pieces cuts
 AreCutBy (Sampled pieces) updates cuts = length cuts < pieces

@@ -9,7 +9,7 @@ use Rattle.mt_scan.specs.Dropping.{ShowsAllBelow}
 use Rattle.mt_replay.specs.declared.window.Window.{Window}
 use Rattle.mt_replay.specs.Survivors.{in_window}
 
--- each scan shows what its log says, with all updates below `limit`; the logs are numbered from this number on
+-- each scan shows what its log says, with all updates below `limit`; the logs are numbered from `number` on
 abbrev pub ShowAll : ℕ → ℕ → List LogScan → List LogReading → Type 0
 ShowAll limit number [] [] = Unit {0}
 ShowAll limit number (scan ∷ scans) (log ∷ readings) = ShowsAllBelow limit number scan log × ShowAll limit (suc number) scans readings
@@ -20,10 +20,10 @@ ShowAll limit number (scan ∷ scans) [] = ⊥
 abbrev pub kept_by : LogScan → List Update
 kept_by scan = kept_updates scan.updates
 
--- all updates of the scans
+-- the updates that the scans kept
 abbrev pub kept : List LogScan → List Update
 kept scans = flat_map kept_by scans
 
--- those in the window
+-- the kept updates that lie in the window
 abbrev pub kept_in : Window → List LogScan → List Update
 kept_in window scans = filter (in_window window) (kept scans)

@@ -1,4 +1,4 @@
--- What the scans of sources answer.
+-- The answers of the scans of sources.
 use Rattle.std.specs.Prelude.{◌≡◌, ℕ, suc, IsTrue, true, false, Option, Some, None, List, [], ◌∷◌, length, Result, Ok, Err, IfOk, IfErr}
 use Rattle.std.specs.List.{filter_map}
 use Rattle.mt_words.specs.declared.fault.Fault.{Fault}
@@ -11,44 +11,44 @@ use Rattle.mt_scan.specs.Dropping.{HasAllBelow}
 use Rattle.mt_scan.specs.PartScans.{IsKnown, known_by, IsPartScanFault}
 use Rattle.mt_recover.specs.declared.scans.Outcomes.{Outcomes}
 
--- what the scan of a log answers, which dropped no update below `limit`
+-- the answer of the scan of a log: a scan that dropped no update below `limit`, or a fault of that scan; a steady source is never reported as failed
 pub record IsLogOutcome (limit log : ℕ) (seen : Seen) (outcome : Result LogScan Fault) : Type 0 where
   pub scan : IfOk outcome (λ scan. OfTold seen.told (λ bytes. HasAllBelow limit log bytes scan))
   pub fault : IfErr outcome (λ fault. OfTold seen.told (λ bytes. IsScanFault log bytes fault))
   pub steady : IsTrue seen.steady → failures_of outcome ≡ 0
 
--- what the scan of a part answers
+-- the answer of the scan of a part: what is known of its bytes, or a fault of that scan; a steady source is never reported as failed
 pub record IsPartOutcome (part : ℕ) (seen : Seen) (outcome : Result PartScan Fault) : Type 0 where
   pub scan : IfOk outcome (λ scan. OfTold seen.told (λ bytes. IsKnown bytes (known_by scan)))
   pub fault : IfErr outcome (IsPartScanFault part)
   pub steady : IsTrue seen.steady → failures_of outcome ≡ 0
 
--- this holds of the items of two lists, place by place, and of their number, which rises from this one on
+-- `R` holds for the items of two lists, place by place, and for their number, which counts up from `number`; the lists are equally long
 abbrev pub AllFrom : {A B : Type 0} → (ℕ → A → B → Type 0) → ℕ → List A → List B → Type 0
 AllFrom R number [] [] = Unit {0}
 AllFrom R number [] (y ∷ ys) = ⊥
 AllFrom R number (x ∷ xs) [] = ⊥
 AllFrom R number (x ∷ xs) (y ∷ ys) = R number x y × AllFrom R (suc number) xs ys
 
--- the parts that are read: none where there is no log
+-- the parts that are read: none if there is no log
 abbrev pub read_parts : {L P : Type 0} → List L → List P → List P
 read_parts [] parts = []
 read_parts (log ∷ logs) parts = parts
 
--- the last timestamp of a log that was scanned whole
+-- the last timestamp of a log, if its scan is Ok
 abbrev pub last_in : Result LogScan Fault → Option ℕ
 last_in (Ok scan) = Some scan.last
 last_in (Err fault) = None
 
--- those of all such logs
+-- the last timestamps of all logs whose scan is Ok
 abbrev pub lasts : List (Result LogScan Fault) → List ℕ
 lasts = filter_map last_in
 
--- what the scans of logs and parts answer, which dropped no update below the least last timestamp of the logs that were scanned whole
+-- the answers of the scans of logs and parts, which dropped no update below the least last timestamp of the logs whose scan is Ok
 pub record AreOutcomes (logs parts : List Seen) (outcomes : Outcomes) : Type 0 where
   pub logs_are : AllFrom (IsLogOutcome (least_of (lasts outcomes.logs.items))) 0 logs outcomes.logs.items
   pub parts_are : AllFrom IsPartOutcome 0 (read_parts logs parts) outcomes.parts.items
 
--- what a contract sees of bytes in memory
+-- bytes in memory as a contract sees them: a steady source that reports these bytes
 abbrev pub in_memory : List ℕ → Seen
 in_memory bytes = record { told = Some bytes; bound = length bytes; failures = 0; steady = true; shown = []; spent = false }

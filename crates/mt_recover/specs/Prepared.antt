@@ -1,4 +1,4 @@
--- What is prepared before anything is replayed, and what is made of it.
+-- What is prepared before replay, and what is made of it.
 use Rattle.std.specs.Prelude.{◌≡◌, ℕ, ◌+◌, ◌-◌, ◌≤◌, List, length, filter, sum_by, IsPermutation}
 use Rattle.std.specs.List.{flat_map}
 use Rattle.mt_words.specs.declared.update.Update.{Update}
@@ -18,7 +18,7 @@ use Rattle.mt_recover.specs.Report.{IsFoundIn, IsReportOf, Outcome, is_early}
 use Rattle.mt_recover.specs.Survivors.{begin_of, survivors}
 use Rattle.mt_recover.specs.declared.found.Found.{Found}
 
--- the report of these counts, and of so many early updates, survivors, keys and layers: what is neither early nor survives is late
+-- the report of these counts and these numbers of early updates, survivors, keys and layers; updates neither early nor surviving are late
 abbrev pub report_of : Counts → ℕ → ℕ → ℕ → ℕ → Report
 report_of counts early survivors keys layers = record {
   logs = counts.logs;
@@ -38,24 +38,25 @@ report_of counts early survivors keys layers = record {
   layers = layers;
 }
 
--- what is prepared: the updates that survive, in any order; how many come too early to; and what is counted
+-- what is prepared: the surviving updates in any order, the number of early updates, and the counts
 pub record PreparedView : Type 0 where
   pub updates : List Update
   pub early : ℕ
   pub counts : Counts
 
--- its report, once the store has so many keys and layers
+-- the report of what is prepared, for a store with these numbers of keys and layers
 abbrev pub reported : PreparedView → ℕ → ℕ → Report
 reported prepared keys layers = report_of prepared.counts prepared.early (length prepared.updates) keys layers
 
--- this was prepared from these logs and parts, in which nothing is refused
+-- this was prepared from these logs and parts, which have no gap: the updates are the survivors, in some order, and for any pairs the report made of
+-- it is that of these facts and pairs
 pub record IsPreparedOf (logs parts : List (List ℕ)) (prepared : PreparedView) : Type 0 where
   pub facts : Facts logs parts
   pub no_gap : (i : ℕ) → IsGap (begin_of facts.chosen) facts.readings i → ⊥
   pub updates : IsPermutation (survivors facts.cutoff facts.chosen (records_of facts.readings)) prepared.updates
   pub report : (pairs : List Pair) (layers : ℕ) → CountsLayers pairs layers → IsReportOf facts pairs (reported prepared (length pairs) layers)
 
--- the store and the report of what was prepared
+-- the outcome made of what was prepared: the store is the walk of its updates, and the report counts that store
 pub record IsMadeOf (prepared : PreparedView) (outcome : Outcome) : Type 0 where
   pub walk : IsWalk prepared.updates outcome.store
   pub layers : CountsLayers outcome.store outcome.report.layers
@@ -63,11 +64,11 @@ pub record IsMadeOf (prepared : PreparedView) (outcome : Outcome) : Type 0 where
 
 -- ---- the steps of preparing
 
--- what is counted is what was found
+-- the counts are those of what was found
 abbrev pub AreCountsOf : {logs parts : List (List ℕ)} → Facts logs parts → Counts → Type 0
 AreCountsOf facts counts = (early survivors keys layers : ℕ) → IsFoundIn facts (report_of counts early survivors keys layers)
 
--- there is room in the counts for so many early updates and survivors
+-- the counts have room for these numbers of early updates and survivors
 pub record HasRoomFor (counts : Counts) (early survivors : ℕ) : Type 0 where
   pub marks : counts.marks ≤ counts.records
   pub entries : counts.entries ≤ survivors
@@ -77,15 +78,15 @@ pub record HasRoomFor (counts : Counts) (early survivors : ℕ) : Type 0 where
 abbrev pub IsFound : Found → Type 0
 IsFound found = (logs parts : List (List ℕ)) × IsFoundOf logs parts found
 
--- the cells of what survives of a scan, and how many of its updates come early
+-- what is left of a scan: the cells of its updates in the window, and the number of its early updates
 pub record IsLeftBy (window : Window) (scan : LogScan) (log : LogSurvivors) : Type 0 where
   pub early : log.early ≡ length (filter (is_early window.begin) (kept_by scan))
   pub cells : IsPermutation (filter (in_window window) (kept_by scan)) (joined log.cells.items)
 
--- the cells of logs
+-- the cells of all logs
 abbrev pub cells_of : List LogSurvivors → List (List Update)
 cells_of logs = flat_map (λ log. log.cells.items) logs
 
--- how many updates of all logs come early
+-- the number of early updates of all logs
 abbrev pub early_of : List LogSurvivors → ℕ
 early_of logs = sum_by (λ log. log.early) logs

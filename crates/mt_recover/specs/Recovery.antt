@@ -10,11 +10,11 @@ use Rattle.mt_scan.specs.Choice.{CheckpointReading, IsChosenOf}
 use Rattle.mt_recover.specs.Survivors.{begin_of, survivors}
 use Rattle.mt_replay.specs.Walk.{IsWalk}
 
--- each log says this
+-- the readings are what the logs say, one reading for each log
 abbrev pub AreReadings : List (List ℕ) → List LogReading → Type 0
 AreReadings logs readings = AllZip IsReading logs readings
 
--- this is known of each part
+-- what is known of the parts, one item for each part
 abbrev pub AreKnown : List (List ℕ) → List KnownPart → Type 0
 AreKnown parts known = AllZip IsKnown parts known
 
@@ -29,7 +29,7 @@ pub record Facts (logs parts : List (List ℕ)) : Type 0 where
   pub chosen : Option CheckpointReading
   pub is_chosen : IsChosenOf known cutoff chosen
 
--- updates that recovery needs may be missing from log i
+-- log i has a gap: its `from` is above `begin`, so that it may lack updates that recovery needs
 abbrev pub IsGap : ℕ → List LogReading → ℕ → Type 0
 IsGap begin readings i = IsSomeAnd (slice_get readings i) (λ log. begin < log.head.from)
 

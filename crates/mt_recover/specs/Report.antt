@@ -1,4 +1,4 @@
--- What recovery reports: sizes of what it found, and of what became of it.
+-- What recovery reports: the counts of what it found, and of what became of it.
 use Rattle.std.specs.Prelude.{◌≡◌, ℕ, Bool, nat_lt, nat_le, List, length, filter}
 use Rattle.std.specs.List.{flat_map}
 use Rattle.std.specs.Option.{option_map}
@@ -14,7 +14,7 @@ use Rattle.mt_recover.specs.declared.report.Report.{Report}
 use Rattle.mt_recover.specs.Recovery.{Facts, IsStoreOf, records_of}
 use Rattle.mt_recover.specs.Survivors.{begin_of, survivors, entry_updates}
 
--- the whole records of all logs
+-- the complete records of all logs
 abbrev pub all_records : List LogReading → List Logged
 all_records readings = flat_map (λ log. log.records) readings
 
@@ -22,15 +22,15 @@ all_records readings = flat_map (λ log. log.records) readings
 abbrev pub logged_updates : List LogReading → List Update
 logged_updates readings = log_updates (records_of readings)
 
--- its timestamp lies below this one
+-- the update's timestamp is below `begin`
 abbrev pub is_early : ℕ → Update → Bool
 is_early begin update = nat_lt update.timestamp begin
 
--- its timestamp lies at or past the cutoff
+-- the update's timestamp is at or after the cutoff
 abbrev pub is_late : ℕ → Update → Bool
 is_late cutoff update = nat_le cutoff update.timestamp
 
--- what was found in these logs and parts, before anything is replayed
+-- the report says what was found in these logs and parts, before replay
 pub record IsFoundIn {log_bytes part_bytes : List (List ℕ)} (facts : Facts log_bytes part_bytes) (report : Report) : Type 0 where
   pub logs : report.logs ≡ length log_bytes
   pub records : report.records ≡ length (all_records facts.readings)
@@ -43,7 +43,7 @@ pub record IsFoundIn {log_bytes part_bytes : List (List ℕ)} (facts : Facts log
   pub nameless : AreNameless facts.known report.nameless.items
   pub entries : report.entries ≡ length (entry_updates facts.chosen)
 
--- the report of what was found, of what survives and what comes too late, and of a store of these pairs
+-- the report says what was found, counts what survives, comes early and comes late, and counts the keys and layers of a store of these pairs
 pub record IsReportOf {logs parts : List (List ℕ)} (facts : Facts logs parts) (pairs : List Pair) (report : Report) : Type 0 where
   pub found : IsFoundIn facts report
   pub survivors : report.survivors ≡ length (survivors facts.cutoff facts.chosen (records_of facts.readings))
@@ -52,17 +52,17 @@ pub record IsReportOf {logs parts : List (List ℕ)} (facts : Facts logs parts) 
   pub keys : report.keys ≡ length pairs
   pub layers : CountsLayers pairs report.layers
 
--- what recovery answers where it names no fault
+-- what recovery returns if it names no fault
 pub record Outcome : Type 0 where
   pub store : List Pair
   pub report : Report
 
--- the outcome of logs and parts: their store, and the report of the facts from which it was made
+-- the outcome of logs and parts: their store, and the report of the facts from which that store was made
 pub record IsRecoveredOf (logs parts : List (List ℕ)) (outcome : Outcome) : Type 0 where
   pub store : IsStoreOf logs parts outcome.store
   pub report : IsReportOf store.facts outcome.store outcome.report
 
--- two reports are the same but for where their lists lie
+-- two reports are equal, apart from where their lists are stored
 pub record SaysTheSame (report other : Report) : Type 0 where
   pub skipped : report.skipped.items ≡ other.skipped.items
   pub nameless : report.nameless.items ≡ other.nameless.items

@@ -32,14 +32,14 @@ log_jobs = numbered kinds.Log
 abbrev pub part_jobs : {S : Type 0} → ℕ → List S → List (ScanJob S)
 part_jobs = numbered kinds.Part
 
--- what the scan of a source of this kind answers
+-- the answer of the scan of a source of this kind
 abbrev pub IsOutcome : ℕ → Kind → ℕ → Seen → Scanned → Type 0
 IsOutcome limit kinds.Log log seen (scanned.Log outcome) = IsLogOutcome limit log seen outcome
 IsOutcome limit kinds.Part part seen (scanned.Part outcome) = IsPartOutcome part seen outcome
 IsOutcome limit kinds.Log log seen (scanned.Part outcome) = ⊥
 IsOutcome limit kinds.Part part seen (scanned.Log outcome) = ⊥
 
--- what the scan of a job's source answers, which dropped no update below `limit`
+-- the answer of the scan of a job's source, which dropped no update below `limit`
 abbrev pub IsScanned : {S : Type 0} → (S → Seen) → ℕ → ScanJob S → Scanned → Type 0
 IsScanned seen limit job answer = IsOutcome limit job.kind job.number (seen job.source) answer
 
@@ -51,11 +51,11 @@ abbrev pub part_in : Scanned → Option (Result PartScan Fault)
 part_in (scanned.Log outcome) = None
 part_in (scanned.Part outcome) = Some outcome
 
--- what the scans of logs answered
+-- the answers of the scans of logs
 abbrev pub logs_in : List Scanned → List (Result LogScan Fault)
 logs_in = filter_map log_in
 
--- what the scans of parts answered
+-- the answers of the scans of parts
 abbrev pub parts_in : List Scanned → List (Result PartScan Fault)
 parts_in = filter_map part_in
 
@@ -65,15 +65,15 @@ parts_in = filter_map part_in
 abbrev pub IsFresh : BoardId → PassView → Type 0
 IsFresh board pass = pass ≡ fresh_pass board pass.number
 
--- The sources of these jobs were scanned, with a pass: it noted the last timestamp of each log that was scanned whole, and no other number,
--- and no update was dropped below the least number that it saw.
+-- The sources of these jobs were scanned with a pass. It noted the last timestamp of each log whose scan is Ok, and no other number. No update below
+-- the least number that it saw was dropped.
 pub record HasScanned {S : Type 0} (seen : S → Seen) (jobs : List (ScanJob S)) (answers : List Scanned) (before after : PassView) : Type 0 where
   pub board : after.board ≡ before.board
   pub noted : after.noted ≡ min before.noted (least_of (lasts (logs_in answers)))
   pub falls : least_of after.looks ≤ least_of before.looks
   pub answered : AllZip (IsScanned seen (least_of after.looks)) jobs answers
 
--- the answers of a worker
+-- the answers of a worker's scans
 abbrev pub answers_of : Scans → List Scanned
 answers_of scans = into_iter_items scans.answers
 
@@ -81,7 +81,7 @@ answers_of scans = into_iter_items scans.answers
 abbrev pub passes_of : List Scans → List PassView
 passes_of all = map (λ scans. scans.pass) all
 
--- what workers answered was gathered, and their board closed
+-- the answers of all workers were gathered in the order of the jobs, and the board was closed
 pub record AreGathered (board : BoardId) (all : List Scans) (outcomes : Outcomes) : Type 0 where
   pub logs : (answers : List Scanned) → AreDealt answers (map answers_of all) → outcomes.logs.items ≡ logs_in answers
   pub parts : (answers : List Scanned) → AreDealt answers (map answers_of all) → outcomes.parts.items ≡ parts_in answers

@@ -2,8 +2,8 @@
 use Rattle.std.specs.Prelude.{◌≡◌, List, [], ◌∷◌, ◌++◌, map, Result, Ok, Err}
 use Rattle.std.specs.List.{AllByRecursion}
 
--- The jobs stand in the shares, and nothing else does: the first of them at the front of the first share, the next one at
--- the front of the next share, and so in turn.
+-- The shares hold the jobs and nothing else, dealt in turn: the first job is at the front of the first share, the next job at the front of the next
+-- share, and so on, again and again over all shares.
 abbrev pub AreDealt : {J : Type 0} → List J → List (List J) → Type 0
 AreDealt [] shares = AllByRecursion (λ share. share ≡ []) shares
 AreDealt (job ∷ jobs) [] = ⊥

@@ -1,4 +1,4 @@
-//! The store of a job, assembled of the pieces that workers hauled.
+//! Assembles the store of a job from the pieces that workers hauled.
 ghost use Rattle.std.specs.Prelude.{◌≡◌, ◌<◌, ◌≤◌, ℕ, List, length, map, All, IfOk, IfErr, IsPermutation};
 ghost use Rattle.std.specs.List.Sorted.{IsNonDecreasingBy};
 ghost use Rattle.mt_words.specs.declared.fault.Fault.TheVariants as faults;
@@ -19,10 +19,10 @@ use mt_tree::Draft;
 use mt_words::{Fault, Memory};
 use std::alloc::Global;
 
-/// Assembles the store of the job and its report, in whatever order the hauls come. A pass that does not come back is
-/// no fault.
+/// Assembles the store of the job and its report. The hauls may come in any order. A pass that does not come back is no
+/// fault.
 ///
-/// An Err is `Missing`, with the least piece that no haul holds, or `Memory`.
+/// Err: `Missing` with the least piece that no haul holds, or `Memory`.
 pub fn assemble(
     alloc: Global,
     job: Job,
@@ -48,7 +48,7 @@ pub fn assemble(
     Ok(prepared.finish(join_all(alloc, drafts)?)?)
 }
 
-/// The pieces of all hauls.
+/// Returns the pieces of all hauls.
 fn pieces_of(alloc: Global, hauls: Vec<Haul>) -> Result<Vec<Piece>, Memory>
     ensures { IfOk result (λ pieces. pieces.items ≡ all_held hauls.items) }
 {
@@ -63,7 +63,7 @@ fn pieces_of(alloc: Global, hauls: Vec<Haul>) -> Result<Vec<Piece>, Memory>
     Ok(pieces)
 }
 
-/// The pieces, sorted by their numbers.
+/// Sorts the pieces by their numbers.
 fn by_number(pieces: Vec<Piece>) -> Vec<Piece>
     ensures same { IsPermutation pieces.items result.items }
     ensures sorted { IsNonDecreasingBy (λ piece. piece.number) result.items }
@@ -73,8 +73,8 @@ fn by_number(pieces: Vec<Piece>) -> Vec<Piece>
     pieces
 }
 
-/// The drafts of sorted pieces, one for each number below `count`. Of two pieces with one number the first is taken.
-/// An Err is the least number that no piece has, or `Memory`.
+/// Returns the drafts of sorted pieces, one for each number below `count`. Of two pieces with the same number it takes
+/// the first. Err: `Missing` with the least number that no piece has, or `Memory`.
 fn in_order(alloc: Global, pieces: Vec<Piece>, count: u32) -> Result<Vec<Draft>, Fault>
     requires sorted { IsNonDecreasingBy (λ piece. piece.number) pieces.items }
     requires within { All (λ piece. piece.number < count) pieces.items }
@@ -97,7 +97,7 @@ fn in_order(alloc: Global, pieces: Vec<Piece>, count: u32) -> Result<Vec<Draft>,
     Ok(drafts)
 }
 
-/// One draft of all, in their order.
+/// Joins the drafts into one, in their order.
 fn join_all(alloc: Global, drafts: Vec<Draft>) -> Result<Draft, Memory>
     requires { KeysRise (joined (map layer_walk drafts.items)) }
     ensures { IfOk result (λ whole. layer_walk whole ≡ joined (map layer_walk drafts.items)) }

@@ -1,4 +1,4 @@
-//! Work that is dealt to threads.
+//! Shares out work among threads.
 ghost use Rattle.std.specs.Prelude.{◌≡◌, ◌⊎◌, ◌<◌, ◌≤◌, ℕ, [], List, map, length, max, All, IfOk, IfErr};
 ghost use Rattle.std.specs.List.{AllZip};
 ghost use Rattle.std.specs.Vec.Iter.{into_iter_items};
@@ -15,8 +15,8 @@ use std::thread;
 use std::thread::Threads;
 use std::vec::IntoIter;
 
-/// Does each job, by so many threads: worker w of W does the jobs w, w + W, .. in their order. The answers stand in the
-/// order of the jobs.
+/// Does each job, on at most `workers` threads: worker w of W does the jobs w, w + W, .. in this order. Returns the
+/// answers in the order of the jobs.
 pub(crate) fn by_workers<R: Threads + Sync, J: Send + Drop, X: Send + Drop, F: Fn(J) -> X + Sync>(
     rt: &R,
     alloc: Global,
@@ -39,7 +39,7 @@ pub(crate) fn by_workers<R: Threads + Sync, J: Send + Drop, X: Send + Drop, F: F
     gather(alloc, all_done(alloc, parts)?)
 }
 
-/// Does each job, one after the other. The answers stand in the order of the jobs.
+/// Does each job, one after the other. Returns the answers in the order of the jobs.
 pub(crate) fn in_turn<J: Drop, X: Drop, F: Fn(J) -> X>(
     alloc: Global,
     jobs: Vec<J>,
@@ -55,7 +55,7 @@ pub(crate) fn in_turn<J: Drop, X: Drop, F: Fn(J) -> X>(
     Ok(answers)
 }
 
-/// Returns all answers. An Err is the first error among them, or `Memory`.
+/// Returns the values of all answers. Err: the first error among the answers, or `Memory`.
 pub(crate) fn all_done<X: Drop, E: Drop + From<Memory>>(
     alloc: Global,
     answers: Vec<Result<X, E>>,
@@ -70,8 +70,9 @@ pub(crate) fn all_done<X: Drop, E: Drop + From<Memory>>(
     Ok(done)
 }
 
-/// Deals the jobs to one share for each worker, but to no more shares than there are jobs, so that no thread is made for
-/// nothing. The last job is dealt first: the share of the job just dealt stands first.
+/// Deals the jobs to shares in turn. There is one share for each worker, but there are no more shares than jobs, so
+/// that no thread is made for nothing; there is at least one. The last job is dealt first, and the share that gets a
+/// job moves to the front.
 pub(crate) fn deal<J: Drop>(
     alloc: Global,
     jobs: Vec<J>,
@@ -92,7 +93,7 @@ pub(crate) fn deal<J: Drop>(
     Ok(shares)
 }
 
-/// Gathers the answers of shares in the order of their jobs.
+/// Gathers the answers of all shares in the order of the jobs.
 pub(crate) fn gather<X: Drop>(alloc: Global, parts: Vec<IntoIter<X>>) -> Result<Vec<X>, Memory>
     requires { 0 < length parts.items }
     ensures { IfOk result (λ gathered. (answers : List X) → AreDealt answers (map into_iter_items parts.items) → gathered.items ≡ answers) }

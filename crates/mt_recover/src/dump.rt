@@ -11,8 +11,9 @@ use mt_tree::Visitor;
 use mt_words::{Column, Columns, Kept};
 use std::io::{self, Write};
 
-/// Prints all pairs in order, a line each: the key in lower hexadecimal, a colon, and for each column a space, its
-/// number, `=` and its bytes in lower hexadecimal. After an Err nothing is said of how much was written.
+/// Prints all pairs in order, one line each: the key in lowercase hexadecimal, a colon, and for each column a space,
+/// its number, `=` and its bytes in lowercase hexadecimal. Err: write error. The contract does not say how much was
+/// written then.
 pub fn write_dump<W: Write>(store: &Store, out: &mut W) -> Result<(), io::Error>
     ensures { OnOk result
         (Appends (W.contents out.old) (W.contents out.new) (dump_text store.now)) }
@@ -20,7 +21,7 @@ pub fn write_dump<W: Write>(store: &Store, out: &mut W) -> Result<(), io::Error>
     store.visit(&Lines, out)
 }
 
-/// Prints the line of each pair.
+/// The visitor that prints the line of each pair.
 #[derive(Clone, Copy)]
 struct Lines;
 
@@ -38,7 +39,7 @@ impl<W: Write> Visitor<W> for Lines {
     ghost more = { λ a b c v w. dump_both (W.contents a) (W.contents b) (W.contents c) v w };
 }
 
-/// Prints the line of a pair as `write_dump` does.
+/// Prints the line of a pair as `write_dump` does. Err: write error.
 pub fn write_pair<W: Write>(
     key: &[u8],
     columns: &Columns<Kept>,
@@ -67,10 +68,10 @@ fn write_column<W: Write>(column: &Column, out: &mut W) -> Result<(), io::Error>
     write_hex(&column.bytes, out)
 }
 
-/// How many bytes are printed at once.
+/// The number of bytes that are printed at once.
 const CHUNK: usize = 64;
 
-/// Prints bytes in lower hexadecimal.
+/// Prints bytes in lowercase hexadecimal.
 fn write_hex<W: Write>(bytes: &[u8], out: &mut W) -> Result<(), io::Error>
     ensures { OnOk result
         (Appends (W.contents out.old) (W.contents out.new) (encode_lower bytes.now)) }
@@ -84,7 +85,7 @@ fn write_hex<W: Write>(bytes: &[u8], out: &mut W) -> Result<(), io::Error>
     Ok(())
 }
 
-/// Prints a few bytes in lower hexadecimal.
+/// Prints at most `CHUNK` bytes in lowercase hexadecimal.
 fn write_chunk<W: Write>(chunk: &[u8], out: &mut W) -> Result<(), io::Error>
     requires { length chunk.now ≤ CHUNK }
     ensures { OnOk result

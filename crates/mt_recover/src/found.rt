@@ -15,19 +15,20 @@ use mt_scan::{Checkpoint, Choice, LogScan, choose, cutoff};
 use mt_words::Fault;
 use std::alloc::Global;
 
-/// What recovery finds in its inputs: nothing is refused any more.
+/// The scans, the window and the checkpoint that recovery finds in its inputs, if it does not refuse them.
 #[derive(Drop)]
 pub(crate) struct Found {
     /// The scans of the logs, in the order of their numbers.
     pub scans: Vec<LogScan>,
     /// The timestamps at which updates of logs survive.
     pub window: Window,
-    /// The checkpoint over which they are replayed, and the parts that are of no use.
+    /// The checkpoint over which the logs are replayed, the skipped checkpoints and the nameless parts.
     pub choice: Choice,
 }
 
-/// Finds from where recovery starts. An Err is the first of these: `NoLogs`; the fault of the least log that has one; that
-/// of the least part whose source failed; `Gap` of the least log with one. `Memory` may come in place of any.
+/// Finds where recovery begins. An Err is the first of these that holds: `NoLogs`; the fault of the least log that has
+/// one; the fault of the least part whose source failed; `Gap` of the least log with a gap. `Memory` may replace any of
+/// them.
 pub(crate) fn find(alloc: Global, outcomes: Outcomes) -> Result<Found, Fault>
     ensures found { (logs parts : List Seen) → AreOutcomes logs parts outcomes →
         IfOk result (λ found. OfSources (λ seen. seen) logs parts (λ ls ps. IsFoundOf ls ps found)) }
@@ -51,7 +52,7 @@ pub(crate) fn find(alloc: Global, outcomes: Outcomes) -> Result<Found, Fault>
     })
 }
 
-/// Returns the timestamp from which on logs are replayed.
+/// Returns the timestamp from which logs are replayed: where the checkpoint begins, or 0 without one.
 fn begin_of(chosen: &Option<Checkpoint>) -> u64
     ensures { result ≡ begin_in (option_map checkpoint_in chosen.now) }
 {
@@ -61,7 +62,7 @@ fn begin_of(chosen: &Option<Checkpoint>) -> u64
     }
 }
 
-/// Returns the first log from which updates at or past `begin` may be missing.
+/// Returns the first log that may lack updates at or after `begin`, or None if no log does.
 fn first_gap(scans: &[LogScan], begin: u64) -> Option<usize>
     ensures { result ≡ position (λ scan. nat_lt begin scan.from) scans.now }
 {

@@ -1,4 +1,4 @@
-//! The pieces that a worker drew, replayed.
+//! The replayed pieces that a worker drew.
 ghost use Rattle.std.specs.Prelude.{◌≡◌, ◌==◌, length};
 ghost use Rattle.std.specs.List.{list_any};
 
@@ -6,24 +6,24 @@ use crate::job::Job;
 use mt_tree::Draft;
 use std::snapshot::Snapshot;
 
-/// A piece of a job, replayed.
+/// A replayed piece of a job.
 #[derive(Drop)]
 pub(crate) struct Piece {
     pub number: u32,
     pub draft: Draft,
 }
 
-/// The pieces of a job that were drawn in one call of `work`, replayed.
+/// The replayed pieces of a job that were drawn in one call of `work`.
 #[derive(Drop)]
 pub struct Haul {
-    /// Of which job they are. It takes no bytes.
+    /// The job of the pieces. This field takes no bytes.
     pub(crate) of: Snapshot<Job>,
-    /// In the order in which they were drawn.
+    /// The pieces, in the order in which they were drawn.
     pub(crate) pieces: Vec<Piece>,
 }
 
 impl Haul {
-    /// Returns how many pieces it holds.
+    /// Returns the number of pieces that it holds.
     pub fn len(&self) -> usize
         ensures { result ≡ length self.now.pieces.items }
     {

@@ -1,4 +1,4 @@
-//! Recovery as a job: its pieces are claimed, replayed, and assembled to the store.
+//! Recovery as a job, whose pieces are claimed, replayed and assembled into the store.
 ghost use Rattle.std.specs.Prelude.{◌≡◌, ◌+◌, ◌<◌, List, ℕ, length, IfOk, IfErr};
 ghost use Rattle.mt_board.specs.Board.{fresh_passes};
 ghost use Rattle.mt_words.specs.Walks.{joined};
@@ -20,13 +20,13 @@ use std::alloc::Global;
 use std::marker::Model;
 use std::thread::Threads;
 
-/// What is left to do once logs and parts are scanned: to replay pieces of the keys, by any threads, and to assemble
-/// them. Whoever holds a `Pass` of the job may `work` on it.
+/// The work that is left after the scans of logs and parts. Any threads replay its pieces, which are ranges of keys;
+/// then the pieces are assembled. Whoever holds a `Pass` of the job may `work` on it.
 #[derive(Drop)]
 pub struct Job {
     pub(crate) prepared: Prepared,
     pub(crate) cuts: Cuts,
-    /// It gives out the numbers of the pieces.
+    /// The board that gives out the numbers of the pieces.
     pub(crate) board: Board,
 }
 
@@ -41,10 +41,10 @@ impl Model for Job {
     ghost invariant = { λ j. j.board.total ≡ length j.cuts + 1 };
 }
 
-/// Scans the sources by so many workers, and prepares the job of their store, with a pass for each worker, in order of
-/// their numbers.
+/// Scans the sources with these workers, and prepares the job of their store. Returns the job and a pass for each
+/// worker, in the order of their numbers.
 ///
-/// An Err is that of `recover`.
+/// Err: the same as for `recover`.
 pub fn prepare<R: Threads + Sync, S: Source + Send>(
     rt: &R,
     alloc: Global,
@@ -64,7 +64,7 @@ pub fn prepare<R: Threads + Sync, S: Source + Send>(
     Ok(open(rt, alloc, found, workers, cutting)?)
 }
 
-/// The job of what was found, and its passes.
+/// Prepares the job of what was found, and its passes.
 fn open<R: Threads + Sync>(
     rt: &R,
     alloc: Global,
@@ -92,7 +92,7 @@ fn open<R: Threads + Sync>(
     Ok((job, passes))
 }
 
-/// Where the keys of these cells are cut.
+/// Returns the cuts of the keys of these cells.
 fn cuts_of<R: Threads + Sync>(
     rt: &R,
     alloc: Global,

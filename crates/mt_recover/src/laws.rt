@@ -1,4 +1,4 @@
-//! What holds of all logs and parts.
+//! Laws: what holds for all logs and parts.
 ghost use Rattle.std.specs.Prelude.{◌≡◌, ◌+◌, List, Option, ℕ, Contains};
 ghost use Rattle.mt_words.specs.declared.fault.Fault.{Fault};
 ghost use Rattle.mt_words.specs.declared.update.Update.{Update};
@@ -13,8 +13,8 @@ ghost use Rattle.mt_recover.specs.Recovery.{IsStoreOf};
 ghost use Rattle.mt_recover.specs.Report.{Outcome, IsRecoveredOf, SaysTheSame};
 ghost use Rattle.mt_recover.specs.Verdict.{IsVerdict};
 
-/// The stamps of any logs' updates are apart, and so are those of what survives of a key, whatever checkpoint is chosen;
-/// the walk of given updates is one list. A law: it has nothing to run.
+/// States that no two updates of logs share a stamp, and that no two survivors of a key do, whichever checkpoint is
+/// chosen. Given updates have at most one walk. This is a law: it has nothing to run.
 pub fn one_walk()
     ensures apart { (logs : List (List Logged)) (a b : Update) →
         Contains (log_updates logs) a → Contains (log_updates logs) b → a.stamp ≡ b.stamp → a ≡ b }
@@ -24,7 +24,8 @@ pub fn one_walk()
         IsWalk updates pairs → IsWalk updates others → pairs ≡ others }
 {}
 
-/// Logs and parts have one store or one fault, and never both. A law: it has nothing to run.
+/// States that logs and parts have at most one store and at most one fault, and never both. This is a law: it has
+/// nothing to run.
 pub fn one_verdict()
     ensures one_store { (logs parts : List (List ℕ)) (pairs others : List Pair) →
         IsStoreOf logs parts pairs → IsStoreOf logs parts others → pairs ≡ others }
@@ -34,9 +35,9 @@ pub fn one_verdict()
         IsStoreOf logs parts pairs → IsVerdict logs parts fault → ⊥ }
 {}
 
-/// Logs and parts have one report, but for where its lists lie; and it adds up: each whole record is a mark, or an
-/// update that is early, late or survives, and each entry of the chosen checkpoint survives. A law: it has nothing to
-/// run.
+/// States that logs and parts have at most one report, apart from where its lists are stored. The report adds up: each
+/// complete record is a mark, or an update that is early, late or survives, and each entry of the chosen checkpoint
+/// survives. This is a law: it has nothing to run.
 pub fn one_report()
     ensures one { (logs parts : List (List ℕ)) (outcome other : Outcome) →
         IsRecoveredOf logs parts outcome → IsRecoveredOf logs parts other → SaysTheSame outcome.report other.report }

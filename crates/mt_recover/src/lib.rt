@@ -1,4 +1,4 @@
-//! Recovery of a store from update logs and checkpoint parts, and its text.
+//! Recovers a store from update logs and checkpoint parts, and prints it as text.
 #![tactic(auto)]
 
 mod assembling;

@@ -1,4 +1,4 @@
-//! What is prepared before anything is replayed.
+//! The survivors and the counts that are prepared before replay.
 ghost use Rattle.std.specs.Prelude.{◌≡◌, ◌++◌, ◌<◌, ◌+◌, List, ℕ, length, IfOk, IsPermutation};
 ghost use Rattle.std.specs.Option.{option_map};
 ghost use Rattle.mt_words.specs.Walks.{joined};
@@ -29,12 +29,12 @@ use std::alloc::Global;
 use std::marker::Model;
 use std::thread::Threads;
 
-/// What survives, sorted, and what is counted so far.
+/// The surviving updates, sorted, and the counts so far.
 #[derive(Drop)]
 pub(crate) struct Prepared {
     /// The cells of the logs, and of each part of the checkpoint.
     pub lists: Vec<LogCells>,
-    /// How many updates of the logs lie below the window.
+    /// The number of log updates below the window.
     early: u128,
     counts: Counts,
 }
@@ -53,7 +53,7 @@ impl Model for Prepared {
 }
 
 impl Prepared {
-    /// Prepares what was found, on one thread. What a scan kept is let go as soon as its cells are made.
+    /// Prepares what was found, on one thread. Frees what a scan kept as soon as its cells are made.
     pub fn on_one_thread(alloc: Global, found: Found) -> Result<Prepared, Memory>
         requires { IsFound found }
         ensures { (logs parts : List (List ℕ)) → IsFoundOf logs parts found → IfOk result (IsPreparedOf logs parts) }
@@ -82,7 +82,7 @@ impl Prepared {
         )
     }
 
-    /// The same, by so many workers.
+    /// Does the same as `on_one_thread`, but with these workers.
     pub fn by_workers<R: Threads + Sync>(
         rt: &R,
         alloc: Global,
@@ -120,7 +120,7 @@ impl Prepared {
         )
     }
 
-    /// What is prepared of logs and of parts that have these survivors.
+    /// Puts together the survivors of the logs and of the parts, with the counts.
     fn of(
         alloc: Global,
         counts: Counts,
@@ -154,7 +154,7 @@ impl Prepared {
         replay_into(alloc, &self.lists, cuts, piece, Draft::new(alloc))
     }
 
-    /// What is recovered, if this is the draft of the store.
+    /// Makes the store from its draft, and the report. The draft must have the walk of the survivors.
     pub fn finish(self, draft: Draft) -> Result<Recovered, Memory>
         requires { IsWalk self.updates (layer_walk draft) }
         ensures { IfOk result (IsMadeOf self) }
@@ -173,7 +173,7 @@ impl Prepared {
     }
 }
 
-/// The parts of the checkpoint; none if there is none.
+/// Returns the parts of the checkpoint, or none without a checkpoint.
 fn parts_of(alloc: Global, chosen: Option<Checkpoint>) -> Vec<PartText<KeptEntries>>
     ensures { entry_updates (option_map checkpoint_in chosen) ≡ wholes (entries_of (shown_by_all result.items)) }
 {

@@ -15,21 +15,21 @@ use std::rt::Files;
 /// The most files that a program of this repository takes.
 pub const MOST_FILES: usize = 512;
 
-/// The most bytes of a file.
+/// The most bytes that a file may have.
 pub const MOST_BYTES: u64 = 1_073_741_824;
 
-/// Why nothing was printed.
+/// The reason why the store was not printed.
 #[derive(Drop)]
 enum Failure<'a> {
-    /// No word was given.
+    /// No argument was given.
     NoFiles,
-    /// More than `MOST_FILES` words were given.
+    /// More than `MOST_FILES` arguments were given.
     TooManyFiles,
     /// The file of this name cannot be opened.
     Open(&'a str),
     /// There is no store.
     Recovery(Fault),
-    /// The output failed.
+    /// Write error on the output.
     Output,
 }
 
@@ -44,10 +44,12 @@ impl<'a> From<Fault> for Failure<'a> {
     }
 }
 
-/// Prints the store of the log files of these names, or a line that says why there is none, and answers the exit
-/// status: 0 where it is printed, 1 for a fault of the logs and for want of memory, 2 where no name is given, 3 for a
-/// file that cannot be opened, for too many names and where the output fails. All files are read before any is
-/// recovered. Where nothing is printed, `out` may still have been written to.
+/// Prints the store of the log files of these names on `out`, or a line on `err` that says why it is not printed. Reads
+/// all files before it recovers any.
+///
+/// Returns the exit status: 0 if the store was printed; 1 for a fault of the logs or out of memory; 2 if no name is
+/// given; 3 if a file cannot be opened, for too many names and for a write error. `out` may have been written to even
+/// if the status is not 0.
 pub fn dump_files<R: Files + AllocGlobal, O: Write, E: Write>(
     rt: &R,
     names: &[String],
@@ -63,14 +65,14 @@ pub fn dump_files<R: Files + AllocGlobal, O: Write, E: Write>(
     match dump(rt, names, out) {
         Ok(()) => 0,
         Err(failure) => {
-            // A line that cannot be written changes no status.
+            // A write error does not change the status.
             let _ = write_failure(&failure, err);
             status(&failure)
         }
     }
 }
 
-/// Recovers the files, whose bytes are let go before the store is printed.
+/// Recovers the store of the files and prints it. Frees the bytes of the files before it prints.
 fn dump<'a, R: Files + AllocGlobal, O: Write>(
     rt: &R,
     names: &'a [String],
@@ -91,7 +93,7 @@ fn dump<'a, R: Files + AllocGlobal, O: Write>(
     print(recovered.store(), out)
 }
 
-/// The store of the files.
+/// Recovers the store of the files.
 fn recover_files<'a, R: Files + AllocGlobal>(
     rt: &R,
     names: &'a [String],
@@ -103,7 +105,7 @@ fn recover_files<'a, R: Files + AllocGlobal>(
     Ok(recover_bytes(rt.alloc(), &files)?)
 }
 
-/// The store of the logs that have these bytes.
+/// Recovers the store of the logs that have these bytes.
 fn recover_bytes(alloc: Global, files: &[Vec<u8>]) -> Result<Recovered, Fault>
     ensures { IfOk result (λ recovered. IsStoreOfSome (length files.now) recovered.store) }
 {
@@ -111,7 +113,7 @@ fn recover_bytes(alloc: Global, files: &[Vec<u8>]) -> Result<Recovered, Fault>
     recover_logs(alloc, &logs)
 }
 
-/// Prints the store, and hands on what a buffer still holds, so that its fault has a status.
+/// Prints the store and flushes the output, so that a late write error has a status too.
 fn print<'a, O: Write>(store: &Store, out: &mut O) -> Result<(), Failure<'a>>
     ensures printed { OnOk result
         (Appends (O.contents out.old) (O.contents out.new) (dump_text store.now)) }
@@ -126,7 +128,7 @@ fn print<'a, O: Write>(store: &Store, out: &mut O) -> Result<(), Failure<'a>>
     Ok(())
 }
 
-/// Reads all files, each before the next is opened.
+/// Reads all files. Reads each file before it opens the next.
 fn read_files<'a, R: Files + AllocGlobal>(
     rt: &R,
     names: &'a [String],
@@ -146,17 +148,17 @@ fn read_files<'a, R: Files + AllocGlobal>(
     Ok(files)
 }
 
-/// Why the bytes of a file are not there.
+/// The reason why a file was not read.
 #[derive(Drop)]
 enum Unread {
-    /// A growth was refused.
+    /// Out of memory.
     Memory,
-    /// The file cannot be opened or read whole, or has more than `MOST_BYTES`.
+    /// The file cannot be opened or read completely, or has more than `MOST_BYTES` bytes.
     Source,
 }
 
 impl Unread {
-    /// The failure that it is, as that of the file of this name, which is not open.
+    /// Returns the failure for a file of this name that could not be opened.
     fn of_opening<'a>(self, name: &'a str) -> Failure<'a>
         ensures memory { self ≡ Unread.Memory → result ≡ Failure.Recovery Fault.Memory }
         ensures source { self ≡ Unread.Source → result ≡ Failure.Open name.entry }
@@ -167,7 +169,7 @@ impl Unread {
         }
     }
 
-    /// The fault of recovery that it is, as that of the log of this number.
+    /// Returns the fault of recovery for the log of this number.
     fn of_log(self, log: usize) -> Fault
         ensures memory { self ≡ Unread.Memory → result ≡ Fault.Memory }
         ensures source { self ≡ Unread.Source → result ≡ Fault.Source log }
@@ -200,14 +202,14 @@ impl From<io::Error> for Unread {
     }
 }
 
-/// The bytes of a file. Its size is looked at first, so that a file that is too large is refused at once; no more
-/// than a byte past the limit is read, so that one that grows is refused too.
+/// Reads the bytes of a file. Looks at its size first, to refuse a file that is too large at once. Reads at most one
+/// byte past the limit, to refuse a file that grows.
 fn read_file<R: Files + AllocGlobal>(rt: &R, file: R::File) -> Result<Vec<u8>, Unread> {
     let size = file.metadata()?.len();
     if size > MOST_BYTES {
         return Err(Unread::Source);
     }
-    // A byte more than the file has, so that its end is found without a growth.
+    // One byte more than the file has, so that reading finds its end without growing the buffer.
     let mut bytes = Vec::with_capacity(rt.alloc(), size as usize + 1)?;
     let count = file.take(MOST_BYTES + 1).read_to_end(&mut bytes)?;
     if count as u64 > MOST_BYTES {
@@ -216,7 +218,7 @@ fn read_file<R: Files + AllocGlobal>(rt: &R, file: R::File) -> Result<Vec<u8>, U
     Ok(bytes)
 }
 
-/// The bytes of each file.
+/// Returns the bytes of each file as a slice.
 fn slices_of(alloc: Global, files: &[Vec<u8>]) -> Result<Vec<&[u8]>, Memory>
     ensures { IfOk result (λ slices. vec_len slices ≡ length files.now) }
 {
@@ -227,7 +229,7 @@ fn slices_of(alloc: Global, files: &[Vec<u8>]) -> Result<Vec<&[u8]>, Memory>
     Ok(slices)
 }
 
-/// The exit status of a failure.
+/// Returns the exit status of a failure.
 fn status(failure: &Failure<'_>) -> u8
     ensures { result ≡ status_of failure.now }
 {

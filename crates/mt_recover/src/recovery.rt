@@ -28,17 +28,17 @@ use std::alloc::Global;
 use std::marker::Model;
 use std::thread::Threads;
 
-/// The sources of the logs and of the checkpoint parts. A log's position in its list is its number, and a part's
-/// likewise. Sources of several kinds go together under an enum that is a `Source`.
+/// The sources of the logs and of the checkpoint parts. The number of a log is its position in its list, and so for
+/// parts. To use sources of several kinds together, put them into an enum that is a `Source`.
 #[derive(Debug, Drop)]
 pub struct Inputs<S> {
-    /// One for each worker's log.
+    /// The sources of the logs, one for each worker's log.
     pub logs: Vec<S>,
-    /// Those of the checkpoint parts, in any order.
+    /// The sources of the checkpoint parts, in any order.
     pub parts: Vec<S>,
 }
 
-/// What was recovered.
+/// A recovered store and its report.
 #[derive(Drop)]
 pub struct Recovered {
     store: Store,
@@ -54,21 +54,21 @@ impl Model for Recovered {
 }
 
 impl Recovered {
-    /// A store and its report.
+    /// Puts together a store and its report.
     pub(crate) fn of(store: Store, report: Report) -> Recovered
         ensures { result ≡ record { store = store; report = report } }
     {
         Recovered { store, report }
     }
 
-    /// The store.
+    /// Returns the store.
     pub fn store(&self) -> &Store
         ensures { result.now ≡ self.now.store }
     {
         &self.store
     }
 
-    /// The report.
+    /// Returns the report.
     pub fn report(&self) -> &Report
         ensures { result.now ≡ self.now.report }
     {
@@ -76,15 +76,19 @@ impl Recovered {
     }
 }
 
-/// The store of the logs and checkpoint parts that the sources have, and its report, on one thread. Where there is a
-/// valid checkpoint that ends below the cutoff, the logs are replayed over the last such one, from where it begins; a
-/// broken part is no fault. Each log is scanned once, in the order of the list, and then each part; no source outlives
-/// the call. Without a log nothing is read.
+/// Recovers the store of the logs and checkpoint parts that the sources have, and its report, on one thread. If there
+/// is a valid checkpoint that ends below the cutoff, replays the logs over the last such checkpoint, from where it
+/// begins. A broken part is no fault. Scans each log once, in the order of the list, and then each part. Reads nothing
+/// if there is no log. No source outlives the call.
 ///
-/// An Err is `NoLogs`; the fault of the first log that has one, or `Source` in its place where a source that is not
-/// steady failed; where no log has a fault, `PartSource` of the first part whose source, not a steady one, failed; then
-/// `Gap`; or `Memory` where a growth was refused. Of a source that does not tell its bytes no more is said than that it
-/// had some.
+/// An Err is the first of these that holds:
+/// - `NoLogs`, if there is no log;
+/// - the fault of the first log that has one: a fault of its bytes, or `Source` if its source failed;
+/// - `PartSource` of the first part whose source failed;
+/// - `Gap`, if a log has a gap.
+///
+/// Or it is `Memory`, if an allocation fails. `Source` and `PartSource` never blame a steady source. If a source does
+/// not report its bytes, the contract says only that it had some bytes.
 pub fn recover_one<S: Source>(alloc: Global, inputs: Inputs<S>) -> Result<Recovered, Fault>
     ensures { IsRecoveryFrom S.seen inputs.logs.items inputs.parts.items result }
 {
@@ -92,11 +96,12 @@ pub fn recover_one<S: Source>(alloc: Global, inputs: Inputs<S>) -> Result<Recove
     recover_scanned(alloc, outcomes)
 }
 
-/// What `recover_one` answers, by so many workers and with the keys cut so: neither changes the answer. It prepares the
-/// job, works on it by each worker, in a thread of its own where one can be made, and assembles the store: workers run
-/// by fork and join.
+/// Recovers the same store and report as `recover_one`, with these workers and the keys cut into pieces. Neither the
+/// workers nor the cuts change the result. Prepares the job, lets each worker work on it, and assembles the store. The
+/// workers run by fork and join, each in a thread of its own if one can be made.
 ///
-/// An Err is that of `recover_one`, whichever worker ended first. All logs and parts are scanned before one is named.
+/// Err: the same as for `recover_one`, whichever worker ends first. All logs and parts are scanned before a fault is
+/// named.
 pub fn recover<R: Threads + Sync, S: Source + Send, G: Gate>(
     rt: &R,
     alloc: Global,
@@ -112,8 +117,8 @@ pub fn recover<R: Threads + Sync, S: Source + Send, G: Gate>(
     assemble(alloc, job, hauls, passes)
 }
 
-/// The store of the logs whose bytes are these, without a checkpoint, and its report, on one thread. The position of a
-/// log in the list is its number. An Err is the one fault of the logs, or `Memory` where a growth was refused.
+/// Recovers the store of the logs that have these bytes, without a checkpoint, and its report, on one thread. The
+/// number of a log is its position in the list. Err: the one fault of the logs, or `Memory` if an allocation fails.
 pub fn recover_logs(alloc: Global, logs: &[&[u8]]) -> Result<Recovered, Fault>
     ensures recovered { IfOk result (IsRecoveredOf (map (λ log. log.now) logs.now) []) }
     ensures fault { IfErr result (IsVerdictOrMemory (map (λ log. log.now) logs.now) []) }
@@ -122,7 +127,7 @@ pub fn recover_logs(alloc: Global, logs: &[&[u8]]) -> Result<Recovered, Fault>
     recover_scanned(alloc, outcomes)
 }
 
-/// What recovery answers if the scans of logs and parts answer this, on one thread and in one piece.
+/// Recovers from these answers of the scans, on one thread and in one piece.
 fn recover_scanned(alloc: Global, outcomes: Outcomes) -> Result<Recovered, Fault>
     requires { (logs parts : List Seen) × AreOutcomes logs parts outcomes }
     ensures { (logs parts : List Seen) → AreOutcomes logs parts outcomes → IsRecoveryFrom (λ seen. seen) logs parts result }
@@ -131,7 +136,7 @@ fn recover_scanned(alloc: Global, outcomes: Outcomes) -> Result<Recovered, Fault
     Ok(replay_whole(alloc, found)?)
 }
 
-/// What is recovered of what was found.
+/// Recovers the store and the report from what was found, in one piece.
 fn replay_whole(alloc: Global, found: Found) -> Result<Recovered, Memory>
     requires { IsFound found }
     ensures { (logs parts : List (List ℕ)) → IsFoundOf logs parts found → IfOk result (IsRecoveredOf logs parts) }
@@ -141,10 +146,10 @@ fn replay_whole(alloc: Global, found: Found) -> Result<Recovered, Memory>
     prepared.finish(draft)
 }
 
-/// What a worker gives back: its pass, and the haul of all that it drew. None if it ran out of memory.
+/// The result of a worker: its pass, and the haul of all pieces that it drew. None if it ran out of memory.
 type Worked = Option<(Pass, Haul)>;
 
-/// Each worker works on the job with a pass of its own, by fork and join.
+/// Lets each worker work on the job with a pass of its own, by fork and join. Returns their passes and hauls.
 fn work_all<R: Threads + Sync, G: Gate>(
     rt: &R,
     alloc: Global,
@@ -170,7 +175,7 @@ fn work_all<R: Threads + Sync, G: Gate>(
     settle(alloc, job, worked)
 }
 
-/// Works with a pass, and gives it back with the haul.
+/// Works on the job with a pass. Returns the pass and the haul.
 fn work_with<G: Gate>(alloc: Global, job: &Job, mut pass: Pass, gate: &G) -> Worked
     requires { (pass.board ≡ job.now.board) × (pass.draws ≡ []) }
     ensures { IfSome result (λ worked. HasWorked job.now worked.0 worked.1) }
@@ -179,7 +184,7 @@ fn work_with<G: Gate>(alloc: Global, job: &Job, mut pass: Pass, gate: &G) -> Wor
     Some((pass, haul))
 }
 
-/// The passes and the hauls, if no worker ran out of memory.
+/// Returns the passes and the hauls. Err: a worker ran out of memory, or this call did.
 fn settle(
     alloc: Global,
     job: &Job,

@@ -1,4 +1,4 @@
-//! What recovery found in logs and parts, and what became of it.
+//! The report of what recovery found in logs and parts, and of what became of it.
 ghost use Rattle.std.specs.Prelude.{◌≡◌, List, ℕ, length, sum_by};
 ghost use Rattle.std.specs.Fn.{FnReturnsAt};
 ghost use Rattle.std.specs.Option.{option_map};
@@ -10,44 +10,44 @@ ghost use Rattle.mt_recover.specs.Survivors.{entry_updates};
 use crate::found::Found;
 use mt_scan::{Checkpoint, Choice, LogScan};
 
-/// What recovery found in logs and parts, and what became of it. The updates of logs are their puts, removes and erases.
-/// Each whole record of a log is a mark, or an update that is early, late or survives.
+/// The report of what recovery found in logs and parts, and of what became of it. The updates of logs are their puts,
+/// removes and erases. Each complete record of a log is a mark, or an update that is early, late or survives.
 #[derive(Debug, Drop)]
 pub struct Report {
-    /// How many logs there are.
+    /// The number of logs.
     pub logs: usize,
-    /// The whole records of all logs, marks included.
+    /// The number of complete records in all logs, marks included.
     pub records: u128,
-    /// The marks among them.
+    /// The number of marks among them.
     pub marks: u128,
-    /// How many logs end in a torn tail.
+    /// The number of logs that end in a torn tail.
     pub torn: usize,
     /// The timestamp below which updates survive.
     pub cutoff: u64,
     /// The number of the chosen checkpoint, if there is one.
     pub checkpoint: Option<u32>,
-    /// The timestamp from which on updates survive: where the checkpoint begins, or 0.
+    /// The timestamp from which updates survive: where the checkpoint begins, or 0 without one.
     pub begin: u64,
     /// The numbers of the invalid checkpoints, rising.
     pub skipped: Vec<u32>,
     /// The positions of the nameless parts, rising.
     pub nameless: Vec<usize>,
-    /// The entries of the chosen checkpoint.
+    /// The number of entries in the chosen checkpoint.
     pub entries: u128,
-    /// The updates and entries that survive.
+    /// The number of updates and entries that survive.
     pub survivors: u128,
-    /// The updates below `begin`.
+    /// The number of updates below `begin`.
     pub early: u128,
-    /// The updates at or past the cutoff.
+    /// The number of updates at or after the cutoff.
     pub late: u128,
-    /// The keys of the store.
+    /// The number of keys in the store.
     pub keys: u128,
-    /// The layers of its tree: one, and one for each 8 bytes, or 16, 24 and so on, that begin two or more longer keys.
-    /// It stops at 2^64 - 1.
+    /// The number of layers of its tree: one, plus one for each 8 bytes, or 16, 24 and so on, that begin two or more
+    /// longer keys. The count stops at 2^64 - 1.
     pub layers: u64,
 }
 
-/// What is counted before anything is replayed.
+/// The counts that are known before replay.
 #[derive(Drop)]
 pub(crate) struct Counts {
     pub logs: usize,
@@ -63,7 +63,7 @@ pub(crate) struct Counts {
 }
 
 impl Counts {
-    /// Counts what was found. Returns also what of it is replayed: the scans, and the chosen checkpoint.
+    /// Counts what was found. Also returns what is replayed: the scans, and the chosen checkpoint.
     pub fn of(found: Found) -> (Counts, Vec<LogScan>, Option<Checkpoint>)
         ensures scans { result.1 ≡ found.scans }
         ensures chosen { result.2 ≡ found.choice.chosen }
@@ -94,7 +94,7 @@ impl Counts {
         (counts, scans, chosen)
     }
 
-    /// The report of these counts, and of so many early updates, survivors, keys and layers.
+    /// Returns the report of these counts, with the numbers of early updates, survivors, keys and layers.
     pub fn report(self, early: u128, survivors: u128, keys: u128, layers: u64) -> Report
         requires { HasRoomFor self early survivors }
         ensures { result ≡ report_of self early survivors keys layers }
@@ -121,7 +121,7 @@ impl Counts {
     }
 }
 
-/// The sum of a number of each item. It is exact: a slice has fewer than 2^64 items.
+/// Returns the sum of a number of each item. The sum is exact, because a slice has fewer than 2^64 items.
 pub(crate) fn total<T, F: Fn(&T) -> u64>(items: &[T], number: F) -> u128
     requires { F.IsAlwaysCallable number }
     ensures { (of : T → ℕ) → ((x : T) (n : ℕ) → FnReturnsAt F.Fn number x n → n ≡ of x) →
@@ -134,7 +134,7 @@ pub(crate) fn total<T, F: Fn(&T) -> u64>(items: &[T], number: F) -> u128
     sum
 }
 
-/// The entries of the checkpoint.
+/// Counts the entries of the checkpoint: 0 without one.
 fn entry_count(chosen: &Option<Checkpoint>) -> u128
     ensures { result ≡ length (entry_updates (option_map checkpoint_in chosen.now)) }
 {

@@ -2,7 +2,8 @@
 use crate::report::Report;
 use std::fmt::{self, Display, Formatter, Write};
 
-/// A line for each number, `name=value`, in the order of the fields. A list is its numbers between commas, or `none`.
+/// Writes each number as a line `name=value`, in the order of the fields. A list is written as its numbers with commas
+/// between them, or as `none`.
 impl Display for Report {
     fn fmt<W: Write>(&self, f: &mut Formatter<W>) -> fmt::Result {
         write_lines(f, &of_logs(self))?;
@@ -14,7 +15,7 @@ impl Display for Report {
     }
 }
 
-/// The numbers of the logs, by their names.
+/// Returns the numbers of the logs, with their names.
 fn of_logs(report: &Report) -> [(&'static str, u128); 5] {
     [
         ("logs", report.logs as u128),
@@ -25,7 +26,7 @@ fn of_logs(report: &Report) -> [(&'static str, u128); 5] {
     ]
 }
 
-/// The numbers of the updates and of what became of them, by their names.
+/// Returns the numbers of the updates and of what became of them, with their names.
 fn of_updates(report: &Report) -> [(&'static str, u128); 6] {
     [
         ("entries", report.entries),

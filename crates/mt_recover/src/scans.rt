@@ -1,5 +1,5 @@
-//! Scans of all logs and checkpoint parts. Those of logs share a board, so that each can drop what comes too late for
-//! another.
+//! Scans all logs and checkpoint parts. The scans of logs share a board, so that each can drop updates that come too
+//! late for another log.
 ghost use Rattle.std.specs.Prelude.{◌≡◌, ◌<◌, ◌≤◌, ◌++◌, [], ◌∷◌, map, length, All, IfOk, OnOk, option_to_list};
 ghost use Rattle.std.specs.Vec.Iter.{into_iter_items};
 ghost use Rattle.mt_board.specs.Board.{nothing_noted};
@@ -18,7 +18,7 @@ use std::thread;
 use std::thread::Threads;
 use std::vec::IntoIter;
 
-/// What the scans of the logs and of the parts answered, each in the order of their numbers.
+/// The answers of the scans of logs and parts, each list in the order of their numbers.
 #[derive(Drop)]
 pub(crate) struct Outcomes {
     /// The scan of each log, or its fault.
@@ -28,7 +28,7 @@ pub(crate) struct Outcomes {
 }
 
 impl Outcomes {
-    /// Adds what one more scan answered.
+    /// Appends the answer of one more scan.
     fn add(&mut self, answer: Scanned) -> Result<(), Memory>
         ensures logs { OnOk result (self.new.logs.items ≡ self.old.logs.items ++ option_to_list (log_in answer)) }
         ensures parts { OnOk result (self.new.parts.items ≡ self.old.parts.items ++ option_to_list (part_in answer)) }
@@ -41,14 +41,14 @@ impl Outcomes {
     }
 }
 
-/// Whether a source has a log or a part.
+/// The kind of a source: a log or a part.
 #[derive(Clone, Copy)]
 enum Kind {
     Log,
     Part,
 }
 
-/// A source to scan: that of the log or of the part of this number.
+/// A source to scan, with the kind and the number of its log or part.
 #[derive(Drop)]
 struct ScanJob<S> {
     kind: Kind,
@@ -56,7 +56,7 @@ struct ScanJob<S> {
     source: S,
 }
 
-/// What the scan of a source answered.
+/// The answer of the scan of a source.
 #[derive(Drop)]
 enum Scanned {
     Log(Result<LogScan, Fault>),
@@ -70,15 +70,15 @@ struct Share<S> {
     pass: Pass,
 }
 
-/// What a worker's scans answered, and its pass.
+/// The answers of a worker's scans, and its pass.
 #[derive(Drop)]
 struct Scans {
     answers: IntoIter<Scanned>,
     pass: Pass,
 }
 
-/// Scans the logs and then the parts, one after the other. Each source is dropped when it is scanned. Without a log
-/// nothing is read. An update is dropped if it comes too late for a log that was scanned before.
+/// Scans the logs and then the parts, one after the other. Drops each source after its scan. Reads nothing if there is
+/// no log. Drops an update if it comes too late for a log that was scanned before.
 pub(crate) fn scan_one<S: Source>(alloc: Global, inputs: Inputs<S>) -> Result<Outcomes, Memory>
     ensures { IfOk result (AreOutcomes (map S.seen inputs.logs.items) (map S.seen inputs.parts.items)) }
 {
@@ -92,7 +92,8 @@ pub(crate) fn scan_one<S: Source>(alloc: Global, inputs: Inputs<S>) -> Result<Ou
     gather_scans(alloc, board, all_done(alloc, scans)?)
 }
 
-/// The same by several threads. An update is dropped if it comes too late for a log that any of them has scanned.
+/// Does the same as `scan_one` on several threads. Drops an update if it comes too late for a log that any of them has
+/// scanned.
 pub(crate) fn scan_all<R: Threads + Sync, S: Source + Send>(
     rt: &R,
     alloc: Global,
@@ -140,7 +141,7 @@ fn jobs_of<S: Drop>(alloc: Global, inputs: Inputs<S>) -> Result<Vec<ScanJob<S>>,
     Ok(jobs)
 }
 
-/// Numbers the jobs of sources of this kind.
+/// Returns the jobs of sources of this kind, numbered from 0.
 fn number_all<S: Drop>(
     alloc: Global,
     kind: Kind,
@@ -160,7 +161,7 @@ fn number_all<S: Drop>(
     Ok(jobs)
 }
 
-/// Deals the jobs to a share for each worker, with a pass to a new board.
+/// Deals the jobs into shares, at most one for each worker, and gives each share a pass to a new board.
 fn share_out<S: Drop>(
     alloc: Global,
     jobs: Vec<ScanJob<S>>,
@@ -179,7 +180,7 @@ fn share_out<S: Drop>(
     Ok((board, shares))
 }
 
-/// The shares of these jobs, each with a pass.
+/// Returns the shares of these jobs, each with a pass.
 fn with_passes<S: Drop>(
     alloc: Global,
     dealt: Vec<VecDeque<ScanJob<S>>>,
@@ -240,7 +241,7 @@ fn gather_scans(alloc: Global, board: Board, scans: Vec<Scans>) -> Result<Outcom
     outcomes_of(alloc, gather(alloc, answers)?)
 }
 
-/// The passes of workers, and their answers.
+/// Splits the scans of workers into their passes and their answers.
 fn split(alloc: Global, scans: Vec<Scans>) -> Result<(Vec<Pass>, Vec<IntoIter<Scanned>>), Memory>
     ensures passes { IfOk result (λ split. split.0.items ≡ passes_of scans.items) }
     ensures answers { IfOk result (λ split. split.1.items ≡ map (λ scans. scans.answers) scans.items) }
@@ -254,7 +255,7 @@ fn split(alloc: Global, scans: Vec<Scans>) -> Result<(Vec<Pass>, Vec<IntoIter<Sc
     Ok((passes, answers))
 }
 
-/// Tells the answers of logs from those of parts.
+/// Separates the answers of logs from those of parts.
 fn outcomes_of(alloc: Global, scanned: Vec<Scanned>) -> Result<Outcomes, Memory>
     ensures { IfOk result (λ outcomes. (outcomes.logs.items ≡ logs_in scanned.items) × (outcomes.parts.items ≡ parts_in scanned.items)) }
 {

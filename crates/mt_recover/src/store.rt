@@ -8,12 +8,12 @@ use mt_tree::{Hit, Tree, Visitor, Wanted};
 use mt_words::{Columns, Kept, Memory};
 use std::marker::Model;
 
-/// A store: keys in order, each with its columns, in a layered tree. A contract sees it as the list of its pairs.
+/// A store: keys in order, each with its columns, in a layered tree. Contracts see it as the list of its pairs.
 pub struct Store {
     tree: Tree,
 }
 
-/// In words, as that of `Columns` is.
+/// Written out, not derived, for the same reason as the drop of `Columns`.
 impl Drop for Store {
     fn drop(self) {
         let Store { tree: _ } = self;
@@ -33,7 +33,7 @@ impl Model for Store {
 }
 
 impl Store {
-    /// The store of the pairs of this tree.
+    /// Creates the store of the pairs of this tree.
     pub(crate) fn of(tree: Tree) -> Store
         requires { IsMap (tree_walk tree) }
         ensures { result ≡ tree_walk tree }
@@ -51,15 +51,16 @@ impl Store {
         self.tree.get(key)
     }
 
-    /// The first `n` pairs whose key is at or after `start`, in order, each with those of its columns that are wanted,
-    /// which may be none. The start may have any length.
+    /// Returns the first `n` pairs whose key is at or after `start`, in order. Each pair has those of its columns that
+    /// are wanted, which may be none. The start may have any length. Err: out of memory.
     pub fn getrange(&self, start: &[u8], n: usize, wanted: Wanted) -> Result<Vec<Hit>, Memory>
         ensures { IfOk result (λ found. found.items ≡ hits wanted self.now start.now n) }
     {
         self.tree.getrange(start, n, wanted)
     }
 
-    /// Shows all pairs in order, and takes no memory. After an Err of the visitor no further pair is shown.
+    /// Shows all pairs to the visitor, in order. Allocates no memory. Shows no further pair after an Err of the
+    /// visitor.
     pub fn visit<T, V: Visitor<T>>(&self, visitor: &V, target: &mut T) -> Result<(), V::Error>
         ensures { OnOk result (V.shown target.old target.new self.now) }
     {

@@ -11,17 +11,17 @@ use mt_scan::LogScan;
 use mt_words::Memory;
 use std::alloc::Global;
 
-/// What survives of a log.
+/// The surviving updates of a log, and the number of its early ones.
 #[derive(Drop)]
 pub(crate) struct LogSurvivors {
-    /// How many of its updates lie below the window.
+    /// The number of its updates below the window.
     pub early: u64,
-    /// The cells of those in the window.
+    /// The cells of its updates in the window.
     pub cells: Vec<LogCells>,
 }
 
 impl LogSurvivors {
-    /// What survives of the log of this scan.
+    /// Collects the surviving updates of the log of this scan.
     pub fn of(alloc: Global, scan: &LogScan, window: Window) -> Result<LogSurvivors, Memory>
         ensures { IfOk result (IsLeftBy window scan.now) }
     {
@@ -32,11 +32,11 @@ impl LogSurvivors {
     }
 }
 
-/// The updates of a log below this timestamp.
+/// Counts the updates of a log whose timestamp is below `begin`.
 fn early_among(updates: &Updates, begin: u64) -> u64
     ensures { result ≡ length (filter (is_early begin) (kept_updates updates.now)) }
 {
-    // Nothing lies below 0, and without a checkpoint no log is gone over.
+    // No timestamp is below 0. So without a checkpoint no log is walked through.
     if begin == 0 {
         return 0;
     }
@@ -49,7 +49,7 @@ fn early_among(updates: &Updates, begin: u64) -> u64
     count
 }
 
-/// Whether this is an update below this timestamp.
+/// Returns whether there is an update and its timestamp is below `begin`.
 fn comes_early(update: Option<Lent<'_>>, begin: u64) -> bool
     ensures { result ≡ list_any (is_early begin) (as_list update.entry) }
 {

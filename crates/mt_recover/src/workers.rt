@@ -1,4 +1,4 @@
-//! How many threads work, how the keys are cut for them, and where they can be held.
+//! The number of threads, the way in which keys are cut for them, and the gate where they can be held.
 ghost use Rattle.std.specs.Prelude.{◌≡◌, ◌≤◌, ◌<◌, ◌↔◌, IsSome, IfSome};
 
 use mt_replay::{Cuts, Pieces};
@@ -7,7 +7,7 @@ use std::marker::Model;
 /// The most workers.
 const MOST_WORKERS: u32 = 64;
 
-/// How many threads may work: 1 to 64.
+/// The number of threads that may work: 1 to 64.
 #[derive(Clone, Copy, Debug)]
 pub struct Workers {
     count: u32,
@@ -26,7 +26,7 @@ impl Model for Workers {
 }
 
 impl Workers {
-    /// So many workers. None where that is 0 or more than 64.
+    /// Returns `count` workers. None if `count` is 0 or more than 64.
     pub fn new(count: u32) -> Option<Workers>
         ensures accepted { IsSome result ↔ (0 < count) × (count ≤ 64) }
         ensures value { IfSome result (λ workers. workers ≡ count) }
@@ -37,7 +37,7 @@ impl Workers {
         Some(Workers { count })
     }
 
-    /// How many there are.
+    /// Returns the number of workers.
     pub fn count(self) -> u32
         ensures value { result ≡ self }
         ensures some { 0 < result }
@@ -46,24 +46,25 @@ impl Workers {
     }
 }
 
-/// How the keys are cut into pieces.
+/// The way in which the keys are cut into pieces.
 #[derive(Debug, Drop)]
 pub enum Cutting {
-    /// Into pieces of about as many keys.
+    /// Into pieces with about the same number of keys.
     Even(Pieces),
-    /// Into no more pieces, of roughly as many updates, which are cut much sooner.
+    /// Into at most this many pieces, with roughly the same number of updates. This cuts much faster than `Even`.
     Sampled(Pieces),
     /// At these keys.
     At(Cuts),
 }
 
-/// Where a worker can be held or seen: it is called once for each piece, by the worker that replays it, before.
+/// A gate where a worker can be held or observed. The worker that replays a piece calls it once for that piece, before
+/// the replay.
 pub trait Gate: Sync {
-    /// The worker enters the piece. Workers and pieces are numbered from 0.
+    /// Lets the worker enter the piece. Workers and pieces are numbered from 0.
     fn enter(&self, worker: u32, piece: u32);
 }
 
-/// Lets everyone through.
+/// The gate that lets every worker through.
 #[derive(Clone, Copy, Debug)]
 pub struct NoGate;
 

@@ -11,9 +11,10 @@ use mt_words::Fault;
 use std::alloc::Global;
 use std::snapshot::Snapshot;
 
-/// Claims pieces of the job until none is left, and replays each once it has entered it at the gate.
+/// Claims pieces of the job until none is left. Enters each at the gate, and then replays it. Returns the haul of the
+/// pieces drawn in this call.
 ///
-/// An Err is `Memory`: the pieces drawn in the call are lost then.
+/// Err: `Memory`. The pieces drawn in this call are then lost.
 #[tactic(auto, using(mt_board::proofs::Drawing::left_falls))]
 pub fn work<G: Gate>(alloc: Global, job: &Job, pass: &mut Pass, gate: &G) -> Result<Haul, Fault>
     requires { pass.old.board ≡ job.now.board }

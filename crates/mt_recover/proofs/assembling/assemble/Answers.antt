@@ -20,7 +20,7 @@ use Rattle.mt_recover.proofs.assembling.assemble.Goals as goal
 total_is : (job inside : JobView) (pieces : ℕ) → inside ≡ job → inside.board.total ≡ length inside.cuts + 1 → pieces ≡ length inside.cuts + 1 → pieces ≡ job.board.total
 total_is job inside pieces same total count = count ∙ sym total ∙ ap (λ (j : JobView). j.board.total) same
 
--- the pieces by number are those of the hauls
+-- the sorted pieces are those of the hauls
 same_pieces : (hauls : List Haul) (held sorted : List Piece) → held ≡ all_held hauls → IsPermutation held sorted → IsPermutation (all_held hauls) sorted
 same_pieces hauls held sorted are same = subst (λ (pieces : List Piece). IsPermutation pieces sorted) are same
 
@@ -47,7 +47,7 @@ returns-in_err-drafts-clause-drawn c back =
     none_left_out c.args.job c.args.hauls.items c.by_number-pieces.result.items c.pieces.result same total c.args.passes.items c.in_err-drafts.field-0.0 back drawn c.in_err-drafts.ensures.missing in
     search (rules, h)
 
--- the drafts in their order are the walk
+-- the drafts joined in order are the walk
 walk_is : (c : goal.After-pieces_make_the_walk) → IsWalk c.args.job.prepared.updates (joined (map layer_walk c.in_ok-drafts.drafts.items))
 walk_is c =
     let job = c.args.job in

@@ -13,7 +13,7 @@ map_vec-requires-after_bounds g c κs within = λ i share lt is.
     let each = dealt_each (λ job. goal.F-pre g c.args.work.now job) c.args.jobs.items (map (λ share. share.items) shares) c.in_ok-shares.ensures.dealt c.requires in
     subst (All (λ job. goal.F-pre g c.args.work.now job)) (get_or-map (λ share. share.items) shares i share share.items lt ∙ ap (λ share. share.items) (sym is)) (each i share.items (omega (arith, lt, length-map shares (λ share. share.items))))
 
--- the answers in the order of the jobs, as they are dealt among the shares
+-- there are answers in the order of the jobs, and they are dealt among the shares as the jobs are
 answered : (g : _) (c : goal.In_ok-all_done g)
     → (answers : List _) × AllZip (λ job answer. goal.F-post g c.args.work.now job answer) c.args.jobs.items answers × AreDealt answers (map into_iter_items c.in_ok-all_done.field-0.items)
 answered g c =

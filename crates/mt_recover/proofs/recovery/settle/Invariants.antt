@@ -3,7 +3,7 @@ use Rattle.std.specs.List.{All}
 use Rattle.mt_recover.specs.Hauls.{HasWorked, HaveWorked}
 use Rattle.mt_recover.proofs.recovery.settle.Given as goal
 
--- those that are settled
+-- the workers that are settled
 abbrev pub invariant-loop-done : goal.invariant-loop-done
 invariant-loop-done l = record {
   left : All (λ done. IfSome done (λ worked. HasWorked l.job worked.0 worked.1)) l.worked.items;

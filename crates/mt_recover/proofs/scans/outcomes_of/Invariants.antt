@@ -3,7 +3,7 @@ use Rattle.std.specs.Vec.Iter.{into_iter_items}
 use Rattle.mt_recover.specs.Scanning.{logs_in, parts_in}
 use Rattle.mt_recover.proofs.scans.outcomes_of.Given as goal
 
--- the first answers are told apart
+-- the first answers are separated
 abbrev pub invariant-loop-answer : goal.invariant-loop-answer
 invariant-loop-answer l = record {
   rest : l.yielded ++ into_iter_items l.answer-iterator ≡ l.fn.scanned.items;

@@ -4,7 +4,7 @@ use Rattle.mt_words.specs.Updates.{updates_from}
 use Rattle.mt_recover.specs.Report.{is_early}
 use Rattle.mt_recover.proofs.survivors.early_among.Given as goal
 
--- those of the first records
+-- the early updates among the first records
 abbrev pub invariant-loop-number : goal.invariant-loop-number
 invariant-loop-number l = record {
   few : l.count ≤ l.number;

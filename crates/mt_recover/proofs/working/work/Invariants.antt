@@ -11,6 +11,6 @@ invariant-loop-number g l = record {
   pieces : All (IsHeldBy l.job) l.pieces.items;
 }
 
--- what is left of the board for the pass
+-- how many numbers the board has left for the pass
 abbrev pub decreases-loop-number : goal.decreases-loop-number
 decreases-loop-number g l = l.job.board.total - above l.pass.draws

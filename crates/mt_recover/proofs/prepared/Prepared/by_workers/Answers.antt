@@ -25,7 +25,7 @@ left g c =
     all_answered (IsLeftBy c.args.found.window) c.args.found.scans.items c.in_ok-logs.logs.items c.in_ok-all_done.field-0.items
     (subst (λ (scans : Vec LogScan Global). AllZip (λ scan (answer : Result LogSurvivors Memory). IfOk answer (IsLeftBy c.args.found.window scan)) scans.items c.in_ok-logs.logs.items) c.of-counts.ensures.scans c.in_ok-logs.ensures) c.in_ok-all_done.ensures.done
 
--- and of the chosen checkpoint
+-- and the updates of the chosen checkpoint
 entries : (g : _) (c : goal.In_ok-all_done-2 g) → IsPermutation (entry_updates (option_map checkpoint_in c.args.found.choice.chosen)) (joined c.in_ok-all_done-2.field-0.items)
 entries g c =
     let chosen = ap (λ (o : Option Checkpoint). entry_updates (option_map checkpoint_in o)) (sym c.of-counts.ensures.chosen) ∙ c.parts_of.ensures in
