@@ -1,4 +1,4 @@
-//! The answer to a query of the recovered store.
+//! Answers a query on the recovered store.
 ghost use Rattle.std.specs.Prelude.{◌≤◌};
 
 use crate::failure::Failure;
@@ -13,9 +13,10 @@ use std::io::{self, BufWriter, Write};
 use std::mem;
 use std::thread::Threads;
 
-/// Recovers the store of the sources, prints what the command asks for, and answers the exit status: 0 where it is
-/// printed, else that of the failure whose line is printed on `err`. The output goes through a buffer. The store is
-/// not freed: a process ends with its answer, and to free a great store key by key takes a tenth of its recovery.
+/// Recovers the store from the sources, prints what the command asks for, and returns the exit status: 0 if it was
+/// printed. On a failure, prints its line on `err` and returns its status. The output is buffered. The store is not
+/// freed: the process ends with its answer, and freeing a large store key by key takes a tenth of the time of its
+/// recovery.
 pub fn answer<R: AllocGlobal + Threads + Sync, S: Source + Send, O: Write, E: Write>(
     rt: &R,
     command: &Command<'_>,
@@ -45,7 +46,7 @@ fn recover_and_print<R: AllocGlobal + Threads + Sync, S: Source + Send, O: Write
     Ok(())
 }
 
-/// How many bytes are printed at once.
+/// The size of the output buffer in bytes.
 const PRINTED_AT_ONCE: usize = 65_536;
 
 /// Prints what the query asks for, through a buffer.
@@ -84,7 +85,7 @@ fn write_found<O: Write>(store: &Store, key: &Key, out: &mut O) -> io::Result<()
     }
 }
 
-/// Prints so many pairs from this key on, with all columns.
+/// Prints the first `count` pairs at or after `start`, with all columns.
 fn print_range<O: Write>(
     store: &Store,
     start: &Key,

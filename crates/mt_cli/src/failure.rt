@@ -1,4 +1,4 @@
-//! Why the program did not do what its words ask, in texts and exit statuses.
+//! Failures of the program, with their texts and exit statuses.
 ghost use Rattle.std.specs.Prelude.{◌≤◌, IfErr};
 
 use mt_words::{Fault, Memory};
@@ -6,16 +6,16 @@ use std::alloc::{AllocError, AllocFailed};
 use std::io::{self, ErrorKind, Write};
 use thiserror::Error;
 
-/// Why the program did not do what its words ask.
+/// The reason why the program did not do what its arguments ask.
 #[derive(Debug, Drop, Error)]
 pub enum Failure<'a> {
-    /// The words cannot be read, as where one is not UTF-8.
+    /// The arguments cannot be read, for example because one is not UTF-8.
     #[error("cannot read the words")]
     Words,
     /// The key is not hexadecimal, or has more than `LONGEST_KEY` bytes.
     #[error("bad key")]
     Key,
-    /// The folder of this name cannot be listed, or an entry's name is not UTF-8.
+    /// The folder of this name cannot be listed, or a name in it is not UTF-8.
     #[error("cannot list {0}")]
     List(&'a str),
     /// The folder has too many logs and parts.
@@ -27,13 +27,13 @@ pub enum Failure<'a> {
     /// There is no store.
     #[error("{0}")]
     Recovery(Fault),
-    /// The output failed.
+    /// Write error on the output.
     #[error("output failed")]
     Output,
 }
 
 impl<'a> Failure<'a> {
-    /// This failure for an error of the system, but want of memory by its own name.
+    /// Returns this failure for an I/O error, or the fault `Memory` if the error is out of memory.
     pub fn or_memory(self, error: &io::Error) -> Failure<'a> {
         if error.kind() == ErrorKind::OutOfMemory {
             Failure::Recovery(Fault::Memory)
@@ -42,7 +42,7 @@ impl<'a> Failure<'a> {
         }
     }
 
-    /// The exit status.
+    /// Returns the exit status.
     pub fn status(&self) -> u8
         ensures { result ≤ 3 }
     {
@@ -57,7 +57,7 @@ impl<'a> Failure<'a> {
         }
     }
 
-    /// Prints the line of the failure, and answers its status, which a line that cannot be written does not change.
+    /// Prints the line of the failure on `err` and returns its exit status. A write error does not change the status.
     pub fn tell<E: Write>(&self, err: &mut E) -> u8
         ensures { result ≤ 3 }
     {
@@ -66,7 +66,7 @@ impl<'a> Failure<'a> {
     }
 }
 
-/// Prints the line of the failure, where it failed, and answers its status in its place.
+/// Passes on an Ok. For an Err, prints the line of the failure on `err` and returns its exit status as the Err.
 pub fn or_tell<T: Drop, E: Write>(outcome: Result<T, Failure<'_>>, err: &mut E) -> Result<T, u8>
     ensures { IfErr result (λ status. status ≤ 3) }
 {
@@ -82,7 +82,7 @@ impl<'a> From<Fault> for Failure<'a> {
     }
 }
 
-/// Where no other failure is named, it is the output that failed, whatever it says of why.
+/// An I/O error that no other failure names is a write error on the output, whatever its kind.
 impl<'a> From<io::Error> for Failure<'a> {
     fn from(_error: io::Error) -> Failure<'a> {
         Failure::Output

@@ -4,14 +4,14 @@ use std::alloc::{AllocError, Global};
 /// The names of the logs and parts of a folder, each kind in byte order.
 #[derive(Debug, Drop)]
 pub struct Names {
-    /// Those that end in `.mtl`.
+    /// The names of the logs. They end in `.mtl`.
     pub logs: Vec<String>,
-    /// Those that end in `.mtc`.
+    /// The names of the parts. They end in `.mtc`.
     pub parts: Vec<String>,
 }
 
 impl Names {
-    /// No names.
+    /// Creates an empty `Names`.
     pub(crate) fn new(alloc: Global) -> Names {
         Names {
             logs: Vec::new(alloc),
@@ -19,7 +19,7 @@ impl Names {
         }
     }
 
-    /// Adds the name of a log or a part. Any other is ignored.
+    /// Adds the name of a log or a part. Ignores any other name. Err: out of memory.
     pub(crate) fn add(&mut self, alloc: Global, name: &str) -> Result<(), AllocError> {
         let kind = if name.ends_with(".mtl") {
             &mut self.logs

@@ -1,9 +1,9 @@
-//! The words that the program takes.
+//! The arguments that the program takes.
 use clap::builder::ValueParser;
 use clap::{Arg, Command, arg};
 use std::alloc::{AllocError, Global};
 
-/// The words that the program takes.
+/// Returns the grammar of the arguments that the program takes. Err: out of memory.
 pub fn grammar<'a>(alloc: Global) -> Result<Command<'a>, AllocError> {
     let program = with(program(alloc), report(alloc));
     let program = with(program, get(alloc));
@@ -11,7 +11,7 @@ pub fn grammar<'a>(alloc: Global) -> Result<Command<'a>, AllocError> {
     with(program, dump(alloc))
 }
 
-/// The program with one more subcommand, where there was memory for both.
+/// Adds a subcommand to the program. If either is an Err, returns that Err. Err: out of memory.
 fn with<'a>(
     program: Result<Command<'a>, AllocError>,
     words: Result<Command<'a>, AllocError>,
@@ -23,7 +23,7 @@ fn with<'a>(
 const STATUSES: &str =
     "Exit status: 0 done, 1 no store (a fault), 2 bad arguments, 3 folder, file or output failed";
 
-/// The program without its subcommands.
+/// Returns the program without its subcommands.
 fn program<'a>(alloc: Global) -> Result<Command<'a>, AllocError> {
     let program = Command::new(alloc, "mtrecover")
         .version("1.0 (file formats 1 and 2)")
@@ -37,21 +37,21 @@ fn program<'a>(alloc: Global) -> Result<Command<'a>, AllocError> {
     program.bin_name("mtrecover")
 }
 
-/// The words of `report`.
+/// Returns the subcommand `report`.
 fn report<'a>(alloc: Global) -> Result<Command<'a>, AllocError> {
     let about = "Prints what recovery found in the logs and parts, as NAME=VALUE lines";
     let example = "Example: mtrecover report examples/store";
     subcommand(alloc, "report", about, example)
 }
 
-/// The words of `get`.
+/// Returns the subcommand `get`.
 fn get<'a>(alloc: Global) -> Result<Command<'a>, AllocError> {
     let about = "Prints a key with its columns, or `absent`";
     let example = "Example: mtrecover get examples/store 666967";
     subcommand(alloc, "get", about, example)?.arg(key(alloc))
 }
 
-/// The words of `range`.
+/// Returns the subcommand `range`.
 fn range<'a>(alloc: Global) -> Result<Command<'a>, AllocError> {
     let about = "Prints the first keys at or after a key, with their columns";
     let example = "Example: mtrecover range examples/store 6b 2";
@@ -60,13 +60,13 @@ fn range<'a>(alloc: Global) -> Result<Command<'a>, AllocError> {
         .arg(count(alloc))
 }
 
-/// The words of `dump`.
+/// Returns the subcommand `dump`.
 fn dump<'a>(alloc: Global) -> Result<Command<'a>, AllocError> {
     let example = "Example: mtrecover dump examples/store --workers 8";
     subcommand(alloc, "dump", "Prints all keys with their columns", example)
 }
 
-/// The words that each subcommand takes.
+/// Returns a subcommand with the arguments that all subcommands take.
 fn subcommand<'a>(
     alloc: Global,
     name: &'a str,
@@ -81,17 +81,17 @@ fn subcommand<'a>(
         .arg(pieces(alloc))
 }
 
-/// The word of the folder.
+/// Returns the argument that names the folder.
 fn folder<'a>(alloc: Global) -> Arg<'a> {
     arg!(in alloc; <DIR> "The folder with the logs (.mtl) and checkpoint parts (.mtc)")
 }
 
-/// The word of the key.
+/// Returns the argument that gives the key.
 fn key<'a>(alloc: Global) -> Arg<'a> {
     arg!(in alloc; <KEY> "The key in hexadecimal; '' is the empty key")
 }
 
-/// The word of how many pairs.
+/// Returns the argument that gives the number of pairs.
 fn count<'a>(alloc: Global) -> Arg<'a> {
     arg!(in alloc; <COUNT> "Print at most this many keys").value_parser(ValueParser::unsigned(
         0,
@@ -99,14 +99,14 @@ fn count<'a>(alloc: Global) -> Arg<'a> {
     ))
 }
 
-/// The option of the workers.
+/// Returns the option that gives the number of workers.
 fn workers<'a>(alloc: Global) -> Arg<'a> {
     arg!(in alloc; --workers <N> "Number of threads: 1 to 64")
         .value_parser(ValueParser::unsigned(1, 64))
         .default_value("4")
 }
 
-/// The option of the pieces.
+/// Returns the option that gives the number of pieces.
 fn pieces<'a>(alloc: Global) -> Arg<'a> {
     arg!(in alloc; --pieces <P> "Cut the keys into at most this many ranges, which threads replay: 1 to 4096")
         .value_parser(ValueParser::unsigned(1, 4096))

@@ -1,4 +1,4 @@
-//! The files of a folder.
+//! Lists the files of a folder.
 ghost use Rattle.std.specs.Prelude.{◌≤◌, IfErr};
 
 use crate::failure::{Failure, or_tell};
@@ -7,8 +7,8 @@ use mt_recover::MOST_FILES;
 use std::fs::{self, Files};
 use std::io::{self, Write};
 
-/// The logs and parts of the folder, by the endings of their names alone. An Err is the exit status, where its line is
-/// printed.
+/// Lists the logs and parts of the folder. Only the ending of a name decides whether it is a log or a part. An Err is
+/// the exit status; the line of the failure is then printed on `err`.
 pub fn names<R: AllocGlobal + Files + Clone + Drop, E: Write>(
     rt: &R,
     folder: &str,
@@ -19,7 +19,7 @@ pub fn names<R: AllocGlobal + Files + Clone + Drop, E: Write>(
     or_tell(list(rt, folder), err)
 }
 
-/// The logs and parts of the folder.
+/// Lists the logs and parts of the folder, each kind in byte order.
 fn list<'a, R: AllocGlobal + Files + Clone + Drop>(
     rt: &R,
     folder: &'a str,
@@ -36,7 +36,7 @@ fn list<'a, R: AllocGlobal + Files + Clone + Drop>(
     Ok(names)
 }
 
-/// The logs and parts of the folder, in no order.
+/// Reads the names of the logs and parts of the folder, in no particular order.
 fn read_names<R: AllocGlobal + Files + Clone + Drop>(rt: &R, folder: &str) -> io::Result<Names> {
     let mut names = Names::new(rt.alloc());
     for entry in fs::read_dir(rt, folder)? {

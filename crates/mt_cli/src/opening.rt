@@ -1,4 +1,4 @@
-//! The sources of the files.
+//! Opens files as sources.
 use crate::failure::Failure;
 use mt_recover::MOST_BYTES;
 use mt_scan::{ReaderSource, Slot};
@@ -6,7 +6,8 @@ use std::fs::{File, Files, OpenFile};
 use std::io;
 use std::path::Path;
 
-/// The files of these names in the folder as sources, each with the buffer of a slot.
+/// Opens the files of these names in the folder as sources, each with the buffer of a slot. Err: a file cannot be
+/// opened, or out of memory.
 pub fn open_all<'a, 'b, R: AllocGlobal + Files>(
     rt: &R,
     folder: &str,
@@ -20,7 +21,7 @@ pub fn open_all<'a, 'b, R: AllocGlobal + Files>(
     Ok(sources)
 }
 
-/// The file of this name in the folder as a source.
+/// Opens the file of this name in the folder as a source.
 fn open_source<'a, 'b, R: AllocGlobal + Files>(
     rt: &R,
     folder: &str,
@@ -28,11 +29,11 @@ fn open_source<'a, 'b, R: AllocGlobal + Files>(
     slot: &'b mut Slot,
 ) -> Result<ReaderSource<'b, R::File>, Failure<'a>> {
     let file = open(rt, folder, name).map_err(|error| Failure::Open(name).or_memory(&error))?;
-    // None only where the slot is empty, which no slot of a new rack is.
+    // None only if the slot is empty. No slot of a new rack is empty.
     ReaderSource::new(file, MOST_BYTES, slot).ok_or(Failure::Open(name))
 }
 
-/// The file of this name in the folder.
+/// Opens the file of this name in the folder.
 fn open<R: AllocGlobal + Files>(rt: &R, folder: &str, name: &str) -> io::Result<R::File> {
     let path = Path::new(folder).join(rt.alloc(), name)?;
     File::open(rt, &path)

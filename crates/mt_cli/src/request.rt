@@ -1,28 +1,28 @@
-//! What the words ask for.
+//! The request that the arguments make.
 use mt_recover::{Pieces, Workers};
 use mt_words::Key;
 
-/// What the words ask for.
+/// The request that the arguments make.
 #[derive(Debug, Drop)]
 pub struct Command<'a> {
     /// The folder of the logs and parts.
     pub folder: &'a str,
-    /// How many threads recover.
+    /// The number of threads that recover.
     pub workers: Workers,
-    /// Into how many pieces the keys are cut.
+    /// The most pieces into which the keys are cut.
     pub pieces: Pieces,
-    /// What is to be printed.
+    /// The query to answer.
     pub query: Query,
 }
 
-/// What is to be printed.
+/// A query: what to print.
 #[derive(Debug, Drop)]
 pub enum Query {
-    /// What recovery found.
+    /// The report of recovery.
     Report,
     /// The pair of a key.
     Get(Key),
-    /// So many pairs from a key on.
+    /// The first pairs at or after a key, up to this number.
     Range(Key, u32),
     /// All pairs.
     Dump,

@@ -1,4 +1,4 @@
-//! The program as a whole.
+//! The steps of the program, from its arguments to its exit status.
 ghost use Rattle.std.specs.Prelude.{◌≤◌, IfErr, IfOk};
 
 use crate::answering::answer;
@@ -15,7 +15,7 @@ use std::fs::Files;
 use std::io::{self, Write};
 use std::thread::Threads;
 
-/// Does what the words of the process ask, and answers its exit status.
+/// Does what the arguments of the process ask and returns the exit status.
 pub fn run<R, O: Write, E: Write>(rt: &R, out: &mut O, err: &mut E) -> u8
 where
     R: AllocGlobal + Clone + Drop + Env + Files + Threads + Sync,
@@ -28,12 +28,12 @@ where
     }
 }
 
-/// The words of the process behind its name.
+/// Reads the arguments of the process after the name of the program.
 fn words_of_process<R: AllocGlobal + Env>(rt: &R) -> io::Result<Vec<String>> {
     Ok(env::args(rt)?.skip(1).collect(rt.alloc())?)
 }
 
-/// Does what these words behind the program's name ask, and answers the exit status.
+/// Does what these arguments ask and returns the exit status. The name of the program is not among them.
 pub fn run_words<R, O: Write, E: Write>(rt: &R, words: &[String], out: &mut O, err: &mut E) -> u8
 where
     R: AllocGlobal + Clone + Drop + Files + Threads + Sync,
@@ -45,7 +45,7 @@ where
     }
 }
 
-/// The exit status, as an Err where nothing was recovered.
+/// Does what the arguments ask and returns the exit status: as an Err if the program ends before it recovers.
 fn try_words<R, O: Write, E: Write>(
     rt: &R,
     words: &[String],
@@ -63,7 +63,8 @@ where
     answer_files(rt, &command, &names, out, err)
 }
 
-/// The exit status where these are the names of the files, as an Err where they cannot be opened.
+/// Answers the command from the files of these names and returns the exit status: as an Err if it could not allocate
+/// the buffers or open the files.
 fn answer_files<R, O: Write, E: Write>(
     rt: &R,
     command: &Command<'_>,
@@ -82,13 +83,13 @@ where
     Ok(answer(rt, command, inputs, out, err))
 }
 
-/// A buffer for each file.
+/// Creates a rack with a buffer for each file.
 fn rack_of<R: AllocGlobal>(rt: &R, names: &Names) -> Result<Rack, Failure<'static>> {
     let count = names.logs.len().saturating_add(names.parts.len());
     Ok(Rack::new(rt.alloc(), count, LONGEST_BUFFER)?)
 }
 
-/// The sources of the logs, and then those of the parts.
+/// Opens the sources of the logs, and then those of the parts.
 fn open<'a, 'b, R: AllocGlobal + Files>(
     rt: &R,
     command: &Command<'_>,

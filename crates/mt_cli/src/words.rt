@@ -1,4 +1,4 @@
-//! Reading the words.
+//! Reads the arguments.
 ghost use Rattle.std.specs.Prelude.{◌≤◌, IfErr};
 
 use crate::failure::{Failure, or_tell};
@@ -12,8 +12,8 @@ use mt_words::{Fault, Key};
 use std::alloc::Global;
 use std::io::Write;
 
-/// What the words behind the program's name ask for. An Err is the exit status, where what there is to say is printed:
-/// help and the version on `out`, a fault of the words on `err`.
+/// Reads the request from the arguments after the name of the program. An Err is the exit status; the text is then
+/// printed: help and the version on `out`, a fault of the arguments on `err`.
 pub fn command<'a, R: AllocGlobal, O: Write, E: Write>(
     rt: &R,
     words: &'a [String],
@@ -28,12 +28,12 @@ pub fn command<'a, R: AllocGlobal, O: Write, E: Write>(
     }
 }
 
-/// The words by their names.
+/// Parses the arguments by the grammar.
 fn parse<'a>(alloc: Global, words: &'a [String]) -> Result<ArgMatches<'a>, clap::Error> {
     grammar(alloc)?.try_get_matches_from(words)
 }
 
-/// Prints what the parser of the words says, and answers the status.
+/// Prints what the parser reports and returns the exit status.
 fn tell<O: Write, E: Write>(error: &clap::Error, out: &mut O, err: &mut E) -> u8
     ensures { result ≤ 3 }
 {
@@ -41,7 +41,7 @@ fn tell<O: Write, E: Write>(error: &clap::Error, out: &mut O, err: &mut E) -> u8
         return Failure::from(Fault::Memory).tell(err);
     }
     if error.use_stderr() {
-        // A text that cannot be written changes no status.
+        // A write error does not change the status.
         let _ = write!(err, "{error}");
         return 2;
     }
@@ -51,7 +51,7 @@ fn tell<O: Write, E: Write>(error: &clap::Error, out: &mut O, err: &mut E) -> u8
     0
 }
 
-/// What the words ask for.
+/// Reads the request from the parsed arguments.
 fn read<'a>(alloc: Global, matches: &ArgMatches<'a>) -> Result<Command<'a>, Failure<'static>> {
     let (name, matches) = matches.subcommand().ok_or(Failure::Words)?;
     let folder = matches.get_str("DIR");
@@ -69,12 +69,12 @@ fn read<'a>(alloc: Global, matches: &ArgMatches<'a>) -> Result<Command<'a>, Fail
     })
 }
 
-/// What the grammar has the parser find in the words.
+/// Returns a value that the grammar requires. Err: `Words`, if the parser did not find it.
 fn found<T>(value: Option<T>) -> Result<T, Failure<'static>> {
     value.ok_or(Failure::Words)
 }
 
-/// What the subcommand of this name is to print.
+/// Returns the query of the subcommand of this name.
 fn query(alloc: Global, name: &str, matches: &ArgMatches<'_>) -> Result<Query, Failure<'static>> {
     match name {
         "report" => Ok(Query::Report),
@@ -85,7 +85,7 @@ fn query(alloc: Global, name: &str, matches: &ArgMatches<'_>) -> Result<Query, F
     }
 }
 
-/// The key, which is looked at once all words are accepted.
+/// Decodes the key. By then the parser has accepted all arguments.
 fn key(alloc: Global, matches: &ArgMatches<'_>) -> Result<Key, Failure<'static>> {
     let digits = found(matches.get_str("KEY"))?;
     match hex::decode(alloc, digits) {

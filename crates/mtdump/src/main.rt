@@ -1,4 +1,4 @@
-//! Prints the store of log files: the words after the program's name are their names.
+//! Prints the store of log files. The arguments after the name of the program are the names of the files.
 #![tactic(auto)]
 
 use mt_recover::dump_files;
@@ -14,14 +14,15 @@ fn main(rt: HostRuntime) -> ExitCode {
                 ErrorKind::OutOfMemory => ("no memory", 1),
                 _ => ("cannot read the words", 3),
             };
-            // A line that cannot be written changes no status.
+            // A write error does not change the status.
             let _ = eprintln!(rt; "mtdump: {text}");
             ExitCode::from(status)
         }
     }
 }
 
-/// The status of the program, or the fault of the words themselves, as one that is not UTF-8.
+/// Runs the program and returns its exit status. Err: the arguments cannot be read, for example because one is not
+/// UTF-8; or out of memory.
 fn run(rt: &HostRuntime) -> io::Result<u8> {
     let alloc = rt.alloc();
     let names: Vec<String> = env::args(rt)?.skip(1).collect(alloc)?;
