@@ -26,13 +26,13 @@ dump_text pairs = flat_map pair_text pairs
 pub dump_both : (a b c : Option (List ℕ)) (v w : List Pair) → Appends a b (dump_text v) → Appends b c (dump_text w) → Appends a c (dump_text (v ++ w))
 dump_both a b c v w first second = subst (Appends a c) (sym (flat_map-append pair_text v w)) (Appends-trans a b c (dump_text v) (dump_text w) first second)
 
--- the pairs are the store of some logs of this count, without parts
+-- the pairs are the store of some `count` logs and no parts
 pub record IsStoreOfSome (count : ℕ) (pairs : List Pair) : Type 0 where
   pub logs : List (List ℕ)
   pub number : length logs ≡ count
   pub is_store : IsStoreOf logs [] pairs
 
--- the text of the store of some logs of this count was appended; which logs, no contract can say of files
+-- the text of the store of some `count` logs was appended; no contract can say which logs, since they are read from files
 pub record IsPrinted (count : ℕ) (old new : Option (List ℕ)) : Type 0 where
   pub pairs : List Pair
   pub is_store : IsStoreOfSome count pairs

@@ -19,7 +19,7 @@ pub record OfSources {S : Type 0} (seen : S → Seen) (log_sources part_sources 
   pub parts_may : MayHave seen part_sources parts
   pub holds : P logs parts
 
--- if the fault blames a source, that source is not steady
+-- if the fault blames a source, there is that source and it is not steady
 abbrev pub BlamesUnsteady : {S : Type 0} → (S → Seen) → List S → List S → Fault → Type 0
 BlamesUnsteady seen logs parts (faults.Source i) = IsSomeAnd (slice_get logs i) (λ source. (seen source).steady ≡ false)
 BlamesUnsteady seen logs parts (faults.PartSource i) = IsSomeAnd (slice_get parts i) (λ source. (seen source).steady ≡ false)
