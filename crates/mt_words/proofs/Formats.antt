@@ -1,4 +1,4 @@
--- What holds of every format. A further one is an equation more in each of these.
+-- Laws of all formats. A new format needs one more equation in `within` and `found`, and a place in `all_formats`.
 use Rattle.std.proofs.Common.{◌≡◌, ℕ, ◌≤◌, Bool, true, false, Option, Some, None, List, [], ◌∷◌, refl, sym, ap, ◌∙◌, arith}
 use Rattle.std.specs.Prelude.{◌==◌}
 use Rattle.std.specs.List.{AllByRecursion}
@@ -12,7 +12,7 @@ use Rattle.mt_words.specs.Limits.{limits_of, widest}
 use Rattle.mt_words.specs.Words.{IsColumn, AreNumbers}
 use Rattle.mt_words.specs.Changes.{AllowsKind, IsLawfulChange}
 
--- what a format allows can stand in memory, and puts, removes and marks are among it
+-- the limits are at most the widest, and allow puts, removes and marks
 pub record IsWithin (limits : Limits) : Type 0 where
   pub key : limits.key ≤ widest.key
   pub column : limits.column ≤ widest.column
@@ -25,12 +25,12 @@ within Two = record { key = omega arith; column = omega arith; kinds = omega ari
 
 -- ---- digits
 
--- the first if the test says so
+-- the format if the test is true, else the other result
 abbrev either : Bool → Format → Option Format → Option Format
 either true format other = Some format
 either false format other = other
 
--- the first of these formats with the digit
+-- the first of these formats that has the digit
 abbrev first_with : ℕ → List Format → Option Format
 first_with digit [] = None
 first_with digit (format ∷ formats) = either ((limits_of format).digit == digit) format (first_with digit formats)
@@ -46,13 +46,13 @@ abbrev or_else : Format → Option Format → Format
 or_else format None = format
 or_else format (Some other) = other
 
--- two formats have two digits
+-- two formats with the same digit are the same
 pub same_format : (a b : Format) → (limits_of a).digit ≡ (limits_of b).digit → a ≡ b
 same_format a b e = ap (or_else a) (sym (found a) ∙ ap (λ (digit : ℕ). first_with digit all_formats) e ∙ found b)
 
 -- ---- kinds
 
--- columns that a format allows can stand in memory
+-- columns that a format allows are within the widest limits
 columns_within : (format : Format) (columns : List (ℕ × List ℕ)) → AllByRecursion (IsColumn (limits_of format)) columns → AllByRecursion (IsColumn widest) columns
 columns_within format [] all = tt
 columns_within format (c ∷ cs) all = let room = within format in ((omega (arith, all.0.0, room.column), all.0.1), columns_within format cs all.1)
@@ -64,14 +64,14 @@ numbers_within format (n ∷ ns) all = let room = within format in (omega (arith
 pub some_numbers_within : (format : Format) (numbers : List ℕ) → AreNumbers (limits_of format) numbers → AreNumbers widest numbers
 some_numbers_within format numbers are = (numbers_within format numbers are.0, are.1)
 
--- and so can kinds
+-- kinds that a format allows are within the widest limits
 pub kind_within : (format : Format) (kind : Kind) → AllowsKind (limits_of format) kind → AllowsKind widest kind
 kind_within format (Put columns) allows = ((columns_within format columns allows.0.0, allows.0.1), allows.1)
 kind_within format Remove allows = tt
 kind_within format (Whole columns) allows = ((columns_within format columns allows.0.0, allows.0.1), allows.1)
 kind_within format (Erase numbers) allows = let room = within format in (omega (arith, allows.0, room.all_kinds), (numbers_within format numbers allows.1.0, allows.1.1), allows.2)
 
--- and changes
+-- changes that a format allows are within the widest limits
 pub change_within : (format : Format) (change : Change) → IsLawfulChange (limits_of format) change → IsLawfulChange widest change
 change_within format change is =
     let room = within format in

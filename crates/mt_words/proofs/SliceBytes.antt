@@ -1,4 +1,4 @@
--- The order of keys, as lists of bytes, is that of their slices, then their lengths, then their rests.
+-- Keys are ordered by their slices, then by their lengths (all above 8 count as 9), then by the bytes after the first eight.
 use Rattle.std.proofs.Common.{◌≡◌, ℕ, zero, suc, ◌+◌, ◌*◌, ◌/◌, ◌%◌, ◌^◌, ◌<◌, ◌≤◌, min, List, [], ◌∷◌, ◌++◌, length, take, drop, Ordering, sym, refl, ap, ◌∙◌, subst, arith, get_or, w64}
 use Rattle.std.specs.declared.cmp.Ordering.TheVariants.{Less, Equal, Greater}
 use Rattle.std.specs.Cmp.{nat_cmp_is}
@@ -17,13 +17,13 @@ use Rattle.byteorder.specs.Endian.{big_from, big_number}
 use Rattle.mt_words.specs.Slices.{AreBytes, slice_in, slice_bytes}
 use Rattle.mt_words.specs.Words.{IsBelow}
 
--- the number that the first n bytes spell, the greatest first, where bytes past the end are zero
+-- the first n bytes as a big-endian number, with zeros for missing bytes
 abbrev pub front_number : ℕ → List ℕ → ℕ
 front_number zero key = 0
 front_number (suc n) [] = 0
 front_number (suc n) (b ∷ bs) = b * 256 ^ n + front_number n bs
 
--- the n bytes that spell v, the greatest first
+-- v as n bytes, the most significant first
 abbrev pub number_bytes : ℕ → ℕ → List ℕ
 number_bytes zero v = []
 number_bytes (suc n) v = v / 256 ^ n ∷ number_bytes n (v % 256 ^ n)
@@ -60,7 +60,7 @@ nat_cmp-shift a x y = by (nat_cmp x y) (ranked x y _ refl)
     by Equal h = let l : x ≡ y = h in nat_cmp-equal (a + x) (a + y) (omega arith) ∙ sym (nat_cmp-equal x y l)
     by Greater h = let l : y < x = h in nat_cmp-greater (a + x) (a + y) (omega arith) ∙ sym (nat_cmp-greater x y l)
 
--- how a first byte and the number of the next n lie to one another
+-- two numbers compare by their first digits, then by the rest
 digit_cmp : (a b p f g : ℕ) → f < p → g < p → nat_cmp (a * p + f) (b * p + g) ≡ ordering_then (nat_cmp a b) (nat_cmp f g)
 digit_cmp a b p f g u v = by (nat_cmp a b) refl (ranked a b _ refl)
   where
@@ -74,7 +74,7 @@ then_assoc Less r s = refl
 then_assoc Equal r s = refl
 then_assoc Greater r s = refl
 
--- what the first n bytes leave open
+-- the order of two lists whose first n bytes make the same number: by their lengths (all above n count as n + 1), then by the bytes after the first n
 abbrev pub cmp_past : ℕ → List ℕ → List ℕ → Ordering
 cmp_past n x y = ordering_then (nat_cmp (min (length x) (suc n)) (min (length y) (suc n))) (slice_cmp nat_cmp (drop n x) (drop n y))
 
@@ -86,7 +86,7 @@ cmp_past-cons n a b x y =
     shorter : (c : ℕ) (z : List ℕ) → min (length (c ∷ z)) (suc (suc n)) ≡ 1 + min (length z) (suc n)
     shorter c z = omega arith
 
--- the first n bytes decide by their number, then by how many they are, and then the rests decide
+-- the order of two lists: by the numbers of their first n bytes, then by `cmp_past`
 pub slice_cmp-split : (n : ℕ) (x y : List ℕ) → AreBytes (take n x) → AreBytes (take n y)
     → slice_cmp nat_cmp x y ≡ ordering_then (nat_cmp (front_number n x) (front_number n y)) (cmp_past n x y)
 slice_cmp-split zero [] [] p q = refl
@@ -111,7 +111,7 @@ slice_cmp-split (suc n) (a ∷ x) (b ∷ y) p q =
     ∙ sym (then_assoc (nat_cmp a b) (nat_cmp (front_number n x) (front_number n y)) (cmp_past (suc n) (a ∷ x) (b ∷ y)))
     ∙ ap (λ r. ordering_then r (cmp_past (suc n) (a ∷ x) (b ∷ y))) (sym (digit_cmp a b (256 ^ n) _ _ (front_number-lt n x p.1) (front_number-lt n y q.1)))
 
--- lists with one beginning lie as their rests do
+-- lists with the same prefix compare as the rests after it do
 pub slice_cmp-append : (p x y : List ℕ) → slice_cmp nat_cmp (p ++ x) (p ++ y) ≡ slice_cmp nat_cmp x y
 slice_cmp-append [] x y = refl
 slice_cmp-append (a ∷ p) x y = ap (λ r. ordering_then r (slice_cmp nat_cmp (p ++ x) (p ++ y))) (nat_cmp-equal a a refl) ∙ slice_cmp-append p x y
@@ -128,7 +128,7 @@ number_bytes-bytes (suc n) v h =
     let first : v / 256 ^ n < 256 = (div-lt_iff_lt-mul p).1 (let q = pow-suc 256 n in omega arith) in
     (first, number_bytes-bytes n (v % 256 ^ n) (mod-lt v p))
 
--- the first n bytes, with zeros where the list is shorter
+-- the first n bytes, with zeros for missing bytes
 abbrev pub padded : ℕ → List ℕ → List ℕ
 padded zero x = []
 padded (suc n) [] = 0 ∷ padded n []
@@ -141,7 +141,7 @@ front_number-nil (suc n) = refl
 number_bytes-cons : (n b f : ℕ) → f < 256 ^ n → number_bytes (suc n) (b * 256 ^ n + f) ≡ b ∷ number_bytes n f
 number_bytes-cons n b f h = λ i. div-mul-add b (256 ^ n) f h i ∷ number_bytes n (mod-mul-add b (256 ^ n) f h i)
 
--- the bytes that spell the number of a key's front are that front
+-- the n bytes of the number of a list's first n bytes are those bytes, with zeros for missing ones
 pub number_bytes-front : (n : ℕ) (x : List ℕ) → AreBytes (take n x) → number_bytes n (front_number n x) ≡ padded n x
 number_bytes-front zero x h = refl
 number_bytes-front (suc n) [] h =
@@ -185,7 +185,7 @@ front_number-append (suc n) v t h =
     let whole = div-add-mod' v (256 ^ n) in
     omega (arith, rest, whole)
 
--- a number whose bytes are zero past the first l is spelled by those
+-- a number whose bytes are zero after the first l is the number of those l bytes, with zeros for the rest
 number_zero : (n v : ℕ) → v < 256 ^ n → AllZero (number_bytes n v) → v ≡ 0
 number_zero zero v h z = omega arith
 number_zero (suc n) v h z =
@@ -248,7 +248,7 @@ slice_bytes-bytes s h = subst AreBytes (sym (bytes_front s h)) (number_bytes-byt
 pub slice_in-lt : (x : List ℕ) → AreBytes (take 8 x) → slice_in x < 2 ^ 64
 slice_in-lt x h = omega (arith, slice_front x, front_number-lt 8 x h)
 
--- the bytes of a key's slice are those of the key, with zeros where it is shorter
+-- the bytes of a key's slice are the first eight bytes of the key, with zeros for missing bytes
 slice_padded : (x : List ℕ) → AreBytes (take 8 x) → slice_bytes (slice_in x) ≡ padded 8 x
 slice_padded x h = bytes_front (slice_in x) (slice_in-lt x h) ∙ ap (number_bytes 8) (slice_front x) ∙ number_bytes-front 8 x h
 
@@ -269,11 +269,11 @@ slice_in-take s l h z =
     slice_front (take l (slice_bytes s)) ∙ ap (λ (k : List ℕ). front_number 8 (take l k)) (bytes_front s h)
     ∙ front_number-take 8 l s h (subst (λ (k : List ℕ). AllZero (drop l k)) (bytes_front s h) z)
 
--- slices decide, then lengths, then rests
+-- keys are ordered by their slices, then by their lengths (all above 8 count as 9), then by the bytes after the first eight
 pub by_ranks : (x y : List ℕ) → AreBytes (take 8 x) → AreBytes (take 8 y) → slice_cmp nat_cmp x y ≡ ordering_then (nat_cmp (slice_in x) (slice_in y)) (cmp_past 8 x y)
 by_ranks x y p q = slice_cmp-split 8 x y p q ∙ (λ i. ordering_then (nat_cmp (sym (slice_front x) i) (sym (slice_front y) i)) (cmp_past 8 x y))
 
--- keys with one beginning lie as their rests do
+-- keys with the same prefix are in the order of the rests after it
 pub below-prefixed : (b x y : List ℕ) → IsBelow x y → IsBelow (b ++ x) (b ++ y)
 below-prefixed b x y less = ap is_lt (slice_cmp-append b x y) ∙ less
 

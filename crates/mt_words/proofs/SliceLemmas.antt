@@ -1,4 +1,5 @@
--- Keys whose slices differ are ordered as these, else those whose second slices differ as these, else those of at most sixteen bytes as their lengths.
+-- Keys are ordered by their slices; if these are equal, by their second slices; if these are equal too and no key has more than sixteen bytes, by
+-- their lengths.
 use Rattle.std.proofs.Common.{◌≡◌, ◌≢◌, ℕ, zero, suc, get_or, Fits, w8, ◌+◌, ◌*◌, ◌^◌, ◌<◌, ◌≤◌, List, [], ◌∷◌, length, drop, Ordering, refl, sym, ap, ◌∙◌, arith}
 use Rattle.std.specs.declared.cmp.Ordering.TheVariants.{Less, Equal, Greater}
 use Rattle.std.specs.Cmp.{nat_cmp_is}
@@ -34,7 +35,7 @@ number_fits (suc n) (b ∷ key) bytes =
     let rest = number_fits n key bytes.1 in
     omega (arith, rest, number_behind n 0 b key, pow-suc 256 n, times_below b 256 (256 ^ n) bytes.0)
 
--- of two keys the one with the lower first byte has the lower number
+-- of two keys, the one with the smaller first byte has the smaller number
 first_decides : (n a b : ℕ) (x y : List ℕ) → AreBytes x → a < b → big_number (suc n) (a ∷ x) < big_number (suc n) (b ∷ y)
 first_decides n a b x y p h = omega (arith, number_behind n 0 a x, number_behind n 0 b y, number_fits n x p, times_below a b (256 ^ n) h)
 
@@ -48,7 +49,7 @@ shifted a f g m n u v = by (nat_cmp f g) (ranked f g _ refl)
     by Equal h = let even : f ≡ g = h in nat_cmp_is m n Equal (omega (arith, u, v, even))
     by Greater h = let high : g < f = h in nat_cmp_is m n Greater (omega (arith, u, v, high))
 
--- first bytes whose numbers differ decide
+-- if the numbers of the first n bytes differ, they decide the order
 by_numbers : (n : ℕ) (x y : List ℕ) → AreBytes x → AreBytes y → big_number n x ≢ big_number n y → slice_cmp nat_cmp x y ≡ nat_cmp (big_number n x) (big_number n y)
 by_numbers zero x y p q apart = absurd (apart refl)
 by_numbers (suc n) [] [] p q apart = absurd (apart refl)
@@ -64,7 +65,7 @@ by_numbers (suc n) (a ∷ x) (b ∷ y) p q apart = by (nat_cmp a b) (ranked a b 
         ∙ shifted (a * 256 ^ n) (big_number n x) (big_number n y) (big_number (suc n) (a ∷ x)) (big_number (suc n) (b ∷ y)) (omega (arith, number_behind n 0 a x)) (omega (arith, both, number_behind n 0 b y))
     by Greater h rest = nat_cmp_is (big_number (suc n) (a ∷ x)) (big_number (suc n) (b ∷ y)) Greater (first_decides n b a y x q.1 h)
 
--- where they are equal and all that the keys have, the lengths decide
+-- if they are equal and no key has more than n bytes, the lengths decide the order
 by_lengths : (n : ℕ) (x y : List ℕ) → AreBytes x → AreBytes y → big_number n x ≡ big_number n y → length x ≤ n → length y ≤ n → slice_cmp nat_cmp x y ≡ nat_cmp (length x) (length y)
 by_lengths n [] [] p q same u v = nat_cmp_is 0 0 Equal refl
 by_lengths n [] (b ∷ y) p q same u v = nat_cmp_is 0 (length (b ∷ y)) Less (omega arith)
@@ -86,27 +87,27 @@ pub slice_of_none : slice_in [] ≡ 0
 unfolding slice_in
 slice_of_none = omega arith
 
--- two slices are sixteen bytes
+-- the number of the first sixteen bytes is made of two slices
 sixteen : (key : List ℕ) → big_number 16 key ≡ slice_in key * 2 ^ 64 + slice_in (drop 8 key)
 unfolding slice_in
 sixteen key = omega (arith, number_of_rest 8 8 key)
 
--- slices that differ decide
+-- slices that differ decide the order
 pub by_slices : (x y : List ℕ) → AreBytes x → AreBytes y → slice_in x ≢ slice_in y → slice_cmp nat_cmp x y ≡ nat_cmp (slice_in x) (slice_in y)
 unfolding slice_in
 by_slices x y p q apart = by_numbers 8 x y p q apart
 
--- behind equal slices second slices that differ decide
+-- after equal slices, second slices that differ decide the order
 pub by_second : (x y : List ℕ) → AreBytes x → AreBytes y → slice_in x ≡ slice_in y → slice_in (drop 8 x) ≢ slice_in (drop 8 y) → slice_cmp nat_cmp x y ≡ nat_cmp (slice_in (drop 8 x)) (slice_in (drop 8 y))
 by_second x y p q same apart =
     by_numbers 16 x y p q (λ e. apart (omega (arith, e, same, sixteen x, sixteen y)))
     ∙ sym (shifted (slice_in x * 2 ^ 64) (slice_in (drop 8 x)) (slice_in (drop 8 y)) (big_number 16 x) (big_number 16 y) (sixteen x) (omega (arith, same, sixteen y)))
 
--- behind equal slices and equal second slices of keys of at most sixteen bytes the lengths decide
+-- after two equal slices, the lengths decide the order if no key has more than sixteen bytes
 pub by_length : (x y : List ℕ) → AreBytes x → AreBytes y → slice_in x ≡ slice_in y → slice_in (drop 8 x) ≡ slice_in (drop 8 y) → length x ≤ 16 → length y ≤ 16 → slice_cmp nat_cmp x y ≡ nat_cmp (length x) (length y)
 by_length x y p q same second u v = by_lengths 16 x y p q (omega (arith, same, second, sixteen x, sixteen y)) u v
 
--- what a program's bytes are known to be
+-- numbers that fit in eight bits are bytes
 pub bytes_from_fits : (bytes : List ℕ) → ((i : ℕ) → Fits w8 (get_or bytes i 0)) → AreBytes bytes
 bytes_from_fits [] fits = tt
 bytes_from_fits (b ∷ bs) fits = ((fits 0).fits, bytes_from_fits bs (λ i. fits (suc i)))

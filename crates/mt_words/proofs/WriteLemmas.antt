@@ -1,4 +1,4 @@
--- Writes are lawful where the columns or the numbers are that they are made of.
+-- Writes are lawful exactly if the columns or numbers that they are made of are lawful.
 use Rattle.std.proofs.Common.{ℕ, suc, ◌≤◌, List, [], ◌∷◌, map}
 use Rattle.std.specs.List.{AllByRecursion}
 use Rattle.mt_words.specs.declared.limits.Limits.{Limits}

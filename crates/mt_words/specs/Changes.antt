@@ -1,4 +1,4 @@
--- What a record of a log and the entry of a checkpoint say, what a format allows of them, and what they do to their key.
+-- Records of logs and entries of checkpoints: what they say, what a format allows of them, and what they do to their key.
 use Rattle.std.specs.Prelude.{ℕ, ◌≤◌, ◌<◌, ◌^◌, List, [], length, map, Contains, Option, Some, None, IfSome}
 use Rattle.mt_words.specs.declared.record.Change.{Change}
 use Rattle.mt_words.specs.declared.update.Kind.{Kind}
@@ -10,7 +10,7 @@ use Rattle.mt_words.specs.declared.limits.TheConstants.{LONGEST_VALUE}
 use Rattle.mt_words.specs.Codes.{code_of, byte_of, Clears}
 use Rattle.mt_words.specs.Words.{IsKey, AreColumns, AreNumbers, Rise}
 
--- a record, lawful or not: a timestamp and, but for a mark, a change
+-- a record, lawful or not: a timestamp and, unless it is a mark, a change
 pub record Logged : Type 0 where
   pub timestamp : ℕ
   pub change : Option Change
@@ -30,51 +30,52 @@ remove_of timestamp version key = changed timestamp (record { version = version;
 abbrev pub erase_of : ℕ → ℕ → List ℕ → List ℕ → Logged
 erase_of timestamp version key numbers = changed timestamp (record { version = version; key = key; kind = Erase numbers })
 
--- the entry of a checkpoint
+-- the entry of a checkpoint, as a change
 abbrev pub entry_of : ℕ → List ℕ → List (ℕ × List ℕ) → Change
 entry_of version key columns = record { version = version; key = key; kind = Whole columns }
 
--- a put and a whole have at least one column, and an erase, which only some formats have, at least one number
+-- The limits allow this kind. A put and a whole need lawful columns, at least one. An erase needs a format that has erases, and lawful numbers, at
+-- least one. A remove is always allowed.
 abbrev pub AllowsKind : Limits → Kind → Type 0
 AllowsKind limits (Put columns) = AreColumns limits columns × (0 < length columns)
 AllowsKind limits Remove = Unit {0}
 AllowsKind limits (Whole columns) = AreColumns limits columns × (0 < length columns)
 AllowsKind limits (Erase numbers) = (byte_of codes.Erase ≤ limits.kind) × AreNumbers limits numbers × (0 < length numbers)
 
--- a lawful change: a version above 0, a key, and what its kind allows
+-- a lawful change: a version that is above 0 and fits in 64 bits, a lawful key, and a kind that the limits allow
 pub record IsLawfulChange (limits : Limits) (change : Change) : Type 0 where
   pub version : 0 < change.version
   pub version_fits : change.version < 2 ^ 64
   pub key : IsKey limits change.key
   pub kind : AllowsKind limits change.kind
 
--- a kind that log records have
+-- a kind that log records may have: a put, a remove or an erase
 abbrev pub IsLogged : Kind → Type 0
 IsLogged (Put columns) = Unit {0}
 IsLogged Remove = Unit {0}
 IsLogged (Whole columns) = ⊥
 IsLogged (Erase numbers) = Unit {0}
 
--- a lawful change that a log record may carry
+-- a lawful change of a kind that log records may have
 abbrev pub IsLoggedChange : Limits → Change → Type 0
 IsLoggedChange limits change = IsLawfulChange limits change × IsLogged change.kind
 
--- a lawful record: any timestamp, and a lawful change if there is one
+-- a lawful record: a timestamp that fits in 64 bits and, if there is a change, a lawful one that a log record may carry
 abbrev pub IsLawful : Limits → Logged → Type 0
 IsLawful limits r = (r.timestamp < 2 ^ 64) × IfSome r.change (IsLoggedChange limits)
 
--- the kind that entries of a checkpoint have
+-- the kind that entries of a checkpoint have: a whole
 abbrev pub IsWhole : Kind → Type 0
 IsWhole (Put columns) = ⊥
 IsWhole Remove = ⊥
 IsWhole (Whole columns) = Unit {0}
 IsWhole (Erase numbers) = ⊥
 
--- a lawful entry of a checkpoint
+-- a lawful entry of a checkpoint: a lawful change whose kind is a whole
 abbrev pub IsEntry : Limits → Change → Type 0
 IsEntry limits change = IsLawfulChange limits change × IsWhole change.kind
 
--- a write of a column: the bytes that it sets the column to, or none, where it erases it
+-- a write of a column: its number and the bytes that it sets the column to, or None if it erases the column
 abbrev pub Write : Type 0
 Write = ℕ × Option (List ℕ)
 
@@ -84,7 +85,7 @@ set column = (column.0, Some column.1)
 abbrev pub erased : ℕ → Write
 erased number = (number, None)
 
--- what a change of this kind writes
+-- the writes of a change of this kind
 abbrev pub writes_of : Kind → List Write
 writes_of (Put columns) = map set columns
 writes_of Remove = []
@@ -94,11 +95,11 @@ writes_of (Erase numbers) = map erased numbers
 abbrev pub Writes : Kind → ℕ → Option (List ℕ) → Type 0
 Writes kind number bytes = Contains (writes_of kind) (number, bytes)
 
--- a write of a column that a format allows
+-- a lawful write: a column number that the format allows and, if it sets bytes, at most LONGEST_VALUE of them
 abbrev pub IsWrite : Limits → Write → Type 0
 IsWrite limits write = (write.0 ≤ limits.column) × IfSome write.1 (λ bytes. length bytes ≤ LONGEST_VALUE)
 
--- writes of columns whose numbers strictly rise, so that each is written once
+-- lawful writes whose column numbers strictly rise, so that each column is written once
 abbrev pub AreWrites : Limits → List Write → Type 0
 AreWrites limits writes = AllByRecursion (IsWrite limits) writes × Rise 0 (map (λ write. write.0) writes)
 

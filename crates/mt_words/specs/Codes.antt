@@ -1,4 +1,4 @@
--- The table of kinds: the byte of each, what it carries, and whether it clears its key.
+-- The table of kinds: the byte of each, its payload, and whether it clears its key.
 use Rattle.std.specs.Prelude.{ℕ}
 use Rattle.mt_words.specs.declared.code.Code.{Code}
 use Rattle.mt_words.specs.declared.code.Code.TheVariants as codes
@@ -13,7 +13,7 @@ code_of Remove = codes.Remove
 code_of (Whole columns) = codes.Whole
 code_of (Erase numbers) = codes.Erase
 
--- 3 is a mark's
+-- the byte of each code; 3 is the byte of a mark
 abbrev pub byte_of : Code → ℕ
 byte_of codes.Whole = 0
 byte_of codes.Put = 1
@@ -26,7 +26,7 @@ payload_of codes.Put = payloads.Columns
 payload_of codes.Remove = payloads.Nothing
 payload_of codes.Erase = payloads.Numbers
 
--- all columns of the key are cleared
+-- a change with this code clears all columns of its key
 abbrev pub Clears : Code → Type 0
 Clears codes.Whole = Unit {0}
 Clears codes.Put = ⊥

@@ -8,10 +8,10 @@ use Rattle.byteorder.specs.Endian.{big_number}
 abbrev pub AreBytes : List ℕ → Type 0
 AreBytes bytes = AllByRecursion (λ byte. byte < 256) bytes
 
--- the first eight bytes of a key as a number, the highest first; zeros stand for those that it lacks
+-- the first eight bytes of a key as a big-endian number, with zeros for missing bytes
 unfoldable pub slice_in : List ℕ → ℕ
 slice_in key = big_number 8 key
 
--- the eight bytes of a slice, the highest first
+-- the eight bytes of a slice, the most significant first
 unfoldable pub slice_bytes : ℕ → List ℕ
 slice_bytes slice = to_be_bytes w64 slice

@@ -1,4 +1,4 @@
--- What contracts see of kept columns.
+-- Kept columns as contracts see them: a list.
 use Rattle.std.specs.Prelude.{ℕ, List, [], ◌∷◌}
 use Rattle.mt_words.specs.declared.storage.Kept.{Kept}
 use Rattle.mt_words.specs.declared.storage.Kept.TheVariants.{One, Many}

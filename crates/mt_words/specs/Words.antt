@@ -1,4 +1,4 @@
--- Which bytes are keys, and which pairs of a number and bytes are columns.
+-- Keys and columns: which bytes are a key, and which pairs of a number and bytes are a column.
 use Rattle.std.specs.Prelude.{ℕ, suc, ◌≤◌, ◌<◌, List, [], ◌∷◌, length, map, IsTrue}
 use Rattle.std.specs.List.{AllByRecursion}
 use Rattle.std.specs.Ordering.{nat_cmp, is_lt}
@@ -6,33 +6,33 @@ use Rattle.std.specs.Cmp.Lexicographic.{slice_cmp}
 use Rattle.mt_words.specs.declared.limits.TheConstants.{LONGEST_VALUE}
 use Rattle.mt_words.specs.declared.limits.Limits.{Limits}
 
--- a key is so many bytes at the most
+-- a key: at most as many bytes as the limits allow
 abbrev pub IsKey : Limits → List ℕ → Type 0
 IsKey limits bytes = length bytes ≤ limits.key
 
--- keys as lists of bytes: the first byte that differs decides, and a beginning stands before its continuation
+-- the first key is below the second: the first byte that differs decides, and a prefix comes first
 abbrev pub IsBelow : List ℕ → List ℕ → Type 0
 IsBelow a b = IsTrue (is_lt (slice_cmp nat_cmp a b))
 
--- strictly rising lists of bytes, so that each stands there once
+-- strictly rising lists of bytes, so that each occurs once
 abbrev pub AreRising : List (List ℕ) → Type 0
 AreRising [] = Unit {0}
 AreRising (key ∷ keys) = AllByRecursion (IsBelow key) keys × AreRising keys
 
--- a column is a number and a value
+-- a lawful column: a number that the limits allow, and a value of at most LONGEST_VALUE bytes
 abbrev pub IsColumn : Limits → ℕ × List ℕ → Type 0
 IsColumn limits column = (column.0 ≤ limits.column) × (length column.1 ≤ LONGEST_VALUE)
 
--- each number is below this one
+-- each number is below the limit
 abbrev pub AreBelow : List ℕ → ℕ → Type 0
 AreBelow numbers limit = AllByRecursion (λ number. number < limit) numbers
 
--- from low on, the numbers strictly rise
+-- the numbers strictly rise, and the first is at least `low`
 abbrev pub Rise : ℕ → List ℕ → Type 0
 Rise low [] = Unit {0}
 Rise low (number ∷ numbers) = (low ≤ number) × Rise (suc number) numbers
 
--- numbers of columns, in order, each once
+-- column numbers that the limits allow, strictly rising
 abbrev pub AreNumbers : Limits → List ℕ → Type 0
 AreNumbers limits numbers = AllByRecursion (λ number. number ≤ limits.column) numbers × Rise 0 numbers
 
@@ -43,14 +43,14 @@ numbers_in columns = map (λ column. column.0) columns
 abbrev pub NumbersBelow : List (ℕ × List ℕ) → ℕ → Type 0
 NumbersBelow columns number = AllByRecursion (λ column. column.0 < number) columns
 
--- from low on, the numbers of the columns strictly rise
+-- the numbers of the columns strictly rise, and the first is at least `low`
 abbrev pub NumbersRise : ℕ → List (ℕ × List ℕ) → Type 0
 NumbersRise low columns = Rise low (numbers_in columns)
 
--- columns of one key, by strictly rising numbers
+-- the columns of one key: lawful columns in strictly rising order of their numbers
 abbrev pub AreColumns : Limits → List (ℕ × List ℕ) → Type 0
 AreColumns limits columns = AllByRecursion (IsColumn limits) columns × NumbersRise 0 columns
 
--- a column that may be added behind these
+-- a lawful column that may be appended to these: its number is above theirs
 abbrev pub CanFollow : Limits → List (ℕ × List ℕ) → ℕ × List ℕ → Type 0
 CanFollow limits columns column = IsColumn limits column × NumbersBelow columns column.0

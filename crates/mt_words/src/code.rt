@@ -1,31 +1,31 @@
-//! The codes of changes: the byte that a change begins with, and what it says.
+//! The codes of changes: the byte that a change begins with, and what the byte means.
 ghost use Rattle.std.specs.Prelude.{◌≡◌, ◌≢◌, ◌↔◌, IsTrue, IfSome, IfNone};
 ghost use Rattle.mt_words.specs.declared.code.Code.{Code as AnyCode};
 ghost use Rattle.mt_words.specs.Codes.{byte_of, payload_of, Clears};
 
 /// The code of a change.
 ///
-/// | code | byte | payload | clears its key | stands in |
+/// | code | byte | payload | clears its key | found in |
 /// |---|---|---|---|---|
-/// | `Whole` | 0 | columns | yes | entries of a checkpoint, never in a record |
+/// | `Whole` | 0 | columns | yes | entries of a checkpoint, never records |
 /// | `Put` | 1 | columns | no | records |
 /// | `Remove` | 2 | nothing | yes | records |
 /// | `Erase` | 4 | column numbers | no | records, from format 2 on |
 ///
-/// Byte 3 is a mark's: a record that changes nothing.
+/// Byte 3 is the byte of a mark, a record that changes nothing.
 #[derive(Clone, Copy, Debug)]
 pub enum Code {
     /// All columns of a key: the entry of a checkpoint.
     Whole = 0,
     /// Some columns of a key.
     Put = 1,
-    /// A key without columns.
+    /// The removal of all columns of a key.
     Remove = 2,
-    /// Columns that are taken from a key.
+    /// The removal of some columns of a key.
     Erase = 4,
 }
 
-/// What a change carries after its key.
+/// The payload of a change, which comes after its key.
 #[derive(Clone, Copy, Debug)]
 pub enum Payload {
     /// Nothing.
@@ -37,14 +37,14 @@ pub enum Payload {
 }
 
 impl Code {
-    /// Its byte.
+    /// Returns the byte of the code.
     pub fn byte(self) -> u8
         ensures { result ≡ byte_of self }
     {
         self as u8
     }
 
-    /// The code of this byte.
+    /// Returns the code with this byte, or None if no code has it.
     pub fn of_byte(byte: u8) -> Option<Code>
         ensures found { IfSome result (λ code. byte_of code ≡ byte) }
         ensures none { IfNone result ((code : AnyCode) → byte_of code ≢ byte) }
@@ -58,7 +58,7 @@ impl Code {
         }
     }
 
-    /// What it carries.
+    /// Returns the payload of a change with this code.
     pub fn payload(self) -> Payload
         ensures { result ≡ payload_of self }
     {
@@ -69,7 +69,7 @@ impl Code {
         }
     }
 
-    /// Whether it clears all columns of its key, before it sets its own.
+    /// Returns whether a change with this code clears all columns of its key before it sets its own.
     pub fn clears(self) -> bool
         ensures { IsTrue result ↔ Clears self }
     {

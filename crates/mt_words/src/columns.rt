@@ -1,4 +1,4 @@
-//! Columns.
+//! The columns of a key.
 ghost use Rattle.std.specs.Prelude.{◌≡◌, ◌≤◌, ◌<◌, ◌↔◌, [], ◌∷◌, ◌++◌, List, ℕ, length, IsOk, OnOk, IfErr, IfOk, OnErr, IfSome, IfNone, IsTrue, MatchOption, Contains};
 ghost use Rattle.mt_words.specs.declared.limits.TheConstants.{GREATEST_COLUMN};
 ghost use Rattle.mt_words.specs.declared.limits.Limits.{Limits};
@@ -14,18 +14,19 @@ use std::alloc::Global;
 use std::default::MadeWith;
 use std::marker::Model;
 
-/// How many bytes of a value lie in its column: so many take no more room there than a list does.
+/// The greatest length of a value that is stored inline in its column, in bytes. That many take no more room there than
+/// a list does.
 const SHORT_VALUE: usize = 16;
 
-/// The bytes of a column. Most are few, and take no memory of their own.
+/// The bytes of a column. Most values are short and take no memory of their own.
 pub type Value = SmallVec<u8, SHORT_VALUE>;
 
 /// One column: its number and its bytes.
 #[derive(Debug, Drop)]
 pub struct Column {
-    /// 0 to `GREATEST_COLUMN`.
+    /// The column number, 0 to `GREATEST_COLUMN`.
     pub number: u8,
-    /// At most `LONGEST_VALUE`.
+    /// The value, at most `LONGEST_VALUE` bytes.
     pub bytes: Value,
 }
 
@@ -46,15 +47,15 @@ impl MadeWith<Global> for Column {
     }
 }
 
-/// The columns of one key, by strictly rising numbers, at most one for each. They are made in place, where adding one
-/// takes no memory; those that are to stay are kept, in no more room than they need.
+/// The columns of one key, in strictly rising order of their numbers. They are built inline, where adding a column
+/// takes no memory. Columns that are to stay become `Columns<Kept>`, which takes no more room than they need.
 #[derive(Debug)]
 pub struct Columns<S: Storage = Inline> {
     storage: S,
 }
 
-/// In words and not by a derive: so what drops columns in another crate cites this call, and does not prove again, for
-/// each place, how an array of columns is dropped.
+/// Written out, not derived: a proof of a drop of columns in another crate cites this call, and need not prove again,
+/// element by element, how an array of columns is dropped.
 impl<S: Storage> Drop for Columns<S> {
     fn drop(self) {
         let Columns { storage: _ } = self;
@@ -74,7 +75,7 @@ impl<S: Storage> Model for Columns<S> {
 }
 
 impl<S: Storage> Columns<S> {
-    /// How many columns there are.
+    /// Returns the number of columns.
     pub fn len(&self) -> usize
         ensures value { result ≡ length self.now }
         ensures lawful { AreColumns widest self.now }
@@ -82,14 +83,14 @@ impl<S: Storage> Columns<S> {
         self.storage.as_slice().len()
     }
 
-    /// Whether there is no column.
+    /// Returns whether there is no column.
     pub fn is_empty(&self) -> bool
         ensures { IsTrue result ↔ (self.now ≡ []) }
     {
         self.storage.as_slice().is_empty()
     }
 
-    /// The bytes of the column with this number, if there is one.
+    /// Returns the bytes of the column with this number, or None if there is no such column.
     pub fn get(&self, number: u8) -> Option<&[u8]>
         ensures { MatchOption result
             ((bytes : List ℕ) → Contains self.now (number, bytes) → ⊥)
@@ -98,7 +99,7 @@ impl<S: Storage> Columns<S> {
         value_of(self.storage.as_slice(), number)
     }
 
-    /// The columns.
+    /// Returns the columns as a slice.
     pub fn as_slice(&self) -> &[Column]
         ensures value { result.now ≡ self.now }
         ensures lawful { AreColumns widest self.now }
@@ -106,7 +107,7 @@ impl<S: Storage> Columns<S> {
         self.storage.as_slice()
     }
 
-    /// Whether there is a column, and none has a number above this one.
+    /// Returns whether there is a column and no column number is above `greatest`.
     pub fn are_some_up_to(&self, greatest: u8) -> bool
         ensures { (limits : Limits) → limits.column ≡ greatest →
             IsTrue result ↔ (AreColumns limits self.now × (0 < length self.now)) }
@@ -117,7 +118,7 @@ impl<S: Storage> Columns<S> {
         }
     }
 
-    /// Equal columns. Refuses only where memory was refused.
+    /// Returns a copy of the columns. Err: out of memory.
     pub fn try_copy(&self) -> Result<Columns<S>, Memory>
         ensures { IfOk result (λ columns. columns ≡ self.now) }
     {
@@ -128,7 +129,7 @@ impl<S: Storage> Columns<S> {
 }
 
 impl Columns {
-    /// No column.
+    /// Creates an empty list of columns.
     pub fn new(alloc: Global) -> Columns
         ensures { result ≡ [] }
     {
@@ -139,8 +140,8 @@ impl Columns {
         }
     }
 
-    /// Adds a column behind the others. A number above `GREATEST_COLUMN` or not above the last, and more than
-    /// `LONGEST_VALUE` bytes, are refused: the bytes are handed back, and nothing has changed.
+    /// Appends a column. Err: the number is above `GREATEST_COLUMN`, or not above the last one, or there are more than
+    /// `LONGEST_VALUE` bytes. Then the bytes are returned, and nothing has changed.
     pub fn push(&mut self, number: u8, bytes: Vec<u8>) -> Result<(), Vec<u8>>
         ensures accepted { IsOk result ↔ CanFollow widest self.old (number, bytes.items) }
         ensures ok { OnOk result (self.new ≡ self.old ++ (number, bytes.items) ∷ []) }
@@ -155,7 +156,7 @@ impl Columns {
         Ok(())
     }
 
-    /// Takes the last column off.
+    /// Removes the last column and returns it. Returns None if there is none.
     pub fn pop(&mut self) -> Option<Column>
         ensures last { IfSome result (λ column. self.old ≡ self.new ++ column ∷ []) }
         ensures none { IfNone result ((self.old ≡ []) × (self.new ≡ [])) }
@@ -164,7 +165,7 @@ impl Columns {
         self.storage.columns.pop()
     }
 
-    /// The same columns, kept. Refuses only where memory was refused.
+    /// Moves the columns to `Kept` storage. Err: out of memory.
     pub fn keep(self, alloc: Global) -> Result<Columns<Kept>, Memory>
         ensures { IfOk result (λ kept. kept ≡ self) }
     {
@@ -176,7 +177,8 @@ impl Columns {
 }
 
 impl Columns<Kept> {
-    /// No column, with room for so many: adding these takes no memory.
+    /// Creates an empty list of columns with room for `count`: adding that many takes no memory except for long values.
+    /// Err: out of memory.
     pub fn with_capacity(alloc: Global, count: usize) -> Result<Columns<Kept>, Memory>
         ensures { IfOk result (λ columns. columns ≡ []) }
     {
@@ -185,7 +187,7 @@ impl Columns<Kept> {
         })
     }
 
-    /// Adds a column with a copy of these bytes behind the others. Where memory was refused, nothing has changed.
+    /// Appends a column with a copy of these bytes. Err: out of memory; then nothing has changed.
     pub fn add(&mut self, alloc: Global, number: u8, bytes: &[u8]) -> Result<(), Memory>
         requires { CanFollow widest self.old (number, bytes.now) }
         ensures ok { OnOk result (self.new ≡ self.old ++ (number, bytes.now) ∷ []) }
@@ -195,7 +197,7 @@ impl Columns<Kept> {
     }
 }
 
-/// The bytes of the column with this number, if there is one.
+/// Returns the bytes of the column with this number, or None if there is no such column.
 fn value_of(columns: &[Column], number: u8) -> Option<&[u8]>
     ensures { MatchOption result
         ((bytes : List ℕ) → Contains columns.now (number, bytes) → ⊥)
@@ -209,7 +211,7 @@ fn value_of(columns: &[Column], number: u8) -> Option<&[u8]>
     None
 }
 
-/// Whether a column of this number may stand behind these.
+/// Returns whether a column with this number may be appended to these.
 fn may_follow(columns: &[Column], number: u8) -> bool
     requires { NumbersRise 0 columns.now }
     ensures { IsTrue result ↔ ((number ≤ GREATEST_COLUMN) × NumbersBelow columns.now number) }

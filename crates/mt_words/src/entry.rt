@@ -7,8 +7,8 @@ ghost use Rattle.mt_words.specs.Changes.{IsEntry, entry_of};
 use crate::{Change, Columns, Format, Key, Kind};
 use std::marker::Model;
 
-/// A lawful entry of a checkpoint: a key with its version, from 1 on, and all its columns, of which there is at least
-/// one. It stands for the whole key at that version: it clears the key, and then sets these columns.
+/// A lawful entry of a checkpoint: a key, its version (at least 1) and all its columns (at least one). It stands for
+/// the complete key at that version: it clears the key, then sets these columns.
 #[derive(Debug, Drop)]
 pub struct Entry {
     change: Change,
@@ -27,12 +27,13 @@ impl Model for Entry {
 }
 
 impl Entry {
-    /// The entry of this key with these columns. None where the version is 0 or there is no column. It takes no memory.
+    /// Creates the entry of this key with these columns. Returns None if the version is 0 or there is no column.
+    /// Allocates nothing.
     pub fn new(version: u64, key: Key, columns: Columns) -> Option<Entry>
         ensures accepted { IsSome result ↔ ((0 < version) × (0 < length columns)) }
         ensures value { IfSome result (λ made. made ≡ entry_of version key columns) }
     {
-        // It tells the proof that the key is lawful.
+        // This call shows the proof that the key is lawful.
         let _ = key.as_bytes();
         if version == 0 || columns.len() == 0 {
             return None;
@@ -46,14 +47,14 @@ impl Entry {
         })
     }
 
-    /// Whether format 1 has such an entry.
+    /// Returns whether format 1 allows the entry.
     pub fn fits_format_1(&self) -> bool
         ensures { IsTrue result ↔ IsEntry (limits_of One) self.now }
     {
         self.change.fits(Format::One)
     }
 
-    /// What it does to its key.
+    /// Returns the change that the entry makes to its key.
     pub fn change(&self) -> &Change
         ensures value { result.now ≡ self.now }
         ensures lawful { IsEntry widest self.now }
@@ -61,7 +62,7 @@ impl Entry {
         &self.change
     }
 
-    /// What it does to its key, moved out.
+    /// Consumes the entry and returns the change that it makes to its key.
     pub fn into_change(self) -> Change
         ensures value { result ≡ self }
         ensures lawful { IsEntry widest self }

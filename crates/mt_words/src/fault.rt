@@ -1,8 +1,8 @@
-//! Why there is no store.
+//! Faults: the reasons why there is no store.
 use std::alloc::{AllocError, AllocFailed};
 use thiserror::Error;
 
-/// A growth was refused. It is the one answer of the product for want of memory.
+/// Out of memory: an allocation failed. The product reports every failed allocation under this name.
 #[derive(Clone, Copy, Debug, PartialEq, Eq, Error)]
 #[error("no memory")]
 pub struct Memory;
@@ -19,19 +19,20 @@ impl<T: Drop> From<AllocFailed<T>> for Memory {
     }
 }
 
-/// What is wrong with a record, in the order in which it is tested: the first that holds is named.
+/// What is wrong with a record. The variants are in the order in which they are tested, and the first that holds is
+/// reported.
 #[derive(Clone, Copy, Debug, PartialEq, Eq, Error)]
 pub enum What {
-    /// The length is below that of every record, or above it.
+    /// The length is too small or too great for any record.
     #[error("length")]
     Length,
-    /// The length behind the body is not the one before it.
+    /// The length after the body differs from the one before it.
     #[error("trailer")]
     Trailer,
     /// No kind of record has this byte.
     #[error("kind")]
     Kind,
-    /// The fields of that kind do not end exactly with the body.
+    /// The fields of the record's kind do not end exactly where the body ends.
     #[error("frame")]
     Frame,
     /// The version is 0.
@@ -40,7 +41,7 @@ pub enum What {
     /// The key is too long.
     #[error("key")]
     Key,
-    /// There is no column, or too many, or a number is too high, or they do not strictly rise.
+    /// There is no column, there are too many, a number is too high, or the numbers do not strictly rise.
     #[error("columns")]
     Columns,
     /// The timestamp is below that of the record before it.
@@ -48,7 +49,7 @@ pub enum What {
     Clock,
 }
 
-/// Why there is no store. Logs, parts, records and pieces count from 0.
+/// The reason why there is no store. Logs, parts, records and pieces count from 0.
 #[derive(Clone, Copy, Debug, PartialEq, Eq, Error)]
 pub enum Fault {
     /// No log was given.
@@ -57,22 +58,22 @@ pub enum Fault {
     /// The log does not begin with a header.
     #[error("log {log}: header")]
     Header { log: usize },
-    /// The log has so many whole records, and what follows is neither a record nor torn.
+    /// After `nth` complete records, the log goes on with neither a record nor a torn tail.
     #[error("log {log}: record {nth}: {what}")]
     Record { log: usize, nth: u64, what: What },
-    /// The source of the log failed.
+    /// Reading the log from its source failed.
     #[error("log {log}: source failed")]
     Source { log: usize },
-    /// The source of the checkpoint part failed.
+    /// Reading the checkpoint part from its source failed.
     #[error("part {part}: source failed")]
     PartSource { part: usize },
     /// Updates that recovery needs may be missing from the log.
     #[error("log {log}: gap")]
     Gap { log: usize },
-    /// No worker brought the piece back.
+    /// No worker returned the piece, a range of keys.
     #[error("piece {piece}: missing")]
     Missing { piece: u32 },
-    /// A growth was refused.
+    /// Out of memory: an allocation failed.
     #[error("no memory")]
     Memory,
 }

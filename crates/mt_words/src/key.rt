@@ -16,14 +16,14 @@ use std::alloc::Global;
 use std::cmp::Ordering;
 use std::marker::Model;
 
-/// A key of the store: at most `LONGEST_KEY` bytes. Keys are ordered as lists of bytes, a beginning before its
-/// continuation.
+/// A key of the store: at most `LONGEST_KEY` bytes. Keys are ordered byte by byte, and a prefix comes before the keys
+/// that continue it.
 #[derive(Debug)]
 pub struct Key {
     bytes: Vec<u8>,
 }
 
-/// In words, as that of `Columns` is.
+/// Written out, not derived, for the same reason as the drop of `Columns`.
 impl Drop for Key {
     fn drop(self) {
         let Key { bytes: _ } = self;
@@ -43,7 +43,7 @@ impl Model for Key {
 }
 
 impl Key {
-    /// The key of these bytes. None where there are more than `LONGEST_KEY`.
+    /// Creates a key of these bytes. Returns None if there are more than `LONGEST_KEY`.
     pub fn new(bytes: Vec<u8>) -> Option<Key>
         ensures accepted { IsSome result ↔ IsKey widest bytes.items }
         ensures value { IfSome result (λ key. key ≡ bytes.items) }
@@ -54,7 +54,7 @@ impl Key {
         Some(Key { bytes })
     }
 
-    /// The key of a copy of these bytes. Refuses only where memory was refused.
+    /// Creates a key of a copy of these bytes. Err: out of memory.
     pub fn copy_of(alloc: Global, bytes: &[u8]) -> Result<Key, Memory>
         requires { IsKey widest bytes.now }
         ensures { IfOk result (λ key. key ≡ bytes.now) }
@@ -64,7 +64,7 @@ impl Key {
         })
     }
 
-    /// The bytes of the key.
+    /// Returns the bytes of the key.
     pub fn as_bytes(&self) -> &[u8]
         ensures value { result.now ≡ self.now }
         ensures lawful { IsKey widest self.now }
@@ -72,7 +72,7 @@ impl Key {
         &self.bytes
     }
 
-    /// The bytes of the key, moved out.
+    /// Consumes the key and returns its bytes.
     pub fn into_bytes(self) -> Vec<u8>
         ensures value { result.items ≡ self }
         ensures lawful { IsKey widest self }
@@ -81,14 +81,14 @@ impl Key {
         bytes
     }
 
-    /// The slice of what the key has from this place on.
+    /// Returns the slice of the key's bytes from offset `at` on.
     pub fn slice(&self, at: usize) -> u64
         ensures { result ≡ slice_in (drop at self.now) }
     {
         slice_at(&self.bytes, at)
     }
 
-    /// An equal key. Refuses only where memory was refused.
+    /// Returns a copy of the key. Err: out of memory.
     pub fn try_copy(&self) -> Result<Key, Memory>
         ensures { IfOk result (λ key. key ≡ self.now) }
     {

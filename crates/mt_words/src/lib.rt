@@ -1,4 +1,4 @@
-//! The words of the store: keys, columns, log records, entries of checkpoints, updates with their stamps, and faults.
+//! The basic types of the store: keys, columns, log records, checkpoint entries, updates with their stamps, and faults.
 #![tactic(auto)]
 
 mod code;

@@ -1,46 +1,46 @@
-//! The formats of files, and what each allows.
+//! The file formats, and the limits of each.
 ghost use Rattle.std.specs.Prelude.{◌≡◌, ◌≢◌, IfSome, IfNone};
 ghost use Rattle.mt_words.specs.declared.limits.Format.{Format as AnyFormat};
 ghost use Rattle.mt_words.specs.Limits.{limits_of};
 
-/// A format of logs and of parts of checkpoints. A further one is a variant here, its limits, and its digit.
+/// A format of logs and checkpoint parts. A new format needs a variant here, its limits and its digit.
 #[derive(Clone, Copy, Debug, PartialEq, Eq)]
 pub enum Format {
     /// Keys of at most 1,024 bytes, columns 0 to 15, puts, removes and marks.
     One,
-    /// Keys of at most 4,096 bytes, columns 0 to 63, and erases besides.
+    /// Keys of at most 4,096 bytes, columns 0 to 63, puts, removes, marks and erases.
     Two,
 }
 
-/// What a format allows.
+/// The limits of a format.
 #[derive(Clone, Copy, Debug, PartialEq, Eq)]
 pub struct Limits {
-    /// What its files have behind the three letters that they begin with.
+    /// The byte that follows the three letters at the start of the format's files.
     pub digit: u8,
-    /// The most bytes of a key.
+    /// The greatest length of a key, in bytes.
     pub key: usize,
     /// The greatest column number.
     pub column: u8,
-    /// The greatest byte of a kind of record; the least is 1.
+    /// The greatest byte of a kind of record. The least is 1.
     pub kind: u8,
 }
 
-/// The most bytes of a key, in any format.
+/// The greatest length of a key in any format, in bytes.
 pub const LONGEST_KEY: usize = 4096;
 
-/// The greatest column number, in any format.
+/// The greatest column number in any format.
 pub const GREATEST_COLUMN: u8 = 63;
 
-/// The most columns of a key, in any format: one for each number.
+/// The greatest number of columns of a key in any format: one for each column number.
 pub const MOST_COLUMNS: usize = 64;
 
-/// The most bytes of a column's value.
+/// The greatest length of a column's value, in bytes.
 pub const LONGEST_VALUE: usize = 65_535;
 
 const _: () = prove!(MOST_COLUMNS == GREATEST_COLUMN as usize + 1);
 
 impl Format {
-    /// What the format allows.
+    /// Returns the limits of the format.
     pub fn limits(self) -> Limits
         ensures { result ≡ limits_of self }
     {
@@ -60,7 +60,7 @@ impl Format {
         }
     }
 
-    /// The format of this digit.
+    /// Returns the format with this digit, or None if no format has it.
     pub fn of_digit(digit: u8) -> Option<Format>
         ensures found { IfSome result (λ format. (limits_of format).digit ≡ digit) }
         ensures none { IfNone result ((format : AnyFormat) → (limits_of format).digit ≢ digit) }

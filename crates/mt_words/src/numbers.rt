@@ -1,4 +1,4 @@
-//! Numbers of columns.
+//! Lists of column numbers.
 ghost use Rattle.std.specs.Prelude.{◌≡◌, ◌≤◌, ◌<◌, ◌↔◌, length, IsSome, IfSome, IsTrue};
 ghost use Rattle.mt_words.specs.declared.limits.TheConstants.{GREATEST_COLUMN};
 ghost use Rattle.mt_words.specs.Limits.{widest};
@@ -9,7 +9,7 @@ use crate::limits::{GREATEST_COLUMN, MOST_COLUMNS};
 use arrayvec::ArrayVec;
 use std::marker::Model;
 
-/// The numbers of the columns that an erase takes away: at least one, strictly rising. They lie in place.
+/// The numbers of the columns that an erase removes: at least one, strictly rising. They are stored inline.
 #[derive(Debug, Drop)]
 pub struct Numbers {
     numbers: ArrayVec<u8, MOST_COLUMNS>,
@@ -28,7 +28,8 @@ impl Model for Numbers {
 }
 
 impl Numbers {
-    /// These numbers. None where there is none, where one is above `GREATEST_COLUMN`, and where they do not strictly rise.
+    /// Creates a list of these numbers. Returns None if there are none, if one is above `GREATEST_COLUMN`, or if they
+    /// do not strictly rise.
     pub fn new(numbers: &[u8]) -> Option<Numbers>
         ensures accepted { IsSome result ↔ (AreNumbers widest numbers.now × (0 < length numbers.now)) }
         ensures value { IfSome result (λ made. made ≡ numbers.now) }
@@ -46,7 +47,7 @@ impl Numbers {
         Some(Numbers { numbers: rising })
     }
 
-    /// The numbers.
+    /// Returns the numbers as a slice.
     pub fn as_slice(&self) -> &[u8]
         ensures value { result.now ≡ self.now }
         ensures lawful { AreNumbers widest self.now × (0 < length self.now) }
@@ -54,7 +55,7 @@ impl Numbers {
         self.numbers.as_slice()
     }
 
-    /// Whether none is above this one.
+    /// Returns whether no number is above `greatest`.
     pub fn are_up_to(&self, greatest: u8) -> bool
         ensures { (limits : Limits) → limits.column ≡ greatest →
             IsTrue result ↔ (AreNumbers limits self.now × (0 < length self.now)) }
@@ -66,7 +67,7 @@ impl Numbers {
     }
 }
 
-/// Whether the number may follow these.
+/// Returns whether the number may be appended to these.
 fn may_follow(numbers: &[u8], number: u8) -> bool
     requires { Rise 0 numbers.now }
     ensures { IsTrue result ↔ ((number ≤ GREATEST_COLUMN) × AreBelow numbers.now number) }

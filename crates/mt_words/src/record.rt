@@ -10,7 +10,7 @@ use std::marker::Model;
 /// A change of one key.
 #[derive(Debug, Drop)]
 pub struct Change {
-    /// The version of the key's value, from 1 on.
+    /// The version of the key's value, at least 1.
     pub version: u64,
     /// The key that it changes.
     pub key: Key,
@@ -19,7 +19,7 @@ pub struct Change {
 }
 
 impl Change {
-    /// Whether the format allows it.
+    /// Returns whether the format allows the change.
     pub fn fits(&self, format: Format) -> bool
         ensures { IsTrue result ↔ IsLawfulChange (limits_of format) self.now }
     {
@@ -28,7 +28,7 @@ impl Change {
     }
 }
 
-/// A lawful record of a log: a timestamp and, but for a mark, a change.
+/// A lawful record of a log: a timestamp and, unless it is a mark, a change.
 #[derive(Debug, Drop)]
 pub struct Record {
     timestamp: u64,
@@ -47,7 +47,7 @@ impl Model for Record {
 }
 
 impl Record {
-    /// A mark: it carries its timestamp alone.
+    /// Creates a mark: a record with a timestamp alone.
     pub fn mark(timestamp: u64) -> Record
         ensures { result ≡ mark_of timestamp }
     {
@@ -57,7 +57,7 @@ impl Record {
         }
     }
 
-    /// A put of these columns. None where the version is 0 or there is no column.
+    /// Creates a put of these columns. Returns None if the version is 0 or there is no column.
     pub fn put(timestamp: u64, version: u64, key: Key, columns: Columns) -> Option<Record>
         ensures accepted { IsSome result ↔ ((0 < version) × (0 < length columns)) }
         ensures value { IfSome result (λ made. made ≡ put_of timestamp version key columns) }
@@ -68,7 +68,7 @@ impl Record {
         Record::of_kind(timestamp, version, key, Kind::Put(columns))
     }
 
-    /// A remove of the key. None where the version is 0.
+    /// Creates a remove of the key. Returns None if the version is 0.
     pub fn remove(timestamp: u64, version: u64, key: Key) -> Option<Record>
         ensures accepted { IsSome result ↔ (0 < version) }
         ensures value { IfSome result (λ made. made ≡ remove_of timestamp version key) }
@@ -76,17 +76,17 @@ impl Record {
         Record::of_kind(timestamp, version, key, Kind::Remove)
     }
 
-    /// An erase of these columns of the key. None where the version is 0.
+    /// Creates an erase of these columns of the key. Returns None if the version is 0.
     pub fn erase(timestamp: u64, version: u64, key: Key, numbers: Numbers) -> Option<Record>
         ensures accepted { IsSome result ↔ (0 < version) }
         ensures value { IfSome result (λ made. made ≡ erase_of timestamp version key numbers) }
     {
-        // It tells the proof that the numbers are lawful.
+        // This call shows the proof that the numbers are lawful.
         let _ = numbers.as_slice();
         Record::of_kind(timestamp, version, key, Kind::Erase(numbers))
     }
 
-    /// A change of this kind. None where the version is 0.
+    /// Creates a record with a change of this kind. Returns None if the version is 0.
     fn of_kind(timestamp: u64, version: u64, key: Key, kind: Kind) -> Option<Record>
         requires lawful { AllowsKind widest kind }
         requires logged { IsLogged kind }
@@ -94,7 +94,7 @@ impl Record {
         ensures value { IfSome result (λ made. made ≡
             changed timestamp (record { version = version; key = key; kind = kind })) }
     {
-        // It tells the proof that the key is lawful.
+        // This call shows the proof that the key is lawful.
         let _ = key.as_bytes();
         if version == 0 {
             return None;
@@ -105,7 +105,7 @@ impl Record {
         })
     }
 
-    /// Whether format 1 has such a record.
+    /// Returns whether format 1 allows the record.
     pub fn fits_format_1(&self) -> bool
         ensures { IsTrue result ↔ IsLawful (limits_of One) self.now }
     {
@@ -115,7 +115,7 @@ impl Record {
         }
     }
 
-    /// Its timestamp.
+    /// Returns the timestamp.
     pub fn timestamp(&self) -> u64
         ensures value { result ≡ self.now.timestamp }
         ensures lawful { IsLawful widest self.now }
@@ -123,7 +123,7 @@ impl Record {
         self.timestamp
     }
 
-    /// What it changes; None for a mark.
+    /// Returns the change, or None for a mark.
     pub fn change(&self) -> Option<&Change>
         ensures value { MatchOption result
             (self.now.change ≡ None)
@@ -133,7 +133,7 @@ impl Record {
         Option::as_ref(&self.change)
     }
 
-    /// What it changes, moved out; None for a mark.
+    /// Consumes the record and returns its change, or None for a mark.
     pub fn into_change(self) -> Option<Change>
         ensures value { result ≡ self.change }
         ensures lawful { IsLawful widest self }

@@ -1,4 +1,4 @@
-//! What takes the pairs of a walk.
+//! Sinks for the pairs of a walk.
 ghost use Rattle.std.specs.Prelude.{◌≡◌, ◌++◌, ◌∷◌, [], OnOk};
 ghost use Rattle.mt_words.specs.Limits.{widest};
 ghost use Rattle.mt_words.specs.Walks.{KeysRise};
@@ -9,14 +9,15 @@ use crate::fault::Memory;
 use crate::key::Key;
 use crate::storage::Kept;
 
-/// What takes the pairs of a walk, one after another by rising keys: a list of them, or the draft of a tree.
+/// A sink for the pairs of a walk, which come one by one in rising order of their keys. It is a list of pairs, or the
+/// draft of a tree.
 pub trait PairSink: Drop {
     ghost use Rattle.std.specs.Prelude.{List};
     ghost use Rattle.mt_words.specs.Walks.{Pair};
 
     ghost pairs: { Self → List Pair };
 
-    /// Takes one more pair. After an Err nothing is said of what is held.
+    /// Appends a pair. Err: out of memory; then the contents are unspecified.
     fn push_pair(&mut self, key: &[u8], columns: Columns<Kept>) -> Result<(), Memory>
         requires lawful { IsKey widest key.now }
         requires rises { KeysRise (pairs self.old ++ (key.now, columns) ∷ []) }

@@ -4,8 +4,8 @@ ghost use Rattle.mt_words.specs.Slices.{AreBytes, slice_in, slice_bytes};
 
 use byteorder::{BigEndian, ByteOrder};
 
-/// The slice of a key: its first eight bytes as a number, the highest first. Keys whose slices differ are ordered as
-/// these.
+/// Returns the slice of a key: its first eight bytes as a big-endian number, with zeros for missing bytes. Keys with
+/// different slices are in the order of their slices.
 pub fn slice_of(key: &[u8]) -> u64
     ensures value { result ≡ slice_in key.now }
     ensures bytes { AreBytes key.now }
@@ -16,7 +16,7 @@ pub fn slice_of(key: &[u8]) -> u64
     BigEndian::read_u64(key)
 }
 
-/// The slice of what a key has from this place on.
+/// Returns the slice of the key's bytes from offset `at` on.
 pub fn slice_at(key: &[u8], at: usize) -> u64
     ensures { result ≡ slice_in (drop at key.now) }
 {
@@ -26,14 +26,14 @@ pub fn slice_at(key: &[u8], at: usize) -> u64
     slice_of(&key[at..])
 }
 
-/// The eight bytes of a slice, the highest first.
+/// Returns the eight bytes of a slice, the most significant first.
 pub fn slice_bytes(slice: u64) -> [u8; 8]
     ensures { result ≡ slice_bytes slice }
 {
     slice.to_be_bytes()
 }
 
-/// The slice of a key that may have fewer bytes.
+/// Returns the slice of a key that may have fewer than eight bytes.
 fn short_slice(key: &[u8]) -> u64
     ensures { result ≡ slice_in key.now }
 {
@@ -49,7 +49,7 @@ fn short_slice(key: &[u8]) -> u64
     ])
 }
 
-/// The byte at this place; zero, where there is none.
+/// Returns the byte at this offset, or zero if there is none.
 fn byte_at(key: &[u8], at: usize) -> u8
     ensures { result ≡ slice_index key.now at }
 {

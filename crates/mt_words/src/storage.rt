@@ -1,4 +1,4 @@
-//! Where columns lie.
+//! The storage of columns.
 ghost use Rattle.std.specs.Prelude.{◌≡◌, ◌++◌, [], ◌∷◌, IfOk, OnOk, OnErr};
 ghost use Rattle.mt_words.specs.Storages.{columns_of};
 
@@ -10,28 +10,28 @@ use std::alloc::Global;
 use std::default::MadeWith;
 use std::{mem, slice};
 
-/// Where columns lie.
+/// The storage of the columns of one key.
 pub trait Storage: Sized + Drop {
     ghost use Rattle.std.specs.Prelude.{List, ℕ};
 
     ghost held: { Self → List (ℕ × List ℕ) };
 
-    /// The columns.
+    /// Returns the columns as a slice.
     fn as_slice(&self) -> &[Column]
         ensures { result.now ≡ Self.held self.now };
 
-    /// An equal one. Refuses only where memory was refused.
+    /// Returns a copy with equal columns. Err: out of memory.
     fn try_copy(&self) -> Result<Self, Memory>
         ensures { IfOk result (λ copy. Self.held copy ≡ Self.held self.now) };
 }
 
-/// In place, with room for one column of each number.
+/// Inline storage, with room for one column of each number.
 #[derive(Debug)]
 pub struct Inline {
     pub(crate) columns: ArrayVec<Column, MOST_COLUMNS, Global>,
 }
 
-/// In words, as that of `Columns` is.
+/// Written out, not derived, for the same reason as the drop of `Columns`.
 impl Drop for Inline {
     fn drop(self) {
         let Inline { columns: _ } = self;
@@ -39,7 +39,7 @@ impl Drop for Inline {
 }
 
 impl Inline {
-    /// The same columns, kept.
+    /// Moves the columns to `Kept` storage. Err: out of memory.
     pub(crate) fn keep(self, alloc: Global) -> Result<Kept, Memory>
         ensures { IfOk result (λ kept. columns_of kept ≡ self.columns.items) }
     {
@@ -69,15 +69,15 @@ impl Storage for Inline {
     }
 }
 
-/// One column in place, or a list that has room for the columns that there are: so much smaller where they are few and
-/// are to stay. Where there is one column, it takes no memory but that of its bytes.
+/// The storage of columns that are to stay: one column inline, or a list with room for the columns that there are. It
+/// is much smaller than `Inline` if the columns are few. A single column takes no memory but that of its bytes.
 #[derive(Debug)]
 pub enum Kept {
     One(Column),
     Many(Vec<Column>),
 }
 
-/// In words, as that of `Columns` is.
+/// Written out, not derived, for the same reason as the drop of `Columns`.
 impl Drop for Kept {
     fn drop(self) {
         match self {
@@ -88,7 +88,7 @@ impl Drop for Kept {
 }
 
 impl Kept {
-    /// No column, with room for so many, where one needs no list.
+    /// Creates empty storage with room for `count` columns. A single column needs no list. Err: out of memory.
     pub(crate) fn with_capacity(alloc: Global, count: usize) -> Result<Kept, Memory>
         ensures { IfOk result (λ kept. columns_of kept ≡ []) }
     {
@@ -96,8 +96,8 @@ impl Kept {
         Ok(Kept::Many(Vec::with_capacity(alloc, room)?))
     }
 
-    /// Adds a column behind the others: the first in place, where no list has room for it. Where memory was refused,
-    /// nothing has changed.
+    /// Appends a column. The first one is stored inline if no list has room for it. Err: out of memory; then nothing
+    /// has changed.
     pub(crate) fn push(&mut self, column: Column) -> Result<(), Memory>
         ensures ok { OnOk result (columns_of self.new ≡ columns_of self.old ++ column ∷ []) }
         ensures err { OnErr result (columns_of self.new ≡ columns_of self.old) }
@@ -131,7 +131,7 @@ impl Storage for Kept {
     }
 }
 
-/// A list of equal columns, with just their room.
+/// Returns copies of the columns in a list with room for just these. Err: out of memory.
 fn copies_of(alloc: Global, columns: &[Column]) -> Result<Vec<Column>, Memory>
     ensures { IfOk result (λ copies. copies.items ≡ columns.now) }
 {
@@ -142,7 +142,8 @@ fn copies_of(alloc: Global, columns: &[Column]) -> Result<Vec<Column>, Memory>
     Ok(copies)
 }
 
-/// The first column, which is taken out of its place, and one behind it. Where memory was refused, nothing has changed.
+/// Moves the first column out of its place, and returns a list of it and `column`. Err: out of memory; then `first` has
+/// not changed.
 fn list_of(first: &mut Column, column: Column) -> Result<Vec<Column>, Memory>
     ensures ok { IfOk result (λ list. list.items ≡ first.old ∷ column ∷ []) }
     ensures err { OnErr result (first.new ≡ first.old) }
@@ -153,14 +154,14 @@ fn list_of(first: &mut Column, column: Column) -> Result<Vec<Column>, Memory>
     Ok(list)
 }
 
-/// An equal column.
+/// Returns a copy of the column. Err: out of memory.
 fn copy_of(alloc: Global, column: &Column) -> Result<Column, Memory>
     ensures { IfOk result (λ copy. copy ≡ column.now) }
 {
     column_of(alloc, column.number, &column.bytes)
 }
 
-/// The column of this number with a copy of these bytes.
+/// Creates the column with this number and a copy of these bytes. Err: out of memory.
 pub(crate) fn column_of(alloc: Global, number: u8, bytes: &[u8]) -> Result<Column, Memory>
     ensures { IfOk result (λ column. column ≡ (number, bytes.now)) }
 {

@@ -10,18 +10,18 @@ use crate::{Code, Columns, Format, Key, Numbers};
 /// What an update does to its key.
 #[derive(Debug, Drop)]
 pub enum Kind {
-    /// Sets these columns alone.
+    /// Sets these columns, and leaves the others.
     Put(Columns),
     /// Clears all columns.
     Remove,
-    /// Clears all columns, and then sets these: the entry of a checkpoint.
+    /// Clears all columns, then sets these: the entry of a checkpoint.
     Whole(Columns),
     /// Erases these columns, and leaves the others.
     Erase(Numbers),
 }
 
 impl Kind {
-    /// Its code.
+    /// Returns the code of the kind.
     pub fn code(&self) -> Code
         ensures { result ≡ code_of self.now }
     {
@@ -33,7 +33,7 @@ impl Kind {
         }
     }
 
-    /// Whether the format allows it.
+    /// Returns whether the format allows the kind.
     pub fn fits(&self, format: Format) -> bool
         ensures { IsTrue result ↔ AllowsKind (limits_of format) self.now }
     {
@@ -48,27 +48,27 @@ impl Kind {
     }
 }
 
-/// Where an update comes from. At one version log updates are ordered by the position of their log, then by
-/// record; the entry of a checkpoint comes after them all. Logs and records count from 0.
+/// Where an update comes from. Among the updates of one version, log updates are ordered by the position of their log,
+/// then by record. The entry of a checkpoint comes after all of them. Logs and records count from 0.
 #[derive(Clone, Copy, Debug, PartialEq, Eq, PartialOrd, Ord)]
 pub enum Origin {
-    /// The record of a log.
+    /// A record of a log.
     Log { log: usize, record: u64 },
-    /// The chosen checkpoint.
+    /// An entry of the chosen checkpoint.
     Checkpoint,
 }
 
-/// The place of an update among those of its key: by version, then by origin.
+/// The position of an update among the updates of its key: by version, then by origin.
 #[derive(Clone, Copy, Debug, PartialEq, Eq, PartialOrd, Ord)]
 pub struct Stamp {
-    /// The version of the key's value, from 1 on.
+    /// The version of the key's value, at least 1.
     pub version: u64,
     /// Where the update comes from.
     pub origin: Origin,
 }
 
 impl Stamp {
-    /// Whether this stamp comes before the other one.
+    /// Returns whether this stamp comes before `other`.
     pub fn is_older(&self, other: &Stamp) -> bool
         ensures { IsTrue result ↔ IsOlder self.now other.now }
     {
@@ -81,9 +81,9 @@ impl Stamp {
 pub struct Update {
     /// The key that it changes.
     pub key: Key,
-    /// Its place among the updates of the key.
+    /// Its position among the updates of the key.
     pub stamp: Stamp,
-    /// The timestamp of its record; 0 for the entry of a checkpoint, where it is never looked at.
+    /// The timestamp of its record. For the entry of a checkpoint it is 0 and never read.
     pub timestamp: u64,
     /// What it does to the key.
     pub kind: Kind,
