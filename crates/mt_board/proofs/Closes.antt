@@ -15,7 +15,7 @@ use Rattle.mt_board.specs.Rule.{pass_view, IsIdle, IsBoardState, IsBoard, parts_
 use Rattle.mt_board.proofs.Sums.{sum_at, least_by, least_small, times_append, once_full}
 use Rattle.mt_board.proofs.Keeps.{parts_of, done_of, noted_of, drawn_of}
 
--- a seat that speaks for all passes but the rest
+-- the seat speaks for all passes but those of `rest`
 pub record Gathers (b : BoardId) (rest all : List PassView) (v : SeatView) : Type 0 where
   pub some : 0 < v.parts
   pub parts : v.parts + length rest ≡ length all
@@ -35,7 +35,7 @@ module _ {X : Type 0} (P : X → Type 0) where
   all_last : (xs : List X) (y : X) → All P (xs ++ y ∷ []) → P y
   all_last xs y h = all_right xs (y ∷ []) h 0 y (omega arith)
 
--- the last pass is the board's
+-- the last pass belongs to the board
 pub last_board : (b : BoardId) (all rest : List PassView) (p : PassView) → All (λ (q : PassView). q.board ≡ b) all → all ≡ rest ++ p ∷ [] → p.board ≡ b
 last_board b all rest p boards e = all_last (λ (q : PassView). q.board ≡ b) rest p (subst (All (λ (q : PassView). q.board ≡ b)) e boards)
 
@@ -99,7 +99,7 @@ module _ (f : SeatView → ℕ) (idles_at : (u : SeatView) → IsIdle u → f u 
       let c : parts_in (x ∷ xs) ≡ x.parts + parts_in xs = sum_by-cons parts_of x xs in
       omega (arith, sum_by-cons f x xs, idles_at x (h 0 x refl (omega arith)), sum_none xs (λ i u at. h (suc i) u at) (omega arith))
 
-  -- a seat that speaks for all passes has all that there is
+  -- the sum over all seats is the value of a seat that speaks for all passes
   sum_alone : (l : List SeatView) (id : ℕ) (v : SeatView) → get_elem? l id ≡ some v → Idles l → parts_in l ≤ v.parts → sum_by f l ≡ f v
   sum_alone [] id v e h le = absurd (some-ne-none v (sym e))
   sum_alone (x ∷ xs) zero v e h le =
@@ -137,7 +137,7 @@ at_get [] i x e = absurd (some-ne-none x (sym e))
 at_get (y ∷ ys) zero x e = some-injective y x e
 at_get (y ∷ ys) (suc i) x e = at_get ys i x e
 
--- what a board tells when it is closed
+-- what a board guarantees when it is closed
 pub record Tells (b : BoardId) (least : ℕ) (all : List PassView) : Type 0 where
   pub whole : length all ≡ b.passes
   pub once : DrewFromBelow b.total all

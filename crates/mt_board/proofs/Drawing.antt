@@ -1,4 +1,4 @@
--- What callers need who draw until no number is left.
+-- Lemmas for callers that draw until no number is left.
 use Rattle.std.proofs.Common.{◌≡◌, ℕ, zero, suc, ◌+◌, ◌-◌, ◌<◌, ◌≤◌, List, [], ◌∷◌, ◌++◌, refl, arith}
 use Rattle.std.specs.List.{All}
 use Rattle.std.proofs.lemmas.List.Elements.{All-push, All-nil}
@@ -12,11 +12,11 @@ above_push : (xs : List ℕ) (n : ℕ) → n + 1 ≤ above (xs ++ n ∷ [])
 above_push [] n = omega arith
 above_push (x ∷ xs) n = omega (arith, above_push xs n)
 
--- what is left of a board for a pass falls with each draw
+-- each draw lowers the count of numbers that a pass can still draw
 pub left_falls : (xs : List ℕ) (n total : ℕ) → n < total → All (λ x. x < n) xs → total - above (xs ++ n ∷ []) < total - above xs
 left_falls xs n total lt h = omega (arith, above_le xs n h, above_push xs n)
 
--- each pass of a new board is the board's and has drawn nothing
+-- each pass of a new board belongs to it and has drawn nothing
 pub all_fresh : (b : BoardId) (n : ℕ) → All (λ (p : PassView). (p.board ≡ b) × (p.draws ≡ [])) (fresh_passes b n)
 all_fresh b zero = All-nil (λ (p : PassView). (p.board ≡ b) × (p.draws ≡ []))
 all_fresh b (suc n) = All-push (λ (p : PassView). (p.board ≡ b) × (p.draws ≡ [])) (fresh_passes b n) (fresh_pass b n) (all_fresh b n) (refl, refl)

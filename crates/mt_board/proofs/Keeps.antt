@@ -102,7 +102,7 @@ module _ (k : Counts) (n m : ℕ) (l : List SeatView) (r : IsBoardState k n m l)
           r.each;
     }
 
--- the two words after a step on one of them
+-- the rule of the two words after a step changes one of them
 first_word : (k : Counts) (ws : List ℕ) (n : ℕ) (l : List SeatView) → length ws ≡ 2 → IsBoardState k n (get_or ws 1 0) l → (length (set ws 0 n) ≡ 2) × IsBoardState k (get_or (set ws 0 n) 0 0) (get_or (set ws 0 n) 1 0) l
 first_word k ws n l two r = (length-set ws 0 n ∙ two, subst (λ (z : ℕ × ℕ). IsBoardState k z.0 z.1 l) (λ i. (sym (get_or-set_same ws 0 n 0 (omega arith)) i, sym (get_or-set_other ws 0 1 n 0 (omega arith)) i)) r)
 
@@ -157,7 +157,7 @@ module _ (k : Counts) (slots id : ℕ) (me : Sitter) (one : me.0.parts ≡ 1) wh
       )
 
 module _ (k : Counts) (n m : ℕ) (l : List SeatView) (r : IsBoardState k n m l) (id : ℕ) (v : SeatView) (at : get_elem? l id ≡ some v) (some_part : 0 < v.parts) where
-  -- the seat of one pass is split off one that has done nothing
+  -- the rule holds after the seat of one pass is split off a seat that has done nothing
   split_state : IsIdle v → IsBoardState k n m (set l id (without_one v) ++ one_part v ∷ [])
   split_state blank = let a : SeatView = without_one v in let b : SeatView = one_part v in let l' : List SeatView = set l id a in let f : IsSeatOf k m v = r.each id v at in record {
     small = r.small;
@@ -172,7 +172,7 @@ module _ (k : Counts) (n m : ℕ) (l : List SeatView) (r : IsBoardState k n m l)
         (at_snoc l' b u i e);
   }
 
-  -- two seats are joined
+  -- the rule holds after two seats are joined
   join_state : (other : ℕ) (w : SeatView) → other ≢ id → get_elem? (set l id (both_views v w)) other ≡ some w → IsBoardState k n m (set (set l id (both_views v w)) other spent_view)
   join_state other w apart there = let both : SeatView = both_views v w in let f : IsSeatOf k m v = r.each id v at in let h : IsSeatOf k m w = r.each other w (sym (set_else l id other both apart) ∙ there) in record {
     small = r.small;

@@ -25,12 +25,12 @@ module _ {X : Type 0} (f : X → ℕ) where
   sum_at (x ∷ xs) zero v e = let is : f x ≡ f v = ap f (some-injective x v e) in omega (arith, sum_by-cons f x xs)
   sum_at (x ∷ xs) (suc i) v e = omega (arith, sum_at xs i v e, sum_by-cons f x xs)
 
-  -- two elements become one, and the other counts for nothing
+  -- the sum stays the same if one element takes the values of two and the other becomes zero
   pub sum_join : (l : List X) (i j : ℕ) (v w both spent : X) → get_elem? l i ≡ some v → get_elem? (set l i both) j ≡ some w → f both ≡ f v + f w → f spent ≡ 0
       → sum_by f (set (set l i both) j spent) ≡ sum_by f l
   sum_join l i j v w both spent at there sum none = omega (arith, sum_set l i v both at, sum_set (set l i both) j w spent there)
 
-  -- the least f, or the greatest u64
+  -- the least of all values of f and the greatest u64
   abbrev pub least_by : List X → ℕ
   least_by l = least_of (map f l)
 
@@ -48,7 +48,7 @@ module _ {X : Type 0} (f : X → ℕ) where
   least_swap (x ∷ xs) zero v w e = let is : f x ≡ f v = ap f (some-injective x v e) in omega arith
   least_swap (x ∷ xs) (suc i) v w e = omega (arith, least_swap xs i v w e)
 
-  -- one element is lowered to n
+  -- the least value after one element becomes the lesser of itself and n
   pub least_set : (l : List X) (i : ℕ) (v w : X) (n : ℕ) → get_elem? l i ≡ some v → f w ≡ min (f v) n → least_by (set l i w) ≡ min (least_by l) n
   least_set l i v w n e is = omega (arith, least_swap l i v w e, least_at l i v e, least_at (set l i w) i w (set_here l i w (at_short l i v e)))
 
@@ -74,7 +74,7 @@ times_push x xs n = sum_by_push (λ y. cond (eqb y x) 1 0) xs n
 itself : (x : ℕ) → 1 ≤ cond (eqb x x) 1 0
 itself x = grind (arith, nat_tests)
 
--- an element stands in its list
+-- an element occurs in its list
 pub times_at : (xs : List ℕ) (i d : ℕ) → i < length xs → 0 < times (get_or xs i d) xs
 times_at [] i d h = absurd (omega arith)
 times_at (y ∷ ys) zero d h = omega (arith, sum_by-cons (λ z. cond (eqb z y) 1 0) y ys, itself y)

@@ -1,4 +1,4 @@
--- The rule that every step at a board's table keeps, and what each step tells its caller.
+-- The rule that every step at a board's table keeps, and what each step guarantees its caller.
 use Rattle.std.specs.Prelude.{◌≡◌, ℕ, ◌+◌, ◌-◌, ◌<◌, ◌≤◌, Bool, List, [], ◌∷◌, ◌++◌, map, length, min, sum_by, slice_index, All, if◌then◌else◌, nat_lt}
 use mathlib.Core.Option.{some}
 use lib.ListN.{get_elem?}
@@ -17,15 +17,15 @@ BoardTable = State (Unit {0}) SeatView
 abbrev pub Sitter : Type 0
 Sitter = Me (Unit {0}) SeatView
 
--- a seat that speaks for this number of passes, none of which has done anything
+-- the view of a seat that speaks for this number of passes and has done nothing
 abbrev pub idle_view : Counts → ℕ → SeatView
 idle_view k parts = record { counts = k; parts = parts; draws = []; done = 0; noted = nothing_noted; looks = [] }
 
--- the first seat speaks for all passes
+-- the view of the first seat: it speaks for all passes and has done nothing
 abbrev pub first_view : Counts → SeatView
 first_view k = idle_view k k.passes
 
--- how many passes all seats speak for
+-- the number of passes that all seats together speak for
 abbrev pub parts_in : List SeatView → ℕ
 parts_in views = sum_by (λ (v : SeatView). v.parts) views
 
@@ -37,41 +37,42 @@ drawn_in x views = sum_by (λ (v : SeatView). times x v.draws) views
 abbrev pub done_in : List SeatView → ℕ
 done_in views = sum_by (λ (v : SeatView). v.done) views
 
--- the least number noted
+-- the least number that any seat noted
 abbrev pub noted_in : List SeatView → ℕ
 noted_in views = least_of (map (λ (v : SeatView). v.noted) views)
 
--- what contracts see of a pass with this seat
+-- a pass with this seat, as contracts see it
 abbrev pub pass_view : TableId → ℕ → Bool → SeatView → PassView
 pass_view t number done v = record { board = record { table = t; total = v.counts.total; passes = v.counts.passes }; number = number; draws = v.draws; done = done; noted = v.noted; looks = v.looks }
 
--- what is left of a seat that was joined to another: it speaks for no pass
+-- the view of a seat that was joined to another: it speaks for no pass and has done nothing
 abbrev pub spent_view : SeatView
 spent_view = idle_view (record { total = 0; passes = 0 }) 0
 
--- nothing was done
+-- the seat has done nothing
 pub record IsIdle (v : SeatView) : Type 0 where
   pub draws : v.draws ≡ []
   pub done : v.done ≡ 0
   pub noted : v.noted ≡ nothing_noted
   pub looks : v.looks ≡ []
 
--- what holds of each seat
+-- The rule for one seat. It has the board's counts if it speaks for a pass. Not more passes are done than it speaks for. If it speaks for none, it
+-- has done nothing. No look found a number below `least`.
 pub record IsSeatOf (k : Counts) (least : ℕ) (v : SeatView) : Type 0 where
   pub counts : 0 < v.parts → v.counts ≡ k
   pub done : v.done ≤ v.parts
   pub idles : v.parts ≡ 0 → IsIdle v
   pub looks : All (λ look. least ≤ look) v.looks
 
--- what holds of the two words and the views of all seats
+-- the rule for the two words and the views of all seats
 pub record IsBoardState (k : Counts) (next least : ℕ) (views : List SeatView) : Type 0 where
-  -- so small that the next number never wraps
+  -- the counts are so small that the next number never wraps around
   pub small : IsTotal k.total × (k.passes ≤ MOST_PASSES)
   pub parts : parts_in views ≡ k.passes
-  -- the numbers below both the next one and the total were drawn, each once
+  -- the numbers below both the next one and the total were drawn, each once, and no other
   pub draws : (x : ℕ) → drawn_in x views ≡ once_below x (min next k.total)
   pub done : 0 < done_in views → k.total ≤ next
-  -- once all are drawn, each pass takes one step more at most
+  -- after all numbers are drawn, each pass takes at most one more step
   pub bound : next ≤ k.total + done_in views
   pub noted : least ≡ noted_in views
   pub each : (id : ℕ) (v : SeatView) → get_elem? views id ≡ some v → IsSeatOf k least v
@@ -84,24 +85,24 @@ IsBoard k s = (length s.words ≡ 2) × IsBoardState k (slice_index s.words 0) (
 abbrev pub drew : ℕ → SeatView → SeatView
 drew n v = if nat_lt n v.counts.total then record v { draws = v.draws ++ n ∷ [] } else record v { done = v.done + 1 }
 
--- what a seat draws rises
+-- a draw that found n changes the view as `drew` says; if n is below the total, it is above all that the seat drew before
 abbrev pub Draws : Step (Unit {0}) → Sitter → ℕ → Sitter → Type 0
 Draws s me n me' = (me' ≡ (drew n me.0, me.1)) × (n < me.0.counts.total → All (λ drawn. drawn < n) me.0.draws)
 
 abbrev pub Notes : Step (Unit {0}) → Sitter → ℕ → Sitter → Type 0
 Notes s me n me' = me' ≡ (record me.0 { noted = min me.0.noted s.first }, me.1)
 
--- what is found is no more than what this seat noted or found before
+-- a look that found n adds it to the view, and n is at most what this seat noted or found before
 abbrev pub Looks : Step (Unit {0}) → Sitter → ℕ → Sitter → Type 0
 Looks s me n me' = (me' ≡ (record me.0 { looks = me.0.looks ++ n ∷ [] }, me.1)) × (n ≤ me.0.noted) × All (λ look. n ≤ look) me.0.looks
 
--- a seat from which that of one pass was split off, and that seat
+-- the view of a seat after the seat of one pass was split off, and the view of that new seat
 abbrev pub without_one : SeatView → SeatView
 without_one v = record v { parts = v.parts - 1 }
 
 abbrev pub one_part : SeatView → SeatView
 one_part v = idle_view v.counts 1
 
--- two seats that were joined
+-- the view of two seats after they were joined
 abbrev pub both_views : SeatView → SeatView → SeatView
 both_views v w = record { counts = v.counts; parts = v.parts + w.parts; draws = v.draws ++ w.draws; done = v.done + w.done; noted = min v.noted w.noted; looks = v.looks ++ w.looks }

@@ -15,13 +15,13 @@ pub const MOST_NUMBERS: u32 = 4096;
 /// The most passes of a board.
 pub const MOST_PASSES: u32 = 64;
 
-/// The word that has the next number.
+/// The index of the table's word that has the next number.
 const NEXT: usize = 0;
 
-/// The word that has the least number noted.
+/// The index of the table's word that has the least number noted.
 const LEAST: usize = 1;
 
-/// The numbers from 0 up to a total, each given out once, and the least number that was noted.
+/// The numbers below a total, each given out once, and the least number noted.
 #[derive(Drop)]
 pub struct Board {
     table: Table<(), SeatView, Counts, BoardRule, Global>,
@@ -40,7 +40,7 @@ impl Model for Board {
     ghost invariant = { λ b. (b.table.shared.key ≡ b.counts) × (b.table.shared.table_id.words ≡ 2) × (b.table.shared.table_id.slots ≡ 0) × (1 ≤ b.counts.passes) };
 }
 
-/// Why a board was not opened.
+/// The reason why a board was not opened.
 #[derive(Clone, Copy, Debug, PartialEq, Eq, Drop)]
 pub enum BoardFault {
     /// More than `MOST_NUMBERS` numbers.
@@ -62,17 +62,18 @@ impl From<AllocError> for BoardFault {
     }
 }
 
-/// What a closed board leaves.
+/// The result of closing a board.
 #[derive(Clone, Copy, Debug, PartialEq, Eq)]
 pub struct Closed {
-    /// The least number that any pass noted, `u64::MAX` if none did.
+    /// The least number that any pass noted, or `u64::MAX` if none did.
     pub least: u64,
 }
 
 impl Board {
     /// Opens a board with the numbers below `total`, and returns it with its passes, in order of their numbers.
     ///
-    /// Answers `Total` above `MOST_NUMBERS`, and then `Passes` unless there are 1 to `MOST_PASSES`.
+    /// Err: `Total` if `total` is above `MOST_NUMBERS`; else `Passes` unless `passes` is 1 to `MOST_PASSES`; else
+    /// `Memory` if out of memory.
     pub fn open(alloc: Global, total: u32, passes: u32) -> Result<(Board, Vec<Pass>), BoardFault>
         ensures lawful { MatchResult result (λ _. AreCounts total passes) (IsBoardFault total passes) }
         ensures board { IfOk result (λ opened. (opened.0.total ≡ total) × (opened.0.passes ≡ passes)) }
@@ -99,9 +100,9 @@ impl Board {
         Ok((Board { table, counts }, dealt))
     }
 
-    /// Draws the next number, in one atomic step. No other claim draws it, and what one pass draws rises.
+    /// Draws the next number, in one atomic step. No other claim draws it, and the numbers that one pass draws rise.
     ///
-    /// Answers None once no number is left. A pass that was told so takes no further step.
+    /// Returns None once no number is left. After that, the pass takes no further step.
     pub fn claim(&self, pass: &mut Pass) -> Option<u32>
         requires { pass.old.board ≡ self.now }
         ensures below { IfSome result (λ number. number < self.now.total) }
@@ -121,7 +122,7 @@ impl Board {
         }
     }
 
-    /// Notes a number: lowers the board's least number to it, if it is less, in one atomic step.
+    /// Notes a number: lowers the board's least number to it if it is smaller, in one atomic step.
     pub fn note(&self, pass: &mut Pass, number: u64)
         requires { pass.old.board ≡ self.now }
         ensures { pass.new ≡ record pass.old { noted = min pass.old.noted number } }
@@ -131,9 +132,9 @@ impl Board {
             .fetch_min::<Note>(&mut pass.seat, LEAST, number);
     }
 
-    /// Reads the least number noted so far by any pass, in one atomic step: `u64::MAX` if none was.
+    /// Returns the least number that any pass noted so far, or `u64::MAX` if none did. It is read in one atomic step.
     ///
-    /// Numbers that other passes note later may lower it. It never rises.
+    /// Numbers that other passes note later may lower the least number. It never rises.
     pub fn least(&self, pass: &mut Pass) -> u64
         requires { pass.old.board ≡ self.now }
         ensures pass { pass.new ≡ record pass.old { looks = pass.old.looks ++ result ∷ [] } }
@@ -143,7 +144,8 @@ impl Board {
         self.table.shared.load::<Look>(&mut pass.seat, LEAST)
     }
 
-    /// Closes the board, which takes all its passes. Hands board and passes back if a pass is missing.
+    /// Closes the board, which needs all its passes. Err: a pass is missing; then the board and the passes are
+    /// returned.
     pub fn close(self, mut passes: Vec<Pass>) -> Result<Closed, (Board, Vec<Pass>)>
         requires { All (λ pass. pass.board ≡ self) passes.items }
         ensures missing { IsErr result ↔ (length passes.items < self.passes) }

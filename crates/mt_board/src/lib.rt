@@ -1,9 +1,10 @@
 //! A board from which threads draw work, and on which they share the least number that any of them noted.
 //!
-//! A `Board` has the numbers from 0 up to a total, and gives each out once, in rising order. Whoever holds a `Pass` of
-//! the board may `claim` the next number, `note` a number of its own, and ask for the `least` one noted so far. Each is
+//! A `Board` gives out the numbers below a total, each once, in rising order. The holder of a `Pass` of the board may
+//! `claim` the next number, `note` a number of its own, and ask for the `least` number noted so far. Each of these is
 //! one atomic step through a `&Board`: no call waits for another thread. `Board::close` takes all passes back, and its
-//! contract says what they did together, however the threads' steps were interleaved. `Closed` has the least number.
+//! contract says what they did together, however the threads' steps were interleaved. `Closed` has the least number
+//! noted.
 //!
 //! ```
 //! let (board, mut passes) = Board::open(alloc, 3, 1)?;
@@ -18,8 +19,8 @@
 //! }
 //! ```
 //!
-//! Begin with `board.rt` and `specs/Board.antt`, which are the statement. `view.rt` and `specs/Rule.antt` have the rule
-//! that each step keeps.
+//! Begin with `board.rt` and `specs/Board.antt`, which state what a board does. `view.rt` and `specs/Rule.antt` have
+//! the rule that each step keeps.
 #![tactic(auto)]
 
 mod board;

@@ -5,8 +5,8 @@ use crate::view::SeatView;
 use atomic_table::Seat;
 use std::marker::Model;
 
-/// The right to draw from one board, and to note and see its least number. A pass is never copied, so a contract knows
-/// all that it did: the numbers that it drew, the least one that it noted, and those that it saw.
+/// The right to draw from one board, and to note and see its least number. A pass is never copied, so contracts know
+/// all that it did: the numbers it drew, the least number it noted, and the numbers it saw.
 #[derive(Drop)]
 pub struct Pass {
     pub(crate) number: u32,
@@ -29,7 +29,7 @@ impl Model for Pass {
 }
 
 impl Pass {
-    /// Returns which of the board's passes it is, counted from 0.
+    /// Returns the number of the pass among those of its board, counted from 0.
     pub fn number(&self) -> u32
         ensures { result ≡ self.now.number }
     {

@@ -1,11 +1,11 @@
-//! What no contract can say: that a claim is the next number, that a look finds what another pass noted, and the order of
-//! refusals.
+//! Tests of what no contract says: that a claim draws the next number, and that a look finds what another pass noted.
+//! Also tests of the order of faults.
 ghost use Rattle.std.specs.Prelude.{◌≡◌};
 
 use crate::{Board, BoardFault, Pass};
 use std::process::Abort;
 
-/// A board with `total` numbers, and its two passes in order.
+/// Opens a board with `total` numbers, and returns it with its two passes in order.
 fn open_for_two<R: Abort + AllocGlobal>(rt: &R, total: u32) -> (Board, Pass, Pass)
     ensures { (result.1.board ≡ result.0) × (result.2.board ≡ result.0) }
 {

@@ -1,28 +1,28 @@
-//! What a seat at the board's table knows, the rule that every step keeps, and what each step tells its caller.
-//! Word 0 of the table is the next number, word 1 the least number that was noted.
+//! The view of a seat at the board's table, the rule that every step keeps, and what each step guarantees its caller.
+//! Word 0 of the table is the next number. Word 1 is the least number noted.
 use atomic_table::{Join, Play, Split, TableRule};
 use std::collections::LinkedList;
 
-/// How many numbers a board gives out, and how many passes it has. It is the key of the table.
+/// The counts of a board: how many numbers it gives out, and how many passes it has. They are the key of the table.
 #[derive(Clone, Copy)]
 pub struct Counts {
     pub total: u32,
     pub passes: u32,
 }
 
-/// What a seat knows. Proofs alone speak of it: no value is ever made.
+/// What a seat knows. It exists in proofs alone: no value of it is ever made.
 pub struct SeatView {
-    /// Those of the board, since a step sees no key.
+    /// The counts of the board. A seat has them because a step does not see the key of the table.
     pub counts: Counts,
-    /// How many passes it speaks for. The first seat speaks for all, that of a pass for one.
+    /// The number of passes that it speaks for. The first seat begins with all of them; the seat of a pass has one.
     pub parts: u64,
-    /// What was drawn, in order.
+    /// The numbers drawn, in order.
     pub draws: LinkedList<u64>,
-    /// How many of its passes found that no number is left.
+    /// The number of its passes that found that no number is left.
     pub done: u64,
-    /// The least number noted, `u64::MAX` if none was.
+    /// The least number noted, or `u64::MAX` if none was.
     pub noted: u64,
-    /// What the looks found, in order.
+    /// The numbers that the looks found, in order.
     pub looks: LinkedList<u64>,
 }
 
@@ -64,7 +64,7 @@ impl Play<(), SeatView> for Look {
     ghost then = { Looks };
 }
 
-/// Splits a seat for one pass off, and joins two seats.
+/// Splits off a seat for one pass, and joins two seats.
 pub(crate) struct Share;
 
 impl Split<SeatView> for Share {
