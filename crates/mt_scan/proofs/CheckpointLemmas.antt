@@ -1,4 +1,4 @@
--- Texts of parts in order: those that make up a checkpoint.
+-- Parts in order: those that make up a checkpoint.
 use Rattle.std.proofs.Common.{◌≡◌, ◌∙◌, ℕ, zero, suc, ◌+◌, ◌-◌, ◌<◌, ◌≤◌, List, [], ◌∷◌, ◌++◌, length, get_or, take, map, Some, None, All, refl, sym, ap, subst, eqb, arith}
 use Rattle.std.specs.List.{IsDistinct, slice_get}
 use Rattle.std.specs.List.Sorted.{IsPermutation, IsStrictlyIncreasing, IsNonDecreasing, IsNonDecreasingBy}
@@ -41,13 +41,13 @@ in_place_at checkpoint count texts i x fits at are =
     let same : get_or (shown_by_all texts) i (shown_by x) ≡ shown_by x = get_or-map shown_by texts i x (shown_by x) fits ∙ ap (λ (y : KeptPart). shown_by y) (sym at) in
     subst (IsPartAt checkpoint count i) same (subst (λ (n : ℕ). IsPartAt checkpoint count n (get_or (shown_by_all texts) i (shown_by x))) e is)
 
--- the same for another checkpoint of these times
+-- parts in place for a checkpoint are in place for another with the same begin and end
 pub in_place_of : (a b : CheckpointReading) (count place : ℕ) (texts : List PartReading) → a.begin ≡ b.begin → a.end ≡ b.end → AreInPlace a count place texts → AreInPlace b count place texts
 in_place_of a b count place [] begin end are = tt
 in_place_of a b count place (x ∷ xs) begin end are =
     (record { stands = are.0.stands; parts = are.0.parts; begin_agrees = are.0.begin_agrees ∙ begin; end_agrees = are.0.end_agrees ∙ end }, in_place_of a b count (suc place) xs begin end are.1)
 
--- ---- numbers that rise below their count are those of their places
+-- ---- strictly rising numbers below their count are those of their places
 
 module _ (xs : List ℕ) (rise : IsStrictlyIncreasing xs) where
   no_less : (k : ℕ) → k < length xs → k ≤ get_or xs k 0
@@ -76,7 +76,7 @@ module _ (xs : List ℕ) (rise : IsStrictlyIncreasing xs) where
       let top : get_or xs (k + m) 0 < length xs = below (k + m) 0 (omega arith) in
       omega (arith, low, high, top)
 
--- ---- texts by the numbers of their parts
+-- ---- parts by their numbers
 
 abbrev part_in : KnownPart → ℕ
 part_in (whole part) = part.part
@@ -120,7 +120,7 @@ sorted_numbers sorted d rise = λ i j n le fits.
     let low : (get_or sorted i d).part ≤ (get_or sorted j d).part = rise i j d le inside in
     omega (arith, at_i, at_j, low)
 
--- sorted texts that are those of a checkpoint stand in its order
+-- parts of a checkpoint that are sorted by their numbers are in the order of the checkpoint
 pub sorted_are_numbered : (sorted : List KeptPart) (ordered : List PartReading) (d : KeptPart) → IsNonDecreasingBy (λ (text : KeptPart). text.part) sorted → AreNumbered ordered → AreSameTexts (shown_by_all sorted) ordered
     → AreNumbered (shown_by_all sorted)
 sorted_are_numbered sorted ordered d rise are same = λ k e fits.
@@ -147,7 +147,7 @@ first_times checkpoint count (x ∷ xs) first at are =
     let e : x ≡ first = cc in
     (sym are.0.begin_agrees ∙ ap (λ (y : KeptPart). y.begin) e, sym are.0.end_agrees ∙ ap (λ (y : KeptPart). y.end) e)
 
--- texts that make up no checkpoint in the order of their numbers make up none
+-- parts that make up no checkpoint in the order of their numbers make up none in any order
 pub none_made : (texts : List KeptPart) (value : Checkpoint) (first : KeptPart) → IsPermutation texts value.parts.items → IsNonDecreasingBy (λ (text : KeptPart). text.part) value.parts.items
     → slice_get value.parts.items 0 ≡ Some first → value.begin ≡ first.begin → value.end ≡ first.end
     → (MakeUp (shown_by_all value.parts.items) (checkpoint_in value) → ⊥) → MakeUpNone (shown_by_all texts)
@@ -168,7 +168,7 @@ none_made texts value first moved rise at begin end not checkpoint can =
       rise = subst (λ (entries : List Change). AreRising (entry_keys entries)) make_up.all make_up.rise;
     })
 
--- no texts make up no checkpoint
+-- an empty list of parts makes up no checkpoint
 pub none_of_none : (texts sorted : List KeptPart) → IsPermutation texts sorted → slice_get sorted 0 ≡ None → MakeUpNone (shown_by_all texts)
 none_of_none texts [] moved none checkpoint can =
     omega (arith, can.make_up.some, length_permutation texts [] moved, length-map texts shown_by, length-map (shown_by_all texts) whole, length-map can.ordered whole, length_permutation (map whole (shown_by_all texts)) (map whole can.ordered) can.same)

@@ -1,4 +1,4 @@
--- The best of the groups is the choice among the parts.
+-- The selection among the groups is the choice among the parts.
 use Rattle.std.proofs.Common.{◌≡◌, ◌∙◌, ℕ, ◌<◌, List, [], ◌∷◌, length, map, Contains, Option, Some, None, refl, sym, ap, subst, nat_cmp, arith}
 use Rattle.std.specs.Option.{option_map}
 use Rattle.std.specs.List.Sorted.{IsPermutation}
@@ -22,14 +22,14 @@ use Rattle.mt_scan.proofs.CheckpointLemmas.{in_place_of}
 
 -- ---- the parts of one checkpoint
 
--- a broken part is not whole
+-- a broken part is not among complete ones
 not_whole : (texts : List PartReading) (number : ℕ) → Contains (map whole texts) (broken number) → ⊥
 not_whole [] number at = omega (arith, at.1)
 not_whole (x ∷ xs) number at =
     let fits : at.0 < length (x ∷ xs) = omega (arith, at.1, length-map (x ∷ xs) whole) in
     cc (get_or-map whole (x ∷ xs) at.0 x (broken number) fits, at.2)
 
--- the group of the parts of a valid checkpoint has it
+-- the parts of a valid checkpoint have a group, and that group can make up the checkpoint
 valid_has : (parts : List KnownPart) (group : Option PartGroup) (checkpoint : CheckpointReading) → IsGroupAt (parts_of checkpoint.number parts) group → IsValid parts checkpoint
     → (g : PartGroup) × (group ≡ Some g) × HasCheckpoint g checkpoint
 valid_has parts None checkpoint at valid =
@@ -47,7 +47,7 @@ valid_has parts (Some (groups.Whole texts)) checkpoint at valid = (
 valid_has parts (Some groups.Broken) checkpoint at valid =
     absurd (not_whole valid.texts at.0 (Contains-permutation (parts_of checkpoint.number parts) (map whole valid.texts) (broken at.0) valid.are_whole at.1))
 
--- a checkpoint of the group of its parts is valid
+-- a checkpoint that the group of its parts can make up is valid
 has_valid : (parts : List KnownPart) (group : PartGroup) (checkpoint : CheckpointReading) → IsPartGroupOf (parts_of checkpoint.number parts) group → HasCheckpoint group checkpoint → IsValid parts checkpoint
 has_valid parts (groups.Whole texts) checkpoint is has = record {
   texts = has.ordered;
@@ -60,7 +60,7 @@ some_parts : (parts : List KnownPart) (group : PartGroup) → IsPartGroupOf part
 some_parts parts (groups.Whole texts) is = is.0
 some_parts parts groups.Broken is = omega (arith, is.1.1)
 
--- the checkpoint under another number
+-- the same checkpoint under another number
 abbrev numbered : ℕ → CheckpointReading → CheckpointReading
 numbered number checkpoint = record { number = number; begin = checkpoint.begin; end = checkpoint.end; entries = checkpoint.entries }
 
@@ -128,7 +128,7 @@ module _ (parts : List KnownPart) (all : BTreeMap ℕ PartGroup) (are : AreGroup
     none = λ checkpoint has. is.invalid (numbered number checkpoint) refl (has_valid parts group (numbered number checkpoint) (group_at number group e) (numbered_has number group checkpoint has));
   }
 
-  -- the best of the groups
+  -- the selection among the groups is that among the parts
   pub selection_for : (cutoff : ℕ) (selection : Selection) → IsSelectionOf all.entries cutoff selection → IsSelectionFor parts cutoff selection
   selection_for cutoff selection is = record {
     chosen = chosen cutoff selection.best is.best;

@@ -1,4 +1,4 @@
--- What a feed that drops what comes too late has read.
+-- What a feed that drops late records has read.
 use Rattle.std.proofs.Common.{◌≡◌, ◌∙◌, ℕ, ◌+◌, ◌-◌, ◌<◌, ◌≤◌, ◌^◌, min, true, List, [], ◌++◌, length, Option, Some, None, Result, Ok, Err, refl, sym, ap, subst, append_assoc, arith}
 use Rattle.std.specs.Option.{IsSome}
 use Rattle.std.specs.Result.{is_ok, OnOk}
@@ -20,7 +20,7 @@ use Rattle.mt_scan.specs.declared.dropping_feed.DroppingFeed.{DroppingFeed}
 use Rattle.mt_scan.specs.DroppingFeeds.{taken_of, GoesOn, KeepsRecords, HasRead, IsFedBelow}
 use Rattle.mt_scan.proofs.Rises.{Rise, read_rise, latest_behind, rise_front, rise_behind, never_falls, all_past, all_below, cut_below}
 
--- what a feed without a fault has read
+-- the records that a feed without a fault has read
 module _ (feed : FedLog) (bytes taken : List _) (fed : IsLogFed feed bytes taken) (sound : feed.fault ≡ None) where
   pub fed_rise : Rise 0 (taken ++ feed.so_far.ready)
   fed_rise = let held = fed.0 sound in read_rise taken feed.so_far held.0.front held.0.read
@@ -28,7 +28,7 @@ module _ (feed : FedLog) (bytes taken : List _) (fed : IsLogFed feed bytes taken
   pub fed_latest : feed.so_far.latest ≡ latest 0 (taken ++ feed.so_far.ready)
   fed_latest = let held = fed.0 sound in held.0.read.latest
 
--- the limit falls
+-- what was read under one limit holds under a lower one
 lowered : (feed : DroppingFeed) (limit lower : ℕ) (bytes : List ℕ) → lower ≤ limit → HasRead feed limit bytes → HasRead feed lower bytes
 lowered feed limit lower bytes le h = record {
   late = h.late;
@@ -45,7 +45,7 @@ lowered feed limit lower bytes le h = record {
 
 -- ---- dropping
 
--- nothing comes too late
+-- no record is at or past the limit
 pub none_late : (feed : DroppingFeed) (limit : ℕ) (bytes : List ℕ) → HasRead feed limit bytes → feed.feed.fault ≡ None → feed.kept ≡ None → feed.feed.so_far.latest < limit → IsFedBelow feed limit bytes
 none_late feed limit bytes h sound none below =
     let late : h.late ≡ [] = rw none at (h.goes_on sound) in
@@ -59,11 +59,11 @@ none_late feed limit bytes h sound none below =
 pub count_both : (xs ys : List Logged) → length (filter is_mark (xs ++ ys)) ≡ length (filter is_mark xs) + length (filter is_mark ys)
 count_both xs ys = ap length (filter-append is_mark xs ys) ∙ length-append (filter is_mark xs) (filter is_mark ys)
 
--- how many of them are no marks
+-- there are no more marks than records
 others : (rs : List Logged) → length (filter is_mark rs) ≤ length rs
 others rs = omega (arith, marks_and_updates 0 0 rs)
 
--- something came too late before: so does all that the feed has, and what is kept is cut once more
+-- a record was late before: so are all records that the feed has, and those that were kept are cut once more
 pub more_late : (old new : DroppingFeed) (limit : ℕ) (bytes : List ℕ) (was kept : List Logged) (gone later : Dropped) → HasRead old limit bytes → old.feed.fault ≡ None → old.kept ≡ Some was → new.kept ≡ Some kept
     → new.feed ≡ record old.feed { so_far = record old.feed.so_far { ready = [] } } → ((taken : List Logged) → IsLogFed old.feed bytes taken → IsLogFed new.feed bytes (taken ++ old.feed.so_far.ready))
     → IsCountOf old.feed.so_far.ready later → HasCut limit was kept gone → new.marks ≡ min (min (old.marks + gone.marks) (2 ^ 64 - 1) + later.marks) (2 ^ 64 - 1)
@@ -102,7 +102,7 @@ more_late old new limit bytes was kept gone later h sound some same taken_is fee
     } in
     record { read = read; keeps = λ _. rw same (ap (λ (f : FedLog). f.so_far.ready) taken_is, cut_below limit limit kept kept_rise cut.ends (omega arith)) }
 
--- the first record that comes too late, and all behind it
+-- the first late record, and all records after it
 pub first_late : (old new : DroppingFeed) (limit : ℕ) (bytes : List ℕ) (kept : List Logged) (gone : Dropped) → HasRead old limit bytes → old.feed.fault ≡ None → old.kept ≡ None → new.kept ≡ Some kept
     → new.feed ≡ record old.feed { so_far = record old.feed.so_far { ready = [] } } → ((taken : List Logged) → IsLogFed old.feed bytes taken → IsLogFed new.feed bytes (taken ++ old.feed.so_far.ready))
     → HasCut limit old.feed.so_far.ready kept gone → limit ≤ old.feed.so_far.latest → new.marks ≡ min (old.marks + gone.marks) (2 ^ 64 - 1) → new.dropped ≡ min (old.dropped + gone.updates) (2 ^ 64 - 1) → IsFedBelow new limit bytes
@@ -156,7 +156,7 @@ pub now_sound : {X F : Type 0} (P : Type 0) (answer : Result X F) → OnOk answe
 now_sound P (Ok x) on ok = on
 now_sound P (Err f) on ok = absurd (false≢true ok)
 
--- one more piece, under a limit that may have fallen
+-- one more chunk, under a limit that may have fallen
 pub read_on : (old new : DroppingFeed) (was limit : ℕ) (bytes piece : List ℕ) (h : IsFedBelow old was bytes) → limit ≤ was → new ≡ record old { feed = new.feed } → old.feed.fault ≡ None
     → IsLogFed new.feed (bytes ++ piece) (taken_of old.kept ++ h.read.late) → HasRead new limit (bytes ++ piece)
 read_on old new was limit bytes piece h le same sound fed = lowered new was limit (bytes ++ piece) le (record {
@@ -168,7 +168,7 @@ read_on old new was limit bytes piece h le same sound fed = lowered new was limi
   goes_on = λ _. subst (λ (k : Option (List Logged)). GoesOn was k h.read.late) (sym (ap (λ (f : DroppingFeed). f.kept) same)) (h.read.goes_on sound);
 })
 
--- a piece that shows a fault
+-- a chunk that shows a fault
 pub read_fault : (old new : DroppingFeed) (was limit : ℕ) (bytes piece : List ℕ) (fault : FeedFault) (h : IsFedBelow old was bytes) → limit ≤ was → new ≡ record old { feed = new.feed } → new.feed.fault ≡ Some fault
     → IsLogFed new.feed (bytes ++ piece) (taken_of old.kept ++ h.read.late) → IsFedBelow new limit (bytes ++ piece)
 read_fault old new was limit bytes piece fault h le same there fed =

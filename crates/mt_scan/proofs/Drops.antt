@@ -27,12 +27,12 @@ none_kept keeps limit (u ∷ us) none past =
     let P : Update → Type 0 = λ (w : Update). limit ≤ w.timestamp in
     ap (λ (b : Bool). cond b (u ∷ filter keeps us) (filter keeps us)) (none u (All-head P u us past)) ∙ none_kept keeps limit us none (All-tail P u us past)
 
--- a filter that keeps nothing at or past the limit keeps the same of what the scan kept and of all updates of the log
+-- a filter that keeps nothing at or past the limit gives the same for the updates that the scan kept and for all updates of the log
 pub same_kept : (keeps : Update → Bool) (number limit : ℕ) (scan : LogScan) (log : LogReading) → ((update : Update) → limit ≤ update.timestamp → keeps update ≡ false) → ShowsAllBelow limit number scan log
     → filter keeps (kept_updates scan.updates) ≡ filter keeps (updates_from number 0 log.records)
 same_kept keeps number limit scan log none s = sym (filter_front keeps (kept_updates scan.updates) s.lost (none_kept keeps limit s.lost none s.past)) ∙ ap (filter keeps) s.updates
 
--- a scan that shows all below a limit does so below a lower one
+-- a scan that shows all below a limit shows all below any lower one
 pub shows_lower : (number limit lower : ℕ) (scan : LogScan) (log : LogReading) → lower ≤ limit → ShowsAllBelow limit number scan log → ShowsAllBelow lower number scan log
 shows_lower number limit lower scan log le s = record {
   numbers = s.numbers;
@@ -52,7 +52,7 @@ shows_all number limit scan log s = record {
   dropped = s.dropped;
 }
 
--- what no look found below lies at or below the least look
+-- a number that no look is below is at most the least look
 pub under_looks : (least : ℕ) (looks : List ℕ) → least ≤ nothing_noted → All (λ x. least ≤ x) looks → least ≤ least_of looks
 under_looks least [] small all = small
 under_looks least (x ∷ xs) small all = omega (arith, All-head (λ (y : ℕ). least ≤ y) x xs all, under_looks least xs small (All-tail (λ (y : ℕ). least ≤ y) x xs all))

@@ -1,4 +1,4 @@
--- A struct without fields, as the machine has it. Assumes `Logic`.
+-- A struct without fields, as the machine represents it. Assumes `Logic`.
 use Rattle.std.proofs.Common.{List, [], ◌∷◌, refl}
 use seplogic.Ra.Ura.{Ura}
 use mir.Val.{Val, vstruct, vnil}
@@ -16,6 +16,6 @@ abbrev pub none : Val
 none = vstruct vnil
 
 module _ {M : Type 1} {𝓤 : Ura M} {𝓛 : Logic 𝓤} {K : Type 0} {Γ : List (Item 𝓤)} {G : Goal 𝓤 𝓛.H} where
-  -- it is made of nothing
+  -- a value of it is made of nothing
   pub none_made : K → Step K 𝓛 (‵ (fieldless.own_val tt (none ∷ [])) ∷ Γ) G Γ G
   none_made t = step (λ s. owned t fieldless (Is fieldless) (Struct-Makes 𝓛 (record { name = []; args = []; types = []; fields = [] }) tt) tt (none ∷ []) (tt, (refl, tt)) $ s)

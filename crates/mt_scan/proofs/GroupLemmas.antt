@@ -14,7 +14,7 @@ use Rattle.mt_scan.specs.Groups.{IsPartGroupOf, IsGroupAt, AreGroupsOf}
 use Rattle.mt_scan.specs.declared.group.PartGroup.{PartGroup}
 use Rattle.mt_scan.specs.declared.group.PartGroup.TheVariants as groups
 
--- elsewhere the groups are what they were
+-- the groups of all other numbers are unchanged
 abbrev pub AreOthers : BTreeMap ℕ PartGroup → BTreeMap ℕ PartGroup → ℕ → Type 0
 AreOthers old new number = (q : ℕ) → is_eq (nat_cmp number q) ≡ false → get nat_cmp new q ≡ get nat_cmp old q
 
@@ -27,7 +27,7 @@ parts_with q parts part belongs = filter-append (belongs_to q) parts (part ∷ [
 parts_without : (q : ℕ) (parts : List KnownPart) (part : KnownPart) → belongs_to q part ≡ false → parts_of q (parts ++ part ∷ []) ≡ parts_of q parts
 parts_without q parts part other = filter-append (belongs_to q) parts (part ∷ []) ∙ ap (λ (b : Bool). parts_of q parts ++ cond b (part ∷ []) []) other ∙ append-nil (parts_of q parts)
 
--- a part is one of the checkpoint of this number alone
+-- the part belongs to the checkpoint with this number and to no other
 pub record IsOf (number : ℕ) (part : KnownPart) : Type 0 where
   pub own : belongs_to number part ≡ true
   pub alone : (q : ℕ) → number ≢ q → belongs_to q part ≡ false
@@ -38,7 +38,7 @@ whole_is_of part = record { own = eq-eqb part.number part.number refl; alone = �
 pub broken_is_of : (number : ℕ) → IsOf number (broken number)
 broken_is_of number = record { own = eq-eqb number number refl; alone = λ q other. ne_eqb number q other }
 
--- one more part of a checkpoint: its group is another, and the others stay
+-- one more part of a checkpoint changes the group of that checkpoint, and no other
 pub groups_more : (parts : List KnownPart) (part : KnownPart) (number : ℕ) (old new : BTreeMap ℕ PartGroup) → IsOf number part → IsGroupAt (parts_of number parts ++ part ∷ []) (get nat_cmp new number)
     → AreOthers old new number → AreGroupsOf parts old → AreGroupsOf (parts ++ part ∷ []) new
 groups_more parts part number old new is own others are q = elim (cases_eq number q) as (λ _. IsGroupAt (parts_of q (parts ++ part ∷ [])) (get nat_cmp new q)) [
@@ -49,14 +49,14 @@ groups_more parts part number old new is own others are q = elim (cases_eq numbe
       subst (IsGroupAt (parts_of q (parts ++ part ∷ []))) (sym (others q (differ number q other))) there
 ]
 
--- a broken part makes its group a broken one
+-- a broken part makes the group of its checkpoint a broken one
 pub broken_more : (parts : List KnownPart) (number : ℕ) (old new : BTreeMap ℕ PartGroup) → get nat_cmp new number ≡ Some groups.Broken → AreOthers old new number → AreGroupsOf parts old
     → AreGroupsOf (parts ++ broken number ∷ []) new
 broken_more parts number old new is others are =
     groups_more parts (broken number) number old new (broken_is_of number)
     (subst (IsGroupAt (parts_of number parts ++ broken number ∷ [])) (sym is) (number, Contains-push (parts_of number parts) (broken number))) others are
 
--- a group that is there gets one more whole part
+-- a group that exists gets one more complete part
 pub whole_more : (parts : List KnownPart) (part : PartReading) (old new : BTreeMap ℕ PartGroup) (before after : PartGroup) → get nat_cmp old part.number ≡ Some before → get nat_cmp new part.number ≡ Some after
     → AreOthers old new part.number → ((own : List KnownPart) → IsPartGroupOf own before → IsPartGroupOf (own ++ whole part ∷ []) after) → AreGroupsOf parts old → AreGroupsOf (parts ++ whole part ∷ []) new
 whole_more parts part old new before after was is others adds are =

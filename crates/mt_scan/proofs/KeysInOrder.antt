@@ -1,4 +1,4 @@
--- The entries of a map, which come by rising keys.
+-- The entries of a map, which come in rising order of their keys.
 use Rattle.std.proofs.Common.{◌≡◌, List, [], ◌∷◌, ◌++◌, Contains, subst}
 use Rattle.std.specs.List.{AllByRecursion}
 use Rattle.std.specs.List.Sorted.{IsStrictlySortedBy}
@@ -16,7 +16,7 @@ unfolding IsStrictlySortedBy
 all_below cmp [] key value rest sorted = tt
 all_below cmp (e ∷ es) key value rest sorted = (first_below cmp e es key value rest sorted.0, all_below cmp es key value rest sorted.1)
 
--- the entries before a key have lesser keys
+-- the entries before a key have smaller keys
 pub keys_below : {K V : Type 0} (cmp : K → K → Ordering) (all entries : List (K × V)) (key : K) (value : V) (rest : List (K × V)) → IsStrictlySortedBy cmp (keys_of all) → all ≡ entries ++ (key, value) ∷ rest
     → (e : K × V) → Contains entries e → cmp e.0 key ≡ Less
 keys_below {K} {V} cmp all entries key value rest sorted same e at =

@@ -9,14 +9,14 @@ use Rattle.mt_words.proofs.Elements.{no_element, head_or_tail, head_in, tail_in}
 abbrev pub last_in : LogScan → ℕ
 last_in scan = scan.last
 
--- a log has one last timestamp
+-- a log has only one last timestamp
 same_last : (log : LogReading) (a b : ℕ) → IsLast log a → IsLast log b → a ≡ b
 same_last log a b x y =
     let low : a ≤ b = All-contains (λ (time : ℕ). time ≤ b) (times_of log) a y.1 x.0 in
     let high : b ≤ a = All-contains (λ (time : ℕ). time ≤ a) (times_of log) b x.1 y.0 in
     omega (arith, low, high)
 
--- the last timestamp in a scan is that of a log
+-- the last timestamp in a scan is that of some log
 last_stands : (scans : List LogScan) (logs : List LogReading) (n : ℕ) → HaveNumbersOf scans logs → Contains (map last_in scans) n → HasLast logs n
 last_stands [] logs n have at = absurd (no_element n at)
 last_stands (s ∷ ss) [] n have at = absurd have
@@ -27,7 +27,7 @@ last_stands (s ∷ ss) (l ∷ ls) n have at = elim (head_or_tail s.last n (map l
       record { log = found.log; stands = tail_in l found.log ls found.stands; is_last = found.is_last }
 ]
 
--- the last timestamp of a log is in a scan
+-- the last timestamp of a log is in some scan
 last_shown : (scans : List LogScan) (logs : List LogReading) (log : LogReading) → HaveNumbersOf scans logs → Contains logs log → (n : ℕ) × Contains (map last_in scans) n × IsLast log n
 last_shown [] [] log have at = absurd (no_element log at)
 last_shown [] (l ∷ ls) log have at = absurd have

@@ -25,7 +25,7 @@ last_push : {A : Type 0} (xs : List A) (x : A) → slice_get (xs ++ x ∷ []) (l
 last_push [] x = refl
 last_push (z ∷ zs) x = last_push zs x
 
--- one more part, which is nameless
+-- one more part that is nameless
 nameless_push : (parts : List KnownPart) (positions : List ℕ) → AreNameless parts positions → AreNameless (parts ++ nameless ∷ []) (positions ++ length parts ∷ [])
 nameless_push parts positions are = record {
   rise = increasing_push positions (length parts) are.rise (λ m at. slice_get_within parts m nameless ((are.exact m).0 at));
@@ -41,7 +41,7 @@ nameless_push parts positions are = record {
   );
 }
 
--- one more part, which is not
+-- one more part that is not nameless
 nameless_same : (parts : List KnownPart) (part : KnownPart) (positions : List ℕ) → (part ≡ nameless → ⊥) → AreNameless parts positions → AreNameless (parts ++ part ∷ []) positions
 nameless_same parts part positions other are = record {
   rise = are.rise;

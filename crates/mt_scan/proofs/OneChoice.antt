@@ -1,4 +1,4 @@
--- There is one choice: two valid checkpoints of one number are one.
+-- There is only one choice: two valid checkpoints with the same number are equal.
 use Rattle.std.proofs.Common.{◌≡◌, ◌∙◌, inl, inr, ℕ, zero, suc, ◌+◌, ◌<◌, List, [], ◌∷◌, length, get_or, map, Contains, Option, Some, None, refl, sym, ap, subst, arith}
 use Rattle.std.specs.List.{flat_map}
 use Rattle.std.specs.List.Sorted.{IsPermutation}
@@ -8,7 +8,7 @@ use Rattle.mt_record.specs.Parts.{PartReading}
 use Rattle.mt_scan.specs.PartScans.{KnownPart, whole}
 use Rattle.mt_scan.specs.Choice.{CheckpointReading, IsPartAt, AreInPlace, IsValid, IsNoBetter, IsChosenOf, parts_of}
 
--- the part at a place
+-- parts in place: the part at position i has the number of its place
 pub at_place : (checkpoint : CheckpointReading) (count place : ℕ) (texts : List PartReading) (i : ℕ) (d : PartReading) → AreInPlace checkpoint count place texts → i < length texts
     → IsPartAt checkpoint count (place + i) (get_or texts i d)
 at_place checkpoint count place [] i d are h = absurd (omega (arith, h))
@@ -17,7 +17,7 @@ at_place checkpoint count place (x ∷ xs) (suc i) d are h =
     let e : suc place + i ≡ place + suc i = omega arith in
     subst (λ (n : ℕ). IsPartAt checkpoint count n (get_or xs i d)) e (at_place checkpoint count (suc place) xs i d are.1 (omega (arith, h)))
 
--- a whole part among others
+-- a complete part among complete parts
 pub whole_among : (texts : List PartReading) (x : PartReading) → Contains (map whole texts) (whole x) → Contains texts x
 whole_among texts x at =
     let fits : at.0 < length texts = omega (arith, at.1, length-map texts whole) in
@@ -31,14 +31,14 @@ HaveSameWhole xs ys = IsPermutation (map whole xs) (map whole ys)
 pub same_length : (xs ys : List PartReading) → HaveSameWhole xs ys → length xs ≡ length ys
 same_length xs ys moved = omega (arith, length_permutation (map whole xs) (map whole ys) moved, length-map xs whole, length-map ys whole)
 
--- each text has the number of its place
+-- each part has the number of its position
 abbrev pub AreNumbered : List PartReading → Type 0
 AreNumbered texts = (k : ℕ) (d : PartReading) → k < length texts → (get_or texts k d).part ≡ k
 
 pub are_numbered : (checkpoint : CheckpointReading) (count : ℕ) (texts : List PartReading) → AreInPlace checkpoint count 0 texts → AreNumbered texts
 are_numbered checkpoint count texts are k d fits = let of_k = (at_place checkpoint count 0 texts k d are fits).stands in omega (arith, of_k)
 
--- the same texts at one place
+-- two orders of the same numbered parts have the same part at each position
 same_at : (xs ys : List PartReading) → AreNumbered xs → AreNumbered ys → HaveSameWhole xs ys → (k : ℕ) (d : PartReading) → k < length xs → get_or xs k d ≡ get_or ys k d
 same_at xs ys of_xs of_ys moved k d fits =
     let x : PartReading = get_or xs k d in
@@ -66,7 +66,7 @@ have_same_whole parts a b of_a of_b same =
 pub same_checkpoint : (a b : CheckpointReading) → a.number ≡ b.number → a.begin ≡ b.begin → a.end ≡ b.end → a.entries ≡ b.entries → a ≡ b
 same_checkpoint a b number begin end entries = λ i. record { number = number i; begin = begin i; end = end i; entries = entries i }
 
--- the valid checkpoint of a number is the only one
+-- for each number there is at most one valid checkpoint
 pub one_valid : (parts : List KnownPart) (a b : CheckpointReading) → IsValid parts a → IsValid parts b → a.number ≡ b.number → a ≡ b
 one_valid parts a b of_a of_b same =
     let texts : of_a.texts ≡ of_b.texts = same_texts of_a.texts of_b.texts (are_numbered a (length of_a.texts) of_a.texts of_a.make_up.in_place) (are_numbered b (length of_b.texts) of_b.texts of_b.make_up.in_place)

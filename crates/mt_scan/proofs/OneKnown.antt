@@ -1,4 +1,4 @@
--- What is known of a part is one thing.
+-- The bytes of a part determine what is known of it.
 use Rattle.std.proofs.Common.{◌≡◌, ℕ, List, refl, ap}
 use Rattle.mt_record.specs.declared.part_text.PartFault.{PartFault}
 use Rattle.mt_record.specs.declared.part_text.PartFault.TheVariants as of_part
@@ -6,13 +6,13 @@ use Rattle.mt_record.proofs.OnePart.{one_part}
 use Rattle.mt_record.proofs.OnePartFault.{one_part_fault, part_or_fault}
 use Rattle.mt_scan.specs.PartScans.{KnownPart, whole, broken, nameless, IsKnown}
 
--- the number that a fault names
+-- the checkpoint number that a fault names, else 0
 abbrev named_by : PartFault → ℕ
 named_by (of_part.Broken number entries) = number
 named_by of_part.Header = 0
 named_by of_part.Memory = 0
 
--- no fault is of two kinds
+-- a missing header and a broken part are different faults
 no_header_broken : (number entries : ℕ) → of_part.Header ≡ of_part.Broken number entries → ⊥
 no_header_broken number entries e = cc
 

@@ -1,4 +1,4 @@
--- Lists of entries by rising keys.
+-- Lists of entries with rising keys.
 use Rattle.std.proofs.Common.{◌≡◌, ◌∙◌, ◌↔◌, ℕ, suc, ◌+◌, ◌-◌, ◌<◌, IsTrue, List, [], ◌∷◌, ◌++◌, length, get_or, take, drop, Option, Some, None, refl, sym, ap, subst, arith}
 use Rattle.std.specs.Borrow.{Bor}
 use Rattle.std.specs.List.{AllByRecursion}
@@ -37,18 +37,18 @@ above_front : (x : List ℕ) (xs ys : List (List ℕ)) → AreAbove x (xs ++ ys)
 above_front x [] ys are = tt
 above_front x (y ∷ xs) ys are = (are.0, above_front x xs ys are.1)
 
--- what rises begins with what rises
+-- the front of a rising list rises
 pub rise_front : (xs ys : List (List ℕ)) → AreRising (xs ++ ys) → AreRising xs
 rise_front [] ys rise = tt
 rise_front (x ∷ xs) ys rise = (above_front x xs ys rise.0, rise_front xs ys rise.1)
 
--- behind what rises, from its last one on
+-- in a rising list, the last key of a front and all keys after it rise
 pub rise_back : (xs ys : List (List ℕ)) → AreRising (xs ++ ys) → AreRising (last_of xs ++ ys)
 rise_back [] ys rise = rise
 rise_back (x ∷ []) ys rise = rise
 rise_back (x ∷ y ∷ xs) ys rise = rise_back (y ∷ xs) ys rise.1
 
--- what rises, and goes on over its last one
+-- if a list rises, and its last key with the next list rises, both lists joined rise
 pub rise_on : (xs ys : List (List ℕ)) → AreRising xs → AreRising (last_of xs ++ ys) → AreRising (xs ++ ys)
 rise_on [] ys rise on = on
 rise_on (x ∷ []) ys rise on = on
@@ -71,28 +71,28 @@ pub record RiseTo (xs last : List (List ℕ)) : Type 0 where
   pub rise : AreRising xs
   pub is_last : last ≡ last_of xs
 
--- more of them
+-- the keys rise with more keys, if these rise after the last one
 pub rise_to_more : (xs ys last new : List (List ℕ)) → RiseTo xs last → AreRising (last ++ ys) → new ≡ last_of (last ++ ys) → RiseTo (xs ++ ys) new
 rise_to_more xs ys last new to on is = record {
   rise = rise_on xs ys to.rise (subst (λ (zs : List (List ℕ)). AreRising (zs ++ ys)) to.is_last on);
   is_last = is ∙ ap (λ (zs : List (List ℕ)). last_of (zs ++ ys)) to.is_last ∙ sym (last_of_on xs ys);
 }
 
--- they do not go on so
+-- if the next keys do not rise after the last one, the complete list does not rise
 pub rise_to_end : (xs ys zs last : List (List ℕ)) → RiseTo xs last → (AreRising (last ++ ys) → ⊥) → AreRising (xs ++ (ys ++ zs)) → ⊥
 rise_to_end xs ys zs last to stops rise =
     let front = rise_front (xs ++ ys) zs (subst AreRising (sym (append_assoc xs ys zs)) rise) in
     stops (subst (λ (ws : List (List ℕ)). AreRising (ws ++ ys)) (sym to.is_last) (rise_back xs ys front))
 
 module _ (before xs : List (List ℕ)) (i : ℕ) (e : List ℕ) (last : List (List ℕ)) (fits : i < length xs) (at : e ≡ get_or xs i e) where
-  -- one more key
+  -- the keys rise with one more key, if it is above the last one
   pub key_more : RiseTo (before ++ take i xs) last → AreRising (last ++ e ∷ []) → RiseTo (before ++ take (i + 1) xs) (e ∷ [])
   key_more to on =
       let more : take (i + 1) xs ≡ take i xs ++ e ∷ [] = take_more xs i e fits ∙ ap (λ (x : List ℕ). take i xs ++ x ∷ []) (sym at) in
       let all : (before ++ take i xs) ++ e ∷ [] ≡ before ++ take (i + 1) xs = append_assoc before (take i xs) (e ∷ []) ∙ ap (λ (ys : List (List ℕ)). before ++ ys) (sym more) in
       subst (λ (ys : List (List ℕ)). RiseTo ys (e ∷ [])) all (rise_to_more (before ++ take i xs) (e ∷ []) last (e ∷ []) to on (sym (last_of_push last e)))
 
-  -- a key that does not follow
+  -- if a key is not above the last one, the complete list does not rise
   pub key_stops : RiseTo (before ++ take i xs) last → (AreRising (last ++ e ∷ []) → ⊥) → AreRising (before ++ xs) → ⊥
   key_stops to stops rise =
       let rest : drop i xs ≡ e ∷ drop (i + 1) xs = drop_more xs i e fits ∙ ap (λ (x : List ℕ). x ∷ drop (i + 1) xs) (sym at) in
@@ -100,7 +100,7 @@ module _ (before xs : List (List ℕ)) (i : ℕ) (e : List ℕ) (last : List (Li
       ap (λ (ys : List (List ℕ)). before ++ ys) (sym (take-append-drop i xs)) ∙ sym (append_assoc before (take i xs) (drop i xs)) ∙ ap (λ (ys : List (List ℕ)). (before ++ take i xs) ++ ys) rest in
       rise_to_end (before ++ take i xs) (e ∷ []) (drop (i + 1) xs) last to stops (subst AreRising all rise)
 
--- a key follows the last one if it is over that one
+-- a key may follow another exactly if it is above it
 pub follows : (a b : List ℕ) → IsBelow a b ↔ AreRising (a ∷ b ∷ [])
 follows a b = (λ h. ((h, tt), (tt, tt)), λ rise. rise.0.0)
 
@@ -111,7 +111,7 @@ last_at (x ∷ y ∷ ys) k some at =
     let e : length (x ∷ y ∷ ys) - 1 ≡ suc (length (y ∷ ys) - 1) = omega arith in
     last_at (y ∷ ys) k (omega arith) (at ∙ ap (λ (n : ℕ). get_or (x ∷ y ∷ ys) n k) e)
 
--- some keys more have a last one of their own
+-- if at least one key is added, the last key is that of the added ones
 pub last_behind : (before : Option (Bor (List ℕ))) (xs : List (List ℕ)) (k : List ℕ) → 0 < length xs → k ≡ get_or xs (length xs - 1) k → k ∷ [] ≡ last_of (none_or_one before ++ xs)
 last_behind None xs k some at = last_at xs k some at
 last_behind (Some b) [] k some at = absurd (omega (arith, some))
@@ -119,13 +119,13 @@ last_behind (Some b) (x ∷ xs) k some at = last_at (x ∷ xs) k some at
 
 -- ---- keys of entries
 
--- the key of an entry, among those of all
+-- the key of an entry is the key at its position in the list of all keys
 pub key_at : (entries : List Change) (n : ℕ) (key : List ℕ) → n < length entries → ((d : Change) → key ≡ (get_or entries n d).key) → key ≡ get_or (entry_keys entries) n key
 key_at entries n key below is =
     let d : Change = record { version = 0; key = []; kind = Remove } in
     is d ∙ sym (get_or-map (λ (entry : Change). entry.key) entries n d key below)
 
--- the keys of the entries of texts
+-- the keys of the entries of these parts
 abbrev pub keys_in : List KeptPart → List (List ℕ)
 keys_in texts = entry_keys (entries_of (shown_by_all texts))
 
@@ -136,7 +136,7 @@ keys_in-append xs ys =
     ∙ map-append (λ (entry : Change). entry.key) (entries_of (shown_by_all xs)) (entries_of (shown_by_all ys))
 
 module _ (texts : List KeptPart) (i : ℕ) (text : KeptPart) (last : List (List ℕ)) (fits : i < length texts) (at : text ≡ get_or texts i text) where
-  -- the keys of one more part
+  -- the keys rise with those of one more part, if these rise after the last one
   pub text_more : (new : List (List ℕ)) → RiseTo (keys_in (take i texts)) last → AreRising (last ++ entry_keys text.entries) → new ≡ last_of (last ++ entry_keys text.entries) → RiseTo (keys_in (take (i + 1) texts)) new
   text_more new to on is =
       let keys : List (List ℕ) = entry_keys text.entries in
@@ -145,7 +145,7 @@ module _ (texts : List KeptPart) (i : ℕ) (text : KeptPart) (last : List (List 
       ap (λ (es : List Change). keys_in (take i texts) ++ entry_keys es) (sym (append-nil text.entries)) ∙ sym (keys_in-append (take i texts) (text ∷ [])) ∙ ap (λ (xs : List KeptPart). keys_in xs) (sym more) in
       subst (λ (ys : List (List ℕ)). RiseTo ys new) all (rise_to_more (keys_in (take i texts)) keys last new to on is)
 
-  -- a part whose keys do not follow
+  -- if the keys of a part do not rise after the last one, the keys of all parts do not rise
   pub text_stops : RiseTo (keys_in (take i texts)) last → (AreRising (last ++ entry_keys text.entries) → ⊥) → AreRising (keys_in texts) → ⊥
   text_stops to stops rise =
       let keys : List (List ℕ) = entry_keys text.entries in

@@ -1,4 +1,4 @@
--- The best of the checkpoints, group by group.
+-- The selection of the best checkpoint, group by group.
 use Rattle.std.proofs.Common.{◌≡◌, ◌↔◌, ◌⊎◌, inl, inr, ℕ, ◌+◌, ◌<◌, List, [], ◌∷◌, ◌++◌, length, get_or, map, Contains, Option, Some, None, refl, sym, ap, subst, nat_cmp, arith}
 use Rattle.std.specs.List.Sorted.{IsStrictlyIncreasing, IsStrictlySortedBy}
 use Rattle.std.specs.Ordering.{MatchOrdering}
@@ -28,13 +28,13 @@ use Rattle.mt_scan.proofs.OneChoice.{are_numbered, same_texts, same_times}
 abbrev pub Entry : Type 0
 Entry = ℕ × PartGroup
 
--- two checkpoints of the same texts begin and end at the same time
+-- two checkpoints that the same parts make up have the same begin and end
 same_times_of : (a b : CheckpointReading) (xs ys : List PartReading) → MakeUp xs a → MakeUp ys b → AreSameTexts xs ys → (a.begin ≡ b.begin) × (a.end ≡ b.end)
 same_times_of a b xs ys of_a of_b same =
     let texts : xs ≡ ys = same_texts xs ys (are_numbered a (length xs) xs of_a.in_place) (are_numbered b (length ys) ys of_b.in_place) same in
     same_times a b (length xs) (length ys) xs of_a.in_place (subst (λ (zs : List PartReading). AreInPlace b (length ys) 0 zs) (sym texts) of_b.in_place) of_a.some
 
--- the checkpoints of a group end where the one made of it does
+-- all checkpoints that a group can make up end when the one made of it does
 one_end : (number : ℕ) (group : PartGroup) (made : Checkpoint) (other : CheckpointReading) → IsCheckpointOf number group made → HasCheckpoint group other → other.end ≡ made.end
 one_end number (groups.Whole texts) made other is has =
     let parts : List PartReading = shown_by_all made.parts.items in
@@ -53,7 +53,7 @@ made_has number groups.Broken made is = absurd is
 
 -- ---- one more group
 
--- one of the groups, or the last
+-- among the groups with one more at the end, each is an earlier one or the last one
 last_or_before : (all : List Entry) (number : ℕ) (group : PartGroup) (entry : Entry) → Contains (all ++ (number, group) ∷ []) entry → Contains all entry ⊎ ((number ≡ entry.0) × (group ≡ entry.1))
 last_or_before all number group entry at = elim (Contains-push_cases all (number, group) entry at) as (λ _. Contains all entry ⊎ ((number ≡ entry.0) × (group ≡ entry.1))) [
   | inl before ↦ inl before
@@ -64,7 +64,7 @@ offered_more : (all : List Entry) (number : ℕ) (group : PartGroup) (cutoff : �
 offered_more all number group cutoff checkpoint is =
     record { group = is.group; stands = Contains-append_left all ((number, group) ∷ []) (checkpoint.number, is.group) is.stands; has = is.has; ends_below = is.ends_below }
 
--- what is offered was offered before, or is of the last group
+-- what is offered was offered before, or belongs to the last group
 pub record IsLast (number : ℕ) (group : PartGroup) (cutoff : ℕ) (checkpoint : CheckpointReading) : Type 0 where
   pub number_is : checkpoint.number ≡ number
   pub has : HasCheckpoint group checkpoint
@@ -78,7 +78,7 @@ offered_cases all number group cutoff checkpoint is =
       | inr e ↦ inr (record { number_is = sym e.0; has = subst (λ (g : PartGroup). HasCheckpoint g checkpoint) (sym e.1) is.has; ends_below = is.ends_below })
     ]
 
--- the numbers that are passed by stay, if the last group has a checkpoint
+-- if the last group has a checkpoint, the numbers of groups without one are those before
 passed_same : (all : List Entry) (number : ℕ) (group : PartGroup) (checkpoint : CheckpointReading) (n : ℕ) → HasCheckpoint group checkpoint → IsPassed (all ++ (number, group) ∷ []) n ↔ IsPassed all n
 passed_same all number group checkpoint n has = (
   λ is. elim (last_or_before all number group (n, is.group) is.stands) as (λ _. IsPassed all n) [
@@ -88,7 +88,7 @@ passed_same all number group checkpoint n has = (
   λ is. record { group = is.group; stands = Contains-append_left all ((number, group) ∷ []) (n, is.group) is.stands; none = is.none },
 )
 
--- the last number is passed by, if its group has no checkpoint
+-- if the last group has no checkpoint, the numbers of groups without one are those before, and its own
 passed_more : (all : List Entry) (number : ℕ) (group : PartGroup) (n : ℕ) → HasNone group → IsPassed (all ++ (number, group) ∷ []) n ↔ (IsPassed all n ⊎ (number ≡ n))
 passed_more all number group n none = (
   λ is. elim (last_or_before all number group (n, is.group) is.stands) as (λ _. IsPassed all n ⊎ (number ≡ n)) [
@@ -101,7 +101,7 @@ passed_more all number group n none = (
   ],
 )
 
--- the best of the groups, if the last one has no checkpoint
+-- the best checkpoint stays the same if the last group has none
 best_same : (all : List Entry) (number : ℕ) (group : PartGroup) (cutoff : ℕ) (best : Option Checkpoint) → HasNone group → IsBestOf all cutoff best → IsBestOf (all ++ (number, group) ∷ []) cutoff best
 best_same all number group cutoff None none is = λ other offered. elim (offered_cases all number group cutoff other offered) as (λ _. ⊥) [ inl before ↦ is other before | inr last ↦ none other last.has ]
 best_same all number group cutoff (Some best) none is = (
@@ -124,7 +124,7 @@ module _ (all : List Entry) (number : ℕ) (group : PartGroup) (cutoff : ℕ) (m
       let e = one_end number group made other is_of last.has in
       inr (e, omega (arith, last.number_is, made_number number group made is_of))
 
-  -- the one made of the group is the best now
+  -- the checkpoint made of the group is the best now
   best_taken : (best : Option Checkpoint) → IsBestOf all cutoff best → IsNoWorse cutoff best made → IsBestOf (all ++ (number, group) ∷ []) cutoff (Some made)
   best_taken None is no_worse = (
     offered no_worse,
@@ -147,7 +147,7 @@ module _ (all : List Entry) (number : ℕ) (group : PartGroup) (cutoff : ℕ) (m
     ],
   )
 
-  -- the best so far stays it
+  -- the best so far remains the best
   best_left : (best : Option Checkpoint) → IsBestOf all cutoff best → (IsNoWorse cutoff best made → ⊥) → IsBestOf (all ++ (number, group) ∷ []) cutoff best
   best_left None is worse = λ other now. elim (offered_cases all number group cutoff other now) as (λ _. ⊥) [
     | inl before ↦ is other before
@@ -172,7 +172,7 @@ no_worse_or_not cutoff (Some best) made =
       | inr above ↦ inr (λ h. omega (arith, above, h.0))
     ]
 
--- a checkpoint was offered
+-- the selection after a checkpoint was offered
 pub record IsOfferedTo (cutoff : ℕ) (made : Checkpoint) (old new : Selection) : Type 0 where
   pub taken : IsNoWorse cutoff old.best made → new.best ≡ Some made
   pub left : (IsNoWorse cutoff old.best made → ⊥) → new.best ≡ old.best
@@ -212,7 +212,7 @@ increasing_push xs n rise below = λ k fits.
           omega (arith, at, next, up)
     ]
 
--- a number was passed by
+-- the selection after a group without a checkpoint
 pub selection_passed : (all : List Entry) (number : ℕ) (group : PartGroup) (cutoff : ℕ) (old new : Selection) → HasNone group → GroupsBelow all number
     → new.best ≡ old.best → new.skipped.items ≡ old.skipped.items ++ number ∷ [] → IsSelectionOf all cutoff old → IsSelectionOf (all ++ (number, group) ∷ []) cutoff new
 selection_passed all number group cutoff old new none below best skipped is =

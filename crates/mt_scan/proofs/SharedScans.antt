@@ -1,4 +1,4 @@
--- The scan of a feed that dropped what came too late.
+-- The scan of a feed that dropped late records.
 use Rattle.std.proofs.Common.{◌≡◌, ◌∙◌, ℕ, suc, ◌+◌, ◌<◌, ◌≤◌, ◌^◌, List, [], ◌∷◌, ◌++◌, length, Option, Some, None, refl, sym, ap, subst, append_assoc, arith}
 use Rattle.std.specs.List.{All, filter, flat_map}
 use Rattle.std.proofs.lemmas.List.{append-nil, length-append}
@@ -18,7 +18,7 @@ use Rattle.mt_scan.specs.Dropping.{HasAllBelow, KeepsOnlyBelow}
 use Rattle.mt_scan.specs.DroppingFeeds.{taken_of, kept_in, scan_from, GoesOn, KeepsRecords, IsFedBelow}
 use Rattle.mt_scan.proofs.DroppingFeeds.{count_both}
 
--- records have no more bytes than there are of them
+-- the encoding of records has at least as many bytes as there are records
 spelled_long : (rs : List Logged) → length rs ≤ length (flat_map spelling rs)
 spelled_long [] = omega arith
 spelled_long (r ∷ rs) =
@@ -37,7 +37,7 @@ updates_both log nth (x ∷ xs) ys =
     append_assoc (update_of log nth x) (updates_from log (suc nth) xs) (updates_from log (nth + length (x ∷ xs)) ys)
     ∙ ap (λ (us : List Update). update_of log nth x ++ us) (ap (λ (n : ℕ). updates_from log (suc nth) xs ++ updates_from log n ys) (omega arith) ∙ updates_both log (suc nth) xs ys)
 
--- what holds of the timestamps of records holds of those of their updates
+-- what holds for the timestamps of records holds for those of their updates
 all_updates : (P : ℕ → Type 0) (log nth : ℕ) (rs : List Logged) → All (λ r. P r.timestamp) rs → All (λ u. P u.timestamp) (updates_from log nth rs)
 all_updates P log nth [] all = All-nil (λ (u : Update). P u.timestamp)
 all_updates P log nth (r ∷ rs) all =
@@ -48,7 +48,7 @@ all_updates P log nth (r ∷ rs) all =
     one None is = rw is (All-nil (λ (u : Update). P u.timestamp))
     one (Some change) is = rw is (All-cons (λ (u : Update). P u.timestamp) _ [] (All-head (λ (q : Logged). P q.timestamp) r rs all) (All-nil (λ (u : Update). P u.timestamp)))
 
--- the records of the log are those that were kept and those that were dropped
+-- the records of the log are those that were kept, then those that were dropped
 joins : (limit : ℕ) (kept : Option (List Logged)) (late ready records : List Logged) (text : LogText (List Logged)) → GoesOn limit kept late → KeepsRecords limit kept ready → text.records ≡ ready
     → (taken_of kept ++ late) ++ text.records ≡ records → kept_in kept text ++ late ≡ records
 joins limit None late ready records text none keeps same is =

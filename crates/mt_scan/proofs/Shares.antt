@@ -15,7 +15,7 @@ use Rattle.mt_scan.proofs.DroppingFeeds.{stays_fed}
 use Rattle.mt_scan.proofs.Drops.{least_small}
 use Rattle.mt_scan.proofs.Telling.{goes_on, handed_out, all_handed_out}
 
--- these bytes were handed out and fed, below the least number that the pass has seen
+-- these bytes were returned and fed, with the least number that the pass has seen as the limit
 pub record HasShared (begun now : Seen) (feed : DroppingFeed) (before after : PassView) : Type 0 where
   pub more : List ℕ
   pub looks : after.looks ≡ before.looks ++ more
@@ -36,9 +36,9 @@ looked_on before middle after limit was is =
     let looks : after.looks ≡ middle.looks ++ limit ∷ [] = ap (λ (p : PassView). p.looks) is in
     is ∙ ap (λ (p : PassView). record p { looks = middle.looks ++ limit ∷ [] }) was ∙ ap (λ (l : List ℕ). record before { looks = l }) (sym looks)
 
--- ---- pieces
+-- ---- chunks
 
--- more is to follow a piece with bytes, if the feed goes on
+-- the scan goes on exactly if the feed goes on and the chunk has bytes
 pub more_bytes : (goes_on : Bool) (count : ℕ) → (goes_on && nat_lt 0 count) ≡ true → 0 < count
 more_bytes true count is = grind (arith, nat_tests)
 more_bytes false count is = absurd (false≢true is)
@@ -47,7 +47,7 @@ pub no_more : (goes_on : Bool) (count : ℕ) → (goes_on && nat_lt 0 count) ≡
 no_more true count is = inr (grind (arith, nat_tests))
 no_more false count is = inl refl
 
--- none
+-- before the first chunk nothing was returned or fed
 pub none_shared : (seen : Seen) (feed : DroppingFeed) (pass : PassView) → ((limit : ℕ) → IsFedBelow feed limit []) → HasShared seen seen feed pass pass
 none_shared seen feed pass new = record {
   more = [];
@@ -64,7 +64,7 @@ none_shared seen feed pass new = record {
     nothing (Some told) = refl
 
 module _ {SourceFault : Type 0} (begun seen now : Seen) (old new : DroppingFeed) (before middle after : PassView) (s : HasShared begun seen old before middle) where
-  -- one more look
+  -- after one more look, `HasLooked` holds
   pub has_looked : (answer : Result Bool SourceFault) → SharesPiece seen now old new middle after answer → HasLooked before after × (after.noted ≡ before.noted)
   has_looked answer h = (by s.more refl, noted)
     where
@@ -89,12 +89,12 @@ module _ {SourceFault : Type 0} (begun seen now : Seen) (old new : DroppingFeed)
       by [] is = record { first = h.limit; more = []; looks = looks ∙ append_assoc before.looks s.more (h.limit ∷ []) ∙ ap (λ (l : List ℕ). before.looks ++ (l ++ h.limit ∷ [])) is; low = low; rest = all }
       by (x ∷ xs) is = record { first = x; more = xs ++ h.limit ∷ []; looks = looks ∙ append_assoc before.looks s.more (h.limit ∷ []) ∙ ap (λ (l : List ℕ). before.looks ++ (l ++ h.limit ∷ [])) is; low = low; rest = all }
 
-  -- what the next one is fed below
+  -- the next chunk was fed with the look as its limit
   module _ (more : Bool) (answer : Result Bool SourceFault) (ok : answer ≡ Ok more) (h : SharesPiece seen now old new middle after answer) where
     pub feeds : FeedsBelow h.limit seen now new s.bytes more
     feeds = rw ok at (h.fed (least_of middle.looks) s.bytes h.low s.fed)
 
-    -- one more piece
+    -- one more chunk was fed
     pub next_shared : HasShared begun now new before after
     next_shared =
         let looks : after.looks ≡ middle.looks ++ h.limit ∷ [] = ap (λ (p : PassView). p.looks) h.looked in
@@ -109,7 +109,7 @@ module _ {SourceFault : Type 0} (begun seen now : Seen) (old new : DroppingFeed)
           bounded = λ small. omega (arith, short, feeds.falls, length-append s.bytes feeds.piece);
         }
 
-    -- the last one
+    -- after the last chunk, all bytes were fed
     pub all_shared : more ≡ false → SharesAll begun.told new after
     unfolding next_shared
     all_shared last = by (feeds.stops last)
@@ -128,7 +128,7 @@ module _ {SourceFault : Type 0} (begun seen now : Seen) (old new : DroppingFeed)
 
 -- ---- the scan
 
--- the log's last timestamp was noted after all looks
+-- `HasLooked` still holds after the log's last timestamp is noted
 pub noted_on : (last : ℕ) (before old new : PassView) → HasLooked before old → new ≡ record old { noted = min old.noted last } → HasLooked before new
 noted_on last before old new h is =
     let looks : new.looks ≡ old.looks = ap (λ (p : PassView). p.looks) is in
@@ -140,7 +140,7 @@ noted_on last before old new h is =
       rest = is ∙ ap (λ (p : PassView). record p { noted = min old.noted last }) h.rest ∙ (λ i. record before { looks = sym looks i; noted = sym noted i });
     }
 
--- a scan that did not stop has few bytes
+-- a scan that returned Ok had fewer than 2 ^ 64 bytes
 pub few_bytes : {X F : Type 0} {Stopped : Type 0} (n : ℕ) (answer : Result X F) (x : X) → Stopped ⊎ (n < 2 ^ 64) → (Stopped → IsErr answer) → answer ≡ Ok x → n < 2 ^ 64
 few_bytes n answer x (inl stopped) errs ok = absurd (false≢true (subst IsErr ok (errs stopped)))
 few_bytes n answer x (inr few) errs ok = few

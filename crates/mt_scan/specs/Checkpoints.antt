@@ -1,4 +1,4 @@
--- Checkpoints that are made of the texts of their parts.
+-- Checkpoints that are made of complete parts. A text is what a complete part says.
 use Rattle.std.specs.Prelude.{◌≡◌, ℕ, List, map, IsPermutation}
 use Rattle.std.specs.List.{flat_map}
 use Rattle.mt_words.specs.declared.record.Change.{Change}
@@ -7,25 +7,25 @@ use Rattle.mt_scan.specs.PartScans.{whole, shown_by_all}
 use Rattle.mt_scan.specs.Choice.{CheckpointReading, MakeUp, checkpoint_in}
 use Rattle.mt_scan.specs.declared.checkpoint.Checkpoint.{Checkpoint}
 
--- the entries of texts, one text behind the other
+-- the entries of these parts, one part after another
 abbrev pub entries_of : List PartReading → List Change
 entries_of texts = flat_map (λ text. text.entries) texts
 
--- the same texts in any order
+-- the same parts, in any order
 abbrev pub AreSameTexts : List PartReading → List PartReading → Type 0
 AreSameTexts texts others = IsPermutation (map whole texts) (map whole others)
 
--- the texts, in some order, are the parts of the checkpoint
+-- the parts, in some order, make up the checkpoint
 pub record CanMakeUp (texts : List PartReading) (checkpoint : CheckpointReading) : Type 0 where
   pub ordered : List PartReading
   pub same : AreSameTexts texts ordered
   pub make_up : MakeUp ordered checkpoint
 
--- no checkpoint has these texts, in any order
+-- the parts make up no checkpoint, in any order
 abbrev pub MakeUpNone : List PartReading → Type 0
 MakeUpNone texts = (checkpoint : CheckpointReading) → CanMakeUp texts checkpoint → ⊥
 
--- the checkpoint of this number is made of these texts
+-- the checkpoint has this number, and is made of these parts: it has the same ones, and they make it up in its order
 pub record IsMadeOf (number : ℕ) (texts : List PartReading) (made : Checkpoint) : Type 0 where
   pub number_is : made.number ≡ number
   pub same : AreSameTexts texts (shown_by_all made.parts.items)

@@ -11,11 +11,11 @@ pub record HasLast (logs : List LogReading) (last : ℕ) : Type 0 where
   pub stands : Contains logs log
   pub is_last : IsLast log last
 
--- some log's last timestamp, and at most every log's
+-- the cutoff: the last timestamp of some log, and at most that of every log
 pub record IsCutoff (logs : List LogReading) (cutoff : ℕ) : Type 0 where
   pub has : HasLast logs cutoff
   pub least : (last : ℕ) → HasLast logs last → cutoff ≤ last
 
--- the numbers of each scan are those of its log
+-- each scan has the numbers of its log, in the same order
 abbrev pub HaveNumbersOf : List LogScan → List LogReading → Type 0
 HaveNumbersOf scans logs = AllZip HasNumbersOf scans logs

@@ -1,4 +1,4 @@
--- A scan of a log that drops what comes too late for a cutoff that scans share.
+-- Scans of logs that share a cutoff, and drop what is too late for it.
 use Rattle.std.specs.Prelude.{◌≡◌, ℕ, ◌≤◌, ◌<◌, List, ◌∷◌, ◌++◌, length, min, All}
 use Rattle.mt_words.specs.declared.update.Update.{Update}
 use Rattle.mt_words.specs.Updates.{updates_from}
@@ -8,8 +8,8 @@ use Rattle.mt_board.specs.Board.{PassView, least_of}
 use Rattle.mt_scan.specs.declared.log_scan.LogScan.{LogScan}
 use Rattle.mt_scan.specs.Scans.{HasNumbersOf}
 
--- The scan shows what the log of this number says: its numbers, and its first updates, among them all that lie below `limit`. The rest
--- was dropped, that is counted and not kept.
+-- The scan shows the log with this number: the log's numbers, and its first updates, among them all that are below `limit`. The rest was dropped: it
+-- is counted, but not kept.
 pub record ShowsAllBelow (limit number : ℕ) (scan : LogScan) (log : LogReading) : Type 0 where
   pub numbers : HasNumbersOf scan log
   pub lost : List Update
@@ -17,17 +17,18 @@ pub record ShowsAllBelow (limit number : ℕ) (scan : LogScan) (log : LogReading
   pub past : All (λ update. limit ≤ update.timestamp) lost
   pub dropped : scan.dropped ≡ length lost
 
--- the scan of the log of this number that the bytes are, with all its updates below `limit`
+-- the scan of the log with this number, encoded by these bytes, with all its updates below `limit`
 pub record HasAllBelow (limit number : ℕ) (bytes : List ℕ) (scan : LogScan) : Type 0 where
   pub log : LogReading
   pub is_reading : IsReading bytes log
   pub shows : ShowsAllBelow limit number scan log
 
--- all that the scan kept lies below `limit`
+-- all updates that the scan kept are below `limit`
 abbrev pub KeepsOnlyBelow : ℕ → LogScan → Type 0
 KeepsOnlyBelow limit scan = All (λ update. update.timestamp < limit) (kept_updates scan.updates)
 
--- The pass looked at least once more, and found no number above what it had noted. Nothing else of it has changed but what it noted since.
+-- The pass looked at least once more, and the least number of all its looks is at most what it had noted before. Nothing else of it has changed,
+-- except perhaps the number that it noted.
 pub record HasLooked (before after : PassView) : Type 0 where
   pub first : ℕ
   pub more : List ℕ
@@ -35,7 +36,7 @@ pub record HasLooked (before after : PassView) : Type 0 where
   pub low : least_of after.looks ≤ before.noted
   pub rest : after ≡ record before { looks = after.looks; noted = after.noted }
 
--- A scan of the log of this number over which the pass looked: it kept just the updates below the least number that the pass then has
+-- A scan of the log with this number, during which the pass looked: the scan kept exactly the updates below the least number that the pass has then
 -- seen. At the end the pass noted the log's last timestamp.
 pub record IsSharedScan (number : ℕ) (before after : PassView) (bytes : List ℕ) (scan : LogScan) : Type 0 where
   pub looked : HasLooked before after

@@ -1,4 +1,4 @@
--- Parts by the numbers of their checkpoints.
+-- Parts grouped by the numbers of their checkpoints.
 use Rattle.std.specs.Prelude.{◌≡◌, ℕ, ◌<◌, List, [], length, map, Option, Some, None, Contains}
 use Rattle.std.specs.Ordering.{nat_cmp}
 use Rattle.std.specs.BTreeMap.{BTreeMap, get}
@@ -9,21 +9,21 @@ use Rattle.mt_scan.specs.declared.group.PartGroup.{PartGroup}
 use Rattle.mt_scan.specs.declared.group.PartGroup.TheVariants as groups
 use Rattle.mt_scan.specs.declared.checkpoint.Checkpoint.{Checkpoint}
 
--- the parts of a checkpoint, in any order: they are all whole, or one of them is broken
+-- the group of the parts of a checkpoint: there is at least one and all are complete, or one of them is broken
 abbrev pub IsPartGroupOf : List KnownPart → PartGroup → Type 0
 IsPartGroupOf parts (groups.Whole texts) = (0 < length parts) × (parts ≡ map whole (shown_by_all texts.items))
 IsPartGroupOf parts groups.Broken = (number : ℕ) × Contains parts (broken number)
 
--- there are no parts, or this is their group
+-- there are no parts and no group, or this is their group
 abbrev pub IsGroupAt : List KnownPart → Option PartGroup → Type 0
 IsGroupAt parts None = parts ≡ []
 IsGroupAt parts (Some group) = IsPartGroupOf parts group
 
--- the groups of the checkpoints by their numbers
+-- the map has, under each checkpoint number, the group of the parts with that number
 abbrev pub AreGroupsOf : List KnownPart → BTreeMap ℕ PartGroup → Type 0
 AreGroupsOf parts all = (number : ℕ) → IsGroupAt (parts_of number parts) (get nat_cmp all number)
 
--- the group has just the parts of the checkpoint
+-- the parts of the group, all complete, make up this checkpoint in some order
 abbrev pub HasCheckpoint : PartGroup → CheckpointReading → Type 0
 HasCheckpoint (groups.Whole texts) checkpoint = CanMakeUp (shown_by_all texts.items) checkpoint
 HasCheckpoint groups.Broken checkpoint = ⊥
@@ -32,7 +32,7 @@ HasCheckpoint groups.Broken checkpoint = ⊥
 abbrev pub HasNone : PartGroup → Type 0
 HasNone group = (checkpoint : CheckpointReading) → HasCheckpoint group checkpoint → ⊥
 
--- the checkpoint of this number that is made of the group
+-- the checkpoint with this number, made of the parts of the group
 abbrev pub IsCheckpointOf : ℕ → PartGroup → Checkpoint → Type 0
 IsCheckpointOf number (groups.Whole texts) made = IsMadeOf number (shown_by_all texts.items) made
 IsCheckpointOf number groups.Broken made = ⊥

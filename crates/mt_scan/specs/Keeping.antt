@@ -3,11 +3,11 @@ use Rattle.std.specs.Prelude.{◌≡◌, ◌⊎◌, ℕ, ◌+◌, ◌≤◌, ◌
 use Rattle.std.specs.Io.KnownBytes.{Consumes, IsAtEnd}
 use Rattle.mt_scan.specs.Sources.{Seen}
 
--- what was fed to the feed says the same whatever follows
+-- more bytes change nothing: the feed would be the same, whatever bytes had followed those that were fed
 abbrev pub NeedsNoMore : {F : Type 0} → (F → List ℕ → Type 0) → F → Type 0
 NeedsNoMore was_fed feed = (bytes more : List ℕ) → was_fed feed bytes → was_fed feed (bytes ++ more)
 
--- The next piece of the source was fed, if there is one. None is to follow at the end, and where the feed needs no more.
+-- The next chunk of the source was fed, if there is one. `more` is false only at the end, or if the feed needs no more.
 pub record FeedsPiece {F : Type 0} (was_fed : F → List ℕ → Type 0) (before after : Seen) (new : F) (bytes : List ℕ) (more : Bool) : Type 0 where
   pub piece : List ℕ
   pub next : Consumes before.told after.told piece

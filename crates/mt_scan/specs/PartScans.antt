@@ -1,4 +1,4 @@
--- What a scan of a checkpoint part gives: a function of the part's bytes.
+-- The result of scanning a checkpoint part: a function of the part's bytes.
 use Rattle.std.specs.Prelude.{◌≡◌, ℕ, List, map}
 use Rattle.mt_words.specs.declared.fault.Fault.{Fault}
 use Rattle.mt_words.specs.declared.fault.Fault.TheVariants as faults
@@ -10,37 +10,37 @@ use Rattle.mt_record.specs.PartFaults.{IsPartFault}
 use Rattle.mt_scan.specs.declared.part_scan.PartScan.{PartScan}
 use Rattle.mt_scan.specs.declared.part_scan.PartScan.TheVariants as scans
 
--- what is known of a part: what it says; or, where it is broken, the number of its checkpoint; or, where it has no header, nothing
+-- what is known of a part: what it says if it is complete, the number of its checkpoint if it is broken, nothing if it has no header
 pub data KnownPart : Type 0 where
   whole : PartReading → KnownPart
   broken : ℕ → KnownPart
   nameless : KnownPart
 
--- this is known of the bytes
+-- the bytes are those of a complete part that says this, of a broken part of this checkpoint, or have no header
 abbrev pub IsKnown : List ℕ → KnownPart → Type 0
 IsKnown bytes (whole part) = IsPartReading bytes part
 IsKnown bytes (broken number) = (entries : ℕ) × IsPartFault bytes (of_part.Broken number entries)
 IsKnown bytes nameless = IsPartFault bytes of_part.Header
 
--- a part that was read, with its entries as they are kept
+-- a part that was read, with the entries that were kept
 abbrev pub KeptPart : Type 0
 KeptPart = PartText (List Change)
 
--- what the part shows
+-- what a part that was read says
 abbrev pub shown_by : KeptPart → PartReading
 shown_by text = shown_in (λ entries. entries) text
 
--- what each of them shows
+-- what each part that was read says
 abbrev pub shown_by_all : List KeptPart → List PartReading
 shown_by_all texts = map shown_by texts
 
--- what a scan shows of its part
+-- what is known of a part from its scan
 abbrev pub known_by : PartScan → KnownPart
 known_by (scans.Whole text) = whole (shown_by text)
 known_by (scans.Broken number) = broken number
 known_by scans.Nameless = nameless
 
--- the fault of a scan is that of the part of this number: its source failed, or memory was refused
+-- the fault of scanning the part with this number: its source failed, or out of memory
 abbrev pub IsPartScanFault : ℕ → Fault → Type 0
 IsPartScanFault number (faults.PartSource part) = part ≡ number
 IsPartScanFault number faults.Memory = Unit {0}

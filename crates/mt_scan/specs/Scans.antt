@@ -1,4 +1,4 @@
--- What a scan gives: a function of the bytes of its log.
+-- The result of scanning a log: a function of the log's bytes.
 use Rattle.std.specs.Prelude.{◌≡◌, ℕ, List, Option, Result, Ok, Err, length}
 use Rattle.std.specs.List.{filter}
 use Rattle.mt_words.specs.declared.fault.Fault.{Fault}
@@ -12,7 +12,7 @@ use Rattle.mt_record.specs.Kept.{is_mark, kept_updates}
 use Rattle.mt_scan.specs.declared.log_scan.LogScan.{LogScan}
 use Rattle.mt_scan.specs.Sources.{Agrees}
 
--- the numbers of a scan are those of the log
+-- the numbers of the scan are those of the log: `from`, the last timestamp, how many records and marks it has, and whether it is torn
 pub record HasNumbersOf (scan : LogScan) (log : LogReading) : Type 0 where
   pub from : scan.from ≡ log.head.from
   pub last : IsLast log scan.last
@@ -20,19 +20,19 @@ pub record HasNumbersOf (scan : LogScan) (log : LogReading) : Type 0 where
   pub marks : scan.marks ≡ length (filter is_mark log.records)
   pub torn : scan.torn ≡ log.torn
 
--- the scan shows what the log of this number says: its numbers, and all its updates
+-- the scan shows the log with this number: the log's numbers and all its updates, none of them dropped
 pub record ShowsLog (number : ℕ) (scan : LogScan) (log : LogReading) : Type 0 where
   pub numbers : HasNumbersOf scan log
   pub updates : kept_updates scan.updates ≡ updates_from number 0 log.records
   pub dropped : scan.dropped ≡ 0
 
--- the scan of the log of this number that the bytes are
+-- the scan of the log with this number, encoded by these bytes
 pub record IsScanOf (number : ℕ) (bytes : List ℕ) (scan : LogScan) : Type 0 where
   pub log : LogReading
   pub is_reading : IsReading bytes log
   pub shows : ShowsLog number scan log
 
--- the fault of a scan is that of the log of this number: its bytes have it, or its source, or memory was refused
+-- the fault of scanning the log with this number: its bytes have the fault, or its source failed, or out of memory
 abbrev pub IsScanFault : ℕ → List ℕ → Fault → Type 0
 IsScanFault number bytes (faults.Header log) = (log ≡ number) × IsLogFault bytes of_log.Header
 IsScanFault number bytes (faults.Record log nth what) = (log ≡ number) × IsLogFault bytes (of_log.Record nth what)
@@ -40,17 +40,17 @@ IsScanFault number bytes (faults.Source log) = log ≡ number
 IsScanFault number bytes faults.Memory = Unit {0}
 IsScanFault number bytes fault = ⊥
 
--- the fault of the bytes as that of the log of this number, or want of memory
+-- the fault of the bytes, as that of the log with this number, or out of memory
 pub record IsLogVerdict (number : ℕ) (bytes : List ℕ) (fault : Fault) : Type 0 where
   pub of_bytes : FeedFault
   pub answered : IsAnswered bytes of_bytes
   pub is : fault ≡ fault_at number of_bytes
 
--- This holds of some bytes that a source which tells these may have: of just those told, or of any where it tells none.
+-- P holds for the known bytes of the source or, if they are not known, for some bytes.
 abbrev pub OfTold : Option (List ℕ) → (List ℕ → Type 0) → Type 0
 OfTold told P = (bytes : List ℕ) × Agrees told bytes × P bytes
 
--- how often the source failed in a scan that answers this: once where its fault is answered
+-- how often the source failed in a scan with this result: once if the result is the source's fault, else never
 abbrev pub failures_of : {X : Type 0} → Result X Fault → ℕ
 failures_of (Ok x) = 0
 failures_of (Err (faults.Source log)) = 1

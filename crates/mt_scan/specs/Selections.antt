@@ -1,4 +1,4 @@
--- The best of the checkpoints, by the groups of their parts.
+-- The selection of the best checkpoint among groups of parts.
 use Rattle.std.specs.Prelude.{ℕ, ◌<◌, ◌≤◌, ◌↔◌, List, Option, Some, None, Contains}
 use Rattle.std.specs.Option.{option_map}
 use Rattle.std.specs.List.Sorted.{IsStrictlyIncreasing}
@@ -20,29 +20,29 @@ pub record IsOffered (all : List (ℕ × PartGroup)) (cutoff : ℕ) (checkpoint 
   pub has : HasCheckpoint group checkpoint
   pub ends_below : checkpoint.end < cutoff
 
--- the number of one of these groups, which is of no checkpoint
+-- the number of one of these groups whose parts make up no checkpoint
 pub record IsPassed (all : List (ℕ × PartGroup)) (number : ℕ) : Type 0 where
   pub group : PartGroup
   pub stands : Contains all (number, group)
   pub none : HasNone group
 
--- the best of the checkpoints that are offered
+-- the best of the checkpoints that are offered; None if none is offered
 abbrev pub IsBestOf : List (ℕ × PartGroup) → ℕ → Option Checkpoint → Type 0
 IsBestOf all cutoff None = (other : CheckpointReading) → IsOffered all cutoff other → ⊥
 IsBestOf all cutoff (Some best) = IsOffered all cutoff (checkpoint_in best) × ((other : CheckpointReading) → IsOffered all cutoff other → IsNoBetter other (checkpoint_in best))
 
--- the best of these groups, and the numbers of those that are of no checkpoint
+-- the selection among these groups: the best checkpoint, and exactly the numbers of the groups without one, strictly rising
 pub record IsSelectionOf (all : List (ℕ × PartGroup)) (cutoff : ℕ) (selection : Selection) : Type 0 where
   pub best : IsBestOf all cutoff selection.best
   pub rise : IsStrictlyIncreasing selection.skipped.items
   pub exact : (number : ℕ) → Contains selection.skipped.items number ↔ IsPassed all number
 
--- a checkpoint that is to stand in the place of the best one so far
+-- a checkpoint that replaces the best one so far: it ends below the cutoff, and the best so far does not end later
 abbrev pub IsNoWorse : ℕ → Option Checkpoint → Checkpoint → Type 0
 IsNoWorse cutoff None next = next.end < cutoff
 IsNoWorse cutoff (Some best) next = (next.end < cutoff) × (best.end ≤ next.end)
 
--- what of these parts is to be chosen, and what to be skipped
+-- the selection among these parts: the chosen checkpoint and the skipped numbers
 pub record IsSelectionFor (parts : List KnownPart) (cutoff : ℕ) (selection : Selection) : Type 0 where
   pub chosen : IsChosenOf parts cutoff (option_map checkpoint_in selection.best)
   pub skipped : AreSkipped parts selection.skipped.items

@@ -1,4 +1,4 @@
--- What the kinds of source say of themselves beyond what every source does.
+-- What contracts say of each kind of source, beyond what they say of every source.
 use Rattle.std.specs.Prelude.{◌≡◌, ℕ, min, List, [], length, Option, Some, Bool, true, false, nat_eq, Result, Ok, IfSome}
 use Rattle.std.specs.Io.KnownBytes.{Consumes}
 use Rattle.mt_scan.specs.Buffers.{Buffered}
@@ -10,7 +10,7 @@ use Rattle.mt_scan.specs.declared.reader_source.ReaderSource.{ReaderSource}
 use Rattle.mt_scan.specs.declared.reader_source.Progress.{Progress}
 use Rattle.mt_scan.specs.declared.reader_source.Progress.TheVariants.{Open, Ended, Failed}
 
--- bytes that are all told, behind what a buffer shows
+-- a source that never fails, with these known bytes still to come and with this buffer
 abbrev pub seen_of_bytes : List ℕ → Buffered → Seen
 seen_of_bytes rest buffer = record {
   told = Some rest;
@@ -21,15 +21,15 @@ seen_of_bytes rest buffer = record {
   spent = false;
 }
 
--- bytes in memory
+-- a source of bytes in memory
 abbrev pub seen_of_memory : MemSource Buffered → Seen
 seen_of_memory source = seen_of_bytes source.rest.now source.buffer
 
--- how many bytes a piece has, but for the last
+-- the size of each chunk but the last
 abbrev pub piece_size : MemSource Buffered → ℕ
 piece_size source = source.buffer.size
 
--- bytes in memory behind a device that fails
+-- a source of bytes in memory that fails
 abbrev pub seen_of_fault : FaultSource Buffered → Seen
 seen_of_fault source = record (seen_of_bytes source.rest.now source.buffer) {
   failures = source.failures.count;
@@ -40,15 +40,15 @@ seen_of_fault source = record (seen_of_bytes source.rest.now source.buffer) {
 abbrev pub fault_piece_size : FaultSource Buffered → ℕ
 fault_piece_size source = source.buffer.size
 
--- how many calls do not fail
+-- the number of calls that will still succeed
 abbrev pub calls_left : FaultSource Buffered → ℕ
 calls_left source = source.left
 
--- a piece of this size was handed out, or all that is told, if that is less
+-- if the bytes still to come are known: a chunk of this size was returned, or all of them if they are fewer
 abbrev pub GivesPiece : Seen → ℕ → Result ℕ SourceFault → Type 0
 GivesPiece seen size result = IfSome seen.told (λ told. result ≡ Ok (min (length told) size))
 
--- what a reader that came this far still tells
+-- the bytes still to come from a reader that has come this far, if they are known
 abbrev pub left_to_tell : Progress → Option (List ℕ) → Option (List ℕ)
 left_to_tell Open remaining = remaining
 left_to_tell Ended remaining = Some []
@@ -64,7 +64,7 @@ has_failed Open = false
 has_failed Ended = false
 has_failed (Failed fault) = true
 
--- the bytes of a reader, of which these remain
+-- a source of the bytes of a reader; `remaining` gives those still to come, if they are known
 abbrev pub seen_of_reader : {R : Type 0} → (R → Option (List ℕ)) → ReaderSource R Buffered → Seen
 seen_of_reader remaining source = record {
   told = left_to_tell source.progress (remaining source.reader);
@@ -75,17 +75,17 @@ seen_of_reader remaining source = record {
   spent = has_failed source.progress;
 }
 
--- how many bytes a piece has at the most
+-- the greatest size of a chunk
 abbrev pub reader_piece_size : {R : Type 0} → ReaderSource R Buffered → ℕ
 reader_piece_size source = source.buffer.size
 
--- as many bytes were handed out as may be, and the reader gave one more, as far as it tells its bytes
+-- all bytes that the limit allows were returned, and the reader had one more, as far as its bytes are known
 pub record HasTooMany (old new : Seen) : Type 0 where
   pub at_limit : old.bound ≡ 0
   pub extra : List ℕ
   pub is_one : length extra ≡ 1
   pub given : Consumes old.told new.told extra
 
--- the reader had no more
+-- the reader has ended
 abbrev pub at_its_end : {R : Type 0} → ReaderSource R Buffered → Bool
 at_its_end source = has_ended source.progress

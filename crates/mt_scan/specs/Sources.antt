@@ -1,9 +1,9 @@
--- Sources: what a contract sees of one, and what `advance` does.
+-- Sources: what contracts see of them, and what `advance` does.
 use Rattle.std.specs.Prelude.{◌≡◌, ℕ, ◌+◌, ◌≤◌, ◌<◌, ◌^◌, List, [], length, Option, Some, None, Bool, IsTrue, Result, is_ok, if◌then◌else◌, IfOk, OnErr, IsOk, IsErr}
 use Rattle.std.specs.Io.KnownBytes.{Consumes, IsAtEnd}
 
--- What a contract sees of a source: the bytes still to come, where it tells them; a bound on their number; how often it
--- failed; whether it never fails; the bytes that it shows; whether every call from here on fails.
+-- What contracts see of a source: the bytes still to come, if they are known; a bound on their number; how often it failed; whether it never fails;
+-- the bytes that it shows; whether every call from here on fails.
 pub record Seen : Type 0 where
   pub told : Option (List ℕ)
   pub bound : ℕ
@@ -12,7 +12,7 @@ pub record Seen : Type 0 where
   pub shown : List ℕ
   pub spent : Bool
 
--- so many bytes were handed out, and are shown: the next ones, or none at the end alone
+-- the next `count` bytes were returned and are shown; `count` is 0 only at the end
 pub record HandsOut (old new : Seen) (count : ℕ) : Type 0 where
   pub shown : length new.shown ≡ count
   pub next : Consumes old.told new.told new.shown
@@ -28,7 +28,7 @@ pub record Advances {Fault : Type 0} (old new : Seen) (result : Result ℕ Fault
   pub bounded : old.bound < 2 ^ 64
   pub steady : IsTrue old.steady → IsOk result × IsTrue new.steady
 
--- bytes that a source may have which tells this: they are just those told, or any where it tells none
+-- the source may have these bytes: if its bytes are known, only those; else any bytes
 abbrev pub Agrees : Option (List ℕ) → List ℕ → Type 0
 Agrees None bytes = Unit {0}
 Agrees (Some told) bytes = told ≡ bytes

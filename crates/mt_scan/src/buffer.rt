@@ -1,4 +1,4 @@
-//! Room for the bytes of a piece.
+//! Buffers for the bytes of a chunk.
 ghost use Rattle.std.specs.Prelude.{◌≡◌, ◌≤◌, ◌<◌, length, take, min, vec_len, [], IfOk, OnOk, OnErr};
 ghost use Rattle.std.specs.Io.KnownBytes.{Consumes, IsAtEnd, Keeps};
 
@@ -7,7 +7,7 @@ use std::io;
 use std::io::Read;
 use std::marker::Model;
 
-/// The bytes of one piece, and room for as many as a piece may have.
+/// The bytes of one chunk, and room for the longest chunk.
 #[derive(Debug, Drop)]
 pub struct Buffer {
     bytes: Vec<u8>,
@@ -26,7 +26,7 @@ impl Model for Buffer {
 }
 
 impl Buffer {
-    /// An empty buffer of this size.
+    /// Creates an empty buffer with room for `size` bytes. Err: out of memory.
     pub fn new(alloc: Global, size: usize) -> Result<Buffer, AllocError>
         requires { 1 ≤ size }
         ensures { IfOk result (λ buffer. buffer.size ≡ size) }
@@ -35,14 +35,14 @@ impl Buffer {
         Ok(Buffer { bytes, filled: 0 })
     }
 
-    /// The bytes that it shows.
+    /// Returns the chunk.
     pub fn piece(&self) -> &[u8]
         ensures { result.now ≡ self.now.shown }
     {
         &self.bytes[..self.filled]
     }
 
-    /// Shows none.
+    /// Empties the chunk.
     pub fn clear(&mut self)
         ensures shown { self.new.shown ≡ [] }
         ensures size { self.new.size ≡ self.old.size }
@@ -50,7 +50,7 @@ impl Buffer {
         self.filled = 0;
     }
 
-    /// Shows as many bytes from the front of `from` as there is room for.
+    /// Fills the chunk with bytes from the front of `from`, as many as there is room for. Returns their number.
     pub fn fill(&mut self, from: &[u8]) -> usize
         ensures count { result ≡ min (length from.now) self.old.size }
         ensures shown { self.new.shown ≡ take result from.now }
@@ -63,7 +63,8 @@ impl Buffer {
         count
     }
 
-    /// Reads once, at most so many bytes, and shows them.
+    /// Reads once from the reader into the chunk: at most `most` bytes, and at most what there is room for. Returns the
+    /// number of bytes read. Err: the error of the reader.
     pub fn read_from<R: Read>(&mut self, reader: &mut R, most: u64) -> io::Result<usize>
         requires { 1 ≤ most }
         ensures count { IfOk result (λ n. n ≤ most) }
@@ -80,7 +81,7 @@ impl Buffer {
     }
 }
 
-/// Reads once into the first `wanted` bytes.
+/// Reads once into the first `wanted` bytes, and returns the number of bytes read. Err: the error of the reader.
 fn read_front<R: Read>(bytes: &mut [u8], wanted: usize, reader: &mut R) -> io::Result<usize>
     requires least { 1 ≤ wanted }
     requires most { wanted ≤ length bytes.old }
@@ -93,7 +94,7 @@ fn read_front<R: Read>(bytes: &mut [u8], wanted: usize, reader: &mut R) -> io::R
     reader.read(front)
 }
 
-/// Writes `from` over the first bytes.
+/// Copies `from` over the first bytes.
 fn overwrite_front(bytes: &mut [u8], from: &[u8])
     requires { length from.now ≤ length bytes.old }
     ensures { take (length from.now) bytes.new ≡ from.now }

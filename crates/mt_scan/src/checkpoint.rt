@@ -1,4 +1,4 @@
-//! Checkpoints by their parts.
+//! Checkpoints, made of their parts.
 ghost use Rattle.std.specs.Prelude.{◌≡◌, ◌↔◌, length, IsTrue, MatchOption};
 ghost use Rattle.mt_scan.specs.PartScans.{shown_by, shown_by_all};
 ghost use Rattle.mt_scan.specs.Choice.{IsPartAt, AreInPlace, MakeUp, checkpoint_in};
@@ -12,16 +12,17 @@ use mt_record::{KeptEntries, PartText};
 pub struct Checkpoint {
     /// Its number.
     pub number: u32,
-    /// The timestamp from which on logs are replayed over it.
+    /// The timestamp from which logs are replayed over it.
     pub begin: u64,
     /// The timestamp at which it was complete.
     pub end: u64,
-    /// Its parts, in order. Their entries, one part behind the other, have rising keys.
+    /// Its parts, in order. The keys of their entries rise, also from one part to the next.
     pub parts: Vec<PartText<KeptEntries>>,
 }
 
 impl Checkpoint {
-    /// The checkpoint of this number whose parts these are, in any order. None where they make up no valid one.
+    /// Creates the checkpoint with this number from its parts, which come in any order. Returns None if they make up no
+    /// valid checkpoint.
     pub(crate) fn of(number: u32, parts: Vec<PartText<KeptEntries>>) -> Option<Checkpoint>
         ensures { MatchOption result
             (MakeUpNone (shown_by_all parts.items))
@@ -43,7 +44,7 @@ impl Checkpoint {
         }
     }
 
-    /// Whether its parts make it up.
+    /// Returns whether the parts make up a valid checkpoint.
     fn is_valid(&self) -> bool
         ensures { IsTrue result ↔ MakeUp (shown_by_all self.now.parts.items) (checkpoint_in self.now) }
     {
@@ -53,7 +54,7 @@ impl Checkpoint {
             && do_entries_rise(&self.parts)
     }
 
-    /// Whether its parts stand one behind the other, and agree with it.
+    /// Returns whether each part is at the place of its number and agrees with the checkpoint.
     fn are_in_place(&self) -> bool
         ensures { IsTrue result ↔ AreInPlace (checkpoint_in self.now) (length self.now.parts.items) 0 (shown_by_all self.now.parts.items) }
     {
@@ -65,7 +66,7 @@ impl Checkpoint {
         true
     }
 
-    /// Whether this is its part at this place.
+    /// Returns whether this is the checkpoint's part at this place.
     fn has_at(&self, place: usize, text: &PartText<KeptEntries>) -> bool
         ensures { IsTrue result ↔ IsPartAt (checkpoint_in self.now) (length self.now.parts.items) place (shown_by text.now) }
     {

@@ -1,4 +1,4 @@
-//! The checkpoint to begin from.
+//! The choice of the checkpoint to begin from.
 ghost use Rattle.std.specs.Prelude.{IfOk, map};
 ghost use Rattle.mt_scan.specs.PartScans.{known_by};
 ghost use Rattle.mt_scan.specs.Choice.{AreNameless, IsChoiceOf};
@@ -10,22 +10,22 @@ use crate::selection::{Selection, select};
 use mt_words::Memory;
 use std::alloc::Global;
 
-/// Which checkpoint to begin from, and which parts are of no use.
+/// The checkpoint to begin from, and the checkpoints and parts that are of no use.
 #[derive(Debug, Drop)]
 pub struct Choice {
-    /// Of the valid checkpoints that end below the cutoff the one with the greatest end, and then the greatest number;
-    /// None where there is none.
+    /// Of the valid checkpoints that end below the cutoff, the one with the greatest end; of several, the one with the
+    /// greatest number. None if there is none.
     pub chosen: Option<Checkpoint>,
-    /// The numbers of the invalid checkpoints, rising.
+    /// The numbers of the invalid checkpoints, in rising order.
     pub skipped: Vec<u32>,
-    /// The positions of the nameless parts, rising.
+    /// The positions of the nameless parts, in rising order.
     pub nameless: Vec<usize>,
 }
 
-/// Chooses the checkpoint to begin from among those of these parts, which stand in any order. A checkpoint is valid
-/// where its parts are all whole, agree in begin, end and the number of parts, are numbered from 0 on, once each, and
-/// their entries, in the order of those numbers, have rising keys; and it begins at its end at the latest. Parts are
-/// moved, none is copied. It takes time n log n for n parts, and goes once through the entries.
+/// Chooses the checkpoint to begin from. The parts of all checkpoints come in any order. A checkpoint is valid if its
+/// parts are all complete, agree in begin, end and the number of parts, and are numbered from 0 on, once each; if the
+/// keys of its entries rise in the order of those numbers; and if its begin is at most its end. Parts are moved, none
+/// is copied. This takes time n log n for n parts, and one pass over the entries. Err: out of memory.
 pub fn choose(alloc: Global, scans: Vec<PartScan>, cutoff: u64) -> Result<Choice, Memory>
     ensures { IfOk result (IsChoiceOf (map known_by scans.items) cutoff) }
 {
@@ -39,7 +39,7 @@ pub fn choose(alloc: Global, scans: Vec<PartScan>, cutoff: u64) -> Result<Choice
     })
 }
 
-/// The positions of the nameless parts.
+/// Returns the positions of the nameless parts, in rising order. Err: out of memory.
 fn nameless_among(alloc: Global, scans: &[PartScan]) -> Result<Vec<usize>, Memory>
     ensures { IfOk result (λ positions. AreNameless (map known_by scans.now) positions.items) }
 {

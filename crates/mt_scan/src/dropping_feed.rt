@@ -1,4 +1,4 @@
-//! The feed of a scan that drops what comes too late.
+//! The feed of a scan that drops late records.
 ghost use Rattle.std.specs.Prelude.{◌≡◌, None, false, ◌≤◌, ◌<◌, ◌++◌, ◌^◌, [], List, ℕ, length, min, ◌+◌, ◌-◌, IfOk, IfErr, IsErr};
 ghost use Rattle.mt_scan.specs.Scans.{IsLogVerdict, failures_of};
 ghost use Rattle.mt_scan.specs.Dropping.{HasAllBelow, KeepsOnlyBelow};
@@ -9,20 +9,21 @@ use mt_record::{Dropped, KeptRecords, LogFeed, LogText, Updates};
 use mt_words::Fault;
 use std::alloc::Global;
 
-/// Reads a log in pieces, and keeps its records below a limit, which may fall from piece to piece.
+/// A feed that reads a log chunk by chunk and keeps only its records below a limit. The limit may fall from chunk to
+/// chunk.
 #[derive(Drop)]
 pub struct DroppingFeed {
     feed: LogFeed<KeptRecords>,
-    /// The records below the limit, once others were dropped. Until then the feed has them.
+    /// The records below the limit, once others were dropped. Until then it is None, and the feed has them.
     kept: Option<KeptRecords>,
-    /// How many updates were dropped, as far as a u64 counts.
+    /// The number of updates that were dropped. It saturates at the greatest u64.
     dropped: u64,
-    /// How many marks were, as far as a u64 counts.
+    /// The number of marks that were dropped. It saturates at the greatest u64.
     marks: u64,
 }
 
 impl DroppingFeed {
-    /// A feed that was fed nothing.
+    /// Creates a feed that was fed nothing.
     pub fn new(alloc: Global) -> DroppingFeed
         ensures { (limit : ℕ) → IsFedBelow result limit [] }
     {
@@ -34,8 +35,8 @@ impl DroppingFeed {
         }
     }
 
-    /// Feeds the next piece, and drops what lies at or past the limit. False after a fault, which more bytes do not
-    /// change.
+    /// Feeds the next chunk, and drops the records at or past the limit. Returns false after a fault, which more bytes
+    /// do not change.
     pub fn feed_below(&mut self, piece: &[u8], limit: u64) -> bool
         ensures fed { (before : ℕ) (bytes : List ℕ) → limit ≤ before → IsFedBelow self.old before bytes →
             IsFedBelow self.new limit (bytes ++ piece.now) }
@@ -48,7 +49,7 @@ impl DroppingFeed {
         goes_on
     }
 
-    /// Drops the records that lie at or past the limit. Timestamps do not fall, so these are the last ones.
+    /// Drops the records at or past the limit. Timestamps do not fall, so these are the last ones.
     fn drop_late(&mut self, limit: u64)
         ensures { (bytes : List ℕ) → self.old.feed.fault ≡ None → HasRead self.old limit bytes → IsFedBelow self.new limit bytes }
     {
@@ -70,7 +71,7 @@ impl DroppingFeed {
         }
     }
 
-    /// Counts records that were dropped.
+    /// Adds records that were dropped to the counts.
     fn count(&mut self, more: Dropped)
         ensures { self.new ≡ record self.old { marks = min (self.old.marks + more.marks) (2 ^ 64 - 1); dropped = min (self.old.dropped + more.updates) (2 ^ 64 - 1) } }
     {
@@ -78,7 +79,8 @@ impl DroppingFeed {
         self.dropped = self.dropped.saturating_add(more.updates);
     }
 
-    /// The scan of the log of this number that was fed, or its fault.
+    /// Returns the scan of the log with this number from all that was fed. Err: the fault of the bytes, or `Memory` if
+    /// out of memory.
     pub fn finish(self, log: usize) -> Result<LogScan, Fault>
         ensures scan { (limit : ℕ) (bytes : List ℕ) → IsFedBelow self limit bytes → length bytes < 2 ^ 64 →
             IfOk result (λ scan. HasAllBelow limit log bytes scan × KeepsOnlyBelow limit scan) }
@@ -99,7 +101,8 @@ impl DroppingFeed {
     }
 }
 
-/// The scan of the log of this number with this text. What is kept was taken out of it, once something was dropped.
+/// Creates the scan of the log with this number and this text. Once something was dropped, `kept` has the records that
+/// were kept, since they were taken out of the text.
 fn scan_of(
     log: usize,
     text: LogText<KeptRecords>,

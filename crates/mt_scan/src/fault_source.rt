@@ -1,4 +1,4 @@
-//! Bytes in memory behind a device that fails.
+//! A source of bytes in memory that fails.
 ghost use Rattle.std.specs.Prelude.{◌≡◌, ◌+◌, ◌-◌, ◌≤◌, ◌<◌, ◌↔◌, [], IfSome, IsSome, Some, Err, false};
 ghost use Rattle.mt_scan.specs.declared.source.SourceFault.TheVariants.{Device};
 ghost use Rattle.mt_scan.specs.Sources.{Advances};
@@ -10,20 +10,20 @@ use crate::slot::Slot;
 use crate::source::{Source, SourceFault};
 use crate::tally::Tally;
 
-/// Bytes in memory, as a `MemSource` hands them out, until an `advance` that fails with `Device`, as all later ones
-/// do. It tells its bytes and is not steady. When it is dropped the buffer is back in its slot.
+/// A source that returns bytes in memory as a `MemSource` does, until one `advance` fails with `Device`. All later ones
+/// fail too. Contracts know its bytes. It is not steady: it may fail. Its drop puts the buffer back into the slot.
 pub struct FaultSource<'a, B = Buffer> {
     rest: &'a [u8],
     slot: &'a mut Slot<B>,
     buffer: B,
-    /// How many calls do not fail.
+    /// The number of calls that will still succeed.
     left: u64,
     failures: Tally,
 }
 
 impl<'a> FaultSource<'a> {
-    /// The source of these bytes, with the buffer of the slot, whose k-th `advance` and all later ones fail. None,
-    /// and nothing has changed, where the slot is empty.
+    /// Creates a source of these bytes that uses the slot's buffer. Its k-th `advance`, counted from 1, and all later
+    /// ones fail. Returns None, and changes nothing, if the slot is empty.
     pub fn new(bytes: &'a [u8], slot: &'a mut Slot, k: u64) -> Option<FaultSource<'a>>
         requires { 1 ≤ k }
         ensures variant { IsSome result ↔ IsSome slot.old }

@@ -1,4 +1,4 @@
-//! Sources whose bytes are fed piece by piece.
+//! Feeding the bytes of a source, chunk by chunk.
 ghost use Rattle.std.specs.Prelude.{◌≡◌, ◌+◌, ◌++◌, [], List, ℕ, false, if◌then◌else◌, is_ok, IfOk, OnOk, IsOk, IsTrue};
 ghost use Rattle.mt_record.specs.LogFeeding.{IsLogFed};
 ghost use Rattle.mt_record.specs.PartFeeding.{IsPartFed};
@@ -8,12 +8,12 @@ ghost use Rattle.mt_scan.specs.Keeping.{NeedsNoMore, FeedsPiece};
 use crate::source::{Source, SourceFault};
 use mt_record::{KeptEntries, KeptRecords, LogFeed, PartFeed};
 
-/// What is fed bytes piece by piece, and keeps their first fault.
+/// A feed: it receives bytes chunk by chunk, and keeps their first fault.
 pub trait Fed {
     /// These bytes were fed to it.
     ghost was_fed: { Self → List ℕ → Type 0 };
 
-    /// Feeds the next piece. False where it has a fault, which more bytes do not change.
+    /// Feeds the next chunk. Returns false if the feed then has a fault, which more bytes do not change.
     fn feed_next(&mut self, piece: &[u8]) -> bool
         ensures fed { (bytes : List ℕ) → was_fed self.old bytes → was_fed self.new (bytes ++ piece.now) }
         ensures stops { result ≡ false → NeedsNoMore was_fed self.new };
@@ -35,7 +35,7 @@ impl Fed for PartFeed<KeptEntries> {
     }
 }
 
-/// Feeds the bytes of the source, to its end or to their first fault; no piece is asked for after that.
+/// Feeds the bytes of the source up to its end or their first fault, and reads no further. Err: the source failed.
 pub fn feed_all<S: Source, F: Fed>(source: &mut S, feed: &mut F) -> Result<(), SourceFault>
     requires { F.was_fed feed.old [] }
     ensures fed { OnOk result (OfTold (S.seen source.old).told (F.was_fed feed.new)) }
@@ -47,7 +47,8 @@ pub fn feed_all<S: Source, F: Fed>(source: &mut S, feed: &mut F) -> Result<(), S
     Ok(())
 }
 
-/// Feeds the next piece, if there is one; false at the end, and after a fault of the bytes.
+/// Feeds the next chunk, if there is one. Returns false at the end, and after a fault of the bytes. Err: the source
+/// failed.
 fn feed_piece<S: Source, F: Fed>(source: &mut S, feed: &mut F) -> Result<bool, SourceFault>
     ensures fed { (bytes : List ℕ) → F.was_fed feed.old bytes →
         IfOk result (FeedsPiece F.was_fed (S.seen source.old) (S.seen source.new) feed.new bytes) }

@@ -1,4 +1,4 @@
-//! Parts by the numbers of their checkpoints.
+//! Parts grouped by the numbers of their checkpoints.
 ghost use Rattle.std.specs.Prelude.{List, [], ◌∷◌, ◌++◌, map, IfOk, OnOk, MatchOption};
 ghost use Rattle.mt_scan.specs.PartScans.{KnownPart, whole, broken, shown_by, known_by};
 ghost use Rattle.mt_scan.specs.Groups.{IsPartGroupOf, AreGroupsOf, HasNone, IsCheckpointOf};
@@ -13,14 +13,14 @@ use std::collections::BTreeMap;
 /// The parts of one checkpoint.
 #[derive(Drop)]
 pub enum PartGroup {
-    /// They are whole, and stand in any order.
+    /// All of them are complete. They are in any order.
     Whole(Vec<PartText<KeptEntries>>),
-    /// One of them is broken.
+    /// At least one of them is broken.
     Broken,
 }
 
 impl PartGroup {
-    /// Adds a whole part. After an Err it may be missing.
+    /// Adds a complete part. Err: out of memory; then the part may be missing.
     fn add(&mut self, text: PartText<KeptEntries>) -> Result<(), Memory>
         ensures { OnOk result ((parts : List KnownPart) → IsPartGroupOf parts self.old →
             IsPartGroupOf (parts ++ whole (shown_by text) ∷ []) self.new) }
@@ -31,7 +31,7 @@ impl PartGroup {
         Ok(())
     }
 
-    /// The checkpoint of this number whose parts these are. None where they make up no valid one.
+    /// Creates the checkpoint with this number from these parts. Returns None if they make up no valid checkpoint.
     pub fn into_checkpoint(self, number: u32) -> Option<Checkpoint>
         ensures { MatchOption result (HasNone self) (IsCheckpointOf number self) }
     {
@@ -42,7 +42,7 @@ impl PartGroup {
     }
 }
 
-/// The parts of each checkpoint by its number. Those without a header belong to none.
+/// Groups the parts by the numbers of their checkpoints. Parts without a header belong to none. Err: out of memory.
 pub fn group_parts(alloc: Global, scans: Vec<PartScan>) -> Result<BTreeMap<u32, PartGroup>, Memory>
     ensures { IfOk result (AreGroupsOf (map known_by scans.items)) }
 {
@@ -53,7 +53,7 @@ pub fn group_parts(alloc: Global, scans: Vec<PartScan>) -> Result<BTreeMap<u32, 
     Ok(groups)
 }
 
-/// Adds the part of a scan to those of its checkpoint, if it has one.
+/// Adds the part of a scan to the group of its checkpoint, if it has one. Err: out of memory.
 fn add_scan(
     alloc: Global,
     groups: &mut BTreeMap<u32, PartGroup>,
@@ -69,7 +69,7 @@ fn add_scan(
     }
 }
 
-/// Adds a whole part to those of its checkpoint.
+/// Adds a complete part to the group of its checkpoint. Err: out of memory.
 fn add_whole(
     alloc: Global,
     groups: &mut BTreeMap<u32, PartGroup>,
@@ -88,7 +88,7 @@ fn add_whole(
     Ok(())
 }
 
-/// Notes that a part of this checkpoint is broken.
+/// Marks the group of this checkpoint as broken. Err: out of memory.
 fn add_broken(groups: &mut BTreeMap<u32, PartGroup>, number: u32) -> Result<(), Memory>
     ensures { OnOk result ((parts : List KnownPart) → AreGroupsOf parts groups.old →
         AreGroupsOf (parts ++ broken number ∷ []) groups.new) }

@@ -1,4 +1,4 @@
-//! What a scan of a log found, and the cutoff of all logs.
+//! The results of scanning logs, and the cutoff of all logs.
 ghost use Rattle.std.specs.Prelude.{◌≡◌, [], List, ℕ, IfSome, IfNone};
 ghost use Rattle.mt_record.specs.Logs.{LogReading, IsKeptTextOf};
 ghost use Rattle.mt_scan.specs.Scans.{IsScanOf};
@@ -6,27 +6,27 @@ ghost use Rattle.mt_scan.specs.Cutoff.{HaveNumbersOf, IsCutoff};
 
 use mt_record::{KeptRecords, LogText, Updates};
 
-/// What a scan found in a log.
+/// The result of scanning a log.
 #[derive(Debug, Drop)]
 pub struct LogScan {
-    /// Updates below this timestamp may be missing.
+    /// The timestamp below which updates may be missing.
     pub from: u64,
-    /// The last timestamp: the greatest of `from` and the timestamps of the whole records.
+    /// The last timestamp: the greatest of `from` and the timestamps of the complete records.
     pub last: u64,
-    /// How many whole records there are.
+    /// The number of complete records.
     pub whole: u64,
-    /// How many of them are marks.
+    /// The number of marks among them.
     pub marks: u64,
-    /// The updates that were kept, lent from its records.
+    /// The updates that the scan kept, with the records that they are borrowed from.
     pub updates: Updates,
-    /// How many updates were counted and not kept.
+    /// The number of updates that were dropped: counted, but not kept.
     pub dropped: u64,
     /// Whether a torn tail follows the records.
     pub torn: bool,
 }
 
 impl LogScan {
-    /// The scan of the log of this number that was read whole. It takes no memory.
+    /// Creates the scan of the log with this number, from all that was read of it. Allocates nothing.
     pub fn of(log: usize, text: LogText<KeptRecords>) -> LogScan
         ensures { (bytes : List ℕ) → IsKeptTextOf bytes text → IsScanOf log bytes result }
     {
@@ -40,7 +40,8 @@ impl LogScan {
         LogScan {
             from,
             last,
-            // The count of the text stops at the greatest u64; fewer records than that lie in memory.
+            // The count in the text saturates at the greatest u64. Fewer records than that are in memory, so their
+            // number is exact.
             whole: records.len() as u64,
             marks: records.marks(),
             updates: Updates::of(log, records),
@@ -50,7 +51,7 @@ impl LogScan {
     }
 }
 
-/// The cutoff of the logs of these scans: the least of their last timestamps. None where there is no log.
+/// Returns the cutoff of the logs of these scans: the least of their last timestamps. Returns None if there is no log.
 pub fn cutoff(scans: &[LogScan]) -> Option<u64>
     ensures found { (logs : List LogReading) → HaveNumbersOf scans.now logs → IfSome result (IsCutoff logs) }
     ensures none { IfNone result (scans.now ≡ []) }

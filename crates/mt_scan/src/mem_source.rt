@@ -1,4 +1,4 @@
-//! Bytes in memory.
+//! A source of bytes in memory.
 ghost use Rattle.std.specs.Prelude.{◌≡◌, ◌↔◌, [], IfSome, IsSome, IsTrue, Some};
 ghost use Rattle.mt_scan.specs.Sources.{Advances};
 ghost use Rattle.mt_scan.specs.Buffers.{HoldsBufferOf};
@@ -8,8 +8,8 @@ use crate::buffer::Buffer;
 use crate::slot::Slot;
 use crate::source::{Source, SourceFault};
 
-/// Bytes in memory, handed out in pieces as long as the buffer, the last one shorter. It tells its bytes and never
-/// fails. When it is dropped the buffer is back in its slot.
+/// A source of bytes in memory. Each chunk is as long as the buffer; the last one may be shorter. Contracts know its
+/// bytes, and it never fails. Its drop puts the buffer back into the slot.
 pub struct MemSource<'a, B = Buffer> {
     rest: &'a [u8],
     slot: &'a mut Slot<B>,
@@ -17,7 +17,8 @@ pub struct MemSource<'a, B = Buffer> {
 }
 
 impl<'a> MemSource<'a> {
-    /// The source of these bytes, with the buffer of the slot. None, and nothing has changed, where the slot is empty.
+    /// Creates a source of these bytes that uses the slot's buffer. Returns None, and changes nothing, if the slot is
+    /// empty.
     pub fn new(bytes: &'a [u8], slot: &'a mut Slot) -> Option<MemSource<'a>>
         ensures variant { IsSome result ↔ IsSome slot.old }
         ensures told { IfSome result (λ s. (seen_of_memory s).told ≡ Some bytes.now) }

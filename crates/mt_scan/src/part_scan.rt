@@ -9,23 +9,23 @@ use mt_record::{KeptEntries, PartFault, PartFeed, PartText};
 use mt_words::Fault;
 use std::alloc::Global;
 
-/// What a scan found in a part of a checkpoint.
+/// The result of scanning a part of a checkpoint.
 #[derive(Debug, Drop)]
 pub enum PartScan {
-    /// The part is whole.
+    /// The part is complete.
     Whole(PartText<KeptEntries>),
-    /// It has a header, and is broken.
+    /// The part has a header, but is broken.
     Broken {
         /// The number of its checkpoint.
         number: u32,
     },
-    /// It has no header: it belongs to no checkpoint.
+    /// The part has no header: it belongs to no checkpoint.
     Nameless,
 }
 
-/// Reads the part of this number from its source, to the end or to the first fault of its bytes; no piece is asked for
-/// after that. A broken part is no fault: its checkpoint is invalid. An Err is `PartSource` where the source failed, or
-/// `Memory` where a growth was refused.
+/// Reads the part with this number from its source, up to the end or the first fault of its bytes. It reads no further
+/// than that. A broken part is no error: its checkpoint is invalid. Err: `PartSource` if the source failed, or `Memory`
+/// if out of memory.
 pub fn scan_part<S: Source>(alloc: Global, source: &mut S, part: usize) -> Result<PartScan, Fault>
     ensures scan { IfOk result (λ scan. OfTold (S.seen source.old).told (λ bytes. IsKnown bytes (known_by scan))) }
     ensures fault { IfErr result (IsPartScanFault part) }

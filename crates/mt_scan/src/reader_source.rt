@@ -1,4 +1,4 @@
-//! The bytes of a reader.
+//! A source of the bytes of a reader.
 ghost use Rattle.std.specs.Prelude.{◌≡◌, ◌+◌, ◌↔◌, ◌⊎◌, [], IfSome, IfOk, IfErr, IsSome, IsTrue, Some, Ok, Err, false};
 ghost use Rattle.mt_scan.specs.declared.source.SourceFault.TheVariants.{Device, TooLong};
 ghost use Rattle.mt_scan.specs.Sources.{Advances};
@@ -12,33 +12,35 @@ use crate::source::{Source, SourceFault};
 use crate::tally::Tally;
 use std::io::Read;
 
-/// How far the reader came.
+/// How far the reader has come.
 #[derive(Clone, Copy)]
 pub enum Progress {
     /// It may have more bytes.
     Open,
-    /// It had no more.
+    /// It has ended.
     Ended,
-    /// It failed, or had too many.
+    /// It failed, or had more bytes than the limit.
     Failed(SourceFault),
 }
 
-/// The bytes of a reader, at most `limit` of them. Each fault of the reader is `Device`; it is read no further then.
-/// Where `limit` bytes were handed out and the reader gives one more, the answer is `TooLong`, and that byte is not
-/// handed out. After its end it stays at its end, whatever the reader has later. It tells what the reader tells, and
-/// is not steady. When it is dropped the buffer is back in its slot.
+/// A source of the bytes of a reader, at most `limit` of them. Every error of the reader becomes `Device`, and the
+/// reader is not read again. If the reader has one more byte after `limit` bytes were returned, the error is `TooLong`,
+/// and that byte is not returned. After the reader's end the source stays at its end, even if the reader has more bytes
+/// later. Contracts know its bytes as far as they know those of the reader. It is not steady: it may fail. Its drop
+/// puts the buffer back into the slot.
 pub struct ReaderSource<'a, R, B = Buffer> {
     reader: R,
     slot: &'a mut Slot<B>,
     buffer: B,
-    /// How many bytes may still be handed out.
+    /// The number of bytes that may still be returned.
     left: u64,
     progress: Progress,
     failures: Tally,
 }
 
 impl<'a, R: Read + Drop> ReaderSource<'a, R> {
-    /// The source of the reader's bytes, with the buffer of the slot. None where the slot is empty.
+    /// Creates a source of the reader's bytes, at most `limit`, that uses the slot's buffer. Returns None if the slot
+    /// is empty.
     pub fn new(reader: R, limit: u64, slot: &'a mut Slot) -> Option<ReaderSource<'a, R>>
         ensures variant { IsSome result ↔ IsSome slot.old }
         ensures told { IfSome result (λ s. (seen_of_reader R.remaining s).told ≡ R.remaining reader) }
@@ -83,8 +85,8 @@ impl<R: Read + Drop> Source for ReaderSource<'_, R> {
     fn advance(&mut self) -> Result<usize, SourceFault>
         ensures advances { Advances (seen_of_reader R.remaining self.old) (seen_of_reader R.remaining self.new) result }
         ensures bound { IfOk result (λ n. (seen_of_reader R.remaining self.new).bound + n ≡ (seen_of_reader R.remaining self.old).bound) }
-        // A fault of the reader costs none of the bytes that it tells, so that `TooLong`, which costs one, is not
-        // answered as `Device`.
+        // An error of the reader consumes none of its known bytes. `TooLong` consumes one, so it is never reported as
+        // `Device`.
         ensures device { result ≡ Err Device →
             Keeps (seen_of_reader R.remaining self.old).told (seen_of_reader R.remaining self.new).told }
         ensures too_long { result ≡ Err TooLong →
@@ -124,7 +126,7 @@ impl<R: Read + Drop> Source for ReaderSource<'_, R> {
 }
 
 impl<R> ReaderSource<'_, R> {
-    /// Fails from here on.
+    /// Marks the source as failed with this fault, and returns the fault as an Err.
     fn fail(&mut self, fault: SourceFault) -> Result<usize, SourceFault>
         ensures fault { result ≡ Err fault }
         ensures counted { self.new.failures.count ≡ self.old.failures.count + 1 }

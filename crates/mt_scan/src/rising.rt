@@ -1,4 +1,4 @@
-//! Whether keys rise.
+//! Checks that keys rise.
 ghost use Rattle.std.specs.Prelude.{◌≡◌, ◌↔◌, [], ◌∷◌, ◌++◌, IsTrue};
 ghost use Rattle.mt_words.specs.Words.{AreRising};
 ghost use Rattle.mt_scan.specs.PartScans.{shown_by_all};
@@ -8,7 +8,7 @@ ghost use Rattle.mt_scan.specs.Rising.{none_or_one, last_of};
 
 use mt_record::{KeptEntries, PartText};
 
-/// Whether the keys of all entries rise, those of a part over those of the parts before it.
+/// Returns whether the keys of all entries strictly rise, within each part and from one part to the next.
 pub fn do_entries_rise(texts: &[PartText<KeptEntries>]) -> bool
     ensures { IsTrue result ↔ AreRising (entry_keys (entries_of (shown_by_all texts.now))) }
 {
@@ -22,7 +22,7 @@ pub fn do_entries_rise(texts: &[PartText<KeptEntries>]) -> bool
     true
 }
 
-/// Whether the keys of the entries rise, over the last one before them.
+/// Returns whether the keys of the entries strictly rise, and are above the last key before them, if there is one.
 fn do_rise_from(before: Option<&[u8]>, entries: &KeptEntries) -> bool
     ensures { IsTrue result ↔ AreRising (none_or_one before.entry ++ entry_keys entries.now) }
 {
@@ -37,7 +37,7 @@ fn do_rise_from(before: Option<&[u8]>, entries: &KeptEntries) -> bool
     true
 }
 
-/// Whether the key is over the last one before it.
+/// Returns whether the key is above the last one before it, if there is one.
 fn can_follow(last: Option<&[u8]>, key: &[u8]) -> bool
     ensures { IsTrue result ↔ AreRising (none_or_one last.entry ++ key.now ∷ []) }
 {
@@ -47,7 +47,7 @@ fn can_follow(last: Option<&[u8]>, key: &[u8]) -> bool
     }
 }
 
-/// The last one of the keys of the entries; or the last one before them, where there is none.
+/// Returns the last key of the entries, or the last one before them if there are no entries.
 fn last_key<'a>(before: Option<&'a [u8]>, entries: &'a KeptEntries) -> Option<&'a [u8]>
     ensures { none_or_one result ≡ last_of (none_or_one before.entry ++ entry_keys entries.now) }
 {

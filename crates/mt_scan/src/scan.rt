@@ -10,9 +10,8 @@ use mt_record::{KeptRecords, LogFeed};
 use mt_words::Fault;
 use std::alloc::Global;
 
-/// Reads the log of this number from its source, to the end or to the first fault, and keeps its updates; no piece
-/// is asked for after an end or a fault. An Err is the fault of the log's bytes, `Source` where the source failed,
-/// or `Memory` where a growth was refused.
+/// Reads the log with this number from its source, up to the end or the first fault, and keeps its updates. It reads no
+/// further than that. Err: the fault of the log's bytes, `Source` if the source failed, or `Memory` if out of memory.
 pub fn scan_log<S: Source>(alloc: Global, source: &mut S, log: usize) -> Result<LogScan, Fault>
     ensures scan { IfOk result (λ scan. OfTold (S.seen source.old).told (λ bytes. IsScanOf log bytes scan)) }
     ensures fault { IfErr result (λ fault. OfTold (S.seen source.old).told (λ bytes. IsScanFault log bytes fault)) }
@@ -26,8 +25,8 @@ pub fn scan_log<S: Source>(alloc: Global, source: &mut S, log: usize) -> Result<
     }
 }
 
-/// Reads the log of this number whose bytes are in memory, and keeps its updates. An Err is the fault of the bytes, or
-/// `Memory` where a growth was refused.
+/// Reads the log with this number from bytes in memory, and keeps its updates. Err: the fault of the bytes, or `Memory`
+/// if out of memory.
 pub fn scan_bytes(alloc: Global, bytes: &[u8], log: usize) -> Result<LogScan, Fault>
     ensures scan { IfOk result (IsScanOf log bytes.now) }
     ensures fault { IfErr result (IsLogVerdict log bytes.now) }
@@ -37,7 +36,7 @@ pub fn scan_bytes(alloc: Global, bytes: &[u8], log: usize) -> Result<LogScan, Fa
     finish(feed, log)
 }
 
-/// The scan of the log of this number that was fed, or its fault.
+/// Returns the scan of the log with this number from all that was fed, or the fault.
 fn finish(feed: LogFeed<KeptRecords>, log: usize) -> Result<LogScan, Fault>
     ensures scan { (bytes : List ℕ) → IsLogFed feed bytes [] → IfOk result (IsScanOf log bytes) }
     ensures fault { (bytes : List ℕ) → IsLogFed feed bytes [] → IfErr result (IsLogVerdict log bytes) }

@@ -1,4 +1,4 @@
-//! The best of the checkpoints.
+//! The selection of the best checkpoint.
 ghost use Rattle.std.specs.Prelude.{◌≡◌, ◌↔◌, ℕ, List, [], ◌∷◌, ◌++◌, Some, IsTrue, IfOk, OnOk};
 ghost use Rattle.mt_scan.specs.PartScans.{KnownPart};
 ghost use Rattle.mt_scan.specs.Groups.{AreGroupsOf};
@@ -10,17 +10,18 @@ use mt_words::Memory;
 use std::alloc::Global;
 use std::collections::BTreeMap;
 
-/// What was found among the checkpoints so far, which come by rising numbers.
+/// The selection among the checkpoints so far, which come in rising order of their numbers.
 #[derive(Drop)]
 pub struct Selection {
-    /// Of the valid ones that end below the cutoff the one with the greatest end, and then the greatest number.
+    /// Of the valid checkpoints that end below the cutoff, the one with the greatest end; of several, the one with the
+    /// greatest number. None if there is none.
     pub best: Option<Checkpoint>,
-    /// The numbers of the invalid ones, rising.
+    /// The numbers of the invalid checkpoints, in rising order.
     pub skipped: Vec<u32>,
 }
 
 impl Selection {
-    /// Takes in the next checkpoint, by its parts.
+    /// Adds the next checkpoint, given as the group of its parts. Err: out of memory.
     fn add(&mut self, number: u32, group: PartGroup, cutoff: u64) -> Result<(), Memory>
         ensures { OnOk result ((all : List (ℕ × PartGroup)) → GroupsBelow all number → IsSelectionOf all cutoff self.old →
             IsSelectionOf (all ++ (number, group) ∷ []) cutoff self.new) }
@@ -32,7 +33,7 @@ impl Selection {
         Ok(())
     }
 
-    /// Keeps the valid checkpoint, if it is no worse than the best so far.
+    /// Keeps the valid checkpoint if it ends below the cutoff and is no worse than the best so far.
     fn offer(&mut self, checkpoint: Checkpoint, cutoff: u64)
         ensures taken { IsNoWorse cutoff self.old.best checkpoint → self.new.best ≡ Some checkpoint }
         ensures left { (IsNoWorse cutoff self.old.best checkpoint → ⊥) → self.new.best ≡ self.old.best }
@@ -43,7 +44,7 @@ impl Selection {
         }
     }
 
-    /// Whether the valid checkpoint is to stand in the place of the best so far.
+    /// Returns whether the valid checkpoint is to replace the best so far.
     fn is_no_worse(&self, checkpoint: &Checkpoint, cutoff: u64) -> bool
         ensures { IsTrue result ↔ IsNoWorse cutoff self.now.best checkpoint.now }
     {
@@ -54,7 +55,8 @@ impl Selection {
     }
 }
 
-/// Selects among the checkpoints, whose parts are these.
+/// Selects the best of the checkpoints with these groups of parts, and the numbers of the invalid ones. Err: out of
+/// memory.
 pub fn select(
     alloc: Global,
     groups: BTreeMap<u32, PartGroup>,

@@ -1,4 +1,4 @@
-//! Buffers that sources borrow, each in a place of its own.
+//! Slots: places for the buffers that sources borrow.
 ghost use Rattle.std.specs.Prelude.{◌≡◌, ◌≤◌, ◌↔◌, [], All, IfOk, IfSome, IsTrue, IsSome, Some, length};
 ghost use Rattle.std.specs.Borrow.{sem};
 ghost use Rattle.mt_scan.specs.declared.slot.TheConstants.{LONGEST_BUFFER};
@@ -10,11 +10,11 @@ use mt_words::Memory;
 use std::alloc::Global;
 use std::marker::Model;
 
-/// The most bytes of a buffer.
+/// The greatest size of a buffer, in bytes.
 pub const LONGEST_BUFFER: usize = 65_536;
 
-/// A place for one buffer. A source takes the buffer out and puts it back when it is dropped. A contract sees the
-/// buffer, if it is there.
+/// A place for one buffer. A source takes the buffer out, and its drop puts the buffer back. Contracts see the buffer
+/// if it is there.
 #[derive(Debug, Drop)]
 pub struct Slot<B = Buffer> {
     buffer: Option<B>,
@@ -29,7 +29,7 @@ impl<B> Model for Slot<B> {
 }
 
 impl<B> Slot<B> {
-    /// Whether the buffer is in its place.
+    /// Returns whether the buffer is in the slot.
     pub fn is_full(&self) -> bool
         ensures { IsTrue result ↔ IsSome self.now }
     {
@@ -38,7 +38,7 @@ impl<B> Slot<B> {
 }
 
 impl<B: Drop> Slot<B> {
-    /// Puts the buffer into its place, as the drop of each source does.
+    /// Puts the buffer into the slot, as the drop of each source does.
     pub(crate) fn put_back(&mut self, buffer: B)
         ensures { self.new ≡ Some buffer }
     {
@@ -47,7 +47,7 @@ impl<B: Drop> Slot<B> {
 }
 
 impl Slot {
-    /// Takes the buffer out of its place, to show no bytes yet. None where it is not there.
+    /// Takes the buffer out of the slot and clears it. Returns None if the slot is empty.
     pub(crate) fn take_out(&mut self) -> Option<Buffer>
         ensures variant { IsSome result ↔ IsSome self.old }
         ensures shown { IfSome result (λ buffer. buffer.shown ≡ []) }
@@ -59,13 +59,13 @@ impl Slot {
     }
 }
 
-/// Slots that were made full, to be lent to sources.
+/// Slots that are created full, for sources to borrow from.
 #[derive(Debug)]
 pub struct Rack {
     slots: Vec<Slot>,
 }
 
-/// In words, as that of `Columns` is.
+/// Written out, not derived, for the same reason as the drop of `Columns`.
 impl Drop for Rack {
     fn drop(self) {
         let Rack { slots: _ } = self;
@@ -82,7 +82,7 @@ impl Model for Rack {
 }
 
 impl Rack {
-    /// So many full slots, whose buffers have this size: 1 to `LONGEST_BUFFER` bytes.
+    /// Creates `count` full slots, with buffers of `size` bytes: 1 to `LONGEST_BUFFER`. Err: out of memory.
     pub fn new(alloc: Global, count: usize, size: usize) -> Result<Rack, Memory>
         requires least { 1 ≤ size }
         requires most { size ≤ LONGEST_BUFFER }
@@ -97,7 +97,7 @@ impl Rack {
         Ok(Rack { slots })
     }
 
-    /// The slots, to be lent.
+    /// Returns the slots, for sources to borrow from.
     pub fn slots(&mut self) -> &mut [Slot]
         ensures* lent { sem 𝓛 (LendsSlots self.entry result) }
         ensures same { result.now ≡ self.old }
@@ -105,7 +105,7 @@ impl Rack {
         self.slots.as_mut_slice()
     }
 
-    /// Whether each buffer is in its place.
+    /// Returns whether each slot has its buffer.
     pub fn all_full(&self) -> bool
         ensures { IsTrue result ↔ All IsSome self.now }
     {

@@ -1,37 +1,37 @@
-//! Bytes that come piece by piece.
+//! Sources: bytes that come chunk by chunk.
 ghost use Rattle.std.specs.Prelude.{◌≡◌};
 ghost use Rattle.mt_scan.specs.Sources.{Seen, Advances};
 
 use thiserror::Error;
 
-/// Why a source gives no more bytes.
+/// The reason why a source returns no more bytes.
 #[derive(Clone, Copy, Debug, PartialEq, Eq, Error)]
 pub enum SourceFault {
-    /// The device, or what stands for it, failed.
+    /// A read error of the device, or of what stands for it.
     #[error("device failed")]
     Device = 1,
-    /// There are more bytes than the source may hand out.
+    /// There are more bytes than the source may return.
     #[error("too long")]
     TooLong = 2,
 }
 
-/// Bytes that come piece by piece, to be read once.
+/// A source of bytes that come chunk by chunk and are read once.
 pub trait Source: Drop {
-    /// What a contract sees of it: the bytes still to come, where it tells them, and how it may fail.
+    /// What contracts see of the source: the bytes still to come, if they are known, and how it may fail.
     ghost seen: { Self → Seen };
 
-    /// Makes the next piece ready. `Ok(n)` with n at least 1: `piece` is the next n bytes. `Ok(0)`: nothing is to
-    /// come. An Err: there is no piece, and every later call is an Err too.
+    /// Readies the next chunk. `Ok(n)`, n at least 1: `piece` returns the next n bytes. `Ok(0)`: no bytes are left.
+    /// Err: there is no chunk, and every later call is an Err too.
     fn advance(&mut self) -> Result<usize, SourceFault>
         ensures { Advances (seen self.old) (seen self.new) result };
 
-    /// The bytes that the last `advance` made ready; none before the first one and after an Err.
+    /// Returns the chunk that the last `advance` readied. It is empty before the first `advance` and after an Err.
     fn piece(&self) -> &[u8]
         ensures { result.now ≡ (seen self.now).shown };
 }
 
-/// The source inside, whatever its kind. A box holds sources that borrow nothing; those that borrow go together under
-/// an enum that is a `Source`.
+/// A box acts as the source inside it, of any kind. It holds only sources that borrow nothing. Sources that borrow can
+/// be put together in an enum that is a `Source`.
 impl Source for Box<dyn Source + Send> {
     ghost seen = { λ b. (Source-box b).seen b.value };
 

@@ -4,10 +4,10 @@ ghost use Rattle.std.specs.Borrow.{ftrue};
 
 use std::marker::Model;
 
-/// A count without a greatest value, for contracts alone: it takes no memory, and its methods do nothing at run time.
+/// A count without a greatest value, for contracts only. It takes no memory, and its methods do nothing at run time.
 #[derive(Drop)]
 pub struct Tally {
-    /// How many were counted.
+    /// The count.
     pub ghost count: { ℕ },
 }
 
@@ -15,18 +15,18 @@ impl Model for Tally {
     ghost also_owns = { λ _. ftrue };
 }
 
-// It owns nothing.
+// A tally owns nothing.
 unsafe impl Send for Tally {}
 
 impl Tally {
-    /// Nothing was counted.
+    /// Creates a count of 0.
     pub fn new() -> Tally
         ensures { result.count ≡ 0 }
     {
         Tally {}
     }
 
-    /// One more was counted.
+    /// Returns the count plus one.
     pub fn and_one(&self) -> Tally
         ensures { result.count ≡ self.now.count + 1 }
     {

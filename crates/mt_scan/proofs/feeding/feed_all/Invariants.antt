@@ -2,7 +2,7 @@ use Rattle.std.proofs.Common.{◌≡◌, IsTrue}
 use Rattle.mt_scan.proofs.Steps.{HasFed}
 use Rattle.mt_scan.proofs.feeding.feed_all.Given as goal
 
--- what was handed out is fed, and nothing failed
+-- what the source returned is fed, and nothing failed
 abbrev pub invariant-pieces : goal.invariant-pieces
 invariant-pieces g l = record {
   failed : (g.S.Source.seen l.source).failures ≡ (g.S.Source.seen l.fn.source).failures;

@@ -1,4 +1,4 @@
--- `and_one` makes the empty struct, with the count that its clause names. Assumes `Logic`.
+-- `and_one` creates the empty struct, with the count that its clause names. Assumes `Logic`.
 use Rattle.std.proofs.Common.{◌+◌, List, [], ◌∷◌, ◌++◌, refl}
 use Rattle.std.proofs.raw_atomic.Walks.{proved_at}
 use mir.Val.{Val, vptr}

@@ -1,4 +1,4 @@
--- `new` makes the empty struct, with the count that its clause names. Assumes `Logic`.
+-- `new` creates the empty struct, with the count that its clause names. Assumes `Logic`.
 use Rattle.std.proofs.Common.{[], ◌∷◌, refl}
 use Rattle.std.proofs.raw_atomic.Walks.{proved_at}
 use contract.Running.{tables}
