@@ -1,4 +1,4 @@
-//! What recovery answers, in the words of a case.
+//! Recovers from memory, and writes results as the lines of a case.
 use crate::draft::Draft;
 use crate::mistake::Mistake;
 use crate::report::push_report;
@@ -8,7 +8,7 @@ use std::alloc::Global;
 use std::fmt::Display;
 use std::io::{self, Write};
 
-/// What recovery of the logs of these drafts answers from their bytes in memory.
+/// Recovers the logs of these drafts from their bytes in memory.
 pub fn recover_from_memory(
     alloc: Global,
     drafts: &[Draft],
@@ -20,7 +20,7 @@ pub fn recover_from_memory(
     Ok(recover_logs(alloc, &logs))
 }
 
-/// Cuts at these keys.
+/// Returns the cuts at these keys. Err: a key too long, keys that do not rise or are too many, or out of memory.
 pub fn cuts_at(alloc: Global, keys: &[Vec<u8>]) -> Result<Cuts, Mistake> {
     let mut cuts = Vec::new(alloc);
     for key in keys {
@@ -33,8 +33,8 @@ pub fn cuts_at(alloc: Global, keys: &[Vec<u8>]) -> Result<Cuts, Mistake> {
     }
 }
 
-/// Appends an answer of recovery: the line of the choice, where it is asked for, `store`, its pairs, and the lines of
-/// what is asked of its report; or `fault` and the fault.
+/// Appends the result of recovery: the line of the choice if `has_choice`, `store`, its pairs, and a line for each list
+/// of report fields asked for; or `fault` and the fault.
 pub fn write_answer(
     alloc: Global,
     answer: Result<Recovered, Fault>,
@@ -55,7 +55,7 @@ pub fn write_answer(
 }
 
 /// Appends the choice: `choice` and the number of the checkpoint or `none`, then `skipped` and `nameless` with their
-/// numbers, where there are any.
+/// numbers, if there are any.
 fn write_choice(report: &Report, text: &mut Vec<u8>) -> io::Result<()> {
     match report.checkpoint {
         Some(number) => write!(text, "choice {number}")?,
@@ -66,7 +66,7 @@ fn write_choice(report: &Report, text: &mut Vec<u8>) -> io::Result<()> {
     Ok(text.push(b'\n')?)
 }
 
-/// Appends the word and the numbers behind it, where there are any.
+/// Appends the word and the numbers after it, or nothing if there are no numbers.
 fn write_numbers<T: Display>(word: &str, numbers: &[T], text: &mut Vec<u8>) -> io::Result<()> {
     for (place, number) in numbers.iter().enumerate() {
         let word = if place == 0 { word } else { "" };

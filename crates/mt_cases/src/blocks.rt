@@ -2,7 +2,7 @@
 use crate::mistake::Mistake;
 use std::alloc::{AllocError, Global};
 
-/// A line that says something, with its number from 1 on.
+/// A line with a meaning, and its number in the file, counted from 1.
 #[derive(Clone, Copy)]
 pub struct Line<'a> {
     pub number: usize,
@@ -10,23 +10,23 @@ pub struct Line<'a> {
 }
 
 impl<'a> Line<'a> {
-    /// Its first word.
+    /// Returns the first word.
     pub fn first_word(&self) -> &'a str {
         self.text.split_whitespace().next().unwrap_or("")
     }
 
-    /// Whether it begins a block: a case, a name or the refused ones.
+    /// Whether the line begins a block: `case`, `name` or `refused`.
     pub fn is_head(&self) -> bool {
         matches!(self.first_word(), "case" | "name" | "refused")
     }
 }
 
-/// The words of a text.
+/// Returns the words of a text.
 pub fn words_of(alloc: Global, text: &str) -> Result<Vec<&str>, AllocError> {
     text.split_whitespace().collect(alloc)
 }
 
-/// The lines of a file. Empty lines and those that begin with `#` have no meaning.
+/// Returns the lines of a file that have a meaning. Empty lines and those that begin with `#` have none.
 pub fn lines_of(alloc: Global, text: &str) -> Result<Vec<Line<'_>>, Mistake> {
     let mut lines = Vec::new(alloc);
     for (place, text) in text.lines().enumerate() {

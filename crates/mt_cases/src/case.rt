@@ -16,15 +16,15 @@ use std::thread::Threads;
 #[derive(Drop)]
 pub struct Case {
     drafts: Vec<Draft>,
-    /// The one size of the buffers, where the case names it.
+    /// The one size of all buffers, if the case names it.
     size: Option<usize>,
-    /// The keys of each line that names cuts.
+    /// The keys of each line `cuts`.
     cuts: Vec<Vec<Vec<u8>>>,
-    /// The text that is to come.
+    /// The expected text.
     pub expected: Vec<u8>,
-    /// Whether the choice among the parts is expected too.
+    /// Whether the case also expects a choice of checkpoint.
     has_choice: bool,
-    /// The names of what is expected of the report, line by line.
+    /// The names of the report fields expected, line by line.
     report: Vec<Vec<String>>,
 }
 
@@ -35,23 +35,23 @@ pub enum Way {
     Memory,
     /// From sources with buffers of this size, on one thread.
     Buffers(usize),
-    /// By so many workers, in so many even pieces.
+    /// By `workers` workers, in `pieces` even pieces.
     Even { workers: u32, pieces: u32 },
-    /// By so many workers, cut as the line of this number, from 0 on, among those of the case that name cuts.
+    /// By `workers` workers, cut at the keys of line `line` of the case's lines `cuts`, counted from 0.
     At { workers: u32, line: usize },
 }
 
-/// The sizes of the buffers where a case names none.
+/// The sizes of buffers, if a case names none.
 const SIZES: [usize; 3] = [1, 16, LONGEST_BUFFER];
 
-/// How many workers are tried.
+/// The numbers of workers that are tried.
 const WORKERS: [u32; 3] = [1, 2, 8];
 
-/// Into how many even pieces the keys are cut.
+/// The numbers of even pieces that are tried.
 const PIECES: [u32; 2] = [1, 16];
 
 impl Case {
-    /// No log, no part, and nothing expected.
+    /// Creates a case without logs and parts that expects nothing.
     pub fn new(alloc: Global) -> Case {
         Case {
             drafts: Vec::new(alloc),
@@ -63,7 +63,7 @@ impl Case {
         }
     }
 
-    /// Takes a line in.
+    /// Adds a line.
     pub fn add(
         &mut self,
         alloc: Global,
@@ -79,7 +79,7 @@ impl Case {
         }
     }
 
-    /// Lets all sources have buffers of this size.
+    /// Gives all sources buffers of this size. Err: no number from 1 to 65,536.
     fn use_buffers(&mut self, size: &str) -> Result<(), Mistake> {
         let size = small_of::<usize>(size)?;
         if size == 0 || size > LONGEST_BUFFER {
@@ -89,15 +89,15 @@ impl Case {
         Ok(())
     }
 
-    /// Has the case tried with its keys cut at these too.
+    /// Has the case tried with its keys cut at these too. Err: they are no cuts.
     fn cut_at(&mut self, alloc: Global, words: &[&str]) -> Result<(), Mistake> {
         let keys = keys_of(alloc, words)?;
-        // Whether they are cuts shows here, where the line is known.
+        // Checked here, so that the mistake names this line.
         cuts_at(alloc, &keys)?;
         Ok(self.cuts.push(keys)?)
     }
 
-    /// Expects a line.
+    /// Adds a line to what is expected.
     fn expect(&mut self, alloc: Global, words: &[&str]) -> Result<(), Mistake> {
         match words {
             ["choice", ..] => self.has_choice = true,
@@ -107,7 +107,7 @@ impl Case {
         push_line(alloc, words, &mut self.expected)
     }
 
-    /// Takes in a line of the last log or part.
+    /// Adds a line to the last log or part. Err if there is none.
     fn go_on(&mut self, alloc: Global, words: &[&str]) -> Result<(), Mistake> {
         match self.drafts.last_mut() {
             Some(draft) => draft.add(alloc, words),
@@ -115,7 +115,7 @@ impl Case {
         }
     }
 
-    /// Makes the case ready to be tried.
+    /// Encodes the parts that are still drafts. Err: the case expects nothing, or a part cannot be encoded.
     pub fn finish(&mut self) -> Result<(), Mistake> {
         if self.expected.is_empty() {
             return Err(Mistake::Nothing);
@@ -126,7 +126,7 @@ impl Case {
         Ok(())
     }
 
-    /// The ways in which it is to be tried.
+    /// Returns the ways in which the case is tried.
     pub fn ways(&self, alloc: Global) -> Result<Vec<Way>, Mistake> {
         let mut ways = Vec::new(alloc);
         self.push_ways_of_one_thread(&mut ways)?;
@@ -136,7 +136,7 @@ impl Case {
         Ok(ways)
     }
 
-    /// Those on one thread: from memory only where there are logs alone, no source that fails and no size named.
+    /// Appends the ways on one thread: from memory only if there are no parts, no source fails and no size is named.
     fn push_ways_of_one_thread(&self, ways: &mut Vec<Way>) -> Result<(), Mistake> {
         if let Some(size) = self.size {
             return Ok(ways.push(Way::Buffers(size))?);
@@ -150,7 +150,7 @@ impl Case {
         Ok(())
     }
 
-    /// Those of so many workers.
+    /// Appends the ways with this number of workers.
     fn push_ways_of_workers(&self, workers: u32, ways: &mut Vec<Way>) -> Result<(), Mistake> {
         for pieces in PIECES {
             ways.push(Way::Even { workers, pieces })?;
@@ -161,7 +161,7 @@ impl Case {
         Ok(())
     }
 
-    /// What comes in this way.
+    /// Recovers the case in this way, and returns the result as text.
     pub fn come<R: AllocGlobal + Threads + Sync>(
         &self,
         rt: &R,
@@ -177,7 +177,7 @@ impl Case {
         Ok(text)
     }
 
-    /// What recovery from sources answers in this way. All buffers are back then.
+    /// Recovers the case from sources in this way. Err if a buffer is not back afterwards.
     fn recover_from_sources<R: AllocGlobal + Threads + Sync>(
         &self,
         rt: &R,
@@ -198,7 +198,7 @@ impl Case {
         Ok(answer)
     }
 
-    /// The size of the buffers in this way.
+    /// Returns the size of the buffers in this way.
     fn size_in(&self, way: Way) -> usize {
         match way {
             Way::Buffers(size) => size,
@@ -206,7 +206,7 @@ impl Case {
         }
     }
 
-    /// The workers of this way, and how they cut the keys.
+    /// Returns the workers of this way and how the keys are cut, or None for a way on one thread.
     fn cutting_in(&self, alloc: Global, way: Way) -> Result<Option<(Workers, Cutting)>, Mistake> {
         let (workers, cutting) = match way {
             Way::Memory | Way::Buffers(_) => return Ok(None),
@@ -224,7 +224,7 @@ impl Case {
     }
 }
 
-/// Whether a line of these words says what is to come.
+/// Whether a line of these words says what is expected.
 fn is_expected(words: &[&str]) -> bool {
     match words {
         ["store"] | ["choice" | "report" | "fault", ..] => true,
@@ -238,7 +238,7 @@ fn is_steady_log(draft: &Draft) -> bool {
     draft.is_log && draft.fails.is_none()
 }
 
-/// The keys that words spell.
+/// Reads each word as a key.
 fn keys_of(alloc: Global, words: &[&str]) -> Result<Vec<Vec<u8>>, Mistake> {
     let mut keys = Vec::new(alloc);
     for word in words {

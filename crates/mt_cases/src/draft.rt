@@ -8,7 +8,7 @@ use mt_record::{
 use mt_words::{Entry, Format};
 use std::alloc::Global;
 
-/// A lawful part whose entries may still come.
+/// A part that still takes entries.
 #[derive(Drop)]
 struct PartDraft {
     head: PartHead,
@@ -17,10 +17,11 @@ struct PartDraft {
 }
 
 impl PartDraft {
-    /// Appends the part. An entry that its format does not have is a mistake.
+    /// Appends the encoded part. Err: an entry that its format does not allow, too many entries for a footer, or out of
+    /// memory.
     fn spell(&self, out: &mut Vec<u8>) -> Result<(), Mistake> {
         let PartDraft { head, end, entries } = self;
-        // As many as a footer can count.
+        // A footer can count no more.
         if entries.len() > u32::MAX as usize {
             return Err(Mistake::Number);
         }
@@ -42,19 +43,19 @@ impl PartDraft {
     }
 }
 
-/// A log or a part, as far as its lines were read.
+/// A log or a part, as far as its lines have been read.
 #[derive(Drop)]
 pub struct Draft {
     pub is_log: bool,
-    /// The part, until it is spelled behind the bytes: then no entry is to come.
+    /// The part, until it is encoded into the bytes. After that it takes no entry.
     part: Option<PartDraft>,
     pub bytes: Vec<u8>,
-    /// The call of `advance` from which on its source fails, where one does.
+    /// The call of `advance` from which on its source fails, if it does.
     pub fails: Option<u64>,
 }
 
 impl Draft {
-    /// The log or part of these bytes.
+    /// Creates the log or part of these bytes.
     pub fn of_bytes(is_log: bool, bytes: Vec<u8>) -> Draft {
         Draft {
             is_log,
@@ -64,7 +65,7 @@ impl Draft {
         }
     }
 
-    /// A log's header: `from FROM`, or nothing for 0; then a format, or nothing for format 1.
+    /// Begins a log: `from FROM`, or nothing for 0; then a format, or nothing for format 1.
     pub fn begin_log(alloc: Global, words: &[&str]) -> Result<Draft, Mistake> {
         let (format, words) = format_of(words)?;
         let from = match words {
@@ -80,7 +81,7 @@ impl Draft {
         Ok(Draft::of_bytes(true, bytes))
     }
 
-    /// A part: `PART of PARTS of checkpoint NUMBER from BEGIN to END`; then a format, or nothing for format 1.
+    /// Begins a part: `PART of PARTS of checkpoint NUMBER from BEGIN to END`; then a format, or nothing for format 1.
     pub fn begin_part(alloc: Global, words: &[&str]) -> Result<Draft, Mistake> {
         let (format, words) = format_of(words)?;
         let (head, end) = head_of(format, words)?;
@@ -90,7 +91,7 @@ impl Draft {
         Ok(draft)
     }
 
-    /// Takes a line in.
+    /// Adds a line.
     pub fn add(&mut self, alloc: Global, words: &[&str]) -> Result<(), Mistake> {
         match words {
             ["put" | "remove" | "erase" | "mark", ..] => self.add_record(alloc, words),
@@ -103,7 +104,7 @@ impl Draft {
         }
     }
 
-    /// Adds a record to the log.
+    /// Adds a record to the log. Err if this is a part.
     fn add_record(&mut self, alloc: Global, words: &[&str]) -> Result<(), Mistake> {
         if !self.is_log {
             return Err(Mistake::Misplaced);
@@ -112,7 +113,7 @@ impl Draft {
         Ok(())
     }
 
-    /// Adds an entry to the part.
+    /// Adds an entry to the part. Err if this is no part, or one that takes no entry any more.
     fn add_entry(&mut self, alloc: Global, words: &[&str]) -> Result<(), Mistake> {
         let Some(part) = self.part.as_mut() else {
             return Err(Mistake::Misplaced);
@@ -121,7 +122,7 @@ impl Draft {
         Ok(())
     }
 
-    /// Lets its source fail from this call on; they count from 1.
+    /// Makes its source fail from this call on. Calls count from 1.
     fn fail_from(&mut self, call: u64) -> Result<(), Mistake> {
         if call == 0 {
             return Err(Mistake::Number);
@@ -130,7 +131,7 @@ impl Draft {
         Ok(())
     }
 
-    /// Spells the part, if that is still to come.
+    /// Encodes the part into the bytes, if that has not been done.
     pub fn spell_part(&mut self) -> Result<(), Mistake> {
         match self.part.take() {
             Some(part) => part.spell(&mut self.bytes),
@@ -139,7 +140,8 @@ impl Draft {
     }
 }
 
-/// The format that the last two words name, as in `format 2`, and the words before them. Without them it is format 1.
+/// Returns the format that the last two words name, as in `format 2`, and the words before them. Without such words it
+/// returns format 1 and all words.
 fn format_of<'w, 'a>(words: &'w [&'a str]) -> Result<(Format, &'w [&'a str]), Mistake> {
     let [rest @ .., "format", digit] = words else {
         return Ok((Format::One, words));
@@ -150,7 +152,7 @@ fn format_of<'w, 'a>(words: &'w [&'a str]) -> Result<(Format, &'w [&'a str]), Mi
     }
 }
 
-/// The numbers of a part.
+/// Reads the head of a part and its end.
 fn head_of(format: Format, words: &[&str]) -> Result<(PartHead, u64), Mistake> {
     let [
         part,
@@ -177,8 +179,8 @@ fn head_of(format: Format, words: &[&str]) -> Result<(PartHead, u64), Mistake> {
     Ok((head, number_of(end)?))
 }
 
-/// Changes the bytes: `bytes DIGITS ..` appends, `byte PLACE VALUE` puts another byte, `cut LENGTH` keeps so many.
-/// `spelled DIGITS ..` changes nothing, and asks that they are just these.
+/// Changes the bytes: `bytes DIGITS ..` appends, `byte PLACE VALUE` replaces a byte, `cut LENGTH` keeps the first
+/// LENGTH. `spelled DIGITS ..` changes nothing. It is an Err if the bytes are not exactly these.
 fn change(alloc: Global, words: &[&str], bytes: &mut Vec<u8>) -> Result<(), Mistake> {
     match words {
         ["bytes", digits @ ..] => push_digits(alloc, digits, bytes),
@@ -189,7 +191,7 @@ fn change(alloc: Global, words: &[&str], bytes: &mut Vec<u8>) -> Result<(), Mist
     }
 }
 
-/// Puts another byte in a place.
+/// Replaces the byte at a place. Err if the place is past the end.
 fn put_byte(alloc: Global, place: &str, value: &str, bytes: &mut [u8]) -> Result<(), Mistake> {
     let place = small_of::<usize>(place)?;
     let Some(byte) = bytes.get_mut(place) else {
@@ -199,7 +201,7 @@ fn put_byte(alloc: Global, place: &str, value: &str, bytes: &mut [u8]) -> Result
     Ok(())
 }
 
-/// Keeps so many bytes.
+/// Keeps the first `length` bytes. Err if there are fewer.
 fn cut(length: &str, bytes: &mut Vec<u8>) -> Result<(), Mistake> {
     let length = small_of::<usize>(length)?;
     if length > bytes.len() {
@@ -209,7 +211,7 @@ fn cut(length: &str, bytes: &mut Vec<u8>) -> Result<(), Mistake> {
     Ok(())
 }
 
-/// Asks that the bytes are just these.
+/// Checks that the bytes are exactly these.
 fn ask_spelled(alloc: Global, digits: &[&str], bytes: &[u8]) -> Result<(), Mistake> {
     let mut wanted = Vec::new(alloc);
     push_digits(alloc, digits, &mut wanted)?;

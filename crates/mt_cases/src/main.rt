@@ -1,5 +1,5 @@
-//! Tries the cases of case files, those that the words after the program's name name. Its status is 0 where each case is
-//! as it is to be and one holds, and else 1.
+//! Tries the cases of the files that its arguments name. Its status is 0 if every case ends as it must and at least one
+//! holds, else 1.
 #![tactic(auto)]
 
 mod answer;

@@ -27,7 +27,7 @@ pub enum Mistake {
 }
 
 impl Mistake {
-    /// What is said of it.
+    /// Returns the text that is printed.
     pub fn text(self) -> &'static str {
         match self {
             Mistake::Line => "no such line",
@@ -72,7 +72,7 @@ impl<T: Drop> From<AllocFailed<T>> for Mistake {
     }
 }
 
-/// Where this is used only texts in memory are written.
+/// Only writes to memory use this. They fail only if memory runs out.
 impl From<io::Error> for Mistake {
     fn from(_refused: io::Error) -> Mistake {
         Mistake::Memory

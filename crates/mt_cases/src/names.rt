@@ -1,4 +1,4 @@
-//! Bytes with a name, and how a log or a part begins.
+//! Bytes with a name, and the line that begins a log or a part.
 use crate::blocks::{Line, words_of};
 use crate::draft::Draft;
 use crate::mistake::Mistake;
@@ -12,7 +12,7 @@ pub struct Named<'a> {
     bytes: Vec<u8>,
 }
 
-/// The bytes of this name.
+/// Returns the bytes of this name, or None if there is no such name.
 fn find<'n>(names: &'n [Named<'_>], name: &str) -> Option<&'n [u8]> {
     for named in names {
         if named.name == name {
@@ -22,7 +22,7 @@ fn find<'n>(names: &'n [Named<'_>], name: &str) -> Option<&'n [u8]> {
     None
 }
 
-/// The log or part that a line begins: `log ..` or `part ..`.
+/// Begins the log or part of a line `log ..` or `part ..`.
 pub fn begin_draft(alloc: Global, names: &[Named<'_>], words: &[&str]) -> Result<Draft, Mistake> {
     let (is_log, rest) = match words {
         ["log", rest @ ..] => (true, rest),
@@ -44,8 +44,8 @@ pub fn begin_draft(alloc: Global, names: &[Named<'_>], words: &[&str]) -> Result
     }
 }
 
-/// The bytes that a block names: `name NAME log ..` or `name NAME part ..`, and the lines behind it. `at` is the line
-/// that was read last.
+/// Reads the block of a name: `name NAME log ..` or `name NAME part ..`, and the lines after it. `at` is the line read
+/// last.
 pub fn read_name<'a>(
     alloc: Global,
     names: &[Named<'_>],
@@ -64,7 +64,7 @@ pub fn read_name<'a>(
     Ok(Named { name, bytes })
 }
 
-/// The name of a line, and the log or part that it begins.
+/// Returns the name of a line, and the log or part that it begins. Err if the name is taken.
 fn begin_name<'a>(
     alloc: Global,
     names: &[Named<'_>],
@@ -80,7 +80,7 @@ fn begin_name<'a>(
     Ok((*name, begin_draft(alloc, names, rest)?))
 }
 
-/// Takes a line of a name in. A name has bytes alone, so none of its lines is `fail`.
+/// Adds a line of a name. A name has only bytes, so the line `fail` is an Err.
 fn add_line(alloc: Global, line: &Line<'_>, draft: &mut Draft) -> Result<(), Mistake> {
     match words_of(alloc, line.text)?.as_slice() {
         ["fail", ..] => Err(Mistake::Line),

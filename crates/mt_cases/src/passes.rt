@@ -4,8 +4,8 @@ use crate::mistake::Mistake;
 use crate::words::number_of;
 use std::alloc::Global;
 
-/// The number that `$n` stands for in each pass, and the lines of a case that are tried in each. The first line may name
-/// the numbers; without it there is one pass and no number.
+/// Returns the number that `$n` stands for in each pass, and the lines of the case that follow. The first line may name
+/// the numbers. Without it there is one pass and no number.
 pub fn passes_of<'l, 'a>(
     alloc: Global,
     lines: &'l [Line<'a>],
@@ -20,7 +20,7 @@ pub fn passes_of<'l, 'a>(
     }
 }
 
-/// The numbers that a line names: `each n FIRST to LAST`, or `each n FIRST to LAST but ONE`.
+/// Returns the numbers that a line names: `each n FIRST to LAST`, or `each n FIRST to LAST but ONE`.
 fn numbers_of(alloc: Global, words: &[&str]) -> Result<Vec<Option<u64>>, Mistake> {
     let ["each", "n", first, "to", last, rest @ ..] = words else {
         return Err(Mistake::Line);
@@ -33,7 +33,7 @@ fn numbers_of(alloc: Global, words: &[&str]) -> Result<Vec<Option<u64>>, Mistake
     range_of(alloc, number_of(first)?, number_of(last)?, but)
 }
 
-/// The numbers from the first to the last one, but for one.
+/// Returns the numbers from `first` to `last` without `but`. Err if `first` is above `last`.
 fn range_of(
     alloc: Global,
     first: u64,
@@ -52,7 +52,8 @@ fn range_of(
     Ok(numbers)
 }
 
-/// The text of a line with the number of the pass in the place of each `$n`.
+/// Returns the line with each `$n` replaced by the number of the pass. Err if the line has a `$n` and the pass no
+/// number.
 pub fn in_pass(alloc: Global, text: &str, pass: Option<u64>) -> Result<String, Mistake> {
     match pass {
         Some(number) => Ok(text.replace(alloc, "$n", number.to_string(alloc)?.as_str())?),

@@ -1,10 +1,10 @@
-//! Records and entries, as lines spell them.
+//! Reads records and entries from lines.
 use crate::mistake::Mistake;
 use crate::words::{bytes_of, number_of, small_of};
 use mt_words::{Columns, Entry, Key, Numbers, Record};
 use std::alloc::Global;
 
-/// The record that a line spells: `mark TIMESTAMP`, or one of those that change a key.
+/// Reads a record: `mark TIMESTAMP`, or an update of a key.
 pub fn record_of(alloc: Global, words: &[&str]) -> Result<Record, Mistake> {
     match words {
         ["mark", timestamp] => Ok(Record::mark(number_of(timestamp)?)),
@@ -17,8 +17,8 @@ pub fn record_of(alloc: Global, words: &[&str]) -> Result<Record, Mistake> {
     }
 }
 
-/// The record of a kind that changes the key: `put KEY VERSION TIMESTAMP NUMBER=VALUE ..`, `remove KEY VERSION TIMESTAMP`
-/// or `erase KEY VERSION TIMESTAMP NUMBER ..`.
+/// Makes an update of the key from one of the lines `put KEY VERSION TIMESTAMP NUMBER=VALUE ..`,
+/// `remove KEY VERSION TIMESTAMP` and `erase KEY VERSION TIMESTAMP NUMBER ..`.
 fn change_of(
     alloc: Global,
     kind: &str,
@@ -36,7 +36,7 @@ fn change_of(
     record.ok_or(Mistake::Unlawful)
 }
 
-/// The entry that the words behind `entry` spell: `KEY VERSION NUMBER=VALUE ..`.
+/// Reads an entry from the words after `entry`: `KEY VERSION NUMBER=VALUE ..`.
 pub fn entry_of(alloc: Global, words: &[&str]) -> Result<Entry, Mistake> {
     let [key, version, columns @ ..] = words else {
         return Err(Mistake::Line);
@@ -46,12 +46,12 @@ pub fn entry_of(alloc: Global, words: &[&str]) -> Result<Entry, Mistake> {
     Entry::new(number_of(version)?, key, columns).ok_or(Mistake::Unlawful)
 }
 
-/// The key that a word spells.
+/// Reads a key. Err if it is too long.
 fn key_of(alloc: Global, word: &str) -> Result<Key, Mistake> {
     Key::new(bytes_of(alloc, word)?).ok_or(Mistake::Key)
 }
 
-/// The columns that words spell.
+/// Reads columns `NUMBER=VALUE`.
 fn columns_of(alloc: Global, words: &[&str]) -> Result<Columns, Mistake> {
     let mut columns = Columns::new(alloc);
     for word in words {
@@ -60,7 +60,7 @@ fn columns_of(alloc: Global, words: &[&str]) -> Result<Columns, Mistake> {
     Ok(columns)
 }
 
-/// Adds the column `NUMBER=VALUE`.
+/// Adds the column `NUMBER=VALUE`. Err if it is none, or cannot follow the columns before it.
 fn push_column(alloc: Global, word: &str, columns: &mut Columns) -> Result<(), Mistake> {
     let Some((number, value)) = word.split_once('=') else {
         return Err(Mistake::Column);
@@ -72,7 +72,7 @@ fn push_column(alloc: Global, word: &str, columns: &mut Columns) -> Result<(), M
     }
 }
 
-/// The numbers of columns that words spell.
+/// Reads the column numbers of an erase.
 fn numbers_of(alloc: Global, words: &[&str]) -> Result<Numbers, Mistake> {
     let mut numbers = Vec::new(alloc);
     for word in words {

@@ -1,9 +1,9 @@
-//! What a case asks of the report.
+//! The report fields that a case expects.
 use crate::mistake::Mistake;
 use mt_recover::Report;
 use std::alloc::Global;
 
-/// The names of fields such as `keys=2`, each with its `=`.
+/// Returns the names of fields such as `keys=2`, each with its `=`. Err if a field has none.
 pub fn names_of(alloc: Global, fields: &[&str]) -> Result<Vec<String>, Mistake> {
     let mut names = Vec::new(alloc);
     for field in fields {
@@ -13,7 +13,7 @@ pub fn names_of(alloc: Global, fields: &[&str]) -> Result<Vec<String>, Mistake> 
     Ok(names)
 }
 
-/// Appends the lines of what is asked of a report: `report`, and the fields of these names.
+/// Appends a line for each list of names: `report`, and the report's fields of these names.
 pub fn push_report(
     alloc: Global,
     report: &Report,
@@ -27,7 +27,7 @@ pub fn push_report(
     Ok(())
 }
 
-/// Appends `report` and the fields of these names, as far as these lines have them.
+/// Appends `report` and the fields of these names that the report's lines have.
 fn push_fields(lines: &str, names: &[String], text: &mut Vec<u8>) -> Result<(), Mistake> {
     text.extend_from_slice(b"report")?;
     for name in names {

@@ -5,7 +5,7 @@ use mt_recover::Inputs;
 use mt_scan::{FaultSource, Slot};
 use std::alloc::Global;
 
-/// The sources of the drafts, each with the buffer of a slot.
+/// Returns the sources of the drafts, each with the buffer of a slot.
 pub fn inputs_of<'a>(
     alloc: Global,
     drafts: &'a [Draft],
@@ -24,7 +24,8 @@ pub fn inputs_of<'a>(
     Ok(Inputs { logs, parts })
 }
 
-/// The source of a draft, with the buffer of the slot. One that does not fail would do so at a call that is never made.
+/// Returns the source of a draft, with the buffer of the slot. A source that must not fail is set to fail at a call
+/// that is never made.
 fn source_of<'a>(draft: &'a Draft, slot: &'a mut Slot) -> Result<FaultSource<'a>, Mistake> {
     let call = draft.fails.unwrap_or(u64::MAX).max(1);
     FaultSource::new(&draft.bytes, slot, call).ok_or(Mistake::Slot)

@@ -1,4 +1,4 @@
-//! The cases of files, tried and told.
+//! Tries the cases of files, and reports on them.
 use crate::blocks::{Line, lines_of};
 use crate::mistake::Mistake;
 use crate::names::{Named, read_name};
@@ -7,18 +7,18 @@ use std::alloc::Global;
 use std::io::{self, Write};
 use std::thread::Threads;
 
-/// What became of the cases so far. A line that is not understood, and a file that cannot be read, is a case that does
-/// not hold.
+/// Counts of the cases so far. A line that is not understood counts as a case that does not hold, and so does a file
+/// that cannot be read.
 #[derive(Clone, Copy)]
 pub struct Counts {
     pub held: u64,
     pub not_held: u64,
-    /// How many of either kind were to be of the other.
+    /// How many cases held and must not, or did not hold and must.
     pub wrong: u64,
 }
 
-/// Tries cases and tells of them: in `out` what came in the place of what was expected, and in `err` the name of each
-/// case that is not as it is to be.
+/// Tries cases and reports on them: in `out` each case that does not hold, with what was expected and what came, and in
+/// `err` each case that did not end as it must. Lines with mistakes are reported in the same way.
 #[derive(Drop)]
 pub struct Teller {
     pub out: Vec<u8>,
@@ -26,18 +26,18 @@ pub struct Teller {
     counts: Counts,
 }
 
-/// What became of a block.
+/// The result of a block.
 #[derive(Drop)]
 pub enum Trial {
-    /// It is no case: a name, or the line of the refused ones.
+    /// The block is no case: a name, or the line `refused`.
     NoCase,
     Holds,
-    /// What was expected, and what came.
+    /// The case does not hold: what was expected, and what came.
     Differs(Vec<u8>),
 }
 
 impl Teller {
-    /// Nothing is told yet.
+    /// Creates a teller with nothing to report.
     pub fn new(alloc: Global) -> Teller {
         Teller {
             out: Vec::new(alloc),
@@ -50,7 +50,7 @@ impl Teller {
         }
     }
 
-    /// Tries the cases of a file of this name and this text. Those behind a line `refused` are not to hold.
+    /// Tries the cases of a file of this name and this text. Those after a line `refused` must not hold.
     pub fn try_text<R: AllocGlobal + Threads + Sync>(
         &mut self,
         rt: &R,
@@ -73,20 +73,20 @@ impl Teller {
         Ok(())
     }
 
-    /// Tells how many cases hold.
+    /// Reports how many cases hold, and returns the counts.
     pub fn finish(&mut self) -> io::Result<Counts> {
         let Counts { held, not_held, .. } = self.counts;
         writeln!(self.out, "{held} cases hold, {not_held} do not")?;
         Ok(self.counts)
     }
 
-    /// Tells that a file cannot be tried.
+    /// Reports that a file cannot be read.
     pub fn tell_unread(&mut self, file: &str) -> io::Result<()> {
         self.count(false, true);
         writeln!(self.err, "mt_cases: {file}: cannot be read")
     }
 
-    /// Tells what became of a block, of which this line was read last.
+    /// Reports the result of a block. `line` is the line read last.
     fn tell(
         &mut self,
         file: &str,
@@ -116,7 +116,7 @@ impl Teller {
         Ok(())
     }
 
-    /// Counts a case that holds or does not; a wrong one is of the other kind than it is to be.
+    /// Counts a case that holds or does not. A wrong one should have done the other.
     fn count(&mut self, holds: bool, is_wrong: bool) {
         let counts = &mut self.counts;
         counts.held = counts.held.saturating_add(u64::from(holds));
@@ -125,7 +125,7 @@ impl Teller {
     }
 }
 
-/// Adds the name that a block gives, or tries its case. `at` is the line that was read last.
+/// Adds the name that a block gives, or tries its case. `at` is the line read last.
 fn trial_of<'a, R: AllocGlobal + Threads + Sync>(
     rt: &R,
     names: &mut Vec<Named<'a>>,
@@ -144,7 +144,7 @@ fn trial_of<'a, R: AllocGlobal + Threads + Sync>(
     }
 }
 
-/// Asks that no line follows that of the refused ones, up to the next block.
+/// Checks that no line follows `refused` before the next block.
 fn ask_empty<'a>(body: &[Line<'a>], at: &mut Line<'a>) -> Result<Trial, Mistake> {
     let Some(line) = body.first() else {
         return Ok(Trial::NoCase);

@@ -9,7 +9,7 @@ use std::alloc::Global;
 use std::io::{self, Write};
 use std::thread::Threads;
 
-/// Whether a case holds, or the first difference in it, in whatever pass and way. `at` is the line that was read last.
+/// Tries a case in each pass and way, up to the first difference. `at` is the line read last.
 pub fn try_case<'a, R: AllocGlobal + Threads + Sync>(
     rt: &R,
     names: &[Named<'_>],
@@ -28,7 +28,7 @@ pub fn try_case<'a, R: AllocGlobal + Threads + Sync>(
     Ok(Trial::Holds)
 }
 
-/// What the lines say in a pass.
+/// Reads the lines of a case for one pass.
 fn case_of<'a>(
     alloc: Global,
     names: &[Named<'_>],
@@ -44,7 +44,7 @@ fn case_of<'a>(
     Ok(case)
 }
 
-/// Takes the text of a line in.
+/// Adds the text of a line to the case.
 fn read_line(
     alloc: Global,
     names: &[Named<'_>],
@@ -56,7 +56,7 @@ fn read_line(
     case.add(alloc, names, &words_of(alloc, text.as_str())?)
 }
 
-/// The first difference between what comes and what is expected.
+/// Recovers the case in each way. Returns the first difference from what is expected, or None.
 fn compare<R: AllocGlobal + Threads + Sync>(
     rt: &R,
     mut case: Case,
@@ -92,7 +92,7 @@ fn write_difference(
     Ok(text.extend_from_slice(came)?)
 }
 
-/// Appends in which way it came.
+/// Appends the way in which it came.
 fn write_way(way: Way, text: &mut Vec<u8>) -> io::Result<()> {
     match way {
         Way::Memory => write!(text, "came, from memory"),

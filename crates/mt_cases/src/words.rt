@@ -1,11 +1,11 @@
-//! What single words of a case file spell.
+//! Reads single words of a case file.
 use crate::mistake::Mistake;
 use std::alloc::Global;
 
-/// The most repetitions of bytes.
+/// The most repetitions in a word.
 const MOST_TIMES: u64 = 1_048_576;
 
-/// The number that a word spells.
+/// Reads a decimal number. Err if it is none, or above `u64::MAX`.
 pub fn number_of(word: &str) -> Result<u64, Mistake> {
     match word.parse::<u64>() {
         Ok(number) => Ok(number),
@@ -13,7 +13,7 @@ pub fn number_of(word: &str) -> Result<u64, Mistake> {
     }
 }
 
-/// A number of this type that a word spells.
+/// Reads a decimal number of this type. Err if it is none, or too great for the type.
 pub fn small_of<T: TryFrom<u64>>(word: &str) -> Result<T, Mistake>
 where
     T::Error: Drop,
@@ -24,7 +24,7 @@ where
     }
 }
 
-/// A word and how often it is repeated, as in `k*1024`: once where it does not say.
+/// Splits a word such as `k*1024` into what is repeated and how often: once if it does not say. Err: too often.
 fn repeated(word: &str) -> Result<(&str, u64), Mistake> {
     let Some((once, times)) = word.split_once('*') else {
         return Ok((word, 1));
@@ -36,7 +36,7 @@ fn repeated(word: &str) -> Result<(&str, u64), Mistake> {
     Ok((once, times))
 }
 
-/// Appends the bytes so often.
+/// Appends the bytes `times` times.
 fn push_times(bytes: &[u8], times: u64, out: &mut Vec<u8>) -> Result<(), Mistake> {
     for _time in 0..times {
         out.extend_from_slice(bytes)?;
@@ -44,14 +44,15 @@ fn push_times(bytes: &[u8], times: u64, out: &mut Vec<u8>) -> Result<(), Mistake
     Ok(())
 }
 
-/// The bytes of a key or value.
+/// Reads the bytes of a key or value.
 pub fn bytes_of(alloc: Global, word: &str) -> Result<Vec<u8>, Mistake> {
     let mut bytes = Vec::new(alloc);
     push_word(alloc, word, &mut bytes)?;
     Ok(bytes)
 }
 
-/// Appends what a word spells: pieces joined by `+`, each of them text, or hexadecimal behind `0x`, and perhaps repeated.
+/// Appends the bytes of a word: pieces joined by `+`, each of them text, or hexadecimal after `0x`, and perhaps
+/// repeated.
 fn push_word(alloc: Global, word: &str, out: &mut Vec<u8>) -> Result<(), Mistake> {
     for piece in word.split('+') {
         let digits = piece.strip_prefix("0x");
@@ -60,7 +61,7 @@ fn push_word(alloc: Global, word: &str, out: &mut Vec<u8>) -> Result<(), Mistake
     Ok(())
 }
 
-/// Appends what a piece spells, perhaps repeated: hexadecimal digits or text.
+/// Appends the bytes of a piece, perhaps repeated: hexadecimal digits or text.
 fn push_piece(alloc: Global, piece: &str, is_hex: bool, out: &mut Vec<u8>) -> Result<(), Mistake> {
     let (once, times) = repeated(piece)?;
     if is_hex {
@@ -69,7 +70,7 @@ fn push_piece(alloc: Global, piece: &str, is_hex: bool, out: &mut Vec<u8>) -> Re
     push_times(once.as_bytes(), times, out)
 }
 
-/// Appends the line of these words, as it is printed, with a blank between two of them.
+/// Appends the line of these words as it is printed: their bytes, with a space between two of them.
 pub fn push_line(alloc: Global, words: &[&str], text: &mut Vec<u8>) -> Result<(), Mistake> {
     for (place, word) in words.iter().enumerate() {
         if place > 0 {
@@ -80,7 +81,7 @@ pub fn push_line(alloc: Global, words: &[&str], text: &mut Vec<u8>) -> Result<()
     Ok(text.push(b'\n')?)
 }
 
-/// The byte that a word spells: decimal, or two hexadecimal digits behind `0x`.
+/// Reads a byte: decimal, or two hexadecimal digits after `0x`.
 pub fn byte_of(alloc: Global, word: &str) -> Result<u8, Mistake> {
     let Some(digits) = word.strip_prefix("0x") else {
         return small_of::<u8>(word);
@@ -91,7 +92,7 @@ pub fn byte_of(alloc: Global, word: &str) -> Result<u8, Mistake> {
     }
 }
 
-/// The bytes of hexadecimal digits.
+/// Returns the bytes of hexadecimal digits.
 fn decoded(alloc: Global, digits: &str) -> Result<Vec<u8>, Mistake> {
     match hex::decode(alloc, digits.as_bytes()) {
         Ok(bytes) => Ok(bytes),
@@ -99,7 +100,7 @@ fn decoded(alloc: Global, digits: &str) -> Result<Vec<u8>, Mistake> {
     }
 }
 
-/// Appends what words of hexadecimal digits spell, each perhaps repeated.
+/// Appends the bytes of words of hexadecimal digits, each perhaps repeated.
 pub fn push_digits(alloc: Global, words: &[&str], out: &mut Vec<u8>) -> Result<(), Mistake> {
     for word in words {
         push_piece(alloc, word, true, out)?;

@@ -1,4 +1,4 @@
-//! What `mtrecover` answers over sources that fail and on outputs that fail.
+//! How `mtrecover` ends if a source or an output fails.
 use crate::commands::{Ends, assert_ends, words_on};
 use crate::devices::Device::{self, Closed, Full, Starved, Unflushed, Works};
 use crate::devices::Output;
@@ -9,16 +9,16 @@ use mt_scan::{FaultSource, Rack};
 use std::process::Abort;
 use std::thread::Threads;
 
-/// The calls for a piece from which on the two logs and the part fail.
+/// The calls of `advance` from which on the two logs and the part fail.
 type Calls = [u64; 3];
 
-/// A source that does not fail would do so in this call, which is never made.
+/// The call for a source that does not fail. It is never made.
 const NEVER: u64 = u64::MAX;
 
 /// Nothing fails.
 const NONE: Calls = [NEVER; 3];
 
-/// Two logs and a part that fail from these calls on.
+/// Returns two logs and a part that fail from these calls on.
 fn inputs_of<'a, R: Abort + AllocGlobal>(
     rt: &R,
     rack: &'a mut Rack,
@@ -34,7 +34,7 @@ fn inputs_of<'a, R: Abort + AllocGlobal>(
     Inputs { logs, parts }
 }
 
-/// The answer to the words of this line ends so on this output, with all buffers back.
+/// Checks that the query of this line ends as expected on this output, with all buffers back.
 fn assert_answer<R: Abort + AllocGlobal + Threads + Sync>(
     rt: &R,
     line: &str,
@@ -54,7 +54,7 @@ fn assert_answer<R: Abort + AllocGlobal + Threads + Sync>(
     assert!(rt; rack.all_full(), "{case}");
 }
 
-/// A line for each query, and what is printed where nothing fails.
+/// A line for each query, and what it prints if nothing fails.
 const QUERIES: &[(&str, &str)] = &[
     (
         "mtrecover report F",
@@ -67,7 +67,8 @@ const QUERIES: &[(&str, &str)] = &[
     ("mtrecover dump F", "61: 0=6f 1=70\n62: 0=79\n"),
 ];
 
-/// Outputs, the calls that fail, and how each query ends there. The least log is named, and a part where no log fails.
+/// Outputs, the calls that fail, and how each query then ends. The least log that fails is named, and a part only if no
+/// log fails.
 const FAILURES: &[(Device, Calls, Ends)] = &[
     (Works, [1, 1, 1], (1, "mtrecover: log 0: source failed\n")),
     (
@@ -84,7 +85,7 @@ const FAILURES: &[(Device, Calls, Ends)] = &[
     (Unflushed, NONE, (3, "mtrecover: output failed\n")),
     (Closed, NONE, (3, "mtrecover: output failed\n")),
     (Starved, NONE, (3, "mtrecover: output failed\n")),
-    // Nothing is printed where there is no store.
+    // Without a store nothing is printed.
     (
         Full,
         [NEVER, 1, NEVER],
@@ -100,6 +101,6 @@ fn names_the_source_or_the_output_that_failed(rt: HostRuntime) {
             assert_answer(&rt, line, *device, *calls, *expected);
         }
     }
-    // No write of no bytes is made.
+    // Empty writes are skipped.
     assert_answer(&rt, "mtrecover range F 62 0", Full, NONE, (0, ""));
 }

@@ -1,4 +1,4 @@
-//! Recovery as a job: who enters its pieces, what hauls hold, and a store by threads of the caller's own.
+//! Recovery as a job: who enters its pieces, what hauls hold, and a store made by the caller's own threads.
 ghost use Rattle.std.specs.Prelude.{◌≡◌, [], IfSome};
 ghost use Rattle.mt_board.specs.Board.{fresh_pass};
 ghost use Rattle.mt_recover.specs.Hauls.{HasWorked, IsHaulOf};
@@ -19,12 +19,12 @@ use std::sync::atomic::{AtomicU64, Ordering};
 use std::thread;
 use std::thread::{Promise, Threads};
 
-/// A buffer for one log.
+/// Returns a buffer for one log.
 fn rack_of_one<R: Abort + AllocGlobal>(rt: &R) -> Rack {
     Rack::new(rt.alloc(), 1, 16).expect(rt, "memory")
 }
 
-/// The log of three keys.
+/// Returns the log of three keys as the only input.
 fn inputs_in<'a, R: Abort + AllocGlobal>(rt: &R, rack: &'a mut Rack) -> Inputs<MemSource<'a>> {
     let slot = rack.slots().first_mut().expect(rt, "a slot");
     let source = MemSource::new(LOG_OF_THREE, slot).expect(rt, "a full slot");
@@ -34,7 +34,7 @@ fn inputs_in<'a, R: Abort + AllocGlobal>(rt: &R, rack: &'a mut Rack) -> Inputs<M
     Inputs { logs, parts }
 }
 
-/// Its three keys were recovered.
+/// Checks that the three keys were recovered.
 fn assert_three<R: Abort + AllocGlobal>(rt: &R, recovered: Result<Recovered, Fault>) {
     let recovered = recovered.expect(rt, "a store");
     assert_same(rt, &recovered.report().keys, &3);
@@ -50,7 +50,7 @@ fn one_thread_recovers_three_keys(rt: HostRuntime) {
     assert_three(&rt, recover_one(rt.alloc(), inputs));
 }
 
-/// The job of that log in five pieces, cut at a, c, e and g, and its two passes.
+/// Returns the job of that log in five pieces, cut at a, c, e and g, and its two passes.
 fn open<R: Abort + AllocGlobal + Threads + Sync>(rt: &R) -> (Job, Pass, Pass)
     ensures first { result.1 ≡ fresh_pass result.0.board 0 }
     ensures second { result.2 ≡ fresh_pass result.0.board 1 }
@@ -63,7 +63,7 @@ fn open<R: Abort + AllocGlobal + Threads + Sync>(rt: &R) -> (Job, Pass, Pass)
     (job, first, second)
 }
 
-/// What the pass hauls: so many pieces.
+/// Works with the pass, and returns its haul after checking that it has `count` pieces.
 fn haul<R: Abort + AllocGlobal, G: Gate>(
     rt: &R,
     job: &Job,
@@ -80,7 +80,7 @@ fn haul<R: Abort + AllocGlobal, G: Gate>(
     haul
 }
 
-/// Counts how often worker 0 enters the next piece, and how often anything else is entered.
+/// A gate that counts how often worker 0 enters the next piece, and all other entries.
 #[derive(Drop)]
 struct Turns {
     next: AtomicU64,
@@ -141,10 +141,10 @@ fn hauls_come_in_any_order_and_one_pass_is_enough(rt: HostRuntime) {
     assert_three(&rt, assemble(rt.alloc(), job, hauls, passes));
 }
 
-/// What a thread gives back: its pass, and the haul of all that it drew. None if it ran out of memory.
+/// What a thread gives back: its pass, and the haul of all pieces that it drew. None if it ran out of memory.
 type Worked = Option<(Pass, Haul)>;
 
-/// Pass and haul are this job's.
+/// Promises that pass and haul are this job's.
 #[derive(Clone, Copy)]
 struct OfJob<'a>(&'a Job);
 
@@ -155,7 +155,7 @@ impl<'a> Promise<Worked> for OfJob<'a> {
     ghost kept_by = { λ p worked. IfSome worked (λ w. HasWorked p.0.now w.0 w.1) };
 }
 
-/// Works with a pass, and gives it back with the haul.
+/// Works with a pass, and returns it with the haul. None: out of memory.
 fn work_with(alloc: Global, job: &Job, mut pass: Pass, gate: &Meeting) -> Worked
     requires { (pass.board ≡ job.now.board) × (pass.draws ≡ []) }
     ensures { IfSome result (λ w. HasWorked job.now w.0 w.1) }
@@ -164,7 +164,7 @@ fn work_with(alloc: Global, job: &Job, mut pass: Pass, gate: &Meeting) -> Worked
     Some((pass, haul))
 }
 
-/// Two threads work on the job, with a pass each.
+/// Lets two threads work on the job, with a pass each. None if a thread cannot be spawned.
 fn work_in_scope<R: Threads + Wait + Sync>(
     rt: &R,
     alloc: Global,

@@ -1,4 +1,4 @@
-//! The words of both programs: what they ask for, what is printed and said on them, and how the run ends.
+//! The arguments of both programs: what they ask for, what the run prints, and how it ends.
 use crate::asserting::assert_bytes;
 use crate::devices::{Device, Output};
 use mt_cli::{command, run_words};
@@ -7,8 +7,8 @@ use std::fs::Files;
 use std::process::Abort;
 use std::thread::Threads;
 
-/// The words of a line behind the program's name, with this folder for the letter F. Two spaces beside each other hold
-/// the empty word.
+/// Returns the words of a line after the program's name, with this folder for each letter F. Two spaces in a row
+/// enclose the empty word.
 pub fn words_on<R: Abort + AllocGlobal>(rt: &R, line: &str, folder: &str) -> Vec<String> {
     let mut words = Vec::new(rt.alloc());
     for word in line.split(' ').skip(1) {
@@ -18,8 +18,8 @@ pub fn words_on<R: Abort + AllocGlobal>(rt: &R, line: &str, folder: &str) -> Vec
     words
 }
 
-/// How a run ends: its status, and its output where that is 0, else its error output. The other of the two is empty. A text that
-/// ends in `..` stands for all that begin so.
+/// How a run ends: its status, and its output if that is 0, else its error output. The other of the two is empty. A
+/// text that ends in `..` stands for all texts that begin with what comes before `..`.
 pub type Ends = (u8, &'static str);
 
 /// A line, and how the run on its words ends.
@@ -28,7 +28,7 @@ pub type Run = (&'static str, Ends);
 /// An output and an error output that work.
 pub const BOTH_WORK: [Device; 2] = [Device::Works, Device::Works];
 
-/// The runs on these lines, with the folder for the letter F and on these outputs, end so.
+/// Checks how the runs on these lines end, with the folder for the letter F and on these outputs.
 pub fn assert_runs<R>(rt: &R, folder: &str, devices: [Device; 2], runs: &[Run])
 where
     R: Abort + AllocGlobal + Clone + Drop + Files + Threads + Sync,
@@ -39,7 +39,7 @@ where
     }
 }
 
-/// Likewise, of one line.
+/// Checks how the run on one line ends.
 pub fn assert_run<R>(rt: &R, folder: &str, line: &str, devices: [Device; 2], expected: Ends)
 where
     R: Abort + AllocGlobal + Clone + Drop + Files + Threads + Sync,
@@ -58,7 +58,7 @@ where
     assert_ends(rt, case.as_str(), (status, &out.text, &err.text), expected);
 }
 
-/// The run of this case ended as it was to.
+/// Checks that a run ended as expected.
 pub fn assert_ends<R: Abort>(
     rt: &R,
     case: &str,
@@ -75,7 +75,7 @@ pub fn assert_ends<R: Abort>(
     assert_text(rt, case, err, errors);
 }
 
-/// The text is as it is to be.
+/// Checks a text. An expected text that ends in `..` fixes only the beginning.
 fn assert_text<R: Abort>(rt: &R, case: &str, found: &[u8], expected: &str) {
     match expected.strip_suffix("..") {
         Some(beginning) => assert!(rt; found.starts_with(beginning.as_bytes()), "{case}"),
@@ -83,7 +83,7 @@ fn assert_text<R: Abort>(rt: &R, case: &str, found: &[u8], expected: &str) {
     }
 }
 
-/// Lines that are taken, and what they ask for.
+/// Lines that are accepted, and what they ask for.
 const TAKEN: &[(&str, &str)] = &[
     (
         "mtrecover report F",
@@ -112,7 +112,7 @@ fn takes_the_words_of_each_subcommand(rt: HostRuntime) {
     }
 }
 
-/// The words are taken so, and nothing is printed.
+/// Checks that the words of the line are read as this command, and that nothing is printed.
 fn assert_taken<R: Abort + AllocGlobal>(rt: &R, line: &str, taken: &str) {
     let words = words_on(rt, line, "F");
     let mut out = Output::new(rt.alloc(), Device::Full);
@@ -122,7 +122,7 @@ fn assert_taken<R: Abort + AllocGlobal>(rt: &R, line: &str, taken: &str) {
     assert_bytes(rt, line, text.as_bytes(), taken.as_bytes());
 }
 
-/// Lines that are not taken, and how the run ends.
+/// Lines that are refused, or ask for help or the version, and how the run ends.
 const UNTAKEN: &[Run] = &[
     ("mtrecover", (2, "Recovers the store..")),
     (
@@ -202,7 +202,7 @@ fn prints_help_and_the_faults_of_words(rt: HostRuntime) {
     assert_runs(&rt, "F", BOTH_WORK, UNTAKEN);
 }
 
-/// What begins a line, a text that follows it so often, the rest of the line, and how the run ends.
+/// What begins a line, a text that follows, how often it does, the rest of the line, and how the run ends.
 const LONG: &[(&str, &str, usize, &str, Ends)] = &[
     ("mtrecover get F ", "6b", 4096, "", TAKEN_KEY),
     ("mtrecover get F ", "6b", 4097, "", BAD_KEY),
@@ -218,7 +218,7 @@ const LONG: &[(&str, &str, usize, &str, Ends)] = &[
     ("mtdump", " none", 513, "", (3, "mtdump: too many files\n")),
 ];
 
-/// The key is taken, and then there is no folder F.
+/// The key is accepted, and then there is no folder F.
 const TAKEN_KEY: Ends = (3, "mtrecover: cannot list F\n");
 
 /// The key is refused.

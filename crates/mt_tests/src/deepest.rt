@@ -1,20 +1,20 @@
-//! The deepest tree: keys of the greatest length that differ in their last byte alone, from a log of format 2. No proof bounds
-//! the stack, so it is built, asked, printed and dropped, by workers too.
+//! The deepest tree: keys of the greatest length that differ only in their last byte, from a log of format 2. No proof
+//! bounds the stack, so this test builds, queries, prints and drops the tree, by several workers too.
 use crate::asserting::{assert_bytes, assert_same};
 use crate::refusals::recover_by;
 use mt_recover::{Store, Wanted, write_dump, write_pair};
 use std::process::Abort;
 
-/// What the keys share: all their bytes but the last.
+/// What the keys share: all bytes but the last.
 const SHARED: &[u8] = &[b'k'; 4095];
 
-/// What stands before the key of a put at timestamp 1.
+/// The bytes before the key of a put at timestamp 1.
 const BEFORE_KEY: &[u8] = b"\0\0\x10\x18\x01\0\0\0\0\0\0\0\x01\0\0\0\0\0\0\0\x01\x10\0";
 
-/// What follows it.
+/// The bytes after the key.
 const BEHIND_KEY: &[u8] = b"\x01\0\0\x01x\0\0\x10\x18";
 
-/// A log of format 2, of puts of four keys, and a mark.
+/// A log of format 2: puts of four keys, and a mark.
 const LOG: &[&[u8]] = &[
     b"MTL2\0\0\0\0\0\0\0\0",
     BEFORE_KEY,
@@ -39,7 +39,8 @@ const LOG: &[&[u8]] = &[
 #[test]
 fn the_deepest_tree_fits_on_the_stack(rt: HostRuntime) {
     let log = LOG.concat(rt.alloc()).expect(&rt, "memory");
-    // In one piece; in two of two keys, so that a worker builds all layers and drafts of all layers are joined; and in four.
+    // In one piece; in two of two keys, so that a worker builds all layers and drafts with all layers are joined; and
+    // in four.
     for pieces in [1, 2, 4] {
         let answer = recover_by(&rt, 4, pieces, &[&log], 1).expect(&rt, "memory");
         let recovered = answer.expect(&rt, "a store");
@@ -48,7 +49,7 @@ fn the_deepest_tree_fits_on_the_stack(rt: HostRuntime) {
     }
 }
 
-/// The store has the four keys alone: one by one, in a range, and printed.
+/// Checks that the store has exactly the four keys: one by one, in a range, and printed.
 fn assert_pairs<R: Abort + AllocGlobal>(rt: &R, store: &Store) {
     let dump = dump_of(rt);
     let hits = store.getrange(SHARED, 9, Wanted::all());
@@ -64,7 +65,7 @@ fn assert_pairs<R: Abort + AllocGlobal>(rt: &R, store: &Store) {
     assert_bytes(rt, "printed", &printed, dump.as_bytes());
 }
 
-/// The four pairs as they are printed.
+/// Returns the four pairs as they are printed.
 fn dump_of<R: Abort + AllocGlobal>(rt: &R) -> String {
     let shared = "6b".repeat(rt.alloc(), 4095).expect(rt, "memory");
     let dump = format!(in rt.alloc();

@@ -2,18 +2,18 @@
 use std::alloc::Global;
 use std::io::{self, ErrorKind, Write};
 
-/// What becomes of what is written.
+/// What happens to the bytes written.
 #[derive(Clone, Copy, Debug)]
 pub enum Device {
-    /// It is kept.
+    /// They are kept.
     Works,
     /// The device takes no byte.
     Full,
-    /// The device has a buffer, and is full once that is written.
+    /// The device has a buffer, and is full when that is flushed.
     Unflushed,
-    /// It is a pipe whose reader is gone.
+    /// The output is a pipe whose reader is gone.
     Closed,
-    /// The system has no memory to take what is written.
+    /// The system has no memory for the bytes.
     Starved,
 }
 
@@ -25,7 +25,7 @@ pub struct Output {
 }
 
 impl Output {
-    /// Nothing is written yet.
+    /// Creates an output to which nothing was written.
     pub fn new(alloc: Global, device: Device) -> Output {
         Output {
             text: Vec::new(alloc),
@@ -34,7 +34,7 @@ impl Output {
     }
 }
 
-/// What a full device says.
+/// The error of a full device.
 fn full() -> io::Error {
     io::Error::from(ErrorKind::StorageFull)
 }

@@ -1,4 +1,4 @@
-//! Logs and parts in pieces: what is taken before they end; and a log that is read at once.
+//! Logs and parts in chunks: what can be taken before they end. And a log that is read at once.
 use crate::asserting::assert_same;
 use crate::logs::{LOG_A, PART};
 use mt_record::{LogFeed, PartFeed, read_log};

@@ -10,7 +10,7 @@ use std::os::unix::fs::symlink;
 use std::process::Abort;
 use std::thread::Threads;
 
-/// Makes an empty folder for a test of this process.
+/// Makes an empty folder for a test of this process, and returns its path.
 fn folder_of<R: Abort + AllocGlobal + Env + Files>(rt: &R, id: u32, name: &str) -> String {
     let folder = temp_dir(rt).expect(rt, "a folder");
     let text = folder.as_path().to_string_lossy();
@@ -19,14 +19,14 @@ fn folder_of<R: Abort + AllocGlobal + Env + Files>(rt: &R, id: u32, name: &str) 
     path
 }
 
-/// What stands in a folder under a name.
+/// What a name in a folder stands for.
 #[derive(Clone, Copy)]
 pub enum Entry {
-    /// A file of this text.
+    /// A file of these bytes.
     Text(&'static [u8]),
-    /// A file of so many zeros.
+    /// A file of this many zeros.
     Zeros(u64),
-    /// A log of so many bytes, of puts at timestamp 1 of which the last is torn.
+    /// A log of this many bytes: puts at timestamp 1, the last one torn.
     Puts(u64),
     /// A folder.
     Folder,
@@ -34,19 +34,19 @@ pub enum Entry {
     DeadLink,
 }
 
-/// Makes a file of so many zeros.
+/// Makes a file of `size` zeros.
 fn make_zeros<R: Files>(rt: &R, path: &str, size: u64) -> io::Result<()> {
     File::create(rt, path)?.set_len(size)
 }
 
-/// What stands before the value of a put of key k at timestamp 1, in a column of the greatest length.
+/// The bytes before the value of a put of key k at timestamp 1. The value has the greatest length.
 const BEFORE_VALUE: &[u8] =
     b"\0\x01\0\x17\x01\0\0\0\0\0\0\0\x01\0\0\0\0\0\0\0\x01\0\x01k\x01\0\xff\xff";
 
-/// What stands behind that value.
+/// The bytes after that value.
 const BEHIND_VALUE: &[u8] = b"\0\x01\0\x17";
 
-/// Makes a log of so many bytes, of such puts. The values are of zeros, which are not written and take no place on a disk.
+/// Makes a log of `size` bytes of such puts. The values are zeros, which are not written and take no room on a disk.
 fn make_puts<R: Files>(rt: &R, path: &str, size: u64) -> io::Result<()> {
     let mut file = File::create(rt, path)?;
     file.write_all(HEADER)?;
@@ -76,7 +76,7 @@ fn make_entry<R: Abort + AllocGlobal + Files>(rt: &R, folder: &str, name: &str, 
 /// An entry and its name.
 pub type Named = (&'static str, Entry);
 
-/// Makes a folder of these entries.
+/// Makes a folder of these entries, and returns its path.
 pub fn folder_with<R: Abort + AllocGlobal + Env + Files>(
     rt: &R,
     id: u32,
@@ -95,7 +95,7 @@ pub fn remove<R: Abort + Alloc + Files>(rt: &R, folder: &str) {
     fs::remove_dir_all(rt, folder).expect(rt, "the folder");
 }
 
-/// These runs end so in a folder of these entries, which stands for the letter F.
+/// Checks how these runs end in a folder of these entries, which stands for the letter F.
 fn assert_in_folder<R>(
     rt: &R,
     id: u32,
@@ -127,7 +127,7 @@ const ON_BOTH: &[Run] = &[
     ("mtrecover dump F --pieces 1", (0, "61: 0=78\n62: 0=79\n")),
     ("mtrecover dump none", (3, "mtrecover: cannot list none\n")),
     ("mtrecover get none 6", (2, "mtrecover: bad key\n")),
-    // Each file is read before the next is opened, and all before any is recovered.
+    // Each file is read before the next is opened, and all are read before recovery.
     ("mtdump", (2, "mtdump: no files\n")),
     ("mtdump F none", (1, "mtdump: log 0: source failed\n")),
     ("mtdump F/c.txt none", (3, "mtdump: cannot open none\n")),
@@ -140,13 +140,13 @@ const ON_BOTH: &[Run] = &[
     ),
 ];
 
-/// On an output that fails, at once or when its buffer is written.
+/// Runs on an output that fails, at once or when its buffer is flushed.
 const ON_FAILING: &[Run] = &[
     ("mtrecover dump F", (3, "mtrecover: output failed\n")),
     ("mtdump F/a.mtl", (3, "mtdump: output failed\n")),
 ];
 
-/// Where the error output fails, too. A line that cannot be written changes no status.
+/// Runs whose error output fails too. A line that cannot be written changes no status.
 const ON_BOTH_FAILING: &[Run] = &[
     ("mtrecover --help", (3, "")),
     ("mtrecover get F 6", (2, "")),
@@ -161,7 +161,7 @@ const RUNS: &[([Device; 2], &[Run])] = &[
     ([Unflushed, Works], ON_FAILING),
     ([Closed, Works], ON_FAILING),
     ([Starved, Works], ON_FAILING),
-    // On an output that is full at once. No write of no bytes is made.
+    // On an output that is full at once. Empty writes are skipped.
     (
         [Full, Works],
         &[
@@ -188,14 +188,14 @@ fn answers_queries_of_a_folder(rt: HostRuntime) {
     assert_in_folder(&rt, id, "queries", QUERIED, RUNS);
 }
 
-/// A log of an early, a surviving and a late update, of a mark and of a torn tail.
+/// A log of an early, a surviving and a late update, a mark and a torn tail.
 const TORN_LOG: &[u8] = b"MTL1\0\0\0\0\0\0\0\0\
     \0\0\0\x14\x02\0\0\0\0\0\0\0\x01\0\0\0\0\0\0\0\x01\0\x01b\0\0\0\x14\
     \0\0\0\x14\x02\0\0\0\0\0\0\0\x03\0\0\0\0\0\0\0\x01\0\x01b\0\0\0\x14\
     \0\0\0\x14\x02\0\0\0\0\0\0\0\x05\0\0\0\0\0\0\0\x02\0\x01b\0\0\0\x14\
     \0\0\0\x09\x03\0\0\0\0\0\0\0\x05\0\0\0\x09\0\0\0";
 
-/// The entries of a folder with something of all that a report counts.
+/// The entries of a folder that has some of everything that a report counts.
 const REPORTED: &[Named] = &[
     ("log.mtl", Text(TORN_LOG)),
     ("a.mtc", Text(b"\0")),
@@ -212,7 +212,7 @@ const REPORT: &str =
 /// A folder's name, its entries, and how a run on it ends.
 type Case = (&'static str, &'static [Named], Ends);
 
-/// The run on this line ends so in each of the folders.
+/// Checks how the run on this line ends in each of the folders.
 fn assert_in_folders<R>(rt: &R, id: u32, line: &'static str, cases: &[Case])
 where
     R: Abort + AllocGlobal + Clone + Drop + Env + Files + Threads + Sync,
@@ -224,7 +224,7 @@ where
     }
 }
 
-/// Folders, and what a report of each says.
+/// Folders, and how a report on each ends.
 const FOLDERS: &[Case] = &[
     ("report", REPORTED, (0, REPORT)),
     ("empty", &[], (1, "mtrecover: no logs\n")),
@@ -288,13 +288,14 @@ fn tells_what_was_found_and_what_is_wrong(rt: HostRuntime) {
     assert_in_folders(&rt, id, "mtrecover report F", FOLDERS);
 }
 
-/// What a report says of a log of puts that has the greatest size. All are at the cutoff, so that none is replayed.
+/// The report on a log of puts that has the greatest size. All puts are at the cutoff, so none is replayed.
 const GREAT_REPORT: &str =
     "logs=1\nrecords=16376\nmarks=0\ntorn=1\ncutoff=1\ncheckpoint=none\nbegin=0\nskipped=none\n\
      nameless=none\nentries=0\nsurvivors=0\nearly=0\nlate=16376\nkeys=0\nlayers=1\n";
 
-/// Folders of one great log, and how runs on it end. Zeros begin no log: `mtdump` reads a file whole before it looks at it,
-/// so its size comes first; `mtrecover` looks at it piece by piece, so its first bytes do.
+/// Folders of one great log, and how runs on it end. Zeros begin no log. `mtdump` reads a complete file before it
+/// checks the bytes, so it finds the size first. `mtrecover` checks the file chunk by chunk, so it finds the first
+/// bytes first.
 const GREAT: &[(&str, Entry, &[Run])] = &[
     (
         "greatest-zeros",

@@ -1,5 +1,5 @@
-//! What no worked case can say: tests' own sources and outputs, refused growths, feeds, printed texts and exit statuses.
-//! The worked cases are those of `mt_cases`.
+//! Tests that no worked case can express: their own sources and outputs, refused growths, feeds, printed texts and exit
+//! statuses. Worked cases are those of `mt_cases`.
 #![tactic(auto)]
 
 #[cfg(test)]

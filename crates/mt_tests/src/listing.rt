@@ -1,4 +1,4 @@
-//! Which entries of a folder are logs and parts, on folders of a test's own.
+//! Which entries of a folder are logs and parts, in folders that the test makes up.
 use crate::asserting::assert_bytes;
 use mt_cli::{Names, names};
 use std::alloc::{Allocator, Global};
@@ -6,8 +6,8 @@ use std::fs::{File, Files, Metadata, OpenOptions};
 use std::io::{self, ErrorKind, Read, Write};
 use std::process::Abort;
 
-/// A folder of so many entries with each of these names, each ended by a NUL, and then an end or a failure. It has
-/// nothing else.
+/// A folder with `times` entries of each of these names, each ended by a NUL. The listing then ends or fails. All other
+/// calls fail.
 #[derive(Clone, Copy)]
 struct Folder {
     alloc: Global,
@@ -16,7 +16,7 @@ struct Folder {
     end: Option<ErrorKind>,
 }
 
-/// What is left to be read of a folder.
+/// The listing of a folder, and how many entries were read.
 #[derive(Drop)]
 struct Entries {
     folder: Folder,
@@ -47,7 +47,7 @@ impl Alloc for Folder {
     }
 }
 
-/// The failure of a call that no listing makes.
+/// The error of a call that no listing makes.
 fn unsupported<T>() -> io::Result<T> {
     Err(io::Error::from(ErrorKind::Unsupported))
 }
@@ -101,7 +101,7 @@ impl Files for Folder {
     }
 }
 
-/// Appends how many names there are, and each once.
+/// Appends the number of names, and each name once.
 fn push_names<R: Abort + AllocGlobal>(rt: &R, mut names: Vec<String>, text: &mut Vec<u8>) {
     let count = names.len();
     names.dedup();
@@ -109,7 +109,7 @@ fn push_names<R: Abort + AllocGlobal>(rt: &R, mut names: Vec<String>, text: &mut
     writeln!(text, "{count}: {names}").expect(rt, "memory");
 }
 
-/// What a folder has, or what is said of it and the status.
+/// Returns the logs and parts of a folder, or the message and the status.
 fn told<R: Abort + AllocGlobal>(rt: &R, folder: &Folder) -> Vec<u8> {
     let mut text = Vec::new(rt.alloc());
     match names(folder, "F", &mut text) {
@@ -122,7 +122,7 @@ fn told<R: Abort + AllocGlobal>(rt: &R, folder: &Folder) -> Vec<u8> {
     text
 }
 
-/// Folders by their names, how often each stands there and how the listing ends, with what is told of each.
+/// The names of a folder, how often each is listed, how the listing ends, and what is returned of it.
 const FOLDERS: &[(&[&[u8]], usize, Option<ErrorKind>, &str)] = &[
     (
         ENDINGS,
@@ -132,13 +132,13 @@ const FOLDERS: &[(&[&[u8]], usize, Option<ErrorKind>, &str)] = &[
     ),
     (MIXED, 256, None, "256: a.mtl\n256: b.mtc\n"),
     (MIXED, 257, None, "mtrecover: too many files\n3\n"),
-    // Both kinds count together, and the others not.
+    // Both kinds count together. Other files do not count.
     (WITH_NOTES, 512, None, "512: a.mtl\n0: \n"),
     (WITH_NOTES, 513, None, "mtrecover: too many files\n3\n"),
     (PARTS, 512, None, "0: \n512: b.mtc\n"),
     (PARTS, 513, None, "mtrecover: too many files\n3\n"),
     (UNREADABLE, 1, None, "mtrecover: cannot list F\n3\n"),
-    // A name that is not UTF-8 comes before the number of files, whatever its ending.
+    // A name that is not UTF-8 is refused before the number of files, whatever its ending.
     (UNREADABLE, 600, None, "mtrecover: cannot list F\n3\n"),
     (
         MIXED,
@@ -146,7 +146,7 @@ const FOLDERS: &[(&[&[u8]], usize, Option<ErrorKind>, &str)] = &[
         Some(ErrorKind::TimedOut),
         "mtrecover: cannot list F\n3\n",
     ),
-    // Want of memory of the system is named so.
+    // If the system is out of memory, the message says so.
     (
         &[],
         1,
@@ -155,7 +155,7 @@ const FOLDERS: &[(&[&[u8]], usize, Option<ErrorKind>, &str)] = &[
     ),
 ];
 
-/// Names of which some end as those of logs and parts.
+/// Names, some of which end like those of logs and parts.
 const ENDINGS: &[&[u8]] = &[
     b"b.mtl\0",
     b"10.mtc\0",

@@ -1,4 +1,4 @@
-//! How the tests spell logs and parts.
+//! Logs and parts of the tests, as bytes.
 
 /// A log header with `from` 0.
 pub const HEADER: &[u8] = b"MTL1\0\0\0\0\0\0\0\0";
@@ -13,7 +13,7 @@ pub const LOG_B: &[u8] = b"MTL1\0\0\0\0\0\0\0\0\
     \0\0\0\x19\x01\0\0\0\0\0\0\0\x04\0\0\0\0\0\0\0\x01\0\x01b\x01\0\0\x01y\0\0\0\x19\
     \0\0\0\x09\x03\0\0\0\0\0\0\0\x06\0\0\0\x09";
 
-/// A log of a mark, of a put whose length behind the body is another than that before it, and of a mark.
+/// A log of a mark, a put with a wrong trailer, and a mark.
 pub const DAMAGED_LOG: &[u8] = b"MTL1\0\0\0\0\0\0\0\0\
     \0\0\0\x09\x03\0\0\0\0\0\0\0\x01\0\0\0\x09\
     \0\0\0\x19\x01\0\0\0\0\0\0\0\x03\0\0\0\0\0\0\0\x01\0\x01a\x01\0\0\x01x\0\0\0\x18\
@@ -33,7 +33,7 @@ pub const LOG_FROM_3_TO_9: &[u8] = b"MTL1\0\0\0\0\0\0\0\0\
     \0\0\0\x19\x01\0\0\0\0\0\0\0\x07\0\0\0\0\0\0\0\x01\0\x01c\x01\0\0\x01z\0\0\0\x19\
     \0\0\0\x09\x03\0\0\0\0\0\0\0\x09\0\0\0\x09";
 
-/// That log with another length behind the mark's body than before it.
+/// The same log with a wrong trailer of the mark.
 pub const LOG_WITH_A_BAD_TRAILER: &[u8] = b"MTL1\0\0\0\0\0\0\0\0\
     \0\0\0\x19\x01\0\0\0\0\0\0\0\x03\0\0\0\0\0\0\0\x01\0\x01a\x01\0\0\x01x\0\0\0\x19\
     \0\0\0\x19\x01\0\0\0\0\0\0\0\x06\0\0\0\0\0\0\0\x01\0\x01b\x01\0\0\x01y\0\0\0\x19\

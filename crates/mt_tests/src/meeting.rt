@@ -1,4 +1,4 @@
-//! Workers that meet: what waits for another thread shows that there is one.
+//! Workers that meet: a thread that waits for another shows that there is another.
 ghost use Rattle.std.specs.Prelude.{◌≡◌, IfOk};
 ghost use Rattle.mt_board.specs.Board.{fresh_passes};
 ghost use Rattle.mt_scan.specs.SourceTypes.{seen_of_memory};
@@ -16,10 +16,10 @@ use std::slice;
 use std::sync::atomic::{AtomicU64, Ordering};
 use std::thread::Threads;
 
-/// How often one looks for the other, at the most.
+/// How often a thread looks for the other at most.
 const TURNS: u32 = 50_000_000;
 
-/// Whether the number is there within so many looks.
+/// Whether the count reaches the number within that many looks.
 fn is_reached_in_time(count: &AtomicU64, number: u64) -> bool {
     for _turn in 0..TURNS {
         if count.load(Ordering::SeqCst) >= number {
@@ -29,21 +29,22 @@ fn is_reached_in_time(count: &AtomicU64, number: u64) -> bool {
     false
 }
 
-/// Holds the first worker that enters until the others have entered so often.
+/// A gate that holds the first worker that enters until the others have entered `wanted` times, or it has looked
+/// `TURNS` times.
 #[derive(Drop)]
 pub struct Meeting {
-    /// How often the others are to enter.
+    /// How often the others must enter.
     wanted: u64,
-    /// The first worker, counted from 1 on; 0 before it.
+    /// The first worker, counted from 1; 0 before any has entered.
     first: AtomicU64,
     /// How often the first worker has entered.
     own: AtomicU64,
-    /// How often the others have.
+    /// How often the others have entered.
     others: AtomicU64,
 }
 
 impl Meeting {
-    /// Nobody has entered.
+    /// Creates a gate that nobody has entered.
     pub fn new(wanted: u64) -> Meeting {
         Meeting {
             wanted,
@@ -53,7 +54,7 @@ impl Meeting {
         }
     }
 
-    /// How often the first worker has entered, and how often the others have.
+    /// Returns how often the first worker has entered, and how often the others have.
     pub fn entries(&self) -> (u64, u64) {
         let own = self.own.load(Ordering::SeqCst);
         (own, self.others.load(Ordering::SeqCst))
@@ -78,12 +79,12 @@ impl Gate for Meeting {
     }
 }
 
-/// A log whose first call waits for that of another one.
+/// A source whose first call waits for the first call of another one.
 #[derive(Drop)]
 struct Waiting<'a> {
     log: MemSource<'a>,
     has_begun: bool,
-    /// How many logs have begun.
+    /// How many sources have begun.
     begun: &'a AtomicU64,
     /// How many have seen the other one begin.
     met: &'a AtomicU64,
@@ -108,7 +109,7 @@ impl Source for Waiting<'_> {
     }
 }
 
-/// The log, as a source that waits for each slot.
+/// Returns the log of three keys as a waiting source for each slot.
 fn sources_that_wait<'a, R: Abort + AllocGlobal>(
     rt: &R,
     rack: &'a mut Rack,
@@ -128,7 +129,7 @@ fn sources_that_wait<'a, R: Abort + AllocGlobal>(
     sources
 }
 
-/// Cuts at the keys of these letters.
+/// Returns cuts at the keys of these letters.
 fn cuts_at<R: Abort + AllocGlobal>(rt: &R, letters: &[u8]) -> Cutting {
     let mut keys = Vec::new(rt.alloc());
     for letter in letters {
@@ -139,7 +140,7 @@ fn cuts_at<R: Abort + AllocGlobal>(rt: &R, letters: &[u8]) -> Cutting {
     Cutting::At(Cuts::new(keys).expect(rt, "letters that rise"))
 }
 
-/// The job for two workers of what is cut at these letters.
+/// Prepares a job for two workers, cut at these letters.
 pub fn prepare_for_two<R: Abort + AllocGlobal + Threads + Sync, S: Source + Send>(
     rt: &R,
     inputs: Inputs<S>,
@@ -151,7 +152,7 @@ pub fn prepare_for_two<R: Abort + AllocGlobal + Threads + Sync, S: Source + Send
     prepare(rt, rt.alloc(), inputs, workers, cuts_at(rt, letters))
 }
 
-/// What two workers recover in four pieces, cut at c, d and e.
+/// Recovers with two workers in four pieces, cut at c, d and e.
 pub fn recover_by_two<R: Abort + AllocGlobal + Threads + Sync, S: Source + Send, G: Gate>(
     rt: &R,
     inputs: Inputs<S>,
@@ -174,7 +175,7 @@ fn two_workers_meet_in_scans_and_at_a_gate(rt: HostRuntime) {
     assert!(rt; gate.entries().1 > 0);
 }
 
-/// The fault of inputs, in each way to recover them.
+/// Returns the fault of the inputs: by one thread (way 0), by two workers (1), or of `prepare` (any other).
 fn fault_of<R: Abort + AllocGlobal + Threads + Sync, S: Source + Send>(
     rt: &R,
     inputs: Inputs<S>,

@@ -1,4 +1,4 @@
-//! A recovered store: ranges from a start past any key's length, columns that are not wanted, and walks that end early.
+//! A recovered store: ranges from a start longer than any key, columns that are not wanted, and walks that end early.
 use crate::asserting::{assert_bytes, assert_same};
 use crate::logs::LOG_OF_THREE;
 use mt_recover::{Store, Wanted, recover_logs, write_pair};
@@ -6,7 +6,7 @@ use mt_tree::Visitor;
 use mt_words::{Columns, Kept};
 use std::process::Abort;
 
-/// So many pairs from this start on are these, with the columns that are wanted.
+/// Checks the first `count` pairs from this start on, with the wanted columns.
 fn assert_range<R: Abort + AllocGlobal>(
     rt: &R,
     store: &Store,
@@ -21,8 +21,8 @@ fn assert_range<R: Abort + AllocGlobal>(
     assert_bytes(rt, expected, &text, expected.as_bytes());
 }
 
-/// Starts of ranges, how many pairs are asked for, and those that come: with all columns, and with one alone that none of
-/// them has.
+/// Starts of ranges, how many pairs are asked for, and the pairs that come: with all columns, and with only a column
+/// that no pair has.
 const RANGES: &[(&[u8], usize, &str, &str)] = &[
     (b"c", 2, "64: 0=32\n66: 0=33\n", "64:\n66:\n"),
     (b"g", 5, "", ""),
@@ -50,7 +50,7 @@ fn a_range_begins_at_or_after_its_start(rt: HostRuntime) {
     }
 }
 
-/// Takes so many pairs, and counts those that it is shown.
+/// A visitor that takes this many pairs, and counts those that it is shown.
 #[derive(Clone, Copy)]
 struct Most(u64);
 

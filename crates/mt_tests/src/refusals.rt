@@ -1,5 +1,5 @@
-//! Want of memory. As they stand these tests see no refusal. `.ci/refuse_growths` runs them with one growth after the other
-//! refused: it then sees that a refused growth gives `Memory` and nothing else.
+//! Out of memory. By themselves these tests see no failed allocation. `.ci/refuse_growths` runs them with one growth
+//! after the other refused, and so checks that a refused growth gives `Memory` and nothing else.
 use crate::asserting::assert_same;
 use crate::logs::{LOG_A, LOG_B, PART};
 use crate::tree::tree_of;
@@ -11,13 +11,13 @@ use std::alloc::Global;
 use std::process::Abort;
 use std::thread::Threads;
 
-/// A log of format 2, from 2 on: a put of key a at version 3, an erase of its column 1 at version 4, and a mark.
+/// A log of format 2 with `from` 2: a put of key a at version 3, an erase of its column 1 at version 4, and a mark.
 const LATE_LOG: &[u8] = b"MTL2\0\0\0\0\0\0\0\x02\
     \0\0\0\x19\x01\0\0\0\0\0\0\0\x05\0\0\0\0\0\0\0\x03\0\x01a\x01\0\0\x01n\0\0\0\x19\
     \0\0\0\x16\x04\0\0\0\0\0\0\0\x06\0\0\0\0\0\0\0\x04\0\x01a\x01\x01\0\0\0\x16\
     \0\0\0\x09\x03\0\0\0\0\0\0\0\x0a\0\0\0\x09";
 
-/// The answer has this value in column 0 of this key, or is a want of memory.
+/// Checks that the store has this value in column 0 of this key, or that the fault is `Memory`.
 fn assert_value<R: Abort>(rt: &R, answer: Result<Recovered, Fault>, key: &[u8], value: &[u8]) {
     match answer {
         Ok(recovered) => {
@@ -28,13 +28,13 @@ fn assert_value<R: Abort>(rt: &R, answer: Result<Recovered, Fault>, key: &[u8], 
     }
 }
 
-/// The list with an item more, if there is one and memory for it.
+/// Returns the list with the item appended. None if there is no item, or out of memory.
 fn with<T: Drop>(mut list: Vec<T>, item: Option<T>) -> Option<Vec<T>> {
     list.push(item?).ok()?;
     Some(list)
 }
 
-/// These texts as sources, each with the buffer of a slot. None where memory for them is refused, or a slot is empty.
+/// Returns these bytes as sources, each with the buffer of a slot. None: out of memory, or a slot is empty.
 fn sources_of<'a>(
     alloc: Global,
     texts: &[&'a [u8]],
@@ -47,8 +47,8 @@ fn sources_of<'a>(
     Some(sources)
 }
 
-/// What recovery of these texts, so many logs and then parts, by so many workers in so many pieces answers, unless memory
-/// for the sources is refused. There are at most two texts.
+/// Recovers from the bytes of at most two inputs: the first `log_count` are logs, the rest parts. None: no lawful
+/// number of workers or pieces, or out of memory before recovery.
 pub fn recover_by<R: AllocGlobal + Threads + Sync>(
     rt: &R,
     workers: u32,
@@ -88,7 +88,7 @@ fn a_refused_growth_of_recovery_by_two_workers_over_a_checkpoint_is_memory(rt: H
 #[test]
 fn a_refused_growth_of_a_tree_is_memory(rt: HostRuntime) {
     if let Ok(tree) = tree_of(rt.alloc(), &[b"aaaaaaaab", b"aaaaaaaac"], 1) {
-        // A tree that met a want of memory answers as before.
+        // After a query ran out of memory the tree answers as before.
         for _time in 0..2 {
             if let Ok(hits) = tree.getrange(b"", 9, Wanted::all()) {
                 assert_same(&rt, &hits.len(), &2);

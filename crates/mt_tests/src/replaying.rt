@@ -7,7 +7,7 @@ use mt_words::Update;
 use std::process::Abort;
 use std::thread::Threads;
 
-/// The updates of a log.
+/// Returns the updates of a log.
 fn updates_of<R: Abort + AllocGlobal>(rt: &R, log: &[u8]) -> Vec<Update> {
     let scan = scan_bytes(rt.alloc(), log, 0).expect(rt, "a log");
     scan.updates.into_vec(rt.alloc()).expect(rt, "memory")
@@ -22,7 +22,7 @@ fn a_cell_has_what_its_update_leaves(rt: HostRuntime) {
     assert_same(&rt, &columns.get(0), &Some(b"3".as_slice()));
 }
 
-/// The cells of a log.
+/// Returns the cells of a log.
 fn cells_of<R: Abort + AllocGlobal>(rt: &R, log: &[u8]) -> LogCells {
     let window = Window {
         begin: 0,
@@ -31,7 +31,7 @@ fn cells_of<R: Abort + AllocGlobal>(rt: &R, log: &[u8]) -> LogCells {
     LogCells::of(rt.alloc(), updates_of(rt, log), window).expect(rt, "memory")
 }
 
-/// Fails where so many pieces of a log have not so many keys each, those that a sample cuts too.
+/// Checks how many keys each piece of a log has, cut evenly into `pieces` pieces and by a sample.
 fn assert_sizes<R: Abort + AllocGlobal + Threads + Sync>(
     rt: &R,
     log: &[u8],
@@ -47,7 +47,7 @@ fn assert_sizes<R: Abort + AllocGlobal + Threads + Sync>(
     assert_same(rt, &sizes_of(rt, &lists, &sampled).as_slice(), &expected);
 }
 
-/// How many keys each piece has.
+/// Returns how many keys each piece has.
 fn sizes_of<R: Abort + AllocGlobal>(rt: &R, lists: &[LogCells], cuts: &Cuts) -> Vec<usize> {
     let mut sizes = Vec::new(rt.alloc());
     for piece in 0..cuts.pieces() {

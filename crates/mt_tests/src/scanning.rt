@@ -1,4 +1,4 @@
-//! Sources of a test's own, and readers as sources.
+//! Sources that the test defines, and readers as sources.
 ghost use Rattle.std.specs.Prelude.{[], Some, true, false};
 
 use crate::asserting::assert_same;
@@ -41,7 +41,7 @@ fn a_boxed_source_is_a_source(rt: HostRuntime) {
     assert_same(&rt, &answer.err(), &Some(Fault::Header { log: 0 }));
 }
 
-/// How many bytes the reader has as a source with this limit and with pieces of this size, or its fault.
+/// Returns how many bytes the reader has as a source with this limit and a buffer of this size, or its fault.
 fn length_of<R: Abort + AllocGlobal, I: Read + Drop>(
     rt: &R,
     reader: I,
@@ -54,7 +54,7 @@ fn length_of<R: Abort + AllocGlobal, I: Read + Drop>(
     read_all(&mut source)
 }
 
-/// How many bytes the source has, or its fault.
+/// Returns how many bytes the source has, up to 100 calls, or its fault.
 fn read_all<S: Source>(source: &mut S) -> Result<usize, SourceFault> {
     let mut length: usize = 0;
     for _call in 0..100 {

@@ -1,4 +1,4 @@
-//! Scans that share the cutoff: what one pass noted, the scan of another finds.
+//! Scans that share the cutoff: a scan finds what the pass of another noted.
 ghost use Rattle.std.specs.Prelude.{◌≡◌};
 
 use crate::asserting::assert_same;
@@ -9,7 +9,7 @@ use mt_words::{Fault, What};
 use std::marker::Model;
 use std::process::Abort;
 
-/// A board without numbers, and its two passes in order.
+/// Opens a board without numbers, and returns it with its two passes in order.
 fn open<R: Abort + AllocGlobal>(rt: &R) -> (Board, Pass, Pass)
     ensures { (result.1.board ≡ result.0) × (result.2.board ≡ result.0) }
 {
@@ -20,7 +20,7 @@ fn open<R: Abort + AllocGlobal>(rt: &R) -> (Board, Pass, Pass)
     (board, first, second)
 }
 
-/// The least number of the board, closed with its two passes.
+/// Closes the board with its two passes, and returns its least number.
 fn close<R: Abort + AllocGlobal>(rt: &R, board: Board, first: Pass, second: Pass) -> u64
     requires { (first.board ≡ board) × (second.board ≡ board) }
 {
@@ -29,7 +29,7 @@ fn close<R: Abort + AllocGlobal>(rt: &R, board: Board, first: Pass, second: Pass
     closed.expect(rt, "a board closed").least
 }
 
-/// What a scan of the source as log 0 answers. The pass stays the board's.
+/// Scans the source as log 0. The pass stays the board's.
 fn scan<R: AllocGlobal, S: Source>(
     rt: &R,
     source: &mut S,
@@ -42,8 +42,8 @@ fn scan<R: AllocGlobal, S: Source>(
     scan_shared(rt.alloc(), source, 0, board, pass)
 }
 
-/// What the first pass scans of the log in pieces of this size, if the second pass noted this before. The number is the
-/// board's least one once it is closed.
+/// Scans the log with the first pass and a buffer of this size, after the second pass noted this number, if any.
+/// Returns the scan, and the least number of the closed board.
 fn scan_after<R: Abort + AllocGlobal>(
     rt: &R,
     noted: Option<u64>,
@@ -61,7 +61,7 @@ fn scan_after<R: Abort + AllocGlobal>(
     (answer, close(rt, board, first, second))
 }
 
-/// The scan is that of the log from 3 to 9, with so many updates kept and so many dropped.
+/// Checks that the scan is that of the log from 3 to 9, with `kept` updates kept and `dropped` dropped.
 fn assert_scan<R: Abort>(rt: &R, answer: Result<LogScan, Fault>, kept: usize, dropped: u64) {
     let scan = answer.expect(rt, "a scan");
     assert_same(rt, &(scan.updates.len(), scan.dropped), &(kept, dropped));
@@ -69,7 +69,7 @@ fn assert_scan<R: Abort>(rt: &R, answer: Result<LogScan, Fault>, kept: usize, dr
     assert_same(rt, &(scan.last, scan.torn), &(9, false));
 }
 
-/// Sizes of pieces: each byte alone, less than a record, and more than the log.
+/// Sizes of buffers: a single byte, less than a record, and more than the log.
 const SIZES: [usize; 3] = [1, 16, 65_536];
 
 #[test]
@@ -112,10 +112,10 @@ fn a_scan_with_a_fault_notes_nothing(rt: HostRuntime) {
     }
 }
 
-/// How many bytes the first piece has: the header and a put.
+/// The length of the first chunk: the header and a put.
 const FIRST_PIECE: usize = 45;
 
-/// Bytes in two pieces, and a pass that notes 5 while the first one is handed out, and another number at the end.
+/// A source of two chunks with a pass that notes 5 when the first one is read, and another number at the end.
 #[derive(Drop)]
 struct Noting<'a> {
     board: &'a Board,
@@ -166,7 +166,7 @@ impl Source for Noting<'_> {
     }
 }
 
-/// Scans that source: what is kept lies below 5. The number is the least one afterwards.
+/// Scans that source, and checks that only what lies below 5 is kept. Returns the least number afterwards.
 fn scan_noting<R: Abort + AllocGlobal>(rt: &R, at_end: u64) -> u64 {
     let (board, mut first, second) = open(rt);
     let mut source = Noting {

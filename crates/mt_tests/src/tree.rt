@@ -1,11 +1,11 @@
-//! The layered tree, of keys that share their beginnings, beside lists of these keys.
+//! The layered tree, compared with a list of its keys, which share prefixes.
 use crate::asserting::assert_same;
 use mt_tree::{Draft, Hit, Tree, Wanted, above};
 use mt_words::{Columns, Key, Memory};
 use std::alloc::Global;
 use std::process::Abort;
 
-/// The draft of this key, without columns.
+/// Returns the draft of this key, without columns.
 fn single(alloc: Global, key: &[u8]) -> Result<Draft, Memory> {
     let mut pairs = Vec::new(alloc);
     if let Some(key) = Key::new(Vec::from_slice(alloc, key)?) {
@@ -14,7 +14,7 @@ fn single(alloc: Global, key: &[u8]) -> Result<Draft, Memory> {
     Draft::build(alloc, pairs)
 }
 
-/// The draft of both, or the first where the second is not above it.
+/// Joins both drafts. Returns the first if the second is not above it.
 fn joined(left: Draft, right: Draft) -> Result<Draft, Memory> {
     if !above(&left, &right) {
         return Ok(left);
@@ -22,7 +22,7 @@ fn joined(left: Draft, right: Draft) -> Result<Draft, Memory> {
     Draft::join(left, right)
 }
 
-/// The draft of these keys.
+/// Returns the draft of these keys.
 fn draft_of(alloc: Global, keys: &[&[u8]]) -> Result<Draft, Memory> {
     let mut draft = Draft::new(alloc);
     for key in keys {
@@ -31,7 +31,7 @@ fn draft_of(alloc: Global, keys: &[&[u8]]) -> Result<Draft, Memory> {
     Ok(draft)
 }
 
-/// The tree of the drafts of the keys before the cut and behind it.
+/// Returns the tree of two joined drafts: of the keys before the cut, and of the others.
 pub fn tree_of(alloc: Global, keys: &[&[u8]], cut: usize) -> Result<Tree, Memory> {
     let (before, behind) = keys.split_at(cut.min(keys.len()));
     joined(draft_of(alloc, before)?, draft_of(alloc, behind)?)?.finish()
@@ -48,7 +48,7 @@ fn trees_joined_at_each_cut_have_their_layers(rt: HostRuntime) {
     }
 }
 
-/// Some lists of keys that share beginnings, and the number of layers of their trees.
+/// Lists of keys, most with shared prefixes, and the number of layers of their trees.
 const FAMILIES: &[(&[&[u8]], u64)] = &[
     (&[], 1),
     (&[b"b", b"d", b"f"], 1),
@@ -90,7 +90,7 @@ const ZEROS_AND_ONES: &[&[u8]] = &[
     b"\x01\0\0\0\0\0\0\0\0",
 ];
 
-/// The hits are just these keys.
+/// Checks that the hits are exactly these keys.
 fn assert_hits<R: Abort>(rt: &R, hits: &[Hit], keys: &[&[u8]]) {
     assert_same(rt, &hits.len(), &keys.len());
     for (hit, key) in hits.iter().zip(keys) {
@@ -98,7 +98,7 @@ fn assert_hits<R: Abort>(rt: &R, hits: &[Hit], keys: &[&[u8]]) {
     }
 }
 
-/// The tree says of this key, and of the range from it on, what the list says.
+/// Checks that the tree and the list agree on this key, and on the three keys from it on.
 fn assert_like_list<R: Abort>(rt: &R, tree: &Tree, keys: &[&[u8]], key: &[u8]) {
     let (is_found, place) = match keys.binary_search(&key) {
         Ok(at) => (true, at),
@@ -110,7 +110,7 @@ fn assert_like_list<R: Abort>(rt: &R, tree: &Tree, keys: &[&[u8]], key: &[u8]) {
     assert_hits(rt, &hits, &rest[..rest.len().min(3)]);
 }
 
-/// The tree says of these keys, and of keys beside them, what the list says.
+/// Checks that the tree and the list agree on these keys, and on keys close to them.
 fn assert_all<R: Abort + AllocGlobal>(rt: &R, tree: &Tree, keys: &[&[u8]]) {
     for key in keys {
         let mut behind = Vec::from_slice(rt.alloc(), key).expect(rt, "memory");
@@ -125,7 +125,7 @@ fn assert_all<R: Abort + AllocGlobal>(rt: &R, tree: &Tree, keys: &[&[u8]]) {
 fn keys_of_equal_bytes_are_found(rt: HostRuntime) {
     let longest = [b'k'; 4096];
     let mut keys = Vec::new(rt.alloc());
-    // Every fifth length: that leaves each remainder by 8, and takes a fifth of the time.
+    // Every fifth length: that still gives every remainder by 8, in a fifth of the time.
     for fives in 0..=longest.len() / 5 {
         let key = &longest[..longest.len().min(fives * 5)];
         keys.push(key).expect(&rt, "memory");
@@ -135,14 +135,14 @@ fn keys_of_equal_bytes_are_found(rt: HostRuntime) {
     assert_all(&rt, &tree, &keys);
 }
 
-/// What comes after this number.
+/// Returns the pseudorandom number after this one.
 fn next_of(number: u64) -> u64 {
     let number = number ^ number << 13;
     let number = number ^ number >> 7;
     number ^ number << 17
 }
 
-/// The beginning of an earlier key, of up to 40 bytes, and behind it 1 to 12 bytes of four kinds.
+/// Returns a key: a prefix of an earlier key, of at most 40 bytes, then 1 to 12 bytes of four kinds.
 fn random_key<R: Abort + AllocGlobal>(rt: &R, keys: &[Vec<u8>], number: u64) -> Vec<u8> {
     let mut key = Vec::new(rt.alloc());
     if let Some(earlier) = keys.get(number as usize % keys.len().max(1)) {
@@ -158,7 +158,7 @@ fn random_key<R: Abort + AllocGlobal>(rt: &R, keys: &[Vec<u8>], number: u64) -> 
     key
 }
 
-/// Up to so many keys by chance, of which many share their beginnings.
+/// Returns up to `count` random keys in order, many of which share prefixes.
 fn random_keys<R: Abort + AllocGlobal>(rt: &R, count: usize) -> Vec<Vec<u8>> {
     let mut keys = Vec::new(rt.alloc());
     let mut number = 88_172_645_463_325_252;

@@ -12,7 +12,7 @@ fn copies_keys_and_columns_in_place_and_kept(rt: HostRuntime) {
     assert!(rt; kept.try_copy().is_ok());
 }
 
-/// The fault has this text.
+/// Checks the text of a fault.
 fn assert_text<R: Abort + AllocGlobal>(rt: &R, fault: &Fault, text: &str) {
     let found = fault.to_string(rt.alloc()).expect(rt, "memory");
     assert_bytes(rt, text, found.as_bytes(), text.as_bytes());
