@@ -9,7 +9,7 @@ use mt_scan::{LONGEST_BUFFER, Rack, ReaderSource, Slot};
 use std::fs::{File, Files};
 use std::io::{self, ErrorKind, Write};
 
-/// The files of these names as sources, each with the buffer of a slot.
+/// Opens these files as sources, each with the buffer of a slot.
 fn sources_of<'a, R: AllocGlobal + Files>(
     rt: &R,
     names: &[String],
@@ -18,14 +18,12 @@ fn sources_of<'a, R: AllocGlobal + Files>(
     let mut sources = Vec::new(rt.alloc());
     for (name, slot) in names.iter().zip(slots) {
         let file = File::open(rt, name.as_str())?;
-        // None only where the slot is empty, which no slot of a new rack is.
         let source = ReaderSource::new(file, MOST_BYTES, slot).ok_or(ErrorKind::ResourceBusy)?;
         sources.push(source)?;
     }
     Ok(sources)
 }
 
-/// Prints the store of these logs and parts, or the fault.
 fn print_store<R: AllocGlobal + Files, W: Write>(
     rt: &R,
     logs: &[String],
