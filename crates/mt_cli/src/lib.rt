@@ -1,4 +1,10 @@
-//! The program that recovers the store of a folder and answers queries on it.
+//! The code of the program `mtrecover`, which recovers the store of a folder and answers one query on it.
+//!
+//! `run` is the whole program. It reads the arguments into a `Command`, which has a `Query`; lists the `Names` of the
+//! logs and parts in the folder; opens these as sources; then `answer` recovers the store and prints the answer.
+//!
+//! Begin with `running.rt`, which has these steps in order. `failure.rt` has the text and the exit status of each
+//! failure.
 #![tactic(auto)]
 
 mod answering;

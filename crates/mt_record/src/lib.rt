@@ -1,4 +1,11 @@
 //! Reads and writes logs and parts of checkpoints as bytes, in both formats.
+//!
+//! `LogFeed` and `PartFeed` read input that comes in chunks, and return a `LogText` or a `PartText`, or the one fault
+//! of the bytes. They decode records and entries, or keep their validated bytes (`KeptRecords`, `KeptEntries`). `Lent`
+//! is an update borrowed from kept bytes. The functions `encode_..` write.
+//!
+//! Begin with `read.rt`, `log_feed.rt` and `specs/Logs.antt`, which says which bytes are a log. Both feeds share
+//! `feed.rt`.
 #![tactic(auto)]
 
 mod body;

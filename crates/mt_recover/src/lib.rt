@@ -1,4 +1,10 @@
 //! Recovers a store from update logs and checkpoint parts, and prints it as text.
+//!
+//! `recover_one` recovers from `Inputs` on one thread, `recover` by workers. Both return `Recovered`: a `Store` and its
+//! `Report`. A caller with threads of its own takes the three steps of `recover` itself: `prepare` makes a `Job`,
+//! `work` replays pieces of it into a `Haul`, and `assemble` makes the store of all hauls.
+//!
+//! Begin with `recovery.rt`, and with `specs/Inputs.antt`, which says what recovery returns.
 #![tactic(auto)]
 
 mod assembling;

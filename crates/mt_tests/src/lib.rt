@@ -1,5 +1,10 @@
-//! Tests that no worked case can express: their own sources and outputs, refused growths, feeds, printed texts and exit
-//! statuses. Worked cases are those of `mt_cases`.
+//! Tests that no case file of `mt_cases` can express: sources and outputs of their own, failed allocations, feeds,
+//! threads that meet, printed texts and exit statuses.
+//!
+//! `logs` has the logs and parts of the tests as bytes. An `Output` fails as its `Device` says. A `Meeting` is a gate
+//! where a worker waits for others. A `Run` is a command line and how it ends.
+//!
+//! Begin with `example.rt`, the example of the README.
 #![tactic(auto)]
 
 #[cfg(test)]

@@ -1,4 +1,11 @@
-//! The layered tree over keys, and its queries.
+//! The layered tree over keys, and its queries. The outermost layer orders keys by their first eight bytes. Longer keys
+//! that share these continue in a layer below, which orders them by the next eight bytes.
+//!
+//! A `Draft` is a tree under construction. It takes pairs in key order, and drafts of neighbouring key ranges can be
+//! joined. `Draft::finish` makes it a `Tree`, which finds a key, returns a range as `Hit`s, and takes a `Visitor`.
+//!
+//! Begin with `tree.rt`; then `layer.rt` has drafts, and `node.rt` finished trees. `specs/Layer.antt` has the law of a
+//! layer.
 #![tactic(auto)]
 
 mod finish;

@@ -1,4 +1,10 @@
 //! The basic types of the store: keys, columns, log records, checkpoint entries, updates with their stamps, and faults.
+//!
+//! A `Record` of a log and an `Entry` of a checkpoint are lawful: they can only be made so. An `Update` is what one of
+//! them does to a `Key`, with the `Stamp` that orders the updates of that key. `Columns` are the values of a key. A
+//! `Fault` is the reason why there is no store.
+//!
+//! Begin with `record.rt` and `update.rt`. `limits.rt` has the limits of both formats.
 #![tactic(auto)]
 
 mod code;
