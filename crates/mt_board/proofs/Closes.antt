@@ -15,7 +15,7 @@ use Rattle.mt_board.specs.Rule.{pass_view, IsIdle, IsBoardState, IsBoard, parts_
 use Rattle.mt_board.proofs.Sums.{sum_at, least_by, least_small, times_append, once_full}
 use Rattle.mt_board.proofs.Keeps.{parts_of, done_of, noted_of, drawn_of}
 
--- the seat speaks for all passes but those of `rest`
+-- the seat represents all passes but those of `rest`
 pub record Gathers (b : BoardId) (rest all : List PassView) (v : SeatView) : Type 0 where
   pub some : 0 < v.parts
   pub parts : v.parts + length rest ≡ length all
@@ -99,7 +99,7 @@ module _ (f : SeatView → ℕ) (idles_at : (u : SeatView) → IsIdle u → f u 
       let c : parts_in (x ∷ xs) ≡ x.parts + parts_in xs = sum_by-cons parts_of x xs in
       omega (arith, sum_by-cons f x xs, idles_at x (h 0 x refl (omega arith)), sum_none xs (λ i u at. h (suc i) u at) (omega arith))
 
-  -- the sum over all seats is the value of a seat that speaks for all passes
+  -- the sum over all seats is the value of a seat that represents all passes
   sum_alone : (l : List SeatView) (id : ℕ) (v : SeatView) → get_elem? l id ≡ some v → Idles l → parts_in l ≤ v.parts → sum_by f l ≡ f v
   sum_alone [] id v e h le = absurd (some-ne-none v (sym e))
   sum_alone (x ∷ xs) zero v e h le =

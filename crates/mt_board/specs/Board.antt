@@ -82,7 +82,7 @@ least_noted passes = least_of (map (λ (p : PassView). p.noted) passes)
 abbrev pub SawNoneBelow : ℕ → List PassView → Type 0
 SawNoneBelow m passes = All (λ (p : PassView). All (λ look. m ≤ look) p.looks) passes
 
--- The least number above all those in the list. A pass with these draws can still draw at most as many numbers as the total less it.
+-- The least number above all those in the list. A pass with these draws can still draw at most the total minus this number.
 abbrev pub above : List ℕ → ℕ
 above [] = 0
 above (x ∷ xs) = max (x + 1) (above xs)

@@ -17,15 +17,15 @@ BoardTable = State (Unit {0}) SeatView
 abbrev pub Sitter : Type 0
 Sitter = Me (Unit {0}) SeatView
 
--- the view of a seat that speaks for this number of passes and has done nothing
+-- the view of a seat that represents this number of passes and has done nothing
 abbrev pub idle_view : Counts → ℕ → SeatView
 idle_view k parts = record { counts = k; parts = parts; draws = []; done = 0; noted = nothing_noted; looks = [] }
 
--- the view of the first seat: it speaks for all passes and has done nothing
+-- the view of the first seat: it represents all passes and has done nothing
 abbrev pub first_view : Counts → SeatView
 first_view k = idle_view k k.passes
 
--- the number of passes that all seats together speak for
+-- the number of passes that all seats together represent
 abbrev pub parts_in : List SeatView → ℕ
 parts_in views = sum_by (λ (v : SeatView). v.parts) views
 
@@ -45,7 +45,7 @@ noted_in views = least_of (map (λ (v : SeatView). v.noted) views)
 abbrev pub pass_view : TableId → ℕ → Bool → SeatView → PassView
 pass_view t number done v = record { board = record { table = t; total = v.counts.total; passes = v.counts.passes }; number = number; draws = v.draws; done = done; noted = v.noted; looks = v.looks }
 
--- the view of a seat that was joined to another: it speaks for no pass and has done nothing
+-- the view of a seat that was joined to another: it represents no pass and has done nothing
 abbrev pub spent_view : SeatView
 spent_view = idle_view (record { total = 0; passes = 0 }) 0
 
@@ -56,8 +56,8 @@ pub record IsIdle (v : SeatView) : Type 0 where
   pub noted : v.noted ≡ nothing_noted
   pub looks : v.looks ≡ []
 
--- The rule for one seat. It has the board's counts if it speaks for a pass. Not more passes are done than it speaks for. If it speaks for none, it
--- has done nothing. No look found a number below `least`.
+-- The rule for one seat. It has the board's counts if it represents a pass. At most as many passes are done as it represents. If it represents
+-- none, it has done nothing. No look found a number below `least`.
 pub record IsSeatOf (k : Counts) (least : ℕ) (v : SeatView) : Type 0 where
   pub counts : 0 < v.parts → v.counts ≡ k
   pub done : v.done ≤ v.parts

@@ -1,5 +1,6 @@
-//! The view of a seat at the board's table, the rule that every step keeps, and what each step guarantees its caller.
-//! Word 0 of the table is the next number. Word 1 is the least number noted.
+//! The view of a seat at the board's table, the rule that every step keeps, and what each step guarantees its caller. A
+//! seat is the token with which a pass takes steps on the table. Word 0 of the table is the next number. Word 1 is the
+//! least number noted.
 use atomic_table::{Join, Play, Split, TableRule};
 use std::collections::LinkedList;
 
@@ -14,7 +15,8 @@ pub struct Counts {
 pub struct SeatView {
     /// The counts of the board. A seat has them because a step does not see the key of the table.
     pub counts: Counts,
-    /// The number of passes that it speaks for. The first seat begins with all of them; the seat of a pass has one.
+    /// The number of passes that the seat represents. The first seat begins with all of them. The seat of a pass
+    /// represents that pass alone.
     pub parts: u64,
     /// The numbers drawn, in order.
     pub draws: LinkedList<u64>,

@@ -54,8 +54,8 @@ pub fn write_answer(
     push_report(alloc, recovered.report(), asked, text)
 }
 
-/// Appends the choice: `choice` and the number of the checkpoint or `none`, then `skipped` and `nameless` with their
-/// numbers, if there are any.
+/// Appends the line of the choice: `choice`, and the number of the chosen checkpoint or `none`. Then come `skipped` and
+/// `nameless`, each with its numbers, or left out if it has none.
 fn write_choice(report: &Report, text: &mut Vec<u8>) -> io::Result<()> {
     match report.checkpoint {
         Some(number) => write!(text, "choice {number}")?,

@@ -2,7 +2,7 @@
 use crate::mistake::Mistake;
 use std::alloc::{AllocError, Global};
 
-/// A line with a meaning, and its number in the file, counted from 1.
+/// A line that is neither empty nor a comment, and its number in the file, counted from 1.
 #[derive(Clone, Copy)]
 pub struct Line<'a> {
     pub number: usize,
@@ -26,7 +26,7 @@ pub fn words_of(alloc: Global, text: &str) -> Result<Vec<&str>, AllocError> {
     text.split_whitespace().collect(alloc)
 }
 
-/// Returns the lines of a file that have a meaning. Empty lines and those that begin with `#` have none.
+/// Returns the lines of a file, except empty lines and those that begin with `#`.
 pub fn lines_of(alloc: Global, text: &str) -> Result<Vec<Line<'_>>, Mistake> {
     let mut lines = Vec::new(alloc);
     for (place, text) in text.lines().enumerate() {

@@ -79,7 +79,7 @@ impl Case {
         }
     }
 
-    /// Gives all sources buffers of this size. Err: no number from 1 to 65,536.
+    /// Gives all sources buffers of this size. Err: not a number from 1 to 65,536.
     fn use_buffers(&mut self, size: &str) -> Result<(), Mistake> {
         let size = small_of::<usize>(size)?;
         if size == 0 || size > LONGEST_BUFFER {
@@ -89,7 +89,7 @@ impl Case {
         Ok(())
     }
 
-    /// Has the case tried with its keys cut at these too. Err: they are no cuts.
+    /// Adds a way to try the case: with its keys cut at these. Err: the keys are not cuts.
     fn cut_at(&mut self, alloc: Global, words: &[&str]) -> Result<(), Mistake> {
         let keys = keys_of(alloc, words)?;
         // Checked here, so that the mistake names this line.
@@ -177,7 +177,7 @@ impl Case {
         Ok(text)
     }
 
-    /// Recovers the case from sources in this way. Err if a buffer is not back afterwards.
+    /// Recovers the case from sources in this way. Err if a buffer is not back in its slot afterwards.
     fn recover_from_sources<R: AllocGlobal + Threads + Sync>(
         &self,
         rt: &R,
@@ -224,7 +224,7 @@ impl Case {
     }
 }
 
-/// Whether a line of these words says what is expected.
+/// Whether these words are a line that states an expectation.
 fn is_expected(words: &[&str]) -> bool {
     match words {
         ["store"] | ["choice" | "report" | "fault", ..] => true,

@@ -50,7 +50,7 @@ pub struct Draft {
     /// The part, until it is encoded into the bytes. After that it takes no entry.
     part: Option<PartDraft>,
     pub bytes: Vec<u8>,
-    /// The call of `advance` from which on its source fails, if it does.
+    /// The first call of `advance` that fails on its source, counted from 1. None if the source does not fail.
     pub fails: Option<u64>,
 }
 
@@ -113,7 +113,7 @@ impl Draft {
         Ok(())
     }
 
-    /// Adds an entry to the part. Err if this is no part, or one that takes no entry any more.
+    /// Adds an entry to the part. Err if this is not a part, or if the part takes no more entries.
     fn add_entry(&mut self, alloc: Global, words: &[&str]) -> Result<(), Mistake> {
         let Some(part) = self.part.as_mut() else {
             return Err(Mistake::Misplaced);
@@ -122,7 +122,7 @@ impl Draft {
         Ok(())
     }
 
-    /// Makes its source fail from this call on. Calls count from 1.
+    /// Makes its source fail at this call of `advance` and all later ones. Calls count from 1.
     fn fail_from(&mut self, call: u64) -> Result<(), Mistake> {
         if call == 0 {
             return Err(Mistake::Number);
@@ -180,7 +180,7 @@ fn head_of(format: Format, words: &[&str]) -> Result<(PartHead, u64), Mistake> {
 }
 
 /// Changes the bytes: `bytes DIGITS ..` appends, `byte PLACE VALUE` replaces a byte, `cut LENGTH` keeps the first
-/// LENGTH. `spelled DIGITS ..` changes nothing. It is an Err if the bytes are not exactly these.
+/// LENGTH. `spelled DIGITS ..` changes nothing, and is an Err unless the bytes are exactly these.
 fn change(alloc: Global, words: &[&str], bytes: &mut Vec<u8>) -> Result<(), Mistake> {
     match words {
         ["bytes", digits @ ..] => push_digits(alloc, digits, bytes),

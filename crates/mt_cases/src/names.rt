@@ -44,8 +44,8 @@ pub fn begin_draft(alloc: Global, names: &[Named<'_>], words: &[&str]) -> Result
     }
 }
 
-/// Reads the block of a name: `name NAME log ..` or `name NAME part ..`, and the lines after it. `at` is the line read
-/// last.
+/// Reads the block of a name: `name NAME log ..` or `name NAME part ..`, and the lines after it. Sets `at` to the line
+/// that a mistake is reported for.
 pub fn read_name<'a>(
     alloc: Global,
     names: &[Named<'_>],

@@ -60,7 +60,7 @@ fn columns_of(alloc: Global, words: &[&str]) -> Result<Columns, Mistake> {
     Ok(columns)
 }
 
-/// Adds the column `NUMBER=VALUE`. Err if it is none, or cannot follow the columns before it.
+/// Adds the column `NUMBER=VALUE`. Err if the word is not a column, or if the column cannot follow those before it.
 fn push_column(alloc: Global, word: &str, columns: &mut Columns) -> Result<(), Mistake> {
     let Some((number, value)) = word.split_once('=') else {
         return Err(Mistake::Column);

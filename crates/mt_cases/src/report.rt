@@ -13,7 +13,7 @@ pub fn names_of(alloc: Global, fields: &[&str]) -> Result<Vec<String>, Mistake> 
     Ok(names)
 }
 
-/// Appends a line for each list of names: `report`, and the report's fields of these names.
+/// Appends a line for each list of names: `report`, and the report lines of these names.
 pub fn push_report(
     alloc: Global,
     report: &Report,
@@ -27,7 +27,7 @@ pub fn push_report(
     Ok(())
 }
 
-/// Appends `report` and the fields of these names that the report's lines have.
+/// Appends a line: `report`, and for each name the report line that begins with it, if there is one.
 fn push_fields(lines: &str, names: &[String], text: &mut Vec<u8>) -> Result<(), Mistake> {
     text.extend_from_slice(b"report")?;
     for name in names {

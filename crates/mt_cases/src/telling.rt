@@ -13,12 +13,13 @@ use std::thread::Threads;
 pub struct Counts {
     pub held: u64,
     pub not_held: u64,
-    /// How many cases held and must not, or did not hold and must.
+    /// The number of cases that held but must not, or did not hold but must.
     pub wrong: u64,
 }
 
-/// Tries cases and reports on them: in `out` each case that does not hold, with what was expected and what came, and in
-/// `err` each case that did not end as it must. Lines with mistakes are reported in the same way.
+/// Tries cases and reports on them: in `out` each case that does not hold, with the expected and the actual text, and
+/// in `err` each case that did not end as it must. Lines with mistakes are reported in the same way. Its functions
+/// return an Err only if out of memory.
 #[derive(Drop)]
 pub struct Teller {
     pub out: Vec<u8>,
@@ -29,10 +30,10 @@ pub struct Teller {
 /// The result of a block.
 #[derive(Drop)]
 pub enum Trial {
-    /// The block is no case: a name, or the line `refused`.
+    /// The block is not a case: it is a name, or the line `refused`.
     NoCase,
     Holds,
-    /// The case does not hold: what was expected, and what came.
+    /// The case does not hold. This is the expected and the actual text.
     Differs(Vec<u8>),
 }
 
@@ -86,7 +87,7 @@ impl Teller {
         writeln!(self.err, "mt_cases: {file}: cannot be read")
     }
 
-    /// Reports the result of a block. `line` is the line read last.
+    /// Reports the result of a block. `line` is the line that the report names.
     fn tell(
         &mut self,
         file: &str,
@@ -116,7 +117,7 @@ impl Teller {
         Ok(())
     }
 
-    /// Counts a case that holds or does not. A wrong one should have done the other.
+    /// Counts a case that holds or does not hold. `is_wrong` says that it should have been the other way round.
     fn count(&mut self, holds: bool, is_wrong: bool) {
         let counts = &mut self.counts;
         counts.held = counts.held.saturating_add(u64::from(holds));
@@ -125,7 +126,7 @@ impl Teller {
     }
 }
 
-/// Adds the name that a block gives, or tries its case. `at` is the line read last.
+/// Adds the name that a block gives, or tries its case. Sets `at` to the line that the result is reported for.
 fn trial_of<'a, R: AllocGlobal + Threads + Sync>(
     rt: &R,
     names: &mut Vec<Named<'a>>,

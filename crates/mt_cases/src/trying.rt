@@ -9,7 +9,8 @@ use std::alloc::Global;
 use std::io::{self, Write};
 use std::thread::Threads;
 
-/// Tries a case in each pass and way, up to the first difference. `at` is the line read last.
+/// Tries a case in each pass (one for each value of `$n`) and each way of recovery, up to the first difference. Sets
+/// `at` to the line that the result is reported for.
 pub fn try_case<'a, R: AllocGlobal + Threads + Sync>(
     rt: &R,
     names: &[Named<'_>],
@@ -74,7 +75,7 @@ fn compare<R: AllocGlobal + Threads + Sync>(
     Ok(None)
 }
 
-/// Appends what was expected, and what came.
+/// Appends the expected text, the way and the pass, and the actual text.
 fn write_difference(
     way: Way,
     pass: Option<u64>,
@@ -92,7 +93,7 @@ fn write_difference(
     Ok(text.extend_from_slice(came)?)
 }
 
-/// Appends the way in which it came.
+/// Appends the way in which the case was recovered.
 fn write_way(way: Way, text: &mut Vec<u8>) -> io::Result<()> {
     match way {
         Way::Memory => write!(text, "came, from memory"),

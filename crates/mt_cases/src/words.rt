@@ -5,7 +5,7 @@ use std::alloc::Global;
 /// The most repetitions in a word.
 const MOST_TIMES: u64 = 1_048_576;
 
-/// Reads a decimal number. Err if it is none, or above `u64::MAX`.
+/// Reads a decimal number. Err if the word is not one, or is above `u64::MAX`.
 pub fn number_of(word: &str) -> Result<u64, Mistake> {
     match word.parse::<u64>() {
         Ok(number) => Ok(number),
@@ -13,7 +13,7 @@ pub fn number_of(word: &str) -> Result<u64, Mistake> {
     }
 }
 
-/// Reads a decimal number of this type. Err if it is none, or too great for the type.
+/// Reads a decimal number of this type. Err if the word is not one, or is too great for the type.
 pub fn small_of<T: TryFrom<u64>>(word: &str) -> Result<T, Mistake>
 where
     T::Error: Drop,
@@ -24,7 +24,8 @@ where
     }
 }
 
-/// Splits a word such as `k*1024` into what is repeated and how often: once if it does not say. Err: too often.
+/// Splits a word such as `k*1024` into the text and the number of its repetitions, which is 1 if the word has no `*`.
+/// Err: the number is not decimal, or is above `MOST_TIMES`.
 fn repeated(word: &str) -> Result<(&str, u64), Mistake> {
     let Some((once, times)) = word.split_once('*') else {
         return Ok((word, 1));
@@ -51,7 +52,7 @@ pub fn bytes_of(alloc: Global, word: &str) -> Result<Vec<u8>, Mistake> {
     Ok(bytes)
 }
 
-/// Appends the bytes of a word: pieces joined by `+`, each of them text, or hexadecimal after `0x`, and perhaps
+/// Appends the bytes of a word: pieces joined by `+`. Each is text, or hexadecimal digits after `0x`, and may be
 /// repeated.
 fn push_word(alloc: Global, word: &str, out: &mut Vec<u8>) -> Result<(), Mistake> {
     for piece in word.split('+') {
@@ -61,7 +62,7 @@ fn push_word(alloc: Global, word: &str, out: &mut Vec<u8>) -> Result<(), Mistake
     Ok(())
 }
 
-/// Appends the bytes of a piece, perhaps repeated: hexadecimal digits or text.
+/// Appends the bytes of a piece: hexadecimal digits or text, which may be repeated.
 fn push_piece(alloc: Global, piece: &str, is_hex: bool, out: &mut Vec<u8>) -> Result<(), Mistake> {
     let (once, times) = repeated(piece)?;
     if is_hex {
@@ -70,7 +71,7 @@ fn push_piece(alloc: Global, piece: &str, is_hex: bool, out: &mut Vec<u8>) -> Re
     push_times(once.as_bytes(), times, out)
 }
 
-/// Appends the line of these words as it is printed: their bytes, with a space between two of them.
+/// Appends the line that these words make: the bytes of each, with one space between words, and a line feed.
 pub fn push_line(alloc: Global, words: &[&str], text: &mut Vec<u8>) -> Result<(), Mistake> {
     for (place, word) in words.iter().enumerate() {
         if place > 0 {
@@ -100,7 +101,7 @@ fn decoded(alloc: Global, digits: &str) -> Result<Vec<u8>, Mistake> {
     }
 }
 
-/// Appends the bytes of words of hexadecimal digits, each perhaps repeated.
+/// Appends the bytes of words of hexadecimal digits, each of which may be repeated.
 pub fn push_digits(alloc: Global, words: &[&str], out: &mut Vec<u8>) -> Result<(), Mistake> {
     for word in words {
         push_piece(alloc, word, true, out)?;

@@ -16,7 +16,7 @@ use Rattle.mt_record.proofs.Numbers.{AreBytes, bytes_front, bytes_back, bytes_pa
 
 -- ---- prefixes, for any type that has an encoding
 
--- if the bytes begin with no encoding, but are a prefix of one, the prefix is proper
+-- if the bytes do not begin with an encoding, but are a prefix of one, the prefix is proper
 lacks : {H : Type 0} (Is : H → Type 0) (spelled : H → List ℕ) (head : H) (bytes more : List ℕ) → Is head → NoneBegins Is spelled bytes → spelled head ≡ bytes ++ more → 0 < length more
 lacks Is spelled head bytes [] is none e = absurd (none head [] is (sym (append-nil bytes) ∙ sym e ∙ sym (append-nil (spelled head))))
 lacks Is spelled head bytes (x ∷ more) is none e = omega arith
@@ -30,7 +30,7 @@ cut_none Is spelled size long bytes cut other rest too f =
     omega (arith, whole, front, cut.some, long cut.head, long other)
 
 -- Bytes go with a magic if they begin with it or are a prefix of it.
--- If every encoding begins with a magic, bytes that go with no magic show that there is none.
+-- If every encoding begins with a magic, bytes that do not go with a magic show that there is no encoding.
 pub shows_none : {H : Type 0} (Is : H → Type 0) (spelled : H → List ℕ) (letters : List ℕ) (format_of : H → Format)
     → ((head : H) → (rest : List ℕ) × (spelled head ≡ magic letters (format_of head) ++ rest)) → (bytes : List ℕ) → (GoesWithMagic letters bytes → ⊥) → ShowsNone Is spelled bytes
 shows_none Is spelled letters format_of begins bytes not_so = (
@@ -68,7 +68,7 @@ module _ {H : Type 0} (Is : H → Type 0) (spelled : H → List ℕ) (letters : 
   alike bytes (format, inr u) small =
       tail_alike format bytes u.0 [] (sym u.1 ∙ sym (append-nil bytes)) (bytes_back (magic letters format) u.0 (subst AreBytes u.1 small))
 
-  -- so bytes that go with a magic and begin with no encoding are a proper prefix of one
+  -- so bytes that go with a magic but do not begin with an encoding are a proper prefix of one
   pub cut_front : (bytes : List ℕ) → GoesWithMagic letters bytes → AreBytes bytes → NoneBegins Is spelled bytes → IsCutFront Is spelled bytes
   cut_front bytes goes small none =
       let one = alike bytes goes small in
@@ -95,7 +95,7 @@ letters_go letters bytes more e =
     let digit = (limits_of widest_format).digit ∷ [] in
     (widest_format, inl (more ++ digit, ap (λ (x : List ℕ). x ++ digit) e ∙ append_assoc bytes more digit))
 
--- bytes that begin with no magic and are no prefix of the letters go with no magic
+-- bytes that neither begin with a magic nor are a prefix of the letters do not go with a magic
 goes_not : (letters bytes : List ℕ) → ((format : Format) (more : List ℕ) → bytes ≢ magic letters format ++ more) → ((rest : List ℕ) → letters ≢ bytes ++ rest)
     → GoesWithMagic letters bytes → ⊥
 goes_not letters bytes none longer (format, inr u) = none format u.0 u.1
@@ -111,7 +111,7 @@ goes_not letters bytes none longer (format, inl (x ∷ more, e)) = elim (apart l
         let back = ap length behind ∙ length-append letters tail in
         nil_from_length tail (omega (arith, front, back, length-append letters ((limits_of format).digit ∷ [])))
 
--- bytes that begin with no magic go with one exactly if they are a prefix of the letters
+-- bytes that do not begin with a magic go with one exactly if they are a prefix of the letters
 pub letters_left : {X : Type 0} (letters bytes : List ℕ) (found : Option X) (starts : Bool) → false ≡ is_some found
     → IfNone found ((format : Format) (more : List ℕ) → bytes ≢ magic letters format ++ more)
     → (starts ≡ true → letters ≡ bytes ++ drop (length bytes) letters) × ((rest : List ℕ) → letters ≡ bytes ++ rest → starts ≡ true)
@@ -131,6 +131,6 @@ log_whole format xs long small =
 pub log_none : (bytes : List ℕ) → (GoesWithMagic (codes "MTL") bytes → ⊥) → ShowsNone IsHead head_bytes bytes
 log_none = shows_none IsHead head_bytes (codes "MTL") (λ (head : Head). head.format) (λ head. (big_bytes 8 head.from, refl))
 
--- bytes that go with it and begin with no header are a proper prefix of one
+-- bytes that go with it but do not begin with a header are a proper prefix of one
 pub log_cut : (bytes : List ℕ) → GoesWithMagic (codes "MTL") bytes → AreBytes bytes → NoneBegins IsHead head_bytes bytes → IsCutFront IsHead head_bytes bytes
 log_cut = cut_front IsHead head_bytes (codes "MTL") 8 log_whole

@@ -156,7 +156,7 @@ same_fields bytes fields change are fits e =
     let key = same_counted fields.key.now change.key fields.carried.now (kind_bytes change.kind) are.key_fits fits.key version.1 in
     (version.0, key.0, key.1)
 
--- if no kind with this byte carries the bytes after the key, the bytes are no change of such a kind
+-- if no kind with this byte carries the bytes after the key, the bytes are not a change of such a kind
 pub no_change : (code : ℕ) (bytes : List ℕ) (fields : ChangeFields) → SpellFields bytes fields → (HasKind code fields.carried.now → ⊥) → IsNoChange code bytes
 no_change code bytes fields are none change fits same e =
     none (change.kind, record { code = same; spelled = (same_fields bytes fields change are fits e).2; fits = fits.kind })

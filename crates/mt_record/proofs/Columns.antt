@@ -24,7 +24,7 @@ spelled_tail n bytes after c (d ∷ ds) fits e s =
     let same = same_column c d after (flat_map column_bytes ds) fits s.fits.0 (sym e ∙ s.spelled) in
     (ds, record { number = omega (arith, s.number); spelled = same.1; fits = s.fits.1 })
 
--- bytes that begin with no column are not n columns, for n above 0
+-- bytes that do not begin with a column are not n columns, for n above 0
 pub no_columns : (n : ℕ) (bytes : List ℕ) → ((c : ℕ × List ℕ) (more : List ℕ) → FitsColumn c → bytes ≡ column_bytes c ++ more → ⊥) → 0 < n
     → HasColumns n bytes → ⊥
 no_columns n bytes none some ([], s) = absurd (omega (arith, s.number))

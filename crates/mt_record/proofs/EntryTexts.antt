@@ -33,14 +33,14 @@ whole_code Remove whole = absurd whole
 whole_code (Whole columns) whole = refl
 whole_code (Erase numbers) whole = absurd whole
 
--- if the bytes are the fields of a change for which `P` holds, and `P` holds for no lawful entry, they are the fields of no entry
+-- if the bytes are the fields of a change for which `P` holds, and `P` holds for no lawful entry, they are not the fields of any entry
 other_entry : (format : Format) (bytes : List ℕ) (P : Change → Type 0) → IsChangeWith 0 bytes P → ((entry : Change) → IsEntry (limits_of format) entry → P entry → ⊥)
     → (entry : Change) → IsEntry (limits_of format) entry → bytes ≢ change_bytes entry
 other_entry format bytes P has refused entry is e =
     let same : has.change ≡ entry = same_change has.change entry has.fits (entry_fits format entry is) (has.code ∙ sym (whole_code entry.kind is.1)) (sym has.spelled ∙ e) in
     refused entry is (subst P same has.holds)
 
--- bytes with a fault of a `Whole` are the fields of no entry
+-- bytes with a fault of a `Whole` are not the fields of any entry
 pub no_entry_text : (format : Format) (bytes : List ℕ) (what : What) → IsChangeFault (limits_of format) 0 bytes what → AreNoFields (limits_of format) bytes
 no_entry_text format bytes Length h entry is e = h
 no_entry_text format bytes Trailer h entry is e = h
@@ -66,7 +66,7 @@ same_parts body fields n fits_body fits_fields fits_n e =
 short_fields : (format : Format) (entry : Change) → IsEntry (limits_of format) entry → length (change_bytes entry) < 2 ^ 32
 short_fields format entry is = short_entry format (length (change_bytes entry)) (entry_length (limits_of format) entry is)
 
--- framed bytes that are the fields of no entry are a wrong entry
+-- framed bytes that are not the fields of any entry are a wrong entry
 pub wrong_entry : (format : Format) (bytes body after : List ℕ) → IsFrame (IsEntryLength (limits_of format)) bytes body after
     → AreNoFields (limits_of format) body → HasWrongEntry (limits_of format) bytes
 wrong_entry format bytes body after frame none = (
@@ -83,7 +83,7 @@ other_length format bytes (f, differs) = (
       differs (parts.1 ∙ ap length (sym parts.0)),
 )
 
--- bytes with a frame fault show that they begin with no entry
+-- bytes with a frame fault show that they do not begin with an entry
 pub frame_no_entry : (format : Format) (bytes : List ℕ) (what : What) → IsFrameFault (IsEntryLength (limits_of format)) bytes what → ShowsNoEntry (limits_of format) bytes
 frame_no_entry format bytes Length h = inl h
 frame_no_entry format bytes Trailer h = inr (other_length format bytes h)
@@ -94,7 +94,7 @@ frame_no_entry format bytes Key h = absurd h
 frame_no_entry format bytes Columns h = absurd h
 frame_no_entry format bytes Clock h = absurd h
 
--- if a check returns a fault of a `Whole`, the bytes are the fields of no entry
+-- if a check returns a fault of a `Whole`, the bytes are not the fields of any entry
 pub entry_fault : (format : Format) (bytes : List ℕ) (outcome : Result (Unit {0}) What) → IfErr outcome (IsChangeFault (limits_of format) 0 bytes) → OnErr outcome (AreNoFields (limits_of format) bytes)
 entry_fault format bytes (Ok u) h = tt
 entry_fault format bytes (Err what) h = no_entry_text format bytes what h

@@ -165,11 +165,11 @@ one_rest format low rest a b h k = both (tested_rest a format low rest h) (teste
 
 -- ---- what ends the records
 
--- the rest begins with no lawful record whose timestamp is at least `low`
+-- the rest does not begin with a lawful record whose timestamp is at least `low`
 abbrev pub Stops : Limits → ℕ → List ℕ → Type 0
 Stops limits low rest = (r : Logged) (after : List ℕ) → IsLawful limits r → low ≤ r.timestamp → rest ≢ spelling r ++ after
 
--- if the rest has a fault, it begins with no such record
+-- if the rest has a fault, it does not begin with such a record
 pub fault_stops : (format : Format) (low : ℕ) (rest : List ℕ) (a : What) → RestFault a (limits_of format) low rest → Stops (limits_of format) low rest
 fault_stops format low rest a h r after is le e =
     let own = body_frames format rest (body r) after (lawful_length (limits_of format) r is) e in
@@ -182,7 +182,7 @@ fault_stops format low rest a h r after is le e =
 no_end : (format : Format) (rest : List ℕ) → (rest ≡ []) ⊎ IsTorn (limits_of format) rest → Begins (IsRecordLength (limits_of format)) (length_fits format) rest → ⊥
 no_end format rest = none_begins (IsRecordLength (limits_of format)) (length_fits format) rest
 
--- so it begins with no such record
+-- so it does not begin with such a record
 pub end_stops : (format : Format) (low : ℕ) (rest : List ℕ) → (rest ≡ []) ⊎ IsTorn (limits_of format) rest → Stops (limits_of format) low rest
 end_stops format low rest ends r after is le e =
     no_end format rest ends (frame_begins (IsRecordLength (limits_of format)) (length_fits format) rest (body_frames format rest (body r) after (lawful_length (limits_of format) r is) e))

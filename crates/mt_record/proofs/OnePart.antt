@@ -34,7 +34,7 @@ pub entry_free : (format : Format) (a b : Change) (more : List ℕ) → IsEntry 
     → entry_spelling b ≡ entry_spelling a ++ more → (a ≡ b) × (more ≡ [])
 entry_free format a b more is_a is_b e = same_entry format a b more [] is_a is_b (sym e ∙ sym (append-nil (entry_spelling b)))
 
--- bytes that begin with a length that no entry has begin with no entry
+-- bytes that begin with a length that no entry has do not begin with an entry
 pub length_no_entry : (format : Format) (rest : List ℕ) (n : ℕ) (more : List ℕ) → n < 2 ^ 32 → (IsEntryLength (limits_of format) n → ⊥) → rest ≡ big_bytes 4 n ++ more
     → HasNoEntry (limits_of format) rest
 length_no_entry format rest n more fits wrong e entry behind is other =
@@ -44,7 +44,7 @@ length_no_entry format rest n more fits wrong e entry behind is other =
     (sym e ∙ other ∙ framed_apart fields behind) in
     wrong (subst (IsEntryLength (limits_of format)) (sym same.0) long)
 
--- bytes that begin with a footer begin with no entry
+-- bytes that begin with a footer do not begin with an entry
 pub footer_no_entry : (format : Format) (rest more : List ℕ) (end count : ℕ) → rest ≡ footer_bytes end count ++ more → HasNoEntry (limits_of format) rest
 footer_no_entry format rest more end count e = length_no_entry format rest 0 (big_bytes 8 end ++ (big_bytes 4 count ++ more)) (omega arith) (λ is. omega (arith, is.0)) e
 

@@ -71,13 +71,13 @@ module _ (format : Format) where
       let enough = whole.footer (sym same.0) in
       omega (arith, enough, ap length same.1, short)
 
-  -- so it begins with no entry
+  -- so it does not begin with an entry
   left_no_entry : (rest : List ℕ) → (rest ≡ []) ⊎ IsCutItem limits rest → HasNoEntry limits rest
   left_no_entry rest left entry more is e = none_left rest left (frame_whole rest (entry_frame rest more entry is e))
 
   -- ---- what shows that there is no part
 
-  -- bytes with a wrong entry at the front begin with no entry
+  -- bytes with a wrong entry at the front do not begin with an entry
   wrong_no_entry : (rest : List ℕ) → HasWrongEntry limits rest → HasNoEntry limits rest
   wrong_no_entry rest (f, no_entry) entry behind is other =
       let fields = change_bytes entry in
@@ -176,7 +176,7 @@ shown_fault (faults.Broken number entries) bytes (front, h) =
     }
 shown_fault faults.Memory bytes h = h
 
--- a proper prefix of a header begins with no header
+-- a proper prefix of a header does not begin with a header
 cut_no_header : (bytes : List ℕ) → IsCutFront IsPartHead part_head_bytes bytes → HasNoPartHeader bytes
 cut_no_header bytes cut = cut_none IsPartHead part_head_bytes 20 (λ head. refl) bytes cut
 

@@ -34,6 +34,6 @@ pub part_none : (bytes : List ℕ) → (GoesWithMagic (codes "MTC") bytes → �
 part_none = shows_none IsPartHead part_head_bytes (codes "MTC") (λ (head : PartHead). head.format)
     (λ head. (big_bytes 4 head.number ++ (big_bytes 8 head.begin ++ (big_bytes 2 head.part ++ big_bytes 2 head.parts)), refl))
 
--- bytes that go with it and begin with no header are a proper prefix of one
+-- bytes that go with it but do not begin with a header are a proper prefix of one
 pub part_cut : (bytes : List ℕ) → GoesWithMagic (codes "MTC") bytes → AreBytes bytes → NoneBegins IsPartHead part_head_bytes bytes → IsCutFront IsPartHead part_head_bytes bytes
 part_cut = cut_front IsPartHead part_head_bytes (codes "MTC") 16 part_whole

@@ -70,7 +70,7 @@ pub record AreFieldsOf (limits : Limits) (bytes : List ℕ) (entry : Change) : T
 abbrev pub AreFields : List ℕ → Type 0
 AreFields bytes = (entry : Change) × AreFieldsOf widest bytes entry
 
--- the bytes are the fields of no lawful entry
+-- the bytes are not the fields of any lawful entry
 abbrev pub AreNoFields : Limits → List ℕ → Type 0
 AreNoFields limits bytes = (entry : Change) → IsEntry limits entry → bytes ≢ change_bytes entry
 
@@ -88,7 +88,7 @@ pub record IsChangeOf (limits : Limits) (byte : ℕ) (bytes : List ℕ) (change 
   pub code : kind_byte change.kind ≡ byte
   pub spelled : bytes ≡ change_bytes change
 
--- the bytes are the fields of no change whose kind has this byte, lawful or not
+-- the bytes are not the fields of any change, lawful or not, whose kind has this byte
 abbrev pub IsNoChange : ℕ → List ℕ → Type 0
 IsNoChange code bytes = (change : Change) → FitsChange change → kind_byte change.kind ≡ code → bytes ≢ change_bytes change
 

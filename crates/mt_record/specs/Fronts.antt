@@ -1,4 +1,4 @@
--- What bytes begin with, for any type that has an encoding.
+-- Whether bytes begin with an encoding, for any type of values that has one.
 use Rattle.std.specs.Prelude.{◌≡◌, ◌≢◌, ◌<◌, ◌⊎◌, ℕ, Option, Some, None, Result, Ok, Err, List, [], ◌++◌, length}
 use Rattle.std.specs.Borrow.{Bor}
 use Rattle.mt_words.specs.declared.limits.Format.{Format}
@@ -17,7 +17,7 @@ abbrev pub bytes_of : {H : Type 0} → (H → List ℕ) → Option H → List �
 bytes_of spelled None = []
 bytes_of spelled (Some head) = spelled head
 
--- the bytes begin with the encoding of no value that satisfies `Is`
+-- the bytes do not begin with the encoding of any value that satisfies `Is`
 abbrev pub NoneBegins : {H : Type 0} → (H → Type 0) → (H → List ℕ) → List ℕ → Type 0
 NoneBegins {H} Is spelled bytes = (head : H) (more : List ℕ) → Is head → bytes ≢ spelled head ++ more
 

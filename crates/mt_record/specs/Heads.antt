@@ -16,6 +16,6 @@ head_bytes head = magic (codes "MTL") head.format ++ big_bytes 8 head.from
 abbrev pub IsHead : Head → Type 0
 IsHead head = head.from < 2 ^ 64
 
--- the bytes begin with no header
+-- the bytes do not begin with a header
 abbrev pub HasNoHeader : List ℕ → Type 0
 HasNoHeader bytes = NoneBegins IsHead head_bytes bytes

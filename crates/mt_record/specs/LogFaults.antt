@@ -50,7 +50,7 @@ pub record IsBodyOfEarlier (limits : Limits) (low : ℕ) (bytes : List ℕ) : Ty
   pub earlier : logged.timestamp < low
 
 -- The first fault of a body after a record with timestamp `low`. For all but `Kind`, the format has the kind of the first byte.
--- `Frame`: the bytes are the body of no record, lawful or not.
+-- `Frame`: the bytes are not the body of any record, lawful or not.
 abbrev pub BodyFault : What → Limits → ℕ → List ℕ → Type 0
 BodyFault Length limits low bytes = ⊥
 BodyFault Trailer limits low bytes = ⊥

@@ -12,11 +12,11 @@ use Rattle.mt_record.specs.Fronts.{NoneBegins}
 use Rattle.mt_record.specs.Parts.{part_head_bytes, IsPartHead, entry_spelling, PartReading, IsPartReading}
 use Rattle.mt_record.specs.LogFaults.{OrMemory}
 
--- the bytes begin with no header of a part
+-- the bytes do not begin with the header of a part
 abbrev pub HasNoPartHeader : List ℕ → Type 0
 HasNoPartHeader bytes = NoneBegins IsPartHead part_head_bytes bytes
 
--- the bytes begin with no lawful entry
+-- the bytes do not begin with a lawful entry
 abbrev pub HasNoEntry : Limits → List ℕ → Type 0
 HasNoEntry limits bytes = NoneBegins (IsEntry limits) entry_spelling bytes
 

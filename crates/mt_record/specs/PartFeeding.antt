@@ -24,7 +24,7 @@ use Rattle.mt_record.specs.Feeding.{Steps, Fed, IsFedBy}
 abbrev pub HasWrongLength : Limits → List ℕ → Type 0
 HasWrongLength limits rest = (fault : HasLengthFault (IsEntryLength limits) rest) × (0 < fault.number)
 
--- the bytes begin with an allowed length of an entry, that many bytes and a number, and these are no lawful entry
+-- the bytes begin with an allowed length of an entry, that many bytes and a number, but these are not a lawful entry
 abbrev pub HasWrongEntry : Limits → List ℕ → Type 0
 HasWrongEntry limits rest = (frame : HasFrame (IsEntryLength limits) rest)
     × ((entry : Change) → IsEntry limits entry → big_bytes 4 (length frame.body) ++ (frame.body ++ big_bytes 4 frame.number) ≢ entry_spelling entry)
@@ -45,7 +45,7 @@ pub record HasMore (count : ℕ) (rest : List ℕ) : Type 0 where
   pub more : List ℕ
   pub spelled : rest ≡ footer_bytes end count ++ byte ∷ more
 
--- the bytes show that they begin with no entry
+-- the bytes show that they do not begin with an entry
 abbrev pub ShowsNoEntry : Limits → List ℕ → Type 0
 ShowsNoEntry limits rest = HasLengthFault (IsEntryLength limits) rest ⊎ HasWrongEntry limits rest
 

@@ -17,7 +17,7 @@ pub struct Feed<I: Items> {
 }
 
 impl<I: Items> Feed<I> {
-    /// Creates a feed for these items, to which no chunk was fed.
+    /// Creates a feed for these items that has read no chunk.
     pub fn new(alloc: Global, items: I) -> Feed<I>
         ensures fed { (taken : I.Taken) → HoldsAll (I.holds taken) I.is_left items [] [] →
             IsFedBy (I.holds taken) I.is_left I.shows result.items result.held.items result.fault [] }

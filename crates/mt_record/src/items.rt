@@ -31,7 +31,7 @@ pub trait Items {
         ensures { Steps holds is_left shows self.old self.new bytes.now result };
 
     /// Returns how many bytes the unfinished item in `held` asks for. The number only says how many bytes to collect
-    /// before the next try, so no number is wrong.
+    /// before the next try, so any number is right.
     fn bytes_wanted(&self, held: &[u8]) -> usize;
 
     /// An allocation may fail at any time.

@@ -32,7 +32,7 @@ impl<E: Entries> Model for PartFeed<E> {
 }
 
 impl PartFeed {
-    /// Creates a feed to which no chunk was fed.
+    /// Creates a feed that has read no chunk.
     pub fn new(alloc: Global) -> PartFeed
         ensures fed { IsPartFed result [] }
         ensures sound { result.fault ≡ None }
@@ -42,7 +42,7 @@ impl PartFeed {
 }
 
 impl PartFeed<KeptEntries> {
-    /// Creates a feed to which no chunk was fed. It keeps the bodies of entries.
+    /// Creates a feed that has read no chunk. It keeps the bodies of entries.
     pub fn keeping(alloc: Global) -> PartFeed<KeptEntries>
         ensures fed { IsPartFed result [] }
         ensures sound { result.fault ≡ None }
@@ -52,7 +52,7 @@ impl PartFeed<KeptEntries> {
 }
 
 impl<E: Entries> PartFeed<E> {
-    /// Creates a feed to which no chunk was fed. It collects entries in `entries`, which must be empty.
+    /// Creates a feed that has read no chunk. It collects entries in `entries`, which must be empty.
     fn filling(alloc: Global, entries: E) -> PartFeed<E>
         requires { E.listed entries ≡ [] }
         ensures fed { IsPartFed result [] }

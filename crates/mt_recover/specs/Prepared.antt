@@ -48,8 +48,8 @@ pub record PreparedView : Type 0 where
 abbrev pub reported : PreparedView → ℕ → ℕ → Report
 reported prepared keys layers = report_of prepared.counts prepared.early (length prepared.updates) keys layers
 
--- this was prepared from these logs and parts, which have no gap: the updates are the survivors, in some order, and for any pairs the report made of
--- it is that of these facts and pairs
+-- This was prepared from these logs and parts, which have no gap. Its updates are the survivors, in some order. For any pairs, with their layers
+-- counted, the report made from it is the report of these facts and pairs.
 pub record IsPreparedOf (logs parts : List (List ℕ)) (prepared : PreparedView) : Type 0 where
   pub facts : Facts logs parts
   pub no_gap : (i : ℕ) → IsGap (begin_of facts.chosen) facts.readings i → ⊥

@@ -19,8 +19,8 @@ use mt_tree::Draft;
 use mt_words::{Fault, Memory};
 use std::alloc::Global;
 
-/// Assembles the store of the job and its report. The hauls may come in any order. A pass that does not come back is no
-/// fault.
+/// Assembles the store of the job and its report. The hauls may come in any order. A pass that does not come back is
+/// not a fault.
 ///
 /// Err: `Missing` with the least piece that no haul holds, or `Memory`.
 pub fn assemble(

@@ -78,8 +78,8 @@ impl Recovered {
 
 /// Recovers the store of the logs and checkpoint parts that the sources have, and its report, on one thread. If there
 /// is a valid checkpoint that ends below the cutoff, replays the logs over the last such checkpoint, from where it
-/// begins. A broken part is no fault. Scans each log once, in the order of the list, and then each part. Reads nothing
-/// if there is no log. No source outlives the call.
+/// begins. A broken part is not a fault. Scans each log once, in the order of the list, and then each part. Reads
+/// nothing if there is no log. No source outlives the call.
 ///
 /// An Err is the first of these that holds:
 /// - `NoLogs`, if there is no log;
@@ -184,7 +184,7 @@ fn work_with<G: Gate>(alloc: Global, job: &Job, mut pass: Pass, gate: &G) -> Wor
     Some((pass, haul))
 }
 
-/// Returns the passes and the hauls. Err: a worker ran out of memory, or this call did.
+/// Splits the workers' results into passes and hauls. Err: a worker ran out of memory, or this call did.
 fn settle(
     alloc: Global,
     job: &Job,

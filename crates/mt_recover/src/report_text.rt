@@ -46,7 +46,7 @@ fn write_lines<W: Write>(f: &mut Formatter<W>, numbers: &[(&str, u128)]) -> fmt:
     Ok(())
 }
 
-/// Writes the line of a list.
+/// Writes a list as one line: `name=` and the numbers with commas between them, or `name=none`.
 fn write_list<T: Display, W: Write>(
     f: &mut Formatter<W>,
     name: &str,

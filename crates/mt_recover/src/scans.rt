@@ -1,5 +1,5 @@
-//! Scans all logs and checkpoint parts. The scans of logs share a board, so that each can drop updates that come too
-//! late for another log.
+//! Scans all logs and checkpoint parts. The scans of logs share a board with the least last timestamp so far. Each
+//! drops the updates at or past that timestamp: they are too late to survive.
 ghost use Rattle.std.specs.Prelude.{◌≡◌, ◌<◌, ◌≤◌, ◌++◌, [], ◌∷◌, map, length, All, IfOk, OnOk, option_to_list};
 ghost use Rattle.std.specs.Vec.Iter.{into_iter_items};
 ghost use Rattle.mt_board.specs.Board.{nothing_noted};
@@ -78,7 +78,7 @@ struct Scans {
 }
 
 /// Scans the logs and then the parts, one after the other. Drops each source after its scan. Reads nothing if there is
-/// no log. Drops an update if it comes too late for a log that was scanned before.
+/// no log. Drops the updates of a log at or past the least last timestamp of the logs scanned before it.
 pub(crate) fn scan_one<S: Source>(alloc: Global, inputs: Inputs<S>) -> Result<Outcomes, Memory>
     ensures { IfOk result (AreOutcomes (map S.seen inputs.logs.items) (map S.seen inputs.parts.items)) }
 {
@@ -92,8 +92,8 @@ pub(crate) fn scan_one<S: Source>(alloc: Global, inputs: Inputs<S>) -> Result<Ou
     gather_scans(alloc, board, all_done(alloc, scans)?)
 }
 
-/// Does the same as `scan_one` on several threads. Drops an update if it comes too late for a log that any of them has
-/// scanned.
+/// Does the same as `scan_one`, but on several threads. Drops the updates of a log at or past the least last timestamp
+/// of the logs that any thread has scanned by then.
 pub(crate) fn scan_all<R: Threads + Sync, S: Source + Send>(
     rt: &R,
     alloc: Global,

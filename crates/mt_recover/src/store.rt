@@ -41,8 +41,8 @@ impl Store {
         Store { tree }
     }
 
-    /// Returns the columns of this key, or None if it is absent. The key may have any length: no key of a store is longer
-    /// than `LONGEST_KEY` bytes, so a longer one is absent.
+    /// Returns the columns of this key, or None if it is absent. The key may have any length: no key of a store is
+    /// longer than `LONGEST_KEY` bytes, so a longer one is absent.
     pub fn get(&self, key: &[u8]) -> Option<&Columns<Kept>>
         ensures { MatchOption result
             ((columns : List (ℕ × List ℕ)) → Contains self.now (key.now, columns) → ⊥)

@@ -80,9 +80,8 @@ impl LogCells {
         Ok(lists)
     }
 
-    /// Returns the entries of a checkpoint. No window leaves any out. If their keys rise already, as in a valid
-    /// checkpoint, the entries stay where they are.
-    /// Err: out of memory.
+    /// Returns the entries of a checkpoint, all of which survive. If their keys rise already, as in a valid checkpoint,
+    /// the entries stay where they are. Err: out of memory.
     pub fn of_entries(alloc: Global, entries: KeptEntries) -> Result<LogCells, Memory>
         ensures { IfOk result (λ cells. IsPermutation (wholes entries) cells) }
     {

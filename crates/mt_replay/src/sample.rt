@@ -33,8 +33,8 @@ pub(crate) fn sample<'a>(
     Ok(keys)
 }
 
-/// Returns the distance at which at most `most` keys are taken. It is the same for all lists, so a long list gives more
-/// keys than a short one.
+/// Returns the distance between sampled keys, in updates, at which at most `most` keys are taken. It is the same for
+/// all lists, so a long list gives more keys than a short one.
 fn distance_for(lists: &[LogCells], most: usize) -> usize
     requires { 0 < most }
     ensures { 0 < result }
@@ -46,7 +46,7 @@ fn distance_for(lists: &[LogCells], most: usize) -> usize
     updates.div_ceil(most).max(1)
 }
 
-/// Returns the keys at this distance in each list.
+/// Returns one key for each `distance` updates of each list. Err: out of memory.
 fn some_keys(alloc: Global, lists: &[LogCells], distance: usize) -> Result<Vec<&[u8]>, Memory>
     requires { 0 < distance }
     ensures { IfOk result (λ keys. All (IsKey widest) (map (λ key. key.now) keys.items)) }
@@ -58,7 +58,7 @@ fn some_keys(alloc: Global, lists: &[LogCells], distance: usize) -> Result<Vec<&
     Ok(keys)
 }
 
-/// Appends keys at this distance. Each is from the middle of the keys that it stands for.
+/// Appends one key for each `distance` updates of these cells, from the middle of those updates. Err: out of memory.
 fn add_some<'a>(
     keys: &mut Vec<&'a [u8]>,
     cells: &'a LogCells,

@@ -23,7 +23,7 @@ pub struct DroppingFeed {
 }
 
 impl DroppingFeed {
-    /// Creates a feed that was fed nothing.
+    /// Creates a feed that has read no chunk.
     pub fn new(alloc: Global) -> DroppingFeed
         ensures { (limit : ℕ) → IsFedBelow result limit [] }
     {

@@ -24,8 +24,8 @@ pub enum PartScan {
 }
 
 /// Reads the part with this number from its source, up to the end or the first fault of its bytes. It reads no further
-/// than that. A broken part is no error: its checkpoint is invalid. Err: `PartSource` if the source failed, or `Memory`
-/// if out of memory.
+/// than that. A broken part is not an error: its checkpoint is invalid. Err: `PartSource` if the source failed, or
+/// `Memory` if out of memory.
 pub fn scan_part<S: Source>(alloc: Global, source: &mut S, part: usize) -> Result<PartScan, Fault>
     ensures scan { IfOk result (λ scan. OfTold (S.seen source.old).told (λ bytes. IsKnown bytes (known_by scan))) }
     ensures fault { IfErr result (IsPartScanFault part) }

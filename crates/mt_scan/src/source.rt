@@ -30,8 +30,8 @@ pub trait Source: Drop {
         ensures { result.now ≡ (seen self.now).shown };
 }
 
-/// A box acts as the source inside it, of any kind. It holds only sources that borrow nothing. Sources that borrow can
-/// be put together in an enum that is a `Source`.
+/// A boxed source acts as the source in the box, whatever its type. Only a source that borrows nothing can be boxed so.
+/// To use sources of several kinds together that borrow, put them into an enum that is a `Source`.
 impl Source for Box<dyn Source + Send> {
     ghost seen = { λ b. (Source-box b).seen b.value };
 

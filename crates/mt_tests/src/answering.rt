@@ -9,7 +9,7 @@ use mt_scan::{FaultSource, Rack};
 use std::process::Abort;
 use std::thread::Threads;
 
-/// The calls of `advance` from which on the two logs and the part fail.
+/// The first calls of `advance` that fail: of each of the two logs, and of the part.
 type Calls = [u64; 3];
 
 /// The call for a source that does not fail. It is never made.
@@ -54,7 +54,7 @@ fn assert_answer<R: Abort + AllocGlobal + Threads + Sync>(
     assert!(rt; rack.all_full(), "{case}");
 }
 
-/// A line for each query, and what it prints if nothing fails.
+/// A command line for each query, and what it prints if nothing fails.
 const QUERIES: &[(&str, &str)] = &[
     (
         "mtrecover report F",

@@ -7,8 +7,8 @@ use std::fs::Files;
 use std::process::Abort;
 use std::thread::Threads;
 
-/// Returns the words of a line after the program's name, with this folder for each letter F. Two spaces in a row
-/// enclose the empty word.
+/// Returns the arguments in a command line, after the program's name. Each letter F stands for this folder. Two spaces
+/// in a row enclose an empty argument.
 pub fn words_on<R: Abort + AllocGlobal>(rt: &R, line: &str, folder: &str) -> Vec<String> {
     let mut words = Vec::new(rt.alloc());
     for word in line.split(' ').skip(1) {
@@ -18,17 +18,17 @@ pub fn words_on<R: Abort + AllocGlobal>(rt: &R, line: &str, folder: &str) -> Vec
     words
 }
 
-/// How a run ends: its status, and its output if that is 0, else its error output. The other of the two is empty. A
-/// text that ends in `..` stands for all texts that begin with what comes before `..`.
+/// How a run ends: its exit status, and the text that it prints. That is its output if the status is 0, else its error
+/// output; the other is empty. A text that ends in `..` gives only the beginning of what is printed.
 pub type Ends = (u8, &'static str);
 
-/// A line, and how the run on its words ends.
+/// A command line, and how the run on its arguments ends.
 pub type Run = (&'static str, Ends);
 
 /// An output and an error output that work.
 pub const BOTH_WORK: [Device; 2] = [Device::Works, Device::Works];
 
-/// Checks how the runs on these lines end, with the folder for the letter F and on these outputs.
+/// Checks how the runs on these command lines end, with the folder for the letter F and with these outputs.
 pub fn assert_runs<R>(rt: &R, folder: &str, devices: [Device; 2], runs: &[Run])
 where
     R: Abort + AllocGlobal + Clone + Drop + Files + Threads + Sync,
@@ -83,7 +83,7 @@ fn assert_text<R: Abort>(rt: &R, case: &str, found: &[u8], expected: &str) {
     }
 }
 
-/// Lines that are accepted, and what they ask for.
+/// Command lines that are accepted, and what they ask for.
 const TAKEN: &[(&str, &str)] = &[
     (
         "mtrecover report F",
@@ -112,7 +112,7 @@ fn takes_the_words_of_each_subcommand(rt: HostRuntime) {
     }
 }
 
-/// Checks that the words of the line are read as this command, and that nothing is printed.
+/// Checks that the arguments of the line are read as this command, and that nothing is printed.
 fn assert_taken<R: Abort + AllocGlobal>(rt: &R, line: &str, taken: &str) {
     let words = words_on(rt, line, "F");
     let mut out = Output::new(rt.alloc(), Device::Full);
@@ -122,7 +122,7 @@ fn assert_taken<R: Abort + AllocGlobal>(rt: &R, line: &str, taken: &str) {
     assert_bytes(rt, line, text.as_bytes(), taken.as_bytes());
 }
 
-/// Lines that are refused, or ask for help or the version, and how the run ends.
+/// Command lines that are refused, or ask for help or the version, and how the run ends.
 const UNTAKEN: &[Run] = &[
     ("mtrecover", (2, "Recovers the store..")),
     (
@@ -202,7 +202,8 @@ fn prints_help_and_the_faults_of_words(rt: HostRuntime) {
     assert_runs(&rt, "F", BOTH_WORK, UNTAKEN);
 }
 
-/// What begins a line, a text that follows, how often it does, the rest of the line, and how the run ends.
+/// Long command lines, and how the run on each ends. A line is given by its beginning, a text that follows, how often
+/// the text is repeated, and the rest.
 const LONG: &[(&str, &str, usize, &str, Ends)] = &[
     ("mtrecover get F ", "6b", 4096, "", TAKEN_KEY),
     ("mtrecover get F ", "6b", 4097, "", BAD_KEY),

@@ -154,7 +154,7 @@ const ON_BOTH_FAILING: &[Run] = &[
     ("mtdump", (2, "")),
 ];
 
-/// The runs by their output and error output.
+/// Lists of runs, each with the output and the error output of its runs.
 const RUNS: &[([Device; 2], &[Run])] = &[
     (BOTH_WORK, ON_BOTH),
     ([Full, Works], ON_FAILING),
@@ -293,7 +293,7 @@ const GREAT_REPORT: &str =
     "logs=1\nrecords=16376\nmarks=0\ntorn=1\ncutoff=1\ncheckpoint=none\nbegin=0\nskipped=none\n\
      nameless=none\nentries=0\nsurvivors=0\nearly=0\nlate=16376\nkeys=0\nlayers=1\n";
 
-/// Folders of one great log, and how runs on it end. Zeros begin no log. `mtdump` reads a complete file before it
+/// Folders of one great log, and how runs on it end. Zeros are not a log. `mtdump` reads a complete file before it
 /// checks the bytes, so it finds the size first. `mtrecover` checks the file chunk by chunk, so it finds the first
 /// bytes first.
 const GREAT: &[(&str, Entry, &[Run])] = &[

@@ -16,10 +16,10 @@ use std::slice;
 use std::sync::atomic::{AtomicU64, Ordering};
 use std::thread::Threads;
 
-/// How often a thread looks for the other at most.
+/// The most times that a thread looks for the other.
 const TURNS: u32 = 50_000_000;
 
-/// Whether the count reaches the number within that many looks.
+/// Whether the count reaches the number within `TURNS` looks.
 fn is_reached_in_time(count: &AtomicU64, number: u64) -> bool {
     for _turn in 0..TURNS {
         if count.load(Ordering::SeqCst) >= number {

@@ -1,5 +1,5 @@
-//! Out of memory. By themselves these tests see no failed allocation. `.ci/refuse_growths` runs them with one growth
-//! after the other refused, and so checks that a refused growth gives `Memory` and nothing else.
+//! Tests of what happens when memory runs out. Run alone, they see no failed allocation. `.ci/refuse_growths` makes
+//! their first allocation fail, then their second, and so on. Each run must give the expected result or `Memory`.
 use crate::asserting::assert_same;
 use crate::logs::{LOG_A, LOG_B, PART};
 use crate::tree::tree_of;

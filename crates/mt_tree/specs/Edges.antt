@@ -1,4 +1,4 @@
--- The first and the last place of a walk.
+-- The edges of a walk: its first and its last place.
 use Rattle.std.specs.Prelude.{ℕ, ◌+◌, ◌*◌, ◌<◌, ◌≤◌, ◌≡◌, List, ◌++◌, length, take}
 use Rattle.std.specs.List.{AllByRecursion}
 use Rattle.mt_words.specs.Slices.{AreBytes, slice_bytes}
@@ -15,8 +15,8 @@ pub record PlaceEdge (p : PlaceView) (slice len : ℕ) (below : List Pair) : Typ
 abbrev pub HasBytes : List Pair → Type 0
 HasBytes = AllByRecursion (λ p. AreBytes (take 8 p.0))
 
--- `top` has at least one pair, and all are of this slice and of this length, which is at most 9; if it is 9, they are the pairs of `below`
--- with the slice's bytes put before each key; the keys of the walk begin with bytes
+-- `top` is an edge of this slice and length: it has at least one pair, and all its pairs have them. The length is at most 9. If it is 9, the pairs
+-- are those of `below` with the slice's bytes put before each key. The first 8 numbers of each key of the walk `w` are bytes.
 pub record IsEdge (w top : List Pair) (slice len : ℕ) (below : List Pair) : Type 0 where
   pub bytes : HasBytes w
   pub fits : len ≤ 9

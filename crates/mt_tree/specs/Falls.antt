@@ -1,4 +1,4 @@
--- Each linked layer holds less than the layer that links to it.
+-- Each linked layer weighs less than the layer that links to it.
 use Rattle.std.specs.Prelude.{◌≡◌, ℕ, suc, ◌+◌, ◌*◌, ◌≤◌, List, [], ◌∷◌, ◌++◌, length}
 use Rattle.std.proofs.Common.{arith, ap, length-append, refl, sym, ◌∙◌, append_assoc}
 use denote.Param.Weighed.{most}

@@ -1,4 +1,4 @@
--- A layer of the tree as a list of places. Of each place, contracts see the pairs that it stands for.
+-- A layer of the tree as a list of places, and the pairs that each place stands for.
 use Rattle.std.specs.Prelude.{ℕ, suc, ◌+◌, ◌*◌, ◌^◌, ◌<◌, ◌≤◌, ◌≡◌, List, [], ◌∷◌, ◌++◌, length, take, drop, map, min, ⊤, Option, Some, None, if◌then◌else◌, nat_eq}
 use Rattle.std.specs.List.{AllByRecursion, flat_map}
 use Rattle.std.specs.Cmp.Lexicographic.{pointwise}
@@ -50,8 +50,8 @@ walk = flat_map pairs_at
 abbrev pub HasNoEmptyKey : List Pair → Type 0
 HasNoEmptyKey = AllByRecursion (λ p. 0 < length p.0)
 
--- the law of a place: its slice fits 64 bits, and it has a length of at most 8 with a slice that is zero past it, or a suffix of at least
--- one byte, or a link to at least two pairs, none with an empty key
+-- The law of a place. Its slice fits in 64 bits. A short one has a length of at most 8, and the bytes of its slice past that length are zero.
+-- A long one has a suffix of at least one byte. A link has at least two pairs, none with an empty key.
 abbrev pub IsPlace : PlaceView → Type 0
 IsPlace (short s l c) = (s < 2 ^ 64) × (l ≤ 8) × AllByRecursion (λ b. b ≡ 0) (drop l (slice_bytes s))
 IsPlace (long s t c) = (s < 2 ^ 64) × (0 < length t)

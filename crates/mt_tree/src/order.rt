@@ -61,7 +61,7 @@ fn edge_of_place<'a>(place: &'a DraftPlace) -> Edge<'a>
     }
 }
 
-/// Returns the last place of a side, or None if the side has no pair.
+/// Returns the last place of a side as an edge, or None if the side has no pair.
 fn last_edge<'a>(side: Side<'a>) -> Option<Edge<'a>>
     ensures { MatchOption result (side_walk side.entry ≡ []) (λ e. LastEdge (side_walk side.entry) e.slice e.length (side_walk e.below)) }
 {
@@ -71,7 +71,7 @@ fn last_edge<'a>(side: Side<'a>) -> Option<Edge<'a>>
     }
 }
 
-/// Returns the first place of a side, or None if the side has no pair.
+/// Returns the first place of a side as an edge, or None if the side has no pair.
 fn first_edge<'a>(side: Side<'a>) -> Option<Edge<'a>>
     ensures { MatchOption result (side_walk side.entry ≡ []) (λ e. FirstEdge (side_walk side.entry) e.slice e.length (side_walk e.below)) }
 {

@@ -51,7 +51,7 @@ pub struct Tree {
     layers: u64,
 }
 
-/// Written out rather than derived, as that of `Columns` is.
+/// Written out, not derived, for the same reason as the drop of `Columns`.
 impl Drop for Tree {
     fn drop(self) {
         let Tree {

@@ -13,13 +13,13 @@ use mt_words::{Columns, Kept, LONGEST_KEY, slice_bytes};
 
 /// The action on each pair of a walk.
 pub trait Visitor<T> {
-    /// The reason why a pair was not taken.
+    /// The reason why the visitor did not take a pair.
     type Error;
 
     /// Between these two states of the target, these pairs were shown, in this order.
     ghost shown: { T → T → List Pair → Type 0 };
 
-    /// Shows one pair. Err: the pair was not taken.
+    /// Takes one pair of the walk. Err: the visitor did not take the pair.
     fn visit(&self, target: &mut T, key: &[u8], columns: &Columns<Kept>) -> Result<(), Self::Error>
         requires { IsKey widest key.now }
         ensures { OnOk result (shown target.old target.new ((key.now, columns.now) ∷ [])) };
@@ -44,7 +44,7 @@ fn extend(prefix: &mut Bytes, bytes: &[u8])
     };
 }
 
-/// Shows the pair whose key is the prefix and then this tail. Err: the pair was not taken.
+/// Shows the visitor the pair whose key is the prefix and then this tail. Err: the visitor did not take it.
 fn show<T, V: Visitor<T>>(
     prefix: &mut Bytes,
     tail: &[u8],
@@ -64,7 +64,7 @@ fn show<T, V: Visitor<T>>(
 }
 
 impl Place {
-    /// Shows this place's pairs. Err: a pair was not taken.
+    /// Shows the visitor this place's pairs. Err: it did not take a pair.
     #[cycle(visit)]
     fn visit<T, V: Visitor<T>>(
         &self,
@@ -99,7 +99,7 @@ impl Place {
 }
 
 impl Node {
-    /// Shows this node's pairs. Err: a pair was not taken.
+    /// Shows the visitor this node's pairs. Err: it did not take a pair.
     #[cycle(visit)]
     pub(crate) fn visit<T, V: Visitor<T>>(
         &self,

@@ -34,7 +34,7 @@ erase_of timestamp version key numbers = changed timestamp (record { version = v
 abbrev pub entry_of : ℕ → List ℕ → List (ℕ × List ℕ) → Change
 entry_of version key columns = record { version = version; key = key; kind = Whole columns }
 
--- The limits allow this kind. A put and a whole need lawful columns, at least one. An erase needs a format that has erases, and lawful numbers, at
+-- The limits allow this kind. A put and a `Whole` need lawful columns, at least one. An erase needs a format that has erases, and lawful numbers, at
 -- least one. A remove is always allowed.
 abbrev pub AllowsKind : Limits → Kind → Type 0
 AllowsKind limits (Put columns) = AreColumns limits columns × (0 < length columns)
@@ -64,14 +64,14 @@ IsLoggedChange limits change = IsLawfulChange limits change × IsLogged change.k
 abbrev pub IsLawful : Limits → Logged → Type 0
 IsLawful limits r = (r.timestamp < 2 ^ 64) × IfSome r.change (IsLoggedChange limits)
 
--- the kind that entries of a checkpoint have: a whole
+-- the kind that entries of a checkpoint have: `Whole`
 abbrev pub IsWhole : Kind → Type 0
 IsWhole (Put columns) = ⊥
 IsWhole Remove = ⊥
 IsWhole (Whole columns) = Unit {0}
 IsWhole (Erase numbers) = ⊥
 
--- a lawful entry of a checkpoint: a lawful change whose kind is a whole
+-- a lawful entry of a checkpoint: a lawful change whose kind is `Whole`
 abbrev pub IsEntry : Limits → Change → Type 0
 IsEntry limits change = IsLawfulChange limits change × IsWhole change.kind
 
