@@ -194,7 +194,10 @@ const UNTAKEN: &[Run] = &[
             "Prints a key with its columns, or `absent`\n\nUsage: mtrecover get [OPTIONS] <DIR> <KEY>\n..",
         ),
     ),
-    ("mtrecover --version", (0, "mtrecover 1.0 (file formats 1 and 2)\n")),
+    (
+        "mtrecover --version",
+        (0, "mtrecover 1.0 (file formats 1 and 2)\n"),
+    ),
 ];
 
 #[test]
