@@ -3,6 +3,7 @@ ghost use Rattle.std.specs.Prelude.{◌≡◌, ◌≤◌, ◌<◌, ◌+◌, ◌*
 ghost use Rattle.mt_words.specs.Limits.{widest};
 ghost use Rattle.mt_words.specs.Words.{IsKey};
 ghost use Rattle.mt_words.specs.Walks.{joined};
+ghost use Rattle.mt_replay.specs.declared.cuts.TheConstants.{MOST_PIECES};
 ghost use Rattle.mt_replay.specs.Runs.{keys_of};
 ghost use Rattle.mt_replay.specs.Cuts.{AreCuts, RiseThroughout, IsCutFault, even_cuts, even_at};
 ghost use Rattle.mt_replay.specs.Even.{IsEven};
@@ -16,11 +17,11 @@ use std::marker::Model;
 use std::slice;
 use std::thread::Threads;
 
-/// The greatest number of cuts.
-pub const MOST_CUTS: usize = 4095;
-
 /// The greatest number of pieces.
-const MOST_PIECES: u32 = 4096;
+pub const MOST_PIECES: u32 = 4096;
+
+/// The greatest number of cuts.
+pub const MOST_CUTS: usize = MOST_PIECES as usize - 1;
 
 /// The greatest number of pieces in which distinct keys are searched for. Each piece has a thread of its own.
 const ROUGH_PIECES: Pieces = Pieces { count: 16 };
@@ -51,7 +52,7 @@ impl Model for Cuts {
     ghost invariant = { λ c. AreCuts c.keys.items };
 }
 
-/// A requested number of pieces: 1 to 4,096.
+/// A requested number of pieces: 1 to `MOST_PIECES`.
 #[derive(Clone, Copy, Debug)]
 pub struct Pieces {
     count: u32,
@@ -59,6 +60,7 @@ pub struct Pieces {
 
 impl Model for Pieces {
     ghost use Rattle.std.specs.Prelude.{ℕ, ◌<◌, ◌≤◌};
+    ghost use Rattle.mt_replay.specs.declared.cuts.TheConstants.{MOST_PIECES};
 
     ghost Value = { ℕ };
 
@@ -66,13 +68,13 @@ impl Model for Pieces {
 
     ghost inverse = { λ n. record { count = n } };
 
-    ghost invariant = { λ p. (0 < p.count) × (p.count ≤ 4096) };
+    ghost invariant = { λ p. (0 < p.count) × (p.count ≤ MOST_PIECES) };
 }
 
 impl Pieces {
-    /// Returns this number of pieces. Returns None if it is 0 or more than 4,096.
+    /// Returns this number of pieces. Returns None if it is 0 or more than `MOST_PIECES`.
     pub fn new(count: u32) -> Option<Pieces>
-        ensures accepted { IsSome result ↔ (0 < count) × (count ≤ 4096) }
+        ensures accepted { IsSome result ↔ (0 < count) × (count ≤ MOST_PIECES) }
         ensures value { IfSome result (λ pieces. pieces ≡ count) }
     {
         if count == 0 || count > MOST_PIECES {
@@ -161,7 +163,7 @@ impl Cuts {
     /// Returns cuts of rising keys into pieces with about the same number of keys each. The keys are given in parts,
     /// one part after another.
     fn even_of(alloc: Global, parts: &[Vec<&[u8]>], pieces: Pieces) -> Result<Cuts, Memory>
-        requires few { length parts.now ≤ 4096 }
+        requires few { length parts.now ≤ MOST_PIECES }
         requires rising { RiseThroughout (keys_of parts.now) }
         requires lawful { All (IsKey widest) (keys_of parts.now) }
         ensures { IfOk result (λ cuts. cuts ≡ even_cuts (keys_of parts.now) pieces) }
@@ -174,10 +176,10 @@ impl Cuts {
 
 /// Returns the keys at which the pieces after the first begin, for `pieces` even pieces.
 fn even_keys(alloc: Global, parts: &[Vec<&[u8]>], pieces: u128) -> Result<Vec<Key>, Memory>
-    requires few { length parts.now ≤ 4096 }
+    requires few { length parts.now ≤ MOST_PIECES }
     requires lawful { All (IsKey widest) (keys_of parts.now) }
     requires some { 0 < pieces }
-    requires most { pieces ≤ 4096 }
+    requires most { pieces ≤ MOST_PIECES }
     requires within { pieces ≤ max (length (keys_of parts.now)) 1 }
     ensures { IfOk result (λ cuts. cuts.items ≡ even_at (keys_of parts.now) pieces) }
 {

@@ -2,6 +2,7 @@
 ghost use Rattle.std.specs.Prelude.{◌<◌, ◌≤◌, map, All, IfOk, OnOk};
 ghost use Rattle.mt_words.specs.Limits.{widest};
 ghost use Rattle.mt_words.specs.Words.{IsKey};
+ghost use Rattle.mt_replay.specs.declared.cuts.TheConstants.{MOST_PIECES};
 ghost use Rattle.mt_replay.specs.Cuts.{RiseThroughout};
 
 use crate::LogCells;
@@ -22,7 +23,7 @@ pub(crate) fn sample<'a>(
     lists: &'a [LogCells],
     pieces: u32,
 ) -> Result<Vec<&'a [u8]>, Memory>
-    requires { (0 < pieces) × (pieces ≤ 4096) }
+    requires { (0 < pieces) × (pieces ≤ MOST_PIECES) }
     ensures rising { IfOk result (λ keys. RiseThroughout (map (λ key. key.now) keys.items)) }
     ensures lawful { IfOk result (λ keys. All (IsKey widest) (map (λ key. key.now) keys.items)) }
 {
