@@ -66,9 +66,7 @@ impl Bodies {
     {
         self.origins.reserve(1)?;
         self.texts.push(body)?;
-        let Ok(()) = self.origins.push(origin) else {
-            unreachable!();
-        };
+        self.origins.push_reserved(origin);
         Ok(())
     }
 }
