@@ -35,10 +35,10 @@ abbrev IsOnce : List Written → Type 0
 IsOnce writes = (a b : Written) → Contains writes a → Contains writes b → a.1.0 ≡ b.1.0 → a.0 ≡ b.0 → a ≡ b
 
 one_write : (updates : List Update) (key : List ℕ) (a b : Written) → AreApart updates → All HasLawfulWrites updates → IsWriteOf updates key a → IsWriteOf updates key b → a.1.0 ≡ b.1.0 → a.0 ≡ b.0 → a ≡ b
-one_write updates key a b apart sound is other number stamp =
+one_write updates key a b apart lawful is other number stamp =
     let one : other.update ≡ is.update = apart other.update is.update other.stands is.stands (other.of_key ∙ sym is.of_key) (other.stamp ∙ sym stamp ∙ sym is.stamp) in
     let writes : Writes is.update.kind a.1.0 b.1.1 = subst (λ (n : ℕ). Writes is.update.kind n b.1.1) (sym number) (subst (λ (u : Update). Writes u.kind b.1.0 b.1.1) one other.writes) in
-    let bytes : a.1.1 ≡ b.1.1 = same_bytes is.update.kind a.1.0 a.1.1 b.1.1 (All-contains HasLawfulWrites updates is.update sound is.stands) is.writes writes in
+    let bytes : a.1.1 ≡ b.1.1 = same_bytes is.update.kind a.1.0 a.1.1 b.1.1 (All-contains HasLawfulWrites updates is.update lawful is.stands) is.writes writes in
     λ i. (stamp i, (number i, bytes i))
 
 -- a write of some updates is a write of any updates that include them
@@ -70,13 +70,13 @@ one_slots writes slots others once is other = by_places slots others (is.places 
 -- two groups of the same updates are equal, if no two of the updates share a stamp
 pub one_group : (updates others : List Update) (key : List ℕ) (group other : Group) → AreApart updates → All HasLawfulWrites updates → ((u : Update) → Contains updates u ↔ Contains others u)
     → IsGroupOf updates key group → IsGroupOf others key other → group ≡ other
-one_group updates others key group other apart sound same is also =
+one_group updates others key group other apart lawful same is also =
     let reset : group.reset ≡ other.reset = one_reset updates others key group.reset other.reset same is.reset also.reset in
     let cell : IsCellOf is.writes other.slots = same_cell also.writes is.writes other.slots
     (λ w. (
       λ at. (is.each w).1 (same_writes others updates key w (λ u. (same u).1) ((also.each w).0 at)),
       λ at. (also.each w).1 (same_writes updates others key w (λ u. (same u).0) ((is.each w).0 at)),
     )) also.cell in
-    let once : IsOnce is.writes = λ a b at there. one_write updates key a b apart sound ((is.each a).0 at) ((is.each b).0 there) in
+    let once : IsOnce is.writes = λ a b at there. one_write updates key a b apart lawful ((is.each a).0 at) ((is.each b).0 there) in
     let slots : group.slots ≡ other.slots = one_slots is.writes group.slots other.slots once is.cell cell in
     λ i. record { reset = reset i; slots = slots i }

@@ -49,12 +49,12 @@ close_none updates before last pairs split made none =
 
 close_some : (before last : List Update) (key : List ℕ) (group : Group) (columns : List (ℕ × List ℕ)) (old new : List Pair) → IsMade before old → AreLast before last key group → IsKey widest key → AreColumns widest columns
     → ((writes : List Written) → IsCellOf writes group.slots → IsColumnsOf group.reset writes columns) → new ≡ with_pair old key columns → IsMade (before ++ last) new
-close_some before last key group columns old new made are lawful columns_lawful kept added =
+close_some before last key group columns old new made are key_lawful columns_lawful kept added =
     let adds : AddsPair last key old new = record {
       columns = columns;
       lawful = columns_lawful;
-      are = λ apart. group_columns last key group columns are.grouped kept apart are.sound;
-      is_key = lawful;
+      are = λ apart. group_columns last key group columns are.grouped kept apart are.lawful;
+      is_key = key_lawful;
       added = added;
     } in
     record {
@@ -102,7 +102,7 @@ not_at_key (Some f) key is = λ e. true≢false (sym (is.1 e))
 -- an update of the last key
 more_last : (before last : List Update) (update : Update) (key : List ℕ) (old new : Group) → AreLast before last key old → update.key ≡ key → IsGroupOf (last ++ update ∷ []) key new → HasLawfulWrites update
     → AreLast before (last ++ update ∷ []) key new
-more_last before last update key old new are of_key group sound = record {
+more_last before last update key old new are of_key group lawful = record {
   some = omega (arith, are.some, length-append last (update ∷ []));
   same_keys = λ u at. elim (Contains-push_cases last update u at) as (λ _. u.key ≡ key) [
     | inl earlier ↦ are.same_keys u earlier
@@ -110,13 +110,13 @@ more_last before last update key old new are of_key group sound = record {
   ];
   below = are.below;
   grouped = group;
-  sound = All-push HasLawfulWrites last update are.sound sound;
+  lawful = All-push HasLawfulWrites last update are.lawful lawful;
 }
 
 pub see_same : (updates : List Update) (update : Update) (pairs : List Pair) (first : Option Update) (old new : Group) → IsWalkSoFar updates pairs first old → MatchOption first (true ≡ false) (λ f. f.key ≡ update.key)
     → ((us : List Update) (key : List ℕ) → update.key ≡ key → IsGroupOf us key old → IsGroupOf (us ++ update ∷ []) key new) → HasLawfulWrites update → IsWalkSoFar (updates ++ update ∷ []) pairs first new
-see_same updates update pairs None old new so_far same sees sound = absurd (true≢false same)
-see_same updates update pairs (Some first) old new so_far same sees sound =
+see_same updates update pairs None old new so_far same sees lawful = absurd (true≢false same)
+see_same updates update pairs (Some first) old new so_far same sees lawful =
     let last = so_far.last in
     let are : AreLast so_far.before last first.key old = so_far.in_hand in
     record {
@@ -124,7 +124,7 @@ see_same updates update pairs (Some first) old new so_far same sees sound =
       last = last ++ update ∷ [];
       split = ap (λ (us : List Update). us ++ update ∷ []) so_far.split ∙ append_assoc so_far.before last (update ∷ []);
       made = so_far.made;
-      in_hand = more_last so_far.before last update first.key old new are (sym same) (sees last first.key (sym same) are.grouped) sound;
+      in_hand = more_last so_far.before last update first.key old new are (sym same) (sees last first.key (sym same) are.grouped) lawful;
     }
 
 some_in : (updates : List Update) → 0 < length updates → (u : Update) × Contains updates u
@@ -157,7 +157,7 @@ next_above updates update pairs (Some first) group so_far order apart u at =
 
 pub see_next : (updates : List Update) (update : Update) (old new : List Pair) (first : Option Update) (group fresh : Group) → IsWalkSoFar updates old first group → InKeyOrder (updates ++ update ∷ []) → MatchOption first (Unit {0}) (λ f. f.key ≡ update.key → ⊥)
     → IsMade updates new → IsGroupOf (update ∷ []) update.key fresh → HasLawfulWrites update → IsWalkSoFar (updates ++ update ∷ []) new (Some update) fresh
-see_next updates update old new first group fresh so_far order apart made begun sound = record {
+see_next updates update old new first group fresh so_far order apart made begun lawful = record {
   before = updates;
   last = update ∷ [];
   split = refl;
@@ -167,6 +167,6 @@ see_next updates update old new first group fresh so_far order apart made begun 
     same_keys = λ u at. elim (Contains-push_cases [] update u at) as (λ _. u.key ≡ update.key) [ inl none ↦ absurd (no_element u none) | inr e ↦ ap (λ (v : Update). v.key) (sym e) ];
     below = next_above updates update old first group so_far order apart;
     grouped = begun;
-    sound = All-push HasLawfulWrites [] update (λ i x lt. absurd (omega arith)) sound;
+    lawful = All-push HasLawfulWrites [] update (λ i x lt. absurd (omega arith)) lawful;
   };
 }

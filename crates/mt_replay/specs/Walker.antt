@@ -21,7 +21,7 @@ pub record AreLast (before last : List Update) (key : List ℕ) (group : Group) 
   pub same_keys : (u : Update) → Contains last u → u.key ≡ key
   pub below : (u : Update) → Contains before u → IsBelow u.key key
   pub grouped : IsGroupOf last key group
-  pub sound : All HasLawfulWrites last
+  pub lawful : All HasLawfulWrites last
 
 -- the updates of the last key with their group, or none if there is no update
 abbrev pub IsInHand : List Update → List Update → Option Update → Group → Type 0

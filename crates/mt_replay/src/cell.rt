@@ -41,7 +41,7 @@ impl Cell {
     pub fn apply(&mut self, update: Update)
         ensures cell { (updates : List UpdateValue) (key : List ℕ) → update.key ≡ key →
             IsGroupOf updates key self.old → IsGroupOf (updates ++ update ∷ []) key self.new }
-        ensures sound { HasLawfulWrites update }
+        ensures lawful { HasLawfulWrites update }
     {
         self.group.apply(update);
     }

@@ -75,7 +75,7 @@ impl<'a, S: PairSink> Walker<'a, S> {
         ensures sink { self.new.sink ≡ self.old.sink }
         ensures first { self.new.first ≡ Some update.entry }
         ensures group { IsGroupOf (update.entry ∷ []) update.entry.key self.new.group }
-        ensures sound { HasLawfulWrites update.entry }
+        ensures lawful { HasLawfulWrites update.entry }
     {
         self.group.clear();
         self.group.see(update.update());

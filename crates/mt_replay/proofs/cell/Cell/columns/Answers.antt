@@ -5,5 +5,5 @@ use Rattle.mt_replay.proofs.cell.Cell.columns.Goals as goal
 
 pub returns-clause-exact : goal.returns-clause-exact
 returns-clause-exact c = ok_then c.columns.result
-    (λ columns made updates key is apart sound. group_columns updates key c.self.inside.group columns (subst (IsGroupOf updates key) (sym c.self.view_is) is) made apart sound)
-    c.columns.ensures.kept
+    (λ columns made updates key is apart lawful. group_columns updates key c.self.inside.group columns (subst (IsGroupOf updates key) (sym c.self.view_is) is) made apart lawful)
+    c.columns.ensures.value

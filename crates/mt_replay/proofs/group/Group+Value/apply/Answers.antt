@@ -62,11 +62,11 @@ returns-in-Erase-clause-group c = λ updates key of_key is.
     subst (λ (k : Kind). IsCellOf (writes ++ written u.stamp (writes_of k)) new.slots) (sym kind) taken)
     is
 
-pub returns-in-Put-clause-sound : goal.returns-in-Put-clause-sound
-returns-in-Put-clause-sound c = rw c.in-Put.is (set_writes widest c.in-Put.columns c.apply_columns.ensures.lawful)
+pub returns-in-Put-clause-lawful : goal.returns-in-Put-clause-lawful
+returns-in-Put-clause-lawful c = rw c.in-Put.is (set_writes widest c.in-Put.columns c.apply_columns.ensures.lawful)
 
-pub returns-in-Erase-clause-sound : goal.returns-in-Erase-clause-sound
-returns-in-Erase-clause-sound c = rw c.in-Erase.is (erase_writes widest c.in-Erase.numbers c.as_slice.ensures.lawful.0)
+pub returns-in-Erase-clause-lawful : goal.returns-in-Erase-clause-lawful
+returns-in-Erase-clause-lawful c = rw c.in-Erase.is (erase_writes widest c.in-Erase.numbers c.as_slice.ensures.lawful.0)
 
-pub returns-clause-sound : goal.returns-clause-sound
-returns-clause-sound c = rw c.in-Whole.is (set_writes widest c.in-Whole.columns c.apply_columns-in-Whole.ensures.lawful)
+pub returns-clause-lawful : goal.returns-clause-lawful
+returns-clause-lawful c = rw c.in-Whole.is (set_writes widest c.in-Whole.columns c.apply_columns-in-Whole.ensures.lawful)

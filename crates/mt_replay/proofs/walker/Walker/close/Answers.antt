@@ -22,7 +22,7 @@ returns-then-len-eq0 g c = λ updates so_far.
     let none : length columns ≡ 0 = omega (arith, c.len.ensures, c.if-len-eq0.true) in
     so_far_made updates (Some first) c.args.self.now.group old old
     (subst (λ (f : Option Update). IsWalkSoFar updates old f c.args.self.now.group) c.in-Some.is so_far)
-    (c.key-key.ensures.lawful, columns, c.in_ok-columns.ensures.lawful, c.in_ok-columns.ensures.kept, none_added old first.key columns none)
+    (c.key-key.ensures.lawful, columns, c.in_ok-columns.ensures.lawful, c.in_ok-columns.ensures.value, none_added old first.key columns none)
 
 pub returns : goal.returns
 returns g c =
@@ -37,7 +37,7 @@ returns g c =
       c.key-key.ensures.lawful,
       columns,
       c.in_ok-columns.ensures.lawful,
-      c.in_ok-columns.ensures.kept,
+      c.in_ok-columns.ensures.value,
       pushed ∙ ap (λ (key : List ℕ). old ++ (key, columns) ∷ []) c.key-key.ensures.value ∙ some_added old first.key columns some,
     ))
     c.push_pair.ensures
