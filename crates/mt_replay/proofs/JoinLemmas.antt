@@ -10,8 +10,7 @@ use Rattle.std.proofs.lemmas.List.Elements.{All-contains, All-from_recursion, Co
 use Rattle.mt_words.specs.declared.update.Update.{Update}
 use Rattle.mt_words.specs.Words.{IsBelow}
 use Rattle.mt_words.specs.Walks.{joined}
-use Rattle.mt_replay.specs.Cuts.{is_below, is_after, is_before, in_piece, updates_in, RiseThroughout, AreDistinctKeys, AreDistinctWhere}
-use Rattle.mt_replay.specs.Runs.{keys_in}
+use Rattle.mt_replay.specs.Cuts.{is_below, is_after, is_before, in_piece, updates_in, RiseThroughout, AreDistinctKeys, AreDistinctWhere, keys_in}
 use Rattle.mt_replay.proofs.KeyOrder.{below_by, below_trans}
 use Rattle.mt_words.proofs.Elements.{no_element}
 use Rattle.mt_replay.proofs.Members.{all_from, of_map, in_map, of_flat_map, in_flat_map, of_filter, in_filter}
