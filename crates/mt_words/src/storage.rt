@@ -69,11 +69,15 @@ impl Storage for Inline {
     }
 }
 
-/// The storage of columns that are to stay: one column inline, or a list with room for the columns that there are. It
-/// is much smaller than `Inline` if the columns are few. A single column takes no memory but that of its bytes.
+/// The storage of columns that are to stay. It is much smaller than `Inline` if the columns are few. A single column
+/// takes no memory but that of its bytes.
 #[derive(Debug)]
 pub enum Kept {
+    /// No column.
+    Empty,
+    /// One column, inline.
     One(Column),
+    /// A list with room for the columns that there are.
     Many(Vec<Column>),
 }
 
@@ -81,6 +85,7 @@ pub enum Kept {
 impl Drop for Kept {
     fn drop(self) {
         match self {
+            Kept::Empty => {}
             Kept::One(_) => {}
             Kept::Many(_) => {}
         }
@@ -92,19 +97,21 @@ impl Kept {
     pub(crate) fn with_capacity(alloc: Global, count: usize) -> Result<Kept, Memory>
         ensures { IfOk result (λ kept. columns_of kept ≡ []) }
     {
-        let room = if count == 1 { 0 } else { count };
-        Ok(Kept::Many(Vec::with_capacity(alloc, room)?))
+        if count <= 1 {
+            return Ok(Kept::Empty);
+        }
+        Ok(Kept::Many(Vec::with_capacity(alloc, count)?))
     }
 
-    /// Appends a column. The first one is stored inline if no list has room for it. Err: out of memory; then nothing
-    /// has changed.
+    /// Appends a column. The first one is stored inline, unless there is a list. Err: out of memory; then nothing has
+    /// changed.
     pub(crate) fn push(&mut self, column: Column) -> Result<(), Memory>
         ensures ok { OnOk result (columns_of self.new ≡ columns_of self.old ++ column ∷ []) }
         ensures err { OnErr result (columns_of self.new ≡ columns_of self.old) }
     {
         match self {
+            Kept::Empty => *self = Kept::One(column),
             Kept::One(first) => *self = Kept::Many(list_of(first, column)?),
-            Kept::Many(columns) if columns.capacity() == 0 => *self = Kept::One(column),
             Kept::Many(columns) => columns.push(column)?,
         }
         Ok(())
@@ -118,6 +125,7 @@ impl Storage for Kept {
 
     fn as_slice(&self) -> &[Column] {
         match self {
+            Kept::Empty => &[],
             Kept::One(column) => slice::from_ref(column),
             Kept::Many(columns) => columns,
         }
@@ -125,6 +133,7 @@ impl Storage for Kept {
 
     fn try_copy(&self) -> Result<Kept, Memory> {
         match self {
+            Kept::Empty => Ok(Kept::Empty),
             Kept::One(column) => Ok(Kept::One(copy_of(*column.bytes.allocator(), column)?)),
             Kept::Many(columns) => Ok(Kept::Many(copies_of(*columns.allocator(), columns)?)),
         }
