@@ -61,12 +61,4 @@ impl Entry {
     {
         &self.change
     }
-
-    /// Consumes the entry and returns the change that it makes to its key.
-    pub fn into_change(self) -> Change
-        ensures value { result ≡ self }
-        ensures lawful { IsEntry widest self }
-    {
-        self.change
-    }
 }

@@ -72,15 +72,6 @@ impl Key {
         &self.bytes
     }
 
-    /// Consumes the key and returns its bytes.
-    pub fn into_bytes(self) -> Vec<u8>
-        ensures value { result.items ≡ self }
-        ensures lawful { IsKey widest self }
-    {
-        let Key { bytes } = self;
-        bytes
-    }
-
     /// Returns the slice of the key's bytes from offset `at` on.
     pub fn slice(&self, at: usize) -> u64
         ensures { result ≡ slice_in (drop at self.now) }
