@@ -6,4 +6,3 @@ pub mod Stamps
 pub mod Updates
 pub mod Walks
 pub mod Slices
-pub mod Storages

@@ -5,6 +5,8 @@ use Rattle.std.specs.Ordering.{nat_cmp, is_lt}
 use Rattle.std.specs.Cmp.Lexicographic.{slice_cmp}
 use Rattle.mt_words.specs.declared.limits.TheConstants.{LONGEST_VALUE}
 use Rattle.mt_words.specs.declared.limits.Limits.{Limits}
+use Rattle.mt_words.specs.declared.storage.Kept.{Kept}
+use Rattle.mt_words.specs.declared.storage.Kept.TheVariants.{Empty, One, Many}
 
 -- a key: at most as many bytes as the limits allow
 abbrev pub IsKey : Limits → List ℕ → Type 0
@@ -54,3 +56,9 @@ AreColumns limits columns = AllByRecursion (IsColumn limits) columns × NumbersR
 -- a lawful column that may be appended to these: its number is above theirs
 abbrev pub CanFollow : Limits → List (ℕ × List ℕ) → ℕ × List ℕ → Type 0
 CanFollow limits columns column = IsColumn limits column × NumbersBelow columns column.0
+
+-- kept columns as contracts see them: a list
+abbrev pub columns_of : Kept → List (ℕ × List ℕ)
+columns_of Empty = []
+columns_of (One column) = column ∷ []
+columns_of (Many columns) = columns.items
