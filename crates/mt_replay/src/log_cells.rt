@@ -9,8 +9,8 @@ ghost use Rattle.mt_replay.specs.Cuts.{is_below, InKeyOrder};
 
 use crate::Window;
 use crate::bodies::Bodies;
-use crate::sliced::{Sliced, all_bodies, all_entries, list_survivors, sort_by_key};
-use crate::spelling::spell;
+use crate::in_memory::{all_bodies, spell};
+use crate::sliced::{Sliced, all_entries, list_survivors, sort_by_key};
 use mt_record::{KeptEntries, Lent, Updates};
 use mt_words::{Memory, Update};
 use std::alloc::Global;

@@ -10,7 +10,6 @@ ghost use Rattle.mt_replay.specs.Survivors.{in_window, wholes, first_survivors};
 ghost use Rattle.mt_replay.specs.Cuts.{InKeyOrder};
 
 use crate::Window;
-use crate::bodies::Bodies;
 use mt_record::{KeptEntries, Lent, Updates};
 use mt_words::{Memory, slice_at, slice_of};
 use std::alloc::Global;
@@ -134,17 +133,6 @@ pub(crate) fn all_entries(alloc: Global, entries: &KeptEntries) -> Result<Vec<Sl
     let mut sliced = Vec::with_capacity(alloc, entries.len())?;
     for number in 0..entries.len() {
         sliced.push(Sliced::of(entries.update(number)))?;
-    }
-    Ok(sliced)
-}
-
-/// Returns the updates of all bodies. Err: out of memory.
-pub(crate) fn all_bodies(alloc: Global, bodies: &Bodies) -> Result<Vec<Sliced<'_>>, Memory>
-    ensures { IfOk result (λ sliced. sliced.items ≡ bodies.now) }
-{
-    let mut sliced = Vec::with_capacity(alloc, bodies.len())?;
-    for at in 0..bodies.len() {
-        sliced.push(Sliced::of(bodies.get(at)))?;
     }
     Ok(sliced)
 }

@@ -1,7 +1,7 @@
 use Rattle.std.proofs.Common.{◌≡◌, ◌++◌, ℕ, List, length, map}
 use Rattle.mt_words.specs.Changes.{set}
 use Rattle.mt_replay.specs.Cells.{Written, IsCellOf, written}
-use Rattle.mt_replay.proofs.group.Group+Value.apply_columns.Given as goal
+use Rattle.mt_replay.proofs.in_memory.group.Group+Value.apply_columns.Given as goal
 
 -- the group has taken in the columns that were popped
 abbrev pub invariant-loop-column : goal.invariant-loop-column

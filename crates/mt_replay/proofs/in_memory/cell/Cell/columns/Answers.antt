@@ -1,7 +1,7 @@
 use Rattle.std.proofs.Common.{sym, subst}
 use Rattle.mt_replay.specs.Groups.{IsGroupOf}
 use Rattle.mt_replay.proofs.ExactLemmas.{group_columns, ok_then}
-use Rattle.mt_replay.proofs.cell.Cell.columns.Goals as goal
+use Rattle.mt_replay.proofs.in_memory.cell.Cell.columns.Goals as goal
 
 pub returns-clause-exact : goal.returns-clause-exact
 returns-clause-exact c = ok_then c.columns.result

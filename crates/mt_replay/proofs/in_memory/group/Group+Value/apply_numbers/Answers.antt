@@ -3,7 +3,7 @@ use Rattle.std.proofs.Math.Seq.{take-suc}
 use Rattle.std.proofs.lemmas.List.{take_all, map-append}
 use Rattle.mt_words.specs.Changes.{Write, erased}
 use Rattle.mt_replay.specs.Cells.{Written, IsCellOf, written}
-use Rattle.mt_replay.proofs.group.Group+Value.apply_numbers.Goals as goal
+use Rattle.mt_replay.proofs.in_memory.group.Group+Value.apply_numbers.Goals as goal
 
 pub loop-number-preserved : goal.loop-number-preserved
 loop-number-preserved c =

@@ -1,7 +1,7 @@
 use Rattle.std.proofs.Common.{◌≡◌, take}
 use Rattle.std.specs.Prelude.{filter}
 use Rattle.mt_replay.specs.Survivors.{survives}
-use Rattle.mt_replay.proofs.spelling.spell.Given as goal
+use Rattle.mt_replay.proofs.in_memory.spelling.spell.Given as goal
 
 -- the survivors of the first updates
 abbrev pub invariant-loop-update : goal.invariant-loop-update

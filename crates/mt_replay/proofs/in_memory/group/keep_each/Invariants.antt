@@ -1,5 +1,5 @@
 use Rattle.mt_replay.proofs.BothLemmas.{AreBoth}
-use Rattle.mt_replay.proofs.group.keep_each.Given as goal
+use Rattle.mt_replay.proofs.in_memory.group.keep_each.Given as goal
 
 -- the slots so far are taken in
 abbrev pub invariant-loop-number : goal.invariant-loop-number

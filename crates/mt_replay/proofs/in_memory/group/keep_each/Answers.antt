@@ -2,7 +2,7 @@ use Rattle.std.proofs.Common.{◌≡◌, ◌∙◌, ℕ, sym, subst, arith}
 use Rattle.mt_words.specs.declared.limits.TheConstants.{MOST_COLUMNS}
 use Rattle.mt_replay.specs.Cells.{Slots}
 use Rattle.mt_replay.proofs.BothLemmas.{AreBoth, both_cells}
-use Rattle.mt_replay.proofs.group.keep_each.Goals as goal
+use Rattle.mt_replay.proofs.in_memory.group.keep_each.Goals as goal
 
 pub returns-clause-cell : goal.returns-clause-cell
 returns-clause-cell g c =

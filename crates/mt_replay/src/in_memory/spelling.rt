@@ -4,6 +4,7 @@ ghost use Rattle.mt_replay.specs.Survivors.{survives as survives_in};
 
 use crate::Window;
 use crate::bodies::Bodies;
+use crate::sliced::Sliced;
 use mt_record::body_of_update;
 use mt_words::{Kind, Memory, Update};
 use std::alloc::Global;
@@ -44,4 +45,15 @@ fn survives(update: &Update, window: Window) -> bool
         Kind::Whole(_) => true,
         _ => window.contains(update.timestamp),
     }
+}
+
+/// Returns the updates of all bodies. Err: out of memory.
+pub(crate) fn all_bodies(alloc: Global, bodies: &Bodies) -> Result<Vec<Sliced<'_>>, Memory>
+    ensures { IfOk result (λ sliced. sliced.items ≡ bodies.now) }
+{
+    let mut sliced = Vec::with_capacity(alloc, bodies.len())?;
+    for at in 0..bodies.len() {
+        sliced.push(Sliced::of(bodies.get(at)))?;
+    }
+    Ok(sliced)
 }

@@ -8,7 +8,7 @@ use Rattle.mt_words.proofs.WriteLemmas.{set_writes, erase_writes}
 use Rattle.mt_replay.specs.Cells.{Written, IsCellOf, written}
 use Rattle.mt_replay.specs.Groups.{IsLaterOf, IsResetAfter}
 use Rattle.mt_replay.proofs.GroupLemmas.{group_more}
-use Rattle.mt_replay.proofs.group.Group+Value.apply.Goals as goal
+use Rattle.mt_replay.proofs.in_memory.group.Group+Value.apply.Goals as goal
 
 pub returns-in-Put-clause-group : goal.returns-in-Put-clause-group
 returns-in-Put-clause-group c = λ updates key of_key is.

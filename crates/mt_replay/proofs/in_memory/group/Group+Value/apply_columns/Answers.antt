@@ -2,7 +2,7 @@ use Rattle.std.proofs.Common.{◌≡◌, ◌∙◌, ◌++◌, ◌∷◌, [], ℕ
 use Rattle.mt_words.specs.Changes.{set}
 use Rattle.mt_replay.specs.Cells.{IsCellOf, written}
 use Rattle.mt_replay.proofs.BothLemmas.{cell_swapped}
-use Rattle.mt_replay.proofs.group.Group+Value.apply_columns.Goals as goal
+use Rattle.mt_replay.proofs.in_memory.group.Group+Value.apply_columns.Goals as goal
 
 pub loop-column-preserved : goal.loop-column-preserved
 loop-column-preserved c =

@@ -1,5 +1,5 @@
 use Rattle.std.proofs.Common.{◌≡◌, take}
-use Rattle.mt_replay.proofs.sliced.all_bodies.Given as goal
+use Rattle.mt_replay.proofs.in_memory.spelling.all_bodies.Given as goal
 
 -- the updates of the first bodies
 abbrev pub invariant-loop-at : goal.invariant-loop-at

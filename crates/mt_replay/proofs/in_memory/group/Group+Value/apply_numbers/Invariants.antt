@@ -1,7 +1,7 @@
 use Rattle.std.proofs.Common.{◌≡◌, ◌++◌, List, map, take}
 use Rattle.mt_words.specs.Changes.{erased}
 use Rattle.mt_replay.specs.Cells.{Written, IsCellOf, written}
-use Rattle.mt_replay.proofs.group.Group+Value.apply_numbers.Given as goal
+use Rattle.mt_replay.proofs.in_memory.group.Group+Value.apply_numbers.Given as goal
 
 -- the group has taken in the numbers so far
 abbrev pub invariant-loop-number : goal.invariant-loop-number

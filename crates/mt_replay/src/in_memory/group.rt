@@ -1,0 +1,123 @@
+//! What the result of the updates of one key has besides, if they are held in memory.
+ghost use Rattle.std.specs.Prelude.{◌≡◌, ◌++◌, [], ◌∷◌, List, ℕ, map};
+ghost use Rattle.mt_words.specs.declared.limits.TheConstants.{MOST_COLUMNS};
+ghost use Rattle.mt_words.specs.declared.update.Update.{Update as UpdateValue};
+ghost use Rattle.mt_words.specs.Limits.{widest};
+ghost use Rattle.mt_words.specs.Words.{AreColumns, AreNumbers};
+ghost use Rattle.mt_words.specs.Changes.{set, erased};
+ghost use Rattle.mt_replay.specs.Cells.{Written, IsNewestOf, IsCellOf, written};
+ghost use Rattle.mt_replay.specs.Groups.{IsLatestOf, IsGroupOf, HasLawfulWrites, AreFreeFrom};
+
+use crate::group::{Bytes, Group, Write, is_newer};
+use mt_words::{Column, Columns, Kind, MOST_COLUMNS, Stamp, Update, Value};
+
+impl Bytes for Value {
+    ghost contents = { λ bytes. bytes.items };
+
+    fn as_bytes(&self) -> &[u8] {
+        self.as_slice()
+    }
+}
+
+impl Group<Value> {
+    /// Applies an update of the key. Updates may come in any order. The update's bytes are moved.
+    pub(crate) fn apply(&mut self, update: Update)
+        ensures group { (updates : List UpdateValue) (key : List ℕ) → update.key ≡ key →
+            IsGroupOf updates key self.old → IsGroupOf (updates ++ update ∷ []) key self.new }
+        ensures lawful { HasLawfulWrites update }
+    {
+        let Update {
+            key: _,
+            stamp,
+            timestamp: _,
+            kind,
+        } = update;
+        match kind {
+            Kind::Put(columns) => self.apply_columns(stamp, columns),
+            Kind::Remove => self.clear_if(true, stamp),
+            Kind::Erase(numbers) => self.apply_numbers(stamp, numbers.as_slice()),
+            Kind::Whole(columns) => {
+                self.clear_if(true, stamp);
+                self.apply_columns(stamp, columns);
+            }
+        }
+    }
+
+    /// Applies a write of each column.
+    fn apply_columns(&mut self, stamp: Stamp, columns: Columns)
+        ensures reset { self.new.reset ≡ self.old.reset }
+        ensures writes { (writes : List Written) → IsCellOf writes self.old.slots →
+            IsCellOf (writes ++ written stamp (map set columns)) self.new.slots }
+        ensures lawful { AreColumns widest columns }
+    {
+        let mut rest = columns;
+        while let Some(column) = rest.pop() {
+            let Column { number, bytes } = column;
+            self.keep(stamp, number, Some(bytes));
+        }
+    }
+
+    /// Applies an erase of each column.
+    fn apply_numbers(&mut self, stamp: Stamp, numbers: &[u8])
+        requires { AreNumbers widest numbers.now }
+        ensures reset { self.new.reset ≡ self.old.reset }
+        ensures writes { (writes : List Written) → IsCellOf writes self.old.slots →
+            IsCellOf (writes ++ written stamp (map erased numbers.now)) self.new.slots }
+    {
+        for number in numbers {
+            self.keep(stamp, *number, None);
+        }
+    }
+}
+
+impl<B: Bytes> Group<B> {
+    /// Returns the group of the updates of both.
+    pub(crate) fn merge(self, other: Group<B>) -> Group<B>
+        ensures { (updates others : List UpdateValue) (key : List ℕ) → IsGroupOf updates key self →
+            IsGroupOf others key other → IsGroupOf (updates ++ others) key result }
+    {
+        let Group { reset, writes, .. } = other;
+        let mut merged = self;
+        merged.clear_by(reset);
+        // Any column may come.
+        merged.end = MOST_COLUMNS as u8;
+        keep_each(&mut merged.writes, writes);
+        merged
+    }
+
+    /// Keeps the greater of the group's reset and this one. Either may be absent.
+    fn clear_by(&mut self, reset: Option<Stamp>)
+        ensures reset { IsLatestOf self.old.reset reset self.new.reset }
+        ensures writes { self.new.slots ≡ self.old.slots }
+    {
+        if let Some(stamp) = reset {
+            self.clear_if(true, stamp);
+        }
+    }
+}
+
+/// Keeps the greater of two writes of each column.
+fn keep_each<B: Bytes>(
+    kept: &mut [Option<Write<B>>; MOST_COLUMNS],
+    writes: [Option<Write<B>>; MOST_COLUMNS],
+)
+    ensures cell { (seen others : List Written) → IsCellOf seen kept.old → IsCellOf others writes →
+        IsCellOf (seen ++ others) kept.new }
+    ensures free { AreFreeFrom MOST_COLUMNS kept.old → AreFreeFrom MOST_COLUMNS kept.new }
+{
+    let mut rest = writes;
+    for number in 0..MOST_COLUMNS {
+        keep_newest(&mut kept[number], rest[number].take());
+    }
+}
+
+/// Keeps the greater of two writes of a column. Either may be absent.
+fn keep_newest<B: Bytes>(kept: &mut Option<Write<B>>, write: Option<Write<B>>)
+    ensures { IsNewestOf kept.old write kept.new }
+{
+    if let Some(write) = write {
+        if is_newer(kept, &write) {
+            *kept = Some(write);
+        }
+    }
+}
