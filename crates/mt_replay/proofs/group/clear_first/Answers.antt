@@ -1,18 +1,10 @@
-use Rattle.std.proofs.Common.{◌≡◌, ◌∙◌, inl, inr, None, arith}
-use Rattle.std.proofs.lemmas.Bool.{cases_lt}
-use Rattle.std.proofs.lemmas.List.{length-set}
-use Rattle.mt_replay.proofs.CellLemmas.{cleared_more, free_still}
+use Rattle.std.proofs.Common.{arith}
+use Rattle.mt_replay.proofs.CellLemmas.{cleared_more, front_free}
 use Rattle.mt_replay.proofs.group.clear_first.Goals as goal
 
-pub loop-number-preserved : goal.loop-number-preserved
-loop-number-preserved g c = record {
-  long = length-set c.loop-number.writes c.loop-number.number None ∙ c.loop-number.invariant.long;
-  cleared = cleared_more c.loop-number.writes c.loop-number.number c.loop-number.invariant.cleared;
-  free = free_still c.loop-number.writes c.loop-number.number c.args.end c.loop-number.invariant.free;
-}
+pub loop-write-preserved : goal.loop-write-preserved
+loop-write-preserved g c = cleared_more c.loop-write.write-items c.loop-write.write-index c.loop-write.invariant
 
 pub returns-clause-free : goal.returns-clause-free
-returns-clause-free g c = λ number slot above is. elim (cases_lt number c.loop-number.number) as (λ _. slot ≡ None) [
-  | inl before ↦ c.loop-number.invariant.cleared number slot before is
-  | inr past ↦ c.loop-number.invariant.free number slot (omega arith) is
-]
+returns-clause-free g c = λ number slot _ is. front_free c.loop-write.write-items c.args.writes.now c.from.result c.loop-write.auto.write-items
+    (λ n s below at. c.loop-write.invariant n s (omega (arith, below, c.loop-write.auto.write-items)) at) (λ n s above at. c.requires.free n s (omega (arith, above, c.from.ensures)) at) number slot is
