@@ -1,4 +1,4 @@
-//! What the result of the updates of one key has besides, if they are held in memory.
+//! The result of the updates of one key, if they are in memory.
 ghost use Rattle.std.specs.Prelude.{◌≡◌, ◌++◌, [], ◌∷◌, List, ℕ, map};
 ghost use Rattle.mt_words.specs.declared.limits.TheConstants.{MOST_COLUMNS};
 ghost use Rattle.mt_words.specs.declared.update.Update.{Update as UpdateValue};
@@ -6,7 +6,7 @@ ghost use Rattle.mt_words.specs.Limits.{widest};
 ghost use Rattle.mt_words.specs.Words.{AreColumns, AreNumbers};
 ghost use Rattle.mt_words.specs.Changes.{set, erased};
 ghost use Rattle.mt_replay.specs.Cells.{Written, IsNewestOf, IsCellOf, written};
-ghost use Rattle.mt_replay.specs.Groups.{IsLatestOf, IsGroupOf, HasLawfulWrites, AreFreeFrom};
+ghost use Rattle.mt_replay.specs.Groups.{IsGroupOf, HasLawfulWrites, AreFreeFrom};
 
 use crate::group::{Bytes, Group, Write, is_newer};
 use mt_words::{Column, Columns, Kind, MOST_COLUMNS, Stamp, Update, Value};
@@ -34,10 +34,10 @@ impl Group<Value> {
         } = update;
         match kind {
             Kind::Put(columns) => self.apply_columns(stamp, columns),
-            Kind::Remove => self.clear_if(true, stamp),
+            Kind::Remove => self.clear_by(Some(stamp)),
             Kind::Erase(numbers) => self.apply_numbers(stamp, numbers.as_slice()),
             Kind::Whole(columns) => {
-                self.clear_if(true, stamp);
+                self.clear_by(Some(stamp));
                 self.apply_columns(stamp, columns);
             }
         }
@@ -83,16 +83,6 @@ impl<B: Bytes> Group<B> {
         merged.end = MOST_COLUMNS as u8;
         keep_each(&mut merged.writes, writes);
         merged
-    }
-
-    /// Keeps the greater of the group's reset and this one. Either may be absent.
-    fn clear_by(&mut self, reset: Option<Stamp>)
-        ensures reset { IsLatestOf self.old.reset reset self.new.reset }
-        ensures writes { self.new.slots ≡ self.old.slots }
-    {
-        if let Some(stamp) = reset {
-            self.clear_if(true, stamp);
-        }
     }
 }
 

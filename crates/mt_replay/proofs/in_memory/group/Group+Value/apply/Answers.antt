@@ -25,12 +25,12 @@ pub returns-in-Remove-clause-group : goal.returns-in-Remove-clause-group
 returns-in-Remove-clause-group c = λ updates key of_key is.
     let u = c.args.update in
     let old = c.args.self.now in
-    let new = c.clear_if.new.self in
+    let new = c.clear_by.new.self in
     let kind : u.kind ≡ Remove = c.in-Remove.is in
     group_more updates u key old new of_key
-    (subst (λ (k : Kind). IsResetAfter k u.stamp old.reset new.reset) (sym kind) c.clear_if.ensures.reset)
+    (subst (λ (k : Kind). IsResetAfter k u.stamp old.reset new.reset) (sym kind) c.clear_by.ensures.reset)
     (λ writes cell.
-    let same : IsCellOf writes new.slots = subst (IsCellOf writes) (sym c.clear_if.ensures.writes) cell in
+    let same : IsCellOf writes new.slots = subst (IsCellOf writes) (sym c.clear_by.ensures.writes) cell in
     let none : IsCellOf (writes ++ written u.stamp (writes_of Remove)) new.slots = subst (λ (ws : List Written). IsCellOf ws new.slots) (sym (append-nil writes)) same in
     subst (λ (k : Kind). IsCellOf (writes ++ written u.stamp (writes_of k)) new.slots) (sym kind) none)
     is
@@ -41,11 +41,11 @@ returns-clause-group c = λ updates key of_key is.
     let old = c.args.self.now in
     let new = c.apply_columns-in-Whole.new.self in
     let kind : u.kind ≡ Whole c.in-Whole.columns = c.in-Whole.is in
-    let later : IsLaterOf old.reset u.stamp new.reset = subst (IsLaterOf old.reset u.stamp) (sym c.apply_columns-in-Whole.ensures.reset) c.clear_if-in-Whole.ensures.reset in
+    let later : IsLaterOf old.reset u.stamp new.reset = subst (IsLaterOf old.reset u.stamp) (sym c.apply_columns-in-Whole.ensures.reset) c.clear_by-in-Whole.ensures.reset in
     group_more updates u key old new of_key
     (subst (λ (k : Kind). IsResetAfter k u.stamp old.reset new.reset) (sym kind) later)
     (λ writes cell.
-    let same = subst (IsCellOf writes) (sym c.clear_if-in-Whole.ensures.writes) cell in
+    let same = subst (IsCellOf writes) (sym c.clear_by-in-Whole.ensures.writes) cell in
     subst (λ (k : Kind). IsCellOf (writes ++ written u.stamp (writes_of k)) new.slots) (sym kind) (c.apply_columns-in-Whole.ensures.writes writes same))
     is
 
