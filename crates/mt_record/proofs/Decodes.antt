@@ -1,5 +1,5 @@
 -- Decoding a body gives the record that it encodes.
-use Rattle.std.proofs.Common.{◌≡◌, ℕ, suc, eqb, ◌^◌, ◌<◌, ◌≤◌, ◌+◌, ◌-◌, List, [], ◌∷◌, ◌++◌, length, take, drop, Option, Some, None, Bool, true, false, ◌↔◌, refl, sym, ap, subst, ◌∙◌, append_assoc, arith}
+use Rattle.std.proofs.Common.{◌≡◌, ℕ, zero, suc, eqb, ◌^◌, ◌<◌, ◌≤◌, ◌+◌, ◌-◌, List, [], ◌∷◌, ◌++◌, length, take, drop, Option, Some, None, Bool, true, false, ◌↔◌, refl, sym, ap, subst, ◌∙◌, append_assoc, arith}
 use Rattle.std.proofs.Math.Seq.{take-append_seam, drop-append_seam}
 use Rattle.std.proofs.lemmas.List.{append-nil, take_all, take_rest, drop-drop}
 use Rattle.std.specs.Prelude.{IfSome, slice_index}
@@ -16,14 +16,15 @@ use Rattle.mt_words.specs.declared.update.Update.{Update}
 use Rattle.mt_words.specs.Limits.{widest, widest_format}
 use Rattle.mt_words.specs.Codes.{code_of, byte_of, payload_of, Clears}
 use Rattle.mt_words.specs.Words.{IsColumn, AreNumbers}
-use Rattle.mt_words.specs.Changes.{Logged, changed, IsLawful, IsLawfulChange, IsLoggedChange, AllowsKind, AreWrites, IsReset, erased, writes_of}
+use Rattle.mt_words.specs.Changes.{Logged, changed, IsLawful, IsLawfulChange, IsLoggedChange, AllowsKind, AreWrites, IsReset, writes_of}
 use Rattle.mt_words.proofs.WriteLemmas.{set_writes, set_columns, erase_writes, erase_numbers}
 use Rattle.mt_words.specs.Updates.{update_at}
 use Rattle.mt_record.specs.Spelling.{counted, column_bytes, kind_byte, kind_bytes, body_of, body, FitsColumn, FitsKind, FitsChange}
 use Rattle.mt_record.proofs.Lawful.{key_room, put_fits, erase_fits}
 use Rattle.mt_record.specs.Bodies.{AreSpelled}
+use Rattle.mt_record.proofs.Columns.{no_columns}
 use Rattle.mt_record.proofs.Unique.{same_column}
-use Rattle.mt_record.specs.Decoding.{columns_from, columns_counted, numbers_counted, writes_from, writes_carried, kind_from, change_unless, is_mark_in, code_from, code_in, time_in, version_in, key_length_in, key_in, carried_in, kind_in, change_in, update_in, change_unless, decode, IsSound, IsBody, IsChangeBody, IsEntryBody, IsCarried, AreLentColumns, AreLentNumbers, AreCounted}
+use Rattle.mt_record.specs.Decoding.{columns_from, columns_counted, numbers_counted, writes_carried, kind_from, change_unless, is_mark_in, code_from, code_in, time_in, version_in, key_length_in, key_in, carried_in, kind_in, change_in, update_in, change_unless, decode, IsSound, IsBody, IsChangeBody, IsEntryBody, IsCarried, AreLentColumns, AreCounted}
 
 -- ---- fields
 
@@ -263,6 +264,11 @@ code_first bytes is = ap byte_of (sym (same_code (code_in bytes) (carried_in byt
 
 -- ---- columns, one after the other
 
+-- if the bytes begin with a column, a column is left
+pub some_left : (left : ℕ) (bytes after : List ℕ) (c : ℕ × List ℕ) → bytes ≡ column_bytes c ++ after → AreLentColumns left bytes → 0 < left
+some_left zero bytes after c same are = absurd (omega (arith, ap length (sym are.spelled.spelled ∙ same)))
+some_left (suc n) bytes after c same are = omega arith
+
 -- the decoded columns are the one at the front and those after it
 pub next_column : (n left : ℕ) (bytes after : List ℕ) (c : ℕ × List ℕ) → left ≡ suc n → FitsColumn c → bytes ≡ column_bytes c ++ after
     → AreLentColumns left bytes
@@ -287,12 +293,10 @@ next_column n left bytes after c more fit same are =
       },
     )
 
--- the writes of numbers are that of the number at the front and those after it
-pub next_number : (n left : ℕ) (bytes after : List ℕ) (number : ℕ) → left ≡ suc n → bytes ≡ number ∷ after → AreLentNumbers left bytes
-    → (writes_from payloads.Numbers left bytes ≡ erased number ∷ writes_from payloads.Numbers n after) × (number ≤ widest.column) × AreLentNumbers n after
-next_number n left bytes after number more same are =
-    let all : AllByRecursion (λ number. number ≤ widest.column) (number ∷ after) = subst (AllByRecursion (λ number. number ≤ widest.column)) same are.lawful in
-    (λ i. writes_from payloads.Numbers (more i) (same i), all.0, record { number = omega (arith, are.number, more, ap length same); lawful = all.1 })
+-- if the bytes begin with no column, no column is left
+pub no_column : (left : ℕ) (bytes : List ℕ) → AreLentColumns left bytes → ((c : ℕ × List ℕ) (more : List ℕ) → FitsColumn c → bytes ≡ column_bytes c ++ more → ⊥) → columns_from left bytes ≡ []
+no_column zero bytes are none = refl
+no_column (suc n) bytes are none = absurd (no_columns (suc n) bytes none (omega arith) (columns_from (suc n) bytes, are.spelled))
 
 -- the bytes carried begin after the key, whose length is given
 pub carried_at : (bytes : List ℕ) (n : ℕ) → n ≡ key_length_in bytes → drop (19 + n) bytes ≡ carried_in bytes

@@ -58,7 +58,7 @@ same_columns (c ∷ cs) (d ∷ ds) fits_c fits_d number e =
     λ i. first.0 i ∷ rest i
 
 -- bytes are a count and its columns in only one way
-pub same_carried : (cs ds : List (ℕ × List ℕ)) → AllByRecursion FitsColumn cs → AllByRecursion FitsColumn ds
+same_carried : (cs ds : List (ℕ × List ℕ)) → AllByRecursion FitsColumn cs → AllByRecursion FitsColumn ds
     → length cs ∷ flat_map column_bytes cs ≡ length ds ∷ flat_map column_bytes ds → cs ≡ ds
 same_carried cs ds fits_c fits_d e =
     let number : length cs ≡ length ds = ap (λ (x : List ℕ). slice_index x 0) e in

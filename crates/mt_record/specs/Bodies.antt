@@ -6,10 +6,9 @@ use Rattle.mt_words.specs.declared.fault.What.{What}
 use Rattle.mt_words.specs.declared.fault.What.TheVariants.{Length, Trailer, Frame, Version, Key, Columns}
 use Rattle.mt_words.specs.declared.record.Change.{Change}
 use Rattle.mt_words.specs.declared.update.Kind.{Kind}
-use Rattle.mt_words.specs.declared.update.Kind.TheVariants.{Put, Erase}
 use Rattle.mt_words.specs.declared.limits.Limits.{Limits}
 use Rattle.mt_words.specs.Limits.{widest}
-use Rattle.mt_words.specs.Words.{AreColumns, AreNumbers}
+use Rattle.mt_words.specs.Words.{AreColumns}
 use Rattle.mt_words.specs.Changes.{Logged, IsLawful, IsLawfulChange, AllowsKind, IsEntry}
 use Rattle.mt_record.specs.declared.body.ChangeFields.{ChangeFields}
 use Rattle.mt_record.specs.Spelling.{counted, column_bytes, kind_byte, kind_bytes, change_bytes, body, framed, spelling, FitsColumn, FitsKind, FitsChange}
@@ -175,15 +174,3 @@ pub record IsColumnsFault (Allows : List (ℕ × List ℕ) → Type 0) (count : 
   pub columns : List (ℕ × List ℕ)
   pub spelled : AreSpelled count bytes columns
   pub refused : Allows columns → ⊥
-
--- the bytes are a count and then these column numbers: at least one, and allowed by the widest format
-pub record CarriesNumbers (bytes numbers : List ℕ) : Type 0 where
-  pub lawful : AreNumbers widest numbers
-  pub some : 0 < length numbers
-  pub spelled : bytes ≡ kind_bytes (Erase numbers)
-
--- the bytes are a count and then these columns: at least one, and allowed by the widest format
-pub record CarriesColumns (bytes : List ℕ) (columns : List (ℕ × List ℕ)) : Type 0 where
-  pub lawful : AreColumns widest columns
-  pub some : 0 < length columns
-  pub spelled : bytes ≡ kind_bytes (Put columns)

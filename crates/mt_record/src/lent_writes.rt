@@ -57,23 +57,16 @@ impl<'a> LentWrites<'a> {
         ensures lawful { IfSome result (λ write. IsWrite widest (write.0, option_map (λ bytes. bytes.now) write.1)) }
         ensures none { IfNone result ((self.old ≡ []) × (self.new ≡ [])) }
     {
-        if self.left == 0 {
-            return None;
-        }
         match self.payload {
             Payload::Nothing => None,
             Payload::Columns => {
-                let Some((number, bytes, after)) = column_at(self.bytes) else {
-                    unreachable!();
-                };
+                let (number, bytes, after) = column_at(self.bytes)?;
                 self.left -= 1;
                 self.bytes = after;
                 Some((number, Some(bytes)))
             }
             Payload::Numbers => {
-                let Some((number, after)) = self.bytes.split_first() else {
-                    unreachable!();
-                };
+                let (number, after) = self.bytes.split_first()?;
                 self.left -= 1;
                 self.bytes = after;
                 Some((*number, None))

@@ -25,7 +25,7 @@ pub fn timestamp(body: &[u8]) -> u64
 }
 
 /// Returns the code of a change.
-fn code(body: &[u8]) -> Code
+pub fn code(body: &[u8]) -> Code
     requires { IsChangeBody body.now }
     ensures { result ≡ code_in body.now }
 {
@@ -62,7 +62,7 @@ pub fn key(body: &[u8]) -> &[u8]
 }
 
 /// Returns the bytes that the kind of a change carries.
-fn carried(body: &[u8]) -> &[u8]
+pub fn carried(body: &[u8]) -> &[u8]
     requires { IsChangeBody body.now }
     ensures { result.now ≡ carried_in body.now }
 {

@@ -1,6 +1,11 @@
-use Rattle.mt_record.proofs.Copying.{AreLeft}
+use Rattle.std.proofs.Common.{length}
+use Rattle.mt_record.specs.Decoding.{columns_counted}
+use Rattle.mt_record.proofs.Copying.{AreTaken}
 use Rattle.mt_record.proofs.copy.copy_columns.Given as goal
 
--- the bytes carry the columns so far and those that are left
-abbrev pub invariant-loop : goal.invariant-loop
-invariant-loop l = AreLeft l.fn.bytes l.columns l.rest l.counter l.end
+-- the columns so far are the first of those that the bytes carry
+abbrev pub invariant-loop-number : goal.invariant-loop-number
+invariant-loop-number l = AreTaken (columns_counted l.fn.carried) l.columns l.rest
+
+abbrev pub decreases-loop-number : goal.decreases-loop-number
+decreases-loop-number l = length l.rest

@@ -1,15 +1,21 @@
-use Rattle.std.proofs.Common.{List, ℕ, sym, subst}
-use Rattle.mt_words.specs.Limits.{widest_format}
-use Rattle.mt_record.specs.Bodies.{CarriesColumns}
-use Rattle.mt_record.proofs.Changes.{same_fields}
-use Rattle.mt_record.proofs.EntryTexts.{entry_fits}
-use Rattle.mt_record.proofs.Copying.{is_whole}
+use Rattle.std.proofs.Common.{◌<◌, length}
+use Rattle.std.proofs.lemmas.Bool.{false≢true}
+use Rattle.mt_record.proofs.Copying.{read_entry}
 use Rattle.mt_record.proofs.copy.copy_entry.Goals as goal
 
-pub copy_columns-requires : goal.copy_columns-requires
-copy_columns-requires c =
-    let entry = c.requires.0 in
-    let is = c.requires.1 in
-    let same = same_fields c.args.bytes.now c.in-Some.fields entry c.in-Some.ensures.found (entry_fits widest_format entry is.lawful) is.spelled in
-    let whole = is_whole entry.kind is.lawful.0.kind is.lawful.1 in
-    (whole.0, subst (λ (bytes : List ℕ). CarriesColumns bytes whole.0) (sym same.2) whole.2)
+pub copy_columns-requires-clause-carried : goal.copy_columns-requires-clause-carried
+copy_columns-requires-clause-carried c = (read_entry c.args.bytes.now c.requires.0 c.in-Some.fields c.requires.1 c.in-Some.ensures.found).payload.are
+
+pub copy_columns-requires-clause-lawful : goal.copy_columns-requires-clause-lawful
+copy_columns-requires-clause-lawful c = (read_entry c.args.bytes.now c.requires.0 c.in-Some.fields c.requires.1 c.in-Some.ensures.found).payload.lawful.0
+
+pub unreachable-requires-in_default-new : goal.unreachable-requires-in_default-new
+unreachable-requires-in_default-new c =
+    let found = read_entry c.args.bytes.now c.requires.0 c.in-Some.fields c.requires.1 c.in-Some.ensures.found in
+    let some : 0 < length c.in_ok-columns.columns = rw c.in_ok-columns.ensures found.payload.lawful.1 in
+    false≢true (c.in_default-new.ensures.accepted.1 (found.some, some))
+
+pub returns : goal.returns
+returns c =
+    let found = read_entry c.args.bytes.now c.requires.0 c.in-Some.fields c.requires.1 c.in-Some.ensures.found in
+    rw (c.in-Some-new.ensures.value, c.in_ok-key.ensures, c.in_ok-columns.ensures, ← found.is) c.requires.1

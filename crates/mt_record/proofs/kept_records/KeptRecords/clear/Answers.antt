@@ -1,4 +1,4 @@
-use Rattle.std.proofs.Common.{◌≡◌, ◌∙◌, ◌+◌, ◌-◌, ◌≤◌, List, length, sym, ap, arith}
+use Rattle.std.proofs.Common.{◌≡◌, List, length, ap, arith}
 use Rattle.std.specs.List.{filter}
 use Rattle.mt_words.specs.Changes.{Logged}
 use Rattle.mt_record.specs.Kept.{is_mark}

@@ -4,7 +4,6 @@ use Rattle.mt_words.specs.declared.update.Origin.TheVariants as origins
 use Rattle.mt_words.specs.Changes.{mark_of}
 use Rattle.mt_words.specs.Updates.{update_by}
 use Rattle.mt_record.specs.Kept.{Kept}
-use Rattle.mt_record.proofs.Decodes.{body_says}
 use Rattle.mt_record.proofs.RecordLemmas.{updates_step}
 use Rattle.mt_record.proofs.updates.Updates.into_vec.Goals as goal
 
@@ -12,10 +11,8 @@ pub loop-number-preserved : goal.loop-number-preserved
 loop-number-preserved c =
     let kept : Kept = record { log = c.self.inside.log; records = c.self.inside.records } in
     let r = c.in_ok-logged.logged in
-    let is = c.in_ok-logged.ensures in
-    let says = body_says c.body.result.now r is.lawful is.spelled in
     let from = c.origin.ensures ∙ ap (λ (k : Kept). origins.Log k.log c.loop-number.number) (sym c.self.view_is) in
     let added = ap (λ (origin : Origin). c.loop-number.updates.items ++ update_by origin r.timestamp r.change) from in
     updates_step kept c.loop-number.number c.loop-number.updates.items c.push_update.new.updates.items r
-    (omega (arith, c.loop-number-test.true, c.record_count-number-end.ensures, ap (λ (k : Kept). length k.records) c.self.view_is)) (sym says.0 ∙ c.body.ensures.says (mark_of 0)) c.loop-number.invariant
+    (omega (arith, c.loop-number-test.true, c.record_count-number-end.ensures, ap (λ (k : Kept). length k.records) c.self.view_is)) (c.in_ok-logged.ensures ∙ c.body.ensures.says (mark_of 0)) c.loop-number.invariant
     (c.in_ok-push_update.ensures ∙ added)
