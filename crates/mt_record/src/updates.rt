@@ -36,13 +36,6 @@ impl Updates {
         Updates { log, records }
     }
 
-    /// Returns the number of the log.
-    pub fn log(&self) -> usize
-        ensures { result ≡ self.now.log }
-    {
-        self.log
-    }
-
     /// Returns the number of records, marks included.
     pub fn record_count(&self) -> usize
         ensures { result ≡ length self.now.records }
