@@ -1,11 +1,10 @@
 -- Reading columns from the front of bytes.
-use Rattle.std.proofs.Common.{◌≡◌, ℕ, suc, ◌+◌, ◌-◌, ◌<◌, ◌≤◌, List, [], ◌∷◌, ◌++◌, refl, sym, ap, ◌∙◌, ◌↔◌, subst, append_assoc, arith}
+use Rattle.std.proofs.Common.{◌≡◌, ℕ, suc, ◌+◌, ◌-◌, ◌<◌, ◌≤◌, List, [], ◌∷◌, ◌++◌, sym, ap, ◌∙◌, subst, append_assoc, arith}
 use Rattle.std.specs.List.{flat_map, AllByRecursion}
-use Rattle.mt_words.specs.declared.fault.What.TheVariants.{Columns}
 use Rattle.mt_words.specs.declared.limits.Limits.{Limits}
 use Rattle.mt_words.specs.Words.{IsColumn, AreColumns, CanFollow, NumbersRise, NumbersBelow}
 use Rattle.mt_record.specs.Spelling.{column_bytes, FitsColumn}
-use Rattle.mt_record.specs.Bodies.{AreSpelled, HasColumns, IsColumnsFault}
+use Rattle.mt_record.specs.Bodies.{AreSpelled, HasColumns}
 use Rattle.mt_record.proofs.Unique.{same_column}
 
 -- ---- encoded columns
@@ -29,16 +28,6 @@ pub no_columns : (n : ℕ) (bytes : List ℕ) → ((c : ℕ × List ℕ) (more :
     → HasColumns n bytes → ⊥
 no_columns n bytes none some ([], s) = absurd (omega (arith, s.number))
 no_columns n bytes none some (c ∷ cs, s) = none c (flat_map column_bytes cs) s.fits.0 s.spelled
-
--- if `Q` decides whether the bytes are the columns that are left, it still does after one of them is read
-pub goes_on : (count i : ℕ) (bytes after : List ℕ) (c : ℕ × List ℕ) (Q : Type 0) → i < count → FitsColumn c → bytes ≡ column_bytes c ++ after
-    → (HasColumns (count - i) bytes ↔ Q) → (HasColumns (count - (i + 1)) after ↔ Q)
-goes_on count i bytes after c Q lt fits e so_far =
-    let more : count - i ≡ suc (count - (i + 1)) = omega arith in
-    let here = rw more at so_far in (
-      λ h. here.0 (c ∷ h.0, spelled_cons (count - (i + 1)) bytes after c h.0 fits e h.1),
-      λ q. let h = here.1 q in spelled_tail (count - (i + 1)) bytes after c h.0 fits e h.1,
-    )
 
 -- ---- a column among columns
 
@@ -81,14 +70,3 @@ step_joins count i total all bytes after front new c lt fits e joins pushed more
     let longer : AreSpelled (count - i) bytes (c ∷ more) = rw number (spelled_cons (count - (i + 1)) bytes after c more fits e s) in
     let regrouped : new ++ more ≡ front ++ c ∷ more = ap (λ (x : List (ℕ × List ℕ)). x ++ more) pushed ∙ append_assoc front (c ∷ []) more in
     subst (AreSpelled total all) (sym regrouped) (joins (c ∷ more) longer)
-
--- if a column may not follow those so far, all columns together are refused
-pub step_refused : (limits : Limits) (count i total : ℕ) (all bytes after : List ℕ) (front : List (ℕ × List ℕ)) (c : ℕ × List ℕ) → i < count
-    → FitsColumn c → bytes ≡ column_bytes c ++ after → HasColumns (count - i) bytes
-    → ((more : List (ℕ × List ℕ)) → AreSpelled (count - i) bytes more → AreSpelled total all (front ++ more)) → (CanFollow limits front c → ⊥)
-    → IsColumnsFault (AreColumns limits) total all Columns
-step_refused limits count i total all bytes after front c lt fits e left joins refused =
-    let number : count - i ≡ suc (count - (i + 1)) = omega arith in
-    let rest = step_left count i bytes after c lt fits e left in
-    let whole : AreSpelled (count - i) bytes (c ∷ rest.0) = rw number (spelled_cons (count - (i + 1)) bytes after c rest.0 fits e rest.1) in
-    record { is_columns = refl; columns = front ++ c ∷ rest.0; spelled = joins (c ∷ rest.0) whole; refused = λ are. refused (may_follow limits front rest.0 c are) }

@@ -1,5 +1,5 @@
 -- What the steps of reading a record or an entry return.
-use Rattle.std.specs.Prelude.{◌≡◌, ◌≢◌, ℕ, ◌≤◌, ◌<◌, ◌^◌, List, ◌++◌, length}
+use Rattle.std.specs.Prelude.{◌≡◌, ◌≢◌, ◌↔◌, IsTrue, Bool, ℕ, ◌≤◌, ◌<◌, ◌^◌, List, ◌++◌, length}
 use Rattle.std.specs.List.{flat_map, AllByRecursion}
 use Rattle.byteorder.specs.Endian.{big_bytes}
 use Rattle.mt_words.specs.declared.fault.What.{What}
@@ -119,16 +119,11 @@ pub record IsKindOf (byte : ℕ) (bytes : List ℕ) (kind : Kind) : Type 0 where
 abbrev pub HasKind : ℕ → List ℕ → Type 0
 HasKind code bytes = (kind : Kind) × IsKindOf code bytes kind
 
--- the kind has this byte and carries these bytes, and the format allows it
-abbrev pub IsAllowedKind : Limits → ℕ → List ℕ → Kind → Type 0
-IsAllowedKind limits code bytes kind = IsKindOf code bytes kind × AllowsKind limits kind
-
--- the fault is `Columns`: a kind has this byte and carries these bytes, but the format does not allow it
-pub record IsKindFault (limits : Limits) (byte : ℕ) (bytes : List ℕ) (what : What) : Type 0 where
-  pub is_columns : what ≡ Columns
+-- a kind has this byte and carries these bytes, and the flag says whether the format allows it
+pub record IsJudgedKind (limits : Limits) (byte : ℕ) (bytes : List ℕ) (allowed : Bool) : Type 0 where
   pub kind : Kind
   pub is_kind : IsKindOf byte bytes kind
-  pub refused : AllowsKind limits kind → ⊥
+  pub judged : IsTrue allowed ↔ AllowsKind limits kind
 
 -- the bytes are these fields, one after the other
 pub record SpellFields (bytes : List ℕ) (fields : ChangeFields) : Type 0 where
@@ -139,13 +134,6 @@ pub record SpellFields (bytes : List ℕ) (fields : ChangeFields) : Type 0 where
 -- the bytes are not the fields of any change, whatever bytes its kind carries
 abbrev pub HasNoFields : List ℕ → Type 0
 HasNoFields bytes = (version : ℕ) (key carried : List ℕ) → version < 2 ^ 64 → length key < 2 ^ 16 → bytes ≢ big_bytes 8 version ++ (counted key ++ carried)
-
--- the bytes are these fields of a change whose kind has this byte
-pub record AreChangeFields (code : ℕ) (bytes : List ℕ) (fields : ChangeFields) : Type 0 where
-  pub spelled : bytes ≡ big_bytes 8 fields.version ++ (counted fields.key.now ++ fields.carried.now)
-  pub version_fits : fields.version < 2 ^ 64
-  pub key_fits : length fields.key.now < 2 ^ 16
-  pub kind : HasKind code fields.carried.now
 
 -- ---- columns
 
@@ -158,19 +146,8 @@ pub record AreSpelled (count : ℕ) (bytes : List ℕ) (columns : List (ℕ × L
 abbrev pub HasColumns : ℕ → List ℕ → Type 0
 HasColumns count bytes = (columns : List (ℕ × List ℕ)) × AreSpelled count bytes columns
 
--- there is at least one column, and the format allows them
-abbrev pub AreSomeColumns : Limits → List (ℕ × List ℕ) → Type 0
-AreSomeColumns limits columns = AreColumns limits columns × (0 < length columns)
-
--- the bytes are the encodings of `count` columns, and `Allows` holds for these
-pub record HasAllowedColumns (Allows : List (ℕ × List ℕ) → Type 0) (count : ℕ) (bytes : List ℕ) : Type 0 where
+-- the bytes are the encodings of `count` columns, and the flag says whether there is a column and the format allows them
+pub record AreJudgedColumns (limits : Limits) (count : ℕ) (bytes : List ℕ) (allowed : Bool) : Type 0 where
   pub columns : List (ℕ × List ℕ)
   pub spelled : AreSpelled count bytes columns
-  pub allowed : Allows columns
-
--- the fault is `Columns`: the bytes are the encodings of `count` columns, and `Allows` does not hold for these
-pub record IsColumnsFault (Allows : List (ℕ × List ℕ) → Type 0) (count : ℕ) (bytes : List ℕ) (what : What) : Type 0 where
-  pub is_columns : what ≡ Columns
-  pub columns : List (ℕ × List ℕ)
-  pub spelled : AreSpelled count bytes columns
-  pub refused : Allows columns → ⊥
+  pub judged : IsTrue allowed ↔ (AreColumns limits columns × (0 < length columns))

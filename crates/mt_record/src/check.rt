@@ -1,16 +1,14 @@
 //! Validates bodies where they lie, without allocating. Only the column numbers of an erase are copied, into a fixed
 //! array.
-ghost use Rattle.std.specs.Prelude.{◌≡◌, ◌≤◌, ◌<◌, ℕ, List, length, IfOk, IfErr, OnOk, OnErr};
+ghost use Rattle.std.specs.Prelude.{◌≡◌, ◌≤◌, ◌<◌, ◌↔◌, ℕ, length, IfOk, IfErr, OnOk, OnErr, IfSome, IfNone, IsTrue};
 ghost use Rattle.mt_words.specs.Limits.{limits_of};
 ghost use Rattle.mt_words.specs.Codes.{byte_of};
-ghost use Rattle.mt_words.specs.Words.{AreColumns, AreNumbers};
-ghost use Rattle.mt_words.specs.declared.fault.What.TheVariants.{Columns};
+ghost use Rattle.mt_words.specs.Words.{AreNumbers};
 ghost use Rattle.mt_words.specs.declared.record.Change.{Change as ChangeValue};
-ghost use Rattle.mt_words.specs.declared.update.Kind.{Kind as KindValue};
 ghost use Rattle.mt_record.specs.LogFaults.{BodyFault};
-ghost use Rattle.mt_record.specs.Bodies.{IsBodyAt, AreFieldsOf, AreNoFields, IsChangeOf, IsChangeFault, HasKind, IsAllowedKind, IsKindFault, HasColumns, AreSomeColumns, HasAllowedColumns, IsColumnsFault};
+ghost use Rattle.mt_record.specs.Bodies.{IsBodyAt, AreFieldsOf, AreNoFields, IsChangeOf, IsChangeFault, HasKind, IsJudgedKind, HasColumns, AreJudgedColumns};
 
-use crate::body::change_fields;
+use crate::body::fields_at;
 use crate::fields::{column_at, u64_at};
 use mt_words::{Code, Format, Numbers, Payload, What};
 
@@ -66,7 +64,10 @@ fn check_change(format: Format, code: Code, bytes: &[u8]) -> Result<(), What>
     ensures found { OnOk result ((change : ChangeValue) × IsChangeOf (limits_of format) (byte_of code) bytes.now change) }
     ensures fault { IfErr result (IsChangeFault (limits_of format) (byte_of code) bytes.now) }
 {
-    let Some(fields) = change_fields(code, bytes) else {
+    let Some(fields) = fields_at(bytes) else {
+        return Err(What::Frame);
+    };
+    let Some(allowed) = judge_kind(format, code, fields.carried) else {
         return Err(What::Frame);
     };
     if fields.version == 0 {
@@ -75,67 +76,66 @@ fn check_change(format: Format, code: Code, bytes: &[u8]) -> Result<(), What>
     if fields.key.len() > format.limits().key {
         return Err(What::Key);
     }
-    check_kind(format, code, fields.carried)?;
-    Ok(())
-}
-
-/// Checks what a change of this code carries.
-fn check_kind(format: Format, code: Code, bytes: &[u8]) -> Result<(), What>
-    requires within { byte_of code ≤ (limits_of format).kind }
-    requires kind { HasKind (byte_of code) bytes.now }
-    ensures found { OnOk result ((kind : KindValue) × IsAllowedKind (limits_of format) (byte_of code) bytes.now kind) }
-    ensures fault { IfErr result (IsKindFault (limits_of format) (byte_of code) bytes.now) }
-{
-    match (code.payload(), bytes) {
-        (Payload::Nothing, _) => Ok(()),
-        (Payload::Columns, [count, columns @ ..]) => check_some(format, *count, columns),
-        (Payload::Numbers, [_, numbers @ ..]) => check_numbers(format, numbers),
-        (_, []) => unreachable!(),
-    }
-}
-
-/// Checks the column numbers of an erase. There must be at least one.
-fn check_numbers(format: Format, numbers: &[u8]) -> Result<(), What>
-    ensures found { OnOk result (AreNumbers (limits_of format) numbers.now × (0 < length numbers.now)) }
-    ensures fault { IfErr result (λ what. (what ≡ Columns) × (AreNumbers (limits_of format) numbers.now × (0 < length numbers.now) → ⊥)) }
-{
-    match Numbers::new(numbers) {
-        Some(numbers) if numbers.are_up_to(format.limits().column) => Ok(()),
-        _ => Err(What::Columns),
-    }
-}
-
-/// Checks bytes that are `count` columns. There must be at least one.
-fn check_some(format: Format, count: u8, bytes: &[u8]) -> Result<(), What>
-    requires { HasColumns count bytes.now }
-    ensures found { OnOk result (HasAllowedColumns (AreSomeColumns (limits_of format)) count bytes.now) }
-    ensures fault { IfErr result (IsColumnsFault (AreSomeColumns (limits_of format)) count bytes.now) }
-{
-    check_columns(format, count, bytes)?;
-    if count == 0 {
+    if !allowed {
         return Err(What::Columns);
     }
     Ok(())
 }
 
-/// Checks bytes that are `count` columns.
-fn check_columns(format: Format, count: u8, bytes: &[u8]) -> Result<(), What>
-    requires { HasColumns count bytes.now }
-    ensures found { OnOk result (HasAllowedColumns (AreColumns (limits_of format)) count bytes.now) }
-    ensures fault { IfErr result (IsColumnsFault (AreColumns (limits_of format)) count bytes.now) }
+/// Returns whether the format allows what a change of this code carries. Returns None if the bytes are not exactly what
+/// such a change carries.
+fn judge_kind(format: Format, code: Code, bytes: &[u8]) -> Option<bool>
+    requires { byte_of code ≤ (limits_of format).kind }
+    ensures found { IfSome result (IsJudgedKind (limits_of format) (byte_of code) bytes.now) }
+    ensures none { IfNone result (HasKind (byte_of code) bytes.now → ⊥) }
+{
+    match code.payload() {
+        Payload::Nothing => bytes.is_empty().then_some(true),
+        Payload::Columns => {
+            let (count, columns) = bytes.split_first()?;
+            judge_columns(format, *count, columns)
+        }
+        Payload::Numbers => {
+            let (count, numbers) = bytes.split_first()?;
+            if numbers.len() != usize::from(*count) {
+                return None;
+            }
+            Some(are_allowed(format, numbers))
+        }
+    }
+}
+
+/// Returns whether the format allows these column numbers of an erase. There must be at least one.
+fn are_allowed(format: Format, numbers: &[u8]) -> bool
+    ensures { IsTrue result ↔ (AreNumbers (limits_of format) numbers.now × (0 < length numbers.now)) }
+{
+    match Numbers::new(numbers) {
+        Some(numbers) => numbers.are_up_to(format.limits().column),
+        None => false,
+    }
+}
+
+/// Returns whether the format allows these columns. There must be at least one. Returns None if the bytes are not
+/// exactly `count` columns.
+fn judge_columns(format: Format, count: u8, bytes: &[u8]) -> Option<bool>
+    ensures found { IfSome result (AreJudgedColumns (limits_of format) count bytes.now) }
+    ensures none { IfNone result (HasColumns count bytes.now → ⊥) }
 {
     let greatest = format.limits().column;
+    let mut allowed = true;
     let mut least = 0;
     let mut rest = bytes;
     for _ in 0..count {
-        let Some((number, _, after)) = column_at(rest) else {
-            unreachable!();
-        };
-        if number < least || number > greatest {
-            return Err(What::Columns);
+        let (number, _, after) = column_at(rest)?;
+        if allowed && least <= number && number <= greatest {
+            least = number + 1;
+        } else {
+            allowed = false;
         }
-        least = number + 1;
         rest = after;
     }
-    Ok(())
+    if !rest.is_empty() {
+        return None;
+    }
+    Some(allowed && count > 0)
 }
