@@ -1,6 +1,7 @@
 -- What contracts say of each kind of source, beyond what they say of every source.
 use Rattle.std.specs.Prelude.{◌≡◌, ℕ, min, List, [], length, Option, Some, Bool, true, false, nat_eq, Result, Ok, IfSome}
 use Rattle.std.specs.Io.KnownBytes.{Consumes}
+use Rattle.std.specs.Borrow.{MutBor}
 use Rattle.mt_scan.specs.Buffers.{Buffered}
 use Rattle.mt_scan.specs.Sources.{Seen}
 use Rattle.mt_scan.specs.declared.source.SourceFault.{SourceFault}
@@ -89,3 +90,7 @@ pub record HasTooMany (old new : Seen) : Type 0 where
 -- the reader has ended
 abbrev pub at_its_end : {R : Type 0} → ReaderSource R Buffered → Bool
 at_its_end source = has_ended source.progress
+
+-- the slot as the drop of a source leaves it; it is the second field of each kind of source
+abbrev pub slot_after : {First Rest Held : Type 0} → First × (MutBor Held × Rest) → Held
+slot_after exit = exit.1.0.now

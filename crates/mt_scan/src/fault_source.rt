@@ -3,7 +3,7 @@ ghost use Rattle.std.specs.Prelude.{◌≡◌, ◌+◌, ◌-◌, ◌≤◌, ◌<
 ghost use Rattle.mt_scan.specs.declared.source.SourceFault.TheVariants.{Device};
 ghost use Rattle.mt_scan.specs.Sources.{Advances};
 ghost use Rattle.mt_scan.specs.Buffers.{HoldsBufferOf};
-ghost use Rattle.mt_scan.specs.SourceTypes.{seen_of_fault, calls_left, fault_piece_size, GivesPiece};
+ghost use Rattle.mt_scan.specs.SourceTypes.{seen_of_fault, calls_left, fault_piece_size, GivesPiece, slot_after};
 
 use crate::buffer::Buffer;
 use crate::slot::Slot;
@@ -47,7 +47,7 @@ impl<'a> FaultSource<'a> {
 
 impl<B: Drop> Drop for FaultSource<'_, B> {
     fn drop(self)
-        ensures { self.exit.1.0.now ≡ Some self.entry.buffer }
+        ensures { slot_after self.exit ≡ Some self.entry.buffer }
     {
         let FaultSource {
             rest: _,

@@ -2,7 +2,7 @@
 ghost use Rattle.std.specs.Prelude.{◌≡◌, ◌↔◌, [], IfSome, IsSome, IsTrue, Some};
 ghost use Rattle.mt_scan.specs.Sources.{Advances};
 ghost use Rattle.mt_scan.specs.Buffers.{HoldsBufferOf};
-ghost use Rattle.mt_scan.specs.SourceTypes.{seen_of_memory, piece_size, GivesPiece};
+ghost use Rattle.mt_scan.specs.SourceTypes.{seen_of_memory, piece_size, GivesPiece, slot_after};
 
 use crate::buffer::Buffer;
 use crate::slot::Slot;
@@ -38,7 +38,7 @@ impl<'a> MemSource<'a> {
 
 impl<B: Drop> Drop for MemSource<'_, B> {
     fn drop(self)
-        ensures { self.exit.1.0.now ≡ Some self.entry.buffer }
+        ensures { slot_after self.exit ≡ Some self.entry.buffer }
     {
         let MemSource {
             rest: _,

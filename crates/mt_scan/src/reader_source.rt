@@ -4,7 +4,7 @@ ghost use Rattle.mt_scan.specs.declared.source.SourceFault.TheVariants.{Device, 
 ghost use Rattle.mt_scan.specs.Sources.{Advances};
 ghost use Rattle.std.specs.Io.KnownBytes.{Keeps};
 ghost use Rattle.mt_scan.specs.Buffers.{HoldsBufferOf};
-ghost use Rattle.mt_scan.specs.SourceTypes.{seen_of_reader, reader_piece_size, HasTooMany, at_its_end, has_failed};
+ghost use Rattle.mt_scan.specs.SourceTypes.{seen_of_reader, reader_piece_size, HasTooMany, at_its_end, has_failed, slot_after};
 
 use crate::buffer::Buffer;
 use crate::slot::Slot;
@@ -65,7 +65,7 @@ impl<'a, R: Read + Drop> ReaderSource<'a, R> {
 
 impl<R: Drop, B: Drop> Drop for ReaderSource<'_, R, B> {
     fn drop(self)
-        ensures { self.exit.1.0.now ≡ Some self.entry.buffer }
+        ensures { slot_after self.exit ≡ Some self.entry.buffer }
     {
         let ReaderSource {
             reader: _,
