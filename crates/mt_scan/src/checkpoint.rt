@@ -1,5 +1,5 @@
 //! Checkpoints, made of their parts.
-ghost use Rattle.std.specs.Prelude.{◌≡◌, ◌↔◌, length, IsTrue, MatchOption};
+ghost use Rattle.std.specs.Prelude.{◌≡◌, ◌<◌, ◌↔◌, length, IsTrue, MatchOption};
 ghost use Rattle.mt_scan.specs.PartScans.{shown_by, shown_by_all};
 ghost use Rattle.mt_scan.specs.Choice.{IsPartAt, AreInPlace, MakeUp, checkpoint_in};
 ghost use Rattle.mt_scan.specs.Checkpoints.{MakeUpNone, IsMadeOf};
@@ -44,14 +44,12 @@ impl Checkpoint {
         }
     }
 
-    /// Returns whether the parts make up a valid checkpoint.
+    /// Returns whether the parts, of which there is at least one, make up a valid checkpoint.
     fn is_valid(&self) -> bool
+        requires { 0 < length self.now.parts.items }
         ensures { IsTrue result ↔ MakeUp (shown_by_all self.now.parts.items) (checkpoint_in self.now) }
     {
-        !self.parts.is_empty()
-            && self.begin <= self.end
-            && self.are_in_place()
-            && do_entries_rise(&self.parts)
+        self.begin <= self.end && self.are_in_place() && do_entries_rise(&self.parts)
     }
 
     /// Returns whether each part is at the place of its number and agrees with the checkpoint.
