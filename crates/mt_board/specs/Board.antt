@@ -2,6 +2,8 @@
 use Rattle.std.specs.Prelude.{◌≡◌, ℕ, zero, suc, ◌+◌, ◌-◌, ◌^◌, ◌<◌, ◌≤◌, ◌==◌, Bool, false, List, [], ◌∷◌, ◌++◌, map, max, min, sum_by, count_by, All, if◌then◌else◌, nat_lt}
 use Rattle.atomic_table.specs.Seated.{TableId}
 use Rattle.mt_board.specs.declared.board.TheConstants.{MOST_NUMBERS, MOST_PASSES}
+use Rattle.mt_board.specs.declared.board.BoardFault.{BoardFault}
+use Rattle.mt_board.specs.declared.board.BoardFault.TheVariants.{Total, Passes, Memory}
 
 -- a board: which one it is, how many numbers it gives out, and how many passes it has
 pub record BoardId : Type 0 where
@@ -31,6 +33,12 @@ IsCount passes = (1 ≤ passes) × (passes ≤ MOST_PASSES)
 
 abbrev pub AreCounts : ℕ → ℕ → Type 0
 AreCounts total passes = IsTotal total × IsCount passes
+
+-- the fault is true of these counts: the total is checked first, then the passes; out of memory comes only if both are lawful
+abbrev pub IsBoardFault : ℕ → ℕ → BoardFault → Type 0
+IsBoardFault total passes Total = ¬ (IsTotal total)
+IsBoardFault total passes Passes = IsTotal total × (¬ (IsCount passes))
+IsBoardFault total passes Memory = AreCounts total passes
 
 -- the value that stands for the least number noted if none was: the greatest u64
 abbrev pub nothing_noted : ℕ

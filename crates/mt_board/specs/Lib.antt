@@ -1,3 +1,2 @@
 pub mod Board
-pub mod Faults
 pub mod Rule

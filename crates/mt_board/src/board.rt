@@ -1,7 +1,6 @@
 //! The board: numbers to draw, and the least number noted.
 ghost use Rattle.std.specs.Prelude.{true, ◌≡◌, ◌+◌, ◌-◌, ◌<◌, ◌≤◌, ◌↔◌, [], ◌∷◌, ◌++◌, length, min, All, IfSome, IfOk, IfErr, OnOk, IsErr, IsTrue, MatchResult, MatchOption, Some, None};
-ghost use Rattle.mt_board.specs.Board.{fresh_passes, SomeIsDone, DrewEachBelow, DrewFromBelow, least_noted, SawNoneBelow, AreCounts};
-ghost use Rattle.mt_board.specs.Faults.{IsBoardFault};
+ghost use Rattle.mt_board.specs.Board.{IsBoardFault, fresh_passes, SomeIsDone, DrewEachBelow, DrewFromBelow, least_noted, SawNoneBelow, AreCounts};
 
 use crate::pass::Pass;
 use crate::view::{BoardRule, Counts, Draw, Look, Note, SeatView, Share};
