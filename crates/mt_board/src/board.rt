@@ -43,11 +43,11 @@ impl Model for Board {
 #[derive(Clone, Copy, Debug, PartialEq, Eq, Drop)]
 pub enum BoardFault {
     /// More than `MOST_NUMBERS` numbers.
-    Total,
+    Total = 1,
     /// No passes, or more than `MOST_PASSES`.
-    Passes,
+    Passes = 2,
     /// Out of memory.
-    Memory,
+    Memory = 3,
 }
 
 impl From<AllocError> for BoardFault {
