@@ -9,9 +9,11 @@ use std::marker::Model;
 /// all that it did: the numbers it drew, the least number it noted, and the numbers it saw.
 #[derive(Drop)]
 pub struct Pass {
+    /// The number of the pass among those of its board.
     pub(crate) number: u32,
     /// Whether a claim found that no number is left.
     pub(crate) done: bool,
+    /// The seat at the board's table. Each step of the pass goes through it.
     pub(crate) seat: Seat<(), SeatView>,
 }
 

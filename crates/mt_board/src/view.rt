@@ -4,10 +4,12 @@
 use atomic_table::{Join, Play, Split, TableRule};
 use std::collections::LinkedList;
 
-/// The counts of a board: how many numbers it gives out, and how many passes it has. They are the key of the table.
+/// The counts of a board. They are the key of the table.
 #[derive(Clone, Copy)]
 pub struct Counts {
+    /// How many numbers the board gives out.
     pub total: u32,
+    /// How many passes the board has.
     pub passes: u32,
 }
 
