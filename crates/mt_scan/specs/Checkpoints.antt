@@ -1,5 +1,6 @@
 -- Checkpoints that are made of complete parts. A text is what a complete part says.
-use Rattle.std.specs.Prelude.{◌≡◌, ℕ, List, map, IsPermutation}
+use Rattle.std.specs.Prelude.{◌≡◌, ℕ, List, [], ◌∷◌, Option, Some, None, map, IsPermutation}
+use Rattle.std.specs.Borrow.{Bor}
 use Rattle.std.specs.List.{flat_map}
 use Rattle.mt_words.specs.declared.record.Change.{Change}
 use Rattle.mt_record.specs.Parts.{PartReading}
@@ -30,3 +31,14 @@ pub record IsMadeOf (number : ℕ) (texts : List PartReading) (made : Checkpoint
   pub number_is : made.number ≡ number
   pub same : AreSameTexts texts (shown_by_all made.parts.items)
   pub make_up : MakeUp (shown_by_all made.parts.items) (checkpoint_in made)
+
+-- an optional key, as a list of at most one key
+abbrev pub none_or_one : Option (Bor (List ℕ)) → List (List ℕ)
+none_or_one None = []
+none_or_one (Some key) = key.now ∷ []
+
+-- the last key of a list, if there is one, as a list
+abbrev pub last_of : List (List ℕ) → List (List ℕ)
+last_of [] = []
+last_of (key ∷ []) = key ∷ []
+last_of (key ∷ next ∷ keys) = last_of (next ∷ keys)

@@ -1,15 +1,17 @@
--- What contracts say of each kind of source, beyond what they say of every source.
-use Rattle.std.specs.Prelude.{◌≡◌, ℕ, min, List, [], length, Option, Some, Bool, true, false, nat_eq, Result, Ok, IfSome}
+-- What contracts say of each kind of source, beyond what they say of every source, and of a rack.
+use Rattle.std.specs.Prelude.{◌≡◌, ℕ, min, List, [], length, ◌++◌, take, drop, Option, Some, Bool, true, false, nat_eq, Result, Ok, IfSome}
 use Rattle.std.specs.Io.KnownBytes.{Consumes}
-use Rattle.std.specs.Borrow.{MutBor}
-use Rattle.mt_scan.specs.Buffers.{Buffered}
-use Rattle.mt_scan.specs.Sources.{Seen}
+use Rattle.std.specs.Borrow.{Lends, MutBor, Fml, Array}
+use Rattle.mt_scan.specs.Sources.{Seen, Buffered}
 use Rattle.mt_scan.specs.declared.source.SourceFault.{SourceFault}
 use Rattle.mt_scan.specs.declared.mem_source.MemSource.{MemSource}
 use Rattle.mt_scan.specs.declared.fault_source.FaultSource.{FaultSource}
 use Rattle.mt_scan.specs.declared.reader_source.ReaderSource.{ReaderSource}
 use Rattle.mt_scan.specs.declared.reader_source.Progress.{Progress}
 use Rattle.mt_scan.specs.declared.reader_source.Progress.TheVariants.{Open, Ended, Failed}
+use Rattle.mt_scan.specs.contracts.slot.Rack.{the_row}
+use Rattle.mt_scan.specs.contracts.slot.Slot.{the_row as slot_row}
+use Rattle.mt_scan.specs.contracts.buffer.Buffer.{the_row as buffer_row}
 
 -- a source that never fails, with these known bytes still to come and with this buffer
 abbrev pub seen_of_bytes : List ℕ → Buffered → Seen
@@ -94,3 +96,11 @@ at_its_end source = has_ended source.progress
 -- the slot as the drop of a source leaves it; it is the second field of each kind of source
 abbrev pub slot_after : {First Rest Held : Type 0} → First × (MutBor Held × Rest) → Held
 slot_after exit = exit.1.0.now
+
+-- the slots as the borrower left them; their number stays the same
+abbrev pub left_in : List (Option Buffered) → List (Option Buffered) → List (Option Buffered)
+left_in slots left = take (length slots) (left ++ drop (length left) slots)
+
+-- the rack ends with its slots as the borrower left them
+abbrev pub LendsSlots : MutBor (List (Option Buffered)) → MutBor (List (Option Buffered)) → Fml
+LendsSlots rack slots = Lends the_row (Array (slot_row buffer_row) 0) rack slots (left_in rack.now)

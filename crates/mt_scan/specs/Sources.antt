@@ -1,5 +1,5 @@
--- Sources: what contracts see of them, and what `advance` does.
-use Rattle.std.specs.Prelude.{◌≡◌, ℕ, ◌+◌, ◌≤◌, ◌<◌, ◌^◌, List, [], length, Option, Some, None, Bool, IsTrue, Result, is_ok, if◌then◌else◌, IfOk, OnErr, IsOk, IsErr}
+-- Sources: what contracts see of them and of the buffers that they borrow, and what `advance` does.
+use Rattle.std.specs.Prelude.{◌≡◌, ℕ, ◌+◌, ◌≤◌, ◌<◌, ◌^◌, List, [], length, Option, Some, None, Bool, IsTrue, Result, is_ok, if◌then◌else◌, IfOk, OnErr, IsOk, IsErr, IsSomeAnd}
 use Rattle.std.specs.Io.KnownBytes.{Consumes, IsAtEnd}
 
 -- What contracts see of a source: the bytes still to come, if they are known; a bound on their number; how often it failed; whether it never fails;
@@ -11,6 +11,15 @@ pub record Seen : Type 0 where
   pub steady : Bool
   pub shown : List ℕ
   pub spent : Bool
+
+-- a buffer: its size in bytes, and the bytes that it shows
+pub record Buffered : Type 0 where
+  pub size : ℕ
+  pub shown : List ℕ
+
+-- the slot has its buffer, and the buffer is of this size
+abbrev pub HoldsBufferOf : ℕ → Option Buffered → Type 0
+HoldsBufferOf size slot = IsSomeAnd slot (λ buffer. buffer.size ≡ size)
 
 -- the next `count` bytes were returned and are shown; `count` is 0 only at the end
 pub record HandsOut (old new : Seen) (count : ℕ) : Type 0 where

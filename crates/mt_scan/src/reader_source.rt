@@ -1,9 +1,8 @@
 //! A source of the bytes of a reader.
 ghost use Rattle.std.specs.Prelude.{◌≡◌, ◌+◌, ◌↔◌, ◌⊎◌, [], IfSome, IfOk, IfErr, IsSome, IsTrue, Some, Ok, Err, false};
 ghost use Rattle.mt_scan.specs.declared.source.SourceFault.TheVariants.{Device, TooLong};
-ghost use Rattle.mt_scan.specs.Sources.{Advances};
+ghost use Rattle.mt_scan.specs.Sources.{Advances, HoldsBufferOf};
 ghost use Rattle.std.specs.Io.KnownBytes.{Keeps};
-ghost use Rattle.mt_scan.specs.Buffers.{HoldsBufferOf};
 ghost use Rattle.mt_scan.specs.SourceTypes.{seen_of_reader, reader_piece_size, HasTooMany, at_its_end, has_failed, slot_after};
 
 use crate::buffer::Buffer;

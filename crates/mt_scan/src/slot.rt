@@ -2,8 +2,8 @@
 ghost use Rattle.std.specs.Prelude.{◌≡◌, ◌≤◌, ◌↔◌, [], All, IfOk, IfSome, IsTrue, IsSome, Some, length};
 ghost use Rattle.std.specs.Borrow.{sem};
 ghost use Rattle.mt_scan.specs.declared.slot.TheConstants.{LONGEST_BUFFER};
-ghost use Rattle.mt_scan.specs.Buffers.{HoldsBufferOf};
-ghost use Rattle.mt_scan.specs.Lending.{LendsSlots};
+ghost use Rattle.mt_scan.specs.Sources.{HoldsBufferOf};
+ghost use Rattle.mt_scan.specs.SourceTypes.{LendsSlots};
 
 use crate::buffer::Buffer;
 use mt_words::Memory;
@@ -74,7 +74,7 @@ impl Drop for Rack {
 
 impl Model for Rack {
     ghost use Rattle.std.specs.Prelude.{List, Option};
-    ghost use Rattle.mt_scan.specs.Buffers.{Buffered};
+    ghost use Rattle.mt_scan.specs.Sources.{Buffered};
 
     ghost Value = { List (Option Buffered) };
 
