@@ -71,7 +71,7 @@ impl Buffer {
         ensures shown { IfOk result (λ n. length self.new.shown ≡ n) }
         ensures bytes { OnOk result (Consumes (R.remaining reader.old) (R.remaining reader.new) self.new.shown) }
         ensures end { IfOk result (λ n. n ≡ 0 → IsAtEnd (R.remaining reader.new)) }
-        ensures kept { OnErr result (Keeps (R.remaining reader.old) (R.remaining reader.new)) }
+        ensures unread { OnErr result (Keeps (R.remaining reader.old) (R.remaining reader.new)) }
         ensures size { self.new.size ≡ self.old.size }
     {
         let wanted = most.min(self.bytes.len() as u64) as usize;
@@ -88,7 +88,7 @@ fn read_front<R: Read>(bytes: &mut [u8], wanted: usize, reader: &mut R) -> io::R
     ensures count { IfOk result (λ n. n ≤ wanted) }
     ensures bytes { IfOk result (λ n. Consumes (R.remaining reader.old) (R.remaining reader.new) (take n bytes.new)) }
     ensures end { IfOk result (λ n. n ≡ 0 → IsAtEnd (R.remaining reader.new)) }
-    ensures kept { OnErr result (Keeps (R.remaining reader.old) (R.remaining reader.new)) }
+    ensures unread { OnErr result (Keeps (R.remaining reader.old) (R.remaining reader.new)) }
 {
     let (front, _) = bytes.split_at_mut(wanted);
     reader.read(front)
