@@ -10,7 +10,9 @@ use std::marker::Model;
 /// The bytes of one chunk, and room for the longest chunk.
 #[derive(Debug, Drop)]
 pub struct Buffer {
+    /// Its length is the size of the buffer. The chunk stands at its front.
     bytes: Vec<u8>,
+    /// The length of the chunk.
     filled: usize,
 }
 

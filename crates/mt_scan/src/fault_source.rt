@@ -12,11 +12,14 @@ use crate::tally::Tally;
 /// A source that returns bytes in memory as a `MemSource` does, until one `advance` fails with `Device`. All later ones
 /// fail too. Contracts know its bytes. It is not steady: it may fail. Its drop puts the buffer back into the slot.
 pub struct FaultSource<'a, B = Buffer> {
+    /// The bytes still to come.
     rest: &'a [u8],
+    /// The slot that the buffer goes back to.
     slot: &'a mut Slot<B>,
     buffer: B,
     /// The number of calls that will still succeed.
     left: u64,
+    /// How often it failed.
     failures: Tally,
 }
 

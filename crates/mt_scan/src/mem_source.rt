@@ -10,7 +10,9 @@ use crate::source::{Source, SourceFault};
 /// A source of bytes in memory. Each chunk is as long as the buffer; the last one may be shorter. Contracts know its
 /// bytes, and it never fails. Its drop puts the buffer back into the slot.
 pub struct MemSource<'a, B = Buffer> {
+    /// The bytes still to come.
     rest: &'a [u8],
+    /// The slot that the buffer goes back to.
     slot: &'a mut Slot<B>,
     buffer: B,
 }

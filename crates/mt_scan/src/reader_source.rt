@@ -29,11 +29,13 @@ pub enum Progress {
 /// puts the buffer back into the slot.
 pub struct ReaderSource<'a, R, B = Buffer> {
     reader: R,
+    /// The slot that the buffer goes back to.
     slot: &'a mut Slot<B>,
     buffer: B,
     /// The number of bytes that may still be returned.
     left: u64,
     progress: Progress,
+    /// How often it failed.
     failures: Tally,
 }
 
