@@ -1,5 +1,5 @@
 -- How the steps of a scan go together.
-use Rattle.std.proofs.Common.{◌≡◌, ◌⊎◌, inl, inr, List, ℕ, ◌++◌, Bool, false, Option, Some, Result, Ok, Err, refl, sym, subst}
+use Rattle.std.proofs.Common.{◌≡◌, ◌⊎◌, inl, inr, List, ℕ, ◌++◌, Bool, false, Option, Some, None, Result, Ok, Err, [], refl, sym, subst, arith}
 use Rattle.std.specs.Result.{is_ok, IfOk, IfErr}
 use Rattle.std.proofs.lemmas.Bool.{false≢true}
 use Rattle.std.specs.Io.KnownBytes.{Consumes, IsAtEnd}
@@ -10,7 +10,7 @@ use Rattle.mt_record.specs.LogFaults.{IsAnswered, fault_at}
 use Rattle.mt_scan.specs.declared.log_scan.LogScan.{LogScan}
 use Rattle.mt_scan.specs.Sources.{Seen, Agrees}
 use Rattle.mt_scan.specs.Scans.{IsScanOf, IsScanFault, IsLogVerdict, OfTold}
-use Rattle.mt_scan.specs.Keeping.{NeedsNoMore, FeedsPiece}
+use Rattle.mt_scan.specs.Feeding.{NeedsNoMore, AreFew, FeedsPiece}
 use Rattle.mt_scan.proofs.Telling.{goes_on, handed_out, all_handed_out}
 
 -- these bytes were returned and fed
@@ -18,28 +18,33 @@ pub record HasFed {F : Type 0} (was_fed : F → List ℕ → Type 0) (first now 
   pub bytes : List ℕ
   pub handed_out : Consumes first.told now.told bytes
   pub fed : was_fed feed bytes
+  pub few : AreFew now bytes
 
--- one more chunk was fed
-pub one_more : {F : Type 0} (was_fed : F → List ℕ → Type 0) (first before after : Seen) (old new : F) (more : Bool) (s : HasFed was_fed first before old)
-    → FeedsPiece was_fed before after new s.bytes more → HasFed was_fed first after new
-one_more was_fed first before after old new more s f = record {
-  bytes = s.bytes ++ f.piece;
-  handed_out = goes_on first.told before.told after.told s.bytes f.piece s.handed_out f.next;
-  fed = f.fed;
-}
+-- before the first chunk nothing was returned or fed
+pub none_fed : {F : Type 0} (is_ready : F → List ℕ → Type 0) (seen : Seen) (feed : F) → is_ready feed [] → HasFed is_ready seen seen feed
+none_fed is_ready seen feed ready = record { bytes = []; handed_out = nothing seen.told; fed = ready; few = λ small. omega (arith, small) }
+  where
+    nothing : (told : Option (List ℕ)) → Consumes told told []
+    nothing None = tt
+    nothing (Some told) = refl
 
--- at the end, or if no more is needed, the feed was fed all bytes that the source may have
-all_fed : {F : Type 0} (was_fed : F → List ℕ → Type 0) (first now : Seen) (feed : F) → HasFed was_fed first now feed → IsAtEnd now.told ⊎ NeedsNoMore was_fed feed
-    → OfTold first.told (was_fed feed)
-all_fed was_fed first now feed s (inl ends) = (s.bytes, all_handed_out first.told now.told s.bytes s.handed_out ends, s.fed)
-all_fed was_fed first now feed s (inr no_more) =
-    let more = handed_out first.told now.told s.bytes s.handed_out in
-    (s.bytes ++ more.0, more.1, no_more s.bytes more.0 s.fed)
+module _ {F : Type 0} (is_ready was_fed : F → List ℕ → Type 0) (first before after : Seen) (old new : F) (more : Bool) (s : HasFed is_ready first before old) (f : FeedsPiece was_fed before after new s.bytes more) where
+  more_handed_out : Consumes first.told after.told (s.bytes ++ f.piece)
+  more_handed_out = goes_on first.told before.told after.told s.bytes f.piece s.handed_out f.next
 
--- the same holds after the last chunk was fed
-pub last_fed : {F : Type 0} (was_fed : F → List ℕ → Type 0) (first before after : Seen) (old new : F) (more : Bool) (s : HasFed was_fed first before old)
-    → FeedsPiece was_fed before after new s.bytes more → more ≡ false → OfTold first.told (was_fed new)
-last_fed was_fed first before after old new more s f last = all_fed was_fed first after new (one_more was_fed first before after old new more s f) (f.stops last)
+  -- after one more chunk the feed was readied for the next
+  pub ready_again : (now : F) → is_ready now (s.bytes ++ f.piece) → HasFed is_ready first after now
+  ready_again now ready = record { bytes = s.bytes ++ f.piece; handed_out = more_handed_out; fed = ready; few = f.few }
+
+  -- after the last chunk the feed was fed all bytes that the source may have
+  pub last_fed : more ≡ false → OfTold first.told (was_fed new)
+  last_fed last = by (f.stops last)
+    where
+      by : IsAtEnd after.told ⊎ NeedsNoMore was_fed new → OfTold first.told (was_fed new)
+      by (inl ends) = (s.bytes ++ f.piece, all_handed_out first.told after.told (s.bytes ++ f.piece) more_handed_out ends, f.fed)
+      by (inr no_more) =
+          let rest = handed_out first.told after.told (s.bytes ++ f.piece) more_handed_out in
+          ((s.bytes ++ f.piece) ++ rest.0, rest.1, no_more (s.bytes ++ f.piece) rest.0 f.fed)
 
 -- a feed that does not return Ok has a fault
 pub has_fault : {X F : Type 0} (answer : Result X F) (fault : Option F) → is_ok answer ≡ false → IfErr answer (λ f. fault ≡ Some f) → (f : F) × (fault ≡ Some f)

@@ -3,7 +3,7 @@ ghost use Rattle.std.specs.Prelude.{◌≡◌, ◌+◌, [], List, ℕ, IfOk, IfE
 ghost use Rattle.mt_record.specs.LogFeeding.{IsLogFed};
 ghost use Rattle.mt_scan.specs.Scans.{IsScanOf, IsScanFault, IsLogVerdict, OfTold, failures_of};
 
-use crate::feeding::{Fed, feed_all};
+use crate::feeding::feed_all;
 use crate::log_scan::LogScan;
 use crate::source::Source;
 use mt_record::{KeptRecords, LogFeed};
@@ -32,7 +32,7 @@ pub fn scan_bytes(alloc: Global, bytes: &[u8], log: usize) -> Result<LogScan, Fa
     ensures fault { IfErr result (IsLogVerdict log bytes.now) }
 {
     let mut feed = LogFeed::keeping(alloc);
-    feed.feed_next(bytes);
+    let _ = feed.feed(bytes);
     finish(feed, log)
 }
 
