@@ -2,10 +2,10 @@
 ghost use Rattle.std.specs.Prelude.{◌≡◌, None, false, ◌≤◌, ◌<◌, ◌++◌, ◌^◌, [], List, ℕ, length, min, ◌+◌, ◌-◌, IfOk, IfErr, IsErr};
 ghost use Rattle.mt_scan.specs.Scans.{IsLogVerdict, failures_of};
 ghost use Rattle.mt_scan.specs.Dropping.{HasAllBelow, KeepsOnlyBelow};
-ghost use Rattle.mt_scan.specs.DroppingFeeds.{IsFedBelow, HasRead, HasStopped, scan_from};
+ghost use Rattle.mt_scan.specs.DroppingFeeds.{IsFedBelow, HasRead, HasStopped};
 
-use crate::log_scan::LogScan;
-use mt_record::{Dropped, KeptRecords, LogFeed, LogText, Updates};
+use crate::log_scan::{LogScan, scan_of};
+use mt_record::{Dropped, KeptRecords, LogFeed};
 use mt_words::Fault;
 use std::alloc::Global;
 
@@ -98,38 +98,5 @@ impl DroppingFeed {
             Ok(text) => Ok(scan_of(log, text, kept, dropped, marks)),
             Err(fault) => Err(fault.of_log(log)),
         }
-    }
-}
-
-/// Creates the scan of the log with this number and this text. Once something was dropped, `kept` has the records that
-/// were kept, since they were taken out of the text.
-fn scan_of(
-    log: usize,
-    text: LogText<KeptRecords>,
-    kept: Option<KeptRecords>,
-    dropped: u64,
-    marks: u64,
-) -> LogScan
-    ensures { result ≡ scan_from log text kept dropped marks }
-{
-    let LogText {
-        from,
-        last,
-        records,
-        whole,
-        torn,
-    } = text;
-    let records = match kept {
-        Some(kept) => kept,
-        None => records,
-    };
-    LogScan {
-        from,
-        last,
-        whole,
-        marks: records.marks().saturating_add(marks),
-        updates: Updates::of(log, records),
-        dropped,
-        torn,
     }
 }

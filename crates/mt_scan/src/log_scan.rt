@@ -3,6 +3,7 @@ ghost use Rattle.std.specs.Prelude.{◌≡◌, [], List, ℕ, IfSome, IfNone};
 ghost use Rattle.mt_record.specs.Logs.{LogReading, IsKeptTextOf};
 ghost use Rattle.mt_scan.specs.Scans.{IsScanOf};
 ghost use Rattle.mt_scan.specs.Cutoff.{HaveNumbersOf, IsCutoff};
+ghost use Rattle.mt_scan.specs.DroppingFeeds.{scan_from};
 
 use mt_record::{KeptRecords, LogText, Updates};
 
@@ -27,27 +28,46 @@ pub struct LogScan {
 
 impl LogScan {
     /// Creates the scan of the log with this number, from all that was read of it. Allocates nothing.
-    pub fn of(log: usize, text: LogText<KeptRecords>) -> LogScan
+    pub fn of(log: usize, mut text: LogText<KeptRecords>) -> LogScan
         ensures { (bytes : List ℕ) → IsKeptTextOf bytes text → IsScanOf log bytes result }
     {
-        let LogText {
-            from,
-            last,
-            records,
-            torn,
-            ..
-        } = text;
-        LogScan {
-            from,
-            last,
-            // The count in the text saturates at the greatest u64. Fewer records than that are in memory, so their
-            // number is exact.
-            whole: records.len() as u64,
-            marks: records.marks(),
-            updates: Updates::of(log, records),
-            dropped: 0,
-            torn,
-        }
+        // The count in the text saturates at the greatest u64. Fewer records than that are in memory, so their number
+        // is exact.
+        text.whole = text.records.len() as u64;
+        scan_of(log, text, None, 0, 0)
+    }
+}
+
+/// Creates the scan of the log with this number and this text. Once something was dropped, `kept` has the records that
+/// were kept, since they were taken out of the text.
+pub(crate) fn scan_of(
+    log: usize,
+    text: LogText<KeptRecords>,
+    kept: Option<KeptRecords>,
+    dropped: u64,
+    marks: u64,
+) -> LogScan
+    ensures { result ≡ scan_from log text kept dropped marks }
+{
+    let LogText {
+        from,
+        last,
+        records,
+        whole,
+        torn,
+    } = text;
+    let records = match kept {
+        Some(kept) => kept,
+        None => records,
+    };
+    LogScan {
+        from,
+        last,
+        whole,
+        marks: records.marks().saturating_add(marks),
+        updates: Updates::of(log, records),
+        dropped,
+        torn,
     }
 }
 

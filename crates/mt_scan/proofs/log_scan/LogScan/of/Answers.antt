@@ -1,17 +1,18 @@
-use Rattle.std.proofs.Common.{◌≡◌, ◌∙◌, List, length, ap, refl, arith}
+use Rattle.std.proofs.Common.{◌≡◌, ◌∙◌, ◌^◌, ◌-◌, ◌+◌, List, length, min, ap, sym, subst, refl, arith}
 use Rattle.std.specs.List.{filter}
 use Rattle.mt_words.specs.Changes.{Logged}
 use Rattle.mt_words.specs.Updates.{updates_from}
-use Rattle.mt_record.specs.Kept.{is_mark, kept_updates}
+use Rattle.mt_record.specs.Kept.{is_mark}
 use Rattle.mt_record.proofs.RecordLemmas.{marks_and_updates}
+use Rattle.mt_scan.specs.Scans.{IsScanOf}
 use Rattle.mt_scan.proofs.log_scan.LogScan.of.Goals as goal
 
 pub returns : goal.returns
 returns c =
-    let records = c.args.text.records in
+    let records : List Logged = c.args.text.records in
     let few = marks_and_updates c.args.log 0 records in
-    let marks : c.marks.result ≡ length (filter is_mark records) = omega (arith, c.len.ensures, c.len.type_inv, c.marks.ensures, few) in
-    λ bytes is. record {
+    let marks : min (min (length (filter is_mark records)) (2 ^ 64 - 1) + 0) (2 ^ 64 - 1) ≡ length (filter is_mark records) = omega (arith, c.len.ensures, c.len.type_inv, few) in
+    λ bytes is. subst (IsScanOf c.args.log bytes) (sym c.scan_of.ensures) (record {
       log = is.log;
       is_reading = is.is_reading;
       shows = record {
@@ -22,7 +23,7 @@ returns c =
           marks = marks ∙ ap (λ (records : List Logged). length (filter is_mark records)) is.shows.records;
           torn = is.shows.torn;
         };
-        updates = ap kept_updates c.of.ensures ∙ ap (updates_from c.args.log 0) is.shows.records;
+        updates = ap (updates_from c.args.log 0) is.shows.records;
         dropped = refl;
       };
-    }
+    })
