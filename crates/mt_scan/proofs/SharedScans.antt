@@ -14,6 +14,7 @@ use Rattle.mt_record.specs.Kept.{is_mark}
 use Rattle.mt_record.specs.Logs.{LogReading, IsReading, IsTextIn}
 use Rattle.mt_record.proofs.RecordLemmas.{marks_and_updates}
 use Rattle.mt_scan.specs.declared.dropping_feed.DroppingFeed.{DroppingFeed}
+use Rattle.mt_scan.specs.Scans.{HasNumbersOf}
 use Rattle.mt_scan.specs.Dropping.{HasAllBelow, KeepsOnlyBelow}
 use Rattle.mt_scan.specs.DroppingFeeds.{taken_of, kept_in, scan_from, GoesOn, KeepsRecords, IsFedBelow}
 use Rattle.mt_scan.proofs.DroppingFeeds.{count_both}
@@ -60,11 +61,17 @@ below : (limit : ℕ) (kept : Option (List Logged)) (ready : List Logged) (text 
 below limit None ready text keeps same = subst (All (λ (r : Logged). r.timestamp < limit)) (sym same) keeps
 below limit (Some kept) ready text keeps same = keeps.1
 
+-- the numbers of a scan are those of its log, if the records and the marks are counted exactly
+pub has_numbers : (number whole dropped marks : ℕ) (kept : Option (List Logged)) (taken : List Logged) (bytes : List ℕ) (text : LogText (List Logged)) (is : IsTextIn (λ records. records) taken bytes text) → whole ≡ length is.log.records
+    → (scan_from number (record text { whole = whole }) kept dropped marks).marks ≡ length (filter is_mark is.log.records) → HasNumbersOf (scan_from number (record text { whole = whole }) kept dropped marks) is.log
+has_numbers number whole dropped marks kept taken bytes text is whole_is marks_are = record { from = is.shows.from; last = is.shows.last; whole = whole_is; marks = marks_are; torn = is.shows.torn }
+
 pub scan_is : (feed : DroppingFeed) (limit number : ℕ) (bytes : List ℕ) (text : LogText (List Logged)) (h : IsFedBelow feed limit bytes) → length bytes < 2 ^ 64 → feed.feed.fault ≡ None
     → IsTextIn (λ records. records) (taken_of feed.kept ++ h.read.late) bytes text → text.records ≡ feed.feed.so_far.ready
     → HasAllBelow limit number bytes (scan_from number text feed.kept feed.dropped feed.marks) × KeepsOnlyBelow limit (scan_from number text feed.kept feed.dropped feed.marks)
 scan_is feed limit number bytes text h small sound is same =
     let late : List Logged = h.read.late in
+    let taken : List Logged = taken_of feed.kept ++ late in
     let early : List Logged = kept_in feed.kept text in
     let keeps = h.keeps sound in
     let all : early ++ late ≡ is.log.records = joins limit feed.kept late feed.feed.so_far.ready is.log.records text (h.read.goes_on sound) keeps same is.shows.records in
@@ -78,13 +85,8 @@ scan_is feed limit number bytes text h small sound is same =
         log = is.log;
         is_reading = is.is_reading;
         shows = record {
-          numbers = record {
-            from = is.shows.from;
-            last = is.shows.last;
-            whole = omega (arith, is.shows.whole, long, small);
-            marks = omega (arith, marks, h.read.marks, some, others, lengths, parts, long, small);
-            torn = is.shows.torn;
-          };
+          numbers = has_numbers number text.whole feed.dropped feed.marks feed.kept taken bytes text is (omega (arith, is.shows.whole, long, small))
+              (omega (arith, marks, h.read.marks, some, others, lengths, parts, long, small));
           lost = updates_from number (0 + length early) late;
           updates = updates_both number 0 early late ∙ ap (updates_from number 0) all;
           past = all_updates (λ (n : ℕ). limit ≤ n) number (0 + length early) late h.read.past;

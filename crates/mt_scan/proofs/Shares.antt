@@ -2,11 +2,12 @@
 use Rattle.std.proofs.Common.{◌≡◌, min, ◌⊎◌, inl, inr, ◌∙◌, ℕ, ◌<◌, ◌≤◌, ◌^◌, List, [], ◌∷◌, ◌++◌, true, false, Result, Ok, Err, refl, sym, ap, subst, append_assoc, append-nil, arith}
 use Rattle.std.proofs.lemmas.Bool.{false≢true}
 use Rattle.std.specs.Result.{OnOk, OnErr, IsErr, is_err}
-use Rattle.mt_board.specs.Board.{PassView, least_of}
+use Rattle.std.specs.Borrow.{MutBor}
+use Rattle.mt_board.specs.Board.{BoardId, PassView, least_of}
 use Rattle.mt_scan.specs.declared.sharing.SharedFeed.{SharedFeed}
 use Rattle.mt_scan.specs.Dropping.{HasLooked}
 use Rattle.mt_scan.specs.DroppingFeeds.{IsFedBelow}
-use Rattle.mt_scan.specs.Feeding.{SharesUnder, MayShare}
+use Rattle.mt_scan.specs.Feeding.{LooksOn, MayShare}
 
 -- ---- looks
 
@@ -28,38 +29,40 @@ just_begun feed board least low new = record {
   was = feed.limit;
   falls = omega arith;
   shares = record {
-    same = refl;
-    board = board;
-    more = [];
-    looked = ap (λ (l : List ℕ). record feed.pass.now { looks = l }) (sym (append-nil feed.pass.now.looks));
-    least = least;
-    low = low;
+    looks = record {
+      same = refl;
+      board_is = board;
+      more = [];
+      looked = ap (λ (l : List ℕ). record feed.pass.now { looks = l }) (sym (append-nil feed.pass.now.looks));
+      least = least;
+      low = low;
+    };
     fed = new;
     few = inr (omega arith);
   };
 }
 
 -- `HasLooked` holds since the pass looked for the first time
-pub has_looked : (before : PassView) (begun now : SharedFeed) (limit : ℕ) (bytes : List ℕ) → begun.pass.now ≡ record before { looks = before.looks ++ begun.limit ∷ [] }
-    → SharesUnder limit begun now bytes → HasLooked before now.pass.now × (now.pass.now.noted ≡ before.noted)
-has_looked before begun now limit bytes first s = (
+pub has_looked : (before : PassView) (begun now : MutBor PassView) (board : BoardId) (first limit : ℕ) → begun.now ≡ record before { looks = before.looks ++ first ∷ [] } → LooksOn begun now board limit
+    → HasLooked before now.now × (now.now.noted ≡ before.noted)
+has_looked before begun now board first limit is s = (
   record {
-    first = begun.limit;
+    first = first;
     more = s.more;
     looks = looks;
-    low = omega (arith, s.least, s.low, ap (λ (p : PassView). p.noted) first);
-    rest = rest ∙ ap (λ (n : ℕ). record before { looks = now.pass.now.looks; noted = n }) (sym noted);
+    low = omega (arith, s.least, s.low, ap (λ (p : PassView). p.noted) is);
+    rest = rest ∙ ap (λ (n : ℕ). record before { looks = now.now.looks; noted = n }) (sym noted);
   },
   noted,
 )
   where
-    looks : now.pass.now.looks ≡ before.looks ++ begun.limit ∷ s.more
-    looks = ap (λ (p : PassView). p.looks) s.looked ∙ ap (λ (p : PassView). p.looks ++ s.more) first ∙ append_assoc before.looks (begun.limit ∷ []) s.more
+    looks : now.now.looks ≡ before.looks ++ first ∷ s.more
+    looks = ap (λ (p : PassView). p.looks) s.looked ∙ ap (λ (p : PassView). p.looks ++ s.more) is ∙ append_assoc before.looks (first ∷ []) s.more
 
-    rest : now.pass.now ≡ record before { looks = now.pass.now.looks }
-    rest = s.looked ∙ ap (λ (p : PassView). record p { looks = begun.pass.now.looks ++ s.more }) first ∙ ap (λ (l : List ℕ). record before { looks = l }) (sym (ap (λ (p : PassView). p.looks) s.looked))
+    rest : now.now ≡ record before { looks = now.now.looks }
+    rest = s.looked ∙ ap (λ (p : PassView). record p { looks = begun.now.looks ++ s.more }) is ∙ ap (λ (l : List ℕ). record before { looks = l }) (sym (ap (λ (p : PassView). p.looks) s.looked))
 
-    noted : now.pass.now.noted ≡ before.noted
+    noted : now.now.noted ≡ before.noted
     noted = ap (λ (p : PassView). p.noted) rest
 
 -- `HasLooked` still holds after the log's last timestamp is noted

@@ -1,7 +1,8 @@
 -- The steps of a scan, and of one that shares a cutoff.
 use Rattle.std.specs.Prelude.{◌≡◌, ◌⊎◌, ℕ, ◌+◌, ◌≤◌, ◌<◌, ◌^◌, List, ◌++◌, length, Bool, true, false}
 use Rattle.std.specs.Io.KnownBytes.{Consumes, IsAtEnd}
-use Rattle.mt_board.specs.Board.{least_of}
+use Rattle.std.specs.Borrow.{MutBor}
+use Rattle.mt_board.specs.Board.{BoardId, PassView, least_of}
 use Rattle.mt_scan.specs.declared.sharing.SharedFeed.{SharedFeed}
 use Rattle.mt_scan.specs.DroppingFeeds.{IsFedBelow, HasStopped}
 use Rattle.mt_scan.specs.Sources.{Seen}
@@ -24,15 +25,18 @@ pub record FeedsPiece {F : Type 0} (was_fed : F → List ℕ → Type 0) (before
   pub some : more ≡ true → 0 < length piece
   pub stops : more ≡ false → IsAtEnd after.told ⊎ NeedsNoMore was_fed new
 
--- Since a shared scan began, its pass noted nothing and looked at most for more; `now.limit` is the least number that it has seen. These bytes were
--- fed with `limit`. They are fewer than 2 ^ 64, or the feed has stopped.
-pub record SharesUnder (limit : ℕ) (begun now : SharedFeed) (bytes : List ℕ) : Type 0 where
-  pub same : now.pass.ghost_name ≡ begun.pass.ghost_name
-  pub board : now.pass.now.board ≡ now.board.now
+-- Since a shared scan began, its pass of this board noted nothing and looked at most for more; `limit` is the least number that it has seen.
+pub record LooksOn (begun now : MutBor PassView) (board : BoardId) (limit : ℕ) : Type 0 where
+  pub same : now.ghost_name ≡ begun.ghost_name
+  pub board_is : now.now.board ≡ board
   pub more : List ℕ
-  pub looked : now.pass.now ≡ record begun.pass.now { looks = begun.pass.now.looks ++ more }
-  pub least : now.limit ≡ least_of now.pass.now.looks
-  pub low : now.limit ≤ begun.pass.now.noted
+  pub looked : now.now ≡ record begun.now { looks = begun.now.looks ++ more }
+  pub least : limit ≡ least_of now.now.looks
+  pub low : limit ≤ begun.now.noted
+
+-- these bytes were fed with `limit`, and they are fewer than 2 ^ 64, or the feed has stopped
+pub record SharesUnder (limit : ℕ) (begun now : SharedFeed) (bytes : List ℕ) : Type 0 where
+  pub looks : LooksOn begun.pass now.pass now.board.now now.limit
   pub fed : IsFedBelow now.feed limit bytes
   pub few : HasStopped now.feed ⊎ (length bytes < 2 ^ 64)
 

@@ -25,8 +25,9 @@ returns-then-is_err-clause-fault g c =
 pub returns-then-is_err-clause-unnoted : goal.returns-then-is_err-clause-unnoted
 returns-then-is_err-clause-unnoted g c =
     let ready = not_ok _ c.feed_all-fed.result c.feed_all-fed.ensures.ready (sym c.is_err.ensures.value ∙ c.if-is_err.true) in
-    let same = ready.1.shares.same in
-    let looked = has_looked c.args.pass.now _ c.feed_all-fed.new.feed ready.1.was ready.0 c.least-limit.ensures.pass ready.1.shares in
+    let looks = ready.1.shares.looks in
+    let same = looks.same in
+    let looked = has_looked c.args.pass.now _ _ _ c.least-limit.result _ c.least-limit.ensures.pass looks in
     grind (arith, looked, same)
 
 pub returns-in_err-scan-clause-fault : goal.returns-in_err-scan-clause-fault
@@ -40,21 +41,22 @@ returns-in_err-scan-clause-fault g c =
 pub returns-in_err-scan-clause-unnoted : goal.returns-in_err-scan-clause-unnoted
 returns-in_err-scan-clause-unnoted g c =
     let all = not_err _ c.feed_all-fed.result c.feed_all-fed.ensures.fed (sym c.is_err.ensures.value ∙ c.if-is_err.false) in
-    let same = all.2.same in
-    let looked = has_looked c.args.pass.now _ c.feed_all-fed.new.feed c.feed_all-fed.new.feed.limit all.0 c.least-limit.ensures.pass all.2 in
+    let looks = all.2.looks in
+    let same = looks.same in
+    let looked = has_looked c.args.pass.now _ _ _ c.least-limit.result _ c.least-limit.ensures.pass looks in
     grind (arith, looked, same)
 
 pub returns-clause-scan : goal.returns-clause-scan
 returns-clause-scan g c =
     let all = not_err _ c.feed_all-fed.result c.feed_all-fed.ensures.fed (sym c.is_err.ensures.value ∙ c.if-is_err.false) in
     let s = all.2 in
-    let same = s.same in
+    let same = s.looks.same in
     let shared : SharedFeed = c.feed_all-fed.new.feed in
     let last = c.in_ok-scan.scan.last in
-    let looked = has_looked c.args.pass.now _ shared shared.limit all.0 c.least-limit.ensures.pass s in
+    let looked = has_looked c.args.pass.now _ _ _ c.least-limit.result _ c.least-limit.ensures.pass s.looks in
     let few : length all.0 < 2 ^ 64 = few_bytes (length all.0) c.finish.result c.in_ok-scan.scan s.few c.finish.ensures.stopped c.in_ok-scan.was in
     let is : HasAllBelow shared.limit c.args.log all.0 c.in_ok-scan.scan × KeepsOnlyBelow shared.limit c.in_ok-scan.scan = c.in_ok-scan.ensures.scan shared.limit all.0 s.fed few in
-    let least : shared.limit ≡ least_of c.note.new.pass.looks = s.least ∙ sym (ap (λ (p : PassView). least_of p.looks) c.note.ensures) in
+    let least : shared.limit ≡ least_of c.note.new.pass.looks = s.looks.least ∙ sym (ap (λ (p : PassView). least_of p.looks) c.note.ensures) in
     let scan : IsSharedScan c.args.log c.args.pass.now c.note.new.pass all.0 c.in_ok-scan.scan = record {
       looked = noted_on last c.args.pass.now shared.pass.now c.note.new.pass looked.0 c.note.ensures;
       noted = ap (λ (p : PassView). p.noted) c.note.ensures ∙ ap (λ (n : ℕ). min n last) looked.1;

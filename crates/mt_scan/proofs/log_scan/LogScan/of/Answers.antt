@@ -1,10 +1,11 @@
-use Rattle.std.proofs.Common.{◌≡◌, ◌∙◌, ◌^◌, ◌-◌, ◌+◌, List, length, min, ap, sym, subst, refl, arith}
+use Rattle.std.proofs.Common.{◌≡◌, ◌∙◌, ◌^◌, ◌-◌, ◌+◌, List, [], None, length, min, ap, sym, subst, refl, arith}
 use Rattle.std.specs.List.{filter}
 use Rattle.mt_words.specs.Changes.{Logged}
 use Rattle.mt_words.specs.Updates.{updates_from}
 use Rattle.mt_record.specs.Kept.{is_mark}
 use Rattle.mt_record.proofs.RecordLemmas.{marks_and_updates}
 use Rattle.mt_scan.specs.Scans.{IsScanOf}
+use Rattle.mt_scan.proofs.SharedScans.{has_numbers}
 use Rattle.mt_scan.proofs.log_scan.LogScan.of.Goals as goal
 
 pub returns : goal.returns
@@ -16,13 +17,8 @@ returns c =
       log = is.log;
       is_reading = is.is_reading;
       shows = record {
-        numbers = record {
-          from = is.shows.from;
-          last = is.shows.last;
-          whole = c.len.ensures ∙ ap length is.shows.records;
-          marks = marks ∙ ap (λ (records : List Logged). length (filter is_mark records)) is.shows.records;
-          torn = is.shows.torn;
-        };
+        numbers = has_numbers c.args.log c.len.result 0 0 None [] bytes c.args.text is (c.len.ensures ∙ ap length is.shows.records)
+            (marks ∙ ap (λ (records : List Logged). length (filter is_mark records)) is.shows.records);
         updates = ap (updates_from c.args.log 0) is.shows.records;
         dropped = refl;
       };

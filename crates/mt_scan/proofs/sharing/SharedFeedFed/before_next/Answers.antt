@@ -6,19 +6,21 @@ use Rattle.mt_scan.proofs.sharing.SharedFeedFed.before_next.Goals as goal
 
 pub returns : goal.returns
 returns c begun bytes s =
+    let looks = s.looks in
     let old : PassView = c.args.self.now.pass.now in
-    let now : PassView = c.least-self.new.pass in
     let is = c.least-self.ensures.pass in
     let low = under_looks c.least-self.result old.looks (omega (arith, c.least-self.type_inv)) c.least-self.ensures.seen in record {
       was = c.args.self.now.limit;
-      falls = omega (arith, low, s.least);
+      falls = omega (arith, low, looks.least);
       shares = record {
-        same = s.same;
-        board = ap (λ (p : PassView). p.board) is ∙ s.board;
-        more = s.more ++ c.least-self.result ∷ [];
-        looked = looked_on begun.pass.now old now s.more c.least-self.result s.looked is;
-        least = sym (ap (λ (p : PassView). least_of p.looks) is ∙ least_last old.looks c.least-self.result low);
-        low = omega (arith, c.least-self.ensures.noted, ap (λ (p : PassView). p.noted) s.looked);
+        looks = record {
+          same = looks.same;
+          board_is = ap (λ (p : PassView). p.board) is ∙ looks.board_is;
+          more = looks.more ++ c.least-self.result ∷ [];
+          looked = looked_on begun.pass.now old c.least-self.new.pass looks.more c.least-self.result looks.looked is;
+          least = sym (ap (λ (p : PassView). least_of p.looks) is ∙ least_last old.looks c.least-self.result low);
+          low = omega (arith, c.least-self.ensures.noted, ap (λ (p : PassView). p.noted) looks.looked);
+        };
         fed = s.fed;
         few = s.few;
       };

@@ -4,17 +4,9 @@ use Rattle.mt_scan.proofs.sharing.SharedFeedFed.feed_next.Goals as goal
 
 pub returns-clause-fed : goal.returns-clause-fed
 returns-clause-fed c begun bytes ready few =
-    let s = ready.shares in record { same = s.same; board = s.board; more = s.more; looked = s.looked; least = s.least; low = s.low; fed = c.feed_below.ensures.fed ready.was bytes ready.falls s.fed; few = inr few }
+    let s = ready.shares in record { looks = s.looks; fed = c.feed_below.ensures.fed ready.was bytes ready.falls s.fed; few = inr few }
 
 pub returns-clause-stops : goal.returns-clause-stops
 returns-clause-stops c ended begun bytes more s =
-    let stopped = c.feed_below.ensures.stops ended in record {
-      same = s.same;
-      board = s.board;
-      more = s.more;
-      looked = s.looked;
-      least = s.least;
-      low = s.low;
-      fed = stays_fed c.feed_below.new.self c.args.self.now.limit bytes more stopped s.fed;
-      few = inl stopped;
-    }
+    let stopped = c.feed_below.ensures.stops ended in
+    record { looks = s.looks; fed = stays_fed c.feed_below.new.self c.args.self.now.limit bytes more stopped s.fed; few = inl stopped }
