@@ -1,14 +1,11 @@
 -- What a node and a place add to the hits of a range.
 use Rattle.std.proofs.Common.{◌≡◌, ◌≢◌, ℕ, zero, suc, ◌+◌, ◌-◌, ◌*◌, ◌<◌, ◌≤◌, min, Bool, true, false, List, [], ◌∷◌, ◌++◌, length, take, drop, get_or, sym, refl, ap, ◌∙◌, subst, arith, length-append, length-drop}
-use Rattle.std.specs.Prelude.{not}
-use Rattle.std.specs.Ordering.{nat_cmp, is_lt}
-use Rattle.std.specs.Cmp.Lexicographic.{slice_cmp}
 use Rattle.std.specs.List.{AllByRecursion}
 use Rattle.std.proofs.Common.{Vec, Global}
 use Rattle.std.specs.Global.{Box}
 use Rattle.std.proofs.Common.{inl, inr, ◌⊎◌}
 use Rattle.std.proofs.lemmas.Bool.{cases_lt}
-use Rattle.std.proofs.lemmas.List.{append-nil, take_all, take_rest, get_or-drop, take-map}
+use Rattle.std.proofs.lemmas.List.{take_all, take_rest, get_or-drop}
 use Rattle.smallvec.specs.SmallVec.{SmallVec}
 use Rattle.mt_words.specs.Limits.{widest}
 use Rattle.mt_words.specs.Slices.{AreBytes, slice_in, slice_bytes}
@@ -19,9 +16,7 @@ use Rattle.mt_words.specs.Walks.{Pair, joined}
 use Rattle.mt_tree.specs.Nodes.{NodeView, places, borders_of, branches, IsNode, AreSeparated, SlicesFrom}
 use Rattle.mt_tree.specs.NodeFalls.{joined-append, all_weight}
 use Rattle.mt_tree.specs.NodeViews.{views, view_of, view_of_content, node_view, IsNodeKind}
-use Rattle.mt_tree.specs.Ranging.{from, found}
-use Rattle.mt_tree.specs.Range.{wanted_of}
-use Rattle.mt_tree.specs.declared.hit.Hit.{Hit}
+use Rattle.mt_tree.specs.Range.{from}
 use Rattle.mt_tree.specs.declared.node.Place.{Place}
 use Rattle.mt_tree.specs.declared.node.NodeKind.{NodeKind}
 use Rattle.mt_tree.specs.declared.node.NodeKind.TheVariants.{Border, Interior}
@@ -30,10 +25,10 @@ use Rattle.mt_tree.specs.declared.node.Content.{Content}
 use Rattle.mt_tree.specs.declared.node.Content.TheVariants.{Short, Suffix, Link}
 use Rattle.mt_tree.proofs.Finds.{pairs_rank, view_lawful, layer_lawful, border_layer, border_walk, interior_is, interior_walk}
 use Rattle.mt_tree.proofs.Orders.{pairs_bytes}
-use Rattle.mt_tree.proofs.Lights.{kid_lighter, view_light, kids_more, views_more}
-use Rattle.mt_tree.proofs.Ranged.{take_few, then_found, from-append, found-append, from_kept, from_empty, found-put_before, one_tested, short_from, below_from, place_gone}
+use Rattle.mt_tree.proofs.Lights.{kid_lighter, view_light, kids_more}
+use Rattle.mt_tree.proofs.Ranged.{from-append, from_kept, from_empty, short_from, below_from, place_gone}
 use Rattle.mt_tree.specs.Falls.{walk-append}
-use Rattle.mt_tree.proofs.Joins.{all_weaker, all_front, all_back, length_at-le}
+use Rattle.mt_tree.proofs.Joins.{put_before-append, all_weaker, all_front, all_back, length_at-le}
 
 -- ---- what a place's test says
 pub not_before : (rank s : ℕ) (start : List ℕ) (r : Bool) → s ≡ slice_in start → r ≡ false → (rank < s * 10 + min (length start) 9 → r ≡ true) → key_rank start ≤ rank
@@ -77,35 +72,6 @@ pub fits_link : (s : ℕ) (h : Content) (n : NodeView) (before bytes after : Lis
 fits_link s h n before bytes after e f g a =
     let len : length before + length (slice_bytes s) ≡ length after = sym (ap length f ∙ ap (λ (z : List ℕ). length (before ++ z)) g ∙ length-append before (slice_bytes s)) in
     subst (λ (j : ℕ). FitsAfter j (walk (places n))) len (fits_below (length before) (slice_bytes s) (walk (places n)) (subst (λ (z : Content). FitsAfter (length before) (pairs_at (view_of_content s z))) e a))
-
--- ---- hits
-pub hits_none : (n : ℕ) (old : List Hit) (prefix : List ℕ) (w : List Bool) (v : List Pair) → length old ≤ n → v ≡ [] → old ≡ take n (old ++ found prefix w v)
-hits_none n old prefix w v le e = sym (ap (λ (z : List Pair). take n (old ++ found prefix w z)) e ∙ ap (take n) (append-nil old) ∙ take_all n old le)
-
-pub hits_one : (n : ℕ) (old new : List Hit) (prefix k : List ℕ) (c : List (ℕ × List ℕ)) (w : List Bool) (v : List Pair) → length old < n → new ≡ old ++ found prefix w ((k, c) ∷ []) → v ≡ (k, c) ∷ [] → new ≡ take n (old ++ found prefix w v)
-hits_one n old new prefix k c w v lt e f =
-    e ∙ sym (ap (λ (z : List Pair). take n (old ++ found prefix w z)) f ∙ take_all n (old ++ found prefix w ((k, c) ∷ [])) (omega (arith, length-append old (found prefix w ((k, c) ∷ [])))))
-
--- one hit below the bytes of a slice
-pub hits_suffix : (n : ℕ) (old new : List Hit) (prefix long_prefix b bytes t rest : List ℕ) (c : List (ℕ × List ℕ)) (w : List Bool) (v : List Pair) (r : Bool) → length old < n → long_prefix ≡ prefix ++ bytes → bytes ≡ b
-    → new ≡ old ++ found long_prefix w ((t, c) ∷ []) → v ≡ put_before b (from rest ((t, c) ∷ [])) → r ≡ not (is_lt (slice_cmp nat_cmp t rest)) → r ≡ true → new ≡ take n (old ++ found prefix w v)
-hits_suffix n old new prefix long_prefix b bytes t rest c w v r lt p q e f g h =
-    let tested : from rest ((t, c) ∷ []) ≡ (t, c) ∷ [] = one_tested rest t c true (sym h ∙ g) in
-    hits_one n old new prefix (b ++ t) c w v lt
-    (e ∙ ap (λ (z : List ℕ). old ++ found z w ((t, c) ∷ [])) (p ∙ ap (λ (z : List ℕ). prefix ++ z) q) ∙ ap (λ (z : List Hit). old ++ z) (found-put_before prefix b w ((t, c) ∷ [])))
-    (f ∙ ap (put_before b) tested)
-
-pub hits_unreached : (n : ℕ) (old : List Hit) (prefix b t rest : List ℕ) (c : List (ℕ × List ℕ)) (w : List Bool) (v : List Pair) (r : Bool) → length old ≤ n → v ≡ put_before b (from rest ((t, c) ∷ [])) → r ≡ not (is_lt (slice_cmp nat_cmp t rest)) → r ≡ false → old ≡ take n (old ++ found prefix w v)
-hits_unreached n old prefix b t rest c w v r le f g h = hits_none n old prefix w v le (f ∙ ap (put_before b) (one_tested rest t c false (sym h ∙ g)))
-
-pub hits_link : (n : ℕ) (old new : List Hit) (prefix long_prefix b bytes rest : List ℕ) (w : List Bool) (u v : List Pair) → long_prefix ≡ prefix ++ bytes → bytes ≡ b
-    → new ≡ take n (old ++ found long_prefix w (from rest u)) → v ≡ put_before b (from rest u) → new ≡ take n (old ++ found prefix w v)
-hits_link n old new prefix long_prefix b bytes rest w u v p q e f =
-    e ∙ ap (λ (z : List ℕ). take n (old ++ found z w (from rest u))) (p ∙ ap (λ (z : List ℕ). prefix ++ z) q)
-    ∙ ap (λ (z : List Hit). take n (old ++ z)) (found-put_before prefix b w (from rest u) ∙ ap (found prefix w) (sym f))
-
-pub few_hits : (n : ℕ) (new xs : List Hit) → new ≡ take n xs → length new ≤ n
-few_hits n new xs e = omega (arith, ap (λ (z : List Hit). length z) e, take_few n xs)
 
 -- ---- among the children
 slices_gone : (start : List ℕ) (low : ℕ) (ps : List PlaceView) → AreBytes start → IsLayerFrom low ps → AllByRecursion (λ p. slice_at p < slice_in start) ps → from start (walk ps) ≡ []
@@ -211,43 +177,23 @@ later_kid ks m i x l e =
     let len : length (take (length ks - m) (drop m ks)) ≡ length (drop m ks) = ap length same in
     (omega (arith, len, length-drop m ks), e ∙ ap (λ (z : List NodeView). get_or z i x) same ∙ get_or-drop m ks i x)
 
-pub kids_then : (n : ℕ) (old mid new : List Hit) (prefix own : List ℕ) (w : List Bool) (ys : List NodeView) (i : ℕ) (x : NodeView) → own ≡ prefix → i < length ys → x ≡ get_or ys i x
-    → mid ≡ take n (old ++ found prefix w (walk (joined (borders_of (take i ys))))) → new ≡ take n (mid ++ found own w (from [] (walk (places x))))
-    → new ≡ take n (old ++ found prefix w (walk (joined (borders_of (take (i + 1) ys)))))
-kids_then n old mid new prefix own w ys i x p l at e f =
+-- a walk that went on with another child
+pub kids_then : (prefix own : List ℕ) (ys : List NodeView) (i : ℕ) (x : NodeView) → own ≡ prefix → i < length ys → x ≡ get_or ys i x
+    → put_before prefix (walk (joined (borders_of (take i ys)))) ++ put_before own (from [] (walk (places x))) ≡ put_before prefix (walk (joined (borders_of (take (i + 1) ys))))
+kids_then prefix own ys i x p l at =
     let before = walk (joined (borders_of (take i ys))) in
-    then_found n old mid new (found prefix w before) (found prefix w (walk (places x))) e (f ∙ (λ j. take n (mid ++ found (p j) w (from_empty (walk (places x)) j))))
-    ∙ ap (λ (z : List Hit). take n (old ++ z)) (sym (found-append prefix w before (walk (places x))))
-    ∙ ap (λ (z : List Pair). take n (old ++ found prefix w z)) (sym (ap walk (kids_more ys i x l at) ∙ walk-append (joined (borders_of (take i ys))) (places x)))
-
-pub views_then : (n : ℕ) (old mid new : List Hit) (prefix own start : List ℕ) (w : List Bool) (ys : List Place) (i : ℕ) (x : Place) → own ≡ prefix → i < length ys → x ≡ get_or ys i x
-    → mid ≡ take n (old ++ found prefix w (from start (walk (views (take i ys))))) → new ≡ take n (mid ++ found own w (from start (pairs_at (view_of x))))
-    → new ≡ take n (old ++ found prefix w (from start (walk (views (take (i + 1) ys)))))
-views_then n old mid new prefix own start w ys i x p l at e f =
-    let before = walk (views (take i ys)) in
-    let here = pairs_at (view_of x) in
-    then_found n old mid new (found prefix w (from start before)) (found prefix w (from start here)) e (f ∙ ap (λ (z : List ℕ). take n (mid ++ found z w (from start here))) p)
-    ∙ ap (λ (z : List Hit). take n (old ++ z)) (sym (found-append prefix w (from start before) (from start here)))
-    ∙ ap (λ (z : List Pair). take n (old ++ found prefix w z)) (sym (from-append start before here))
-    ∙ ap (λ (z : List Pair). take n (old ++ found prefix w (from start z)))
-    (sym (ap walk (views_more ys i x l at) ∙ walk-append (views (take i ys)) (view_of x ∷ []) ∙ ap (λ (z : List Pair). before ++ z) (append-nil here)))
+    (λ j. put_before prefix before ++ put_before (p j) (from_empty (walk (places x)) j))
+    ∙ sym (put_before-append prefix before (walk (places x)))
+    ∙ ap (put_before prefix) (sym (ap walk (kids_more ys i x l at) ∙ walk-append (joined (borders_of (take i ys))) (places x)))
 
 -- all children: the child at the start, then the later ones
-pub kids_done : (n : ℕ) (old mid new : List Hit) (prefix start : List ℕ) (w : List Bool) (whole : List Pair) (ks : List NodeView) (x : NodeView) (at i : ℕ)
+pub kids_done : (prefix start : List ℕ) (whole : List Pair) (ks : List NodeView) (x : NodeView) (at i : ℕ)
     → whole ≡ from start (walk (places x)) ++ walk (joined (borders_of (drop (suc at) ks))) → length (take (length ks - (at + 1)) (drop (at + 1) ks)) ≤ i
-    → mid ≡ take n (old ++ found prefix w (from start (walk (places x))))
-    → new ≡ take n (mid ++ found prefix w (walk (joined (borders_of (take i (take (length ks - (at + 1)) (drop (at + 1) ks)))))))
-    → new ≡ take n (old ++ found prefix w whole)
-kids_done n old mid new prefix start w whole ks x at i is l e f =
+    → put_before prefix (from start (walk (places x))) ++ put_before prefix (walk (joined (borders_of (take i (take (length ks - (at + 1)) (drop (at + 1) ks)))))) ≡ put_before prefix whole
+kids_done prefix start whole ks x at i is l =
     let here = from start (walk (places x)) in
-    let later = walk (joined (borders_of (drop (suc at) ks))) in
     let next : at + 1 ≡ suc at = omega arith in
     let all_later : take i (take (length ks - (at + 1)) (drop (at + 1) ks)) ≡ drop (suc at) ks = take_all i _ l ∙ take_rest ks (at + 1) ∙ ap (λ (z : ℕ). drop z ks) next in
-    then_found n old mid new (found prefix w here) (found prefix w later) e (f ∙ ap (λ (z : List NodeView). take n (mid ++ found prefix w (walk (joined (borders_of z))))) all_later)
-    ∙ ap (λ (z : List Hit). take n (old ++ z)) (sym (found-append prefix w here later))
-    ∙ ap (λ (z : List Pair). take n (old ++ found prefix w z)) (sym is)
-
--- ---- the whole tree
-pub all_found : (n : ℕ) (old new : List Hit) (prefix start : List ℕ) (w : List Bool) (v : List Pair) → old ≡ [] → prefix ≡ [] → new ≡ take n (old ++ found prefix w (from start v)) → new ≡ found [] w (take n (from start v))
-all_found n old new prefix start w v e f g =
-    g ∙ (λ i. take n (e i ++ found (f i) w (from start v))) ∙ take-map (λ p. record { key = [] ++ p.0; columns = wanted_of w p.1 }) n (from start v)
+    ap (λ (z : List NodeView). put_before prefix here ++ put_before prefix (walk (joined (borders_of z)))) all_later
+    ∙ sym (put_before-append prefix here (walk (joined (borders_of (drop (suc at) ks)))))
+    ∙ ap (put_before prefix) (sym is)

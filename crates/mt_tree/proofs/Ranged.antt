@@ -1,11 +1,10 @@
 -- Ranges of walks, part by part.
-use Rattle.std.proofs.Common.{◌≡◌, ◌≢◌, ℕ, zero, suc, ◌+◌, ◌*◌, ◌<◌, ◌≤◌, Bool, true, false, List, [], ◌∷◌, ◌++◌, ◌^◌, length, take, drop, sym, refl, ap, ◌∙◌, inl, inr, ◌⊎◌, arith, append_assoc}
+use Rattle.std.proofs.Common.{◌≡◌, ◌≢◌, ℕ, ◌+◌, ◌*◌, ◌<◌, ◌≤◌, Bool, true, false, List, [], ◌∷◌, ◌++◌, ◌^◌, length, take, drop, sym, refl, ap, ◌∙◌, inl, inr, ◌⊎◌, arith}
 use Rattle.std.specs.Prelude.{filter, not}
 use Rattle.std.specs.List.{AllByRecursion}
 use Rattle.std.specs.Ordering.{nat_cmp, is_lt}
 use Rattle.std.specs.Cmp.Lexicographic.{slice_cmp}
 use Rattle.std.specs.declared.cmp.Ordering.TheVariants.{Less, Equal, Greater}
-use Rattle.std.proofs.lemmas.List.{map-append}
 use Rattle.mt_words.specs.Slices.{AreBytes, slice_in, slice_bytes}
 use Rattle.mt_tree.specs.Layer.{key_rank}
 use Rattle.mt_words.proofs.SliceBytes.{slice_cmp-append}
@@ -21,25 +20,8 @@ use Rattle.mt_tree.specs.Layer.{short, HasNoEmptyKey}
 use Rattle.mt_tree.specs.Layer.{PlaceView, put_before, pairs_at, rank_at, IsPlace}
 use Rattle.mt_words.specs.Walks.{Pair}
 use Rattle.mt_tree.specs.Edges.{HasBytes}
-use Rattle.mt_tree.specs.Ranging.{from, found}
-use Rattle.mt_tree.specs.Range.{wanted_of}
-use Rattle.mt_tree.specs.declared.hit.Hit.{Hit}
+use Rattle.mt_tree.specs.Range.{from}
 use Rattle.mt_tree.proofs.Joins.{all_weaker}
-
--- ---- enough hits
-pub take_take-append : {X : Type 0} (n : ℕ) (a b : List X) → take n (take n a ++ b) ≡ take n (a ++ b)
-take_take-append zero a b = refl
-take_take-append (suc n) [] b = refl
-take_take-append (suc n) (x ∷ a) b = ap (λ z. x ∷ z) (take_take-append n a b)
-
-pub take_few : {X : Type 0} (n : ℕ) (a : List X) → length (take n a) ≤ n
-take_few zero a = omega arith
-take_few (suc n) [] = omega arith
-take_few (suc n) (x ∷ a) = omega (arith, take_few n a)
-
--- the hits of one part, and then of the next, are those of both
-pub then_found : (n : ℕ) (old mid new a b : List Hit) → mid ≡ take n (old ++ a) → new ≡ take n (mid ++ b) → new ≡ take n (old ++ (a ++ b))
-then_found n old mid new a b e f = f ∙ ap (λ z. take n (z ++ b)) e ∙ take_take-append n (old ++ a) b ∙ ap (take n) (append_assoc old a b)
 
 -- ---- pairs before and after the start
 filter-append : {X : Type 0} (t : X → Bool) (xs ys : List X) → filter t (xs ++ ys) ≡ filter t xs ++ filter t ys
@@ -52,9 +34,6 @@ filter-append t (x ∷ xs) ys = by (filter-append t xs ys) (t x) refl
 
 pub from-append : (start : List ℕ) (v w : List Pair) → from start (v ++ w) ≡ from start v ++ from start w
 from-append start v w = filter-append (λ p. not (is_lt (slice_cmp nat_cmp p.0 start))) v w
-
-pub found-append : (prefix : List ℕ) (w : List Bool) (u v : List Pair) → found prefix w (u ++ v) ≡ found prefix w u ++ found prefix w v
-found-append prefix w u v = map-append (λ p. record { key = prefix ++ p.0; columns = wanted_of w p.1 }) u v
 
 -- pairs before the start are left out
 pub from_gone : (start : List ℕ) (w : List Pair) → AreBytes (take 8 start) → HasBytes w → AllByRecursion (λ p. key_rank p.0 < key_rank start) w → from start w ≡ []
@@ -100,11 +79,6 @@ from_prefixed b rest (p ∷ w) = by (from_prefixed b rest w) (is_lt (slice_cmp n
     by : from (b ++ rest) (put_before b w) ≡ put_before b (from rest w) → (c : Bool) → is_lt (slice_cmp nat_cmp p.0 rest) ≡ c → from (b ++ rest) (put_before b (p ∷ w)) ≡ put_before b (from rest (p ∷ w))
     by tail true e = rw (step ∙ e, e) tail
     by tail false e = rw (step ∙ e, e) (ap (λ z. (b ++ p.0, p.1) ∷ z) tail)
-
--- the last bytes of the prefix may as well stand before each key
-pub found-put_before : (prefix b : List ℕ) (w : List Bool) (u : List Pair) → found (prefix ++ b) w u ≡ found prefix w (put_before b u)
-found-put_before prefix b w [] = refl
-found-put_before prefix b w (p ∷ u) = λ i. record { key = append_assoc prefix b p.0 i; columns = wanted_of w p.1 } ∷ found-put_before prefix b w u i
 
 -- ---- parts of a place
 -- a key is not below itself

@@ -1,6 +1,5 @@
 -- A walk shows the pairs of places and children with the bytes of the prefix before their keys.
-use Rattle.std.proofs.Common.{◌≡◌, ℕ, ◌+◌, ◌≤◌, List, [], ◌∷◌, ◌++◌, length, take, refl, sym, ap, ◌∙◌, subst, arith, append_assoc, length-append, Vec, Global}
-use Rattle.smallvec.specs.SmallVec.{SmallVec}
+use Rattle.std.proofs.Common.{◌≡◌, ℕ, ◌+◌, ◌≤◌, List, [], ◌∷◌, ◌++◌, length, take, refl, sym, ap, ◌∙◌, subst, arith, append_assoc, length-append}
 use Rattle.mt_words.specs.Limits.{widest}
 use Rattle.mt_words.specs.Slices.{slice_bytes}
 use Rattle.mt_words.specs.Walks.{Pair}
@@ -8,7 +7,7 @@ use Rattle.mt_tree.specs.Layer.{pairs_at, put_before, walk, link, IsPlace, FitsA
 use Rattle.mt_tree.specs.Nodes.{NodeView, places}
 use Rattle.mt_tree.specs.NodeViews.{view_of_content}
 use Rattle.mt_tree.specs.declared.node.Content.{Content}
-use Rattle.mt_tree.specs.declared.node.Content.TheVariants.{Short, Suffix, Link}
+use Rattle.mt_tree.specs.declared.node.Content.TheVariants.{Link}
 
 put_deeper : (a b : List ℕ) (w : List Pair) → put_before (a ++ b) w ≡ put_before a (put_before b w)
 put_deeper a b [] = refl
@@ -21,21 +20,13 @@ put_none prefix w e = ap (λ (z : List ℕ). put_before z w) e ∙ same w
     same [] = refl
     same (p ∷ v) = ap (λ (z : List Pair). p ∷ z) (same v)
 
-module _ (s : ℕ) (h : Content) (before bytes : List ℕ) (is_bytes : bytes ≡ slice_bytes s) where
-  pub short_shown : (l : ℕ) (c : List (ℕ × List ℕ)) → h ≡ Short l c → put_before before ((take l bytes, c) ∷ []) ≡ put_before before (pairs_at (view_of_content s h))
-  short_shown l c e = ap (λ (z : List ℕ). put_before before ((take l z, c) ∷ [])) is_bytes ∙ ap (λ (z : Content). put_before before (pairs_at (view_of_content s z))) (sym e)
+module _ (s : ℕ) (before bytes : List ℕ) (is_bytes : bytes ≡ slice_bytes s) where
+  pub short_shown : (l : ℕ) (c : List (ℕ × List ℕ)) (v : List Pair) → v ≡ (take l (slice_bytes s), c) ∷ [] → put_before before ((take l bytes, c) ∷ []) ≡ put_before before v
+  short_shown l c v e = ap (λ (z : List ℕ). put_before before ((take l z, c) ∷ [])) is_bytes ∙ ap (put_before before) (sym e)
 
-  module _ (prefix : List ℕ) (longer : prefix ≡ before ++ bytes) where
-    deeper_shown : (w : List Pair) → put_before prefix w ≡ put_before before (put_before (slice_bytes s) w)
-    deeper_shown w = ap (λ (z : List ℕ). put_before z w) (longer ∙ ap (λ (z : List ℕ). before ++ z) is_bytes) ∙ put_deeper before (slice_bytes s) w
-
-    pub suffix_shown : (t : SmallVec ℕ) (c : List (ℕ × List ℕ)) (tail : List ℕ) → h ≡ Suffix t c → tail ≡ t.items → put_before prefix ((tail, c) ∷ []) ≡ put_before before (pairs_at (view_of_content s h))
-    suffix_shown t c tail e f =
-        deeper_shown ((tail, c) ∷ []) ∙ ap (λ (z : List ℕ). put_before before (put_before (slice_bytes s) ((z, c) ∷ []))) f
-        ∙ ap (λ (z : Content). put_before before (pairs_at (view_of_content s z))) (sym e)
-
-    pub link_shown : (n : NodeView) → h ≡ Link n → put_before prefix (walk (places n)) ≡ put_before before (pairs_at (view_of_content s h))
-    link_shown n e = deeper_shown (walk (places n)) ∙ ap (λ (z : Content). put_before before (pairs_at (view_of_content s z))) (sym e)
+  pub deeper_shown : (prefix : List ℕ) (v w : List Pair) → prefix ≡ before ++ bytes → v ≡ put_before (slice_bytes s) w → put_before prefix w ≡ put_before before v
+  deeper_shown prefix v w longer e =
+      ap (λ (z : List ℕ). put_before z w) (longer ∙ ap (λ (z : List ℕ). before ++ z) is_bytes) ∙ put_deeper before (slice_bytes s) w ∙ ap (put_before before) (sym e)
 
 -- the prefix has room for the bytes of a slice that links
 room_before : (n : ℕ) (bytes : List ℕ) (w : List Pair) → 2 ≤ length w → FitsAfter n (put_before bytes w) → n + length bytes ≤ widest.key

@@ -9,9 +9,13 @@ use Rattle.mt_tree.specs.declared.hit.Hit.{Hit}
 abbrev pub is_from : List ℕ → Pair → Bool
 is_from start pair = not (is_lt (slice_cmp nat_cmp pair.0 start))
 
+-- the pairs whose keys are at or after the start
+abbrev pub from : List ℕ → List Pair → List Pair
+from start walk = filter (is_from start) walk
+
 -- the first n pairs of a walk whose keys are at or after the start
 abbrev pub range : List Pair → List ℕ → ℕ → List Pair
-range walk start n = take n (filter (is_from start) walk)
+range walk start n = take n (from start walk)
 
 -- whether this number is wanted, by flags that have one entry for each number
 abbrev pub wants : List Bool → ℕ → Bool

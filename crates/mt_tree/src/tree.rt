@@ -6,7 +6,7 @@ ghost use Rattle.mt_words.specs.Walks.{KeysRise};
 ghost use Rattle.mt_words.specs.Words.{IsKey};
 ghost use Rattle.mt_tree.specs.Borders.{AreBorders, empty_draft, layer_walk};
 ghost use Rattle.mt_tree.specs.Trees.{tree_walk, tree_borders, tree_below, IsTree, HasLayers, IsCount};
-ghost use Rattle.mt_tree.specs.Range.{hits};
+ghost use Rattle.mt_tree.specs.Range.{from, hits};
 ghost use Rattle.mt_tree.specs.Layers.{CountsLayers, IsLayers};
 
 use crate::finish::{Finished, finish};
@@ -14,6 +14,7 @@ use crate::hit::Hit;
 use crate::layer::Layer;
 use crate::node::Node;
 use crate::order::{Side, lies_below};
+use crate::range::{Collecting, Collector};
 use crate::visit::Visitor;
 use crate::wanted::Wanted;
 use arrayvec::ArrayVec;
@@ -191,13 +192,13 @@ impl Tree {
     pub fn getrange(&self, start: &[u8], n: usize, wanted: Wanted) -> Result<Vec<Hit>, Memory>
         ensures { IfOk result (λ found. found.items ≡ hits wanted (tree_walk self.now) start.now n) }
     {
-        let mut hits = Vec::new(self.alloc);
-        let Some(root) = &self.root else {
-            return Ok(hits);
+        let mut target = Collecting {
+            count: n,
+            wanted,
+            hits: Vec::new(self.alloc),
         };
-        let mut prefix = Vec::new(self.alloc);
-        root.collect(start, n, wanted, &mut prefix, &mut hits)?;
-        Ok(hits)
+        self.visit_from(start, &Collector, &mut target)?;
+        Ok(target.hits)
     }
 
     /// Shows all pairs to the visitor in key order, without allocating. Err: the visitor's first error; no further pair
@@ -205,9 +206,21 @@ impl Tree {
     pub fn visit<T, V: Visitor<T>>(&self, visitor: &V, target: &mut T) -> Result<(), V::Error>
         ensures { OnOk result (V.shown target.old target.new (tree_walk self.now)) }
     {
+        self.visit_from(&[], visitor, target)
+    }
+
+    /// Shows the pairs that are at or after the start to the visitor in key order. Err: the visitor's first error.
+    fn visit_from<T, V: Visitor<T>>(
+        &self,
+        start: &[u8],
+        visitor: &V,
+        target: &mut T,
+    ) -> Result<(), V::Error>
+        ensures { OnOk result (V.shown target.old target.new (from start.now (tree_walk self.now))) }
+    {
         match &self.root {
             None => Ok(()),
-            Some(root) => root.visit(&mut ArrayVec::new(), visitor, target),
+            Some(root) => root.visit(start, &mut ArrayVec::new(), visitor, target),
         }
     }
 

@@ -1,15 +1,19 @@
-//! A walk over a tree, pair by pair.
-ghost use Rattle.std.specs.Prelude.{◌≡◌, ◌+◌, ◌*◌, ◌≤◌, ◌++◌, ◌∷◌, [], List, length, OnOk};
+//! A walk over a tree, pair by pair, from a start on.
+ghost use Rattle.std.specs.Prelude.{◌≡◌, ◌≢◌, ◌+◌, ◌*◌, ◌≤◌, ◌++◌, ◌∷◌, [], List, length, drop, not, IsTrue, OnOk};
+ghost use Rattle.std.specs.Ordering.{nat_cmp, is_lt};
+ghost use Rattle.std.specs.Cmp.Lexicographic.{slice_cmp};
 ghost use Rattle.mt_words.specs.Limits.{widest};
+ghost use Rattle.mt_words.specs.Slices.{slice_in};
 ghost use Rattle.mt_words.specs.Walks.{Pair};
 ghost use Rattle.mt_words.specs.Words.{IsKey};
-ghost use Rattle.mt_tree.specs.Layer.{FitsAfter, IsPlace, pairs_at, put_before, walk};
+ghost use Rattle.mt_tree.specs.Layer.{FitsAfter, IsPlace, key_rank, pairs_at, put_before, rank_at, walk};
 ghost use Rattle.mt_tree.specs.Nodes.{places};
 ghost use Rattle.mt_tree.specs.NodeViews.{view_of};
+ghost use Rattle.mt_tree.specs.Range.{from};
 
-use crate::node::{Content, Node, NodeKind, Place};
+use crate::node::{Content, Node, NodeKind, Place, child_at};
 use arrayvec::ArrayVec;
-use mt_words::{Columns, Kept, LONGEST_KEY, slice_bytes};
+use mt_words::{Columns, Kept, LONGEST_KEY, slice_bytes, slice_of};
 
 /// The action on each pair of a walk.
 pub trait Visitor<T> {
@@ -23,6 +27,13 @@ pub trait Visitor<T> {
     fn visit(&self, target: &mut T, key: &[u8], columns: &Columns<Kept>) -> Result<(), Self::Error>
         requires { IsKey widest key.now }
         ensures { OnOk result (shown target.old target.new ((key.now, columns.now) ∷ [])) };
+
+    /// Returns whether the target takes no further pair: showing it pairs leaves it as it is. A walk then ends.
+    fn is_full(&self, target: &T) -> bool
+        ensures { IsTrue result → (pairs : List Pair) → shown target.now target.now pairs }
+    {
+        false
+    }
 
     /// A target that did not change was shown no pair.
     ghost none: { (target : T) → shown target target [] };
@@ -63,11 +74,34 @@ fn show<T, V: Visitor<T>>(
     Ok(())
 }
 
+/// Returns whether a key is at or after the start.
+fn reaches(key: &[u8], start: &[u8]) -> bool
+    ensures { result ≡ not (is_lt (slice_cmp nat_cmp key.now start.now)) }
+{
+    !key.cmp(start).is_lt()
+}
+
 impl Place {
-    /// Shows the visitor this place's pairs. Err: it did not take a pair.
+    /// Returns the start for what lies below this place. If the start has its place here, its bytes after the slice
+    /// decide. Otherwise all pairs of this place come after the start, and the result is empty.
+    fn rest_of<'a>(&self, start: &'a [u8], slice: u64) -> &'a [u8]
+        requires lawful { IsPlace (view_of self.now) }
+        requires slice { slice ≡ slice_in start.now }
+        ensures here { rank_at (view_of self.now) ≡ key_rank start.now → result.now ≡ drop 8 start.now }
+        ensures past { rank_at (view_of self.now) ≢ key_rank start.now → result.now ≡ [] }
+    {
+        if self.is_place_of(slice, start.len()) {
+            &start[start.len().min(8)..]
+        } else {
+            &start[..0]
+        }
+    }
+
+    /// Shows the visitor this place's pairs that are at or after the start. Err: it did not take a pair.
     #[cycle(visit)]
     fn visit<T, V: Visitor<T>>(
         &self,
+        start: &[u8],
         prefix: &mut Bytes,
         visitor: &V,
         target: &mut T,
@@ -75,8 +109,14 @@ impl Place {
         requires lawful { IsPlace (view_of self.now) }
         requires fits { FitsAfter (length prefix.old.items) (pairs_at (view_of self.now)) }
         ensures prefix { OnOk result (prefix.new.items ≡ prefix.old.items) }
-        ensures shown { OnOk result (V.shown target.old target.new (put_before prefix.old.items (pairs_at (view_of self.now)))) }
+        ensures shown { OnOk result (V.shown target.old target.new
+            (put_before prefix.old.items (from start.now (pairs_at (view_of self.now))))) }
     {
+        let slice = slice_of(start);
+        if visitor.is_full(target) || self.lies_before(slice, start.len()) {
+            return Ok(());
+        }
+        let rest = self.rest_of(start, slice);
         let bytes = slice_bytes(self.slice);
         let before = prefix.len();
         match &self.content {
@@ -84,13 +124,15 @@ impl Place {
                 show(prefix, &bytes[..*len as usize], columns, visitor, target)?;
             }
             Content::Suffix(suffix, columns) => {
-                extend(prefix, &bytes);
-                show(prefix, suffix, columns, visitor, target)?;
-                prefix.truncate(before);
+                if reaches(suffix, rest) {
+                    extend(prefix, &bytes);
+                    show(prefix, suffix, columns, visitor, target)?;
+                    prefix.truncate(before);
+                }
             }
             Content::Link(below) => {
                 extend(prefix, &bytes);
-                below.visit(prefix, visitor, target)?;
+                below.visit(rest, prefix, visitor, target)?;
                 prefix.truncate(before);
             }
         }
@@ -99,27 +141,34 @@ impl Place {
 }
 
 impl Node {
-    /// Shows the visitor this node's pairs. Err: it did not take a pair.
+    /// Shows the visitor this node's pairs that are at or after the start. Err: it did not take a pair.
     #[cycle(visit)]
     pub(crate) fn visit<T, V: Visitor<T>>(
         &self,
+        start: &[u8],
         prefix: &mut Bytes,
         visitor: &V,
         target: &mut T,
     ) -> Result<(), V::Error>
         requires { FitsAfter (length prefix.old.items) (walk (places self.now)) }
         ensures prefix { OnOk result (prefix.new.items ≡ prefix.old.items) }
-        ensures shown { OnOk result (V.shown target.old target.new (put_before prefix.old.items (walk (places self.now)))) }
+        ensures shown { OnOk result (V.shown target.old target.new
+            (put_before prefix.old.items (from start.now (walk (places self.now))))) }
     {
+        if visitor.is_full(target) {
+            return Ok(());
+        }
         match &self.kind {
-            NodeKind::Interior(_, children) => {
-                for child in children {
-                    child.visit(prefix, visitor, target)?;
+            NodeKind::Interior(separators, children) => {
+                let at = child_at(separators.as_slice(), slice_of(start));
+                children[at].visit(start, prefix, visitor, target)?;
+                for child in &children[at + 1..] {
+                    child.visit(&start[..0], prefix, visitor, target)?;
                 }
             }
             NodeKind::Border(places) => {
                 for place in places {
-                    place.visit(prefix, visitor, target)?;
+                    place.visit(start, prefix, visitor, target)?;
                 }
             }
         }

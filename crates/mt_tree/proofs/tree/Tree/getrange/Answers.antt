@@ -1,12 +1,13 @@
-use Rattle.std.proofs.Common.{◌∙◌, sym, ap, Option}
+use Rattle.std.proofs.Common.{◌++◌, take, map, ◌∙◌, arith}
+use Rattle.std.proofs.lemmas.List.{take-map}
+use Rattle.mt_tree.specs.Range.{from, hit_of}
 use Rattle.mt_tree.specs.Trees.{tree_walk}
-use Rattle.mt_tree.specs.Nodes.{NodeView, places}
-use Rattle.mt_tree.specs.Layer.{walk}
-use Rattle.mt_tree.specs.Range.{hits}
-use Rattle.mt_tree.proofs.Collects.{all_found}
 use Rattle.mt_tree.proofs.tree.Tree.getrange.Goals as goal
 
 pub returns : goal.returns
 returns c =
-    all_found _ _ _ _ c.args.start.now c.args.wanted (walk (places c.in-Some.root)) c.new-hits.ensures.items c.new-prefix.ensures.items c.in_ok-collect.ensures.hits
-    ∙ ap (λ (t : Option NodeView). hits c.args.wanted (tree_walk t) c.args.start.now c.args.n) (sym c.in-Some.is ∙ c.self.view_is)
+    let pairs = from c.args.start.now (tree_walk c.args.self.now) in
+    let empty = c.new.ensures.items in
+    c.in_ok-visit_from.ensures.hits (omega (arith, c.new.ensures.len))
+    ∙ (λ i. take c.args.n (empty i ++ map (hit_of c.args.wanted) pairs))
+    ∙ take-map (hit_of c.args.wanted) c.args.n pairs

@@ -1,12 +1,8 @@
-use Rattle.std.proofs.Common.{◌≡◌, List, OnOk, sym, ap, ◌∙◌, subst}
+use Rattle.std.proofs.Common.{List, OnOk, subst}
 use Rattle.mt_words.specs.Walks.{Pair}
-use Rattle.mt_tree.specs.Layer.{put_before, walk}
-use Rattle.mt_tree.specs.Nodes.{places}
 use Rattle.mt_tree.specs.Trees.{tree_walk}
-use Rattle.mt_tree.proofs.Visits.{put_none}
+use Rattle.mt_tree.proofs.Ranged.{from_empty}
 use Rattle.mt_tree.proofs.tree.Tree.visit.Goals as goal
 
-pub returns-in-Some : goal.returns-in-Some
-returns-in-Some g c =
-    let pairs : put_before c.new.result.items (walk (places c.in-Some.root)) ≡ tree_walk c.args.self.now = put_none _ _ c.new.ensures ∙ ap tree_walk (sym c.in-Some.is ∙ c.self.view_is) in
-    subst (λ (v : List Pair). OnOk c.visit.result (g.V.Visitor.shown c.args.target.now c.visit.new.target v)) pairs c.visit.ensures.shown
+pub returns : goal.returns
+returns g c = subst (λ (v : List Pair). OnOk c.visit_from.result (g.V.Visitor.shown c.args.target.now c.visit_from.new.target v)) (from_empty (tree_walk c.args.self.now)) c.visit_from.ensures
