@@ -10,7 +10,7 @@ use Rattle.mt_tree.specs.Nodes.{IsBorder, SlicesApart, AreLinked, first_slice_of
 abbrev pub borders_walk : List (List PlaceView) → List Pair
 borders_walk bs = walk (joined bs)
 
--- the law of one layer's borders: each has 1 to 15 places, no slice is in two of them, and their places are a lawful layer
+-- the law of one layer's borders: each has 1 to MOST_PLACES places, no slice is in two of them, and their places are a lawful layer
 abbrev pub IsBorderList : List (List PlaceView) → Type 0
 IsBorderList bs = AllByRecursion IsBorder bs × SlicesApart bs × IsLayer (joined bs)
 

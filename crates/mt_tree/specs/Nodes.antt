@@ -3,6 +3,7 @@ use Rattle.std.specs.Prelude.{ℕ, suc, ◌+◌, ◌-◌, ◌^◌, ◌<◌, ◌�
 use Rattle.std.specs.List.{AllByRecursion, flat_map}
 use Rattle.mt_tree.specs.Layer.{PlaceView, slice_at, walk, IsLayer}
 use Rattle.mt_tree.specs.Layers.{linked_walks}
+use Rattle.mt_tree.specs.declared.node.TheConstants.{MOST_PLACES, MOST_CHILDREN}
 use Rattle.mt_words.specs.Walks.{Pair, joined}
 
 -- what contracts see of a child: its borders in order, and the number of levels below it
@@ -39,9 +40,9 @@ SlicesBelow s = AllByRecursion (λ p. slice_at p < s)
 abbrev pub SlicesFrom : ℕ → List PlaceView → Type 0
 SlicesFrom s = AllByRecursion (λ p. s ≤ slice_at p)
 
--- a border holds 1 to 15 places
+-- a border holds 1 to MOST_PLACES places
 abbrev pub IsBorder : List PlaceView → Type 0
-IsBorder b = (1 ≤ length b) × (length b ≤ 15)
+IsBorder b = (1 ≤ length b) × (length b ≤ MOST_PLACES)
 
 -- each slice of a border is below all slices of the borders after it; so no slice is in two borders
 abbrev pub SlicesApart : List (List PlaceView) → Type 0
@@ -54,10 +55,10 @@ AreSeparated [] ks = ⊤
 AreSeparated (s ∷ ss) [] = ⊤
 AreSeparated (s ∷ ss) (k ∷ ks) = SlicesBelow s (joined k.borders) × AllByRecursion (λ b. SlicesFrom s (joined b.borders)) ks × AreSeparated ss ks
 
--- an interior node has 2 to 16 children, and between each two neighbours one separator, which separates their slices
+-- an interior node has 2 to MOST_CHILDREN children, and between each two neighbours one separator, which separates their slices
 pub record IsInterior (n : InteriorView) : Type 0 where
   pub two : 2 ≤ length n.children
-  pub most : length n.children ≤ 16
+  pub most : length n.children ≤ MOST_CHILDREN
   pub between : length n.separators + 1 ≡ length n.children
   pub separated : AreSeparated n.separators n.children
 
@@ -73,7 +74,7 @@ pub data HaveInteriors : List BranchView → List InteriorView → Type 0 where
 abbrev pub as_branch : LayerView → BranchView
 as_branch t = record { borders = t.borders; height = t.height }
 
--- the law of the tree of one layer: it has at least one border, each border has 1 to 15 places, no slice is in two of them, the places are
+-- the law of the tree of one layer: it has at least one border, each border has 1 to MOST_PLACES places, no slice is in two of them, the places are
 -- a lawful layer, and lawful interior nodes stand above the borders
 pub record IsLayerTree (t : LayerView) : Type 0 where
   pub some : 1 ≤ length t.borders

@@ -1,13 +1,14 @@
 //! Finishing a draft: borders that are still open are sealed, and nodes are stacked on all borders.
-ghost use Rattle.std.specs.Prelude.{◌≡◌, ◌≢◌, MatchBool, ◌<◌, ◌≤◌, ◌+◌, ◌++◌, ◌∷◌, [], suc, List, length, IfOk};
+ghost use Rattle.std.specs.Prelude.{◌≡◌, ◌≢◌, MatchBool, ◌<◌, ◌≤◌, ◌+◌, ◌-◌, ◌++◌, ◌∷◌, [], suc, List, length, IfOk};
 ghost use Rattle.mt_words.specs.Walks.{joined};
 ghost use Rattle.mt_tree.specs.Layer.{PlaceView, IsLayer, IsPlace};
 ghost use Rattle.mt_tree.specs.Nodes.{places, borders_of, below_of, each_borders, level_height, IsNode, IsNodeAt, IsLevel, IsLevelAt, IsBorder, border_tree, AreBelow, IsTreeCount, first_of, parent_node};
+ghost use Rattle.mt_tree.specs.declared.node.TheConstants.{MOST_CHILDREN};
 ghost use Rattle.mt_tree.specs.DraftViews.{draft_view, draft_views, border_view, layers_of, layers_of_border, layers_of_content, HasLawfulLinks};
 ghost use Rattle.mt_tree.specs.NodeViews.{views, view_of, trees_of, trees_of_content};
 
 use crate::layer::{Border, DraftContent, DraftPlace, Layer};
-use crate::node::{Content, Node, NodeKind, Place};
+use crate::node::{Content, MOST_CHILDREN, Node, NodeKind, Place};
 use arrayvec::ArrayVec;
 use mt_words::Memory;
 use std::alloc::Global;
@@ -17,7 +18,7 @@ use std::mem;
 fn parent(alloc: Global, children: Vec<Node>) -> Result<Node, Memory>
     requires level { IsLevel children.items }
     requires two { 2 ≤ length children.items }
-    requires most { length children.items ≤ 16 }
+    requires most { length children.items ≤ MOST_CHILDREN }
     ensures value { IfOk result (λ node. node ≡ parent_node children.items) }
     ensures lawful { IfOk result (λ node. IsNode node) }
 {
@@ -33,12 +34,14 @@ fn parent(alloc: Global, children: Vec<Node>) -> Result<Node, Memory>
 /// Returns whether `count` children get their parent now, if `left` more nodes follow. A single node is never left
 /// over.
 fn closes(count: usize, left: usize) -> bool
-    ensures { MatchBool result ((left ≢ 0 → 15 ≤ count) × (count ≡ 15 → left ≢ 0 → left ≡ 2)) ((left ≢ 0) × (count ≢ 16) × (count ≡ 15 → left ≢ 2)) }
+    ensures { MatchBool result
+        ((left ≢ 0 → MOST_CHILDREN - 1 ≤ count) × (count ≡ MOST_CHILDREN - 1 → left ≢ 0 → left ≡ 2))
+        ((left ≢ 0) × (count ≢ MOST_CHILDREN) × (count ≡ MOST_CHILDREN - 1 → left ≢ 2)) }
 {
-    left == 0 || count == 16 || count == 15 && left == 2
+    left == 0 || count == MOST_CHILDREN || count == MOST_CHILDREN - 1 && left == 2
 }
 
-/// Returns the nodes one level up, of 2 to 16 children each. Err: out of memory.
+/// Returns the nodes one level up, of 2 to `MOST_CHILDREN` children each. Err: out of memory.
 fn level_up(alloc: Global, nodes: Vec<Node>) -> Result<Vec<Node>, Memory>
     requires lawful { IsLevel nodes.items }
     requires two { 2 ≤ length nodes.items }

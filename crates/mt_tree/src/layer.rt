@@ -5,10 +5,11 @@ ghost use Rattle.mt_tree.specs.DraftViews.{draft_view, draft_views, IsLawfulLink
 ghost use Rattle.mt_tree.specs.Nodes.{IsBorder, SlicesBelow, SlicesFrom, first_slice_of};
 ghost use Rattle.mt_tree.specs.Borders.{AreBorders, empty_draft, layer_walk, SameEnds, last_slice_of};
 ghost use Rattle.mt_tree.specs.declared.layer.Border.TheVariants.{Open};
+ghost use Rattle.mt_tree.specs.declared.node.TheConstants.{MOST_PLACES};
 ghost use Rattle.mt_words.specs.Slices.{slice_bytes};
 
 use crate::finish::{Finished, close};
-use crate::node::{Place, Suffix};
+use crate::node::{MOST_PLACES, Place, Suffix};
 use mt_words::{Columns, Kept, Memory, slice_of};
 use std::alloc::Global;
 use std::marker::Model;
@@ -20,7 +21,7 @@ pub(crate) struct Layer {
     pub(crate) borders: Vec<Border>,
 }
 
-/// One to fifteen places: all places of each of its slices.
+/// One to `MOST_PLACES` places: all places of each of its slices.
 #[cycle(layer)]
 #[derive(Drop)]
 pub(crate) enum Border {
@@ -214,7 +215,7 @@ fn split_before(places: &mut Vec<DraftPlace>, slice: u64) -> Result<Vec<DraftPla
 /// Appends these places as one open border, if there are any. Err: out of memory.
 fn push_border(borders: &mut Vec<Border>, places: Vec<DraftPlace>) -> Result<(), Memory>
     requires lawful { IsLayer (draft_views places.items) }
-    requires few { length places.items ≤ 15 }
+    requires few { length places.items ≤ MOST_PLACES }
     ensures { OnOk result (PutOpen places.items borders.old.items borders.new.items) }
 {
     if places.is_empty() {
@@ -244,20 +245,20 @@ fn push_closed(
     Ok(())
 }
 
-/// Appends up to 16 places to the borders. Sixteen places are cut before the last slice, which has at most ten of
-/// them. No further push changes the places before the cut. Err: out of memory.
+/// Appends places to the borders. If they are one too many for a border, they are cut before the last slice, which has
+/// at most ten of them. No further push changes the places before the cut. Err: out of memory.
 fn push_cut(alloc: Global, borders: &mut Vec<Border>, places: Vec<DraftPlace>) -> Result<(), Memory>
     requires lawful { IsLayer (draft_views places.items) }
     requires some { 1 ≤ length places.items }
-    requires most { length places.items ≤ 16 }
+    requires most { length places.items ≤ MOST_PLACES + 1 }
     ensures { OnOk result (PutOpen places.items borders.old.items borders.new.items) }
 {
     let mut places = places;
-    if places.len() > 15 {
+    if places.len() > MOST_PLACES {
         let slice = places[places.len() - 1].slice;
         let mut last = split_before(&mut places, slice)?;
         push_closed(alloc, borders, places)?;
-        last.reserve(15)?;
+        last.reserve(MOST_PLACES)?;
         return push_border(borders, last);
     }
     push_border(borders, places)
@@ -337,13 +338,13 @@ fn push_both(
 ) -> Result<(), Memory>
     requires lawful { IsLayer (draft_views left.items ++ draft_views right.items) }
     requires some { IsBorder (draft_views left.items) }
-    requires few { length right.items ≤ 15 }
+    requires few { length right.items ≤ MOST_PLACES }
     ensures { OnOk result (PutOpen (left.items ++ right.items) borders.old.items borders.new.items) }
 {
     let mut places = left;
     let mut right = right;
     let seam = places.len();
-    if seam + right.len() <= 15 {
+    if seam + right.len() <= MOST_PLACES {
         places.append(&mut right)?;
         return push_border(borders, places);
     }

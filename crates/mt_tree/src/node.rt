@@ -11,6 +11,15 @@ use mt_words::{Columns, Kept, slice_of};
 use smallvec::SmallVec;
 use std::marker::Model;
 
+/// The most places of a border.
+pub(crate) const MOST_PLACES: usize = 15;
+
+/// The most children of an interior node.
+pub(crate) const MOST_CHILDREN: usize = 16;
+
+/// The most separators of an interior node: one between each two neighbouring children.
+pub(crate) const MOST_SEPARATORS: usize = MOST_CHILDREN - 1;
+
 /// A node of a finished tree.
 #[cycle(node)]
 #[derive(Drop)]
@@ -25,7 +34,7 @@ pub(crate) enum NodeKind {
     /// Its places.
     Border(Vec<Place>),
     /// Separators and children. The separators are boxed, so that they do not make a border larger.
-    Interior(Box<ArrayVec<u64, 15>>, Vec<Node>),
+    Interior(Box<ArrayVec<u64, MOST_SEPARATORS>>, Vec<Node>),
 }
 
 /// A place of a border: a slice, and what the place holds.
