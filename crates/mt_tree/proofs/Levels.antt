@@ -1,7 +1,7 @@
 -- Nodes of one height are gathered under nodes one level up.
-use Rattle.std.proofs.Common.{◌≡◌, ℕ, suc, ◌<◌, ◌≤◌, List, [], ◌∷◌, ◌++◌, length, map, drop, get_or, sym, refl, ap, ◌∙◌, subst, arith, append_assoc, length-append, Vec, Global}
+use Rattle.std.proofs.Common.{◌≡◌, ℕ, suc, ◌-◌, ◌<◌, ◌≤◌, List, [], ◌∷◌, ◌++◌, length, map, take, drop, get_or, sym, refl, ap, ◌∙◌, subst, arith, append_assoc, length-append, Vec, Global}
 use Rattle.std.specs.List.{AllByRecursion, flat_map}
-use Rattle.std.proofs.lemmas.List.{append-nil, map-append, length-map, drop_all}
+use Rattle.std.proofs.lemmas.List.{append-nil, map-append, length-map, take_all, take_rest}
 use Rattle.std.proofs.lemmas.Grind.{flat_map-append}
 use Rattle.std.proofs.lemmas.List.Folds.{flat_map-map}
 use Rattle.mt_words.specs.Slices.{slice_bytes}
@@ -212,8 +212,9 @@ under_parent f upper kids rest all has e =
     ∙ ap (λ z. flat_map f upper ++ z) (sym (flat_map-append f kids rest))
     ∙ e
 
-pub heads_done : (separators heads : List ℕ) (ns : List NodeView) (at : ℕ) → separators ++ map first_of (drop at ns) ≡ heads → length ns ≤ at → separators ≡ heads
-heads_done separators heads ns at e le = sym (append-nil separators) ∙ ap (λ (z : List NodeView). separators ++ map first_of z) (sym (drop_all at ns le)) ∙ e
+-- the separators are the first slices of all children but the first
+pub heads_done : (separators : List ℕ) (xs ns : List NodeView) (i : ℕ) → xs ≡ ns → separators ≡ map first_of (take i (take (length xs - 1) (drop 1 xs))) → length (take (length xs - 1) (drop 1 xs)) ≤ i → separators ≡ map first_of (drop 1 ns)
+heads_done separators xs ns i same e le = e ∙ ap (map first_of) (take_all i _ le ∙ take_rest xs 1) ∙ ap (λ (z : List NodeView). map first_of (drop 1 z)) same
 
 pub moved : (kids rest next : List NodeView) (node : NodeView) → rest ≡ node ∷ next → kids ++ rest ≡ (kids ++ node ∷ []) ++ next
 moved kids rest next node e = ap (λ z. kids ++ z) e ∙ sym (append_assoc kids (node ∷ []) next)

@@ -23,8 +23,8 @@ fn parent(alloc: Global, children: Vec<Node>) -> Result<Node, Memory>
     ensures lawful { IfOk result (λ node. IsNode node) }
 {
     let mut separators = ArrayVec::new();
-    for at in 1..children.len() {
-        separators.push(children[at].first_slice());
+    for child in &children[1..] {
+        separators.push(child.first_slice());
     }
     Ok(Node {
         kind: NodeKind::Interior(Box::new(alloc, separators)?, children),
