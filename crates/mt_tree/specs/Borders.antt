@@ -8,11 +8,11 @@ use Rattle.mt_tree.specs.Nodes.{IsBorder, SlicesApart, AreLinked, first_slice_of
 
 -- the walk of a list of borders
 abbrev pub borders_walk : List (List PlaceView) → List Pair
-borders_walk bs = walk (joined bs)
+borders_walk borders = walk (joined borders)
 
 -- the law of one layer's borders: each has 1 to MOST_PLACES places, no slice is in two of them, and their places are a lawful layer
 abbrev pub IsBorderList : List (List PlaceView) → Type 0
-IsBorderList bs = AllByRecursion IsBorder bs × SlicesApart bs × IsLayer (joined bs)
+IsBorderList borders = AllByRecursion IsBorder borders × SlicesApart borders × IsLayer (joined borders)
 
 -- what contracts see of a draft: the borders of its outermost layer, in order, and the borders of each layer below a link,
 -- each layer before the layers below its own links
@@ -26,20 +26,20 @@ empty_draft = record { borders = []; below = [] }
 
 -- the walk of a draft is that of its outermost layer
 abbrev pub layer_walk : DraftView → List Pair
-layer_walk d = borders_walk d.borders
+layer_walk draft = borders_walk draft.borders
 
 -- the law of a draft: the borders of its outermost layer are lawful, so are those of each layer in `below`,
 -- and `below` has just the layers below links, at any depth
-pub record AreBorders (d : DraftView) : Type 0 where
-  pub own : IsBorderList d.borders
-  pub below : AllByRecursion IsBorderList d.below
-  pub linked : AreLinked (linked_walks (joined d.borders)) d.below
+pub record AreBorders (draft : DraftView) : Type 0 where
+  pub own : IsBorderList draft.borders
+  pub below : AllByRecursion IsBorderList draft.below
+  pub linked : AreLinked (linked_walks (joined draft.borders)) draft.below
 
 -- the slice of the last place, or 0 if there is none
 abbrev pub last_slice_of : List PlaceView → ℕ
 last_slice_of [] = 0
-last_slice_of (p ∷ []) = slice_at p
-last_slice_of (p ∷ q ∷ ps) = last_slice_of (q ∷ ps)
+last_slice_of (place ∷ []) = slice_at place
+last_slice_of (place ∷ next ∷ rest) = last_slice_of (next ∷ rest)
 
 -- the places begin with the first slice of the left list and end with the last slice of the right one
 pub record SameEnds (left right all : List PlaceView) : Type 0 where

@@ -13,79 +13,80 @@ use Rattle.mt_tree.specs.declared.layer.DraftContent.{DraftContent}
 use Rattle.mt_tree.specs.declared.layer.DraftContent.TheVariants.{Short, Suffix, Link}
 
 abbrev pub draft_view_of : ℕ → DraftContent → PlaceView
-draft_view_of s (Short l c) = short s l c
-draft_view_of s (Suffix t c) = long s t.items c
-draft_view_of s (Link l) = link s (layer_walk l)
+draft_view_of slice (Short len columns) = short slice len columns
+draft_view_of slice (Suffix suffix columns) = long slice suffix.items columns
+draft_view_of slice (Link layer) = link slice (layer_walk layer)
 
 abbrev pub draft_view : DraftPlace → PlaceView
-draft_view p = draft_view_of p.slice p.content
+draft_view place = draft_view_of place.slice place.content
 
 abbrev pub draft_views : List DraftPlace → List PlaceView
 draft_views = map draft_view
 
 abbrev pub border_view : Border → List PlaceView
-border_view (Open ps) = draft_views ps.items
-border_view (Closed f) = views f.made.items
+border_view (Open places) = draft_views places.items
+border_view (Closed finished) = views finished.made.items
 
 abbrev pub border_views : List Border → List (List PlaceView)
 border_views = map border_view
 
 -- the borders of each layer below a place's link, the linked layer first
 abbrev pub layers_of_content : DraftContent → List (List (List PlaceView))
-layers_of_content (Short l c) = []
-layers_of_content (Suffix t c) = []
-layers_of_content (Link l) = l.borders ∷ l.below
+layers_of_content (Short len columns) = []
+layers_of_content (Suffix suffix columns) = []
+layers_of_content (Link layer) = layer.borders ∷ layer.below
 
 abbrev pub layers_of : List DraftPlace → List (List (List PlaceView))
-layers_of = flat_map (λ p. layers_of_content p.content)
+layers_of = flat_map (λ place. layers_of_content place.content)
 
 abbrev pub layers_of_border : Border → List (List (List PlaceView))
-layers_of_border (Open ps) = layers_of ps.items
-layers_of_border (Closed f) = each_borders (trees_of f.made.items)
+layers_of_border (Open places) = layers_of places.items
+layers_of_border (Closed finished) = each_borders (trees_of finished.made.items)
 
 abbrev pub draft_of : List Border → DraftView
-draft_of bs = record { borders = border_views bs; below = flat_map layers_of_border bs }
+draft_of stored = record { borders = border_views stored; below = flat_map layers_of_border stored }
 
 -- if this is a link, the linked layer is lawful
 abbrev pub IsLawfulLink : DraftContent → Type 0
-IsLawfulLink (Short l c) = ⊤
-IsLawfulLink (Suffix t c) = ⊤
-IsLawfulLink (Link l) = AreBorders l
+IsLawfulLink (Short len columns) = ⊤
+IsLawfulLink (Suffix suffix columns) = ⊤
+IsLawfulLink (Link layer) = AreBorders layer
 
 abbrev pub HaveLawfulLinks : List DraftPlace → Type 0
-HaveLawfulLinks = AllByRecursion (λ p. IsLawfulLink p.content)
+HaveLawfulLinks = AllByRecursion (λ place. IsLawfulLink place.content)
 
 -- the layers that a border's places link to are lawful; those of a sealed border are lawful trees, with their count
 abbrev pub HasLawfulLinks : Border → Type 0
-HasLawfulLinks (Open ps) = HaveLawfulLinks ps.items
-HasLawfulLinks (Closed f) = AreBelow (views f.made.items) (trees_of f.made.items) × IsTreeCount (trees_of f.made.items) f.below
+HasLawfulLinks (Open places) = HaveLawfulLinks places.items
+HasLawfulLinks (Closed finished) =
+    AreBelow (views finished.made.items) (trees_of finished.made.items) × IsTreeCount (trees_of finished.made.items) finished.below
 
 abbrev pub IsOpen : Border → Type 0
-IsOpen (Open ps) = ⊤
-IsOpen (Closed f) = ⊥
+IsOpen (Open places) = ⊤
+IsOpen (Closed finished) = ⊥
 
 -- the border is open and has these places
 abbrev pub IsOpened : Border → List DraftPlace → Type 0
-IsOpened (Open ps) xs = xs ≡ ps.items
-IsOpened (Closed f) xs = ⊥
+IsOpened (Open held) places = places ≡ held.items
+IsOpened (Closed finished) places = ⊥
 
 -- the first border, if there is one, is open
 abbrev pub IsFirstOpen : List Border → Type 0
 IsFirstOpen [] = ⊤
-IsFirstOpen (b ∷ bs) = IsOpen b
+IsFirstOpen (border ∷ rest) = IsOpen border
 
 -- the last border, if there is one, is open
 abbrev pub IsLastOpen : List Border → Type 0
 IsLastOpen [] = ⊤
-IsLastOpen (b ∷ []) = IsOpen b
-IsLastOpen (b ∷ c ∷ bs) = IsLastOpen (c ∷ bs)
+IsLastOpen (border ∷ []) = IsOpen border
+IsLastOpen (border ∷ next ∷ rest) = IsLastOpen (next ∷ rest)
 
 -- the law of a stored layer: its borders are lawful, and so is each layer that its places link to; the first and the last border are open
-pub record IsStored (bs : List Border) : Type 0 where
-  pub own : IsBorderList (border_views bs)
-  pub links : AllByRecursion HasLawfulLinks bs
-  pub first : IsFirstOpen bs
-  pub last : IsLastOpen bs
+pub record IsStored (borders : List Border) : Type 0 where
+  pub own : IsBorderList (border_views borders)
+  pub links : AllByRecursion HasLawfulLinks borders
+  pub first : IsFirstOpen borders
+  pub last : IsLastOpen borders
 
 -- the new borders are the old ones and then more: these have just these places and are lawful, and their links are lawful if those of the
 -- places are; if the first border was open, it still is

@@ -1,5 +1,6 @@
 -- A layer of the tree as a list of places, and the pairs that each place stands for.
-use Rattle.std.specs.Prelude.{ℕ, suc, ◌+◌, ◌*◌, ◌^◌, ◌<◌, ◌≤◌, ◌≡◌, List, [], ◌∷◌, ◌++◌, length, take, drop, map, min, ⊤, Option, Some, None, if◌then◌else◌, nat_eq}
+use Rattle.std.specs.Prelude.{ℕ, suc, ◌+◌, ◌*◌, ◌^◌, ◌<◌, ◌≤◌, ◌≡◌, List, [], ◌∷◌, ◌++◌, length, take, drop, map, min, ⊤}
+use Rattle.std.specs.Prelude.{Option, Some, None, if◌then◌else◌, nat_eq}
 use Rattle.std.specs.List.{AllByRecursion, flat_map}
 use Rattle.std.specs.Cmp.Lexicographic.{pointwise}
 use Rattle.mt_words.specs.Limits.{widest}
@@ -14,19 +15,19 @@ pub data PlaceView : Type 0 where
   link : ℕ → List Pair → PlaceView  -- slice, walk of the linked layer
 
 abbrev pub slice_at : PlaceView → ℕ
-slice_at (short s l c) = s
-slice_at (long s t c) = s
-slice_at (link s w) = s
+slice_at (short slice len columns) = slice
+slice_at (long slice suffix columns) = slice
+slice_at (link slice below) = slice
 
 -- the length of a place; 9 means longer than 8
 abbrev pub length_at : PlaceView → ℕ
-length_at (short s l c) = l
-length_at (long s t c) = 9
-length_at (link s w) = 9
+length_at (short slice len columns) = len
+length_at (long slice suffix columns) = 9
+length_at (link slice below) = 9
 
 -- the rank of a place: ten times its slice, and its length; so places rise by slice, then by length
 abbrev pub rank_at : PlaceView → ℕ
-rank_at p = slice_at p * 10 + length_at p
+rank_at place = slice_at place * 10 + length_at place
 
 -- the rank of a key's place: ten times the key's slice, and its length; all keys longer than 8 bytes count as 9
 abbrev pub key_rank : List ℕ → ℕ
@@ -34,13 +35,13 @@ key_rank key = slice_in key * 10 + min (length key) 9
 
 -- the pairs with these bytes put before each key
 abbrev pub put_before : List ℕ → List Pair → List Pair
-put_before bytes w = map (λ p. (bytes ++ p.0, p.1)) w
+put_before bytes pairs = map (λ pair. (bytes ++ pair.0, pair.1)) pairs
 
 -- the pairs that a place stands for: their keys are the slice's first bytes, or all eight and then what lies below them
 abbrev pub pairs_at : PlaceView → List Pair
-pairs_at (short s l c) = (take l (slice_bytes s), c) ∷ []
-pairs_at (long s t c) = (slice_bytes s ++ t, c) ∷ []
-pairs_at (link s w) = put_before (slice_bytes s) w
+pairs_at (short slice len columns) = (take len (slice_bytes slice), columns) ∷ []
+pairs_at (long slice suffix columns) = (slice_bytes slice ++ suffix, columns) ∷ []
+pairs_at (link slice below) = put_before (slice_bytes slice) below
 
 -- the walk of a layer, place by place
 abbrev pub walk : List PlaceView → List Pair
@@ -48,19 +49,19 @@ walk = flat_map pairs_at
 
 -- no key is empty; as this holds below each link, only the outermost layer has length 0
 abbrev pub HasNoEmptyKey : List Pair → Type 0
-HasNoEmptyKey = AllByRecursion (λ p. 0 < length p.0)
+HasNoEmptyKey = AllByRecursion (λ pair. 0 < length pair.0)
 
 -- The law of a place. Its slice fits in 64 bits. A short one has a length of at most 8, and the bytes of its slice past that length are zero.
 -- A long one has a suffix of at least one byte. A link has at least two pairs, none with an empty key.
 abbrev pub IsPlace : PlaceView → Type 0
-IsPlace (short s l c) = (s < 2 ^ 64) × (l ≤ 8) × AllByRecursion (λ b. b ≡ 0) (drop l (slice_bytes s))
-IsPlace (long s t c) = (s < 2 ^ 64) × (0 < length t)
-IsPlace (link s w) = (s < 2 ^ 64) × (2 ≤ length w) × HasNoEmptyKey w
+IsPlace (short slice len columns) = (slice < 2 ^ 64) × (len ≤ 8) × AllByRecursion (λ byte. byte ≡ 0) (drop len (slice_bytes slice))
+IsPlace (long slice suffix columns) = (slice < 2 ^ 64) × (0 < length suffix)
+IsPlace (link slice below) = (slice < 2 ^ 64) × (2 ≤ length below) × HasNoEmptyKey below
 
 -- lawful places whose ranks strictly rise, from this rank on
 abbrev pub IsLayerFrom : ℕ → List PlaceView → Type 0
 IsLayerFrom low [] = ⊤
-IsLayerFrom low (p ∷ ps) = IsPlace p × (low ≤ rank_at p) × IsLayerFrom (suc (rank_at p)) ps
+IsLayerFrom low (place ∷ rest) = IsPlace place × (low ≤ rank_at place) × IsLayerFrom (suc (rank_at place)) rest
 
 -- the law of a layer: lawful places that strictly rise by slice, then by length
 abbrev pub IsLayer : List PlaceView → Type 0
@@ -69,21 +70,21 @@ IsLayer = IsLayerFrom 0
 -- the weight of a walk: the number of its key bytes, and one for each pair
 abbrev pub weight : List Pair → ℕ
 weight [] = 0
-weight (p ∷ w) = suc (length p.0) + weight w
+weight (pair ∷ rest) = suc (length pair.0) + weight rest
 
 -- each key of the first walk is below each key of the second
 abbrev pub AllKeysBelow : List Pair → List Pair → Type 0
-AllKeysBelow v w = AllByRecursion (λ p. AllByRecursion (λ q. IsBelow p.0 q.0) w) v
+AllKeysBelow lower upper = AllByRecursion (λ pair. AllByRecursion (λ above. IsBelow pair.0 above.0) upper) lower
 
 -- two places of one slice, both for keys longer than 8 bytes
 abbrev pub Meet : PlaceView → PlaceView → Type 0
-Meet p q = (slice_at p ≡ slice_at q) × (length_at p ≡ 9) × (length_at q ≡ 9)
+Meet place other = (slice_at place ≡ slice_at other) × (length_at place ≡ 9) × (length_at other ≡ 9)
 
 -- the columns of the first pair with this key, or none if no pair has it
 abbrev pub find_key : List ℕ → List Pair → Option (List (ℕ × List ℕ))
 find_key key [] = None
-find_key key (p ∷ w) = (if pointwise nat_eq key p.0 then Some p.1 else find_key key w)
+find_key key (pair ∷ rest) = (if pointwise nat_eq key pair.0 then Some pair.1 else find_key key rest)
 
--- with n bytes before them, the keys are still no longer than a key may be
+-- with so many bytes before them, the keys are still no longer than a key may be
 abbrev pub FitsAfter : ℕ → List Pair → Type 0
-FitsAfter n = AllByRecursion (λ p. n + length p.0 ≤ widest.key)
+FitsAfter before = AllByRecursion (λ pair. before + length pair.0 ≤ widest.key)

@@ -1,5 +1,6 @@
 -- The number of trees that a walk needs: its own, and one for each 8 bytes that begin two or more longer keys of a layer.
-use Rattle.std.specs.Prelude.{◌≡◌, ◌↔◌, ℕ, ◌+◌, ◌-◌, ◌^◌, ◌≤◌, ◌&&◌, Bool, min, List, [], ◌∷◌, length, take, drop, map, filter, nat_eq, nat_lt, Contains}
+use Rattle.std.specs.Prelude.{◌≡◌, ◌↔◌, ℕ, ◌+◌, ◌-◌, ◌^◌, ◌≤◌, ◌&&◌, Bool, min, nat_eq, nat_lt}
+use Rattle.std.specs.Prelude.{List, [], ◌∷◌, length, take, drop, map, filter, Contains}
 use Rattle.std.specs.Cmp.Lexicographic.{pointwise}
 use Rattle.mt_tree.specs.Layer.{PlaceView, short, long, link}
 use Rattle.mt_words.specs.Walks.{Pair}
@@ -21,7 +22,8 @@ pub record AreHeads (w : List Pair) (qs : List (List ℕ)) : Type 0 where
 -- one, plus the number of trees of what lies under each of these heads
 pub data CountsFrom : List Pair → List (List ℕ) → ℕ → Type 0 where
   own : {w : List Pair} → CountsFrom w [] 1
-  more : {w : List Pair} {q : List ℕ} {qs rs : List (List ℕ)} {m n : ℕ} → AreHeads (under q w) rs → CountsFrom (under q w) rs m → CountsFrom w qs n → CountsFrom w (q ∷ qs) (m + n)
+  more : {w : List Pair} {q : List ℕ} {qs rs : List (List ℕ)} {m n : ℕ}
+      → AreHeads (under q w) rs → CountsFrom (under q w) rs m → CountsFrom w qs n → CountsFrom w (q ∷ qs) (m + n)
 
 -- the number of trees of a walk
 pub record IsLayers (w : List Pair) (n : ℕ) : Type 0 where

@@ -10,32 +10,32 @@ use Rattle.mt_tree.specs.declared.node.NodeKind.{NodeKind}
 use Rattle.mt_tree.specs.declared.node.NodeKind.TheVariants.{Border, Interior}
 
 abbrev pub view_of_content : ℕ → Content → PlaceView
-view_of_content s (Short l c) = short s l c
-view_of_content s (Suffix t c) = long s t.items c
-view_of_content s (Link n) = link s (walk (places n))
+view_of_content slice (Short len columns) = short slice len columns
+view_of_content slice (Suffix suffix columns) = long slice suffix.items columns
+view_of_content slice (Link node) = link slice (walk (places node))
 
 abbrev pub view_of : Place → PlaceView
-view_of p = view_of_content p.slice p.content
+view_of place = view_of_content place.slice place.content
 
 abbrev pub views : List Place → List PlaceView
 views = map view_of
 
 -- the trees below a place's link, the linked tree first
 abbrev pub trees_of_content : Content → List LayerView
-trees_of_content (Short l c) = []
-trees_of_content (Suffix t c) = []
-trees_of_content (Link n) = n.tree ∷ n.below
+trees_of_content (Short len columns) = []
+trees_of_content (Suffix suffix columns) = []
+trees_of_content (Link node) = node.tree ∷ node.below
 
 abbrev pub trees_of : List Place → List LayerView
-trees_of = flat_map (λ p. trees_of_content p.content)
+trees_of = flat_map (λ place. trees_of_content place.content)
 
 abbrev pub border_node : List Place → NodeView
-border_node ps = record { tree = border_tree (views ps); below = trees_of ps }
+border_node held = record { tree = border_tree (views held); below = trees_of held }
 
 abbrev pub node_view : NodeKind → NodeView
-node_view (Border b) = border_node b.items
-node_view (Interior ss ks) = interior_node ss.value.items ks.items
+node_view (Border held) = border_node held.items
+node_view (Interior separators children) = interior_node separators.value.items children.items
 
 abbrev pub IsNodeKind : NodeKind → Type 0
-IsNodeKind (Border b) = IsNode (node_view (Border b))
-IsNodeKind (Interior ss ks) = AllByRecursion IsNode ks.items × IsNode (node_view (Interior ss ks))
+IsNodeKind (Border held) = IsNode (node_view (Border held))
+IsNodeKind (Interior separators children) = AllByRecursion IsNode children.items × IsNode (node_view (Interior separators children))

@@ -2,9 +2,12 @@
 ghost use Rattle.std.specs.Prelude.{◌≡◌, ◌≢◌, MatchBool, ◌<◌, ◌≤◌, ◌+◌, ◌-◌, ◌++◌, ◌∷◌, [], suc, List, length, IfOk};
 ghost use Rattle.mt_words.specs.Walks.{joined};
 ghost use Rattle.mt_tree.specs.Layer.{PlaceView, IsLayer, IsPlace};
-ghost use Rattle.mt_tree.specs.Nodes.{places, borders_of, below_of, each_borders, level_height, IsNode, IsNodeAt, IsLevel, IsLevelAt, IsBorder, border_tree, AreBelow, IsTreeCount, first_of, parent_node};
+ghost use Rattle.mt_tree.specs.Nodes.{places, borders_of, below_of, each_borders, level_height};
+ghost use Rattle.mt_tree.specs.Nodes.{border_tree, first_of, parent_node};
+ghost use Rattle.mt_tree.specs.Nodes.{IsNode, IsNodeAt, IsLevel, IsLevelAt, IsBorder, AreBelow, IsTreeCount};
 ghost use Rattle.mt_tree.specs.declared.node.TheConstants.{MOST_CHILDREN};
-ghost use Rattle.mt_tree.specs.DraftViews.{draft_view, draft_views, border_view, layers_of, layers_of_border, layers_of_content, HasLawfulLinks};
+ghost use Rattle.mt_tree.specs.DraftViews.{draft_view, draft_views, border_view};
+ghost use Rattle.mt_tree.specs.DraftViews.{layers_of, layers_of_border, layers_of_content, HasLawfulLinks};
 ghost use Rattle.mt_tree.specs.NodeViews.{views, view_of, trees_of, trees_of_content};
 
 use crate::layer::{Border, DraftContent, DraftPlace, Layer};
@@ -169,7 +172,8 @@ pub(crate) fn close(alloc: Global, places: Vec<DraftPlace>) -> Result<Finished<V
 fn finish_place(alloc: Global, place: DraftPlace) -> Result<Finished<Place>, Memory>
     requires lawful { IsPlace (draft_view place) }
     ensures same { IfOk result (λ done. view_of done.made ≡ draft_view place) }
-    ensures layers { IfOk result (λ done. each_borders (trees_of_content done.made.content) ≡ layers_of_content place.content) }
+    ensures layers { IfOk result (λ done.
+        each_borders (trees_of_content done.made.content) ≡ layers_of_content place.content) }
     ensures below { IfOk result (λ done. AreBelow (view_of done.made ∷ []) (trees_of_content done.made.content)) }
     ensures count { IfOk result (λ done. IsTreeCount (trees_of_content done.made.content) done.below) }
 {

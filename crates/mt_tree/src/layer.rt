@@ -1,7 +1,10 @@
 //! A layer under construction: a list of borders, each a list of places.
-ghost use Rattle.std.specs.Prelude.{◌≡◌, ◌≤◌, ◌+◌, MatchBool, ◌<◌, ◌++◌, ◌∷◌, ◌↔◌, [], length, take, drop, IfOk, OnOk, IsTrue};
-ghost use Rattle.mt_tree.specs.Layer.{IsLayer, walk, pairs_at, put_before, length_at, IsPlace, HasNoEmptyKey, AllKeysBelow, Meet};
-ghost use Rattle.mt_tree.specs.DraftViews.{draft_view, draft_views, IsLawfulLink, HaveLawfulLinks, IsOpen, IsOpened, PutBehind, PutOpen};
+ghost use Rattle.std.specs.Prelude.{◌≡◌, ◌≤◌, ◌+◌, ◌<◌, ◌++◌, ◌∷◌, ◌↔◌, [], length, take, drop};
+ghost use Rattle.std.specs.Prelude.{MatchBool, IfOk, OnOk, IsTrue};
+ghost use Rattle.mt_tree.specs.Layer.{walk, pairs_at, put_before, length_at};
+ghost use Rattle.mt_tree.specs.Layer.{IsLayer, IsPlace, HasNoEmptyKey, AllKeysBelow, Meet};
+ghost use Rattle.mt_tree.specs.DraftViews.{draft_view, draft_views, IsLawfulLink, HaveLawfulLinks};
+ghost use Rattle.mt_tree.specs.DraftViews.{IsOpen, IsOpened, PutBehind, PutOpen};
 ghost use Rattle.mt_tree.specs.Nodes.{IsBorder, SlicesBelow, SlicesFrom, first_slice_of};
 ghost use Rattle.mt_tree.specs.Borders.{AreBorders, empty_draft, layer_walk, SameEnds, last_slice_of};
 ghost use Rattle.mt_tree.specs.declared.layer.Border.TheVariants.{Open};
@@ -161,10 +164,12 @@ fn follow(
     requires some { 1 ≤ length places.items }
     requires links { HaveLawfulLinks places.items }
     requires below { AllKeysBelow (walk (draft_views places.items)) ((key.now, columns) ∷ []) }
-    ensures pairs { IfOk result (λ r. walk (draft_views r.items) ≡ walk (draft_views places.items) ++ (key.now, columns) ∷ []) }
+    ensures pairs { IfOk result (λ r.
+        walk (draft_views r.items) ≡ walk (draft_views places.items) ++ (key.now, columns) ∷ []) }
     ensures lawful { IfOk result (λ r. IsLayer (draft_views r.items)) }
     ensures links { IfOk result (λ r. HaveLawfulLinks r.items) }
-    ensures first { IfOk result (λ r. first_slice_of (draft_views r.items) ≡ first_slice_of (draft_views places.items)) }
+    ensures first { IfOk result (λ r.
+        first_slice_of (draft_views r.items) ≡ first_slice_of (draft_views places.items)) }
     ensures some { IfOk result (λ r. 1 ≤ length r.items) }
     ensures more { IfOk result (λ r. length r.items ≤ length places.items + 1) }
 {
@@ -278,12 +283,15 @@ fn meet(
     requires some { (1 ≤ length left.items) × (1 ≤ length right.items) }
     requires links { HaveLawfulLinks left.items × HaveLawfulLinks right.items }
     requires below { AllKeysBelow (walk (draft_views left.items)) (walk (draft_views right.items)) }
-    ensures pairs { IfOk result (λ r. walk (draft_views r.0.items ++ draft_views r.1.items) ≡ walk (draft_views left.items) ++ walk (draft_views right.items)) }
+    ensures pairs { IfOk result (λ r.
+        walk (draft_views r.0.items ++ draft_views r.1.items)
+        ≡ walk (draft_views left.items) ++ walk (draft_views right.items)) }
     ensures lawful { IfOk result (λ r. IsLayer (draft_views r.0.items ++ draft_views r.1.items)) }
     ensures links { IfOk result (λ r. HaveLawfulLinks (r.0.items ++ r.1.items)) }
     ensures same { IfOk result (λ r. length r.0.items ≡ length left.items) }
     ensures fewer { IfOk result (λ r. length r.1.items ≤ length right.items) }
-    ensures slices { IfOk result (λ r. SameEnds (draft_views left.items) (draft_views right.items) (draft_views r.0.items ++ draft_views r.1.items)) }
+    ensures slices { IfOk result (λ r.
+        SameEnds (draft_views left.items) (draft_views right.items) (draft_views r.0.items ++ draft_views r.1.items)) }
 {
     let mut places = left;
     let mut rest = right;
@@ -316,7 +324,8 @@ fn push_around(
     requires lawful { IsLayer (draft_views places.items) }
     requires before { IsBorder (draft_views (take seam places.items)) }
     requires from { IsBorder (draft_views (drop seam places.items)) }
-    requires met { last_slice_of (draft_views (take seam places.items)) ≡ first_slice_of (draft_views (drop seam places.items)) }
+    requires met { last_slice_of (draft_views (take seam places.items))
+        ≡ first_slice_of (draft_views (drop seam places.items)) }
     ensures { OnOk result (PutOpen places.items borders.old.items borders.new.items) }
 {
     let mut places = places;
@@ -395,7 +404,8 @@ impl Layer {
     fn below(alloc: Global, place: DraftPlace) -> Result<Layer, Memory>
         requires lawful { IsPlace (draft_view place) }
         requires long { length_at (draft_view place) ≡ 9 }
-        ensures pairs { IfOk result (λ l. put_before (slice_bytes place.slice) (layer_walk l) ≡ pairs_at (draft_view place)) }
+        ensures pairs { IfOk result (λ l.
+            put_before (slice_bytes place.slice) (layer_walk l) ≡ pairs_at (draft_view place)) }
         ensures some { IfOk result (λ l. 0 < length (layer_walk l)) }
         ensures no_empty_key { IfOk result (λ l. HasNoEmptyKey (layer_walk l)) }
     {

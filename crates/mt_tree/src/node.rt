@@ -1,5 +1,6 @@
 //! The nodes of a finished tree.
-ghost use Rattle.std.specs.Prelude.{◌≡◌, ◌≢◌, ◌↔◌, ℕ, ◌+◌, ◌*◌, ◌<◌, ◌≤◌, min, length, slice_index, slice_index_or, IsTrue, IfSome, IfNone, All};
+ghost use Rattle.std.specs.Prelude.{◌≡◌, ◌≢◌, ◌↔◌, ℕ, ◌+◌, ◌*◌, ◌<◌, ◌≤◌, min};
+ghost use Rattle.std.specs.Prelude.{length, slice_index, slice_index_or, IsTrue, IfSome, IfNone, All};
 ghost use Rattle.std.specs.List.{AllByRecursion};
 ghost use Rattle.std.specs.Option.{option_copied};
 ghost use Rattle.mt_tree.specs.Layer.{PlaceView, walk, find_key, rank_at, length_at, IsPlace};
@@ -131,7 +132,8 @@ impl Place {
 fn find_place(places: &[Place], slice: u64, len: usize) -> Option<usize>
     requires { AllByRecursion IsPlace (views places.now) }
     ensures found { IfSome result (λ at. at < length places.now) }
-    ensures here { IfSome result (λ at. (d : PlaceView) → rank_at (slice_index_or (views places.now) at d) ≡ slice * 10 + min len 9) }
+    ensures here { IfSome result (λ at. (d : PlaceView) →
+        rank_at (slice_index_or (views places.now) at d) ≡ slice * 10 + min len 9) }
     ensures absent { IfNone result (All (λ p. rank_at p ≢ slice * 10 + min len 9) (views places.now)) }
 {
     for (at, place) in places.iter().enumerate() {

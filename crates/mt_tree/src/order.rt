@@ -63,7 +63,9 @@ fn edge_of_place<'a>(place: &'a DraftPlace) -> Edge<'a>
 
 /// Returns the last place of a side as an edge, or None if the side has no pair.
 fn last_edge<'a>(side: Side<'a>) -> Option<Edge<'a>>
-    ensures { MatchOption result (side_walk side.entry ≡ []) (λ e. LastEdge (side_walk side.entry) e.slice e.length (side_walk e.below)) }
+    ensures { MatchOption result
+        (side_walk side.entry ≡ [])
+        (λ edge. LastEdge (side_walk side.entry) edge.slice edge.length (side_walk edge.below)) }
 {
     match side {
         Side::Lone(key, columns) => Some(edge_of_pair(key, columns)),
@@ -73,7 +75,9 @@ fn last_edge<'a>(side: Side<'a>) -> Option<Edge<'a>>
 
 /// Returns the first place of a side as an edge, or None if the side has no pair.
 fn first_edge<'a>(side: Side<'a>) -> Option<Edge<'a>>
-    ensures { MatchOption result (side_walk side.entry ≡ []) (λ e. FirstEdge (side_walk side.entry) e.slice e.length (side_walk e.below)) }
+    ensures { MatchOption result
+        (side_walk side.entry ≡ [])
+        (λ edge. FirstEdge (side_walk side.entry) edge.slice edge.length (side_walk edge.below)) }
 {
     match side {
         Side::Lone(key, columns) => Some(edge_of_pair(key, columns)),

@@ -19,7 +19,9 @@ pub(crate) struct Collecting {
 impl Collecting {
     /// Returns whether there are as many hits as wanted.
     fn is_full(&self) -> bool
-        ensures { MatchBool result (self.now.count ≤ length self.now.hits.items) (length self.now.hits.items < self.now.count) }
+        ensures { MatchBool result
+            (self.now.count ≤ length self.now.hits.items)
+            (length self.now.hits.items < self.now.count) }
     {
         self.hits.len() >= self.count
     }

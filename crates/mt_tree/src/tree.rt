@@ -1,5 +1,6 @@
 //! Drafts, and the trees that they are finished into.
-ghost use Rattle.std.specs.Prelude.{ℕ, ◌≡◌, ◌↔◌, ◌++◌, ◌∷◌, [], ◌<◌, List, min, ◌^◌, ◌-◌, Contains, MatchOption, IfOk, OnOk, OnErr, IsTrue};
+ghost use Rattle.std.specs.Prelude.{ℕ, ◌≡◌, ◌↔◌, ◌++◌, ◌∷◌, [], ◌<◌, List, min, ◌^◌, ◌-◌};
+ghost use Rattle.std.specs.Prelude.{Contains, MatchOption, IfOk, OnOk, OnErr, IsTrue};
 ghost use Rattle.mt_tree.specs.Layer.{AllKeysBelow};
 ghost use Rattle.mt_words.specs.Limits.{widest};
 ghost use Rattle.mt_words.specs.Walks.{KeysRise};
@@ -41,7 +42,8 @@ impl Model for Draft {
 
     ghost use Rattle.mt_tree.specs.Trees.{IsCount};
 
-    ghost invariant = { λ d. AreBorders d.layer × FitsAfter 0 (layer_walk d.layer) × IsCount (layer_walk d.layer) d.count };
+    ghost invariant = { λ d.
+        AreBorders d.layer × FitsAfter 0 (layer_walk d.layer) × IsCount (layer_walk d.layer) d.count };
 }
 
 /// A finished layered tree: its nodes, with what they hold.

@@ -65,7 +65,8 @@ fn show<T, V: Visitor<T>>(
 ) -> Result<(), V::Error>
     requires { length prefix.old.items + length tail.now ≤ widest.key }
     ensures prefix { OnOk result (prefix.new.items ≡ prefix.old.items) }
-    ensures shown { OnOk result (V.shown target.old target.new (put_before prefix.old.items ((tail.now, columns.now) ∷ []))) }
+    ensures shown { OnOk result (V.shown target.old target.new
+        (put_before prefix.old.items ((tail.now, columns.now) ∷ []))) }
 {
     let before = prefix.len();
     extend(prefix, tail);
