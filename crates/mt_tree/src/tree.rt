@@ -203,8 +203,8 @@ impl Tree {
         Ok(target.hits)
     }
 
-    /// Shows all pairs to the visitor in key order, without allocating. Err: the visitor's first error; no further pair
-    /// is shown.
+    /// Shows all pairs to the visitor in key order, without allocating. The walk ends once the target is full. Err: the
+    /// visitor's first error; no further pair is shown.
     pub fn visit<T, V: Visitor<T>>(&self, visitor: &V, target: &mut T) -> Result<(), V::Error>
         ensures { OnOk result (V.shown target.old target.new (tree_walk self.now)) }
     {
