@@ -1,6 +1,6 @@
 //! The program that prints the store of log files.
-ghost use Rattle.std.specs.Prelude.{◌≡◌, ◌≢◌, ◌≤◌, ◌<◌, ◌↔◌, [], length, IfOk, OnOk, vec_len};
-ghost use Rattle.std.specs.Io.KnownBytes.{Appends};
+ghost use Rattle.std.specs.Prelude.{◌≡◌, ◌≢◌, ◌≤◌, ◌<◌, ◌↔◌, ◌⊎◌, [], length, IfOk, IfErr, OnOk, vec_len};
+ghost use Rattle.std.specs.Io.KnownBytes.{Appends, Keeps};
 ghost use Rattle.mt_recover.specs.Dump.{dump_text, IsStoreOfSome, IsPrinted, status_of};
 
 use crate::dump::write_dump;
@@ -48,8 +48,8 @@ impl<'a> From<Fault> for Failure<'a> {
 /// all files before it recovers any.
 ///
 /// Returns the exit status: 0 if the store was printed; 1 for a fault of the logs or out of memory; 2 if no name is
-/// given; 3 if a file cannot be opened, for too many names and for a write error. `out` may have been written to even
-/// if the status is not 0.
+/// given; 3 if a file cannot be opened, for too many names and for a write error. Nothing is written to `out` if the
+/// status is 1 or 2.
 pub fn dump_files<R: Files + AllocGlobal, O: Write, E: Write>(
     rt: &R,
     names: &[String],
@@ -58,6 +58,7 @@ pub fn dump_files<R: Files + AllocGlobal, O: Write, E: Write>(
 ) -> u8
     ensures printed { result ≡ 0 →
         IsPrinted (length names.now) (O.contents out.old) (O.contents out.new) }
+    ensures kept { (result ≡ 1) ⊎ (result ≡ 2) → Keeps (O.contents out.old) (O.contents out.new) }
     ensures no_files { result ≡ 2 ↔ (names.now ≡ []) }
     ensures too_many { 512 < length names.now → result ≡ 3 }
     ensures range { result ≤ 3 }
@@ -80,6 +81,8 @@ fn dump<'a, R: Files + AllocGlobal, O: Write>(
 ) -> Result<(), Failure<'a>>
     ensures printed { OnOk result
         (IsPrinted (length names.now) (O.contents out.old) (O.contents out.new)) }
+    ensures kept { IfErr result (λ failure. failure ≢ Failure.Output →
+        Keeps (O.contents out.old) (O.contents out.new)) }
     ensures no_files { (result ≡ Err Failure.NoFiles) ↔ (names.now ≡ []) }
     ensures too_many { 512 < length names.now → result ≡ Err Failure.TooManyFiles }
 {
@@ -117,7 +120,7 @@ fn recover_bytes(alloc: Global, files: &[Vec<u8>]) -> Result<Recovered, Fault>
 fn print<'a, O: Write>(store: &Store, out: &mut O) -> Result<(), Failure<'a>>
     ensures printed { OnOk result
         (Appends (O.contents out.old) (O.contents out.new) (dump_text store.now)) }
-    ensures files { result ≢ Err Failure.NoFiles }
+    ensures output { IfErr result (λ failure. failure ≡ Failure.Output) }
 {
     let Ok(()) = write_dump(store, out) else {
         return Err(Failure::Output);

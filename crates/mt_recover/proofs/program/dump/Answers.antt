@@ -11,4 +11,4 @@ returns-clause-printed g c = IfOk-weaker c.print.result _ _ (λ _ appended. reco
 }) c.print.ensures.printed
 
 pub returns-clause-no_files : goal.returns-clause-no_files
-returns-clause-no_files g c = (λ same. absurd (c.print.ensures.files same), search rules)
+returns-clause-no_files g c = (λ same. let output = rw same at c.print.ensures.output in absurd (cc), search rules)
