@@ -1,15 +1,21 @@
 -- From what is found to what is prepared, and from that to what is recovered.
-use Rattle.std.proofs.Common.{◌≡◌, ◌∙◌, ◌^◌, ℕ, ◌<◌, ◌≤◌, Bool, false, List, ◌++◌, length, Contains, IsPermutation, sym, ap, subst, arith}
-use Rattle.std.specs.Prelude.{filter, nat_lt}
+use Rattle.std.proofs.Common.{◌≡◌, ◌∙◌, ◌^◌, ℕ, ◌<◌, ◌≤◌, false, List, ◌++◌, length, map, Contains, IsPermutation, Option, Ok, sym, ap, subst, arith}
+use Rattle.std.specs.Global.{Global}
+use Rattle.std.specs.Prelude.{filter, nat_lt, IfOk, Result, Vec}
 use Rattle.std.proofs.lemmas.Bool.Decides.{nat_tests}
 use Rattle.std.specs.List.{AllZip}
 use Rattle.std.specs.Option.{option_map}
 use Rattle.std.proofs.lemmas.List.Sorted.{IsPermutation-sym, Contains-permutation, length_permutation}
+use Rattle.mt_words.specs.declared.fault.Memory.{Memory}
 use Rattle.mt_words.specs.declared.update.Update.{Update}
 use Rattle.mt_words.specs.Walks.{Pair, joined}
+use Rattle.mt_scan.specs.declared.checkpoint.Checkpoint.{Checkpoint}
+use Rattle.mt_scan.specs.declared.log_scan.LogScan.{LogScan}
+use Rattle.mt_scan.specs.Checkpoints.{entries_of}
 use Rattle.mt_scan.specs.Choice.{checkpoint_in}
+use Rattle.mt_scan.specs.PartScans.{KeptPart, shown_by_all}
 use Rattle.mt_replay.specs.declared.window.Window.{Window}
-use Rattle.mt_replay.specs.Survivors.{in_window, is_within}
+use Rattle.mt_replay.specs.Survivors.{in_window, is_within, wholes}
 use Rattle.mt_replay.specs.Walk.{AreApart, IsWalk}
 use Rattle.mt_replay.proofs.StepLemmas.{same_column}
 use Rattle.mt_tree.specs.Trees.{IsCount}
@@ -18,12 +24,12 @@ use Rattle.mt_recover.specs.declared.report.Counts.{Counts}
 use Rattle.mt_recover.specs.declared.survivors.LogSurvivors.{LogSurvivors}
 use Rattle.mt_recover.specs.Found.{IsFoundOf}
 use Rattle.mt_recover.specs.LogScans.{kept, kept_in}
-use Rattle.mt_recover.specs.Prepared.{PreparedView, IsPreparedOf, IsMadeOf, AreCountsOf, HasRoomFor, IsLeftBy, cells_of, early_of}
+use Rattle.mt_recover.specs.Prepared.{PreparedView, IsPreparedOf, IsMadeOf, AreCountsOf, HasRoomFor, IsLeftBy, AreLeftBy, cells_of, early_of}
 use Rattle.mt_recover.specs.Recovery.{records_of}
 use Rattle.mt_recover.specs.Report.{Outcome, IsRecoveredOf, IsReportOf, is_early, logged_updates}
 use Rattle.mt_recover.specs.Survivors.{entry_updates}
 use Rattle.mt_recover.proofs.CountLemmas.{begins_below, survivors_in, early_in, room_for, report_is, walk_few}
-use Rattle.mt_recover.proofs.ReplayLemmas.{cells_of_both, early_of_both}
+use Rattle.mt_recover.proofs.ReplayLemmas.{all_answered, cells_of_both, cells_of_all_parts, early_of_both}
 use Rattle.mt_recover.proofs.ReportLemmas.{same_updates}
 use Rattle.mt_recover.proofs.SurvivorLemmas.{survivors_apart}
 
@@ -70,16 +76,36 @@ walk_moved updates moved pairs same is =
 
 -- ---- what is prepared
 
-module _ (logs parts : List (List ℕ)) (found : Found) (is : IsFoundOf logs parts found) (of_logs : List LogSurvivors) (of_parts : List (List Update))
-    (left : AllZip (IsLeftBy found.window) found.scans.items of_logs) (entries : IsPermutation (entry_updates (option_map checkpoint_in found.choice.chosen)) (joined of_parts)) where
+-- what the scans and the parts left, if those are the scans and the chosen checkpoint of what was found
+pub are_left : (found : Found) (counts : Counts) (scans : Vec LogScan Global) (chosen : Option Checkpoint) (texts : List KeptPart) (logs : List (Result LogSurvivors Memory)) (parts : List (Result (List Update) Memory))
+    → ((ls ps : List (List ℕ)) (is : IsFoundOf ls ps found) → AreCountsOf is.facts counts) → scans ≡ found.scans → chosen ≡ found.choice.chosen → entry_updates (option_map checkpoint_in chosen) ≡ wholes (entries_of (shown_by_all texts))
+    → AllZip (λ scan left. IfOk left (IsLeftBy found.window scan)) scans.items logs → AllZip (λ text left. IfOk left (IsPermutation (wholes text.entries))) texts parts → AreLeftBy found counts logs parts
+are_left found counts scans chosen texts logs parts counted same_scans same_chosen texts_are of_logs of_parts = record {
+  counts_are = counted;
+  logs_are = subst (λ (scans : Vec LogScan Global). AllZip (λ scan (left : Result LogSurvivors Memory). IfOk left (IsLeftBy found.window scan)) scans.items logs) same_scans of_logs;
+  texts = texts;
+  chosen = ap (λ (o : Option Checkpoint). entry_updates (option_map checkpoint_in o)) (sym same_chosen) ∙ texts_are;
+  parts_are = of_parts;
+}
+
+module _ (ls ps : List (List ℕ)) (found : Found) (is : IsFoundOf ls ps found) (counts : Counts) (logs : List (Result LogSurvivors Memory)) (parts : List (Result (List Update) Memory)) (are : AreLeftBy found counts logs parts)
+    (of_logs : List LogSurvivors) (of_parts : List (List Update)) (logs_done : logs ≡ map Ok of_logs) (parts_done : parts ≡ map Ok of_parts) where
+  left : AllZip (IsLeftBy found.window) found.scans.items of_logs
+  left = all_answered (IsLeftBy found.window) found.scans.items logs of_logs are.logs_are logs_done
+
+  entries : IsPermutation (entry_updates (option_map checkpoint_in found.choice.chosen)) (joined of_parts)
+  entries =
+      subst (λ (us : List Update). IsPermutation us (joined of_parts)) (sym are.chosen)
+      (cells_of_all_parts are.texts of_parts (all_answered (λ (text : KeptPart) (cells : List Update). IsPermutation (wholes text.entries) cells) are.texts parts of_parts are.parts_are parts_done))
+
   abbrev moved : List Update
   moved = joined (cells_of of_logs ++ of_parts)
 
   updates_are : IsPermutation (survivors_in is.facts) moved
-  updates_are = subst (λ (us : List Update). IsPermutation us moved) (same_survivors logs parts found is) (cells_of_both found.window found.scans.items of_logs _ of_parts left entries)
+  updates_are = subst (λ (us : List Update). IsPermutation us moved) (same_survivors ls ps found is) (cells_of_both found.window found.scans.items of_logs _ of_parts left entries)
 
   early_is : early_of of_logs ≡ length (early_in is.facts)
-  early_is = early_of_both found.window found.scans.items of_logs left ∙ same_early logs parts found is
+  early_is = early_of_both found.window found.scans.items of_logs left ∙ same_early ls ps found is
 
   many : length moved ≡ length (survivors_in is.facts)
   many = length_permutation (survivors_in is.facts) moved updates_are
@@ -89,16 +115,16 @@ module _ (logs parts : List (List ℕ)) (found : Found) (is : IsFoundOf logs par
   are_apart = apart_moved (survivors_in is.facts) moved updates_are (survivors_apart is.facts.known is.facts.cutoff is.facts.chosen (records_of is.facts.readings) is.facts.is_chosen)
 
   -- the counts have room for the early updates and for the cells
-  pub have_room : (counts : Counts) → AreCountsOf is.facts counts → HasRoomFor counts (early_of of_logs) (length (joined (cells_of of_logs ++ of_parts)))
-  have_room counts are = rw (early_is, many) (room_for is.facts counts are)
+  pub have_room : HasRoomFor counts (early_of of_logs) (length (joined (cells_of of_logs ++ of_parts)))
+  have_room = rw (early_is, many) (room_for is.facts counts (are.counts_are ls ps is))
 
   -- and the cells are what is prepared from the logs and parts
-  pub is_prepared : (counts : Counts) → AreCountsOf is.facts counts → IsPreparedOf logs parts (record { updates = joined (cells_of of_logs ++ of_parts); early = early_of of_logs; counts = counts })
-  is_prepared counts are = record {
+  pub is_prepared : IsPreparedOf ls ps (record { updates = joined (cells_of of_logs ++ of_parts); early = early_of of_logs; counts = counts })
+  is_prepared = record {
     facts = is.facts;
     no_gap = is.no_gap;
     updates = updates_are;
-    report = λ pairs layers count. report_is is.facts counts pairs (early_of of_logs) (length moved) layers are early_is many count;
+    report = λ pairs layers count. report_is is.facts counts pairs (early_of of_logs) (length moved) layers (are.counts_are ls ps is) early_is many count;
   }
 
 -- ---- what is recovered

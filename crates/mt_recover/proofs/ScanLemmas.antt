@@ -8,6 +8,7 @@ use Rattle.std.proofs.lemmas.List.{get_or-map, length-map, map-append}
 use Rattle.std.proofs.lemmas.List.Elements.{All-cons, All-head, All-nil, All-push, All-tail, filter_map-append}
 use Rattle.std.proofs.lemmas.Slice.Zip.{AllZip-long, all_zipped_more}
 use Rattle.mt_words.specs.declared.fault.Fault.{Fault}
+use Rattle.mt_words.specs.declared.fault.Memory.{Memory}
 use Rattle.mt_record.specs.declared.read.FeedFault.{FeedFault}
 use Rattle.mt_record.specs.declared.read.FeedFault.TheVariants as of_log
 use Rattle.mt_record.specs.LogFaults.{IsAnswered, fault_at}
@@ -28,6 +29,7 @@ use Rattle.mt_recover.specs.declared.scans.Scans.{Scans}
 use Rattle.mt_recover.specs.declared.scans.Share.{Share}
 use Rattle.mt_recover.specs.Scanning.{numbered, log_jobs, part_jobs, IsOutcome, IsScanned, IsFresh, HasScanned, AreGathered, answers_of, passes_of, log_in, logs_in, parts_in}
 use Rattle.mt_recover.specs.Sharing.{AreDealt}
+use Rattle.mt_recover.proofs.ReplayLemmas.{all_answered}
 use Rattle.mt_recover.proofs.SharingLemmas.{dealt_answers, zip_says}
 
 -- ---- numbered jobs
@@ -249,7 +251,7 @@ all_above seen limit (s ∷ ss) (x ∷ xs) small saw zip =
     )
 
 -- the answers gathered from all workers are the outcomes of logs and parts
-pub outcomes_gathered : {S : Type 0} (seen : S → Seen) (logs parts : List S) (jobs : List (ScanJob S)) (shares : List (Share S)) (all : List Scans) (board : BoardId) (outcomes : Outcomes)
+outcomes_gathered : {S : Type 0} (seen : S → Seen) (logs parts : List S) (jobs : List (ScanJob S)) (shares : List (Share S)) (all : List Scans) (board : BoardId) (outcomes : Outcomes)
     → jobs ≡ log_jobs 0 logs ++ part_jobs 0 (read_parts logs parts) → AreDealt jobs (map (λ share. share.jobs.items) shares) → All (λ share. IsFresh board share.pass) shares → board.passes ≡ length shares
     → AllZip (λ share scans. HasScanned seen share.jobs.items (answers_of scans) share.pass scans.pass) shares all → AreGathered board all outcomes → AreOutcomes (map seen logs) (map seen parts) outcomes
 outcomes_gathered seen logs parts jobs shares all board outcomes same dealt fresh many zip gathered =
@@ -261,7 +263,7 @@ outcomes_gathered seen logs parts jobs shares all board outcomes same dealt fres
     outcomes_of seen logs parts jobs answered.0 outcomes same (subst (λ (n : ℕ). AllZip (IsScanned seen n) jobs answered.0) limit answered.1) (gathered.logs answered.0 answered.2) (gathered.parts answered.0 answered.2)
 
 -- passes that were fresh are still passes of their board
-pub boards_are : {S : Type 0} (seen : S → Seen) (board : BoardId) (shares : List (Share S)) (all : List Scans) → All (λ share. IsFresh board share.pass) shares
+boards_are : {S : Type 0} (seen : S → Seen) (board : BoardId) (shares : List (Share S)) (all : List Scans) → All (λ share. IsFresh board share.pass) shares
     → AllZip (λ share scans. HasScanned seen share.jobs.items (answers_of scans) share.pass scans.pass) shares all → All (λ scans. scans.pass.board ≡ board) all
 boards_are seen board [] [] fresh zip = All-nil (λ (x : Scans). x.pass.board ≡ board)
 boards_are seen board [] (x ∷ xs) fresh zip = absurd zip
@@ -269,6 +271,24 @@ boards_are seen board (s ∷ ss) [] fresh zip = absurd zip
 boards_are {S} seen board (s ∷ ss) (x ∷ xs) fresh zip =
     let P : Share S → Type 0 = λ share. IsFresh board share.pass in
     All-cons (λ (y : Scans). y.pass.board ≡ board) x xs (zip.0.board ∙ ap (λ (p : PassView). p.board) (All-head P s ss fresh)) (boards_are seen board ss xs (All-tail P s ss fresh) zip.1)
+
+-- what workers scanned can be gathered: there are answers, all passes are of the board, and what is gathered are the outcomes of logs and parts
+pub record CanBeGathered {S : Type 0} (seen : S → Seen) (logs parts : List S) (board : BoardId) (all : List Scans) : Type 0 where
+  pub some : 0 < length all
+  pub boards : All (λ scans. scans.pass.board ≡ board) all
+  pub outcomes : (outcomes : Outcomes) → AreGathered board all outcomes → AreOutcomes (map seen logs) (map seen parts) outcomes
+
+-- the answers of workers that scanned the dealt jobs, each with a fresh pass, can be gathered
+pub all_scanned : {S : Type 0} (seen : S → Seen) (logs parts : List S) (jobs : List (ScanJob S)) (shares : List (Share S)) (answers : List (Result Scans Memory)) (all : List Scans) (opened : BoardId)
+    → jobs ≡ log_jobs 0 logs ++ part_jobs 0 (read_parts logs parts) → AreDealt jobs (map (λ share. share.jobs.items) shares) → All (λ share. IsFresh opened share.pass) shares → 0 < length shares → opened.passes ≡ length shares
+    → AllZip (λ share answer. IfOk answer (λ scans. HasScanned seen share.jobs.items (answers_of scans) share.pass scans.pass)) shares answers → answers ≡ map Ok all → (board : BoardId) → board ≡ opened → CanBeGathered seen logs parts board all
+all_scanned {S} seen logs parts jobs shares answers all opened are dealt fresh some many answered done board same =
+    let zip = all_answered (λ (share : Share S) (scans : Scans). HasScanned seen share.jobs.items (answers_of scans) share.pass scans.pass) shares answers all answered done in
+    subst (λ (b : BoardId). CanBeGathered seen logs parts b all) (sym same) (record {
+      some = omega (arith, some, AllZip-long _ shares all zip);
+      boards = boards_are seen opened shares all fresh zip;
+      outcomes = λ outcomes gathered. outcomes_gathered seen logs parts jobs shares all opened outcomes are dealt fresh many zip gathered;
+    })
 
 -- ---- logs in memory
 

@@ -1,11 +1,16 @@
 -- What is prepared before replay, and what is made of it.
-use Rattle.std.specs.Prelude.{◌≡◌, ℕ, ◌+◌, ◌-◌, ◌≤◌, List, length, filter, sum_by, IsPermutation}
-use Rattle.std.specs.List.{flat_map}
+use Rattle.std.specs.Prelude.{◌≡◌, ℕ, ◌+◌, ◌-◌, ◌≤◌, List, length, filter, sum_by, Result, IfOk, IsPermutation}
+use Rattle.std.specs.List.{AllZip, flat_map}
+use Rattle.std.specs.Option.{option_map}
+use Rattle.mt_words.specs.declared.fault.Memory.{Memory}
 use Rattle.mt_words.specs.declared.update.Update.{Update}
 use Rattle.mt_words.specs.Walks.{Pair, joined}
 use Rattle.mt_scan.specs.declared.log_scan.LogScan.{LogScan}
+use Rattle.mt_scan.specs.Checkpoints.{entries_of}
+use Rattle.mt_scan.specs.Choice.{checkpoint_in}
+use Rattle.mt_scan.specs.PartScans.{KeptPart, shown_by_all}
 use Rattle.mt_replay.specs.declared.window.Window.{Window}
-use Rattle.mt_replay.specs.Survivors.{in_window}
+use Rattle.mt_replay.specs.Survivors.{in_window, wholes}
 use Rattle.mt_replay.specs.Walk.{IsWalk}
 use Rattle.mt_tree.specs.Layers.{CountsLayers}
 use Rattle.mt_recover.specs.declared.report.Counts.{Counts}
@@ -15,7 +20,7 @@ use Rattle.mt_recover.specs.Found.{IsFoundOf}
 use Rattle.mt_recover.specs.LogScans.{kept_by}
 use Rattle.mt_recover.specs.Recovery.{Facts, IsGap, records_of}
 use Rattle.mt_recover.specs.Report.{IsFoundIn, IsReportOf, Outcome, is_early}
-use Rattle.mt_recover.specs.Survivors.{begin_of, survivors}
+use Rattle.mt_recover.specs.Survivors.{begin_of, survivors, entry_updates}
 use Rattle.mt_recover.specs.declared.found.Found.{Found}
 
 -- the report of these counts and these numbers of early updates, survivors, keys and layers; updates neither early nor surviving are late
@@ -82,6 +87,15 @@ IsFound found = (logs parts : List (List ℕ)) × IsFoundOf logs parts found
 pub record IsLeftBy (window : Window) (scan : LogScan) (log : LogSurvivors) : Type 0 where
   pub early : log.early ≡ length (filter (is_early window.begin) (kept_by scan))
   pub cells : IsPermutation (filter (in_window window) (kept_by scan)) (joined log.cells.items)
+
+-- What the logs and parts of what was found left, and its counts: for each scan what is left of it, and for each part of the chosen checkpoint its
+-- updates. Any of them may be out of memory instead.
+pub record AreLeftBy (found : Found) (counts : Counts) (logs : List (Result LogSurvivors Memory)) (parts : List (Result (List Update) Memory)) : Type 0 where
+  pub counts_are : (ls ps : List (List ℕ)) (is : IsFoundOf ls ps found) → AreCountsOf is.facts counts
+  pub logs_are : AllZip (λ scan left. IfOk left (IsLeftBy found.window scan)) found.scans.items logs
+  pub texts : List KeptPart
+  pub chosen : entry_updates (option_map checkpoint_in found.choice.chosen) ≡ wholes (entries_of (shown_by_all texts))
+  pub parts_are : AllZip (λ text left. IfOk left (IsPermutation (wholes text.entries))) texts parts
 
 -- the cells of all logs
 abbrev pub cells_of : List LogSurvivors → List (List Update)

@@ -1,16 +1,16 @@
 //! The survivors and the counts that are prepared before replay.
-ghost use Rattle.std.specs.Prelude.{◌≡◌, ◌++◌, ◌<◌, ◌+◌, List, ℕ, length, IfOk, IsPermutation};
+ghost use Rattle.std.specs.Prelude.{◌≡◌, ◌<◌, ◌+◌, List, ℕ, length, IfOk, IsPermutation};
 ghost use Rattle.std.specs.Option.{option_map};
-ghost use Rattle.mt_words.specs.Walks.{joined};
 ghost use Rattle.mt_scan.specs.Checkpoints.{entries_of};
 ghost use Rattle.mt_scan.specs.Choice.{checkpoint_in};
 ghost use Rattle.mt_scan.specs.PartScans.{shown_by_all};
 ghost use Rattle.mt_replay.specs.Pieces.{IsPiece};
 ghost use Rattle.mt_replay.specs.Survivors.{wholes};
-ghost use Rattle.mt_replay.specs.Walk.{AreApart, IsWalk};
+ghost use Rattle.mt_replay.specs.Walk.{IsWalk};
 ghost use Rattle.mt_tree.specs.Borders.{layer_walk};
+ghost use Rattle.mt_recover.specs.declared.found.Found.{Found as FoundValue};
 ghost use Rattle.mt_recover.specs.Found.{IsFoundOf};
-ghost use Rattle.mt_recover.specs.Prepared.{HasRoomFor, IsFound, IsLeftBy, IsMadeOf, IsPreparedOf, cells_of, early_of};
+ghost use Rattle.mt_recover.specs.Prepared.{AreLeftBy, IsFound, IsLeftBy, IsMadeOf, IsPreparedOf};
 ghost use Rattle.mt_recover.specs.Survivors.{entry_updates};
 
 use crate::Workers;
@@ -74,12 +74,7 @@ impl Prepared {
                 ensures { IfOk result (IsPermutation (wholes part.entries)) }
             { LogCells::of_entries(alloc, part.entries) },
         )?;
-        Prepared::of(
-            alloc,
-            counts,
-            all_done(alloc, logs)?,
-            all_done(alloc, parts)?,
-        )
+        Prepared::of(alloc, counts, logs, parts)
     }
 
     /// Does the same as `on_one_thread`, but with these workers.
@@ -112,27 +107,22 @@ impl Prepared {
                 ensures { IfOk result (IsPermutation (wholes part.entries)) }
             { LogCells::of_entries(alloc, part.entries) },
         )?;
-        Prepared::of(
-            alloc,
-            counts,
-            all_done(alloc, logs)?,
-            all_done(alloc, parts)?,
-        )
+        Prepared::of(alloc, counts, logs, parts)
     }
 
-    /// Puts together the survivors of the logs and of the parts, with the counts.
+    /// Puts together what the logs and the parts left, with the counts. Err: out of memory.
     fn of(
         alloc: Global,
         counts: Counts,
-        logs: Vec<LogSurvivors>,
-        parts: Vec<LogCells>,
+        logs: Vec<Result<LogSurvivors, Memory>>,
+        parts: Vec<Result<LogCells, Memory>>,
     ) -> Result<Prepared, Memory>
-        requires apart { AreApart (joined (cells_of logs.items ++ parts.items)) }
-        requires room { HasRoomFor counts (early_of logs.items) (length (joined (cells_of logs.items ++ parts.items))) }
-        ensures { IfOk result (λ prepared. prepared ≡ record { updates = joined (cells_of logs.items ++ parts.items); early = early_of logs.items; counts = counts }) }
+        requires { (found : FoundValue) × IsFound found × AreLeftBy found counts logs.items parts.items }
+        ensures { (ls ps : List (List ℕ)) (found : FoundValue) → IsFoundOf ls ps found → AreLeftBy found counts logs.items parts.items → IfOk result (IsPreparedOf ls ps) }
     {
+        let logs = all_done(alloc, logs)?;
+        let mut parts = all_done(alloc, parts)?;
         let early = total(&logs, |log| log.early);
-        let mut parts = parts;
         let mut lists = Vec::with_capacity(alloc, logs.len())?;
         for log in logs {
             let mut cells = log.cells;

@@ -1,4 +1,3 @@
-use Rattle.std.proofs.Common.{rules}
 use Rattle.mt_recover.proofs.ScanLemmas.{log_scanned}
 use Rattle.mt_recover.proofs.scans.scan.Goals as goal
 

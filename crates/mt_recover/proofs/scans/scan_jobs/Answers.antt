@@ -1,5 +1,4 @@
-use Rattle.std.proofs.Common.{append_assoc, ap, arith}
-use Rattle.mt_board.specs.Board.{PassView}
+use Rattle.std.proofs.Common.{append_assoc}
 use Rattle.mt_recover.proofs.ScanLemmas.{scanned_next}
 use Rattle.mt_recover.proofs.scans.scan_jobs.Goals as goal
 

@@ -1,4 +1,4 @@
-use Rattle.std.proofs.Common.{map, ap, sym, subst, length, arith}
+use Rattle.std.proofs.Common.{ap, sym, subst, length, arith}
 use Rattle.mt_recover.specs.Sharing.{AreDealt}
 use Rattle.mt_recover.proofs.ScanLemmas.{in_two_steps, shares_fresh}
 use Rattle.mt_recover.proofs.Works.{length-fresh}
