@@ -1,6 +1,7 @@
 //! The arguments that the program takes.
 use clap::builder::ValueParser;
 use clap::{Arg, Command, arg};
+use mt_recover::{MOST_PIECES, MOST_WORKERS};
 use std::alloc::{AllocError, Global};
 
 /// Returns the grammar of the arguments that the program takes. Err: out of memory.
@@ -99,16 +100,27 @@ fn count<'a>(alloc: Global) -> Arg<'a> {
     ))
 }
 
+/// The number of workers if the option is not given.
+const DEFAULT_WORKERS: &str = "4";
+
+/// The number of pieces if the option is not given.
+const DEFAULT_PIECES: &str = "16";
+
+// The help of the two options names these limits.
+const _: () = prove!(MOST_WORKERS == 64);
+
+const _: () = prove!(MOST_PIECES == 4096);
+
 /// Returns the option that gives the number of workers.
 fn workers<'a>(alloc: Global) -> Arg<'a> {
     arg!(in alloc; --workers <N> "Number of threads: 1 to 64")
-        .value_parser(ValueParser::unsigned(1, 64))
-        .default_value("4")
+        .value_parser(ValueParser::unsigned(1, u64::from(MOST_WORKERS)))
+        .default_value(DEFAULT_WORKERS)
 }
 
 /// Returns the option that gives the number of pieces.
 fn pieces<'a>(alloc: Global) -> Arg<'a> {
     arg!(in alloc; --pieces <P> "Cut the keys into at most this many ranges, which threads replay: 1 to 4096")
-        .value_parser(ValueParser::unsigned(1, 4096))
-        .default_value("16")
+        .value_parser(ValueParser::unsigned(1, u64::from(MOST_PIECES)))
+        .default_value(DEFAULT_PIECES)
 }

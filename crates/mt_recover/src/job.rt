@@ -11,9 +11,9 @@ use crate::found::{Found, find};
 use crate::prepared::Prepared;
 use crate::recovery::Inputs;
 use crate::scans::scan_all;
-use crate::workers::{Cutting, Workers};
-use mt_board::{Board, Pass};
-use mt_replay::{Cuts, LogCells};
+use crate::workers::{Cutting, MOST_WORKERS, Workers};
+use mt_board::{Board, MOST_NUMBERS, MOST_PASSES, Pass};
+use mt_replay::{Cuts, LogCells, MOST_PIECES};
 use mt_scan::Source;
 use mt_words::{Fault, Memory};
 use std::alloc::Global;
@@ -63,6 +63,11 @@ pub fn prepare<R: Threads + Sync, S: Source + Send>(
     let found = find(alloc, outcomes)?;
     Ok(open(rt, alloc, found, workers, cutting)?)
 }
+
+// The board of a job has a number for each piece and a pass for each worker.
+const _: () = prove!(MOST_PIECES == MOST_NUMBERS);
+
+const _: () = prove!(MOST_WORKERS == MOST_PASSES);
 
 /// Prepares the job of what was found, and its passes.
 fn open<R: Threads + Sync>(

@@ -1,6 +1,7 @@
 //! The program that prints the store of log files.
 ghost use Rattle.std.specs.Prelude.{◌≡◌, ◌≢◌, ◌≤◌, ◌<◌, ◌↔◌, ◌⊎◌, [], length, IfOk, IfErr, OnOk, vec_len};
 ghost use Rattle.std.specs.Io.KnownBytes.{Appends, Keeps};
+ghost use Rattle.mt_recover.specs.declared.program.TheConstants.{MOST_FILES};
 ghost use Rattle.mt_recover.specs.Dump.{dump_text, IsStoreOfSome, IsPrinted, status_of};
 
 use crate::dump::write_dump;
@@ -60,7 +61,7 @@ pub fn dump_files<R: Files + AllocGlobal, O: Write, E: Write>(
         IsPrinted (length names.now) (O.contents out.old) (O.contents out.new) }
     ensures kept { (result ≡ 1) ⊎ (result ≡ 2) → Keeps (O.contents out.old) (O.contents out.new) }
     ensures no_files { result ≡ 2 ↔ (names.now ≡ []) }
-    ensures too_many { 512 < length names.now → result ≡ 3 }
+    ensures too_many { MOST_FILES < length names.now → result ≡ 3 }
     ensures range { result ≤ 3 }
 {
     match dump(rt, names, out) {
@@ -84,7 +85,7 @@ fn dump<'a, R: Files + AllocGlobal, O: Write>(
     ensures kept { IfErr result (λ failure. failure ≢ Failure.Output →
         Keeps (O.contents out.old) (O.contents out.new)) }
     ensures no_files { (result ≡ Err Failure.NoFiles) ↔ (names.now ≡ []) }
-    ensures too_many { 512 < length names.now → result ≡ Err Failure.TooManyFiles }
+    ensures too_many { MOST_FILES < length names.now → result ≡ Err Failure.TooManyFiles }
 {
     if names.is_empty() {
         return Err(Failure::NoFiles);

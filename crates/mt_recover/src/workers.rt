@@ -1,13 +1,14 @@
 //! The number of threads, the way in which keys are cut for them, and the gate where they can be held.
 ghost use Rattle.std.specs.Prelude.{◌≡◌, ◌≤◌, ◌<◌, ◌↔◌, IsSome, IfSome};
+ghost use Rattle.mt_recover.specs.declared.workers.TheConstants.{MOST_WORKERS};
 
 use mt_replay::{Cuts, Pieces};
 use std::marker::Model;
 
 /// The most workers.
-const MOST_WORKERS: u32 = 64;
+pub const MOST_WORKERS: u32 = 64;
 
-/// The number of threads that may work: 1 to 64.
+/// The number of threads that may work: 1 to `MOST_WORKERS`.
 #[derive(Clone, Copy, Debug)]
 pub struct Workers {
     count: u32,
@@ -15,6 +16,7 @@ pub struct Workers {
 
 impl Model for Workers {
     ghost use Rattle.std.specs.Prelude.{ℕ, ◌<◌, ◌≤◌};
+    ghost use Rattle.mt_recover.specs.declared.workers.TheConstants.{MOST_WORKERS};
 
     ghost Value = { ℕ };
 
@@ -22,13 +24,13 @@ impl Model for Workers {
 
     ghost inverse = { λ n. record { count = n } };
 
-    ghost invariant = { λ w. (0 < w.count) × (w.count ≤ 64) };
+    ghost invariant = { λ w. (0 < w.count) × (w.count ≤ MOST_WORKERS) };
 }
 
 impl Workers {
-    /// Returns `count` workers. None if `count` is 0 or more than 64.
+    /// Returns `count` workers. None if `count` is 0 or more than `MOST_WORKERS`.
     pub fn new(count: u32) -> Option<Workers>
-        ensures accepted { IsSome result ↔ (0 < count) × (count ≤ 64) }
+        ensures accepted { IsSome result ↔ (0 < count) × (count ≤ MOST_WORKERS) }
         ensures value { IfSome result (λ workers. workers ≡ count) }
     {
         if count == 0 || count > MOST_WORKERS {
