@@ -1,10 +1,10 @@
 //! Answers a query on the recovered store.
 ghost use Rattle.std.specs.Prelude.{◌≤◌};
 
-use crate::failure::Failure;
+use crate::failure::tell;
 use crate::request::{Command, Query};
 use mt_recover::{
-    Cutting, Inputs, NoGate, Recovered, Store, Wanted, recover, write_dump, write_pair,
+    Cutting, Failure, Inputs, NoGate, Recovered, Store, Wanted, recover, write_dump, write_pair,
 };
 use mt_scan::Source;
 use mt_words::Key;
@@ -28,7 +28,7 @@ pub fn answer<R: AllocGlobal + Threads + Sync, S: Source + Send, O: Write, E: Wr
 {
     match recover_and_print(rt, command, inputs, out) {
         Ok(()) => 0,
-        Err(failure) => failure.tell(err),
+        Err(failure) => tell(&failure, err),
     }
 }
 

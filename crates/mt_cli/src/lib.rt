@@ -3,8 +3,8 @@
 //! `run` is the whole program. It reads the arguments into a `Command`, which has a `Query`; lists the `Names` of the
 //! logs and parts in the folder; opens these as sources; then `answer` recovers the store and prints the answer.
 //!
-//! Begin with `running.rt`, which has these steps in order. `failure.rt` has the text and the exit status of each
-//! failure.
+//! Begin with `running.rt`, which has these steps in order. `failure.rt` of `mt_recover` has the text and the exit
+//! status of each failure.
 #![tactic(auto)]
 
 mod answering;

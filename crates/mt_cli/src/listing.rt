@@ -1,9 +1,9 @@
 //! Lists the files of a folder.
 ghost use Rattle.std.specs.Prelude.{◌≤◌, IfErr};
 
-use crate::failure::{Failure, or_tell};
+use crate::failure::or_tell;
 use crate::file_names::Names;
-use mt_recover::MOST_FILES;
+use mt_recover::{Failure, MOST_FILES};
 use std::fs::{self, Files};
 use std::io::{self, Write};
 

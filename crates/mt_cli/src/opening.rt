@@ -1,6 +1,5 @@
 //! Opens files as sources.
-use crate::failure::Failure;
-use mt_recover::MOST_BYTES;
+use mt_recover::{Failure, MOST_BYTES};
 use mt_scan::{ReaderSource, Slot};
 use std::fs::{File, Files, OpenFile};
 use std::io;

@@ -2,13 +2,13 @@
 ghost use Rattle.std.specs.Prelude.{◌≤◌, IfErr, IfOk};
 
 use crate::answering::answer;
-use crate::failure::{Failure, or_tell};
+use crate::failure::{or_tell, tell};
 use crate::file_names::Names;
 use crate::listing::names;
 use crate::opening::open_all;
 use crate::request::Command;
 use crate::words::command;
-use mt_recover::Inputs;
+use mt_recover::{Failure, Inputs};
 use mt_scan::{LONGEST_BUFFER, Rack, ReaderSource, Slot};
 use std::env::{self, Env};
 use std::fs::Files;
@@ -24,7 +24,7 @@ where
 {
     match words_of_process(rt) {
         Ok(words) => run_words(rt, &words, out, err),
-        Err(error) => Failure::Words.or_memory(&error).tell(err),
+        Err(error) => tell(&Failure::Words.or_memory(&error), err),
     }
 }
 

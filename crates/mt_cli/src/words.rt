@@ -1,13 +1,13 @@
 //! Reads the arguments.
 ghost use Rattle.std.specs.Prelude.{◌≤◌, IfErr};
 
-use crate::failure::{Failure, or_tell};
+use crate::failure::{or_tell, tell};
 use crate::grammar::grammar;
 use crate::request::{Command, Query};
 use clap::ArgMatches;
 use clap::error::ErrorKind;
 use hex::FromHexError;
-use mt_recover::{Pieces, Workers};
+use mt_recover::{Failure, Pieces, Workers};
 use mt_words::{Fault, Key};
 use std::alloc::Global;
 use std::io::Write;
@@ -24,7 +24,7 @@ pub fn command<'a, R: AllocGlobal, O: Write, E: Write>(
 {
     match parse(rt.alloc(), words) {
         Ok(matches) => or_tell(read(rt.alloc(), &matches), err),
-        Err(error) => Err(tell(&error, out, err)),
+        Err(error) => Err(tell_error(&error, out, err)),
     }
 }
 
@@ -34,11 +34,11 @@ fn parse<'a>(alloc: Global, words: &'a [String]) -> Result<ArgMatches<'a>, clap:
 }
 
 /// Prints what the parser reports and returns the exit status.
-fn tell<O: Write, E: Write>(error: &clap::Error, out: &mut O, err: &mut E) -> u8
+fn tell_error<O: Write, E: Write>(error: &clap::Error, out: &mut O, err: &mut E) -> u8
     ensures { result ≤ 3 }
 {
     if error.kind() == ErrorKind::OutOfMemory {
-        return Failure::from(Fault::Memory).tell(err);
+        return tell(&Failure::from(Fault::Memory), err);
     }
     if error.use_stderr() {
         // A write error does not change the status.
@@ -46,7 +46,7 @@ fn tell<O: Write, E: Write>(error: &clap::Error, out: &mut O, err: &mut E) -> u8
         return 2;
     }
     if write!(out, "{error}").is_err() || out.flush().is_err() {
-        return Failure::Output.tell(err);
+        return tell(&Failure::Output, err);
     }
     0
 }

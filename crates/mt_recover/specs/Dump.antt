@@ -8,8 +8,8 @@ use Rattle.hex.specs.Hex.{encode_lower}
 use Rattle.std.specs.Io.KnownBytes.{Appends}
 use Rattle.mt_words.specs.Walks.{Pair}
 use Rattle.mt_recover.specs.Recovery.{IsStoreOf}
-use Rattle.mt_recover.specs.declared.program.Failure.{Failure}
-use Rattle.mt_recover.specs.declared.program.Failure.TheVariants.{NoFiles, TooManyFiles, Open, Recovery, Output}
+use Rattle.mt_recover.specs.declared.failure.Failure.{Failure}
+use Rattle.mt_recover.specs.declared.failure.Failure.TheVariants as failures
 
 -- a space, the number, an equals sign, and the bytes in lowercase hexadecimal
 abbrev pub column_text : ℕ × List ℕ → List ℕ
@@ -40,8 +40,11 @@ pub record IsPrinted (count : ℕ) (old new : Option (List ℕ)) : Type 0 where
 
 -- the exit status of a failure
 abbrev pub status_of : Failure → ℕ
-status_of NoFiles = 2
-status_of TooManyFiles = 3
-status_of (Open name) = 3
-status_of (Recovery fault) = 1
-status_of Output = 3
+status_of (failures.Recovery fault) = 1
+status_of failures.NoFiles = 2
+status_of failures.Key = 2
+status_of failures.Words = 3
+status_of (failures.List name) = 3
+status_of failures.TooManyFiles = 3
+status_of (failures.Open name) = 3
+status_of failures.Output = 3

@@ -10,6 +10,7 @@
 mod assembling;
 mod by_workers;
 mod dump;
+mod failure;
 mod found;
 mod haul;
 mod job;
@@ -27,6 +28,7 @@ mod working;
 
 pub use assembling::assemble;
 pub use dump::{write_dump, write_pair};
+pub use failure::Failure;
 pub use haul::Haul;
 pub use job::{Job, prepare};
 pub use laws::{one_report, one_verdict, one_walk};

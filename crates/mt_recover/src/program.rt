@@ -5,10 +5,11 @@ ghost use Rattle.mt_recover.specs.declared.program.TheConstants.{MOST_FILES};
 ghost use Rattle.mt_recover.specs.Dump.{dump_text, IsStoreOfSome, IsPrinted, status_of};
 
 use crate::dump::write_dump;
+use crate::failure::Failure;
 use crate::recovery::{Recovered, recover_logs};
 use crate::store::Store;
 use mt_words::{Fault, Memory};
-use std::alloc::{AllocError, Global};
+use std::alloc::Global;
 use std::fs::{File, OpenFile};
 use std::io::{self, ErrorKind, Read, Write};
 use std::rt::Files;
@@ -18,32 +19,6 @@ pub const MOST_FILES: usize = 512;
 
 /// The most bytes that a file may have.
 pub const MOST_BYTES: u64 = 1_073_741_824;
-
-/// The reason why the store was not printed.
-#[derive(Drop)]
-enum Failure<'a> {
-    /// No argument was given.
-    NoFiles,
-    /// More than `MOST_FILES` arguments were given.
-    TooManyFiles,
-    /// The file of this name cannot be opened.
-    Open(&'a str),
-    /// There is no store.
-    Recovery(Fault),
-    /// Write error on the output.
-    Output,
-}
-
-impl<'a> From<Fault> for Failure<'a> {
-    ghost use Rattle.std.specs.Prelude.{◌≡◌};
-    ghost use Rattle.mt_recover.specs.declared.program.Failure.TheVariants.{Recovery};
-
-    ghost from_gives = { λ fault failure. failure ≡ Recovery fault };
-
-    fn from(fault: Fault) -> Failure<'a> {
-        Failure::Recovery(fault)
-    }
-}
 
 /// Prints the store of the log files of these names on `out`, or a line on `err` that says why it is not printed. Reads
 /// all files before it recovers any.
@@ -66,11 +41,7 @@ pub fn dump_files<R: Files + AllocGlobal, O: Write, E: Write>(
 {
     match dump(rt, names, out) {
         Ok(()) => 0,
-        Err(failure) => {
-            // A write error does not change the status.
-            let _ = write_failure(&failure, err);
-            status(&failure)
-        }
+        Err(failure) => failure.tell("mtdump", err),
     }
 }
 
@@ -84,7 +55,8 @@ fn dump<'a, R: Files + AllocGlobal, O: Write>(
         (IsPrinted (length names.now) (O.contents out.old) (O.contents out.new)) }
     ensures kept { IfErr result (λ failure. failure ≢ Failure.Output →
         Keeps (O.contents out.old) (O.contents out.new)) }
-    ensures no_files { (result ≡ Err Failure.NoFiles) ↔ (names.now ≡ []) }
+    ensures no_files { names.now ≡ [] → result ≡ Err Failure.NoFiles }
+    ensures files { IfErr result (λ failure. status_of failure ≡ 2 → names.now ≡ []) }
     ensures too_many { MOST_FILES < length names.now → result ≡ Err Failure.TooManyFiles }
 {
     if names.is_empty() {
@@ -103,7 +75,7 @@ fn recover_files<'a, R: Files + AllocGlobal>(
     names: &'a [String],
 ) -> Result<Recovered, Failure<'a>>
     ensures store { IfOk result (λ recovered. IsStoreOfSome (length names.now) recovered.store) }
-    ensures files { result ≢ Err Failure.NoFiles }
+    ensures files { IfErr result (λ failure. status_of failure ≢ 2) }
 {
     let files = read_files(rt, names)?;
     Ok(recover_bytes(rt.alloc(), &files)?)
@@ -123,13 +95,8 @@ fn print<'a, O: Write>(store: &Store, out: &mut O) -> Result<(), Failure<'a>>
         (Appends (O.contents out.old) (O.contents out.new) (dump_text store.now)) }
     ensures output { IfErr result (λ failure. failure ≡ Failure.Output) }
 {
-    let Ok(()) = write_dump(store, out) else {
-        return Err(Failure::Output);
-    };
-    let Ok(()) = out.flush() else {
-        return Err(Failure::Output);
-    };
-    Ok(())
+    write_dump(store, out)?;
+    Ok(out.flush()?)
 }
 
 /// Reads all files. Reads each file before it opens the next.
@@ -138,86 +105,45 @@ fn read_files<'a, R: Files + AllocGlobal>(
     names: &'a [String],
 ) -> Result<Vec<Vec<u8>>, Failure<'a>>
     ensures read { IfOk result (λ files. vec_len files ≡ length names.now) }
-    ensures files { result ≢ Err Failure.NoFiles }
+    ensures files { IfErr result (λ failure. status_of failure ≢ 2) }
 {
     let mut files = Vec::new(rt.alloc());
     for (log, name) in names.iter().enumerate() {
-        let file = match File::open(rt, name.as_str()) {
-            Ok(file) => file,
-            Err(error) => return Err(Unread::from(error).of_opening(name.as_str())),
-        };
-        let bytes = read_file(rt, file).map_err(|unread| unread.of_log(log))?;
-        files.push(bytes).map_err(Fault::from)?;
+        files.push(read_log(rt, log, name.as_str())?)?;
     }
     Ok(files)
 }
 
-/// The reason why a file was not read.
-#[derive(Drop)]
-enum Unread {
-    /// Out of memory.
-    Memory,
-    /// The file cannot be opened or read completely, or has more than `MOST_BYTES` bytes.
-    Source,
-}
-
-impl Unread {
-    /// Returns the failure for a file of this name that could not be opened.
-    fn of_opening<'a>(self, name: &'a str) -> Failure<'a>
-        ensures memory { self ≡ Unread.Memory → result ≡ Failure.Recovery Fault.Memory }
-        ensures source { self ≡ Unread.Source → result ≡ Failure.Open name.entry }
-    {
-        match self {
-            Unread::Memory => Failure::Recovery(Fault::Memory),
-            Unread::Source => Failure::Open(name),
-        }
-    }
-
-    /// Returns the fault of recovery for the log of this number.
-    fn of_log(self, log: usize) -> Fault
-        ensures memory { self ≡ Unread.Memory → result ≡ Fault.Memory }
-        ensures source { self ≡ Unread.Source → result ≡ Fault.Source log }
-    {
-        match self {
-            Unread::Memory => Fault::Memory,
-            Unread::Source => Fault::Source { log },
-        }
-    }
-}
-
-impl From<AllocError> for Unread {
-    ghost use Rattle.std.specs.Prelude.{◌≡◌};
-    ghost use Rattle.mt_recover.specs.declared.program.Unread.TheVariants.{Memory};
-
-    ghost from_gives = { λ refused unread. unread ≡ Memory };
-
-    fn from(_refused: AllocError) -> Unread {
-        Unread::Memory
-    }
-}
-
-impl From<io::Error> for Unread {
-    fn from(error: io::Error) -> Unread {
-        if error.kind() == ErrorKind::OutOfMemory {
-            Unread::Memory
-        } else {
-            Unread::Source
-        }
+/// Reads the log of this number from the file of this name.
+fn read_log<'a, R: Files + AllocGlobal>(
+    rt: &R,
+    log: usize,
+    name: &'a str,
+) -> Result<Vec<u8>, Failure<'a>>
+    ensures files { IfErr result (λ failure. status_of failure ≢ 2) }
+{
+    let file = match File::open(rt, name) {
+        Ok(file) => file,
+        Err(error) => return Err(Failure::Open(name).or_memory(&error)),
+    };
+    match read_file(rt, file) {
+        Ok(bytes) => Ok(bytes),
+        Err(error) => Err(Failure::Recovery(Fault::Source { log }).or_memory(&error)),
     }
 }
 
 /// Reads the bytes of a file. Looks at its size first, to refuse a file that is too large at once. Reads at most one
 /// byte past the limit, to refuse a file that grows.
-fn read_file<R: Files + AllocGlobal>(rt: &R, file: R::File) -> Result<Vec<u8>, Unread> {
+fn read_file<R: Files + AllocGlobal>(rt: &R, file: R::File) -> io::Result<Vec<u8>> {
     let size = file.metadata()?.len();
     if size > MOST_BYTES {
-        return Err(Unread::Source);
+        return Err(io::Error::from(ErrorKind::FileTooLarge));
     }
     // One byte more than the file has, so that reading finds its end without growing the buffer.
     let mut bytes = Vec::with_capacity(rt.alloc(), size as usize + 1)?;
     let count = file.take(MOST_BYTES + 1).read_to_end(&mut bytes)?;
     if count as u64 > MOST_BYTES {
-        return Err(Unread::Source);
+        return Err(io::Error::from(ErrorKind::FileTooLarge));
     }
     Ok(bytes)
 }
@@ -231,26 +157,4 @@ fn slices_of(alloc: Global, files: &[Vec<u8>]) -> Result<Vec<&[u8]>, Memory>
         slices.push(file.as_slice())?;
     }
     Ok(slices)
-}
-
-/// Returns the exit status of a failure.
-fn status(failure: &Failure<'_>) -> u8
-    ensures { result ≡ status_of failure.now }
-{
-    match failure {
-        Failure::Recovery(_) => 1,
-        Failure::NoFiles => 2,
-        Failure::TooManyFiles | Failure::Open(_) | Failure::Output => 3,
-    }
-}
-
-/// Prints the line of a failure.
-fn write_failure<E: Write>(failure: &Failure<'_>, err: &mut E) -> io::Result<()> {
-    match failure {
-        Failure::NoFiles => writeln!(err, "mtdump: no files"),
-        Failure::TooManyFiles => writeln!(err, "mtdump: too many files"),
-        Failure::Open(name) => writeln!(err, "mtdump: cannot open {name}"),
-        Failure::Recovery(fault) => writeln!(err, "mtdump: {fault}"),
-        Failure::Output => writeln!(err, "mtdump: output failed"),
-    }
 }

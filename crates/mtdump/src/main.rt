@@ -1,24 +1,19 @@
 //! Prints the store of log files. The arguments after the name of the program are the names of the files.
 #![tactic(auto)]
 
-use mt_recover::dump_files;
+use mt_recover::{Failure, dump_files};
 use std::env;
-use std::io::{self, BufWriter, ErrorKind, Write};
+use std::io::{self, BufWriter};
 use std::process::ExitCode;
 
 fn main(rt: HostRuntime) -> ExitCode {
-    match run(&rt) {
-        Ok(status) => ExitCode::from(status),
-        Err(error) => {
-            let (text, status) = match error.kind() {
-                ErrorKind::OutOfMemory => ("no memory", 1),
-                _ => ("cannot read the words", 3),
-            };
-            // A write error does not change the status.
-            let _ = eprintln!(rt; "mtdump: {text}");
-            ExitCode::from(status)
-        }
-    }
+    let status = match run(&rt) {
+        Ok(status) => status,
+        Err(error) => Failure::Words
+            .or_memory(&error)
+            .tell("mtdump", &mut rt.stderr()),
+    };
+    ExitCode::from(status)
 }
 
 /// Runs the program and returns its exit status. Err: the arguments cannot be read, for example because one is not

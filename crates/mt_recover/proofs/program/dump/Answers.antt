@@ -1,4 +1,4 @@
-use Rattle.std.proofs.Common.{length, sym, subst, rules}
+use Rattle.std.proofs.Common.{length, sym, subst}
 use Rattle.std.proofs.lemmas.Result.{IfOk-weaker}
 use Rattle.mt_recover.specs.Dump.{IsStoreOfSome}
 use Rattle.mt_recover.proofs.program.dump.Goals as goal
@@ -9,6 +9,3 @@ returns-clause-printed g c = IfOk-weaker c.print.result _ _ (λ _ appended. reco
   is_store = subst (IsStoreOfSome (length c.args.names.now)) (sym c.store.ensures) c.in_ok-recovered.ensures.store;
   appended = appended;
 }) c.print.ensures.printed
-
-pub returns-clause-no_files : goal.returns-clause-no_files
-returns-clause-no_files g c = (λ same. let output = rw same at c.print.ensures.output in absurd (cc), search rules)
