@@ -15,7 +15,7 @@ use Rattle.mt_scan.specs.Choice.{CheckpointReading, IsChosenOf}
 use Rattle.mt_replay.specs.declared.window.Window.{Window}
 use Rattle.mt_replay.specs.Survivors.{all_updates, in_window, is_within}
 use Rattle.mt_recover.specs.declared.report.Report.{Report}
-use Rattle.mt_recover.specs.Recovery.{Facts, records_of}
+use Rattle.mt_recover.specs.Recovery.{Facts, records_of, begin_of, survivors, entry_updates}
 use Rattle.mt_recover.specs.Report.{all_records, logged_updates, is_early, is_late, IsFoundIn, IsReportOf}
 use Rattle.mt_recover.specs.declared.report.Counts.{Counts}
 use Rattle.mt_recover.specs.Prepared.{AreCountsOf, HasRoomFor, report_of}
@@ -25,7 +25,6 @@ use Rattle.mt_replay.proofs.StepLemmas.{key_of_pair, below_itself}
 use Rattle.mt_replay.proofs.Members.{of_each}
 use Rattle.mt_words.proofs.Elements.{no_element, head_in, tail_in, head_or_tail}
 use Rattle.mt_words.specs.Words.{IsBelow}
-use Rattle.mt_recover.specs.Survivors.{begin_of, survivors, entry_updates}
 
 -- ---- the records of logs
 

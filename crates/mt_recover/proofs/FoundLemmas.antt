@@ -20,13 +20,12 @@ use Rattle.mt_scan.specs.Cutoff.{HasLast, IsCutoff, HaveNumbersOf}
 use Rattle.mt_scan.proofs.Drops.{shows_lower}
 use Rattle.mt_scan.specs.PartScans.{known_by}
 use Rattle.mt_scan.specs.Sources.{Seen}
-use Rattle.mt_recover.specs.Found.{IsFoundOf}
+use Rattle.mt_recover.specs.Prepared.{IsFoundOf}
 use Rattle.mt_recover.specs.Inputs.{OfSources}
 use Rattle.mt_recover.specs.LogScans.{ShowAll}
 use Rattle.mt_recover.specs.Outcomes.{AreOutcomes, IsLogOutcome, IsPartOutcome, AllFrom, lasts, read_parts}
 use Rattle.mt_recover.specs.declared.scans.Outcomes.{Outcomes}
-use Rattle.mt_recover.specs.Recovery.{Facts, IsGap}
-use Rattle.mt_recover.specs.Survivors.{begin_of}
+use Rattle.mt_recover.specs.Recovery.{Facts, IsGap, begin_of}
 use Rattle.mt_recover.specs.Verdict.{IsFirst, IsVerdict}
 use Rattle.mt_recover.proofs.ReportLemmas.{numbers_of}
 use Rattle.mt_recover.proofs.SourceLemmas.{whole_logs, known_parts}

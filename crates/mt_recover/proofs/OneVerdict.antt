@@ -20,9 +20,8 @@ use Rattle.mt_scan.specs.Choice.{CheckpointReading, IsChosenOf}
 use Rattle.mt_scan.proofs.OneChoice.{one_chosen}
 use Rattle.mt_scan.proofs.OneKnown.{one_known}
 use Rattle.mt_words.proofs.Elements.{no_element}
-use Rattle.mt_recover.specs.Survivors.{begin_of, survivors}
 use Rattle.mt_replay.specs.Walk.{IsWalk}
-use Rattle.mt_recover.specs.Recovery.{AreReadings, Facts, IsGap, records_of, IsStoreOf}
+use Rattle.mt_recover.specs.Recovery.{AreReadings, Facts, IsGap, records_of, IsStoreOf, begin_of, survivors}
 use Rattle.mt_recover.specs.Verdict.{IsFirst, IsFirstFault, IsVerdict}
 use Rattle.mt_recover.proofs.OneWalk.{one_walk}
 use Rattle.mt_recover.proofs.CountLemmas.{survivors_in}

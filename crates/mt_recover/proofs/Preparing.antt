@@ -22,12 +22,10 @@ use Rattle.mt_tree.specs.Trees.{IsCount}
 use Rattle.mt_recover.specs.declared.found.Found.{Found}
 use Rattle.mt_recover.specs.declared.report.Counts.{Counts}
 use Rattle.mt_recover.specs.declared.survivors.LogSurvivors.{LogSurvivors}
-use Rattle.mt_recover.specs.Found.{IsFoundOf}
 use Rattle.mt_recover.specs.LogScans.{kept, kept_in}
-use Rattle.mt_recover.specs.Prepared.{PreparedView, IsPreparedOf, IsMadeOf, AreCountsOf, HasRoomFor, IsLeftBy, AreLeftBy, cells_of, early_of}
-use Rattle.mt_recover.specs.Recovery.{records_of}
+use Rattle.mt_recover.specs.Prepared.{PreparedView, IsPreparedOf, IsMadeOf, AreCountsOf, HasRoomFor, IsLeftBy, AreLeftBy, cells_of, early_of, IsFoundOf}
+use Rattle.mt_recover.specs.Recovery.{records_of, entry_updates}
 use Rattle.mt_recover.specs.Report.{Outcome, IsRecoveredOf, IsReportOf, is_early, logged_updates}
-use Rattle.mt_recover.specs.Survivors.{entry_updates}
 use Rattle.mt_recover.proofs.CountLemmas.{begins_below, survivors_in, early_in, room_for, report_is, walk_few}
 use Rattle.mt_recover.proofs.ReplayLemmas.{all_answered, cells_of_both, cells_of_all_parts, early_of_both}
 use Rattle.mt_recover.proofs.ReportLemmas.{same_updates}

@@ -21,7 +21,7 @@ use Rattle.mt_recover.specs.Verdict.{IsVerdictOrMemory, IsAnsweredFrom}
 use Rattle.mt_recover.specs.LogScans.{ShowAll}
 use Rattle.mt_recover.specs.Inputs.{MayHave, OfSources, BlamesUnsteady, IsAnsweredBy, IsRecoveryFrom}
 use Rattle.mt_recover.specs.Report.{Outcome, IsRecoveredOf}
-use Rattle.mt_recover.specs.Sharing.{IsFirstErr}
+use Rattle.mt_recover.specs.Scanning.{IsFirstErr}
 use Rattle.mt_recover.specs.Outcomes.{IsLogOutcome, IsPartOutcome, AllFrom, read_parts, in_memory}
 
 -- ---- what sources may have

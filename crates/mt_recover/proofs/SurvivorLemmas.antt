@@ -12,7 +12,7 @@ use Rattle.mt_scan.specs.Choice.{CheckpointReading, entry_keys, IsChosenOf}
 use Rattle.mt_words.proofs.Elements.{no_element, head_or_tail, head_in}
 use Rattle.mt_replay.specs.declared.window.Window.{Window}
 use Rattle.mt_replay.specs.Survivors.{in_window, log_updates, log_survivors, wholes}
-use Rattle.mt_recover.specs.Survivors.{entry_updates, begin_of, survivors}
+use Rattle.mt_recover.specs.Recovery.{entry_updates, begin_of, survivors}
 use Rattle.mt_replay.specs.Walk.{AreApart}
 use Rattle.mt_replay.proofs.Members.{in_map}
 use Rattle.mt_recover.proofs.Apart.{of_logs, logs_apart}

@@ -5,7 +5,7 @@ use Rattle.mt_words.specs.declared.update.Update.{Update}
 use Rattle.mt_words.specs.declared.update.Kind.TheVariants.{Put, Whole}
 use Rattle.mt_words.specs.Changes.{Logged, mark_of, put_of, entry_of}
 use Rattle.mt_scan.specs.Choice.{CheckpointReading}
-use Rattle.mt_recover.specs.Survivors.{survivors}
+use Rattle.mt_recover.specs.Recovery.{survivors}
 
 -- a put of key a at timestamp 3, and a put of key b at timestamp 4
 abbrev put_a : Logged

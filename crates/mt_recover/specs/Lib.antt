@@ -1,15 +1,12 @@
-pub mod Survivors
 pub mod Recovery
 pub mod Report
 pub mod Verdict
 pub mod Dump
 pub mod LogScans
-pub mod Found
 pub mod Inputs
 pub mod Job
 pub mod Hauls
 pub mod Prepared
 pub mod Assembling
-pub mod Sharing
 pub mod Outcomes
 pub mod Scanning

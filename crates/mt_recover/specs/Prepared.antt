@@ -7,7 +7,7 @@ use Rattle.mt_words.specs.declared.update.Update.{Update}
 use Rattle.mt_words.specs.Walks.{Pair, joined}
 use Rattle.mt_scan.specs.declared.log_scan.LogScan.{LogScan}
 use Rattle.mt_scan.specs.Checkpoints.{entries_of}
-use Rattle.mt_scan.specs.Choice.{checkpoint_in}
+use Rattle.mt_scan.specs.Choice.{checkpoint_in, AreSkipped, AreNameless}
 use Rattle.mt_scan.specs.PartScans.{KeptPart, shown_by_all}
 use Rattle.mt_replay.specs.declared.window.Window.{Window}
 use Rattle.mt_replay.specs.Survivors.{in_window, wholes}
@@ -16,11 +16,9 @@ use Rattle.mt_tree.specs.Layers.{CountsLayers}
 use Rattle.mt_recover.specs.declared.report.Counts.{Counts}
 use Rattle.mt_recover.specs.declared.report.Report.{Report}
 use Rattle.mt_recover.specs.declared.survivors.LogSurvivors.{LogSurvivors}
-use Rattle.mt_recover.specs.Found.{IsFoundOf}
-use Rattle.mt_recover.specs.LogScans.{kept_by}
-use Rattle.mt_recover.specs.Recovery.{Facts, IsGap, records_of}
+use Rattle.mt_recover.specs.LogScans.{kept_by, ShowAll}
+use Rattle.mt_recover.specs.Recovery.{Facts, IsGap, records_of, begin_of, survivors, entry_updates}
 use Rattle.mt_recover.specs.Report.{IsFoundIn, IsReportOf, Outcome, is_early}
-use Rattle.mt_recover.specs.Survivors.{begin_of, survivors, entry_updates}
 use Rattle.mt_recover.specs.declared.found.Found.{Found}
 
 -- the report of these counts and these numbers of early updates, survivors, keys and layers; updates neither early nor surviving are late
@@ -68,6 +66,17 @@ pub record IsMadeOf (prepared : PreparedView) (outcome : Outcome) : Type 0 where
   pub report : outcome.report ≡ reported prepared (length outcome.store) outcome.report.layers
 
 -- ---- the steps of preparing
+
+-- what was found in logs and parts: the scans show what the logs say, no log has a gap, and the window, the chosen checkpoint, the skipped and the
+-- nameless are those of the facts
+pub record IsFoundOf (logs parts : List (List ℕ)) (found : Found) : Type 0 where
+  pub facts : Facts logs parts
+  pub show : ShowAll facts.cutoff 0 found.scans.items facts.readings
+  pub no_gap : (i : ℕ) → IsGap (begin_of facts.chosen) facts.readings i → ⊥
+  pub window : found.window ≡ record { begin = begin_of facts.chosen; cutoff = facts.cutoff }
+  pub chosen : option_map checkpoint_in found.choice.chosen ≡ facts.chosen
+  pub skipped : AreSkipped facts.known found.choice.skipped.items
+  pub nameless : AreNameless facts.known found.choice.nameless.items
 
 -- the counts are those of what was found
 abbrev pub AreCountsOf : {logs parts : List (List ℕ)} → Facts logs parts → Counts → Type 0

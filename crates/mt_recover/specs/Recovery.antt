@@ -1,14 +1,29 @@
 -- What recovery makes of logs and checkpoint parts.
-use Rattle.std.specs.Prelude.{ℕ, ◌<◌, Option, IsSomeAnd, List, map, slice_get}
+use Rattle.std.specs.Prelude.{ℕ, ◌<◌, Option, Some, None, IsSomeAnd, List, [], ◌++◌, map, slice_get}
 use Rattle.std.specs.List.{AllZip}
+use Rattle.mt_words.specs.declared.update.Update.{Update}
 use Rattle.mt_words.specs.Changes.{Logged}
 use Rattle.mt_words.specs.Walks.{Pair}
 use Rattle.mt_record.specs.Logs.{LogReading, IsReading}
 use Rattle.mt_scan.specs.Cutoff.{IsCutoff}
 use Rattle.mt_scan.specs.PartScans.{KnownPart, IsKnown}
 use Rattle.mt_scan.specs.Choice.{CheckpointReading, IsChosenOf}
-use Rattle.mt_recover.specs.Survivors.{begin_of, survivors}
+use Rattle.mt_replay.specs.Survivors.{wholes, log_survivors}
 use Rattle.mt_replay.specs.Walk.{IsWalk}
+
+-- the updates of the entries of the chosen checkpoint, if there is one
+abbrev pub entry_updates : Option CheckpointReading → List Update
+entry_updates None = []
+entry_updates (Some checkpoint) = wholes checkpoint.entries
+
+-- the timestamp from which logs are replayed: where the chosen checkpoint begins, or 0 without one
+abbrev pub begin_of : Option CheckpointReading → ℕ
+begin_of None = 0
+begin_of (Some checkpoint) = checkpoint.begin
+
+-- what survives: the log updates in the window, and all updates of the chosen checkpoint
+abbrev pub survivors : ℕ → Option CheckpointReading → List (List Logged) → List Update
+survivors cutoff chosen logs = log_survivors (record { begin = begin_of chosen; cutoff = cutoff }) logs ++ entry_updates chosen
 
 -- the readings are what the logs say, one reading for each log
 abbrev pub AreReadings : List (List ℕ) → List LogReading → Type 0

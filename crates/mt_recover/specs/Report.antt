@@ -11,8 +11,7 @@ use Rattle.mt_scan.specs.Choice.{AreSkipped, AreNameless}
 use Rattle.mt_replay.specs.Survivors.{log_updates}
 use Rattle.mt_tree.specs.Layers.{CountsLayers}
 use Rattle.mt_recover.specs.declared.report.Report.{Report}
-use Rattle.mt_recover.specs.Recovery.{Facts, IsStoreOf, records_of}
-use Rattle.mt_recover.specs.Survivors.{begin_of, survivors, entry_updates}
+use Rattle.mt_recover.specs.Recovery.{Facts, IsStoreOf, records_of, begin_of, survivors, entry_updates}
 
 -- the complete records of all logs
 abbrev pub all_records : List LogReading → List Logged

@@ -1,6 +1,6 @@
--- How sources are scanned by workers, each with a pass to the board that the scans share.
-use Rattle.std.specs.Prelude.{◌≡◌, ℕ, suc, ◌≤◌, min, Option, Some, None, List, [], ◌∷◌, length, map, Result}
-use Rattle.std.specs.List.{AllZip, filter_map}
+-- How jobs are shared out among workers, and how sources are scanned by workers, each with a pass to the board that the scans share.
+use Rattle.std.specs.Prelude.{◌≡◌, ℕ, suc, ◌≤◌, min, Option, Some, None, List, [], ◌∷◌, ◌++◌, length, map, Result, Ok, Err}
+use Rattle.std.specs.List.{AllByRecursion, AllZip, filter_map}
 use Rattle.std.specs.Vec.Iter.{into_iter_items}
 use Rattle.mt_words.specs.declared.fault.Fault.{Fault}
 use Rattle.mt_scan.specs.declared.log_scan.LogScan.{LogScan}
@@ -15,7 +15,22 @@ use Rattle.mt_recover.specs.declared.scans.Scanned.{Scanned}
 use Rattle.mt_recover.specs.declared.scans.Scanned.TheVariants as scanned
 use Rattle.mt_recover.specs.declared.scans.Scans.{Scans}
 use Rattle.mt_recover.specs.Outcomes.{IsLogOutcome, IsPartOutcome, lasts}
-use Rattle.mt_recover.specs.Sharing.{AreDealt}
+
+-- ---- jobs that are shared out
+
+-- The shares hold the jobs and nothing else, dealt in turn: the first job is at the front of the first share, the next job at the front of the next
+-- share, and so on, again and again over all shares.
+abbrev pub AreDealt : {J : Type 0} → List J → List (List J) → Type 0
+AreDealt [] shares = AllByRecursion (λ share. share ≡ []) shares
+AreDealt (job ∷ jobs) [] = ⊥
+AreDealt (job ∷ jobs) ([] ∷ shares) = ⊥
+AreDealt (job ∷ jobs) ((first ∷ rest) ∷ shares) = (first ≡ job) × AreDealt jobs (shares ++ rest ∷ [])
+
+-- the first error among answers
+pub record IsFirstErr {X E : Type 0} (answers : List (Result X E)) (err : E) : Type 0 where
+  pub done : List X
+  pub rest : List (Result X E)
+  pub stands : answers ≡ map Ok done ++ Err err ∷ rest
 
 -- ---- one list of jobs
 

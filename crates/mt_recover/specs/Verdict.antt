@@ -6,8 +6,7 @@ use Rattle.mt_record.specs.declared.read.FeedFault.{FeedFault}
 use Rattle.mt_record.specs.declared.read.FeedFault.TheVariants as of_log
 use Rattle.mt_record.specs.Logs.{LogReading}
 use Rattle.mt_record.specs.LogFaults.{IsLogFault, OrMemory}
-use Rattle.mt_recover.specs.Survivors.{begin_of}
-use Rattle.mt_recover.specs.Recovery.{AreReadings, Facts, IsGap}
+use Rattle.mt_recover.specs.Recovery.{AreReadings, Facts, IsGap, begin_of}
 
 -- i is the least number for which `P` holds
 abbrev pub IsFirst : (ℕ → Type 0) → ℕ → Type 0

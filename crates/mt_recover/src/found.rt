@@ -3,10 +3,10 @@ ghost use Rattle.std.specs.Prelude.{◌≡◌, List, position, nat_lt, IfOk, IfE
 ghost use Rattle.std.specs.Option.{option_map};
 ghost use Rattle.mt_scan.specs.Choice.{checkpoint_in};
 ghost use Rattle.mt_scan.specs.Sources.{Seen};
-ghost use Rattle.mt_recover.specs.Found.{IsFoundOf};
+ghost use Rattle.mt_recover.specs.Prepared.{IsFoundOf};
 ghost use Rattle.mt_recover.specs.Inputs.{OfSources, IsAnsweredBy};
 ghost use Rattle.mt_recover.specs.Outcomes.{AreOutcomes};
-ghost use Rattle.mt_recover.specs.Survivors.{begin_of as begin_in};
+ghost use Rattle.mt_recover.specs.Recovery.{begin_of as begin_in};
 
 use crate::by_workers::all_done;
 use crate::scans::Outcomes;

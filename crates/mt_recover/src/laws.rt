@@ -7,9 +7,8 @@ ghost use Rattle.mt_words.specs.Walks.{Pair};
 ghost use Rattle.mt_scan.specs.PartScans.{KnownPart};
 ghost use Rattle.mt_scan.specs.Choice.{CheckpointReading, IsChosenOf};
 ghost use Rattle.mt_replay.specs.Survivors.{log_updates};
-ghost use Rattle.mt_recover.specs.Survivors.{survivors};
 ghost use Rattle.mt_replay.specs.Walk.{IsWalk, AreApart};
-ghost use Rattle.mt_recover.specs.Recovery.{IsStoreOf};
+ghost use Rattle.mt_recover.specs.Recovery.{IsStoreOf, survivors};
 ghost use Rattle.mt_recover.specs.Report.{Outcome, IsRecoveredOf, SaysTheSame};
 ghost use Rattle.mt_recover.specs.Verdict.{IsVerdict};
 

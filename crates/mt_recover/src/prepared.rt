@@ -9,9 +9,8 @@ ghost use Rattle.mt_replay.specs.Survivors.{wholes};
 ghost use Rattle.mt_replay.specs.Walk.{IsWalk};
 ghost use Rattle.mt_tree.specs.Borders.{layer_walk};
 ghost use Rattle.mt_recover.specs.declared.found.Found.{Found as FoundValue};
-ghost use Rattle.mt_recover.specs.Found.{IsFoundOf};
-ghost use Rattle.mt_recover.specs.Prepared.{AreLeftBy, IsFound, IsLeftBy, IsMadeOf, IsPreparedOf};
-ghost use Rattle.mt_recover.specs.Survivors.{entry_updates};
+ghost use Rattle.mt_recover.specs.Prepared.{AreLeftBy, IsFound, IsLeftBy, IsMadeOf, IsPreparedOf, IsFoundOf};
+ghost use Rattle.mt_recover.specs.Recovery.{entry_updates};
 
 use crate::Workers;
 use crate::by_workers::{all_done, by_workers, in_turn};

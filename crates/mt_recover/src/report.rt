@@ -3,9 +3,8 @@ ghost use Rattle.std.specs.Prelude.{◌≡◌, List, ℕ, length, sum_by};
 ghost use Rattle.std.specs.Fn.{FnReturnsAt};
 ghost use Rattle.std.specs.Option.{option_map};
 ghost use Rattle.mt_scan.specs.Choice.{checkpoint_in};
-ghost use Rattle.mt_recover.specs.Found.{IsFoundOf};
-ghost use Rattle.mt_recover.specs.Prepared.{AreCountsOf, HasRoomFor, report_of};
-ghost use Rattle.mt_recover.specs.Survivors.{entry_updates};
+ghost use Rattle.mt_recover.specs.Prepared.{AreCountsOf, HasRoomFor, report_of, IsFoundOf};
+ghost use Rattle.mt_recover.specs.Recovery.{entry_updates};
 
 use crate::found::Found;
 use mt_scan::{Checkpoint, Choice, LogScan};

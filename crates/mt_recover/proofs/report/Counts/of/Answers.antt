@@ -5,7 +5,7 @@ use Rattle.mt_scan.specs.declared.checkpoint.Checkpoint.{Checkpoint}
 use Rattle.mt_scan.specs.declared.log_scan.LogScan.{LogScan}
 use Rattle.mt_scan.specs.Choice.{CheckpointReading}
 use Rattle.mt_replay.specs.declared.window.Window.{Window}
-use Rattle.mt_recover.specs.Survivors.{entry_updates}
+use Rattle.mt_recover.specs.Recovery.{entry_updates}
 use Rattle.mt_recover.proofs.ReportLemmas.{as_many, records_counted, marks_counted, torn_counted, numbers_of, same_number}
 use Rattle.mt_recover.proofs.report.Counts.of.Goals as goal
 
