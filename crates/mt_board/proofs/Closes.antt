@@ -11,7 +11,7 @@ use Rattle.atomic_table.specs.Seated.{TableId}
 use Rattle.mt_board.specs.declared.view.Counts.{Counts}
 use Rattle.mt_board.specs.declared.view.SeatView.{SeatView}
 use Rattle.mt_board.specs.Board.{BoardId, PassView, times, once_below, times_drawn, SomeIsDone, DrewEachBelow, DrewFromBelow, least_noted, nothing_noted, SawNoneBelow}
-use Rattle.mt_board.specs.Rule.{pass_view, IsIdle, IsBoardState, IsBoard, parts_in, done_in, noted_in, both_views}
+use Rattle.mt_board.specs.Steps.Rule.{pass_view, IsIdle, IsBoardState, IsBoard, parts_in, done_in, noted_in, both_views}
 use Rattle.mt_board.proofs.Sums.{sum_at, least_by, least_small, times_append, once_full}
 use Rattle.mt_board.proofs.Keeps.{parts_of, done_of, noted_of, drawn_of}
 

@@ -12,7 +12,7 @@ use Rattle.mt_board.specs.declared.view.Counts.{Counts}
 use Rattle.mt_board.specs.declared.view.SeatView.{SeatView}
 use Rattle.mt_board.specs.declared.board.TheConstants.{MOST_NUMBERS, MOST_PASSES}
 use Rattle.mt_board.specs.Board.{times, once_below, nothing_noted}
-use Rattle.mt_board.specs.Rule.{Sitter, spent_view, first_view, IsIdle, IsSeatOf, IsBoardState, IsBoard, parts_in, done_in, drew, Draws, Notes, Looks, without_one, one_part, both_views}
+use Rattle.mt_board.specs.Steps.Rule.{Sitter, spent_view, first_view, IsIdle, IsSeatOf, IsBoardState, IsBoard, parts_in, done_in, drew, Draws, Notes, Looks, without_one, one_part, both_views}
 use Rattle.mt_board.proofs.Sums.{sum_set, sum_at, sum_join, least_set, least_same, least_at, least_snoc, least_join, times_push, times_append, times_at, once_more, below_once, once_full}
 
 abbrev pub parts_of : SeatView → ℕ

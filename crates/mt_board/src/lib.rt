@@ -19,7 +19,7 @@
 //! }
 //! ```
 //!
-//! Begin with `board.rt` and `specs/Board.antt`, which state what a board does. `view.rt` and `specs/Rule.antt` have
+//! Begin with `board.rt` and `specs/Board.antt`, which state what a board does. `view.rt` and `specs/Steps/Rule.antt` have
 //! the rule that each step keeps.
 #![tactic(auto)]
 

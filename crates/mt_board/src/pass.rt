@@ -23,7 +23,7 @@ impl Model for Pass {
     ghost Value = { PassView };
 
     ghost use Rattle.std.specs.Prelude.{◌≡◌, [], if◌then◌else◌};
-    ghost use Rattle.mt_board.specs.Rule.{pass_view};
+    ghost use Rattle.mt_board.specs.Steps.Rule.{pass_view};
 
     ghost view = { λ p. pass_view p.seat.table_id p.number p.done p.seat.me.0 };
 

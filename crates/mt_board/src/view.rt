@@ -34,7 +34,7 @@ pub struct SeatView {
 pub struct BoardRule;
 
 impl TableRule<(), SeatView, Counts> for BoardRule {
-    ghost use Rattle.mt_board.specs.Rule.{IsBoard, first_view};
+    ghost use Rattle.mt_board.specs.Steps.Rule.{IsBoard, first_view};
 
     ghost holds = { IsBoard };
 
@@ -45,7 +45,7 @@ impl TableRule<(), SeatView, Counts> for BoardRule {
 pub(crate) struct Draw;
 
 impl Play<(), SeatView> for Draw {
-    ghost use Rattle.mt_board.specs.Rule.{Draws};
+    ghost use Rattle.mt_board.specs.Steps.Rule.{Draws};
 
     ghost then = { Draws };
 }
@@ -54,7 +54,7 @@ impl Play<(), SeatView> for Draw {
 pub(crate) struct Note;
 
 impl Play<(), SeatView> for Note {
-    ghost use Rattle.mt_board.specs.Rule.{Notes};
+    ghost use Rattle.mt_board.specs.Steps.Rule.{Notes};
 
     ghost then = { Notes };
 }
@@ -63,7 +63,7 @@ impl Play<(), SeatView> for Note {
 pub(crate) struct Look;
 
 impl Play<(), SeatView> for Look {
-    ghost use Rattle.mt_board.specs.Rule.{Looks};
+    ghost use Rattle.mt_board.specs.Steps.Rule.{Looks};
 
     ghost then = { Looks };
 }
@@ -72,7 +72,7 @@ impl Play<(), SeatView> for Look {
 pub(crate) struct Share;
 
 impl Split<SeatView> for Share {
-    ghost use Rattle.mt_board.specs.Rule.{without_one, one_part};
+    ghost use Rattle.mt_board.specs.Steps.Rule.{without_one, one_part};
 
     ghost left = { without_one };
 
@@ -80,7 +80,7 @@ impl Split<SeatView> for Share {
 }
 
 impl Join<SeatView> for Share {
-    ghost use Rattle.mt_board.specs.Rule.{both_views, spent_view};
+    ghost use Rattle.mt_board.specs.Steps.Rule.{both_views, spent_view};
 
     ghost both = { both_views };
 

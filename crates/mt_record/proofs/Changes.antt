@@ -15,7 +15,7 @@ use Rattle.mt_words.specs.Codes.{byte_of, payload_of}
 use Rattle.mt_words.specs.Words.{AreNumbers}
 use Rattle.mt_record.specs.declared.body.ChangeFields.{ChangeFields}
 use Rattle.mt_record.specs.Spelling.{counted, kind_bytes, change_bytes, FitsChange}
-use Rattle.mt_record.specs.Bodies.{IsNoChange, IsChangeWith, IsKindOf, HasKind, IsJudgedKind, SpellFields, AreSpelled, AreJudgedColumns}
+use Rattle.mt_record.specs.Steps.Bodies.{IsNoChange, IsChangeWith, IsKindOf, HasKind, IsJudgedKind, SpellFields, AreSpelled, AreJudgedColumns}
 use Rattle.mt_record.proofs.Unique.{same_number, same_counted}
 
 -- ---- kinds

@@ -4,7 +4,7 @@ use Rattle.std.specs.List.{flat_map, AllByRecursion}
 use Rattle.mt_words.specs.declared.limits.Limits.{Limits}
 use Rattle.mt_words.specs.Words.{IsColumn, AreColumns, CanFollow, NumbersRise, NumbersBelow}
 use Rattle.mt_record.specs.Spelling.{column_bytes, FitsColumn}
-use Rattle.mt_record.specs.Bodies.{AreSpelled, HasColumns}
+use Rattle.mt_record.specs.Steps.Bodies.{AreSpelled, HasColumns}
 use Rattle.mt_record.proofs.Unique.{same_column}
 
 -- ---- encoded columns

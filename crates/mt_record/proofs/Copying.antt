@@ -15,7 +15,7 @@ use Rattle.mt_words.specs.Changes.{entry_of, AllowsKind, IsLawful, IsLogged, IsL
 use Rattle.mt_words.proofs.Formats.{change_within}
 use Rattle.mt_record.specs.Spelling.{column_bytes, kind_bytes, FitsColumn}
 use Rattle.mt_record.specs.declared.body.ChangeFields.{ChangeFields}
-use Rattle.mt_record.specs.Bodies.{IsLawfulBody, AreFieldsOf, SpellFields}
+use Rattle.mt_record.specs.Steps.Bodies.{IsLawfulBody, AreFieldsOf, SpellFields}
 use Rattle.mt_record.specs.Decoding.{columns_counted, kind_from, change_unless, is_mark_in, code_in, version_in, key_in, carried_in, kind_in, change_in, IsBody, IsCarried}
 use Rattle.mt_record.proofs.Changes.{same_fields}
 use Rattle.mt_record.proofs.Columns.{all_at, may_follow}

@@ -21,7 +21,7 @@ use Rattle.mt_words.proofs.WriteLemmas.{set_writes, set_columns, erase_writes, e
 use Rattle.mt_words.specs.Updates.{update_at}
 use Rattle.mt_record.specs.Spelling.{counted, column_bytes, kind_byte, kind_bytes, body_of, body, FitsColumn, FitsKind, FitsChange}
 use Rattle.mt_record.proofs.Lawful.{key_room, put_fits, erase_fits}
-use Rattle.mt_record.specs.Bodies.{AreSpelled}
+use Rattle.mt_record.specs.Steps.Bodies.{AreSpelled}
 use Rattle.mt_record.proofs.Columns.{no_columns}
 use Rattle.mt_record.proofs.Unique.{same_column}
 use Rattle.mt_record.specs.Decoding.{columns_from, columns_counted, numbers_counted, writes_carried, kind_from, change_unless, is_mark_in, code_from, code_in, time_in, version_in, key_length_in, key_in, carried_in, kind_in, change_in, update_in, change_unless, decode, IsSound, IsBody, IsChangeBody, IsEntryBody, IsCarried, AreLentColumns, AreCounted}

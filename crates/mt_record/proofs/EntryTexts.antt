@@ -14,7 +14,7 @@ use Rattle.mt_record.specs.Spelling.{kind_byte, change_bytes, framed, FitsChange
 use Rattle.mt_record.specs.LogFaults.{HasTrailerFault}
 use Rattle.mt_record.specs.Parts.{IsEntryLength}
 use Rattle.mt_record.specs.PartFeeding.{HasWrongEntry, ShowsNoEntry}
-use Rattle.mt_record.specs.Bodies.{AreNoFields, IsChangeWith, IsChangeFault, IsFrame, IsFrameFault}
+use Rattle.mt_record.specs.Steps.Bodies.{AreNoFields, IsChangeWith, IsChangeFault, IsFrame, IsFrameFault}
 use Rattle.mt_record.proofs.Unique.{same_split, same_number, same_change}
 use Rattle.mt_record.proofs.Frames.{body_frame}
 use Rattle.mt_record.proofs.Entries.{entry_length, short_entry}

@@ -6,7 +6,7 @@ use Rattle.mt_words.specs.declared.fault.What.{What}
 use Rattle.mt_words.specs.declared.fault.What.TheVariants.{Length, Trailer}
 use Rattle.mt_words.specs.declared.limits.Limits.{Limits}
 use Rattle.mt_record.specs.Spelling.{framed, IsRecordLength}
-use Rattle.mt_record.specs.Bodies.{IsFrameFault}
+use Rattle.mt_record.specs.Steps.Bodies.{IsFrameFault}
 use Rattle.mt_record.specs.Logs.{IsCut}
 use Rattle.mt_record.specs.LogFaults.{HasLengthFault, HasFrame, HasTrailerFault, RestFault}
 use Rattle.mt_record.proofs.Unique.{same_number, framed_apart}

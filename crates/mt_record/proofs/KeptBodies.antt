@@ -4,7 +4,7 @@ use Rattle.std.proofs.lemmas.List.{length-map, get_or-map, map-append}
 use Rattle.std.specs.Prelude.{Some}
 use Rattle.mt_words.specs.declared.record.Change.{Change}
 use Rattle.mt_words.specs.Limits.{widest}
-use Rattle.mt_record.specs.Bodies.{AreFieldsOf}
+use Rattle.mt_record.specs.Steps.Bodies.{AreFieldsOf}
 use Rattle.mt_record.specs.Spelling.{body_of}
 use Rattle.mt_record.specs.Decoding.{change_in, IsEntryBody}
 use Rattle.mt_record.proofs.Decodes.{entry_says}

@@ -12,7 +12,7 @@ use Rattle.mt_record.specs.declared.part_text.PartFault.{PartFault}
 use Rattle.mt_record.specs.declared.part_text.PartFault.TheVariants as faults
 use Rattle.mt_record.specs.declared.part_items.PartItems.{PartItems}
 use Rattle.mt_record.specs.Spelling.{framed}
-use Rattle.mt_record.specs.Bodies.{AreFieldsOf, IsNextEntry}
+use Rattle.mt_record.specs.Steps.Bodies.{AreFieldsOf, IsNextEntry}
 use Rattle.mt_record.specs.Parts.{part_head, part_head_bytes, IsPartHead, entry_spelling, footer_bytes}
 use Rattle.mt_record.specs.PartFeeding.{part_so_far, end_bytes, ShowsNoEntry, ShowsNoPart, HoldsPart, IsPartLeft, IsPartFaulty}
 use Rattle.mt_record.specs.Feeding.{Reads, HoldsAll}

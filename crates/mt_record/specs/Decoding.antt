@@ -17,7 +17,7 @@ use Rattle.mt_words.specs.Words.{IsKey, IsColumn}
 use Rattle.mt_words.specs.Changes.{Logged, Write, set, erased, writes_of, AreWrites}
 use Rattle.mt_words.specs.Updates.{update_at}
 use Rattle.mt_record.specs.Spelling.{body}
-use Rattle.mt_record.specs.Bodies.{AreSpelled}
+use Rattle.mt_record.specs.Steps.Bodies.{AreSpelled}
 
 -- ---- fields at the front of bytes
 

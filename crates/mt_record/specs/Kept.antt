@@ -4,7 +4,7 @@ use Rattle.mt_words.specs.declared.record.Change.{Change}
 use Rattle.mt_words.specs.declared.update.Update.{Update}
 use Rattle.mt_words.specs.Changes.{Logged}
 use Rattle.mt_words.specs.Updates.{updates_from}
-use Rattle.mt_record.specs.Bodies.{IsLawfulBody}
+use Rattle.mt_record.specs.Steps.Bodies.{IsLawfulBody}
 use Rattle.mt_record.specs.Decoding.{decode}
 use Rattle.mt_record.specs.Logs.{count_of}
 

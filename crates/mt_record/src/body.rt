@@ -1,7 +1,7 @@
 //! Splits the change in a body into its fields, without copying. A body is what stands between the two lengths of a
 //! record or an entry.
 ghost use Rattle.std.specs.Prelude.{IfSome, IfNone};
-ghost use Rattle.mt_record.specs.Bodies.{SpellFields, HasNoFields};
+ghost use Rattle.mt_record.specs.Steps.Bodies.{SpellFields, HasNoFields};
 
 use crate::fields::{counted_at, u64_at};
 

@@ -6,7 +6,7 @@ ghost use Rattle.mt_words.specs.Codes.{byte_of};
 ghost use Rattle.mt_words.specs.Words.{AreNumbers};
 ghost use Rattle.mt_words.specs.declared.record.Change.{Change as ChangeValue};
 ghost use Rattle.mt_record.specs.LogFaults.{BodyFault};
-ghost use Rattle.mt_record.specs.Bodies.{IsBodyAt, AreFieldsOf, AreNoFields, IsChangeOf, IsChangeFault, HasKind, IsJudgedKind, HasColumns, AreJudgedColumns};
+ghost use Rattle.mt_record.specs.Steps.Bodies.{IsBodyAt, AreFieldsOf, AreNoFields, IsChangeOf, IsChangeFault, HasKind, IsJudgedKind, HasColumns, AreJudgedColumns};
 
 use crate::body::fields_at;
 use crate::fields::{column_at, u64_at};

@@ -4,7 +4,7 @@ ghost use Rattle.std.specs.Prelude.{◌≡◌, ◌<◌, length, IfOk};
 ghost use Rattle.mt_words.specs.Limits.{widest};
 ghost use Rattle.mt_words.specs.Words.{AreColumns, AreNumbers};
 ghost use Rattle.mt_words.specs.declared.code.Payload.TheVariants as payloads;
-ghost use Rattle.mt_record.specs.Bodies.{IsLawfulBody, AreFields, AreFieldsOf};
+ghost use Rattle.mt_record.specs.Steps.Bodies.{IsLawfulBody, AreFields, AreFieldsOf};
 ghost use Rattle.mt_record.specs.Decoding.{decode, IsCarried, columns_counted, numbers_counted};
 
 use crate::body::fields_at;

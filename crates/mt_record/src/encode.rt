@@ -7,7 +7,7 @@ ghost use Rattle.mt_words.specs.Changes.{AreWrites, writes_of};
 ghost use Rattle.mt_words.specs.declared.update.Kind.TheVariants.{Put, Erase};
 ghost use Rattle.mt_record.specs.Heads.{head_of, head_bytes};
 ghost use Rattle.mt_record.specs.Spelling.{column_bytes, kind_bytes, change_bytes, body, spelling, IsRecordLength};
-ghost use Rattle.mt_record.specs.Adding.{HasRoom, Adds};
+ghost use Rattle.mt_record.specs.Steps.Adding.{HasRoom, Adds};
 
 use crate::body::MARK;
 use crate::head::{HEADER_BYTES, LOG};

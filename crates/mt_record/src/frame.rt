@@ -7,7 +7,7 @@ ghost use Rattle.mt_record.specs.Logs.{IsTorn, IsCut};
 ghost use Rattle.mt_record.specs.LogFaults.{RestFault};
 ghost use Rattle.mt_record.specs.Parts.{IsEntryLength};
 ghost use Rattle.mt_record.specs.PartFeeding.{ShowsNoEntry};
-ghost use Rattle.mt_record.specs.Bodies.{IsNextBody, IsNextEntry, IsWithin, IsFrame, IsFrameFault};
+ghost use Rattle.mt_record.specs.Steps.Bodies.{IsNextBody, IsNextEntry, IsWithin, IsFrame, IsFrameFault};
 
 use crate::check::{check_body, check_entry};
 use crate::fields::u32_at;

@@ -3,7 +3,7 @@ ghost use Rattle.std.specs.Prelude.{◌≡◌, ◌++◌, [], ◌∷◌, List, le
 ghost use Rattle.mt_words.specs.declared.record.Change.{Change};
 ghost use Rattle.mt_words.specs.Limits.{widest};
 ghost use Rattle.mt_words.specs.Changes.{Logged};
-ghost use Rattle.mt_record.specs.Bodies.{IsLawfulBody, IsBodyOf, AreFields, AreFieldsOf};
+ghost use Rattle.mt_record.specs.Steps.Bodies.{IsLawfulBody, IsBodyOf, AreFields, AreFieldsOf};
 
 use crate::copy::{copy_entry, copy_record};
 use mt_words::{Entry, Memory, Record};

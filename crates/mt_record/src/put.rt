@@ -2,7 +2,7 @@
 ghost use Rattle.std.specs.Prelude.{◌<◌, ◌^◌, length};
 ghost use Rattle.mt_words.specs.Limits.{magic};
 ghost use Rattle.mt_record.specs.Spelling.{counted, column_bytes, FitsColumn};
-ghost use Rattle.mt_record.specs.Adding.{HasRoom, Adds};
+ghost use Rattle.mt_record.specs.Steps.Adding.{HasRoom, Adds};
 
 use mt_words::{Column, Format};
 

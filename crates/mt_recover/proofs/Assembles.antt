@@ -17,7 +17,7 @@ use Rattle.mt_replay.specs.Pieces.{IsPiece, ArePieces}
 use Rattle.mt_tree.specs.Borders.{DraftView, empty_draft, layer_walk}
 use Rattle.mt_recover.specs.declared.haul.Haul.{Haul}
 use Rattle.mt_recover.specs.declared.haul.Piece.{Piece}
-use Rattle.mt_recover.specs.Assembling.{all_held, AreDraftsOf, times_numbered, IsFirstLacking, IsLacking}
+use Rattle.mt_recover.specs.Steps.Assembling.{all_held, AreDraftsOf, times_numbered, IsFirstLacking, IsLacking}
 use Rattle.mt_recover.specs.Hauls.{numbers, IsHaulOf, times_held, IsLeftOut, AllCameBack}
 use Rattle.mt_recover.specs.Job.{JobView, IsPieceOf}
 

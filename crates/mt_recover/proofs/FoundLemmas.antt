@@ -22,8 +22,8 @@ use Rattle.mt_scan.specs.PartScans.{known_by}
 use Rattle.mt_scan.specs.Sources.{Seen}
 use Rattle.mt_recover.specs.Prepared.{IsFoundOf}
 use Rattle.mt_recover.specs.Inputs.{OfSources}
-use Rattle.mt_recover.specs.LogScans.{ShowAll}
-use Rattle.mt_recover.specs.Outcomes.{AreOutcomes, IsLogOutcome, IsPartOutcome, AllFrom, lasts, read_parts}
+use Rattle.mt_recover.specs.Steps.LogScans.{ShowAll}
+use Rattle.mt_recover.specs.Steps.Outcomes.{AreOutcomes, IsLogOutcome, IsPartOutcome, AllFrom, lasts, read_parts}
 use Rattle.mt_recover.specs.declared.scans.Outcomes.{Outcomes}
 use Rattle.mt_recover.specs.Recovery.{Facts, IsGap, begin_of}
 use Rattle.mt_recover.specs.Verdict.{IsFirst, IsVerdict}

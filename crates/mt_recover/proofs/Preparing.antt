@@ -11,7 +11,7 @@ use Rattle.mt_words.specs.declared.update.Update.{Update}
 use Rattle.mt_words.specs.Walks.{Pair, joined}
 use Rattle.mt_scan.specs.declared.checkpoint.Checkpoint.{Checkpoint}
 use Rattle.mt_scan.specs.declared.log_scan.LogScan.{LogScan}
-use Rattle.mt_scan.specs.Checkpoints.{entries_of}
+use Rattle.mt_scan.specs.Steps.Checkpoints.{entries_of}
 use Rattle.mt_scan.specs.Choice.{checkpoint_in}
 use Rattle.mt_scan.specs.PartScans.{KeptPart, shown_by_all}
 use Rattle.mt_replay.specs.declared.window.Window.{Window}
@@ -22,7 +22,7 @@ use Rattle.mt_tree.specs.Trees.{IsCount}
 use Rattle.mt_recover.specs.declared.found.Found.{Found}
 use Rattle.mt_recover.specs.declared.report.Counts.{Counts}
 use Rattle.mt_recover.specs.declared.survivors.LogSurvivors.{LogSurvivors}
-use Rattle.mt_recover.specs.LogScans.{kept, kept_in}
+use Rattle.mt_recover.specs.Steps.LogScans.{kept, kept_in}
 use Rattle.mt_recover.specs.Prepared.{PreparedView, IsPreparedOf, IsMadeOf, AreCountsOf, HasRoomFor, IsLeftBy, AreLeftBy, cells_of, early_of, IsFoundOf}
 use Rattle.mt_recover.specs.Recovery.{records_of, entry_updates}
 use Rattle.mt_recover.specs.Report.{Outcome, IsRecoveredOf, IsReportOf, is_early, logged_updates}

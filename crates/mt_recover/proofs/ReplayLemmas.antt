@@ -12,12 +12,12 @@ use Rattle.mt_words.specs.declared.update.Origin.TheVariants as origins
 use Rattle.mt_words.specs.Updates.{update_at}
 use Rattle.mt_words.specs.Walks.{joined}
 use Rattle.mt_scan.specs.PartScans.{KeptPart, shown_by_all}
-use Rattle.mt_scan.specs.Checkpoints.{entries_of}
+use Rattle.mt_scan.specs.Steps.Checkpoints.{entries_of}
 use Rattle.mt_scan.specs.declared.log_scan.LogScan.{LogScan}
 use Rattle.mt_words.proofs.Elements.{no_element, head_or_tail}
 use Rattle.mt_replay.specs.declared.window.Window.{Window}
 use Rattle.mt_replay.specs.Survivors.{in_window, wholes}
-use Rattle.mt_recover.specs.LogScans.{kept, kept_by, kept_in}
+use Rattle.mt_recover.specs.Steps.LogScans.{kept, kept_by, kept_in}
 use Rattle.mt_recover.specs.declared.survivors.LogSurvivors.{LogSurvivors}
 use Rattle.mt_recover.specs.Prepared.{IsLeftBy, cells_of, early_of}
 use Rattle.mt_recover.specs.Report.{is_early}

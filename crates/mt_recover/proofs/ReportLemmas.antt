@@ -23,11 +23,11 @@ use Rattle.mt_scan.specs.Cutoff.{HaveNumbersOf}
 use Rattle.mt_scan.specs.Scans.{HasNumbersOf}
 use Rattle.mt_scan.specs.PartScans.{KeptPart, shown_by_all}
 use Rattle.mt_scan.specs.Choice.{CheckpointReading, checkpoint_in}
-use Rattle.mt_scan.specs.Checkpoints.{entries_of}
+use Rattle.mt_scan.specs.Steps.Checkpoints.{entries_of}
 use Rattle.mt_scan.proofs.Drops.{same_kept}
 use Rattle.mt_replay.specs.Survivors.{all_updates, wholes}
 use Rattle.mt_replay.proofs.FilterLemmas.{filter_none}
-use Rattle.mt_recover.specs.LogScans.{ShowAll, kept, kept_by}
+use Rattle.mt_recover.specs.Steps.LogScans.{ShowAll, kept, kept_by}
 use Rattle.mt_recover.specs.Recovery.{AreReadings, records_of}
 use Rattle.mt_recover.specs.Report.{all_records, is_early}
 

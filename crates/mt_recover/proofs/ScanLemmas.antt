@@ -24,10 +24,10 @@ use Rattle.mt_recover.specs.declared.scans.Kind.{Kind}
 use Rattle.mt_recover.specs.declared.scans.Scanned.{Scanned}
 use Rattle.mt_recover.specs.declared.scans.Scanned.TheVariants as scanned
 use Rattle.mt_recover.specs.declared.scans.Kind.TheVariants as kinds
-use Rattle.mt_recover.specs.Outcomes.{IsLogOutcome, IsPartOutcome, AllFrom, AreOutcomes, last_in, lasts, read_parts, in_memory}
+use Rattle.mt_recover.specs.Steps.Outcomes.{IsLogOutcome, IsPartOutcome, AllFrom, AreOutcomes, last_in, lasts, read_parts, in_memory}
 use Rattle.mt_recover.specs.declared.scans.Scans.{Scans}
 use Rattle.mt_recover.specs.declared.scans.Share.{Share}
-use Rattle.mt_recover.specs.Scanning.{numbered, log_jobs, part_jobs, IsOutcome, IsScanned, IsFresh, HasScanned, AreGathered, answers_of, passes_of, log_in, logs_in, parts_in, AreDealt}
+use Rattle.mt_recover.specs.Steps.Scanning.{numbered, log_jobs, part_jobs, IsOutcome, IsScanned, IsFresh, HasScanned, AreGathered, answers_of, passes_of, log_in, logs_in, parts_in, AreDealt}
 use Rattle.mt_recover.proofs.ReplayLemmas.{all_answered}
 use Rattle.mt_recover.proofs.SharingLemmas.{dealt_answers, zip_says}
 

@@ -18,11 +18,11 @@ use Rattle.mt_scan.specs.PartScans.{known_by, IsPartScanFault}
 use Rattle.mt_scan.proofs.Telling.{some_bytes}
 use Rattle.mt_recover.specs.Recovery.{AreReadings, AreKnown}
 use Rattle.mt_recover.specs.Verdict.{IsVerdictOrMemory, IsAnsweredFrom}
-use Rattle.mt_recover.specs.LogScans.{ShowAll}
+use Rattle.mt_recover.specs.Steps.LogScans.{ShowAll}
 use Rattle.mt_recover.specs.Inputs.{MayHave, OfSources, BlamesUnsteady, IsAnsweredBy, IsRecoveryFrom}
 use Rattle.mt_recover.specs.Report.{Outcome, IsRecoveredOf}
-use Rattle.mt_recover.specs.Scanning.{IsFirstErr}
-use Rattle.mt_recover.specs.Outcomes.{IsLogOutcome, IsPartOutcome, AllFrom, read_parts, in_memory}
+use Rattle.mt_recover.specs.Steps.Scanning.{IsFirstErr}
+use Rattle.mt_recover.specs.Steps.Outcomes.{IsLogOutcome, IsPartOutcome, AllFrom, read_parts, in_memory}
 
 -- ---- what sources may have
 

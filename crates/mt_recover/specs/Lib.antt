@@ -2,11 +2,8 @@ pub mod Recovery
 pub mod Report
 pub mod Verdict
 pub mod Dump
-pub mod LogScans
 pub mod Inputs
 pub mod Job
 pub mod Hauls
 pub mod Prepared
-pub mod Assembling
-pub mod Outcomes
-pub mod Scanning
+pub mod Steps

@@ -6,7 +6,7 @@ use Rattle.mt_words.specs.declared.fault.Memory.{Memory}
 use Rattle.mt_words.specs.declared.update.Update.{Update}
 use Rattle.mt_words.specs.Walks.{Pair, joined}
 use Rattle.mt_scan.specs.declared.log_scan.LogScan.{LogScan}
-use Rattle.mt_scan.specs.Checkpoints.{entries_of}
+use Rattle.mt_scan.specs.Steps.Checkpoints.{entries_of}
 use Rattle.mt_scan.specs.Choice.{checkpoint_in, AreSkipped, AreNameless}
 use Rattle.mt_scan.specs.PartScans.{KeptPart, shown_by_all}
 use Rattle.mt_replay.specs.declared.window.Window.{Window}
@@ -16,7 +16,7 @@ use Rattle.mt_tree.specs.Layers.{CountsLayers}
 use Rattle.mt_recover.specs.declared.report.Counts.{Counts}
 use Rattle.mt_recover.specs.declared.report.Report.{Report}
 use Rattle.mt_recover.specs.declared.survivors.LogSurvivors.{LogSurvivors}
-use Rattle.mt_recover.specs.LogScans.{kept_by, ShowAll}
+use Rattle.mt_recover.specs.Steps.LogScans.{kept_by, ShowAll}
 use Rattle.mt_recover.specs.Recovery.{Facts, IsGap, records_of, begin_of, survivors, entry_updates}
 use Rattle.mt_recover.specs.Report.{IsFoundIn, IsReportOf, Outcome, is_early}
 use Rattle.mt_recover.specs.declared.found.Found.{Found}

@@ -4,7 +4,7 @@ ghost use Rattle.std.specs.List.Sorted.{IsNonDecreasingBy};
 ghost use Rattle.mt_words.specs.declared.fault.Fault.TheVariants as faults;
 ghost use Rattle.mt_words.specs.Walks.{KeysRise, joined};
 ghost use Rattle.mt_tree.specs.Borders.{layer_walk};
-ghost use Rattle.mt_recover.specs.Assembling.{all_held, AreDraftsOf, IsLacking};
+ghost use Rattle.mt_recover.specs.Steps.Assembling.{all_held, AreDraftsOf, IsLacking};
 ghost use Rattle.mt_recover.specs.Hauls.{AllCameBack, IsHaulOf, IsLeftOut};
 ghost use Rattle.mt_recover.specs.Prepared.{IsMadeOf, IsPreparedOf};
 ghost use Rattle.mt_recover.specs.Report.{IsRecoveredOf};

@@ -4,7 +4,7 @@ ghost use Rattle.std.specs.List.{AllZip};
 ghost use Rattle.std.specs.Vec.Iter.{into_iter_items};
 ghost use Rattle.mt_words.specs.declared.fault.Memory.{Memory as MemoryValue};
 ghost use Rattle.mt_board.specs.Board.{least_noted, times_drawn, SawNoneBelow, SomeIsDone};
-ghost use Rattle.mt_recover.specs.Scanning.{AreDealt, IsFirstErr};
+ghost use Rattle.mt_recover.specs.Steps.Scanning.{AreDealt, IsFirstErr};
 
 use crate::Workers;
 use mt_board::{Board, Pass};

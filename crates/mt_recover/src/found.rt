@@ -5,7 +5,7 @@ ghost use Rattle.mt_scan.specs.Choice.{checkpoint_in};
 ghost use Rattle.mt_scan.specs.Sources.{Seen};
 ghost use Rattle.mt_recover.specs.Prepared.{IsFoundOf};
 ghost use Rattle.mt_recover.specs.Inputs.{OfSources, IsAnsweredBy};
-ghost use Rattle.mt_recover.specs.Outcomes.{AreOutcomes};
+ghost use Rattle.mt_recover.specs.Steps.Outcomes.{AreOutcomes};
 ghost use Rattle.mt_recover.specs.Recovery.{begin_of as begin_in};
 
 use crate::by_workers::all_done;

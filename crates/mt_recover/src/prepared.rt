@@ -1,7 +1,7 @@
 //! The survivors and the counts that are prepared before replay.
 ghost use Rattle.std.specs.Prelude.{◌≡◌, ◌<◌, ◌+◌, List, ℕ, length, IfOk, IsPermutation};
 ghost use Rattle.std.specs.Option.{option_map};
-ghost use Rattle.mt_scan.specs.Checkpoints.{entries_of};
+ghost use Rattle.mt_scan.specs.Steps.Checkpoints.{entries_of};
 ghost use Rattle.mt_scan.specs.Choice.{checkpoint_in};
 ghost use Rattle.mt_scan.specs.PartScans.{shown_by_all};
 ghost use Rattle.mt_replay.specs.Pieces.{IsPiece};

@@ -3,8 +3,8 @@
 ghost use Rattle.std.specs.Prelude.{◌≡◌, ◌<◌, ◌≤◌, ◌++◌, [], ◌∷◌, map, length, All, IfOk, OnOk, option_to_list};
 ghost use Rattle.std.specs.Vec.Iter.{into_iter_items};
 ghost use Rattle.mt_board.specs.Board.{nothing_noted};
-ghost use Rattle.mt_recover.specs.Outcomes.{AreOutcomes, in_memory, read_parts};
-ghost use Rattle.mt_recover.specs.Scanning.{AreGathered, HasScanned, IsFresh, numbered, log_jobs, part_jobs, log_in, part_in, logs_in, parts_in, passes_of, AreDealt};
+ghost use Rattle.mt_recover.specs.Steps.Outcomes.{AreOutcomes, in_memory, read_parts};
+ghost use Rattle.mt_recover.specs.Steps.Scanning.{AreGathered, HasScanned, IsFresh, numbered, log_jobs, part_jobs, log_in, part_in, logs_in, parts_in, passes_of, AreDealt};
 
 use crate::by_workers::{all_done, close, deal, gather, in_turn};
 use crate::{Inputs, Workers};

@@ -16,7 +16,7 @@ use Rattle.mt_record.specs.Kept.{Kept}
 use Rattle.mt_record.proofs.RecordLemmas.{updates_push}
 use Rattle.mt_replay.specs.declared.window.Window.{Window}
 use Rattle.mt_replay.specs.Survivors.{in_window, first_survivors}
-use Rattle.mt_replay.specs.Bodies.{updates_at}
+use Rattle.mt_replay.specs.Steps.Bodies.{updates_at}
 
 -- ---- survivors
 

@@ -14,7 +14,7 @@ use Rattle.mt_replay.specs.Walk.{AreApart}
 use Rattle.mt_replay.specs.Cuts.{is_below, key_below, InKeyOrder}
 use Rattle.mt_replay.specs.Cells.{Written, IsCellOf, IsColumnsOf}
 use Rattle.mt_replay.specs.Groups.{Group, HasLawfulWrites, IsGroupOf}
-use Rattle.mt_replay.specs.Walker.{with_pair, IsMade, AreLast, IsWalkSoFar}
+use Rattle.mt_replay.specs.Steps.Walker.{with_pair, IsMade, AreLast, IsWalkSoFar}
 use Rattle.mt_words.proofs.Elements.{no_element, head_in}
 use Rattle.mt_replay.proofs.KeyOrder.{key_order}
 use Rattle.mt_replay.proofs.ExactLemmas.{group_columns}

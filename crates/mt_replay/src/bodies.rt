@@ -18,7 +18,7 @@ pub(crate) struct Bodies {
 impl Model for Bodies {
     ghost use Rattle.std.specs.Prelude.{List};
     ghost use Rattle.mt_words.specs.declared.update.Update.{Update};
-    ghost use Rattle.mt_replay.specs.Bodies.{updates_at, AreBodies};
+    ghost use Rattle.mt_replay.specs.Steps.Bodies.{updates_at, AreBodies};
 
     ghost Value = { List Update };
 

@@ -4,7 +4,7 @@ ghost use Rattle.mt_words.specs.Limits.{widest};
 ghost use Rattle.mt_words.specs.Words.{IsKey};
 ghost use Rattle.mt_words.specs.Walks.{joined};
 ghost use Rattle.mt_replay.specs.declared.cuts.TheConstants.{MOST_PIECES};
-ghost use Rattle.mt_replay.specs.SortedUpdates.{keys_of};
+ghost use Rattle.mt_replay.specs.Steps.SortedUpdates.{keys_of};
 ghost use Rattle.mt_replay.specs.Cuts.{AreCuts, RiseThroughout, IsCutFault, even_cuts, even_at};
 ghost use Rattle.mt_replay.specs.Even.{IsEven};
 

@@ -40,7 +40,7 @@ impl Model for LogCells {
     ghost use Rattle.std.specs.Prelude.{List};
     ghost use Rattle.mt_words.specs.declared.update.Update.{Update};
     ghost use Rattle.mt_replay.specs.Cuts.{InKeyOrder};
-    ghost use Rattle.mt_replay.specs.SortedUpdates.{held_in};
+    ghost use Rattle.mt_replay.specs.Steps.SortedUpdates.{held_in};
 
     ghost Value = { List Update };
 

@@ -31,7 +31,7 @@ pub(crate) struct Sliced<'a> {
 
 impl<'a> Model for Sliced<'a> {
     ghost use Rattle.mt_words.specs.declared.update.Update.{Update};
-    ghost use Rattle.mt_replay.specs.SortedUpdates.{IsSliced};
+    ghost use Rattle.mt_replay.specs.Steps.SortedUpdates.{IsSliced};
 
     ghost Value = { Update };
 

@@ -3,7 +3,7 @@ ghost use Rattle.std.specs.Prelude.{◌≡◌, ◌↔◌, ◌++◌, [], ◌∷�
 ghost use Rattle.mt_words.specs.declared.update.Update.{Update as UpdateValue};
 ghost use Rattle.mt_replay.specs.Cuts.{InKeyOrder};
 ghost use Rattle.mt_replay.specs.Groups.{HasLawfulWrites, IsGroupOf};
-ghost use Rattle.mt_replay.specs.Walker.{IsMade, IsWalkSoFar};
+ghost use Rattle.mt_replay.specs.Steps.Walker.{IsMade, IsWalkSoFar};
 
 use crate::group::Group;
 use crate::sliced::Sliced;

@@ -12,7 +12,7 @@ use Rattle.mt_words.specs.Words.{AreRising}
 use Rattle.mt_record.specs.Parts.{PartReading}
 use Rattle.mt_scan.specs.PartScans.{KnownPart, KeptPart, whole, broken, nameless, shown_by, shown_by_all}
 use Rattle.mt_scan.specs.Choice.{CheckpointReading, IsPartAt, AreInPlace, entry_keys, MakeUp, checkpoint_in}
-use Rattle.mt_scan.specs.Checkpoints.{MakeUpNone, AreSameTexts, IsMadeOf}
+use Rattle.mt_scan.specs.Steps.Checkpoints.{MakeUpNone, AreSameTexts, IsMadeOf}
 use Rattle.mt_scan.specs.declared.checkpoint.Checkpoint.{Checkpoint}
 use Rattle.mt_scan.proofs.OneChoice.{at_place, AreNumbered, are_numbered, same_texts}
 

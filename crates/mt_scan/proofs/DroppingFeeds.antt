@@ -17,7 +17,7 @@ use Rattle.mt_record.specs.declared.kept_records.Dropped.{Dropped}
 use Rattle.mt_record.specs.Cutting.{HasCut, IsCountOf}
 use Rattle.mt_record.proofs.RecordLemmas.{marks_and_updates}
 use Rattle.mt_scan.specs.declared.dropping_feed.DroppingFeed.{DroppingFeed}
-use Rattle.mt_scan.specs.DroppingFeeds.{taken_of, GoesOn, KeepsRecords, HasRead, IsFedBelow}
+use Rattle.mt_scan.specs.Steps.DroppingFeeds.{taken_of, GoesOn, KeepsRecords, HasRead, IsFedBelow}
 use Rattle.mt_scan.proofs.Rises.{Rise, read_rise, latest_behind, rise_front, rise_behind, never_falls, all_past, all_below, cut_below}
 
 -- the records that a feed without a fault has read

@@ -10,7 +10,7 @@ use Rattle.std.proofs.lemmas.Map.Views.{tells_apart}
 use Rattle.mt_record.specs.Parts.{PartReading}
 use Rattle.mt_scan.specs.PartScans.{KnownPart, whole, broken}
 use Rattle.mt_scan.specs.Choice.{belongs_to, parts_of}
-use Rattle.mt_scan.specs.Groups.{IsPartGroupOf, IsGroupAt, AreGroupsOf}
+use Rattle.mt_scan.specs.Steps.Groups.{IsPartGroupOf, IsGroupAt, AreGroupsOf}
 use Rattle.mt_scan.specs.declared.group.PartGroup.{PartGroup}
 use Rattle.mt_scan.specs.declared.group.PartGroup.TheVariants as groups
 

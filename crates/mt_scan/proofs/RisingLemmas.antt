@@ -15,7 +15,7 @@ use Rattle.mt_words.specs.Words.{IsBelow, AreRising}
 use Rattle.mt_record.specs.Parts.{PartReading}
 use Rattle.mt_scan.specs.PartScans.{KeptPart, shown_by, shown_by_all}
 use Rattle.mt_scan.specs.Choice.{entry_keys}
-use Rattle.mt_scan.specs.Checkpoints.{entries_of, none_or_one, last_of}
+use Rattle.mt_scan.specs.Steps.Checkpoints.{entries_of, none_or_one, last_of}
 
 abbrev AreAbove : List ℕ → List (List ℕ) → Type 0
 AreAbove x xs = AllByRecursion (IsBelow x) xs

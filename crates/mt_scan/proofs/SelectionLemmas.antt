@@ -13,9 +13,9 @@ use Rattle.std.proofs.lemmas.List.Sorted.{IsPermutation-sym, IsPermutation-trans
 use Rattle.mt_record.specs.Parts.{PartReading}
 use Rattle.mt_scan.specs.PartScans.{whole, shown_by_all}
 use Rattle.mt_scan.specs.Choice.{CheckpointReading, AreInPlace, MakeUp, IsNoBetter, checkpoint_in}
-use Rattle.mt_scan.specs.Checkpoints.{AreSameTexts}
-use Rattle.mt_scan.specs.Groups.{HasCheckpoint, HasNone, IsCheckpointOf}
-use Rattle.mt_scan.specs.Selections.{GroupsBelow, IsOffered, IsPassed, IsBestOf, IsSelectionOf, IsNoWorse}
+use Rattle.mt_scan.specs.Steps.Checkpoints.{AreSameTexts}
+use Rattle.mt_scan.specs.Steps.Groups.{HasCheckpoint, HasNone, IsCheckpointOf}
+use Rattle.mt_scan.specs.Steps.Selections.{GroupsBelow, IsOffered, IsPassed, IsBestOf, IsSelectionOf, IsNoWorse}
 use Rattle.mt_scan.specs.declared.checkpoint.Checkpoint.{Checkpoint}
 use Rattle.mt_scan.specs.declared.selection.Selection.{Selection}
 use Rattle.mt_scan.specs.declared.group.PartGroup.{PartGroup}

@@ -16,7 +16,7 @@ use Rattle.mt_record.proofs.RecordLemmas.{marks_and_updates}
 use Rattle.mt_scan.specs.declared.dropping_feed.DroppingFeed.{DroppingFeed}
 use Rattle.mt_scan.specs.Scans.{HasNumbersOf}
 use Rattle.mt_scan.specs.Dropping.{HasAllBelow, KeepsOnlyBelow}
-use Rattle.mt_scan.specs.DroppingFeeds.{taken_of, kept_in, scan_from, GoesOn, KeepsRecords, IsFedBelow}
+use Rattle.mt_scan.specs.Steps.DroppingFeeds.{taken_of, kept_in, scan_from, GoesOn, KeepsRecords, IsFedBelow}
 use Rattle.mt_scan.proofs.DroppingFeeds.{count_both}
 
 -- the encoding of records has at least as many bytes as there are records

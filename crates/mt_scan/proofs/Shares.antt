@@ -6,8 +6,8 @@ use Rattle.std.specs.Borrow.{MutBor}
 use Rattle.mt_board.specs.Board.{BoardId, PassView, least_of}
 use Rattle.mt_scan.specs.declared.sharing.SharedFeed.{SharedFeed}
 use Rattle.mt_scan.specs.Dropping.{HasLooked}
-use Rattle.mt_scan.specs.DroppingFeeds.{IsFedBelow}
-use Rattle.mt_scan.specs.Feeding.{LooksOn, MayShare}
+use Rattle.mt_scan.specs.Steps.DroppingFeeds.{IsFedBelow}
+use Rattle.mt_scan.specs.Steps.Feeding.{LooksOn, MayShare}
 
 -- ---- looks
 

@@ -10,7 +10,7 @@ use Rattle.mt_record.specs.LogFaults.{IsAnswered, fault_at}
 use Rattle.mt_scan.specs.declared.log_scan.LogScan.{LogScan}
 use Rattle.mt_scan.specs.Sources.{Seen, Agrees}
 use Rattle.mt_scan.specs.Scans.{IsScanOf, IsScanFault, IsLogVerdict, OfTold}
-use Rattle.mt_scan.specs.Feeding.{NeedsNoMore, AreFew, FeedsPiece}
+use Rattle.mt_scan.specs.Steps.Feeding.{NeedsNoMore, AreFew, FeedsPiece}
 use Rattle.mt_scan.proofs.Telling.{goes_on, handed_out, all_handed_out}
 
 -- these bytes were returned and fed

@@ -2,7 +2,7 @@
 ghost use Rattle.std.specs.Prelude.{◌≡◌, ◌<◌, ◌↔◌, length, IsTrue, MatchOption};
 ghost use Rattle.mt_scan.specs.PartScans.{shown_by, shown_by_all};
 ghost use Rattle.mt_scan.specs.Choice.{IsPartAt, AreInPlace, MakeUp, checkpoint_in};
-ghost use Rattle.mt_scan.specs.Checkpoints.{MakeUpNone, IsMadeOf};
+ghost use Rattle.mt_scan.specs.Steps.Checkpoints.{MakeUpNone, IsMadeOf};
 
 use crate::rising::do_entries_rise;
 use mt_record::{KeptEntries, PartText};

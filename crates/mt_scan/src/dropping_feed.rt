@@ -2,7 +2,7 @@
 ghost use Rattle.std.specs.Prelude.{◌≡◌, None, false, ◌≤◌, ◌<◌, ◌++◌, ◌^◌, [], List, ℕ, length, min, ◌+◌, ◌-◌, IfOk, IfErr, IsErr};
 ghost use Rattle.mt_scan.specs.Scans.{IsLogVerdict, failures_of};
 ghost use Rattle.mt_scan.specs.Dropping.{HasAllBelow, KeepsOnlyBelow};
-ghost use Rattle.mt_scan.specs.DroppingFeeds.{IsFedBelow, HasRead, HasStopped};
+ghost use Rattle.mt_scan.specs.Steps.DroppingFeeds.{IsFedBelow, HasRead, HasStopped};
 
 use crate::log_scan::{LogScan, scan_of};
 use mt_record::{Dropped, KeptRecords, LogFeed};

@@ -3,7 +3,7 @@ ghost use Rattle.std.specs.Prelude.{◌≡◌, ◌+◌, ◌++◌, ◌<◌, ◌^�
 ghost use Rattle.mt_record.specs.LogFeeding.{IsLogFed};
 ghost use Rattle.mt_record.specs.PartFeeding.{IsPartFed};
 ghost use Rattle.mt_scan.specs.Scans.{OfTold};
-ghost use Rattle.mt_scan.specs.Feeding.{NeedsNoMore, AreFew, FeedsPiece};
+ghost use Rattle.mt_scan.specs.Steps.Feeding.{NeedsNoMore, AreFew, FeedsPiece};
 
 use crate::source::{Source, SourceFault};
 use mt_record::{KeptEntries, KeptRecords, LogFeed, PartFeed};

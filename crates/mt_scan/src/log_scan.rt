@@ -3,7 +3,7 @@ ghost use Rattle.std.specs.Prelude.{◌≡◌, [], List, ℕ, IfSome, IfNone};
 ghost use Rattle.mt_record.specs.Logs.{LogReading, IsKeptTextOf};
 ghost use Rattle.mt_scan.specs.Scans.{IsScanOf};
 ghost use Rattle.mt_scan.specs.Cutoff.{HaveNumbersOf, IsCutoff};
-ghost use Rattle.mt_scan.specs.DroppingFeeds.{scan_from};
+ghost use Rattle.mt_scan.specs.Steps.DroppingFeeds.{scan_from};
 
 use mt_record::{KeptRecords, LogText, Updates};
 

@@ -3,7 +3,7 @@ ghost use Rattle.std.specs.Prelude.{◌≡◌, ◌↔◌, [], ◌∷◌, ◌++�
 ghost use Rattle.mt_words.specs.Words.{AreRising};
 ghost use Rattle.mt_scan.specs.PartScans.{shown_by_all};
 ghost use Rattle.mt_scan.specs.Choice.{entry_keys};
-ghost use Rattle.mt_scan.specs.Checkpoints.{entries_of, none_or_one, last_of};
+ghost use Rattle.mt_scan.specs.Steps.Checkpoints.{entries_of, none_or_one, last_of};
 
 use mt_record::{KeptEntries, PartText};
 

@@ -1,8 +1,8 @@
 //! The selection of the best checkpoint.
 ghost use Rattle.std.specs.Prelude.{◌≡◌, ◌↔◌, ℕ, List, [], ◌∷◌, ◌++◌, Some, IsTrue, IfOk, OnOk};
 ghost use Rattle.mt_scan.specs.PartScans.{KnownPart};
-ghost use Rattle.mt_scan.specs.Groups.{AreGroupsOf};
-ghost use Rattle.mt_scan.specs.Selections.{GroupsBelow, IsSelectionOf, IsNoWorse, IsSelectionFor};
+ghost use Rattle.mt_scan.specs.Steps.Groups.{AreGroupsOf};
+ghost use Rattle.mt_scan.specs.Steps.Selections.{GroupsBelow, IsSelectionOf, IsNoWorse, IsSelectionFor};
 
 use crate::checkpoint::Checkpoint;
 use crate::group::PartGroup;

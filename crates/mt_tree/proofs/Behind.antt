@@ -6,12 +6,12 @@ use Rattle.mt_words.specs.Slices.{AreBytes, slice_in, slice_bytes}
 use Rattle.mt_words.specs.Walks.{Pair, joined}
 use Rattle.mt_words.proofs.SliceBytes.{slice_bytes-length, slice_bytes-long, bytes_take}
 use Rattle.mt_tree.specs.Layer.{PlaceView, link, slice_at, length_at, rank_at, key_rank, pairs_at, put_before, walk, weight, IsPlace, HasNoEmptyKey, IsLayer, AllKeysBelow, Meet}
-use Rattle.mt_tree.specs.Falls.{weight-append, walk-append, layer_back}
+use Rattle.mt_tree.specs.Steps.Falls.{weight-append, walk-append, layer_back}
 use Rattle.mt_tree.specs.Nodes.{IsBorder}
-use Rattle.mt_tree.specs.NodeFalls.{joined-append}
+use Rattle.mt_tree.specs.Steps.NodeFalls.{joined-append}
 use Rattle.mt_tree.specs.Borders.{DraftView, IsBorderList, borders_walk}
 use Rattle.mt_tree.specs.Nodes.{first_slice_of}
-use Rattle.mt_tree.specs.DraftViews.{draft_views, draft_view, border_views, draft_of, IsStored, PutBehind}
+use Rattle.mt_tree.specs.Steps.DraftViews.{draft_views, draft_view, border_views, draft_of, IsStored, PutBehind}
 use Rattle.mt_tree.specs.declared.layer.Border.{Border}
 use Rattle.mt_tree.specs.declared.layer.Border.TheVariants.{Open}
 use Rattle.mt_tree.specs.declared.layer.DraftPlace.{DraftPlace}

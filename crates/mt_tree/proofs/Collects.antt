@@ -14,8 +14,8 @@ use Rattle.mt_words.proofs.SliceBytes.{bytes_take}
 use Rattle.mt_tree.specs.Layer.{PlaceView, long, link, slice_at, rank_at, pairs_at, put_before, walk, weight, IsPlace, IsLayerFrom, FitsAfter}
 use Rattle.mt_words.specs.Walks.{Pair, joined}
 use Rattle.mt_tree.specs.Nodes.{NodeView, places, borders_of, branches, IsNode, AreSeparated, SlicesFrom}
-use Rattle.mt_tree.specs.NodeFalls.{joined-append, all_weight}
-use Rattle.mt_tree.specs.NodeViews.{views, view_of, view_of_content, node_view, IsNodeKind}
+use Rattle.mt_tree.specs.Steps.NodeFalls.{joined-append, all_weight}
+use Rattle.mt_tree.specs.Steps.NodeViews.{views, view_of, view_of_content, node_view, IsNodeKind}
 use Rattle.mt_tree.specs.Range.{from}
 use Rattle.mt_tree.specs.declared.node.Place.{Place}
 use Rattle.mt_tree.specs.declared.node.NodeKind.{NodeKind}
@@ -27,7 +27,7 @@ use Rattle.mt_tree.proofs.Finds.{pairs_rank, view_lawful, layer_lawful, border_l
 use Rattle.mt_tree.proofs.Orders.{pairs_bytes}
 use Rattle.mt_tree.proofs.Lights.{kid_lighter, view_light, kids_more}
 use Rattle.mt_tree.proofs.Ranged.{from-append, from_kept, from_empty, short_from, below_from, place_gone}
-use Rattle.mt_tree.specs.Falls.{walk-append}
+use Rattle.mt_tree.specs.Steps.Falls.{walk-append}
 use Rattle.mt_tree.proofs.Joins.{put_before-append, all_weaker, all_front, all_back, length_at-le}
 
 -- ---- what a place's test says

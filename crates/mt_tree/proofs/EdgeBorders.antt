@@ -6,16 +6,16 @@ use Rattle.std.proofs.lemmas.List.{append-nil, map-append, length-map}
 use Rattle.mt_tree.specs.Layer.{PlaceView, walk, IsPlace, IsLayer}
 use Rattle.mt_words.specs.Walks.{Pair, joined}
 use Rattle.mt_tree.specs.Nodes.{IsBorder}
-use Rattle.mt_tree.specs.NodeFalls.{joined-append}
+use Rattle.mt_tree.specs.Steps.NodeFalls.{joined-append}
 use Rattle.mt_tree.specs.Borders.{DraftView, layer_walk}
-use Rattle.mt_tree.specs.Edges.{PlaceEdge, LastEdge, FirstEdge}
-use Rattle.mt_tree.specs.DraftViews.{draft_views, draft_view, border_view, border_views, draft_of, IsOpen, IsOpened, IsFirstOpen, IsLastOpen, IsStored}
+use Rattle.mt_tree.specs.Steps.Edges.{PlaceEdge, LastEdge, FirstEdge}
+use Rattle.mt_tree.specs.Steps.DraftViews.{draft_views, draft_view, border_view, border_views, draft_of, IsOpen, IsOpened, IsFirstOpen, IsLastOpen, IsStored}
 use Rattle.mt_tree.specs.declared.layer.Border.{Border}
 use Rattle.mt_tree.specs.declared.layer.Border.TheVariants.{Open, Closed}
 use Rattle.mt_tree.specs.declared.layer.DraftPlace.{DraftPlace}
 use Rattle.mt_tree.proofs.Orders.{last_of, first_of, last_edge, first_edge}
 use Rattle.mt_tree.proofs.Puts.{borders-append, last_open}
-use Rattle.mt_tree.specs.Falls.{layer_back}
+use Rattle.mt_tree.specs.Steps.Falls.{layer_back}
 use Rattle.mt_tree.proofs.Joins.{all_back}
 
 opened_view : (b : Border) (rs : List DraftPlace) → IsOpened b rs → border_view b ≡ draft_views rs

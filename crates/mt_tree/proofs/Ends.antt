@@ -5,11 +5,11 @@ use Rattle.std.proofs.lemmas.Grind.{flat_map-append}
 use Rattle.mt_tree.proofs.Counts.{counted_more}
 use Rattle.mt_tree.proofs.Levels.{below-append}
 use Rattle.mt_tree.specs.Layer.{PlaceView, link, IsPlace, IsLayer, walk, weight}
-use Rattle.mt_tree.specs.Falls.{weight-append, walk-append, layer_back, layer_front}
+use Rattle.mt_tree.specs.Steps.Falls.{weight-append, walk-append, layer_back, layer_front}
 use Rattle.mt_tree.specs.Nodes.{each_borders, IsBorder, LayerView, IsLayerTree, IsNode, border_tree, AreBelow, IsTreeCount}
-use Rattle.mt_tree.specs.NodeFalls.{joined-append}
+use Rattle.mt_tree.specs.Steps.NodeFalls.{joined-append}
 use Rattle.mt_tree.specs.Borders.{DraftView, IsBorderList, borders_walk, layer_walk}
-use Rattle.mt_tree.specs.NodeViews.{views, view_of, trees_of, trees_of_content, border_node}
+use Rattle.mt_tree.specs.Steps.NodeViews.{views, view_of, trees_of, trees_of_content, border_node}
 use Rattle.std.specs.List.{flat_map}
 use Rattle.mt_words.specs.Walks.{joined}
 use Rattle.mt_tree.specs.declared.node.Place.{Place}

@@ -16,19 +16,19 @@ use Rattle.mt_words.proofs.SliceBytes.{slice_bytes-length}
 use Rattle.mt_tree.specs.Layer.{PlaceView, short, long, link, slice_at, length_at, rank_at, pairs_at, put_before, walk, IsPlace, HasNoEmptyKey, IsLayerFrom, IsLayer, find_key}
 use Rattle.mt_words.specs.Walks.{Pair, joined}
 use Rattle.mt_tree.specs.Nodes.{NodeView, places, borders_of, branches, IsNode, AreSeparated, SlicesFrom}
-use Rattle.mt_tree.specs.NodeFalls.{joined-append, branches_length}
+use Rattle.mt_tree.specs.Steps.NodeFalls.{joined-append, branches_length}
 use Rattle.std.proofs.Common.{Vec, Global, Bor}
 use Rattle.arrayvec.specs.declared.array_vec.ArrayVec.{ArrayVec}
 use Rattle.std.specs.Global.{Box}
 use Rattle.std.specs.List.{All}
 use Rattle.std.proofs.lemmas.List.Elements.{recursion_from_All}
-use Rattle.mt_tree.specs.NodeViews.{views, view_of, view_of_content, node_view, IsNodeKind}
+use Rattle.mt_tree.specs.Steps.NodeViews.{views, view_of, view_of_content, node_view, IsNodeKind}
 use Rattle.mt_tree.specs.declared.node.Content.{Content}
 use Rattle.mt_tree.specs.declared.node.Content.TheVariants.{Short, Suffix, Link}
 use Rattle.mt_tree.specs.declared.node.Place.{Place}
 use Rattle.mt_tree.specs.declared.node.NodeKind.{NodeKind}
 use Rattle.mt_tree.specs.declared.node.NodeKind.TheVariants.{Border, Interior}
-use Rattle.mt_tree.specs.Falls.{walk-append}
+use Rattle.mt_tree.specs.Steps.Falls.{walk-append}
 use Rattle.mt_tree.proofs.Joins.{long_rank}
 
 unequal : (k x : List ℕ) → (k ≡ x → ⊥) → pointwise nat_eq k x ≡ false

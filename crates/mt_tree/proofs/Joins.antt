@@ -11,10 +11,10 @@ use Rattle.mt_words.proofs.SliceBytes.{slice_bytes-length}
 use Rattle.mt_tree.specs.Layer.{PlaceView, short, long, link, slice_at, length_at, rank_at, pairs_at, put_before, walk, IsPlace, HasNoEmptyKey, IsLayerFrom, IsLayer, AllKeysBelow, Meet, weight}
 use Rattle.mt_words.specs.Walks.{Pair, KeysRise}
 use Rattle.mt_words.specs.Words.{IsBelow}
-use Rattle.mt_tree.specs.DraftViews.{draft_views, draft_view, draft_view_of}
+use Rattle.mt_tree.specs.Steps.DraftViews.{draft_views, draft_view, draft_view_of}
 use Rattle.mt_tree.specs.declared.layer.DraftContent.{DraftContent}
 use Rattle.mt_tree.specs.declared.layer.DraftContent.TheVariants.{Short, Suffix, Link}
-use Rattle.mt_tree.specs.Falls.{weight-append, weight-put_before, walk-append}
+use Rattle.mt_tree.specs.Steps.Falls.{weight-append, weight-put_before, walk-append}
 use Rattle.mt_tree.specs.declared.layer.DraftPlace.{DraftPlace}
 
 -- ---- keys below keys

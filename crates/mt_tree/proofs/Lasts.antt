@@ -2,7 +2,7 @@
 use Rattle.std.proofs.Common.{◌≡◌, ℕ, zero, suc, ◌<◌, ◌≤◌, List, [], ◌∷◌, length, drop, get_or, sym, ap, arith}
 use Rattle.mt_tree.specs.Layer.{slice_at, rank_at, IsLayerFrom}
 use Rattle.mt_tree.specs.Nodes.{SlicesFrom}
-use Rattle.mt_tree.specs.DraftViews.{draft_views, draft_view}
+use Rattle.mt_tree.specs.Steps.DraftViews.{draft_views, draft_view}
 use Rattle.mt_tree.specs.declared.layer.DraftPlace.{DraftPlace}
 use Rattle.mt_tree.proofs.Joins.{slice_at-draft, all_weaker}
 use Rattle.mt_tree.proofs.Cuts.{slices_from}

@@ -6,18 +6,18 @@ use Rattle.std.proofs.lemmas.Grind.{flat_map-append}
 use Rattle.std.proofs.lemmas.List.Folds.{flat_map-map}
 use Rattle.mt_words.specs.Slices.{slice_bytes}
 use Rattle.mt_words.proofs.SliceBytes.{slice_bytes-length}
-use Rattle.mt_tree.specs.Falls.{weight-append, walk-append, layer_back, layer_front}
+use Rattle.mt_tree.specs.Steps.Falls.{weight-append, walk-append, layer_back, layer_front}
 use Rattle.mt_tree.specs.Layer.{walk, weight, pairs_at, PlaceView, short, long, link, slice_at, rank_at, IsPlace, IsLayerFrom, IsLayer}
 use Rattle.mt_words.specs.Walks.{Pair, joined}
 use Rattle.mt_tree.specs.Nodes.{NodeView, BranchView, InteriorView, LayerView, HaveInteriors, as_branch, none, border, interior, AreLinked, AreBelow, each_borders, places, borders_of, interiors_of, below_of, SlicesFrom, SlicesBelow, SlicesApart, IsBorder, IsNode, IsNodeAt, IsLevelAt, IsLevel, IsInterior, IsLayerTree, AreSeparated, level_height, branches, CutAt, first_slice_of, first_of, interior_node, parent_node}
 use Rattle.mt_tree.specs.Layers.{linked_walks}
-use Rattle.mt_tree.specs.NodeFalls.{joined-append, branches_length}
+use Rattle.mt_tree.specs.Steps.NodeFalls.{joined-append, branches_length}
 use Rattle.mt_tree.proofs.Finds.{AreChildren, interior_is}
 use Rattle.mt_tree.proofs.Joins.{all_append, below_lighter, all_back, all_front, all_weaker}
 use Rattle.mt_tree.proofs.Cuts.{slices_from, borders_of-append, level_is}
 use Rattle.arrayvec.specs.declared.array_vec.ArrayVec.{ArrayVec}
 use Rattle.std.specs.Global.{Box}
-use Rattle.mt_tree.specs.NodeViews.{node_view, IsNodeKind}
+use Rattle.mt_tree.specs.Steps.NodeViews.{node_view, IsNodeKind}
 use Rattle.mt_tree.specs.declared.node.NodeKind.{NodeKind}
 use Rattle.mt_tree.specs.declared.node.NodeKind.TheVariants.{Interior}
 

@@ -4,10 +4,10 @@ use Rattle.std.specs.List.{AllByRecursion}
 use Rattle.std.proofs.lemmas.List.{append-nil, take_more, map_more}
 use Rattle.mt_words.specs.Walks.{joined}
 use Rattle.mt_tree.specs.Layer.{PlaceView, link, pairs_at, walk, weight, IsPlace}
-use Rattle.mt_tree.specs.Falls.{weight-append}
+use Rattle.mt_tree.specs.Steps.Falls.{weight-append}
 use Rattle.mt_tree.specs.Nodes.{NodeView, places, borders_of, IsNode}
-use Rattle.mt_tree.specs.NodeFalls.{node_some, all_weight, all_weight-cons, joined-append}
-use Rattle.mt_tree.specs.NodeViews.{views, view_of, view_of_content}
+use Rattle.mt_tree.specs.Steps.NodeFalls.{node_some, all_weight, all_weight-cons, joined-append}
+use Rattle.mt_tree.specs.Steps.NodeViews.{views, view_of, view_of_content}
 use Rattle.mt_tree.specs.declared.node.Place.{Place}
 use Rattle.mt_tree.specs.declared.node.Content.{Content}
 use Rattle.mt_tree.specs.declared.node.Content.TheVariants.{Link}

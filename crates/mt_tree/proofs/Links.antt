@@ -5,10 +5,10 @@ use Rattle.std.proofs.lemmas.List.{length-map}
 use Rattle.mt_tree.specs.Layer.{PlaceView}
 use Rattle.mt_tree.specs.Layers.{linked_walks}
 use Rattle.mt_tree.specs.Nodes.{LayerView, each_borders, IsLayerTree, AreLinked}
-use Rattle.mt_tree.specs.NodeViews.{trees_of}
+use Rattle.mt_tree.specs.Steps.NodeViews.{trees_of}
 use Rattle.mt_words.specs.Walks.{Pair, joined}
 use Rattle.mt_tree.specs.Borders.{IsBorderList, AreBorders, SameEnds}
-use Rattle.mt_tree.specs.DraftViews.{draft_view, draft_view_of, draft_views, border_view, border_views, layers_of, layers_of_border, layers_of_content, draft_of, IsLawfulLink, HaveLawfulLinks, HasLawfulLinks, IsFirstOpen, IsLastOpen, IsStored, PutBehind, PutOpen}
+use Rattle.mt_tree.specs.Steps.DraftViews.{draft_view, draft_view_of, draft_views, border_view, border_views, layers_of, layers_of_border, layers_of_content, draft_of, IsLawfulLink, HaveLawfulLinks, HasLawfulLinks, IsFirstOpen, IsLastOpen, IsStored, PutBehind, PutOpen}
 use Rattle.mt_tree.specs.declared.layer.Border.{Border}
 use Rattle.mt_tree.specs.declared.layer.Border.TheVariants.{Open, Closed}
 use Rattle.mt_tree.specs.declared.layer.DraftPlace.{DraftPlace}

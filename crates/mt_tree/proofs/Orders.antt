@@ -10,8 +10,8 @@ use Rattle.mt_words.proofs.SliceBytes.{slice_bytes-length}
 use Rattle.mt_tree.specs.Layer.{PlaceView, short, long, link, rank_at, pairs_at, put_before, walk, IsPlace, IsLayerFrom, IsLayer, AllKeysBelow, weight}
 use Rattle.mt_words.specs.Walks.{Pair}
 use Rattle.mt_words.specs.Words.{IsBelow}
-use Rattle.mt_tree.specs.Edges.{PlaceEdge, IsEdge, LastEdge, FirstEdge, HasBytes}
-use Rattle.mt_tree.specs.Falls.{weight-append, walk-append, layer_back}
+use Rattle.mt_tree.specs.Steps.Edges.{PlaceEdge, IsEdge, LastEdge, FirstEdge, HasBytes}
+use Rattle.mt_tree.specs.Steps.Falls.{weight-append, walk-append, layer_back}
 use Rattle.mt_tree.proofs.Joins.{all_append, below_unprefixed, below_lighter, all_front, all_back, all_weaker, length_at-le, long_bytes}
 use Rattle.mt_tree.proofs.Finds.{pairs_rank, rest_is}
 use Rattle.mt_words.proofs.SliceBytes.{below-prefixed}

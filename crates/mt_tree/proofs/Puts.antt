@@ -8,15 +8,15 @@ use Rattle.mt_words.specs.Walks.{joined}
 use Rattle.mt_tree.specs.Layer.{PlaceView, slice_at, rank_at, IsLayer, IsLayerFrom}
 use Rattle.mt_tree.specs.Nodes.{SlicesBelow, SlicesFrom, IsBorder, CutAt, OfSlice, first_slice_of}
 use Rattle.mt_tree.specs.Borders.{IsBorderList, last_slice_of}
-use Rattle.mt_tree.specs.NodeFalls.{joined-append}
-use Rattle.mt_tree.specs.DraftViews.{draft_views, draft_view, border_view, border_views, IsLawfulLink, HaveLawfulLinks, HasLawfulLinks, IsOpen, IsFirstOpen, IsLastOpen, PutBehind, PutOpen}
+use Rattle.mt_tree.specs.Steps.NodeFalls.{joined-append}
+use Rattle.mt_tree.specs.Steps.DraftViews.{draft_views, draft_view, border_view, border_views, IsLawfulLink, HaveLawfulLinks, HasLawfulLinks, IsOpen, IsFirstOpen, IsLastOpen, PutBehind, PutOpen}
 use Rattle.mt_tree.specs.declared.layer.Border.{Border}
 use Rattle.mt_tree.specs.declared.layer.Border.TheVariants.{Open}
 use Rattle.mt_tree.specs.declared.layer.DraftPlace.{DraftPlace}
 use Rattle.mt_tree.proofs.Joins.{slice_at-draft, slice_at-lt, all_append, all_weaker, all_front, all_back, length_at-le}
 use Rattle.mt_tree.proofs.Cuts.{slices_from, cut_nil, run_few}
 use Rattle.mt_tree.proofs.Seams.{are_append, cut_each, up_to_last, from_first_slice}
-use Rattle.mt_tree.specs.Falls.{layer_back, layer_front}
+use Rattle.mt_tree.specs.Steps.Falls.{layer_back, layer_front}
 
 pub borders-append : (bs ds : List Border) → border_views (bs ++ ds) ≡ border_views bs ++ border_views ds
 borders-append bs ds = map-append border_view bs ds

@@ -19,7 +19,7 @@ use Rattle.mt_tree.proofs.Orders.{pairs_bytes, link_bytes}
 use Rattle.mt_tree.specs.Layer.{short, HasNoEmptyKey}
 use Rattle.mt_tree.specs.Layer.{PlaceView, put_before, pairs_at, rank_at, IsPlace}
 use Rattle.mt_words.specs.Walks.{Pair}
-use Rattle.mt_tree.specs.Edges.{HasBytes}
+use Rattle.mt_tree.specs.Steps.Edges.{HasBytes}
 use Rattle.mt_tree.specs.Range.{from}
 use Rattle.mt_tree.proofs.Joins.{all_weaker}
 

@@ -5,12 +5,12 @@ use Rattle.std.proofs.lemmas.List.{append-nil}
 use Rattle.mt_words.specs.Walks.{joined}
 use Rattle.mt_tree.specs.Layer.{PlaceView, slice_at, rank_at, IsLayer, IsLayerFrom}
 use Rattle.mt_tree.specs.Nodes.{SlicesFrom, SlicesApart, IsBorder, CutAt}
-use Rattle.mt_tree.specs.NodeFalls.{joined-append}
+use Rattle.mt_tree.specs.Steps.NodeFalls.{joined-append}
 use Rattle.mt_tree.specs.Borders.{IsBorderList, SameEnds, last_slice_of}
 use Rattle.mt_tree.specs.Nodes.{first_slice_of}
 use Rattle.mt_tree.proofs.Joins.{all_append, all_weaker, all_front, all_back, length_at-le}
 use Rattle.mt_tree.proofs.Cuts.{slices_from}
-use Rattle.mt_tree.specs.Falls.{layer_back, layer_front}
+use Rattle.mt_tree.specs.Steps.Falls.{layer_back, layer_front}
 
 -- two lists of borders with slices apart make one such list, if the first list's slices are below the second's
 apart_append : (fs bs : List (List PlaceView)) → SlicesApart fs → SlicesApart bs → AllByRecursion (λ a. CutAt a (joined bs)) fs → SlicesApart (fs ++ bs)

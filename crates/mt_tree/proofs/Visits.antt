@@ -5,7 +5,7 @@ use Rattle.mt_words.specs.Slices.{slice_bytes}
 use Rattle.mt_words.specs.Walks.{Pair}
 use Rattle.mt_tree.specs.Layer.{pairs_at, put_before, walk, link, IsPlace, FitsAfter}
 use Rattle.mt_tree.specs.Nodes.{NodeView, places}
-use Rattle.mt_tree.specs.NodeViews.{view_of_content}
+use Rattle.mt_tree.specs.Steps.NodeViews.{view_of_content}
 use Rattle.mt_tree.specs.declared.node.Content.{Content}
 use Rattle.mt_tree.specs.declared.node.Content.TheVariants.{Link}
 

@@ -1,13 +1,7 @@
 pub mod Layer
 pub mod Borders
-pub mod DraftViews
-pub mod Falls
 pub mod Nodes
-pub mod NodeViews
-pub mod NodeFalls
 pub mod Layers
-pub mod Edges
-pub mod Sides
 pub mod Range
-pub mod Ranging
 pub mod Trees
+pub mod Steps

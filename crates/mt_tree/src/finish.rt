@@ -6,9 +6,9 @@ ghost use Rattle.mt_tree.specs.Nodes.{places, borders_of, below_of, each_borders
 ghost use Rattle.mt_tree.specs.Nodes.{border_tree, first_of, parent_node};
 ghost use Rattle.mt_tree.specs.Nodes.{IsNode, IsNodeAt, IsLevel, IsLevelAt, IsBorder, AreBelow, IsTreeCount};
 ghost use Rattle.mt_tree.specs.declared.node.TheConstants.{MOST_CHILDREN};
-ghost use Rattle.mt_tree.specs.DraftViews.{draft_view, draft_views, border_view};
-ghost use Rattle.mt_tree.specs.DraftViews.{layers_of, layers_of_border, layers_of_content, HasLawfulLinks};
-ghost use Rattle.mt_tree.specs.NodeViews.{views, view_of, trees_of, trees_of_content};
+ghost use Rattle.mt_tree.specs.Steps.DraftViews.{draft_view, draft_views, border_view};
+ghost use Rattle.mt_tree.specs.Steps.DraftViews.{layers_of, layers_of_border, layers_of_content, HasLawfulLinks};
+ghost use Rattle.mt_tree.specs.Steps.NodeViews.{views, view_of, trees_of, trees_of_content};
 
 use crate::layer::{Border, DraftContent, DraftPlace, Layer};
 use crate::node::{Content, MOST_CHILDREN, Node, NodeKind, Place};

@@ -3,8 +3,8 @@ ghost use Rattle.std.specs.Prelude.{◌≡◌, ◌≤◌, ◌+◌, ◌<◌, ◌+
 ghost use Rattle.std.specs.Prelude.{MatchBool, IfOk, OnOk, IsTrue};
 ghost use Rattle.mt_tree.specs.Layer.{walk, pairs_at, put_before, length_at};
 ghost use Rattle.mt_tree.specs.Layer.{IsLayer, IsPlace, HasNoEmptyKey, AllKeysBelow, Meet};
-ghost use Rattle.mt_tree.specs.DraftViews.{draft_view, draft_views, IsLawfulLink, HaveLawfulLinks};
-ghost use Rattle.mt_tree.specs.DraftViews.{IsOpen, IsOpened, PutBehind, PutOpen};
+ghost use Rattle.mt_tree.specs.Steps.DraftViews.{draft_view, draft_views, IsLawfulLink, HaveLawfulLinks};
+ghost use Rattle.mt_tree.specs.Steps.DraftViews.{IsOpen, IsOpened, PutBehind, PutOpen};
 ghost use Rattle.mt_tree.specs.Nodes.{IsBorder, SlicesBelow, SlicesFrom, first_slice_of};
 ghost use Rattle.mt_tree.specs.Borders.{AreBorders, empty_draft, layer_walk, SameEnds, last_slice_of};
 ghost use Rattle.mt_tree.specs.declared.layer.Border.TheVariants.{Open};
@@ -61,7 +61,7 @@ impl Model for Layer {
 
     ghost Value = { DraftView };
 
-    ghost use Rattle.mt_tree.specs.DraftViews.{draft_of, IsStored};
+    ghost use Rattle.mt_tree.specs.Steps.DraftViews.{draft_of, IsStored};
 
     ghost view = { λ a. draft_of a.borders.items };
 
@@ -70,7 +70,7 @@ impl Model for Layer {
     ghost size = { λ v. weight (layer_walk v) };
 
     ghost use Rattle.std.proofs.Common.{arith};
-    ghost use Rattle.mt_tree.specs.Falls.{borders_fall};
+    ghost use Rattle.mt_tree.specs.Steps.Falls.{borders_fall};
 
     ghost size_decreases = { λ a h. omega (arith, borders_fall a.borders.items h.own.2) };
 }

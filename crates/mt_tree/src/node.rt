@@ -5,7 +5,7 @@ ghost use Rattle.std.specs.List.{AllByRecursion};
 ghost use Rattle.std.specs.Option.{option_copied};
 ghost use Rattle.mt_tree.specs.Layer.{PlaceView, walk, find_key, rank_at, length_at, IsPlace};
 ghost use Rattle.mt_tree.specs.Nodes.{places, first_of};
-ghost use Rattle.mt_tree.specs.NodeViews.{views, view_of};
+ghost use Rattle.mt_tree.specs.Steps.NodeViews.{views, view_of};
 
 use arrayvec::ArrayVec;
 use mt_words::{Columns, Kept, slice_of};
@@ -70,7 +70,7 @@ impl Model for Node {
 
     ghost Value = { NodeView };
 
-    ghost use Rattle.mt_tree.specs.NodeViews.{node_view, IsNodeKind};
+    ghost use Rattle.mt_tree.specs.Steps.NodeViews.{node_view, IsNodeKind};
 
     ghost view = { λ a. node_view a.kind };
 
@@ -79,7 +79,7 @@ impl Model for Node {
     ghost size = { λ v. weight (walk (places v)) };
 
     ghost use Rattle.std.proofs.Common.{arith};
-    ghost use Rattle.mt_tree.specs.NodeFalls.{kind_falls};
+    ghost use Rattle.mt_tree.specs.Steps.NodeFalls.{kind_falls};
 
     ghost size_decreases = { λ a h. omega (arith, kind_falls a.kind h) };
 }

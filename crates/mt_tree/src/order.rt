@@ -1,9 +1,9 @@
 //! Whether all keys of one layer lie below all keys of another.
 ghost use Rattle.std.specs.Prelude.{◌≡◌, ◌↔◌, [], ◌∷◌, IsTrue, MatchOption};
 ghost use Rattle.mt_tree.specs.Layer.{AllKeysBelow, IsPlace};
-ghost use Rattle.mt_tree.specs.DraftViews.{draft_view};
-ghost use Rattle.mt_tree.specs.Edges.{PlaceEdge, LastEdge, FirstEdge};
-ghost use Rattle.mt_tree.specs.Sides.{side_walk};
+ghost use Rattle.mt_tree.specs.Steps.DraftViews.{draft_view};
+ghost use Rattle.mt_tree.specs.Steps.Edges.{PlaceEdge, LastEdge, FirstEdge};
+ghost use Rattle.mt_tree.specs.Steps.Sides.{side_walk};
 
 use crate::layer::{DraftContent, DraftPlace, Layer};
 use mt_words::{Columns, Kept, slice_of};

@@ -1,6 +1,6 @@
 //! Queries of ranges of keys: the hits that a walk collects.
 ghost use Rattle.std.specs.Prelude.{◌≤◌, ◌<◌, length, MatchBool};
-ghost use Rattle.mt_tree.specs.Ranging.{HaveCollected, none_collected, both_collected};
+ghost use Rattle.mt_tree.specs.Steps.Ranging.{HaveCollected, none_collected, both_collected};
 
 use crate::hit::{Hit, copy_wanted};
 use crate::visit::Visitor;

@@ -8,7 +8,7 @@ ghost use Rattle.mt_words.specs.Walks.{Pair};
 ghost use Rattle.mt_words.specs.Words.{IsKey};
 ghost use Rattle.mt_tree.specs.Layer.{FitsAfter, IsPlace, key_rank, pairs_at, put_before, rank_at, walk};
 ghost use Rattle.mt_tree.specs.Nodes.{places};
-ghost use Rattle.mt_tree.specs.NodeViews.{view_of};
+ghost use Rattle.mt_tree.specs.Steps.NodeViews.{view_of};
 ghost use Rattle.mt_tree.specs.Range.{from};
 
 use crate::node::{Content, Node, NodeKind, Place, child_at};

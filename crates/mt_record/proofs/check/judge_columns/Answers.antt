@@ -4,7 +4,7 @@ use Rattle.std.proofs.lemmas.Bool.{false≢true, eqb-true}
 use Rattle.std.proofs.lemmas.Bool.Decides.{nat_tests}
 use Rattle.mt_words.specs.declared.limits.Limits.{Limits}
 use Rattle.mt_words.specs.Limits.{limits_of}
-use Rattle.mt_record.specs.Bodies.{HasColumns}
+use Rattle.mt_record.specs.Steps.Bodies.{HasColumns}
 use Rattle.mt_record.proofs.Checked.{AreSoFar, one_more, one_refused, judged_all}
 use Rattle.mt_record.proofs.Columns.{no_columns, step_left, step_joins}
 use Rattle.mt_record.proofs.check.judge_columns.Goals as goal

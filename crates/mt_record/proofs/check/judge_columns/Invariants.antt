@@ -1,6 +1,6 @@
 use Rattle.std.proofs.Common.{◌-◌, ◌++◌, List, ℕ}
 use Rattle.mt_words.specs.Limits.{limits_of}
-use Rattle.mt_record.specs.Bodies.{HasColumns, AreSpelled}
+use Rattle.mt_record.specs.Steps.Bodies.{HasColumns, AreSpelled}
 use Rattle.mt_record.proofs.Checked.{AreSoFar}
 use Rattle.mt_record.proofs.check.judge_columns.Given as goal
 

@@ -1,7 +1,7 @@
 use Rattle.std.proofs.Common.{◌∙◌, sym, arith}
 use Rattle.mt_words.specs.Limits.{limits_of}
 use Rattle.mt_words.specs.Codes.{byte_of}
-use Rattle.mt_record.specs.Bodies.{IsJudgedKind, AreJudgedColumns}
+use Rattle.mt_record.specs.Steps.Bodies.{IsJudgedKind, AreJudgedColumns}
 use Rattle.mt_record.proofs.Changes.{judged_columns, judged_numbers}
 use Rattle.mt_record.proofs.Checked.{some_weaker}
 use Rattle.mt_record.proofs.check.judge_kind.Goals as goal

@@ -1,5 +1,5 @@
 use Rattle.std.proofs.Common.{◌∷◌, length}
-use Rattle.mt_record.specs.Adding.{Adds}
+use Rattle.mt_record.specs.Steps.Adding.{Adds}
 use Rattle.mt_record.proofs.Encoding.{first_bytes}
 use Rattle.mt_record.proofs.encode.put_columns.Given as goal
 

@@ -1,7 +1,7 @@
 use Rattle.std.proofs.Common.{ℕ, subst, inr}
 use Rattle.mt_words.specs.Limits.{limits_of}
 use Rattle.mt_record.specs.PartFeeding.{ShowsNoEntry}
-use Rattle.mt_record.specs.Bodies.{IsWithin, IsFrame, IsFrameFault}
+use Rattle.mt_record.specs.Steps.Bodies.{IsWithin, IsFrame, IsFrameFault}
 use Rattle.mt_record.proofs.Checked.{on_err}
 use Rattle.mt_record.proofs.EntryTexts.{frame_no_entry, wrong_entry}
 use Rattle.mt_record.proofs.frame.next_entry.Goals as goal

@@ -1,5 +1,5 @@
 use Rattle.std.proofs.Common.{arith}
-use Rattle.mt_record.specs.Bodies.{IsWithin}
+use Rattle.mt_record.specs.Steps.Bodies.{IsWithin}
 use Rattle.mt_record.proofs.Frames.{trailer_fault, parts}
 use Rattle.mt_record.proofs.frame.next_frame.Goals as goal
 

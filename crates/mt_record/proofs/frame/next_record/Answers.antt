@@ -1,7 +1,7 @@
 use Rattle.std.proofs.Common.{ℕ, ◌+◌, subst}
 use Rattle.std.proofs.lemmas.Result.{err_from_is_err_and}
 use Rattle.mt_words.specs.Limits.{limits_of}
-use Rattle.mt_record.specs.Bodies.{IsWithin, IsFrameFault}
+use Rattle.mt_record.specs.Steps.Bodies.{IsWithin, IsFrameFault}
 use Rattle.mt_record.proofs.Frames.{rest_fault}
 use Rattle.mt_record.proofs.frame.next_record.Goals as goal
 

@@ -8,7 +8,7 @@ use Rattle.mt_replay.specs.Walk.{IsWalk}
 use Rattle.mt_tree.specs.Borders.{layer_walk}
 use Rattle.mt_recover.specs.declared.haul.Haul.{Haul}
 use Rattle.mt_recover.specs.declared.haul.Piece.{Piece}
-use Rattle.mt_recover.specs.Assembling.{all_held}
+use Rattle.mt_recover.specs.Steps.Assembling.{all_held}
 use Rattle.mt_recover.specs.Hauls.{IsLeftOut}
 use Rattle.mt_recover.specs.Job.{JobView}
 use Rattle.mt_recover.specs.Prepared.{PreparedView, IsMadeOf}

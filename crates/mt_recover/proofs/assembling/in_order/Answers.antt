@@ -1,7 +1,7 @@
 use Rattle.std.proofs.Common.{◌≡◌, ◌∙◌, ◌<◌, ◌∷◌, ◌++◌, [], ℕ, List, length, sym, ap, subst, append_assoc, arith}
 use Rattle.std.specs.Vec.Iter.{into_iter_items}
 use Rattle.mt_recover.specs.declared.haul.Piece.{Piece}
-use Rattle.mt_recover.specs.Assembling.{AreDraftsOf, IsFirstLacking}
+use Rattle.mt_recover.specs.Steps.Assembling.{AreDraftsOf, IsFirstLacking}
 use Rattle.mt_recover.proofs.Assembles.{taken, passed, all_taken, next_lacks}
 use Rattle.mt_recover.proofs.SharingLemmas.{all_yielded}
 use Rattle.mt_recover.proofs.assembling.in_order.Goals as goal

@@ -1,6 +1,6 @@
 use Rattle.std.proofs.Common.{◌≡◌, ◌++◌}
 use Rattle.std.specs.Vec.Iter.{into_iter_items}
-use Rattle.mt_recover.specs.Assembling.{AreDraftsOf}
+use Rattle.mt_recover.specs.Steps.Assembling.{AreDraftsOf}
 use Rattle.mt_recover.proofs.Assembles.{NoneIsNext}
 use Rattle.mt_recover.proofs.assembling.in_order.Given as goal
 

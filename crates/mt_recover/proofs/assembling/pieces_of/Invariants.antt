@@ -1,6 +1,6 @@
 use Rattle.std.proofs.Common.{◌≡◌, ◌++◌}
 use Rattle.std.specs.Vec.Iter.{into_iter_items}
-use Rattle.mt_recover.specs.Assembling.{all_held}
+use Rattle.mt_recover.specs.Steps.Assembling.{all_held}
 use Rattle.mt_recover.proofs.assembling.pieces_of.Given as goal
 
 -- the pieces of the hauls so far

@@ -3,7 +3,7 @@ use Rattle.std.specs.List.{All, AllZip}
 use Rattle.std.specs.Vec.Iter.{into_iter_items}
 use Rattle.std.proofs.lemmas.List.{get_or-map, length-map}
 use Rattle.std.proofs.lemmas.Result.{IfOk-weaker}
-use Rattle.mt_recover.specs.Scanning.{AreDealt}
+use Rattle.mt_recover.specs.Steps.Scanning.{AreDealt}
 use Rattle.mt_recover.proofs.SharingLemmas.{dealt_each, dealt_answers, zip_of_jobs, shares_done}
 use Rattle.mt_recover.proofs.by_workers.by_workers.Goals as goal
 

@@ -2,7 +2,7 @@ use Rattle.std.proofs.Common.{◌∷◌, [], ◌++◌, ◌∙◌, ◌-◌, ℕ, 
 use Rattle.std.specs.Prelude.{take, drop}
 use Rattle.std.proofs.Math.Seq.{take-nil}
 use Rattle.std.proofs.lemmas.List.{length-drop, length-set, take-append-drop}
-use Rattle.mt_recover.specs.Scanning.{AreDealt}
+use Rattle.mt_recover.specs.Steps.Scanning.{AreDealt}
 use Rattle.mt_recover.proofs.SharingLemmas.{none_dealt, dealt_more}
 use Rattle.mt_recover.proofs.by_workers.deal.Goals as goal
 

@@ -1,5 +1,5 @@
 use Rattle.std.proofs.Common.{◌≡◌, ◌<◌, ◌≤◌, ◌++◌, List, length, map, max}
-use Rattle.mt_recover.specs.Scanning.{AreDealt}
+use Rattle.mt_recover.specs.Steps.Scanning.{AreDealt}
 use Rattle.mt_recover.proofs.by_workers.deal.Given as goal
 
 -- the last jobs are dealt

@@ -1,7 +1,7 @@
 use Rattle.std.proofs.Common.{◌≡◌, ◌<◌, ◌++◌, List, length, map}
 use Rattle.std.specs.List.{flat_map}
 use Rattle.std.specs.Vec.Iter.{into_iter_items}
-use Rattle.mt_recover.specs.Scanning.{AreDealt}
+use Rattle.mt_recover.specs.Steps.Scanning.{AreDealt}
 use Rattle.mt_recover.proofs.by_workers.gather.Given as goal
 
 -- the first answers are gathered

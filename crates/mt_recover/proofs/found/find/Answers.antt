@@ -2,7 +2,7 @@ use Rattle.std.proofs.Common.{rules, ◌∙◌, ℕ, refl, sym, subst}
 use Rattle.std.proofs.lemmas.Result.{err_from_is_err_and}
 use Rattle.mt_words.specs.declared.fault.Fault.TheVariants as faults
 use Rattle.mt_board.specs.Board.{least_of}
-use Rattle.mt_recover.specs.Outcomes.{AllFrom, IsLogOutcome, lasts}
+use Rattle.mt_recover.specs.Steps.Outcomes.{AllFrom, IsLogOutcome, lasts}
 use Rattle.mt_recover.proofs.SourceLemmas.{log_refused, part_refused, none_refused, memory_refused, or_memory}
 use Rattle.mt_recover.proofs.FoundLemmas.{are_shown, of_shown, gap_of, found_of}
 use Rattle.mt_recover.proofs.found.find.Goals as goal

@@ -1,6 +1,6 @@
 use Rattle.std.proofs.Common.{[], map}
 use Rattle.std.proofs.lemmas.Result.{IfOk-weaker, IfErr-weaker}
-use Rattle.mt_recover.specs.Outcomes.{in_memory}
+use Rattle.mt_recover.specs.Steps.Outcomes.{in_memory}
 use Rattle.mt_recover.specs.Report.{IsRecoveredOf}
 use Rattle.mt_recover.proofs.SourceLemmas.{of_memory, answered_in_memory}
 use Rattle.mt_recover.proofs.recovery.recover_logs.Goals as goal

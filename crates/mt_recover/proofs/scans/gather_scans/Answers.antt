@@ -5,7 +5,7 @@ use Rattle.std.proofs.lemmas.List.{length-map}
 use Rattle.std.proofs.lemmas.List.Elements.{All-map}
 use Rattle.std.proofs.lemmas.Result.{IfOk-weaker}
 use Rattle.mt_board.specs.Board.{PassView, least_noted, SawNoneBelow}
-use Rattle.mt_recover.specs.Scanning.{logs_in, parts_in}
+use Rattle.mt_recover.specs.Steps.Scanning.{logs_in, parts_in}
 use Rattle.mt_recover.proofs.ScanLemmas.{in_two_steps}
 use Rattle.mt_recover.proofs.scans.gather_scans.Goals as goal
 

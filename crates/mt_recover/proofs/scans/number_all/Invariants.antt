@@ -1,6 +1,6 @@
 use Rattle.std.proofs.Common.{◌≡◌, ◌++◌}
 use Rattle.std.specs.Vec.Iter.{into_iter_items}
-use Rattle.mt_recover.specs.Scanning.{numbered}
+use Rattle.mt_recover.specs.Steps.Scanning.{numbered}
 use Rattle.mt_recover.proofs.scans.number_all.Given as goal
 
 -- the jobs of the sources so far

@@ -1,5 +1,5 @@
 use Rattle.std.proofs.Common.{append_assoc}
-use Rattle.mt_recover.specs.Scanning.{log_in, part_in}
+use Rattle.mt_recover.specs.Steps.Scanning.{log_in, part_in}
 use Rattle.mt_recover.proofs.ScanLemmas.{next_told}
 use Rattle.mt_recover.proofs.scans.outcomes_of.Goals as goal
 

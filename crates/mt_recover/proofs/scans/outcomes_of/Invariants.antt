@@ -1,6 +1,6 @@
 use Rattle.std.proofs.Common.{◌≡◌, ◌++◌}
 use Rattle.std.specs.Vec.Iter.{into_iter_items}
-use Rattle.mt_recover.specs.Scanning.{logs_in, parts_in}
+use Rattle.mt_recover.specs.Steps.Scanning.{logs_in, parts_in}
 use Rattle.mt_recover.proofs.scans.outcomes_of.Given as goal
 
 -- the first answers are separated

@@ -1,7 +1,7 @@
 use Rattle.std.proofs.Common.{◌≡◌, rules, IfOk, arith}
 use Rattle.std.proofs.lemmas.Result.{IfOk-weaker}
 use Rattle.mt_board.specs.Board.{BoardId}
-use Rattle.mt_recover.specs.Scanning.{HasScanned, answers_of}
+use Rattle.mt_recover.specs.Steps.Scanning.{HasScanned, answers_of}
 use Rattle.mt_recover.proofs.ScanLemmas.{CanBeGathered, all_scanned}
 use Rattle.mt_recover.proofs.SharingLemmas.{zip_of_jobs}
 use Rattle.mt_recover.proofs.scans.scan_all.Goals as goal

@@ -1,6 +1,6 @@
 use Rattle.std.proofs.Common.{◌≡◌, ◌++◌}
 use Rattle.std.specs.Vec.Iter.{into_iter_items}
-use Rattle.mt_recover.specs.Scanning.{HasScanned}
+use Rattle.mt_recover.specs.Steps.Scanning.{HasScanned}
 use Rattle.mt_recover.proofs.scans.scan_jobs.Given as goal
 
 -- the first sources are scanned

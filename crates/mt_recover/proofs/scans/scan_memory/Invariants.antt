@@ -1,5 +1,5 @@
 use Rattle.std.proofs.Common.{◌≡◌, ℕ, length, map, take}
-use Rattle.mt_recover.specs.Outcomes.{AllFrom, IsLogOutcome, in_memory}
+use Rattle.mt_recover.specs.Steps.Outcomes.{AllFrom, IsLogOutcome, in_memory}
 use Rattle.mt_recover.proofs.scans.scan_memory.Given as goal
 
 -- the first logs are scanned

@@ -1,5 +1,5 @@
 use Rattle.std.proofs.Common.{ap, sym, subst, length, arith}
-use Rattle.mt_recover.specs.Scanning.{AreDealt}
+use Rattle.mt_recover.specs.Steps.Scanning.{AreDealt}
 use Rattle.mt_recover.proofs.ScanLemmas.{in_two_steps, shares_fresh}
 use Rattle.mt_recover.proofs.Works.{length-fresh}
 use Rattle.mt_recover.proofs.scans.share_out.Goals as goal

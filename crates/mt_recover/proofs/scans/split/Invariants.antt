@@ -1,6 +1,6 @@
 use Rattle.std.proofs.Common.{◌≡◌, ◌++◌, map}
 use Rattle.std.specs.Vec.Iter.{into_iter_items}
-use Rattle.mt_recover.specs.Scanning.{passes_of}
+use Rattle.mt_recover.specs.Steps.Scanning.{passes_of}
 use Rattle.mt_recover.proofs.scans.split.Given as goal
 
 -- the first scans are split

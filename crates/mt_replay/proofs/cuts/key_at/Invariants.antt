@@ -1,6 +1,6 @@
 use Rattle.std.proofs.Common.{◌≡◌, ◌<◌, drop, length, []}
 use Rattle.std.specs.Prelude.{slice_index_or}
-use Rattle.mt_replay.specs.SortedUpdates.{keys_of}
+use Rattle.mt_replay.specs.Steps.SortedUpdates.{keys_of}
 use Rattle.mt_replay.proofs.cuts.key_at.Given as goal
 
 -- the key stands among those of the parts that are left

@@ -1,4 +1,4 @@
-use Rattle.mt_replay.specs.Walker.{IsWalkSoFar}
+use Rattle.mt_replay.specs.Steps.Walker.{IsWalkSoFar}
 use Rattle.mt_replay.proofs.runs.walk_runs.Given as goal
 
 -- the walk of the updates so far

@@ -1,5 +1,5 @@
 use Rattle.std.proofs.Common.{take}
-use Rattle.mt_scan.specs.Checkpoints.{none_or_one}
+use Rattle.mt_scan.specs.Steps.Checkpoints.{none_or_one}
 use Rattle.mt_scan.proofs.RisingLemmas.{RiseTo, keys_in}
 use Rattle.mt_scan.proofs.rising.do_entries_rise.Given as goal
 

@@ -3,7 +3,7 @@ use Rattle.std.proofs.lemmas.Bool.{false≢true}
 use Rattle.std.proofs.lemmas.List.{length-map}
 use Rattle.mt_words.specs.declared.record.Change.{Change}
 use Rattle.mt_scan.specs.Choice.{entry_keys}
-use Rattle.mt_scan.specs.Checkpoints.{none_or_one}
+use Rattle.mt_scan.specs.Steps.Checkpoints.{none_or_one}
 use Rattle.mt_scan.proofs.RisingLemmas.{key_at, key_more, key_stops}
 use Rattle.mt_scan.proofs.rising.do_rise_from.Goals as goal
 

@@ -1,6 +1,6 @@
 use Rattle.std.proofs.Common.{◌++◌, take}
 use Rattle.mt_scan.specs.Choice.{entry_keys}
-use Rattle.mt_scan.specs.Checkpoints.{none_or_one}
+use Rattle.mt_scan.specs.Steps.Checkpoints.{none_or_one}
 use Rattle.mt_scan.proofs.RisingLemmas.{RiseTo}
 use Rattle.mt_scan.proofs.rising.do_rise_from.Given as goal
 

@@ -1,7 +1,7 @@
 use Rattle.std.proofs.Common.{◌≡◌, ◌∙◌, ◌++◌, List, sym, ap, subst}
 use Rattle.std.proofs.lemmas.List.{map-id}
 use Rattle.std.proofs.lemmas.Map.Iter.{rest_more, rest_so_far, iter_end}
-use Rattle.mt_scan.specs.Selections.{IsSelectionOf}
+use Rattle.mt_scan.specs.Steps.Selections.{IsSelectionOf}
 use Rattle.mt_scan.proofs.SelectionLemmas.{Entry, are_below}
 use Rattle.mt_scan.proofs.ChoiceLemmas.{selection_for}
 use Rattle.mt_scan.proofs.selection.select.Goals as goal

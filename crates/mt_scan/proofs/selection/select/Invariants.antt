@@ -1,4 +1,4 @@
-use Rattle.mt_scan.specs.Selections.{IsSelectionOf}
+use Rattle.mt_scan.specs.Steps.Selections.{IsSelectionOf}
 use Rattle.mt_scan.proofs.selection.select.Given as goal
 
 -- what was found among the groups so far

@@ -3,11 +3,11 @@ use Rattle.std.proofs.lemmas.List.{append-nil, map-append, nil_from_length}
 use Rattle.std.specs.Vec.Iter.{into_iter_items}
 use Rattle.mt_tree.specs.Layer.{PlaceView, link, IsPlace, IsLayer, weight, walk, pairs_at}
 use Rattle.mt_tree.specs.Borders.{DraftView, IsBorderList, layer_walk}
-use Rattle.mt_tree.specs.DraftViews.{draft_view, draft_views, draft_view_of, border_view, border_views, layers_of_border, layers_of_content, HasLawfulLinks}
+use Rattle.mt_tree.specs.Steps.DraftViews.{draft_view, draft_views, draft_view_of, border_view, border_views, layers_of_border, layers_of_content, HasLawfulLinks}
 use Rattle.mt_tree.specs.declared.layer.DraftContent.{DraftContent}
 use Rattle.mt_tree.specs.declared.layer.DraftPlace.{DraftPlace}
 use Rattle.mt_tree.specs.declared.node.Place.{Place}
-use Rattle.mt_tree.specs.NodeViews.{views, view_of, trees_of_content}
+use Rattle.mt_tree.specs.Steps.NodeViews.{views, view_of, trees_of_content}
 use Rattle.mt_tree.proofs.Levels.{place_weight, place_lawful, link_lighter}
 use Rattle.std.specs.List.{AllByRecursion, flat_map}
 use Rattle.mt_tree.specs.Nodes.{NodeView, LayerView, IsNodeAt, IsTreeCount, borders_of, below_of, each_borders}

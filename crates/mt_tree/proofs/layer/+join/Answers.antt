@@ -6,7 +6,7 @@ use Rattle.mt_tree.specs.Layer.{walk, weight, pairs_at, Meet}
 use Rattle.mt_words.specs.Walks.{Pair}
 use Rattle.mt_tree.specs.Borders.{layer_walk}
 use Rattle.mt_tree.specs.Nodes.{IsBorder}
-use Rattle.mt_tree.specs.DraftViews.{draft_view, draft_views, IsFirstOpen, IsStored}
+use Rattle.mt_tree.specs.Steps.DraftViews.{draft_view, draft_views, IsFirstOpen, IsStored}
 use Rattle.mt_tree.specs.declared.layer.DraftPlace.{DraftPlace}
 use Rattle.mt_tree.proofs.Joins.{first_removed, last_lawful, below_at_seam, apart_layer, merged_layer, last_weight, below_lighter, below_shared, Merging, merged_lawful, merged_rank, same_slice}
 use Rattle.mt_tree.proofs.Meets.{open_first, seam_of, same_first, glued_layer, ends_kept, ends_merged, sides, left_layer, right_layer, last_border, seam_walk}

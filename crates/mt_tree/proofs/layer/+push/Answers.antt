@@ -1,6 +1,6 @@
 use Rattle.std.proofs.Common.{◌≡◌, ◌≤◌, ◌-◌, ℕ, [], ◌∷◌, length, get_or, refl, ap, ◌∙◌, arith, rules}
 use Rattle.std.proofs.lemmas.List.{length-map, take_rest}
-use Rattle.mt_tree.specs.DraftViews.{draft_view, draft_views}
+use Rattle.mt_tree.specs.Steps.DraftViews.{draft_view, draft_views}
 use Rattle.mt_tree.proofs.Behind.{open_end, popped_lawful, last_lawful, own_layer, deeper, deeper_below, deeper_light, deeper_layer, deeper_walk, deeper_first, opened, opened_layer, opened_border, opened_below, opened_light, opened_put}
 use Rattle.mt_tree.proofs.Puts.{popped_open}
 use Rattle.mt_tree.proofs.Links.{stored_are, links_parted, put_stored, links_then, links_changed}

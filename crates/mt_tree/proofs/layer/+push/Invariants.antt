@@ -1,7 +1,7 @@
 use Rattle.std.proofs.Common.{◌+◌, ◌*◌}
 use Rattle.mt_tree.specs.Layer.{walk, weight}
 use Rattle.mt_tree.specs.Borders.{layer_walk}
-use Rattle.mt_tree.specs.DraftViews.{draft_views}
+use Rattle.mt_tree.specs.Steps.DraftViews.{draft_views}
 use Rattle.mt_tree.proofs.layer.+push.Given as goal
 
 abbrev pub decreases-Layer::push : goal.decreases-Layer::push

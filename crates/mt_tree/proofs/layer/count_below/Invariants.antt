@@ -1,6 +1,6 @@
 use Rattle.std.proofs.Common.{take}
 use Rattle.mt_tree.specs.Nodes.{SlicesBelow}
-use Rattle.mt_tree.specs.DraftViews.{draft_views}
+use Rattle.mt_tree.specs.Steps.DraftViews.{draft_views}
 use Rattle.mt_tree.proofs.layer.count_below.Given as goal
 
 -- the slices so far are below the given one

@@ -1,8 +1,8 @@
 use Rattle.std.proofs.Common.{sym, subst}
 use Rattle.std.proofs.lemmas.Result.{on_ok_weaker}
 use Rattle.mt_tree.specs.Layer.{IsLayer}
-use Rattle.mt_tree.specs.Falls.{layer_back}
-use Rattle.mt_tree.specs.DraftViews.{draft_views}
+use Rattle.mt_tree.specs.Steps.Falls.{layer_back}
+use Rattle.mt_tree.specs.Steps.DraftViews.{draft_views}
 use Rattle.mt_tree.proofs.Puts.{views_parted, around, put_thirds, few_places}
 use Rattle.mt_tree.proofs.layer.push_around.Goals as goal
 

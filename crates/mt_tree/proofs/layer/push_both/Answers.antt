@@ -1,9 +1,9 @@
 use Rattle.std.proofs.Common.{◌≢◌, sym, ap, ◌∙◌, arith, rules}
 use Rattle.std.proofs.lemmas.Result.{on_ok_weaker}
-use Rattle.mt_tree.specs.Falls.{layer_front, layer_back}
+use Rattle.mt_tree.specs.Steps.Falls.{layer_front, layer_back}
 use Rattle.mt_tree.specs.Borders.{last_slice_of}
 use Rattle.mt_tree.specs.Nodes.{first_slice_of}
-use Rattle.mt_tree.specs.DraftViews.{draft_views}
+use Rattle.mt_tree.specs.Steps.DraftViews.{draft_views}
 use Rattle.mt_tree.proofs.Puts.{at_seam, seam_slices, cut_apart, open_then}
 use Rattle.mt_tree.proofs.layer.push_both.Goals as goal
 

@@ -1,6 +1,6 @@
 use Rattle.std.proofs.Common.{◌≡◌, ◌≤◌, List, length, sym, subst, arith, rules}
 use Rattle.mt_tree.specs.Layer.{IsLayer}
-use Rattle.mt_tree.specs.DraftViews.{draft_views}
+use Rattle.mt_tree.specs.Steps.DraftViews.{draft_views}
 use Rattle.mt_tree.specs.declared.layer.DraftPlace.{DraftPlace}
 use Rattle.std.proofs.lemmas.Result.{on_ok_weaker}
 use Rattle.mt_tree.proofs.Puts.{halves, first_border, put_halves, few_places}

@@ -7,7 +7,7 @@ use Rattle.mt_words.specs.Slices.{slice_in, slice_bytes}
 use Rattle.mt_words.specs.Walks.{Pair, joined}
 use Rattle.mt_tree.specs.Layer.{walk, pairs_at, put_before, rank_at}
 use Rattle.mt_tree.specs.Nodes.{places, borders_of}
-use Rattle.mt_tree.specs.NodeViews.{views, view_of}
+use Rattle.mt_tree.specs.Steps.NodeViews.{views, view_of}
 use Rattle.mt_tree.specs.Range.{from}
 use Rattle.mt_tree.specs.declared.node.Place.{Place}
 use Rattle.mt_tree.proofs.Finds.{border_walk, interior_is, interior_walk}

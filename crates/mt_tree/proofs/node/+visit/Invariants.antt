@@ -2,7 +2,7 @@ use Rattle.std.proofs.Common.{◌≡◌, ◌+◌, ◌*◌, take}
 use Rattle.mt_words.specs.Walks.{joined}
 use Rattle.mt_tree.specs.Layer.{weight, walk, pairs_at, put_before}
 use Rattle.mt_tree.specs.Nodes.{places, borders_of}
-use Rattle.mt_tree.specs.NodeViews.{views, view_of}
+use Rattle.mt_tree.specs.Steps.NodeViews.{views, view_of}
 use Rattle.mt_tree.specs.Range.{from}
 use Rattle.mt_tree.proofs.node.+visit.Given as goal
 

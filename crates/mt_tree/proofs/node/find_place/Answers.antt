@@ -1,7 +1,7 @@
 use Rattle.std.proofs.Common.{◌≡◌, ℕ, ◌+◌, ◌<◌, ◌≤◌, length, get_or, List, sym, ap, ◌∙◌, subst, inl, inr, ◌⊎◌, arith, rules}
 use Rattle.std.proofs.lemmas.Bool.{cases_lt}
 use Rattle.mt_tree.specs.Layer.{PlaceView, rank_at, IsPlace}
-use Rattle.mt_tree.specs.NodeViews.{views, view_of}
+use Rattle.mt_tree.specs.Steps.NodeViews.{views, view_of}
 use Rattle.mt_tree.specs.declared.node.Place.{Place}
 use Rattle.mt_tree.proofs.Finds.{view_lawful, view_at}
 use Rattle.mt_tree.proofs.node.find_place.Goals as goal

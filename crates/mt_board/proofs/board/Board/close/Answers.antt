@@ -1,7 +1,7 @@
 use Rattle.std.proofs.Common.{rules, arith, ap, ◌∙◌, ◌≡◌, sym, subst, List, []}
 use Rattle.mt_board.specs.declared.view.Counts.{Counts}
 use Rattle.mt_board.specs.Board.{BoardId, PassView}
-use Rattle.mt_board.specs.Rule.{Sitter}
+use Rattle.mt_board.specs.Steps.Rule.{Sitter}
 use Rattle.mt_board.proofs.Keeps.{joins}
 use Rattle.mt_board.proofs.Closes.{Gathers, Tells, last_board, gathers_first, gathers_more, closes}
 use Rattle.mt_board.proofs.board.Board.close.Goals as goal

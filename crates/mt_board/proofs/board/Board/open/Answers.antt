@@ -1,5 +1,5 @@
 use Rattle.std.proofs.Common.{rules, arith, ap}
-use Rattle.mt_board.specs.Rule.{Sitter}
+use Rattle.mt_board.specs.Steps.Rule.{Sitter}
 use Rattle.mt_board.proofs.Keeps.{splits}
 use Rattle.mt_board.proofs.board.Board.open.Goals as goal
 

@@ -1,7 +1,7 @@
 use Rattle.std.proofs.Common.{◌≡◌, ◌-◌, ◌≤◌, []}
 use Rattle.std.specs.Vec.{vec_len, vec_capacity}
 use Rattle.mt_board.specs.Board.{fresh_passes}
-use Rattle.mt_board.specs.Rule.{idle_view}
+use Rattle.mt_board.specs.Steps.Rule.{idle_view}
 use Rattle.mt_board.proofs.board.Board.open.Given as goal
 
 abbrev pub invariant-loop-number : goal.invariant-loop-number

@@ -1,5 +1,5 @@
 use Rattle.std.proofs.Common.{[], sym, ap, ◌∙◌, subst}
-use Rattle.mt_record.specs.Bodies.{IsLawfulBody}
+use Rattle.mt_record.specs.Steps.Bodies.{IsLawfulBody}
 use Rattle.mt_record.specs.Decoding.{decode}
 use Rattle.mt_record.proofs.Decodes.{body_says}
 use Rattle.mt_record.proofs.RecordLemmas.{within, record_at}

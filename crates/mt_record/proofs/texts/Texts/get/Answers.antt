@@ -1,5 +1,5 @@
 use Rattle.std.proofs.Common.{◌≡◌, ◌<◌, ◌≤◌, List, ℕ, length, ◌-◌, take, drop, get_or, sym, ap, subst, ◌∙◌, arith}
-use Rattle.mt_record.specs.Texts.{start_at, texts_from}
+use Rattle.mt_record.specs.Steps.Texts.{start_at, texts_from}
 use Rattle.mt_record.proofs.TextLemmas.{texts_count, text_part}
 use Rattle.mt_record.proofs.texts.Texts.get.Goals as goal
 

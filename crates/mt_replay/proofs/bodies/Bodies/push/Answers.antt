@@ -2,7 +2,7 @@ use Rattle.std.proofs.Common.{◌≡◌, ◌++◌, ◌∷◌, [], List, ap, ◌�
 use Rattle.mt_words.specs.declared.update.Origin.{Origin}
 use Rattle.mt_words.specs.declared.update.Update.{Update}
 use Rattle.mt_record.specs.Decoding.{update_in}
-use Rattle.mt_replay.specs.Bodies.{updates_at}
+use Rattle.mt_replay.specs.Steps.Bodies.{updates_at}
 use Rattle.mt_replay.proofs.BodyLemmas.{bodies_push}
 use Rattle.mt_replay.proofs.bodies.Bodies.push.Goals as goal
 

@@ -1,6 +1,6 @@
 use Rattle.std.proofs.Common.{arith}
 use Rattle.std.proofs.lemmas.Result.{IfOk-weaker}
-use Rattle.mt_replay.specs.SortedUpdates.{keys_of}
+use Rattle.mt_replay.specs.Steps.SortedUpdates.{keys_of}
 use Rattle.mt_replay.proofs.EvenLemmas.{even_at_most}
 use Rattle.mt_replay.proofs.cuts.Cuts.sampled.Goals as goal
 

@@ -6,7 +6,7 @@ use Rattle.mt_words.specs.declared.update.Kind.TheVariants.{Remove}
 use Rattle.mt_words.specs.declared.update.Origin.TheVariants as origins
 use Rattle.mt_words.specs.declared.update.Update.{Update}
 use Rattle.mt_words.specs.Updates.{update_at}
-use Rattle.mt_replay.specs.SortedUpdates.{held_in}
+use Rattle.mt_replay.specs.Steps.SortedUpdates.{held_in}
 use Rattle.mt_replay.specs.Survivors.{wholes}
 use Rattle.mt_replay.proofs.log_cells.LogCells.get.Goals as goal
 

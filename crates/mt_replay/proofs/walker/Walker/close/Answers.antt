@@ -1,7 +1,7 @@
 use Rattle.std.proofs.Common.{◌≡◌, ◌∙◌, ◌++◌, ◌∷◌, [], ◌<◌, length, ℕ, List, Option, Some, arith, sym, ap, subst}
 use Rattle.mt_words.specs.declared.update.Update.{Update}
 use Rattle.mt_words.specs.Walks.{Pair, KeysRise}
-use Rattle.mt_replay.specs.Walker.{IsWalkSoFar}
+use Rattle.mt_replay.specs.Steps.Walker.{IsWalkSoFar}
 use Rattle.mt_replay.proofs.ExactLemmas.{on_ok}
 use Rattle.mt_replay.proofs.WalkerLemmas.{so_far_made, next_rises, some_added, none_added}
 use Rattle.mt_replay.proofs.walker.Walker.close.Goals as goal

@@ -1,7 +1,7 @@
 use Rattle.std.proofs.Common.{◌≡◌, ◌++◌, [], ◌∷◌, ℕ, List, Option, sym, subst}
 use Rattle.mt_words.specs.declared.update.Update.{Update}
 use Rattle.mt_replay.specs.Groups.{HasLawfulWrites, IsGroupOf}
-use Rattle.mt_replay.specs.Walker.{IsMade, IsWalkSoFar}
+use Rattle.mt_replay.specs.Steps.Walker.{IsMade, IsWalkSoFar}
 use Rattle.mt_replay.proofs.WalkerLemmas.{at_key, not_at_key, see_same, see_next}
 use Rattle.mt_replay.proofs.walker.Walker.see.Goals as goal
 

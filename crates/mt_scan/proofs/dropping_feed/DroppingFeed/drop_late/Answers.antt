@@ -3,7 +3,7 @@ use Rattle.mt_words.specs.Changes.{Logged}
 use Rattle.mt_record.specs.LogFeeding.{IsLogFed}
 use Rattle.mt_record.specs.Cutting.{HasCut}
 use Rattle.mt_scan.specs.declared.dropping_feed.DroppingFeed.{DroppingFeed}
-use Rattle.mt_scan.specs.DroppingFeeds.{IsFedBelow}
+use Rattle.mt_scan.specs.Steps.DroppingFeeds.{IsFedBelow}
 use Rattle.mt_scan.proofs.DroppingFeeds.{none_late, more_late, first_late}
 use Rattle.mt_scan.proofs.dropping_feed.DroppingFeed.drop_late.Goals as goal
 

@@ -1,6 +1,6 @@
 use Rattle.std.proofs.Common.{◌≡◌, ◌∙◌, ◌++◌, None, refl, sym}
 use Rattle.mt_scan.specs.declared.dropping_feed.DroppingFeed.{DroppingFeed}
-use Rattle.mt_scan.specs.DroppingFeeds.{taken_of}
+use Rattle.mt_scan.specs.Steps.DroppingFeeds.{taken_of}
 use Rattle.mt_scan.proofs.DroppingFeeds.{was_sound, now_sound, read_on, read_fault}
 use Rattle.mt_scan.proofs.Steps.{has_fault}
 use Rattle.mt_scan.proofs.dropping_feed.DroppingFeed.feed_below.Goals as goal

@@ -1,7 +1,7 @@
 use Rattle.std.proofs.Common.{◌++◌, refl, sym, subst}
 use Rattle.mt_scan.specs.Dropping.{HasAllBelow, KeepsOnlyBelow}
 use Rattle.mt_scan.specs.declared.log_scan.LogScan.{LogScan}
-use Rattle.mt_scan.specs.DroppingFeeds.{taken_of}
+use Rattle.mt_scan.specs.Steps.DroppingFeeds.{taken_of}
 use Rattle.mt_scan.proofs.DroppingFeeds.{was_sound}
 use Rattle.mt_scan.proofs.SharedScans.{scan_is}
 use Rattle.mt_scan.proofs.dropping_feed.DroppingFeed.finish.Goals as goal

@@ -4,7 +4,7 @@ use Rattle.std.specs.Ordering.{nat_cmp}
 use Rattle.std.specs.BTreeMap.{BTreeMap, get}
 use Rattle.mt_scan.specs.PartScans.{KnownPart, whole, broken, shown_by_all}
 use Rattle.mt_scan.specs.Choice.{CheckpointReading, parts_of}
-use Rattle.mt_scan.specs.Checkpoints.{CanMakeUp, IsMadeOf}
+use Rattle.mt_scan.specs.Steps.Checkpoints.{CanMakeUp, IsMadeOf}
 use Rattle.mt_scan.specs.declared.group.PartGroup.{PartGroup}
 use Rattle.mt_scan.specs.declared.group.PartGroup.TheVariants as groups
 use Rattle.mt_scan.specs.declared.checkpoint.Checkpoint.{Checkpoint}

@@ -4,7 +4,7 @@ use Rattle.std.proofs.Common.{arith, ap, length-append, refl, sym, ◌∙◌, ap
 use denote.Param.Weighed.{most}
 use Rattle.mt_tree.specs.Layer.{PlaceView, pairs_at, walk, weight, put_before, IsLayerFrom, IsPlace, rank_at}
 use Rattle.mt_words.specs.Walks.{Pair, joined}
-use Rattle.mt_tree.specs.DraftViews.{draft_views, draft_view, draft_view_of, border_view, border_views}
+use Rattle.mt_tree.specs.Steps.DraftViews.{draft_views, draft_view, draft_view_of, border_view, border_views}
 use Rattle.mt_tree.specs.Borders.{layer_walk, borders_walk}
 use Rattle.mt_tree.specs.declared.layer.Border.{Border}
 use Rattle.mt_tree.specs.declared.layer.Border.TheVariants.{Open, Closed}

@@ -4,7 +4,7 @@ use Rattle.std.specs.Io.KnownBytes.{Consumes, IsAtEnd}
 use Rattle.std.specs.Borrow.{MutBor}
 use Rattle.mt_board.specs.Board.{BoardId, PassView, least_of}
 use Rattle.mt_scan.specs.declared.sharing.SharedFeed.{SharedFeed}
-use Rattle.mt_scan.specs.DroppingFeeds.{IsFedBelow, HasStopped}
+use Rattle.mt_scan.specs.Steps.DroppingFeeds.{IsFedBelow, HasStopped}
 use Rattle.mt_scan.specs.Sources.{Seen}
 
 -- more bytes change nothing: the feed would be the same, whatever bytes had followed those that were fed

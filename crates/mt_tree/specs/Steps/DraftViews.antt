@@ -5,7 +5,7 @@ use Rattle.mt_words.specs.Walks.{joined}
 use Rattle.mt_tree.specs.Layer.{PlaceView, short, long, link}
 use Rattle.mt_tree.specs.Borders.{DraftView, layer_walk, IsBorderList, AreBorders}
 use Rattle.mt_tree.specs.Nodes.{each_borders, AreBelow, IsTreeCount}
-use Rattle.mt_tree.specs.NodeViews.{views, trees_of}
+use Rattle.mt_tree.specs.Steps.NodeViews.{views, trees_of}
 use Rattle.mt_tree.specs.declared.layer.DraftPlace.{DraftPlace}
 use Rattle.mt_tree.specs.declared.layer.Border.{Border}
 use Rattle.mt_tree.specs.declared.layer.Border.TheVariants.{Open, Closed}

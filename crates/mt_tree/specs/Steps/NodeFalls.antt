@@ -8,9 +8,9 @@ use Rattle.mt_words.specs.Slices.{slice_bytes}
 use Rattle.mt_words.specs.Walks.{joined}
 use Rattle.mt_words.proofs.SliceBytes.{slice_bytes-length}
 use Rattle.mt_tree.specs.Layer.{PlaceView, short, long, link, pairs_at, walk, weight, IsLayerFrom, IsLayer, IsPlace, rank_at}
-use Rattle.mt_tree.specs.Falls.{weight-append, weight-put_before, walk-append}
+use Rattle.mt_tree.specs.Steps.Falls.{weight-append, weight-put_before, walk-append}
 use Rattle.mt_tree.specs.Nodes.{NodeView, places, borders_of, branches, IsNode, IsBorder}
-use Rattle.mt_tree.specs.NodeViews.{views, view_of, view_of_content, node_view, IsNodeKind}
+use Rattle.mt_tree.specs.Steps.NodeViews.{views, view_of, view_of_content, node_view, IsNodeKind}
 use Rattle.mt_tree.specs.declared.node.Place.{Place}
 use Rattle.mt_tree.specs.declared.node.Content.{Content}
 use Rattle.mt_tree.specs.declared.node.Content.TheVariants.{Short, Suffix, Link}

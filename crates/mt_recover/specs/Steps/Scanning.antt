@@ -14,7 +14,7 @@ use Rattle.mt_recover.specs.declared.scans.ScanJob.{ScanJob}
 use Rattle.mt_recover.specs.declared.scans.Scanned.{Scanned}
 use Rattle.mt_recover.specs.declared.scans.Scanned.TheVariants as scanned
 use Rattle.mt_recover.specs.declared.scans.Scans.{Scans}
-use Rattle.mt_recover.specs.Outcomes.{IsLogOutcome, IsPartOutcome, lasts}
+use Rattle.mt_recover.specs.Steps.Outcomes.{IsLogOutcome, IsPartOutcome, lasts}
 
 -- ---- jobs that are shared out
 

@@ -4,7 +4,7 @@ use Rattle.std.specs.Option.{option_map}
 use Rattle.std.specs.List.Sorted.{IsStrictlyIncreasing}
 use Rattle.mt_scan.specs.PartScans.{KnownPart}
 use Rattle.mt_scan.specs.Choice.{CheckpointReading, IsNoBetter, IsChosenOf, AreSkipped, checkpoint_in}
-use Rattle.mt_scan.specs.Groups.{HasCheckpoint, HasNone}
+use Rattle.mt_scan.specs.Steps.Groups.{HasCheckpoint, HasNone}
 use Rattle.mt_scan.specs.declared.checkpoint.Checkpoint.{Checkpoint}
 use Rattle.mt_scan.specs.declared.group.PartGroup.{PartGroup}
 use Rattle.mt_scan.specs.declared.selection.Selection.{Selection}

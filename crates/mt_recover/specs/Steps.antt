@@ -1,0 +1,5 @@
+-- What private contracts, models of types and proofs say. No public contract names these definitions.
+pub mod LogScans
+pub mod Assembling
+pub mod Outcomes
+pub mod Scanning

@@ -1,0 +1,4 @@
+-- What private contracts, models of types and proofs say. No public contract names these definitions.
+pub mod Walker
+pub mod Bodies
+pub mod SortedUpdates

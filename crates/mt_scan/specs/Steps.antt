@@ -1,0 +1,6 @@
+-- What private contracts, models of types and proofs say. No public contract names these definitions.
+pub mod DroppingFeeds
+pub mod Feeding
+pub mod Checkpoints
+pub mod Groups
+pub mod Selections
