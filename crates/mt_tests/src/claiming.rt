@@ -5,10 +5,11 @@ ghost use Rattle.mt_recover.specs.Hauls.{HasWorked, IsHaulOf};
 
 use crate::asserting::{assert_bytes, assert_same};
 use crate::logs::LOG_OF_THREE;
-use crate::meeting::{Meeting, prepare_for_two, recover_by_two};
+use crate::meeting::{Meeting, cuts_at, prepare_for_two, recover_by_two};
 use mt_board::Pass;
 use mt_recover::{
-    Gate, Haul, Inputs, Job, NoGate, Recovered, assemble, recover_one, work, write_dump,
+    Cutting, Gate, Haul, Inputs, Job, NoGate, Pieces, Recovered, Workers, assemble, recover,
+    recover_one, work, write_dump,
 };
 use mt_scan::{MemSource, Rack};
 use mt_words::Fault;
@@ -82,9 +83,25 @@ fn haul<R: Abort + AllocGlobal, G: Gate>(
 
 /// A gate that counts how often worker 0 enters the next piece, and all other entries.
 #[derive(Drop)]
-struct Turns {
+pub struct Turns {
     next: AtomicU64,
     others: AtomicU64,
+}
+
+impl Turns {
+    /// Creates a gate that nobody has entered.
+    pub fn new() -> Turns {
+        Turns {
+            next: AtomicU64::new(0),
+            others: AtomicU64::new(0),
+        }
+    }
+
+    /// Returns how often worker 0 has entered the next piece, and how many other entries there were.
+    pub fn entries(&self) -> (u64, u64) {
+        let next = self.next.load(Ordering::SeqCst);
+        (next, self.others.load(Ordering::SeqCst))
+    }
 }
 
 impl Gate for Turns {
@@ -102,15 +119,35 @@ impl Gate for Turns {
 #[test]
 fn one_pass_enters_each_piece_once(rt: HostRuntime) {
     let (job, mut first, mut second) = open(&rt);
-    let gate = Turns {
-        next: AtomicU64::new(0),
-        others: AtomicU64::new(0),
-    };
+    let gate = Turns::new();
     haul(&rt, &job, &mut first, &gate, 5);
     haul(&rt, &job, &mut first, &gate, 0);
     haul(&rt, &job, &mut second, &gate, 0);
-    assert_same(&rt, &gate.next.load(Ordering::SeqCst), &5);
-    assert_same(&rt, &gate.others.load(Ordering::SeqCst), &0);
+    assert_same(&rt, &gate.entries(), &(5, 0));
+}
+
+/// Recovers the log of three keys with one worker. Returns how often it entered the next piece, and how many other
+/// entries there were.
+fn entries_of_one<R: Abort + AllocGlobal + Threads + Sync>(rt: &R, cutting: Cutting) -> (u64, u64) {
+    let mut rack = rack_of_one(rt);
+    let inputs = inputs_in(rt, &mut rack);
+    let one = Workers::new(1).expect(rt, "one worker");
+    let gate = Turns::new();
+    assert_three(rt, recover(rt, rt.alloc(), inputs, one, cutting, &gate));
+    gate.entries()
+}
+
+#[test]
+fn one_worker_enters_each_piece_between_the_cuts_once(rt: HostRuntime) {
+    let entries = entries_of_one(&rt, cuts_at(&rt, b"cde"));
+    assert_same(&rt, &entries, &(4, 0));
+}
+
+#[test]
+fn a_sample_cuts_the_pieces_asked_for(rt: HostRuntime) {
+    let two = Pieces::new(2).expect(&rt, "two pieces");
+    let entries = entries_of_one(&rt, Cutting::Sampled(two));
+    assert_same(&rt, &entries, &(2, 0));
 }
 
 #[test]

@@ -130,7 +130,7 @@ fn sources_that_wait<'a, R: Abort + AllocGlobal>(
 }
 
 /// Returns cuts at the keys of these letters.
-fn cuts_at<R: Abort + AllocGlobal>(rt: &R, letters: &[u8]) -> Cutting {
+pub fn cuts_at<R: Abort + AllocGlobal>(rt: &R, letters: &[u8]) -> Cutting {
     let mut keys = Vec::new(rt.alloc());
     for letter in letters {
         let bytes = Vec::from_slice(rt.alloc(), slice::from_ref(letter)).expect(rt, "memory");

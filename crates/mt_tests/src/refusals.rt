@@ -1,9 +1,12 @@
 //! Tests of what happens when memory runs out. Run alone, they see no failed allocation. `.ci/refuse_growths` makes
 //! their first allocation fail, then their second, and so on. Each run must give the expected result or `Memory`.
 use crate::asserting::assert_same;
+use crate::claiming::Turns;
 use crate::logs::{LOG_A, LOG_B, PART};
 use crate::tree::tree_of;
-use mt_recover::{Cutting, Inputs, NoGate, Pieces, Recovered, Workers, recover, recover_logs};
+use mt_recover::{
+    Cutting, Inputs, NoGate, Pieces, Recovered, Workers, prepare, recover, recover_logs, work,
+};
 use mt_scan::{MemSource, Rack, Slot};
 use mt_tree::Wanted;
 use mt_words::Fault;
@@ -82,6 +85,29 @@ fn a_refused_growth_of_recovery_by_two_workers_is_memory(rt: HostRuntime) {
 fn a_refused_growth_of_recovery_by_two_workers_over_a_checkpoint_is_memory(rt: HostRuntime) {
     if let Some(answer) = recover_by(&rt, 2, 2, &[LATE_LOG, PART], 1) {
         assert_value(&rt, answer, b"a", b"n");
+    }
+}
+
+/// Prepares the log as one piece for one worker, and works on it. Returns the entries at the gate. None: out of memory
+/// before the work.
+fn entries_of_work<R: AllocGlobal + Threads + Sync>(rt: &R) -> Option<(u64, u64)> {
+    let (piece, worker) = (Pieces::new(1)?, Workers::new(1)?);
+    let mut rack = Rack::new(rt.alloc(), 1, 16).ok()?;
+    let logs = sources_of(rt.alloc(), &[LOG_A], rack.slots())?;
+    let parts = Vec::new(rt.alloc());
+    let inputs = Inputs { logs, parts };
+    let (job, mut passes) = prepare(rt, rt.alloc(), inputs, worker, Cutting::Even(piece)).ok()?;
+    let mut pass = passes.pop()?;
+    let gate = Turns::new();
+    let _ = work(rt.alloc(), &job, &mut pass, &gate);
+    Some(gate.entries())
+}
+
+// `work` allocates only in a replay. So it has entered the gate before, also if its first growth is refused.
+#[test]
+fn a_refused_growth_of_a_replay_comes_after_the_gate(rt: HostRuntime) {
+    if let Some(entries) = entries_of_work(&rt) {
+        assert_same(&rt, &entries, &(1, 0));
     }
 }
 
