@@ -160,11 +160,12 @@ impl Board {
         if passes.len() < self.counts.passes as usize {
             return Err((self, passes));
         }
-        let Some(first) = passes.pop() else {
-            unreachable!()
+        // A board has at least one pass, so there is a last one.
+        let Some(last) = passes.pop() else {
+            return Err((self, passes));
         };
         let Board { table, counts: _ } = self;
-        let Pass { mut seat, .. } = first;
+        let Pass { mut seat, .. } = last;
         while let Some(pass) = passes.pop() {
             let Pass { seat: other, .. } = pass;
             table.shared.join_seat::<Share>(&mut seat, other);

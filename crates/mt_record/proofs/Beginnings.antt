@@ -8,7 +8,7 @@ use Rattle.byteorder.specs.Endian.{big_bytes, big_from}
 use Rattle.byteorder.specs.Numbers.{big_from-lt}
 use Rattle.mt_words.specs.declared.limits.Format.{Format}
 use Rattle.mt_words.specs.Limits.{limits_of, widest_format, magic}
-use Rattle.mt_record.specs.declared.head.Head.{Head}
+use Rattle.mt_record.specs.declared.feed.head.Head.{Head}
 use Rattle.mt_record.specs.Fronts.{GoTogether, GoesWithMagic, NoneBegins, ShowsNone, IsCutFront}
 use Rattle.mt_record.specs.Heads.{IsHead, head_bytes}
 use Rattle.mt_record.proofs.Feeds.{apart}

@@ -1,26 +1,23 @@
 -- Decoding checked bodies, field by field.
-use Rattle.std.proofs.Common.{◌≡◌, ℕ, ◌<◌, Bool, List, [], ◌∷◌, ◌++◌, length, sym, ap, ◌∙◌, subst, append_assoc, arith}
+use Rattle.std.proofs.Common.{◌≡◌, ℕ, Bool, List, [], ◌∷◌, ◌++◌, length, sym, ap, ◌∙◌, subst, append_assoc, arith}
 use Rattle.std.proofs.lemmas.List.{append-nil}
 use Rattle.std.specs.Prelude.{false, IfSome}
 use Rattle.std.specs.List.{flat_map}
 use Rattle.mt_words.specs.declared.limits.Format.{Format}
-use Rattle.mt_words.specs.declared.code.Code.{Code}
 use Rattle.mt_words.specs.declared.code.Code.TheVariants as codes
 use Rattle.mt_words.specs.declared.code.Payload.TheVariants as payloads
 use Rattle.mt_words.specs.declared.record.Change.{Change}
 use Rattle.mt_words.specs.Limits.{limits_of, widest, widest_format}
-use Rattle.mt_words.specs.Codes.{payload_of}
 use Rattle.mt_words.specs.Words.{IsKey, IsColumn, AreColumns, CanFollow}
-use Rattle.mt_words.specs.Changes.{entry_of, AllowsKind, IsLawful, IsLogged, IsLoggedChange}
+use Rattle.mt_words.specs.Changes.{AllowsKind, IsLawful, IsLoggedChange}
 use Rattle.mt_words.proofs.Formats.{change_within}
-use Rattle.mt_record.specs.Spelling.{column_bytes, kind_bytes, FitsColumn}
+use Rattle.mt_record.specs.Spelling.{column_bytes, kind_bytes, change_bytes, FitsColumn, FitsChange}
 use Rattle.mt_record.specs.declared.body.ChangeFields.{ChangeFields}
-use Rattle.mt_record.specs.Steps.Bodies.{IsLawfulBody, AreFieldsOf, SpellFields}
-use Rattle.mt_record.specs.Decoding.{columns_counted, kind_from, change_unless, is_mark_in, code_in, version_in, key_in, carried_in, kind_in, change_in, IsBody, IsCarried}
-use Rattle.mt_record.proofs.Changes.{same_fields}
+use Rattle.mt_record.specs.Steps.Bodies.{IsLawfulBody, AreFieldsOf, AreFieldsIn}
+use Rattle.mt_record.specs.Decoding.{kind_from, change_unless, is_mark_in, code_in, carried_in, kind_in, change_in, IsBody, IsChangeBody, IsCarried}
 use Rattle.mt_record.proofs.Columns.{all_at, may_follow}
 use Rattle.mt_record.proofs.Unique.{same_column, same_change}
-use Rattle.mt_record.proofs.Decodes.{body_says, change_sound, carried_is, carried_spelled}
+use Rattle.mt_record.proofs.Decodes.{body_says, carried_is, carried_spelled}
 use Rattle.mt_record.proofs.EntryTexts.{entry_fits, whole_code}
 use Rattle.mt_record.proofs.KeptBodies.{fields_say}
 
@@ -30,30 +27,12 @@ use Rattle.mt_record.proofs.KeptBodies.{fields_say}
 pub lawful_body : (bytes : List ℕ) → IsLawfulBody bytes → IsBody bytes
 lawful_body bytes (r, is) = (body_says bytes r is.lawful is.spelled).1
 
--- the bytes are what a lawful change with this code carries
-pub record AreCarried (code : Code) (carried : List ℕ) : Type 0 where
-  pub are : IsCarried (payload_of code) carried
-  pub lawful : AllowsKind widest (kind_from code carried)
-
--- fields that were read from the body of a lawful record that is not a mark
-pub record AreRead (version : ℕ) (code : Code) (carried : List ℕ) : Type 0 where
-  pub some : 0 < version
-  pub payload : AreCarried code carried
-  pub logged : IsLogged (kind_from code carried)
-
--- the key of the body of a change is lawful
-pub lawful_key : (bytes : List ℕ) → IsLawfulBody bytes → is_mark_in bytes ≡ false → IsKey widest (key_in bytes)
-lawful_key bytes lawful no_mark = (change_sound bytes (lawful_body bytes lawful, no_mark)).key
-
-pub read : (bytes carried : List ℕ) (version : ℕ) (code : Code) → IsLawfulBody bytes → is_mark_in bytes ≡ false → version ≡ version_in bytes → code ≡ code_in bytes → carried ≡ carried_in bytes
-    → AreRead version code carried
-read bytes carried version code (r, is) no_mark same_version same_code same_carried =
+-- the body of a lawful record that is not a mark is the body of a lawful change
+pub lawful_change : (bytes : List ℕ) → IsLawfulBody bytes → is_mark_in bytes ≡ false → IsChangeBody bytes × IsLoggedChange widest (change_in bytes)
+lawful_change bytes (r, is) no_mark =
     let says = body_says bytes r is.lawful is.spelled in
     let lawful = subst (IsLawful widest) (sym says.0) is.lawful in
-    let change = subst (λ (mark : Bool). IfSome (change_unless mark (change_in bytes)) (IsLoggedChange widest)) no_mark lawful.1 in
-    let found : AreRead (version_in bytes) (code_in bytes) (carried_in bytes) =
-    record { some = change.0.version; payload = record { are = carried_is bytes (says.1, no_mark); lawful = change.0.kind }; logged = change.1 } in
-    rw (same_version, same_code, same_carried) found
+    ((says.1, no_mark), subst (λ (mark : Bool). IfSome (change_unless mark (change_in bytes)) (IsLoggedChange widest)) no_mark lawful.1)
 
 -- ---- columns, one after the other
 
@@ -97,27 +76,28 @@ all_taken all columns rest are taken none = by taken.left taken.were taken.spell
 
 -- ---- entries
 
--- the fields of this lawful entry
+-- the fields of a lawful entry, as they are copied
 pub record IsEntryRead (fields : ChangeFields) (entry : Change) : Type 0 where
-  pub some : 0 < fields.version
   pub key : IsKey widest fields.key.now
-  pub payload : AreCarried codes.Whole fields.carried.now
-  pub is : entry ≡ entry_of fields.version fields.key.now (columns_counted fields.carried.now)
+  pub carried : IsCarried payloads.Columns fields.carried.now
+  pub lawful : AllowsKind widest (kind_from codes.Whole fields.carried.now)
+  pub is : record { version = fields.version; key = fields.key.now; kind = kind_from codes.Whole fields.carried.now } ≡ entry
 
-pub read_entry : (bytes : List ℕ) (entry : Change) (fields : ChangeFields) → AreFieldsOf widest bytes entry → SpellFields bytes fields → IsEntryRead fields entry
+pub read_entry : (bytes : List ℕ) (entry : Change) (fields : ChangeFields) → AreFieldsOf widest bytes entry
+    → ((change : Change) → FitsChange change → bytes ≡ change_bytes change → AreFieldsIn change fields) → IsEntryRead fields entry
 unfolding code_in
-read_entry bytes entry fields are spelled =
+read_entry bytes entry fields are reads =
+    let read = reads entry (entry_fits widest_format entry are.lawful) are.spelled in
     let body = 0 ∷ 0 ∷ 0 ∷ 0 ∷ 0 ∷ 0 ∷ 0 ∷ 0 ∷ 0 ∷ bytes in
     let says = fields_say bytes entry are in
-    let same = same_fields bytes fields entry spelled (entry_fits widest_format entry are.lawful) are.spelled in
     let kind : kind_in body ≡ entry.kind = ap (λ (c : Change). c.kind) says.0 in
-    let carried : carried_in body ≡ fields.carried.now = (carried_spelled body says.1.change).0 ∙ ap kind_bytes kind ∙ sym same.2 in
-    let whole : entry.kind ≡ kind_from codes.Whole fields.carried.now = sym kind ∙ ap (kind_from codes.Whole) carried in
+    let carried : carried_in body ≡ fields.carried.now = (carried_spelled body says.1.change).0 ∙ ap kind_bytes kind ∙ sym read.carried in
+    let whole : kind_from codes.Whole fields.carried.now ≡ entry.kind = ap (kind_from codes.Whole) (sym carried) ∙ kind in
     record {
-      some = subst (λ v. 0 < v) (sym same.0) are.lawful.0.version;
-      key = subst (IsKey widest) (sym same.1) are.lawful.0.key;
-      payload = record { are = subst (IsCarried payloads.Columns) carried (carried_is body says.1.change); lawful = subst (AllowsKind widest) whole are.lawful.0.kind };
-      is = λ i. record { version = sym same.0 i; key = sym same.1 i; kind = whole i };
+      key = subst (IsKey widest) (sym read.key) are.lawful.0.key;
+      carried = subst (IsCarried payloads.Columns) carried (carried_is body says.1.change);
+      lawful = subst (AllowsKind widest) (sym whole) are.lawful.0.kind;
+      is = λ i. record { version = read.version i; key = read.key i; kind = whole i };
     }
 
 -- the same bytes are the fields of only one entry

@@ -1,13 +1,14 @@
 -- Decoding a body gives the record that it encodes.
-use Rattle.std.proofs.Common.{◌≡◌, ℕ, zero, suc, eqb, ◌^◌, ◌<◌, ◌≤◌, ◌+◌, ◌-◌, List, [], ◌∷◌, ◌++◌, length, take, drop, Option, Some, None, Bool, true, false, ◌↔◌, refl, sym, ap, subst, ◌∙◌, append_assoc, arith}
+use Rattle.std.proofs.Common.{◌≡◌, ℕ, zero, suc, eqb, ◌^◌, ◌<◌, ◌≤◌, ◌-◌, List, [], ◌∷◌, ◌++◌, length, take, drop, map, Option, Some, None, Bool, true, false, ◌↔◌, refl, sym, ap, subst, ◌∙◌, append_assoc, arith}
 use Rattle.std.proofs.Math.Seq.{take-append_seam, drop-append_seam}
-use Rattle.std.proofs.lemmas.List.{append-nil, take_all, take_rest, drop-drop}
+use Rattle.std.proofs.lemmas.List.{append-nil, take_all}
 use Rattle.std.specs.Prelude.{IfSome, slice_index}
 use Rattle.std.specs.List.{flat_map, AllByRecursion}
 use Rattle.byteorder.specs.Endian.{big_bytes, big_from}
 use Rattle.byteorder.specs.Numbers.{big_number-reads_back}
 use Rattle.mt_words.specs.declared.code.Code.{Code}
 use Rattle.mt_words.specs.declared.code.Code.TheVariants as codes
+use Rattle.mt_words.specs.declared.code.Payload.{Payload}
 use Rattle.mt_words.specs.declared.code.Payload.TheVariants as payloads
 use Rattle.mt_words.specs.declared.record.Change.{Change}
 use Rattle.mt_words.specs.declared.update.Kind.{Kind}
@@ -16,15 +17,15 @@ use Rattle.mt_words.specs.declared.update.Update.{Update}
 use Rattle.mt_words.specs.Limits.{widest, widest_format}
 use Rattle.mt_words.specs.Codes.{code_of, byte_of, payload_of, Clears}
 use Rattle.mt_words.specs.Words.{IsColumn, AreNumbers}
-use Rattle.mt_words.specs.Changes.{Logged, changed, IsLawful, IsLawfulChange, IsLoggedChange, AllowsKind, AreWrites, IsReset, writes_of}
+use Rattle.mt_words.specs.Changes.{Logged, changed, IsLawful, IsLawfulChange, IsLoggedChange, AllowsKind, AreWrites, IsReset, set, writes_of}
 use Rattle.mt_words.proofs.WriteLemmas.{set_writes, set_columns, erase_writes, erase_numbers}
 use Rattle.mt_words.specs.Updates.{update_at}
-use Rattle.mt_record.specs.Spelling.{counted, column_bytes, kind_byte, kind_bytes, body_of, body, FitsColumn, FitsKind, FitsChange}
+use Rattle.mt_record.specs.Spelling.{counted, column_bytes, kind_byte, kind_bytes, change_bytes, body_of, body, FitsColumn, FitsKind, FitsChange}
 use Rattle.mt_record.proofs.Lawful.{key_room, put_fits, erase_fits}
 use Rattle.mt_record.specs.Steps.Bodies.{AreSpelled}
 use Rattle.mt_record.proofs.Columns.{no_columns}
 use Rattle.mt_record.proofs.Unique.{same_column}
-use Rattle.mt_record.specs.Decoding.{columns_from, columns_counted, numbers_counted, writes_carried, kind_from, change_unless, is_mark_in, code_from, code_in, time_in, version_in, key_length_in, key_in, carried_in, kind_in, change_in, update_in, change_unless, decode, IsSound, IsBody, IsChangeBody, IsEntryBody, IsCarried, AreLentColumns, AreCounted}
+use Rattle.mt_record.specs.Decoding.{columns_from, columns_counted, numbers_counted, writes_from, writes_carried, kind_from, change_unless, is_mark_in, code_from, code_in, time_in, version_in, key_length_in, key_in, carried_in, kind_in, change_in, update_in, change_unless, decode, IsSound, IsBody, IsChangeBody, IsEntryBody, IsCarried, AreLentColumns, AreLent, AreCounted}
 
 -- ---- fields
 
@@ -187,6 +188,10 @@ change_sound bytes is = subst (λ (mark : Bool). IfSome (change_unless mark (cha
 change_fits : (bytes : List ℕ) → IsChangeBody bytes → FitsChange (change_in bytes)
 change_fits bytes is = fits_of (change_in bytes) (change_sound bytes is)
 
+-- after the first nine bytes of the body of a change come its fields
+pub fields_there : (bytes : List ℕ) → IsChangeBody bytes → FitsChange (change_in bytes) × (drop 9 bytes ≡ change_bytes (change_in bytes))
+fields_there bytes is = (change_fits bytes is, ap (drop 9) (spelled_change bytes is))
+
 -- the bytes carried are those of the decoded kind, which fits its fields
 pub carried_spelled : (bytes : List ℕ) → IsChangeBody bytes → (carried_in bytes ≡ kind_bytes (kind_in bytes)) × FitsKind (kind_in bytes)
 carried_spelled bytes is =
@@ -264,13 +269,8 @@ code_first bytes is = ap byte_of (sym (same_code (code_in bytes) (carried_in byt
 
 -- ---- columns, one after the other
 
--- if the bytes begin with a column, a column is left
-pub some_left : (left : ℕ) (bytes after : List ℕ) (c : ℕ × List ℕ) → bytes ≡ column_bytes c ++ after → AreLentColumns left bytes → 0 < left
-some_left zero bytes after c same are = absurd (omega (arith, ap length (sym are.spelled.spelled ∙ same)))
-some_left (suc n) bytes after c same are = omega arith
-
 -- the decoded columns are the one at the front and those after it
-pub next_column : (n left : ℕ) (bytes after : List ℕ) (c : ℕ × List ℕ) → left ≡ suc n → FitsColumn c → bytes ≡ column_bytes c ++ after
+next_column : (n left : ℕ) (bytes after : List ℕ) (c : ℕ × List ℕ) → left ≡ suc n → FitsColumn c → bytes ≡ column_bytes c ++ after
     → AreLentColumns left bytes
     → (columns_from left bytes ≡ c ∷ columns_from n after) × IsColumn widest c × AreLentColumns n after
 next_column n left bytes after c more fit same are =
@@ -293,17 +293,18 @@ next_column n left bytes after c more fit same are =
       },
     )
 
+-- the first of the writes sets the column at the front, and the others are those after it
+pub next_set : (payload : Payload) (left : ℕ) (bytes after : List ℕ) (c : ℕ × List ℕ) → payload ≡ payloads.Columns → AreLent payload left bytes → FitsColumn c → bytes ≡ column_bytes c ++ after
+    → (writes_from payload left bytes ≡ set c ∷ writes_from payload (left - 1) after) × AreLent payload (left - 1) after
+next_set payloads.Nothing left bytes after c is are fit same = absurd cc
+next_set payloads.Numbers left bytes after c is are fit same = absurd cc
+next_set payloads.Columns zero bytes after c is are fit same = absurd (omega (arith, ap length (sym are.spelled.spelled ∙ same)))
+next_set payloads.Columns (suc n) bytes after c is are fit same =
+    let next = next_column n (suc n) bytes after c refl fit same are in
+    let one : suc n - 1 ≡ n = omega arith in
+    rw one (ap (map set) next.0, next.2)
+
 -- if the bytes begin with no column, no column is left
 pub no_column : (left : ℕ) (bytes : List ℕ) → AreLentColumns left bytes → ((c : ℕ × List ℕ) (more : List ℕ) → FitsColumn c → bytes ≡ column_bytes c ++ more → ⊥) → columns_from left bytes ≡ []
 no_column zero bytes are none = refl
 no_column (suc n) bytes are none = absurd (no_columns (suc n) bytes none (omega arith) (columns_from (suc n) bytes, are.spelled))
-
--- the bytes carried begin after the key, whose length is given
-pub carried_at : (bytes : List ℕ) (n : ℕ) → n ≡ key_length_in bytes → drop (19 + n) bytes ≡ carried_in bytes
-unfolding carried_in
-carried_at bytes n same = sym (drop-drop n 19 bytes) ∙ ap (λ m. drop m (drop 19 bytes)) same
-
--- the length of the key, as the program reads it
-pub key_length_read : (bytes : List ℕ) (n : ℕ) → n ≡ big_from 0 2 (take (length bytes - 17) (drop 17 bytes)) → n ≡ key_length_in bytes
-unfolding key_length_in
-key_length_read bytes n same = same ∙ ap (big_from 0 2) (take_rest bytes 17)

@@ -13,8 +13,8 @@ use Rattle.mt_words.specs.Changes.{Logged, IsLoggedChange}
 use Rattle.mt_words.proofs.Formats.{change_within}
 use Rattle.mt_record.specs.declared.read.FeedFault.{FeedFault}
 use Rattle.mt_record.specs.declared.read.FeedFault.TheVariants as faults
-use Rattle.mt_record.specs.declared.log_items.LogItems.{LogItems}
-use Rattle.mt_record.specs.declared.head.Head.{Head}
+use Rattle.mt_record.specs.declared.feed.log_items.LogItems.{LogItems}
+use Rattle.mt_record.specs.declared.feed.head.Head.{Head}
 use Rattle.mt_record.specs.Spelling.{framed, spelling, IsRecordLength}
 use Rattle.mt_record.specs.Fronts.{bytes_of, ShowsNone, IsCutFront}
 use Rattle.mt_record.specs.Heads.{IsHead, head_of, head_bytes, HasNoHeader}

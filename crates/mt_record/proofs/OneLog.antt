@@ -8,7 +8,7 @@ use Rattle.mt_words.specs.Limits.{limits_of}
 use Rattle.mt_words.proofs.Formats.{same_format}
 use Rattle.mt_words.specs.Changes.{Logged}
 use Rattle.mt_record.specs.Spelling.{body, spelling}
-use Rattle.mt_record.specs.declared.head.Head.{Head}
+use Rattle.mt_record.specs.declared.feed.head.Head.{Head}
 use Rattle.mt_record.specs.Heads.{IsHead, head_bytes}
 use Rattle.mt_record.specs.Logs.{AreRecords, latest}
 use Rattle.mt_record.proofs.Unique.{same_number, same_body, same_framed}

@@ -11,7 +11,7 @@ use Rattle.mt_words.specs.Changes.{Logged, IsLawful}
 use Rattle.mt_record.specs.declared.read.FeedFault.{FeedFault}
 use Rattle.mt_record.specs.declared.read.FeedFault.TheVariants.{Header, Record, Memory}
 use Rattle.mt_record.specs.Spelling.{body, spelling}
-use Rattle.mt_record.specs.declared.head.Head.{Head}
+use Rattle.mt_record.specs.declared.feed.head.Head.{Head}
 use Rattle.mt_record.specs.Heads.{HasNoHeader}
 use Rattle.mt_record.specs.Logs.{latest, IsTorn, IsLog, LogReading, IsReading, count_of}
 use Rattle.mt_record.specs.LogFaults.{RestFault, HasFault, IsLogFault}

@@ -10,7 +10,7 @@ use Rattle.mt_words.proofs.Rising.{all_push}
 use Rattle.mt_record.specs.declared.part_text.PartHead.{PartHead}
 use Rattle.mt_record.specs.declared.part_text.PartFault.{PartFault}
 use Rattle.mt_record.specs.declared.part_text.PartFault.TheVariants as faults
-use Rattle.mt_record.specs.declared.part_items.PartItems.{PartItems}
+use Rattle.mt_record.specs.declared.feed.part_items.PartItems.{PartItems}
 use Rattle.mt_record.specs.Spelling.{framed}
 use Rattle.mt_record.specs.Steps.Bodies.{AreFieldsOf, IsNextEntry}
 use Rattle.mt_record.specs.Parts.{part_head, part_head_bytes, IsPartHead, entry_spelling, footer_bytes}

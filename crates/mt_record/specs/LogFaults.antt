@@ -14,7 +14,7 @@ use Rattle.mt_words.specs.Changes.{Logged, changed, IsLawful, AllowsKind}
 use Rattle.mt_record.specs.declared.read.FeedFault.{FeedFault}
 use Rattle.mt_record.specs.declared.read.FeedFault.TheVariants as faults
 use Rattle.mt_record.specs.Spelling.{body, framed, spelling, Fits, IsRecordLength}
-use Rattle.mt_record.specs.declared.head.Head.{Head}
+use Rattle.mt_record.specs.declared.feed.head.Head.{Head}
 use Rattle.mt_record.specs.Heads.{IsHead, head_bytes, HasNoHeader}
 use Rattle.mt_record.specs.Logs.{AreRecords, latest, count_of}
 

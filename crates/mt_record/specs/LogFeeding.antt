@@ -7,10 +7,10 @@ use Rattle.mt_words.specs.Changes.{Logged}
 use Rattle.mt_record.specs.declared.read.FeedFault.{FeedFault}
 use Rattle.mt_words.specs.declared.fault.What.{What}
 use Rattle.mt_record.specs.declared.read.FeedFault.TheVariants as faults
-use Rattle.mt_record.specs.declared.log_items.LogItems.{LogItems}
+use Rattle.mt_record.specs.declared.feed.log_items.LogItems.{LogItems}
 use Rattle.mt_record.specs.Spelling.{spelling}
 use Rattle.mt_record.specs.Fronts.{bytes_of, ShowsNone, IsCutFront}
-use Rattle.mt_record.specs.declared.head.Head.{Head}
+use Rattle.mt_record.specs.declared.feed.head.Head.{Head}
 use Rattle.mt_record.specs.Heads.{IsHead, head_bytes}
 use Rattle.mt_record.specs.Logs.{AreRecords, latest, IsTorn, count_of}
 use Rattle.mt_record.specs.LogFaults.{RestFault, IsLogFault, OrMemory}

@@ -8,7 +8,7 @@ use Rattle.mt_words.specs.Limits.{limits_of}
 use Rattle.mt_words.specs.Changes.{Logged, IsLawful}
 use Rattle.mt_record.specs.declared.read.LogText.{LogText}
 use Rattle.mt_record.specs.Spelling.{spelling, IsRecordLength}
-use Rattle.mt_record.specs.declared.head.Head.{Head}
+use Rattle.mt_record.specs.declared.feed.head.Head.{Head}
 use Rattle.mt_record.specs.Heads.{IsHead, head_bytes}
 
 -- lawful records whose timestamps are at least `low` and never fall

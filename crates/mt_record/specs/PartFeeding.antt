@@ -15,7 +15,7 @@ use Rattle.mt_record.specs.LogFaults.{HasLengthFault, HasFrame, OrMemory}
 use Rattle.mt_record.specs.Parts.{part_head_bytes, IsPartHead, entry_spelling, footer_bytes, IsEntryLength}
 use Rattle.mt_record.specs.Fronts.{bytes_of, ShowsNone, IsCutFront}
 use Rattle.mt_record.specs.PartFaults.{BeginsPartOf}
-use Rattle.mt_record.specs.declared.part_items.PartItems.{PartItems}
+use Rattle.mt_record.specs.declared.feed.part_items.PartItems.{PartItems}
 use Rattle.mt_record.specs.Feeding.{Steps, Fed, IsFedBy}
 
 -- ---- faults that are shown

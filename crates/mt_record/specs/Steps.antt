@@ -2,3 +2,4 @@
 pub mod Bodies
 pub mod Adding
 pub mod Texts
+pub mod Kept

@@ -1,4 +1,8 @@
 //! Encodes logs. Room for all bytes is reserved first, so a failed allocation writes nothing.
+pub mod parts;
+pub mod put;
+pub mod updates;
+
 ghost use Rattle.std.specs.Prelude.{◌≡◌, ◌<◌, ◌^◌, ◌++◌, length, OnOk, OnErr};
 ghost use Rattle.mt_words.specs.Limits.{widest};
 ghost use Rattle.mt_words.specs.declared.limits.Format.TheVariants.{One, Two};
@@ -10,8 +14,8 @@ ghost use Rattle.mt_record.specs.Spelling.{column_bytes, kind_bytes, change_byte
 ghost use Rattle.mt_record.specs.Steps.Adding.{HasRoom, Adds};
 
 use crate::body::MARK;
-use crate::head::{HEADER_BYTES, LOG};
-use crate::put::{put_bytes, put_column, put_counted, put_magic};
+use crate::encode::put::{put_bytes, put_column, put_counted, put_magic};
+use crate::feed::head::{HEADER_BYTES, LOG};
 use mt_words::{Change, Column, Format, Kind, Memory, Record};
 
 /// Appends the header of a log of format 1. Updates below the timestamp `from` may be missing from the log.

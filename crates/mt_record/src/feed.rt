@@ -1,8 +1,18 @@
 //! Reads input that comes in chunks. `LogFeed` and `PartFeed` share this code.
+pub mod frame;
+pub mod head;
+pub mod items;
+pub mod log_feed;
+pub mod log_items;
+pub mod magic;
+pub mod part_feed;
+pub mod part_head;
+pub mod part_items;
+
 ghost use Rattle.std.specs.Prelude.{◌≡◌, ◌<◌, ◌≤◌, ◌+◌, min, max, ◌++◌, [], List, ℕ, Some, None, Err, length, drop, IsSome, IfOk, IfErr, OnOk};
 ghost use Rattle.mt_record.specs.Feeding.{Reads, HasShown, StepsOn, HoldsAll, IsFedBy};
 
-use crate::items::Items;
+use crate::feed::items::Items;
 use mt_words::Memory;
 use std::alloc::Global;
 

@@ -1,11 +1,16 @@
 //! The collections into which the records of a log and the entries of a part are read.
+pub mod log;
+pub mod part;
+pub mod texts;
+pub mod updates;
+
 ghost use Rattle.std.specs.Prelude.{◌≡◌, ◌++◌, [], ◌∷◌, List, length, OnOk, OnErr};
 ghost use Rattle.mt_words.specs.declared.record.Change.{Change};
 ghost use Rattle.mt_words.specs.Limits.{widest};
 ghost use Rattle.mt_words.specs.Changes.{Logged};
 ghost use Rattle.mt_record.specs.Steps.Bodies.{IsLawfulBody, IsBodyOf, AreFields, AreFieldsOf};
 
-use crate::copy::{copy_entry, copy_record};
+use crate::body::copy::{copy_entry, copy_record};
 use mt_words::{Entry, Memory, Record};
 
 /// A collection of records, in the order in which they were added.

@@ -6,7 +6,7 @@ ghost use Rattle.mt_words.specs.declared.record.Change.{Change};
 ghost use Rattle.mt_words.specs.Changes.{Logged, IsLawful, IsEntry};
 ghost use Rattle.mt_record.specs.declared.read.FeedFault.{FeedFault};
 ghost use Rattle.mt_record.specs.Spelling.{spelling};
-ghost use Rattle.mt_record.specs.declared.head.Head.{Head};
+ghost use Rattle.mt_record.specs.declared.feed.head.Head.{Head};
 ghost use Rattle.mt_record.specs.Logs.{IsLog};
 ghost use Rattle.mt_record.specs.LogFaults.{IsLogFault};
 ghost use Rattle.mt_record.specs.declared.part_text.PartHead.{PartHead};

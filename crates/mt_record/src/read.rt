@@ -4,7 +4,7 @@ ghost use Rattle.mt_record.specs.declared.read.FeedFault.TheVariants as faults;
 ghost use Rattle.mt_record.specs.Logs.{IsTextOf};
 ghost use Rattle.mt_record.specs.LogFaults.{IsAnswered, fault_at};
 
-use crate::log_feed::LogFeed;
+use crate::feed::log_feed::LogFeed;
 use mt_words::{Fault, Memory, Record, What};
 use std::alloc::Global;
 use thiserror::Error;

@@ -7,6 +7,7 @@ use Rattle.std.proofs.lemmas.Bool.{cases_eq}
 use Rattle.std.proofs.lemmas.Bool.Decides.{nat_tests}
 use Rattle.std.proofs.lemmas.List.{map-append, length-append, length-map, length_push, get_or-map, get_or_append_left}
 use Rattle.std.proofs.Math.Seq.{get_or-append_seam}
+use Rattle.std.proofs.lemmas.Option.{slice_get_within, get_or_from_slice_get}
 use Rattle.std.proofs.lemmas.List.Sums.{sum_by-append, sum_by-cons}
 use Rattle.std.proofs.lemmas.List.Sorted.{IsPermutation-sym, Contains-permutation, All-permutation, IsPermutation-map, sum_by-IsPermutation}
 use Rattle.std.proofs.lemmas.List.Elements.{All-nil, All-append, All-head, All-tail, All-push, All-contains, All-weaker, Contains-append_left, Contains-append_right}
@@ -166,9 +167,9 @@ module _ (job : JobView) (hauls : List Haul) (pieces : List Piece) (count : ℕ)
   pub in_order : (drafts : List DraftView) → job.board.total ≡ length job.cuts + 1 → All (IsHaulOf job) hauls → length drafts ≡ count → AreDraftsOf pieces drafts → ArePieces job.prepared.updates job.cuts (map layer_walk drafts)
   in_order drafts cut hauls_are long are = record {
     count = omega (arith, length-map drafts layer_walk, long, total, cut);
-    each = λ k d lt.
-        let within : k < length drafts = omega (arith, lt, length-map drafts layer_walk) in
+    each = λ k piece here.
+        let within : k < length drafts = omega (arith, slice_get_within (map layer_walk drafts) k piece here, length-map drafts layer_walk) in
         let at = Contains-permutation pieces (all_held hauls) _ (IsPermutation-sym (all_held hauls) pieces held) (are k empty_draft within) in
         let one = All-contains (IsHeldBy job) (all_held hauls) _ (held_each job hauls hauls_are) at in
-        subst (IsPiece job.prepared.updates job.cuts k) (sym (get_or-map layer_walk drafts k empty_draft d within)) one.1;
+        subst (IsPiece job.prepared.updates job.cuts k) (sym (get_or-map layer_walk drafts k empty_draft piece within) ∙ get_or_from_slice_get (map layer_walk drafts) k piece piece here) one.1;
   }

@@ -5,9 +5,9 @@ use Rattle.std.proofs.lemmas.Bool.Decides.{nat_tests}
 use Rattle.std.proofs.lemmas.List.{length-append}
 use Rattle.std.proofs.lemmas.List.Elements.{filter-append, Contains-append_cases, Contains-append_left, Contains-append_right}
 use Rattle.mt_words.specs.declared.update.Update.{Update}
+use Rattle.mt_words.specs.Changes.{is_mark}
 use Rattle.mt_words.specs.Updates.{updates_from}
 use Rattle.mt_words.specs.Walks.{Pair, KeysRise}
-use Rattle.mt_record.specs.Kept.{is_mark}
 use Rattle.mt_record.specs.Logs.{LogReading}
 use Rattle.mt_record.proofs.RecordLemmas.{marks_and_updates}
 use Rattle.mt_scan.specs.PartScans.{KnownPart}
@@ -18,7 +18,8 @@ use Rattle.mt_recover.specs.declared.report.Report.{Report}
 use Rattle.mt_recover.specs.Recovery.{Facts, records_of, begin_of, survivors, entry_updates}
 use Rattle.mt_recover.specs.Report.{all_records, logged_updates, is_early, is_late, IsFoundIn, IsReportOf}
 use Rattle.mt_recover.specs.declared.report.Counts.{Counts}
-use Rattle.mt_recover.specs.Prepared.{AreCountsOf, HasRoomFor, report_of}
+use Rattle.mt_recover.specs.Prepared.{report_of}
+use Rattle.mt_recover.specs.Steps.Preparing.{AreCountsOf, HasRoomFor}
 use Rattle.mt_tree.specs.Layers.{CountsLayers}
 use Rattle.mt_replay.specs.Walk.{IsWalk}
 use Rattle.mt_replay.proofs.StepLemmas.{key_of_pair, below_itself}

@@ -16,11 +16,12 @@ use Rattle.mt_scan.specs.declared.choice.Choice.{Choice}
 use Rattle.mt_scan.specs.declared.log_scan.LogScan.{LogScan}
 use Rattle.mt_scan.specs.declared.part_scan.PartScan.{PartScan}
 use Rattle.mt_scan.specs.Choice.{IsChoiceOf, checkpoint_in}
-use Rattle.mt_scan.specs.Cutoff.{HasLast, IsCutoff, HaveNumbersOf}
+use Rattle.mt_scan.specs.Cutoff.{HasLast, IsCutoff}
+use Rattle.mt_scan.specs.Scans.{HaveNumbersOf}
 use Rattle.mt_scan.proofs.Drops.{shows_lower}
 use Rattle.mt_scan.specs.PartScans.{known_by}
 use Rattle.mt_scan.specs.Sources.{Seen}
-use Rattle.mt_recover.specs.Prepared.{IsFoundOf}
+use Rattle.mt_recover.specs.Steps.Preparing.{IsFoundOf}
 use Rattle.mt_recover.specs.Inputs.{OfSources}
 use Rattle.mt_recover.specs.Steps.LogScans.{ShowAll}
 use Rattle.mt_recover.specs.Steps.Outcomes.{AreOutcomes, IsLogOutcome, IsPartOutcome, AllFrom, lasts, read_parts}

@@ -16,4 +16,3 @@ pub mod ReportLemmas
 pub mod Preparing
 pub mod Assembles
 pub mod Works
-pub mod Claims

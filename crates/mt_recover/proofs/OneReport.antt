@@ -6,7 +6,7 @@ use Rattle.std.specs.List.{AllPairs}
 use Rattle.std.specs.List.Sorted.{IsStrictlyIncreasing}
 use Rattle.std.proofs.lemmas.List.Elements.{recursion_from_All}
 use Rattle.std.proofs.lemmas.List.Kept.{AllPairs-from_increasing}
-use Rattle.mt_record.specs.Kept.{is_mark}
+use Rattle.mt_words.specs.Changes.{is_mark}
 use Rattle.mt_record.specs.Logs.{LogReading}
 use Rattle.mt_scan.specs.PartScans.{KnownPart}
 use Rattle.mt_scan.specs.Choice.{CheckpointReading, AreSkipped, AreNameless}

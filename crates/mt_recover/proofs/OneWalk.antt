@@ -1,18 +1,18 @@
 -- Updates have at most one walk: keys and column numbers strictly rise, so what a walk holds determines it.
-use Rattle.std.proofs.Common.{◌≡◌, inl, inr, ℕ, suc, ◌<◌, ◌≤◌, true, List, [], ◌∷◌, length, Contains, refl, sym, ap, ◌∙◌, subst, arith}
+use Rattle.std.proofs.Common.{◌≡◌, inl, inr, ℕ, suc, ◌<◌, ◌≤◌, List, [], ◌∷◌, length, Contains, refl, sym, ap, ◌∙◌, subst, arith}
 use Rattle.std.specs.List.{AllByRecursion}
-use Rattle.std.specs.Cmp.Lexicographic.{slice_cmp}
-use Rattle.std.specs.Ordering.{nat_cmp, is_lt, ordering_reverse}
-use Rattle.std.specs.declared.cmp.Ordering.{Ordering}
-use Rattle.std.specs.declared.cmp.Ordering.TheVariants.{Less, Equal, Greater}
-use Rattle.std.proofs.lemmas.Cmp.{nat_list_cmp_total}
-use Rattle.std.proofs.lemmas.List.Elements.{All-contains, All-from_recursion, Contains-append_right}
+use Rattle.std.proofs.lemmas.Bool.{both_ways}
+use Rattle.std.proofs.lemmas.List.Elements.{Contains-append_right}
 use Rattle.mt_words.specs.Words.{IsBelow, NumbersRise, AreColumns}
 use Rattle.mt_words.specs.Limits.{widest}
 use Rattle.mt_words.specs.Walks.{Pair, KeysRise, IsPair, IsMap, Holds}
 use Rattle.mt_words.specs.declared.update.Update.{Update}
 use Rattle.mt_words.proofs.Elements.{no_element, head_or_tail, head_in}
+use Rattle.mt_replay.specs.Cuts.{is_below}
 use Rattle.mt_replay.specs.Walk.{IsWalk}
+use Rattle.mt_replay.proofs.KeyOrder.{below_order}
+use Rattle.mt_replay.proofs.Members.{of_each}
+use Rattle.mt_replay.proofs.StepLemmas.{below_itself}
 
 -- ---- lists whose elements rise
 
@@ -20,10 +20,6 @@ use Rattle.mt_replay.specs.Walk.{IsWalk}
 abbrev pub Rises : {A : Type 0} → (A → A → Type 0) → List A → Type 0
 Rises Before [] = Unit {0}
 Rises Before (x ∷ xs) = AllByRecursion (Before x) xs × Rises Before xs
-
--- what holds of all holds of each
-pub of_each : {A : Type 0} (P : A → Type 0) (xs : List A) (x : A) → AllByRecursion P xs → Contains xs x → P x
-of_each P xs x all at = All-contains P xs x (All-from_recursion P xs all) at
 
 -- rising lists with the same elements have the same head
 same_head : {A : Type 0} (Before : A → A → Type 0) → ((a b : A) → Before a b → Before b a → ⊥) → (x y : A) (xs ys : List A)
@@ -94,23 +90,9 @@ pairs_rise : (pairs : List Pair) → KeysRise pairs → Rises (λ (p q : Pair). 
 pairs_rise [] rise = tt
 pairs_rise (p ∷ ps) rise = (rise.0, pairs_rise ps rise.1)
 
--- an order and its reverse are not both Less
-one_less : (a b : Ordering) → a ≡ ordering_reverse b → is_lt a ≡ true → is_lt b ≡ true → ⊥
-one_less Less Less e lt gt = absurd cc
-one_less Less Equal e lt gt = absurd cc
-one_less Less Greater e lt gt = absurd cc
-one_less Equal b e lt gt = absurd cc
-one_less Greater b e lt gt = absurd cc
-
 -- two keys are not each below the other
 one_key_below : (p q : Pair) → IsBelow p.0 q.0 → IsBelow q.0 p.0 → ⊥
-one_key_below p q lt gt = one_less (slice_cmp nat_cmp p.0 q.0) (slice_cmp nat_cmp q.0 p.0) (nat_list_cmp_total.antisymm p.0 q.0) lt gt
-
--- no key is below itself
-pub not_below_itself : (a b : List ℕ) → a ≡ b → IsBelow a b → ⊥
-not_below_itself a b e lt =
-    let itself : IsBelow a a = subst (IsBelow a) (sym e) lt in
-    one_less (slice_cmp nat_cmp a a) (slice_cmp nat_cmp a a) (nat_list_cmp_total.antisymm a a) itself itself
+one_key_below p q lt gt = both_ways (is_below q.0 p.0) (below_order.one_way p.0 q.0 lt) gt
 
 -- pairs of one list with the same key have the same columns
 one_pair : (pairs : List Pair) (p q : Pair) → KeysRise pairs → Contains pairs p → Contains pairs q → p.0 ≡ q.0 → p.1 ≡ q.1
@@ -120,12 +102,12 @@ one_pair (r ∷ rs) p q rise at here same = elim (head_or_tail r p rs at) as (λ
     | inl f ↦ ap (λ (x : Pair). x.1) (sym e ∙ f)
     | inr later ↦
         let below : IsBelow r.0 q.0 = of_each (λ (o : Pair). IsBelow r.0 o.0) rs q rise.0 later in
-        absurd (not_below_itself r.0 q.0 (ap (λ (x : Pair). x.0) e ∙ same) below)
+        absurd (below_itself q.0 (subst (λ (k : List ℕ). IsBelow k q.0) (ap (λ (x : Pair). x.0) e ∙ same) below))
   ]
   | inr later ↦ elim (head_or_tail r q rs here) as (λ _. p.1 ≡ q.1) [
     | inl f ↦
         let below : IsBelow r.0 p.0 = of_each (λ (o : Pair). IsBelow r.0 o.0) rs p rise.0 later in
-        absurd (not_below_itself r.0 p.0 (ap (λ (x : Pair). x.0) f ∙ sym same) below)
+        absurd (below_itself p.0 (subst (λ (k : List ℕ). IsBelow k p.0) (ap (λ (x : Pair). x.0) f ∙ sym same) below))
     | inr too ↦ one_pair rs p q rise.1 later too same
   ]
 ]

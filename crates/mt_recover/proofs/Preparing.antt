@@ -5,17 +5,15 @@ use Rattle.std.specs.Prelude.{filter, nat_lt, IfOk, Result, Vec}
 use Rattle.std.proofs.lemmas.Bool.Decides.{nat_tests}
 use Rattle.std.specs.List.{AllZip}
 use Rattle.std.specs.Option.{option_map}
-use Rattle.std.proofs.lemmas.List.Sorted.{IsPermutation-sym, Contains-permutation, length_permutation}
+use Rattle.std.proofs.lemmas.List.Sorted.{IsPermutation-refl, IsPermutation-sym, Contains-permutation, length_permutation}
 use Rattle.mt_words.specs.declared.fault.Memory.{Memory}
 use Rattle.mt_words.specs.declared.update.Update.{Update}
 use Rattle.mt_words.specs.Walks.{Pair, joined}
 use Rattle.mt_scan.specs.declared.checkpoint.Checkpoint.{Checkpoint}
 use Rattle.mt_scan.specs.declared.log_scan.LogScan.{LogScan}
-use Rattle.mt_scan.specs.Steps.Checkpoints.{entries_of}
 use Rattle.mt_scan.specs.Choice.{checkpoint_in}
-use Rattle.mt_scan.specs.PartScans.{KeptPart, shown_by_all}
 use Rattle.mt_replay.specs.declared.window.Window.{Window}
-use Rattle.mt_replay.specs.Survivors.{in_window, is_within, wholes}
+use Rattle.mt_replay.specs.Survivors.{in_window, is_within}
 use Rattle.mt_replay.specs.Walk.{AreApart, IsWalk}
 use Rattle.mt_replay.proofs.StepLemmas.{same_column}
 use Rattle.mt_tree.specs.Trees.{IsCount}
@@ -23,11 +21,12 @@ use Rattle.mt_recover.specs.declared.found.Found.{Found}
 use Rattle.mt_recover.specs.declared.report.Counts.{Counts}
 use Rattle.mt_recover.specs.declared.survivors.LogSurvivors.{LogSurvivors}
 use Rattle.mt_recover.specs.Steps.LogScans.{kept, kept_in}
-use Rattle.mt_recover.specs.Prepared.{PreparedView, IsPreparedOf, IsMadeOf, AreCountsOf, HasRoomFor, IsLeftBy, AreLeftBy, cells_of, early_of, IsFoundOf}
+use Rattle.mt_recover.specs.Prepared.{PreparedView, IsPreparedOf, IsMadeOf}
+use Rattle.mt_recover.specs.Steps.Preparing.{AreCountsOf, HasRoomFor, IsLeftBy, AreLeftBy, cells_of, early_of, IsFoundOf}
 use Rattle.mt_recover.specs.Recovery.{records_of, entry_updates}
 use Rattle.mt_recover.specs.Report.{Outcome, IsRecoveredOf, IsReportOf, is_early, logged_updates}
 use Rattle.mt_recover.proofs.CountLemmas.{begins_below, survivors_in, early_in, room_for, report_is, walk_few}
-use Rattle.mt_recover.proofs.ReplayLemmas.{all_answered, cells_of_both, cells_of_all_parts, early_of_both}
+use Rattle.mt_recover.proofs.ReplayLemmas.{all_answered, cells_of_both, early_of_both}
 use Rattle.mt_recover.proofs.ReportLemmas.{same_updates}
 use Rattle.mt_recover.proofs.SurvivorLemmas.{survivors_apart}
 
@@ -74,27 +73,25 @@ walk_moved updates moved pairs same is =
 
 -- ---- what is prepared
 
--- what the scans and the parts left, if those are the scans and the chosen checkpoint of what was found
-pub are_left : (found : Found) (counts : Counts) (scans : Vec LogScan Global) (chosen : Option Checkpoint) (texts : List KeptPart) (logs : List (Result LogSurvivors Memory)) (parts : List (Result (List Update) Memory))
-    → ((ls ps : List (List ℕ)) (is : IsFoundOf ls ps found) → AreCountsOf is.facts counts) → scans ≡ found.scans → chosen ≡ found.choice.chosen → entry_updates (option_map checkpoint_in chosen) ≡ wholes (entries_of (shown_by_all texts))
-    → AllZip (λ scan left. IfOk left (IsLeftBy found.window scan)) scans.items logs → AllZip (λ text left. IfOk left (IsPermutation (wholes text.entries))) texts parts → AreLeftBy found counts logs parts
-are_left found counts scans chosen texts logs parts counted same_scans same_chosen texts_are of_logs of_parts = record {
+-- what the scans left, if those are the scans and the chosen checkpoint of what was found
+pub are_left : (found : Found) (counts : Counts) (scans : Vec LogScan Global) (chosen : Option Checkpoint) (logs : List (Result LogSurvivors Memory))
+    → ((ls ps : List (List ℕ)) (is : IsFoundOf ls ps found) → AreCountsOf is.facts counts) → scans ≡ found.scans → chosen ≡ found.choice.chosen
+    → AllZip (λ scan left. IfOk left (IsLeftBy found.window scan)) scans.items logs → AreLeftBy found counts logs chosen
+are_left found counts scans chosen logs counted same_scans same_chosen of_logs = record {
   counts_are = counted;
   logs_are = subst (λ (scans : Vec LogScan Global). AllZip (λ scan (left : Result LogSurvivors Memory). IfOk left (IsLeftBy found.window scan)) scans.items logs) same_scans of_logs;
-  texts = texts;
-  chosen = ap (λ (o : Option Checkpoint). entry_updates (option_map checkpoint_in o)) (sym same_chosen) ∙ texts_are;
-  parts_are = of_parts;
+  same_chosen = same_chosen;
 }
 
-module _ (ls ps : List (List ℕ)) (found : Found) (is : IsFoundOf ls ps found) (counts : Counts) (logs : List (Result LogSurvivors Memory)) (parts : List (Result (List Update) Memory)) (are : AreLeftBy found counts logs parts)
-    (of_logs : List LogSurvivors) (of_parts : List (List Update)) (logs_done : logs ≡ map Ok of_logs) (parts_done : parts ≡ map Ok of_parts) where
+module _ (ls ps : List (List ℕ)) (found : Found) (is : IsFoundOf ls ps found) (counts : Counts) (logs : List (Result LogSurvivors Memory)) (chosen : Option Checkpoint) (are : AreLeftBy found counts logs chosen)
+    (of_logs : List LogSurvivors) (of_parts : List (List Update)) (logs_done : logs ≡ map Ok of_logs) (parts_are : joined of_parts ≡ entry_updates (option_map checkpoint_in chosen)) where
   left : AllZip (IsLeftBy found.window) found.scans.items of_logs
   left = all_answered (IsLeftBy found.window) found.scans.items logs of_logs are.logs_are logs_done
 
   entries : IsPermutation (entry_updates (option_map checkpoint_in found.choice.chosen)) (joined of_parts)
   entries =
-      subst (λ (us : List Update). IsPermutation us (joined of_parts)) (sym are.chosen)
-      (cells_of_all_parts are.texts of_parts (all_answered (λ (text : KeptPart) (cells : List Update). IsPermutation (wholes text.entries) cells) are.texts parts of_parts are.parts_are parts_done))
+      subst (λ (us : List Update). IsPermutation us (joined of_parts)) (parts_are ∙ ap (λ (o : Option Checkpoint). entry_updates (option_map checkpoint_in o)) are.same_chosen)
+      (IsPermutation-refl (joined of_parts))
 
   abbrev moved : List Update
   moved = joined (cells_of of_logs ++ of_parts)

@@ -1,10 +1,9 @@
 -- The surviving updates, scan by scan.
-use Rattle.std.proofs.Common.{sum_by, length, arith, ◌≡◌, ◌⊎◌, inl, inr, map, Result, Ok, IfOk, Bool, true, false, List, [], ◌∷◌, ◌++◌, Contains, IsPermutation, refl, sym, ap, ◌∙◌, subst, append_assoc}
-use Rattle.std.specs.Prelude.{cond}
+use Rattle.std.proofs.Common.{sum_by, length, arith, ◌≡◌, map, Result, Ok, IfOk, List, [], ◌∷◌, ◌++◌, IsPermutation, refl, sym, ap, ◌∙◌, subst, append_assoc}
 use Rattle.std.specs.List.{filter, AllZip}
 use Rattle.std.proofs.lemmas.List.{map-append}
 use Rattle.std.proofs.lemmas.List.Sums.{sum_by-cons}
-use Rattle.std.proofs.lemmas.List.Elements.{filter-append, Contains-push, Contains-append_left, Contains-append_right}
+use Rattle.std.proofs.lemmas.List.Elements.{filter-append}
 use Rattle.std.proofs.lemmas.List.Sorted.{IsPermutation-refl, IsPermutation-append}
 use Rattle.mt_words.specs.declared.fault.Memory.{Memory}
 use Rattle.mt_words.specs.declared.update.Update.{Update}
@@ -14,26 +13,13 @@ use Rattle.mt_words.specs.Walks.{joined}
 use Rattle.mt_scan.specs.PartScans.{KeptPart, shown_by_all}
 use Rattle.mt_scan.specs.Steps.Checkpoints.{entries_of}
 use Rattle.mt_scan.specs.declared.log_scan.LogScan.{LogScan}
-use Rattle.mt_words.proofs.Elements.{no_element, head_or_tail}
 use Rattle.mt_replay.specs.declared.window.Window.{Window}
 use Rattle.mt_replay.specs.Survivors.{in_window, wholes}
 use Rattle.mt_recover.specs.Steps.LogScans.{kept, kept_by, kept_in}
 use Rattle.mt_recover.specs.declared.survivors.LogSurvivors.{LogSurvivors}
-use Rattle.mt_recover.specs.Prepared.{IsLeftBy, cells_of, early_of}
+use Rattle.mt_recover.specs.Steps.Preparing.{IsLeftBy, cells_of, early_of}
 use Rattle.mt_recover.specs.Report.{is_early}
 use Rattle.mt_recover.proofs.ReportLemmas.{length-filter_flat}
-
--- an element that a filter keeps of a list is the head or is kept of the tail
-kept_head : {A : Type 0} (test : A → Bool) (b : Bool) (y x : A) (ys : List A) → Contains (cond b (y ∷ filter test ys) (filter test ys)) x → (y ≡ x) ⊎ Contains (filter test ys) x
-kept_head test true y x ys at = head_or_tail y x (filter test ys) at
-kept_head test false y x ys at = inr at
-
-pub was_there : {A : Type 0} (test : A → Bool) (xs : List A) (x : A) → Contains (filter test xs) x → Contains xs x
-was_there test [] x at = absurd (no_element x at)
-was_there test (y ∷ ys) x at = elim (kept_head test (test y) y x ys at) as (λ _. Contains (y ∷ ys) x) [
-  | inl e ↦ subst (Contains (y ∷ ys)) e (Contains-append_left (y ∷ []) ys y (Contains-push [] y))
-  | inr later ↦ Contains-append_right (y ∷ []) ys x (was_there test ys x later)
-]
 
 -- ---- cells
 
@@ -92,11 +78,7 @@ pub early_of_both : (window : Window) (scans : List LogScan) (logs : List LogSur
 early_of_both window scans logs of_logs = early_of_all window scans logs of_logs ∙ sym (length-filter_flat (is_early window.begin) kept_by scans)
 
 -- the cells of all parts have the updates of all entries
-pub cells_of_all_parts : (parts : List KeptPart) (lists : List (List Update)) → AllZip (λ part cells. IsPermutation (wholes part.entries) cells) parts lists
-    → IsPermutation (wholes (entries_of (shown_by_all parts))) (joined lists)
-cells_of_all_parts [] [] all = IsPermutation-refl []
-cells_of_all_parts [] (l ∷ ls) all = absurd all
-cells_of_all_parts (p ∷ ps) [] all = absurd all
-cells_of_all_parts (p ∷ ps) (l ∷ ls) all =
-    subst (λ (us : List Update). IsPermutation us (l ++ joined ls)) (sym (map-append (update_at origins.Checkpoint 0) p.entries (entries_of (shown_by_all ps))))
-    (IsPermutation-append (wholes p.entries) l (wholes (entries_of (shown_by_all ps))) (joined ls) all.0 (cells_of_all_parts ps ls all.1))
+pub cells_of_all_parts : (parts : List KeptPart) → joined (map (λ part. wholes part.entries) parts) ≡ wholes (entries_of (shown_by_all parts))
+cells_of_all_parts [] = refl
+cells_of_all_parts (p ∷ ps) =
+    ap (λ (us : List Update). wholes p.entries ++ us) (cells_of_all_parts ps) ∙ sym (map-append (update_at origins.Checkpoint 0) p.entries (entries_of (shown_by_all ps)))

@@ -12,15 +12,13 @@ use Rattle.std.proofs.lemmas.List.Sums.{sum_by-cons, length-filter}
 use Rattle.mt_words.specs.declared.record.Change.{Change}
 use Rattle.mt_words.specs.declared.update.Origin.TheVariants as origins
 use Rattle.mt_words.specs.declared.update.Update.{Update}
-use Rattle.mt_words.specs.Changes.{Logged, mark_of}
-use Rattle.mt_words.specs.Updates.{update_at, update_of, updates_from}
-use Rattle.mt_record.specs.Kept.{Kept, is_mark, as_list}
+use Rattle.mt_words.specs.Changes.{Logged, mark_of, is_mark}
+use Rattle.mt_words.specs.Updates.{update_at, update_of, updates_from, Kept, as_list}
 use Rattle.mt_record.specs.Logs.{LogReading, IsReading}
 use Rattle.mt_record.proofs.RecordLemmas.{updates_step}
 use Rattle.mt_scan.specs.declared.checkpoint.Checkpoint.{Checkpoint}
 use Rattle.mt_scan.specs.declared.log_scan.LogScan.{LogScan}
-use Rattle.mt_scan.specs.Cutoff.{HaveNumbersOf}
-use Rattle.mt_scan.specs.Scans.{HasNumbersOf}
+use Rattle.mt_scan.specs.Scans.{HasNumbersOf, HaveNumbersOf}
 use Rattle.mt_scan.specs.PartScans.{KeptPart, shown_by_all}
 use Rattle.mt_scan.specs.Choice.{CheckpointReading, checkpoint_in}
 use Rattle.mt_scan.specs.Steps.Checkpoints.{entries_of}

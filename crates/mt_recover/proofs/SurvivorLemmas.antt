@@ -1,6 +1,6 @@
 -- What survives of logs and of a chosen checkpoint: no two survivors of a key share a stamp.
-use Rattle.std.proofs.Common.{◌≡◌, inl, inr, ℕ, List, [], ◌∷◌, Option, Some, None, Contains, sym, ap, ◌∙◌}
-use Rattle.std.proofs.lemmas.List.Elements.{Contains-append_right, Contains-append_cases}
+use Rattle.std.proofs.Common.{◌≡◌, subst, inl, inr, ℕ, List, [], ◌∷◌, Option, Some, None, Contains, sym, ap, ◌∙◌}
+use Rattle.std.proofs.lemmas.List.Elements.{Contains-append_cases}
 use Rattle.mt_words.specs.declared.record.Change.{Change}
 use Rattle.mt_words.specs.declared.update.Origin.TheVariants as origins
 use Rattle.mt_words.specs.declared.update.Update.{Update}
@@ -9,28 +9,14 @@ use Rattle.mt_words.specs.Changes.{Logged}
 use Rattle.mt_words.specs.Updates.{update_at}
 use Rattle.mt_scan.specs.PartScans.{KnownPart}
 use Rattle.mt_scan.specs.Choice.{CheckpointReading, entry_keys, IsChosenOf}
-use Rattle.mt_words.proofs.Elements.{no_element, head_or_tail, head_in}
+use Rattle.mt_words.proofs.Elements.{no_element, head_or_tail}
 use Rattle.mt_replay.specs.declared.window.Window.{Window}
 use Rattle.mt_replay.specs.Survivors.{in_window, log_updates, log_survivors, wholes}
 use Rattle.mt_recover.specs.Recovery.{entry_updates, begin_of, survivors}
 use Rattle.mt_replay.specs.Walk.{AreApart}
-use Rattle.mt_replay.proofs.Members.{in_map}
+use Rattle.mt_replay.proofs.Members.{of_each, of_map, in_map, of_filter}
+use Rattle.mt_replay.proofs.StepLemmas.{below_itself}
 use Rattle.mt_recover.proofs.Apart.{of_logs, logs_apart}
-use Rattle.mt_recover.proofs.ReplayLemmas.{was_there}
-use Rattle.mt_recover.proofs.OneWalk.{of_each, not_below_itself}
-
--- ---- the updates of entries
-
--- each update is that of an entry
-of_entry : (entries : List Change) (u : Update) → Contains (wholes entries) u
-    → (entry : Change) × Contains entries entry × (update_at origins.Checkpoint 0 entry ≡ u)
-of_entry [] u at = absurd (no_element u at)
-of_entry (e ∷ es) u at =
-    elim (head_or_tail (update_at origins.Checkpoint 0 e) u (wholes es) at)
-    as (λ _. (entry : Change) × Contains (e ∷ es) entry × (update_at origins.Checkpoint 0 entry ≡ u)) [
-      | inl same ↦ (e, head_in e es, same)
-      | inr later ↦ let is = of_entry es u later in (is.0, Contains-append_right (e ∷ []) es is.0 is.1, is.2)
-    ]
 
 -- ---- stamps
 
@@ -42,12 +28,12 @@ one_entry (e ∷ es) a b rise at here same = elim (head_or_tail e a es at) as (�
     | inl too ↦ sym first ∙ too
     | inr later ↦
         let below : IsBelow e.key b.key = of_each (IsBelow e.key) (entry_keys es) b.key rise.0 (in_map (λ (entry : Change). entry.key) es b later) in
-        absurd (not_below_itself e.key b.key (ap (λ (x : Change). x.key) first ∙ same) below)
+        absurd (below_itself b.key (subst (λ (k : List ℕ). IsBelow k b.key) (ap (λ (x : Change). x.key) first ∙ same) below))
   ]
   | inr later ↦ elim (head_or_tail e b es here) as (λ _. a ≡ b) [
     | inl first ↦
         let below : IsBelow e.key a.key = of_each (IsBelow e.key) (entry_keys es) a.key rise.0 (in_map (λ (entry : Change). entry.key) es a later) in
-        absurd (not_below_itself e.key a.key (ap (λ (x : Change). x.key) first ∙ sym same) below)
+        absurd (below_itself a.key (subst (λ (k : List ℕ). IsBelow k a.key) (ap (λ (x : Change). x.key) first ∙ sym same) below))
     | inr too ↦ one_entry es a b rise.1 later too same
   ]
 ]
@@ -56,8 +42,8 @@ one_entry (e ∷ es) a b rise at here same = elim (head_or_tail e a es at) as (�
 one_whole : (entries : List Change) (u w : Update) → AreRising (entry_keys entries) → Contains (wholes entries) u → Contains (wholes entries) w
     → u.key ≡ w.key → u ≡ w
 one_whole entries u w rise at here same =
-    let a = of_entry entries u at in
-    let b = of_entry entries w here in
+    let a = of_map (update_at origins.Checkpoint 0) entries u at in
+    let b = of_map (update_at origins.Checkpoint 0) entries w here in
     let keys : a.0.key ≡ b.0.key = ap (λ (x : Update). x.key) a.2 ∙ same ∙ sym (ap (λ (x : Update). x.key) b.2) in
     sym a.2 ∙ ap (update_at origins.Checkpoint 0) (one_entry entries a.0 b.0 rise a.1 b.1 keys) ∙ b.2
 
@@ -70,7 +56,7 @@ one_of_chosen known cutoff (Some checkpoint) u w is at here same = one_whole che
 -- the origin of such an update is the checkpoint
 of_checkpoint : (chosen : Option CheckpointReading) (u : Update) → Contains (entry_updates chosen) u → u.stamp.origin ≡ origins.Checkpoint
 of_checkpoint None u at = absurd (no_element u at)
-of_checkpoint (Some checkpoint) u at = ap (λ (x : Update). x.stamp.origin) (sym (of_entry checkpoint.entries u at).2)
+of_checkpoint (Some checkpoint) u at = ap (λ (x : Update). x.stamp.origin) (sym (of_map (update_at origins.Checkpoint 0) checkpoint.entries u at).2)
 
 -- an update of logs and one of a checkpoint have different stamps
 two_origins : (logs : List (List Logged)) (chosen : Option CheckpointReading) (u w : Update) → Contains (log_updates logs) u
@@ -88,11 +74,11 @@ survivors_apart known cutoff chosen logs is u w at here key same =
     let of_logs = log_survivors window logs in
     elim (Contains-append_cases of_logs (entry_updates chosen) u at) as (λ _. u ≡ w) [
       | inl log ↦ elim (Contains-append_cases of_logs (entry_updates chosen) w here) as (λ _. u ≡ w) [
-        | inl too ↦ logs_apart 0 logs u w (was_there (in_window window) (log_updates logs) u log) (was_there (in_window window) (log_updates logs) w too) same
-        | inr entry ↦ absurd (two_origins logs chosen u w (was_there (in_window window) (log_updates logs) u log) entry same)
+        | inl too ↦ logs_apart 0 logs u w (of_filter (in_window window) (log_updates logs) u log).0 (of_filter (in_window window) (log_updates logs) w too).0 same
+        | inr entry ↦ absurd (two_origins logs chosen u w (of_filter (in_window window) (log_updates logs) u log).0 entry same)
       ]
       | inr entry ↦ elim (Contains-append_cases of_logs (entry_updates chosen) w here) as (λ _. u ≡ w) [
-        | inl log ↦ absurd (two_origins logs chosen w u (was_there (in_window window) (log_updates logs) w log) entry (sym same))
+        | inl log ↦ absurd (two_origins logs chosen w u (of_filter (in_window window) (log_updates logs) w log).0 entry (sym same))
         | inr too ↦ one_of_chosen known cutoff chosen u w is entry too key
       ]
     ]

@@ -1,5 +1,5 @@
--- The passes and hauls that workers return.
-use Rattle.std.proofs.Common.{◌≡◌, ℕ, zero, suc, ◌≤◌, List, [], ◌∷◌, ◌++◌, length, refl, sym, ap, subst, arith, Bool, cond}
+-- The numbers that passes draw, and the passes and hauls that workers return.
+use Rattle.std.proofs.Common.{◌≡◌, ◌∙◌, append_assoc, ℕ, zero, suc, ◌≤◌, List, [], ◌∷◌, ◌++◌, length, refl, sym, ap, subst, arith, Bool, cond}
 use Rattle.std.specs.List.{All, AllZip}
 use Rattle.std.proofs.lemmas.List.{length_push}
 use Rattle.std.proofs.lemmas.List.Sums.{sum_by_push, sum_by-cons}
@@ -9,6 +9,12 @@ use Rattle.mt_board.specs.Board.{BoardId, PassView, fresh_pass, fresh_passes, ti
 use Rattle.mt_recover.specs.declared.haul.Haul.{Haul}
 use Rattle.mt_recover.specs.Hauls.{numbers, IsHaulOf, times_held, HasWorked, HaveWorked, AllCameBack}
 use Rattle.mt_recover.specs.Job.{JobView}
+
+-- one more draw, after those of this call
+pub drew_on : (start now next : PassView) (drawn after : List ℕ) (n : ℕ) → now ≡ record start { draws = start.draws ++ drawn } → next ≡ record now { draws = now.draws ++ n ∷ [] } → after ≡ drawn ++ n ∷ []
+    → next ≡ record start { draws = start.draws ++ after }
+drew_on start now next drawn after n was is more =
+    is ∙ ap (λ (p : PassView). record p { draws = p.draws ++ n ∷ [] }) was ∙ ap (λ (l : List ℕ). record start { draws = l }) (append_assoc start.draws drawn (n ∷ []) ∙ ap (λ (l : List ℕ). start.draws ++ l) (sym more))
 
 -- one more worker has worked
 pub worked_more : (job : JobView) (passes after : List PassView) (hauls more : List Haul) (pass : PassView) (haul : Haul) → HaveWorked job passes hauls → HasWorked job pass haul → after ≡ passes ++ pass ∷ [] → more ≡ hauls ++ haul ∷ []

@@ -3,9 +3,8 @@ use Rattle.std.specs.Prelude.{◌≡◌, ℕ, Bool, nat_lt, nat_le, List, length
 use Rattle.std.specs.List.{flat_map}
 use Rattle.std.specs.Option.{option_map}
 use Rattle.mt_words.specs.declared.update.Update.{Update}
-use Rattle.mt_words.specs.Changes.{Logged}
+use Rattle.mt_words.specs.Changes.{Logged, is_mark}
 use Rattle.mt_words.specs.Walks.{Pair}
-use Rattle.mt_record.specs.Kept.{is_mark}
 use Rattle.mt_record.specs.Logs.{LogReading}
 use Rattle.mt_scan.specs.Choice.{AreSkipped, AreNameless}
 use Rattle.mt_replay.specs.Survivors.{log_updates}

@@ -3,3 +3,4 @@ pub mod LogScans
 pub mod Assembling
 pub mod Outcomes
 pub mod Scanning
+pub mod Preparing

@@ -3,7 +3,7 @@ ghost use Rattle.std.specs.Prelude.{◌≡◌, List, position, nat_lt, IfOk, IfE
 ghost use Rattle.std.specs.Option.{option_map};
 ghost use Rattle.mt_scan.specs.Choice.{checkpoint_in};
 ghost use Rattle.mt_scan.specs.Sources.{Seen};
-ghost use Rattle.mt_recover.specs.Prepared.{IsFoundOf};
+ghost use Rattle.mt_recover.specs.Steps.Preparing.{IsFoundOf};
 ghost use Rattle.mt_recover.specs.Inputs.{OfSources, IsAnsweredBy};
 ghost use Rattle.mt_recover.specs.Steps.Outcomes.{AreOutcomes};
 ghost use Rattle.mt_recover.specs.Recovery.{begin_of as begin_in};

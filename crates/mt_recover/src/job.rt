@@ -4,7 +4,8 @@ ghost use Rattle.mt_board.specs.Board.{fresh_passes};
 ghost use Rattle.mt_words.specs.Walks.{joined};
 ghost use Rattle.mt_recover.specs.Inputs.{IsAnsweredBy, OfSources};
 ghost use Rattle.mt_recover.specs.Job.{AreCutBy};
-ghost use Rattle.mt_recover.specs.Prepared.{IsFound, IsPreparedOf, IsFoundOf};
+ghost use Rattle.mt_recover.specs.Prepared.{IsPreparedOf};
+ghost use Rattle.mt_recover.specs.Steps.Preparing.{IsFound, IsFoundOf};
 
 use crate::found::{Found, find};
 use crate::prepared::Prepared;

@@ -1,15 +1,18 @@
 //! The survivors and the counts that are prepared before replay.
-ghost use Rattle.std.specs.Prelude.{◌≡◌, ◌<◌, ◌+◌, List, ℕ, length, IfOk, IsPermutation};
+ghost use Rattle.std.specs.Prelude.{◌≡◌, ◌<◌, ◌+◌, List, ℕ, length, IfOk};
 ghost use Rattle.std.specs.Option.{option_map};
+ghost use Rattle.mt_words.specs.Walks.{joined};
+ghost use Rattle.mt_words.specs.Words.{AreRising};
 ghost use Rattle.mt_scan.specs.Steps.Checkpoints.{entries_of};
-ghost use Rattle.mt_scan.specs.Choice.{checkpoint_in};
+ghost use Rattle.mt_scan.specs.Choice.{checkpoint_in, entry_keys};
 ghost use Rattle.mt_scan.specs.PartScans.{shown_by_all};
 ghost use Rattle.mt_replay.specs.Pieces.{IsPiece};
 ghost use Rattle.mt_replay.specs.Survivors.{wholes};
 ghost use Rattle.mt_replay.specs.Walk.{IsWalk};
 ghost use Rattle.mt_tree.specs.Borders.{layer_walk};
 ghost use Rattle.mt_recover.specs.declared.found.Found.{Found as FoundValue};
-ghost use Rattle.mt_recover.specs.Prepared.{AreLeftBy, IsFound, IsLeftBy, IsMadeOf, IsPreparedOf, IsFoundOf};
+ghost use Rattle.mt_recover.specs.Prepared.{IsMadeOf, IsPreparedOf};
+ghost use Rattle.mt_recover.specs.Steps.Preparing.{AreLeftBy, IsFound, IsLeftBy, IsFoundOf};
 ghost use Rattle.mt_recover.specs.Recovery.{entry_updates};
 
 use crate::Workers;
@@ -42,7 +45,8 @@ impl Model for Prepared {
     ghost use Rattle.std.specs.Prelude.{length};
     ghost use Rattle.mt_words.specs.Walks.{joined};
     ghost use Rattle.mt_replay.specs.Walk.{AreApart};
-    ghost use Rattle.mt_recover.specs.Prepared.{HasRoomFor, PreparedView};
+    ghost use Rattle.mt_recover.specs.Prepared.{PreparedView};
+    ghost use Rattle.mt_recover.specs.Steps.Preparing.{HasRoomFor};
 
     ghost Value = { PreparedView };
 
@@ -66,14 +70,7 @@ impl Prepared {
                 ensures { IfOk result (IsLeftBy window scan) }
             { LogSurvivors::of(alloc, &scan, window) },
         )?;
-        let parts = in_turn(
-            alloc,
-            parts_of(alloc, chosen),
-            &|part: PartText<KeptEntries>| -> Result<LogCells, Memory>
-                ensures { IfOk result (IsPermutation (wholes part.entries)) }
-            { LogCells::of_entries(alloc, part.entries) },
-        )?;
-        Prepared::of(alloc, counts, logs, parts)
+        Prepared::of(alloc, counts, logs, chosen)
     }
 
     /// Does the same as `on_one_thread`, but with these workers.
@@ -97,30 +94,21 @@ impl Prepared {
                 ensures { IfOk result (IsLeftBy window scan) }
             { LogSurvivors::of(alloc, &scan, window) },
         )?;
-        let parts = by_workers(
-            rt,
-            alloc,
-            parts_of(alloc, chosen),
-            workers,
-            &|part: PartText<KeptEntries>| -> Result<LogCells, Memory>
-                ensures { IfOk result (IsPermutation (wholes part.entries)) }
-            { LogCells::of_entries(alloc, part.entries) },
-        )?;
-        Prepared::of(alloc, counts, logs, parts)
+        Prepared::of(alloc, counts, logs, chosen)
     }
 
-    /// Puts together what the logs and the parts left, with the counts. Err: out of memory.
+    /// Puts together what the logs left and the entries of the checkpoint, with the counts. Err: out of memory.
     fn of(
         alloc: Global,
         counts: Counts,
         logs: Vec<Result<LogSurvivors, Memory>>,
-        parts: Vec<Result<LogCells, Memory>>,
+        chosen: Option<Checkpoint>,
     ) -> Result<Prepared, Memory>
-        requires { (found : FoundValue) × IsFound found × AreLeftBy found counts logs.items parts.items }
-        ensures { (ls ps : List (List ℕ)) (found : FoundValue) → IsFoundOf ls ps found → AreLeftBy found counts logs.items parts.items → IfOk result (IsPreparedOf ls ps) }
+        requires { (found : FoundValue) × IsFound found × AreLeftBy found counts logs.items chosen }
+        ensures { (ls ps : List (List ℕ)) (found : FoundValue) → IsFoundOf ls ps found → AreLeftBy found counts logs.items chosen → IfOk result (IsPreparedOf ls ps) }
     {
         let logs = all_done(alloc, logs)?;
-        let mut parts = all_done(alloc, parts)?;
+        let mut parts = cells_of_parts(alloc, parts_of(alloc, chosen))?;
         let early = total(&logs, |log| log.early);
         let mut lists = Vec::with_capacity(alloc, logs.len())?;
         for log in logs {
@@ -164,10 +152,23 @@ impl Prepared {
 
 /// Returns the parts of the checkpoint, or none without a checkpoint.
 fn parts_of(alloc: Global, chosen: Option<Checkpoint>) -> Vec<PartText<KeptEntries>>
-    ensures { entry_updates (option_map checkpoint_in chosen) ≡ wholes (entries_of (shown_by_all result.items)) }
+    ensures entries { entry_updates (option_map checkpoint_in chosen) ≡ wholes (entries_of (shown_by_all result.items)) }
+    ensures rise { AreRising (entry_keys (entries_of (shown_by_all result.items))) }
 {
     match chosen {
         Some(checkpoint) => checkpoint.parts,
         None => Vec::new(alloc),
     }
+}
+
+/// Returns the cells of each of these parts. Err: out of memory.
+fn cells_of_parts(alloc: Global, parts: Vec<PartText<KeptEntries>>) -> Result<Vec<LogCells>, Memory>
+    requires { AreRising (entry_keys (entries_of (shown_by_all parts.items))) }
+    ensures { IfOk result (λ lists. joined lists.items ≡ wholes (entries_of (shown_by_all parts.items))) }
+{
+    let mut lists = Vec::with_capacity(alloc, parts.len())?;
+    for part in parts {
+        lists.push(LogCells::of_rising(part.entries))?;
+    }
+    Ok(lists)
 }

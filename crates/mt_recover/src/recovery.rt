@@ -4,7 +4,7 @@ ghost use Rattle.mt_scan.specs.Sources.{Seen};
 ghost use Rattle.mt_recover.specs.Hauls.{HasWorked, HaveWorked};
 ghost use Rattle.mt_recover.specs.Inputs.{IsRecoveryFrom};
 ghost use Rattle.mt_recover.specs.Steps.Outcomes.{AreOutcomes};
-ghost use Rattle.mt_recover.specs.Prepared.{IsFound, IsFoundOf};
+ghost use Rattle.mt_recover.specs.Steps.Preparing.{IsFound, IsFoundOf};
 ghost use Rattle.mt_recover.specs.Report.{IsRecoveredOf};
 ghost use Rattle.mt_recover.specs.Verdict.{IsVerdictOrMemory};
 

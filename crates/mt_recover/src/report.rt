@@ -3,7 +3,8 @@ ghost use Rattle.std.specs.Prelude.{◌≡◌, List, ℕ, length, sum_by};
 ghost use Rattle.std.specs.Fn.{FnReturnsAt};
 ghost use Rattle.std.specs.Option.{option_map};
 ghost use Rattle.mt_scan.specs.Choice.{checkpoint_in};
-ghost use Rattle.mt_recover.specs.Prepared.{AreCountsOf, HasRoomFor, report_of, IsFoundOf};
+ghost use Rattle.mt_recover.specs.Prepared.{report_of};
+ghost use Rattle.mt_recover.specs.Steps.Preparing.{AreCountsOf, HasRoomFor, IsFoundOf};
 ghost use Rattle.mt_recover.specs.Recovery.{entry_updates};
 
 use crate::found::Found;

@@ -1,9 +1,9 @@
 //! What survives of one log.
 ghost use Rattle.std.specs.Prelude.{◌≡◌, IfOk, length, filter};
 ghost use Rattle.std.specs.List.{list_any};
-ghost use Rattle.mt_record.specs.Kept.{kept_updates, as_list};
+ghost use Rattle.mt_words.specs.Updates.{kept_updates, as_list};
 ghost use Rattle.mt_recover.specs.Report.{is_early};
-ghost use Rattle.mt_recover.specs.Prepared.{IsLeftBy};
+ghost use Rattle.mt_recover.specs.Steps.Preparing.{IsLeftBy};
 
 use mt_record::{Lent, Updates};
 use mt_replay::{LogCells, Window};

@@ -9,10 +9,9 @@ use Rattle.mt_words.specs.declared.update.Origin.{Origin}
 use Rattle.mt_words.specs.declared.update.Origin.TheVariants.{Checkpoint}
 use Rattle.mt_words.specs.declared.update.Update.{Update}
 use Rattle.mt_words.specs.Changes.{Logged, mark_of}
-use Rattle.mt_words.specs.Updates.{update_of, updates_from}
+use Rattle.mt_words.specs.Updates.{update_of, updates_from, Kept}
 use Rattle.mt_words.specs.Walks.{joined}
 use Rattle.mt_record.specs.Decoding.{update_in}
-use Rattle.mt_record.specs.Kept.{Kept}
 use Rattle.mt_record.proofs.RecordLemmas.{updates_push}
 use Rattle.mt_replay.specs.declared.window.Window.{Window}
 use Rattle.mt_replay.specs.Survivors.{in_window, first_survivors}

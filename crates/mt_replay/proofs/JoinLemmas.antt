@@ -1,17 +1,20 @@
 -- The keys of pieces, one piece after the other.
-use Rattle.std.proofs.Common.{◌≡◌, inl, inr, ℕ, zero, suc, ◌+◌, ◌-◌, ◌<◌, ◌≤◌, Bool, true, false, List, [], ◌∷◌, ◌++◌, length, map, take, Option, Some, None, Result, Ok, IfOk, Contains, refl, sym, ap, ◌∙◌, subst, arith}
+use Rattle.std.proofs.Common.{◌≡◌, inl, inr, ℕ, zero, suc, ◌+◌, ◌<◌, ◌≤◌, Bool, true, false, List, [], ◌∷◌, ◌++◌, length, map, take, Option, Some, None, Result, Ok, IfOk, Contains, refl, sym, ap, ◌∙◌, subst, arith}
 use Rattle.std.specs.Prelude.{slice_get, slice_index_or}
 use Rattle.std.specs.List.{All, flat_map}
 use Rattle.std.proofs.Math.Seq.{take-length}
 use Rattle.std.proofs.lemmas.Bool.{cases_lt, cases_Bool, false≢true, not-true, not_from_false, and_parts, and_from}
 use Rattle.std.proofs.lemmas.Option.{slice_get_past, slice_get-get_or}
-use Rattle.std.proofs.lemmas.List.{length-append, length-map, map-append, get_or-map, get_or_append_left, get_or-append_right, take_more, flat_map_more}
-use Rattle.std.proofs.lemmas.List.Elements.{All-contains, All-from_recursion, Contains-get_or, Contains-append_cases, Contains-append_left, Contains-append_right}
+use Rattle.std.proofs.lemmas.List.{length-map, map-append, get_or-map, take_more, flat_map_more}
+use Rattle.std.proofs.lemmas.List.Elements.{All-contains, All-from_recursion, Contains-append_cases, Contains-append_left, Contains-append_right}
 use Rattle.mt_words.specs.declared.update.Update.{Update}
-use Rattle.mt_words.specs.Words.{IsBelow}
+use Rattle.mt_words.specs.Words.{AreRising}
 use Rattle.mt_words.specs.Walks.{joined}
-use Rattle.mt_replay.specs.Cuts.{is_below, is_after, is_before, in_piece, updates_in, RiseThroughout, AreDistinctKeys, AreDistinctWhere, keys_in}
+use Rattle.mt_replay.specs.Cuts.{is_below, is_after, is_before, in_piece, keys_in}
+use Rattle.mt_replay.specs.Even.{AreDistinctKeys}
+use Rattle.mt_replay.specs.Steps.SortedUpdates.{updates_in, AreDistinctWhere}
 use Rattle.mt_replay.proofs.KeyOrder.{below_by, below_trans}
+use Rattle.mt_replay.proofs.Rising.{below_later, rise_append}
 use Rattle.mt_words.proofs.Elements.{no_element}
 use Rattle.mt_replay.proofs.Members.{all_from, of_map, in_map, of_flat_map, in_flat_map, of_filter, in_filter}
 
@@ -41,28 +44,6 @@ of_parts cuts i lists parts keys are distinct = record {
 
 -- ---- pieces in their order
 
-rise_append : (xs ys : List (List ℕ)) → RiseThroughout xs → RiseThroughout ys → ((a b : List ℕ) → Contains xs a → Contains ys b → IsBelow a b) → RiseThroughout (xs ++ ys)
-rise_append xs ys rise too below = λ k d lt.
-    let whole : length (xs ++ ys) ≡ length xs + length ys = length-append xs ys in
-    elim (cases_lt (k + 1) (length xs)) as (λ _. IsBelow (slice_index_or (xs ++ ys) k d) (slice_index_or (xs ++ ys) (k + 1) d)) [
-      | inl within ↦
-          let here : slice_index_or (xs ++ ys) k d ≡ slice_index_or xs k d = get_or_append_left xs ys d k (omega arith) in
-          let next : slice_index_or (xs ++ ys) (k + 1) d ≡ slice_index_or xs (k + 1) d = get_or_append_left xs ys d (k + 1) within in
-          (λ i. is_below (here i) (next i)) ∙ rise k d within
-      | inr past ↦
-          let place : ℕ = k + 1 - length xs in
-          let next : slice_index_or (xs ++ ys) (k + 1) d ≡ slice_index_or ys place d = get_or-append_right xs ys (length xs) (k + 1) d refl past in
-          elim (cases_lt k (length xs)) as (λ _. IsBelow (slice_index_or (xs ++ ys) k d) (slice_index_or (xs ++ ys) (k + 1) d)) [
-            | inl last ↦
-                let here : slice_index_or (xs ++ ys) k d ≡ slice_index_or xs k d = get_or_append_left xs ys d k last in
-                (λ i. is_below (here i) (next i)) ∙ below (slice_index_or xs k d) (slice_index_or ys place d) (Contains-get_or xs k d last) (Contains-get_or ys place d (omega (arith, whole)))
-            | inr later ↦
-                let here : slice_index_or (xs ++ ys) k d ≡ slice_index_or ys (k - length xs) d = get_or-append_right xs ys (length xs) k d refl later in
-                let one : k - length xs + 1 ≡ place = omega (arith, later) in
-                (λ i. is_below (here i) (next i)) ∙ subst (λ n. IsBelow (slice_index_or ys (k - length xs) d) (slice_index_or ys n d)) one (too (k - length xs) d (omega (arith, whole)))
-          ]
-    ]
-
 -- whether a key is in one of the first pieces
 abbrev in_first : List (List ℕ) → ℕ → List ℕ → Bool
 in_first cuts zero key = false
@@ -82,17 +63,16 @@ one_piece cuts all keys piece are own = record {
 }
 
 -- what is below a cut is below the next
-below_next : (cuts : List (List ℕ)) (i : ℕ) (key : List ℕ) → RiseThroughout cuts → i < length cuts → is_below key (slice_index_or cuts i []) ≡ true → is_before (slice_get cuts (suc i)) key ≡ true
+below_next : (cuts : List (List ℕ)) (i : ℕ) (key : List ℕ) → AreRising cuts → i < length cuts → is_below key (slice_index_or cuts i []) ≡ true → is_before (slice_get cuts (suc i)) key ≡ true
 below_next cuts i key rise within low = elim (cases_lt (suc i) (length cuts)) as (λ _. is_before (slice_get cuts (suc i)) key ≡ true) [
   | inl lt ↦
-      let next : i + 1 ≡ suc i = omega arith in
-      let up : is_below (slice_index_or cuts i []) (slice_index_or cuts (suc i) []) ≡ true = subst (λ n. is_below (slice_index_or cuts i []) (slice_index_or cuts n []) ≡ true) next (rise i [] (omega arith)) in
+      let up = below_later cuts rise i (suc i) [] (omega arith) lt in
       ap (λ (cut : Option (List ℕ)). is_before cut key) (slice_get-get_or cuts (suc i) [] lt) ∙ below_trans key (slice_index_or cuts i []) (slice_index_or cuts (suc i) []) low up
   | inr past ↦ ap (λ (cut : Option (List ℕ)). is_before cut key) (slice_get_past cuts (suc i) past)
 ]
 
 -- one more piece after others
-next_piece : (cuts all keys piece : List (List ℕ)) (i : ℕ) → RiseThroughout cuts → i < length cuts → AreDistinctWhere (in_first cuts (suc i)) all keys → AreDistinctWhere (in_piece cuts (suc i)) all piece → AreDistinctWhere (in_first cuts (suc (suc i))) all (keys ++ piece)
+next_piece : (cuts all keys piece : List (List ℕ)) (i : ℕ) → AreRising cuts → i < length cuts → AreDistinctWhere (in_first cuts (suc i)) all keys → AreDistinctWhere (in_piece cuts (suc i)) all piece → AreDistinctWhere (in_first cuts (suc (suc i))) all (keys ++ piece)
 next_piece cuts all keys piece i rise within are own =
     let cut : List ℕ = slice_index_or cuts i [] in
     let there : slice_get cuts i ≡ Some cut = slice_get-get_or cuts i [] within in
@@ -115,7 +95,7 @@ next_piece cuts all keys piece i rise within are own =
       );
     }
 
-one_more : (cuts all keys piece : List (List ℕ)) (i : ℕ) → RiseThroughout cuts → i ≤ length cuts → AreDistinctWhere (in_first cuts i) all keys → AreDistinctWhere (in_piece cuts i) all piece → AreDistinctWhere (in_first cuts (suc i)) all (keys ++ piece)
+one_more : (cuts all keys piece : List (List ℕ)) (i : ℕ) → AreRising cuts → i ≤ length cuts → AreDistinctWhere (in_first cuts i) all keys → AreDistinctWhere (in_piece cuts i) all piece → AreDistinctWhere (in_first cuts (suc i)) all (keys ++ piece)
 one_more cuts all keys piece zero rise within are own = one_piece cuts all keys piece are own
 one_more cuts all keys piece (suc i) rise within are own = next_piece cuts all keys piece i rise (omega arith) are own
 
@@ -123,10 +103,10 @@ joined_more : (pieces : List (List (List ℕ))) (i : ℕ) → i < length pieces 
 joined_more pieces i lt = flat_map_more (λ (piece : List (List ℕ)). piece) [] (take i pieces) (slice_index_or pieces i []) ∙ ap joined (sym (take_more pieces i [] lt))
 
 -- the keys of the first pieces
-first_pieces : (cuts all : List (List ℕ)) (pieces : List (List (List ℕ))) → RiseThroughout cuts → length pieces ≡ length cuts + 1 → ((i : ℕ) (d : List (List ℕ)) → i < length pieces → AreDistinctWhere (in_piece cuts i) all (slice_index_or pieces i d))
+first_pieces : (cuts all : List (List ℕ)) (pieces : List (List (List ℕ))) → AreRising cuts → length pieces ≡ length cuts + 1 → ((i : ℕ) (d : List (List ℕ)) → i < length pieces → AreDistinctWhere (in_piece cuts i) all (slice_index_or pieces i d))
     → (count : ℕ) → count ≤ length pieces → AreDistinctWhere (in_first cuts count) all (joined (take count pieces))
 first_pieces cuts all pieces rise long each zero within = record {
-  rise = λ k d lt. absurd (omega (arith, lt));
+  rise = tt;
   same = λ key. (λ at. absurd (no_element key at), λ both. absurd (false≢true both.1));
 }
 first_pieces cuts all pieces rise long each (suc i) within =
@@ -135,7 +115,7 @@ first_pieces cuts all pieces rise long each (suc i) within =
     subst (λ n. AreDistinctWhere (in_first cuts (suc i)) all (joined (take n pieces))) next (subst (AreDistinctWhere (in_first cuts (suc i)) all) (joined_more pieces i (omega arith)) more)
 
 -- the keys of all pieces
-all_pieces : (cuts all : List (List ℕ)) (pieces : List (List (List ℕ))) → RiseThroughout cuts → length pieces ≡ length cuts + 1 → ((i : ℕ) (d : List (List ℕ)) → i < length pieces → AreDistinctWhere (in_piece cuts i) all (slice_index_or pieces i d)) → AreDistinctKeys all (joined pieces)
+all_pieces : (cuts all : List (List ℕ)) (pieces : List (List (List ℕ))) → AreRising cuts → length pieces ≡ length cuts + 1 → ((i : ℕ) (d : List (List ℕ)) → i < length pieces → AreDistinctWhere (in_piece cuts i) all (slice_index_or pieces i d)) → AreDistinctKeys all (joined pieces)
 all_pieces cuts all pieces rise long each =
     let count : suc (length cuts) ≡ length pieces = omega (arith, long) in
     let last : slice_get cuts (length cuts) ≡ None = slice_get_past cuts (length cuts) (omega arith) in
@@ -160,7 +140,7 @@ of_done {V} {E} P answers done are each i d lt =
     let is : slice_index_or answers i (Ok d) ≡ Ok (slice_index_or done i d) = ap (λ (xs : List (Result V E)). slice_index_or xs i (Ok d)) are ∙ get_or-map Ok done i d (Ok d) lt in
     subst (λ (answer : Result V E). IfOk answer (P i)) is (each i (Ok d) (omega (arith, lt, long)))
 
-pub keys_joined : {B V : Type 0} (now : B → List ℕ) (items : V → List B) (cuts all : List (List ℕ)) (parts : List V) (keys : List B) → RiseThroughout cuts → length parts ≡ length cuts + 1
+pub keys_joined : {B V : Type 0} (now : B → List ℕ) (items : V → List B) (cuts all : List (List ℕ)) (parts : List V) (keys : List B) → AreRising cuts → length parts ≡ length cuts + 1
     → ((i : ℕ) (d : V) → i < length parts → AreDistinctWhere (in_piece cuts i) all (map now (items (slice_index_or parts i d)))) → keys ≡ flat_map items parts → AreDistinctKeys all (map now keys)
 keys_joined {B} {V} now items cuts all parts keys rise long each are =
     let values : V → List (List ℕ) = λ part. map now (items part) in

@@ -8,19 +8,19 @@ use Rattle.std.proofs.lemmas.Cmp.{nat_list_cmp_total, on_total}
 use Rattle.std.proofs.lemmas.List.Kept.{Contains-from_dedup, IsStrictlySortedBy-dedup}
 use Rattle.std.proofs.lemmas.List.Sorted.{IsPermutation-sym, Contains-permutation}
 use Rattle.std.proofs.lemmas.List.Elements.{All-contains, All-from_recursion}
-use Rattle.mt_replay.specs.Cuts.{RiseThroughout}
+use Rattle.mt_words.specs.Words.{AreRising}
 use Rattle.mt_replay.proofs.Members.{all_from, of_map, in_map}
-use Rattle.mt_replay.proofs.DistinctLemmas.{order_of, rising}
+use Rattle.mt_replay.proofs.Rising.{order_of, sorted_rise}
 
 -- whether two borrowed keys are equal
 abbrev pub are_same : {B : Type 0} → (B → List ℕ) → B → B → Bool
 are_same now a b = pointwise nat_eq (now a) (now b)
 
 -- keys that were sorted and kept once each rise
-pub kept_rise : {B : Type 0} (now : B → List ℕ) (sorted kept : List B) → IsSorted (order_of now) sorted → kept ≡ dedup (are_same now) sorted → RiseThroughout (map now kept)
+pub kept_rise : {B : Type 0} (now : B → List ℕ) (sorted kept : List B) → IsSorted (order_of now) sorted → kept ≡ dedup (are_same now) sorted → AreRising (map now kept)
 kept_rise {B} now sorted kept up is =
     let strictly : IsStrictlySortedBy (order_of now) (dedup (are_same now) sorted) = IsStrictlySortedBy-dedup (on_total now nat_list_cmp_total) (λ a b. texts_ties (now a) (now b)) sorted up in
-    rising now kept (subst (IsStrictlySortedBy (order_of now)) (sym is) strictly)
+    sorted_rise now kept (subst (IsStrictlySortedBy (order_of now)) (sym is) strictly)
 
 -- what holds for all keys holds for those that were kept
 pub kept_each : {B : Type 0} (P : List ℕ → Type 0) (now : B → List ℕ) (keys sorted kept : List B) → IsPermutation keys sorted → kept ≡ dedup (are_same now) sorted → All P (map now keys) → All P (map now kept)

@@ -6,8 +6,7 @@ use Rattle.mt_words.specs.declared.update.Kind.TheVariants.{Put, Remove, Whole, 
 use Rattle.mt_words.specs.declared.update.Origin.TheVariants as origins
 use Rattle.mt_words.specs.declared.update.Update.{Update}
 use Rattle.mt_words.specs.Changes.{Logged}
-use Rattle.mt_words.specs.Updates.{update_at, updates_from}
-use Rattle.mt_record.specs.Kept.{Kept}
+use Rattle.mt_words.specs.Updates.{update_at, updates_from, Kept}
 use Rattle.mt_replay.specs.declared.window.Window.{Window}
 
 -- the updates of these logs, numbered from `log` on

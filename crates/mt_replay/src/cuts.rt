@@ -1,12 +1,12 @@
 //! Cuts that divide the keys into pieces.
 ghost use Rattle.std.specs.Prelude.{◌≡◌, ◌≤◌, ◌<◌, ◌+◌, ◌*◌, ◌^◌, ◌↔◌, [], length, max, slice_index_or, All, IfOk, IfErr, IsSome, IfSome};
 ghost use Rattle.mt_words.specs.Limits.{widest};
-ghost use Rattle.mt_words.specs.Words.{IsKey};
+ghost use Rattle.mt_words.specs.Words.{IsKey, AreRising};
 ghost use Rattle.mt_words.specs.Walks.{joined};
 ghost use Rattle.mt_replay.specs.declared.cuts.TheConstants.{MOST_PIECES};
 ghost use Rattle.mt_replay.specs.Steps.SortedUpdates.{keys_of};
-ghost use Rattle.mt_replay.specs.Cuts.{AreCuts, RiseThroughout, IsCutFault, even_cuts, even_at};
-ghost use Rattle.mt_replay.specs.Even.{IsEven};
+ghost use Rattle.mt_replay.specs.Cuts.{AreCuts, IsCutFault};
+ghost use Rattle.mt_replay.specs.Even.{IsEven, AreEvenCuts, BeginPieces};
 
 use crate::LogCells;
 use crate::distinct::distinct_keys;
@@ -164,9 +164,9 @@ impl Cuts {
     /// one part after another.
     fn even_of(alloc: Global, parts: &[Vec<&[u8]>], pieces: Pieces) -> Result<Cuts, Memory>
         requires few { length parts.now ≤ MOST_PIECES }
-        requires rising { RiseThroughout (keys_of parts.now) }
+        requires rising { AreRising (keys_of parts.now) }
         requires lawful { All (IsKey widest) (keys_of parts.now) }
-        ensures { IfOk result (λ cuts. cuts ≡ even_cuts (keys_of parts.now) pieces) }
+        ensures { IfOk result (AreEvenCuts (keys_of parts.now) pieces) }
     {
         let asked = u128::from(pieces.count).min(key_count(parts).max(1));
         let keys = even_keys(alloc, parts, asked)?;
@@ -181,7 +181,8 @@ fn even_keys(alloc: Global, parts: &[Vec<&[u8]>], pieces: u128) -> Result<Vec<Ke
     requires some { 0 < pieces }
     requires most { pieces ≤ MOST_PIECES }
     requires within { pieces ≤ max (length (keys_of parts.now)) 1 }
-    ensures { IfOk result (λ cuts. cuts.items ≡ even_at (keys_of parts.now) pieces) }
+    ensures count { IfOk result (λ cuts. length cuts.items + 1 ≡ pieces) }
+    ensures begin { IfOk result (λ cuts. BeginPieces (keys_of parts.now) pieces cuts.items) }
 {
     let count = key_count(parts);
     let mut cuts = Vec::new(alloc);
@@ -204,9 +205,9 @@ fn key_count(parts: &[Vec<&[u8]>]) -> u128
     count
 }
 
-/// Returns the key at this place. Places count through all parts in order.
+/// Returns the key at this place, or an empty one if there are not so many keys. Places count through all parts in
+/// order.
 fn key_at<'a>(parts: &[Vec<&'a [u8]>], place: u128) -> &'a [u8]
-    requires { place < length (keys_of parts.now) }
     ensures { result.now ≡ slice_index_or (keys_of parts.now) place [] }
 {
     let mut rest = place;
@@ -217,5 +218,5 @@ fn key_at<'a>(parts: &[Vec<&'a [u8]>], place: u128) -> &'a [u8]
         }
         rest -= count;
     }
-    unreachable!()
+    &[]
 }

@@ -1,16 +1,17 @@
 //! The surviving updates of a log, sorted by key.
-ghost use Rattle.std.specs.Prelude.{◌≡◌, ◌≤◌, ◌<◌, ◌++◌, true, false, IsTrue, IfOk, IsPermutation, List, length, filter, slice_index_or};
+ghost use Rattle.std.specs.Prelude.{◌≡◌, ◌≤◌, ◌<◌, ◌++◌, true, false, IfOk, IsPermutation, List, length, map, filter, slice_index_or};
 ghost use Rattle.std.specs.List.Sorted.{IsPartitionPoint};
 ghost use Rattle.mt_words.specs.declared.update.Update.{Update as UpdateValue};
+ghost use Rattle.mt_words.specs.Updates.{kept_updates};
+ghost use Rattle.mt_words.specs.Words.{AreRising};
 ghost use Rattle.mt_words.specs.Walks.{joined};
-ghost use Rattle.mt_record.specs.Kept.{kept_updates};
 ghost use Rattle.mt_replay.specs.Survivors.{in_window, survives as survives_in, wholes, first_survivors};
 ghost use Rattle.mt_replay.specs.Cuts.{is_below, InKeyOrder};
 
 use crate::Window;
 use crate::bodies::Bodies;
 use crate::in_memory::{all_bodies, spell};
-use crate::sliced::{Sliced, all_entries, list_survivors, sort_by_key};
+use crate::sliced::{Sliced, list_survivors, sort_by_key};
 use mt_record::{KeptEntries, Lent, Updates};
 use mt_words::{Memory, Update};
 use std::alloc::Global;
@@ -50,9 +51,8 @@ impl Model for LogCells {
 }
 
 impl LogCells {
-    /// Returns the updates that survive. It encodes each of them. If they are bodies already, `of_log` and `of_entries`
-    /// avoid that.
-    /// Err: out of memory.
+    /// Returns the updates that survive. It encodes each of them. If they are bodies already, `of_log` and `of_rising`
+    /// avoid that. Err: out of memory.
     pub fn of(alloc: Global, updates: Vec<Update>, window: Window) -> Result<LogCells, Memory>
         ensures { IfOk result (λ cells. IsPermutation (filter (survives_in window) updates.items) cells) }
     {
@@ -80,17 +80,15 @@ impl LogCells {
         Ok(lists)
     }
 
-    /// Returns the entries of a checkpoint, all of which survive. If their keys rise already, as in a valid checkpoint,
-    /// the entries stay where they are. Err: out of memory.
-    pub fn of_entries(alloc: Global, entries: KeptEntries) -> Result<LogCells, Memory>
-        ensures { IfOk result (λ cells. IsPermutation (wholes entries) cells) }
+    /// Returns the entries of a checkpoint part, whose keys strictly rise. All of them survive, and they stay where they
+    /// are.
+    pub fn of_rising(entries: KeptEntries) -> LogCells
+        requires { AreRising (map (λ entry. entry.key) entries) }
+        ensures { result ≡ wholes entries }
     {
-        if are_in_order(&entries) {
-            let held = Held::Read(entries);
-            return Ok(LogCells { held });
+        LogCells {
+            held: Held::Read(entries),
         }
-        let mut sliced = all_entries(alloc, &entries)?;
-        in_order(alloc, &mut sliced)
     }
 
     /// Returns the number of updates.
@@ -141,20 +139,6 @@ fn comes_before(first: &[u8], second: &[u8]) -> bool
     ensures { result ≡ is_below first.now second.now }
 {
     first.cmp(second).is_lt()
-}
-
-/// Returns whether no entry's key is below that of the entry before it.
-fn are_in_order(entries: &KeptEntries) -> bool
-    ensures { IsTrue result → InKeyOrder (wholes entries.now) }
-{
-    for number in 1..entries.len() {
-        let key = entries.key(number);
-        let before = entries.key(number - 1);
-        if comes_before(key, before) {
-            return false;
-        }
-    }
-    true
 }
 
 /// Sorts these updates by key, and returns cells of them.

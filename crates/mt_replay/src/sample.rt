@@ -1,9 +1,8 @@
 //! A sample of the keys of updates.
 ghost use Rattle.std.specs.Prelude.{◌<◌, ◌≤◌, map, All, IfOk, OnOk};
 ghost use Rattle.mt_words.specs.Limits.{widest};
-ghost use Rattle.mt_words.specs.Words.{IsKey};
+ghost use Rattle.mt_words.specs.Words.{IsKey, AreRising};
 ghost use Rattle.mt_replay.specs.declared.cuts.TheConstants.{MOST_PIECES};
-ghost use Rattle.mt_replay.specs.Cuts.{RiseThroughout};
 
 use crate::LogCells;
 use mt_words::Memory;
@@ -24,7 +23,7 @@ pub(crate) fn sample<'a>(
     pieces: u32,
 ) -> Result<Vec<&'a [u8]>, Memory>
     requires { (0 < pieces) × (pieces ≤ MOST_PIECES) }
-    ensures rising { IfOk result (λ keys. RiseThroughout (map (λ key. key.now) keys.items)) }
+    ensures rising { IfOk result (λ keys. AreRising (map (λ key. key.now) keys.items)) }
     ensures lawful { IfOk result (λ keys. All (IsKey widest) (map (λ key. key.now) keys.items)) }
 {
     let distance = distance_for(lists, KEYS_OF_PIECE * pieces as usize);

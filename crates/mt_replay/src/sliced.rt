@@ -1,18 +1,17 @@
 //! Updates that are borrowed from their bodies, each with the slices of its key: which of them survive, and their
 //! order.
-ghost use Rattle.std.specs.Prelude.{◌≡◌, ◌≤◌, ◌++◌, IfOk, OnOk, IsPermutation, length, filter};
+ghost use Rattle.std.specs.Prelude.{◌≡◌, ◌≤◌, ◌++◌, OnOk, IsPermutation, length, filter};
 ghost use Rattle.std.specs.Ordering.{nat_cmp};
 ghost use Rattle.std.specs.Cmp.Lexicographic.{slice_cmp};
 ghost use Rattle.mt_words.specs.Limits.{widest};
 ghost use Rattle.mt_words.specs.Words.{IsKey};
-ghost use Rattle.mt_record.specs.Kept.{as_list};
-ghost use Rattle.mt_replay.specs.Survivors.{in_window, wholes, first_survivors};
+ghost use Rattle.mt_words.specs.Updates.{as_list};
+ghost use Rattle.mt_replay.specs.Survivors.{in_window, first_survivors};
 ghost use Rattle.mt_replay.specs.Cuts.{InKeyOrder};
 
 use crate::Window;
-use mt_record::{KeptEntries, Lent, Updates};
+use mt_record::{Lent, Updates};
 use mt_words::{Memory, slice_at, slice_of};
-use std::alloc::Global;
 use std::cmp::Ordering;
 use std::marker::Model;
 
@@ -124,17 +123,6 @@ fn add_survivor<'a>(
     }
     sliced.push(Sliced::of(update))?;
     Ok(())
-}
-
-/// Returns the updates of all entries. Err: out of memory.
-pub(crate) fn all_entries(alloc: Global, entries: &KeptEntries) -> Result<Vec<Sliced<'_>>, Memory>
-    ensures { IfOk result (λ sliced. sliced.items ≡ wholes entries.now) }
-{
-    let mut sliced = Vec::with_capacity(alloc, entries.len())?;
-    for number in 0..entries.len() {
-        sliced.push(Sliced::of(entries.update(number)))?;
-    }
-    Ok(sliced)
 }
 
 /// Sorts updates by their keys. The updates of one key come out in any order.

@@ -1,6 +1,6 @@
 -- Parts in order: those that make up a checkpoint.
 use Rattle.std.proofs.Common.{◌≡◌, ◌∙◌, ℕ, zero, suc, ◌+◌, ◌-◌, ◌<◌, ◌≤◌, List, [], ◌∷◌, ◌++◌, length, get_or, take, map, Some, None, All, refl, sym, ap, subst, eqb, arith}
-use Rattle.std.specs.List.{IsDistinct, slice_get}
+use Rattle.std.specs.List.{IsDistinct, flat_map, slice_get}
 use Rattle.std.specs.List.Sorted.{IsPermutation, IsStrictlyIncreasing, IsNonDecreasing, IsNonDecreasingBy}
 use Rattle.std.proofs.lemmas.Bool.{ne_eqb}
 use Rattle.std.proofs.lemmas.List.{length-map, length-take-le, get_or-map, map_push, take_more}
@@ -12,7 +12,7 @@ use Rattle.mt_words.specs.Words.{AreRising}
 use Rattle.mt_record.specs.Parts.{PartReading}
 use Rattle.mt_scan.specs.PartScans.{KnownPart, KeptPart, whole, broken, nameless, shown_by, shown_by_all}
 use Rattle.mt_scan.specs.Choice.{CheckpointReading, IsPartAt, AreInPlace, entry_keys, MakeUp, checkpoint_in}
-use Rattle.mt_scan.specs.Steps.Checkpoints.{MakeUpNone, AreSameTexts, IsMadeOf}
+use Rattle.mt_scan.specs.Steps.Checkpoints.{entries_of, MakeUpNone, AreSameTexts, IsMadeOf, reading_of}
 use Rattle.mt_scan.specs.declared.checkpoint.Checkpoint.{Checkpoint}
 use Rattle.mt_scan.proofs.OneChoice.{at_place, AreNumbered, are_numbered, same_texts}
 
@@ -148,22 +148,21 @@ first_times checkpoint count (x ∷ xs) first at are =
     (sym are.0.begin_agrees ∙ ap (λ (y : KeptPart). y.begin) e, sym are.0.end_agrees ∙ ap (λ (y : KeptPart). y.end) e)
 
 -- parts that make up no checkpoint in the order of their numbers make up none in any order
-pub none_made : (texts : List KeptPart) (value : Checkpoint) (first : KeptPart) → IsPermutation texts value.parts.items → IsNonDecreasingBy (λ (text : KeptPart). text.part) value.parts.items
-    → slice_get value.parts.items 0 ≡ Some first → value.begin ≡ first.begin → value.end ≡ first.end
-    → (MakeUp (shown_by_all value.parts.items) (checkpoint_in value) → ⊥) → MakeUpNone (shown_by_all texts)
-none_made texts value first moved rise at begin end not checkpoint can =
-    let sorted : List PartReading = shown_by_all value.parts.items in
-    let there : AreSameTexts (shown_by_all texts) sorted = same_texts_as texts value.parts.items moved in
+pub none_made : (texts sorted : List KeptPart) (first : KeptPart) → IsPermutation texts sorted → IsNonDecreasingBy (λ (text : KeptPart). text.part) sorted → slice_get sorted 0 ≡ Some first
+    → ((number : ℕ) → MakeUp (shown_by_all sorted) (reading_of number first.begin first.end sorted) → ⊥) → MakeUpNone (shown_by_all texts)
+none_made texts parts first moved rise at not checkpoint can =
+    let sorted : List PartReading = shown_by_all parts in
+    let there : AreSameTexts (shown_by_all texts) sorted = same_texts_as texts parts moved in
     let same : AreSameTexts sorted can.ordered =
     IsPermutation-trans (map whole sorted) (map whole (shown_by_all texts)) (map whole can.ordered) (IsPermutation-sym (map whole (shown_by_all texts)) (map whole sorted) there) can.same in
     let ordered_are : AreNumbered can.ordered = are_numbered checkpoint (length can.ordered) can.ordered can.make_up.in_place in
-    let are : sorted ≡ can.ordered = same_texts sorted can.ordered (sorted_are_numbered value.parts.items can.ordered first rise ordered_are same) ordered_are same in
+    let are : sorted ≡ can.ordered = same_texts sorted can.ordered (sorted_are_numbered parts can.ordered first rise ordered_are same) ordered_are same in
     let make_up = subst (λ (xs : List PartReading). MakeUp xs checkpoint) (sym are) can.make_up in
-    let times = first_times checkpoint (length sorted) value.parts.items first at make_up.in_place in
-    not (record {
+    let times = first_times checkpoint (length sorted) parts first at make_up.in_place in
+    not checkpoint.number (record {
       some = make_up.some;
-      in_place = in_place_of checkpoint (checkpoint_in value) (length sorted) 0 sorted (times.0 ∙ sym begin) (times.1 ∙ sym end) make_up.in_place;
-      begins = omega (arith, make_up.begins, times.0, times.1, begin, end);
+      in_place = in_place_of checkpoint (reading_of checkpoint.number first.begin first.end parts) (length sorted) 0 sorted times.0 times.1 make_up.in_place;
+      begins = omega (arith, make_up.begins, times.0, times.1);
       all = refl;
       rise = subst (λ (entries : List Change). AreRising (entry_keys entries)) make_up.all make_up.rise;
     })
@@ -173,6 +172,11 @@ pub none_of_none : (texts sorted : List KeptPart) → IsPermutation texts sorted
 none_of_none texts [] moved none checkpoint can =
     omega (arith, can.make_up.some, length_permutation texts [] moved, length-map texts shown_by, length-map (shown_by_all texts) whole, length-map can.ordered whole, length_permutation (map whole (shown_by_all texts)) (map whole can.ordered) can.same)
 none_of_none texts (x ∷ xs) moved none checkpoint can = cc
+
+-- the entries of parts are those that the parts say
+pub entries_shown : (parts : List KeptPart) → entries_of (shown_by_all parts) ≡ flat_map (λ (part : KeptPart). part.entries) parts
+entries_shown [] = refl
+entries_shown (part ∷ parts) = ap (λ (entries : List Change). part.entries ++ entries) (entries_shown parts)
 
 pub made : (number : ℕ) (texts : List KeptPart) (value : Checkpoint) → value.number ≡ number → IsPermutation texts value.parts.items
     → MakeUp (shown_by_all value.parts.items) (checkpoint_in value) → IsMadeOf number (shown_by_all texts) value

@@ -7,13 +7,12 @@ use Rattle.std.specs.List.{filter}
 use Rattle.std.proofs.lemmas.Bool.{false≢true}
 use Rattle.std.proofs.lemmas.List.{length-append}
 use Rattle.std.proofs.lemmas.List.Elements.{All-weaker, All-append, filter-append}
-use Rattle.mt_words.specs.Changes.{Logged}
-use Rattle.mt_record.specs.Kept.{is_mark}
+use Rattle.mt_words.specs.Changes.{Logged, is_mark}
 use Rattle.mt_record.specs.Logs.{latest}
 use Rattle.mt_record.specs.declared.read.FeedFault.{FeedFault}
 use Rattle.mt_record.specs.LogFeeding.{IsLogFed, FedLog, HoldsLog, IsLogLeft, IsLogFaulty}
 use Rattle.mt_record.proofs.Feeds.{fed_on}
-use Rattle.mt_record.specs.declared.kept_records.Dropped.{Dropped}
+use Rattle.mt_record.specs.declared.kept.log.Dropped.{Dropped}
 use Rattle.mt_record.specs.Cutting.{HasCut, IsCountOf}
 use Rattle.mt_record.proofs.RecordLemmas.{marks_and_updates}
 use Rattle.mt_scan.specs.declared.dropping_feed.DroppingFeed.{DroppingFeed}

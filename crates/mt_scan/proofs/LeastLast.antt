@@ -3,7 +3,8 @@ use Rattle.std.proofs.Common.{◌≡◌, inl, inr, ℕ, ◌≤◌, List, [], ◌
 use Rattle.std.proofs.lemmas.List.Elements.{All-contains}
 use Rattle.mt_record.specs.Logs.{LogReading, IsLast, times_of}
 use Rattle.mt_scan.specs.declared.log_scan.LogScan.{LogScan}
-use Rattle.mt_scan.specs.Cutoff.{HasLast, IsCutoff, HaveNumbersOf}
+use Rattle.mt_scan.specs.Cutoff.{HasLast, IsCutoff}
+use Rattle.mt_scan.specs.Scans.{HaveNumbersOf}
 use Rattle.mt_words.proofs.Elements.{no_element, head_or_tail, head_in, tail_in}
 
 abbrev pub last_in : LogScan → ℕ

@@ -134,6 +134,18 @@ keys_in-append xs ys =
     ∙ ap (λ (es : List Change). entry_keys es) (flat_map-append (λ (text : PartReading). text.entries) (shown_by_all xs) (shown_by_all ys))
     ∙ map-append (λ (entry : Change). entry.key) (entries_of (shown_by_all xs)) (entries_of (shown_by_all ys))
 
+-- in a rising list, the keys after a front rise
+rise_after : (xs ys : List (List ℕ)) → AreRising (xs ++ ys) → AreRising ys
+rise_after [] ys rise = rise
+rise_after (x ∷ xs) ys rise = rise_after xs ys rise.1
+
+-- if the keys of the entries of all parts rise, so do those of each part
+pub part_rises : (before : List KeptPart) (text : KeptPart) (after : List KeptPart) → AreRising (keys_in (before ++ text ∷ after)) → AreRising (entry_keys text.entries)
+part_rises before text after rise =
+    let keys : List (List ℕ) = keys_in (text ∷ after) in
+    let behind : AreRising keys = rise_after (keys_in before) keys (subst AreRising (keys_in-append before (text ∷ after)) rise) in
+    rise_front (entry_keys text.entries) (keys_in after) (subst AreRising (map-append (λ (entry : Change). entry.key) text.entries (entries_of (shown_by_all after))) behind)
+
 module _ (texts : List KeptPart) (i : ℕ) (text : KeptPart) (last : List (List ℕ)) (fits : i < length texts) (at : text ≡ get_or texts i text) where
   -- the keys rise with those of one more part, if these rise after the last one
   pub text_more : (new : List (List ℕ)) → RiseTo (keys_in (take i texts)) last → AreRising (last ++ entry_keys text.entries) → new ≡ last_of (last ++ entry_keys text.entries) → RiseTo (keys_in (take (i + 1) texts)) new

@@ -1,9 +1,6 @@
 -- The cutoff of logs.
 use Rattle.std.specs.Prelude.{ℕ, ◌≤◌, List, Contains}
-use Rattle.std.specs.List.{AllZip}
 use Rattle.mt_record.specs.Logs.{LogReading, IsLast}
-use Rattle.mt_scan.specs.declared.log_scan.LogScan.{LogScan}
-use Rattle.mt_scan.specs.Scans.{HasNumbersOf}
 
 -- one of the logs has this last timestamp
 pub record HasLast (logs : List LogReading) (last : ℕ) : Type 0 where
@@ -15,7 +12,3 @@ pub record HasLast (logs : List LogReading) (last : ℕ) : Type 0 where
 pub record IsCutoff (logs : List LogReading) (cutoff : ℕ) : Type 0 where
   pub has : HasLast logs cutoff
   pub least : (last : ℕ) → HasLast logs last → cutoff ≤ last
-
--- each scan has the numbers of its log, in the same order
-abbrev pub HaveNumbersOf : List LogScan → List LogReading → Type 0
-HaveNumbersOf scans logs = AllZip HasNumbersOf scans logs

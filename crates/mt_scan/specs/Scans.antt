@@ -1,14 +1,14 @@
 -- The result of scanning a log: a function of the log's bytes.
 use Rattle.std.specs.Prelude.{◌≡◌, ℕ, List, Option, Result, Ok, Err, length}
-use Rattle.std.specs.List.{filter}
+use Rattle.std.specs.List.{AllZip, filter}
 use Rattle.mt_words.specs.declared.fault.Fault.{Fault}
 use Rattle.mt_words.specs.declared.fault.Fault.TheVariants as faults
-use Rattle.mt_words.specs.Updates.{updates_from}
+use Rattle.mt_words.specs.Changes.{is_mark}
+use Rattle.mt_words.specs.Updates.{updates_from, kept_updates}
 use Rattle.mt_record.specs.declared.read.FeedFault.{FeedFault}
 use Rattle.mt_record.specs.declared.read.FeedFault.TheVariants as of_log
 use Rattle.mt_record.specs.Logs.{LogReading, IsReading, IsLast}
 use Rattle.mt_record.specs.LogFaults.{IsLogFault, IsAnswered, fault_at}
-use Rattle.mt_record.specs.Kept.{is_mark, kept_updates}
 use Rattle.mt_scan.specs.declared.log_scan.LogScan.{LogScan}
 use Rattle.mt_scan.specs.Sources.{Agrees}
 
@@ -19,6 +19,10 @@ pub record HasNumbersOf (scan : LogScan) (log : LogReading) : Type 0 where
   pub whole : scan.whole ≡ length log.records
   pub marks : scan.marks ≡ length (filter is_mark log.records)
   pub torn : scan.torn ≡ log.torn
+
+-- each scan has the numbers of its log, in the same order
+abbrev pub HaveNumbersOf : List LogScan → List LogReading → Type 0
+HaveNumbersOf scans logs = AllZip HasNumbersOf scans logs
 
 -- the scan shows the log with this number: the log's numbers and all its updates, none of them dropped
 pub record ShowsLog (number : ℕ) (scan : LogScan) (log : LogReading) : Type 0 where

@@ -1,8 +1,8 @@
 //! The results of scanning logs, and the cutoff of all logs.
 ghost use Rattle.std.specs.Prelude.{◌≡◌, [], List, ℕ, IfSome, IfNone};
 ghost use Rattle.mt_record.specs.Logs.{LogReading, IsKeptTextOf};
-ghost use Rattle.mt_scan.specs.Scans.{IsScanOf};
-ghost use Rattle.mt_scan.specs.Cutoff.{HaveNumbersOf, IsCutoff};
+ghost use Rattle.mt_scan.specs.Scans.{HaveNumbersOf, IsScanOf};
+ghost use Rattle.mt_scan.specs.Cutoff.{IsCutoff};
 ghost use Rattle.mt_scan.specs.Steps.DroppingFeeds.{scan_from};
 
 use mt_record::{KeptRecords, LogText, Updates};

@@ -7,6 +7,8 @@ use Rattle.mt_record.below.arrayvec.proofs.array_vec.ArrayVec.TheSendSync as arr
 use Rattle.mt_words.proofs.columns.Columns.TheSendSync as columns
 use Rattle.mt_words.proofs.storage.Kept.TheSendSync as kept
 use Rattle.mt_tree.proofs.finish.Finished.TheSendSync as finished
+use Rattle.mt_tree.proofs.place.Place.TheSendSync as place
+use Rattle.mt_tree.proofs.place.Content.TheSendSync as content
 use Rattle.mt_tree.proofs.node.Node.TheLaws.TheKnot as node
 use Rattle.mt_tree.proofs.layer.Layer.TheLaws.TheKnot as layer
 use Rattle.mt_tree.specs.contracts.tree.Draft as Draft
@@ -14,7 +16,7 @@ use Rattle.mt_recover.specs.contracts.haul.Piece as Piece
 use Rattle.mt_recover.specs.contracts.haul.Haul as Haul
 
 pub draft_sends : IsSend Draft.the_row
-draft_sends = search (sendable, crosses, global.the_send, small_vec.the_send, array_vec.the_send, columns.the_send, kept.the_send, finished.the_send, node.send-Place, node.send-Content, node.send-Node, layer.send-Layer) depth 40
+draft_sends = search (sendable, crosses, global.the_send, small_vec.the_send, array_vec.the_send, columns.the_send, kept.the_send, finished.the_send, place.the_send, content.the_send, node.send-NodeKind, node.send-Node, layer.send-Layer) depth 40
 
 pub piece_sends : IsSend Piece.the_row
 piece_sends = let draft = draft_sends in search sendable depth 20

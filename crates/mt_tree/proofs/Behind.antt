@@ -5,97 +5,100 @@ use Rattle.std.proofs.lemmas.List.{append-nil, map-append}
 use Rattle.mt_words.specs.Slices.{AreBytes, slice_in, slice_bytes}
 use Rattle.mt_words.specs.Walks.{Pair, joined}
 use Rattle.mt_words.proofs.SliceBytes.{slice_bytes-length, slice_bytes-long, bytes_take}
-use Rattle.mt_tree.specs.Layer.{PlaceView, link, slice_at, length_at, rank_at, key_rank, pairs_at, put_before, walk, weight, IsPlace, HasNoEmptyKey, IsLayer, AllKeysBelow, Meet}
+use Rattle.mt_tree.specs.Layer.{PlaceView, link, slice_at, length_at, pairs_at, put_before, walk, IsPlace, HasNoEmptyKey, AllKeysBelow}
+use Rattle.mt_tree.specs.Steps.Ranks.{rank_at, IsRanked, AreRanked, length_at-le}
+use Rattle.mt_tree.specs.Steps.Pairs.{key_rank, weight}
+use Rattle.mt_tree.specs.Steps.Seams.{Meet, first_slice_of}
 use Rattle.mt_tree.specs.Steps.Falls.{weight-append, walk-append, layer_back}
 use Rattle.mt_tree.specs.Nodes.{IsBorder}
 use Rattle.mt_tree.specs.Steps.NodeFalls.{joined-append}
-use Rattle.mt_tree.specs.Borders.{DraftView, IsBorderList, borders_walk}
-use Rattle.mt_tree.specs.Nodes.{first_slice_of}
-use Rattle.mt_tree.specs.Steps.DraftViews.{draft_views, draft_view, border_views, draft_of, IsStored, PutBehind}
+use Rattle.mt_tree.specs.Borders.{DraftView, borders_walk, layer_walk}
+use Rattle.mt_tree.specs.Steps.DraftViews.{border_views, draft_of, IsStored, PutBehind}
 use Rattle.mt_tree.specs.declared.layer.Border.{Border}
 use Rattle.mt_tree.specs.declared.layer.Border.TheVariants.{Open}
-use Rattle.mt_tree.specs.declared.layer.DraftPlace.{DraftPlace}
-use Rattle.mt_tree.proofs.Joins.{Seam, apart_layer, layer_seam, last_place, put_before-append, below_unprefixed, below_lighter, slice_at-draft, slice_at-lt, all_append, all_back, length_at-le}
+use Rattle.mt_tree.proofs.Joins.{Seam, apart_layer, layer_seam, last_place, put_before-append, below_unprefixed, below_lighter, slice_at-draft, slice_at-lt, all_append, all_back}
 use Rattle.mt_tree.proofs.Finds.{pairs_rank}
 use Rattle.mt_tree.proofs.Puts.{borders-append}
 use Rattle.mt_tree.proofs.Seams.{behind_are}
 use Rattle.mt_tree.proofs.Meets.{first_merged}
+use Rattle.mt_tree.specs.Steps.Places.{views, view_of}
+use Rattle.mt_tree.specs.declared.place.Place.{Place}
 
 -- ---- the last place
-get_last : (xs : List DraftPlace) (p d : DraftPlace) → get_or (xs ++ p ∷ []) (length (xs ++ p ∷ []) - 1) d ≡ p
+get_last : (xs : List (Place DraftView)) (p d : Place DraftView) → get_or (xs ++ p ∷ []) (length (xs ++ p ∷ []) - 1) d ≡ p
 get_last [] p d = let at : length (p ∷ []) - 1 ≡ 0 = omega arith in ap (λ (k : ℕ). get_or (p ∷ []) k d) at
 get_last (x ∷ xs) p d =
     let at : length (x ∷ (xs ++ p ∷ [])) - 1 ≡ suc (length (xs ++ p ∷ []) - 1) = omega (arith, length-append xs (p ∷ [])) in
     ap (λ (k : ℕ). get_or (x ∷ (xs ++ p ∷ [])) k d) at ∙ get_last xs p d
 
-same_last : (places xs : List DraftPlace) (x p : DraftPlace) → places ≡ xs ++ p ∷ [] → x ≡ get_or places (length places - 1) x → x ≡ p
-same_last places xs x p e f = f ∙ ap (λ (z : List DraftPlace). get_or z (length z - 1) x) e ∙ get_last xs p x
+same_last : (places xs : List (Place DraftView)) (x p : Place DraftView) → places ≡ xs ++ p ∷ [] → x ≡ get_or places (length places - 1) x → x ≡ p
+same_last places xs x p e f = f ∙ ap (λ (z : List (Place DraftView)). get_or z (length z - 1) x) e ∙ get_last xs p x
 
-pub last_of_places : (xs : List DraftPlace) (x : DraftPlace) → 1 ≤ length xs → x ≡ get_or xs (length xs - 1) x → (front : List DraftPlace) × (xs ≡ front ++ x ∷ [])
+pub last_of_places : (xs : List (Place DraftView)) (x : Place DraftView) → 1 ≤ length xs → x ≡ get_or xs (length xs - 1) x → (front : List (Place DraftView)) × (xs ≡ front ++ x ∷ [])
 last_of_places [] x h e = absurd (omega arith)
 last_of_places (y ∷ []) x h e =
     let at : length (y ∷ []) - 1 ≡ 0 = omega arith in
-    ([], ap (λ (z : DraftPlace). z ∷ []) (sym (e ∙ ap (λ (k : ℕ). get_or (y ∷ []) k x) at)))
+    ([], ap (λ (z : Place DraftView). z ∷ []) (sym (e ∙ ap (λ (k : ℕ). get_or (y ∷ []) k x) at)))
 last_of_places (y ∷ z ∷ zs) x h e =
     let at : length (y ∷ z ∷ zs) - 1 ≡ suc (length (z ∷ zs) - 1) = omega arith in
     let rest = last_of_places (z ∷ zs) x (omega arith) (e ∙ ap (λ (k : ℕ). get_or (y ∷ z ∷ zs) k x) at) in
-    (y ∷ rest.0, ap (λ (k : List DraftPlace). y ∷ k) rest.1)
+    (y ∷ rest.0, ap (λ (k : List (Place DraftView)). y ∷ k) rest.1)
 
-front_layer : (places xs : List DraftPlace) (p : DraftPlace) → IsLayer (draft_views places) → places ≡ xs ++ p ∷ [] → IsLayer (draft_views xs ++ draft_view p ∷ [])
-front_layer places xs p h e = subst IsLayer (ap draft_views e ∙ map-append draft_view xs (p ∷ [])) h
+front_layer : (places xs : List (Place DraftView)) (p : Place DraftView) → IsRanked (views layer_walk places) → places ≡ xs ++ p ∷ [] → IsRanked (views layer_walk xs ++ view_of layer_walk p ∷ [])
+front_layer places xs p h e = subst IsRanked (ap (views layer_walk) e ∙ map-append (view_of layer_walk) xs (p ∷ [])) h
 
-pub popped_lawful : (places xs : List DraftPlace) (p : DraftPlace) → IsLayer (draft_views places) → places ≡ xs ++ p ∷ [] → IsPlace (draft_view p)
-popped_lawful places xs p h e = last_place 0 (draft_views xs) (draft_view p) (front_layer places xs p h e)
+pub popped_lawful : (places xs : List (Place DraftView)) (p : Place DraftView) → IsRanked (views layer_walk places) → places ≡ xs ++ p ∷ [] → IsPlace (view_of layer_walk p)
+popped_lawful places xs p h e = last_place 0 (views layer_walk xs) (view_of layer_walk p) (front_layer places xs p h e)
 
-pub last_lawful : (places : List DraftPlace) (x : DraftPlace) → IsLayer (draft_views places) → 1 ≤ length places → x ≡ get_or places (length places - 1) x → IsPlace (draft_view x)
+pub last_lawful : (places : List (Place DraftView)) (x : Place DraftView) → IsRanked (views layer_walk places) → 1 ≤ length places → x ≡ get_or places (length places - 1) x → IsPlace (view_of layer_walk x)
 last_lawful places x h some e = let l = last_of_places places x some e in popped_lawful places l.0 x h l.1
 
-walk_last : (places xs : List DraftPlace) (p : DraftPlace) → places ≡ xs ++ p ∷ [] → walk (draft_views places) ≡ walk (draft_views xs) ++ pairs_at (draft_view p)
+walk_last : (places xs : List (Place DraftView)) (p : Place DraftView) → places ≡ xs ++ p ∷ [] → walk (views layer_walk places) ≡ walk (views layer_walk xs) ++ pairs_at (view_of layer_walk p)
 walk_last places xs p e =
-    ap (λ (z : List DraftPlace). walk (draft_views z)) e ∙ ap walk (map-append draft_view xs (p ∷ [])) ∙ walk-append (draft_views xs) (draft_view p ∷ [])
-    ∙ ap (λ (w : List Pair). walk (draft_views xs) ++ w) (append-nil (pairs_at (draft_view p)))
+    ap (λ (z : List (Place DraftView)). walk (views layer_walk z)) e ∙ ap walk (map-append (view_of layer_walk) xs (p ∷ [])) ∙ walk-append (views layer_walk xs) (view_of layer_walk p ∷ [])
+    ∙ ap (λ (w : List Pair). walk (views layer_walk xs) ++ w) (append-nil (pairs_at (view_of layer_walk p)))
 
 -- ---- a place of its own
-key_at : (key : List ℕ) (c : List (ℕ × List ℕ)) (q : DraftPlace) → IsPlace (draft_view q) → pairs_at (draft_view q) ≡ (key, c) ∷ [] → key_rank key ≡ rank_at (draft_view q)
-key_at key c q h e = (subst (AllByRecursion (λ (p : Pair). key_rank p.0 ≡ rank_at (draft_view q))) e (pairs_rank (draft_view q) h)).0
+key_at : (key : List ℕ) (c : List (ℕ × List ℕ)) (q : Place DraftView) → IsPlace (view_of layer_walk q) → pairs_at (view_of layer_walk q) ≡ (key, c) ∷ [] → key_rank key ≡ rank_at (view_of layer_walk q)
+key_at key c q h e = (subst (AllByRecursion (λ (p : Pair). key_rank p.0 ≡ rank_at (view_of layer_walk q))) e (pairs_rank (view_of layer_walk q) h)).0
 
-pub own_layer : (places after : List DraftPlace) (x q : DraftPlace) (key : List ℕ) (c : List (ℕ × List ℕ)) (slice : ℕ) → IsLayer (draft_views places) → 1 ≤ length places → x ≡ get_or places (length places - 1) x
-    → AllKeysBelow (walk (draft_views places)) ((key, c) ∷ []) → slice ≡ slice_in key → ((x.slice ≡ slice) × (length_at (draft_view x) ≡ 9) × (8 < length key) → ⊥)
-    → IsPlace (draft_view q) → pairs_at (draft_view q) ≡ (key, c) ∷ [] → after ≡ places ++ q ∷ [] → IsLayer (draft_views after)
+pub own_layer : (places after : List (Place DraftView)) (x q : Place DraftView) (key : List ℕ) (c : List (ℕ × List ℕ)) (slice : ℕ) → IsRanked (views layer_walk places) → 1 ≤ length places → x ≡ get_or places (length places - 1) x
+    → AllKeysBelow (walk (views layer_walk places)) ((key, c) ∷ []) → slice ≡ slice_in key → ((x.slice ≡ slice) × (length_at (view_of layer_walk x) ≡ 9) × (8 < length key) → ⊥)
+    → IsPlace (view_of layer_walk q) → pairs_at (view_of layer_walk q) ≡ (key, c) ∷ [] → after ≡ places ++ q ∷ [] → IsRanked (views layer_walk after)
 own_layer places after x q key c slice h some last below is other lawful pairs e =
     let l = last_of_places places x some last in
-    let rank : key_rank key ≡ rank_at (draft_view q) = key_at key c q lawful pairs in
-    let few = length_at-le (draft_view q) lawful in
-    let alone : walk (draft_views (q ∷ [])) ≡ (key, c) ∷ [] = append-nil (pairs_at (draft_view q)) ∙ pairs in
+    let rank : key_rank key ≡ rank_at (view_of layer_walk q) = key_at key c q lawful pairs in
+    let few = length_at-le (view_of layer_walk q) lawful in
+    let alone : walk (views layer_walk (q ∷ [])) ≡ (key, c) ∷ [] = append-nil (pairs_at (view_of layer_walk q)) ∙ pairs in
     let s : Seam l.0 x q [] = record {
-      left = subst (λ (z : List DraftPlace). IsLayer (draft_views z)) l.1 h;
+      left = subst (λ (z : List (Place DraftView)). IsRanked (views layer_walk z)) l.1 h;
       right = (lawful, omega arith, tt);
-      below = subst (λ (z : List DraftPlace). AllKeysBelow (walk (draft_views z)) (walk (draft_views (q ∷ [])))) l.1 (subst (AllKeysBelow (walk (draft_views places))) (sym alone) below);
+      below = subst (λ (z : List (Place DraftView)). AllKeysBelow (walk (views layer_walk z)) (walk (views layer_walk (q ∷ [])))) l.1 (subst (AllKeysBelow (walk (views layer_walk places))) (sym alone) below);
     } in
-    let apart : Meet (draft_view x) (draft_view q) → ⊥ =
-    λ m. let same : slice_at (draft_view x) ≡ slice_at (draft_view q) = m.0 in
-    let long : length_at (draft_view q) ≡ 9 = m.2 in
+    let apart : Meet (view_of layer_walk x) (view_of layer_walk q) → ⊥ =
+    λ m. let same : slice_at (view_of layer_walk x) ≡ slice_at (view_of layer_walk q) = m.0 in
+    let long : length_at (view_of layer_walk q) ≡ 9 = m.2 in
     other (omega (arith, same, rank, long, is, slice_at-draft x), m.1, omega (arith, rank, long)) in
-    subst (λ (z : List DraftPlace). IsLayer (draft_views z)) (sym (append_assoc l.0 (x ∷ []) (q ∷ [])) ∙ ap (λ (z : List DraftPlace). z ++ q ∷ []) (sym l.1) ∙ sym e) (apart_layer l.0 x q [] s apart)
+    subst (λ (z : List (Place DraftView)). IsRanked (views layer_walk z)) (sym (append_assoc l.0 (x ∷ []) (q ∷ [])) ∙ ap (λ (z : List (Place DraftView)). z ++ q ∷ []) (sym l.1) ∙ sym e) (apart_layer l.0 x q [] s apart)
 
 -- ---- below the last place
-pub record Deeper (p : DraftPlace) (slice : ℕ) (key : List ℕ) (c : List (ℕ × List ℕ)) (upper : List Pair) : Type 0 where
-  pub place : IsPlace (draft_view p)
+pub record Deeper (p : Place DraftView) (slice : ℕ) (key : List ℕ) (c : List (ℕ × List ℕ)) (upper : List Pair) : Type 0 where
+  pub place : IsPlace (view_of layer_walk p)
   pub same : p.slice ≡ slice
-  pub long : length_at (draft_view p) ≡ 9
+  pub long : length_at (view_of layer_walk p) ≡ 9
   pub is_slice : slice ≡ slice_in key
   pub bytes : AreBytes key
   pub longer : 8 < length key
-  pub upper_is : put_before (slice_bytes p.slice) upper ≡ pairs_at (draft_view p)
+  pub upper_is : put_before (slice_bytes p.slice) upper ≡ pairs_at (view_of layer_walk p)
   pub some : 0 < length upper
   pub keys : HasNoEmptyKey upper
 
-pub deeper : (places xs : List DraftPlace) (x p : DraftPlace) (slice n : ℕ) (key : List ℕ) (c : List (ℕ × List ℕ)) (upper : List Pair) → IsLayer (draft_views places) → places ≡ xs ++ p ∷ [] → x ≡ get_or places (n - 1) x → n ≡ length places
-    → (x.slice ≡ slice) × (length_at (draft_view x) ≡ 9) × (8 < length key) → slice ≡ slice_in key → AreBytes key
-    → put_before (slice_bytes p.slice) upper ≡ pairs_at (draft_view p) → 0 < length upper → HasNoEmptyKey upper → Deeper p slice key c upper
+pub deeper : (places xs : List (Place DraftView)) (x p : Place DraftView) (slice n : ℕ) (key : List ℕ) (c : List (ℕ × List ℕ)) (upper : List Pair) → IsRanked (views layer_walk places) → places ≡ xs ++ p ∷ [] → x ≡ get_or places (n - 1) x → n ≡ length places
+    → (x.slice ≡ slice) × (length_at (view_of layer_walk x) ≡ 9) × (8 < length key) → slice ≡ slice_in key → AreBytes key
+    → put_before (slice_bytes p.slice) upper ≡ pairs_at (view_of layer_walk p) → 0 < length upper → HasNoEmptyKey upper → Deeper p slice key c upper
 deeper places xs x p slice n key c upper h e last whole there is_slice bytes upper_is some keys =
     let here : x ≡ p = same_last places xs x p e (last ∙ ap (λ (k : ℕ). get_or places (k - 1) x) whole) in
-    let met = subst (λ (q : DraftPlace). (q.slice ≡ slice) × (length_at (draft_view q) ≡ 9) × (8 < length key)) here there in
+    let met = subst (λ (q : Place DraftView). (q.slice ≡ slice) × (length_at (view_of layer_walk q) ≡ 9) × (8 < length key)) here there in
     record {
       place = popped_lawful places xs p h e;
       same = met.0;
@@ -108,29 +111,29 @@ deeper places xs x p slice n key c upper h e last whole there is_slice bytes upp
       keys = keys;
     }
 
-module _ (p : DraftPlace) (slice : ℕ) (key : List ℕ) (c : List (ℕ × List ℕ)) (upper : List Pair) (d : Deeper p slice key c upper) where
+module _ (p : Place DraftView) (slice : ℕ) (key : List ℕ) (c : List (ℕ × List ℕ)) (upper : List Pair) (d : Deeper p slice key c upper) where
   whole_key : slice_bytes slice ++ drop 8 key ≡ key
   whole_key = ap (λ (s : ℕ). slice_bytes s ++ drop 8 key) d.is_slice ∙ slice_bytes-long key (let long = d.longer in omega arith) (bytes_take 8 key d.bytes)
 
-  upper_here : put_before (slice_bytes slice) upper ≡ pairs_at (draft_view p)
+  upper_here : put_before (slice_bytes slice) upper ≡ pairs_at (view_of layer_walk p)
   upper_here = ap (λ (s : ℕ). put_before (slice_bytes s) upper) (sym d.same) ∙ d.upper_is
 
-  pub deeper_below : (places xs : List DraftPlace) (rest : List ℕ) → places ≡ xs ++ p ∷ [] → rest ≡ drop 8 key → AllKeysBelow (walk (draft_views places)) ((key, c) ∷ []) → AllKeysBelow upper ((rest, c) ∷ [])
+  pub deeper_below : (places xs : List (Place DraftView)) (rest : List ℕ) → places ≡ xs ++ p ∷ [] → rest ≡ drop 8 key → AllKeysBelow (walk (views layer_walk places)) ((key, c) ∷ []) → AllKeysBelow upper ((rest, c) ∷ [])
   deeper_below places xs rest e f below =
-      let here : AllKeysBelow (pairs_at (draft_view p)) ((key, c) ∷ []) = all_back _ (walk (draft_views xs)) (pairs_at (draft_view p)) (subst (λ (w : List Pair). AllKeysBelow w ((key, c) ∷ [])) (walk_last places xs p e) below) in
+      let here : AllKeysBelow (pairs_at (view_of layer_walk p)) ((key, c) ∷ []) = all_back _ (walk (views layer_walk xs)) (pairs_at (view_of layer_walk p)) (subst (λ (w : List Pair). AllKeysBelow w ((key, c) ∷ [])) (walk_last places xs p e) below) in
       let put : AllKeysBelow (put_before (slice_bytes slice) upper) ((key, c) ∷ []) = subst (λ (w : List Pair). AllKeysBelow w ((key, c) ∷ [])) (sym upper_here) here in
       let both : AllKeysBelow (put_before (slice_bytes slice) upper) (put_before (slice_bytes slice) ((drop 8 key, c) ∷ [])) = subst (λ (k : List ℕ). AllKeysBelow (put_before (slice_bytes slice) upper) ((k, c) ∷ [])) (sym whole_key) put in
       subst (λ (k : List ℕ). AllKeysBelow upper ((k, c) ∷ [])) (sym f) (below_unprefixed (slice_bytes slice) upper ((drop 8 key, c) ∷ []) both)
 
-  pub deeper_light : (places xs : List DraftPlace) → places ≡ xs ++ p ∷ [] → weight upper < weight (walk (draft_views places))
+  pub deeper_light : (places xs : List (Place DraftView)) → places ≡ xs ++ p ∷ [] → weight upper < weight (walk (views layer_walk places))
   deeper_light places xs e =
       let light = below_lighter (slice_bytes slice) upper (slice_bytes-length slice) d.some in
-      omega (arith, light, ap weight upper_here, ap weight (walk_last places xs p e), weight-append (walk (draft_views xs)) (pairs_at (draft_view p)))
+      omega (arith, light, ap weight upper_here, ap weight (walk_last places xs p e), weight-append (walk (views layer_walk xs)) (pairs_at (view_of layer_walk p)))
 
   module _ (lower : List Pair) (rest : List ℕ) (is : lower ≡ upper ++ (rest, c) ∷ []) (f : rest ≡ drop 8 key) where
     deeper_lawful : IsPlace (link slice lower)
     deeper_lawful =
-        let low : slice < 2 ^ 64 = subst (λ (s : ℕ). s < 2 ^ 64) (slice_at-draft p ∙ d.same) (slice_at-lt (draft_view p) d.place) in
+        let low : slice < 2 ^ 64 = subst (λ (s : ℕ). s < 2 ^ 64) (slice_at-draft p ∙ d.same) (slice_at-lt (view_of layer_walk p) d.place) in
         let some = d.some in
         let longer = d.longer in
         let more : length (rest) ≡ length (drop 8 key) = ap (λ (k : List ℕ). length k) f in
@@ -138,51 +141,51 @@ module _ (p : DraftPlace) (slice : ℕ) (key : List ℕ) (c : List (ℕ × List 
         let last : 0 < length rest = omega (arith, more, length-drop 8 key, longer) in
         (low, two, subst HasNoEmptyKey (sym is) (all_append (λ (q : Pair). 0 < length q.0) upper ((rest, c) ∷ []) d.keys (last, tt)))
 
-    deeper_pairs : pairs_at (link slice lower) ≡ pairs_at (draft_view p) ++ (key, c) ∷ []
+    deeper_pairs : pairs_at (link slice lower) ≡ pairs_at (view_of layer_walk p) ++ (key, c) ∷ []
     deeper_pairs =
         ap (put_before (slice_bytes slice)) is ∙ put_before-append (slice_bytes slice) upper ((rest, c) ∷ [])
         ∙ (λ i. upper_here i ++ ((ap (λ (k : List ℕ). slice_bytes slice ++ k) f ∙ whole_key) i, c) ∷ [])
 
-    pub deeper_layer : (places xs after : List DraftPlace) (m : DraftPlace) → IsLayer (draft_views places) → places ≡ xs ++ p ∷ [] → after ≡ xs ++ m ∷ [] → draft_view m ≡ link slice lower → IsLayer (draft_views after)
+    pub deeper_layer : (places xs after : List (Place DraftView)) (m : Place DraftView) → IsRanked (views layer_walk places) → places ≡ xs ++ p ∷ [] → after ≡ xs ++ m ∷ [] → view_of layer_walk m ≡ link slice lower → IsRanked (views layer_walk after)
     deeper_layer places xs after m h e g mine =
         let long = d.long in
-        let rank : rank_at (draft_view p) ≡ slice * 10 + 9 = omega (arith, slice_at-draft p, d.same, long) in
-        subst IsLayer (sym (ap draft_views g ∙ map-append draft_view xs (m ∷ []) ∙ ap (λ (z : PlaceView). draft_views xs ++ z ∷ []) mine))
-        (layer_seam 0 (draft_views xs) (draft_view p) (link slice lower) [] (front_layer places xs p h e) deeper_lawful (omega arith) tt)
+        let rank : rank_at (view_of layer_walk p) ≡ slice * 10 + 9 = omega (arith, slice_at-draft p, d.same, long) in
+        subst IsRanked (sym (ap (views layer_walk) g ∙ map-append (view_of layer_walk) xs (m ∷ []) ∙ ap (λ (z : PlaceView). views layer_walk xs ++ z ∷ []) mine))
+        (layer_seam 0 (views layer_walk xs) (view_of layer_walk p) (link slice lower) [] (front_layer places xs p h e) deeper_lawful (omega arith) tt)
 
-    pub deeper_walk : (places xs after : List DraftPlace) (m : DraftPlace) → places ≡ xs ++ p ∷ [] → after ≡ xs ++ m ∷ [] → draft_view m ≡ link slice lower → walk (draft_views after) ≡ walk (draft_views places) ++ (key, c) ∷ []
+    pub deeper_walk : (places xs after : List (Place DraftView)) (m : Place DraftView) → places ≡ xs ++ p ∷ [] → after ≡ xs ++ m ∷ [] → view_of layer_walk m ≡ link slice lower → walk (views layer_walk after) ≡ walk (views layer_walk places) ++ (key, c) ∷ []
     deeper_walk places xs after m e g mine =
-        walk_last after xs m g ∙ ap (λ (z : PlaceView). walk (draft_views xs) ++ pairs_at z) mine ∙ ap (λ (w : List Pair). walk (draft_views xs) ++ w) deeper_pairs
-        ∙ sym (append_assoc (walk (draft_views xs)) (pairs_at (draft_view p)) ((key, c) ∷ [])) ∙ ap (λ (w : List Pair). w ++ (key, c) ∷ []) (sym (walk_last places xs p e))
+        walk_last after xs m g ∙ ap (λ (z : PlaceView). walk (views layer_walk xs) ++ pairs_at z) mine ∙ ap (λ (w : List Pair). walk (views layer_walk xs) ++ w) deeper_pairs
+        ∙ sym (append_assoc (walk (views layer_walk xs)) (pairs_at (view_of layer_walk p)) ((key, c) ∷ [])) ∙ ap (λ (w : List Pair). w ++ (key, c) ∷ []) (sym (walk_last places xs p e))
 
-  pub deeper_first : (places xs after : List DraftPlace) (m : DraftPlace) → places ≡ xs ++ p ∷ [] → after ≡ xs ++ m ∷ [] → m.slice ≡ slice → first_slice_of (draft_views after) ≡ first_slice_of (draft_views places)
+  pub deeper_first : (places xs after : List (Place DraftView)) (m : Place DraftView) → places ≡ xs ++ p ∷ [] → after ≡ xs ++ m ∷ [] → m.slice ≡ slice → first_slice_of (views layer_walk after) ≡ first_slice_of (views layer_walk places)
   deeper_first places xs after m e g own =
-      ap first_slice_of (ap draft_views g ∙ map-append draft_view xs (m ∷ []))
-      ∙ first_merged (draft_views xs) [] (draft_view p) (draft_view m) (slice_at-draft m ∙ own ∙ sym d.same ∙ sym (slice_at-draft p))
-      ∙ sym (ap first_slice_of (ap draft_views e ∙ map-append draft_view xs (p ∷ [])))
+      ap first_slice_of (ap (views layer_walk) g ∙ map-append (view_of layer_walk) xs (m ∷ []))
+      ∙ first_merged (views layer_walk xs) [] (view_of layer_walk p) (view_of layer_walk m) (slice_at-draft m ∙ own ∙ sym d.same ∙ sym (slice_at-draft p))
+      ∙ sym (ap first_slice_of (ap (views layer_walk) e ∙ map-append (view_of layer_walk) xs (p ∷ [])))
 
 -- ---- the last border
 pub record Opened (fs : List (List PlaceView)) (l : List PlaceView) (v : List (List PlaceView)) : Type 0 where
-  pub are : IsBorderList (fs ++ l ∷ [])
+  pub are : AreRanked (fs ++ l ∷ [])
   pub is : borders_walk v ≡ walk (joined fs) ++ walk l
 
-pub open_end : (lb fs : List Border) (b : Border) (l : Vec DraftPlace Global) → lb ≡ fs ++ b ∷ [] → b ≡ Open l → lb ≡ fs ++ Open l ∷ []
+pub open_end : (lb fs : List Border) (b : Border) (l : Vec (Place DraftView) Global) → lb ≡ fs ++ b ∷ [] → b ≡ Open l → lb ≡ fs ++ Open l ∷ []
 open_end lb fs b l e f = e ∙ ap (λ (z : Border). fs ++ z ∷ []) f
 
-pub opened : (lb fs : List Border) (l : Vec DraftPlace Global) (d : DraftView) → draft_of lb ≡ d → IsStored lb → lb ≡ fs ++ Open l ∷ [] → Opened (border_views fs) (draft_views l.items) d.borders
+pub opened : (lb fs : List Border) (l : Vec (Place DraftView) Global) (d : DraftView) → draft_of lb ≡ d → IsStored lb → lb ≡ fs ++ Open l ∷ [] → Opened (border_views fs) (views layer_walk l.items) d.borders
 opened lb fs l d seen stored e =
     let view : border_views lb ≡ d.borders = ap (λ (z : DraftView). z.borders) seen in
-    let ls = draft_views l.items in
+    let ls = views layer_walk l.items in
     let front = border_views fs in
     let same : border_views lb ≡ front ++ ls ∷ [] = ap border_views e ∙ borders-append fs (Open l ∷ []) in
     record {
-      are = subst IsBorderList same stored.own;
+      are = subst AreRanked same stored.own;
       is = ap borders_walk (sym view ∙ same) ∙ ap walk (joined-append front (ls ∷ []) ∙ ap (λ (z : List PlaceView). joined front ++ z) (append-nil ls)) ∙ walk-append (joined front) ls;
     }
 
 module _ (fs : List (List PlaceView)) (l : List PlaceView) (v : List (List PlaceView)) (o : Opened fs l v) where
-  pub opened_layer : IsLayer l
-  opened_layer = subst IsLayer (append-nil l) (layer_back 0 (joined fs) (joined (l ∷ [])) (subst IsLayer (joined-append fs (l ∷ [])) o.are.2))
+  pub opened_layer : IsRanked l
+  opened_layer = subst IsRanked (append-nil l) (layer_back 0 (joined fs) (joined (l ∷ [])) (subst IsRanked (joined-append fs (l ∷ [])) o.are.2))
 
   pub opened_border : IsBorder l
   opened_border = (all_back IsBorder fs (l ∷ []) o.are.0).0
@@ -194,16 +197,16 @@ module _ (fs : List (List PlaceView)) (l : List PlaceView) (v : List (List Place
   opened_light = omega (arith, ap weight o.is, weight-append (walk (joined fs)) (walk l))
 
 -- other borders that begin with the same slice replace the last one
-pub opened_put : (fs : List Border) (l : List PlaceView) (v : List (List PlaceView)) → Opened (border_views fs) l v → (places : List DraftPlace) (new : List Border) (p : Pair) → PutBehind places fs new
-    → walk (draft_views places) ≡ walk l ++ p ∷ [] → first_slice_of (draft_views places) ≡ first_slice_of l → IsBorderList (border_views new) × (borders_walk (border_views new) ≡ borders_walk v ++ p ∷ [])
+pub opened_put : (fs : List Border) (l : List PlaceView) (v : List (List PlaceView)) → Opened (border_views fs) l v → (places : List (Place DraftView)) (new : List Border) (p : Pair) → PutBehind places fs new
+    → walk (views layer_walk places) ≡ walk l ++ p ∷ [] → first_slice_of (views layer_walk places) ≡ first_slice_of l → AreRanked (border_views new) × (borders_walk (border_views new) ≡ borders_walk v ++ p ∷ [])
 opened_put fs l v o places new p put pairs first =
     let front = border_views fs in
     let more = border_views put.more in
-    let seen : joined more ≡ draft_views places = put.same in
+    let seen : joined more ≡ views layer_walk places = put.same in
     let behind : border_views new ≡ front ++ more = ap border_views put.behind ∙ borders-append fs put.more in
     let some : 1 ≤ length l = (opened_border front l v o).0 in
     let whole : walk (joined more) ≡ walk l ++ p ∷ [] = ap walk seen ∙ pairs in (
-      subst IsBorderList (sym behind) (behind_are front l more o.are put.lawful some (ap first_slice_of seen ∙ first)),
+      subst AreRanked (sym behind) (behind_are front l more o.are put.lawful some (ap first_slice_of seen ∙ first)),
       ap borders_walk behind ∙ ap walk (joined-append front more) ∙ walk-append (joined front) (joined more) ∙ ap (λ (w : List Pair). walk (joined front) ++ w) whole
           ∙ sym (append_assoc (walk (joined front)) (walk l) (p ∷ [])) ∙ ap (λ (w : List Pair). w ++ p ∷ []) (sym o.is),
     )

@@ -3,21 +3,22 @@ use Rattle.std.proofs.Common.{◌≡◌, ◌≢◌, ℕ, zero, suc, ◌+◌, ◌
 use Rattle.std.specs.Prelude.{Contains, nat_eq, nat_lt, ◌&&◌}
 use Rattle.std.specs.List.{AllByRecursion}
 use Rattle.std.specs.Cmp.Lexicographic.{pointwise, bytes_decides}
-use Rattle.std.proofs.lemmas.List.{append-nil, take_at, drop_at, take-append-drop, length-take}
+use Rattle.std.proofs.lemmas.List.{append-nil, take_at, drop_at, take-append-drop, length-take, length-map}
 use Rattle.std.proofs.lemmas.Bool.{ltb-true, lt-ltb}
 use Rattle.mt_words.specs.Slices.{slice_in, slice_bytes}
-use Rattle.mt_tree.specs.Layer.{key_rank}
+use Rattle.mt_tree.specs.Steps.Pairs.{key_rank}
 use Rattle.mt_words.proofs.SliceBytes.{slice_bytes-bytes, slice_in-append, bytes_take}
 use Rattle.mt_tree.proofs.Ranks.{less_of_ranks}
 use Rattle.mt_words.proofs.SliceBytes.{slice_bytes-length}
-use Rattle.mt_tree.specs.Layer.{PlaceView, short, long, link, rank_at, pairs_at, put_before, walk, IsPlace, HasNoEmptyKey, IsLayerFrom, IsLayer}
+use Rattle.mt_tree.specs.Layer.{PlaceView, short, long, link, pairs_at, put_before, walk, IsPlace, HasNoEmptyKey, linked_walks}
+use Rattle.mt_tree.specs.Steps.Ranks.{rank_at, IsLayerFrom, IsRanked, ranked}
 use Rattle.mt_words.specs.Walks.{Pair, joined}
 use Rattle.mt_words.specs.Words.{IsBelow, AreRising}
-use Rattle.mt_tree.specs.Layers.{under, lies_under, AreHeads, CountsFrom, own, more, IsLayers, linked_walks, CountsLayers}
-use Rattle.mt_tree.specs.Nodes.{NodeView, LayerView, places, IsLayerTree, IsTreeCount, AreLinked, each_borders}
+use Rattle.mt_tree.specs.Layers.{under, lies_under, AreHeads, CountsFrom, own, more, IsLayers, CountsLayers}
+use Rattle.mt_tree.specs.Nodes.{NodeView, LayerView, places, IsLayerTree, IsTreeCount, AreLinked, each_borders, linked, unlinked, AreBelow}
 use Rattle.mt_tree.specs.Trees.{tree_walk, tree_count, IsTree, HasLayers}
 use Rattle.mt_tree.proofs.Finds.{pairs_rank}
-use Rattle.mt_tree.proofs.Joins.{all_append, all_weaker}
+use Rattle.mt_tree.proofs.Joins.{all_append, all_weaker, all_front, all_back}
 
 -- the sum of the numbers of trees of these walks
 abbrev SumsLayers : List (List Pair) → ℕ → Type 0
@@ -223,40 +224,38 @@ is_head low (link s w ∷ ps) q h two = by (is_head (suc (s * 10 + 9)) ps q h.2)
         under-append q (put_before (slice_bytes s) w) (walk ps) ∙ ap (λ (z : List Pair). z ++ under q (walk ps)) (under_other (slice_bytes s) q w (slice_bytes-length s) other) in
         next (heads_at ps) (slice_bytes s) q (rest (subst (λ (z : List Pair). 2 ≤ length z) tail two))
 
-pub are_heads : (ps : List PlaceView) → IsLayer ps → AreHeads (walk ps) (heads_at ps)
+pub are_heads : (ps : List PlaceView) → IsRanked ps → AreHeads (walk ps) (heads_at ps)
 are_heads ps h = record {
   rising = heads_rise 0 ps h;
   each = λ q. (λ m. has_two 0 (walk ps) ps q h (serves 0 [] ps h tt) m, λ two. is_head 0 ps q h two);
 }
 
 -- the number of trees of a layer, by its links
-pub layers_are : (ps : List PlaceView) (n : ℕ) → IsLayer ps → SumsLinks ps n → IsLayers (walk ps) (n + 1)
+pub layers_are : (ps : List PlaceView) (n : ℕ) → IsRanked ps → SumsLinks ps n → IsLayers (walk ps) (n + 1)
 layers_are ps n h s = record { heads = heads_at ps; are = are_heads ps h; counts = counts (walk ps) ps n (serves 0 [] ps h tt) s }
 
 -- ---- sums
-sums_split : (vs ws : List (List Pair)) (n : ℕ) → SumsLayers (vs ++ ws) n → (a : ℕ) × (b : ℕ) × SumsLayers vs a × SumsLayers ws b × (n ≡ a + b)
-sums_split [] ws n s = (0, n, refl, s, omega arith)
-sums_split (v ∷ vs) ws n s =
-    let rest = sums_split vs ws s.1 s.3 in
-    (s.0 + rest.0, rest.1, (s.0, rest.0, s.2, rest.2, refl), rest.3, let e : n ≡ s.0 + s.1 = s.4 in let f : s.1 ≡ rest.0 + rest.1 = rest.4 in omega arith)
-
-sums_linked : (ws : List (List Pair)) (ts : List LayerView) → AllByRecursion IsLayerTree ts → AreLinked ws (each_borders ts) → SumsLayers ws (length ts)
-sums_linked [] [] h k = refl
-sums_linked (w ∷ ws) [] h k = absurd (let never : w ∷ ws ≡ [] = k in cc)
-sums_linked [] (t ∷ ts) h k = absurd k
-sums_linked (w ∷ ws) (t ∷ ts) h k =
-    let own_links = linked_walks (joined t.borders) in
-    let parts = sums_split own_links ws (length ts) (sums_linked (own_links ++ ws) ts h.1 k.1) in (
-      parts.0 + 1,
-      parts.1,
-      subst (λ (z : List Pair). IsLayers z (parts.0 + 1)) (sym k.0) (layers_are (joined t.borders) parts.0 h.0.layer parts.2),
-      parts.3,
-      let e : length ts ≡ parts.0 + parts.1 = parts.4 in omega arith,
+sums_linked : (ws : List (List Pair)) (ls : List (List (List PlaceView))) → AllByRecursion (λ l. IsRanked (joined l)) ls → AreLinked ws ls → SumsLayers ws (length ls)
+sums_linked ws ls h unlinked = refl
+sums_linked ws ls h (linked {layer = l} {walks = vs} {lower = lower} {layers = later} below rest) =
+    let both = h.1 in (
+      length lower + 1,
+      length later,
+      layers_are (joined l) (length lower) h.0 (sums_linked (linked_walks (joined l)) lower (all_front (λ l. IsRanked (joined l)) lower later both) below),
+      sums_linked vs later (all_back (λ l. IsRanked (joined l)) lower later both) rest,
+      omega (arith, length-append lower later),
     )
+
+trees_layers : (ts : List LayerView) → AllByRecursion IsLayerTree ts → AllByRecursion (λ l. IsRanked (joined l)) (each_borders ts)
+trees_layers [] h = tt
+trees_layers (t ∷ ts) h = (ranked (joined t.borders) h.0.layer, trees_layers ts h.1)
+
+sums_below : (ps : List PlaceView) (ts : List LayerView) → AreBelow ps ts → SumsLayers (linked_walks ps) (length ts)
+sums_below ps ts h = subst (SumsLayers (linked_walks ps)) (length-map ts (λ t. t.borders)) (sums_linked (linked_walks ps) (each_borders ts) (trees_layers ts h.lawful) h.linked)
 
 pub tree_layers : (t : Option NodeView) → IsTree t → IsLayers (tree_walk t) (tree_count t)
 tree_layers None h = layers_are [] 0 tt refl
-tree_layers (Some n) h = layers_are (places n) (length n.below) h.tree.layer (sums_linked (linked_walks (places n)) n.below h.below.lawful h.below.linked)
+tree_layers (Some n) h = layers_are (places n) (length n.below) (ranked (places n) h.tree.layer) (sums_below (places n) n.below h.below)
 
 -- the count of a tree is the number of trees of its walk
 pub counted : (root t : Option NodeView) (layers : ℕ) → root ≡ t → IsTree root → HasLayers root layers → CountsLayers (tree_walk t) layers × HasLayers t layers

@@ -1,9 +1,11 @@
 -- The places of a layer are cut into borders between slices.
 use Rattle.std.proofs.Common.{◌≡◌, ℕ, suc, ◌+◌, ◌*◌, ◌≤◌, List, [], ◌∷◌, ◌++◌, length, sym, refl, ap, ◌∙◌, subst, arith, append_assoc}
 use Rattle.std.proofs.lemmas.List.{append-nil}
-use Rattle.mt_tree.specs.Layer.{PlaceView, slice_at, rank_at, IsLayerFrom, IsLayer}
-use Rattle.mt_tree.specs.Nodes.{NodeView, border, none, borders_of, SlicesFrom, IsLayerTree, IsLevelAt, IsLevel, CutAt, OfSlice, border_tree}
-use Rattle.mt_tree.proofs.Joins.{length_at-le}
+use Rattle.mt_tree.specs.Layer.{PlaceView, slice_at}
+use Rattle.mt_tree.specs.Steps.Ranks.{rank_at, IsLayerFrom, IsRanked, length_at-le, layered}
+use Rattle.mt_tree.specs.Nodes.{NodeView, border, none, SlicesFrom, IsLayerTree}
+use Rattle.mt_tree.specs.Steps.Levels.{borders_of, IsLevelAt, IsLevel, border_tree}
+use Rattle.mt_tree.specs.Steps.Seams.{CutAt, OfSlice}
 
 -- ---- layers and their parts
 -- places from a rank on have slices at or above that rank's
@@ -22,7 +24,7 @@ run_room low s (p ∷ ps) h o le =
     let few = length_at-le p h.0 in
     omega (arith, run_room (suc (rank_at p)) s ps h.2 o.1 (omega arith))
 
-pub run_few : (s : ℕ) (ps : List PlaceView) → IsLayer ps → OfSlice s ps → length ps ≤ 10
+pub run_few : (s : ℕ) (ps : List PlaceView) → IsRanked ps → OfSlice s ps → length ps ≤ 10
 run_few s [] h o = omega arith
 run_few s (p ∷ ps) h o =
     let same : slice_at p ≡ s = o.0 in
@@ -34,8 +36,8 @@ cut_nil [] = tt
 cut_nil (x ∷ xs) = (tt, cut_nil xs)
 
 -- ---- a border as a tree
-pub border_is_tree : (b : List PlaceView) → 1 ≤ length b → length b ≤ 15 → IsLayer b → IsLayerTree (border_tree b)
-border_is_tree b some fits h = record { some = omega arith; each = ((some, fits), tt); apart = (cut_nil b, tt); layer = subst IsLayer (sym (append-nil b)) h; interiors = tt; shape = border none }
+pub border_is_tree : (b : List PlaceView) → 1 ≤ length b → length b ≤ 15 → IsRanked b → IsLayerTree (border_tree b)
+border_is_tree b some fits h = record { some = omega arith; each = ((some, fits), tt); apart = (cut_nil b, tt); layer = layered 0 (b ++ []) (subst IsRanked (sym (append-nil b)) h); interiors = tt; shape = border none }
 
 pub borders_of-append : (ns ms : List NodeView) → borders_of (ns ++ ms) ≡ borders_of ns ++ borders_of ms
 borders_of-append [] ms = refl

@@ -4,34 +4,38 @@ use Rattle.std.proofs.lemmas.List.{append-nil, map-append}
 use Rattle.std.proofs.lemmas.Grind.{flat_map-append}
 use Rattle.mt_tree.proofs.Counts.{counted_more}
 use Rattle.mt_tree.proofs.Levels.{below-append}
-use Rattle.mt_tree.specs.Layer.{PlaceView, link, IsPlace, IsLayer, walk, weight}
+use Rattle.mt_tree.specs.Layer.{PlaceView, link, IsPlace, walk}
+use Rattle.mt_tree.specs.Steps.Ranks.{IsRanked, AreRanked}
+use Rattle.mt_tree.specs.Steps.Pairs.{weight}
 use Rattle.mt_tree.specs.Steps.Falls.{weight-append, walk-append, layer_back, layer_front}
-use Rattle.mt_tree.specs.Nodes.{each_borders, IsBorder, LayerView, IsLayerTree, IsNode, border_tree, AreBelow, IsTreeCount}
+use Rattle.mt_tree.specs.Nodes.{NodeView, AreLinked, linked, unlinked, each_borders, IsBorder, LayerView, IsLayerTree, IsNode, AreBelow, IsTreeCount}
+use Rattle.mt_tree.specs.Steps.Levels.{border_tree, node_walk}
 use Rattle.mt_tree.specs.Steps.NodeFalls.{joined-append}
-use Rattle.mt_tree.specs.Borders.{DraftView, IsBorderList, borders_walk, layer_walk}
-use Rattle.mt_tree.specs.Steps.NodeViews.{views, view_of, trees_of, trees_of_content, border_node}
+use Rattle.mt_tree.specs.Borders.{DraftView, borders_walk, layer_walk}
+use Rattle.mt_tree.specs.Steps.NodeViews.{border_node, trees_under}
 use Rattle.std.specs.List.{flat_map}
 use Rattle.mt_words.specs.Walks.{joined}
-use Rattle.mt_tree.specs.declared.node.Place.{Place}
 use Rattle.mt_tree.proofs.Cuts.{border_is_tree}
 use Rattle.mt_tree.proofs.Joins.{all_back}
+use Rattle.mt_tree.specs.Steps.Places.{views, view_of, below_link, below_links}
+use Rattle.mt_tree.specs.declared.place.Place.{Place}
 
 pub record Middle (l : List PlaceView) (all : List (List PlaceView)) : Type 0 where
   pub border : IsBorder l
-  pub layer : IsLayer l
+  pub layer : IsRanked l
   pub light : weight (walk l) ≤ weight (borders_walk all)
 
-pub middle : (fs bs left all : List (List PlaceView)) (l : List PlaceView) → fs ++ left ≡ all → left ≡ l ∷ bs → IsBorderList all → Middle l all
+pub middle : (fs bs left all : List (List PlaceView)) (l : List PlaceView) → fs ++ left ≡ all → left ≡ l ∷ bs → AreRanked all → Middle l all
 middle fs bs left all l e f h =
     let is : fs ++ l ∷ bs ≡ all = ap (λ (z : List (List PlaceView)). fs ++ z) (sym f) ∙ e in
-    let are : IsBorderList (fs ++ l ∷ bs) = subst IsBorderList (sym is) h in
+    let are : AreRanked (fs ++ l ∷ bs) = subst AreRanked (sym is) h in
     let places : joined all ≡ joined fs ++ (l ++ joined bs) = ap joined (sym is) ∙ joined-append fs (l ∷ bs) in
     let whole = ap (λ (z : List PlaceView). weight (walk z)) places in
     let one = ap weight (walk-append (joined fs) (l ++ joined bs)) in
     let two = ap weight (walk-append l (joined bs)) in
     record {
       border = (all_back IsBorder fs (l ∷ bs) are.0).0;
-      layer = layer_front 0 l (joined bs) (layer_back 0 (joined fs) (l ++ joined bs) (subst IsLayer places h.2));
+      layer = layer_front 0 l (joined bs) (layer_back 0 (joined fs) (l ++ joined bs) (subst IsRanked places h.2));
       light = omega (arith, whole, one, two, weight-append (walk (joined fs)) (walk (l ++ joined bs)), weight-append (walk l) (walk (joined bs)));
     }
 
@@ -43,19 +47,26 @@ pub link_some : (s : ℕ) (d : DraftView) → IsPlace (link s (layer_walk d)) �
 link_some s d h = borders_some s d.borders h
 
 -- ---- the places of a border
-pub border_done : (xs : List Place) (b : List PlaceView) → views xs ≡ b → IsBorder b → IsLayer b → AreBelow (views xs) (trees_of xs) → IsNode (border_node xs)
+pub border_done : (xs : List (Place NodeView)) (b : List PlaceView) → views node_walk xs ≡ b → IsBorder b → IsRanked b → AreBelow (views node_walk xs) (below_links trees_under xs) → IsNode (border_node xs)
 border_done xs b e h l below = record {
   tree = subst (λ (z : List PlaceView). IsLayerTree (border_tree z)) (sym e) (border_is_tree b h.0 h.1 l);
-  below = subst (λ (z : List PlaceView). AreBelow z (trees_of xs)) (sym (append-nil (views xs))) below;
+  below = subst (λ (z : List PlaceView). AreBelow z (below_links trees_under xs)) (sym (append-nil (views node_walk xs))) below;
 }
 
-pub below_push : (xs ys : List Place) (p : Place) → AreBelow (views xs) (trees_of xs) → AreBelow (view_of p ∷ []) (trees_of_content p.content) → ys ≡ xs ++ p ∷ [] → AreBelow (views ys) (trees_of ys)
+-- below a link is the linked tree, then what is below its own links
+pub link_below : (s : ℕ) (n : NodeView) → IsNode n → AreBelow (link s (node_walk n) ∷ []) (trees_under n)
+link_below s n h = record {
+  lawful = (h.tree, h.below.lawful);
+  linked = subst (AreLinked (node_walk n ∷ [])) (ap (λ z. n.tree.borders ∷ z) (append-nil (each_borders n.below))) (linked h.below.linked unlinked);
+}
+
+pub below_push : (xs ys : List (Place NodeView)) (p : Place NodeView) → AreBelow (views node_walk xs) (below_links trees_under xs) → AreBelow (view_of node_walk p ∷ []) (below_link trees_under p.content) → ys ≡ xs ++ p ∷ [] → AreBelow (views node_walk ys) (below_links trees_under ys)
 below_push xs ys p h k e =
-    let seen : views ys ≡ views xs ++ view_of p ∷ [] = ap views e ∙ map-append view_of xs (p ∷ []) in
-    let trees : trees_of ys ≡ trees_of xs ++ trees_of_content p.content =
-    ap trees_of e ∙ flat_map-append (λ (q : Place). trees_of_content q.content) xs (p ∷ []) ∙ ap (λ (z : List LayerView). trees_of xs ++ z) (append-nil (trees_of_content p.content)) in
-    subst (λ (z : List PlaceView). AreBelow z (trees_of ys)) (sym seen)
-    (subst (AreBelow (views xs ++ view_of p ∷ [])) (sym trees) (below-append (views xs) (view_of p ∷ []) (trees_of xs) (trees_of_content p.content) h k))
+    let seen : views node_walk ys ≡ views node_walk xs ++ view_of node_walk p ∷ [] = ap (views node_walk) e ∙ map-append (view_of node_walk) xs (p ∷ []) in
+    let trees : below_links trees_under ys ≡ below_links trees_under xs ++ below_link trees_under p.content =
+    ap (below_links trees_under) e ∙ flat_map-append (λ (q : Place NodeView). below_link trees_under q.content) xs (p ∷ []) ∙ ap (λ (z : List LayerView). below_links trees_under xs ++ z) (append-nil (below_link trees_under p.content)) in
+    subst (λ (z : List PlaceView). AreBelow z (below_links trees_under ys)) (sym seen)
+    (subst (AreBelow (views node_walk xs ++ view_of node_walk p ∷ [])) (sym trees) (below-append (views node_walk xs) (view_of node_walk p ∷ []) (below_links trees_under xs) (below_link trees_under p.content) h k))
 
 pub counted_push : {X : Type 0} (f : X → List LayerView) (xs ys : List X) (p : X) (x y z : ℕ) → IsTreeCount (flat_map f xs) x → IsTreeCount (f p) y → z ≡ min (x + y) (2 ^ 64 - 1) → ys ≡ xs ++ p ∷ [] → IsTreeCount (flat_map f ys) z
 counted_push f xs ys p x y z h k is e =

@@ -10,26 +10,29 @@ use Rattle.std.specs.Cmp.Lexicographic.{pointwise, bytes_decides}
 use Rattle.std.proofs.lemmas.List.{append-nil, length-take-le, get_or-map, length-map, take_all}
 use Rattle.std.proofs.lemmas.Bool.{eq-eqb}
 use Rattle.mt_words.specs.Slices.{AreBytes, slice_in, slice_bytes}
-use Rattle.mt_tree.specs.Layer.{key_rank}
+use Rattle.mt_tree.specs.Steps.Pairs.{key_rank, find_key}
 use Rattle.mt_words.proofs.SliceBytes.{slice_in-take, slice_bytes-short, slice_bytes-long, bytes_take}
 use Rattle.mt_words.proofs.SliceBytes.{slice_bytes-length}
-use Rattle.mt_tree.specs.Layer.{PlaceView, short, long, link, slice_at, length_at, rank_at, pairs_at, put_before, walk, IsPlace, HasNoEmptyKey, IsLayerFrom, IsLayer, find_key}
+use Rattle.mt_tree.specs.Layer.{PlaceView, short, long, link, slice_at, length_at, pairs_at, put_before, walk, IsPlace, HasNoEmptyKey}
+use Rattle.mt_tree.specs.Steps.Ranks.{rank_at, IsLayerFrom, IsRanked, ranked}
 use Rattle.mt_words.specs.Walks.{Pair, joined}
-use Rattle.mt_tree.specs.Nodes.{NodeView, places, borders_of, branches, IsNode, AreSeparated, SlicesFrom}
+use Rattle.mt_tree.specs.Nodes.{NodeView, places, IsNode, AreSeparated, SlicesFrom}
+use Rattle.mt_tree.specs.Steps.Levels.{borders_of, branches, node_walk}
 use Rattle.mt_tree.specs.Steps.NodeFalls.{joined-append, branches_length}
 use Rattle.std.proofs.Common.{Vec, Global, Bor}
 use Rattle.arrayvec.specs.declared.array_vec.ArrayVec.{ArrayVec}
 use Rattle.std.specs.Global.{Box}
 use Rattle.std.specs.List.{All}
 use Rattle.std.proofs.lemmas.List.Elements.{recursion_from_All}
-use Rattle.mt_tree.specs.Steps.NodeViews.{views, view_of, view_of_content, node_view, IsNodeKind}
-use Rattle.mt_tree.specs.declared.node.Content.{Content}
-use Rattle.mt_tree.specs.declared.node.Content.TheVariants.{Short, Suffix, Link}
-use Rattle.mt_tree.specs.declared.node.Place.{Place}
+use Rattle.mt_tree.specs.Steps.NodeViews.{node_view, IsNodeKind}
+use Rattle.mt_tree.specs.declared.place.Content.TheVariants.{Short, Suffix, Link}
 use Rattle.mt_tree.specs.declared.node.NodeKind.{NodeKind}
 use Rattle.mt_tree.specs.declared.node.NodeKind.TheVariants.{Border, Interior}
 use Rattle.mt_tree.specs.Steps.Falls.{walk-append}
 use Rattle.mt_tree.proofs.Joins.{long_rank}
+use Rattle.mt_tree.specs.Steps.Places.{views, view_of, view_of_content}
+use Rattle.mt_tree.specs.declared.place.Place.{Place}
+use Rattle.mt_tree.specs.declared.place.Content.{Content}
 
 unequal : (k x : List ℕ) → (k ≡ x → ⊥) → pointwise nat_eq k x ≡ false
 unequal k x n = by (pointwise nat_eq k x) refl
@@ -146,48 +149,48 @@ weaker : {X : Type 0} (P Q : X → Type 0) → ((x : X) → P x → Q x) → (xs
 weaker P Q f [] h = tt
 weaker P Q f (x ∷ xs) h = (f x h.0, weaker P Q f xs h.1)
 
-kids_walk : (n : NodeView) (ns : List NodeView) → walk (joined (borders_of (n ∷ ns))) ≡ walk (places n) ++ walk (joined (borders_of ns))
+kids_walk : (n : NodeView) (ns : List NodeView) → walk (joined (borders_of (n ∷ ns))) ≡ node_walk n ++ walk (joined (borders_of ns))
 kids_walk n ns = ap walk (joined-append n.tree.borders (borders_of ns)) ∙ walk-append (places n) (joined (borders_of ns))
 
 kids_miss : (k : List ℕ) (s : ℕ) (ns : List NodeView) → AllByRecursion IsNode ns → AllByRecursion (λ b. SlicesFrom s (joined b.borders)) (branches ns) → slice_in k < s → find_key k (walk (joined (borders_of ns))) ≡ None
 kids_miss k s [] h f l = refl
 kids_miss k s (n ∷ ns) h f l =
     ap (find_key k) (kids_walk n ns)
-    ∙ find-back k (walk (places n)) (walk (joined (borders_of ns))) (slices_miss k 0 (places n) h.0.tree.layer (weaker (λ p. s ≤ slice_at p) (λ p. slice_at p ≢ slice_in k) (λ p le e. omega arith) (places n) f.0))
+    ∙ find-back k (node_walk n) (walk (joined (borders_of ns))) (slices_miss k 0 (places n) (ranked (places n) h.0.tree.layer) (weaker (λ p. s ≤ slice_at p) (λ p. slice_at p ≢ slice_in k) (λ p le e. omega arith) (places n) f.0))
     ∙ kids_miss k s ns h.1 f.1 l
 
 pub kids_find : (k : List ℕ) (ss : List ℕ) (ns : List NodeView) (i : ℕ) (d : NodeView) → AllByRecursion IsNode ns → AreSeparated ss (branches ns) → length ss + 1 ≡ length ns → i ≤ length ss
-    → ((j : ℕ) → j < i → get_or ss j 0 ≤ slice_in k) → (i < length ss → slice_in k < get_or ss i 0) → find_key k (walk (joined (borders_of ns))) ≡ find_key k (walk (places (get_or ns i d)))
+    → ((j : ℕ) → j < i → get_or ss j 0 ≤ slice_in k) → (i < length ss → slice_in k < get_or ss i 0) → find_key k (walk (joined (borders_of ns))) ≡ find_key k (node_walk (get_or ns i d))
 kids_find k ss [] i d h a e l before after = absurd (omega arith)
-kids_find k [] (n ∷ []) zero d h a e l before after = ap (find_key k) (kids_walk n []) ∙ ap (find_key k) (append-nil (walk (places n)))
+kids_find k [] (n ∷ []) zero d h a e l before after = ap (find_key k) (kids_walk n []) ∙ ap (find_key k) (append-nil (node_walk n))
 kids_find k [] (n ∷ m ∷ ns) i d h a e l before after = absurd (omega arith)
 kids_find k [] (n ∷ []) (suc i) d h a e l before after = absurd (omega arith)
 kids_find k (s ∷ ss) (n ∷ ns) zero d h a e l before after =
-    ap (find_key k) (kids_walk n ns) ∙ find-front k (walk (places n)) (walk (joined (borders_of ns))) (kids_miss k s ns h.1 a.1 (after (omega arith)))
+    ap (find_key k) (kids_walk n ns) ∙ find-front k (node_walk n) (walk (joined (borders_of ns))) (kids_miss k s ns h.1 a.1 (after (omega arith)))
 kids_find k (s ∷ ss) (n ∷ ns) (suc i) d h a e l before after =
     let le : s ≤ slice_in k = before 0 (omega arith) in
     ap (find_key k) (kids_walk n ns)
-    ∙ find-back k (walk (places n)) (walk (joined (borders_of ns))) (slices_miss k 0 (places n) h.0.tree.layer (weaker (λ p. slice_at p < s) (λ p. slice_at p ≢ slice_in k) (λ p lt f. omega arith) (places n) a.0))
+    ∙ find-back k (node_walk n) (walk (joined (borders_of ns))) (slices_miss k 0 (places n) (ranked (places n) h.0.tree.layer) (weaker (λ p. slice_at p < s) (λ p. slice_at p ≢ slice_in k) (λ p lt f. omega arith) (places n) a.0))
     ∙ kids_find k ss ns i d h.1 a.2 (omega arith) (omega arith) (λ j lt. before (suc j) (omega arith)) (λ lt. after (omega arith))
 
 -- ---- views
-pub view_lawful : (xs : List Place) (i : ℕ) (d : Place) → AllByRecursion IsPlace (views xs) → i < length xs → IsPlace (view_of (get_or xs i d))
+pub view_lawful : (xs : List (Place NodeView)) (i : ℕ) (d : Place NodeView) → AllByRecursion IsPlace (views node_walk xs) → i < length xs → IsPlace (view_of node_walk (get_or xs i d))
 view_lawful [] i d h l = absurd (omega arith)
 view_lawful (x ∷ xs) zero d h l = h.0
 view_lawful (x ∷ xs) (suc i) d h l = view_lawful xs i d h.1 (omega arith)
 
-pub view_at : (xs : List Place) (i : ℕ) (x : Place) (d : PlaceView) → i < length xs → x ≡ get_or xs i x → get_or (views xs) i d ≡ view_of x
-view_at xs i x d l e = get_or-map view_of xs i x d l ∙ ap view_of (sym e)
+pub view_at : (xs : List (Place NodeView)) (i : ℕ) (x : Place NodeView) (d : PlaceView) → i < length xs → x ≡ get_or xs i x → get_or (views node_walk xs) i d ≡ view_of node_walk x
+view_at xs i x d l e = get_or-map (view_of node_walk) xs i x d l ∙ ap (view_of node_walk) (sym e)
 
 pub layer_lawful : (low : ℕ) (ps : List PlaceView) → IsLayerFrom low ps → AllByRecursion IsPlace ps
 layer_lawful low [] h = tt
 layer_lawful low (p ∷ ps) h = (h.0, layer_lawful (suc (rank_at p)) ps h.2)
 
-pub border_walk : (k : NodeKind) (v : NodeView) (b : Vec Place Global) → node_view k ≡ v → k ≡ Border b → walk (places v) ≡ walk (views b.items)
-border_walk k v b e f = ap (λ (n : NodeView). walk (places n)) (sym e ∙ ap node_view f) ∙ ap walk (append-nil (views b.items))
+pub border_walk : (k : NodeKind) (v : NodeView) (b : Vec (Place NodeView) Global) → node_view k ≡ v → k ≡ Border b → node_walk v ≡ walk (views node_walk b.items)
+border_walk k v b e f = ap (λ (n : NodeView). node_walk n) (sym e ∙ ap node_view f) ∙ ap walk (append-nil (views node_walk b.items))
 
-pub border_layer : (k : NodeKind) (b : Vec Place Global) → IsNodeKind k → k ≡ Border b → IsLayer (views b.items)
-border_layer k b h f = subst IsLayer (append-nil (views b.items)) (subst IsNodeKind f h).tree.layer
+pub border_layer : (k : NodeKind) (b : Vec (Place NodeView) Global) → IsNodeKind k → k ≡ Border b → IsRanked (views node_walk b.items)
+border_layer k b h f = subst IsRanked (append-nil (views node_walk b.items)) (ranked _ (subst IsNodeKind f h).tree.layer)
 
 -- the children of an interior node
 pub record AreChildren (ss : List ℕ) (ks : List NodeView) : Type 0 where
@@ -208,30 +211,30 @@ interior_is k ss ks h f =
       separated = n.separated;
     }
 
-pub interior_walk : (k : NodeKind) (v : NodeView) (ss : Box (ArrayVec ℕ 15 (Unit {0}))) (ks : Vec NodeView Global) → node_view k ≡ v → k ≡ Interior ss ks → walk (places v) ≡ walk (joined (borders_of ks.items))
-interior_walk k v ss ks e f = ap (λ (n : NodeView). walk (places n)) (sym e ∙ ap node_view f)
+pub interior_walk : (k : NodeKind) (v : NodeView) (ss : Box (ArrayVec ℕ 15 (Unit {0}))) (ks : Vec NodeView Global) → node_view k ≡ v → k ≡ Interior ss ks → node_walk v ≡ walk (joined (borders_of ks.items))
+interior_walk k v ss ks e f = ap (λ (n : NodeView). node_walk n) (sym e ∙ ap node_view f)
 
 -- ---- what a border's place returns
-pub record FoundAt (k : List ℕ) (w : List Pair) (x : Place) : Type 0 where
-  pub lawful : IsPlace (view_of x)
-  pub ranks : rank_at (view_of x) ≡ key_rank k
-  pub is : find_key k w ≡ find_key k (pairs_at (view_of x))
+pub record FoundAt (k : List ℕ) (w : List Pair) (x : Place NodeView) : Type 0 where
+  pub lawful : IsPlace (view_of node_walk x)
+  pub ranks : rank_at (view_of node_walk x) ≡ key_rank k
+  pub is : find_key k w ≡ find_key k (pairs_at (view_of node_walk x))
 
-pub found_at : (k : List ℕ) (w : List Pair) (xs ys : List Place) (i s : ℕ) (x : Place) → w ≡ walk (views xs) → IsLayer (views xs) → ys ≡ xs → i < length ys
-    → ((d : PlaceView) → rank_at (get_or (views ys) i d) ≡ s * 10 + min (length k) 9) → s ≡ slice_in k → x ≡ get_or xs i x → FoundAt k w x
+pub found_at : (k : List ℕ) (w : List Pair) (xs ys : List (Place NodeView)) (i s : ℕ) (x : Place NodeView) → w ≡ walk (views node_walk xs) → IsRanked (views node_walk xs) → ys ≡ xs → i < length ys
+    → ((d : PlaceView) → rank_at (get_or (views node_walk ys) i d) ≡ s * 10 + min (length k) 9) → s ≡ slice_in k → x ≡ get_or xs i x → FoundAt k w x
 found_at k w xs ys i s x e layer same lt rank slice is =
-    let inside : i < length xs = omega (arith, ap (λ (z : List Place). length z) same) in
-    let here_is : get_or (views xs) i (view_of x) ≡ view_of x = view_at xs i x (view_of x) inside is in
-    let r : rank_at (get_or (views xs) i (view_of x)) ≡ key_rank k = ap (λ (z : List Place). rank_at (get_or (views z) i (view_of x))) (sym same) ∙ rank (view_of x) ∙ ap (λ n. n * 10 + min (length k) 9) slice in
+    let inside : i < length xs = omega (arith, ap (λ (z : List (Place NodeView)). length z) same) in
+    let here_is : get_or (views node_walk xs) i (view_of node_walk x) ≡ view_of node_walk x = view_at xs i x (view_of node_walk x) inside is in
+    let r : rank_at (get_or (views node_walk xs) i (view_of node_walk x)) ≡ key_rank k = ap (λ (z : List (Place NodeView)). rank_at (get_or (views node_walk z) i (view_of node_walk x))) (sym same) ∙ rank (view_of node_walk x) ∙ ap (λ n. n * 10 + min (length k) 9) slice in
     record {
-      lawful = subst (λ (z : Place). IsPlace (view_of z)) (sym is) (view_lawful xs i x (layer_lawful 0 (views xs) layer) inside);
+      lawful = subst (λ (z : Place NodeView). IsPlace (view_of node_walk z)) (sym is) (view_lawful xs i x (layer_lawful 0 (views node_walk xs) layer) inside);
       ranks = ap rank_at (sym here_is) ∙ r;
-      is = ap (find_key k) e ∙ walk_find k 0 (views xs) i (view_of x) layer (omega (arith, length-map xs view_of)) r ∙ ap (λ (z : PlaceView). find_key k (pairs_at z)) here_is;
+      is = ap (find_key k) e ∙ walk_find k 0 (views node_walk xs) i (view_of node_walk x) layer (omega (arith, length-map xs (view_of node_walk))) r ∙ ap (λ (z : PlaceView). find_key k (pairs_at z)) here_is;
     }
 
-module _ (k : List ℕ) (w : List Pair) (x : Place) (f : FoundAt k w x) (bytes : AreBytes k) where
-  at_held : (h : Content) → x.content ≡ h → IsPlace (view_of_content x.slice h) × (rank_at (view_of_content x.slice h) ≡ key_rank k) × (find_key k w ≡ find_key k (pairs_at (view_of_content x.slice h)))
-  at_held h e = subst (λ (z : Content). IsPlace (view_of_content x.slice z) × (rank_at (view_of_content x.slice z) ≡ key_rank k) × (find_key k w ≡ find_key k (pairs_at (view_of_content x.slice z)))) e (f.lawful, f.ranks, f.is)
+module _ (k : List ℕ) (w : List Pair) (x : Place NodeView) (f : FoundAt k w x) (bytes : AreBytes k) where
+  at_held : (h : Content NodeView) → x.content ≡ h → IsPlace (view_of_content node_walk x.slice h) × (rank_at (view_of_content node_walk x.slice h) ≡ key_rank k) × (find_key k w ≡ find_key k (pairs_at (view_of_content node_walk x.slice h)))
+  at_held h e = subst (λ (z : Content NodeView). IsPlace (view_of_content node_walk x.slice z) × (rank_at (view_of_content node_walk x.slice z) ≡ key_rank k) × (find_key k w ≡ find_key k (pairs_at (view_of_content node_walk x.slice z)))) e (f.lawful, f.ranks, f.is)
 
   pub short_case : (l : ℕ) (c : List (ℕ × List ℕ)) → x.content ≡ Short l c → find_key k w ≡ Some c
   short_case l c e = let g = at_held (Short l c) e in g.2 ∙ short_hit k x.slice l c bytes g.0.1 g.1
@@ -250,16 +253,16 @@ module _ (k : List ℕ) (w : List Pair) (x : Place) (f : FoundAt k w x) (bytes :
   pub link_long : (n : NodeView) → x.content ≡ Link n → 8 ≤ length k
   link_long n e = let g = at_held (Link n) e in omega (arith, (long_is k x.slice bytes g.1).0)
 
-  pub link_case : (n : NodeView) → x.content ≡ Link n → find_key k w ≡ find_key (drop 8 k) (walk (places n))
-  link_case n e = let g = at_held (Link n) e in g.2 ∙ link_hit k x.slice (walk (places n)) bytes g.1
+  pub link_case : (n : NodeView) → x.content ≡ Link n → find_key k w ≡ find_key (drop 8 k) (node_walk n)
+  link_case n e = let g = at_held (Link n) e in g.2 ∙ link_hit k x.slice (node_walk n) bytes g.1
 
 -- a key is absent if no place of the border has its rank
-pub not_found : (k : List ℕ) (w : List Pair) (xs ys : List Place) (s : ℕ) → w ≡ walk (views xs) → IsLayer (views xs) → ys ≡ xs → s ≡ slice_in k
-    → All (λ p. rank_at p ≡ s * 10 + min (length k) 9 → ⊥) (views ys) → find_key k w ≡ None
+pub not_found : (k : List ℕ) (w : List Pair) (xs ys : List (Place NodeView)) (s : ℕ) → w ≡ walk (views node_walk xs) → IsRanked (views node_walk xs) → ys ≡ xs → s ≡ slice_in k
+    → All (λ p. rank_at p ≡ s * 10 + min (length k) 9 → ⊥) (views node_walk ys) → find_key k w ≡ None
 not_found k w xs ys s e layer same slice none =
-    let each : AllByRecursion (λ p. rank_at p ≡ key_rank k → ⊥) (views xs) =
-    recursion_from_All (λ p. rank_at p ≡ key_rank k → ⊥) (views xs) (λ i d lt f. subst (λ (z : List Place). All (λ p. rank_at p ≡ s * 10 + min (length k) 9 → ⊥) (views z)) same none i d lt (f ∙ ap (λ n. n * 10 + min (length k) 9) (sym slice))) in
-    ap (find_key k) e ∙ walk_absent k 0 (views xs) layer each
+    let each : AllByRecursion (λ p. rank_at p ≡ key_rank k → ⊥) (views node_walk xs) =
+    recursion_from_All (λ p. rank_at p ≡ key_rank k → ⊥) (views node_walk xs) (λ i d lt f. subst (λ (z : List (Place NodeView)). All (λ p. rank_at p ≡ s * 10 + min (length k) 9 → ⊥) (views node_walk z)) same none i d lt (f ∙ ap (λ n. n * 10 + min (length k) 9) (sym slice))) in
+    ap (find_key k) e ∙ walk_absent k 0 (views node_walk xs) layer each
 
 pub rest_is : (k : List ℕ) → take (length k - 8) (drop 8 k) ≡ drop 8 k
 rest_is k = take_all (length k - 8) (drop 8 k) (omega (arith, length-drop 8 k))

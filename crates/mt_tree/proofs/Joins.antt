@@ -3,19 +3,22 @@ use Rattle.std.proofs.Common.{◌≡◌, ℕ, suc, ◌+◌, ◌*◌, ◌^◌, �
 use Rattle.std.specs.List.{AllByRecursion, remove}
 use Rattle.std.proofs.lemmas.List.{append-nil, take_at, map-append, length-take-le}
 use Rattle.mt_words.specs.Slices.{AreBytes, slice_bytes}
-use Rattle.mt_tree.specs.Layer.{key_rank}
+use Rattle.mt_tree.specs.Steps.Pairs.{key_rank, weight}
 use Rattle.mt_words.proofs.SliceBytes.{below-unprefixed}
 use Rattle.mt_words.proofs.SliceBytes.{slice_bytes-bytes, slice_in-append, slice_in-take, bytes_take}
 use Rattle.mt_tree.proofs.Ranks.{ranks_of_less, IsBelowAt}
 use Rattle.mt_words.proofs.SliceBytes.{slice_bytes-length}
-use Rattle.mt_tree.specs.Layer.{PlaceView, short, long, link, slice_at, length_at, rank_at, pairs_at, put_before, walk, IsPlace, HasNoEmptyKey, IsLayerFrom, IsLayer, AllKeysBelow, Meet, weight}
+use Rattle.mt_tree.specs.Layer.{PlaceView, short, long, link, slice_at, length_at, pairs_at, put_before, walk, IsPlace, HasNoEmptyKey, AllKeysBelow}
+use Rattle.mt_tree.specs.Steps.Ranks.{rank_at, IsLayerFrom, IsRanked, length_at-le}
+use Rattle.mt_tree.specs.Steps.Seams.{Meet}
 use Rattle.mt_words.specs.Walks.{Pair, KeysRise}
 use Rattle.mt_words.specs.Words.{IsBelow}
-use Rattle.mt_tree.specs.Steps.DraftViews.{draft_views, draft_view, draft_view_of}
-use Rattle.mt_tree.specs.declared.layer.DraftContent.{DraftContent}
-use Rattle.mt_tree.specs.declared.layer.DraftContent.TheVariants.{Short, Suffix, Link}
+use Rattle.mt_tree.specs.declared.place.Content.TheVariants.{Short, Suffix, Link}
 use Rattle.mt_tree.specs.Steps.Falls.{weight-append, weight-put_before, walk-append}
-use Rattle.mt_tree.specs.declared.layer.DraftPlace.{DraftPlace}
+use Rattle.mt_tree.specs.Steps.Places.{views, view_of, view_of_content}
+use Rattle.mt_tree.specs.Borders.{layer_walk, DraftView}
+use Rattle.mt_tree.specs.declared.place.Place.{Place}
+use Rattle.mt_tree.specs.declared.place.Content.{Content}
 
 -- ---- keys below keys
 pub all_back : {X : Type 0} (P : X → Type 0) (xs ys : List X) → AllByRecursion P (xs ++ ys) → AllByRecursion P ys
@@ -78,11 +81,6 @@ first_pair (long s t c) h = record { key = slice_bytes s ++ t; columns = c; rest
 first_pair (link s []) h = absurd (let two : 2 ≤ 0 = h.1 in omega arith)
 first_pair (link s (p ∷ w)) h = record { key = slice_bytes s ++ p.0; columns = p.1; rest = put_before (slice_bytes s) w; is = refl; bytes = long_bytes s p.0 h.0; ranks = long_rank s p.0 h.0 h.2.0 }
 
-pub length_at-le : (p : PlaceView) → IsPlace p → length_at p ≤ 9
-length_at-le (short s l c) h = let fits : l ≤ 8 = h.1 in omega arith
-length_at-le (long s t c) h = omega arith
-length_at-le (link s w) h = omega arith
-
 -- if all keys of one place are below those of another, the two places rise or meet
 pub ranks_seam : (p q : PlaceView) → IsPlace p → IsPlace q → AllKeysBelow (pairs_at p) (pairs_at q) → (rank_at p < rank_at q) ⊎ Meet p q
 ranks_seam p q hp hq below = by (first_pair p hp) (first_pair q hq)
@@ -112,53 +110,53 @@ last_place low [] p h = h.0
 last_place low (x ∷ xs) p h = last_place (suc (rank_at x)) xs p h.2
 
 -- ---- the seam of two layers of places
-views-append : (xs ys : List DraftPlace) → draft_views (xs ++ ys) ≡ draft_views xs ++ draft_views ys
-views-append = map-append draft_view
+views-append : (xs ys : List (Place DraftView)) → views layer_walk (xs ++ ys) ≡ views layer_walk xs ++ views layer_walk ys
+views-append = map-append (view_of layer_walk)
 
 -- two layers, the first's keys below the second's: the first ends with the place p, the second begins with the place q
-pub record Seam (xs : List DraftPlace) (p q : DraftPlace) (ys : List DraftPlace) : Type 0 where
-  pub left : IsLayer (draft_views (xs ++ p ∷ []))
-  pub right : IsLayer (draft_views (q ∷ ys))
-  pub below : AllKeysBelow (walk (draft_views (xs ++ p ∷ []))) (walk (draft_views (q ∷ ys)))
+pub record Seam (xs : List (Place DraftView)) (p q : Place DraftView) (ys : List (Place DraftView)) : Type 0 where
+  pub left : IsRanked (views layer_walk (xs ++ p ∷ []))
+  pub right : IsRanked (views layer_walk (q ∷ ys))
+  pub below : AllKeysBelow (walk (views layer_walk (xs ++ p ∷ []))) (walk (views layer_walk (q ∷ ys)))
 
-module _ (xs : List DraftPlace) (p q : DraftPlace) (ys : List DraftPlace) (s : Seam xs p q ys) where
-  left_layer : IsLayer (draft_views xs ++ draft_view p ∷ [])
-  left_layer = subst IsLayer (views-append xs (p ∷ [])) s.left
+module _ (xs : List (Place DraftView)) (p q : Place DraftView) (ys : List (Place DraftView)) (s : Seam xs p q ys) where
+  left_layer : IsRanked (views layer_walk xs ++ view_of layer_walk p ∷ [])
+  left_layer = subst IsRanked (views-append xs (p ∷ [])) s.left
 
-  pub last_lawful : IsPlace (draft_view p)
-  last_lawful = last_place 0 (draft_views xs) (draft_view p) left_layer
+  pub last_lawful : IsPlace (view_of layer_walk p)
+  last_lawful = last_place 0 (views layer_walk xs) (view_of layer_walk p) left_layer
 
-  pub first_lawful : IsPlace (draft_view q)
+  pub first_lawful : IsPlace (view_of layer_walk q)
   first_lawful = s.right.0
 
-  left_walk : walk (draft_views (xs ++ p ∷ [])) ≡ walk (draft_views xs) ++ pairs_at (draft_view p)
-  left_walk = ap walk (views-append xs (p ∷ [])) ∙ walk-append (draft_views xs) (draft_view p ∷ []) ∙ ap (λ w. walk (draft_views xs) ++ w) (append-nil (pairs_at (draft_view p)))
+  left_walk : walk (views layer_walk (xs ++ p ∷ [])) ≡ walk (views layer_walk xs) ++ pairs_at (view_of layer_walk p)
+  left_walk = ap walk (views-append xs (p ∷ [])) ∙ walk-append (views layer_walk xs) (view_of layer_walk p ∷ []) ∙ ap (λ w. walk (views layer_walk xs) ++ w) (append-nil (pairs_at (view_of layer_walk p)))
 
-  pub below_at_seam : AllKeysBelow (pairs_at (draft_view p)) (pairs_at (draft_view q))
+  pub below_at_seam : AllKeysBelow (pairs_at (view_of layer_walk p)) (pairs_at (view_of layer_walk q))
   below_at_seam =
-      below_first (pairs_at (draft_view p)) (pairs_at (draft_view q)) (walk (draft_views ys))
-      (all_back _ (walk (draft_views xs)) (pairs_at (draft_view p)) (subst (λ v. AllKeysBelow v (walk (draft_views (q ∷ ys)))) left_walk s.below))
+      below_first (pairs_at (view_of layer_walk p)) (pairs_at (view_of layer_walk q)) (walk (views layer_walk ys))
+      (all_back _ (walk (views layer_walk xs)) (pairs_at (view_of layer_walk p)) (subst (λ v. AllKeysBelow v (walk (views layer_walk (q ∷ ys)))) left_walk s.below))
 
   -- if they do not meet, both places stay as they are
-  pub apart_layer : (Meet (draft_view p) (draft_view q) → ⊥) → IsLayer (draft_views (xs ++ p ∷ q ∷ ys))
-  apart_layer apart = subst IsLayer (sym (views-append xs (p ∷ q ∷ ys))) (by (ranks_seam (draft_view p) (draft_view q) last_lawful first_lawful below_at_seam))
+  pub apart_layer : (Meet (view_of layer_walk p) (view_of layer_walk q) → ⊥) → IsRanked (views layer_walk (xs ++ p ∷ q ∷ ys))
+  apart_layer apart = subst IsRanked (sym (views-append xs (p ∷ q ∷ ys))) (by (ranks_seam (view_of layer_walk p) (view_of layer_walk q) last_lawful first_lawful below_at_seam))
     where
-      by : (rank_at (draft_view p) < rank_at (draft_view q)) ⊎ Meet (draft_view p) (draft_view q) → IsLayer (draft_views xs ++ draft_view p ∷ draft_view q ∷ draft_views ys)
-      by (inl h) = layer_seam 0 (draft_views xs) (draft_view p) (draft_view p) (draft_view q ∷ draft_views ys) left_layer last_lawful (omega arith) (first_lawful, h, s.right.2)
+      by : (rank_at (view_of layer_walk p) < rank_at (view_of layer_walk q)) ⊎ Meet (view_of layer_walk p) (view_of layer_walk q) → IsRanked (views layer_walk xs ++ view_of layer_walk p ∷ view_of layer_walk q ∷ views layer_walk ys)
+      by (inl h) = layer_seam 0 (views layer_walk xs) (view_of layer_walk p) (view_of layer_walk p) (view_of layer_walk q ∷ views layer_walk ys) left_layer last_lawful (omega arith) (first_lawful, h, s.right.2)
       by (inr m) = absurd (apart m)
 
   -- if they meet, one place replaces both
-  pub merged_layer : (m : DraftPlace) → Meet (draft_view p) (draft_view q) → IsPlace (draft_view m) → rank_at (draft_view m) ≡ rank_at (draft_view p) → IsLayer (draft_views (xs ++ m ∷ ys))
+  pub merged_layer : (m : Place DraftView) → Meet (view_of layer_walk p) (view_of layer_walk q) → IsPlace (view_of layer_walk m) → rank_at (view_of layer_walk m) ≡ rank_at (view_of layer_walk p) → IsRanked (views layer_walk (xs ++ m ∷ ys))
   merged_layer m meet lawful same =
-      let e : slice_at (draft_view p) ≡ slice_at (draft_view q) = meet.0 in
-      let f : length_at (draft_view p) ≡ 9 = meet.1 in
-      let g : length_at (draft_view q) ≡ 9 = meet.2 in
-      let ranks : rank_at (draft_view q) ≡ rank_at (draft_view m) = omega arith in
-      subst IsLayer (sym (views-append xs (m ∷ ys))) (layer_seam 0 (draft_views xs) (draft_view p) (draft_view m) (draft_views ys) left_layer lawful (omega arith) (subst (λ r. IsLayerFrom (suc r) (draft_views ys)) ranks s.right.2))
+      let e : slice_at (view_of layer_walk p) ≡ slice_at (view_of layer_walk q) = meet.0 in
+      let f : length_at (view_of layer_walk p) ≡ 9 = meet.1 in
+      let g : length_at (view_of layer_walk q) ≡ 9 = meet.2 in
+      let ranks : rank_at (view_of layer_walk q) ≡ rank_at (view_of layer_walk m) = omega arith in
+      subst IsRanked (sym (views-append xs (m ∷ ys))) (layer_seam 0 (views layer_walk xs) (view_of layer_walk p) (view_of layer_walk m) (views layer_walk ys) left_layer lawful (omega arith) (subst (λ r. IsLayerFrom (suc r) (views layer_walk ys)) ranks s.right.2))
 
   -- the last place is no heavier than its layer
-  pub last_weight : weight (pairs_at (draft_view p)) ≤ weight (walk (draft_views (xs ++ p ∷ [])))
-  last_weight = omega (arith, ap weight left_walk, weight-append (walk (draft_views xs)) (pairs_at (draft_view p)))
+  pub last_weight : weight (pairs_at (view_of layer_walk p)) ≤ weight (walk (views layer_walk (xs ++ p ∷ [])))
+  last_weight = omega (arith, ap weight left_walk, weight-append (walk (views layer_walk xs)) (pairs_at (view_of layer_walk p)))
 
 -- a list is the first element that was taken from it, and the rest
 pub first_removed : {X : Type 0} (xs : List X) (x : X) (rest : List X) → 0 < length xs → x ≡ get_or xs 0 x → rest ≡ remove xs 0 → xs ≡ x ∷ rest
@@ -174,12 +172,12 @@ below_lighter b w e h =
     let eight : length b * length w ≡ 8 * length w = ap (λ n. n * length w) e in
     omega (arith, weight-put_before b w, eight)
 
-slice_content : (s : ℕ) (c : DraftContent) → slice_at (draft_view_of s c) ≡ s
+slice_content : (s : ℕ) (c : Content DraftView) → slice_at (view_of_content layer_walk s c) ≡ s
 slice_content s (Short l c) = refl
 slice_content s (Suffix t c) = refl
 slice_content s (Link l) = refl
 
-pub slice_at-draft : (p : DraftPlace) → slice_at (draft_view p) ≡ p.slice
+pub slice_at-draft : (p : Place DraftView) → slice_at (view_of layer_walk p) ≡ p.slice
 slice_at-draft p = slice_content p.slice p.content
 
 pub slice_at-lt : (p : PlaceView) → IsPlace p → slice_at p < 2 ^ 64
@@ -188,35 +186,35 @@ slice_at-lt (long s t c) h = h.0
 slice_at-lt (link s w) h = h.0
 
 -- the walks below two places that meet, and the joined walk
-pub record Merging (p q : DraftPlace) (upper lower joined : List Pair) : Type 0 where
-  pub meet : Meet (draft_view p) (draft_view q)
-  pub upper_is : put_before (slice_bytes p.slice) upper ≡ pairs_at (draft_view p)
+pub record Merging (p q : Place DraftView) (upper lower joined : List Pair) : Type 0 where
+  pub meet : Meet (view_of layer_walk p) (view_of layer_walk q)
+  pub upper_is : put_before (slice_bytes p.slice) upper ≡ pairs_at (view_of layer_walk p)
   pub upper_some : 0 < length upper
   pub lower_some : 0 < length lower
   pub upper_keys : HasNoEmptyKey upper
   pub lower_keys : HasNoEmptyKey lower
   pub is : joined ≡ upper ++ lower
 
-pub same_slice : (p q : DraftPlace) → Meet (draft_view p) (draft_view q) → p.slice ≡ q.slice
+pub same_slice : (p q : Place DraftView) → Meet (view_of layer_walk p) (view_of layer_walk q) → p.slice ≡ q.slice
 same_slice p q meet = sym (slice_at-draft p) ∙ meet.0 ∙ slice_at-draft q
 
-module _ (p q : DraftPlace) (upper lower joined : List Pair) (m : Merging p q upper lower joined) where
-  pub merged_lawful : IsPlace (draft_view p) → IsPlace (link p.slice joined)
+module _ (p q : Place DraftView) (upper lower joined : List Pair) (m : Merging p q upper lower joined) where
+  pub merged_lawful : IsPlace (view_of layer_walk p) → IsPlace (link p.slice joined)
   merged_lawful h =
-      let low : p.slice < 2 ^ 64 = subst (λ s. s < 2 ^ 64) (slice_at-draft p) (slice_at-lt (draft_view p) h) in
+      let low : p.slice < 2 ^ 64 = subst (λ s. s < 2 ^ 64) (slice_at-draft p) (slice_at-lt (view_of layer_walk p) h) in
       let two : 2 ≤ length joined = omega (arith, ap (λ (w : List Pair). length w) m.is, length-append upper lower, m.upper_some, m.lower_some) in
       (low, two, subst HasNoEmptyKey (sym m.is) (all_append _ upper lower m.upper_keys m.lower_keys))
 
-  pub merged_rank : rank_at (link p.slice joined) ≡ rank_at (draft_view p)
-  merged_rank = let e : length_at (draft_view p) ≡ 9 = m.meet.1 in omega (arith, slice_at-draft p, e)
+  pub merged_rank : rank_at (link p.slice joined) ≡ rank_at (view_of layer_walk p)
+  merged_rank = let e : length_at (view_of layer_walk p) ≡ 9 = m.meet.1 in omega (arith, slice_at-draft p, e)
 
 -- if two places meet, the keys below the first are below the keys below the second
-pub below_shared : (p q : DraftPlace) (upper lower : List Pair) → Meet (draft_view p) (draft_view q) → put_before (slice_bytes p.slice) upper ≡ pairs_at (draft_view p) → put_before (slice_bytes q.slice) lower ≡ pairs_at (draft_view q)
-    → AllKeysBelow (pairs_at (draft_view p)) (pairs_at (draft_view q)) → AllKeysBelow upper lower
+pub below_shared : (p q : Place DraftView) (upper lower : List Pair) → Meet (view_of layer_walk p) (view_of layer_walk q) → put_before (slice_bytes p.slice) upper ≡ pairs_at (view_of layer_walk p) → put_before (slice_bytes q.slice) lower ≡ pairs_at (view_of layer_walk q)
+    → AllKeysBelow (pairs_at (view_of layer_walk p)) (pairs_at (view_of layer_walk q)) → AllKeysBelow upper lower
 below_shared p q upper lower meet eu el below =
     below_unprefixed (slice_bytes p.slice) upper lower
     (subst (λ s. AllKeysBelow (put_before (slice_bytes p.slice) upper) (put_before (slice_bytes s) lower)) (sym (same_slice p q meet))
-    (subst (λ w. AllKeysBelow (put_before (slice_bytes p.slice) upper) w) (sym el) (subst (λ w. AllKeysBelow w (pairs_at (draft_view q))) (sym eu) below)))
+    (subst (λ w. AllKeysBelow (put_before (slice_bytes p.slice) upper) w) (sym el) (subst (λ w. AllKeysBelow w (pairs_at (view_of layer_walk q))) (sym eu) below)))
 
 -- in a rising walk, the keys before a pair are below its key
 pub rising_middle : (v : List Pair) (p : Pair) (w : List Pair) → KeysRise (v ++ p ∷ w) → AllKeysBelow v (p ∷ [])

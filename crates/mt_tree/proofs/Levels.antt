@@ -7,10 +7,13 @@ use Rattle.std.proofs.lemmas.List.Folds.{flat_map-map}
 use Rattle.mt_words.specs.Slices.{slice_bytes}
 use Rattle.mt_words.proofs.SliceBytes.{slice_bytes-length}
 use Rattle.mt_tree.specs.Steps.Falls.{weight-append, walk-append, layer_back, layer_front}
-use Rattle.mt_tree.specs.Layer.{walk, weight, pairs_at, PlaceView, short, long, link, slice_at, rank_at, IsPlace, IsLayerFrom, IsLayer}
+use Rattle.mt_tree.specs.Layer.{walk, pairs_at, PlaceView, short, long, link, slice_at, IsPlace, linked_walks}
+use Rattle.mt_tree.specs.Steps.Ranks.{rank_at, IsLayerFrom, IsRanked, layered}
+use Rattle.mt_tree.specs.Steps.Pairs.{weight}
 use Rattle.mt_words.specs.Walks.{Pair, joined}
-use Rattle.mt_tree.specs.Nodes.{NodeView, BranchView, InteriorView, LayerView, HaveInteriors, as_branch, none, border, interior, AreLinked, AreBelow, each_borders, places, borders_of, interiors_of, below_of, SlicesFrom, SlicesBelow, SlicesApart, IsBorder, IsNode, IsNodeAt, IsLevelAt, IsLevel, IsInterior, IsLayerTree, AreSeparated, level_height, branches, CutAt, first_slice_of, first_of, interior_node, parent_node}
-use Rattle.mt_tree.specs.Layers.{linked_walks}
+use Rattle.mt_tree.specs.Nodes.{NodeView, BranchView, InteriorView, LayerView, HaveInteriors, as_branch, none, border, interior, AreLinked, AreBelow, each_borders, places, SlicesFrom, SlicesBelow, SlicesApart, IsBorder, IsNode, IsInterior, IsLayerTree, AreSeparated, linked, unlinked}
+use Rattle.mt_tree.specs.Steps.Levels.{borders_of, interiors_of, below_of, IsNodeAt, IsLevelAt, IsLevel, level_height, branches, first_of, interior_node, parent_node}
+use Rattle.mt_tree.specs.Steps.Seams.{CutAt, first_slice_of}
 use Rattle.mt_tree.specs.Steps.NodeFalls.{joined-append, branches_length}
 use Rattle.mt_tree.proofs.Finds.{AreChildren, interior_is}
 use Rattle.mt_tree.proofs.Joins.{all_append, below_lighter, all_back, all_front, all_weaker}
@@ -45,14 +48,14 @@ pub level_back : (h : ℕ) (xs ys : List NodeView) → IsLevelAt h (xs ++ ys) �
 level_back h xs ys l = record {
   nodes = all_back (IsNodeAt h) xs ys l.nodes;
   apart = apart_back (borders_of xs) (borders_of ys) (subst SlicesApart (borders_of-append xs ys) l.apart);
-  layer = layer_back 0 (joined (borders_of xs)) (joined (borders_of ys)) (subst IsLayer (joined_of-append xs ys) l.layer);
+  layer = layer_back 0 (joined (borders_of xs)) (joined (borders_of ys)) (subst IsRanked (joined_of-append xs ys) l.layer);
 }
 
 pub level_front : (h : ℕ) (xs ys : List NodeView) → IsLevelAt h (xs ++ ys) → IsLevelAt h xs
 level_front h xs ys l = record {
   nodes = all_front (IsNodeAt h) xs ys l.nodes;
   apart = apart_front (borders_of xs) (borders_of ys) (subst SlicesApart (borders_of-append xs ys) l.apart);
-  layer = layer_front 0 (joined (borders_of xs)) (joined (borders_of ys)) (subst IsLayer (joined_of-append xs ys) l.layer);
+  layer = layer_front 0 (joined (borders_of xs)) (joined (borders_of ys)) (subst IsRanked (joined_of-append xs ys) l.layer);
 }
 
 -- ---- the first slice
@@ -116,9 +119,9 @@ all_parts P f h (n ∷ ns) g a = all_append P (f n) (flat_map f ns) (g n a.0.1) 
 -- ---- the shape of a tree
 have-append : (ks ls : List BranchView) (ns ms : List InteriorView) → HaveInteriors ks ns → HaveInteriors ls ms → HaveInteriors (ks ++ ls) (ns ++ ms)
 have-append ks ls ns ms none k = k
-have-append ks ls ns ms (border {ks = rest} h) k = border (have-append rest ls ns ms h k)
-have-append ks ls ns ms (interior {n = n} {ks = rest} {ns = later} level h) k =
-    interior level (subst (λ z. HaveInteriors z (later ++ ms)) (append_assoc n.children rest ls) (have-append (n.children ++ rest) ls later ms h k))
+have-append ks ls ns ms (border {bs = rest} {ns = later} h) k = border (have-append rest ls later ms h k)
+have-append ks ls ns ms (interior {n = n} {bs = rest} {lower = lower} {ns = later} level below h) k =
+    subst (HaveInteriors (ks ++ ls)) (ap (λ z. n ∷ z) (sym (append_assoc lower later ms))) (interior level below (have-append rest ls later ms h k))
 
 have_interiors : (h : ℕ) (ns : List NodeView) → AllByRecursion (IsNodeAt h) ns → HaveInteriors (branches ns) (interiors_of ns)
 have_interiors h [] a = none
@@ -128,9 +131,9 @@ stands_over : (ss : List ℕ) (h : ℕ) (ns : List NodeView) → AllByRecursion 
     → HaveInteriors (record { borders = borders_of ns; height = suc h } ∷ []) (record { separators = ss; children = branches ns } ∷ interiors_of ns)
 stands_over ss h ns a =
     let n : InteriorView = record { separators = ss; children = branches ns } in
-    let rest : HaveInteriors (n.children ++ []) (interiors_of ns) = subst (λ z. HaveInteriors z (interiors_of ns)) (sym (append-nil (branches ns))) (have_interiors h ns a) in
+    let stands = interior {n = n} (all_heights h ns a) (have_interiors h ns a) none in
     subst (λ (z : List (List PlaceView)). HaveInteriors (record { borders = z; height = suc h } ∷ []) (n ∷ interiors_of ns)) (flat_map-map (λ (b : BranchView). b.borders) (λ (n : NodeView). as_branch n.tree) ns)
-    (interior {n = n} (all_heights h ns a) rest)
+    (subst (λ z. HaveInteriors (record { borders = flat_map (λ (b : BranchView). b.borders) n.children; height = suc h } ∷ []) (n ∷ z)) (append-nil (interiors_of ns)) stands)
 
 -- ---- links
 pub linked_walks-append : (ps qs : List PlaceView) → linked_walks (ps ++ qs) ≡ linked_walks ps ++ linked_walks qs
@@ -140,10 +143,9 @@ linked_walks-append (long s t c ∷ ps) qs = linked_walks-append ps qs
 linked_walks-append (link s w ∷ ps) qs = ap (λ (z : List (List Pair)). w ∷ z) (linked_walks-append ps qs)
 
 pub linked-append : (vs ws : List (List Pair)) (ts us : List (List (List PlaceView))) → AreLinked vs ts → AreLinked ws us → AreLinked (vs ++ ws) (ts ++ us)
-linked-append [] ws [] us h k = k
-linked-append (v ∷ vs) ws [] us h k = absurd (let never : v ∷ vs ≡ [] = h in cc)
-linked-append [] ws (t ∷ ts) us h k = absurd h
-linked-append (v ∷ vs) ws (t ∷ ts) us h k = (h.0, subst (λ z. AreLinked z (ts ++ us)) (append_assoc (linked_walks (joined t)) vs ws) (linked-append (linked_walks (joined t) ++ vs) ws ts us h.1 k))
+linked-append vs ws ts us unlinked k = k
+linked-append vs ws ts us (linked {layer = l} {walks = rest} {lower = lower} {layers = later} below h) k =
+    subst (AreLinked (vs ++ ws)) (ap (λ z. l ∷ z) (sym (append_assoc lower later us))) (linked below (linked-append rest ws later us h k))
 
 pub below-append : (ps qs : List PlaceView) (ts us : List LayerView) → AreBelow ps ts → AreBelow qs us → AreBelow (ps ++ qs) (ts ++ us)
 below-append ps qs ts us h k = record {
@@ -153,7 +155,7 @@ below-append ps qs ts us h k = record {
 }
 
 below_level : (h : ℕ) (ns : List NodeView) → AllByRecursion (IsNodeAt h) ns → AreBelow (joined (borders_of ns)) (below_of ns)
-below_level h [] a = record { lawful = tt; linked = refl }
+below_level h [] a = record { lawful = tt; linked = unlinked }
 below_level h (n ∷ ns) a =
     subst (λ z. AreBelow z (n.below ++ below_of ns)) (sym (joined-append n.tree.borders (borders_of ns)))
     (below-append (places n) (joined (borders_of ns)) n.below (below_of ns) a.0.1.below (below_level h ns a.1))
@@ -174,7 +176,7 @@ parent_is_node ss ns l two most e = record {
     some = borders_some (level_height ns) ns l.nodes (omega arith);
     each = all_parts IsBorder (λ n. n.tree.borders) (level_height ns) ns (λ n k. k.tree.each) l.nodes;
     apart = l.apart;
-    layer = l.layer;
+    layer = layered 0 (joined (borders_of ns)) l.layer;
     interiors = (interior_of ss ns l two most e, all_parts IsInterior (λ n. n.tree.interiors) (level_height ns) ns (λ n k. k.tree.interiors) l.nodes);
     shape = stands_over ss (level_height ns) ns l.nodes;
   };
@@ -225,8 +227,8 @@ place_weight before left all p next e f =
     let whole : walk all ≡ walk before ++ (pairs_at p ++ walk next) = ap walk (sym e ∙ ap (λ z. before ++ z) f) ∙ walk-append before (p ∷ next) in
     omega (arith, ap weight whole, weight-append (walk before) (pairs_at p ++ walk next), weight-append (pairs_at p) (walk next))
 
-pub place_lawful : (before left all : List PlaceView) (p : PlaceView) (next : List PlaceView) → before ++ left ≡ all → left ≡ p ∷ next → IsLayer all → IsPlace p
-place_lawful before left all p next e f h = (layer_back 0 before (p ∷ next) (subst IsLayer (sym e ∙ ap (λ z. before ++ z) f) h)).0
+pub place_lawful : (before left all : List PlaceView) (p : PlaceView) (next : List PlaceView) → before ++ left ≡ all → left ≡ p ∷ next → IsRanked all → IsPlace p
+place_lawful before left all p next e f h = (layer_back 0 before (p ∷ next) (subst IsRanked (sym e ∙ ap (λ z. before ++ z) f) h)).0
 
 pub link_lighter : (s : ℕ) (w : List Pair) → IsPlace (link s w) → weight w < weight (pairs_at (link s w))
 link_lighter s w h = let two : 2 ≤ length w = h.1 in below_lighter (slice_bytes s) w (slice_bytes-length s) (omega arith)

@@ -3,16 +3,17 @@ use Rattle.std.proofs.Common.{◌≡◌, ◌≢◌, ℕ, zero, suc, ◌+◌, ◌
 use Rattle.std.specs.List.{AllByRecursion}
 use Rattle.std.proofs.lemmas.List.{append-nil, length-map}
 use Rattle.mt_words.specs.Slices.{AreBytes, slice_in, slice_bytes}
-use Rattle.mt_tree.specs.Layer.{key_rank}
+use Rattle.mt_tree.specs.Steps.Pairs.{key_rank, weight}
 use Rattle.mt_words.proofs.SliceBytes.{slice_bytes-bytes, slice_bytes-long, bytes_take}
 use Rattle.mt_tree.proofs.Ranks.{ranks_of_less, less_of_ranks, IsBelowAt}
 use Rattle.mt_words.proofs.SliceBytes.{slice_bytes-length}
-use Rattle.mt_tree.specs.Layer.{PlaceView, short, long, link, rank_at, pairs_at, put_before, walk, IsPlace, IsLayerFrom, IsLayer, AllKeysBelow, weight}
+use Rattle.mt_tree.specs.Layer.{PlaceView, short, long, link, pairs_at, put_before, walk, IsPlace, AllKeysBelow}
+use Rattle.mt_tree.specs.Steps.Ranks.{rank_at, IsLayerFrom, IsRanked, length_at-le}
 use Rattle.mt_words.specs.Walks.{Pair}
 use Rattle.mt_words.specs.Words.{IsBelow}
 use Rattle.mt_tree.specs.Steps.Edges.{PlaceEdge, IsEdge, LastEdge, FirstEdge, HasBytes}
 use Rattle.mt_tree.specs.Steps.Falls.{weight-append, walk-append, layer_back}
-use Rattle.mt_tree.proofs.Joins.{all_append, below_unprefixed, below_lighter, all_front, all_back, all_weaker, length_at-le, long_bytes}
+use Rattle.mt_tree.proofs.Joins.{all_append, below_unprefixed, below_lighter, all_front, all_back, all_weaker, long_bytes}
 use Rattle.mt_tree.proofs.Finds.{pairs_rank, rest_is}
 use Rattle.mt_words.proofs.SliceBytes.{below-prefixed}
 use Rattle.std.specs.Prelude.{slice_get, Some}
@@ -65,7 +66,7 @@ place_edge w p s m below bytes place e =
       rests = e.rests;
     }
 
-pub last_edge : (xs : List PlaceView) (p : PlaceView) (s m : ℕ) (below : List Pair) → IsLayer (xs ++ p ∷ []) → PlaceEdge p s m below → LastEdge (walk (xs ++ p ∷ [])) s m below
+pub last_edge : (xs : List PlaceView) (p : PlaceView) (s m : ℕ) (below : List Pair) → IsRanked (xs ++ p ∷ []) → PlaceEdge p s m below → LastEdge (walk (xs ++ p ∷ [])) s m below
 last_edge xs p s m below h e = record {
   before = walk xs;
   top = pairs_at p;
@@ -74,7 +75,7 @@ last_edge xs p s m below h e = record {
   edge = place_edge (walk (xs ++ p ∷ [])) p s m below (walk_bytes 0 (xs ++ p ∷ []) h) (layer_back 0 xs (p ∷ []) h).0 e;
 }
 
-pub first_edge : (p : PlaceView) (ys : List PlaceView) (s m : ℕ) (below : List Pair) → IsLayer (p ∷ ys) → PlaceEdge p s m below → FirstEdge (walk (p ∷ ys)) s m below
+pub first_edge : (p : PlaceView) (ys : List PlaceView) (s m : ℕ) (below : List Pair) → IsRanked (p ∷ ys) → PlaceEdge p s m below → FirstEdge (walk (p ∷ ys)) s m below
 first_edge p ys s m below h e = record {
   after = walk ys;
   top = pairs_at p;

@@ -5,18 +5,21 @@ use Rattle.std.specs.List.{AllByRecursion}
 use Rattle.std.proofs.lemmas.Bool.{cases_lt}
 use Rattle.std.proofs.lemmas.List.{append-nil, map-append, length-map, take-append-drop, get_or-drop}
 use Rattle.mt_words.specs.Walks.{joined}
-use Rattle.mt_tree.specs.Layer.{PlaceView, slice_at, rank_at, IsLayer, IsLayerFrom}
-use Rattle.mt_tree.specs.Nodes.{SlicesBelow, SlicesFrom, IsBorder, CutAt, OfSlice, first_slice_of}
-use Rattle.mt_tree.specs.Borders.{IsBorderList, last_slice_of}
+use Rattle.mt_tree.specs.Layer.{PlaceView, slice_at}
+use Rattle.mt_tree.specs.Steps.Ranks.{rank_at, IsRanked, IsLayerFrom, AreRanked, length_at-le}
+use Rattle.mt_tree.specs.Nodes.{SlicesBelow, SlicesFrom, IsBorder}
+use Rattle.mt_tree.specs.Steps.Seams.{CutAt, OfSlice, first_slice_of, last_slice_of}
+use Rattle.mt_tree.specs.Borders.{layer_walk, DraftView}
 use Rattle.mt_tree.specs.Steps.NodeFalls.{joined-append}
-use Rattle.mt_tree.specs.Steps.DraftViews.{draft_views, draft_view, border_view, border_views, IsLawfulLink, HaveLawfulLinks, HasLawfulLinks, IsOpen, IsFirstOpen, IsLastOpen, PutBehind, PutOpen}
+use Rattle.mt_tree.specs.Steps.DraftViews.{border_view, border_views, IsLawfulLink, HaveLawfulLinks, HasLawfulLinks, IsOpen, IsFirstOpen, IsLastOpen, PutBehind, PutOpen}
 use Rattle.mt_tree.specs.declared.layer.Border.{Border}
 use Rattle.mt_tree.specs.declared.layer.Border.TheVariants.{Open}
-use Rattle.mt_tree.specs.declared.layer.DraftPlace.{DraftPlace}
-use Rattle.mt_tree.proofs.Joins.{slice_at-draft, slice_at-lt, all_append, all_weaker, all_front, all_back, length_at-le}
+use Rattle.mt_tree.proofs.Joins.{slice_at-draft, slice_at-lt, all_append, all_weaker, all_front, all_back}
 use Rattle.mt_tree.proofs.Cuts.{slices_from, cut_nil, run_few}
 use Rattle.mt_tree.proofs.Seams.{are_append, cut_each, up_to_last, from_first_slice}
 use Rattle.mt_tree.specs.Steps.Falls.{layer_back, layer_front}
+use Rattle.mt_tree.specs.Steps.Places.{views, view_of}
+use Rattle.mt_tree.specs.declared.place.Place.{Place}
 
 pub borders-append : (bs ds : List Border) → border_views (bs ++ ds) ≡ border_views bs ++ border_views ds
 borders-append bs ds = map-append border_view bs ds
@@ -24,12 +27,12 @@ borders-append bs ds = map-append border_view bs ds
 pub joined_views-append : (bs ds : List Border) → joined (border_views (bs ++ ds)) ≡ joined (border_views bs) ++ joined (border_views ds)
 joined_views-append bs ds = ap joined (borders-append bs ds) ∙ joined-append (border_views bs) (border_views ds)
 
-pub parted : (ps xs ys : List DraftPlace) (i : ℕ) → xs ≡ take i ps → ys ≡ drop i ps → xs ++ ys ≡ ps
+pub parted : (ps xs ys : List (Place DraftView)) (i : ℕ) → xs ≡ take i ps → ys ≡ drop i ps → xs ++ ys ≡ ps
 parted ps xs ys i e f = (λ j. e j ++ f j) ∙ take-append-drop i ps
 
 -- the views of a list's two parts are the views of the list
-pub views_parted : (xs ys ps : List DraftPlace) → xs ++ ys ≡ ps → draft_views xs ++ draft_views ys ≡ draft_views ps
-views_parted xs ys ps e = sym (map-append draft_view xs ys) ∙ ap draft_views e
+pub views_parted : (xs ys ps : List (Place DraftView)) → xs ++ ys ≡ ps → views layer_walk xs ++ views layer_walk ys ≡ views layer_walk ps
+views_parted xs ys ps e = sym (map-append (view_of layer_walk) xs ys) ∙ ap (views layer_walk) e
 
 -- ---- borders at the ends
 pub first_front : (bs : List Border) (b : Border) → IsFirstOpen (bs ++ b ∷ []) → IsFirstOpen bs
@@ -68,30 +71,30 @@ last_rest b [] h = tt
 last_rest b (c ∷ bs) h = h
 
 -- ---- borders appended to others
-pub put_none : (old : List Border) (places : List DraftPlace) → places ≡ [] → PutOpen places old old
+pub put_none : (old : List Border) (places : List (Place DraftView)) → places ≡ [] → PutOpen places old old
 put_none old places e = record {
-  put = record { more = []; behind = sym (append-nil old); same = sym (ap draft_views e); lawful = (tt, tt, tt); links = λ h. tt; first = λ h. h };
-  last = λ some. absurd (let none : length places ≡ 0 = ap (λ (z : List DraftPlace). length z) e in omega arith);
+  put = record { more = []; behind = sym (append-nil old); same = sym (ap (views layer_walk) e); lawful = (tt, tt, tt); links = λ h. tt; first = λ h. h };
+  last = λ some. absurd (let none : length places ≡ 0 = ap (λ (z : List (Place DraftView)). length z) e in omega arith);
   kept = λ h. h;
 }
 
-pub alone : (b : List PlaceView) → IsBorder b → IsLayer b → IsBorderList (b ∷ [])
-alone b h l = ((h, tt), (cut_nil b, tt), subst IsLayer (sym (append-nil b)) l)
+pub alone : (b : List PlaceView) → IsBorder b → IsRanked b → AreRanked (b ∷ [])
+alone b h l = ((h, tt), (cut_nil b, tt), subst IsRanked (sym (append-nil b)) l)
 
-pub put_border : (old new : List Border) (b : Border) (ps : List DraftPlace) → new ≡ old ++ b ∷ [] → border_view b ≡ draft_views ps → IsLayer (draft_views ps) → IsBorder (draft_views ps)
+pub put_border : (old new : List Border) (b : Border) (ps : List (Place DraftView)) → new ≡ old ++ b ∷ [] → border_view b ≡ views layer_walk ps → IsRanked (views layer_walk ps) → IsBorder (views layer_walk ps)
     → (HaveLawfulLinks ps → HasLawfulLinks b) → (old ≡ [] → IsOpen b) → PutBehind ps old new
 put_border old new b ps e is h few links only = record {
   more = b ∷ [];
   behind = e;
   same = append-nil (border_view b) ∙ is;
-  lawful = subst (λ (z : List PlaceView). IsBorderList (z ∷ [])) (sym is) (alone (draft_views ps) few h);
+  lawful = subst (λ (z : List PlaceView). AreRanked (z ∷ [])) (sym is) (alone (views layer_walk ps) few h);
   links = λ k. (links k, tt);
   first = λ k. subst IsFirstOpen (sym e) (first_added old b only k);
 }
 
-pub put_one : (old new : List Border) (ps : Vec DraftPlace Global) → new ≡ old ++ Open ps ∷ [] → IsLayer (draft_views ps.items) → 1 ≤ length ps.items → length ps.items ≤ 15 → PutOpen ps.items old new
+pub put_one : (old new : List Border) (ps : Vec (Place DraftView) Global) → new ≡ old ++ Open ps ∷ [] → IsRanked (views layer_walk ps.items) → 1 ≤ length ps.items → length ps.items ≤ 15 → PutOpen ps.items old new
 put_one old new ps e h some few =
-    let len = length-map ps.items draft_view in
+    let len = length-map ps.items (view_of layer_walk) in
     let last : IsLastOpen new = subst IsLastOpen (sym e) (last_added old (Open ps) tt) in
     record {
       put = put_border old new (Open ps) ps.items e refl h (omega arith, omega arith) (λ k. k) (λ none. tt);
@@ -99,21 +102,21 @@ put_one old new ps e h some few =
       kept = λ k. last;
     }
 
-pub put_then : (xs ys : List DraftPlace) (a b c : List Border) → PutBehind xs a b → PutBehind ys b c → CutAt (draft_views xs) (draft_views ys) → PutBehind (xs ++ ys) a c
+pub put_then : (xs ys : List (Place DraftView)) (a b c : List Border) → PutBehind xs a b → PutBehind ys b c → CutAt (views layer_walk xs) (views layer_walk ys) → PutBehind (xs ++ ys) a c
 put_then xs ys a b c p q cut =
-    let lawful : DraftPlace → Type 0 = λ x. IsLawfulLink x.content in
+    let lawful : Place DraftView → Type 0 = λ x. IsLawfulLink x.content in
     let apart : CutAt (joined (border_views p.more)) (joined (border_views q.more)) =
-    subst (λ (z : List PlaceView). CutAt z (joined (border_views q.more))) (sym p.same) (subst (CutAt (draft_views xs)) (sym q.same) cut) in
+    subst (λ (z : List PlaceView). CutAt z (joined (border_views q.more))) (sym p.same) (subst (CutAt (views layer_walk xs)) (sym q.same) cut) in
     record {
       more = p.more ++ q.more;
       behind = q.behind ∙ ap (λ (z : List Border). z ++ q.more) p.behind ∙ append_assoc a p.more q.more;
-      same = joined_views-append p.more q.more ∙ (λ i. p.same i ++ q.same i) ∙ sym (map-append draft_view xs ys);
-      lawful = subst IsBorderList (sym (borders-append p.more q.more)) (are_append (border_views p.more) (border_views q.more) p.lawful q.lawful (cut_each (border_views p.more) (joined (border_views q.more)) apart));
+      same = joined_views-append p.more q.more ∙ (λ i. p.same i ++ q.same i) ∙ sym (map-append (view_of layer_walk) xs ys);
+      lawful = subst AreRanked (sym (borders-append p.more q.more)) (are_append (border_views p.more) (border_views q.more) p.lawful q.lawful (cut_each (border_views p.more) (joined (border_views q.more)) apart));
       links = λ h. all_append HasLawfulLinks p.more q.more (p.links (all_front lawful xs ys h)) (q.links (all_back lawful xs ys h));
       first = λ h. q.first (p.first h);
     }
 
-pub open_then : (xs ys : List DraftPlace) (a b c : List Border) → PutOpen xs a b → PutOpen ys b c → CutAt (draft_views xs) (draft_views ys) → PutOpen (xs ++ ys) a c
+pub open_then : (xs ys : List (Place DraftView)) (a b c : List Border) → PutOpen xs a b → PutOpen ys b c → CutAt (views layer_walk xs) (views layer_walk ys) → PutOpen (xs ++ ys) a c
 open_then xs ys a b c p q cut = record {
   put = put_then xs ys a b c p.put q.put cut;
   last = λ some. by some (cases_lt 0 (length ys));
@@ -153,7 +156,7 @@ of_slice s [] from upto = tt
 of_slice s (y ∷ ys) from upto = let le : s ≤ slice_at y = from.0 in let up : slice_at y ≤ s = upto.0 in (omega arith, of_slice s ys from.1 upto.1)
 
 -- places from a slice on are at most ten, if none is above it
-run_short : (s : ℕ) (ys : List PlaceView) → IsLayer ys → SlicesFrom s ys → AllByRecursion (λ p. slice_at p ≤ s) ys → length ys ≤ 10
+run_short : (s : ℕ) (ys : List PlaceView) → IsRanked ys → SlicesFrom s ys → AllByRecursion (λ p. slice_at p ≤ s) ys → length ys ≤ 10
 run_short s ys h from upto = run_few s ys h (of_slice s ys from upto)
 
 last_below : (s : ℕ) (ps : List PlaceView) → 1 ≤ length ps → SlicesBelow s ps → last_slice_of ps < s
@@ -169,13 +172,13 @@ behind_some s ps xs (y ∷ ys) some last e below = omega arith
 -- places cut into two layers of at most 15 places; sixteen places are cut so, before their last slice
 pub record Halves (all xs ys : List PlaceView) : Type 0 where
   pub whole : xs ++ ys ≡ all
-  pub first : IsLayer xs × (length xs ≤ 15)
-  pub second : IsLayer ys × (length ys ≤ 15)
+  pub first : IsRanked xs × (length xs ≤ 15)
+  pub second : IsRanked ys × (length ys ≤ 15)
   pub cut : CutAt xs ys
 
-sixteen : (s : ℕ) (ps xs ys : List PlaceView) → IsLayer ps → length ps ≡ 16 → last_slice_of ps ≡ s → xs ++ ys ≡ ps → SlicesBelow s xs → SlicesFrom s ys → Halves ps xs ys
+sixteen : (s : ℕ) (ps xs ys : List PlaceView) → IsRanked ps → length ps ≡ 16 → last_slice_of ps ≡ s → xs ++ ys ≡ ps → SlicesBelow s xs → SlicesFrom s ys → Halves ps xs ys
 sixteen s ps xs ys h many last e below from =
-    let layer : IsLayer (xs ++ ys) = subst IsLayer (sym e) h in
+    let layer : IsRanked (xs ++ ys) = subst IsRanked (sym e) h in
     let some = behind_some s ps xs ys (omega arith) last e below in
     let upto : AllByRecursion (λ p. slice_at p ≤ s) ps = subst (λ (n : ℕ). AllByRecursion (λ p. slice_at p ≤ n) ps) last (up_to_last 0 ps h) in
     let here : AllByRecursion (λ p. slice_at p ≤ s) ys = all_back (λ p. slice_at p ≤ s) xs ys (subst (AllByRecursion (λ p. slice_at p ≤ s)) (sym e) upto) in
@@ -183,20 +186,20 @@ sixteen s ps xs ys h many last e below from =
     let count : length xs + length ys ≡ 16 = sym (length-append xs ys) ∙ ap (λ (z : List PlaceView). length z) e ∙ many in
     record { whole = e; first = (layer_front 0 xs ys layer, omega arith); second = (layer_back 0 xs ys layer, omega arith); cut = cut_at s xs ys below from }
 
-pub first_border : (all xs ys : List DraftPlace) → xs ++ ys ≡ all → length all ≡ 16 → Halves (draft_views all) (draft_views xs) (draft_views ys) → IsBorder (draft_views xs)
+pub first_border : (all xs ys : List (Place DraftView)) → xs ++ ys ≡ all → length all ≡ 16 → Halves (views layer_walk all) (views layer_walk xs) (views layer_walk ys) → IsBorder (views layer_walk xs)
 first_border all xs ys e many h =
-    let most : length (draft_views ys) ≤ 15 = h.second.1 in
-    let count : length xs + length ys ≡ 16 = sym (length-append xs ys) ∙ ap (λ (z : List DraftPlace). length z) e ∙ many in
-    (omega (arith, most, length-map xs draft_view, length-map ys draft_view), h.first.1)
+    let most : length (views layer_walk ys) ≤ 15 = h.second.1 in
+    let count : length xs + length ys ≡ 16 = sym (length-append xs ys) ∙ ap (λ (z : List (Place DraftView)). length z) e ∙ many in
+    (omega (arith, most, length-map xs (view_of layer_walk), length-map ys (view_of layer_walk)), h.first.1)
 
-pub put_halves : (all xs ys later : List DraftPlace) (a b c : List Border) → xs ++ ys ≡ all → length all ≡ 16 → Halves (draft_views all) (draft_views xs) (draft_views ys) → later ≡ ys → PutBehind xs a b → PutOpen later b c → PutOpen all a c
+pub put_halves : (all xs ys later : List (Place DraftView)) (a b c : List Border) → xs ++ ys ≡ all → length all ≡ 16 → Halves (views layer_walk all) (views layer_walk xs) (views layer_walk ys) → later ≡ ys → PutBehind xs a b → PutOpen later b c → PutOpen all a c
 put_halves all xs ys later a b c e many h same p put =
-    let q : PutOpen ys b c = subst (λ (z : List DraftPlace). PutOpen z b c) same put in
-    let most : length (draft_views xs) ≤ 15 = h.first.1 in
-    let count : length xs + length ys ≡ 16 = sym (length-append xs ys) ∙ ap (λ (z : List DraftPlace). length z) e ∙ many in
-    let last : IsLastOpen c = q.last (omega (arith, most, length-map xs draft_view)) in
+    let q : PutOpen ys b c = subst (λ (z : List (Place DraftView)). PutOpen z b c) same put in
+    let most : length (views layer_walk xs) ≤ 15 = h.first.1 in
+    let count : length xs + length ys ≡ 16 = sym (length-append xs ys) ∙ ap (λ (z : List (Place DraftView)). length z) e ∙ many in
+    let last : IsLastOpen c = q.last (omega (arith, most, length-map xs (view_of layer_walk))) in
     record {
-      put = subst (λ (z : List DraftPlace). PutBehind z a c) e (put_then xs ys a b c p q.put h.cut);
+      put = subst (λ (z : List (Place DraftView)). PutBehind z a c) e (put_then xs ys a b c p q.put h.cut);
       last = λ some. last;
       kept = λ k. last;
     }
@@ -214,13 +217,13 @@ slices_fit low (p ∷ ps) h = (slice_at-lt p h.0, slices_fit (suc (rank_at p)) p
 
 -- places cut into three layers of at most 15 places; two borders that share a slice are cut so, before the slice and after it
 pub record Thirds (xs run ys : List PlaceView) : Type 0 where
-  pub first : IsLayer xs × (length xs ≤ 15)
-  pub second : IsLayer run × (length run ≤ 15)
-  pub third : IsLayer ys × (length ys ≤ 15)
+  pub first : IsRanked xs × (length xs ≤ 15)
+  pub second : IsRanked run × (length run ≤ 15)
+  pub third : IsRanked ys × (length ys ≤ 15)
   pub before : CutAt xs (run ++ ys)
   pub behind : CutAt run ys
 
-thirds : (s next : ℕ) (left right xs rest run ys : List PlaceView) → IsLayer (left ++ right) → IsBorder left → IsBorder right → last_slice_of left ≡ s → first_slice_of right ≡ s → next ≡ min (s + 1) (2 ^ 64 - 1)
+thirds : (s next : ℕ) (left right xs rest run ys : List PlaceView) → IsRanked (left ++ right) → IsBorder left → IsBorder right → last_slice_of left ≡ s → first_slice_of right ≡ s → next ≡ min (s + 1) (2 ^ 64 - 1)
     → xs ++ rest ≡ left ++ right → run ++ ys ≡ rest → SlicesBelow s xs → SlicesFrom s rest → SlicesBelow next run → SlicesFrom next ys → Thirds xs run ys
 thirds s next left right xs rest run ys h l r last first is e f below from_rest run_below ys_from =
     let l_few : length left ≤ 15 = l.1 in
@@ -242,13 +245,13 @@ thirds s next left right xs rest run ys h l r last first is e f below from_rest 
     from : SlicesFrom s (run ++ ys)
     from = subst (SlicesFrom s) (sym f) from_rest
 
-    all_layer : IsLayer (xs ++ (run ++ ys))
-    all_layer = subst IsLayer (sym whole) h
+    all_layer : IsRanked (xs ++ (run ++ ys))
+    all_layer = subst IsRanked (sym whole) h
 
-    run_layer : IsLayer run
+    run_layer : IsRanked run
     run_layer = layer_front 0 run ys (layer_back 0 xs (run ++ ys) all_layer)
 
-    ys_layer : IsLayer ys
+    ys_layer : IsRanked ys
     ys_layer = layer_back 0 run ys (layer_back 0 xs (run ++ ys) all_layer)
 
     by : (s + 1 < 2 ^ 64) ⊎ (2 ^ 64 ≤ s + 1) → length ys ≤ 15
@@ -266,61 +269,61 @@ thirds s next left right xs rest run ys h l r last first is e f below from_rest 
         omega arith
 
 -- the three parts are appended to borders, one by one
-pub put_thirds : (all xs rest run ys : List DraftPlace) (a b c d : List Border) → xs ++ rest ≡ all → run ++ ys ≡ rest → Thirds (draft_views xs) (draft_views run) (draft_views ys) → PutOpen xs a b → PutOpen run b c → PutOpen ys c d → PutOpen all a d
+pub put_thirds : (all xs rest run ys : List (Place DraftView)) (a b c d : List Border) → xs ++ rest ≡ all → run ++ ys ≡ rest → Thirds (views layer_walk xs) (views layer_walk run) (views layer_walk ys) → PutOpen xs a b → PutOpen run b c → PutOpen ys c d → PutOpen all a d
 put_thirds all xs rest run ys a b c d f g t p q r =
-    let before : CutAt (draft_views xs) (draft_views (run ++ ys)) = subst (CutAt (draft_views xs)) (sym (map-append draft_view run ys)) t.before in
-    subst (λ (z : List DraftPlace). PutOpen z a d) (ap (λ (z : List DraftPlace). xs ++ z) g ∙ f) (open_then xs (run ++ ys) a b d p (open_then run ys b c d q r t.behind) before)
+    let before : CutAt (views layer_walk xs) (views layer_walk (run ++ ys)) = subst (CutAt (views layer_walk xs)) (sym (map-append (view_of layer_walk) run ys)) t.before in
+    subst (λ (z : List (Place DraftView)). PutOpen z a d) (ap (λ (z : List (Place DraftView)). xs ++ z) g ∙ f) (open_then xs (run ++ ys) a b d p (open_then run ys b c d q r t.behind) before)
 
 -- ---- the slices at the ends
-last_slice_is : (xs : List DraftPlace) (x : DraftPlace) → 1 ≤ length xs → x ≡ get_or xs (length xs - 1) x → last_slice_of (draft_views xs) ≡ x.slice
+last_slice_is : (xs : List (Place DraftView)) (x : Place DraftView) → 1 ≤ length xs → x ≡ get_or xs (length xs - 1) x → last_slice_of (views layer_walk xs) ≡ x.slice
 last_slice_is [] x h e = absurd (omega arith)
-last_slice_is (y ∷ []) x h e = let first : length (y ∷ []) - 1 ≡ 0 = omega arith in slice_at-draft y ∙ ap (λ (z : DraftPlace). z.slice) (sym (e ∙ ap (λ (k : ℕ). get_or (y ∷ []) k x) first))
+last_slice_is (y ∷ []) x h e = let first : length (y ∷ []) - 1 ≡ 0 = omega arith in slice_at-draft y ∙ ap (λ (z : Place DraftView). z.slice) (sym (e ∙ ap (λ (k : ℕ). get_or (y ∷ []) k x) first))
 last_slice_is (y ∷ z ∷ xs) x h e =
     let next : length (y ∷ z ∷ xs) - 1 ≡ suc (length (z ∷ xs) - 1) = omega arith in
     last_slice_is (z ∷ xs) x (omega arith) (e ∙ ap (λ (k : ℕ). get_or (y ∷ z ∷ xs) k x) next)
 
-first_slice_is : (xs : List DraftPlace) (x : DraftPlace) → 1 ≤ length xs → x ≡ get_or xs 0 x → first_slice_of (draft_views xs) ≡ x.slice
+first_slice_is : (xs : List (Place DraftView)) (x : Place DraftView) → 1 ≤ length xs → x ≡ get_or xs 0 x → first_slice_of (views layer_walk xs) ≡ x.slice
 first_slice_is [] x h e = absurd (omega arith)
-first_slice_is (y ∷ xs) x h e = slice_at-draft y ∙ ap (λ (z : DraftPlace). z.slice) (sym e)
+first_slice_is (y ∷ xs) x h e = slice_at-draft y ∙ ap (λ (z : Place DraftView). z.slice) (sym e)
 
 -- if two lists are more than one border holds: the last slice of the left list, and the first slice of the right one
-pub seam_slices : (left right : List DraftPlace) (x y : DraftPlace) (n : ℕ) → IsBorder (draft_views left) → 15 < length left + length right → x ≡ get_or left (n - 1) x → n ≡ length left → y ≡ get_or right 0 y
-    → (last_slice_of (draft_views left) ≡ x.slice) × (first_slice_of (draft_views right) ≡ y.slice)
+pub seam_slices : (left right : List (Place DraftView)) (x y : Place DraftView) (n : ℕ) → IsBorder (views layer_walk left) → 15 < length left + length right → x ≡ get_or left (n - 1) x → n ≡ length left → y ≡ get_or right 0 y
+    → (last_slice_of (views layer_walk left) ≡ x.slice) × (first_slice_of (views layer_walk right) ≡ y.slice)
 seam_slices left right x y n b many last whole first =
-    let some : 1 ≤ length (draft_views left) = b.0 in
-    let most : length (draft_views left) ≤ 15 = b.1 in
-    let count = length-map left draft_view in
+    let some : 1 ≤ length (views layer_walk left) = b.0 in
+    let most : length (views layer_walk left) ≤ 15 = b.1 in
+    let count = length-map left (view_of layer_walk) in
     (last_slice_is left x (omega arith) (last ∙ ap (λ (k : ℕ). get_or left (k - 1) x) whole), first_slice_is right y (omega arith) first)
 
-pub cut_apart : (left right : List DraftPlace) → IsLayer (draft_views left ++ draft_views right) → IsBorder (draft_views left) → 15 < length left + length right → last_slice_of (draft_views left) ≢ first_slice_of (draft_views right) → CutAt (draft_views left) (draft_views right)
+pub cut_apart : (left right : List (Place DraftView)) → IsRanked (views layer_walk left ++ views layer_walk right) → IsBorder (views layer_walk left) → 15 < length left + length right → last_slice_of (views layer_walk left) ≢ first_slice_of (views layer_walk right) → CutAt (views layer_walk left) (views layer_walk right)
 cut_apart left right h b many other =
-    let most : length (draft_views left) ≤ 15 = b.1 in
-    cut_between 0 (draft_views left) (draft_views right) h b.0 (omega (arith, length-map left draft_view, length-map right draft_view)) other
+    let most : length (views layer_walk left) ≤ 15 = b.1 in
+    cut_between 0 (views layer_walk left) (views layer_walk right) h b.0 (omega (arith, length-map left (view_of layer_walk), length-map right (view_of layer_walk))) other
 
 -- ---- stored places
-pub few_places : (ps : List DraftPlace) → length (draft_views ps) ≤ 15 → length ps ≤ 15
-few_places ps few = omega (arith, length-map ps draft_view)
+pub few_places : (ps : List (Place DraftView)) → length (views layer_walk ps) ≤ 15 → length ps ≤ 15
+few_places ps few = omega (arith, length-map ps (view_of layer_walk))
 
-pub halves : (ps xs ys : List DraftPlace) (x : DraftPlace) (n : ℕ) → IsLayer (draft_views ps) → length ps ≡ 16 → x ≡ get_or ps (n - 1) x → n ≡ length ps
-    → xs ++ ys ≡ ps → SlicesBelow x.slice (draft_views xs) → SlicesFrom x.slice (draft_views ys) → Halves (draft_views ps) (draft_views xs) (draft_views ys)
+pub halves : (ps xs ys : List (Place DraftView)) (x : Place DraftView) (n : ℕ) → IsRanked (views layer_walk ps) → length ps ≡ 16 → x ≡ get_or ps (n - 1) x → n ≡ length ps
+    → xs ++ ys ≡ ps → SlicesBelow x.slice (views layer_walk xs) → SlicesFrom x.slice (views layer_walk ys) → Halves (views layer_walk ps) (views layer_walk xs) (views layer_walk ys)
 halves ps xs ys x n h many last whole e below from =
-    sixteen x.slice (draft_views ps) (draft_views xs) (draft_views ys) h (length-map ps draft_view ∙ many) (last_slice_is ps x (omega arith) (last ∙ ap (λ (k : ℕ). get_or ps (k - 1) x) whole)) (views_parted xs ys ps e) below from
+    sixteen x.slice (views layer_walk ps) (views layer_walk xs) (views layer_walk ys) h (length-map ps (view_of layer_walk) ∙ many) (last_slice_is ps x (omega arith) (last ∙ ap (λ (k : ℕ). get_or ps (k - 1) x) whole)) (views_parted xs ys ps e) below from
 
 -- of two lists, one after the other, the left is what lies before the seam, and the right what lies from there on
-pub at_seam : (left right all : List DraftPlace) (seam : ℕ) → all ≡ left ++ right → seam ≡ length left → (take seam all ≡ left) × (drop seam all ≡ right)
+pub at_seam : (left right all : List (Place DraftView)) (seam : ℕ) → all ≡ left ++ right → seam ≡ length left → (take seam all ≡ left) × (drop seam all ≡ right)
 at_seam left right all seam e l = ((λ i. take (l i) (e i)) ∙ take-append_seam left right, (λ i. drop (l i) (e i)) ∙ drop-append_seam left right)
 
-pub around : (all xs rest run ys : List DraftPlace) (seam : ℕ) (x : DraftPlace) (next : ℕ) → IsLayer (draft_views all) → IsBorder (draft_views (take seam all)) → IsBorder (draft_views (drop seam all))
-    → last_slice_of (draft_views (take seam all)) ≡ first_slice_of (draft_views (drop seam all)) → x ≡ get_or all seam x → next ≡ min (x.slice + 1) (2 ^ 64 - 1)
+pub around : (all xs rest run ys : List (Place DraftView)) (seam : ℕ) (x : Place DraftView) (next : ℕ) → IsRanked (views layer_walk all) → IsBorder (views layer_walk (take seam all)) → IsBorder (views layer_walk (drop seam all))
+    → last_slice_of (views layer_walk (take seam all)) ≡ first_slice_of (views layer_walk (drop seam all)) → x ≡ get_or all seam x → next ≡ min (x.slice + 1) (2 ^ 64 - 1)
     → xs ++ rest ≡ all → run ++ ys ≡ rest
-    → SlicesBelow x.slice (draft_views xs) → SlicesFrom x.slice (draft_views rest) → SlicesBelow next (draft_views run) → SlicesFrom next (draft_views ys)
-    → Thirds (draft_views xs) (draft_views run) (draft_views ys)
+    → SlicesBelow x.slice (views layer_walk xs) → SlicesFrom x.slice (views layer_walk rest) → SlicesBelow next (views layer_walk run) → SlicesFrom next (views layer_walk ys)
+    → Thirds (views layer_walk xs) (views layer_walk run) (views layer_walk ys)
 around all xs rest run ys seam x next h l r met at is f g below from run_below ys_from =
-    let left = draft_views (take seam all) in
-    let right = draft_views (drop seam all) in
+    let left = views layer_walk (take seam all) in
+    let right = views layer_walk (drop seam all) in
     let some : 1 ≤ length right = r.0 in
-    let whole : left ++ right ≡ draft_views all = views_parted (take seam all) (drop seam all) all (take-append-drop seam all) in
+    let whole : left ++ right ≡ views layer_walk all = views_parted (take seam all) (drop seam all) all (take-append-drop seam all) in
     let here : seam ≡ seam + 0 = omega arith in
-    let first = first_slice_is (drop seam all) x (omega (arith, length-map (drop seam all) draft_view)) (at ∙ ap (λ (k : ℕ). get_or all k x) here ∙ sym (get_or-drop seam all 0 x)) in
-    thirds x.slice next left right (draft_views xs) (draft_views rest) (draft_views run) (draft_views ys) (subst IsLayer (sym whole) h) l r (met ∙ first) first is
+    let first = first_slice_is (drop seam all) x (omega (arith, length-map (drop seam all) (view_of layer_walk))) (at ∙ ap (λ (k : ℕ). get_or all k x) here ∙ sym (get_or-drop seam all 0 x)) in
+    thirds x.slice next left right (views layer_walk xs) (views layer_walk rest) (views layer_walk run) (views layer_walk ys) (subst IsRanked (sym whole) h) l r (met ∙ first) first is
     (views_parted xs rest all f ∙ sym whole) (views_parted run ys rest g) below from run_below ys_from

@@ -6,7 +6,7 @@ use Rattle.std.specs.Ordering.{nat_cmp, is_lt}
 use Rattle.std.specs.Cmp.Lexicographic.{slice_cmp}
 use Rattle.std.specs.declared.cmp.Ordering.TheVariants.{Less, Equal, Greater}
 use Rattle.mt_words.specs.Slices.{AreBytes, slice_in, slice_bytes}
-use Rattle.mt_tree.specs.Layer.{key_rank}
+use Rattle.mt_tree.specs.Steps.Pairs.{key_rank}
 use Rattle.mt_words.proofs.SliceBytes.{slice_cmp-append}
 use Rattle.mt_words.proofs.SliceBytes.{bytes_take}
 use Rattle.mt_tree.proofs.Ranks.{ranks_of_less, less_of_ranks, IsBelowAt}
@@ -16,8 +16,8 @@ use Rattle.std.specs.Cmp.Lexicographic.{nat_list_cmp_total}
 use Rattle.mt_words.proofs.SliceBytes.{slice_bytes-short}
 use Rattle.mt_tree.proofs.Finds.{pairs_rank, link_ranks, long_is}
 use Rattle.mt_tree.proofs.Orders.{pairs_bytes, link_bytes}
-use Rattle.mt_tree.specs.Layer.{short, HasNoEmptyKey}
-use Rattle.mt_tree.specs.Layer.{PlaceView, put_before, pairs_at, rank_at, IsPlace}
+use Rattle.mt_tree.specs.Layer.{short, HasNoEmptyKey, PlaceView, put_before, pairs_at, IsPlace}
+use Rattle.mt_tree.specs.Steps.Ranks.{rank_at}
 use Rattle.mt_words.specs.Walks.{Pair}
 use Rattle.mt_tree.specs.Steps.Edges.{HasBytes}
 use Rattle.mt_tree.specs.Range.{from}

@@ -9,7 +9,7 @@ use Rattle.std.proofs.lemmas.Bool.{cases_lt}
 use Rattle.mt_words.specs.Slices.{AreBytes, slice_in}
 use Rattle.mt_words.specs.Words.{IsBelow}
 use Rattle.mt_words.proofs.SliceBytes.{by_ranks}
-use Rattle.mt_tree.specs.Layer.{key_rank}
+use Rattle.mt_tree.specs.Steps.Pairs.{key_rank}
 
 -- two keys have one rank, are longer than 8 bytes, and their rests decide
 pub record IsBelowAt (x y : List ℕ) : Type 0 where

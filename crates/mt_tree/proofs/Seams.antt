@@ -3,12 +3,12 @@ use Rattle.std.proofs.Common.{◌≡◌, ℕ, suc, ◌*◌, ◌≤◌, List, [],
 use Rattle.std.specs.List.{AllByRecursion}
 use Rattle.std.proofs.lemmas.List.{append-nil}
 use Rattle.mt_words.specs.Walks.{joined}
-use Rattle.mt_tree.specs.Layer.{PlaceView, slice_at, rank_at, IsLayer, IsLayerFrom}
-use Rattle.mt_tree.specs.Nodes.{SlicesFrom, SlicesApart, IsBorder, CutAt}
+use Rattle.mt_tree.specs.Layer.{PlaceView, slice_at}
+use Rattle.mt_tree.specs.Steps.Ranks.{rank_at, IsRanked, IsLayerFrom, AreRanked, length_at-le}
+use Rattle.mt_tree.specs.Nodes.{SlicesFrom, SlicesApart, IsBorder}
+use Rattle.mt_tree.specs.Steps.Seams.{CutAt, SameEnds, last_slice_of, first_slice_of}
 use Rattle.mt_tree.specs.Steps.NodeFalls.{joined-append}
-use Rattle.mt_tree.specs.Borders.{IsBorderList, SameEnds, last_slice_of}
-use Rattle.mt_tree.specs.Nodes.{first_slice_of}
-use Rattle.mt_tree.proofs.Joins.{all_append, all_weaker, all_front, all_back, length_at-le}
+use Rattle.mt_tree.proofs.Joins.{all_append, all_weaker, all_front, all_back}
 use Rattle.mt_tree.proofs.Cuts.{slices_from}
 use Rattle.mt_tree.specs.Steps.Falls.{layer_back, layer_front}
 
@@ -44,7 +44,7 @@ slices_over : (n low : ℕ) (ps : List PlaceView) → IsLayerFrom low ps → suc
 slices_over n low [] h le = tt
 slices_over n low (p ∷ ps) h le = all_weaker (λ q. slice_at p ≤ slice_at q) (λ q. suc n ≤ slice_at q) (λ q f. omega arith) (p ∷ ps) (from_first low p ps h)
 
-cut_over : (xs ps : List PlaceView) → IsLayer ps → AllByRecursion (λ x. suc (slice_at x) ≤ first_slice_of ps) xs → CutAt xs ps
+cut_over : (xs ps : List PlaceView) → IsRanked ps → AllByRecursion (λ x. suc (slice_at x) ≤ first_slice_of ps) xs → CutAt xs ps
 cut_over [] ps h a = tt
 cut_over (x ∷ xs) ps h a = (slices_over (slice_at x) 0 ps h a.0, cut_over xs ps h a.1)
 
@@ -62,11 +62,11 @@ raised : (low m s : ℕ) (ys : List PlaceView) → IsLayerFrom m ys → SlicesFr
 raised low m s [] h f le = tt
 raised low m s (y ∷ ys) h f le = let from : s ≤ slice_at y = f.0 in (h.0, omega arith, h.2)
 
-layer_then : (low : ℕ) (x : PlaceView) (xs ys : List PlaceView) → IsLayerFrom low (x ∷ xs) → IsLayer ys → CutAt (x ∷ xs) ys → IsLayerFrom low ((x ∷ xs) ++ ys)
+layer_then : (low : ℕ) (x : PlaceView) (xs ys : List PlaceView) → IsLayerFrom low (x ∷ xs) → IsRanked ys → CutAt (x ∷ xs) ys → IsLayerFrom low ((x ∷ xs) ++ ys)
 layer_then low x [] ys h k c = (h.0, h.1, raised (suc (rank_at x)) 0 (suc (slice_at x)) ys k c.0 (let few = length_at-le x h.0 in omega arith))
 layer_then low x (y ∷ xs) ys h k c = (h.0, h.1, layer_then (suc (rank_at x)) y xs ys h.2 k c.1)
 
-layer_append : (xs ys : List PlaceView) → IsLayer xs → IsLayer ys → CutAt xs ys → IsLayer (xs ++ ys)
+layer_append : (xs ys : List PlaceView) → IsRanked xs → IsRanked ys → CutAt xs ys → IsRanked (xs ++ ys)
 layer_append [] ys h k c = k
 layer_append (x ∷ xs) ys h k c = layer_then 0 x xs ys h k c
 
@@ -74,9 +74,9 @@ cut_joined : (fs : List (List PlaceView)) (ys : List PlaceView) → AllByRecursi
 cut_joined [] ys h = tt
 cut_joined (a ∷ fs) ys h = all_append (λ x. SlicesFrom (suc (slice_at x)) ys) a (joined fs) h.0 (cut_joined fs ys h.1)
 
-pub are_append : (fs bs : List (List PlaceView)) → IsBorderList fs → IsBorderList bs → AllByRecursion (λ a. CutAt a (joined bs)) fs → IsBorderList (fs ++ bs)
+pub are_append : (fs bs : List (List PlaceView)) → AreRanked fs → AreRanked bs → AllByRecursion (λ a. CutAt a (joined bs)) fs → AreRanked (fs ++ bs)
 are_append fs bs h k c =
-    (all_append IsBorder fs bs h.0 k.0, apart_append fs bs h.1 k.1 c, subst IsLayer (sym (joined-append fs bs)) (layer_append (joined fs) (joined bs) h.2 k.2 (cut_joined fs (joined bs) c)))
+    (all_append IsBorder fs bs h.0 k.0, apart_append fs bs h.1 k.1 c, subst IsRanked (sym (joined-append fs bs)) (layer_append (joined fs) (joined bs) h.2 k.2 (cut_joined fs (joined bs) c)))
 
 pub cut_each : (cs : List (List PlaceView)) (ys : List PlaceView) → CutAt (joined cs) ys → AllByRecursion (λ a. CutAt a ys) cs
 cut_each [] ys h = tt
@@ -99,21 +99,21 @@ first_over [] l h c = tt
 first_over (x ∷ a) [] h c = absurd (omega arith)
 first_over (x ∷ a) (p ∷ l) h c = (c.0.0, first_over a (p ∷ l) h c.1)
 
-each_over : (fs : List (List PlaceView)) (l ps : List PlaceView) → 1 ≤ length l → first_slice_of ps ≡ first_slice_of l → IsLayer ps → AllByRecursion (λ a. CutAt a l) fs → AllByRecursion (λ a. CutAt a ps) fs
+each_over : (fs : List (List PlaceView)) (l ps : List PlaceView) → 1 ≤ length l → first_slice_of ps ≡ first_slice_of l → IsRanked ps → AllByRecursion (λ a. CutAt a l) fs → AllByRecursion (λ a. CutAt a ps) fs
 each_over [] l ps some e h c = tt
 each_over (a ∷ fs) l ps some e h c =
     (cut_over a ps h (all_weaker (λ x. suc (slice_at x) ≤ first_slice_of l) (λ x. suc (slice_at x) ≤ first_slice_of ps) (λ x le. omega arith) a (first_over a l some c.0)), each_over fs l ps some e h c.1)
 
 -- the two borders at the seam of two lists may be replaced by others with the same slices at the ends
-pub seam_are : (fs : List (List PlaceView)) (l f : List PlaceView) (bs seam : List (List PlaceView)) → IsBorderList (fs ++ l ∷ []) → IsBorderList (f ∷ bs) → IsBorderList seam → 1 ≤ length l → 1 ≤ length (joined seam) → SameEnds l f (joined seam) → IsBorderList (fs ++ (seam ++ bs))
+pub seam_are : (fs : List (List PlaceView)) (l f : List PlaceView) (bs seam : List (List PlaceView)) → AreRanked (fs ++ l ∷ []) → AreRanked (f ∷ bs) → AreRanked seam → 1 ≤ length l → 1 ≤ length (joined seam) → SameEnds l f (joined seam) → AreRanked (fs ++ (seam ++ bs))
 seam_are fs l f bs seam left right h some seam_some ends =
     let front = front_apart fs l left.1 in
-    let as_are : IsBorderList fs = (all_front IsBorder fs (l ∷ []) left.0, front.0, layer_front 0 (joined fs) (joined (l ∷ [])) (subst IsLayer (joined-append fs (l ∷ [])) left.2)) in
-    let bs_are : IsBorderList bs = (right.0.1, right.1.1, layer_back 0 f (joined bs) right.2) in
+    let as_are : AreRanked fs = (all_front IsBorder fs (l ∷ []) left.0, front.0, layer_front 0 (joined fs) (joined (l ∷ [])) (subst IsRanked (joined-append fs (l ∷ [])) left.2)) in
+    let bs_are : AreRanked bs = (right.0.1, right.1.1, layer_back 0 f (joined bs) right.2) in
     let f_some : 1 ≤ length f = right.0.0.0 in
     let after : SlicesFrom (suc (last_slice_of (joined seam))) (joined bs) = subst (λ (k : ℕ). SlicesFrom (suc k) (joined bs)) (sym ends.last) (last_cut f (joined bs) f_some right.1.0) in
     let seam_cut : CutAt (joined seam) (joined bs) = cut_under (last_slice_of (joined seam)) (joined seam) (joined bs) (up_to_last 0 (joined seam) h.2) after in
-    let rest : IsBorderList (seam ++ bs) = are_append seam bs h bs_are (cut_each seam (joined bs) seam_cut) in
+    let rest : AreRanked (seam ++ bs) = are_append seam bs h bs_are (cut_each seam (joined bs) seam_cut) in
     let head : first_slice_of (joined (seam ++ bs)) ≡ first_slice_of l = ap first_slice_of (joined-append seam bs) ∙ first_kept (joined seam) (joined bs) seam_some ∙ ends.first in
     are_append fs (seam ++ bs) as_are rest (each_over fs l (joined (seam ++ bs)) some head rest.2 front.1)
   where
@@ -122,8 +122,8 @@ seam_are fs l f bs seam left right h some seam_some ends =
     first_kept (x ∷ xs) ys k = refl
 
 -- the last border may be replaced by others that begin with the same slice
-pub behind_are : (fs : List (List PlaceView)) (l : List PlaceView) (parts : List (List PlaceView)) → IsBorderList (fs ++ l ∷ []) → IsBorderList parts → 1 ≤ length l → first_slice_of (joined parts) ≡ first_slice_of l → IsBorderList (fs ++ parts)
+pub behind_are : (fs : List (List PlaceView)) (l : List PlaceView) (parts : List (List PlaceView)) → AreRanked (fs ++ l ∷ []) → AreRanked parts → 1 ≤ length l → first_slice_of (joined parts) ≡ first_slice_of l → AreRanked (fs ++ parts)
 behind_are fs l parts left are some first =
     let front = front_apart fs l left.1 in
-    let fs_are : IsBorderList fs = (all_front IsBorder fs (l ∷ []) left.0, front.0, layer_front 0 (joined fs) (joined (l ∷ [])) (subst IsLayer (joined-append fs (l ∷ [])) left.2)) in
+    let fs_are : AreRanked fs = (all_front IsBorder fs (l ∷ []) left.0, front.0, layer_front 0 (joined fs) (joined (l ∷ [])) (subst IsRanked (joined-append fs (l ∷ [])) left.2)) in
     are_append fs parts fs_are are (each_over fs l (joined parts) some first are.2 front.1)

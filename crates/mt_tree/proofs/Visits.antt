@@ -3,11 +3,13 @@ use Rattle.std.proofs.Common.{◌≡◌, ℕ, ◌+◌, ◌≤◌, List, [], ◌�
 use Rattle.mt_words.specs.Limits.{widest}
 use Rattle.mt_words.specs.Slices.{slice_bytes}
 use Rattle.mt_words.specs.Walks.{Pair}
-use Rattle.mt_tree.specs.Layer.{pairs_at, put_before, walk, link, IsPlace, FitsAfter}
-use Rattle.mt_tree.specs.Nodes.{NodeView, places}
-use Rattle.mt_tree.specs.Steps.NodeViews.{view_of_content}
-use Rattle.mt_tree.specs.declared.node.Content.{Content}
-use Rattle.mt_tree.specs.declared.node.Content.TheVariants.{Link}
+use Rattle.mt_tree.specs.Layer.{pairs_at, put_before, link, IsPlace}
+use Rattle.mt_tree.specs.Steps.Pairs.{FitsAfter}
+use Rattle.mt_tree.specs.Nodes.{NodeView}
+use Rattle.mt_tree.specs.Steps.Levels.{node_walk}
+use Rattle.mt_tree.specs.declared.place.Content.TheVariants.{Link}
+use Rattle.mt_tree.specs.Steps.Places.{view_of_content}
+use Rattle.mt_tree.specs.declared.place.Content.{Content}
 
 put_deeper : (a b : List ℕ) (w : List Pair) → put_before (a ++ b) w ≡ put_before a (put_before b w)
 put_deeper a b [] = refl
@@ -33,10 +35,10 @@ room_before : (n : ℕ) (bytes : List ℕ) (w : List Pair) → 2 ≤ length w �
 room_before n bytes [] some fits = absurd (omega arith)
 room_before n bytes (p ∷ w) some fits = let le = fits.0 in omega (arith, length-append bytes p.0)
 
-pub link_room : (s n : ℕ) (h : Content) (below : NodeView) (bytes : List ℕ) → h ≡ Link below → bytes ≡ slice_bytes s → IsPlace (view_of_content s h) → FitsAfter n (pairs_at (view_of_content s h)) → n + length bytes ≤ widest.key
+pub link_room : (s n : ℕ) (h : Content NodeView) (below : NodeView) (bytes : List ℕ) → h ≡ Link below → bytes ≡ slice_bytes s → IsPlace (view_of_content node_walk s h) → FitsAfter n (pairs_at (view_of_content node_walk s h)) → n + length bytes ≤ widest.key
 link_room s n h below bytes e f place fits =
-    let lawful : IsPlace (link s (walk (places below))) = subst (λ (z : Content). IsPlace (view_of_content s z)) e place in
-    subst (λ (z : List ℕ). n + length z ≤ widest.key) (sym f) (room_before n (slice_bytes s) (walk (places below)) lawful.1 (subst (λ (z : Content). FitsAfter n (pairs_at (view_of_content s z))) e fits))
+    let lawful : IsPlace (link s (node_walk below)) = subst (λ (z : Content NodeView). IsPlace (view_of_content node_walk s z)) e place in
+    subst (λ (z : List ℕ). n + length z ≤ widest.key) (sym f) (room_before n (slice_bytes s) (node_walk below) lawful.1 (subst (λ (z : Content NodeView). FitsAfter n (pairs_at (view_of_content node_walk s z))) e fits))
 
 -- equal pairs were shown, up to an equal state
 pub moved : {A : Type 0} (shown : A → A → List Pair → Type 0) (a b c : A) (v w : List Pair) → c ≡ b → v ≡ w → shown a b v → shown a c w

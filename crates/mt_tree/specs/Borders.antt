@@ -1,10 +1,9 @@
 -- Drafts. Each layer of a draft is a list of borders, and each border has all places of its slices.
-use Rattle.std.specs.Prelude.{ℕ, ◌≡◌, List, [], ◌∷◌}
+use Rattle.std.specs.Prelude.{List, []}
 use Rattle.std.specs.List.{AllByRecursion}
-use Rattle.mt_tree.specs.Layer.{PlaceView, slice_at, IsLayer, walk}
+use Rattle.mt_tree.specs.Layer.{PlaceView, IsLayer, walk, linked_walks}
 use Rattle.mt_words.specs.Walks.{Pair, joined}
-use Rattle.mt_tree.specs.Layers.{linked_walks}
-use Rattle.mt_tree.specs.Nodes.{IsBorder, SlicesApart, AreLinked, first_slice_of}
+use Rattle.mt_tree.specs.Nodes.{IsBorder, SlicesApart, AreLinked}
 
 -- the walk of a list of borders
 abbrev pub borders_walk : List (List PlaceView) → List Pair
@@ -34,14 +33,3 @@ pub record AreBorders (draft : DraftView) : Type 0 where
   pub own : IsBorderList draft.borders
   pub below : AllByRecursion IsBorderList draft.below
   pub linked : AreLinked (linked_walks (joined draft.borders)) draft.below
-
--- the slice of the last place, or 0 if there is none
-abbrev pub last_slice_of : List PlaceView → ℕ
-last_slice_of [] = 0
-last_slice_of (place ∷ []) = slice_at place
-last_slice_of (place ∷ next ∷ rest) = last_slice_of (next ∷ rest)
-
--- the places begin with the first slice of the left list and end with the last slice of the right one
-pub record SameEnds (left right all : List PlaceView) : Type 0 where
-  pub first : first_slice_of all ≡ first_slice_of left
-  pub last : last_slice_of all ≡ last_slice_of right

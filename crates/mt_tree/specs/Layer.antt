@@ -1,10 +1,7 @@
 -- A layer of the tree as a list of places, and the pairs that each place stands for.
-use Rattle.std.specs.Prelude.{ℕ, suc, ◌+◌, ◌*◌, ◌^◌, ◌<◌, ◌≤◌, ◌≡◌, List, [], ◌∷◌, ◌++◌, length, take, drop, map, min, ⊤}
-use Rattle.std.specs.Prelude.{Option, Some, None, if◌then◌else◌, nat_eq}
+use Rattle.std.specs.Prelude.{ℕ, ◌^◌, ◌<◌, ◌≤◌, ◌≡◌, List, [], ◌∷◌, ◌++◌, length, take, drop, map, ⊤, ◌⊎◌}
 use Rattle.std.specs.List.{AllByRecursion, flat_map}
-use Rattle.std.specs.Cmp.Lexicographic.{pointwise}
-use Rattle.mt_words.specs.Limits.{widest}
-use Rattle.mt_words.specs.Slices.{slice_in, slice_bytes}
+use Rattle.mt_words.specs.Slices.{slice_bytes}
 use Rattle.mt_words.specs.Walks.{Pair}
 use Rattle.mt_words.specs.Words.{IsBelow}
 
@@ -25,13 +22,9 @@ length_at (short slice len columns) = len
 length_at (long slice suffix columns) = 9
 length_at (link slice below) = 9
 
--- the rank of a place: ten times its slice, and its length; so places rise by slice, then by length
-abbrev pub rank_at : PlaceView → ℕ
-rank_at place = slice_at place * 10 + length_at place
-
--- the rank of a key's place: ten times the key's slice, and its length; all keys longer than 8 bytes count as 9
-abbrev pub key_rank : List ℕ → ℕ
-key_rank key = slice_in key * 10 + min (length key) 9
+-- the first place stands before the second: its slice is lower, or it has the same slice and is shorter
+abbrev pub StandsBefore : PlaceView → PlaceView → Type 0
+StandsBefore place later = (slice_at place < slice_at later) ⊎ ((slice_at place ≡ slice_at later) × (length_at place < length_at later))
 
 -- the pairs with these bytes put before each key
 abbrev pub put_before : List ℕ → List Pair → List Pair
@@ -47,6 +40,13 @@ pairs_at (link slice below) = put_before (slice_bytes slice) below
 abbrev pub walk : List PlaceView → List Pair
 walk = flat_map pairs_at
 
+-- the walks of the layers that these places link to
+abbrev pub linked_walks : List PlaceView → List (List Pair)
+linked_walks [] = []
+linked_walks (short s l c ∷ ps) = linked_walks ps
+linked_walks (long s t c ∷ ps) = linked_walks ps
+linked_walks (link s w ∷ ps) = w ∷ linked_walks ps
+
 -- no key is empty; as this holds below each link, only the outermost layer has length 0
 abbrev pub HasNoEmptyKey : List Pair → Type 0
 HasNoEmptyKey = AllByRecursion (λ pair. 0 < length pair.0)
@@ -58,33 +58,11 @@ IsPlace (short slice len columns) = (slice < 2 ^ 64) × (len ≤ 8) × AllByRecu
 IsPlace (long slice suffix columns) = (slice < 2 ^ 64) × (0 < length suffix)
 IsPlace (link slice below) = (slice < 2 ^ 64) × (2 ≤ length below) × HasNoEmptyKey below
 
--- lawful places whose ranks strictly rise, from this rank on
-abbrev pub IsLayerFrom : ℕ → List PlaceView → Type 0
-IsLayerFrom low [] = ⊤
-IsLayerFrom low (place ∷ rest) = IsPlace place × (low ≤ rank_at place) × IsLayerFrom (suc (rank_at place)) rest
-
--- the law of a layer: lawful places that strictly rise by slice, then by length
+-- the law of a layer: lawful places, and each stands before all places after it
 abbrev pub IsLayer : List PlaceView → Type 0
-IsLayer = IsLayerFrom 0
-
--- the weight of a walk: the number of its key bytes, and one for each pair
-abbrev pub weight : List Pair → ℕ
-weight [] = 0
-weight (pair ∷ rest) = suc (length pair.0) + weight rest
+IsLayer [] = ⊤
+IsLayer (place ∷ rest) = IsPlace place × AllByRecursion (StandsBefore place) rest × IsLayer rest
 
 -- each key of the first walk is below each key of the second
 abbrev pub AllKeysBelow : List Pair → List Pair → Type 0
 AllKeysBelow lower upper = AllByRecursion (λ pair. AllByRecursion (λ above. IsBelow pair.0 above.0) upper) lower
-
--- two places of one slice, both for keys longer than 8 bytes
-abbrev pub Meet : PlaceView → PlaceView → Type 0
-Meet place other = (slice_at place ≡ slice_at other) × (length_at place ≡ 9) × (length_at other ≡ 9)
-
--- the columns of the first pair with this key, or none if no pair has it
-abbrev pub find_key : List ℕ → List Pair → Option (List (ℕ × List ℕ))
-find_key key [] = None
-find_key key (pair ∷ rest) = (if pointwise nat_eq key pair.0 then Some pair.1 else find_key key rest)
-
--- with so many bytes before them, the keys are still no longer than a key may be
-abbrev pub FitsAfter : ℕ → List Pair → Type 0
-FitsAfter before = AllByRecursion (λ pair. before + length pair.0 ≤ widest.key)

@@ -2,7 +2,6 @@
 use Rattle.std.specs.Prelude.{◌≡◌, ◌↔◌, ℕ, ◌+◌, ◌-◌, ◌^◌, ◌≤◌, ◌&&◌, Bool, min, nat_eq, nat_lt}
 use Rattle.std.specs.Prelude.{List, [], ◌∷◌, length, take, drop, map, filter, Contains}
 use Rattle.std.specs.Cmp.Lexicographic.{pointwise}
-use Rattle.mt_tree.specs.Layer.{PlaceView, short, long, link}
 use Rattle.mt_words.specs.Walks.{Pair}
 use Rattle.mt_words.specs.Words.{AreRising}
 
@@ -36,10 +35,3 @@ pub record CountsLayers (w : List Pair) (r : ℕ) : Type 0 where
   pub number : ℕ
   pub is : IsLayers w number
   pub stops : r ≡ min number (2 ^ 64 - 1)
-
--- the walks of the layers that these places link to
-abbrev pub linked_walks : List PlaceView → List (List Pair)
-linked_walks [] = []
-linked_walks (short s l c ∷ ps) = linked_walks ps
-linked_walks (long s t c ∷ ps) = linked_walks ps
-linked_walks (link s w ∷ ps) = w ∷ linked_walks ps

@@ -1,8 +1,7 @@
 -- The tree of a layer: its borders in order, its height and its interior nodes; and the trees below its links.
-use Rattle.std.specs.Prelude.{ℕ, suc, ◌+◌, ◌-◌, ◌^◌, ◌<◌, ◌≤◌, ◌≡◌, List, [], ◌∷◌, ◌++◌, length, map, drop, min, ⊤}
+use Rattle.std.specs.Prelude.{ℕ, suc, ◌+◌, ◌-◌, ◌^◌, ◌<◌, ◌≤◌, ◌≡◌, List, [], ◌∷◌, ◌++◌, length, map, min, ⊤}
 use Rattle.std.specs.List.{AllByRecursion, flat_map}
-use Rattle.mt_tree.specs.Layer.{PlaceView, slice_at, walk, IsLayer}
-use Rattle.mt_tree.specs.Layers.{linked_walks}
+use Rattle.mt_tree.specs.Layer.{PlaceView, slice_at, walk, IsLayer, linked_walks}
 use Rattle.mt_tree.specs.declared.node.TheConstants.{MOST_PLACES, MOST_CHILDREN}
 use Rattle.mt_words.specs.Walks.{Pair, joined}
 
@@ -64,15 +63,15 @@ pub record IsInterior (node : InteriorView) : Type 0 where
   pub between : length node.separators + 1 ≡ length node.children
   pub separated : AreSeparated node.separators node.children
 
--- these branches have these interior nodes, each before those below it: a branch of height 0 is one border,
--- and a higher one has an interior node whose children, all one level lower, hold its borders; so all borders are equally deep
+-- branch by branch, the interior nodes of these branches: a branch of height 0 is one border and has none; a higher one has a node whose children,
+-- all one level lower, hold its borders, and then has the interior nodes of these children; so all borders are equally deep
 pub data HaveInteriors : List BranchView → List InteriorView → Type 0 where
   none : HaveInteriors [] []
-  border : {b : List PlaceView} {ks : List BranchView} {ns : List InteriorView}
-      → HaveInteriors ks ns → HaveInteriors (record { borders = b ∷ []; height = 0 } ∷ ks) ns
-  interior : {n : InteriorView} {h : ℕ} {ks : List BranchView} {ns : List InteriorView}
-      → AllByRecursion (λ b. b.height ≡ h) n.children → HaveInteriors (n.children ++ ks) ns
-      → HaveInteriors (record { borders = flat_map (λ b. b.borders) n.children; height = suc h } ∷ ks) (n ∷ ns)
+  border : {b : List PlaceView} {bs : List BranchView} {ns : List InteriorView}
+      → HaveInteriors bs ns → HaveInteriors (record { borders = b ∷ []; height = 0 } ∷ bs) ns
+  interior : {n : InteriorView} {h : ℕ} {bs : List BranchView} {lower ns : List InteriorView}
+      → AllByRecursion (λ b. b.height ≡ h) n.children → HaveInteriors n.children lower → HaveInteriors bs ns
+      → HaveInteriors (record { borders = flat_map (λ b. b.borders) n.children; height = suc h } ∷ bs) (n ∷ (lower ++ ns))
 
 -- a tree, as the node above its root sees it
 abbrev pub as_branch : LayerView → BranchView
@@ -88,12 +87,12 @@ pub record IsLayerTree (tree : LayerView) : Type 0 where
   pub interiors : AllByRecursion IsInterior tree.interiors
   pub shape : HaveInteriors (as_branch tree ∷ []) tree.interiors
 
--- these layers, each a list of borders, have these walks, in order; each layer comes before the layers below its own links, which are
--- listed too
-abbrev pub AreLinked : List (List Pair) → List (List (List PlaceView)) → Type 0
-AreLinked walks [] = walks ≡ []
-AreLinked [] (layer ∷ layers) = ⊥
-AreLinked (linked ∷ walks) (layer ∷ layers) = (linked ≡ walk (joined layer)) × AreLinked (linked_walks (joined layer) ++ walks) layers
+-- link by link, the layers below these links, each a list of borders: first the layer that has the link's walk, and then the layers below its own links
+pub data AreLinked : List (List Pair) → List (List (List PlaceView)) → Type 0 where
+  unlinked : AreLinked [] []
+  linked : {layer : List (List PlaceView)} {walks : List (List Pair)} {lower layers : List (List (List PlaceView))}
+      → AreLinked (linked_walks (joined layer)) lower → AreLinked walks layers
+      → AreLinked (walk (joined layer) ∷ walks) (layer ∷ (lower ++ layers))
 
 -- the borders of each of these trees
 abbrev pub each_borders : List LayerView → List (List (List PlaceView))
@@ -112,74 +111,3 @@ IsTreeCount trees count = count ≡ min (length trees) (2 ^ 64 - 1)
 pub record IsNode (node : NodeView) : Type 0 where
   pub tree : IsLayerTree node.tree
   pub below : AreBelow (places node) node.below
-
--- the borders of these nodes, in order
-abbrev pub borders_of : List NodeView → List (List PlaceView)
-borders_of = flat_map (λ node. node.tree.borders)
-
--- the interior nodes of these nodes' trees
-abbrev pub interiors_of : List NodeView → List InteriorView
-interiors_of = flat_map (λ node. node.tree.interiors)
-
--- the trees below these nodes' links
-abbrev pub below_of : List NodeView → List LayerView
-below_of = flat_map (λ node. node.below)
-
--- these nodes as children
-abbrev pub branches : List NodeView → List BranchView
-branches = map (λ node. as_branch node.tree)
-
--- the height of the first node, or 0 if there is none
-abbrev pub level_height : List NodeView → ℕ
-level_height [] = 0
-level_height (node ∷ nodes) = node.tree.height
-
--- a lawful node of this height
-abbrev pub IsNodeAt : ℕ → NodeView → Type 0
-IsNodeAt height node = (node.tree.height ≡ height) × IsNode node
-
--- the slice of the first place, or 0 if there is none
-abbrev pub first_slice_of : List PlaceView → ℕ
-first_slice_of [] = 0
-first_slice_of (place ∷ rest) = slice_at place
-
--- the slice of a node's first place
-abbrev pub first_of : NodeView → ℕ
-first_of node = first_slice_of (places node)
-
--- the interior node with these separators and children
-abbrev pub interior_node : List ℕ → List NodeView → NodeView
-interior_node slices nodes = record {
-  tree = record {
-    borders = borders_of nodes;
-    height = suc (level_height nodes);
-    interiors = record { separators = slices; children = branches nodes } ∷ interiors_of nodes;
-  };
-  below = below_of nodes;
-}
-
--- the node above these: the first slices of all nodes but the first separate them
-abbrev pub parent_node : List NodeView → NodeView
-parent_node nodes = interior_node (map first_of (drop 1 nodes)) nodes
-
--- lawful nodes of this height, whose borders, in order, share no slice and have the places of a lawful layer
-pub record IsLevelAt (height : ℕ) (level : List NodeView) : Type 0 where
-  pub nodes : AllByRecursion (IsNodeAt height) level
-  pub apart : SlicesApart (borders_of level)
-  pub layer : IsLayer (joined (borders_of level))
-
--- likewise, of the first node's height
-abbrev pub IsLevel : List NodeView → Type 0
-IsLevel nodes = IsLevelAt (level_height nodes) nodes
-
--- each slice of the first places is below each slice of the others
-abbrev pub CutAt : List PlaceView → List PlaceView → Type 0
-CutAt before after = AllByRecursion (λ place. SlicesFrom (suc (slice_at place)) after) before
-
--- all places have this slice
-abbrev pub OfSlice : ℕ → List PlaceView → Type 0
-OfSlice slice = AllByRecursion (λ place. slice_at place ≡ slice)
-
--- the tree of one border
-abbrev pub border_tree : List PlaceView → LayerView
-border_tree held = record { borders = held ∷ []; height = 0; interiors = [] }

@@ -1,17 +1,20 @@
 //! Finishing a draft: borders that are still open are sealed, and nodes are stacked on all borders.
 ghost use Rattle.std.specs.Prelude.{◌≡◌, ◌≢◌, MatchBool, ◌<◌, ◌≤◌, ◌+◌, ◌-◌, ◌++◌, ◌∷◌, [], suc, List, length, IfOk};
 ghost use Rattle.mt_words.specs.Walks.{joined};
-ghost use Rattle.mt_tree.specs.Layer.{PlaceView, IsLayer, IsPlace};
-ghost use Rattle.mt_tree.specs.Nodes.{places, borders_of, below_of, each_borders, level_height};
-ghost use Rattle.mt_tree.specs.Nodes.{border_tree, first_of, parent_node};
-ghost use Rattle.mt_tree.specs.Nodes.{IsNode, IsNodeAt, IsLevel, IsLevelAt, IsBorder, AreBelow, IsTreeCount};
+ghost use Rattle.mt_tree.specs.Layer.{PlaceView, IsPlace};
+ghost use Rattle.mt_tree.specs.Steps.Ranks.{IsRanked};
+ghost use Rattle.mt_tree.specs.Borders.{layer_walk};
+ghost use Rattle.mt_tree.specs.Nodes.{places, each_borders, IsNode, IsBorder, AreBelow, IsTreeCount};
+ghost use Rattle.mt_tree.specs.Steps.Levels.{node_walk, borders_of, below_of, level_height};
+ghost use Rattle.mt_tree.specs.Steps.Levels.{border_tree, first_of, parent_node, IsNodeAt, IsLevel, IsLevelAt};
 ghost use Rattle.mt_tree.specs.declared.node.TheConstants.{MOST_CHILDREN};
-ghost use Rattle.mt_tree.specs.Steps.DraftViews.{draft_view, draft_views, border_view};
-ghost use Rattle.mt_tree.specs.Steps.DraftViews.{layers_of, layers_of_border, layers_of_content, HasLawfulLinks};
-ghost use Rattle.mt_tree.specs.Steps.NodeViews.{views, view_of, trees_of, trees_of_content};
+ghost use Rattle.mt_tree.specs.Steps.Places.{views, view_of, below_link, below_links};
+ghost use Rattle.mt_tree.specs.Steps.DraftViews.{border_view, layers_under, layers_of_border, HasLawfulLinks};
+ghost use Rattle.mt_tree.specs.Steps.NodeViews.{trees_under};
 
-use crate::layer::{Border, DraftContent, DraftPlace, Layer};
-use crate::node::{Content, MOST_CHILDREN, Node, NodeKind, Place};
+use crate::layer::{Border, Layer};
+use crate::node::{MOST_CHILDREN, Node, NodeKind};
+use crate::place::{Content, Place};
 use arrayvec::ArrayVec;
 use mt_words::Memory;
 use std::alloc::Global;
@@ -80,10 +83,7 @@ fn stack(alloc: Global, borders: Vec<Node>) -> Result<Node, Memory>
     while nodes.len() > 1 {
         nodes = level_up(alloc, nodes)?;
     }
-    let Some(root) = nodes.pop() else {
-        unreachable!()
-    };
-    Ok(root)
+    Ok(nodes.remove(0))
 }
 
 /// What was made of a draft's layer, border or place, and the number of trees below its links, capped at the greatest
@@ -118,7 +118,7 @@ pub(crate) fn finish(alloc: Global, layer: Layer) -> Result<Finished<Node>, Memo
 #[cycle(finish)]
 fn finish_border(alloc: Global, border: Border) -> Result<Finished<Node>, Memory>
     requires some { IsBorder (border_view border) }
-    requires lawful { IsLayer (border_view border) }
+    requires lawful { IsRanked (border_view border) }
     requires links { HasLawfulLinks border }
     ensures same { IfOk result (λ node. node.made.tree ≡ border_tree (border_view border)) }
     ensures below { IfOk result (λ node. each_borders node.made.below ≡ layers_of_border border) }
@@ -134,13 +134,13 @@ fn finish_border(alloc: Global, border: Border) -> Result<Finished<Node>, Memory
 
 /// Seals a border: returns its places, with all that lies below them finished. Err: out of memory.
 #[cycle(finish)]
-fn close_border(alloc: Global, border: Border) -> Result<Finished<Vec<Place>>, Memory>
-    requires lawful { IsLayer (border_view border) }
+fn close_border(alloc: Global, border: Border) -> Result<Finished<Vec<Place<Node>>>, Memory>
+    requires lawful { IsRanked (border_view border) }
     requires links { HasLawfulLinks border }
-    ensures same { IfOk result (λ closed. views closed.made.items ≡ border_view border) }
-    ensures layers { IfOk result (λ closed. each_borders (trees_of closed.made.items) ≡ layers_of_border border) }
-    ensures below { IfOk result (λ closed. AreBelow (views closed.made.items) (trees_of closed.made.items)) }
-    ensures count { IfOk result (λ closed. IsTreeCount (trees_of closed.made.items) closed.below) }
+    ensures same { IfOk result (λ closed. views node_walk closed.made.items ≡ border_view border) }
+    ensures layers { IfOk result (λ closed. each_borders (below_links trees_under closed.made.items) ≡ layers_of_border border) }
+    ensures below { IfOk result (λ closed. AreBelow (views node_walk closed.made.items) (below_links trees_under closed.made.items)) }
+    ensures count { IfOk result (λ closed. IsTreeCount (below_links trees_under closed.made.items) closed.below) }
 {
     match border {
         Border::Open(places) => close(alloc, places),
@@ -150,12 +150,16 @@ fn close_border(alloc: Global, border: Border) -> Result<Finished<Vec<Place>>, M
 
 /// Seals places: returns them with all that lies below them finished. Err: out of memory.
 #[cycle(finish)]
-pub(crate) fn close(alloc: Global, places: Vec<DraftPlace>) -> Result<Finished<Vec<Place>>, Memory>
-    requires { IsLayer (draft_views places.items) }
-    ensures same { IfOk result (λ closed. views closed.made.items ≡ draft_views places.items) }
-    ensures layers { IfOk result (λ closed. each_borders (trees_of closed.made.items) ≡ layers_of places.items) }
-    ensures below { IfOk result (λ closed. AreBelow (views closed.made.items) (trees_of closed.made.items)) }
-    ensures count { IfOk result (λ closed. IsTreeCount (trees_of closed.made.items) closed.below) }
+#[tactic(auto, using(crate::specs::Nodes::unlinked))]
+pub(crate) fn close(
+    alloc: Global,
+    places: Vec<Place<Layer>>,
+) -> Result<Finished<Vec<Place<Node>>>, Memory>
+    requires { IsRanked (views layer_walk places.items) }
+    ensures same { IfOk result (λ closed. views node_walk closed.made.items ≡ views layer_walk places.items) }
+    ensures layers { IfOk result (λ closed. each_borders (below_links trees_under closed.made.items) ≡ below_links layers_under places.items) }
+    ensures below { IfOk result (λ closed. AreBelow (views node_walk closed.made.items) (below_links trees_under closed.made.items)) }
+    ensures count { IfOk result (λ closed. IsTreeCount (below_links trees_under closed.made.items) closed.below) }
 {
     let mut made = Vec::with_capacity(alloc, places.len())?;
     let mut below = 0u64;
@@ -169,37 +173,25 @@ pub(crate) fn close(alloc: Global, places: Vec<DraftPlace>) -> Result<Finished<V
 
 /// Finishes a place, with all that lies below it. Err: out of memory.
 #[cycle(finish)]
-fn finish_place(alloc: Global, place: DraftPlace) -> Result<Finished<Place>, Memory>
-    requires lawful { IsPlace (draft_view place) }
-    ensures same { IfOk result (λ done. view_of done.made ≡ draft_view place) }
+fn finish_place(alloc: Global, place: Place<Layer>) -> Result<Finished<Place<Node>>, Memory>
+    requires lawful { IsPlace (view_of layer_walk place) }
+    ensures same { IfOk result (λ done. view_of node_walk done.made ≡ view_of layer_walk place) }
     ensures layers { IfOk result (λ done.
-        each_borders (trees_of_content done.made.content) ≡ layers_of_content place.content) }
-    ensures below { IfOk result (λ done. AreBelow (view_of done.made ∷ []) (trees_of_content done.made.content)) }
-    ensures count { IfOk result (λ done. IsTreeCount (trees_of_content done.made.content) done.below) }
+        each_borders (below_link trees_under done.made.content) ≡ below_link layers_under place.content) }
+    ensures below { IfOk result (λ done. AreBelow (view_of node_walk done.made ∷ []) (below_link trees_under done.made.content)) }
+    ensures count { IfOk result (λ done. IsTreeCount (below_link trees_under done.made.content) done.below) }
 {
     let slice = place.slice;
-    match place.content {
-        DraftContent::Short(len, columns) => {
-            let content = Content::Short(len, columns);
-            Ok(Finished {
-                made: Place { slice, content },
-                below: 0,
-            })
-        }
-        DraftContent::Suffix(suffix, columns) => {
-            let content = Content::Suffix(suffix, columns);
-            Ok(Finished {
-                made: Place { slice, content },
-                below: 0,
-            })
-        }
-        DraftContent::Link(layer) => {
+    let (content, below) = match place.content {
+        Content::Short(len, columns) => (Content::Short(len, columns), 0),
+        Content::Suffix(suffix, columns) => (Content::Suffix(suffix, columns), 0),
+        Content::Link(layer) => {
             let Finished { made, below } = finish(alloc, layer)?;
-            let content = Content::Link(made);
-            Ok(Finished {
-                made: Place { slice, content },
-                below: below.saturating_add(1),
-            })
+            (Content::Link(made), below.saturating_add(1))
         }
-    }
+    };
+    Ok(Finished {
+        made: Place { slice, content },
+        below,
+    })
 }

@@ -2,17 +2,20 @@
 ghost use Rattle.std.specs.Prelude.{◌≡◌, ◌≤◌, ◌+◌, ◌<◌, ◌++◌, ◌∷◌, ◌↔◌, [], length, take, drop};
 ghost use Rattle.std.specs.Prelude.{MatchBool, IfOk, OnOk, IsTrue};
 ghost use Rattle.mt_tree.specs.Layer.{walk, pairs_at, put_before, length_at};
-ghost use Rattle.mt_tree.specs.Layer.{IsLayer, IsPlace, HasNoEmptyKey, AllKeysBelow, Meet};
-ghost use Rattle.mt_tree.specs.Steps.DraftViews.{draft_view, draft_views, IsLawfulLink, HaveLawfulLinks};
-ghost use Rattle.mt_tree.specs.Steps.DraftViews.{IsOpen, IsOpened, PutBehind, PutOpen};
-ghost use Rattle.mt_tree.specs.Nodes.{IsBorder, SlicesBelow, SlicesFrom, first_slice_of};
-ghost use Rattle.mt_tree.specs.Borders.{AreBorders, empty_draft, layer_walk, SameEnds, last_slice_of};
+ghost use Rattle.mt_tree.specs.Steps.Ranks.{IsRanked};
+ghost use Rattle.mt_tree.specs.Layer.{IsPlace, HasNoEmptyKey, AllKeysBelow};
+ghost use Rattle.mt_tree.specs.Steps.Seams.{Meet, first_slice_of, SameEnds, last_slice_of};
+ghost use Rattle.mt_tree.specs.Steps.Places.{view_of, views};
+ghost use Rattle.mt_tree.specs.Steps.DraftViews.{IsLawfulLink, HaveLawfulLinks, IsOpen, IsOpened, PutBehind, PutOpen};
+ghost use Rattle.mt_tree.specs.Nodes.{IsBorder, SlicesBelow, SlicesFrom};
+ghost use Rattle.mt_tree.specs.Borders.{AreBorders, empty_draft, layer_walk};
 ghost use Rattle.mt_tree.specs.declared.layer.Border.TheVariants.{Open};
 ghost use Rattle.mt_tree.specs.declared.node.TheConstants.{MOST_PLACES};
 ghost use Rattle.mt_words.specs.Slices.{slice_bytes};
 
 use crate::finish::{Finished, close};
-use crate::node::{MOST_PLACES, Place, Suffix};
+use crate::node::{MOST_PLACES, Node};
+use crate::place::{Content, Linked, Place, Suffix};
 use mt_words::{Columns, Kept, Memory, slice_of};
 use std::alloc::Global;
 use std::marker::Model;
@@ -30,33 +33,13 @@ pub(crate) struct Layer {
 pub(crate) enum Border {
     /// A push or a join may still change it, or it stood at the seam of a join. The first and the last border of a
     /// layer are open.
-    Open(Vec<DraftPlace>),
+    Open(Vec<Place<Layer>>),
     /// A sealed border: all that lies below its places is finished.
-    Closed(Finished<Vec<Place>>),
-}
-
-/// A place of a layer under construction: a slice, and what the place holds.
-#[cycle(layer)]
-#[derive(Drop)]
-pub(crate) struct DraftPlace {
-    pub(crate) slice: u64,
-    pub(crate) content: DraftContent,
-}
-
-/// What a place of a layer under construction holds.
-#[cycle(layer)]
-#[derive(Drop)]
-pub(crate) enum DraftContent {
-    /// A key of at most 8 bytes in this layer: its length and its columns.
-    Short(u8, Columns<Kept>),
-    /// One longer key: its bytes after the slice, and its columns.
-    Suffix(Suffix, Columns<Kept>),
-    /// Two or more longer keys: the layer of their bytes after the slice.
-    Link(Layer),
+    Closed(Finished<Vec<Place<Node>>>),
 }
 
 impl Model for Layer {
-    ghost use Rattle.mt_tree.specs.Layer.{weight};
+    ghost use Rattle.mt_tree.specs.Steps.Pairs.{weight};
     ghost use Rattle.mt_tree.specs.Borders.{DraftView, layer_walk};
 
     ghost Value = { DraftView };
@@ -75,9 +58,13 @@ impl Model for Layer {
     ghost size_decreases = { λ a h. omega (arith, borders_fall a.borders.items h.own.2) };
 }
 
+impl Linked for Layer {
+    ghost walk = { layer_walk };
+}
+
 impl Border {
     /// Returns the places of an open border.
-    pub(crate) fn places(&self) -> &[DraftPlace]
+    pub(crate) fn places(&self) -> &[Place<Layer>]
         requires { IsOpen self.now }
         ensures { IsOpened self.now result.now }
     {
@@ -88,7 +75,7 @@ impl Border {
     }
 
     /// Takes the places out of an open border.
-    fn into_places(self) -> Vec<DraftPlace>
+    fn into_places(self) -> Vec<Place<Layer>>
         requires { IsOpen self }
         ensures { self ≡ Open result }
     {
@@ -100,55 +87,24 @@ impl Border {
 }
 
 /// Creates the place of a lone key. Err: out of memory.
-fn place_for(alloc: Global, key: &[u8], columns: Columns<Kept>) -> Result<DraftPlace, Memory>
-    ensures lawful { IfOk result (λ p. IsPlace (draft_view p)) }
+fn place_for(alloc: Global, key: &[u8], columns: Columns<Kept>) -> Result<Place<Layer>, Memory>
+    ensures lawful { IfOk result (λ p. IsPlace (view_of layer_walk p)) }
     ensures links { IfOk result (λ p. IsLawfulLink p.content) }
-    ensures pairs { IfOk result (λ p. pairs_at (draft_view p) ≡ (key.now, columns) ∷ []) }
+    ensures pairs { IfOk result (λ p. pairs_at (view_of layer_walk p) ≡ (key.now, columns) ∷ []) }
 {
     let slice = slice_of(key);
     let len = key.len();
     if len <= 8 {
-        return Ok(DraftPlace {
+        return Ok(Place {
             slice,
-            content: DraftContent::Short(len as u8, columns),
+            content: Content::Short(len as u8, columns),
         });
     }
     let suffix = Suffix::from_slice(alloc, &key[8..])?;
-    Ok(DraftPlace {
+    Ok(Place {
         slice,
-        content: DraftContent::Suffix(suffix, columns),
+        content: Content::Suffix(suffix, columns),
     })
-}
-
-impl DraftPlace {
-    /// Returns whether the place holds keys longer than 8 bytes.
-    fn is_long(&self) -> bool
-        requires { IsPlace (draft_view self.now) }
-        ensures { IsTrue result ↔ (length_at (draft_view self.now) ≡ 9) }
-    {
-        match &self.content {
-            DraftContent::Short(_, _) => false,
-            DraftContent::Suffix(_, _) => true,
-            DraftContent::Link(_) => true,
-        }
-    }
-
-    /// Returns whether a key of this slice and length has its place here and is longer than 8 bytes.
-    fn meets_key(&self, slice: u64, len: usize) -> bool
-        requires { IsPlace (draft_view self.now) }
-        ensures { IsTrue result ↔ ((self.now.slice ≡ slice) × (length_at (draft_view self.now) ≡ 9) × (8 < len)) }
-    {
-        self.slice == slice && self.is_long() && len > 8
-    }
-
-    /// Returns whether both places hold keys longer than 8 bytes of one slice.
-    fn meets(&self, other: &DraftPlace) -> bool
-        requires lawful { IsPlace (draft_view self.now) }
-        requires other_lawful { IsPlace (draft_view other.now) }
-        ensures { IsTrue result ↔ Meet (draft_view self.now) (draft_view other.now) }
-    {
-        self.slice == other.slice && self.is_long() && other.is_long()
-    }
 }
 
 /// Appends a pair to the places of a border. If the last place is also the pair's, the pair goes below it. Otherwise
@@ -156,20 +112,20 @@ impl DraftPlace {
 #[cycle(push)]
 fn follow(
     alloc: Global,
-    places: Vec<DraftPlace>,
+    places: Vec<Place<Layer>>,
     key: &[u8],
     columns: Columns<Kept>,
-) -> Result<Vec<DraftPlace>, Memory>
-    requires lawful { IsLayer (draft_views places.items) }
+) -> Result<Vec<Place<Layer>>, Memory>
+    requires lawful { IsRanked (views layer_walk places.items) }
     requires some { 1 ≤ length places.items }
     requires links { HaveLawfulLinks places.items }
-    requires below { AllKeysBelow (walk (draft_views places.items)) ((key.now, columns) ∷ []) }
+    requires below { AllKeysBelow (walk (views layer_walk places.items)) ((key.now, columns) ∷ []) }
     ensures pairs { IfOk result (λ r.
-        walk (draft_views r.items) ≡ walk (draft_views places.items) ++ (key.now, columns) ∷ []) }
-    ensures lawful { IfOk result (λ r. IsLayer (draft_views r.items)) }
+        walk (views layer_walk r.items) ≡ walk (views layer_walk places.items) ++ (key.now, columns) ∷ []) }
+    ensures lawful { IfOk result (λ r. IsRanked (views layer_walk r.items)) }
     ensures links { IfOk result (λ r. HaveLawfulLinks r.items) }
     ensures first { IfOk result (λ r.
-        first_slice_of (draft_views r.items) ≡ first_slice_of (draft_views places.items)) }
+        first_slice_of (views layer_walk r.items) ≡ first_slice_of (views layer_walk places.items)) }
     ensures some { IfOk result (λ r. 1 ≤ length r.items) }
     ensures more { IfOk result (λ r. length r.items ≤ length places.items + 1) }
 {
@@ -184,19 +140,19 @@ fn follow(
     };
     let upper = Layer::below(alloc, last)?;
     let joined = Layer::push(alloc, upper, &key[8..], columns)?;
-    places.push(DraftPlace {
+    places.push(Place {
         slice,
-        content: DraftContent::Link(joined),
+        content: Content::Link(joined),
     })?;
     Ok(places)
 }
 
 /// Returns the number of places whose slice is below this one.
-fn count_below(places: &[DraftPlace], slice: u64) -> usize
-    requires { IsLayer (draft_views places.now) }
+fn count_below(places: &[Place<Layer>], slice: u64) -> usize
+    requires { IsRanked (views layer_walk places.now) }
     ensures few { result ≤ length places.now }
-    ensures below { SlicesBelow slice (draft_views (take result places.now)) }
-    ensures from { SlicesFrom slice (draft_views (drop result places.now)) }
+    ensures below { SlicesBelow slice (views layer_walk (take result places.now)) }
+    ensures from { SlicesFrom slice (views layer_walk (drop result places.now)) }
 {
     for (at, place) in places.iter().enumerate() {
         if place.slice >= slice {
@@ -207,19 +163,19 @@ fn count_below(places: &[DraftPlace], slice: u64) -> usize
 }
 
 /// Splits off the places from this slice on and returns them. Err: out of memory.
-fn split_before(places: &mut Vec<DraftPlace>, slice: u64) -> Result<Vec<DraftPlace>, Memory>
-    requires { IsLayer (draft_views places.old.items) }
+fn split_before(places: &mut Vec<Place<Layer>>, slice: u64) -> Result<Vec<Place<Layer>>, Memory>
+    requires { IsRanked (views layer_walk places.old.items) }
     ensures same { IfOk result (λ rest. places.new.items ++ rest.items ≡ places.old.items) }
-    ensures below { OnOk result (SlicesBelow slice (draft_views places.new.items)) }
-    ensures from { IfOk result (λ rest. SlicesFrom slice (draft_views rest.items)) }
+    ensures below { OnOk result (SlicesBelow slice (views layer_walk places.new.items)) }
+    ensures from { IfOk result (λ rest. SlicesFrom slice (views layer_walk rest.items)) }
 {
     let start = count_below(places, slice);
     Ok(places.split_off(start)?)
 }
 
 /// Appends these places as one open border, if there are any. Err: out of memory.
-fn push_border(borders: &mut Vec<Border>, places: Vec<DraftPlace>) -> Result<(), Memory>
-    requires lawful { IsLayer (draft_views places.items) }
+fn push_border(borders: &mut Vec<Border>, places: Vec<Place<Layer>>) -> Result<(), Memory>
+    requires lawful { IsRanked (views layer_walk places.items) }
     requires few { length places.items ≤ MOST_PLACES }
     ensures { OnOk result (PutOpen places.items borders.old.items borders.new.items) }
 {
@@ -235,10 +191,10 @@ fn push_border(borders: &mut Vec<Border>, places: Vec<DraftPlace>) -> Result<(),
 fn push_closed(
     alloc: Global,
     borders: &mut Vec<Border>,
-    places: Vec<DraftPlace>,
+    places: Vec<Place<Layer>>,
 ) -> Result<(), Memory>
-    requires lawful { IsLayer (draft_views places.items) }
-    requires some { IsBorder (draft_views places.items) }
+    requires lawful { IsRanked (views layer_walk places.items) }
+    requires some { IsBorder (views layer_walk places.items) }
     ensures { OnOk result (PutBehind places.items borders.old.items borders.new.items) }
 {
     let border = if borders.is_empty() {
@@ -252,8 +208,12 @@ fn push_closed(
 
 /// Appends places to the borders. If they are one too many for a border, they are cut before the last slice, which has
 /// at most ten of them. No further push changes the places before the cut. Err: out of memory.
-fn push_cut(alloc: Global, borders: &mut Vec<Border>, places: Vec<DraftPlace>) -> Result<(), Memory>
-    requires lawful { IsLayer (draft_views places.items) }
+fn push_cut(
+    alloc: Global,
+    borders: &mut Vec<Border>,
+    places: Vec<Place<Layer>>,
+) -> Result<(), Memory>
+    requires lawful { IsRanked (views layer_walk places.items) }
     requires some { 1 ≤ length places.items }
     requires most { length places.items ≤ MOST_PLACES + 1 }
     ensures { OnOk result (PutOpen places.items borders.old.items borders.new.items) }
@@ -275,28 +235,28 @@ fn push_cut(alloc: Global, borders: &mut Vec<Border>, places: Vec<DraftPlace>) -
 #[cycle(join)]
 fn meet(
     alloc: Global,
-    left: Vec<DraftPlace>,
-    right: Vec<DraftPlace>,
-) -> Result<(Vec<DraftPlace>, Vec<DraftPlace>), Memory>
-    requires left_lawful { IsLayer (draft_views left.items) }
-    requires right_lawful { IsLayer (draft_views right.items) }
+    left: Vec<Place<Layer>>,
+    right: Vec<Place<Layer>>,
+) -> Result<(Vec<Place<Layer>>, Vec<Place<Layer>>), Memory>
+    requires left_lawful { IsRanked (views layer_walk left.items) }
+    requires right_lawful { IsRanked (views layer_walk right.items) }
     requires some { (1 ≤ length left.items) × (1 ≤ length right.items) }
     requires links { HaveLawfulLinks left.items × HaveLawfulLinks right.items }
-    requires below { AllKeysBelow (walk (draft_views left.items)) (walk (draft_views right.items)) }
+    requires below { AllKeysBelow (walk (views layer_walk left.items)) (walk (views layer_walk right.items)) }
     ensures pairs { IfOk result (λ r.
-        walk (draft_views r.0.items ++ draft_views r.1.items)
-        ≡ walk (draft_views left.items) ++ walk (draft_views right.items)) }
-    ensures lawful { IfOk result (λ r. IsLayer (draft_views r.0.items ++ draft_views r.1.items)) }
+        walk (views layer_walk r.0.items ++ views layer_walk r.1.items)
+        ≡ walk (views layer_walk left.items) ++ walk (views layer_walk right.items)) }
+    ensures lawful { IfOk result (λ r. IsRanked (views layer_walk r.0.items ++ views layer_walk r.1.items)) }
     ensures links { IfOk result (λ r. HaveLawfulLinks (r.0.items ++ r.1.items)) }
     ensures same { IfOk result (λ r. length r.0.items ≡ length left.items) }
     ensures fewer { IfOk result (λ r. length r.1.items ≤ length right.items) }
     ensures slices { IfOk result (λ r.
-        SameEnds (draft_views left.items) (draft_views right.items) (draft_views r.0.items ++ draft_views r.1.items)) }
+        SameEnds (views layer_walk left.items) (views layer_walk right.items) (views layer_walk r.0.items ++ views layer_walk r.1.items)) }
 {
     let mut places = left;
     let mut rest = right;
     let Some(last) = places.pop() else {
-        unreachable!()
+        return Ok((places, rest));
     };
     if last.meets(&rest[0]) {
         let first = rest.remove(0);
@@ -304,9 +264,9 @@ fn meet(
         let upper = Layer::below(alloc, last)?;
         let lower = Layer::below(alloc, first)?;
         let joined = Layer::join(alloc, upper, lower)?;
-        places.push(DraftPlace {
+        places.push(Place {
             slice,
-            content: DraftContent::Link(joined),
+            content: Content::Link(joined),
         })?;
     } else {
         places.push(last)?;
@@ -318,14 +278,14 @@ fn meet(
 /// it. Its places, at most ten, get a border of their own. Err: out of memory.
 fn push_around(
     borders: &mut Vec<Border>,
-    places: Vec<DraftPlace>,
+    places: Vec<Place<Layer>>,
     seam: usize,
 ) -> Result<(), Memory>
-    requires lawful { IsLayer (draft_views places.items) }
-    requires before { IsBorder (draft_views (take seam places.items)) }
-    requires from { IsBorder (draft_views (drop seam places.items)) }
-    requires met { last_slice_of (draft_views (take seam places.items))
-        ≡ first_slice_of (draft_views (drop seam places.items)) }
+    requires lawful { IsRanked (views layer_walk places.items) }
+    requires before { IsBorder (views layer_walk (take seam places.items)) }
+    requires from { IsBorder (views layer_walk (drop seam places.items)) }
+    requires met { last_slice_of (views layer_walk (take seam places.items))
+        ≡ first_slice_of (views layer_walk (drop seam places.items)) }
     ensures { OnOk result (PutOpen places.items borders.old.items borders.new.items) }
 {
     let mut places = places;
@@ -342,11 +302,11 @@ fn push_around(
 /// become one. Err: out of memory.
 fn push_both(
     borders: &mut Vec<Border>,
-    left: Vec<DraftPlace>,
-    right: Vec<DraftPlace>,
+    left: Vec<Place<Layer>>,
+    right: Vec<Place<Layer>>,
 ) -> Result<(), Memory>
-    requires lawful { IsLayer (draft_views left.items ++ draft_views right.items) }
-    requires some { IsBorder (draft_views left.items) }
+    requires lawful { IsRanked (views layer_walk left.items ++ views layer_walk right.items) }
+    requires some { IsBorder (views layer_walk left.items) }
     requires few { length right.items ≤ MOST_PLACES }
     ensures { OnOk result (PutOpen (left.items ++ right.items) borders.old.items borders.new.items) }
 {
@@ -400,19 +360,19 @@ impl Layer {
         Ok(Layer { borders })
     }
 
-    /// Returns what lies below a place of longer keys. Err: out of memory.
-    fn below(alloc: Global, place: DraftPlace) -> Result<Layer, Memory>
-        requires lawful { IsPlace (draft_view place) }
-        requires long { length_at (draft_view place) ≡ 9 }
+    /// Returns what lies below a place: the layer of its longer keys. Err: out of memory.
+    fn below(alloc: Global, place: Place<Layer>) -> Result<Layer, Memory>
+        requires lawful { IsPlace (view_of layer_walk place) }
+        requires long { length_at (view_of layer_walk place) ≡ 9 }
         ensures pairs { IfOk result (λ l.
-            put_before (slice_bytes place.slice) (layer_walk l) ≡ pairs_at (draft_view place)) }
+            put_before (slice_bytes place.slice) (layer_walk l) ≡ pairs_at (view_of layer_walk place)) }
         ensures some { IfOk result (λ l. 0 < length (layer_walk l)) }
         ensures no_empty_key { IfOk result (λ l. HasNoEmptyKey (layer_walk l)) }
     {
         match place.content {
-            DraftContent::Short(_, _) => unreachable!(),
-            DraftContent::Suffix(suffix, columns) => Layer::single(alloc, &suffix, columns),
-            DraftContent::Link(layer) => Ok(layer),
+            Content::Short(_, _) => Ok(Layer::new(alloc)),
+            Content::Suffix(suffix, columns) => Layer::single(alloc, &suffix, columns),
+            Content::Link(layer) => Ok(layer),
         }
     }
 

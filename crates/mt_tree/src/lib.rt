@@ -13,6 +13,7 @@ mod hit;
 mod layer;
 mod node;
 mod order;
+mod place;
 mod range;
 mod tree;
 mod visit;

@@ -1,15 +1,17 @@
 //! The nodes of a finished tree.
-ghost use Rattle.std.specs.Prelude.{◌≡◌, ◌≢◌, ◌↔◌, ℕ, ◌+◌, ◌*◌, ◌<◌, ◌≤◌, min};
-ghost use Rattle.std.specs.Prelude.{length, slice_index, slice_index_or, IsTrue, IfSome, IfNone, All};
+ghost use Rattle.std.specs.Prelude.{◌≡◌, ◌≢◌, ℕ, ◌+◌, ◌*◌, ◌<◌, ◌≤◌, min};
+ghost use Rattle.std.specs.Prelude.{length, slice_index, slice_index_or, IfSome, IfNone, All};
 ghost use Rattle.std.specs.List.{AllByRecursion};
 ghost use Rattle.std.specs.Option.{option_copied};
-ghost use Rattle.mt_tree.specs.Layer.{PlaceView, walk, find_key, rank_at, length_at, IsPlace};
-ghost use Rattle.mt_tree.specs.Nodes.{places, first_of};
-ghost use Rattle.mt_tree.specs.Steps.NodeViews.{views, view_of};
+ghost use Rattle.mt_tree.specs.Layer.{PlaceView, IsPlace};
+ghost use Rattle.mt_tree.specs.Steps.Ranks.{rank_at};
+ghost use Rattle.mt_tree.specs.Steps.Pairs.{find_key};
+ghost use Rattle.mt_tree.specs.Steps.Levels.{node_walk, first_of};
+ghost use Rattle.mt_tree.specs.Steps.Places.{views};
 
+use crate::place::{Content, Linked, Place};
 use arrayvec::ArrayVec;
 use mt_words::{Columns, Kept, slice_of};
-use smallvec::SmallVec;
 use std::marker::Model;
 
 /// The most places of a border.
@@ -33,40 +35,15 @@ pub(crate) struct Node {
 #[derive(Drop)]
 pub(crate) enum NodeKind {
     /// Its places.
-    Border(Vec<Place>),
+    Border(Vec<Place<Node>>),
     /// Separators and children. The separators are boxed, so that they do not make a border larger.
     Interior(Box<ArrayVec<u64, MOST_SEPARATORS>>, Vec<Node>),
 }
 
-/// A place of a border: a slice, and what the place holds.
-#[cycle(node)]
-#[derive(Drop)]
-pub(crate) struct Place {
-    pub(crate) slice: u64,
-    pub(crate) content: Content,
-}
-
-/// The most bytes of a suffix that are stored in its place.
-const SHORT_SUFFIX: usize = 16;
-
-/// The bytes of a longer key after its first 8. Most keys have few of them, which need no allocation of their own.
-pub(crate) type Suffix = SmallVec<u8, SHORT_SUFFIX>;
-
-/// What a place of a border holds.
-#[cycle(node)]
-#[derive(Drop)]
-pub(crate) enum Content {
-    /// A key of at most 8 bytes in this layer: its length and its columns.
-    Short(u8, Columns<Kept>),
-    /// One longer key: its bytes after the slice, and its columns.
-    Suffix(Suffix, Columns<Kept>),
-    /// Two or more longer keys: the tree of their bytes after the slice.
-    Link(Node),
-}
-
 impl Model for Node {
-    ghost use Rattle.mt_tree.specs.Layer.{walk, weight};
-    ghost use Rattle.mt_tree.specs.Nodes.{NodeView, places};
+    ghost use Rattle.mt_tree.specs.Steps.Pairs.{weight};
+    ghost use Rattle.mt_tree.specs.Nodes.{NodeView};
+    ghost use Rattle.mt_tree.specs.Steps.Levels.{node_walk};
 
     ghost Value = { NodeView };
 
@@ -76,12 +53,16 @@ impl Model for Node {
 
     ghost invariant = { λ a. IsNodeKind a.kind };
 
-    ghost size = { λ v. weight (walk (places v)) };
+    ghost size = { λ v. weight (node_walk v) };
 
     ghost use Rattle.std.proofs.Common.{arith};
     ghost use Rattle.mt_tree.specs.Steps.NodeFalls.{kind_falls};
 
     ghost size_decreases = { λ a h. omega (arith, kind_falls a.kind h) };
+}
+
+impl Linked for Node {
+    ghost walk = { node_walk };
 }
 
 impl Node {
@@ -96,45 +77,13 @@ impl Node {
     }
 }
 
-impl Place {
-    /// Returns whether this place stands before the place of a key of this slice and length.
-    pub(crate) fn lies_before(&self, slice: u64, len: usize) -> bool
-        requires { IsPlace (view_of self.now) }
-        ensures { IsTrue result ↔ (rank_at (view_of self.now) < slice * 10 + min len 9) }
-    {
-        let here = self.length();
-        self.slice < slice || self.slice == slice && here < len.min(9)
-    }
-
-    /// Returns the length of the place's keys in this layer. 9 means longer than 8.
-    fn length(&self) -> usize
-        requires { IsPlace (view_of self.now) }
-        ensures value { result ≡ length_at (view_of self.now) }
-        ensures few { result ≤ 9 }
-    {
-        match &self.content {
-            Content::Short(own, _) => *own as usize,
-            Content::Suffix(_, _) => 9,
-            Content::Link(_) => 9,
-        }
-    }
-
-    /// Returns whether a key of this slice and length has its place here.
-    pub(crate) fn is_place_of(&self, slice: u64, len: usize) -> bool
-        requires { IsPlace (view_of self.now) }
-        ensures { IsTrue result ↔ (rank_at (view_of self.now) ≡ slice * 10 + min len 9) }
-    {
-        self.slice == slice && self.length() == len.min(9)
-    }
-}
-
 /// Returns the index of the place of a key of this slice and length, or None if there is none.
-fn find_place(places: &[Place], slice: u64, len: usize) -> Option<usize>
-    requires { AllByRecursion IsPlace (views places.now) }
+fn find_place(places: &[Place<Node>], slice: u64, len: usize) -> Option<usize>
+    requires { AllByRecursion IsPlace (views node_walk places.now) }
     ensures found { IfSome result (λ at. at < length places.now) }
     ensures here { IfSome result (λ at. (d : PlaceView) →
-        rank_at (slice_index_or (views places.now) at d) ≡ slice * 10 + min len 9) }
-    ensures absent { IfNone result (All (λ p. rank_at p ≢ slice * 10 + min len 9) (views places.now)) }
+        rank_at (slice_index_or (views node_walk places.now) at d) ≡ slice * 10 + min len 9) }
+    ensures absent { IfNone result (All (λ p. rank_at p ≢ slice * 10 + min len 9) (views node_walk places.now)) }
 {
     for (at, place) in places.iter().enumerate() {
         if place.is_place_of(slice, len) {
@@ -147,7 +96,7 @@ fn find_place(places: &[Place], slice: u64, len: usize) -> Option<usize>
 impl Node {
     /// Returns the columns of a key, or None if it is absent.
     pub(crate) fn get(&self, key: &[u8]) -> Option<&Columns<Kept>>
-        ensures { option_copied result ≡ find_key key.now (walk (places self.now)) }
+        ensures { option_copied result ≡ find_key key.now (node_walk self.now) }
     {
         let slice = slice_of(key);
         match &self.kind {

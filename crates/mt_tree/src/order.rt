@@ -1,11 +1,12 @@
 //! Whether all keys of one layer lie below all keys of another.
 ghost use Rattle.std.specs.Prelude.{◌≡◌, ◌↔◌, [], ◌∷◌, IsTrue, MatchOption};
 ghost use Rattle.mt_tree.specs.Layer.{AllKeysBelow, IsPlace};
-ghost use Rattle.mt_tree.specs.Steps.DraftViews.{draft_view};
-ghost use Rattle.mt_tree.specs.Steps.Edges.{PlaceEdge, LastEdge, FirstEdge};
-ghost use Rattle.mt_tree.specs.Steps.Sides.{side_walk};
+ghost use Rattle.mt_tree.specs.Borders.{layer_walk};
+ghost use Rattle.mt_tree.specs.Steps.Places.{view_of};
+ghost use Rattle.mt_tree.specs.Steps.Edges.{PlaceEdge, LastEdge, FirstEdge, side_walk};
 
-use crate::layer::{DraftContent, DraftPlace, Layer};
+use crate::layer::Layer;
+use crate::place::{Content, Place};
 use mt_words::{Columns, Kept, slice_of};
 
 /// One side of a comparison: one pair, or the pairs of a layer.
@@ -37,23 +38,23 @@ fn edge_of_pair<'a>(key: &'a [u8], columns: &'a Columns<Kept>) -> Edge<'a>
 }
 
 /// Returns a place as an edge.
-fn edge_of_place<'a>(place: &'a DraftPlace) -> Edge<'a>
-    requires { IsPlace (draft_view place.now) }
-    ensures { PlaceEdge (draft_view place.now) result.slice result.length (side_walk result.below) }
+fn edge_of_place<'a>(place: &'a Place<Layer>) -> Edge<'a>
+    requires { IsPlace (view_of layer_walk place.now) }
+    ensures { PlaceEdge (view_of layer_walk place.now) result.slice result.length (side_walk result.below) }
 {
     let slice = place.slice;
     match &place.content {
-        DraftContent::Short(length, columns) => Edge {
+        Content::Short(length, columns) => Edge {
             slice,
             length: *length as usize,
             below: Side::Lone(&[], columns),
         },
-        DraftContent::Suffix(suffix, columns) => Edge {
+        Content::Suffix(suffix, columns) => Edge {
             slice,
             length: 9,
             below: Side::Lone(suffix, columns),
         },
-        DraftContent::Link(layer) => Edge {
+        Content::Link(layer) => Edge {
             slice,
             length: 9,
             below: Side::Whole(layer),

@@ -45,9 +45,7 @@ impl Visitor<Collecting> for Collector {
             return Ok(());
         }
         let alloc = *target.hits.allocator();
-        let Some(key) = Key::new(Vec::from_slice(alloc, key)?) else {
-            unreachable!()
-        };
+        let key = Key::copy_of(alloc, key)?;
         let columns = copy_wanted(alloc, columns, target.wanted)?;
         target.hits.push(Hit { key, columns })?;
         Ok(())

@@ -33,7 +33,7 @@ pub struct Draft {
 }
 
 impl Model for Draft {
-    ghost use Rattle.mt_tree.specs.Layer.{FitsAfter};
+    ghost use Rattle.mt_tree.specs.Steps.Pairs.{FitsAfter};
     ghost use Rattle.mt_tree.specs.Borders.{DraftView, AreBorders, layer_walk};
 
     ghost Value = { DraftView };
@@ -69,7 +69,7 @@ impl Model for Tree {
     ghost use Rattle.std.specs.Prelude.{Option};
     ghost use Rattle.mt_tree.specs.Nodes.{NodeView};
     ghost use Rattle.mt_tree.specs.Trees.{tree_walk, IsTree, HasLayers};
-    ghost use Rattle.mt_tree.specs.Layer.{FitsAfter};
+    ghost use Rattle.mt_tree.specs.Steps.Pairs.{FitsAfter};
 
     ghost Value = { Option NodeView };
 
@@ -80,6 +80,7 @@ impl Model for Tree {
 
 impl Draft {
     /// Creates an empty draft.
+    #[tactic(auto, using(crate::specs::Nodes::unlinked))]
     pub fn new(alloc: Global) -> Draft
         ensures { result ≡ empty_draft }
     {

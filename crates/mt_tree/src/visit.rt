@@ -6,12 +6,15 @@ ghost use Rattle.mt_words.specs.Limits.{widest};
 ghost use Rattle.mt_words.specs.Slices.{slice_in};
 ghost use Rattle.mt_words.specs.Walks.{Pair};
 ghost use Rattle.mt_words.specs.Words.{IsKey};
-ghost use Rattle.mt_tree.specs.Layer.{FitsAfter, IsPlace, key_rank, pairs_at, put_before, rank_at, walk};
-ghost use Rattle.mt_tree.specs.Nodes.{places};
-ghost use Rattle.mt_tree.specs.Steps.NodeViews.{view_of};
+ghost use Rattle.mt_tree.specs.Steps.Pairs.{FitsAfter, key_rank};
+ghost use Rattle.mt_tree.specs.Layer.{IsPlace, pairs_at, put_before};
+ghost use Rattle.mt_tree.specs.Steps.Ranks.{rank_at};
+ghost use Rattle.mt_tree.specs.Steps.Levels.{node_walk};
+ghost use Rattle.mt_tree.specs.Steps.Places.{view_of};
 ghost use Rattle.mt_tree.specs.Range.{from};
 
-use crate::node::{Content, Node, NodeKind, Place, child_at};
+use crate::node::{Node, NodeKind, child_at};
+use crate::place::{Content, Place};
 use arrayvec::ArrayVec;
 use mt_words::{Columns, Kept, LONGEST_KEY, slice_bytes, slice_of};
 
@@ -50,9 +53,7 @@ fn extend(prefix: &mut Bytes, bytes: &[u8])
     requires { length prefix.old.items + length bytes.now ≤ widest.key }
     ensures { prefix.new.items ≡ prefix.old.items ++ bytes.now }
 {
-    let Ok(()) = prefix.try_extend_from_slice(bytes) else {
-        unreachable!()
-    };
+    prefix.try_extend_from_slice(bytes).unwrap();
 }
 
 /// Shows the visitor the pair whose key is the prefix and then this tail. Err: the visitor did not take it.
@@ -82,14 +83,14 @@ fn reaches(key: &[u8], start: &[u8]) -> bool
     !key.cmp(start).is_lt()
 }
 
-impl Place {
+impl Place<Node> {
     /// Returns the start for what lies below this place. If the start has its place here, its bytes after the slice
     /// decide. Otherwise all pairs of this place come after the start, and the result is empty.
     fn rest_of<'a>(&self, start: &'a [u8], slice: u64) -> &'a [u8]
-        requires lawful { IsPlace (view_of self.now) }
+        requires lawful { IsPlace (view_of node_walk self.now) }
         requires slice { slice ≡ slice_in start.now }
-        ensures here { rank_at (view_of self.now) ≡ key_rank start.now → result.now ≡ drop 8 start.now }
-        ensures past { rank_at (view_of self.now) ≢ key_rank start.now → result.now ≡ [] }
+        ensures here { rank_at (view_of node_walk self.now) ≡ key_rank start.now → result.now ≡ drop 8 start.now }
+        ensures past { rank_at (view_of node_walk self.now) ≢ key_rank start.now → result.now ≡ [] }
     {
         if self.is_place_of(slice, start.len()) {
             &start[start.len().min(8)..]
@@ -107,11 +108,11 @@ impl Place {
         visitor: &V,
         target: &mut T,
     ) -> Result<(), V::Error>
-        requires lawful { IsPlace (view_of self.now) }
-        requires fits { FitsAfter (length prefix.old.items) (pairs_at (view_of self.now)) }
+        requires lawful { IsPlace (view_of node_walk self.now) }
+        requires fits { FitsAfter (length prefix.old.items) (pairs_at (view_of node_walk self.now)) }
         ensures prefix { OnOk result (prefix.new.items ≡ prefix.old.items) }
         ensures shown { OnOk result (V.shown target.old target.new
-            (put_before prefix.old.items (from start.now (pairs_at (view_of self.now))))) }
+            (put_before prefix.old.items (from start.now (pairs_at (view_of node_walk self.now))))) }
     {
         let slice = slice_of(start);
         if visitor.is_full(target) || self.lies_before(slice, start.len()) {
@@ -151,10 +152,10 @@ impl Node {
         visitor: &V,
         target: &mut T,
     ) -> Result<(), V::Error>
-        requires { FitsAfter (length prefix.old.items) (walk (places self.now)) }
+        requires { FitsAfter (length prefix.old.items) (node_walk self.now) }
         ensures prefix { OnOk result (prefix.new.items ≡ prefix.old.items) }
         ensures shown { OnOk result (V.shown target.old target.new
-            (put_before prefix.old.items (from start.now (walk (places self.now))))) }
+            (put_before prefix.old.items (from start.now (node_walk self.now)))) }
     {
         if visitor.is_full(target) {
             return Ok(());

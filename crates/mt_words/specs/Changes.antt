@@ -1,5 +1,5 @@
 -- Records of logs and entries of checkpoints: what they say, what a format allows of them, and what they do to their key.
-use Rattle.std.specs.Prelude.{ℕ, ◌≤◌, ◌<◌, ◌^◌, List, [], length, map, Contains, Option, Some, None, IfSome}
+use Rattle.std.specs.Prelude.{ℕ, Bool, true, false, ◌≤◌, ◌<◌, ◌^◌, List, [], length, map, Contains, Option, Some, None, IfSome}
 use Rattle.mt_words.specs.declared.record.Change.{Change}
 use Rattle.mt_words.specs.declared.update.Kind.{Kind}
 use Rattle.mt_words.specs.declared.update.Kind.TheVariants.{Put, Remove, Whole, Erase}
@@ -29,6 +29,14 @@ remove_of timestamp version key = changed timestamp (record { version = version;
 
 abbrev pub erase_of : ℕ → ℕ → List ℕ → List ℕ → Logged
 erase_of timestamp version key numbers = changed timestamp (record { version = version; key = key; kind = Erase numbers })
+
+-- whether the record is a mark: a record without a change
+abbrev pub is_mark : Logged → Bool
+is_mark r = by r.change
+  where
+    by : Option Change → Bool
+    by None = true
+    by (Some change) = false
 
 -- the entry of a checkpoint, as a change
 abbrev pub entry_of : ℕ → List ℕ → List (ℕ × List ℕ) → Change

@@ -7,7 +7,7 @@ ghost use Rattle.mt_words.specs.Words.{AreColumns, CanFollow, NumbersRise, Numbe
 
 use crate::fault::Memory;
 use crate::limits::{GREATEST_COLUMN, LONGEST_VALUE};
-use crate::storage::{Inline, Kept, Storage, column_of};
+use crate::storage::{Inline, Kept, Storage};
 use arrayvec::ArrayVec;
 use smallvec::SmallVec;
 use std::alloc::Global;
@@ -36,6 +36,23 @@ impl Model for Column {
     ghost Value = { ℕ × List ℕ };
 
     ghost view = { λ c. (c.number, c.bytes.items) };
+}
+
+impl Column {
+    /// Creates the column with this number and a copy of these bytes. Err: out of memory.
+    pub fn copy_of(alloc: Global, number: u8, bytes: &[u8]) -> Result<Column, Memory>
+        ensures { IfOk result (λ column. column ≡ (number, bytes.now)) }
+    {
+        let bytes = Value::from_slice(alloc, bytes)?;
+        Ok(Column { number, bytes })
+    }
+
+    /// Returns a copy of the column. Err: out of memory.
+    pub(crate) fn try_copy(&self) -> Result<Column, Memory>
+        ensures { IfOk result (λ copy. copy ≡ self.now) }
+    {
+        Column::copy_of(*self.bytes.allocator(), self.number, &self.bytes)
+    }
 }
 
 impl MadeWith<Global> for Column {
@@ -152,8 +169,16 @@ impl Columns {
             return Err(bytes);
         }
         let bytes = Value::from_vec(bytes);
-        self.storage.columns.push(Column { number, bytes });
+        self.append(Column { number, bytes });
         Ok(())
+    }
+
+    /// Appends a column that may follow these.
+    pub fn append(&mut self, column: Column)
+        requires { CanFollow widest self.old column }
+        ensures { self.new ≡ self.old ++ column ∷ [] }
+    {
+        self.storage.columns.push(column);
     }
 
     /// Removes the last column and returns it. Returns None if there is none.
@@ -193,7 +218,7 @@ impl Columns<Kept> {
         ensures ok { OnOk result (self.new ≡ self.old ++ (number, bytes.now) ∷ []) }
         ensures err { OnErr result (self.new ≡ self.old) }
     {
-        self.storage.push(column_of(alloc, number, bytes)?)
+        self.storage.push(Column::copy_of(alloc, number, bytes)?)
     }
 }
 

@@ -38,13 +38,16 @@ impl Entry {
         if version == 0 || columns.len() == 0 {
             return None;
         }
-        Some(Entry {
-            change: Change {
-                version,
-                key,
-                kind: Kind::Whole(columns),
-            },
-        })
+        let kind = Kind::Whole(columns);
+        Some(Entry::of_change(Change { version, key, kind }))
+    }
+
+    /// Creates the entry that makes this change, which the caller knows to be lawful.
+    pub fn of_change(change: Change) -> Entry
+        requires { IsEntry widest change }
+        ensures { result ≡ change }
+    {
+        Entry { change }
     }
 
     /// Returns whether format 1 allows the entry.

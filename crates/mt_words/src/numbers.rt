@@ -47,6 +47,19 @@ impl Numbers {
         Some(Numbers { numbers: rising })
     }
 
+    /// Creates a list of these numbers, which the caller knows to be lawful.
+    pub fn of_lawful(numbers: &[u8]) -> Numbers
+        requires lawful { AreNumbers widest numbers.now }
+        requires some { 0 < length numbers.now }
+        ensures { result ≡ numbers.now }
+    {
+        let mut copies = ArrayVec::new();
+        for number in numbers {
+            copies.push(*number);
+        }
+        Numbers { numbers: copies }
+    }
+
     /// Returns the numbers as a slice.
     pub fn as_slice(&self) -> &[u8]
         ensures value { result.now ≡ self.now }

@@ -2,7 +2,7 @@
 ghost use Rattle.std.specs.Prelude.{◌≡◌, ◌<◌, ◌↔◌, length, Some, None, IsSome, IfSome, IsTrue, MatchOption};
 ghost use Rattle.mt_words.specs.declared.limits.Format.TheVariants.{One};
 ghost use Rattle.mt_words.specs.Limits.{limits_of, widest};
-ghost use Rattle.mt_words.specs.Changes.{AllowsKind, IsLogged, IsLawful, IsLawfulChange, mark_of, put_of, remove_of, erase_of, changed};
+ghost use Rattle.mt_words.specs.Changes.{AllowsKind, IsLogged, IsLawful, IsLawfulChange, IsLoggedChange, mark_of, put_of, remove_of, erase_of, changed};
 
 use crate::{Columns, Format, Key, Kind, Numbers};
 use std::marker::Model;
@@ -86,6 +86,17 @@ impl Record {
         Record::of_kind(timestamp, version, key, Kind::Erase(numbers))
     }
 
+    /// Creates a record of this change, which the caller knows to be lawful.
+    pub fn of_change(timestamp: u64, change: Change) -> Record
+        requires { IsLoggedChange widest change }
+        ensures { result ≡ changed timestamp change }
+    {
+        Record {
+            timestamp,
+            change: Some(change),
+        }
+    }
+
     /// Creates a record with a change of this kind. Returns None if the version is 0.
     fn of_kind(timestamp: u64, version: u64, key: Key, kind: Kind) -> Option<Record>
         requires lawful { AllowsKind widest kind }
@@ -99,10 +110,7 @@ impl Record {
         if version == 0 {
             return None;
         }
-        Some(Record {
-            timestamp,
-            change: Some(Change { version, key, kind }),
-        })
+        Some(Record::of_change(timestamp, Change { version, key, kind }))
     }
 
     /// Returns whether format 1 allows the record.

@@ -2,7 +2,7 @@
 ghost use Rattle.std.specs.Prelude.{◌≡◌, ◌++◌, [], ◌∷◌, IfOk, OnOk, OnErr};
 ghost use Rattle.mt_words.specs.Words.{columns_of};
 
-use crate::columns::{Column, Value};
+use crate::columns::Column;
 use crate::fault::Memory;
 use crate::limits::MOST_COLUMNS;
 use arrayvec::ArrayVec;
@@ -63,7 +63,7 @@ impl Storage for Inline {
         let alloc = *self.columns.allocator();
         let mut columns = ArrayVec::new_in(alloc);
         for column in self.columns.as_slice() {
-            columns.push(copy_of(alloc, column)?);
+            columns.push(column.try_copy()?);
         }
         Ok(Inline { columns })
     }
@@ -134,7 +134,7 @@ impl Storage for Kept {
     fn try_copy(&self) -> Result<Kept, Memory> {
         match self {
             Kept::Empty => Ok(Kept::Empty),
-            Kept::One(column) => Ok(Kept::One(copy_of(*column.bytes.allocator(), column)?)),
+            Kept::One(column) => Ok(Kept::One(column.try_copy()?)),
             Kept::Many(columns) => Ok(Kept::Many(copies_of(*columns.allocator(), columns)?)),
         }
     }
@@ -146,7 +146,7 @@ fn copies_of(alloc: Global, columns: &[Column]) -> Result<Vec<Column>, Memory>
 {
     let mut copies = Vec::with_capacity(alloc, columns.len())?;
     for column in columns {
-        copies.push(copy_of(alloc, column)?)?;
+        copies.push(column.try_copy()?)?;
     }
     Ok(copies)
 }
@@ -161,19 +161,4 @@ fn list_of(first: &mut Column, column: Column) -> Result<Vec<Column>, Memory>
     let mut list = Vec::from_array(alloc, [Column::made_with(alloc), column])?;
     mem::swap(first, &mut list[0]);
     Ok(list)
-}
-
-/// Returns a copy of the column. Err: out of memory.
-fn copy_of(alloc: Global, column: &Column) -> Result<Column, Memory>
-    ensures { IfOk result (λ copy. copy ≡ column.now) }
-{
-    column_of(alloc, column.number, &column.bytes)
-}
-
-/// Creates the column with this number and a copy of these bytes. Err: out of memory.
-pub(crate) fn column_of(alloc: Global, number: u8, bytes: &[u8]) -> Result<Column, Memory>
-    ensures { IfOk result (λ column. column ≡ (number, bytes.now)) }
-{
-    let bytes = Value::from_slice(alloc, bytes)?;
-    Ok(Column { number, bytes })
 }

@@ -131,6 +131,16 @@ pub record SpellFields (bytes : List ℕ) (fields : ChangeFields) : Type 0 where
   pub version_fits : fields.version < 2 ^ 64
   pub key_fits : length fields.key.now < 2 ^ 16
 
+-- the bytes are the fields of some change, lawful or not
+abbrev pub HasFields : List ℕ → Type 0
+HasFields bytes = (change : Change) × FitsChange change × (bytes ≡ change_bytes change)
+
+-- these are the fields of the change
+pub record AreFieldsIn (change : Change) (fields : ChangeFields) : Type 0 where
+  pub version : fields.version ≡ change.version
+  pub key : fields.key.now ≡ change.key
+  pub carried : fields.carried.now ≡ kind_bytes change.kind
+
 -- the bytes are not the fields of any change, whatever bytes its kind carries
 abbrev pub HasNoFields : List ℕ → Type 0
 HasNoFields bytes = (version : ℕ) (key carried : List ℕ) → version < 2 ^ 64 → length key < 2 ^ 16 → bytes ≢ big_bytes 8 version ++ (counted key ++ carried)

@@ -2,7 +2,7 @@
 use Rattle.std.specs.Prelude.{ℕ, suc, List, [], ◌∷◌, filter}
 use Rattle.std.specs.List.{flat_map}
 use Rattle.mt_words.specs.declared.update.Update.{Update}
-use Rattle.mt_record.specs.Kept.{kept_updates}
+use Rattle.mt_words.specs.Updates.{kept_updates}
 use Rattle.mt_record.specs.Logs.{LogReading}
 use Rattle.mt_scan.specs.declared.log_scan.LogScan.{LogScan}
 use Rattle.mt_scan.specs.Dropping.{ShowsAllBelow}

@@ -1,10 +1,10 @@
 //! The result of the updates of one key, if they are in memory.
-ghost use Rattle.std.specs.Prelude.{◌≡◌, ◌++◌, [], ◌∷◌, List, ℕ, map};
+ghost use Rattle.std.specs.Prelude.{◌≡◌, ◌↔◌, ◌++◌, [], ◌∷◌, List, ℕ, map, IsTrue};
 ghost use Rattle.mt_words.specs.declared.limits.TheConstants.{MOST_COLUMNS};
 ghost use Rattle.mt_words.specs.declared.update.Update.{Update as UpdateValue};
 ghost use Rattle.mt_words.specs.Limits.{widest};
 ghost use Rattle.mt_words.specs.Words.{AreColumns, AreNumbers};
-ghost use Rattle.mt_words.specs.Changes.{set, erased};
+ghost use Rattle.mt_words.specs.Changes.{set, erased, writes_of, AreWrites, IsReset};
 ghost use Rattle.mt_replay.specs.Cells.{Written, IsNewestOf, IsCellOf, written};
 ghost use Rattle.mt_replay.specs.Groups.{IsGroupOf, HasLawfulWrites, AreFreeFrom};
 
@@ -32,14 +32,21 @@ impl Group<Value> {
             timestamp: _,
             kind,
         } = update;
+        self.clear_by(is_reset(&kind).then_some(stamp));
+        self.apply_writes(stamp, kind);
+    }
+
+    /// Applies the writes of a change of this kind.
+    fn apply_writes(&mut self, stamp: Stamp, kind: Kind)
+        ensures reset { self.new.reset ≡ self.old.reset }
+        ensures writes { (writes : List Written) → IsCellOf writes self.old.slots →
+            IsCellOf (writes ++ written stamp (writes_of kind)) self.new.slots }
+        ensures lawful { AreWrites widest (writes_of kind) }
+    {
         match kind {
-            Kind::Put(columns) => self.apply_columns(stamp, columns),
-            Kind::Remove => self.clear_by(Some(stamp)),
+            Kind::Put(columns) | Kind::Whole(columns) => self.apply_columns(stamp, columns),
             Kind::Erase(numbers) => self.apply_numbers(stamp, numbers.as_slice()),
-            Kind::Whole(columns) => {
-                self.clear_by(Some(stamp));
-                self.apply_columns(stamp, columns);
-            }
+            Kind::Remove => {}
         }
     }
 
@@ -68,6 +75,13 @@ impl Group<Value> {
             self.keep(stamp, *number, None);
         }
     }
+}
+
+/// Returns whether a change of this kind clears all columns of its key.
+fn is_reset(kind: &Kind) -> bool
+    ensures { IsTrue result ↔ IsReset kind.now }
+{
+    matches!(kind, Kind::Remove | Kind::Whole(_))
 }
 
 impl<B: Bytes> Group<B> {

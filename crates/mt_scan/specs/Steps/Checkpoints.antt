@@ -4,13 +4,17 @@ use Rattle.std.specs.Borrow.{Bor}
 use Rattle.std.specs.List.{flat_map}
 use Rattle.mt_words.specs.declared.record.Change.{Change}
 use Rattle.mt_record.specs.Parts.{PartReading}
-use Rattle.mt_scan.specs.PartScans.{whole, shown_by_all}
+use Rattle.mt_scan.specs.PartScans.{KeptPart, whole, shown_by_all}
 use Rattle.mt_scan.specs.Choice.{CheckpointReading, MakeUp, checkpoint_in}
 use Rattle.mt_scan.specs.declared.checkpoint.Checkpoint.{Checkpoint}
 
 -- the entries of these parts, one part after another
 abbrev pub entries_of : List PartReading → List Change
 entries_of texts = flat_map (λ text. text.entries) texts
+
+-- the checkpoint with this number, begin and end, and the entries of these parts
+abbrev pub reading_of : ℕ → ℕ → ℕ → List KeptPart → CheckpointReading
+reading_of number begin end texts = record { number = number; begin = begin; end = end; entries = entries_of (shown_by_all texts) }
 
 -- the same parts, in any order
 abbrev pub AreSameTexts : List PartReading → List PartReading → Type 0

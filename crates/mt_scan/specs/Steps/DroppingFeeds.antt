@@ -1,7 +1,6 @@
 -- The feed of a scan that drops late records.
 use Rattle.std.specs.Prelude.{◌≡◌, ℕ, ◌-◌, ◌≤◌, ◌<◌, ◌+◌, ◌^◌, min, Option, Some, None, List, [], ◌++◌, length, filter, All, IsSome}
-use Rattle.mt_words.specs.Changes.{Logged}
-use Rattle.mt_record.specs.Kept.{is_mark}
+use Rattle.mt_words.specs.Changes.{Logged, is_mark}
 use Rattle.mt_record.specs.Logs.{count_of, latest}
 use Rattle.mt_record.specs.LogFeeding.{IsLogFed}
 use Rattle.mt_record.specs.declared.read.LogText.{LogText}

@@ -1,72 +1,59 @@
 -- What contracts see of a stored layer.
-use Rattle.std.specs.Prelude.{ℕ, ◌≡◌, ◌≤◌, ⊤, List, [], ◌∷◌, ◌++◌, length, map}
+use Rattle.std.specs.Prelude.{◌≡◌, ◌≤◌, ⊤, List, [], ◌∷◌, ◌++◌, length, map}
 use Rattle.std.specs.List.{AllByRecursion, flat_map}
 use Rattle.mt_words.specs.Walks.{joined}
-use Rattle.mt_tree.specs.Layer.{PlaceView, short, long, link}
-use Rattle.mt_tree.specs.Borders.{DraftView, layer_walk, IsBorderList, AreBorders}
+use Rattle.mt_tree.specs.Layer.{PlaceView}
+use Rattle.mt_tree.specs.Borders.{DraftView, layer_walk, AreBorders}
+use Rattle.mt_tree.specs.Steps.Ranks.{AreRanked}
 use Rattle.mt_tree.specs.Nodes.{each_borders, AreBelow, IsTreeCount}
-use Rattle.mt_tree.specs.Steps.NodeViews.{views, trees_of}
-use Rattle.mt_tree.specs.declared.layer.DraftPlace.{DraftPlace}
+use Rattle.mt_tree.specs.Steps.Levels.{node_walk}
 use Rattle.mt_tree.specs.declared.layer.Border.{Border}
 use Rattle.mt_tree.specs.declared.layer.Border.TheVariants.{Open, Closed}
-use Rattle.mt_tree.specs.declared.layer.DraftContent.{DraftContent}
-use Rattle.mt_tree.specs.declared.layer.DraftContent.TheVariants.{Short, Suffix, Link}
-
-abbrev pub draft_view_of : ℕ → DraftContent → PlaceView
-draft_view_of slice (Short len columns) = short slice len columns
-draft_view_of slice (Suffix suffix columns) = long slice suffix.items columns
-draft_view_of slice (Link layer) = link slice (layer_walk layer)
-
-abbrev pub draft_view : DraftPlace → PlaceView
-draft_view place = draft_view_of place.slice place.content
-
-abbrev pub draft_views : List DraftPlace → List PlaceView
-draft_views = map draft_view
+use Rattle.mt_tree.specs.declared.place.Content.TheVariants.{Short, Suffix, Link}
+use Rattle.mt_tree.specs.Steps.Places.{views, below_links}
+use Rattle.mt_tree.specs.Steps.NodeViews.{trees_under}
+use Rattle.mt_tree.specs.declared.place.Place.{Place}
+use Rattle.mt_tree.specs.declared.place.Content.{Content}
 
 abbrev pub border_view : Border → List PlaceView
-border_view (Open places) = draft_views places.items
-border_view (Closed finished) = views finished.made.items
+border_view (Open places) = views layer_walk places.items
+border_view (Closed finished) = views node_walk finished.made.items
 
 abbrev pub border_views : List Border → List (List PlaceView)
 border_views = map border_view
 
--- the borders of each layer below a place's link, the linked layer first
-abbrev pub layers_of_content : DraftContent → List (List (List PlaceView))
-layers_of_content (Short len columns) = []
-layers_of_content (Suffix suffix columns) = []
-layers_of_content (Link layer) = layer.borders ∷ layer.below
-
-abbrev pub layers_of : List DraftPlace → List (List (List PlaceView))
-layers_of = flat_map (λ place. layers_of_content place.content)
+-- the borders of a layer, then those of each layer below its links
+abbrev pub layers_under : DraftView → List (List (List PlaceView))
+layers_under layer = layer.borders ∷ layer.below
 
 abbrev pub layers_of_border : Border → List (List (List PlaceView))
-layers_of_border (Open places) = layers_of places.items
-layers_of_border (Closed finished) = each_borders (trees_of finished.made.items)
+layers_of_border (Open places) = below_links layers_under places.items
+layers_of_border (Closed finished) = each_borders (below_links trees_under finished.made.items)
 
 abbrev pub draft_of : List Border → DraftView
 draft_of stored = record { borders = border_views stored; below = flat_map layers_of_border stored }
 
 -- if this is a link, the linked layer is lawful
-abbrev pub IsLawfulLink : DraftContent → Type 0
+abbrev pub IsLawfulLink : Content DraftView → Type 0
 IsLawfulLink (Short len columns) = ⊤
 IsLawfulLink (Suffix suffix columns) = ⊤
 IsLawfulLink (Link layer) = AreBorders layer
 
-abbrev pub HaveLawfulLinks : List DraftPlace → Type 0
+abbrev pub HaveLawfulLinks : List (Place DraftView) → Type 0
 HaveLawfulLinks = AllByRecursion (λ place. IsLawfulLink place.content)
 
 -- the layers that a border's places link to are lawful; those of a sealed border are lawful trees, with their count
 abbrev pub HasLawfulLinks : Border → Type 0
 HasLawfulLinks (Open places) = HaveLawfulLinks places.items
 HasLawfulLinks (Closed finished) =
-    AreBelow (views finished.made.items) (trees_of finished.made.items) × IsTreeCount (trees_of finished.made.items) finished.below
+    AreBelow (views node_walk finished.made.items) (below_links trees_under finished.made.items) × IsTreeCount (below_links trees_under finished.made.items) finished.below
 
 abbrev pub IsOpen : Border → Type 0
 IsOpen (Open places) = ⊤
 IsOpen (Closed finished) = ⊥
 
 -- the border is open and has these places
-abbrev pub IsOpened : Border → List DraftPlace → Type 0
+abbrev pub IsOpened : Border → List (Place DraftView) → Type 0
 IsOpened (Open held) places = places ≡ held.items
 IsOpened (Closed finished) places = ⊥
 
@@ -83,23 +70,23 @@ IsLastOpen (border ∷ next ∷ rest) = IsLastOpen (next ∷ rest)
 
 -- the law of a stored layer: its borders are lawful, and so is each layer that its places link to; the first and the last border are open
 pub record IsStored (borders : List Border) : Type 0 where
-  pub own : IsBorderList (border_views borders)
+  pub own : AreRanked (border_views borders)
   pub links : AllByRecursion HasLawfulLinks borders
   pub first : IsFirstOpen borders
   pub last : IsLastOpen borders
 
 -- the new borders are the old ones and then more: these have just these places and are lawful, and their links are lawful if those of the
 -- places are; if the first border was open, it still is
-pub record PutBehind (places : List DraftPlace) (old new : List Border) : Type 0 where
+pub record PutBehind (places : List (Place DraftView)) (old new : List Border) : Type 0 where
   pub more : List Border
   pub behind : new ≡ old ++ more
-  pub same : joined (border_views more) ≡ draft_views places
-  pub lawful : IsBorderList (border_views more)
+  pub same : joined (border_views more) ≡ views layer_walk places
+  pub lawful : AreRanked (border_views more)
   pub links : HaveLawfulLinks places → AllByRecursion HasLawfulLinks more
   pub first : IsFirstOpen old → IsFirstOpen new
 
 -- likewise, and the last border is open if there are any of these places, or if it was open before
-pub record PutOpen (places : List DraftPlace) (old new : List Border) : Type 0 where
+pub record PutOpen (places : List (Place DraftView)) (old new : List Border) : Type 0 where
   pub put : PutBehind places old new
   pub last : 1 ≤ length places → IsLastOpen new
   pub kept : IsLastOpen old → IsLastOpen new

@@ -1,10 +1,13 @@
--- The edges of a walk: its first and its last place.
-use Rattle.std.specs.Prelude.{ℕ, ◌+◌, ◌*◌, ◌<◌, ◌≤◌, ◌≡◌, List, ◌++◌, length, take}
+-- The edges of a walk: its first and its last place; and the pairs of a side.
+use Rattle.std.specs.Prelude.{ℕ, ◌+◌, ◌*◌, ◌<◌, ◌≤◌, ◌≡◌, List, [], ◌∷◌, ◌++◌, length, take}
 use Rattle.std.specs.List.{AllByRecursion}
 use Rattle.mt_words.specs.Slices.{AreBytes, slice_bytes}
-use Rattle.mt_tree.specs.Layer.{key_rank}
+use Rattle.mt_tree.specs.Steps.Pairs.{key_rank}
 use Rattle.mt_tree.specs.Layer.{PlaceView, slice_at, length_at, pairs_at, put_before}
 use Rattle.mt_words.specs.Walks.{Pair}
+use Rattle.mt_tree.specs.Borders.{layer_walk}
+use Rattle.mt_tree.specs.declared.order.Side.{Side}
+use Rattle.mt_tree.specs.declared.order.Side.TheVariants.{Lone, Whole}
 
 -- the place has this slice and length, and if the length is 9, which means longer than 8, these pairs lie below it
 pub record PlaceEdge (p : PlaceView) (slice len : ℕ) (below : List Pair) : Type 0 where
@@ -39,3 +42,7 @@ pub record FirstEdge (w : List Pair) (slice len : ℕ) (below : List Pair) : Typ
   pub is : w ≡ top ++ after
   pub higher : AllByRecursion (λ p. slice * 10 + len < key_rank p.0) after
   pub edge : IsEdge w top slice len below
+
+abbrev pub side_walk : Side → List Pair
+side_walk (Lone key columns) = (key.now, columns.now) ∷ []
+side_walk (Whole layer) = layer_walk layer.now

@@ -2,18 +2,22 @@
 use Rattle.std.specs.Prelude.{◌≡◌, ℕ, suc, ◌+◌, ◌*◌, ◌≤◌, List, [], ◌∷◌, ◌++◌, length}
 use Rattle.std.proofs.Common.{arith, ap, length-append, refl, sym, ◌∙◌, append_assoc}
 use denote.Param.Weighed.{most}
-use Rattle.mt_tree.specs.Layer.{PlaceView, pairs_at, walk, weight, put_before, IsLayerFrom, IsPlace, rank_at}
+use Rattle.mt_words.specs.Slices.{slice_bytes}
 use Rattle.mt_words.specs.Walks.{Pair, joined}
-use Rattle.mt_tree.specs.Steps.DraftViews.{draft_views, draft_view, draft_view_of, border_view, border_views}
-use Rattle.mt_tree.specs.Borders.{layer_walk, borders_walk}
+use Rattle.mt_words.proofs.SliceBytes.{slice_bytes-length}
+use Rattle.mt_tree.specs.Layer.{PlaceView, pairs_at, walk, put_before, IsPlace}
+use Rattle.mt_tree.specs.Steps.Ranks.{IsLayerFrom, rank_at}
+use Rattle.mt_tree.specs.Steps.Pairs.{weight}
+use Rattle.mt_tree.specs.Borders.{DraftView, layer_walk, borders_walk}
+use Rattle.mt_tree.specs.Steps.Places.{view_of, view_of_content, views}
+use Rattle.mt_tree.specs.Steps.DraftViews.{border_view, border_views}
+use Rattle.mt_tree.specs.declared.place.Place.{Place}
+use Rattle.mt_tree.specs.declared.place.Content.{Content}
+use Rattle.mt_tree.specs.declared.place.Content.TheVariants.{Short, Suffix, Link}
 use Rattle.mt_tree.specs.declared.layer.Border.{Border}
 use Rattle.mt_tree.specs.declared.layer.Border.TheVariants.{Open, Closed}
-use Rattle.mt_tree.specs.declared.layer.DraftPlace.{DraftPlace}
-use Rattle.mt_tree.specs.declared.layer.DraftContent.{DraftContent}
-use Rattle.mt_tree.specs.declared.layer.DraftContent.TheVariants.{Short, Suffix, Link}
-use Rattle.mt_tree.specs.declared.layer.Layer.TheDeep.{deep-DraftPlace, deep-DraftContent, deep-Border}
-use Rattle.mt_words.specs.Slices.{slice_bytes}
-use Rattle.mt_words.proofs.SliceBytes.{slice_bytes-length}
+use Rattle.mt_tree.specs.declared.layer.Layer.TheDeep.{deep-Border}
+use Rattle.mt_tree.specs.declared.layer.Layer.TheShapes.{weighed-Border-Open-0-at-7}
 
 pub weight-append : (v w : List Pair) → weight (v ++ w) ≡ weight v + weight w
 weight-append [] w = omega arith
@@ -23,22 +27,36 @@ pub weight-put_before : (bytes : List ℕ) (w : List Pair) → weight (put_befor
 weight-put_before bytes [] = omega arith
 weight-put_before bytes (p ∷ w) = omega (arith, weight-put_before bytes w, length-append bytes p.0)
 
-content_falls : (s : ℕ) (c : DraftContent) → IsPlace (draft_view_of s c) → deep-DraftContent c ≤ weight (pairs_at (draft_view_of s c))
-content_falls s (Short l c) h = omega arith
-content_falls s (Suffix t c) h = omega arith
-content_falls s (Link l) h =
-    let two : 2 ≤ length (layer_walk l) = h.1 in
-    let eight : length (slice_bytes s) * length (layer_walk l) ≡ 8 * length (layer_walk l) = ap (λ n. n * length (layer_walk l)) (slice_bytes-length s) in
-    omega (arith, weight-put_before (slice_bytes s) (layer_walk l), eight)
+-- the weight of what a place links to, and one
+abbrev pub link_weight : {L : Type 0} → (L → List Pair) → Content L → ℕ
+link_weight below (Short len columns) = 0
+link_weight below (Suffix suffix columns) = 0
+link_weight below (Link linked) = weight (below linked) + 1
+
+content_falls : {L : Type 0} (below : L → List Pair) (s : ℕ) (c : Content L) → IsPlace (view_of_content below s c) → link_weight below c ≤ weight (pairs_at (view_of_content below s c))
+content_falls below s (Short l c) h = omega arith
+content_falls below s (Suffix t c) h = omega arith
+content_falls below s (Link l) h =
+    let two : 2 ≤ length (below l) = h.1 in
+    let eight : length (slice_bytes s) * length (below l) ≡ 8 * length (below l) = ap (λ n. n * length (below l)) (slice_bytes-length s) in
+    omega (arith, weight-put_before (slice_bytes s) (below l), eight)
 
 pub walk-append : (xs ys : List PlaceView) → walk (xs ++ ys) ≡ walk xs ++ walk ys
 walk-append [] ys = refl
 walk-append (x ∷ xs) ys = ap (λ w. pairs_at x ++ w) (walk-append xs ys) ∙ sym (append_assoc (pairs_at x) (walk xs) (walk ys))
 
-pub places_fall : (low : ℕ) (ps : List DraftPlace) → IsLayerFrom low (draft_views ps) → most deep-DraftPlace ps ≤ weight (walk (draft_views ps))
-places_fall low [] h = omega arith
-places_fall low (p ∷ ps) h =
-    omega (arith, content_falls p.slice p.content h.0, places_fall (suc (rank_at (draft_view p))) ps h.2, weight-append (pairs_at (draft_view p)) (walk (draft_views ps)))
+-- `deep` is the depth of a place, as the kit names it
+pub places_fall : {L : Type 0} (below : L → List Pair) (deep : Place L → ℕ) → ((p : Place L) → deep p ≤ link_weight below p.content)
+    → (low : ℕ) (ps : List (Place L)) → IsLayerFrom low (views below ps) → most deep ps ≤ weight (walk (views below ps))
+places_fall below deep light low [] h = omega arith
+places_fall below deep light low (p ∷ ps) h =
+    omega (
+      arith,
+      light p,
+      content_falls below p.slice p.content h.0,
+      places_fall below deep light (suc (rank_at (view_of below p))) ps h.2,
+      weight-append (pairs_at (view_of below p)) (walk (views below ps)),
+    )
 
 pub layer_weaker : (low least : ℕ) (ps : List PlaceView) → least ≤ low → IsLayerFrom low ps → IsLayerFrom least ps
 layer_weaker low least [] le h = tt
@@ -52,9 +70,17 @@ pub layer_back : (low : ℕ) (xs ys : List PlaceView) → IsLayerFrom low (xs ++
 layer_back low [] ys h = h
 layer_back low (x ∷ xs) ys h = let from : low ≤ rank_at x = h.1 in layer_weaker (suc (rank_at x)) low ys (omega arith) (layer_back (suc (rank_at x)) xs ys h.2)
 
+abbrev deep_place : Place DraftView → ℕ
+deep_place = weighed-Border-Open-0-at-7.weight DraftView (λ d. weight (layer_walk d) + 1)
+
+deep_link : (s : ℕ) (c : Content DraftView) → deep_place (record { slice = s; content = c }) ≤ link_weight layer_walk c
+deep_link s (Short l c) = omega arith
+deep_link s (Suffix t c) = omega arith
+deep_link s (Link d) = omega arith
+
 -- a sealed border holds nodes, not drafts
 border_falls : (b : Border) → IsLayerFrom 0 (border_view b) → deep-Border b ≤ weight (walk (border_view b))
-border_falls (Open ps) h = omega (arith, places_fall 0 ps.items h)
+border_falls (Open ps) h = omega (arith, places_fall layer_walk deep_place (λ p. deep_link p.slice p.content) 0 ps.items h)
 border_falls (Closed f) h = omega arith
 
 pub borders_fall : (bs : List Border) → IsLayerFrom 0 (joined (border_views bs)) → most deep-Border bs ≤ weight (borders_walk (border_views bs))

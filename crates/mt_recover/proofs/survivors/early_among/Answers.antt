@@ -1,5 +1,5 @@
 use Rattle.std.proofs.Common.{◌≡◌, ◌+◌, sym, ap, arith}
-use Rattle.mt_record.specs.Kept.{kept_updates, as_list}
+use Rattle.mt_words.specs.Updates.{kept_updates, as_list}
 use Rattle.mt_recover.proofs.ReportLemmas.{none_early, early_step, early_one, one_if}
 use Rattle.mt_recover.proofs.survivors.early_among.Goals as goal
 use Rattle.mt_recover.proofs.survivors.early_among.Goals.{then-comes_early, else-comes_early}

@@ -6,7 +6,7 @@ use Rattle.mt_tree.specs.Borders.{layer_walk}
 use Rattle.mt_recover.specs.declared.haul.Piece.{Piece}
 use Rattle.mt_recover.specs.Job.{JobView, IsPieceOf}
 use Rattle.mt_recover.proofs.Assembles.{IsHeldBy}
-use Rattle.mt_recover.proofs.Claims.{drew_on}
+use Rattle.mt_recover.proofs.Works.{drew_on}
 use Rattle.mt_recover.proofs.working.work.Goals as goal
 
 pub loop-number-preserved : goal.loop-number-preserved

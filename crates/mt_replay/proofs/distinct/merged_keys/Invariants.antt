@@ -2,7 +2,8 @@ use Rattle.std.proofs.Common.{map}
 use Rattle.std.specs.Prelude.{All}
 use Rattle.mt_words.specs.Limits.{widest}
 use Rattle.mt_words.specs.Words.{IsKey}
-use Rattle.mt_replay.specs.Cuts.{InKeyOrder, AreDistinctKeys, keys_in}
+use Rattle.mt_replay.specs.Cuts.{InKeyOrder, keys_in}
+use Rattle.mt_replay.specs.Even.{AreDistinctKeys}
 use Rattle.mt_replay.proofs.distinct.merged_keys.Given as goal
 
 -- each key of the updates so far, once

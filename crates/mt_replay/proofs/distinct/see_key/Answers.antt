@@ -1,5 +1,6 @@
 use Rattle.std.proofs.Common.{◌≡◌, ◌-◌, ◌<◌, ◌++◌, [], ◌∷◌, ◌∙◌, List, ℕ, length, map, slice_index_or, Bor, Contains, sym, subst}
-use Rattle.mt_replay.specs.Cuts.{AreDistinctKeys, keys_in}
+use Rattle.mt_replay.specs.Cuts.{keys_in}
+use Rattle.mt_replay.specs.Even.{AreDistinctKeys}
 use Rattle.mt_replay.proofs.DistinctLemmas.{of_last, of_next, is_there, not_last, pushed_keys}
 use Rattle.mt_replay.proofs.distinct.see_key.Goals as goal
 

@@ -1,5 +1,5 @@
 use Rattle.std.proofs.Common.{arith}
-use Rattle.mt_record.specs.Kept.{as_list}
+use Rattle.mt_words.specs.Updates.{as_list}
 use Rattle.mt_replay.proofs.BodyLemmas.{stretch_step}
 use Rattle.mt_replay.proofs.sliced.list_survivors.Goals as goal
 

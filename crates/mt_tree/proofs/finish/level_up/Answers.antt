@@ -3,7 +3,8 @@ use Rattle.std.proofs.lemmas.Bool.{cases_lt}
 use Rattle.std.specs.List.{AllByRecursion, flat_map}
 use Rattle.mt_tree.specs.Layer.{PlaceView}
 use Rattle.std.specs.Vec.Iter.{into_iter_items}
-use Rattle.mt_tree.specs.Nodes.{NodeView, LayerView, below_of, level_height, IsNodeAt, IsLevelAt, IsNode, parent_node, borders_of}
+use Rattle.mt_tree.specs.Nodes.{NodeView, LayerView, IsNode}
+use Rattle.mt_tree.specs.Steps.Levels.{below_of, level_height, IsNodeAt, IsLevelAt, parent_node, borders_of}
 use Rattle.mt_tree.proofs.Joins.{all_append}
 use Rattle.mt_tree.proofs.Levels.{moved, level_back, level_children, height_of, under_parent}
 use Rattle.mt_tree.proofs.finish.level_up.Goals as goal

@@ -1,7 +1,7 @@
 use Rattle.std.proofs.Common.{◌≡◌, ◌≢◌, suc, ◌+◌, ◌*◌, ◌≤◌, ◌++◌, length}
 use Rattle.std.specs.List.{AllByRecursion}
 use Rattle.std.specs.Vec.Iter.{into_iter_items}
-use Rattle.mt_tree.specs.Nodes.{IsNodeAt, IsLevelAt, level_height, borders_of, below_of}
+use Rattle.mt_tree.specs.Steps.Levels.{IsNodeAt, IsLevelAt, level_height, borders_of, below_of}
 use Rattle.mt_tree.proofs.finish.level_up.Given as goal
 
 abbrev pub invariant-loop-node : goal.invariant-loop-node

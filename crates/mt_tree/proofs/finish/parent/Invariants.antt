@@ -1,5 +1,5 @@
 use Rattle.std.proofs.Common.{◌≡◌, map, take, length}
-use Rattle.mt_tree.specs.Nodes.{first_of}
+use Rattle.mt_tree.specs.Steps.Levels.{first_of}
 use Rattle.mt_tree.proofs.finish.parent.Given as goal
 
 abbrev pub invariant-loop-child : goal.invariant-loop-child

@@ -2,17 +2,20 @@ use Rattle.std.proofs.Common.{◌≡◌, ◌≤◌, ◌<◌, length, List, refl,
 use Rattle.std.proofs.lemmas.List.{length-map}
 use Rattle.mt_words.specs.Slices.{slice_bytes}
 use Rattle.mt_words.proofs.SliceBytes.{slice_bytes-length}
-use Rattle.mt_tree.specs.Layer.{walk, weight, pairs_at, Meet}
+use Rattle.mt_tree.specs.Layer.{walk, pairs_at}
+use Rattle.mt_tree.specs.Steps.Pairs.{weight}
+use Rattle.mt_tree.specs.Steps.Seams.{Meet}
 use Rattle.mt_words.specs.Walks.{Pair}
-use Rattle.mt_tree.specs.Borders.{layer_walk}
+use Rattle.mt_tree.specs.Borders.{layer_walk, DraftView}
 use Rattle.mt_tree.specs.Nodes.{IsBorder}
-use Rattle.mt_tree.specs.Steps.DraftViews.{draft_view, draft_views, IsFirstOpen, IsStored}
-use Rattle.mt_tree.specs.declared.layer.DraftPlace.{DraftPlace}
+use Rattle.mt_tree.specs.Steps.DraftViews.{IsFirstOpen, IsStored}
 use Rattle.mt_tree.proofs.Joins.{first_removed, last_lawful, below_at_seam, apart_layer, merged_layer, last_weight, below_lighter, below_shared, Merging, merged_lawful, merged_rank, same_slice}
 use Rattle.mt_tree.proofs.Meets.{open_first, seam_of, same_first, glued_layer, ends_kept, ends_merged, sides, left_layer, right_layer, last_border, seam_walk}
 use Rattle.mt_tree.proofs.Behind.{open_end}
 use Rattle.mt_tree.proofs.Puts.{popped_open}
 use Rattle.mt_tree.proofs.Links.{stored_are, links_parted, links_first, seam_stored, links_merged, links_kept}
+use Rattle.mt_tree.specs.Steps.Places.{views, view_of}
+use Rattle.mt_tree.specs.declared.place.Place.{Place}
 use Rattle.mt_tree.proofs.layer.+join.Goals as goal
 use Rattle.mt_tree.proofs.layer.+join.Goals.{meet-then-meets+in_ok-upper+in_ok-lower+in_ok-joined+in_ok-push, meet-else-meets+in_ok-push-2}
 
@@ -26,12 +29,12 @@ pub meet-join-requires : goal.meet-join-requires
 meet-join-requires t c =
     let s = seam_of _ _ _ _ _ c.requires.left_lawful c.requires.right_lawful c.requires.below c.in-Some.ensures.items c.requires.some.1 c.remove-first.ensures.value in
     let first : c.index.result.now ≡ c.remove-first.result = same_first _ _ _ c.requires.some.1 c.index.ensures c.remove-first.ensures.value in
-    let here : Meet (draft_view c.in-Some.last) (draft_view c.index.result.now) = search rules in
-    let meet : Meet (draft_view c.in-Some.last) (draft_view c.remove-first.result) = subst (λ (z : DraftPlace). Meet (draft_view c.in-Some.last) (draft_view z)) first here in
-    let light : weight (layer_walk c.in_ok-upper.upper) < weight (pairs_at (draft_view c.in-Some.last)) =
+    let here : Meet (view_of layer_walk c.in-Some.last) (view_of layer_walk c.index.result.now) = search rules in
+    let meet : Meet (view_of layer_walk c.in-Some.last) (view_of layer_walk c.remove-first.result) = subst (λ (z : Place DraftView). Meet (view_of layer_walk c.in-Some.last) (view_of layer_walk z)) first here in
+    let light : weight (layer_walk c.in_ok-upper.upper) < weight (pairs_at (view_of layer_walk c.in-Some.last)) =
     subst (λ (w : List Pair). weight (layer_walk c.in_ok-upper.upper) < weight w) c.in_ok-upper.ensures.pairs (below_lighter (slice_bytes c.in-Some.last.slice) (layer_walk c.in_ok-upper.upper) (slice_bytes-length c.in-Some.last.slice) c.in_ok-upper.ensures.some) in
     let heavy = last_weight _ _ _ _ s in
-    let left = ap (λ (z : List DraftPlace). weight (walk (draft_views z))) c.in-Some.ensures.items in
+    let left = ap (λ (z : List (Place DraftView)). weight (walk (views layer_walk z))) c.in-Some.ensures.items in
     (omega (arith, left, heavy, light, c.decreases), below_shared _ _ _ _ meet c.in_ok-upper.ensures.pairs c.in_ok-lower.ensures.pairs (below_at_seam _ _ _ _ s))
 
 pub Layer::join-into_places-requires : goal.Layer::join-into_places-requires
@@ -46,15 +49,15 @@ pub Layer::join-meet-requires : goal.Layer::join-meet-requires
 Layer::join-meet-requires t c =
     let some : 0 < length c.right.inside.borders.items = search rules in
     let s = sides _ _ _ _ _ _ _ _ c.left.view_is c.right.view_is c.left.invariant c.right.invariant c.requires (open_end _ _ _ _ c.in-Some.ensures.items c.into_places.ensures) (open_first _ _ _ _ some c.remove-first.ensures.value c.remove-first.ensures.items c.into_places-2.ensures) in
-    let l_some : 1 ≤ length (draft_views c.into_places.result.items) = (last_border _ _ _ _ _ s).0 in
-    let f_some : 1 ≤ length (draft_views c.into_places-2.result.items) = s.right.0.0.0 in (
+    let l_some : 1 ≤ length (views layer_walk c.into_places.result.items) = (last_border _ _ _ _ _ s).0 in
+    let f_some : 1 ≤ length (views layer_walk c.into_places-2.result.items) = s.right.0.0.0 in (
       omega (arith, s.light, c.decreases),
       (
         left_layer _ _ _ _ _ s,
         (
           right_layer _ _ _ _ _ s,
           (
-            (omega (arith, length-map c.into_places.result.items draft_view), omega (arith, length-map c.into_places-2.result.items draft_view)),
+            (omega (arith, length-map c.into_places.result.items (view_of layer_walk)), omega (arith, length-map c.into_places-2.result.items (view_of layer_walk))),
             (((links_parted _ _ _ c.left.invariant.links (open_end _ _ _ _ c.in-Some.ensures.items c.into_places.ensures)).1, (links_first _ _ _ c.right.invariant.links (open_first _ _ _ _ some c.remove-first.ensures.value c.remove-first.ensures.items c.into_places-2.ensures)).0), s.below),
           ),
         ),
@@ -67,8 +70,8 @@ meet-returns-clause-lawful t c =
       | meet-then-meets+in_ok-upper+in_ok-lower+in_ok-joined+in_ok-push w ↦
           let s = seam_of _ _ _ _ _ c.requires.left_lawful c.requires.right_lawful c.requires.below c.in-Some.ensures.items c.requires.some.1 w.remove-first.ensures.value in
           let first : c.index.result.now ≡ w.remove-first.result = same_first _ _ _ c.requires.some.1 c.index.ensures w.remove-first.ensures.value in
-          let here : Meet (draft_view c.in-Some.last) (draft_view c.index.result.now) = search (rules, w.if-meets) in
-          let meet : Meet (draft_view c.in-Some.last) (draft_view w.remove-first.result) = subst (λ (z : DraftPlace). Meet (draft_view c.in-Some.last) (draft_view z)) first here in
+          let here : Meet (view_of layer_walk c.in-Some.last) (view_of layer_walk c.index.result.now) = search (rules, w.if-meets) in
+          let meet : Meet (view_of layer_walk c.in-Some.last) (view_of layer_walk w.remove-first.result) = subst (λ (z : Place DraftView). Meet (view_of layer_walk c.in-Some.last) (view_of layer_walk z)) first here in
           let m : Merging c.in-Some.last w.remove-first.result (layer_walk w.in_ok-upper.upper) (layer_walk w.in_ok-lower.lower) (layer_walk w.in_ok-joined.joined) = record {
             meet = meet;
             upper_is = w.in_ok-upper.ensures.pairs;
@@ -82,7 +85,7 @@ meet-returns-clause-lawful t c =
           (merged_layer _ _ _ _ s _ meet (merged_lawful _ _ _ _ _ m (last_lawful _ _ _ _ s)) (merged_rank _ _ _ _ _ m))
       | meet-else-meets+in_ok-push-2 w ↦
           let s = seam_of _ _ _ _ _ c.requires.left_lawful c.requires.right_lawful c.requires.below c.in-Some.ensures.items c.requires.some.1 c.index.ensures in
-          let apart : Meet (draft_view c.in-Some.last) (draft_view c.index.result.now) → ⊥ = search (rules, w.if-meets) in
+          let apart : Meet (view_of layer_walk c.in-Some.last) (view_of layer_walk c.index.result.now) → ⊥ = search (rules, w.if-meets) in
           glued_layer _ _ _ _ _ (ap (λ v. v.items) w.places-is ∙ w.in_ok-push-2.ensures.items) (ap (λ v. v.items) w.rest-is ∙ first_removed _ _ _ c.requires.some.1 c.index.ensures refl) (apart_layer _ _ _ _ s apart)
     ]
 
@@ -91,8 +94,8 @@ meet-returns-clause-slices t c =
     elim c.if-meets.branch [
       | meet-then-meets+in_ok-upper+in_ok-lower+in_ok-joined+in_ok-push w ↦
           let first : c.index.result.now ≡ w.remove-first.result = same_first _ _ _ c.requires.some.1 c.index.ensures w.remove-first.ensures.value in
-          let here : Meet (draft_view c.in-Some.last) (draft_view c.index.result.now) = search (rules, w.if-meets) in
-          let meet : Meet (draft_view c.in-Some.last) (draft_view w.remove-first.result) = subst (λ (z : DraftPlace). Meet (draft_view c.in-Some.last) (draft_view z)) first here in
+          let here : Meet (view_of layer_walk c.in-Some.last) (view_of layer_walk c.index.result.now) = search (rules, w.if-meets) in
+          let meet : Meet (view_of layer_walk c.in-Some.last) (view_of layer_walk w.remove-first.result) = subst (λ (z : Place DraftView). Meet (view_of layer_walk c.in-Some.last) (view_of layer_walk z)) first here in
           ends_merged _ _ _ _ _ _ _ _ _ c.in-Some.ensures.items (first_removed _ _ _ c.requires.some.1 w.remove-first.ensures.value refl) (ap (λ v. v.items) w.places-is ∙ w.in_ok-push.ensures.items) (ap (λ v. v.items) w.rest-is ∙ w.remove-first.ensures.items) refl (same_slice _ _ meet)
       | meet-else-meets+in_ok-push-2 w ↦
           ends_kept _ _ _ _ c.requires.some.0 c.requires.some.1 (ap (λ v. v.items) w.places-is ∙ w.in_ok-push-2.ensures.items ∙ sym c.in-Some.ensures.items) (ap (λ v. v.items) w.rest-is)
@@ -102,12 +105,12 @@ pub Layer::join-push_both-requires-clause-some : goal.Layer::join-push_both-requ
 Layer::join-push_both-requires-clause-some t c =
     let some : 0 < length c.right.inside.borders.items = search rules in
     let s = sides _ _ _ _ _ _ _ _ c.left.view_is c.right.view_is c.left.invariant c.right.invariant c.requires (open_end _ _ _ _ c.in-Some.ensures.items c.into_places.ensures) (open_first _ _ _ _ some c.remove-first.ensures.value c.remove-first.ensures.items c.into_places-2.ensures) in
-    let b : IsBorder (draft_views c.into_places.result.items) = last_border _ _ _ _ _ s in
-    let low : 1 ≤ length (draft_views c.into_places.result.items) = b.0 in
-    let high : length (draft_views c.into_places.result.items) ≤ 15 = b.1 in
+    let b : IsBorder (views layer_walk c.into_places.result.items) = last_border _ _ _ _ _ s in
+    let low : 1 ≤ length (views layer_walk c.into_places.result.items) = b.0 in
+    let high : length (views layer_walk c.into_places.result.items) ≤ 15 = b.1 in
     let same = c.in_ok-last.ensures.same in
-    let x = length-map c.into_places.result.items draft_view in
-    let y = length-map c.in_ok-last.last.items draft_view in
+    let x = length-map c.into_places.result.items (view_of layer_walk) in
+    let y = length-map c.in_ok-last.last.items (view_of layer_walk) in
     (omega (arith, x, y, same), omega (arith, x, y, same))
 
 pub Layer::join-invariant_of-result-2 : goal.Layer::join-invariant_of-result-2

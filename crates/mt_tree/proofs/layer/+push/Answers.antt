@@ -1,9 +1,10 @@
 use Rattle.std.proofs.Common.{◌≡◌, ◌≤◌, ◌-◌, ℕ, [], ◌∷◌, length, get_or, refl, ap, ◌∙◌, arith, rules}
 use Rattle.std.proofs.lemmas.List.{length-map, take_rest}
-use Rattle.mt_tree.specs.Steps.DraftViews.{draft_view, draft_views}
 use Rattle.mt_tree.proofs.Behind.{open_end, popped_lawful, last_lawful, own_layer, deeper, deeper_below, deeper_light, deeper_layer, deeper_walk, deeper_first, opened, opened_layer, opened_border, opened_below, opened_light, opened_put}
 use Rattle.mt_tree.proofs.Puts.{popped_open}
 use Rattle.mt_tree.proofs.Links.{stored_are, links_parted, put_stored, links_then, links_changed}
+use Rattle.mt_tree.specs.Steps.Places.{views, view_of}
+use Rattle.mt_tree.specs.Borders.{layer_walk}
 use Rattle.mt_tree.proofs.layer.+push.Goals as goal
 
 -- ---- the last border
@@ -13,15 +14,15 @@ Layer::push-into_places-requires t c = popped_open _ _ _ c.in-Some.ensures.items
 pub Layer::push-follow-requires : goal.Layer::push-follow-requires
 Layer::push-follow-requires t c =
     let o = opened _ _ _ _ c.layer.view_is c.layer.invariant (open_end _ _ _ _ c.in-Some.ensures.items c.into_places.ensures) in
-    let some : 1 ≤ length (draft_views c.into_places.result.items) = (opened_border _ _ _ o).0 in
+    let some : 1 ≤ length (views layer_walk c.into_places.result.items) = (opened_border _ _ _ o).0 in
     let light = opened_light _ _ _ o in
-    (omega (arith, light, c.decreases), (opened_layer _ _ _ o, (omega (arith, length-map c.into_places.result.items draft_view), ((links_parted _ _ _ c.layer.invariant.links (open_end _ _ _ _ c.in-Some.ensures.items c.into_places.ensures)).1, opened_below _ _ _ o ((c.args.key.now, c.args.columns) ∷ []) c.requires))))
+    (omega (arith, light, c.decreases), (opened_layer _ _ _ o, (omega (arith, length-map c.into_places.result.items (view_of layer_walk)), ((links_parted _ _ _ c.layer.invariant.links (open_end _ _ _ _ c.in-Some.ensures.items c.into_places.ensures)).1, opened_below _ _ _ o ((c.args.key.now, c.args.columns) ∷ []) c.requires))))
 
 pub Layer::push-push_cut-requires-clause-most : goal.Layer::push-push_cut-requires-clause-most
 Layer::push-push_cut-requires-clause-most t c =
     let o = opened _ _ _ _ c.layer.view_is c.layer.invariant (open_end _ _ _ _ c.in-Some.ensures.items c.into_places.ensures) in
-    let most : length (draft_views c.into_places.result.items) ≤ 15 = (opened_border _ _ _ o).1 in
-    omega (arith, most, length-map c.into_places.result.items draft_view, c.in_ok-places.ensures.more)
+    let most : length (views layer_walk c.into_places.result.items) ≤ 15 = (opened_border _ _ _ o).1 in
+    omega (arith, most, length-map c.into_places.result.items (view_of layer_walk), c.in_ok-places.ensures.more)
 
 pub Layer::push-invariant_of-result : goal.Layer::push-invariant_of-result
 Layer::push-invariant_of-result t c =

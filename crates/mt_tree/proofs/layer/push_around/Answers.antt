@@ -1,14 +1,15 @@
 use Rattle.std.proofs.Common.{sym, subst}
 use Rattle.std.proofs.lemmas.Result.{on_ok_weaker}
-use Rattle.mt_tree.specs.Layer.{IsLayer}
+use Rattle.mt_tree.specs.Steps.Ranks.{IsRanked}
 use Rattle.mt_tree.specs.Steps.Falls.{layer_back}
-use Rattle.mt_tree.specs.Steps.DraftViews.{draft_views}
 use Rattle.mt_tree.proofs.Puts.{views_parted, around, put_thirds, few_places}
+use Rattle.mt_tree.specs.Steps.Places.{views}
+use Rattle.mt_tree.specs.Borders.{layer_walk}
 use Rattle.mt_tree.proofs.layer.push_around.Goals as goal
 
 pub split_before-requires-2 : goal.split_before-requires-2
 split_before-requires-2 c =
-    layer_back 0 (draft_views c.split_before.new.places.items) (draft_views c.in_ok-run.run'.items) (subst IsLayer (sym (views_parted _ _ _ c.in_ok-run.ensures.same)) c.requires.lawful)
+    layer_back 0 (views layer_walk c.split_before.new.places.items) (views layer_walk c.in_ok-run.run'.items) (subst IsRanked (sym (views_parted _ _ _ c.in_ok-run.ensures.same)) c.requires.lawful)
 
 pub push_border-requires : goal.push_border-requires
 push_border-requires c =

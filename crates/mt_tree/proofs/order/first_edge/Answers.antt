@@ -1,5 +1,5 @@
 use Rattle.std.proofs.Common.{ap}
-use Rattle.mt_tree.specs.Steps.Sides.{side_walk}
+use Rattle.mt_tree.specs.Steps.Edges.{side_walk}
 use Rattle.mt_tree.proofs.EdgeBorders.{first_is_open, first_of_borders}
 use Rattle.mt_tree.proofs.order.first_edge.Goals as goal
 

@@ -1,5 +1,5 @@
 use Rattle.std.proofs.Common.{ap, sym}
-use Rattle.mt_tree.specs.Steps.Sides.{side_walk}
+use Rattle.mt_tree.specs.Steps.Edges.{side_walk}
 use Rattle.mt_tree.proofs.EdgeBorders.{last_is_open, last_border_lawful, last_of_borders, last_border_some, never_none}
 use Rattle.mt_tree.proofs.order.last_edge.Goals as goal
 

@@ -8,9 +8,9 @@ use Rattle.mt_board.proofs.board.Board.close.Goals as goal
 
 pub loop-pass-init : goal.loop-pass-init
 loop-pass-init c = record {
-  same = ap (λ (q : PassView). q.board.table) c.first.view_is ∙ ap (λ (b : BoardId). b.table) (last_board _ _ _ _ c.requires c.in-Some.ensures.items);
-  slots = c.first.invariant.0;
-  gathers = gathers_first c.args.self c.pop.new.self.items c.args.passes.items c.in-Some.first _ _ _ _ c.first.view_is c.first.invariant.1 c.first.invariant.2 (omega (arith, c.self.invariant.3, c.if-len-self.false)) c.requires c.in-Some.ensures.items;
+  same = ap (λ (q : PassView). q.board.table) c.last.view_is ∙ ap (λ (b : BoardId). b.table) (last_board _ _ _ _ c.requires c.in-Some.ensures.items);
+  slots = c.last.invariant.0;
+  gathers = gathers_first c.args.self c.pop.new.self.items c.args.passes.items c.in-Some.last _ _ _ _ c.last.view_is c.last.invariant.1 c.last.invariant.2 (omega (arith, c.self.invariant.3, c.if-len-self.false)) c.requires c.in-Some.ensures.items;
 }
 
 pub join_seat-requires : goal.join_seat-requires

@@ -1,12 +1,12 @@
-use Rattle.mt_recover.specs.Prepared.{AreLeftBy}
+use Rattle.mt_recover.specs.Steps.Preparing.{AreLeftBy}
 use Rattle.mt_recover.proofs.Preparing.{are_left}
 use Rattle.mt_recover.proofs.prepared.Prepared.by_workers.Goals as goal
 
--- what the logs and the parts left
-left : (g : _) (c : goal.In_ok-parts g) → AreLeftBy c.args.found c.of-counts.result.0 c.in_ok-logs.logs.items c.in_ok-parts.parts.items
+-- what the logs left
+left : (g : _) (c : goal.In_ok-logs g) → AreLeftBy c.args.found c.of-counts.result.0 c.in_ok-logs.logs.items c.of-counts.result.2
 left g c =
-    are_left c.args.found c.of-counts.result.0 c.of-counts.result.1 c.of-counts.result.2 c.parts_of.result.items c.in_ok-logs.logs.items c.in_ok-parts.parts.items c.of-counts.ensures.counts c.of-counts.ensures.scans c.of-counts.ensures.chosen
-    c.parts_of.ensures c.in_ok-logs.ensures c.in_ok-parts.ensures
+    are_left c.args.found c.of-counts.result.0 c.of-counts.result.1 c.of-counts.result.2 c.in_ok-logs.logs.items c.of-counts.ensures.counts c.of-counts.ensures.scans c.of-counts.ensures.chosen
+    c.in_ok-logs.ensures
 
 pub of-requires : goal.of-requires
 of-requires g c = (c.args.found, c.requires, left g c)

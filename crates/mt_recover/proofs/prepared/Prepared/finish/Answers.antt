@@ -8,7 +8,8 @@ use Rattle.mt_tree.specs.Layer.{PlaceView}
 use Rattle.mt_tree.specs.Layers.{CountsLayers}
 use Rattle.mt_tree.specs.Nodes.{NodeView}
 use Rattle.mt_tree.specs.Trees.{tree_walk, tree_borders}
-use Rattle.mt_recover.specs.Prepared.{PreparedView, HasRoomFor, IsMadeOf, report_of}
+use Rattle.mt_recover.specs.Prepared.{PreparedView, IsMadeOf, report_of}
+use Rattle.mt_recover.specs.Steps.Preparing.{HasRoomFor}
 use Rattle.mt_recover.proofs.Preparing.{count_is}
 use Rattle.mt_recover.proofs.prepared.Prepared.finish.Goals as goal
 

@@ -5,7 +5,8 @@ use Rattle.std.proofs.lemmas.Iterator.Adapters.{YieldsList-from_vec}
 use Rattle.mt_words.specs.declared.update.Update.{Update}
 use Rattle.mt_words.specs.Walks.{joined}
 use Rattle.mt_replay.specs.Walk.{AreApart}
-use Rattle.mt_recover.specs.Prepared.{HasRoomFor, IsPreparedOf, cells_of, early_of}
+use Rattle.mt_recover.specs.Prepared.{IsPreparedOf}
+use Rattle.mt_recover.specs.Steps.Preparing.{HasRoomFor, cells_of, early_of}
 use Rattle.mt_recover.proofs.Preparing.{are_apart, have_room, is_prepared}
 use Rattle.mt_recover.proofs.prepared.Prepared.of.Goals as goal
 
@@ -26,9 +27,9 @@ invariant_of-result c =
     let parts = c.in_ok-parts.parts.items in
     let found = c.requires in
     let is = found.1 in
-    let room = have_room is.0 is.1 found.0 is.2 c.args.counts c.args.logs.items c.args.parts.items found.2 logs parts c.in_ok-logs.ensures.done c.in_ok-parts.ensures.done in (
+    let room = have_room is.0 is.1 found.0 is.2 c.args.counts c.args.logs.items c.args.chosen found.2 logs parts c.in_ok-logs.ensures.done (c.in_ok-parts.ensures ∙ sym c.parts_of.ensures.entries) in (
       subst (λ (ls : List (List Update)). AreApart (joined ls)) (sym (lists_are c))
-          (are_apart is.0 is.1 found.0 is.2 c.args.counts c.args.logs.items c.args.parts.items found.2 logs parts c.in_ok-logs.ensures.done c.in_ok-parts.ensures.done),
+          (are_apart is.0 is.1 found.0 is.2 c.args.counts c.args.logs.items c.args.chosen found.2 logs parts c.in_ok-logs.ensures.done (c.in_ok-parts.ensures ∙ sym c.parts_of.ensures.entries)),
       subst (λ (n : ℕ). HasRoomFor c.args.counts n (length (joined c.append-2.new.self.items))) (sym (early_is c))
           (subst (λ (ls : List (List Update)). HasRoomFor c.args.counts (early_of logs) (length (joined ls))) (sym (lists_are c)) room),
     )
@@ -37,6 +38,6 @@ pub returns : goal.returns
 returns c = λ ls ps found is are.
     let logs = c.in_ok-logs.logs.items in
     let parts = c.in_ok-parts.parts.items in
-    let prepared = is_prepared ls ps found is c.args.counts c.args.logs.items c.args.parts.items are logs parts c.in_ok-logs.ensures.done c.in_ok-parts.ensures.done in
+    let prepared = is_prepared ls ps found is c.args.counts c.args.logs.items c.args.chosen are logs parts c.in_ok-logs.ensures.done (c.in_ok-parts.ensures ∙ sym c.parts_of.ensures.entries) in
     subst (λ (lists : List (List Update)). IsPreparedOf ls ps (record { updates = joined lists; early = c.total-early.result; counts = c.args.counts })) (sym (lists_are c.before))
     (subst (λ (n : ℕ). IsPreparedOf ls ps (record { updates = joined (cells_of logs ++ parts); early = n; counts = c.args.counts })) (sym (early_is c.before)) prepared)

@@ -1,5 +1,5 @@
 use Rattle.std.proofs.Common.{◌≡◌}
-use Rattle.mt_recover.specs.Prepared.{cells_of}
+use Rattle.mt_recover.specs.Steps.Preparing.{cells_of}
 use Rattle.mt_recover.proofs.prepared.Prepared.of.Given as goal
 
 -- the cells of the logs so far

@@ -1,8 +1,7 @@
 use Rattle.std.proofs.Common.{◌≡◌, ◌∙◌, ◌^◌, ◌-◌, ◌+◌, List, [], None, length, min, ap, sym, subst, refl, arith}
 use Rattle.std.specs.List.{filter}
-use Rattle.mt_words.specs.Changes.{Logged}
+use Rattle.mt_words.specs.Changes.{Logged, is_mark}
 use Rattle.mt_words.specs.Updates.{updates_from}
-use Rattle.mt_record.specs.Kept.{is_mark}
 use Rattle.mt_record.proofs.RecordLemmas.{marks_and_updates}
 use Rattle.mt_scan.specs.Scans.{IsScanOf}
 use Rattle.mt_scan.proofs.SharedScans.{has_numbers}

@@ -1,9 +1,10 @@
 use Rattle.std.proofs.Common.{◌≡◌, ℕ, ◌-◌, ◌<◌, ◌≤◌, length, get_or, take, drop, List, sym, ap, ◌∙◌, subst, rules}
 use Rattle.std.specs.Cmp.Lexicographic.{bytes_decides}
-use Rattle.mt_tree.specs.Layer.{walk, find_key}
+use Rattle.mt_tree.specs.Steps.Pairs.{find_key}
 use Rattle.std.specs.Option.{option_copied}
 use Rattle.mt_words.specs.Slices.{slice_in}
-use Rattle.mt_tree.specs.Nodes.{NodeView, places}
+use Rattle.mt_tree.specs.Nodes.{NodeView}
+use Rattle.mt_tree.specs.Steps.Levels.{node_walk}
 use Rattle.mt_tree.proofs.Finds.{border_walk, border_layer, interior_is, interior_walk, layer_lawful, found_at, not_found, short_case, suffix_long, suffix_true, suffix_false, link_long, link_case, kids_find, rest_is}
 use Rattle.arrayvec.specs.declared.array_vec.ArrayVec.{ArrayVec}
 use Rattle.mt_tree.proofs.node.Node.+get.Goals as goal
@@ -53,7 +54,7 @@ returns-else-eq t c =
 pub returns-in-Link : goal.returns-in-Link
 returns-in-Link t c =
     let f = found_at c.args.key.now _ _ _ _ _ _ (border_walk _ _ _ c.self.view_is c.in-Border.is) (border_layer _ _ c.self.invariant c.in-Border.is) c.deref-in-Border.ensures.value c.in_ok-at-in-Border.ensures.found c.in_ok-at-in-Border.ensures.here c.slice_of-slice.ensures.value c.index-in-Border.ensures in
-    c.get-in-Link.ensures ∙ ap (λ (z : List ℕ). find_key z (walk (places c.in-Link.below))) (rest_is c.args.key.now) ∙ sym (link_case _ _ _ f c.slice_of-slice.ensures.bytes _ c.in-Link.is)
+    c.get-in-Link.ensures ∙ ap (λ (z : List ℕ). find_key z (node_walk c.in-Link.below)) (rest_is c.args.key.now) ∙ sym (link_case _ _ _ f c.slice_of-slice.ensures.bytes _ c.in-Link.is)
 
 pub returns-in_err-at-in-Border : goal.returns-in_err-at-in-Border
 returns-in_err-at-in-Border t c =
@@ -72,6 +73,6 @@ returns-in-Interior t c =
     let after : c.child_at-at.result < length separators → slice_in c.args.key.now < get_or separators c.child_at-at.result 0 =
     λ l. subst (λ (n : ℕ). n < get_or separators c.child_at-at.result 0) slice (subst (λ (z : List ℕ). c.slice_of-slice.result < get_or z c.child_at-at.result 0) same (c.child_at-at.ensures.after (subst (λ (z : List ℕ). c.child_at-at.result < length z) (sym same) l))) in
     c.get.ensures
-    ∙ ap (λ (n : NodeView). find_key c.args.key.now (walk (places n))) c.index.ensures
+    ∙ ap (λ (n : NodeView). find_key c.args.key.now (node_walk n)) c.index.ensures
     ∙ sym (kids_find c.args.key.now separators c.in-Interior.children.items c.child_at-at.result c.index.result.now h.nodes h.separated h.between bound before after)
     ∙ sym (ap (find_key c.args.key.now) (interior_walk _ _ _ _ c.self.view_is c.in-Interior.is))

@@ -13,6 +13,6 @@ returns c =
       wanted = refl;
       hits = λ few.
           c.in_ok-push.ensures.items
-          ∙ (λ i. old ++ record { key = (c.in-Some.ensures.value ∙ c.in_ok-from_slice.ensures.items) i; columns = c.in_ok-columns.ensures i } ∷ [])
+          ∙ (λ i. old ++ record { key = c.in_ok-key.ensures i; columns = c.in_ok-columns.ensures i } ∷ [])
           ∙ sym (take_all c.args.target.now.count (old ++ hit ∷ []) (omega (arith, room, length-append old (hit ∷ []))));
     }

@@ -1,5 +1,5 @@
 use Rattle.std.proofs.Common.{◌∙◌, ap, sym, Option}
-use Rattle.mt_tree.specs.Layer.{find_key}
+use Rattle.mt_tree.specs.Steps.Pairs.{find_key}
 use Rattle.mt_tree.specs.Nodes.{NodeView}
 use Rattle.mt_tree.specs.Trees.{tree_walk}
 use Rattle.mt_tree.proofs.Finds.{found_or_absent}

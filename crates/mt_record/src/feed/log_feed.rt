@@ -1,0 +1,151 @@
+//! Reads a log that comes in chunks.
+ghost use Rattle.std.specs.Prelude.{◌≡◌, ◌++◌, [], List, ℕ, Some, None, IsSome, IfOk, IfErr, OnOk};
+ghost use Rattle.mt_words.specs.Changes.{Logged};
+ghost use Rattle.mt_record.specs.declared.read.FeedFault.{FeedFault as FaultValue};
+ghost use Rattle.mt_record.specs.Cutting.{IsCountOf};
+ghost use Rattle.mt_record.specs.Logs.{IsTextIn};
+ghost use Rattle.mt_record.specs.LogFaults.{IsAnswered};
+ghost use Rattle.mt_record.specs.LogFeeding.{IsLogFed, ShowsNoFault, IsShown};
+
+use crate::feed::Feed;
+use crate::feed::log_items::LogItems;
+use crate::kept::Records;
+use crate::kept::log::{Dropped, KeptRecords};
+use crate::read::{FeedFault, LogText};
+use mt_words::Record;
+use std::alloc::Global;
+use std::marker::Model;
+use std::mem;
+
+/// A reader of a log that comes in chunks of any size. It collects the records in an `R`. It holds back only the
+/// beginning of the header or of one record. A record that lies completely in one chunk is copied straight from that
+/// chunk. The work is linear in the number of bytes, however they are cut.
+#[derive(Drop)]
+pub struct LogFeed<R: Records = Vec<Record>> {
+    feed: Feed<LogItems<R>>,
+}
+
+impl<R: Records> Model for LogFeed<R> {
+    ghost use Rattle.mt_record.specs.Feeding.{fed_by};
+    ghost use Rattle.mt_record.specs.LogFeeding.{log_so_far, FedLog};
+
+    ghost Value = { FedLog };
+
+    ghost view = { λ f. fed_by (log_so_far R.listed) f.feed };
+}
+
+impl LogFeed {
+    /// Creates a feed that has read no chunk.
+    pub fn new(alloc: Global) -> LogFeed
+        ensures fed { IsLogFed result [] [] }
+        ensures sound { result.fault ≡ None }
+    {
+        LogFeed::filling(alloc, Vec::new(alloc))
+    }
+
+    /// Takes the complete records that were read and not yet taken, in order. After a fault these are the records
+    /// before it. After `Memory` they may be only the first of the complete records. It does not allocate.
+    pub fn take(&mut self) -> Vec<Record>
+        ensures fed { (bytes : List ℕ) (taken : List Logged) → IsLogFed self.old bytes taken →
+            IsLogFed self.new bytes (taken ++ result.items) }
+        ensures records { result.items ≡ self.old.so_far.ready }
+        ensures rest { self.new ≡ record self.old { so_far = record self.old.so_far { ready = [] } } }
+    {
+        let ready = &mut self.feed.items.ready;
+        let alloc = *ready.allocator();
+        mem::replace(ready, Vec::new(alloc))
+    }
+}
+
+impl LogFeed<KeptRecords> {
+    /// Creates a feed that has read no chunk. It keeps the bodies of records.
+    pub fn keeping(alloc: Global) -> LogFeed<KeptRecords>
+        ensures fed { IsLogFed result [] [] }
+        ensures sound { result.fault ≡ None }
+    {
+        LogFeed::filling(alloc, KeptRecords::new(alloc))
+    }
+
+    /// Returns the timestamp of the last complete record that was read, or 0 before the first.
+    pub fn latest(&self) -> u64
+        ensures { result ≡ self.now.so_far.latest }
+    {
+        self.feed.items.latest
+    }
+
+    /// Takes the complete records that were read and not yet taken, in order, as `take` does.
+    pub fn take_kept(&mut self) -> KeptRecords
+        ensures fed { (bytes : List ℕ) (taken : List Logged) → IsLogFed self.old bytes taken →
+            IsLogFed self.new bytes (taken ++ result) }
+        ensures records { result ≡ self.old.so_far.ready }
+        ensures rest { self.new ≡ record self.old { so_far = record self.old.so_far { ready = [] } } }
+    {
+        let ready = &mut self.feed.items.ready;
+        let none = ready.none();
+        mem::replace(ready, none)
+    }
+
+    /// Drops the records that `take_kept` would take. Returns how many updates and marks they were.
+    pub fn drop_kept(&mut self) -> Dropped
+        ensures fed { (bytes : List ℕ) (taken : List Logged) → IsLogFed self.old bytes taken →
+            IsLogFed self.new bytes (taken ++ self.old.so_far.ready) }
+        ensures gone { IsCountOf self.old.so_far.ready result }
+        ensures rest { self.new ≡ record self.old { so_far = record self.old.so_far { ready = [] } } }
+    {
+        self.feed.items.ready.clear()
+    }
+}
+
+impl<R: Records> LogFeed<R> {
+    /// Creates a feed that has read no chunk. It collects records in `records`, which must be empty.
+    fn filling(alloc: Global, records: R) -> LogFeed<R>
+        requires { R.listed records ≡ [] }
+        ensures fed { IsLogFed result [] [] }
+        ensures sound { result.fault ≡ None }
+    {
+        let items = LogItems {
+            head: None,
+            ready: records,
+            latest: 0,
+            whole: 0,
+        };
+        LogFeed {
+            feed: Feed::new(alloc, items),
+        }
+    }
+
+    /// Reads the next chunk.
+    /// Err: the fault that the bytes so far show, or `Memory` if an allocation failed. The first call after which the
+    /// bytes show the fault returns it. Each later call, and `finish`, returns it again.
+    pub fn feed(&mut self, piece: &[u8]) -> Result<(), FeedFault>
+        ensures fed { (bytes : List ℕ) (taken : List Logged) → IsLogFed self.old bytes taken →
+            IsLogFed self.new (bytes ++ piece.now) taken }
+        ensures ok { (bytes : List ℕ) (taken : List Logged) → IsLogFed self.old bytes taken →
+            OnOk result (ShowsNoFault (bytes ++ piece.now)) }
+        ensures fault { (bytes : List ℕ) (taken : List Logged) → IsLogFed self.old bytes taken →
+            IfErr result (IsShown (bytes ++ piece.now)) }
+        ensures sound { OnOk result (self.new.fault ≡ None) }
+        ensures kept { IfErr result (λ fault. self.new.fault ≡ Some fault) }
+        ensures again { (fault : FaultValue) → self.old.fault ≡ Some fault → result ≡ Err fault }
+        ensures stays { IsSome self.old.fault → self.new ≡ self.old }
+    {
+        self.feed.feed(piece)
+    }
+
+    /// Returns what the bytes say as a log, with the records not yet taken.
+    /// Err: the one fault of the bytes, or `Memory` if an allocation failed.
+    pub fn finish(self) -> Result<LogText<R>, FeedFault>
+        ensures log { (bytes : List ℕ) (taken : List Logged) → IsLogFed self bytes taken →
+            IfOk result (IsTextIn R.listed taken bytes) }
+        ensures fault { (bytes : List ℕ) (taken : List Logged) → IsLogFed self bytes taken →
+            IfErr result (IsAnswered bytes) }
+        ensures ready { IfOk result (λ text. R.listed text.records ≡ self.so_far.ready) }
+        ensures again { (fault : FaultValue) → self.fault ≡ Some fault → result ≡ Err fault }
+    {
+        if let Some(fault) = self.feed.fault {
+            return Err(fault);
+        }
+        let torn = !self.feed.held.is_empty();
+        self.feed.items.finish(torn)
+    }
+}

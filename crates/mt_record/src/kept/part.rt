@@ -1,0 +1,82 @@
+//! Entries of a checkpoint, kept as bodies.
+ghost use Rattle.std.specs.Prelude.{◌≡◌, ◌<◌, [], length, slice_index_or};
+ghost use Rattle.mt_words.specs.declared.record.Change.{Change};
+ghost use Rattle.mt_words.specs.declared.update.Origin.TheVariants as origins;
+ghost use Rattle.mt_words.specs.Updates.{update_at};
+
+use crate::body::lent::Lent;
+use crate::body::spelled;
+use crate::kept::Entries;
+use crate::kept::texts::Texts;
+use mt_words::{Code, Memory, Origin};
+use std::alloc::Global;
+use std::marker::Model;
+
+/// The bytes before the fields in the body of an entry: the code `Whole` and a timestamp of 0.
+const BEFORE_FIELDS: &[u8] = &[Code::Whole as u8, 0, 0, 0, 0, 0, 0, 0, 0];
+
+/// Entries of a checkpoint, kept as bodies. They are encoded like bodies of records, with the code `Whole`, so they can
+/// be read as updates.
+#[derive(Debug, Drop)]
+pub struct KeptEntries {
+    bodies: Texts,
+}
+
+impl Model for KeptEntries {
+    ghost use Rattle.std.specs.Prelude.{List, map, All};
+    ghost use Rattle.mt_words.specs.declared.record.Change.{Change};
+    ghost use Rattle.mt_record.specs.Decoding.{change_in, IsEntryBody};
+
+    ghost Value = { List Change };
+
+    ghost view = { λ e. map change_in e.bodies };
+
+    ghost invariant = { λ e. All IsEntryBody e.bodies };
+}
+
+impl KeptEntries {
+    /// Creates an empty list of entries.
+    pub(crate) fn new(alloc: Global) -> KeptEntries
+        ensures { result ≡ [] }
+    {
+        KeptEntries {
+            bodies: Texts::new(alloc),
+        }
+    }
+
+    /// Returns the number of entries.
+    pub fn len(&self) -> usize
+        ensures { result ≡ length self.now }
+    {
+        self.bodies.len()
+    }
+
+    /// Returns the update of the entry of this number.
+    pub fn update(&self, number: usize) -> Lent<'_>
+        requires { number < length self.now }
+        ensures { (d : Change) → result ≡ update_at origins.Checkpoint 0 (slice_index_or self.now number d) }
+    {
+        Lent::of(Origin::Checkpoint, self.bodies.get(number))
+    }
+
+    /// Returns the key of the entry of this number.
+    pub fn key(&self, number: usize) -> &[u8]
+        requires { number < length self.now }
+        ensures { (d : Change) → result.now ≡ (slice_index_or self.now number d).key }
+    {
+        spelled::change(self.bodies.get(number)).key
+    }
+}
+
+impl Entries for KeptEntries {
+    ghost listed = { λ entries. entries };
+
+    fn put_entry(&mut self, fields: &[u8]) -> Result<(), Memory> {
+        self.bodies.push_joined(BEFORE_FIELDS, fields)?;
+        Ok(())
+    }
+
+    fn count(&self) -> usize {
+        self.len()
+    }
+}

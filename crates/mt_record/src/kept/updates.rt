@@ -1,0 +1,106 @@
+//! The updates of a log, borrowed from its records.
+ghost use Rattle.std.specs.Prelude.{◌≡◌, ◌<◌, ◌++◌, IfOk, OnOk, length, slice_index_or};
+ghost use Rattle.mt_words.specs.declared.update.Origin.TheVariants as origins;
+ghost use Rattle.mt_words.specs.Changes.{Logged};
+ghost use Rattle.mt_words.specs.Updates.{update_by, update_of, kept_updates, as_list};
+
+use crate::body::copy::copy_record;
+use crate::body::lent::Lent;
+use crate::body::spelled;
+use crate::kept::log::KeptRecords;
+use mt_words::{Change, Memory, Origin, Record, Stamp, Update};
+use std::alloc::Global;
+use std::marker::Model;
+
+/// The updates of a log, kept as its records.
+#[derive(Debug, Drop)]
+pub struct Updates {
+    log: usize,
+    records: KeptRecords,
+}
+
+impl Model for Updates {
+    ghost use Rattle.mt_words.specs.Updates.{Kept};
+
+    ghost Value = { Kept };
+
+    ghost view = { λ u. record { log = u.log; records = u.records } };
+}
+
+impl Updates {
+    /// Returns the updates that these records make, in the log of this number.
+    pub fn of(log: usize, records: KeptRecords) -> Updates
+        ensures { result ≡ record { log = log; records = records } }
+    {
+        Updates { log, records }
+    }
+
+    /// Returns the number of records, marks included.
+    pub fn record_count(&self) -> usize
+        ensures { result ≡ length self.now.records }
+    {
+        self.records.len()
+    }
+
+    /// Returns the number of updates.
+    pub fn len(&self) -> usize
+        ensures { result ≡ length (kept_updates self.now) }
+    {
+        self.records.len() - self.records.marks() as usize
+    }
+
+    /// Returns the update of the record of this number. Returns None if the record is a mark.
+    pub fn update(&self, number: usize) -> Option<Lent<'_>>
+        requires { number < length self.now.records }
+        ensures { (d : Logged) →
+            as_list result ≡ update_of self.now.log number (slice_index_or self.now.records number d) }
+    {
+        let body = self.records.body(number);
+        if spelled::is_mark(body) {
+            return None;
+        }
+        Some(Lent::of(self.origin(number), body))
+    }
+
+    /// Returns all updates, each with a copy of its key and its values. Err: out of memory.
+    pub fn into_vec(self, alloc: Global) -> Result<Vec<Update>, Memory>
+        ensures { IfOk result (λ updates. updates.items ≡ kept_updates self) }
+    {
+        let mut updates = Vec::with_capacity(alloc, self.len())?;
+        for number in 0..self.record_count() {
+            let logged = copy_record(alloc, self.records.body(number))?;
+            push_update(&mut updates, self.origin(number), logged)?;
+        }
+        Ok(updates)
+    }
+
+    /// Returns where the update of the record of this number comes from.
+    fn origin(&self, number: usize) -> Origin
+        ensures { result ≡ origins.Log self.now.log number }
+    {
+        Origin::Log {
+            record: number as u64,
+            log: self.log,
+        }
+    }
+}
+
+/// Appends the update of a record, if the record is not a mark. Err: out of memory.
+fn push_update(updates: &mut Vec<Update>, origin: Origin, logged: Record) -> Result<(), Memory>
+    ensures { OnOk result (updates.new.items ≡
+        updates.old.items ++ update_by origin logged.timestamp logged.change) }
+{
+    let timestamp = logged.timestamp();
+    let Some(change) = logged.into_change() else {
+        return Ok(());
+    };
+    let Change { version, key, kind } = change;
+    let stamp = Stamp { version, origin };
+    updates.push(Update {
+        key,
+        stamp,
+        timestamp,
+        kind,
+    })?;
+    Ok(())
+}

@@ -1,9 +1,0 @@
-use Rattle.std.proofs.Common.{List, subst}
-use Rattle.std.specs.Prelude.{IsPermutation}
-use Rattle.mt_words.specs.declared.update.Update.{Update}
-use Rattle.mt_replay.proofs.ExactLemmas.{ok_then}
-use Rattle.mt_replay.proofs.log_cells.LogCells.of_entries.Goals as goal
-
-pub returns : goal.returns
-returns c =
-    ok_then c.in_order.result (λ cells sorted. subst (λ (us : List Update). IsPermutation us cells) c.in_ok-sliced.ensures sorted) c.in_order.ensures
