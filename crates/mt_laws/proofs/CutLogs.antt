@@ -1,0 +1,109 @@
+-- A beginning of a log is a log.
+use Rattle.std.proofs.Common.{◌≡◌, ◌⊎◌, inl, inr, ℕ, ◌+◌, ◌≤◌, List, [], ◌∷◌, ◌++◌, length, refl, sym, ap, ◌∙◌, subst, append_assoc, arith}
+use Rattle.std.proofs.lemmas.List.{length-append, append-nil}
+use Rattle.std.specs.Prelude.{◌==◌, not}
+use Rattle.std.specs.List.{flat_map}
+use Rattle.byteorder.specs.Endian.{big_bytes}
+use Rattle.byteorder.specs.Numbers.{length-bytes_high_first}
+use Rattle.mt_words.specs.declared.limits.Limits.{Limits}
+use Rattle.mt_words.specs.Limits.{limits_of}
+use Rattle.mt_words.specs.Changes.{Logged, IsLawful}
+use Rattle.mt_record.specs.declared.feed.head.Head.{Head}
+use Rattle.mt_record.specs.Heads.{head_bytes}
+use Rattle.mt_record.specs.Fronts.{GoTogether}
+use Rattle.mt_record.specs.Spelling.{spelling, IsRecordLength}
+use Rattle.mt_record.specs.Logs.{AreRecords, IsTorn, LogReading, IsReading}
+use Rattle.mt_record.proofs.Feeds.{apart, behind_on}
+use Rattle.mt_record.proofs.Records.{tells_torn}
+use Rattle.mt_record.proofs.Unique.{same_split}
+use Rattle.mt_laws.specs.Crashes.{IsCutOf, SaysBeginning}
+use Rattle.mt_laws.proofs.CutFrames.{cut_end, cut_record}
+
+-- ---- the header
+
+-- the bytes are at least a header long, and go together with this one
+is_whole : (head : Head) (left : List ℕ) → 12 ≤ length left → GoTogether left (head_bytes head) → (behind : List ℕ) × (left ≡ head_bytes head ++ behind)
+is_whole head left long (inl longer) = longer
+is_whole head left long (inr ([], same)) = ([], sym (append-nil left) ∙ sym same ∙ sym (append-nil (head_bytes head)))
+is_whole head left long (inr (x ∷ xs, same)) =
+    let all : length (head_bytes head) ≡ length left + length (x ∷ xs) = ap length same ∙ length-append left (x ∷ xs) in
+    let eight : length (big_bytes 8 head.from) ≡ 8 = length-bytes_high_first 8 head.from in
+    absurd (omega (arith, all, eight, long))
+
+-- ---- the records
+
+-- the bytes are the first of these records, and then nothing or the beginning of a record
+record AreFirst (limits : Limits) (records : List Logged) (bytes : List ℕ) : Type 0 where
+  kept : List Logged
+  lost : List Logged
+  rest : List ℕ
+  all : records ≡ kept ++ lost
+  spelled : bytes ≡ flat_map spelling kept ++ rest
+  ends : (rest ≡ []) ⊎ IsTorn limits rest
+
+-- one more record in front
+one_more : (limits : Limits) (r : Logged) (rs : List Logged) (more bytes : List ℕ) → bytes ≡ spelling r ++ more → AreFirst limits rs more
+    → AreFirst limits (r ∷ rs) bytes
+one_more limits r rs more bytes same later = record {
+  kept = r ∷ later.kept;
+  lost = later.lost;
+  rest = later.rest;
+  all = ap (λ (l : List Logged). r ∷ l) later.all;
+  spelled = same ∙ ap (λ (l : List ℕ). spelling r ++ l) later.spelled ∙ sym (append_assoc (spelling r) (flat_map spelling later.kept) later.rest);
+  ends = later.ends;
+}
+
+-- the first record is whole, or is cut
+first_or_more : (limits : Limits) (r : Logged) (rs : List Logged) (all bytes lost : List ℕ) → IsLawful limits r
+    → ((more : List ℕ) → all ≡ more ++ lost → AreFirst limits rs more) → spelling r ++ all ≡ bytes ++ lost
+    → GoTogether (spelling r) bytes → AreFirst limits (r ∷ rs) bytes
+first_or_more limits r rs all bytes lost is next e (inl (x ∷ xs, u)) =
+    record { kept = []; lost = r ∷ rs; rest = bytes; all = refl; spelled = refl; ends = cut_record limits r bytes (x ∷ xs) is u (omega arith) }
+first_or_more limits r rs all bytes lost is next e (inl ([], u)) =
+    let same : bytes ≡ spelling r ++ [] = sym (append-nil bytes) ∙ sym u ∙ sym (append-nil (spelling r)) in
+    one_more limits r rs [] bytes same (next [] (same_split (spelling r) (spelling r) all ([] ++ lost) refl (e ∙ behind_on (spelling r) bytes [] lost same)).1)
+first_or_more limits r rs all bytes lost is next e (inr (more, same)) =
+    one_more limits r rs more bytes same (next more (same_split (spelling r) (spelling r) all (more ++ lost) refl (e ∙ behind_on (spelling r) bytes more lost same)).1)
+
+-- a beginning of records and a tail is the first of them, and then nothing or the beginning of a record
+first_records : (limits : Limits) (low : ℕ) (rs : List Logged) (tail bytes lost : List ℕ) → AreRecords limits low rs → (tail ≡ []) ⊎ IsTorn limits tail
+    → flat_map spelling rs ++ tail ≡ bytes ++ lost → AreFirst limits rs bytes
+first_records limits low [] tail bytes lost are ends e =
+    record { kept = []; lost = []; rest = bytes; all = refl; spelled = refl; ends = cut_end (IsRecordLength limits) tail bytes lost e ends }
+first_records limits low (r ∷ rs) tail bytes lost are ends e =
+    let all = flat_map spelling rs ++ tail in
+    let apart_e = sym (append_assoc (spelling r) (flat_map spelling rs) tail) ∙ e in
+    first_or_more limits r rs all bytes lost are.0 (λ more f. first_records limits r.timestamp rs tail more lost are.2 ends f) apart_e
+    (apart (spelling r) bytes all lost apart_e)
+
+-- the first of lawful records are lawful
+front_lawful : (limits : Limits) (low : ℕ) (kept lost : List Logged) → AreRecords limits low (kept ++ lost) → AreRecords limits low kept
+front_lawful limits low [] lost are = tt
+front_lawful limits low (r ∷ rs) lost are = (are.0, are.1, front_lawful limits r.timestamp rs lost are.2)
+
+-- ---- the log
+
+-- a beginning of a log that has a whole header is a log
+pub cut_log : (left written : List ℕ) (log : LogReading) → IsReading written log → IsCutOf left written → SaysBeginning left log
+cut_log left written log is cut =
+    let limits = limits_of log.head.format in
+    let front = head_bytes log.head in
+    let all = flat_map spelling log.records ++ is.tail in
+    let both : left ++ cut.lost ≡ front ++ all = sym cut.begins ∙ is.is_log.spelled in
+    let behind = is_whole log.head left cut.header (apart left front cut.lost all both) in
+    let records : all ≡ behind.0 ++ cut.lost = (same_split front front all (behind.0 ++ cut.lost) refl (sym both ∙ behind_on front left behind.0 cut.lost behind.1)).1 in
+    let first = first_records limits 0 log.records is.tail behind.0 cut.lost is.is_log.lawful is.is_log.ends records in
+    record {
+      log = record { head = log.head; records = first.kept; torn = not (length first.rest == 0) };
+      is_reading = record {
+        tail = first.rest;
+        is_log = record {
+          spelled = behind.1 ∙ ap (λ (bytes : List ℕ). front ++ bytes) first.spelled;
+          is_head = is.is_log.is_head;
+          lawful = front_lawful limits 0 first.kept first.lost (subst (AreRecords limits 0) first.all is.is_log.lawful);
+          ends = first.ends;
+        };
+        torn = tells_torn limits first.rest (length first.rest == 0) refl first.ends;
+      };
+      begins = record { head = refl; lost = first.lost; records = first.all };
+    }

@@ -1,0 +1,10 @@
+pub mod CutFrames
+pub mod CutLogs
+pub mod Windows
+pub mod Lost
+pub mod Synced
+pub mod Moved
+pub mod Entries
+pub mod Sound
+pub mod Renamed
+pub mod History
