@@ -10,9 +10,9 @@ use Rattle.std.proofs.lemmas.List.Elements.{All-contains, All-from_recursion, Co
 use Rattle.mt_words.specs.declared.update.Update.{Update}
 use Rattle.mt_words.specs.Words.{AreRising}
 use Rattle.mt_words.specs.Walks.{joined}
-use Rattle.mt_replay.specs.Cuts.{is_below, is_after, is_before, in_piece, keys_in}
+use Rattle.mt_replay.specs.Cuts.{is_below, is_after, is_before, in_piece, keys_in, updates_in}
 use Rattle.mt_replay.specs.Even.{AreDistinctKeys}
-use Rattle.mt_replay.specs.Steps.SortedUpdates.{updates_in, AreDistinctWhere}
+use Rattle.mt_replay.specs.Steps.SortedUpdates.{AreDistinctWhere}
 use Rattle.mt_replay.proofs.KeyOrder.{below_by, below_trans}
 use Rattle.mt_replay.proofs.Rising.{below_later, rise_append}
 use Rattle.mt_words.proofs.Elements.{no_element}

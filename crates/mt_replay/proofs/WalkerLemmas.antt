@@ -14,7 +14,7 @@ use Rattle.mt_replay.specs.Walk.{AreApart}
 use Rattle.mt_replay.specs.Cuts.{is_below, key_below, InKeyOrder}
 use Rattle.mt_replay.specs.Cells.{Written, IsCellOf, IsColumnsOf}
 use Rattle.mt_replay.specs.Groups.{Group, HasLawfulWrites, IsGroupOf}
-use Rattle.mt_replay.specs.Steps.Walker.{with_pair, IsMade, AreLast, IsWalkSoFar}
+use Rattle.mt_replay.specs.Steps.Walker.{with_pair, IsMade, IsLastKey, AreLast, IsWalkSoFar}
 use Rattle.mt_words.proofs.Elements.{no_element, head_in}
 use Rattle.mt_replay.proofs.KeyOrder.{key_order}
 use Rattle.mt_replay.proofs.ExactLemmas.{group_columns}
@@ -58,11 +58,11 @@ close_some before last key group columns old new made are key_lawful columns_law
       added = added;
     } in
     record {
-      map = map_more before last key old new are.some are.below are.same_keys made.map adds;
+      map = map_more before last key old new are.of_key.some are.of_key.below are.of_key.same_keys made.map adds;
       walk = λ apart.
           let apart_before : AreApart before = λ a b c d. apart a b (Contains-append_left before last a c) (Contains-append_left before last b d) in
           let apart_last : AreApart last = λ a b c d. apart a b (Contains-append_right before last a c) (Contains-append_right before last b d) in
-          walk_more before last key old new are.below are.same_keys (made.walk apart_before) adds apart_last;
+          walk_more before last key old new are.of_key.below are.of_key.same_keys (made.walk apart_before) adds apart_last;
     }
 
 -- the pair is added, if there is a last key
@@ -78,7 +78,7 @@ so_far_made updates (Some first) group old new so_far adds =
 pub next_rises : (updates : List Update) (first : Update) (group : Group) (old : List Pair) (columns : List (ℕ × List ℕ)) → IsWalkSoFar updates old (Some first) group → KeysRise (old ++ (first.key, columns) ∷ [])
 next_rises updates first group old columns so_far =
     let are : AreLast so_far.before so_far.last first.key group = so_far.in_hand in
-    rises_above so_far.before first.key columns old are.below so_far.made.map
+    rises_above so_far.before first.key columns old are.of_key.below so_far.made.map
 
 -- the pair of a key with columns is added, that of one without is not
 pub some_added : (pairs : List Pair) (key : List ℕ) (columns : List (ℕ × List ℕ)) → 0 < length columns → pairs ++ (key, columns) ∷ [] ≡ with_pair pairs key columns
@@ -100,15 +100,20 @@ not_at_key (Some f) key is = λ e. true≢false (sym (is.1 e))
 -- ---- one update more
 
 -- an update of the last key
-more_last : (before last : List Update) (update : Update) (key : List ℕ) (old new : Group) → AreLast before last key old → update.key ≡ key → IsGroupOf (last ++ update ∷ []) key new → HasLawfulWrites update
-    → AreLast before (last ++ update ∷ []) key new
-more_last before last update key old new are of_key group lawful = record {
+pub more_of_key : (before last : List Update) (update : Update) (key : List ℕ) → IsLastKey before last key → update.key ≡ key → IsLastKey before (last ++ update ∷ []) key
+more_of_key before last update key are of_key = record {
   some = omega (arith, are.some, length-append last (update ∷ []));
   same_keys = λ u at. elim (Contains-push_cases last update u at) as (λ _. u.key ≡ key) [
     | inl earlier ↦ are.same_keys u earlier
     | inr e ↦ ap (λ (v : Update). v.key) (sym e) ∙ of_key
   ];
   below = are.below;
+}
+
+more_last : (before last : List Update) (update : Update) (key : List ℕ) (old new : Group) → AreLast before last key old → update.key ≡ key → IsGroupOf (last ++ update ∷ []) key new → HasLawfulWrites update
+    → AreLast before (last ++ update ∷ []) key new
+more_last before last update key old new are of_key group lawful = record {
+  of_key = more_of_key before last update key are.of_key of_key;
   grouped = group;
   lawful = All-push HasLawfulWrites last update are.lawful lawful;
 }
@@ -131,29 +136,37 @@ some_in : (updates : List Update) → 0 < length updates → (u : Update) × Con
 some_in [] some = absurd (omega arith)
 some_in (u ∷ us) some = (u, head_in u us)
 
--- an update of another key, which lies above all keys before it
+-- an update of another key lies above all keys before it
+pub above_others : (before last : List Update) (update : Update) (key : List ℕ) → IsLastKey before last key → InKeyOrder ((before ++ last) ++ update ∷ []) → (key ≡ update.key → ⊥) → (u : Update) → Contains (before ++ last) u → IsBelow u.key update.key
+above_others before last update key are order apart u at =
+    let up : is_below update.key u.key ≡ false = not_below_last (before ++ last) update u order at in
+    elim (Contains-append_cases before last u at) as (λ _. IsBelow u.key update.key) [
+      | inl earlier ↦ strictly u.key update.key up (λ e.
+          let some = some_in last are.some in
+          let w = some.0 in
+          let w_at : Contains last w = some.1 in
+          let no : is_below update.key key ≡ false = subst (λ (k : List ℕ). is_below update.key k ≡ false) (are.same_keys w w_at) (not_below_last (before ++ last) update w order (Contains-append_right before last w w_at)) in
+          let yes : is_below update.key key ≡ true = subst (λ (k : List ℕ). is_below k key ≡ true) e (are.below u earlier) in
+          true≢false (sym yes ∙ no))
+      | inr now ↦ strictly u.key update.key up (λ e. apart (sym (are.same_keys u now) ∙ e))
+    ]
+
+-- an update above all others is the first of the last key
+pub next_key : (updates : List Update) (update : Update) → ((u : Update) → Contains updates u → IsBelow u.key update.key) → IsLastKey updates (update ∷ []) update.key
+next_key updates update above = record {
+  some = omega arith;
+  same_keys = λ u at. elim (Contains-push_cases [] update u at) as (λ _. u.key ≡ update.key) [ inl none ↦ absurd (no_element u none) | inr e ↦ ap (λ (v : Update). v.key) (sym e) ];
+  below = above;
+}
+
 next_above : (updates : List Update) (update : Update) (pairs : List Pair) (first : Option Update) (group : Group) → IsWalkSoFar updates pairs first group → InKeyOrder (updates ++ update ∷ []) → MatchOption first (Unit {0}) (λ f. f.key ≡ update.key → ⊥)
     → (u : Update) → Contains updates u → IsBelow u.key update.key
 next_above updates update pairs None group so_far order apart u at =
     let none : updates ≡ [] = so_far.split ∙ (λ i. so_far.in_hand.0 i ++ so_far.in_hand.1 i) in
     absurd (no_element u (subst (λ (us : List Update). Contains us u) none at))
 next_above updates update pairs (Some first) group so_far order apart u at =
-    let before = so_far.before in
-    let last = so_far.last in
-    let are : AreLast before last first.key group = so_far.in_hand in
-    let here : Contains (before ++ last) u = subst (λ (us : List Update). Contains us u) so_far.split at in
-    let up : is_below update.key u.key ≡ false = not_below_last updates update u order at in
-    elim (Contains-append_cases before last u here) as (λ _. IsBelow u.key update.key) [
-      | inl earlier ↦ strictly u.key update.key up (λ e.
-          let some = some_in last are.some in
-          let w = some.0 in
-          let w_at : Contains last w = some.1 in
-          let w_in : Contains updates w = subst (λ (us : List Update). Contains us w) (sym so_far.split) (Contains-append_right before last w w_at) in
-          let no : is_below update.key first.key ≡ false = subst (λ (k : List ℕ). is_below update.key k ≡ false) (are.same_keys w w_at) (not_below_last updates update w order w_in) in
-          let yes : is_below update.key first.key ≡ true = subst (λ (k : List ℕ). is_below k first.key ≡ true) e (are.below u earlier) in
-          true≢false (sym yes ∙ no))
-      | inr now ↦ strictly u.key update.key up (λ e. apart (sym (are.same_keys u now) ∙ e))
-    ]
+    let are : AreLast so_far.before so_far.last first.key group = so_far.in_hand in
+    above_others so_far.before so_far.last update first.key are.of_key (subst (λ (us : List Update). InKeyOrder (us ++ update ∷ [])) so_far.split order) apart u (subst (λ (us : List Update). Contains us u) so_far.split at)
 
 pub see_next : (updates : List Update) (update : Update) (old new : List Pair) (first : Option Update) (group fresh : Group) → IsWalkSoFar updates old first group → InKeyOrder (updates ++ update ∷ []) → MatchOption first (Unit {0}) (λ f. f.key ≡ update.key → ⊥)
     → IsMade updates new → IsGroupOf (update ∷ []) update.key fresh → HasLawfulWrites update → IsWalkSoFar (updates ++ update ∷ []) new (Some update) fresh
@@ -163,9 +176,7 @@ see_next updates update old new first group fresh so_far order apart made begun 
   split = refl;
   made = made;
   in_hand = record {
-    some = omega arith;
-    same_keys = λ u at. elim (Contains-push_cases [] update u at) as (λ _. u.key ≡ update.key) [ inl none ↦ absurd (no_element u none) | inr e ↦ ap (λ (v : Update). v.key) (sym e) ];
-    below = next_above updates update old first group so_far order apart;
+    of_key = next_key updates update (next_above updates update old first group so_far order apart);
     grouped = begun;
     lawful = All-push HasLawfulWrites [] update (λ i x lt. absurd (omega arith)) lawful;
   };

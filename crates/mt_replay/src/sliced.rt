@@ -1,6 +1,6 @@
 //! Updates that are borrowed from their bodies, each with the slices of its key: which of them survive, and their
 //! order.
-ghost use Rattle.std.specs.Prelude.{◌≡◌, ◌≤◌, ◌++◌, OnOk, IsPermutation, length, filter};
+ghost use Rattle.std.specs.Prelude.{◌≡◌, ◌≤◌, ◌↔◌, ◌++◌, false, IsTrue, MatchOption, OnOk, IsPermutation, length, filter};
 ghost use Rattle.std.specs.Ordering.{nat_cmp};
 ghost use Rattle.std.specs.Cmp.Lexicographic.{slice_cmp};
 ghost use Rattle.mt_words.specs.Limits.{widest};
@@ -82,6 +82,16 @@ impl<'a> Sliced<'a> {
             return self.length.cmp(&other.length);
         }
         self.key().cmp(other.key())
+    }
+}
+
+/// Returns whether the update is of the same key as the first one, if there is a first one.
+pub(crate) fn is_of_first(first: &Option<Sliced<'_>>, update: &Sliced<'_>) -> bool
+    ensures { MatchOption first.now (result ≡ false) (λ first. IsTrue result ↔ (first.key ≡ update.now.key)) }
+{
+    match first {
+        None => false,
+        Some(first) => first.compare(update).is_eq(),
     }
 }
 

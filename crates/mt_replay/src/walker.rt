@@ -1,12 +1,12 @@
 //! The walk of updates that come in the order of their keys.
-ghost use Rattle.std.specs.Prelude.{◌≡◌, ◌↔◌, ◌++◌, [], ◌∷◌, List, ℕ, None, Some, false, IsTrue, MatchOption, IfOk, OnOk};
+ghost use Rattle.std.specs.Prelude.{◌≡◌, ◌++◌, [], ◌∷◌, List, ℕ, Some, IfOk, OnOk};
 ghost use Rattle.mt_words.specs.declared.update.Update.{Update as UpdateValue};
 ghost use Rattle.mt_replay.specs.Cuts.{InKeyOrder};
 ghost use Rattle.mt_replay.specs.Groups.{HasLawfulWrites, IsGroupOf};
 ghost use Rattle.mt_replay.specs.Steps.Walker.{IsMade, IsWalkSoFar};
 
 use crate::group::Group;
-use crate::sliced::Sliced;
+use crate::sliced::{Sliced, is_of_first};
 use mt_words::{Memory, PairSink};
 use std::alloc::Global;
 
@@ -39,7 +39,7 @@ impl<'a, S: PairSink> Walker<'a, S> {
             IsWalkSoFar updates (S.pairs self.old.sink) self.old.first self.old.group →
             IsWalkSoFar (updates ++ update.entry ∷ []) (S.pairs self.new.sink) self.new.first self.new.group) }
     {
-        if self.is_at(&update) {
+        if is_of_first(&self.first, &update) {
             self.group.see(update.update());
             return Ok(());
         }
@@ -58,16 +58,6 @@ impl<'a, S: PairSink> Walker<'a, S> {
         walker.close(alloc)?;
         let Walker { sink, .. } = walker;
         Ok(sink)
-    }
-
-    /// Returns whether the update is of the last key.
-    fn is_at(&self, update: &Sliced<'_>) -> bool
-        ensures { MatchOption self.now.first (result ≡ false) (λ first. IsTrue result ↔ (first.key ≡ update.now.key)) }
-    {
-        match &self.first {
-            None => false,
-            Some(first) => first.compare(update).is_eq(),
-        }
     }
 
     /// Begins the group of a key with its first update.

@@ -1,5 +1,5 @@
 -- Updates in the order of their keys: how they are held, what a run of them yields, and what of them is in a piece.
-use Rattle.std.specs.Prelude.{◌≡◌, ℕ, ◌↔◌, Bool, IsTrue, Option, Some, None, List, [], ◌∷◌, length, map, filter, drop, Contains, Vec}
+use Rattle.std.specs.Prelude.{◌≡◌, ℕ, ◌↔◌, Bool, IsTrue, Option, Some, None, List, [], ◌∷◌, length, map, drop, Contains, Vec}
 use Rattle.std.specs.Borrow.{Bor}
 use Rattle.std.specs.Global.{Global}
 use Rattle.std.specs.List.{flat_map}
@@ -8,7 +8,6 @@ use Rattle.mt_words.specs.Slices.{AreBytes, slice_in}
 use Rattle.mt_words.specs.Words.{AreRising}
 use Rattle.mt_replay.specs.declared.log_cells.Held.{Held}
 use Rattle.mt_replay.specs.declared.log_cells.Held.TheVariants.{Sorted, Read}
-use Rattle.mt_replay.specs.Cuts.{in_piece}
 use Rattle.mt_replay.specs.Survivors.{wholes}
 
 -- the updates that are held
@@ -31,10 +30,6 @@ run_steps before (Some update) after = before ≡ update ∷ after
 -- the keys of parts, one part after the other
 abbrev pub keys_of : List (Vec (Bor (List ℕ)) Global) → List (List ℕ)
 keys_of parts = map (λ key. key.now) (flat_map (λ part. part.items) parts)
-
--- the updates whose keys are in this piece
-abbrev pub updates_in : List (List ℕ) → ℕ → List Update → List Update
-updates_in cuts i updates = filter (λ update. in_piece cuts i update.key) updates
 
 -- each of these keys that passes the test, once, in order
 pub record AreDistinctWhere (passes : List ℕ → Bool) (keys distinct : List (List ℕ)) : Type 0 where

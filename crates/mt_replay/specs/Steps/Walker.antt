@@ -15,11 +15,15 @@ pub record IsMade (updates : List Update) (pairs : List Pair) : Type 0 where
   pub map : IsMapOf updates pairs
   pub walk : AreApart updates → IsWalk updates pairs
 
--- updates of one key, at least one, with lawful writes and with their group, after updates of lower keys
-pub record AreLast (before last : List Update) (key : List ℕ) (group : Group) : Type 0 where
+-- updates of one key, at least one, after updates of lower keys
+pub record IsLastKey (before last : List Update) (key : List ℕ) : Type 0 where
   pub some : 0 < length last
   pub same_keys : (u : Update) → Contains last u → u.key ≡ key
   pub below : (u : Update) → Contains before u → IsBelow u.key key
+
+-- the updates of the last key, with lawful writes and with their group
+pub record AreLast (before last : List Update) (key : List ℕ) (group : Group) : Type 0 where
+  pub of_key : IsLastKey before last key
   pub grouped : IsGroupOf last key group
   pub lawful : All HasLawfulWrites last
 

@@ -3,8 +3,7 @@ use Rattle.std.specs.List.{All}
 use Rattle.std.proofs.lemmas.List.{map_more}
 use Rattle.std.proofs.lemmas.List.Elements.{All-push}
 use Rattle.mt_words.specs.declared.update.Update.{Update}
-use Rattle.mt_replay.specs.Cuts.{InKeyOrder}
-use Rattle.mt_replay.specs.Steps.SortedUpdates.{updates_in}
+use Rattle.mt_replay.specs.Cuts.{InKeyOrder, updates_in}
 use Rattle.mt_replay.proofs.parts.runs_of.Goals as goal
 
 pub loop-cells-preserved : goal.loop-cells-preserved

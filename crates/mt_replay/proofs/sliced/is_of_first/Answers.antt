@@ -4,10 +4,10 @@ use Rattle.std.specs.Cmp.Lexicographic.{slice_cmp}
 use Rattle.std.specs.Ordering.{nat_cmp, is_eq}
 use Rattle.mt_words.specs.declared.update.Update.{Update}
 use Rattle.mt_replay.proofs.StepLemmas.{same_key, is_own_key}
-use Rattle.mt_replay.proofs.walker.Walker.is_at.Goals as goal
+use Rattle.mt_replay.proofs.sliced.is_of_first.Goals as goal
 
 pub returns-in-Some : goal.returns-in-Some
-returns-in-Some g c =
+returns-in-Some c =
     let first : List ℕ = c.in-Some.first.key in
     let key : List ℕ = c.args.update.now.key in
     let is : c.is_eq.result ≡ is_eq (slice_cmp nat_cmp first key) = c.is_eq.ensures ∙ ap is_eq c.compare.ensures in
