@@ -2,3 +2,4 @@
 pub mod Walker
 pub mod Bodies
 pub mod SortedUpdates
+pub mod Auditor

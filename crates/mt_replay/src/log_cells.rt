@@ -7,10 +7,11 @@ ghost use Rattle.mt_words.specs.Words.{AreRising};
 ghost use Rattle.mt_words.specs.Walks.{joined};
 ghost use Rattle.mt_replay.specs.Survivors.{in_window, survives as survives_in, wholes, first_survivors};
 ghost use Rattle.mt_replay.specs.Cuts.{is_below, InKeyOrder};
+ghost use Rattle.mt_replay.specs.Clashes.{is_logged_in};
 
 use crate::Window;
 use crate::bodies::Bodies;
-use crate::in_memory::{all_bodies, spell};
+use crate::in_memory::{all_bodies, spell, spell_logged};
 use crate::sliced::{Sliced, list_survivors, sort_by_key};
 use mt_record::{KeptEntries, Lent, Updates};
 use mt_words::{Memory, Update};
@@ -57,6 +58,19 @@ impl LogCells {
         ensures { IfOk result (λ cells. IsPermutation (filter (survives_in window) updates.items) cells) }
     {
         let bodies = spell(alloc, &updates, window)?;
+        let mut sliced = all_bodies(alloc, &bodies)?;
+        in_order(alloc, &mut sliced)
+    }
+
+    /// Returns the log updates in the window. Err: out of memory.
+    pub(crate) fn of_logged(
+        alloc: Global,
+        updates: &[Update],
+        window: Window,
+    ) -> Result<LogCells, Memory>
+        ensures { IfOk result (λ cells. IsPermutation (filter (is_logged_in window) updates.now) cells) }
+    {
+        let bodies = spell_logged(alloc, updates, window)?;
         let mut sliced = all_bodies(alloc, &bodies)?;
         in_order(alloc, &mut sliced)
     }

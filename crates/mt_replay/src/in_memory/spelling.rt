@@ -1,6 +1,7 @@
 //! Encodes updates in memory as bodies.
 ghost use Rattle.std.specs.Prelude.{◌≡◌, ◌++◌, [], ◌∷◌, IfOk, OnOk, filter};
 ghost use Rattle.mt_replay.specs.Survivors.{survives as survives_in};
+ghost use Rattle.mt_replay.specs.Clashes.{is_logged_in};
 
 use crate::Window;
 use crate::bodies::Bodies;
@@ -15,23 +16,34 @@ pub(crate) fn spell(alloc: Global, updates: &[Update], window: Window) -> Result
 {
     let mut bodies = Bodies::with_capacity(alloc, updates.len(), 0)?;
     for update in updates {
-        add_body(alloc, &mut bodies, update, window)?;
+        if survives(update, window) {
+            add_body(alloc, &mut bodies, update)?;
+        }
     }
     Ok(bodies)
 }
 
-/// Appends the body of an update, if the update survives.
-fn add_body(
+/// Returns the log updates in the window, encoded as bodies. Err: out of memory.
+pub(crate) fn spell_logged(
     alloc: Global,
-    bodies: &mut Bodies,
-    update: &Update,
+    updates: &[Update],
     window: Window,
-) -> Result<(), Memory>
-    ensures { OnOk result (bodies.new ≡ bodies.old ++ filter (survives_in window) (update.now ∷ [])) }
+) -> Result<Bodies, Memory>
+    ensures { IfOk result (λ bodies. bodies ≡ filter (is_logged_in window) updates.now) }
 {
-    if !survives(update, window) {
-        return Ok(());
+    let mut bodies = Bodies::with_capacity(alloc, updates.len(), 0)?;
+    for update in updates {
+        if is_logged(update, window) {
+            add_body(alloc, &mut bodies, update)?;
+        }
     }
+    Ok(bodies)
+}
+
+/// Appends the body of an update. Err: out of memory.
+fn add_body(alloc: Global, bodies: &mut Bodies, update: &Update) -> Result<(), Memory>
+    ensures { OnOk result (bodies.new ≡ bodies.old ++ update.now ∷ []) }
+{
     let body = body_of_update(alloc, update)?;
     bodies.push(update.stamp.origin, &body)?;
     Ok(())
@@ -43,6 +55,16 @@ fn survives(update: &Update, window: Window) -> bool
 {
     match &update.kind {
         Kind::Whole(_) => true,
+        _ => window.contains(update.timestamp),
+    }
+}
+
+/// Returns whether an update is in the window and no entry.
+fn is_logged(update: &Update, window: Window) -> bool
+    ensures { result ≡ is_logged_in window update.now }
+{
+    match &update.kind {
+        Kind::Whole(_) => false,
         _ => window.contains(update.timestamp),
     }
 }

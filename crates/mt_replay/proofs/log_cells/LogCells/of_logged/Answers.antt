@@ -1,0 +1,10 @@
+use Rattle.std.proofs.Common.{List, subst, ◌∙◌}
+use Rattle.std.specs.Prelude.{IsPermutation}
+use Rattle.mt_words.specs.declared.update.Update.{Update}
+use Rattle.mt_replay.proofs.ExactLemmas.{ok_then}
+use Rattle.mt_replay.proofs.log_cells.LogCells.of_logged.Goals as goal
+
+pub returns : goal.returns
+returns c =
+    let listed = c.in_ok-sliced.ensures ∙ c.in_ok-bodies.ensures in
+    ok_then c.in_order.result (λ cells sorted. subst (λ (us : List Update). IsPermutation us cells) listed sorted) c.in_order.ensures
