@@ -1,5 +1,5 @@
 -- From the answers of scans to the logs and parts that their sources may have.
-use Rattle.std.proofs.Common.{◌≡◌, ◌∙◌, ◌⊎◌, inl, inr, ℕ, zero, suc, ◌+◌, ◌<◌, Bool, true, false, IsTrue, List, [], ◌∷◌, ◌++◌, length, map, take, Option, Some, None, Ok, Err, refl, sym, ap, subst, add-zero, arith}
+use Rattle.std.proofs.Common.{◌≡◌, ◌∙◌, ◌⊎◌, inl, inr, ℕ, zero, suc, ◌+◌, ◌<◌, Bool, true, false, IsTrue, List, [], ◌∷◌, ◌++◌, length, map, take, Option, Some, None, Ok, Err, IfOk, IfErr, refl, sym, ap, subst, add-zero, arith}
 use Rattle.std.specs.Prelude.{slice_get, Result, IsSomeAnd}
 use Rattle.std.specs.Option.{option_map}
 use Rattle.std.proofs.lemmas.List.{take_at}
@@ -19,8 +19,7 @@ use Rattle.mt_scan.proofs.Telling.{some_bytes}
 use Rattle.mt_recover.specs.Recovery.{AreReadings, AreKnown}
 use Rattle.mt_recover.specs.Verdict.{IsVerdictOrMemory, IsAnsweredFrom}
 use Rattle.mt_recover.specs.Steps.LogScans.{ShowAll}
-use Rattle.mt_recover.specs.Inputs.{MayHave, OfSources, BlamesUnsteady, IsAnsweredBy, IsRecoveryFrom}
-use Rattle.mt_recover.specs.Report.{Outcome, IsRecoveredOf}
+use Rattle.mt_recover.specs.Inputs.{MayHave, OfSources, BlamesUnsteady, IsAnsweredBy, IsAnswerFrom}
 use Rattle.mt_recover.specs.Steps.Scanning.{IsFirstErr}
 use Rattle.mt_recover.specs.Steps.Outcomes.{IsLogOutcome, IsPartOutcome, AllFrom, read_parts, in_memory}
 
@@ -246,16 +245,25 @@ answered_seen seen logs parts fault is = (of_seen seen logs parts (λ ls ps. IsA
     blamed (faults.PartSource i) is = unsteady_seen seen parts i is
     blamed fault is = tt
 
--- and so is a result of recovery
-pub recovery_seen : {S : Type 0} (seen : S → Seen) (logs parts : List S) (result : Result Outcome Fault) → IsRecoveryFrom (λ seen. seen) (map seen logs) (map seen parts) result → IsRecoveryFrom seen logs parts result
-recovery_seen seen logs parts result is = record {
-  recovered = IfOk-weaker result _ _ (λ outcome of. of_seen seen logs parts (λ ls ps. IsRecoveredOf ls ps outcome) of) is.recovered;
+-- and so is a result
+pub answer_seen : {S T : Type 0} (seen : S → Seen) (logs parts : List S) (P : List (List ℕ) → List (List ℕ) → T → Type 0) (result : Result T Fault)
+    → IsAnswerFrom (λ seen. seen) (map seen logs) (map seen parts) P result → IsAnswerFrom seen logs parts P result
+answer_seen seen logs parts P result is = record {
+  value = IfOk-weaker result _ _ (λ value of. of_seen seen logs parts (λ ls ps. P ls ps value) of) is.value;
   fault = IfErr-weaker result _ _ (λ fault by. answered_seen seen logs parts fault by) is.fault;
 }
 
--- recovery may run out of memory
-pub recovery_without_memory : {S : Type 0} (seen : S → Seen) (logs parts : List S) (result : Result Outcome Fault) → result ≡ Err faults.Memory → IsRecoveryFrom seen logs parts result
-recovery_without_memory seen logs parts result is = rw is (record { recovered = tt; fault = answered_seen seen logs parts faults.Memory (memory_refused (map seen logs) (map seen parts) faults.Memory refl) })
+-- a call may run out of memory
+pub answer_without_memory : {S T : Type 0} (seen : S → Seen) (logs parts : List S) (P : List (List ℕ) → List (List ℕ) → T → Type 0) (result : Result T Fault) → result ≡ Err faults.Memory → IsAnswerFrom seen logs parts P result
+answer_without_memory seen logs parts P result is = rw is (record { value = tt; fault = answered_seen seen logs parts faults.Memory (memory_refused (map seen logs) (map seen parts) faults.Memory refl) })
+
+-- what is made of some logs and parts that the sources may have, or `Memory`, is a result from them
+pub answer_made : {S T : Type 0} (seen : S → Seen) (logs parts : List S) (P : List (List ℕ) → List (List ℕ) → T → Type 0) {Q : List (List ℕ) → List (List ℕ) → Type 0} (result : Result T Fault)
+    → (of : OfSources seen logs parts Q) → IfOk result (P of.logs of.parts) → IfErr result (λ fault. fault ≡ faults.Memory) → IsAnswerFrom seen logs parts P result
+answer_made seen logs parts P result of made memory = record {
+  value = IfOk-weaker result _ _ (λ value holds. record { logs = of.logs; parts = of.parts; logs_may = of.logs_may; parts_may = of.parts_may; holds = holds }) made;
+  fault = IfErr-weaker result _ _ (λ fault is. answered_seen seen logs parts fault (memory_refused (map seen logs) (map seen parts) fault is)) memory;
+}
 
 -- ---- logs in memory
 

@@ -29,7 +29,11 @@ BlamesUnsteady seen logs parts fault = Unit {0}
 abbrev pub IsAnsweredBy : {S : Type 0} → (S → Seen) → List S → List S → Fault → Type 0
 IsAnsweredBy seen logs parts fault = OfSources seen logs parts (λ ls ps. IsAnsweredFrom ls ps fault) × BlamesUnsteady seen logs parts fault
 
--- a result of recovery from these sources: Ok is recovered from some logs and parts that they may have, Err is a fault that `IsAnsweredBy` allows
-pub record IsRecoveryFrom {S : Type 0} (seen : S → Seen) (logs parts : List S) (result : Result Outcome Fault) : Type 0 where
-  pub recovered : IfOk result (λ recovered. OfSources seen logs parts (λ ls ps. IsRecoveredOf ls ps recovered))
+-- a result from these sources: Ok is what `P` allows for some logs and parts that they may have, Err is a fault that `IsAnsweredBy` allows
+pub record IsAnswerFrom {S T : Type 0} (seen : S → Seen) (logs parts : List S) (P : List (List ℕ) → List (List ℕ) → T → Type 0) (result : Result T Fault) : Type 0 where
+  pub value : IfOk result (λ value. OfSources seen logs parts (λ ls ps. P ls ps value))
   pub fault : IfErr result (IsAnsweredBy seen logs parts)
+
+-- a result of recovery from these sources: Ok is recovered from some logs and parts that they may have
+abbrev pub IsRecoveryFrom : {S : Type 0} → (S → Seen) → List S → List S → Result Outcome Fault → Type 0
+IsRecoveryFrom seen logs parts result = IsAnswerFrom seen logs parts IsRecoveredOf result

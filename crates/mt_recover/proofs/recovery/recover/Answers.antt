@@ -1,12 +1,10 @@
-use Rattle.std.proofs.Common.{◌≡◌, [], length, map, ap, sym, subst, arith}
+use Rattle.std.proofs.Common.{◌≡◌, [], length, ap, sym, subst, arith}
 use Rattle.std.specs.List.{All}
-use Rattle.std.proofs.lemmas.Result.{IfOk-weaker, IfErr-weaker}
 use Rattle.mt_board.specs.Board.{PassView}
 use Rattle.mt_board.proofs.Drawing.{all_fresh}
 use Rattle.mt_recover.specs.Hauls.{AllCameBack}
-use Rattle.mt_recover.specs.Inputs.{IsAnsweredBy, OfSources}
 use Rattle.mt_recover.specs.Report.{IsRecoveredOf}
-use Rattle.mt_recover.proofs.SourceLemmas.{answered_seen, memory_refused}
+use Rattle.mt_recover.proofs.SourceLemmas.{answer_made}
 use Rattle.mt_recover.proofs.Works.{all_back, length-fresh}
 use Rattle.mt_recover.proofs.recovery.recover.Goals as goal
 
@@ -16,15 +14,8 @@ work_all-requires-after_bounds g c κs within =
 
 pub returns : goal.returns
 returns g c =
-    let seen = g.S.Source.seen in
-    let logs = c.args.inputs.logs.items in
-    let parts = c.args.inputs.parts.items in
     let of = c.in_ok-job.ensures.job in
     let many : length c.in_ok-passes.passes.items ≡ c.args.workers = omega (arith, c.in_ok-passes.ensures.many, ap length c.in_ok-job.ensures.passes.1, length-fresh c.in_ok-job.job.board c.args.workers) in
     let back : AllCameBack c.in_ok-job.job c.in_ok-passes.hauls.items c.in_ok-passes.passes.items =
     all_back c.in_ok-job.job c.in_ok-passes.passes.items c.in_ok-passes.hauls.items c.in_ok-passes.ensures.worked (omega (arith, many, c.in_ok-job.ensures.passes.0)) (omega (arith, many, c.in_ok-job.ensures.some)) in
-    record {
-      recovered = IfOk-weaker c.assemble.result (IsRecoveredOf of.logs of.parts) (λ outcome. OfSources seen logs parts (λ ls ps. IsRecoveredOf ls ps outcome))
-          (λ outcome is. record { logs = of.logs; parts = of.parts; logs_may = of.logs_may; parts_may = of.parts_may; holds = is }) (c.assemble.ensures.recovered of.logs of.parts of.holds);
-      fault = IfErr-weaker c.assemble.result _ (IsAnsweredBy seen logs parts) (λ fault memory. answered_seen seen logs parts fault (memory_refused (map seen logs) (map seen parts) fault memory)) (c.assemble.ensures.drawn back);
-    }
+    answer_made g.S.Source.seen c.args.inputs.logs.items c.args.inputs.parts.items IsRecoveredOf c.assemble.result of (c.assemble.ensures.recovered of.logs of.parts of.holds) (c.assemble.ensures.drawn back)

@@ -1,6 +1,7 @@
 use Rattle.std.proofs.Common.{◌∙◌, Err, ap}
 use Rattle.std.proofs.lemmas.Result.{err_from_is_err_and}
-use Rattle.mt_recover.proofs.SourceLemmas.{recovery_without_memory}
+use Rattle.mt_recover.specs.Report.{IsRecoveredOf}
+use Rattle.mt_recover.proofs.SourceLemmas.{answer_without_memory}
 use Rattle.mt_recover.proofs.recovery.recover_scanned.Goals as goal
 
 pub replay_whole-requires : goal.replay_whole-requires
@@ -9,12 +10,12 @@ replay_whole-requires c = let of = c.in_ok-found.ensures.found c.requires.0 c.re
 pub returns-in_err-replay_whole : goal.returns-in_err-replay_whole
 returns-in_err-replay_whole c = λ logs parts are.
     let p = err_from_is_err_and c.from_residual-in_err-replay_whole.result c.from_residual-in_err-replay_whole.ensures.1 in
-    recovery_without_memory (λ seen. seen) logs parts c.from_residual-in_err-replay_whole.result (p.1 ∙ ap Err p.2)
+    answer_without_memory (λ seen. seen) logs parts IsRecoveredOf c.from_residual-in_err-replay_whole.result (p.1 ∙ ap Err p.2)
 
 pub returns : goal.returns
 returns c = λ logs parts are.
     let of = c.in_ok-found.ensures.found logs parts are in
     record {
-      recovered = record { logs = of.logs; parts = of.parts; logs_may = of.logs_may; parts_may = of.parts_may; holds = c.in_ok-replay_whole.ensures of.logs of.parts of.holds };
+      value = record { logs = of.logs; parts = of.parts; logs_may = of.logs_may; parts_may = of.parts_may; holds = c.in_ok-replay_whole.ensures of.logs of.parts of.holds };
       fault = tt;
     }
