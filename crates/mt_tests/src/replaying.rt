@@ -1,7 +1,7 @@
-//! Cells, cuts and pieces, which no case can show one by one.
+//! Cells, cuts, pieces and clashes, which no case can show one by one.
 use crate::asserting::assert_same;
-use crate::logs::{HEADER, LOG_OF_THREE};
-use mt_replay::{Cell, Cuts, LogCells, Pieces, Window, replay_piece};
+use crate::logs::{HEADER, LOG_A, LOG_OF_THREE};
+use mt_replay::{Cell, Cuts, LogCells, Pieces, Place, Window, clashes, replay_piece};
 use mt_scan::scan_bytes;
 use mt_words::Update;
 use std::process::Abort;
@@ -9,7 +9,12 @@ use std::thread::Threads;
 
 /// Returns the updates of a log.
 fn updates_of<R: Abort + AllocGlobal>(rt: &R, log: &[u8]) -> Vec<Update> {
-    let scan = scan_bytes(rt.alloc(), log, 0).expect(rt, "a log");
+    updates_at(rt, log, 0)
+}
+
+/// Returns the updates of a log at this position.
+fn updates_at<R: Abort + AllocGlobal>(rt: &R, log: &[u8], position: usize) -> Vec<Update> {
+    let scan = scan_bytes(rt.alloc(), log, position).expect(rt, "a log");
     scan.updates.into_vec(rt.alloc()).expect(rt, "memory")
 }
 
@@ -24,11 +29,7 @@ fn a_cell_has_what_its_update_leaves(rt: HostRuntime) {
 
 /// Returns the cells of a log.
 fn cells_of<R: Abort + AllocGlobal>(rt: &R, log: &[u8]) -> LogCells {
-    let window = Window {
-        begin: 0,
-        cutoff: 9,
-    };
-    LogCells::of(rt.alloc(), updates_of(rt, log), window).expect(rt, "memory")
+    LogCells::of(rt.alloc(), updates_of(rt, log), ALL).expect(rt, "memory")
 }
 
 /// Checks how many keys each piece of a log has, cut evenly into `pieces` pieces and by a sample.
@@ -72,3 +73,22 @@ const EVEN: &[(&[u8], u32, &[usize])] = &[
     (LOG_OF_THREE, 8, &[1, 1, 1]),
     (HEADER, 4, &[0]),
 ];
+
+#[test]
+fn two_logs_with_one_version_of_a_key_clash(rt: HostRuntime) {
+    let logs = [updates_at(&rt, LOG_A, 0), updates_at(&rt, LOG_A, 1)];
+    let found = clashes(rt.alloc(), &logs, ALL).expect(&rt, "memory");
+    assert_same(&rt, &found.len(), &1);
+    for clash in &found {
+        assert_same(&rt, &clash.places.as_slice(), &BOTH);
+    }
+}
+
+/// A window that has the updates of all logs.
+const ALL: Window = Window {
+    begin: 0,
+    cutoff: 9,
+};
+
+/// The first record of each of two logs.
+const BOTH: &[Place] = &[Place { log: 0, nth: 0 }, Place { log: 1, nth: 0 }];
