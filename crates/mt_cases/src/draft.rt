@@ -104,6 +104,14 @@ impl Draft {
         }
     }
 
+    /// Adds a line to bytes that have no source. So the line `fail` is an Err.
+    pub fn add_to_bytes(&mut self, alloc: Global, words: &[&str]) -> Result<(), Mistake> {
+        match words {
+            ["fail", ..] => Err(Mistake::Line),
+            _ => self.add(alloc, words),
+        }
+    }
+
     /// Adds a record to the log. Err if this is a part.
     fn add_record(&mut self, alloc: Global, words: &[&str]) -> Result<(), Mistake> {
         if !self.is_log {

@@ -5,12 +5,15 @@
 mod answer;
 mod blocks;
 mod case;
+mod devices;
 mod draft;
+mod folder;
 mod mistake;
 mod names;
 mod passes;
 mod records;
 mod report;
+mod runs;
 mod source;
 mod telling;
 mod trying;

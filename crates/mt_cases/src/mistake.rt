@@ -21,8 +21,12 @@ pub enum Mistake {
     Place,
     Spelling,
     Misplaced,
+    FileName,
+    NoRun,
+    Mixed,
     Nothing,
     Slot,
+    Folder,
     Memory,
 }
 
@@ -47,8 +51,12 @@ impl Mistake {
             Mistake::Place => "no such place in the bytes",
             Mistake::Spelling => "the bytes are others",
             Mistake::Misplaced => "an entry in a log or behind bytes, or a record in a part",
+            Mistake::FileName => "a slash in the name of a file",
+            Mistake::NoRun => "no command before it",
+            Mistake::Mixed => "the case has logs or parts, and mtdump or a line of F",
             Mistake::Nothing => "the case expects nothing",
             Mistake::Slot => "a slot has no buffer",
+            Mistake::Folder => "the folder F cannot be made or removed",
             Mistake::Memory => "no memory",
         }
     }

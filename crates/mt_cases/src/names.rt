@@ -56,7 +56,7 @@ pub fn read_name<'a>(
     let (name, mut draft) = begin_name(alloc, names, head)?;
     for line in body {
         *at = *line;
-        add_line(alloc, line, &mut draft)?;
+        draft.add_to_bytes(alloc, &words_of(alloc, line.text)?)?;
     }
     *at = *head;
     draft.spell_part()?;
@@ -78,12 +78,4 @@ fn begin_name<'a>(
         return Err(Mistake::Twice);
     }
     Ok((*name, begin_draft(alloc, names, rest)?))
-}
-
-/// Adds a line of a name. A name has only bytes, so the line `fail` is an Err.
-fn add_line(alloc: Global, line: &Line<'_>, draft: &mut Draft) -> Result<(), Mistake> {
-    match words_of(alloc, line.text)?.as_slice() {
-        ["fail", ..] => Err(Mistake::Line),
-        words => draft.add(alloc, words),
-    }
 }

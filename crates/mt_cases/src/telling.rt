@@ -4,6 +4,7 @@ use crate::mistake::Mistake;
 use crate::names::{Named, read_name};
 use crate::trying::try_case;
 use std::alloc::Global;
+use std::fs::Files;
 use std::io::{self, Write};
 use std::thread::Threads;
 
@@ -52,12 +53,11 @@ impl Teller {
     }
 
     /// Tries the cases of a file of this name and this text. Those after a line `refused` must not hold.
-    pub fn try_text<R: AllocGlobal + Threads + Sync>(
-        &mut self,
-        rt: &R,
-        file: &str,
-        text: &str,
-    ) -> io::Result<()> {
+    pub fn try_text<R>(&mut self, rt: &R, file: &str, text: &str) -> io::Result<()>
+    where
+        R: AllocGlobal + Clone + Drop + Files + Threads + Sync,
+        R::File: Send,
+    {
         let Ok(lines) = lines_of(rt.alloc(), text) else {
             return self.tell_unread(file);
         };
@@ -127,13 +127,17 @@ impl Teller {
 }
 
 /// Adds the name that a block gives, or tries its case. Sets `at` to the line that the result is reported for.
-fn trial_of<'a, R: AllocGlobal + Threads + Sync>(
+fn trial_of<'a, R>(
     rt: &R,
     names: &mut Vec<Named<'a>>,
     head: &Line<'a>,
     body: &[Line<'a>],
     at: &mut Line<'a>,
-) -> Result<Trial, Mistake> {
+) -> Result<Trial, Mistake>
+where
+    R: AllocGlobal + Clone + Drop + Files + Threads + Sync,
+    R::File: Send,
+{
     match head.first_word() {
         "refused" => ask_empty(body, at),
         "name" => {

@@ -6,18 +6,23 @@ use crate::names::Named;
 use crate::passes::{in_pass, passes_of};
 use crate::telling::Trial;
 use std::alloc::Global;
+use std::fs::Files;
 use std::io::{self, Write};
 use std::thread::Threads;
 
 /// Tries a case in each pass (one for each value of `$n`) and each way of recovery, up to the first difference. Sets
 /// `at` to the line that the result is reported for.
-pub fn try_case<'a, R: AllocGlobal + Threads + Sync>(
+pub fn try_case<'a, R>(
     rt: &R,
     names: &[Named<'_>],
     head: &Line<'a>,
     body: &[Line<'a>],
     at: &mut Line<'a>,
-) -> Result<Trial, Mistake> {
+) -> Result<Trial, Mistake>
+where
+    R: AllocGlobal + Clone + Drop + Files + Threads + Sync,
+    R::File: Send,
+{
     let (passes, lines) = passes_of(rt.alloc(), body, at)?;
     for pass in passes {
         let case = case_of(rt.alloc(), names, lines, pass, at)?;
@@ -54,21 +59,25 @@ fn read_line(
     case: &mut Case,
 ) -> Result<(), Mistake> {
     let text = in_pass(alloc, text, pass)?;
-    case.add(alloc, names, &words_of(alloc, text.as_str())?)
+    case.add(
+        alloc,
+        names,
+        text.as_str(),
+        &words_of(alloc, text.as_str())?,
+    )
 }
 
-/// Recovers the case in each way. Returns the first difference from what is expected, or None.
-fn compare<R: AllocGlobal + Threads + Sync>(
-    rt: &R,
-    mut case: Case,
-    pass: Option<u64>,
-) -> Result<Option<Vec<u8>>, Mistake> {
+/// Tries the case in each way. Returns the first difference from what is expected, or None.
+fn compare<R>(rt: &R, mut case: Case, pass: Option<u64>) -> Result<Option<Vec<u8>>, Mistake>
+where
+    R: AllocGlobal + Clone + Drop + Files + Threads + Sync,
+    R::File: Send,
+{
     case.finish()?;
     for way in case.ways(rt.alloc())? {
-        let came = case.come(rt, way)?;
-        if came != case.expected {
+        if let Some(came) = case.differs(rt, way)? {
             let mut text = Vec::new(rt.alloc());
-            write_difference(way, pass, &case.expected, &came, &mut text)?;
+            write_difference(way, pass, case.expected_in(way), &came, &mut text)?;
             return Ok(Some(text));
         }
     }
@@ -77,7 +86,7 @@ fn compare<R: AllocGlobal + Threads + Sync>(
 
 /// Appends the expected text, the way and the pass, and the actual text.
 fn write_difference(
-    way: Way,
+    way: Way<'_>,
     pass: Option<u64>,
     expected: &[u8],
     came: &[u8],
@@ -93,8 +102,8 @@ fn write_difference(
     Ok(text.extend_from_slice(came)?)
 }
 
-/// Appends the way in which the case was recovered.
-fn write_way(way: Way, text: &mut Vec<u8>) -> io::Result<()> {
+/// Appends the way in which the case was tried.
+fn write_way(way: Way<'_>, text: &mut Vec<u8>) -> io::Result<()> {
     match way {
         Way::Memory => write!(text, "came, from memory"),
         Way::Buffers(size) => write!(text, "came, with buffers of {size}"),
@@ -103,6 +112,10 @@ fn write_way(way: Way, text: &mut Vec<u8>) -> io::Result<()> {
         }
         Way::At { workers, line } => {
             write!(text, "came, with {workers} workers and line {line} of cuts")
+        }
+        Way::Run { run, outputs } => {
+            write!(text, "came, from {}", run.line)?;
+            outputs.write(text)
         }
     }
 }

@@ -30,11 +30,16 @@ fn repeated(word: &str) -> Result<(&str, u64), Mistake> {
     let Some((once, times)) = word.split_once('*') else {
         return Ok((word, 1));
     };
-    let times = number_of(times)?;
+    Ok((once, times_of(times)?))
+}
+
+/// Reads a number of repetitions. Err if the word is not a number, or is above `MOST_TIMES`.
+fn times_of(word: &str) -> Result<u64, Mistake> {
+    let times = number_of(word)?;
     if times > MOST_TIMES {
         return Err(Mistake::Number);
     }
-    Ok((once, times))
+    Ok(times)
 }
 
 /// Appends the bytes `times` times.
@@ -107,4 +112,26 @@ pub fn push_digits(alloc: Global, words: &[&str], out: &mut Vec<u8>) -> Result<(
         push_piece(alloc, word, true, out)?;
     }
     Ok(())
+}
+
+/// Appends the arguments that a word stands for: `none**3` for three times `none`.
+pub fn push_arguments(alloc: Global, word: &str, out: &mut Vec<String>) -> Result<(), Mistake> {
+    let Some((once, times)) = word.split_once("**") else {
+        return Ok(out.push(argument_of(alloc, word)?)?);
+    };
+    for _time in 0..times_of(times)? {
+        out.push(argument_of(alloc, once)?)?;
+    }
+    Ok(())
+}
+
+/// Reads an argument: `''` for an empty one, or the notation of keys and values.
+fn argument_of(alloc: Global, word: &str) -> Result<String, Mistake> {
+    if word == "''" {
+        return Ok(String::new(alloc));
+    }
+    match String::from_utf8(bytes_of(alloc, word)?) {
+        Ok(text) => Ok(text),
+        Err(_) => Err(Mistake::Digits),
+    }
 }

@@ -1,13 +1,12 @@
 //! The example of the README: recovery over files.
 use crate::asserting::assert_bytes;
-use crate::commands::words_on;
-use crate::folders::Entry::Text;
-use crate::folders::{Named, folder_with, remove};
+use crate::folders::{folder_of, remove};
 use crate::logs::{LOG_A, LOG_B, PART};
 use mt_recover::{Inputs, MOST_BYTES, recover_one, write_dump};
 use mt_scan::{LONGEST_BUFFER, Rack, ReaderSource, Slot};
-use std::fs::{File, Files};
+use std::fs::{self, File, Files};
 use std::io::{self, ErrorKind, Write};
+use std::process::Abort;
 
 /// Opens these files as sources, each with the buffer of a slot.
 fn sources_of<'a, R: AllocGlobal + Files>(
@@ -43,18 +42,25 @@ fn print_store<R: AllocGlobal + Files, W: Write>(
     }
 }
 
-const FILES: &[Named] = &[
-    ("a.mtl", Text(LOG_A)),
-    ("b.mtl", Text(LOG_B)),
-    ("c.mtc", Text(PART)),
-];
+/// Makes a file of these bytes in the folder, and returns its path as a list of one.
+fn made<R: Abort + AllocGlobal + Files>(
+    rt: &R,
+    folder: &str,
+    name: &str,
+    bytes: &[u8],
+) -> Vec<String> {
+    let path = format!(in rt.alloc(); "{folder}/{name}").expect(rt, "memory");
+    fs::write(rt, path.as_str(), bytes).expect(rt, "a file");
+    vec![in rt.alloc(); path].expect(rt, "memory")
+}
 
 #[test]
 fn recovers_from_files(rt: HostRuntime) {
-    let id = std::process::id(rt.process());
-    let folder = folder_with(&rt, id, "example", FILES);
-    let logs = words_on(&rt, "logs F/a.mtl F/b.mtl", folder.as_str());
-    let parts = words_on(&rt, "parts F/c.mtc", folder.as_str());
+    let folder = folder_of(&rt, std::process::id(rt.process()), "example");
+    let mut logs = made(&rt, folder.as_str(), "a.mtl", LOG_A);
+    let mut second = made(&rt, folder.as_str(), "b.mtl", LOG_B);
+    logs.append(&mut second).expect(&rt, "memory");
+    let parts = made(&rt, folder.as_str(), "c.mtc", PART);
     let mut out = Vec::new(rt.alloc());
     print_store(&rt, &logs, &parts, &mut out).expect(&rt, "the files");
     assert_bytes(&rt, "", &out, b"61: 0=6f 1=70\n62: 0=79\n");

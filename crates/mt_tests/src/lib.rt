@@ -1,14 +1,11 @@
-//! Tests that no case file of `mt_cases` can express: sources and outputs of their own, failed allocations, feeds,
-//! threads that meet, printed texts and exit statuses.
+//! Tests that no case file of `mt_cases` can express: sources of their own, files of the greatest size, failed
+//! allocations, feeds, threads that meet.
 //!
-//! `logs` has the logs and parts of the tests as bytes. An `Output` fails as its `Device` says. A `Meeting` is a gate
-//! where a worker waits for others. A `Run` is a command line and how it ends.
+//! `logs` has the logs and parts of the tests as bytes. A `Meeting` is a gate where a worker waits for others.
 //!
 //! Begin with `example.rt`, the example of the README.
 #![tactic(auto)]
 
-#[cfg(test)]
-mod answering;
 #[cfg(test)]
 mod asserting;
 #[cfg(test)]
@@ -18,13 +15,13 @@ mod commands;
 #[cfg(test)]
 mod deepest;
 #[cfg(test)]
-mod devices;
-#[cfg(test)]
 mod example;
 #[cfg(test)]
 mod feeding;
 #[cfg(test)]
 mod folders;
+#[cfg(test)]
+mod greatest;
 #[cfg(test)]
 mod listing;
 #[cfg(test)]

@@ -13,12 +13,6 @@ pub const LOG_B: &[u8] = b"MTL1\0\0\0\0\0\0\0\0\
     \0\0\0\x19\x01\0\0\0\0\0\0\0\x04\0\0\0\0\0\0\0\x01\0\x01b\x01\0\0\x01y\0\0\0\x19\
     \0\0\0\x09\x03\0\0\0\0\0\0\0\x06\0\0\0\x09";
 
-/// A log of a mark, a put with a wrong trailer, and a mark.
-pub const DAMAGED_LOG: &[u8] = b"MTL1\0\0\0\0\0\0\0\0\
-    \0\0\0\x09\x03\0\0\0\0\0\0\0\x01\0\0\0\x09\
-    \0\0\0\x19\x01\0\0\0\0\0\0\0\x03\0\0\0\0\0\0\0\x01\0\x01a\x01\0\0\x01x\0\0\0\x18\
-    \0\0\0\x09\x03\0\0\0\0\0\0\0\x05\0\0\0\x09";
-
 /// A log of puts of keys b, d and f, and a mark above them.
 pub const LOG_OF_THREE: &[u8] = b"MTL1\0\0\0\0\0\0\0\0\
     \0\0\0\x19\x01\0\0\0\0\0\0\0\x01\0\0\0\0\0\0\0\x01\0\x01b\x01\0\0\x011\0\0\0\x19\
@@ -39,9 +33,6 @@ pub const LOG_WITH_A_BAD_TRAILER: &[u8] = b"MTL1\0\0\0\0\0\0\0\0\
     \0\0\0\x19\x01\0\0\0\0\0\0\0\x06\0\0\0\0\0\0\0\x01\0\x01b\x01\0\0\x01y\0\0\0\x19\
     \0\0\0\x19\x01\0\0\0\0\0\0\0\x07\0\0\0\0\0\0\0\x01\0\x01c\x01\0\0\x01z\0\0\0\x19\
     \0\0\0\x09\x03\0\0\0\0\0\0\0\x09\0\0\0\x08";
-
-/// A log of a header alone, with `from` 4.
-pub const LATE_HEADER: &[u8] = b"MTL1\0\0\0\0\0\0\0\x04";
 
 /// A part of 64 bytes: number 1, begin 2, part 0 of 1, end 4, and one entry: key a at version 1 with 0=o and 1=p.
 pub const PART: &[u8] = b"MTC1\0\0\0\x01\0\0\0\0\0\0\0\x02\0\0\0\x01\
