@@ -1,5 +1,6 @@
 pub mod Apart
 pub mod ReplayLemmas
+pub mod Audits
 pub mod OneWalk
 pub mod SurvivorLemmas
 pub mod SourceLemmas

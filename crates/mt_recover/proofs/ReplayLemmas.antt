@@ -1,6 +1,6 @@
 -- The surviving updates, scan by scan.
 use Rattle.std.proofs.Common.{sum_by, length, arith, ◌≡◌, map, Result, Ok, IfOk, List, [], ◌∷◌, ◌++◌, IsPermutation, refl, sym, ap, ◌∙◌, subst, append_assoc}
-use Rattle.std.specs.List.{filter, AllZip}
+use Rattle.std.specs.List.{filter, flat_map, AllZip}
 use Rattle.std.proofs.lemmas.List.{map-append}
 use Rattle.std.proofs.lemmas.List.Sums.{sum_by-cons}
 use Rattle.std.proofs.lemmas.List.Elements.{filter-append}
@@ -42,15 +42,16 @@ all_answered P (j ∷ js) (a ∷ rest) (d ∷ ds) all are =
     let later : rest ≡ map Ok ds = cc in
     (subst (λ answer. IfOk answer (P j)) first all.0, all_answered P js rest ds all.1 later)
 
--- the cells of all logs have the kept updates in the window
-cells_of_all : (window : Window) (scans : List LogScan) (logs : List LogSurvivors) → AllZip (IsLeftBy window) scans logs → IsPermutation (kept_in window scans) (joined (cells_of logs))
-cells_of_all window [] [] all = IsPermutation-refl []
-cells_of_all window [] (l ∷ ls) all = absurd all
-cells_of_all window (s ∷ ss) [] all = absurd all
-cells_of_all window (s ∷ ss) (l ∷ ls) all =
-    subst (IsPermutation (kept_in window (s ∷ ss))) (sym (joined_append l.cells.items (cells_of ls)))
-    (subst (λ (us : List Update). IsPermutation us (joined l.cells.items ++ joined (cells_of ls))) (sym (filter-append (in_window window) (kept_by s) (kept ss)))
-    (IsPermutation-append (filter (in_window window) (kept_by s)) (joined l.cells.items) (kept_in window ss) (joined (cells_of ls)) all.0.cells (cells_of_all window ss ls all.1)))
+-- if the cells of each log have its kept updates in the window, the cells of all logs have all of them
+pub cells_of_all : {X : Type 0} (R : LogScan → X → Type 0) (cells : X → List (List Update)) (window : Window) → ((scan : LogScan) (log : X) → R scan log → IsPermutation (filter (in_window window) (kept_by scan)) (joined (cells log)))
+    → (scans : List LogScan) (logs : List X) → AllZip R scans logs → IsPermutation (kept_in window scans) (joined (flat_map cells logs))
+cells_of_all R cells window own [] [] all = IsPermutation-refl []
+cells_of_all R cells window own [] (l ∷ ls) all = absurd all
+cells_of_all R cells window own (s ∷ ss) [] all = absurd all
+cells_of_all R cells window own (s ∷ ss) (l ∷ ls) all =
+    subst (IsPermutation (kept_in window (s ∷ ss))) (sym (joined_append (cells l) (flat_map cells ls)))
+    (subst (λ (us : List Update). IsPermutation us (joined (cells l) ++ joined (flat_map cells ls))) (sym (filter-append (in_window window) (kept_by s) (kept ss)))
+    (IsPermutation-append (filter (in_window window) (kept_by s)) (joined (cells l)) (kept_in window ss) (joined (flat_map cells ls)) (own s l all.0) (cells_of_all R cells window own ss ls all.1)))
 
 -- the early updates of all logs are counted scan by scan
 early_of_all : (window : Window) (scans : List LogScan) (logs : List LogSurvivors) → AllZip (IsLeftBy window) scans logs
@@ -71,7 +72,7 @@ pub cells_of_both : (window : Window) (scans : List LogScan) (logs : List LogSur
     → IsPermutation (kept_in window scans ++ entries) (joined (cells_of logs ++ parts))
 cells_of_both window scans logs entries parts of_logs of_parts =
     let cells = cells_of logs in
-    subst (IsPermutation (kept_in window scans ++ entries)) (sym (joined_append cells parts)) (IsPermutation-append (kept_in window scans) (joined cells) entries (joined parts) (cells_of_all window scans logs of_logs) of_parts)
+    subst (IsPermutation (kept_in window scans ++ entries)) (sym (joined_append cells parts)) (IsPermutation-append (kept_in window scans) (joined cells) entries (joined parts) (cells_of_all (IsLeftBy window) (λ (log : LogSurvivors). log.cells.items) window (λ scan log left. left.cells) scans logs of_logs) of_parts)
 
 -- and the count of early updates is that of all scans
 pub early_of_both : (window : Window) (scans : List LogScan) (logs : List LogSurvivors) → AllZip (IsLeftBy window) scans logs → early_of logs ≡ length (filter (is_early window.begin) (kept scans))

@@ -1,4 +1,5 @@
 pub mod Recovery
+pub mod Audit
 pub mod Report
 pub mod Verdict
 pub mod Dump

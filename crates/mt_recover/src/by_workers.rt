@@ -1,6 +1,6 @@
 //! Shares out work among threads.
 ghost use Rattle.std.specs.Prelude.{◌≡◌, ◌⊎◌, ◌<◌, ◌≤◌, ℕ, [], List, map, length, max, All, IfOk, IfErr};
-ghost use Rattle.std.specs.List.{AllZip};
+ghost use Rattle.std.specs.List.{AllZip, flat_map};
 ghost use Rattle.std.specs.Vec.Iter.{into_iter_items};
 ghost use Rattle.mt_words.specs.declared.fault.Memory.{Memory as MemoryValue};
 ghost use Rattle.mt_board.specs.Board.{least_noted, times_drawn, SawNoneBelow, SomeIsDone};
@@ -68,6 +68,17 @@ pub(crate) fn all_done<X: Drop, E: Drop + From<Memory>>(
         done.push(answer?).map_err(|refused| Memory::from(refused))?;
     }
     Ok(done)
+}
+
+/// Puts the lists together, one after the other.
+pub(crate) fn concat<X: Drop>(alloc: Global, lists: Vec<Vec<X>>) -> Result<Vec<X>, Memory>
+    ensures { IfOk result (λ all. all.items ≡ flat_map (λ list. list.items) lists.items) }
+{
+    let mut all = Vec::new(alloc);
+    for mut list in lists {
+        all.append(&mut list)?;
+    }
+    Ok(all)
 }
 
 /// Deals the jobs to shares in turn. There is one share for each worker, but there are no more shares than jobs, so

@@ -4,10 +4,13 @@
 //! `Report`. A caller with threads of its own takes the three steps of `recover` itself: `prepare` makes a `Job`,
 //! `work` replays pieces of it into a `Haul`, and `assemble` makes the store of all hauls.
 //!
+//! `audit` answers from the same `Inputs`, without a store: it finds the versions of a key that several updates share.
+//!
 //! Begin with `recovery.rt`, and with `specs/Inputs.antt`, which says what recovery returns.
 #![tactic(auto)]
 
 mod assembling;
+mod auditing;
 mod by_workers;
 mod dump;
 mod failure;
@@ -27,13 +30,14 @@ mod workers;
 mod working;
 
 pub use assembling::assemble;
+pub use auditing::audit;
 pub use dump::{write_dump, write_pair};
 pub use failure::Failure;
 pub use haul::Haul;
 pub use job::{Job, prepare};
 pub use laws::{one_report, one_verdict, one_walk};
 pub use mt_board::Pass;
-pub use mt_replay::{Cuts, MOST_PIECES, Pieces};
+pub use mt_replay::{Clash, Cuts, MOST_PIECES, Pieces, Place};
 pub use mt_tree::{Hit, Visitor, Wanted};
 pub use program::{MOST_BYTES, MOST_FILES, dump_files};
 pub use recovery::{Inputs, Recovered, recover, recover_logs, recover_one};
