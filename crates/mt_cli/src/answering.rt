@@ -1,10 +1,12 @@
-//! Answers a query on the recovered store.
+//! Answers a query, from the recovered store or by an audit.
 ghost use Rattle.std.specs.Prelude.{◌≤◌};
 
+use crate::clashes::write_clash;
 use crate::failure::tell;
-use crate::request::{Command, Query};
+use crate::request::{Command, Query, StoreQuery};
 use mt_recover::{
-    Cutting, Failure, Inputs, NoGate, Recovered, Store, Wanted, recover, write_dump, write_pair,
+    Clash, Cutting, Failure, Inputs, NoGate, Pieces, Recovered, Store, Wanted, Workers, audit,
+    recover, write_dump, write_pair,
 };
 use mt_scan::Source;
 use mt_words::Key;
@@ -13,10 +15,8 @@ use std::io::{self, BufWriter, Write};
 use std::mem;
 use std::thread::Threads;
 
-/// Recovers the store from the sources, prints what the command asks for, and returns the exit status: 0 if it was
-/// printed. On a failure, prints its line on `err` and returns its status. The output is buffered. The store is not
-/// freed: the process ends with its answer, and freeing a large store key by key takes a tenth of the time of its
-/// recovery.
+/// Answers the command's query from the sources, and returns the exit status: 0 if the answer was printed. On a failure,
+/// prints its line on `err` and returns its status. The output is buffered.
 pub fn answer<R: AllocGlobal + Threads + Sync, S: Source + Send, O: Write, E: Write>(
     rt: &R,
     command: &Command<'_>,
@@ -26,34 +26,76 @@ pub fn answer<R: AllocGlobal + Threads + Sync, S: Source + Send, O: Write, E: Wr
 ) -> u8
     ensures status { result ≤ 3 }
 {
-    match recover_and_print(rt, command, inputs, out) {
+    match answer_query(rt, command, inputs, out) {
         Ok(()) => 0,
         Err(failure) => tell(&failure, err),
     }
 }
 
-/// Recovers the store, and prints what the command asks for.
-fn recover_and_print<R: AllocGlobal + Threads + Sync, S: Source + Send, O: Write>(
+/// Prints what the command asks for.
+fn answer_query<R: AllocGlobal + Threads + Sync, S: Source + Send, O: Write>(
     rt: &R,
     command: &Command<'_>,
     inputs: Inputs<S>,
     out: &mut O,
 ) -> Result<(), Failure<'static>> {
-    let cutting = Cutting::Sampled(command.pieces);
-    let recovered = recover(rt, rt.alloc(), inputs, command.workers, cutting, &NoGate)?;
-    print_all(rt.alloc(), &recovered, &command.query, out)?;
+    match &command.query {
+        Query::Store(query, pieces) => {
+            recover_and_print(rt, inputs, command.workers, *pieces, query, out)
+        }
+        Query::Audit => audit_and_print(rt, inputs, command.workers, out),
+    }
+}
+
+/// Recovers the store, and prints what the query asks for. The store is not freed: the process ends with its answer, and
+/// freeing a large store key by key takes a tenth of the time of its recovery.
+fn recover_and_print<R: AllocGlobal + Threads + Sync, S: Source + Send, O: Write>(
+    rt: &R,
+    inputs: Inputs<S>,
+    workers: Workers,
+    pieces: Pieces,
+    query: &StoreQuery,
+    out: &mut O,
+) -> Result<(), Failure<'static>> {
+    let cutting = Cutting::Sampled(pieces);
+    let recovered = recover(rt, rt.alloc(), inputs, workers, cutting, &NoGate)?;
+    print_all(rt.alloc(), &recovered, query, out)?;
     mem::forget(recovered);
     Ok(())
+}
+
+/// Audits the logs, and prints the line of each clash.
+fn audit_and_print<R: AllocGlobal + Threads + Sync, S: Source + Send, O: Write>(
+    rt: &R,
+    inputs: Inputs<S>,
+    workers: Workers,
+    out: &mut O,
+) -> Result<(), Failure<'static>> {
+    let clashes = audit(rt, rt.alloc(), inputs, workers)?;
+    print_clashes(rt.alloc(), &clashes, out)
 }
 
 /// The size of the output buffer in bytes.
 const PRINTED_AT_ONCE: usize = 65_536;
 
+/// Prints the line of each clash, through a buffer.
+fn print_clashes<O: Write>(
+    alloc: Global,
+    clashes: &[Clash],
+    out: &mut O,
+) -> Result<(), Failure<'static>> {
+    let mut out = BufWriter::with_capacity(alloc, PRINTED_AT_ONCE, out)?;
+    for clash in clashes {
+        write_clash(alloc, clash, &mut out)?;
+    }
+    Ok(out.flush()?)
+}
+
 /// Prints what the query asks for, through a buffer.
 fn print_all<O: Write>(
     alloc: Global,
     recovered: &Recovered,
-    query: &Query,
+    query: &StoreQuery,
     out: &mut O,
 ) -> Result<(), Failure<'static>> {
     let mut out = BufWriter::with_capacity(alloc, PRINTED_AT_ONCE, out)?;
@@ -64,15 +106,15 @@ fn print_all<O: Write>(
 /// Prints what the query asks for.
 fn print<O: Write>(
     recovered: &Recovered,
-    query: &Query,
+    query: &StoreQuery,
     out: &mut O,
 ) -> Result<(), Failure<'static>> {
     let store = recovered.store();
     match query {
-        Query::Report => write!(out, "{}", recovered.report())?,
-        Query::Get(key) => write_found(store, key, out)?,
-        Query::Range(start, count) => print_range(store, start, *count, out)?,
-        Query::Dump => write_dump(store, out)?,
+        StoreQuery::Report => write!(out, "{}", recovered.report())?,
+        StoreQuery::Get(key) => write_found(store, key, out)?,
+        StoreQuery::Range(start, count) => print_range(store, start, *count, out)?,
+        StoreQuery::Dump => write_dump(store, out)?,
     }
     Ok(())
 }

@@ -9,7 +9,8 @@ pub fn grammar<'a>(alloc: Global) -> Result<Command<'a>, AllocError> {
     let program = with(program(alloc), report(alloc));
     let program = with(program, get(alloc));
     let program = with(program, range(alloc));
-    with(program, dump(alloc))
+    let program = with(program, dump(alloc));
+    with(program, audit(alloc))
 }
 
 /// Adds a subcommand to the program. If either is an Err, returns that Err. Err: out of memory.
@@ -29,7 +30,7 @@ fn program<'a>(alloc: Global) -> Result<Command<'a>, AllocError> {
     let program = Command::new(alloc, "mtrecover")
         .version("1.0 (file formats 1 and 2)")
         .about(
-            "Recovers the store of a folder of update logs and checkpoint parts, and answers queries on it",
+            "Recovers the store of a folder of update logs and checkpoint parts and answers queries on it, or audits the logs",
         )
         .after_help(STATUSES)
         .no_binary_name(true)
@@ -42,21 +43,21 @@ fn program<'a>(alloc: Global) -> Result<Command<'a>, AllocError> {
 fn report<'a>(alloc: Global) -> Result<Command<'a>, AllocError> {
     let about = "Prints what recovery found in the logs and parts, as NAME=VALUE lines";
     let example = "Example: mtrecover report examples/store";
-    subcommand(alloc, "report", about, example)
+    of_store(alloc, "report", about, example)
 }
 
 /// Returns the subcommand `get`.
 fn get<'a>(alloc: Global) -> Result<Command<'a>, AllocError> {
     let about = "Prints a key with its columns, or `absent`";
     let example = "Example: mtrecover get examples/store 666967";
-    subcommand(alloc, "get", about, example)?.arg(key(alloc))
+    of_store(alloc, "get", about, example)?.arg(key(alloc))
 }
 
 /// Returns the subcommand `range`.
 fn range<'a>(alloc: Global) -> Result<Command<'a>, AllocError> {
     let about = "Prints the first keys at or after a key, with their columns";
     let example = "Example: mtrecover range examples/store 6b 2";
-    subcommand(alloc, "range", about, example)?
+    of_store(alloc, "range", about, example)?
         .arg(key(alloc))?
         .arg(count(alloc))
 }
@@ -64,7 +65,25 @@ fn range<'a>(alloc: Global) -> Result<Command<'a>, AllocError> {
 /// Returns the subcommand `dump`.
 fn dump<'a>(alloc: Global) -> Result<Command<'a>, AllocError> {
     let example = "Example: mtrecover dump examples/store --workers 8";
-    subcommand(alloc, "dump", "Prints all keys with their columns", example)
+    of_store(alloc, "dump", "Prints all keys with their columns", example)
+}
+
+/// Returns the subcommand `audit`.
+fn audit<'a>(alloc: Global) -> Result<Command<'a>, AllocError> {
+    let about =
+        "Prints each version of a key that two or more surviving log updates share, with their records";
+    let example = "Example: mtrecover audit examples/store";
+    subcommand(alloc, "audit", about, example)
+}
+
+/// Returns a subcommand that recovers the store, with the arguments that all of these take.
+fn of_store<'a>(
+    alloc: Global,
+    name: &'a str,
+    about: &'a str,
+    example: &'a str,
+) -> Result<Command<'a>, AllocError> {
+    subcommand(alloc, name, about, example)?.arg(pieces(alloc))
 }
 
 /// Returns a subcommand with the arguments that all subcommands take.
@@ -78,8 +97,7 @@ fn subcommand<'a>(
         .about(about)
         .after_help(example)
         .arg(folder(alloc))?
-        .arg(workers(alloc))?
-        .arg(pieces(alloc))
+        .arg(workers(alloc))
 }
 
 /// Returns the argument that names the folder.

@@ -1,13 +1,16 @@
-//! The code of the program `mtrecover`, which recovers the store of a folder and answers one query on it.
+//! The code of the program `mtrecover`, which recovers the store of a folder and answers one query on it, or audits the
+//! logs of the folder.
 //!
 //! `run` is the whole program. It reads the arguments into a `Command`, which has a `Query`; lists the `Names` of the
-//! logs and parts in the folder; opens these as sources; then `answer` recovers the store and prints the answer.
+//! logs and parts in the folder; opens these as sources; then `answer` recovers the store or audits the logs, and prints
+//! the answer.
 //!
 //! Begin with `running.rt`, which has these steps in order. `failure.rt` of `mt_recover` has the text and the exit
 //! status of each failure.
 #![tactic(auto)]
 
 mod answering;
+mod clashes;
 mod failure;
 mod file_names;
 mod grammar;
@@ -20,6 +23,6 @@ mod words;
 pub use answering::answer;
 pub use file_names::Names;
 pub use listing::names;
-pub use request::{Command, Query};
+pub use request::{Command, Query, StoreQuery};
 pub use running::{run, run_words};
 pub use words::command;

@@ -7,10 +7,8 @@ use mt_words::Key;
 pub struct Command<'a> {
     /// The folder of the logs and parts.
     pub folder: &'a str,
-    /// The number of threads that recover.
+    /// The number of threads that work.
     pub workers: Workers,
-    /// The most pieces into which the keys are cut.
-    pub pieces: Pieces,
     /// The query to answer.
     pub query: Query,
 }
@@ -18,6 +16,15 @@ pub struct Command<'a> {
 /// A query: what to print.
 #[derive(Debug, Drop)]
 pub enum Query {
+    /// A query on the recovered store. Recovery cuts the keys into at most this many pieces.
+    Store(StoreQuery, Pieces),
+    /// The clashes of the logs, which take no store.
+    Audit,
+}
+
+/// A query on the recovered store.
+#[derive(Debug, Drop)]
+pub enum StoreQuery {
     /// The report of recovery.
     Report,
     /// The pair of a key.

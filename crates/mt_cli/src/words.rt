@@ -3,7 +3,7 @@ ghost use Rattle.std.specs.Prelude.{◌≤◌, IfErr};
 
 use crate::failure::{or_tell, tell};
 use crate::grammar::grammar;
-use crate::request::{Command, Query};
+use crate::request::{Command, Query, StoreQuery};
 use clap::ArgMatches;
 use clap::error::ErrorKind;
 use hex::FromHexError;
@@ -56,15 +56,13 @@ fn read<'a>(alloc: Global, matches: &ArgMatches<'a>) -> Result<Command<'a>, Fail
     let (name, matches) = matches.subcommand().ok_or(Failure::Words)?;
     let folder = matches.get_str("DIR");
     let workers = matches.get_one("workers").and_then(Workers::new);
-    let pieces = matches.get_one("pieces").and_then(Pieces::new);
-    let (Some(folder), Some(workers), Some(pieces)) = (folder, workers, pieces) else {
+    let (Some(folder), Some(workers)) = (folder, workers) else {
         return Err(Failure::Words);
     };
     let query = query(alloc, name, matches)?;
     Ok(Command {
         folder,
         workers,
-        pieces,
         query,
     })
 }
@@ -76,11 +74,24 @@ fn found<T>(value: Option<T>) -> Result<T, Failure<'static>> {
 
 /// Returns the query of the subcommand of this name.
 fn query(alloc: Global, name: &str, matches: &ArgMatches<'_>) -> Result<Query, Failure<'static>> {
+    if name == "audit" {
+        return Ok(Query::Audit);
+    }
+    let pieces = found(matches.get_one("pieces").and_then(Pieces::new))?;
+    Ok(Query::Store(store_query(alloc, name, matches)?, pieces))
+}
+
+/// Returns the query on the store of the subcommand of this name.
+fn store_query(
+    alloc: Global,
+    name: &str,
+    matches: &ArgMatches<'_>,
+) -> Result<StoreQuery, Failure<'static>> {
     match name {
-        "report" => Ok(Query::Report),
-        "get" => Ok(Query::Get(key(alloc, matches)?)),
-        "range" => Ok(Query::Range(key(alloc, matches)?, found(matches.get_one("COUNT"))?)),
-        "dump" => Ok(Query::Dump),
+        "report" => Ok(StoreQuery::Report),
+        "get" => Ok(StoreQuery::Get(key(alloc, matches)?)),
+        "range" => Ok(StoreQuery::Range(key(alloc, matches)?, found(matches.get_one("COUNT"))?)),
+        "dump" => Ok(StoreQuery::Dump),
         _ => Err(Failure::Words),
     }
 }

@@ -17,21 +17,25 @@ fn words_of<R: Abort + AllocGlobal>(rt: &R, line: &str) -> Vec<String> {
 const TAKEN: &[(&str, &str)] = &[
     (
         "mtrecover report F",
-        "Command { folder: \"F\", workers: Workers { count: 4 }, pieces: Pieces { count: 16 }, query: Report }",
+        "Command { folder: \"F\", workers: Workers { count: 4 }, query: Store(Report, Pieces { count: 16 }) }",
     ),
     (
         "mtrecover get F 6aB0 --workers 1 --pieces 1",
-        "Command { folder: \"F\", workers: Workers { count: 1 }, pieces: Pieces { count: 1 }, \
-         query: Get(Key { bytes: [106, 176] }) }",
+        "Command { folder: \"F\", workers: Workers { count: 1 }, \
+         query: Store(Get(Key { bytes: [106, 176] }), Pieces { count: 1 }) }",
     ),
     (
         "mtrecover range F  4294967295 --workers 64 --pieces 4096",
-        "Command { folder: \"F\", workers: Workers { count: 64 }, pieces: Pieces { count: 4096 }, \
-         query: Range(Key { bytes: [] }, 4294967295) }",
+        "Command { folder: \"F\", workers: Workers { count: 64 }, \
+         query: Store(Range(Key { bytes: [] }, 4294967295), Pieces { count: 4096 }) }",
     ),
     (
         "mtrecover dump  --pieces 2",
-        "Command { folder: \"\", workers: Workers { count: 4 }, pieces: Pieces { count: 2 }, query: Dump }",
+        "Command { folder: \"\", workers: Workers { count: 4 }, query: Store(Dump, Pieces { count: 2 }) }",
+    ),
+    (
+        "mtrecover audit F --workers 2",
+        "Command { folder: \"F\", workers: Workers { count: 2 }, query: Audit }",
     ),
 ];
 
