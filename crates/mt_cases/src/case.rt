@@ -152,13 +152,13 @@ impl Case {
         self.folder.spell_parts()
     }
 
-    /// Returns the ways in which the case is tried.
-    pub fn ways(&self, alloc: Global) -> Result<Vec<Way<'_>>, Mistake> {
+    /// Returns the ways in which the case is tried in this pass.
+    pub fn ways(&self, alloc: Global, pass: Option<u64>) -> Result<Vec<Way<'_>>, Mistake> {
         let mut ways = Vec::new(alloc);
         if !self.expected.is_empty() {
             self.push_ways_of_one_thread(&mut ways)?;
             for workers in WORKERS {
-                self.push_ways_of_workers(workers, &mut ways)?;
+                self.push_ways_of_workers(workers, pass, &mut ways)?;
             }
         }
         self.push_runs(&mut ways)?;
@@ -179,10 +179,19 @@ impl Case {
         Ok(())
     }
 
-    /// Appends the ways with this number of workers.
-    fn push_ways_of_workers(&self, workers: u32, ways: &mut Vec<Way<'_>>) -> Result<(), Mistake> {
-        for pieces in PIECES {
-            ways.push(Way::Even { workers, pieces })?;
+    /// Appends the ways with this number of workers. Each makes threads, so passes with numbers take the numbers of pieces
+    /// in turn.
+    fn push_ways_of_workers<'a>(
+        &'a self,
+        workers: u32,
+        pass: Option<u64>,
+        ways: &mut Vec<Way<'a>>,
+    ) -> Result<(), Mistake> {
+        let turn = pass.map(|number| number as usize % PIECES.len());
+        for (place, pieces) in PIECES.into_iter().enumerate() {
+            if turn.is_none() || turn == Some(place) {
+                ways.push(Way::Even { workers, pieces })?;
+            }
         }
         for line in 0..self.cuts.len() {
             ways.push(Way::At { workers, line })?;

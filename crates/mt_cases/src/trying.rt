@@ -74,7 +74,7 @@ where
     R::File: Send,
 {
     case.finish()?;
-    for way in case.ways(rt.alloc())? {
+    for way in case.ways(rt.alloc(), pass)? {
         if let Some(came) = case.differs(rt, way)? {
             let mut text = Vec::new(rt.alloc());
             write_difference(way, pass, case.expected_in(way), &came, &mut text)?;
