@@ -1,4 +1,4 @@
-//! Tests of what happens when memory runs out. Run alone, they see no failed allocation. `.ci/refuse_growths` makes
+//! Tests of what happens when memory runs out. Run alone, they see no failed allocation. `.ci/try_failures` makes
 //! their first allocation fail, then their second, and so on. Each run must give the expected result or `Memory`.
 use crate::asserting::assert_same;
 use crate::claiming::Turns;

@@ -1,0 +1,97 @@
+/* Loaded into a program, fails one of its calls, and says so on standard error. FAIL is the kind of call: growth (malloc,
+   realloc), thread, open, list, stat, read or write. AT is its number among the program's calls of that kind, from 1. WITH
+   is the errno, or 0 for a read or write of one byte. */
+#define _GNU_SOURCE
+#include <dlfcn.h>
+#include <errno.h>
+#include <fcntl.h>
+#include <pthread.h>
+#include <stdarg.h>
+#include <stdatomic.h>
+#include <stdlib.h>
+#include <string.h>
+#include <sys/stat.h>
+#include <sys/syscall.h>
+#include <unistd.h>
+
+static atomic_long calls;
+
+/* The function of this name that the program would call without this file. */
+#define NEXT(type, name) ((type)dlsym(RTLD_NEXT, name))
+
+/* Whether this call is the one. Then errno is set. */
+static int fails(const char *kind)
+{
+    const char *wanted = getenv("FAIL");
+    if (!wanted || strcmp(wanted, kind) || atomic_fetch_add(&calls, 1) + 1 != atol(getenv("AT")))
+        return 0;
+    static const char text[] = "call failed\n";
+    syscall(SYS_write, 2, text, sizeof text - 1);
+    errno = atoi(getenv("WITH"));
+    return 1;
+}
+
+void *malloc(size_t size)
+{
+    return fails("growth") ? NULL : NEXT(void *(*)(size_t), "malloc")(size);
+}
+
+void *realloc(void *old, size_t size)
+{
+    return fails("growth") ? NULL : NEXT(void *(*)(void *, size_t), "realloc")(old, size);
+}
+
+int pthread_create(pthread_t *thread, const pthread_attr_t *attr, void *(*start)(void *), void *arg)
+{
+    typedef int (*create)(pthread_t *, const pthread_attr_t *, void *(*)(void *), void *);
+    return fails("thread") ? errno : NEXT(create, "pthread_create")(thread, attr, start, arg);
+}
+
+int open(const char *path, int flags, ...)
+{
+    va_list args;
+    va_start(args, flags);
+    int mode = va_arg(args, int);
+    va_end(args);
+    return fails("open") ? -1 : NEXT(int (*)(const char *, int, ...), "open")(path, flags, mode);
+}
+
+int openat(int folder, const char *path, int flags, ...)
+{
+    va_list args;
+    va_start(args, flags);
+    int mode = va_arg(args, int);
+    va_end(args);
+    return fails("open") ? -1 : NEXT(int (*)(int, const char *, int, ...), "openat")(folder, path, flags, mode);
+}
+
+ssize_t getdents64(int folder, void *entries, size_t size)
+{
+    return fails("list") ? -1 : NEXT(ssize_t (*)(int, void *, size_t), "getdents64")(folder, entries, size);
+}
+
+int statx(int folder, const char *path, int flags, unsigned mask, struct statx *found)
+{
+    typedef int (*stat)(int, const char *, int, unsigned, struct statx *);
+    return fails("stat") ? -1 : NEXT(stat, "statx")(folder, path, flags, mask, found);
+}
+
+ssize_t read(int file, void *bytes, size_t size)
+{
+    if (fails("read")) {
+        if (errno)
+            return -1;
+        size = size < 1 ? size : 1;
+    }
+    return NEXT(ssize_t (*)(int, void *, size_t), "read")(file, bytes, size);
+}
+
+ssize_t write(int file, const void *bytes, size_t size)
+{
+    if (fails("write")) {
+        if (errno)
+            return -1;
+        size = size < 1 ? size : 1;
+    }
+    return NEXT(ssize_t (*)(int, const void *, size_t), "write")(file, bytes, size);
+}
