@@ -3,7 +3,8 @@ use crate::mistake::Mistake;
 use crate::records::{entry_of, record_of};
 use crate::words::{byte_of, number_of, push_digits, small_of};
 use mt_record::{
-    PartHead, encode_log_header, encode_log_header_2, encode_part, encode_part_2, encode_record,
+    PartHead, encode_log_header, encode_log_header_2, encode_log_header_3, encode_part,
+    encode_part_2, encode_record,
 };
 use mt_words::{Entry, Format};
 use std::alloc::Global;
@@ -65,18 +66,19 @@ impl Draft {
         }
     }
 
-    /// Begins a log: `from FROM`, or nothing for 0; then a format, or nothing for format 1.
+    /// Begins a log: `from FROM`, or nothing for 0; then a format, or `worker WORKER segment SEGMENT`, or nothing for
+    /// format 1.
     pub fn begin_log(alloc: Global, words: &[&str]) -> Result<Draft, Mistake> {
-        let (format, words) = format_of(words)?;
-        let from = match words {
-            [] => 0,
-            ["from", from] => number_of(from)?,
-            _ => return Err(Mistake::Line),
-        };
         let mut bytes = Vec::new(alloc);
+        if let [rest @ .., "worker", worker, "segment", segment] = words {
+            let (worker, segment) = (small_of::<u32>(worker)?, small_of::<u32>(segment)?);
+            encode_log_header_3(from_of(rest)?, worker, segment, &mut bytes)?;
+            return Ok(Draft::of_bytes(true, bytes));
+        }
+        let (format, words) = format_of(words)?;
         match format {
-            Format::One => encode_log_header(from, &mut bytes)?,
-            Format::Two => encode_log_header_2(from, &mut bytes)?,
+            Format::One => encode_log_header(from_of(words)?, &mut bytes)?,
+            Format::Two => encode_log_header_2(from_of(words)?, &mut bytes)?,
         }
         Ok(Draft::of_bytes(true, bytes))
     }
@@ -145,6 +147,15 @@ impl Draft {
             Some(part) => part.spell(&mut self.bytes),
             None => Ok(()),
         }
+    }
+}
+
+/// Reads `from FROM`, or nothing for 0.
+fn from_of(words: &[&str]) -> Result<u64, Mistake> {
+    match words {
+        [] => Ok(0),
+        ["from", from] => number_of(from),
+        _ => Err(Mistake::Line),
     }
 }
 

@@ -28,7 +28,7 @@ const STATUSES: &str =
 /// Returns the program without its subcommands.
 fn program<'a>(alloc: Global) -> Result<Command<'a>, AllocError> {
     let program = Command::new(alloc, "mtrecover")
-        .version("1.0 (file formats 1 and 2)")
+        .version("1.0 (file formats 1 to 3)")
         .about(
             "Recovers the store of a folder of update logs and checkpoint parts and answers queries on it, or audits the logs",
         )

@@ -1,10 +1,8 @@
 -- A beginning of a log is a log.
-use Rattle.std.proofs.Common.{◌≡◌, ◌⊎◌, inl, inr, ℕ, ◌+◌, ◌≤◌, List, [], ◌∷◌, ◌++◌, length, refl, sym, ap, ◌∙◌, subst, append_assoc, arith}
-use Rattle.std.proofs.lemmas.List.{length-append, append-nil}
+use Rattle.std.proofs.Common.{◌≡◌, ◌⊎◌, inl, inr, ℕ, List, [], ◌∷◌, ◌++◌, length, refl, sym, ap, ◌∙◌, subst, append_assoc, arith}
+use Rattle.std.proofs.lemmas.List.{append-nil}
 use Rattle.std.specs.Prelude.{◌==◌, not}
 use Rattle.std.specs.List.{flat_map}
-use Rattle.byteorder.specs.Endian.{big_bytes}
-use Rattle.byteorder.specs.Numbers.{length-bytes_high_first}
 use Rattle.mt_words.specs.declared.limits.Limits.{Limits}
 use Rattle.mt_words.specs.Limits.{limits_of}
 use Rattle.mt_words.specs.Changes.{Logged, IsLawful}
@@ -14,21 +12,11 @@ use Rattle.mt_record.specs.Fronts.{GoTogether}
 use Rattle.mt_record.specs.Spelling.{spelling, IsRecordLength}
 use Rattle.mt_record.specs.Logs.{AreRecords, IsTorn, LogReading, IsReading}
 use Rattle.mt_record.proofs.Feeds.{apart, behind_on}
+use Rattle.mt_record.proofs.OneLog.{same_head}
 use Rattle.mt_record.proofs.Records.{tells_torn}
 use Rattle.mt_record.proofs.Unique.{same_split}
 use Rattle.mt_laws.specs.Crashes.{IsCutOf, SaysBeginning}
 use Rattle.mt_laws.proofs.CutFrames.{cut_end, cut_record}
-
--- ---- the header
-
--- the bytes are at least a header long, and go together with this one
-is_whole : (head : Head) (left : List ℕ) → 12 ≤ length left → GoTogether left (head_bytes head) → (behind : List ℕ) × (left ≡ head_bytes head ++ behind)
-is_whole head left long (inl longer) = longer
-is_whole head left long (inr ([], same)) = ([], sym (append-nil left) ∙ sym same ∙ sym (append-nil (head_bytes head)))
-is_whole head left long (inr (x ∷ xs, same)) =
-    let all : length (head_bytes head) ≡ length left + length (x ∷ xs) = ap length same ∙ length-append left (x ∷ xs) in
-    let eight : length (big_bytes 8 head.from) ≡ 8 = length-bytes_high_first 8 head.from in
-    absurd (omega (arith, all, eight, long))
 
 -- ---- the records
 
@@ -87,18 +75,19 @@ front_lawful limits low (r ∷ rs) lost are = (are.0, are.1, front_lawful limits
 pub cut_log : (left written : List ℕ) (log : LogReading) → IsReading written log → IsCutOf left written → SaysBeginning left log
 cut_log left written log is cut =
     let limits = limits_of log.head.format in
+    let header = cut.header in
     let front = head_bytes log.head in
     let all = flat_map spelling log.records ++ is.tail in
     let both : left ++ cut.lost ≡ front ++ all = sym cut.begins ∙ is.is_log.spelled in
-    let behind = is_whole log.head left cut.header (apart left front cut.lost all both) in
-    let records : all ≡ behind.0 ++ cut.lost = (same_split front front all (behind.0 ++ cut.lost) refl (sym both ∙ behind_on front left behind.0 cut.lost behind.1)).1 in
-    let first = first_records limits 0 log.records is.tail behind.0 cut.lost is.is_log.lawful is.is_log.ends records in
+    let one = same_head header.head log.head (header.more ++ cut.lost) all header.is_head is.is_log.is_head (sym (behind_on (head_bytes header.head) left header.more cut.lost header.spelled) ∙ both) in
+    let behind : left ≡ front ++ header.more = header.spelled ∙ ap (λ (head : Head). head_bytes head ++ header.more) one.0 in
+    let first = first_records limits 0 log.records is.tail header.more cut.lost is.is_log.lawful is.is_log.ends (sym one.1) in
     record {
       log = record { head = log.head; records = first.kept; torn = not (length first.rest == 0) };
       is_reading = record {
         tail = first.rest;
         is_log = record {
-          spelled = behind.1 ∙ ap (λ (bytes : List ℕ). front ++ bytes) first.spelled;
+          spelled = behind ∙ ap (λ (bytes : List ℕ). front ++ bytes) first.spelled;
           is_head = is.is_log.is_head;
           lawful = front_lawful limits 0 first.kept first.lost (subst (AreRecords limits 0) first.all is.is_log.lawful);
           ends = first.ends;

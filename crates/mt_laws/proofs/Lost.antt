@@ -1,7 +1,7 @@
 -- What a crash loses of the updates in a window: nothing, where each log reaches the cutoff.
-use Rattle.std.proofs.Common.{◌≡◌, ◌⊎◌, inl, inr, ℕ, suc, ◌<◌, ◌≤◌, false, max, Option, List, [], ◌∷◌, ◌++◌, filter, Contains, refl, sym, ap, ◌∙◌, subst, append_assoc, arith}
-use Rattle.std.proofs.lemmas.Bool.{cases_lt}
-use Rattle.std.proofs.lemmas.List.Elements.{filter-append, Contains-append_left}
+use Rattle.std.proofs.Common.{◌≡◌, ◌⊎◌, inl, inr, ℕ, suc, ◌<◌, ◌≤◌, false, max, IsTrue, Option, None, List, [], ◌∷◌, ◌++◌, filter, Contains, refl, sym, ap, ◌∙◌, subst, append_assoc, arith}
+use Rattle.std.proofs.lemmas.Bool.{cases_lt, lt-ltb}
+use Rattle.std.proofs.lemmas.List.Elements.{All-head, All-tail, filter-append, Contains-append_left}
 use Rattle.std.specs.List.{AllZip, AllByRecursion}
 use Rattle.mt_words.specs.declared.limits.Limits.{Limits}
 use Rattle.mt_words.specs.declared.update.Origin.TheVariants as origins
@@ -11,7 +11,8 @@ use Rattle.mt_words.specs.Changes.{Logged}
 use Rattle.mt_words.specs.Walks.{Pair}
 use Rattle.mt_words.specs.Updates.{update_of, updates_from}
 use Rattle.mt_words.proofs.Elements.{no_element, head_or_tail, head_in, tail_in}
-use Rattle.mt_record.specs.Logs.{AreRecords, latest, LogReading, IsReading, IsLast}
+use Rattle.mt_record.specs.declared.feed.head.Head.{Head}
+use Rattle.mt_record.specs.Logs.{AreRecords, latest, LogReading, IsReading, IsGreatestOf, IsLast}
 use Rattle.mt_record.proofs.Records.{last_is}
 use Rattle.mt_record.proofs.OneReading.{one_reading_of}
 use Rattle.mt_scan.specs.Cutoff.{HasLast, IsCutoff}
@@ -20,8 +21,10 @@ use Rattle.mt_replay.specs.Survivors.{all_updates, log_updates, is_within, in_wi
 use Rattle.mt_replay.specs.Walk.{IsWalk}
 use Rattle.mt_replay.proofs.Members.{in_filter}
 use Rattle.mt_scan.specs.Choice.{CheckpointReading}
-use Rattle.mt_recover.specs.Recovery.{AreReadings, entry_updates, begin_of, survivors, IsGap, records_of, IsStoreOf}
-use Rattle.mt_laws.specs.Crashes.{IsCutOf, IsBeginningOf, IsCrash}
+use Rattle.mt_recover.specs.Segments.{Passes, IsGap, has_gap, writers_of}
+use Rattle.mt_recover.specs.Recovery.{AreReadings, entry_updates, begin_of, survivors, records_of, IsStoreOf}
+use Rattle.mt_recover.proofs.FoundLemmas.{alone}
+use Rattle.mt_laws.specs.Crashes.{IsCutOf, IsBeginningOf, IsAlone, NoSegments, IsCrash}
 use Rattle.mt_laws.proofs.Windows.{within, outside, one_outside}
 use Rattle.mt_laws.proofs.CutLogs.{cut_log}
 
@@ -111,15 +114,18 @@ all_survive window log (l ∷ ls) (h ∷ hs) are =
     ∙ (λ i. one_survives window log l h are.0 i ++ all_survive window (suc log) ls hs are.1 i)
     ∙ sym (filter-append (in_window window) (updates_from log 0 h.records) (all_updates (suc log) (records_of hs)))
 
--- no log has a gap, so each has all from begin on
-from_begin : (begin : ℕ) (ls : List LogReading) → ((i : ℕ) → IsGap begin ls i → ⊥) → (log : LogReading) → Contains ls log → log.head.from ≤ begin
-from_begin begin [] none log at = absurd (no_element log at)
-from_begin begin (l ∷ ls) none log at = elim (head_or_tail l log ls at) as (λ _. log.head.from ≤ begin) [
-  | inl e ↦ subst (λ (x : LogReading). x.head.from ≤ begin) e (elim (cases_lt begin l.head.from) as (λ _. l.head.from ≤ begin) [
-    | inl gap ↦ absurd (none 0 gap)
+-- a log that is no segment and has no gap has all from begin on
+from_begin : (begin : ℕ) (files ls : List LogReading) → ((i : ℕ) → Passes ls i (λ file. has_gap begin (writers_of files) file.head.from file.head.writer) → ⊥) → (log : LogReading)
+    → Contains ls log → log.head.writer ≡ None → log.head.from ≤ begin
+from_begin begin files [] none log at alone = absurd (no_element log at)
+from_begin begin files (l ∷ ls) none log at alone = elim (head_or_tail l log ls at) as (λ _. log.head.from ≤ begin) [
+  | inl e ↦ elim (cases_lt begin log.head.from) as (λ _. log.head.from ≤ begin) [
+    | inl gap ↦
+        let late : IsTrue (has_gap begin (writers_of files) log.head.from log.head.writer) = rw alone (lt-ltb begin log.head.from gap) in
+        absurd (none 0 (subst (λ (file : LogReading). IsTrue (has_gap begin (writers_of files) file.head.from file.head.writer)) (sym e) late))
     | inr most ↦ most
-  ])
-  | inr later ↦ from_begin begin ls (λ i gap. none (suc i) gap) log later
+  ]
+  | inr later ↦ from_begin begin files ls (λ i gap. none (suc i) gap) log later alone
 ]
 
 -- the greater of two numbers that is at least the cutoff is one of them
@@ -130,31 +136,33 @@ one_reaches cutoff from begin last low reaches = elim (cases_lt last cutoff) as 
 ]
 
 one_cut : (window : Window) (left written : List ℕ) (history log : LogReading) → IsCutOf left written → IsReading written history → IsReading left log
-    → log.head.from ≤ window.begin → ((last : ℕ) → IsLast log last → window.cutoff ≤ last) → LosesNothing window log history
-one_cut window left written history log cut is is_log low least =
+    → history.head.writer ≡ None → (log.head.writer ≡ None → log.head.from ≤ window.begin) → (log.head.writer ≡ None → (last : ℕ) → IsLast log last → window.cutoff ≤ last)
+    → LosesNothing window log history
+one_cut window left written history log cut is is_log none low least =
     let said = cut_log left written history is cut in
-    let same : said.log ≡ log = one_reading_of left said.log log said.is_reading is_log in
-    let last = least (max log.head.from (latest 0 log.records)) (last_is (limits_of log.head.format) log is_log.is_log.lawful) in record {
-      begins = subst (λ (x : LogReading). IsBeginningOf x history) same said.begins;
+    let begins = subst (λ (x : LogReading). IsBeginningOf x history) (one_reading_of left said.log log said.is_reading is_log) said.begins in
+    let alone : log.head.writer ≡ None = ap (λ (head : Head). head.writer) begins.head ∙ none in
+    let last = least alone (max log.head.from (latest 0 log.records)) (last_is (limits_of log.head.format) log is_log.is_log.lawful) in record {
+      begins = begins;
       limits = limits_of history.head.format;
       lawful = is.is_log.lawful;
-      reaches = one_reaches window.cutoff log.head.from window.begin (latest 0 log.records) low last;
+      reaches = one_reaches window.cutoff log.head.from window.begin (latest 0 log.records) (low alone) last;
     }
 
 all_cut : (window : Window) (left written : List (List ℕ)) (hs ls : List LogReading) → AllZip IsCutOf left written → AreReadings written hs → AreReadings left ls
-    → ((log : LogReading) → Contains ls log → log.head.from ≤ window.begin)
-    → ((log : LogReading) → Contains ls log → (last : ℕ) → IsLast log last → window.cutoff ≤ last)
+    → NoSegments hs → ((log : LogReading) → Contains ls log → log.head.writer ≡ None → log.head.from ≤ window.begin)
+    → ((log : LogReading) → Contains ls log → log.head.writer ≡ None → (last : ℕ) → IsLast log last → window.cutoff ≤ last)
     → AllZip (LosesNothing window) ls hs
-all_cut window [] [] [] [] cuts read are low least = tt
-all_cut window [] [] [] (l ∷ ls) cuts read are low least = absurd are
-all_cut window [] [] (h ∷ hs) ls cuts read are low least = absurd read
-all_cut window [] (w ∷ ws) hs ls cuts read are low least = absurd cuts
-all_cut window (x ∷ xs) [] hs ls cuts read are low least = absurd cuts
-all_cut window (x ∷ xs) (w ∷ ws) [] ls cuts read are low least = absurd read
-all_cut window (x ∷ xs) (w ∷ ws) (h ∷ hs) [] cuts read are low least = absurd are
-all_cut window (x ∷ xs) (w ∷ ws) (h ∷ hs) (l ∷ ls) cuts read are low least = (
-  one_cut window x w h l cuts.0 read.0 are.0 (low l (head_in l ls)) (least l (head_in l ls)),
-  all_cut window xs ws hs ls cuts.1 read.1 are.1 (λ log at. low log (tail_in l log ls at)) (λ log at. least log (tail_in l log ls at)),
+all_cut window [] [] [] [] cuts read are none low least = tt
+all_cut window [] [] [] (l ∷ ls) cuts read are none low least = absurd are
+all_cut window [] [] (h ∷ hs) ls cuts read are none low least = absurd read
+all_cut window [] (w ∷ ws) hs ls cuts read are none low least = absurd cuts
+all_cut window (x ∷ xs) [] hs ls cuts read are none low least = absurd cuts
+all_cut window (x ∷ xs) (w ∷ ws) [] ls cuts read are none low least = absurd read
+all_cut window (x ∷ xs) (w ∷ ws) (h ∷ hs) [] cuts read are none low least = absurd are
+all_cut window (x ∷ xs) (w ∷ ws) (h ∷ hs) (l ∷ ls) cuts read are none low least = (
+  one_cut window x w h l cuts.0 read.0 are.0 (All-head IsAlone h hs none) (low l (head_in l ls)) (least l (head_in l ls)),
+  all_cut window xs ws hs ls cuts.1 read.1 are.1 (All-tail IsAlone h hs none) (λ log at. low log (tail_in l log ls at)) (λ log at. least log (tail_in l log ls at)),
 )
 
 -- ---- the laws
@@ -166,8 +174,8 @@ pub nothing_lost : (left : List (List ℕ)) (histories readings : List LogReadin
 nothing_lost left histories readings cutoff chosen crash are is none =
     let window : Window = record { begin = begin_of chosen; cutoff = cutoff } in
     ap (λ (us : List Update). us ++ entry_updates chosen) (all_survive window 0 readings histories
-    (all_cut window left crash.written histories readings crash.cuts crash.read are (from_begin (begin_of chosen) readings none)
-    (λ log at last is_last. is.least last (record { log = log; stands = at; is_last = is_last }))))
+    (all_cut window left crash.written histories readings crash.cuts crash.read are crash.no_segments (from_begin (begin_of chosen) readings readings none)
+    (λ log at own last is_last. is.least last (record { log = log; stands = at; is_last = subst (λ (times : List ℕ). IsGreatestOf times last) (alone readings log own) is_last }))))
 
 pub same_store : (left parts : List (List ℕ)) (histories : List LogReading) (pairs : List Pair) → IsCrash left histories → (store : IsStoreOf left parts pairs)
     → IsWalk (survivors store.facts.cutoff store.facts.chosen (records_of histories)) pairs

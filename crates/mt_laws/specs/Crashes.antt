@@ -1,11 +1,12 @@
 -- What a crash leaves of logs. Which checkpoints stand for the updates before them, and which records may be deleted then.
-use Rattle.std.specs.Prelude.{◌≡◌, ℕ, ◌≤◌, ◌<◌, ◌↔◌, ◌&&◌, Bool, true, false, nat_le, is_some, Some, IfSome, Option, List, [], ◌∷◌, ◌++◌, length, map, filter, Contains}
+use Rattle.std.specs.Prelude.{◌≡◌, ℕ, ◌≤◌, ◌<◌, ◌↔◌, ◌&&◌, Bool, true, false, nat_le, is_some, Some, None, IfSome, Option, List, [], ◌∷◌, ◌++◌, map, filter, All, Contains}
 use Rattle.std.specs.List.{AllZip}
 use Rattle.mt_words.specs.declared.record.Change.{Change}
 use Rattle.mt_words.specs.declared.update.Update.{Update}
 use Rattle.mt_words.specs.Changes.{Logged, Writes, IsWhole}
 use Rattle.mt_words.specs.Stamps.{IsOlder}
-use Rattle.mt_record.specs.declared.feed.head.TheConstants.{HEADER_BYTES}
+use Rattle.mt_record.specs.declared.feed.head.Head.{Head}
+use Rattle.mt_record.specs.Heads.{IsHead, head_bytes}
 use Rattle.mt_record.specs.Logs.{LogReading, IsReading}
 use Rattle.mt_scan.specs.Cutoff.{HasLast}
 use Rattle.mt_scan.specs.Choice.{CheckpointReading}
@@ -15,11 +16,18 @@ use Rattle.mt_recover.specs.Recovery.{AreReadings, begin_of}
 
 -- ---- logs that a crash cut
 
+-- the bytes begin with a whole header
+pub record HasHeader (bytes : List ℕ) : Type 0 where
+  pub head : Head
+  pub is_head : IsHead head
+  pub more : List ℕ
+  pub spelled : bytes ≡ head_bytes head ++ more
+
 -- what is left is a beginning of the bytes that were written, and has at least their whole header
 pub record IsCutOf (left written : List ℕ) : Type 0 where
   pub lost : List ℕ
   pub begins : written ≡ left ++ lost
-  pub header : HEADER_BYTES ≤ length left
+  pub header : HasHeader left
 
 -- the same header, and a beginning of the records
 pub record IsBeginningOf (left written : LogReading) : Type 0 where
@@ -33,18 +41,29 @@ pub record SaysBeginning (left : List ℕ) (written : LogReading) : Type 0 where
   pub is_reading : IsReading left log
   pub begins : IsBeginningOf log written
 
--- logs were written that say this, and a crash left these beginnings of them, one for each log
+-- the log is no segment of a worker's log
+abbrev pub IsAlone : LogReading → Type 0
+IsAlone log = log.head.writer ≡ None
+
+-- none of the logs is a segment of a worker's log
+abbrev pub NoSegments : List LogReading → Type 0
+NoSegments logs = All IsAlone logs
+
+-- Logs were written that say this, and a crash left these beginnings of them, one for each log. None of the logs is a segment of a worker's log.
 pub record IsCrash (left : List (List ℕ)) (histories : List LogReading) : Type 0 where
   pub written : List (List ℕ)
   pub cuts : AllZip IsCutOf left written
   pub read : AreReadings written histories
+  pub no_segments : NoSegments histories
 
 -- What was synced of each log reaches beyond a timestamp: it is a beginning of what is left, with a whole header, and its last timestamp is greater.
+-- None of the logs is a segment of a worker's log.
 pub record AreSyncedBeyond (time : ℕ) (left : List (List ℕ)) : Type 0 where
   pub synced : List (List ℕ)
   pub begin : AllZip IsCutOf synced left
   pub readings : List LogReading
   pub read : AreReadings synced readings
+  pub no_segments : NoSegments readings
   pub beyond : (last : ℕ) → HasLast readings last → time < last
 
 -- ---- checkpoints that were written while updates went on

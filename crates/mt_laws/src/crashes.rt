@@ -1,4 +1,4 @@
-//! Laws of logs that a crash cut.
+//! Laws of logs that a crash cut. Only the first law speaks of segments of workers' logs too.
 ghost use Rattle.std.specs.Prelude.{◌≡◌, ◌≤◌, ◌<◌, List, Option, ℕ, Contains};
 ghost use Rattle.mt_words.specs.declared.update.Update.{Update};
 ghost use Rattle.mt_words.specs.Walks.{Pair};
@@ -7,7 +7,8 @@ ghost use Rattle.mt_scan.specs.Choice.{CheckpointReading};
 ghost use Rattle.mt_scan.specs.Cutoff.{HasLast, IsCutoff};
 ghost use Rattle.mt_replay.specs.Survivors.{log_updates};
 ghost use Rattle.mt_replay.specs.Walk.{IsWalk};
-ghost use Rattle.mt_recover.specs.Recovery.{AreReadings, begin_of, survivors, IsGap, records_of, IsStoreOf};
+ghost use Rattle.mt_recover.specs.Segments.{IsGap};
+ghost use Rattle.mt_recover.specs.Recovery.{AreReadings, begin_of, survivors, records_of, IsStoreOf};
 ghost use Rattle.mt_laws.specs.Crashes.{IsCutOf, SaysBeginning, IsCrash, AreSyncedBeyond};
 
 /// States that a beginning of a log, if it has the whole header, is a log with the same header, whose records are a

@@ -25,7 +25,7 @@ use Rattle.mt_record.specs.Feeding.{HasRead, Reads, HoldsAll, HasShown}
 use Rattle.mt_record.specs.LogFeeding.{LogSoFar, log_so_far, ShowsFault, IsShown, ShowsNoFault, HoldsLog, IsLogLeft, IsLogFaulty}
 use Rattle.mt_record.proofs.Records.{records_push, latest_push, last_is, tells_torn}
 use Rattle.mt_record.proofs.OneReading.{not_both}
-use Rattle.mt_record.proofs.Beginnings.{cut_none}
+use Rattle.mt_record.proofs.Beginnings.{cut_none, same_long, head_long}
 use Rattle.mt_record.proofs.Frames.{length_fault_on, frame_on}
 use Rattle.mt_record.proofs.Feeds.{behind_on, shows_none_on, front_read}
 
@@ -55,7 +55,7 @@ is_log taken s head text left some reads ends = let is = begun taken s head text
 pub header_read : {R : Type 0} (listed : R → List Logged) (old : LogItems R) (head : Head) (bytes after : List ℕ) → old.head ≡ None → IsHead head → bytes ≡ head_bytes head ++ after
     → Reads (λ taken items. HoldsLog taken (log_so_far listed items)) old (record old { head = Some head }) bytes after × (length after < length bytes)
 header_read listed old head bytes after none is e =
-    front_read (λ taken items. HoldsLog taken (log_so_far listed items)) old (record old { head = Some head }) (head_bytes head) bytes after e (omega arith) (λ taken front h.
+    front_read (λ taken items. HoldsLog taken (log_so_far listed items)) old (record old { head = Some head }) (head_bytes head) bytes after e (head_long head) (λ taken front h.
     let empty : taken ++ listed old.ready ≡ [] = rw none at h.lawful in
     let before : front ≡ [] = rw (none, empty) at h.spelled in
     record {
@@ -101,19 +101,19 @@ pub nothing_read : {R : Type 0} (listed : R → List Logged) (records : R) → l
     → HoldsAll (λ items. HoldsLog [] (log_so_far listed items)) (λ items. IsLogLeft (log_so_far listed items)) (record { head = None; ready = records; latest = 0; whole = 0 }) [] []
 nothing_read listed records none = (
   record { front = []; joins = refl; read = rw none (record { spelled = refl; lawful = refl; latest = refl; whole = refl }) },
-  record { head = head_of widest_format 0; more = head_bytes (head_of widest_format 0); is_head = omega arith; some = omega arith; begun = refl },
+  record { head = head_of widest_format 0; more = head_bytes (head_of widest_format 0); is_head = record { from = omega arith; writer = tt }; some = omega arith; begun = refl },
 )
 
 -- ---- the end
 
 -- if no header was read, the input has none
 pub no_head_read : (taken : List Logged) (s : LogSoFar) (text left : List ℕ) → s.head ≡ None → HoldsAll (HoldsLog taken) IsLogLeft s left text → HasNoHeader text
-no_head_read taken s text left none (reads, rest) = subst HasNoHeader (unread taken s text left none reads) (cut_none IsHead head_bytes 12 (λ head. refl) left (rw none at rest))
+no_head_read taken s text left none (reads, rest) = subst HasNoHeader (unread taken s text left none reads) (cut_none IsHead head_bytes same_long left (rw none at rest))
 
 -- if a header was read, the input is a log
 pub text_read : {R : Type 0} (listed : R → List Logged) (items : LogItems R) (taken : List Logged) (text left : List ℕ) (head : Head) (last : ℕ) (torn : Bool) → items.head ≡ Some head
     → HoldsAll (HoldsLog taken) IsLogLeft (log_so_far listed items) left text → torn ≡ not (length left == 0) → last ≡ max head.from items.latest
-    → IsTextIn listed taken text (record { from = head.from; last = last; records = items.ready; whole = items.whole; torn = torn })
+    → IsTextIn listed taken text (record { from = head.from; writer = head.writer; last = last; records = items.ready; whole = items.whole; torn = torn })
 text_read listed items taken text left head last torn some (reads, rest) test greatest =
     let ends : (left ≡ []) ⊎ IsTorn (limits_of head.format) left = rw some at rest in
     let log : LogReading = record { head = head; records = taken ++ listed items.ready; torn = torn } in
@@ -125,6 +125,7 @@ text_read listed items taken text left head last torn some (reads, rest) test gr
       is_reading = record { tail = left; is_log = read; torn = rw test tells };
       shows = record {
         from = refl;
+        writer = refl;
         last = subst (λ (n : ℕ). IsLast log n) (sym time) (last_is (limits_of head.format) log read.lawful);
         records = refl;
         whole = reads.read.whole;
@@ -144,7 +145,7 @@ shown_fault faults.Memory bytes h = h
 cut_shows_none : (bytes : List ℕ) → IsCutFront IsHead head_bytes bytes → ShowsNoFault bytes
 cut_shows_none bytes cut faults.Header h = h.1 cut.head cut.more cut.is_head cut.begun
 cut_shows_none bytes cut (faults.Record nth what) h =
-    cut_none IsHead head_bytes 12 (λ head. refl) bytes cut h.fault.head (flat_map spelling h.records ++ h.fault.rest) h.fault.is_head h.fault.spelled
+    cut_none IsHead head_bytes same_long bytes cut h.fault.head (flat_map spelling h.records ++ h.fault.rest) h.fault.is_head h.fault.spelled
 cut_shows_none bytes cut faults.Memory h = h
 
 -- the input of a feed without a fault shows no fault

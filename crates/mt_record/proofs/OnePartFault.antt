@@ -178,7 +178,7 @@ shown_fault faults.Memory bytes h = h
 
 -- a proper prefix of a header does not begin with a header
 cut_no_header : (bytes : List ℕ) → IsCutFront IsPartHead part_head_bytes bytes → HasNoPartHeader bytes
-cut_no_header bytes cut = cut_none IsPartHead part_head_bytes 20 (λ head. refl) bytes cut
+cut_no_header bytes cut = cut_none IsPartHead part_head_bytes (λ head other more e. refl) bytes cut
 
 -- ---- bytes that show no fault
 

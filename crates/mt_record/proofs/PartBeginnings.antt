@@ -31,9 +31,9 @@ part_whole format xs long small =
 
 -- bytes that do not go with the magic of a part show that there is no header
 pub part_none : (bytes : List ℕ) → (GoesWithMagic (codes "MTC") bytes → ⊥) → ShowsNone IsPartHead part_head_bytes bytes
-part_none = shows_none IsPartHead part_head_bytes (codes "MTC") (λ (head : PartHead). head.format)
-    (λ head. (big_bytes 4 head.number ++ (big_bytes 8 head.begin ++ (big_bytes 2 head.part ++ big_bytes 2 head.parts)), refl))
+part_none bytes not_so = shows_none IsPartHead part_head_bytes (λ (head : PartHead). magic (codes "MTC") head.format)
+    (λ head. (big_bytes 4 head.number ++ (big_bytes 8 head.begin ++ (big_bytes 2 head.part ++ big_bytes 2 head.parts)), refl)) bytes (λ head goes. not_so (head.format, goes))
 
 -- bytes that go with it but do not begin with a header are a proper prefix of one
 pub part_cut : (bytes : List ℕ) → GoesWithMagic (codes "MTC") bytes → AreBytes bytes → NoneBegins IsPartHead part_head_bytes bytes → IsCutFront IsPartHead part_head_bytes bytes
-part_cut = cut_front IsPartHead part_head_bytes (codes "MTC") 16 part_whole
+part_cut bytes goes = cut_front IsPartHead part_head_bytes (magic (codes "MTC") goes.0) 16 (part_whole goes.0) bytes goes.1

@@ -5,7 +5,7 @@ use Rattle.mt_words.specs.declared.limits.Format.TheVariants.{One, Two}
 use Rattle.mt_words.specs.Limits.{limits_of}
 use Rattle.mt_words.specs.Changes.{mark_of, erase_of, put_of, remove_of, entry_of}
 use Rattle.mt_record.specs.Spelling.{spelling, longest_record, longest_change}
-use Rattle.mt_record.specs.Heads.{head_of, head_bytes}
+use Rattle.mt_record.specs.Heads.{head_of, segment_head, head_bytes}
 use Rattle.mt_record.specs.Parts.{part_head, part_bytes}
 
 -- the longest body of format 1, and the longest change
@@ -59,6 +59,10 @@ longest_change_is_number_2 = refl
 
 header_alone_2 : head_bytes (head_of Two 0) ≡ 77 ∷ 84 ∷ 76 ∷ 50 ∷ 0 ∷ 0 ∷ 0 ∷ 0 ∷ 0 ∷ 0 ∷ 0 ∷ 0 ∷ []
 header_alone_2 = refl
+
+-- a segment without records: segment 0 of worker 7
+header_alone_3 : head_bytes (segment_head 0 7 0) ≡ 77 ∷ 84 ∷ 76 ∷ 51 ∷ 0 ∷ 0 ∷ 0 ∷ 0 ∷ 0 ∷ 0 ∷ 0 ∷ 0 ∷ 0 ∷ 0 ∷ 0 ∷ 7 ∷ 0 ∷ 0 ∷ 0 ∷ 0 ∷ []
+header_alone_3 = refl
 
 -- an erase of column 0 of "k" at version 2 and timestamp 2
 one_erase : spelling (erase_of 2 2 (107 ∷ []) (0 ∷ []))

@@ -1,20 +1,41 @@
 -- Headers of logs.
-use Rattle.std.specs.Prelude.{ℕ, ◌<◌, ◌^◌, List, ◌++◌, codes}
+use Rattle.std.specs.Prelude.{◌≡◌, ◌⊎◌, ℕ, ◌<◌, ◌^◌, Option, Some, None, IfSome, List, [], ◌++◌, codes}
 use Rattle.byteorder.specs.Endian.{big_bytes}
 use Rattle.mt_words.specs.declared.limits.Format.{Format}
+use Rattle.mt_words.specs.declared.limits.Format.TheVariants.{Two}
 use Rattle.mt_words.specs.Limits.{magic}
 use Rattle.mt_record.specs.declared.feed.head.Head.{Head}
-use Rattle.mt_record.specs.Fronts.{NoneBegins}
+use Rattle.mt_record.specs.Fronts.{GoTogether, GoesWithMagic, NoneBegins}
 
--- the header of a log with this format and this `from`
+-- the header of a log with this format and this `from`, which is no segment
 abbrev pub head_of : Format → ℕ → Head
-head_of format from = record { format = format; from = from }
+head_of format from = record { format = format; from = from; writer = None }
+
+-- the header of this segment of this worker's log, with this `from`
+abbrev pub segment_head : ℕ → ℕ → ℕ → Head
+segment_head from worker segment = record { format = Two; from = from; writer = Some (worker, segment) }
+
+-- the magic of a log: that of its format, or the magic of segments
+abbrev pub log_magic : Format → Option (ℕ × ℕ) → List ℕ
+log_magic format None = magic (codes "MTL") format
+log_magic format (Some writer) = codes "MTL3"
+
+-- the worker and the segment, if the log is a segment
+abbrev pub writer_bytes : Option (ℕ × ℕ) → List ℕ
+writer_bytes None = []
+writer_bytes (Some writer) = big_bytes 4 writer.0 ++ big_bytes 4 writer.1
 
 abbrev pub head_bytes : Head → List ℕ
-head_bytes head = magic (codes "MTL") head.format ++ big_bytes 8 head.from
+head_bytes head = log_magic head.format head.writer ++ (big_bytes 8 head.from ++ writer_bytes head.writer)
 
-abbrev pub IsHead : Head → Type 0
-IsHead head = head.from < 2 ^ 64
+-- the numbers fit their fields, and segments have the records of format 2
+pub record IsHead (head : Head) : Type 0 where
+  pub from : head.from < 2 ^ 64
+  pub writer : IfSome head.writer (λ writer. (head.format ≡ Two) × (writer.0 < 2 ^ 32) × (writer.1 < 2 ^ 32))
+
+-- the bytes begin with the magic of a log, or are a prefix of it
+abbrev pub GoesWithLog : List ℕ → Type 0
+GoesWithLog bytes = GoesWithMagic (codes "MTL") bytes ⊎ GoTogether (codes "MTL3") bytes
 
 -- the bytes do not begin with a header
 abbrev pub HasNoHeader : List ℕ → Type 0

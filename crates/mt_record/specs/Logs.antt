@@ -59,9 +59,13 @@ pub record IsReading (bytes : List ℕ) (log : LogReading) : Type 0 where
 abbrev pub times_of : LogReading → List ℕ
 times_of log = log.head.from ∷ map (λ r. r.timestamp) log.records
 
--- the last timestamp of a log: the greatest of its times
+-- the greatest of these times
+abbrev pub IsGreatestOf : List ℕ → ℕ → Type 0
+IsGreatestOf times n = Contains times n × All (λ time. time ≤ n) times
+
+-- the last timestamp of a log by itself: the greatest of its times
 abbrev pub IsLast : LogReading → ℕ → Type 0
-IsLast log n = Contains (times_of log) n × All (λ time. time ≤ n) (times_of log)
+IsLast log n = IsGreatestOf (times_of log) n
 
 -- the number of records, or 2^64 - 1 if there are more
 abbrev pub count_of : List Logged → ℕ
@@ -70,6 +74,7 @@ count_of records = min (length records) (2 ^ 64 - 1)
 -- the `LogText` agrees with the log; its own records, as `listed` gives them, come after those taken before
 pub record ShowsIn {R : Type 0} (listed : R → List Logged) (taken : List Logged) (text : LogText R) (log : LogReading) : Type 0 where
   pub from : text.from ≡ log.head.from
+  pub writer : text.writer ≡ log.head.writer
   pub last : IsLast log text.last
   pub records : taken ++ listed text.records ≡ log.records
   pub whole : text.whole ≡ count_of log.records

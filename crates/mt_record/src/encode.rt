@@ -9,13 +9,13 @@ ghost use Rattle.mt_words.specs.declared.limits.Format.TheVariants.{One, Two};
 ghost use Rattle.mt_words.specs.Words.{AreColumns, AreNumbers};
 ghost use Rattle.mt_words.specs.Changes.{AreWrites, writes_of};
 ghost use Rattle.mt_words.specs.declared.update.Kind.TheVariants.{Put, Erase};
-ghost use Rattle.mt_record.specs.Heads.{head_of, head_bytes};
+ghost use Rattle.mt_record.specs.Heads.{head_of, segment_head, head_bytes};
 ghost use Rattle.mt_record.specs.Spelling.{column_bytes, kind_bytes, change_bytes, body, spelling, IsRecordLength};
 ghost use Rattle.mt_record.specs.Steps.Adding.{HasRoom, Adds};
 
 use crate::body::MARK;
 use crate::encode::put::{put_bytes, put_column, put_counted, put_magic};
-use crate::feed::head::{HEADER_BYTES, LOG};
+use crate::feed::head::{HEADER_BYTES, LOG, SEGMENT, SEGMENT_HEADER_BYTES};
 use mt_words::{Change, Column, Format, Kind, Memory, Record};
 
 /// Appends the header of a log of format 1. Updates below the timestamp `from` may be missing from the log.
@@ -36,7 +36,26 @@ pub fn encode_log_header_2(from: u64, out: &mut Vec<u8>) -> Result<(), Memory>
     append_header(Format::Two, from, out)
 }
 
-/// Appends the header of a log of this format. Err: out of memory; nothing is appended.
+/// Appends the header of a segment of a worker's log. Its records are those of format 2. Updates below the timestamp
+/// `from` may be missing from the segment. Err: out of memory; nothing is appended.
+pub fn encode_log_header_3(
+    from: u64,
+    worker: u32,
+    segment: u32,
+    out: &mut Vec<u8>,
+) -> Result<(), Memory>
+    ensures ok { OnOk result (out.new.items ≡ out.old.items ++ head_bytes (segment_head from worker segment)) }
+    ensures err { OnErr result (out.new.items ≡ out.old.items) }
+{
+    out.reserve(SEGMENT_HEADER_BYTES)?;
+    put_bytes(SEGMENT, out);
+    put_bytes(&from.to_be_bytes(), out);
+    put_bytes(&worker.to_be_bytes(), out);
+    put_bytes(&segment.to_be_bytes(), out);
+    Ok(())
+}
+
+/// Appends the header of a log of this format, which is no segment. Err: out of memory; nothing is appended.
 fn append_header(format: Format, from: u64, out: &mut Vec<u8>) -> Result<(), Memory>
     ensures ok { OnOk result (out.new.items ≡ out.old.items ++ head_bytes (head_of format from)) }
     ensures err { OnErr result (out.new.items ≡ out.old.items) }

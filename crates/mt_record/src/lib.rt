@@ -1,4 +1,4 @@
-//! Reads and writes logs and parts of checkpoints as bytes, in both formats.
+//! Reads and writes logs and parts of checkpoints as bytes, in all formats.
 //!
 //! `LogFeed` and `PartFeed` read input that comes in chunks, and return a `LogText` or a `PartText`, or the one fault
 //! of the bytes. They decode records and entries, or keep their validated bytes (`KeptRecords`, `KeptEntries`). `Lent`
@@ -20,7 +20,7 @@ pub use body::lent::Lent;
 pub use body::lent_writes::LentWrites;
 pub use encode::parts::{encode_part, encode_part_2};
 pub use encode::updates::body_of_update;
-pub use encode::{encode_log_header, encode_log_header_2, encode_record};
+pub use encode::{encode_log_header, encode_log_header_2, encode_log_header_3, encode_record};
 pub use feed::log_feed::LogFeed;
 pub use feed::part_feed::PartFeed;
 pub use kept::log::{Dropped, KeptRecords};

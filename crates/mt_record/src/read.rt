@@ -14,6 +14,8 @@ use thiserror::Error;
 pub struct LogText<R = Vec<Record>> {
     /// Updates below this timestamp may be missing.
     pub from: u64,
+    /// The worker and the segment of its log that this is, or None for a log that is no segment.
+    pub writer: Option<(u32, u32)>,
     /// The last timestamp: the greatest of `from` and the timestamps of the complete records.
     pub last: u64,
     /// The complete records that were not taken before, in order.

@@ -11,6 +11,7 @@ pub mod OneVerdict
 pub mod OneReport
 pub mod Worked
 pub mod PiecesLemmas
+pub mod SegmentLemmas
 pub mod SharingLemmas
 pub mod ScanLemmas
 pub mod ReportLemmas

@@ -10,6 +10,7 @@ use Rattle.mt_words.specs.Changes.{is_mark}
 use Rattle.mt_record.specs.Logs.{LogReading}
 use Rattle.mt_scan.specs.PartScans.{KnownPart}
 use Rattle.mt_scan.specs.Choice.{CheckpointReading, AreSkipped, AreNameless}
+use Rattle.mt_recover.specs.Segments.{is_first_file}
 use Rattle.mt_recover.specs.Recovery.{records_of, begin_of, entry_updates, survivors}
 use Rattle.mt_recover.specs.Report.{all_records, logged_updates, is_early, is_late, Outcome, IsRecoveredOf, SaysTheSame}
 use Rattle.mt_tree.specs.Layers.{CountsLayers}
@@ -57,6 +58,7 @@ one_report logs parts outcome other is too =
       nameless = one_nameless is.store.facts.known too.store.facts.known outcome.report.nameless.items other.report.nameless.items same.2 a.nameless b.nameless;
       rest = λ i. record {
         logs = (a.logs ∙ sym b.logs) i;
+        writers = (a.writers ∙ ap (λ (x : List LogReading). length (filter (is_first_file x) x)) same.0 ∙ sym b.writers) i;
         records = (a.records ∙ ap (λ (x : List LogReading). length (all_records x)) same.0 ∙ sym b.records) i;
         marks = (a.marks ∙ ap (λ (x : List LogReading). length (filter is_mark (all_records x))) same.0 ∙ sym b.marks) i;
         torn = (a.torn ∙ ap (λ (x : List LogReading). length (filter (λ (log : LogReading). log.torn) x)) same.0 ∙ sym b.torn) i;

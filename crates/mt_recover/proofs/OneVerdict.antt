@@ -21,8 +21,10 @@ use Rattle.mt_scan.proofs.OneChoice.{one_chosen}
 use Rattle.mt_scan.proofs.OneKnown.{one_known}
 use Rattle.mt_words.proofs.Elements.{no_element}
 use Rattle.mt_replay.specs.Walk.{IsWalk}
-use Rattle.mt_recover.specs.Recovery.{AreReadings, Facts, IsGap, records_of, IsStoreOf, begin_of, survivors}
+use Rattle.mt_recover.specs.Segments.{IsDoubled, IsTornAmid, IsGap, AreWriters}
+use Rattle.mt_recover.specs.Recovery.{AreReadings, Facts, records_of, IsStoreOf, begin_of, survivors}
 use Rattle.mt_recover.specs.Verdict.{IsFirst, IsFirstFault, IsVerdict}
+use Rattle.mt_recover.specs.Steps.Preparing.{IsWritersFault}
 use Rattle.mt_recover.proofs.OneWalk.{one_walk}
 use Rattle.mt_recover.proofs.CountLemmas.{survivors_in}
 
@@ -144,6 +146,35 @@ one_first_gap logs parts i j a b is too =
     subst (λ (x : Option CheckpointReading × List LogReading). IsFirst (IsGap (begin_of x.0) x.1) i) (λ k. (same.3 k, same.0 k)) is in
     one_first (IsGap (begin_of b.chosen) b.readings) i j gap too
 
+-- the fault of logs with these readings: one of their segments, or a gap
+abbrev IsOf : List (List ℕ) → List (List ℕ) → List LogReading → Fault → Type 0
+IsOf logs parts readings (faults.Gap i) = AreWriters readings × ((facts : Facts logs parts) × IsFirst (IsGap (begin_of facts.chosen) facts.readings) i)
+IsOf logs parts readings fault = IsWritersFault readings fault
+
+-- logs with these readings have at most one of these faults
+one_of : (logs parts : List (List ℕ)) (readings : List LogReading) (fault other : Fault) → IsOf logs parts readings fault → IsOf logs parts readings other
+    → fault ≡ other
+one_of logs parts readings (faults.Doubled i) (faults.Doubled j) is too = ap faults.Doubled (one_first (IsDoubled readings) i j is too)
+one_of logs parts readings (faults.Doubled i) (faults.Torn j) is too = absurd (too.0 i is.0)
+one_of logs parts readings (faults.Doubled i) (faults.Gap j) is too = absurd (too.0.once i is.0)
+one_of logs parts readings (faults.Doubled i) other is too = absurd too
+one_of logs parts readings (faults.Torn i) (faults.Doubled j) is too = absurd (is.0 j too.0)
+one_of logs parts readings (faults.Torn i) (faults.Torn j) is too = ap faults.Torn (one_first (IsTornAmid readings) i j is.1 too.1)
+one_of logs parts readings (faults.Torn i) (faults.Gap j) is too = absurd (too.0.sound i is.1.0)
+one_of logs parts readings (faults.Torn i) other is too = absurd too
+one_of logs parts readings (faults.Gap i) (faults.Doubled j) is too = absurd (is.0.once j too.0)
+one_of logs parts readings (faults.Gap i) (faults.Torn j) is too = absurd (is.0.sound j too.1.0)
+one_of logs parts readings (faults.Gap i) (faults.Gap j) is too = ap faults.Gap (one_first_gap logs parts i j is.1.0 too.1.0 is.1.1 too.1.1)
+one_of logs parts readings (faults.Gap i) other is too = absurd too
+one_of logs parts readings fault other is too = absurd is
+
+-- logs without readings have none of these faults
+none_of : (parts : List (List ℕ)) (fault : Fault) → IsOf [] parts [] fault → ⊥
+none_of parts (faults.Doubled i) is = is.0
+none_of parts (faults.Torn i) is = is.1.0
+none_of parts (faults.Gap i) is = no_log_no_facts [] parts is.1.0 refl
+none_of parts fault is = is
+
 -- the fault says that there is no log
 abbrev NamesNone : List (List ℕ) → Fault → Type 0
 NamesNone logs fault = (fault ≡ faults.NoLogs) × (logs ≡ [])
@@ -152,29 +183,39 @@ NamesNone logs fault = (fault ≡ faults.NoLogs) × (logs ≡ [])
 abbrev NamesFault : List (List ℕ) → Fault → Type 0
 NamesFault logs fault = (i : ℕ) × (of : FeedFault) × (fault ≡ fault_at i of) × IsFirstFault logs i of
 
--- the fault is the first gap
-abbrev NamesGap : List (List ℕ) → List (List ℕ) → Fault → Type 0
-NamesGap logs parts fault = (i : ℕ) × (facts : Facts logs parts) × (fault ≡ faults.Gap i)
-    × IsFirst (IsGap (begin_of facts.chosen) facts.readings) i
+-- the logs have readings, and the fault is theirs
+abbrev NamesOf : List (List ℕ) → List (List ℕ) → Fault → Type 0
+NamesOf logs parts fault = (readings : List LogReading) × AreReadings logs readings × IsOf logs parts readings fault
 
 -- a verdict is one of these three
 named : (logs parts : List (List ℕ)) (fault : Fault) → IsVerdict logs parts fault
-    → NamesNone logs fault ⊎ (NamesFault logs fault ⊎ NamesGap logs parts fault)
+    → NamesNone logs fault ⊎ (NamesFault logs fault ⊎ NamesOf logs parts fault)
 named logs parts faults.NoLogs is = inl (refl, is)
 named logs parts (faults.Header i) is = inr (inl (i, of_log.Header, refl, is))
 named logs parts (faults.Record i nth what) is = inr (inl (i, of_log.Record nth what, refl, is))
-named logs parts (faults.Gap i) is = inr (inr (i, is.0, refl, is.1))
+named logs parts (faults.Doubled i) is = inr (inr is)
+named logs parts (faults.Torn i) is = inr (inr (is.0, is.1.0, (is.1.1, is.2)))
+named logs parts (faults.Gap i) is = inr (inr (is.0.readings, is.0.read, (is.0.writers, is)))
 named logs parts fault is = absurd is
 
--- if there is no log, none has a fault
-none_not_fault : (logs : List (List ℕ)) (i : ℕ) (fault : FeedFault) → logs ≡ [] → IsFirstFault logs i fault → ⊥
-none_not_fault logs i fault none is =
-    let at : None ≡ Some is.bytes = ap (λ (x : List (List ℕ)). slice_get x i) (sym none) ∙ is.stands in
+-- if there is no log, only that can be said
+not_none : (logs parts : List (List ℕ)) (fault : Fault) → logs ≡ [] → NamesFault logs fault ⊎ NamesOf logs parts fault → ⊥
+not_none logs parts fault none (inl first) =
+    let at : None ≡ Some first.3.bytes = ap (λ (x : List (List ℕ)). slice_get x first.0) (sym none) ∙ first.3.stands in
     absurd cc
+not_none logs parts fault none (inr of) = by of.0 (subst (λ (x : List (List ℕ)). AreReadings x of.0 × IsOf x parts of.0 fault) none (of.1, of.2))
+  where
+    by : (readings : List LogReading) → AreReadings [] readings × IsOf [] parts readings fault → ⊥
+    by [] is = none_of parts fault is.1
+    by (r ∷ rs) is = is.0
 
--- if there are facts, no log has a fault
-facts_not_fault : (logs parts : List (List ℕ)) (i : ℕ) (fault : FeedFault) → Facts logs parts → IsFirstFault logs i fault → ⊥
-facts_not_fault logs parts i fault facts is = no_fault_at logs facts.readings i is.bytes fault facts.read is.stands is.is_fault
+-- if logs have readings, none of them has a fault
+not_fault : (logs : List (List ℕ)) (readings : List LogReading) (fault : Fault) → AreReadings logs readings → NamesFault logs fault → ⊥
+not_fault logs readings fault read is = no_fault_at logs readings is.0 is.3.bytes is.1 read is.3.stands is.3.is_fault
+
+-- what is so of the readings of logs is so of any readings of theirs
+same_of : (logs parts : List (List ℕ)) (a b : List LogReading) (fault : Fault) → AreReadings logs a → AreReadings logs b → IsOf logs parts a fault → IsOf logs parts b fault
+same_of logs parts a b fault read too = subst (λ (x : List LogReading). IsOf logs parts x fault) (one_zip IsReading one_reading_of logs a b read too)
 
 -- logs and parts have at most one verdict
 pub one_verdict : (logs parts : List (List ℕ)) (fault other : Fault) → IsVerdict logs parts fault → IsVerdict logs parts other
@@ -182,28 +223,19 @@ pub one_verdict : (logs parts : List (List ℕ)) (fault other : Fault) → IsVer
 one_verdict logs parts fault other is too = elim (named logs parts fault is) as (λ _. fault ≡ other) [
   | inl none ↦ elim (named logs parts other too) as (λ _. fault ≡ other) [
     | inl none_too ↦ none.0 ∙ sym none_too.0
-    | inr some ↦ elim some as (λ _. fault ≡ other) [
-      | inl first ↦ absurd (none_not_fault logs first.0 first.1 none.1 first.3)
-      | inr gap ↦ absurd (no_log_no_facts logs parts gap.1 none.1)
-    ]
+    | inr some ↦ absurd (not_none logs parts other none.1 some)
   ]
-  | inr some ↦ elim some as (λ _. fault ≡ other) [
-    | inl first ↦ elim (named logs parts other too) as (λ _. fault ≡ other) [
-      | inl none ↦ absurd (none_not_fault logs first.0 first.1 none.1 first.3)
-      | inr some_too ↦ elim some_too as (λ _. fault ≡ other) [
-        | inl first_too ↦ first.2 ∙ one_first_fault logs first.0 first_too.0 first.1 first_too.1 first.3 first_too.3 ∙ sym first_too.2
-        | inr gap ↦ absurd (facts_not_fault logs parts first.0 first.1 gap.1 first.3)
-      ]
-    ]
-    | inr gap ↦ elim (named logs parts other too) as (λ _. fault ≡ other) [
-      | inl none ↦ absurd (no_log_no_facts logs parts gap.1 none.1)
-      | inr some_too ↦ elim some_too as (λ _. fault ≡ other) [
-        | inl first ↦ absurd (facts_not_fault logs parts first.0 first.1 gap.1 first.3)
-        | inr gap_too ↦ gap.2 ∙ ap faults.Gap (one_first_gap logs parts gap.0 gap_too.0 gap.1 gap_too.1 gap.3 gap_too.3) ∙ sym gap_too.2
-      ]
-    ]
+  | inr some ↦ elim (named logs parts other too) as (λ _. fault ≡ other) [
+    | inl none ↦ absurd (not_none logs parts fault none.1 some)
+    | inr some_too ↦ both some some_too
   ]
 ]
+  where
+    both : NamesFault logs fault ⊎ NamesOf logs parts fault → NamesFault logs other ⊎ NamesOf logs parts other → fault ≡ other
+    both (inl first) (inl first_too) = first.2 ∙ one_first_fault logs first.0 first_too.0 first.1 first_too.1 first.3 first_too.3 ∙ sym first_too.2
+    both (inl first) (inr of) = absurd (not_fault logs of.0 fault of.1 first)
+    both (inr of) (inl first) = absurd (not_fault logs of.0 other of.1 first)
+    both (inr of) (inr of_too) = one_of logs parts of_too.0 fault other (same_of logs parts of.0 of_too.0 fault of.1 of_too.1 of.2) of_too.2
 
 -- logs and parts that have a store have no verdict
 pub no_verdict : (logs parts : List (List ℕ)) (pairs : List Pair) (fault : Fault) → IsStoreOf logs parts pairs
@@ -211,11 +243,15 @@ pub no_verdict : (logs parts : List (List ℕ)) (pairs : List Pair) (fault : Fau
 no_verdict logs parts pairs fault is too = elim (named logs parts fault too) as (λ _. ⊥) [
   | inl none ↦ no_log_no_facts logs parts is.facts none.1
   | inr some ↦ elim some as (λ _. ⊥) [
-    | inl first ↦ facts_not_fault logs parts first.0 first.1 is.facts first.3
-    | inr gap ↦
-        let same = same_facts logs parts gap.1 is.facts in
-        let stands : IsGap (begin_of is.facts.chosen) is.facts.readings gap.0 =
-        subst (λ (x : Option CheckpointReading × List LogReading). IsGap (begin_of x.0) x.1 gap.0) (λ k. (same.3 k, same.0 k)) gap.3.0 in
-        is.no_gap gap.0 stands
+    | inl first ↦ not_fault logs is.facts.readings fault is.facts.read first
+    | inr of ↦ no_fault fault (same_of logs parts of.0 is.facts.readings fault of.1 is.facts.read of.2)
   ]
 ]
+  where
+    no_fault : (fault : Fault) → IsOf logs parts is.facts.readings fault → ⊥
+    no_fault (faults.Doubled i) at = is.facts.writers.once i at.0
+    no_fault (faults.Torn i) at = is.facts.writers.sound i at.1.0
+    no_fault (faults.Gap i) at =
+        let same = same_facts logs parts at.1.0 is.facts in
+        is.no_gap i (subst (λ (x : Option CheckpointReading × List LogReading). IsGap (begin_of x.0) x.1 i) (λ k. (same.3 k, same.0 k)) at.1.1.0)
+    no_fault fault at = at

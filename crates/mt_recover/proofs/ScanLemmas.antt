@@ -14,7 +14,7 @@ use Rattle.mt_record.specs.declared.read.FeedFault.TheVariants as of_log
 use Rattle.mt_record.specs.LogFaults.{IsAnswered, fault_at}
 use Rattle.mt_board.specs.Board.{BoardId, PassView, fresh_pass, fresh_passes, least_of, least_noted, nothing_noted, SawNoneBelow}
 use Rattle.mt_scan.specs.declared.log_scan.LogScan.{LogScan}
-use Rattle.mt_scan.specs.Dropping.{HasLooked, IsSharedScan}
+use Rattle.mt_scan.specs.Dropping.{HasLooked, IsSharedScan, noted_for, lowered_by}
 use Rattle.mt_scan.proofs.Drops.{least_small, under_looks, shows_lower, shows_all}
 use Rattle.mt_scan.specs.Sources.{Seen}
 use Rattle.mt_scan.specs.Scans.{IsScanOf, IsScanFault, IsLogVerdict, OfTold, failures_of}
@@ -125,6 +125,10 @@ least_both (x ∷ xs) ys = let rest = least_both xs ys in omega (arith, rest)
 pub none_scanned : {S : Type 0} (seen : S → Seen) (pass : PassView) → pass.noted ≤ nothing_noted → HasScanned seen [] [] pass pass
 none_scanned seen pass small = record { board = refl; noted = omega (arith, small); falls = omega arith; answered = tt }
 
+noted_is : (noted : ℕ) (n : Option ℕ) → noted ≤ nothing_noted → lowered_by noted n ≡ min noted (least_of (cons_option n []))
+noted_is noted None small = omega (arith, small)
+noted_is noted (Some n) small = omega (arith, small)
+
 -- the source of a log was scanned
 pub log_scanned : {S : Type 0} (seen : S → Seen) (job : ScanJob S) (answer : Result LogScan Fault) (before after : PassView) → job.kind ≡ kinds.Log → before.noted ≤ nothing_noted
     → IfOk answer (λ scan. OfTold (seen job.source).told (λ bytes. IsSharedScan job.number before after bytes scan)) → IfErr answer (λ fault. OfTold (seen job.source).told (λ bytes. IsScanFault job.number bytes fault))
@@ -134,7 +138,7 @@ log_scanned {S} seen job (Ok scan) before after kind small is fails unnoted stea
     let outcome : IsLogOutcome (least_of after.looks) job.number (seen job.source) (Ok scan) = record { scan = (is.0, is.1, shared.is); fault = tt; steady = steady } in
     record {
       board = ap (λ (p : PassView). p.board) shared.looked.rest;
-      noted = omega (arith, shared.noted, small);
+      noted = shared.noted ∙ noted_is before.noted (noted_for scan) small;
       falls = omega (arith, ap least_of shared.looked.looks, least_both before.looks (shared.looked.first ∷ shared.looked.more));
       answered = (rw kind outcome, tt);
     }
@@ -185,7 +189,7 @@ in_two_steps {A} {B} {C} f h xs ys are = by xs ∙ ap (map h) are
 
 -- ---- the scans of all workers
 
--- the last timestamps of the logs whose scan is Ok
+-- the timestamps that the scans of logs noted
 abbrev lasts_in : List Scanned → List ℕ
 lasts_in answers = lasts (logs_in answers)
 
@@ -193,10 +197,14 @@ lasts_in answers = lasts (logs_in answers)
 abbrev least_in : List Scanned → ℕ
 least_in answers = least_of (lasts_in answers)
 
+least_cons : (n : Option ℕ) (ns : List ℕ) → least_of (cons_option n ns) ≡ min (least_of (cons_option n [])) (least_of ns)
+least_cons None ns = omega (arith, least_small ns)
+least_cons (Some n) ns = omega (arith, least_small ns)
+
 least_first : (answer : Scanned) (answers : List Scanned) → least_in (answer ∷ answers) ≡ min (least_in (answer ∷ [])) (least_in answers)
 least_first (scanned.Part outcome) answers = omega (arith, least_small (lasts_in answers))
 least_first (scanned.Log (Err fault)) answers = omega (arith, least_small (lasts_in answers))
-least_first (scanned.Log (Ok scan)) answers = omega (arith, least_small (lasts_in answers))
+least_first (scanned.Log (Ok scan)) answers = least_cons (noted_for scan) (lasts_in answers)
 
 -- the least timestamp of dealt answers is the least of the shares' least timestamps
 least_dealt : (answers : List Scanned) (parts : List (List Scanned)) → AreDealt answers parts → least_in answers ≡ least_of (map least_in parts)

@@ -13,15 +13,18 @@ use Rattle.mt_record.specs.Logs.{LogReading}
 use Rattle.mt_scan.specs.declared.log_scan.LogScan.{LogScan}
 use Rattle.mt_scan.specs.declared.part_scan.PartScan.{PartScan}
 use Rattle.mt_scan.specs.Sources.{Seen, Agrees}
-use Rattle.mt_scan.specs.Scans.{IsScanFault, failures_of}
+use Rattle.mt_scan.specs.Scans.{IsScanFault, HaveNumbersOf, failures_of}
 use Rattle.mt_scan.specs.PartScans.{known_by, IsPartScanFault}
 use Rattle.mt_scan.proofs.Telling.{some_bytes}
+use Rattle.mt_recover.specs.Segments.{AreWriters}
 use Rattle.mt_recover.specs.Recovery.{AreReadings, AreKnown}
-use Rattle.mt_recover.specs.Verdict.{IsVerdictOrMemory, IsAnsweredFrom}
+use Rattle.mt_recover.specs.Verdict.{IsVerdict, IsVerdictOrMemory, AreSoundLogs, IsAnsweredFrom}
+use Rattle.mt_recover.specs.Steps.Preparing.{IsWritersFault}
 use Rattle.mt_recover.specs.Steps.LogScans.{ShowAll}
 use Rattle.mt_recover.specs.Inputs.{MayHave, OfSources, BlamesUnsteady, IsAnsweredBy, IsAnswerFrom}
 use Rattle.mt_recover.specs.Steps.Scanning.{IsFirstErr}
 use Rattle.mt_recover.specs.Steps.Outcomes.{IsLogOutcome, IsPartOutcome, AllFrom, read_parts, in_memory}
+use Rattle.mt_recover.proofs.ReportLemmas.{numbers_of}
 
 -- ---- what sources may have
 
@@ -157,11 +160,26 @@ log_refused limit sources parts outcomes fault all first =
       blames_log at.front at.back parts at.x own.0 fault (subst (λ (n : ℕ). IsScanFault n own.0 fault) place own.2) at.holds.steady,
     )
 
--- the fault of a part, if there are logs and none has a fault
-fault_of_part : (logs parts : List (List ℕ)) (readings : List LogReading) (part : ℕ) (fault : Fault) → 0 < length logs → AreReadings logs readings → IsPartScanFault part fault → IsAnsweredFrom logs parts fault
-fault_of_part logs parts readings part (faults.PartSource i) some read is = (some, (readings, read))
-fault_of_part logs parts readings part faults.Memory some read is = λ other. absurd (other refl)
-fault_of_part logs parts readings part fault some read is = absurd is
+-- recovery may return `Doubled` of the first log that is doubled, or, if none is, `Torn` of the first that is torn amid its worker's log
+pub writers_refused : (limit : ℕ) (sources parts : List Seen) (scans : List LogScan) (fault : Fault) → AllFrom (IsLogOutcome limit) 0 sources (map Ok scans)
+    → ((readings : List LogReading) → HaveNumbersOf scans readings → IsWritersFault readings fault) → IsAnsweredBy (λ seen. seen) sources parts fault
+writers_refused limit sources parts scans fault all is =
+    let whole = whole_logs limit 0 sources scans all in
+    by whole fault (is whole.readings (numbers_of limit 0 scans whole.readings whole.show))
+  where
+    answered : (whole : AreWhole limit 0 sources scans) (fault : Fault) → IsVerdict whole.logs (some_logs parts).0 fault → OfSources (λ seen. seen) sources parts (λ ls ps. IsVerdictOrMemory ls ps fault)
+    answered whole fault is = let ps = some_logs parts in record { logs = whole.logs; parts = ps.0; logs_may = whole.may; parts_may = ps.1; holds = λ _. is }
+
+    by : (whole : AreWhole limit 0 sources scans) (fault : Fault) → IsWritersFault whole.readings fault → IsAnsweredBy (λ seen. seen) sources parts fault
+    by whole (faults.Doubled i) is = (answered whole (faults.Doubled i) (whole.readings, whole.read, is), tt)
+    by whole (faults.Torn i) is = (answered whole (faults.Torn i) (whole.readings, (whole.read, is.0), is.1), tt)
+    by whole fault is = absurd is
+
+-- the fault of a part, if there are logs, none has a fault, and none is doubled or torn
+fault_of_part : (logs parts : List (List ℕ)) (part : ℕ) (fault : Fault) → 0 < length logs → AreSoundLogs logs → IsPartScanFault part fault → IsAnsweredFrom logs parts fault
+fault_of_part logs parts part (faults.PartSource i) some sound is = (some, sound)
+fault_of_part logs parts part faults.Memory some sound is = λ other. absurd (other refl)
+fault_of_part logs parts part fault some sound is = absurd is
 
 -- if the fault blames the source of a part, that source is not steady
 blames_part : (logs front back : List Seen) (source : Seen) (fault : Fault) → IsPartScanFault (length front) fault → (IsTrue source.steady → failures_of {X = PartScan} (Err fault) ≡ 0)
@@ -172,23 +190,24 @@ blames_part logs front back source fault is steady = absurd is
 
 -- recovery may return the fault of the least part whose source failed
 pub part_refused : (limit : ℕ) (sources parts : List Seen) (scans : List LogScan) (outcomes : List (Result PartScan Fault)) (fault : Fault) → AllFrom (IsLogOutcome limit) 0 sources (map Ok scans) → AllFrom IsPartOutcome 0 (read_parts sources parts) outcomes
-    → IsFirstErr outcomes fault → IsAnsweredBy (λ seen. seen) sources parts fault
-part_refused limit [] parts scans outcomes fault logs all first = absurd (no_outcome (map Ok first.done) (subst (AllFrom IsPartOutcome 0 []) first.stands all))
+    → ((readings : List LogReading) → HaveNumbersOf scans readings → AreWriters readings) → IsFirstErr outcomes fault → IsAnsweredBy (λ seen. seen) sources parts fault
+part_refused limit [] parts scans outcomes fault logs all writers first = absurd (no_outcome (map Ok first.done) (subst (AllFrom IsPartOutcome 0 []) first.stands all))
   where
     no_outcome : (before : List (Result PartScan Fault)) → AllFrom IsPartOutcome 0 [] (before ++ Err fault ∷ first.rest) → ⊥
     no_outcome [] all = all
     no_outcome (b ∷ bs) all = all
-part_refused limit (s ∷ ss) parts scans outcomes fault logs all first =
+part_refused limit (s ∷ ss) parts scans outcomes fault logs all writers first =
     let at = split IsPartOutcome 0 parts (map Ok first.done) (Err fault) first.rest (subst (AllFrom IsPartOutcome 0 parts) first.stands all) in
     let place : at.place ≡ length at.front = omega (arith, at.place_is) in
     let whole = whole_logs limit 0 (s ∷ ss) scans logs in
+    let sound : AreSoundLogs whole.logs = (whole.readings, whole.read, writers whole.readings (numbers_of limit 0 scans whole.readings whole.show)) in
     let known = some_logs parts in (
       record {
         logs = whole.logs;
         parts = known.0;
         logs_may = whole.may;
         parts_may = known.1;
-        holds = fault_of_part whole.logs known.0 whole.readings at.place fault (omega (arith, as_many_logs limit 0 (s ∷ ss) scans whole)) whole.read at.holds.fault;
+        holds = fault_of_part whole.logs known.0 at.place fault (omega (arith, as_many_logs limit 0 (s ∷ ss) scans whole)) sound at.holds.fault;
       },
       subst (λ (l : List Seen). BlamesUnsteady (λ seen. seen) (s ∷ ss) l fault) (sym at.are) (blames_part (s ∷ ss) at.front at.back at.x fault (subst (λ (n : ℕ). IsPartScanFault n fault) place at.holds.fault) at.holds.steady),
     )

@@ -1,3 +1,4 @@
+pub mod Segments
 pub mod Recovery
 pub mod Audit
 pub mod Report

@@ -6,13 +6,15 @@ use Rattle.mt_replay.specs.Walk.{IsWalk}
 use Rattle.mt_tree.specs.Layers.{CountsLayers}
 use Rattle.mt_recover.specs.declared.report.Counts.{Counts}
 use Rattle.mt_recover.specs.declared.report.Report.{Report}
-use Rattle.mt_recover.specs.Recovery.{Facts, IsGap, records_of, begin_of, survivors}
+use Rattle.mt_recover.specs.Segments.{IsGap}
+use Rattle.mt_recover.specs.Recovery.{Facts, records_of, begin_of, survivors}
 use Rattle.mt_recover.specs.Report.{IsReportOf, Outcome}
 
 -- the report of these counts and these numbers of early updates, survivors, keys and layers; updates neither early nor surviving are late
 abbrev pub report_of : Counts → ℕ → ℕ → ℕ → ℕ → Report
 report_of counts early survivors keys layers = record {
   logs = counts.logs;
+  writers = counts.writers;
   records = counts.records;
   marks = counts.marks;
   torn = counts.torn;

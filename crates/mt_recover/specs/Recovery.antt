@@ -1,5 +1,5 @@
 -- What recovery makes of logs and checkpoint parts.
-use Rattle.std.specs.Prelude.{ℕ, ◌<◌, Option, Some, None, IsSomeAnd, List, [], ◌++◌, map, slice_get}
+use Rattle.std.specs.Prelude.{ℕ, Option, Some, None, List, [], ◌++◌, map}
 use Rattle.std.specs.List.{AllZip}
 use Rattle.mt_words.specs.declared.update.Update.{Update}
 use Rattle.mt_words.specs.Changes.{Logged}
@@ -10,6 +10,7 @@ use Rattle.mt_scan.specs.PartScans.{KnownPart, IsKnown}
 use Rattle.mt_scan.specs.Choice.{CheckpointReading, IsChosenOf}
 use Rattle.mt_replay.specs.Survivors.{wholes, log_survivors}
 use Rattle.mt_replay.specs.Walk.{IsWalk}
+use Rattle.mt_recover.specs.Segments.{AreWriters, IsGap}
 
 -- the updates of the entries of the chosen checkpoint, if there is one
 abbrev pub entry_updates : Option CheckpointReading → List Update
@@ -33,20 +34,17 @@ AreReadings logs readings = AllZip IsReading logs readings
 abbrev pub AreKnown : List (List ℕ) → List KnownPart → Type 0
 AreKnown parts known = AllZip IsKnown parts known
 
--- what recovery finds: what the logs say, their cutoff, what is known of the parts, and the checkpoint that is chosen among them
+-- what recovery finds: what the logs say, where no segment is there twice or torn before the last one, their cutoff, what is known of the parts, and the checkpoint that is chosen among them
 pub record Facts (logs parts : List (List ℕ)) : Type 0 where
   pub readings : List LogReading
   pub read : AreReadings logs readings
+  pub writers : AreWriters readings
   pub cutoff : ℕ
   pub is_cutoff : IsCutoff readings cutoff
   pub known : List KnownPart
   pub are_known : AreKnown parts known
   pub chosen : Option CheckpointReading
   pub is_chosen : IsChosenOf known cutoff chosen
-
--- log i has a gap: its `from` is above `begin`, so that it may lack updates that recovery needs
-abbrev pub IsGap : ℕ → List LogReading → ℕ → Type 0
-IsGap begin readings i = IsSomeAnd (slice_get readings i) (λ log. begin < log.head.from)
 
 abbrev pub records_of : List LogReading → List (List Logged)
 records_of readings = map (λ log. log.records) readings

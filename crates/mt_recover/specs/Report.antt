@@ -10,6 +10,7 @@ use Rattle.mt_scan.specs.Choice.{AreSkipped, AreNameless}
 use Rattle.mt_replay.specs.Survivors.{log_updates}
 use Rattle.mt_tree.specs.Layers.{CountsLayers}
 use Rattle.mt_recover.specs.declared.report.Report.{Report}
+use Rattle.mt_recover.specs.Segments.{is_first_file}
 use Rattle.mt_recover.specs.Recovery.{Facts, IsStoreOf, records_of, begin_of, survivors, entry_updates}
 
 -- the complete records of all logs
@@ -31,6 +32,7 @@ is_late cutoff update = nat_le cutoff update.timestamp
 -- the report says what was found in these logs and parts, before replay
 pub record IsFoundIn {log_bytes part_bytes : List (List ℕ)} (facts : Facts log_bytes part_bytes) (report : Report) : Type 0 where
   pub logs : report.logs ≡ length log_bytes
+  pub writers : report.writers ≡ length (filter (is_first_file facts.readings) facts.readings)
   pub records : report.records ≡ length (all_records facts.readings)
   pub marks : report.marks ≡ length (filter is_mark (all_records facts.readings))
   pub torn : report.torn ≡ length (filter (λ log. log.torn) facts.readings)

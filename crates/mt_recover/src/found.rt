@@ -1,15 +1,19 @@
 //! What recovery finds in logs and parts, or why it refuses them.
-ghost use Rattle.std.specs.Prelude.{◌≡◌, List, position, nat_lt, IfOk, IfErr};
+ghost use Rattle.std.specs.Prelude.{◌≡◌, List, IfOk, IfErr, OnOk};
 ghost use Rattle.std.specs.Option.{option_map};
 ghost use Rattle.mt_scan.specs.Choice.{checkpoint_in};
 ghost use Rattle.mt_scan.specs.Sources.{Seen};
-ghost use Rattle.mt_recover.specs.Steps.Preparing.{IsFoundOf};
+ghost use Rattle.mt_record.specs.Logs.{LogReading};
+ghost use Rattle.mt_scan.specs.Scans.{HaveNumbersOf};
+ghost use Rattle.mt_recover.specs.Segments.{AreWriters};
+ghost use Rattle.mt_recover.specs.Steps.Preparing.{IsFoundOf, IsWritersFault};
 ghost use Rattle.mt_recover.specs.Inputs.{OfSources, IsAnsweredBy};
 ghost use Rattle.mt_recover.specs.Steps.Outcomes.{AreOutcomes};
 ghost use Rattle.mt_recover.specs.Recovery.{begin_of as begin_in};
 
 use crate::by_workers::all_done;
 use crate::scans::Outcomes;
+use crate::segments::{first_doubled, first_gap, first_torn};
 use mt_replay::Window;
 use mt_scan::{Checkpoint, Choice, LogScan, choose, cutoff};
 use mt_words::Fault;
@@ -27,8 +31,9 @@ pub(crate) struct Found {
 }
 
 /// Finds where recovery begins. An Err is the first of these that holds: `NoLogs`; the fault of the least log that has
-/// one; the fault of the least part whose source failed; `Gap` of the least log with a gap. `Memory` may replace any of
-/// them.
+/// one; `Doubled` of the least log that is the same segment as one before it; `Torn` of the least log that is torn and
+/// not the last segment of its worker's log; the fault of the least part whose source failed; `Gap` of the least log
+/// with a gap. `Memory` may replace any of them.
 pub(crate) fn find(alloc: Global, outcomes: Outcomes) -> Result<Found, Fault>
     ensures found { (logs parts : List Seen) → AreOutcomes logs parts outcomes →
         IfOk result (λ found. OfSources (λ seen. seen) logs parts (λ ls ps. IsFoundOf ls ps found)) }
@@ -36,6 +41,7 @@ pub(crate) fn find(alloc: Global, outcomes: Outcomes) -> Result<Found, Fault>
         IfErr result (IsAnsweredBy (λ seen. seen) logs parts) }
 {
     let scans = all_done(alloc, outcomes.logs)?;
+    check_writers(&scans)?;
     let parts = all_done(alloc, outcomes.parts)?;
     let Some(cutoff) = cutoff(&scans) else {
         return Err(Fault::NoLogs);
@@ -62,9 +68,17 @@ fn begin_of(chosen: &Option<Checkpoint>) -> u64
     }
 }
 
-/// Returns the first log that may lack updates at or after `begin`, or None if no log does.
-fn first_gap(scans: &[LogScan], begin: u64) -> Option<usize>
-    ensures { result ≡ position (λ scan. nat_lt begin scan.from) scans.now }
+/// Checks that no segment is there twice, and that none but the last one of a worker's log is torn. Err: `Doubled` of
+/// the least log that is the same segment as one before it, or else `Torn` of the least torn log that is not the last.
+fn check_writers(scans: &[LogScan]) -> Result<(), Fault>
+    ensures ok { (logs : List LogReading) → HaveNumbersOf scans.now logs → OnOk result (AreWriters logs) }
+    ensures fault { (logs : List LogReading) → HaveNumbersOf scans.now logs → IfErr result (IsWritersFault logs) }
 {
-    scans.iter().position(|scan| begin < scan.from)
+    if let Some(log) = first_doubled(scans) {
+        return Err(Fault::Doubled { log });
+    }
+    match first_torn(scans) {
+        Some(log) => Err(Fault::Torn { log }),
+        None => Ok(()),
+    }
 }

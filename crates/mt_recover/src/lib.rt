@@ -24,6 +24,7 @@ mod recovery;
 mod report;
 mod report_text;
 mod scans;
+mod segments;
 mod store;
 mod survivors;
 mod workers;

@@ -8,19 +8,22 @@ ghost use Rattle.mt_recover.specs.Steps.Preparing.{AreCountsOf, HasRoomFor, IsFo
 ghost use Rattle.mt_recover.specs.Recovery.{entry_updates};
 
 use crate::found::Found;
+use crate::segments::writer_count;
 use mt_scan::{Checkpoint, Choice, LogScan};
 
 /// The report of what recovery found in logs and parts, and of what became of it. The updates of logs are their puts,
 /// removes and erases. Each complete record of a log is a mark, or an update that is early, late or survives.
 #[derive(Debug, Drop)]
 pub struct Report {
-    /// The number of logs.
+    /// The number of log files.
     pub logs: usize,
+    /// The number of writers' logs: each worker's segments are one log, and each other file is a log by itself.
+    pub writers: usize,
     /// The number of complete records in all logs, marks included.
     pub records: u128,
     /// The number of marks among them.
     pub marks: u128,
-    /// The number of logs that end in a torn tail.
+    /// The number of log files that end in a torn tail.
     pub torn: usize,
     /// The timestamp below which updates survive.
     pub cutoff: u64,
@@ -51,6 +54,7 @@ pub struct Report {
 #[derive(Drop)]
 pub(crate) struct Counts {
     pub logs: usize,
+    pub writers: usize,
     pub records: u128,
     pub marks: u128,
     pub torn: usize,
@@ -81,6 +85,7 @@ impl Counts {
         } = choice;
         let counts = Counts {
             logs: scans.len(),
+            writers: writer_count(&scans),
             records: total(&scans, |scan| scan.whole),
             marks: total(&scans, |scan| scan.marks),
             torn: scans.iter().filter(|scan| scan.torn).count(),
@@ -103,6 +108,7 @@ impl Counts {
         let late = updates - early - (survivors - self.entries);
         Report {
             logs: self.logs,
+            writers: self.writers,
             records: self.records,
             marks: self.marks,
             torn: self.torn,

@@ -16,9 +16,10 @@ impl Display for Report {
 }
 
 /// Returns the numbers of the logs, with their names.
-fn of_logs(report: &Report) -> [(&'static str, u128); 5] {
+fn of_logs(report: &Report) -> [(&'static str, u128); 6] {
     [
         ("logs", report.logs as u128),
+        ("writers", report.writers as u128),
         ("records", report.records),
         ("marks", report.marks),
         ("torn", report.torn as u128),

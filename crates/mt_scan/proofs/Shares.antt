@@ -1,5 +1,5 @@
 -- The steps of a shared scan.
-use Rattle.std.proofs.Common.{◌≡◌, min, ◌⊎◌, inl, inr, ◌∙◌, ℕ, ◌<◌, ◌≤◌, ◌^◌, List, [], ◌∷◌, ◌++◌, true, false, Result, Ok, Err, refl, sym, ap, subst, append_assoc, append-nil, arith}
+use Rattle.std.proofs.Common.{◌≡◌, ◌⊎◌, inl, inr, ◌∙◌, ℕ, ◌<◌, ◌≤◌, ◌^◌, List, [], ◌∷◌, ◌++◌, true, false, Result, Ok, Err, refl, sym, ap, subst, append_assoc, append-nil, arith}
 use Rattle.std.proofs.lemmas.Bool.{false≢true}
 use Rattle.std.specs.Result.{OnOk, OnErr, IsErr, is_err}
 use Rattle.std.specs.Borrow.{MutBor}
@@ -65,16 +65,16 @@ has_looked before begun now board first limit is s = (
     noted : now.now.noted ≡ before.noted
     noted = ap (λ (p : PassView). p.noted) rest
 
--- `HasLooked` still holds after the log's last timestamp is noted
-pub noted_on : (last : ℕ) (before old new : PassView) → HasLooked before old → new ≡ record old { noted = min old.noted last } → HasLooked before new
-noted_on last before old new h is =
+-- `HasLooked` still holds after a number is noted
+pub noted_on : (number : ℕ) (before old new : PassView) → HasLooked before old → new ≡ record old { noted = number } → HasLooked before new
+noted_on number before old new h is =
     let looks : new.looks ≡ old.looks = ap (λ (p : PassView). p.looks) is in
-    let noted : new.noted ≡ min old.noted last = ap (λ (p : PassView). p.noted) is in record {
+    let noted : new.noted ≡ number = ap (λ (p : PassView). p.noted) is in record {
       first = h.first;
       more = h.more;
       looks = looks ∙ h.looks;
       low = omega (arith, ap least_of looks, h.low);
-      rest = is ∙ ap (λ (p : PassView). record p { noted = min old.noted last }) h.rest ∙ (λ i. record before { looks = sym looks i; noted = sym noted i });
+      rest = is ∙ ap (λ (p : PassView). record p { noted = number }) h.rest ∙ (λ i. record before { looks = sym looks i; noted = sym noted i });
     }
 
 -- a scan that returned Ok had fewer than 2 ^ 64 bytes

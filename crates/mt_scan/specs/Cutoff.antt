@@ -1,12 +1,27 @@
--- The cutoff of logs.
-use Rattle.std.specs.Prelude.{ℕ, ◌≤◌, List, Contains}
-use Rattle.mt_record.specs.Logs.{LogReading, IsLast}
+-- The cutoff of logs, some of which come in several files.
+use Rattle.std.specs.Prelude.{ℕ, ◌≤◌, ◌==◌, Bool, false, Option, Some, None, List, [], ◌∷◌, filter, Contains}
+use Rattle.std.specs.List.{flat_map}
+use Rattle.mt_record.specs.Logs.{LogReading, times_of, IsGreatestOf}
+
+-- whether a file with this writer is a segment of this worker's log
+abbrev pub is_segment_of : ℕ → Option (ℕ × ℕ) → Bool
+is_segment_of worker None = false
+is_segment_of worker (Some writer) = writer.0 == worker
+
+-- the files of the log that this file belongs to: all segments of its worker, or, if it is no segment, the file alone
+abbrev pub files_of : Option (ℕ × ℕ) → LogReading → List LogReading → List LogReading
+files_of None file files = file ∷ []
+files_of (Some writer) file files = filter (λ other. is_segment_of writer.0 other.head.writer) files
+
+-- the last timestamp of the log that this file belongs to: the greatest of the times of all its files
+abbrev pub IsLastOf : List LogReading → LogReading → ℕ → Type 0
+IsLastOf files file n = IsGreatestOf (flat_map times_of (files_of file.head.writer file files)) n
 
 -- one of the logs has this last timestamp
 pub record HasLast (logs : List LogReading) (last : ℕ) : Type 0 where
   pub log : LogReading
   pub stands : Contains logs log
-  pub is_last : IsLast log last
+  pub is_last : IsLastOf logs log last
 
 -- the cutoff: the last timestamp of some log, and at most that of every log
 pub record IsCutoff (logs : List LogReading) (cutoff : ℕ) : Type 0 where

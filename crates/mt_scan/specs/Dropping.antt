@@ -1,5 +1,5 @@
 -- Scans of logs that share a cutoff, and drop what is too late for it.
-use Rattle.std.specs.Prelude.{◌≡◌, ℕ, ◌≤◌, ◌<◌, List, ◌∷◌, ◌++◌, length, min, All}
+use Rattle.std.specs.Prelude.{◌≡◌, ℕ, ◌≤◌, ◌<◌, Option, Some, None, List, ◌∷◌, ◌++◌, length, min, All}
 use Rattle.mt_words.specs.declared.update.Update.{Update}
 use Rattle.mt_words.specs.Updates.{updates_from, kept_updates}
 use Rattle.mt_record.specs.Logs.{LogReading, IsReading}
@@ -35,10 +35,24 @@ pub record HasLooked (before after : PassView) : Type 0 where
   pub low : least_of after.looks ≤ before.noted
   pub rest : after ≡ record before { looks = after.looks; noted = after.noted }
 
+-- the last timestamp of a file that has no writer
+abbrev pub noted_by : Option (ℕ × ℕ) → ℕ → Option ℕ
+noted_by None last = Some last
+noted_by (Some writer) last = None
+
+-- what the scan of a file notes: its last timestamp, or nothing for a segment, since the last timestamp of its log may be greater
+abbrev pub noted_for : LogScan → Option ℕ
+noted_for scan = noted_by scan.writer scan.last
+
+-- what a pass has noted, after it perhaps noted one more number
+abbrev pub lowered_by : ℕ → Option ℕ → ℕ
+lowered_by noted None = noted
+lowered_by noted (Some number) = min noted number
+
 -- A scan of the log with this number, during which the pass looked: the scan kept exactly the updates below the least number that the pass has then
--- seen. At the end the pass noted the log's last timestamp.
+-- seen. At the end the pass noted what the scan of this log notes.
 pub record IsSharedScan (number : ℕ) (before after : PassView) (bytes : List ℕ) (scan : LogScan) : Type 0 where
   pub looked : HasLooked before after
-  pub noted : after.noted ≡ min before.noted scan.last
+  pub noted : after.noted ≡ lowered_by before.noted (noted_for scan)
   pub is : HasAllBelow (least_of after.looks) number bytes scan
   pub kept : KeepsOnlyBelow (least_of after.looks) scan

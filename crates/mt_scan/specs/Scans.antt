@@ -12,9 +12,10 @@ use Rattle.mt_record.specs.LogFaults.{IsLogFault, IsAnswered, fault_at}
 use Rattle.mt_scan.specs.declared.log_scan.LogScan.{LogScan}
 use Rattle.mt_scan.specs.Sources.{Agrees}
 
--- the numbers of the scan are those of the log: `from`, the last timestamp, how many records and marks it has, and whether it is torn
+-- the numbers of the scan are those of the log: `from`, its worker and segment, the last timestamp, how many records and marks it has, and whether it is torn
 pub record HasNumbersOf (scan : LogScan) (log : LogReading) : Type 0 where
   pub from : scan.from ≡ log.head.from
+  pub writer : scan.writer ≡ log.head.writer
   pub last : IsLast log scan.last
   pub whole : scan.whole ≡ length log.records
   pub marks : scan.marks ≡ length (filter is_mark log.records)

@@ -1,8 +1,7 @@
-//! The results of scanning logs, and the cutoff of all logs.
-ghost use Rattle.std.specs.Prelude.{◌≡◌, [], List, ℕ, IfSome, IfNone};
-ghost use Rattle.mt_record.specs.Logs.{LogReading, IsKeptTextOf};
-ghost use Rattle.mt_scan.specs.Scans.{HaveNumbersOf, IsScanOf};
-ghost use Rattle.mt_scan.specs.Cutoff.{IsCutoff};
+//! The results of scanning logs.
+ghost use Rattle.std.specs.Prelude.{◌≡◌, List, ℕ};
+ghost use Rattle.mt_record.specs.Logs.{IsKeptTextOf};
+ghost use Rattle.mt_scan.specs.Scans.{IsScanOf};
 ghost use Rattle.mt_scan.specs.Steps.DroppingFeeds.{scan_from};
 
 use mt_record::{KeptRecords, LogText, Updates};
@@ -12,6 +11,8 @@ use mt_record::{KeptRecords, LogText, Updates};
 pub struct LogScan {
     /// The timestamp below which updates may be missing.
     pub from: u64,
+    /// The worker and the segment of its log that this is, or None for a log that is no segment.
+    pub writer: Option<(u32, u32)>,
     /// The last timestamp: the greatest of `from` and the timestamps of the complete records.
     pub last: u64,
     /// The number of complete records.
@@ -51,6 +52,7 @@ pub(crate) fn scan_of(
 {
     let LogText {
         from,
+        writer,
         last,
         records,
         whole,
@@ -62,6 +64,7 @@ pub(crate) fn scan_of(
     };
     LogScan {
         from,
+        writer,
         last,
         whole,
         marks: records.marks().saturating_add(marks),
@@ -69,12 +72,4 @@ pub(crate) fn scan_of(
         dropped,
         torn,
     }
-}
-
-/// Returns the cutoff of the logs of these scans: the least of their last timestamps. Returns None if there is no log.
-pub fn cutoff(scans: &[LogScan]) -> Option<u64>
-    ensures found { (logs : List LogReading) → HaveNumbersOf scans.now logs → IfSome result (IsCutoff logs) }
-    ensures none { IfNone result (scans.now ≡ []) }
-{
-    scans.iter().map(|scan| scan.last).min()
 }

@@ -47,7 +47,7 @@ fn make_puts<R: Files>(rt: &R, path: &str, size: u64) -> io::Result<()> {
 
 /// The report on a log of puts that has the greatest size. All puts are at the cutoff, so none is replayed.
 const GREAT_REPORT: &str =
-    "logs=1\nrecords=16376\nmarks=0\ntorn=1\ncutoff=1\ncheckpoint=none\nbegin=0\nskipped=none\n\
+    "logs=1\nwriters=1\nrecords=16376\nmarks=0\ntorn=1\ncutoff=1\ncheckpoint=none\nbegin=0\nskipped=none\n\
      nameless=none\nentries=0\nsurvivors=0\nearly=0\nlate=16376\nkeys=0\nlayers=1\n";
 
 /// What a program prints: its output if the status is 0, else its error output. The other is empty.

@@ -24,6 +24,8 @@ const FAULTS: &[(Fault, &str)] = &[
     (Fault::Header { log: 2 }, "log 2: header"),
     (Fault::Source { log: 0 }, "log 0: source failed"),
     (Fault::PartSource { part: 0 }, "part 0: source failed"),
+    (Fault::Doubled { log: 1 }, "log 1: doubled"),
+    (Fault::Torn { log: 0 }, "log 0: torn"),
     (Fault::Gap { log: 1 }, "log 1: gap"),
     (Fault::Missing { piece: 3 }, "piece 3: missing"),
     (Fault::Memory, "no memory"),

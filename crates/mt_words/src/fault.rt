@@ -64,10 +64,16 @@ pub enum Fault {
     /// Reading the log from its source failed.
     #[error("log {log}: source failed")]
     Source { log: usize },
+    /// The log is the same segment of the same worker's log as a log before it.
+    #[error("log {log}: doubled")]
+    Doubled { log: usize },
+    /// The log has a torn tail, but a later segment of its worker's log is there.
+    #[error("log {log}: torn")]
+    Torn { log: usize },
     /// Reading the checkpoint part from its source failed.
     #[error("part {part}: source failed")]
     PartSource { part: usize },
-    /// Updates that recovery needs may be missing from the log.
+    /// Updates that recovery needs may be missing before or from the log.
     #[error("log {log}: gap")]
     Gap { log: usize },
     /// No worker returned the piece, a range of keys.

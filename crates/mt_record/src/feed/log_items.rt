@@ -7,7 +7,7 @@ ghost use Rattle.mt_record.specs.Feeding.{HoldsAll};
 ghost use Rattle.mt_record.specs.LogFeeding.{log_so_far, HoldsLog, IsLogLeft, IsLogFaulty, StepsLog};
 
 use crate::feed::frame::{frame_wanted, next_record};
-use crate::feed::head::{HEADER_BYTES, Head, next_header};
+use crate::feed::head::{Head, head_bytes_wanted, next_header};
 use crate::feed::items::{Items, Step};
 use crate::feed::magic::NoMagic;
 use crate::kept::Records;
@@ -47,7 +47,7 @@ impl<R: Records> Items for LogItems<R> {
     /// Returns the number of bytes of a header until the header is read, and then those that a record asks for.
     fn bytes_wanted(&self, held: &[u8]) -> usize {
         if self.head.is_none() {
-            return HEADER_BYTES;
+            return head_bytes_wanted(held);
         }
         frame_wanted(held)
     }
@@ -111,6 +111,7 @@ impl<R: Records> LogItems<R> {
         };
         Ok(LogText {
             from: head.from,
+            writer: head.writer,
             last: head.from.max(latest),
             records: ready,
             whole,

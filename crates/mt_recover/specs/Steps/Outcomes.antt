@@ -7,7 +7,7 @@ use Rattle.mt_scan.specs.declared.log_scan.LogScan.{LogScan}
 use Rattle.mt_scan.specs.declared.part_scan.PartScan.{PartScan}
 use Rattle.mt_scan.specs.Sources.{Seen}
 use Rattle.mt_scan.specs.Scans.{OfTold, IsScanFault, failures_of}
-use Rattle.mt_scan.specs.Dropping.{HasAllBelow}
+use Rattle.mt_scan.specs.Dropping.{HasAllBelow, noted_for}
 use Rattle.mt_scan.specs.PartScans.{IsKnown, known_by, IsPartScanFault}
 use Rattle.mt_recover.specs.declared.scans.Outcomes.{Outcomes}
 
@@ -35,16 +35,16 @@ abbrev pub read_parts : {L P : Type 0} → List L → List P → List P
 read_parts [] parts = []
 read_parts (log ∷ logs) parts = parts
 
--- the last timestamp of a log, if its scan is Ok
+-- what the scan of a log noted: its last timestamp, if the scan is Ok and the log is no segment
 abbrev pub last_in : Result LogScan Fault → Option ℕ
-last_in (Ok scan) = Some scan.last
+last_in (Ok scan) = noted_for scan
 last_in (Err fault) = None
 
--- the last timestamps of all logs whose scan is Ok
+-- what the scans of all logs noted
 abbrev pub lasts : List (Result LogScan Fault) → List ℕ
 lasts = filter_map last_in
 
--- the answers of the scans of logs and parts, which dropped no update below the least last timestamp of the logs whose scan is Ok
+-- the answers of the scans of logs and parts, which dropped no update below the least timestamp that a scan noted
 pub record AreOutcomes (logs parts : List Seen) (outcomes : Outcomes) : Type 0 where
   pub logs_are : AllFrom (IsLogOutcome (least_of (lasts outcomes.logs.items))) 0 logs outcomes.logs.items
   pub parts_are : AllFrom IsPartOutcome 0 (read_parts logs parts) outcomes.parts.items

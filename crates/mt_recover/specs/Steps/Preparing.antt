@@ -1,10 +1,13 @@
 -- The steps of preparing: what was found, its counts, and what each log left.
-use Rattle.std.specs.Prelude.{◌≡◌, ℕ, ◌+◌, ◌-◌, ◌≤◌, List, length, filter, sum_by, Option, Result, IfOk, IsPermutation}
+use Rattle.std.specs.Prelude.{◌≡◌, ℕ, ◌+◌, ◌-◌, ◌≤◌, List, length, map, filter, sum_by, Option, Some, None, Result, IfOk, IsPermutation}
 use Rattle.std.specs.List.{AllZip, flat_map}
 use Rattle.std.specs.Option.{option_map}
+use Rattle.mt_words.specs.declared.fault.Fault.{Fault}
+use Rattle.mt_words.specs.declared.fault.Fault.TheVariants as faults
 use Rattle.mt_words.specs.declared.fault.Memory.{Memory}
 use Rattle.mt_words.specs.declared.update.Update.{Update}
 use Rattle.mt_words.specs.Walks.{joined}
+use Rattle.mt_record.specs.Logs.{LogReading}
 use Rattle.mt_scan.specs.declared.log_scan.LogScan.{LogScan}
 use Rattle.mt_scan.specs.Choice.{checkpoint_in, AreSkipped, AreNameless}
 use Rattle.mt_scan.specs.declared.checkpoint.Checkpoint.{Checkpoint}
@@ -13,10 +16,27 @@ use Rattle.mt_replay.specs.Survivors.{in_window}
 use Rattle.mt_recover.specs.declared.report.Counts.{Counts}
 use Rattle.mt_recover.specs.declared.survivors.LogSurvivors.{LogSurvivors}
 use Rattle.mt_recover.specs.Steps.LogScans.{kept_by, ShowAll}
-use Rattle.mt_recover.specs.Recovery.{Facts, IsGap, begin_of}
+use Rattle.mt_recover.specs.Segments.{IsDoubled, IsTornAmid, IsGap}
+use Rattle.mt_recover.specs.Recovery.{Facts, begin_of}
 use Rattle.mt_recover.specs.Report.{IsFoundIn, is_early}
+use Rattle.mt_recover.specs.Verdict.{IsFirst}
 use Rattle.mt_recover.specs.declared.found.Found.{Found}
 use Rattle.mt_recover.specs.Prepared.{report_of}
+
+-- the least number for which `P` holds, or none if there is no such number
+abbrev pub IsFirstOrNone : (ℕ → Type 0) → Option ℕ → Type 0
+IsFirstOrNone P None = (i : ℕ) → P i → ⊥
+IsFirstOrNone P (Some i) = IsFirst P i
+
+-- the writers of the scanned files
+abbrev pub writers_in : List LogScan → List (Option (ℕ × ℕ))
+writers_in scans = map (λ scan. scan.writer) scans
+
+-- the fault is `Doubled` of the first log that is doubled, or, if none is, `Torn` of the first log that is torn amid its worker's log
+abbrev pub IsWritersFault : List LogReading → Fault → Type 0
+IsWritersFault logs (faults.Doubled i) = IsFirst (IsDoubled logs) i
+IsWritersFault logs (faults.Torn i) = ((j : ℕ) → IsDoubled logs j → ⊥) × IsFirst (IsTornAmid logs) i
+IsWritersFault logs fault = ⊥
 
 -- what was found in logs and parts: the scans show what the logs say, no log has a gap, and the window, the chosen checkpoint, the skipped and the
 -- nameless are those of the facts

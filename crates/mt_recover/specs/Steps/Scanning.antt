@@ -80,8 +80,8 @@ parts_in = filter_map part_in
 abbrev pub IsFresh : BoardId → PassView → Type 0
 IsFresh board pass = pass ≡ fresh_pass board pass.number
 
--- The sources of these jobs were scanned with a pass. It noted the last timestamp of each log whose scan is Ok, and no other number. No update below
--- the least number that it saw was dropped.
+-- The sources of these jobs were scanned with a pass. It noted what the scans of logs note, and no other number. No update below the least number
+-- that it saw was dropped.
 pub record HasScanned {S : Type 0} (seen : S → Seen) (jobs : List (ScanJob S)) (answers : List Scanned) (before after : PassView) : Type 0 where
   pub board : after.board ≡ before.board
   pub noted : after.noted ≡ min before.noted (least_of (lasts (logs_in answers)))

@@ -50,6 +50,7 @@ kept_in (Some kept) text = kept
 abbrev pub scan_from : ℕ → LogText (List Logged) → Option (List Logged) → ℕ → ℕ → LogScan
 scan_from log text kept dropped marks = record {
   from = text.from;
+  writer = text.writer;
   last = text.last;
   whole = text.whole;
   marks = min (count_of (filter is_mark (kept_in kept text)) + marks) (2 ^ 64 - 1);

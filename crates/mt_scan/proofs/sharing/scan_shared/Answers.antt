@@ -1,7 +1,8 @@
-use Rattle.std.proofs.Common.{rules, ◌≡◌, ◌∙◌, ◌<◌, ◌^◌, ℕ, List, length, min, refl, sym, ap, subst, arith}
+use Rattle.std.proofs.Common.{rules, ◌≡◌, ◌∙◌, ◌<◌, ◌^◌, ℕ, List, length, refl, sym, ap, subst, arith}
 use Rattle.mt_board.specs.Board.{PassView, least_of}
 use Rattle.mt_scan.specs.Scans.{IsScanFault, OfTold}
-use Rattle.mt_scan.specs.Dropping.{HasAllBelow, KeepsOnlyBelow, IsSharedScan}
+use Rattle.std.specs.Prelude.{Option}
+use Rattle.mt_scan.specs.Dropping.{HasAllBelow, KeepsOnlyBelow, IsSharedScan, noted_for, lowered_by}
 use Rattle.mt_scan.specs.declared.sharing.SharedFeed.{SharedFeed}
 use Rattle.mt_scan.proofs.Telling.{some_bytes}
 use Rattle.mt_scan.proofs.Drops.{under_looks}
@@ -52,14 +53,14 @@ returns-clause-scan g c =
     let s = all.2 in
     let same = s.looks.same in
     let shared : SharedFeed = c.feed_all-fed.new.feed in
-    let last = c.in_ok-scan.scan.last in
+    let noted : Option ℕ = noted_for c.in_ok-scan.scan in
     let looked = has_looked c.args.pass.now _ _ _ c.least-limit.result _ c.least-limit.ensures.pass s.looks in
     let few : length all.0 < 2 ^ 64 = few_bytes (length all.0) c.finish.result c.in_ok-scan.scan s.few c.finish.ensures.stopped c.in_ok-scan.was in
     let is : HasAllBelow shared.limit c.args.log all.0 c.in_ok-scan.scan × KeepsOnlyBelow shared.limit c.in_ok-scan.scan = c.in_ok-scan.ensures.scan shared.limit all.0 s.fed few in
-    let least : shared.limit ≡ least_of c.note.new.pass.looks = s.looks.least ∙ sym (ap (λ (p : PassView). least_of p.looks) c.note.ensures) in
-    let scan : IsSharedScan c.args.log c.args.pass.now c.note.new.pass all.0 c.in_ok-scan.scan = record {
-      looked = noted_on last c.args.pass.now shared.pass.now c.note.new.pass looked.0 c.note.ensures;
-      noted = ap (λ (p : PassView). p.noted) c.note.ensures ∙ ap (λ (n : ℕ). min n last) looked.1;
+    let least : shared.limit ≡ least_of c.note_last.new.pass.looks = s.looks.least ∙ sym (ap (λ (p : PassView). least_of p.looks) c.note_last.ensures) in
+    let scan : IsSharedScan c.args.log c.args.pass.now c.note_last.new.pass all.0 c.in_ok-scan.scan = record {
+      looked = noted_on (lowered_by shared.pass.now.noted noted) c.args.pass.now shared.pass.now c.note_last.new.pass looked.0 c.note_last.ensures;
+      noted = ap (λ (p : PassView). p.noted) c.note_last.ensures ∙ ap (λ (n : ℕ). lowered_by n noted) looked.1;
       is = subst (λ (n : ℕ). HasAllBelow n c.args.log all.0 c.in_ok-scan.scan) least is.0;
       kept = subst (λ (n : ℕ). KeepsOnlyBelow n c.in_ok-scan.scan) least is.1;
     } in

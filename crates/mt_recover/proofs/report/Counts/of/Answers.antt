@@ -13,14 +13,15 @@ pub returns-clause-counts : goal.returns-clause-counts
 returns-clause-counts c =
     let found = c.args.found in
     let scans = found.scans.items in
-    let records : c.total.result ≡ sum_by (λ (scan : LogScan). scan.whole) scans = c.total.ensures (λ (scan : LogScan). scan.whole) (λ x n e. search rules) ∙ ap (sum_by (λ (scan : LogScan). scan.whole)) c.deref.ensures.value in
-    let marks : c.total-2.result ≡ sum_by (λ (scan : LogScan). scan.marks) scans = c.total-2.ensures (λ (scan : LogScan). scan.marks) (λ x n e. search rules) ∙ ap (sum_by (λ (scan : LogScan). scan.marks)) c.deref-2.ensures.value in
+    let records : c.total.result ≡ sum_by (λ (scan : LogScan). scan.whole) scans = c.total.ensures (λ (scan : LogScan). scan.whole) (λ x n e. search rules) ∙ ap (sum_by (λ (scan : LogScan). scan.whole)) c.deref-2.ensures.value in
+    let marks : c.total-2.result ≡ sum_by (λ (scan : LogScan). scan.marks) scans = c.total-2.ensures (λ (scan : LogScan). scan.marks) (λ x n e. search rules) ∙ ap (sum_by (λ (scan : LogScan). scan.marks)) c.deref-3.ensures.value in
     let torn : c.count.result ≡ count_by (λ (scan : LogScan). scan.torn) scans = search rules in
     let number : c.map.result ≡ option_map (λ (checkpoint : Checkpoint). checkpoint.number) found.choice.chosen = search rules in
     let logs_are : c.len.result ≡ length scans = search rules in
     λ logs parts is early survivors keys layers.
     let numbers = numbers_of is.facts.cutoff 0 scans is.facts.readings is.show in
     record {
+      writers = (rw c.deref.ensures.value at c.writer_count.ensures) is.facts.readings numbers;
       logs = logs_are ∙ as_many logs scans is.facts.readings is.facts.read numbers;
       records = records ∙ records_counted scans is.facts.readings numbers;
       marks = marks ∙ marks_counted scans is.facts.readings numbers;

@@ -1,0 +1,55 @@
+//! The cutoff of logs, some of which come in several files.
+ghost use Rattle.std.specs.Prelude.{◌≡◌, [], List, IfSome, IfNone};
+ghost use Rattle.mt_record.specs.Logs.{LogReading};
+ghost use Rattle.mt_scan.specs.Scans.{HaveNumbersOf};
+ghost use Rattle.mt_scan.specs.Cutoff.{IsCutoff, is_segment_of};
+ghost use Rattle.mt_scan.specs.Steps.Lasts.{last_of, last_of_segments};
+
+use crate::log_scan::LogScan;
+
+/// Returns the cutoff of the logs of these scans: the least of their last timestamps. The last timestamp of a worker's
+/// log is the greatest of those of its segments. Returns None if there is no log. Allocates nothing. With n segments it
+/// looks n^2 times at a segment.
+pub fn cutoff(scans: &[LogScan]) -> Option<u64>
+    ensures found { (logs : List LogReading) → HaveNumbersOf scans.now logs → IfSome result (IsCutoff logs) }
+    ensures none { IfNone result (scans.now ≡ []) }
+{
+    scans
+        .iter()
+        .map(
+            |scan: &LogScan| -> u64
+                ensures { result ≡ last_of scans.entry.now scan.now }
+            { last_of_log(scan, scans) },
+        )
+        .min()
+}
+
+/// Returns the last timestamp of the log that this file belongs to.
+fn last_of_log(scan: &LogScan, scans: &[LogScan]) -> u64
+    ensures { result ≡ last_of scans.now scan.now }
+{
+    match scan.writer {
+        None => scan.last,
+        Some((worker, _)) => last_of_worker(scans, worker),
+    }
+}
+
+/// Returns the greatest last timestamp of this worker's segments, or 0 if there is none.
+fn last_of_worker(scans: &[LogScan], worker: u32) -> u64
+    ensures { result ≡ last_of_segments worker scans.now }
+{
+    let mut last = 0;
+    for scan in scans {
+        if is_of(scan.writer, worker) {
+            last = scan.last.max(last);
+        }
+    }
+    last
+}
+
+/// Returns whether a file with this writer is a segment of this worker's log.
+fn is_of(writer: Option<(u32, u32)>, worker: u32) -> bool
+    ensures { result ≡ is_segment_of worker writer }
+{
+    writer.is_some_and(|writer| writer.0 == worker)
+}
