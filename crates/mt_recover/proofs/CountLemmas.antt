@@ -13,10 +13,10 @@ use Rattle.mt_record.proofs.RecordLemmas.{marks_and_updates}
 use Rattle.mt_scan.specs.PartScans.{KnownPart}
 use Rattle.mt_scan.specs.Choice.{CheckpointReading, IsChosenOf}
 use Rattle.mt_replay.specs.declared.window.Window.{Window}
-use Rattle.mt_replay.specs.Survivors.{all_updates, in_window, is_within}
+use Rattle.mt_replay.specs.Survivors.{all_updates, in_window, is_within, is_early}
 use Rattle.mt_recover.specs.declared.report.Report.{Report}
 use Rattle.mt_recover.specs.Recovery.{Facts, records_of, begin_of, survivors, entry_updates}
-use Rattle.mt_recover.specs.Report.{all_records, logged_updates, is_early, is_late, IsFoundIn, IsReportOf}
+use Rattle.mt_recover.specs.Report.{all_records, logged_updates, is_late, IsFoundIn, IsReportOf}
 use Rattle.mt_recover.specs.declared.report.Counts.{Counts}
 use Rattle.mt_recover.specs.Prepared.{report_of}
 use Rattle.mt_recover.specs.Steps.Preparing.{AreCountsOf, HasRoomFor}

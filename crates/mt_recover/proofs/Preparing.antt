@@ -1,7 +1,7 @@
 -- From what is found to what is prepared, and from that to what is recovered.
 use Rattle.std.proofs.Common.{◌≡◌, ◌∙◌, ◌^◌, ℕ, ◌<◌, ◌≤◌, false, List, ◌++◌, length, map, Contains, IsPermutation, Option, Ok, sym, ap, subst, arith}
 use Rattle.std.specs.Global.{Global}
-use Rattle.std.specs.Prelude.{filter, nat_lt, IfOk, Result, Vec}
+use Rattle.std.specs.Prelude.{filter, nat_lt, Result, Vec}
 use Rattle.std.proofs.lemmas.Bool.Decides.{nat_tests}
 use Rattle.std.specs.List.{AllZip}
 use Rattle.std.specs.Option.{option_map}
@@ -13,20 +13,20 @@ use Rattle.mt_scan.specs.declared.checkpoint.Checkpoint.{Checkpoint}
 use Rattle.mt_scan.specs.declared.log_scan.LogScan.{LogScan}
 use Rattle.mt_scan.specs.Choice.{checkpoint_in}
 use Rattle.mt_replay.specs.declared.window.Window.{Window}
-use Rattle.mt_replay.specs.Survivors.{in_window, is_within, log_survivors}
+use Rattle.mt_replay.specs.Survivors.{in_window, is_within, log_survivors, is_early}
 use Rattle.mt_replay.specs.Walk.{AreApart, IsWalk}
 use Rattle.mt_replay.proofs.StepLemmas.{same_column}
 use Rattle.mt_tree.specs.Trees.{IsCount}
 use Rattle.mt_recover.specs.declared.found.Found.{Found}
 use Rattle.mt_recover.specs.declared.report.Counts.{Counts}
-use Rattle.mt_recover.specs.declared.survivors.LogSurvivors.{LogSurvivors}
+use Rattle.mt_recover.specs.declared.survivors.BatchSurvivors.{BatchSurvivors}
 use Rattle.mt_recover.specs.Steps.LogScans.{kept, kept_in}
 use Rattle.mt_recover.specs.Prepared.{PreparedView, IsPreparedOf, IsMadeOf}
-use Rattle.mt_recover.specs.Steps.Preparing.{AreCountsOf, HasRoomFor, IsLeftBy, AreLeftBy, cells_of, early_of, IsFoundOf}
+use Rattle.mt_recover.specs.Steps.Preparing.{AreCountsOf, HasRoomFor, IsLeftBy, AreBatchesLeft, AreLeftBy, cells_of, early_of, IsFoundOf}
 use Rattle.mt_recover.specs.Recovery.{records_of, begin_of, entry_updates}
-use Rattle.mt_recover.specs.Report.{Outcome, IsRecoveredOf, IsReportOf, is_early, logged_updates}
+use Rattle.mt_recover.specs.Report.{Outcome, IsRecoveredOf, IsReportOf, logged_updates}
 use Rattle.mt_recover.proofs.CountLemmas.{begins_below, survivors_in, early_in, room_for, report_is, walk_few}
-use Rattle.mt_recover.proofs.ReplayLemmas.{all_answered, cells_of_both, early_of_both}
+use Rattle.mt_recover.proofs.ReplayLemmas.{all_answered, cells_of_both, early_of_all}
 use Rattle.mt_recover.proofs.ReportLemmas.{same_updates}
 use Rattle.mt_recover.proofs.SurvivorLemmas.{survivors_apart}
 
@@ -77,20 +77,20 @@ walk_moved updates moved pairs same is =
 
 -- ---- what is prepared
 
--- what the scans left, if those are the scans and the chosen checkpoint of what was found
-pub are_left : (found : Found) (counts : Counts) (scans : Vec LogScan Global) (chosen : Option Checkpoint) (logs : List (Result LogSurvivors Memory))
+-- what the batches left, if those are the scans and the chosen checkpoint of what was found
+pub are_left : (found : Found) (counts : Counts) (scans : Vec LogScan Global) (chosen : Option Checkpoint) (logs : List (Result BatchSurvivors Memory))
     → ((ls ps : List (List ℕ)) (is : IsFoundOf ls ps found) → AreCountsOf is.facts counts) → scans ≡ found.scans → chosen ≡ found.choice.chosen
-    → AllZip (λ scan left. IfOk left (IsLeftBy found.window scan)) scans.items logs → AreLeftBy found counts logs chosen
+    → AreBatchesLeft found.window scans.items logs → AreLeftBy found counts logs chosen
 are_left found counts scans chosen logs counted same_scans same_chosen of_logs = record {
   counts_are = counted;
-  logs_are = subst (λ (scans : Vec LogScan Global). AllZip (λ scan (left : Result LogSurvivors Memory). IfOk left (IsLeftBy found.window scan)) scans.items logs) same_scans of_logs;
+  logs_are = subst (λ (scans : Vec LogScan Global). AreBatchesLeft found.window scans.items logs) same_scans of_logs;
   same_chosen = same_chosen;
 }
 
-module _ (ls ps : List (List ℕ)) (found : Found) (is : IsFoundOf ls ps found) (counts : Counts) (logs : List (Result LogSurvivors Memory)) (chosen : Option Checkpoint) (are : AreLeftBy found counts logs chosen)
-    (of_logs : List LogSurvivors) (of_parts : List (List Update)) (logs_done : logs ≡ map Ok of_logs) (parts_are : joined of_parts ≡ entry_updates (option_map checkpoint_in chosen)) where
-  left : AllZip (IsLeftBy found.window) found.scans.items of_logs
-  left = all_answered (IsLeftBy found.window) found.scans.items logs of_logs are.logs_are logs_done
+module _ (ls ps : List (List ℕ)) (found : Found) (is : IsFoundOf ls ps found) (counts : Counts) (logs : List (Result BatchSurvivors Memory)) (chosen : Option Checkpoint) (are : AreLeftBy found counts logs chosen)
+    (of_logs : List BatchSurvivors) (of_parts : List (List Update)) (logs_done : logs ≡ map Ok of_logs) (parts_are : joined of_parts ≡ entry_updates (option_map checkpoint_in chosen)) where
+  left : AllZip (λ batch. IsLeftBy found.window batch.updates) are.logs_are.batches of_logs
+  left = all_answered (λ batch. IsLeftBy found.window batch.updates) are.logs_are.batches logs of_logs are.logs_are.left logs_done
 
   entries : IsPermutation (entry_updates (option_map checkpoint_in found.choice.chosen)) (joined of_parts)
   entries =
@@ -101,10 +101,16 @@ module _ (ls ps : List (List ℕ)) (found : Found) (is : IsFoundOf ls ps found) 
   moved = joined (cells_of of_logs ++ of_parts)
 
   updates_are : IsPermutation (survivors_in is.facts) moved
-  updates_are = subst (λ (us : List Update). IsPermutation us moved) (same_survivors ls ps found is) (cells_of_both found.window found.scans.items of_logs _ of_parts left entries)
+  updates_are =
+      subst (λ (us : List Update). IsPermutation us moved)
+      (ap (λ (us : List Update). filter (in_window found.window) us ++ entry_updates (option_map checkpoint_in found.choice.chosen)) are.logs_are.all ∙ same_survivors ls ps found is)
+      (cells_of_both found.window are.logs_are.batches of_logs _ of_parts left entries)
 
   early_is : early_of of_logs ≡ length (early_in is.facts)
-  early_is = early_of_both found.window found.scans.items of_logs left ∙ same_early ls ps found is
+  early_is =
+      early_of_all found.window are.logs_are.batches of_logs left
+      ∙ ap (λ (us : List Update). length (filter (is_early found.window.begin) us)) are.logs_are.all
+      ∙ same_early ls ps found is
 
   many : length moved ≡ length (survivors_in is.facts)
   many = length_permutation (survivors_in is.facts) moved updates_are

@@ -1,10 +1,8 @@
 -- What a report counts, log by log and part by part.
-use Rattle.std.proofs.Common.{◌≡◌, ◌∙◌, ℕ, suc, ◌+◌, ◌<◌, ◌≤◌, Bool, true, false, cond, Option, Some, None, List, [], ◌∷◌, ◌++◌, length, get_or, take, refl, sym, ap, arith}
-use Rattle.std.specs.Prelude.{nat_lt, ◌||◌}
-use Rattle.std.specs.List.{filter, flat_map, sum_by, count_by, list_any}
+use Rattle.std.proofs.Common.{◌≡◌, ◌∙◌, ℕ, suc, ◌+◌, ◌≤◌, Bool, false, Option, Some, None, List, [], ◌∷◌, ◌++◌, length, refl, sym, ap, arith}
+use Rattle.std.specs.List.{filter, flat_map, sum_by, count_by}
 use Rattle.std.specs.Option.{option_map}
-use Rattle.std.proofs.lemmas.Bool.Decides.{nat_tests}
-use Rattle.std.proofs.lemmas.List.{length-append, length-map}
+use Rattle.std.proofs.lemmas.List.{length-map}
 use Rattle.std.proofs.lemmas.List.Concat.{length-flat_map}
 use Rattle.std.proofs.lemmas.List.Elements.{filter-append}
 use Rattle.std.proofs.lemmas.Slice.Zip.{AllZip-long}
@@ -12,10 +10,9 @@ use Rattle.std.proofs.lemmas.List.Sums.{sum_by-cons, length-filter}
 use Rattle.mt_words.specs.declared.record.Change.{Change}
 use Rattle.mt_words.specs.declared.update.Origin.TheVariants as origins
 use Rattle.mt_words.specs.declared.update.Update.{Update}
-use Rattle.mt_words.specs.Changes.{Logged, mark_of, is_mark}
-use Rattle.mt_words.specs.Updates.{update_at, update_of, updates_from, Kept, as_list}
+use Rattle.mt_words.specs.Changes.{is_mark}
+use Rattle.mt_words.specs.Updates.{update_at, updates_from}
 use Rattle.mt_record.specs.Logs.{LogReading, IsReading}
-use Rattle.mt_record.proofs.RecordLemmas.{updates_step}
 use Rattle.mt_scan.specs.declared.checkpoint.Checkpoint.{Checkpoint}
 use Rattle.mt_scan.specs.declared.log_scan.LogScan.{LogScan}
 use Rattle.mt_scan.specs.Scans.{HasNumbersOf, HaveNumbersOf}
@@ -24,10 +21,10 @@ use Rattle.mt_scan.specs.Choice.{CheckpointReading, checkpoint_in}
 use Rattle.mt_scan.specs.Steps.Checkpoints.{entries_of}
 use Rattle.mt_scan.proofs.Drops.{same_kept}
 use Rattle.mt_replay.specs.Survivors.{all_updates, wholes}
-use Rattle.mt_replay.proofs.FilterLemmas.{filter_none}
+use Rattle.mt_replay.proofs.BatchLemmas.{one_if}
 use Rattle.mt_recover.specs.Steps.LogScans.{ShowAll, kept, kept_by}
 use Rattle.mt_recover.specs.Recovery.{AreReadings, records_of}
-use Rattle.mt_recover.specs.Report.{all_records, is_early}
+use Rattle.mt_recover.specs.Report.{all_records}
 
 -- ---- what a filter keeps of lists
 
@@ -51,43 +48,6 @@ entries_counted parts =
     sym (length-flat_map (λ (part : KeptPart). part.entries) parts)
     ∙ ap length (sym (all_entries parts))
     ∙ sym (length-map (entries_of (shown_by_all parts)) (update_at origins.Checkpoint 0))
-
--- ---- early updates
-
--- the number of early updates among the first records
-abbrev pub early_of_first : ℕ → Kept → ℕ → ℕ
-early_of_first begin kept count = length (filter (is_early begin) (updates_from kept.log 0 (take count kept.records)))
-
--- one record more adds its early updates
-pub early_step : (begin : ℕ) (kept : Kept) (i : ℕ) (more : List Update) → i < length kept.records → ((d : Logged) → more ≡ update_of kept.log i (get_or kept.records i d))
-    → early_of_first begin kept (i + 1) ≡ early_of_first begin kept i + length (filter (is_early begin) more)
-early_step begin kept i more below is =
-    let r : Logged = get_or kept.records i (mark_of 0) in
-    let before : List Update = updates_from kept.log 0 (take i kept.records) in
-    let grown = updates_step kept i before (before ++ more) r below refl refl (ap (λ (us : List Update). before ++ us) (is (mark_of 0))) in
-    sym (ap (λ (us : List Update). length (filter (is_early begin) us)) grown)
-    ∙ ap length (filter-append (is_early begin) before more)
-    ∙ length-append (filter (is_early begin) before) (filter (is_early begin) more)
-
--- what a test adds to a count
-abbrev pub one_if : Bool → ℕ
-one_if test = cond test 1 0
-
--- one update counts 1 if the test holds, and else 0
-counted : (u : Update) (b : Bool) → length (cond b (u ∷ []) []) ≡ one_if (b || false)
-counted u true = refl
-counted u false = refl
-
-pub early_one : (begin : ℕ) (update : Option Update) → length (filter (is_early begin) (as_list update)) ≡ one_if (list_any (is_early begin) (as_list update))
-early_one begin None = refl
-early_one begin (Some u) = counted u (is_early begin u)
-
--- no timestamp is below 0
-not_below : (time begin : ℕ) → begin ≡ 0 → nat_lt time begin ≡ false
-not_below time begin zero = grind (arith, nat_tests)
-
-pub none_early : (begin : ℕ) (updates : List Update) → begin ≡ 0 → length (filter (is_early begin) updates) ≡ 0
-none_early begin updates zero = ap length (filter_none (is_early begin) updates (λ k d lt. not_below (get_or updates k d).timestamp begin zero))
 
 -- ---- scans and what their logs say
 

@@ -1,5 +1,5 @@
 -- What recovery reports: the counts of what it found, and of what became of it.
-use Rattle.std.specs.Prelude.{◌≡◌, ℕ, Bool, nat_lt, nat_le, List, length, filter}
+use Rattle.std.specs.Prelude.{◌≡◌, ℕ, Bool, nat_le, List, length, filter}
 use Rattle.std.specs.List.{flat_map}
 use Rattle.std.specs.Option.{option_map}
 use Rattle.mt_words.specs.declared.update.Update.{Update}
@@ -7,7 +7,7 @@ use Rattle.mt_words.specs.Changes.{Logged, is_mark}
 use Rattle.mt_words.specs.Walks.{Pair}
 use Rattle.mt_record.specs.Logs.{LogReading}
 use Rattle.mt_scan.specs.Choice.{AreSkipped, AreNameless}
-use Rattle.mt_replay.specs.Survivors.{log_updates}
+use Rattle.mt_replay.specs.Survivors.{log_updates, is_early}
 use Rattle.mt_tree.specs.Layers.{CountsLayers}
 use Rattle.mt_recover.specs.declared.report.Report.{Report}
 use Rattle.mt_recover.specs.Segments.{is_first_file}
@@ -20,10 +20,6 @@ all_records readings = flat_map (λ log. log.records) readings
 -- the puts, removes and erases of all logs
 abbrev pub logged_updates : List LogReading → List Update
 logged_updates readings = log_updates (records_of readings)
-
--- the update's timestamp is below `begin`
-abbrev pub is_early : ℕ → Update → Bool
-is_early begin update = nat_lt update.timestamp begin
 
 -- the update's timestamp is at or after the cutoff
 abbrev pub is_late : ℕ → Update → Bool

@@ -7,16 +7,17 @@ ghost use Rattle.mt_replay.specs.Clashes.{AreClashes};
 ghost use Rattle.mt_replay.specs.Survivors.{in_window};
 ghost use Rattle.mt_recover.specs.Audit.{IsAuditOf};
 ghost use Rattle.mt_recover.specs.Inputs.{IsAnswerFrom};
-ghost use Rattle.mt_recover.specs.Steps.LogScans.{kept_by, kept_in};
+ghost use Rattle.mt_recover.specs.Steps.LogScans.{kept_in};
 ghost use Rattle.mt_recover.specs.Steps.Preparing.{IsFound, IsFoundOf};
 
+use crate::batches::batches_of;
 use crate::by_workers::{all_done, by_workers, concat};
 use crate::found::{Found, find};
 use crate::recovery::Inputs;
 use crate::scans::scan_all;
 use crate::workers::{MOST_WORKERS, Workers};
 use mt_replay::{
-    Clash, Cuts, LogCells, MOST_PIECES, Pieces, Window, clashes_in, pieces_make_the_audit,
+    Batch, Clash, Cuts, LogCells, MOST_PIECES, Pieces, Window, clashes_in, pieces_make_the_audit,
 };
 use mt_scan::{LogScan, Source};
 use mt_words::{Fault, Memory};
@@ -51,31 +52,32 @@ fn audit_found<R: Threads + Sync>(
     ensures { (logs parts : List (List ℕ)) → IsFoundOf logs parts found → IfOk result (λ clashes. IsAuditOf logs parts clashes.items) }
 {
     let Found { scans, window, .. } = found;
-    let lists = cells_of(rt, alloc, scans, window, workers)?;
+    let lists = cells_of(rt, alloc, &scans, window, workers)?;
+    drop(scans);
     let cuts = Cuts::sampled(rt, alloc, &lists, pieces_for(workers))?;
     all_clashes(rt, alloc, &lists, &cuts, workers)
 }
 
-/// Returns the cells of the updates in the window. Frees what a scan kept as soon as its cells are made.
+/// Returns the cells of the updates in the window.
 fn cells_of<R: Threads + Sync>(
     rt: &R,
     alloc: Global,
-    scans: Vec<LogScan>,
+    scans: &[LogScan],
     window: Window,
     workers: Workers,
 ) -> Result<Vec<LogCells>, Memory>
-    ensures { IfOk result (λ lists. IsPermutation (kept_in window scans.items) (joined lists.items)) }
+    ensures { IfOk result (λ lists. IsPermutation (kept_in window scans.now) (joined lists.items)) }
 {
     let logs = by_workers(
         rt,
         alloc,
-        scans,
+        batches_of(alloc, scans, workers.count())?,
         workers,
-        &|scan: LogScan| -> Result<Vec<LogCells>, Memory>
-            ensures { IfOk result (λ lists. IsPermutation (filter (in_window window) (kept_by scan)) (joined lists.items)) }
-        { LogCells::of_log(alloc, &scan.updates, window) },
+        &|batch: Batch<'_>| -> Result<LogCells, Memory>
+            ensures { IfOk result (IsPermutation (filter (in_window window) batch.entry.updates)) }
+        { LogCells::of_batch(alloc, &batch, window) },
     )?;
-    concat(alloc, all_done(alloc, logs)?)
+    all_done(alloc, logs)
 }
 
 /// The number of pieces that each worker gets, so that all workers have about the same to do.

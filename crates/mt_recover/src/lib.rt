@@ -11,6 +11,7 @@
 
 mod assembling;
 mod auditing;
+mod batches;
 mod by_workers;
 mod dump;
 mod failure;

@@ -16,15 +16,16 @@ ghost use Rattle.mt_recover.specs.Steps.Preparing.{AreLeftBy, IsFound, IsLeftBy,
 ghost use Rattle.mt_recover.specs.Recovery.{entry_updates};
 
 use crate::Workers;
+use crate::batches::batches_of;
 use crate::by_workers::{all_done, by_workers, in_turn};
 use crate::found::Found;
 use crate::recovery::Recovered;
 use crate::report::{Counts, total};
 use crate::store::Store;
-use crate::survivors::LogSurvivors;
+use crate::survivors::BatchSurvivors;
 use mt_record::{KeptEntries, PartText};
-use mt_replay::{Cuts, LogCells, replay_into};
-use mt_scan::{Checkpoint, LogScan};
+use mt_replay::{Batch, Cuts, LogCells, replay_into};
+use mt_scan::Checkpoint;
 use mt_tree::Draft;
 use mt_words::Memory;
 use std::alloc::Global;
@@ -56,7 +57,7 @@ impl Model for Prepared {
 }
 
 impl Prepared {
-    /// Prepares what was found, on one thread. Frees what a scan kept as soon as its cells are made.
+    /// Prepares what was found, on one thread.
     pub fn on_one_thread(alloc: Global, found: Found) -> Result<Prepared, Memory>
         requires { IsFound found }
         ensures { (logs parts : List (List ℕ)) → IsFoundOf logs parts found → IfOk result (IsPreparedOf logs parts) }
@@ -65,10 +66,10 @@ impl Prepared {
         let (counts, scans, chosen) = Counts::of(found);
         let logs = in_turn(
             alloc,
-            scans,
-            &|scan: LogScan| -> Result<LogSurvivors, Memory>
-                ensures { IfOk result (IsLeftBy window scan) }
-            { LogSurvivors::of(alloc, &scan, window) },
+            batches_of(alloc, &scans, 1)?,
+            &|batch: Batch<'_>| -> Result<BatchSurvivors, Memory>
+                ensures { IfOk result (IsLeftBy window batch.entry.updates) }
+            { BatchSurvivors::of(alloc, &batch, window) },
         )?;
         Prepared::of(alloc, counts, logs, chosen)
     }
@@ -88,11 +89,11 @@ impl Prepared {
         let logs = by_workers(
             rt,
             alloc,
-            scans,
+            batches_of(alloc, &scans, workers.count())?,
             workers,
-            &|scan: LogScan| -> Result<LogSurvivors, Memory>
-                ensures { IfOk result (IsLeftBy window scan) }
-            { LogSurvivors::of(alloc, &scan, window) },
+            &|batch: Batch<'_>| -> Result<BatchSurvivors, Memory>
+                ensures { IfOk result (IsLeftBy window batch.entry.updates) }
+            { BatchSurvivors::of(alloc, &batch, window) },
         )?;
         Prepared::of(alloc, counts, logs, chosen)
     }
@@ -101,7 +102,7 @@ impl Prepared {
     fn of(
         alloc: Global,
         counts: Counts,
-        logs: Vec<Result<LogSurvivors, Memory>>,
+        logs: Vec<Result<BatchSurvivors, Memory>>,
         chosen: Option<Checkpoint>,
     ) -> Result<Prepared, Memory>
         requires { (found : FoundValue) × IsFound found × AreLeftBy found counts logs.items chosen }
@@ -109,11 +110,10 @@ impl Prepared {
     {
         let logs = all_done(alloc, logs)?;
         let mut parts = cells_of_parts(alloc, parts_of(alloc, chosen))?;
-        let early = total(&logs, |log| log.early);
+        let early = total(&logs, |log| log.early as u64);
         let mut lists = Vec::with_capacity(alloc, logs.len())?;
         for log in logs {
-            let mut cells = log.cells;
-            lists.append(&mut cells)?;
+            lists.push(log.cells)?;
         }
         lists.append(&mut parts)?;
         Ok(Prepared {

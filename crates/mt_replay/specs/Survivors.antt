@@ -1,12 +1,12 @@
 -- The updates of logs and of a checkpoint, and which of them survive.
-use Rattle.std.specs.Prelude.{ℕ, suc, ◌&&◌, ◌||◌, Bool, true, false, nat_lt, nat_le, List, [], ◌∷◌, ◌++◌, map, filter, take}
+use Rattle.std.specs.Prelude.{ℕ, suc, ◌&&◌, ◌||◌, Bool, true, false, nat_lt, nat_le, List, [], ◌∷◌, ◌++◌, map, filter}
 use Rattle.mt_words.specs.declared.record.Change.{Change}
 use Rattle.mt_words.specs.declared.update.Kind.{Kind}
 use Rattle.mt_words.specs.declared.update.Kind.TheVariants.{Put, Remove, Whole, Erase}
 use Rattle.mt_words.specs.declared.update.Origin.TheVariants as origins
 use Rattle.mt_words.specs.declared.update.Update.{Update}
 use Rattle.mt_words.specs.Changes.{Logged}
-use Rattle.mt_words.specs.Updates.{update_at, updates_from, Kept}
+use Rattle.mt_words.specs.Updates.{update_at, updates_from}
 use Rattle.mt_replay.specs.declared.window.Window.{Window}
 
 -- the updates of these logs, numbered from `log` on
@@ -29,9 +29,9 @@ is_within window timestamp = nat_le window.begin timestamp && nat_lt timestamp w
 abbrev pub in_window : Window → Update → Bool
 in_window window update = is_within window update.timestamp
 
--- the updates in the window of the first `count` records of a log
-abbrev pub first_survivors : Window → Kept → ℕ → List Update
-first_survivors window kept count = filter (in_window window) (updates_from kept.log 0 (take count kept.records))
+-- whether the timestamp is below the begin of the window
+abbrev pub is_early : ℕ → Update → Bool
+is_early begin update = nat_lt update.timestamp begin
 
 -- the log updates in the window
 abbrev pub log_survivors : Window → List (List Logged) → List Update

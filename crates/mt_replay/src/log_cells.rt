@@ -2,25 +2,20 @@
 ghost use Rattle.std.specs.Prelude.{◌≡◌, ◌≤◌, ◌<◌, ◌++◌, true, false, IfOk, IsPermutation, List, length, map, filter, slice_index_or};
 ghost use Rattle.std.specs.List.Sorted.{IsPartitionPoint};
 ghost use Rattle.mt_words.specs.declared.update.Update.{Update as UpdateValue};
-ghost use Rattle.mt_words.specs.Updates.{kept_updates};
 ghost use Rattle.mt_words.specs.Words.{AreRising};
-ghost use Rattle.mt_words.specs.Walks.{joined};
-ghost use Rattle.mt_replay.specs.Survivors.{in_window, survives as survives_in, wholes, first_survivors};
+ghost use Rattle.mt_replay.specs.Survivors.{in_window, survives as survives_in, wholes};
 ghost use Rattle.mt_replay.specs.Cuts.{is_below, InKeyOrder};
 ghost use Rattle.mt_replay.specs.Clashes.{is_logged_in};
 
 use crate::Window;
+use crate::batch::Batch;
 use crate::bodies::Bodies;
 use crate::in_memory::{all_bodies, spell, spell_logged};
-use crate::sliced::{Sliced, list_survivors, sort_by_key};
-use mt_record::{KeptEntries, Lent, Updates};
+use crate::sliced::{Sliced, sort_by_key};
+use mt_record::{KeptEntries, Lent};
 use mt_words::{Memory, Update};
 use std::alloc::Global;
 use std::marker::Model;
-
-/// The number of records of a log that are sorted together. That many fit into the caches of a processor, where sorting
-/// them and copying their bodies takes much less time. Merging a few more runs costs less than this saves.
-const STRETCH: usize = 131_072;
 
 /// Where the updates of cells lie.
 #[derive(Drop)]
@@ -52,8 +47,8 @@ impl Model for LogCells {
 }
 
 impl LogCells {
-    /// Returns the updates that survive. It encodes each of them. If they are bodies already, `of_log` and `of_rising`
-    /// avoid that. Err: out of memory.
+    /// Returns the updates that survive. It encodes each of them. If they are bodies already, `of_batch` and
+    /// `of_rising` avoid that. Err: out of memory.
     pub fn of(alloc: Global, updates: Vec<Update>, window: Window) -> Result<LogCells, Memory>
         ensures { IfOk result (λ cells. IsPermutation (filter (survives_in window) updates.items) cells) }
     {
@@ -75,23 +70,12 @@ impl LogCells {
         in_order(alloc, &mut sliced)
     }
 
-    /// Returns the updates of a log that are in the window, as one sorted run for each 131,072 records.
-    /// Err: out of memory.
-    pub fn of_log(alloc: Global, updates: &Updates, window: Window) -> Result<Vec<LogCells>, Memory>
-        ensures { IfOk result (λ lists.
-            IsPermutation (filter (in_window window) (kept_updates updates.now)) (joined lists.items)) }
+    /// Returns the updates of a batch that are in the window. Err: out of memory.
+    pub fn of_batch(alloc: Global, batch: &Batch<'_>, window: Window) -> Result<LogCells, Memory>
+        ensures { IfOk result (λ cells. IsPermutation (filter (in_window window) batch.now.updates) cells) }
     {
-        let mut lists = Vec::new(alloc);
-        // One list serves all runs, so that its memory is touched for the first time only once.
-        let mut sliced = Vec::new(alloc);
-        let mut from = 0;
-        while from < updates.record_count() {
-            let end = from.saturating_add(STRETCH).min(updates.record_count());
-            list_survivors(&mut sliced, updates, window, from, end)?;
-            lists.push(in_order(alloc, &mut sliced)?)?;
-            from = end;
-        }
-        Ok(lists)
+        let mut sliced = batch.survivors(alloc, window)?;
+        in_order(alloc, &mut sliced)
     }
 
     /// Returns the entries of a checkpoint part, whose keys strictly rise. All of them survive, and they stay where they

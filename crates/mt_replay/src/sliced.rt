@@ -6,11 +6,11 @@ ghost use Rattle.std.specs.Cmp.Lexicographic.{slice_cmp};
 ghost use Rattle.mt_words.specs.Limits.{widest};
 ghost use Rattle.mt_words.specs.Words.{IsKey};
 ghost use Rattle.mt_words.specs.Updates.{as_list};
-ghost use Rattle.mt_replay.specs.Survivors.{in_window, first_survivors};
+ghost use Rattle.mt_replay.specs.Survivors.{in_window};
 ghost use Rattle.mt_replay.specs.Cuts.{InKeyOrder};
 
 use crate::Window;
-use mt_record::{Lent, Updates};
+use mt_record::Lent;
 use mt_words::{Memory, slice_at, slice_of};
 use std::cmp::Ordering;
 use std::marker::Model;
@@ -95,30 +95,8 @@ pub(crate) fn is_of_first(first: &Option<Sliced<'_>>, update: &Sliced<'_>) -> bo
     }
 }
 
-/// Clears the list, and fills it with the updates in the window, of the records from `from` up to, but not including,
-/// `end`.
-/// Err: out of memory.
-pub(crate) fn list_survivors<'a>(
-    sliced: &mut Vec<Sliced<'a>>,
-    updates: &'a Updates,
-    window: Window,
-    from: usize,
-    end: usize,
-) -> Result<(), Memory>
-    requires { (from ≤ end) × (end ≤ length updates.now.records) }
-    ensures { OnOk result (first_survivors window updates.now end
-        ≡ first_survivors window updates.now from ++ sliced.new.items) }
-{
-    sliced.clear();
-    sliced.reserve(end - from)?;
-    for number in from..end {
-        add_survivor(sliced, updates.update(number), window)?;
-    }
-    Ok(())
-}
-
 /// Appends an update, if there is one and it is in the window.
-fn add_survivor<'a>(
+pub(crate) fn add_survivor<'a>(
     sliced: &mut Vec<Sliced<'a>>,
     update: Option<Lent<'a>>,
     window: Window,

@@ -1,24 +1,24 @@
 -- The steps of preparing: what was found, its counts, and what each log left.
 use Rattle.std.specs.Prelude.{◌≡◌, ℕ, ◌+◌, ◌-◌, ◌≤◌, List, length, map, filter, sum_by, Option, Some, None, Result, IfOk, IsPermutation}
-use Rattle.std.specs.List.{AllZip, flat_map}
+use Rattle.std.specs.List.{AllZip}
 use Rattle.std.specs.Option.{option_map}
 use Rattle.mt_words.specs.declared.fault.Fault.{Fault}
 use Rattle.mt_words.specs.declared.fault.Fault.TheVariants as faults
 use Rattle.mt_words.specs.declared.fault.Memory.{Memory}
 use Rattle.mt_words.specs.declared.update.Update.{Update}
-use Rattle.mt_words.specs.Walks.{joined}
 use Rattle.mt_record.specs.Logs.{LogReading}
 use Rattle.mt_scan.specs.declared.log_scan.LogScan.{LogScan}
 use Rattle.mt_scan.specs.Choice.{checkpoint_in, AreSkipped, AreNameless}
 use Rattle.mt_scan.specs.declared.checkpoint.Checkpoint.{Checkpoint}
 use Rattle.mt_replay.specs.declared.window.Window.{Window}
-use Rattle.mt_replay.specs.Survivors.{in_window}
+use Rattle.mt_replay.specs.Batches.{BatchView, batched}
+use Rattle.mt_replay.specs.Survivors.{in_window, is_early}
 use Rattle.mt_recover.specs.declared.report.Counts.{Counts}
-use Rattle.mt_recover.specs.declared.survivors.LogSurvivors.{LogSurvivors}
-use Rattle.mt_recover.specs.Steps.LogScans.{kept_by, ShowAll}
+use Rattle.mt_recover.specs.declared.survivors.BatchSurvivors.{BatchSurvivors}
+use Rattle.mt_recover.specs.Steps.LogScans.{kept, ShowAll}
 use Rattle.mt_recover.specs.Segments.{IsDoubled, IsTornAmid, IsGap}
 use Rattle.mt_recover.specs.Recovery.{Facts, begin_of}
-use Rattle.mt_recover.specs.Report.{IsFoundIn, is_early}
+use Rattle.mt_recover.specs.Report.{IsFoundIn}
 use Rattle.mt_recover.specs.Verdict.{IsFirst}
 use Rattle.mt_recover.specs.declared.found.Found.{Found}
 use Rattle.mt_recover.specs.Prepared.{report_of}
@@ -63,21 +63,27 @@ pub record HasRoomFor (counts : Counts) (early survivors : ℕ) : Type 0 where
 abbrev pub IsFound : Found → Type 0
 IsFound found = (logs parts : List (List ℕ)) × IsFoundOf logs parts found
 
--- what is left of a scan: the cells of its updates in the window, and the number of its early updates
-pub record IsLeftBy (window : Window) (scan : LogScan) (log : LogSurvivors) : Type 0 where
-  pub early : log.early ≡ length (filter (is_early window.begin) (kept_by scan))
-  pub cells : IsPermutation (filter (in_window window) (kept_by scan)) (joined log.cells.items)
+-- what is left of some updates: those in the window, and the number of the early ones
+pub record IsLeftBy (window : Window) (updates : List Update) (left : BatchSurvivors) : Type 0 where
+  pub early : left.early ≡ length (filter (is_early window.begin) updates)
+  pub cells : IsPermutation (filter (in_window window) updates) left.cells
 
--- what the logs of what was found left, its counts and its chosen checkpoint: for each scan what is left of it, or out of memory instead
-pub record AreLeftBy (found : Found) (counts : Counts) (logs : List (Result LogSurvivors Memory)) (chosen : Option Checkpoint) : Type 0 where
+-- the batches have what the scans kept, and this is left of each, or out of memory instead
+pub record AreBatchesLeft (window : Window) (scans : List LogScan) (logs : List (Result BatchSurvivors Memory)) : Type 0 where
+  pub batches : List BatchView
+  pub all : batched batches ≡ kept scans
+  pub left : AllZip (λ batch answer. IfOk answer (IsLeftBy window batch.updates)) batches logs
+
+-- what the logs of what was found left, its counts and its chosen checkpoint
+pub record AreLeftBy (found : Found) (counts : Counts) (logs : List (Result BatchSurvivors Memory)) (chosen : Option Checkpoint) : Type 0 where
   pub counts_are : (ls ps : List (List ℕ)) (is : IsFoundOf ls ps found) → AreCountsOf is.facts counts
-  pub logs_are : AllZip (λ scan left. IfOk left (IsLeftBy found.window scan)) found.scans.items logs
+  pub logs_are : AreBatchesLeft found.window found.scans.items logs
   pub same_chosen : chosen ≡ found.choice.chosen
 
--- the cells of all logs
-abbrev pub cells_of : List LogSurvivors → List (List Update)
-cells_of logs = flat_map (λ log. log.cells.items) logs
+-- the cells of all batches
+abbrev pub cells_of : List BatchSurvivors → List (List Update)
+cells_of logs = map (λ left. left.cells) logs
 
--- the number of early updates of all logs
-abbrev pub early_of : List LogSurvivors → ℕ
-early_of logs = sum_by (λ log. log.early) logs
+-- the number of early updates of all batches
+abbrev pub early_of : List BatchSurvivors → ℕ
+early_of logs = sum_by (λ left. left.early) logs

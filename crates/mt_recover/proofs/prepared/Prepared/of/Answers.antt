@@ -11,14 +11,14 @@ use Rattle.mt_recover.proofs.Preparing.{are_apart, have_room, is_prepared}
 use Rattle.mt_recover.proofs.prepared.Prepared.of.Goals as goal
 
 -- the lists are the cells of all logs and of all parts
-lists_are : (c : goal.In_ok-append-2) → c.append-2.new.self.items ≡ cells_of c.in_ok-logs.logs.items ++ c.in_ok-parts.parts.items
+lists_are : (c : goal.In_ok-append) → c.append.new.self.items ≡ cells_of c.in_ok-logs.logs.items ++ c.in_ok-parts.parts.items
 lists_are c =
     let g = c.into_iter-log-iterator.ensures.into_iter_gives in
     let seen = YieldsList-end (YieldsList-from_vec {s = c.into_iter-log-iterator.result} c.in_ok-logs.logs.items g.0 (g.1 ∙ c.in_ok-logs.logs.ok.0)) c.loop-log.yielded c.loop-log.log-iterator c.loop-log.yielded_by c.next.result c.next.new.self c.in-None.is c.next.ensures.steps in
     let all : c.loop-log.yielded ≡ c.in_ok-logs.logs.items = sym (map-id c.loop-log.yielded) ∙ seen.0 in
-    c.in_ok-append-2.ensures.items ∙ ap (λ (cells : List (List Update)). cells ++ c.in_ok-parts.parts.items) (c.loop-log.invariant ∙ ap cells_of all)
+    c.in_ok-append.ensures.items ∙ ap (λ (cells : List (List Update)). cells ++ c.in_ok-parts.parts.items) (c.loop-log.invariant ∙ ap cells_of all)
 
-early_is : (c : goal.In_ok-append-2) → c.total-early.result ≡ early_of c.in_ok-logs.logs.items
+early_is : (c : goal.In_ok-append) → c.total-early.result ≡ early_of c.in_ok-logs.logs.items
 early_is c = search rules
 
 pub invariant_of-result : goal.invariant_of-result
@@ -30,7 +30,7 @@ invariant_of-result c =
     let room = have_room is.0 is.1 found.0 is.2 c.args.counts c.args.logs.items c.args.chosen found.2 logs parts c.in_ok-logs.ensures.done (c.in_ok-parts.ensures ∙ sym c.parts_of.ensures.entries) in (
       subst (λ (ls : List (List Update)). AreApart (joined ls)) (sym (lists_are c))
           (are_apart is.0 is.1 found.0 is.2 c.args.counts c.args.logs.items c.args.chosen found.2 logs parts c.in_ok-logs.ensures.done (c.in_ok-parts.ensures ∙ sym c.parts_of.ensures.entries)),
-      subst (λ (n : ℕ). HasRoomFor c.args.counts n (length (joined c.append-2.new.self.items))) (sym (early_is c))
+      subst (λ (n : ℕ). HasRoomFor c.args.counts n (length (joined c.append.new.self.items))) (sym (early_is c))
           (subst (λ (ls : List (List Update)). HasRoomFor c.args.counts (early_of logs) (length (joined ls))) (sym (lists_are c)) room),
     )
 

@@ -1,3 +1,5 @@
+use Rattle.std.proofs.Common.{◌∙◌, ap}
+use Rattle.mt_recover.specs.Steps.LogScans.{kept}
 use Rattle.mt_recover.specs.Steps.Preparing.{AreLeftBy}
 use Rattle.mt_recover.proofs.Preparing.{are_left}
 use Rattle.mt_recover.proofs.prepared.Prepared.on_one_thread.Goals as goal
@@ -6,10 +8,10 @@ use Rattle.mt_recover.proofs.prepared.Prepared.on_one_thread.Goals as goal
 left : (c : goal.In_ok-logs) → AreLeftBy c.args.found c.of-counts.result.0 c.in_ok-logs.logs.items c.of-counts.result.2
 left c =
     are_left c.args.found c.of-counts.result.0 c.of-counts.result.1 c.of-counts.result.2 c.in_ok-logs.logs.items c.of-counts.ensures.counts c.of-counts.ensures.scans c.of-counts.ensures.chosen
-    c.in_ok-logs.ensures
+    (record { batches = c.in_ok-batches_of.field-0.items; all = c.in_ok-batches_of.ensures ∙ ap kept c.deref.ensures.value; left = c.in_ok-logs.ensures })
 
 pub of-requires : goal.of-requires
 of-requires c = (c.args.found, c.requires, left c)
 
 pub returns : goal.returns
-returns c = λ logs parts is. c.of.ensures logs parts c.args.found is (left c.before)
+returns c = λ logs parts is. c.of.ensures logs parts c.args.found is (left c.before.before)
