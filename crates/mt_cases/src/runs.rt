@@ -230,7 +230,7 @@ fn fits(expected: &[u8], found: &[u8]) -> bool {
     }
 }
 
-/// Appends a line of this text. A text that ends in a blank is written with two quotes behind that.
+/// Appends the text as a line, without `''` at its end. Those quotes keep a trailing blank in a case file.
 fn push_text(line: &str, text: &mut Vec<u8>) -> Result<(), Mistake> {
     let line = line.strip_suffix("''").unwrap_or(line);
     text.extend_from_slice(line.as_bytes())?;
