@@ -5,6 +5,7 @@ use crate::draft::Draft;
 use crate::folder::Folder;
 use crate::mistake::Mistake;
 use crate::names::{Named, begin_draft};
+use crate::passes::Pass;
 use crate::report::names_of;
 use crate::runs::{Ends, Run, Runs};
 use crate::source::inputs_of;
@@ -58,8 +59,8 @@ const SIZES: [usize; 3] = [1, 16, LONGEST_BUFFER];
 /// The numbers of workers that are tried.
 const WORKERS: [u32; 3] = [1, 2, 8];
 
-/// The numbers of even pieces that are tried.
-const PIECES: [u32; 2] = [1, 16];
+/// The same with each number of even pieces.
+const EVEN: [(u32, u32); 6] = [(1, 1), (1, 16), (2, 1), (2, 16), (8, 1), (8, 16)];
 
 impl Case {
     /// Creates a case without logs and parts that expects nothing.
@@ -88,6 +89,8 @@ impl Case {
         match words {
             ["log" | "part", ..] => Ok(self.drafts.push(begin_draft(alloc, names, words)?)?),
             ["file" | "folder" | "dead", ..] => self.folder.add(alloc, names, words),
+            // Lines `each` stand right after `case`, one for each letter.
+            ["each", ..] => Err(Mistake::Line),
             ["buffers", size] => self.use_buffers(size),
             ["cuts", keys @ ..] => self.cut_at(alloc, keys),
             ["output" | "outputs", _] => Ok(self.outputs.push(Outputs::of_line(words)?)?),
@@ -153,12 +156,13 @@ impl Case {
     }
 
     /// Returns the ways in which the case is tried in this pass.
-    pub fn ways(&self, alloc: Global, pass: Option<u64>) -> Result<Vec<Way<'_>>, Mistake> {
+    pub fn ways(&self, alloc: Global, pass: Pass) -> Result<Vec<Way<'_>>, Mistake> {
         let mut ways = Vec::new(alloc);
         if !self.expected.is_empty() {
             self.push_ways_of_one_thread(&mut ways)?;
+            push_even_ways(pass, &mut ways)?;
             for workers in WORKERS {
-                self.push_ways_of_workers(workers, pass, &mut ways)?;
+                self.push_cut_ways(workers, &mut ways)?;
             }
         }
         self.push_runs(&mut ways)?;
@@ -179,20 +183,8 @@ impl Case {
         Ok(())
     }
 
-    /// Appends the ways with this number of workers. Each makes threads, so passes with numbers take the numbers of pieces
-    /// in turn.
-    fn push_ways_of_workers<'a>(
-        &'a self,
-        workers: u32,
-        pass: Option<u64>,
-        ways: &mut Vec<Way<'a>>,
-    ) -> Result<(), Mistake> {
-        let turn = pass.map(|number| number as usize % PIECES.len());
-        for (place, pieces) in PIECES.into_iter().enumerate() {
-            if turn.is_none() || turn == Some(place) {
-                ways.push(Way::Even { workers, pieces })?;
-            }
-        }
+    /// Appends the ways at given cuts with this number of workers.
+    fn push_cut_ways(&self, workers: u32, ways: &mut Vec<Way<'_>>) -> Result<(), Mistake> {
         for line in 0..self.cuts.len() {
             ways.push(Way::At { workers, line })?;
         }
@@ -316,6 +308,16 @@ impl Case {
         let workers = Workers::new(workers).ok_or(Mistake::Number)?;
         Ok(Some((workers, cutting)))
     }
+}
+
+/// Appends the ways in even pieces that this pass takes.
+fn push_even_ways(pass: Pass, ways: &mut Vec<Way<'_>>) -> Result<(), Mistake> {
+    for (place, (workers, pieces)) in EVEN.into_iter().enumerate() {
+        if pass.takes(place) {
+            ways.push(Way::Even { workers, pieces })?;
+        }
+    }
+    Ok(())
 }
 
 /// Whether these words are a line that states an expectation.

@@ -37,7 +37,7 @@ impl Mistake {
             Mistake::Line => "no such line",
             Mistake::Number => "not a number, or out of range",
             Mistake::NoPass => {
-                "$n stands for nothing, since the case does not begin with a line each n"
+                "a letter stands for nothing, since the case does not begin with its line each"
             }
             Mistake::Digits => "not hexadecimal digits",
             Mistake::Column => "not a column, or not above the one before it",

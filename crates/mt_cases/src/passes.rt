@@ -3,61 +3,141 @@ use crate::blocks::{Line, words_of};
 use crate::mistake::Mistake;
 use crate::words::number_of;
 use std::alloc::Global;
+use std::io::{self, Write};
 
-/// Returns the number that `$n` stands for in each pass, and the lines of the case that follow. The first line may name
-/// the numbers. Without it there is one pass and no number.
+/// One pass of a case.
+#[derive(Clone, Copy)]
+pub struct Pass {
+    /// The number that `$n` stands for, if the case has a line `each n`.
+    n: Option<u64>,
+    /// The number that `$m` stands for, if the case has a line `each m`.
+    m: Option<u64>,
+    /// Its place among the passes of the case, counted from 0.
+    place: usize,
+}
+
+impl Pass {
+    /// Whether the pass takes this one of the six ways with workers. Each makes threads, so passes of one letter take the
+    /// even ways and the odd ones in turn, and passes of two letters take one way at a time.
+    pub fn takes(self, way: usize) -> bool {
+        match (self.n, self.m) {
+            (None, None) => true,
+            (Some(_), Some(_)) => way % 6 == self.place % 6,
+            _ => way % 2 == self.place % 2,
+        }
+    }
+
+    /// Returns the line with its letters replaced by their numbers. Err if the line has a letter that stands for nothing.
+    pub fn replace(self, alloc: Global, line: &str) -> Result<String, Mistake> {
+        let line = replace_letter(alloc, line, "$n", "$xn", self.n)?;
+        replace_letter(alloc, line.as_str(), "$m", "$xm", self.m)
+    }
+
+    /// Appends what the letters stand for.
+    pub fn write(self, text: &mut Vec<u8>) -> io::Result<()> {
+        if let Some(number) = self.n {
+            write!(text, " and n = {number}")?;
+        }
+        if let Some(number) = self.m {
+            write!(text, " and m = {number}")?;
+        }
+        Ok(())
+    }
+}
+
+/// Replaces `decimal` by the number, and `hex` by its hexadecimal digits, at least two. Err if there is one of them and
+/// no number.
+fn replace_letter(
+    alloc: Global,
+    line: &str,
+    decimal: &str,
+    hex: &str,
+    number: Option<u64>,
+) -> Result<String, Mistake> {
+    match number {
+        Some(number) => {
+            let line = line.replace(alloc, decimal, number.to_string(alloc)?.as_str())?;
+            Ok(line.replace(alloc, hex, format!(in alloc; "{number:02x}")?.as_str())?)
+        }
+        None if line.contains(decimal) || line.contains(hex) => Err(Mistake::NoPass),
+        None => Ok(String::from_str(alloc, line)?),
+    }
+}
+
+/// Returns the passes of a case, one for each pair of numbers, and its lines after `each n` and `each m`. Sets `at` to
+/// the line that a mistake is reported for.
 pub fn passes_of<'l, 'a>(
     alloc: Global,
     lines: &'l [Line<'a>],
     at: &mut Line<'a>,
-) -> Result<(Vec<Option<u64>>, &'l [Line<'a>]), Mistake> {
-    match lines.split_first() {
-        Some((line, rest)) if line.first_word() == "each" => {
-            *at = *line;
-            Ok((numbers_of(alloc, &words_of(alloc, line.text)?)?, rest))
-        }
-        _ => Ok((Vec::from_array(alloc, [None])?, lines)),
-    }
+) -> Result<(Vec<Pass>, &'l [Line<'a>]), Mistake> {
+    let (ns, lines) = numbers_of(alloc, "n", lines, at)?;
+    let (ms, lines) = numbers_of(alloc, "m", lines, at)?;
+    Ok((pairs(alloc, &ns, &ms)?, lines))
 }
 
-/// Returns the numbers that a line names: `each n FIRST to LAST`, or `each n FIRST to LAST but ONE`.
-fn numbers_of(alloc: Global, words: &[&str]) -> Result<Vec<Option<u64>>, Mistake> {
-    let ["each", "n", first, "to", last, rest @ ..] = words else {
+/// Returns a pass for each `n` and each `m`.
+fn pairs(alloc: Global, ns: &[Option<u64>], ms: &[Option<u64>]) -> Result<Vec<Pass>, Mistake> {
+    let mut passes = Vec::new(alloc);
+    for n in ns {
+        for m in ms {
+            let (n, m, place) = (*n, *m, passes.len());
+            passes.push(Pass { n, m, place })?;
+        }
+    }
+    Ok(passes)
+}
+
+/// Returns the numbers that the first line gives to the letter, and the lines that follow. A first line that is not for
+/// this letter gives it no number.
+fn numbers_of<'l, 'a>(
+    alloc: Global,
+    letter: &str,
+    lines: &'l [Line<'a>],
+    at: &mut Line<'a>,
+) -> Result<(Vec<Option<u64>>, &'l [Line<'a>]), Mistake> {
+    if let Some((line, rest)) = lines.split_first() {
+        let words = words_of(alloc, line.text)?;
+        if let ["each", named, range @ ..] = words.as_slice()
+            && *named == letter
+        {
+            *at = *line;
+            return Ok((range_of(alloc, range)?, rest));
+        }
+    }
+    Ok((Vec::from_array(alloc, [None])?, lines))
+}
+
+/// Returns the numbers of a range: `FIRST to LAST`, or `FIRST to LAST but ONE ..`. Err if the first is above the last.
+fn range_of(alloc: Global, words: &[&str]) -> Result<Vec<Option<u64>>, Mistake> {
+    let [first, "to", last, rest @ ..] = words else {
         return Err(Mistake::Line);
     };
-    let but = match rest {
-        [] => None,
-        ["but", one] => Some(number_of(one)?),
-        _ => return Err(Mistake::Line),
-    };
-    range_of(alloc, number_of(first)?, number_of(last)?, but)
-}
-
-/// Returns the numbers from `first` to `last` without `but`. Err if `first` is above `last`.
-fn range_of(
-    alloc: Global,
-    first: u64,
-    last: u64,
-    but: Option<u64>,
-) -> Result<Vec<Option<u64>>, Mistake> {
+    let (first, last) = (number_of(first)?, number_of(last)?);
     if first > last {
         return Err(Mistake::Number);
     }
+    let but = exceptions(alloc, rest)?;
     let mut numbers = Vec::new(alloc);
     for number in first..=last {
-        if but != Some(number) {
+        if !but.contains(&number) {
             numbers.push(Some(number))?;
         }
     }
     Ok(numbers)
 }
 
-/// Returns the line with each `$n` replaced by the number of the pass. Err if the line has a `$n` and the pass no
-/// number.
-pub fn in_pass(alloc: Global, text: &str, pass: Option<u64>) -> Result<String, Mistake> {
-    match pass {
-        Some(number) => Ok(text.replace(alloc, "$n", number.to_string(alloc)?.as_str())?),
-        None if text.contains("$n") => Err(Mistake::NoPass),
-        None => Ok(String::from_str(alloc, text)?),
+/// Returns the numbers that `but ONE ..` leaves out.
+fn exceptions(alloc: Global, words: &[&str]) -> Result<Vec<u64>, Mistake> {
+    let mut numbers = Vec::new(alloc);
+    match words {
+        [] => {}
+        ["but", _, ..] => {
+            for word in words.iter().skip(1) {
+                numbers.push(number_of(word)?)?;
+            }
+        }
+        _ => return Err(Mistake::Line),
     }
+    Ok(numbers)
 }

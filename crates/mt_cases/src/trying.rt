@@ -3,15 +3,15 @@ use crate::blocks::{Line, words_of};
 use crate::case::{Case, Way};
 use crate::mistake::Mistake;
 use crate::names::Named;
-use crate::passes::{in_pass, passes_of};
+use crate::passes::{Pass, passes_of};
 use crate::telling::Trial;
 use std::alloc::Global;
 use std::fs::Files;
 use std::io::{self, Write};
 use std::thread::Threads;
 
-/// Tries a case in each pass (one for each value of `$n`) and each way of recovery, up to the first difference. Sets
-/// `at` to the line that the result is reported for.
+/// Tries a case in each pass and each way of recovery, up to the first difference. Sets `at` to the line that the result
+/// is reported for.
 pub fn try_case<'a, R>(
     rt: &R,
     names: &[Named<'_>],
@@ -39,7 +39,7 @@ fn case_of<'a>(
     alloc: Global,
     names: &[Named<'_>],
     lines: &[Line<'a>],
-    pass: Option<u64>,
+    pass: Pass,
     at: &mut Line<'a>,
 ) -> Result<Case, Mistake> {
     let mut case = Case::new(alloc);
@@ -55,10 +55,10 @@ fn read_line(
     alloc: Global,
     names: &[Named<'_>],
     text: &str,
-    pass: Option<u64>,
+    pass: Pass,
     case: &mut Case,
 ) -> Result<(), Mistake> {
-    let text = in_pass(alloc, text, pass)?;
+    let text = pass.replace(alloc, text)?;
     case.add(
         alloc,
         names,
@@ -68,7 +68,7 @@ fn read_line(
 }
 
 /// Tries the case in each way. Returns the first difference from what is expected, or None.
-fn compare<R>(rt: &R, mut case: Case, pass: Option<u64>) -> Result<Option<Vec<u8>>, Mistake>
+fn compare<R>(rt: &R, mut case: Case, pass: Pass) -> Result<Option<Vec<u8>>, Mistake>
 where
     R: AllocGlobal + Clone + Drop + Files + Threads + Sync,
     R::File: Send,
@@ -87,7 +87,7 @@ where
 /// Appends the expected text, the way and the pass, and the actual text.
 fn write_difference(
     way: Way<'_>,
-    pass: Option<u64>,
+    pass: Pass,
     expected: &[u8],
     came: &[u8],
     text: &mut Vec<u8>,
@@ -95,9 +95,7 @@ fn write_difference(
     text.extend_from_slice(b"expected:\n")?;
     text.extend_from_slice(expected)?;
     write_way(way, text)?;
-    if let Some(pass) = pass {
-        write!(text, " and n = {pass}")?;
-    }
+    pass.write(text)?;
     text.extend_from_slice(b":\n")?;
     Ok(text.extend_from_slice(came)?)
 }
