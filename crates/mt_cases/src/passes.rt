@@ -17,8 +17,8 @@ pub struct Pass {
 }
 
 impl Pass {
-    /// Whether the pass takes this one of the six ways with workers. Each makes threads, so passes of one letter take the
-    /// even ways and the odd ones in turn, and passes of two letters take one way at a time.
+    /// Whether the pass takes this one of the six ways in even pieces, where 1 and 16 pieces alternate. Each makes
+    /// threads, so passes of one letter take the two numbers of pieces in turn, and passes of two letters the six ways.
     pub fn takes(self, way: usize) -> bool {
         match (self.n, self.m) {
             (None, None) => true,
@@ -27,7 +27,8 @@ impl Pass {
         }
     }
 
-    /// Returns the line with its letters replaced by their numbers. Err if the line has a letter that stands for nothing.
+    /// Returns the line with its letters replaced by their numbers. Err if the line has a letter that stands for
+    /// nothing.
     pub fn replace(self, alloc: Global, line: &str) -> Result<String, Mistake> {
         let line = replace_letter(alloc, line, "$n", "$xn", self.n)?;
         replace_letter(alloc, line.as_str(), "$m", "$xm", self.m)

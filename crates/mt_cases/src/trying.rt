@@ -10,8 +10,8 @@ use std::fs::Files;
 use std::io::{self, Write};
 use std::thread::Threads;
 
-/// Tries a case in each pass and each way of recovery, up to the first difference. Sets `at` to the line that the result
-/// is reported for.
+/// Tries a case in each pass and each way of recovery, up to the first difference. Sets `at` to the line that the
+/// result is reported for.
 pub fn try_case<'a, R>(
     rt: &R,
     names: &[Named<'_>],
