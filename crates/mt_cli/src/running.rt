@@ -83,10 +83,18 @@ where
     Ok(answer(rt, command, inputs, out, err))
 }
 
+/// The bytes that the buffers of many files share. Up to 128 files have buffers of `LONGEST_BUFFER` each.
+const SHARED_BYTES: usize = 8 << 20;
+
+/// The size of the shortest buffers. Shorter ones would take many more reads.
+const SHORTEST_BUFFER: usize = 16_384;
+
 /// Creates a rack with a buffer for each file.
 fn rack_of<R: AllocGlobal>(rt: &R, names: &Names) -> Result<Rack, Failure<'static>> {
     let count = names.logs.len().saturating_add(names.parts.len());
-    Ok(Rack::new(rt.alloc(), count, LONGEST_BUFFER)?)
+    let share = SHARED_BYTES / count.max(1);
+    let size = share.clamp(SHORTEST_BUFFER, LONGEST_BUFFER);
+    Ok(Rack::new(rt.alloc(), count, size)?)
 }
 
 /// Opens the sources of the logs, and then those of the parts.

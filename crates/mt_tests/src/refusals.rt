@@ -2,14 +2,17 @@
 //! their first allocation fail, then their second, and so on. Each run must give the expected result or `Memory`.
 use crate::asserting::assert_same;
 use crate::claiming::Turns;
-use crate::logs::{LOG_A, LOG_B, PART};
-use crate::tree::tree_of;
+use crate::logs::{LOG_A, LOG_B, LOG_OF_THREE, PART};
+use crate::replaying::ALL;
+use crate::tree::{ZEROS_AND_ONES, tree_of};
+use mt_record::{encode_log_header, encode_part_2, encode_record, read_log};
 use mt_recover::{
     Cutting, Inputs, NoGate, Pieces, Recovered, Workers, prepare, recover, recover_logs, work,
 };
-use mt_scan::{MemSource, Rack, Slot};
+use mt_replay::{Cuts, LogCells, replay_piece};
+use mt_scan::{MemSource, Rack, Slot, choose, scan_bytes, scan_log, scan_part};
 use mt_tree::Wanted;
-use mt_words::Fault;
+use mt_words::{Fault, Record};
 use std::alloc::Global;
 use std::process::Abort;
 use std::thread::Threads;
@@ -111,13 +114,92 @@ fn a_refused_growth_of_a_replay_comes_after_the_gate(rt: HostRuntime) {
     }
 }
 
+/// Scans a log and a part. Returns the number of updates, and the number of the chosen checkpoint.
+fn scan_both(alloc: Global) -> Result<(usize, Option<u32>), Fault> {
+    let mut rack = Rack::new(alloc, 2, 16)?;
+    let sources = sources_of(alloc, &[LATE_LOG, PART], rack.slots());
+    let mut sources = sources.ok_or(Fault::Memory)?;
+    let mut part = sources.pop().ok_or(Fault::Memory)?;
+    let mut log = sources.pop().ok_or(Fault::Memory)?;
+    let scan = scan_log(alloc, &mut log, 0)?;
+    let parts = with(Vec::new(alloc), Some(scan_part(alloc, &mut part, 0)?));
+    let choice = choose(alloc, parts.ok_or(Fault::Memory)?, scan.last)?;
+    Ok((
+        scan.updates.len(),
+        choice.chosen.map(|chosen| chosen.number),
+    ))
+}
+
+#[test]
+fn a_refused_growth_of_scans_is_memory(rt: HostRuntime) {
+    match scan_both(rt.alloc()) {
+        Ok(found) => assert_same(&rt, &found, &(2, Some(1))),
+        Err(fault) => assert_same(&rt, &fault, &Fault::Memory),
+    }
+}
+
+/// Cuts the updates of the log of three keys into two pieces, and replays the second. Returns its number of keys.
+fn replay_second<R: AllocGlobal + Threads + Sync>(rt: &R) -> Result<usize, Fault> {
+    let alloc = rt.alloc();
+    let updates = scan_bytes(alloc, LOG_OF_THREE, 0)?.updates.into_vec(alloc)?;
+    let lists = [LogCells::of(alloc, updates, ALL)?];
+    let Some(pieces) = Pieces::new(2) else {
+        return Ok(0);
+    };
+    let cuts = Cuts::even(rt, alloc, &lists, pieces)?;
+    let piece = cuts.pieces() - 1;
+    Ok(replay_piece(alloc, &lists, &cuts, piece)?.len())
+}
+
+#[test]
+fn a_refused_growth_of_cells_and_cuts_is_memory(rt: HostRuntime) {
+    match replay_second(&rt) {
+        Ok(keys) => assert_same(&rt, &keys, &2),
+        Err(fault) => assert_same(&rt, &fault, &Fault::Memory),
+    }
+}
+
+/// Encodes the records behind the log's header. After a refused growth, checks that nothing was appended, and goes on.
+fn encode_again<R: Abort + AllocGlobal>(rt: &R, records: &[Record], out: &mut Vec<u8>) {
+    for record in records {
+        let before = out.len();
+        if encode_record(record, out).is_err() {
+            assert_same(rt, &out.len(), &before);
+            encode_record(record, out).expect(rt, "memory");
+        }
+    }
+}
+
+#[test]
+fn a_refused_growth_of_an_encoder_appends_nothing(rt: HostRuntime) {
+    if let Ok(text) = read_log(rt.alloc(), LOG_A) {
+        let mut out = Vec::new(rt.alloc());
+        if encode_log_header(0, &mut out).is_err() {
+            assert_same(&rt, &out.len(), &0);
+            encode_log_header(0, &mut out).expect(&rt, "memory");
+        }
+        encode_again(&rt, &text.records, &mut out);
+        assert_same(&rt, &out.as_slice(), &LOG_A);
+    }
+}
+
+#[test]
+fn a_refused_growth_of_a_part_appends_nothing(rt: HostRuntime) {
+    let mut out = Vec::new(rt.alloc());
+    if encode_part_2(1, 2, 0, 1, 4, &[], &mut out).is_err() {
+        assert_same(&rt, &out.len(), &0);
+        encode_part_2(1, 2, 0, 1, 4, &[], &mut out).expect(&rt, "memory");
+    }
+    assert_same(&rt, &out.len(), &36);
+}
+
 #[test]
 fn a_refused_growth_of_a_tree_is_memory(rt: HostRuntime) {
-    if let Ok(tree) = tree_of(rt.alloc(), &[b"aaaaaaaab", b"aaaaaaaac"], 1) {
+    if let Ok(tree) = tree_of(rt.alloc(), ZEROS_AND_ONES, 18) {
         // After a query ran out of memory the tree answers as before.
         for _time in 0..2 {
-            if let Ok(hits) = tree.getrange(b"", 9, Wanted::all()) {
-                assert_same(&rt, &hits.len(), &2);
+            if let Ok(hits) = tree.getrange(b"", 20, Wanted::all()) {
+                assert_same(&rt, &hits.len(), &20);
             }
         }
         assert_same(&rt, &tree.layers(), &2);

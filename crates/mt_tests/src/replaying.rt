@@ -85,7 +85,7 @@ fn two_logs_with_one_version_of_a_key_clash(rt: HostRuntime) {
 }
 
 /// A window that has the updates of all logs.
-const ALL: Window = Window {
+pub const ALL: Window = Window {
     begin: 0,
     cutoff: 9,
 };

@@ -67,7 +67,7 @@ const FAMILIES: &[(&[&[u8]], u64)] = &[
 ];
 
 /// The keys of 0 to 10 zero bytes, and those of a byte 1 and 0 to 8 zero bytes: 19 places in the first layer.
-const ZEROS_AND_ONES: &[&[u8]] = &[
+pub const ZEROS_AND_ONES: &[&[u8]] = &[
     b"",
     &[0; 1],
     &[0; 2],
