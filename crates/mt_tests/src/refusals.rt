@@ -1,13 +1,19 @@
 //! Tests of what happens when memory runs out. Run alone, they see no failed allocation. `.ci/try_failures` makes
 //! their first allocation fail, then their second, and so on. Each run must give the expected result or `Memory`.
+ghost use Rattle.std.specs.Prelude.{◌≡◌, IfSome};
+ghost use Rattle.mt_board.specs.Board.{fresh_passes};
+ghost use Rattle.mt_recover.specs.Hauls.{IsHaulOf};
+
 use crate::asserting::assert_same;
 use crate::claiming::Turns;
 use crate::logs::{LOG_A, LOG_B, LOG_OF_THREE, PART};
 use crate::replaying::ALL;
 use crate::tree::{ZEROS_AND_ONES, tree_of};
+use mt_board::Pass;
 use mt_record::{encode_log_header, encode_part_2, encode_record, read_log};
 use mt_recover::{
-    Cutting, Inputs, NoGate, Pieces, Recovered, Workers, prepare, recover, recover_logs, work,
+    Cutting, Haul, Inputs, Job, NoGate, Pieces, Recovered, Workers, assemble, prepare, recover,
+    recover_logs, work,
 };
 use mt_replay::{Cuts, LogCells, replay_piece};
 use mt_scan::{MemSource, Rack, Slot, choose, scan_bytes, scan_log, scan_part};
@@ -91,15 +97,27 @@ fn a_refused_growth_of_recovery_by_two_workers_over_a_checkpoint_is_memory(rt: H
     }
 }
 
-/// Prepares the log as one piece for one worker, and works on it. Returns the entries at the gate. None: out of memory
-/// before the work.
-fn entries_of_work<R: AllocGlobal + Threads + Sync>(rt: &R) -> Option<(u64, u64)> {
-    let (piece, worker) = (Pieces::new(1)?, Workers::new(1)?);
+/// Prepares the log in these pieces for these workers. Returns the job and its passes. None: no lawful number of workers
+/// or pieces, or out of memory.
+fn prepare_log<R: AllocGlobal + Threads + Sync>(
+    rt: &R,
+    workers: u32,
+    pieces: u32,
+    log: &[u8],
+) -> Option<(Job, Vec<Pass>)>
+    ensures { IfSome result (λ opened. opened.1.items ≡ fresh_passes opened.0.board workers) }
+{
+    let (pieces, workers) = (Pieces::new(pieces)?, Workers::new(workers)?);
     let mut rack = Rack::new(rt.alloc(), 1, 16).ok()?;
-    let logs = sources_of(rt.alloc(), &[LOG_A], rack.slots())?;
+    let logs = sources_of(rt.alloc(), &[log], rack.slots())?;
     let parts = Vec::new(rt.alloc());
     let inputs = Inputs { logs, parts };
-    let (job, mut passes) = prepare(rt, rt.alloc(), inputs, worker, Cutting::Even(piece)).ok()?;
+    prepare(rt, rt.alloc(), inputs, workers, Cutting::Even(pieces)).ok()
+}
+
+/// Works on a log of one piece with one worker. Returns the entries at the gate. None: out of memory before the work.
+fn entries_of_work<R: AllocGlobal + Threads + Sync>(rt: &R) -> Option<(u64, u64)> {
+    let (job, mut passes) = prepare_log(rt, 1, 1, LOG_A)?;
     let mut pass = passes.pop()?;
     let gate = Turns::new();
     let _ = work(rt.alloc(), &job, &mut pass, &gate);
@@ -111,6 +129,36 @@ fn entries_of_work<R: AllocGlobal + Threads + Sync>(rt: &R) -> Option<(u64, u64)
 fn a_refused_growth_of_a_replay_comes_after_the_gate(rt: HostRuntime) {
     if let Some(entries) = entries_of_work(&rt) {
         assert_same(&rt, &entries, &(1, 0));
+    }
+}
+
+/// Works with the pass. None: out of memory.
+fn haul_of(alloc: Global, job: &Job, pass: &mut Pass) -> Option<Haul>
+    requires { pass.old.board ≡ job.now.board }
+    ensures haul { IfSome result (IsHaulOf job.now) }
+    ensures pass { pass.new.board ≡ pass.old.board }
+{
+    work(alloc, job, pass, &NoGate).ok()
+}
+
+/// Works on three pieces with one pass, which runs out of memory, and then with another. Returns the fault of the
+/// assembly. None: the first pass did not run out of memory, or something else did.
+fn fault_without_first<R: AllocGlobal + Threads + Sync>(rt: &R) -> Option<Fault> {
+    let (job, mut passes) = prepare_log(rt, 2, 3, LOG_OF_THREE)?;
+    let mut second = passes.pop()?;
+    let mut first = passes.pop()?;
+    work(rt.alloc(), &job, &mut first, &NoGate).err()?;
+    let rest = haul_of(rt.alloc(), &job, &mut second)?;
+    let hauls = vec![in rt.alloc(); rest].ok()?;
+    let passes = vec![in rt.alloc(); first, second].ok()?;
+    assemble(rt.alloc(), job, hauls, passes).err()
+}
+
+// The first pass drew piece 0, at least, before it ran out of memory.
+#[test]
+fn a_refused_growth_of_work_leaves_its_pieces_missing(rt: HostRuntime) {
+    if let Some(fault) = fault_without_first(&rt) {
+        assert_same(&rt, &fault, &Fault::Missing { piece: 0 });
     }
 }
 
