@@ -181,6 +181,13 @@ head_long head = by head.writer
     by None = omega arith
     by (Some writer) = omega arith
 
+pub head_short : (head : Head) → length (head_bytes head) < 21
+head_short head = by head.writer
+  where
+    by : (writer : Option (ℕ × ℕ)) → length (log_magic head.format writer ++ (big_bytes 8 head.from ++ writer_bytes writer)) < 21
+    by None = omega arith
+    by (Some writer) = omega arith
+
 -- headers of which one is a prefix of the other have the same length
 pub same_long : (head other : Head) (more : List ℕ) → head_bytes head ≡ head_bytes other ++ more → length (head_bytes head) ≡ length (head_bytes other)
 same_long head other more e = by head.format other.format head.writer other.writer (ap (λ (x : List ℕ). slice_index x 3) e)

@@ -1,5 +1,6 @@
 -- What a feed has read when more bytes follow, whatever its items are.
-use Rattle.std.proofs.Common.{◌≡◌, ◌⊎◌, inl, inr, ℕ, ◌-◌, ◌<◌, Result, Ok, Err, Option, Some, List, [], ◌∷◌, ◌++◌, length, drop, refl, sym, ap, ◌∙◌, subst, append_assoc, arith, true, Bool}
+use Rattle.std.proofs.Common.{◌≡◌, ◌⊎◌, inl, inr, ℕ, ◌-◌, ◌<◌, Result, Ok, Err, Option, Some, List, [], ◌∷◌, ◌++◌, length, drop, refl, sym, ap, ◌∙◌, subst, append_assoc, arith, true, false, Bool}
+use Rattle.std.proofs.lemmas.Bool.{false≢true}
 use Rattle.std.proofs.Math.Seq.{drop-append_seam}
 use Rattle.std.proofs.lemmas.List.{length-append, nil_from_length}
 use Rattle.std.proofs.lemmas.Bool.Decides.{Decides-eqb}
@@ -103,6 +104,9 @@ fed_next {F = F} holds is_left shows taken old new held left text piece (Err fau
 
 pub nil_if_empty : (xs : List ℕ) (len : ℕ) (empty : Bool) → len ≡ length xs → empty ≡ (len == 0) → empty ≡ true → xs ≡ []
 nil_if_empty xs len empty number test outcome = nil_from_length xs (sym number ∙ (Decides-eqb len 0).0 (sym test ∙ outcome))
+
+pub some_if_not : (xs : List ℕ) (len : ℕ) (empty : Bool) → len ≡ length xs → empty ≡ (len == 0) → empty ≡ false → xs ≡ [] → ⊥
+some_if_not xs len empty number test outcome none = false≢true (sym outcome ∙ test ∙ ap (λ (n : ℕ). n == 0) (number ∙ ap length none))
 
 -- if the items at the front are dropped, the rest is left
 pub left_over : (held items left : List ℕ) (len : ℕ) → held ≡ items ++ left → len ≡ length held → drop (len - length left) held ≡ left

@@ -69,7 +69,7 @@ last_is limits log are =
 -- ---- the tail
 
 -- a torn tail is not empty
-torn_some : (limits : Limits) (rest : List ℕ) → IsTorn limits rest → 0 < length rest
+pub torn_some : (limits : Limits) (rest : List ℕ) → IsTorn limits rest → 0 < length rest
 torn_some limits rest (inl few) = few.0
 torn_some limits rest (inr cut) = let all = ap length cut.spelled in omega (arith, all)
 

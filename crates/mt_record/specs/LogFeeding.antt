@@ -19,12 +19,13 @@ use Rattle.mt_record.specs.Feeding.{Steps, Fed, IsFedBy}
 -- ---- what was read
 
 -- What was read of a log: its header, if complete, and the records not yet taken.
--- `latest` is the timestamp of the last record, and `whole` the number of records; both include the records taken.
+-- `latest` is the timestamp of the last record, `whole` the number of records, and `end` that of the bytes read; all include the records taken.
 pub record LogSoFar : Type 0 where
   pub head : Option Head
   pub ready : List Logged
   pub latest : ℕ
   pub whole : ℕ
+  pub end : ℕ
 
 -- the bytes read are a header and lawful records, or nothing; the records are those taken and then those not yet taken
 pub record HoldsLog (taken : List Logged) (so_far : LogSoFar) (front : List ℕ) : Type 0 where
@@ -32,6 +33,7 @@ pub record HoldsLog (taken : List Logged) (so_far : LogSoFar) (front : List ℕ)
   pub lawful : MatchOption so_far.head (taken ++ so_far.ready ≡ []) (λ head. IsHead head × AreRecords (limits_of head.format) 0 (taken ++ so_far.ready))
   pub latest : so_far.latest ≡ latest 0 (taken ++ so_far.ready)
   pub whole : so_far.whole ≡ count_of (taken ++ so_far.ready)
+  pub end : so_far.end ≡ count_of front
 
 -- nothing more can be read from the rest, and it shows no fault
 abbrev pub IsLogLeft : LogSoFar → List ℕ → Type 0
@@ -69,7 +71,7 @@ ShowsNoFault bytes = (fault : FeedFault) → ShowsFault bytes fault → ⊥
 
 -- what was read, as contracts see it; `listed` gives the records in the collection that the feed fills
 abbrev pub log_so_far : {R : Type 0} → (R → List Logged) → LogItems R → LogSoFar
-log_so_far listed items = record { head = items.head; ready = listed items.ready; latest = items.latest; whole = items.whole }
+log_so_far listed items = record { head = items.head; ready = listed items.ready; latest = items.latest; whole = items.whole; end = items.end }
 
 -- one step of reading a log
 abbrev pub StepsLog : {R : Type 0} → (R → List Logged) → LogItems R → LogItems R → List ℕ → Result (Option (Bor (List ℕ))) FeedFault → Type 0

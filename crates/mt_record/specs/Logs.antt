@@ -37,6 +37,10 @@ IsCut IsLength rest = ((0 < length rest) × (length rest < 4)) ⊎ IsCutFrame Is
 abbrev pub IsTorn : Limits → List ℕ → Type 0
 IsTorn limits rest = IsCut (IsRecordLength limits) rest
 
+-- the bytes of a header and these records
+abbrev pub log_bytes : Head → List Logged → List ℕ
+log_bytes head records = head_bytes head ++ flat_map spelling records
+
 -- a log: its header, its records, and a tail that is empty or torn
 pub record IsLog (bytes : List ℕ) (head : Head) (records : List Logged) (tail : List ℕ) : Type 0 where
   pub spelled : bytes ≡ head_bytes head ++ (flat_map spelling records ++ tail)
@@ -67,9 +71,9 @@ IsGreatestOf times n = Contains times n × All (λ time. time ≤ n) times
 abbrev pub IsLast : LogReading → ℕ → Type 0
 IsLast log n = IsGreatestOf (times_of log) n
 
--- the number of records, or 2^64 - 1 if there are more
-abbrev pub count_of : List Logged → ℕ
-count_of records = min (length records) (2 ^ 64 - 1)
+-- the number of items, or 2^64 - 1 if there are more
+abbrev pub count_of : {T : Type 0} → List T → ℕ
+count_of items = min (length items) (2 ^ 64 - 1)
 
 -- the `LogText` agrees with the log; its own records, as `listed` gives them, come after those taken before
 pub record ShowsIn {R : Type 0} (listed : R → List Logged) (taken : List Logged) (text : LogText R) (log : LogReading) : Type 0 where
@@ -78,6 +82,7 @@ pub record ShowsIn {R : Type 0} (listed : R → List Logged) (taken : List Logge
   pub last : IsLast log text.last
   pub records : taken ++ listed text.records ≡ log.records
   pub whole : text.whole ≡ count_of log.records
+  pub end : text.end ≡ count_of (log_bytes log.head log.records)
   pub torn : text.torn ≡ log.torn
 
 -- the bytes are a log, and the `LogText` agrees with it, after the records taken before

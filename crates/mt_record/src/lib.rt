@@ -11,6 +11,7 @@
 mod body;
 mod encode;
 mod feed;
+mod front;
 mod kept;
 mod laws;
 mod part_text;
@@ -21,8 +22,10 @@ pub use body::lent_writes::LentWrites;
 pub use encode::parts::{encode_part, encode_part_2};
 pub use encode::updates::body_of_update;
 pub use encode::{encode_log_header, encode_log_header_2, encode_log_header_3, encode_record};
+pub use feed::head::Head;
 pub use feed::log_feed::LogFeed;
 pub use feed::part_feed::PartFeed;
+pub use front::{LogFront, Rest};
 pub use kept::log::{Dropped, KeptRecords};
 pub use kept::part::KeptEntries;
 pub use kept::texts::Texts;

@@ -22,6 +22,9 @@ pub struct LogText<R = Vec<Record>> {
     pub records: R,
     /// The number of complete records, with those that were taken before, counted up to 2^64 - 1.
     pub whole: u64,
+    /// Where the complete records end: the number of bytes of the header and of all complete records, counted up to
+    /// 2^64 - 1.
+    pub end: u64,
     /// Whether a torn tail follows the complete records.
     pub torn: bool,
 }

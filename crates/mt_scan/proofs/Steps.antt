@@ -63,7 +63,7 @@ pub scanned : (log : ℕ) (told : Option (List ℕ)) (bytes : List ℕ) (answer 
 scanned log told bytes (Ok scan) agrees is = (bytes, agrees, is)
 scanned log told bytes (Err fault) agrees is = tt
 
-pub faulty : (log : ℕ) (told : Option (List ℕ)) (bytes : List ℕ) (answer : Result LogScan Fault) → Agrees told bytes → IfErr answer (IsLogVerdict log bytes)
+pub faulty : {X : Type 0} (log : ℕ) (told : Option (List ℕ)) (bytes : List ℕ) (answer : Result X Fault) → Agrees told bytes → IfErr answer (IsLogVerdict log bytes)
     → IfErr answer (λ fault. OfTold told (λ bytes. IsScanFault log bytes fault))
 faulty log told bytes (Ok scan) agrees is = tt
 faulty log told bytes (Err fault) agrees is = (bytes, agrees, subst (IsScanFault log bytes) (sym is.is) (answered log bytes is.of_bytes is.answered))

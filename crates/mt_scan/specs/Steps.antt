@@ -1,6 +1,7 @@
 -- What private contracts, models of types and proofs say. No public contract names these definitions.
 pub mod DroppingFeeds
 pub mod Feeding
+pub mod Checking
 pub mod Lasts
 pub mod Rising
 pub mod Checkpoints

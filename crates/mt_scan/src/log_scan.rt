@@ -17,6 +17,8 @@ pub struct LogScan {
     pub last: u64,
     /// The number of complete records.
     pub whole: u64,
+    /// Where they end: the number of bytes of the header and of the complete records, counted up to 2^64 - 1.
+    pub end: u64,
     /// The number of marks among them.
     pub marks: u64,
     /// The updates that the scan kept, with the records that they are borrowed from.
@@ -56,6 +58,7 @@ pub(crate) fn scan_of(
         last,
         records,
         whole,
+        end,
         torn,
     } = text;
     let records = match kept {
@@ -67,6 +70,7 @@ pub(crate) fn scan_of(
         writer,
         last,
         whole,
+        end,
         marks: records.marks().saturating_add(marks),
         updates: Updates::of(log, records),
         dropped,

@@ -23,7 +23,7 @@ pub const HEADER_BYTES: usize = 12;
 pub const SEGMENT_HEADER_BYTES: usize = 20;
 
 /// The header of a log.
-#[derive(Clone, Copy)]
+#[derive(Clone, Copy, Debug)]
 pub struct Head {
     /// The format of the records.
     pub format: Format,

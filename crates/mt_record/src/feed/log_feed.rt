@@ -2,13 +2,18 @@
 ghost use Rattle.std.specs.Prelude.{◌≡◌, ◌++◌, [], List, ℕ, Some, None, IsSome, IfOk, IfErr, OnOk};
 ghost use Rattle.mt_words.specs.Changes.{Logged};
 ghost use Rattle.mt_record.specs.declared.read.FeedFault.{FeedFault as FaultValue};
-ghost use Rattle.mt_record.specs.Cutting.{IsCountOf};
+ghost use Rattle.mt_record.specs.declared.read.FeedFault.TheVariants as faults;
+ghost use Rattle.mt_words.specs.declared.fault.What.{What as WhatValue};
+ghost use Rattle.mt_record.specs.declared.front.Rest.TheVariants.{Faulty};
+ghost use Rattle.mt_record.specs.Cutting.{IsCountOf, HasCut};
 ghost use Rattle.mt_record.specs.Logs.{IsTextIn};
 ghost use Rattle.mt_record.specs.LogFaults.{IsAnswered};
+ghost use Rattle.mt_record.specs.LogFronts.{IsFrontOf};
 ghost use Rattle.mt_record.specs.LogFeeding.{IsLogFed, ShowsNoFault, IsShown};
 
 use crate::feed::Feed;
 use crate::feed::log_items::LogItems;
+use crate::front::{LogFront, Rest};
 use crate::kept::Records;
 use crate::kept::log::{Dropped, KeptRecords};
 use crate::read::{FeedFault, LogText};
@@ -94,6 +99,19 @@ impl LogFeed<KeptRecords> {
     {
         self.feed.items.ready.clear()
     }
+
+    /// Drops the records that `take_kept` would take. Returns first how many updates and marks at or past `limit` they
+    /// were, and then how many of the others.
+    pub fn drop_at(&mut self, limit: u64) -> (Dropped, Dropped)
+        ensures fed { (bytes : List ℕ) (taken : List Logged) → IsLogFed self.old bytes taken →
+            IsLogFed self.new bytes (taken ++ self.old.so_far.ready) }
+        ensures gone { (before : List Logged) × HasCut limit self.old.so_far.ready before result.0 × IsCountOf before result.1 }
+        ensures rest { self.new ≡ record self.old { so_far = record self.old.so_far { ready = [] } } }
+    {
+        let ready = &mut self.feed.items.ready;
+        let late = ready.cut(limit);
+        (late, ready.clear())
+    }
 }
 
 impl<R: Records> LogFeed<R> {
@@ -108,6 +126,7 @@ impl<R: Records> LogFeed<R> {
             ready: records,
             latest: 0,
             whole: 0,
+            end: 0,
         };
         LogFeed {
             feed: Feed::new(alloc, items),
@@ -147,5 +166,32 @@ impl<R: Records> LogFeed<R> {
         }
         let torn = !self.feed.held.is_empty();
         self.feed.items.finish(torn)
+    }
+
+    /// Returns how far the bytes are a log, which may have a fault behind its records.
+    /// Err: the bytes have no header, or `Memory` if an allocation failed.
+    pub fn front(&self) -> Result<LogFront, FeedFault>
+        ensures front { (bytes : List ℕ) (taken : List Logged) → IsLogFed self.now bytes taken →
+            IfOk result (IsFrontOf bytes (taken ++ self.now.so_far.ready)) }
+        ensures fault { (bytes : List ℕ) (taken : List Logged) → IsLogFed self.now bytes taken →
+            IfErr result (IsAnswered bytes) }
+    {
+        let rest = match self.feed.fault {
+            Some(fault) => rest_of(fault)?,
+            None if self.feed.held.is_empty() => Rest::Nothing,
+            None => Rest::Torn,
+        };
+        self.feed.items.front(rest)
+    }
+}
+
+/// Returns what stands behind the records of a log with this fault. Err: the fault, if it is not that of a record.
+fn rest_of(fault: FeedFault) -> Result<Rest, FeedFault>
+    ensures rest { IfOk result (λ rest. (nth : ℕ) × (what : WhatValue) × (fault ≡ faults.Record nth what) × (rest ≡ Faulty what)) }
+    ensures other { IfErr result (λ other. other ≡ fault) }
+{
+    match fault {
+        FeedFault::Record { nth: _, what } => Ok(Rest::Faulty(what)),
+        other => Err(other),
     }
 }

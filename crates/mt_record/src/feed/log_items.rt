@@ -1,6 +1,7 @@
 //! The items of a log, in order: its header and its records.
 ghost use Rattle.std.specs.Prelude.{◌≡◌, ◌==◌, List, ℕ, None, Some, length, not, IfOk, IfErr};
 ghost use Rattle.mt_words.specs.Changes.{Logged};
+ghost use Rattle.mt_record.specs.declared.read.FeedFault.TheVariants as faults;
 ghost use Rattle.mt_record.specs.Logs.{IsTextIn};
 ghost use Rattle.mt_record.specs.LogFaults.{IsAnswered};
 ghost use Rattle.mt_record.specs.Feeding.{HoldsAll};
@@ -10,6 +11,7 @@ use crate::feed::frame::{frame_wanted, next_record};
 use crate::feed::head::{Head, head_bytes_wanted, next_header};
 use crate::feed::items::{Items, Step};
 use crate::feed::magic::NoMagic;
+use crate::front::{LogFront, Rest};
 use crate::kept::Records;
 use crate::read::{FeedFault, LogText};
 
@@ -24,6 +26,8 @@ pub struct LogItems<R: Records> {
     pub latest: u64,
     /// The number of records that were read, counted up to 2^64 - 1.
     pub whole: u64,
+    /// The number of bytes of the header and the records that were read, counted up to 2^64 - 1.
+    pub end: u64,
 }
 
 impl<R: Records> Items for LogItems<R> {
@@ -64,6 +68,7 @@ impl<R: Records> LogItems<R> {
         match next_header(bytes) {
             Ok(Some((head, after))) => {
                 self.head = Some(head);
+                self.end = (bytes.len() - after.len()) as u64;
                 Ok(Some(after))
             }
             Ok(None) => Ok(None),
@@ -81,6 +86,7 @@ impl<R: Records> LogItems<R> {
                 self.ready.put_record(body)?;
                 self.latest = timestamp;
                 self.whole = self.whole.saturating_add(1);
+                self.end = self.end.saturating_add((bytes.len() - after.len()) as u64);
                 Ok(Some(after))
             }
             Ok(None) => Ok(None),
@@ -89,6 +95,21 @@ impl<R: Records> LogItems<R> {
                 Err(FeedFault::Record { nth, what })
             }
         }
+    }
+
+    /// Returns what was read, with what stands behind it. Err: no header was read.
+    pub fn front(&self, rest: Rest) -> Result<LogFront, FeedFault>
+        ensures front { IfOk result (λ front. (self.now.head ≡ Some front.head) × (front ≡ record { head = front.head; whole = self.now.whole; latest = self.now.latest; end = self.now.end; rest = rest })) }
+        ensures none { IfErr result (λ fault. (fault ≡ faults.Header) × (self.now.head ≡ None)) }
+    {
+        let head = self.head.ok_or(FeedFault::Header)?;
+        Ok(LogFront {
+            head,
+            whole: self.whole,
+            latest: self.latest,
+            end: self.end,
+            rest,
+        })
     }
 
     /// Returns what was read, as a log with or without a torn tail. Err: the header is cut short.
@@ -105,6 +126,7 @@ impl<R: Records> LogItems<R> {
             ready,
             latest,
             whole,
+            end,
         } = self;
         let Some(head) = head else {
             return Err(FeedFault::Header);
@@ -115,6 +137,7 @@ impl<R: Records> LogItems<R> {
             last: head.from.max(latest),
             records: ready,
             whole,
+            end,
             torn,
         })
     }

@@ -37,7 +37,7 @@ impl Model for KeptRecords {
 
 impl KeptRecords {
     /// Creates an empty list of records.
-    pub(crate) fn new(alloc: Global) -> KeptRecords
+    pub fn new(alloc: Global) -> KeptRecords
         ensures { result ≡ [] }
     {
         KeptRecords {

@@ -53,6 +53,7 @@ scan_from log text kept dropped marks = record {
   writer = text.writer;
   last = text.last;
   whole = text.whole;
+  end = text.end;
   marks = min (count_of (filter is_mark (kept_in kept text)) + marks) (2 ^ 64 - 1);
   updates = record { log = log; records = kept_in kept text };
   dropped = dropped;

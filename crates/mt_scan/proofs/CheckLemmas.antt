@@ -1,0 +1,200 @@
+-- The counts of a check.
+use Rattle.std.proofs.Common.{◌≡◌, ◌∙◌, ◌⊎◌, inl, inr, ℕ, ◌+◌, ◌-◌, ◌<◌, ◌≤◌, ◌^◌, min, max, Bool, true, false, List, [], ◌∷◌, ◌++◌, length, Option, Some, None, refl, sym, ap, subst, append_assoc, arith, cond}
+use Rattle.std.specs.Prelude.{◌&&◌, ◌↔◌, not, nat_le, IsTrue}
+use Rattle.std.proofs.lemmas.Bool.{false≢true}
+use Rattle.std.specs.List.{All, filter, flat_map}
+use Rattle.std.proofs.lemmas.Bool.Decides.{nat_tests}
+use Rattle.std.proofs.lemmas.List.{length-append}
+use Rattle.std.proofs.lemmas.List.Elements.{All-head, All-tail, filter-append}
+use Rattle.mt_words.specs.declared.fault.Fault.TheVariants as of_all
+use Rattle.mt_words.specs.declared.fault.What.{What}
+use Rattle.mt_words.specs.declared.limits.Limits.{Limits}
+use Rattle.mt_words.specs.Limits.{limits_of}
+use Rattle.mt_words.specs.Changes.{Logged, is_mark}
+use Rattle.mt_words.specs.Updates.{updates_from}
+use Rattle.mt_record.specs.Fronts.{bytes_of}
+use Rattle.mt_record.specs.Heads.{head_bytes}
+use Rattle.mt_record.specs.Spelling.{spelling}
+use Rattle.mt_record.specs.Logs.{latest, LogReading, IsLast, IsTorn}
+use Rattle.mt_record.specs.LogFronts.{IsRest}
+use Rattle.mt_record.specs.declared.front.Rest.{Rest}
+use Rattle.mt_record.specs.declared.front.Rest.TheVariants.{Nothing, Torn, Faulty}
+use Rattle.mt_record.proofs.Records.{last_is, torn_some}
+use Rattle.mt_record.specs.declared.read.FeedFault.{FeedFault}
+use Rattle.mt_record.specs.declared.kept.log.Dropped.{Dropped}
+use Rattle.mt_record.specs.Cutting.{HasCut, IsCountOf}
+use Rattle.mt_record.specs.LogFeeding.{IsLogFed, FedLog, HoldsLog}
+use Rattle.mt_scan.specs.declared.checking.CheckingFeed.{CheckingFeed}
+use Rattle.mt_scan.specs.declared.checking.LogCheck.{LogCheck}
+use Rattle.mt_scan.specs.Checks.{is_late, IsCheckOf}
+use Rattle.mt_scan.specs.Scans.{IsScanFault}
+use Rattle.mt_scan.specs.Dropping.{HasAllBelow}
+use Rattle.mt_scan.specs.Steps.Checking.{HasCounted}
+use Rattle.mt_scan.proofs.Rises.{Rise, read_rise, rise_front, rise_behind, cut_below}
+use Rattle.mt_record.proofs.RecordLemmas.{marks_and_updates}
+use Rattle.mt_scan.proofs.DroppingFeeds.{count_both}
+use Rattle.mt_scan.proofs.SharedScans.{spelled_long}
+
+-- with a fault or without, the feed has read a front of the bytes
+has_read : (feed : FedLog) (bytes : List ℕ) (taken : List Logged) → IsLogFed feed bytes taken → (front rest : List ℕ) × (bytes ≡ front ++ rest) × HoldsLog taken feed.so_far front
+has_read feed bytes taken fed = by feed.fault refl
+  where
+    by : (fault : Option FeedFault) → feed.fault ≡ fault → (front rest : List ℕ) × (bytes ≡ front ++ rest) × HoldsLog taken feed.so_far front
+    by None is = let held = fed.0 is in (held.0.front, feed.held, held.0.joins, held.0.read)
+    by (Some fault) is = let shown = fed.1 fault is in (shown.read.front, shown.shown ++ shown.more, shown.read.joins, shown.read.read)
+
+-- there are no more records than bytes
+few_read : (feed : FedLog) (bytes : List ℕ) (taken : List Logged) → IsLogFed feed bytes taken → length (taken ++ feed.so_far.ready) ≤ length bytes
+few_read feed bytes taken fed =
+    let (front, rest, joins, read) = has_read feed bytes taken fed in
+    let records = taken ++ feed.so_far.ready in
+    omega (arith, ap length joins, length-append front rest, ap length read.spelled, length-append (bytes_of head_bytes feed.so_far.head) (flat_map spelling records), spelled_long records)
+
+rise_low : (low : ℕ) (xs : List Logged) → Rise low xs → Rise 0 xs
+rise_low low [] rise = tt
+rise_low low (x ∷ xs) rise = (omega arith, rise.1)
+
+-- none of the records below the limit is late
+none_late : (limit : ℕ) (xs : List Logged) → All (λ r. r.timestamp < limit) xs → length (filter (is_late limit) xs) ≡ 0
+none_late limit [] all = refl
+none_late limit (x ∷ xs) all =
+    let below = All-head (λ (r : Logged). r.timestamp < limit) x xs all in
+    let early : nat_le limit x.timestamp ≡ false = grind (arith, nat_tests) in
+    ap (λ b. length (cond (not (is_mark x) && b) (x ∷ filter (is_late limit) xs) (filter (is_late limit) xs))) early
+    ∙ by (is_mark x)
+    ∙ none_late limit xs (All-tail (λ (r : Logged). r.timestamp < limit) x xs all)
+  where
+    by : (mark : Bool) → length (cond (not mark && false) (x ∷ filter (is_late limit) xs) (filter (is_late limit) xs)) ≡ length (filter (is_late limit) xs)
+    by true = refl
+    by false = refl
+
+-- of the records past the limit, those are late that are no marks
+all_late : (limit : ℕ) (xs : List Logged) → All (λ r. limit ≤ r.timestamp) xs → length (filter (is_late limit) xs) + length (filter is_mark xs) ≡ length xs
+all_late limit [] all = refl
+all_late limit (x ∷ xs) all =
+    let past = All-head (λ (r : Logged). limit ≤ r.timestamp) x xs all in
+    let late : nat_le limit x.timestamp ≡ true = grind (arith, nat_tests) in
+    let rest = all_late limit xs (All-tail (λ (r : Logged). limit ≤ r.timestamp) x xs all) in
+    ap (λ b. length (cond (not (is_mark x) && b) (x ∷ filter (is_late limit) xs) (filter (is_late limit) xs)) + length (cond (is_mark x) (x ∷ filter is_mark xs) (filter is_mark xs))) late
+    ∙ by rest (is_mark x)
+  where
+    by : length (filter (is_late limit) xs) + length (filter is_mark xs) ≡ length xs → (mark : Bool)
+        → length (cond (not mark && true) (x ∷ filter (is_late limit) xs) (filter (is_late limit) xs)) + length (cond mark (x ∷ filter is_mark xs) (filter is_mark xs)) ≡ length (x ∷ xs)
+    by rest true = omega (arith, rest)
+    by rest false = omega (arith, rest)
+
+-- there are no more marks than records
+most_marks : (rs : List Logged) → length (filter is_mark rs) ≤ length rs
+most_marks rs = omega (arith, marks_and_updates 0 0 rs)
+
+most_late : (limit : ℕ) (rs : List Logged) → length (filter (is_late limit) rs) ≤ length rs
+most_late limit [] = omega arith
+most_late limit (r ∷ rs) = by (most_late limit rs) (is_late limit r)
+  where
+    by : length (filter (is_late limit) rs) ≤ length rs → (late : Bool) → length (cond late (r ∷ filter (is_late limit) rs) (filter (is_late limit) rs)) ≤ length (r ∷ rs)
+    by rest true = omega (arith, rest)
+    by rest false = omega (arith, rest)
+
+late_both : (limit : ℕ) (xs ys : List Logged) → length (filter (is_late limit) (xs ++ ys)) ≡ length (filter (is_late limit) xs) + length (filter (is_late limit) ys)
+late_both limit xs ys = ap length (filter-append (is_late limit) xs ys) ∙ length-append (filter (is_late limit) xs) (filter (is_late limit) ys)
+
+-- one more chunk was fed, and its records were counted and dropped
+pub counts_more : (old new : CheckingFeed) (fed : FedLog) (before bytes : List ℕ) (late others : Dropped) → HasCounted old before → length bytes < 2 ^ 64 → new.limit ≡ old.limit
+    → ((records : List Logged) → IsLogFed old.feed before records → IsLogFed fed bytes records)
+    → ((records : List Logged) → IsLogFed fed bytes records → IsLogFed new.feed bytes (records ++ fed.so_far.ready))
+    → new.feed ≡ record fed { so_far = record fed.so_far { ready = [] } }
+    → (kept : List Logged) × HasCut old.limit fed.so_far.ready kept late × IsCountOf kept others
+    → new.late ≡ min (old.late + late.updates) (2 ^ 64 - 1) → new.marks ≡ min (min (old.marks + late.marks) (2 ^ 64 - 1) + others.marks) (2 ^ 64 - 1)
+    → HasCounted new bytes
+counts_more old new fed before bytes late others h small same feeds drops dropped (kept, cut, counted) lates marks =
+    let limit = old.limit in
+    let ready = fed.so_far.ready in
+    let was = feeds h.records h.fed in
+    let (front, rest, joins, read) = has_read fed bytes h.records was in
+    let number = few_read fed bytes h.records was in
+    let rise = rise_behind 0 h.records ready (read_rise h.records fed.so_far front read) in
+    let kept_rise = rise_low (latest 0 h.records) kept (rise_front (latest 0 h.records) kept cut.late (subst (Rise (latest 0 h.records)) cut.joins rise)) in
+    let none = none_late limit kept (cut_below limit limit kept kept_rise cut.ends (omega arith)) in
+    let all = all_late limit cut.late cut.past in
+    let marks_in : length (filter is_mark ready) ≡ length (filter is_mark (kept ++ cut.late)) = ap (λ (rs : List Logged). length (filter is_mark rs)) cut.joins in
+    let late_in : length (filter (is_late limit) ready) ≡ length (filter (is_late limit) (kept ++ cut.late)) = ap (λ (rs : List Logged). length (filter (is_late limit) rs)) cut.joins in
+    let all_marks = most_marks (h.records ++ ready) in
+    record {
+      records = h.records ++ ready;
+      fed = drops h.records was;
+      none = ap (λ (f : FedLog). f.so_far.ready) dropped;
+      few = omega (arith, number, small);
+      marks = omega (arith, number, small, all_marks, marks, h.marks, marks_in, count_both h.records ready, count_both kept cut.late, cut.counted.marks, counted.marks);
+      late = rw same (omega (arith, number, small, most_late limit (h.records ++ ready), lates, h.late, late_in, none, all, late_both limit h.records ready, late_both limit kept cut.late, cut.counted.marks, cut.counted.count));
+    }
+
+-- ---- the scan of a check
+
+nothing_lost : (log nth : ℕ) (rs : List Logged) → All (λ u. 0 ≤ u.timestamp) (updates_from log nth rs)
+nothing_lost log nth rs k d lt = omega arith
+
+-- what is behind the records is empty or torn, as the scan says
+has_end : (limits : Limits) (low : ℕ) (tail : List ℕ) (rest : Rest) (torn : Bool) → IsRest limits low tail rest → ((rest ≡ Nothing) × (torn ≡ false)) ⊎ ((rest ≡ Torn) × (torn ≡ true))
+    → ((tail ≡ []) ⊎ IsTorn limits tail) × (IsTrue torn ↔ IsTorn limits tail)
+has_end limits low tail rest torn is (inl (nothing, not_torn)) =
+    let empty : tail ≡ [] = rw nothing at is in
+    (inl empty, (λ yes. absurd (false≢true (sym not_torn ∙ yes)), λ cut. absurd (let some = torn_some limits tail cut in let none = ap length empty in omega (arith, some, none))))
+has_end limits low tail rest torn is (inr (cut, is_torn)) =
+    let torn_is : IsTorn limits tail = rw cut at is in
+    (inr torn_is, (λ yes. torn_is, λ other. is_torn))
+
+-- a scan without updates, of a log whose records are followed by nothing or a torn tail
+pub scan_of_check : (log limit : ℕ) (bytes : List ℕ) (check : LogCheck) (torn : Bool) (last dropped : ℕ) → IsCheckOf limit bytes check
+    → ((check.front.rest ≡ Nothing) × (torn ≡ false)) ⊎ ((check.front.rest ≡ Torn) × (torn ≡ true))
+    → last ≡ max check.front.head.from check.front.latest → dropped ≡ check.front.whole - check.marks
+    → HasAllBelow 0 log bytes (record { from = check.front.head.from; writer = check.front.head.writer; last = last; whole = check.front.whole; end = check.front.end; marks = check.marks; updates = record { log = log; records = [] }; dropped = dropped; torn = torn })
+scan_of_check log limit bytes check torn last dropped is ends last_is_max dropped_is =
+    let front = is.front in
+    let head = check.front.head in
+    let limits = limits_of head.format in
+    let reading : LogReading = record { head = head; records = is.records; torn = torn } in
+    let end = has_end limits (latest 0 is.records) front.rest check.front.rest torn front.is_rest ends in
+    let time : last ≡ max head.from (latest 0 is.records) = last_is_max ∙ ap (λ (n : ℕ). max head.from n) front.latest in
+    record {
+      log = reading;
+      is_reading = record {
+        tail = front.rest;
+        is_log = record { spelled = front.spelled ∙ append_assoc (head_bytes head) (flat_map spelling is.records) front.rest; is_head = front.is_head; lawful = front.lawful; ends = end.0 };
+        torn = end.1;
+      };
+      shows = record {
+        numbers = record {
+          from = refl;
+          writer = refl;
+          last = subst (λ (n : ℕ). IsLast reading n) (sym time) (last_is limits reading front.lawful);
+          whole = is.whole;
+          end = front.end;
+          marks = is.marks;
+          torn = refl;
+        };
+        lost = updates_from log 0 is.records;
+        updates = refl;
+        past = nothing_lost log 0 is.records;
+        dropped = omega (arith, dropped_is, is.whole, is.marks, marks_and_updates log 0 is.records);
+      };
+    }
+
+-- the fault of a log whose records are followed by one
+pub fault_of_check : (log limit : ℕ) (bytes : List ℕ) (check : LogCheck) (what : What) → IsCheckOf limit bytes check → check.front.rest ≡ Faulty what → IsScanFault log bytes (of_all.Record log check.front.whole what)
+fault_of_check log limit bytes check what is faulty =
+    let front = is.front in
+    let head = check.front.head in (
+      refl,
+      record {
+        records = is.records;
+        fault = record {
+          head = head;
+          rest = front.rest;
+          spelled = front.spelled ∙ append_assoc (head_bytes head) (flat_map spelling is.records) front.rest;
+          is_head = front.is_head;
+          lawful = front.lawful;
+          fault = rw faulty at front.is_rest;
+        };
+        number = front.whole;
+      },
+    )
