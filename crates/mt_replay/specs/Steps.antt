@@ -2,4 +2,5 @@
 pub mod Walker
 pub mod Bodies
 pub mod SortedUpdates
+pub mod Fronts
 pub mod Auditor

@@ -1,13 +1,14 @@
-//! Updates that are borrowed from their bodies, each with the slices of its key: which of them survive, and their
-//! order.
-ghost use Rattle.std.specs.Prelude.{◌≡◌, ◌≤◌, ◌↔◌, ◌++◌, false, IsTrue, MatchOption, OnOk, IsPermutation, length, filter};
+//! Updates that are borrowed from their bodies, each with the slices of its key: which of them survive, and how their
+//! keys compare.
+ghost use Rattle.std.specs.Prelude.{◌≡◌, ◌≤◌, ◌↔◌, ◌++◌, false, IsTrue, MatchOption, OnOk, filter, drop};
 ghost use Rattle.std.specs.Ordering.{nat_cmp};
 ghost use Rattle.std.specs.Cmp.Lexicographic.{slice_cmp};
 ghost use Rattle.mt_words.specs.Limits.{widest};
 ghost use Rattle.mt_words.specs.Words.{IsKey};
 ghost use Rattle.mt_words.specs.Updates.{as_list};
 ghost use Rattle.mt_replay.specs.Survivors.{in_window};
-ghost use Rattle.mt_replay.specs.Cuts.{InKeyOrder};
+ghost use Rattle.mt_replay.specs.Steps.SortedUpdates.{IsSliced};
+ghost use Rattle.mt_replay.specs.Steps.Fronts.{front_of, front_cmp, rest_cmp, AreAlike};
 
 use crate::Window;
 use mt_record::Lent;
@@ -18,17 +19,41 @@ use std::marker::Model;
 /// The number of bytes in two slices.
 const TWO_SLICES: usize = 16;
 
-/// An update with the first two slices of its key, and the length of the key. Comparing keys of at most 16 bytes reads
-/// no body.
+/// The front of some bytes: their first two slices, and how many they are, counted up to 17. It tells all of at most 16
+/// bytes.
+#[derive(Clone, Copy)]
+struct Front {
+    slice: u64,
+    second: u64,
+    length: u32,
+}
+
+impl Front {
+    /// Returns the front of these bytes.
+    fn of(bytes: &[u8]) -> Front
+        ensures { IsSliced result.slice result.second result.length bytes.now }
+    {
+        Front {
+            slice: slice_of(bytes),
+            second: slice_at(bytes, 8),
+            length: bytes.len().min(TWO_SLICES + 1) as u32,
+        }
+    }
+}
+
+/// An update with the front of what follows the first `depth` bytes of its key. If fronts decide, comparing keys reads
+/// no body. The fields of the front stand here, so that a `Sliced` has 64 bytes.
 #[derive(Drop)]
 pub(crate) struct Sliced<'a> {
     slice: u64,
     second: u64,
-    length: usize,
+    length: u32,
+    depth: u32,
     update: Lent<'a>,
 }
 
 impl<'a> Model for Sliced<'a> {
+    ghost use Rattle.std.specs.Prelude.{drop};
     ghost use Rattle.mt_words.specs.declared.update.Update.{Update};
     ghost use Rattle.mt_replay.specs.Steps.SortedUpdates.{IsSliced};
 
@@ -36,21 +61,33 @@ impl<'a> Model for Sliced<'a> {
 
     ghost view = { λ s. s.update };
 
-    ghost invariant = { λ s. IsSliced s.slice s.second s.length s.update.key };
+    ghost invariant = { λ s. IsSliced s.slice s.second s.length (drop s.depth s.update.key) };
 }
 
 impl<'a> Sliced<'a> {
-    /// Returns the update with the slices and the length of its key.
+    /// Returns the update with the front of its key.
     pub(crate) fn of(update: Lent<'a>) -> Sliced<'a>
         ensures { result ≡ update.entry }
     {
-        let key = update.key();
+        let front = Front::of(update.key());
         Sliced {
-            slice: slice_of(key),
-            second: slice_at(key, 8),
-            length: key.len(),
+            slice: front.slice,
+            second: front.second,
+            length: front.length,
+            depth: 0,
             update,
         }
+    }
+
+    /// Takes the front of what follows the first `depth` bytes of the key.
+    pub(crate) fn cut(&mut self, depth: u32)
+        ensures { self.new ≡ self.old }
+    {
+        let front = Front::of(rest_of(self.key(), depth));
+        self.slice = front.slice;
+        self.second = front.second;
+        self.length = front.length;
+        self.depth = depth;
     }
 
     /// Returns the update.
@@ -72,17 +109,73 @@ impl<'a> Sliced<'a> {
     pub(crate) fn compare(&self, other: &Sliced<'_>) -> Ordering
         ensures { result ≡ slice_cmp nat_cmp self.now.key other.now.key }
     {
-        if self.slice != other.slice {
-            return self.slice.cmp(&other.slice);
-        }
-        if self.second != other.second {
-            return self.second.cmp(&other.second);
-        }
-        if self.length <= TWO_SLICES && other.length <= TWO_SLICES {
-            return self.length.cmp(&other.length);
-        }
-        self.key().cmp(other.key())
+        self.compare_from(other, 0)
     }
+
+    /// Compares what follows the first `depth` bytes of two keys. It reads bodies only if the fronts do not decide, or
+    /// are of another depth.
+    pub(crate) fn compare_from(&self, other: &Sliced<'_>, depth: u32) -> Ordering
+        ensures { result ≡ rest_cmp depth self.now other.now }
+    {
+        let order = self.compare_front(other, depth);
+        if order.is_ne() || !self.is_long(depth) {
+            return order;
+        }
+        rest_of(self.key(), depth).cmp(rest_of(other.key(), depth))
+    }
+
+    /// Compares the fronts of what follows the first `depth` bytes of two keys.
+    pub(crate) fn compare_front(&self, other: &Sliced<'_>, depth: u32) -> Ordering
+        ensures { result ≡ front_cmp (front_of depth self.now) (front_of depth other.now) }
+    {
+        let first = self.front(depth);
+        let second = other.front(depth);
+        if first.slice != second.slice {
+            return first.slice.cmp(&second.slice);
+        }
+        if first.second != second.second {
+            return first.second.cmp(&second.second);
+        }
+        first.length.cmp(&second.length)
+    }
+
+    /// Returns whether both have one front, which does not tell all that follows the first `depth` bytes of their keys.
+    pub(crate) fn is_alike(&self, other: &Sliced<'_>, depth: u32) -> bool
+        ensures { IsTrue result ↔ AreAlike depth self.now other.now }
+    {
+        self.is_long(depth) && self.compare_front(other, depth).is_eq()
+    }
+
+    /// Returns whether more than 16 bytes follow the first `depth` bytes of the key.
+    pub(crate) fn is_long(&self, depth: u32) -> bool
+        ensures { IsTrue result ↔ ((front_of depth self.now).1 ≡ 17) }
+    {
+        self.front(depth).length as usize > TWO_SLICES
+    }
+
+    /// Returns the front of what follows the first `depth` bytes of the key.
+    fn front(&self, depth: u32) -> Front
+        ensures { IsSliced result.slice result.second result.length (drop depth self.now.key) }
+    {
+        if self.depth != depth {
+            return Front::of(rest_of(self.key(), depth));
+        }
+        Front {
+            slice: self.slice,
+            second: self.second,
+            length: self.length,
+        }
+    }
+}
+
+/// Returns what follows the first `depth` bytes of a key.
+pub(crate) fn rest_of(key: &[u8], depth: u32) -> &[u8]
+    ensures { result.now ≡ drop depth key.now }
+{
+    if key.len() <= depth as usize {
+        return &[];
+    }
+    &key[depth as usize..]
 }
 
 /// Returns whether the update is of the same key as the first one, if there is a first one.
@@ -111,16 +204,4 @@ pub(crate) fn add_survivor<'a>(
     }
     sliced.push(Sliced::of(update))?;
     Ok(())
-}
-
-/// Sorts updates by their keys. The updates of one key come out in any order.
-pub(crate) fn sort_by_key(updates: &mut Vec<Sliced<'_>>)
-    ensures same { IsPermutation updates.old.items updates.new.items }
-    ensures in_order { InKeyOrder updates.new.items }
-{
-    updates.sort_unstable_by(
-        |a: &Sliced<'_>, b: &Sliced<'_>| -> Ordering
-            ensures { result ≡ slice_cmp nat_cmp a.now.key b.now.key }
-        { a.compare(b) },
-    );
 }

@@ -1,5 +1,5 @@
 -- Updates in the order of their keys: how they are held, what a run of them yields, and what of them is in a piece.
-use Rattle.std.specs.Prelude.{◌≡◌, ℕ, ◌↔◌, Bool, IsTrue, Option, Some, None, List, [], ◌∷◌, length, map, drop, Contains, Vec}
+use Rattle.std.specs.Prelude.{◌≡◌, ℕ, ◌↔◌, Bool, IsTrue, Option, Some, None, List, [], ◌∷◌, length, min, map, drop, Contains, Vec}
 use Rattle.std.specs.Borrow.{Bor}
 use Rattle.std.specs.Global.{Global}
 use Rattle.std.specs.List.{flat_map}
@@ -15,11 +15,11 @@ abbrev pub held_in : Held → List Update
 held_in (Sorted updates) = updates
 held_in (Read entries) = wholes entries
 
--- the numbers are the first two slices of the key and its length, and the key consists of bytes
+-- the numbers are the first two slices of a key, or of what follows some of its bytes, and its length, counted up to 17; it consists of bytes
 pub record IsSliced (slice second size : ℕ) (key : List ℕ) : Type 0 where
   pub slice_is : slice ≡ slice_in key
   pub second_is : second ≡ slice_in (drop 8 key)
-  pub length_is : size ≡ length key
+  pub length_is : size ≡ min (length key) 17
   pub bytes : AreBytes key
 
 -- a call of `next`: it yields the first update, or none if none is left
