@@ -21,7 +21,8 @@ use Rattle.mt_scan.specs.Sources.{Seen}
 use Rattle.mt_recover.specs.Steps.Preparing.{IsFirstOrNone, IsFoundOf}
 use Rattle.mt_recover.specs.Inputs.{OfSources}
 use Rattle.mt_recover.specs.Steps.LogScans.{ShowAll}
-use Rattle.mt_recover.specs.Steps.Outcomes.{AreOutcomes, IsLogOutcome, IsPartOutcome, AllFrom, lasts, read_parts}
+use Rattle.mt_recover.specs.Steps.Outcomes.{AreOutcomesTo, IsLogOutcome, IsPartOutcome, AllFrom, lasts, read_parts}
+use Rattle.mt_recover.specs.Check.{IsStartOf}
 use Rattle.mt_recover.specs.declared.scans.Outcomes.{Outcomes}
 use Rattle.mt_recover.specs.Segments.{AreWriters, IsGap}
 use Rattle.mt_recover.specs.Recovery.{Facts, begin_of}
@@ -53,20 +54,19 @@ at_most_noted cutoff (s ∷ ss) (l ∷ ls) small are least =
 pub alone : (files : List LogReading) (log : LogReading) → log.head.writer ≡ None → times_of log ≡ flat_map times_of (files_of log.head.writer log files)
 alone files log none = sym (ap (λ (writer : Option (ℕ × ℕ)). flat_map times_of (files_of writer log files)) none ∙ append-nil (times_of log))
 
--- what the scans and the choice show of logs and parts
-pub record AreShown (scans : List LogScan) (cutoff : ℕ) (choice : Choice) (logs parts : List (List ℕ)) : Type 0 where
+-- what scans that dropped no update below `limit`, and the choice, show of logs and parts
+pub record AreShown (limit : ℕ) (scans : List LogScan) (cutoff : ℕ) (choice : Choice) (logs parts : List (List ℕ)) : Type 0 where
   pub facts : Facts logs parts
-  pub show : ShowAll facts.cutoff 0 scans facts.readings
+  pub show : ShowAll limit 0 scans facts.readings
   pub cutoff_is : cutoff ≡ facts.cutoff
   pub choice_is : IsChoiceOf facts.known facts.cutoff choice
   pub chosen : option_map checkpoint_in choice.chosen ≡ facts.chosen
 
-shown_by : (sources parts : List Seen) (scans : List LogScan) (part_scans : List PartScan) (cutoff : ℕ) (choice : Choice) → AllFrom (IsLogOutcome (least_of (lasts (map Ok scans)))) 0 sources (map Ok scans) → cutoff ≤ nothing_noted → AllFrom IsPartOutcome 0 (read_parts sources parts) (map Ok part_scans)
-    → ((readings : List LogReading) → HaveNumbersOf scans readings → AreWriters readings) → ((readings : List LogReading) → HaveNumbersOf scans readings → IsCutoff readings cutoff) → IsChoiceOf (map known_by part_scans) cutoff choice → OfSources (λ seen. seen) sources parts (AreShown scans cutoff choice)
-shown_by [] parts [] part_scans cutoff choice logs_are small parts_are writers is of = let last = (is [] tt).has in absurd (omega (arith, last.stands.1))
-shown_by [] parts (x ∷ xs) part_scans cutoff choice logs_are small parts_are writers is of = absurd logs_are
-shown_by (s ∷ ss) parts scans part_scans cutoff choice logs_are small parts_are writers is of =
-    let limit : ℕ = least_of (lasts (map Ok scans)) in
+shown_by : (limit : ℕ) (sources parts : List Seen) (scans : List LogScan) (part_scans : List PartScan) (cutoff : ℕ) (choice : Choice) → AllFrom (IsLogOutcome limit) 0 sources (map Ok scans) → AllFrom IsPartOutcome 0 (read_parts sources parts) (map Ok part_scans)
+    → ((readings : List LogReading) → HaveNumbersOf scans readings → AreWriters readings) → ((readings : List LogReading) → HaveNumbersOf scans readings → IsCutoff readings cutoff) → IsChoiceOf (map known_by part_scans) cutoff choice → OfSources (λ seen. seen) sources parts (AreShown limit scans cutoff choice)
+shown_by limit [] parts [] part_scans cutoff choice logs_are parts_are writers is of = let last = (is [] tt).has in absurd (omega (arith, last.stands.1))
+shown_by limit [] parts (x ∷ xs) part_scans cutoff choice logs_are parts_are writers is of = absurd logs_are
+shown_by limit (s ∷ ss) parts scans part_scans cutoff choice logs_are parts_are writers is of =
     let whole = whole_logs limit 0 (s ∷ ss) scans logs_are in
     let numbers = numbers_of limit 0 scans whole.readings whole.show in
     let is_cutoff = is whole.readings numbers in
@@ -88,8 +88,7 @@ shown_by (s ∷ ss) parts scans part_scans cutoff choice logs_are small parts_ar
           chosen = option_map checkpoint_in choice.chosen;
           is_chosen = of.chosen;
         };
-        show = lowered limit cutoff 0 scans whole.readings (at_most_noted cutoff scans whole.readings small numbers (λ log last at none own.
-            is_cutoff.least last (record { log = log; stands = at; is_last = subst (λ (times : List ℕ). IsGreatestOf times last) (alone whole.readings log none) own }))) whole.show;
+        show = whole.show;
         cutoff_is = refl;
         choice_is = of;
         chosen = refl;
@@ -97,29 +96,48 @@ shown_by (s ∷ ss) parts scans part_scans cutoff choice logs_are small parts_ar
     }
 
 -- if no scan has a fault, the segments are sound, and there is a cutoff, this is shown of some logs and parts that the sources may have
-pub are_shown : (sources parts : List Seen) (outcomes : Outcomes) (scans : List LogScan) (part_scans : List PartScan) (cutoff : ℕ) (choice : Choice) → AreOutcomes sources parts outcomes → cutoff ≤ nothing_noted → outcomes.logs.items ≡ map Ok scans
+pub are_shown : (limit : ℕ) (sources parts : List Seen) (outcomes : Outcomes) (scans : List LogScan) (part_scans : List PartScan) (cutoff : ℕ) (choice : Choice) → AreOutcomesTo limit sources parts outcomes → outcomes.logs.items ≡ map Ok scans
     → outcomes.parts.items ≡ map Ok part_scans → ((readings : List LogReading) → HaveNumbersOf scans readings → AreWriters readings) → ((readings : List LogReading) → HaveNumbersOf scans readings → IsCutoff readings cutoff)
-    → IsChoiceOf (map known_by part_scans) cutoff choice → OfSources (λ seen. seen) sources parts (AreShown scans cutoff choice)
-are_shown sources parts outcomes scans part_scans cutoff choice are small logs_done parts_done writers is of =
-    shown_by sources parts scans part_scans cutoff choice (subst (λ (outcomes : List (Result LogScan Fault)). AllFrom (IsLogOutcome (least_of (lasts outcomes))) 0 sources outcomes) logs_done are.logs_are) small (subst (AllFrom IsPartOutcome 0 (read_parts sources parts)) parts_done are.parts_are) writers is of
+    → IsChoiceOf (map known_by part_scans) cutoff choice → OfSources (λ seen. seen) sources parts (AreShown limit scans cutoff choice)
+are_shown limit sources parts outcomes scans part_scans cutoff choice are logs_done parts_done writers is of =
+    shown_by limit sources parts scans part_scans cutoff choice (subst (AllFrom (IsLogOutcome limit) 0 sources) logs_done are.logs_are) (subst (AllFrom IsPartOutcome 0 (read_parts sources parts)) parts_done are.parts_are) writers is of
 
 -- what holds for all logs and parts that are shown so holds for some that the sources may have
-pub of_shown : {sources parts : List Seen} {scans : List LogScan} {cutoff : ℕ} {choice : Choice} (P : List (List ℕ) → List (List ℕ) → Type 0) → OfSources (λ seen. seen) sources parts (AreShown scans cutoff choice)
-    → ((logs parts : List (List ℕ)) → AreShown scans cutoff choice logs parts → P logs parts) → OfSources (λ seen. seen) sources parts P
+pub of_shown : {limit : ℕ} {sources parts : List Seen} {scans : List LogScan} {cutoff : ℕ} {choice : Choice} (P : List (List ℕ) → List (List ℕ) → Type 0) → OfSources (λ seen. seen) sources parts (AreShown limit scans cutoff choice)
+    → ((logs parts : List (List ℕ)) → AreShown limit scans cutoff choice logs parts → P logs parts) → OfSources (λ seen. seen) sources parts P
 of_shown P of holds = record { logs = of.logs; parts = of.parts; logs_may = of.logs_may; parts_may = of.parts_may; holds = holds of.logs of.parts of.holds }
 
 -- the first gap that the scans show is the first gap of the facts, if there is one
-pub gap_of : (logs parts : List (List ℕ)) (scans : List LogScan) (cutoff begin : ℕ) (choice : Choice) (gap : Option ℕ) → begin ≡ begin_of (option_map checkpoint_in choice.chosen)
-    → ((readings : List LogReading) → HaveNumbersOf scans readings → IsFirstOrNone (IsGap begin readings) gap) → (are : AreShown scans cutoff choice logs parts) → IsFirstOrNone (IsGap (begin_of are.facts.chosen) are.facts.readings) gap
-gap_of logs parts scans cutoff begin choice gap from is are =
-    subst (λ (n : ℕ). IsFirstOrNone (IsGap n are.facts.readings) gap) (from ∙ ap begin_of are.chosen) (is are.facts.readings (numbers_of are.facts.cutoff 0 scans are.facts.readings are.show))
+pub gap_of : (limit : ℕ) (logs parts : List (List ℕ)) (scans : List LogScan) (cutoff begin : ℕ) (choice : Choice) (gap : Option ℕ) → begin ≡ begin_of (option_map checkpoint_in choice.chosen)
+    → ((readings : List LogReading) → HaveNumbersOf scans readings → IsFirstOrNone (IsGap begin readings) gap) → (are : AreShown limit scans cutoff choice logs parts) → IsFirstOrNone (IsGap (begin_of are.facts.chosen) are.facts.readings) gap
+gap_of limit logs parts scans cutoff begin choice gap from is are =
+    subst (λ (n : ℕ). IsFirstOrNone (IsGap n are.facts.readings) gap) (from ∙ ap begin_of are.chosen) (is are.facts.readings (numbers_of limit 0 scans are.facts.readings are.show))
+
+-- if there is no gap, this is where recovery begins
+pub start_is : (limit : ℕ) (logs parts : List (List ℕ)) (scans : List LogScan) (cutoff begin : ℕ) (choice : Choice) → begin ≡ begin_of (option_map checkpoint_in choice.chosen)
+    → (are : AreShown limit scans cutoff choice logs parts) → IsFirstOrNone (IsGap (begin_of are.facts.chosen) are.facts.readings) None → IsStartOf logs parts (record { window = record { begin = begin; cutoff = cutoff }; choice = choice })
+start_is limit logs parts scans cutoff begin choice from are none = record {
+  facts = are.facts;
+  no_gap = none;
+  window = λ i. record { begin = (from ∙ ap begin_of are.chosen) i; cutoff = are.cutoff_is i };
+  chosen = are.chosen;
+  skipped = are.choice_is.skipped;
+  nameless = are.choice_is.nameless;
+}
+
+-- the scans show all updates below the cutoff, if they show all below the least timestamp that one of them noted
+all_survive : (scans : List LogScan) (readings : List LogReading) (cutoff : ℕ) → cutoff ≤ nothing_noted → ShowAll (least_of (lasts (map Ok scans))) 0 scans readings → IsCutoff readings cutoff → ShowAll cutoff 0 scans readings
+all_survive scans readings cutoff small show is =
+    let limit : ℕ = least_of (lasts (map Ok scans)) in
+    lowered limit cutoff 0 scans readings (at_most_noted cutoff scans readings small (numbers_of limit 0 scans readings show) (λ log last at none own.
+    is.least last (record { log = log; stands = at; is_last = subst (λ (times : List ℕ). IsGreatestOf times last) (alone readings log none) own }))) show
 
 -- if there is no gap, this is what recovery finds
-pub found_of : (logs parts : List (List ℕ)) (scans : Vec LogScan Global) (cutoff begin : ℕ) (choice : Choice) → begin ≡ begin_of (option_map checkpoint_in choice.chosen)
-    → (are : AreShown scans.items cutoff choice logs parts) → IsFirstOrNone (IsGap (begin_of are.facts.chosen) are.facts.readings) None → IsFoundOf logs parts (record { scans = scans; window = record { begin = begin; cutoff = cutoff }; choice = choice })
-found_of logs parts scans cutoff begin choice from are none = record {
+pub found_of : (logs parts : List (List ℕ)) (scans : Vec LogScan Global) (cutoff begin : ℕ) (choice : Choice) → cutoff ≤ nothing_noted → begin ≡ begin_of (option_map checkpoint_in choice.chosen)
+    → (are : AreShown (least_of (lasts (map Ok scans.items))) scans.items cutoff choice logs parts) → IsFirstOrNone (IsGap (begin_of are.facts.chosen) are.facts.readings) None → IsFoundOf logs parts (record { scans = scans; window = record { begin = begin; cutoff = cutoff }; choice = choice })
+found_of logs parts scans cutoff begin choice small from are none = record {
   facts = are.facts;
-  show = are.show;
+  show = all_survive scans.items are.facts.readings are.facts.cutoff (rw are.cutoff_is at small) are.show are.facts.is_cutoff;
   no_gap = none;
   window = λ i. record { begin = (from ∙ ap begin_of are.chosen) i; cutoff = are.cutoff_is i };
   chosen = are.chosen;

@@ -6,6 +6,7 @@ pub mod SurvivorLemmas
 pub mod SourceLemmas
 pub mod CountLemmas
 pub mod FoundLemmas
+pub mod CheckLemmas
 pub mod DumpLemmas
 pub mod OneVerdict
 pub mod OneReport

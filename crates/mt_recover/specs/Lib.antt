@@ -5,6 +5,7 @@ pub mod Report
 pub mod Verdict
 pub mod Dump
 pub mod Inputs
+pub mod Check
 pub mod Job
 pub mod Hauls
 pub mod Prepared

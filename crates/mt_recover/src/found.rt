@@ -1,5 +1,5 @@
 //! What recovery finds in logs and parts, or why it refuses them.
-ghost use Rattle.std.specs.Prelude.{◌≡◌, List, IfOk, IfErr, OnOk};
+ghost use Rattle.std.specs.Prelude.{◌≡◌, ℕ, List, IfOk, IfErr, OnOk};
 ghost use Rattle.std.specs.Option.{option_map};
 ghost use Rattle.mt_scan.specs.Choice.{checkpoint_in};
 ghost use Rattle.mt_scan.specs.Sources.{Seen};
@@ -8,7 +8,8 @@ ghost use Rattle.mt_scan.specs.Scans.{HaveNumbersOf};
 ghost use Rattle.mt_recover.specs.Segments.{AreWriters};
 ghost use Rattle.mt_recover.specs.Steps.Preparing.{IsFoundOf, IsWritersFault};
 ghost use Rattle.mt_recover.specs.Inputs.{OfSources, IsAnsweredBy};
-ghost use Rattle.mt_recover.specs.Steps.Outcomes.{AreOutcomes};
+ghost use Rattle.mt_recover.specs.Check.{IsStartOf};
+ghost use Rattle.mt_recover.specs.Steps.Outcomes.{AreOutcomes, AreOutcomesTo};
 ghost use Rattle.mt_recover.specs.Recovery.{begin_of as begin_in};
 
 use crate::by_workers::all_done;
@@ -37,7 +38,9 @@ pub(crate) struct Found {
 pub(crate) fn find(alloc: Global, outcomes: Outcomes) -> Result<Found, Fault>
     ensures found { (logs parts : List Seen) → AreOutcomes logs parts outcomes →
         IfOk result (λ found. OfSources (λ seen. seen) logs parts (λ ls ps. IsFoundOf ls ps found)) }
-    ensures fault { (logs parts : List Seen) → AreOutcomes logs parts outcomes →
+    ensures start { (limit : ℕ) (logs parts : List Seen) → AreOutcomesTo limit logs parts outcomes →
+        IfOk result (λ found. OfSources (λ seen. seen) logs parts (λ ls ps. IsStartOf ls ps (record { window = found.window; choice = found.choice }))) }
+    ensures fault { (limit : ℕ) (logs parts : List Seen) → AreOutcomesTo limit logs parts outcomes →
         IfErr result (IsAnsweredBy (λ seen. seen) logs parts) }
 {
     let scans = all_done(alloc, outcomes.logs)?;

@@ -42,17 +42,17 @@ impl Outcomes {
 
 /// The kind of a source: a log or a part.
 #[derive(Clone, Copy)]
-enum Kind {
+pub(crate) enum Kind {
     Log,
     Part,
 }
 
 /// A source to scan, with the kind and the number of its log or part.
 #[derive(Drop)]
-struct ScanJob<S> {
-    kind: Kind,
-    number: usize,
-    source: S,
+pub(crate) struct ScanJob<S> {
+    pub kind: Kind,
+    pub number: usize,
+    pub source: S,
 }
 
 /// The answer of the scan of a source.
@@ -141,7 +141,7 @@ fn jobs_of<S: Drop>(alloc: Global, inputs: Inputs<S>) -> Result<Vec<ScanJob<S>>,
 }
 
 /// Returns the jobs of sources of this kind, numbered from 0.
-fn number_all<S: Drop>(
+pub(crate) fn number_all<S: Drop>(
     alloc: Global,
     kind: Kind,
     sources: Vec<S>,

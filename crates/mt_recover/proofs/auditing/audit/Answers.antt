@@ -15,7 +15,7 @@ returns-in_err-found g c =
     let logs = c.args.inputs.logs.items in
     let parts = c.args.inputs.parts.items in
     let p = err_from_is_err_and c.from_residual-in_err-found.result c.from_residual-in_err-found.ensures.1 in
-    rw (p.1, p.2) (record { value = tt; fault = answered_seen seen logs parts c.in_err-found.field-0.0 (c.in_err-found.ensures.fault (map seen logs) (map seen parts) c.in_ok-outcomes.ensures) })
+    rw (p.1, p.2) (record { value = tt; fault = answered_seen seen logs parts c.in_err-found.field-0.0 (c.in_err-found.ensures.fault _ (map seen logs) (map seen parts) c.in_ok-outcomes.ensures) })
 
 pub audit_found-requires-after_bounds : goal.audit_found-requires-after_bounds
 audit_found-requires-after_bounds g c κs within =

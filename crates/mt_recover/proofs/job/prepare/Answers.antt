@@ -22,7 +22,7 @@ returns-in_err-found-clause-fault g c =
     let seen = g.S.Source.seen in
     let p = err_from_is_err_and c.from_residual-in_err-found.result c.from_residual-in_err-found.ensures.1 in
     rw (p.1, p.2) (answered_seen seen c.args.inputs.logs.items c.args.inputs.parts.items c.in_err-found.field-0.0
-    (c.in_err-found.ensures.fault (map seen c.args.inputs.logs.items) (map seen c.args.inputs.parts.items) c.in_ok-outcomes.ensures))
+    (c.in_err-found.ensures.fault _ (map seen c.args.inputs.logs.items) (map seen c.args.inputs.parts.items) c.in_ok-outcomes.ensures))
 
 pub returns-in_err-open-clause-fault : goal.returns-in_err-open-clause-fault
 returns-in_err-open-clause-fault g c =

@@ -1,0 +1,58 @@
+-- Checks of sources, by their numbers.
+use Rattle.std.proofs.Common.{◌≡◌, ◌∙◌, ℕ, suc, Bool, true, false, List, [], ◌∷◌, map, length, Result, refl, sym, ap}
+use Rattle.std.specs.Prelude.{◌==◌}
+use Rattle.std.proofs.lemmas.Bool.{false≢true}
+use Rattle.std.proofs.lemmas.Bool.Decides.{Decides-eqb}
+use Rattle.std.proofs.lemmas.List.{nil_from_length}
+use Rattle.std.specs.List.{AllZip}
+use Rattle.mt_words.specs.declared.fault.Fault.{Fault}
+use Rattle.mt_words.specs.declared.fault.Fault.TheVariants as faults
+use Rattle.mt_scan.specs.declared.checking.LogCheck.{LogCheck}
+use Rattle.mt_scan.specs.declared.log_scan.LogScan.{LogScan}
+use Rattle.mt_scan.specs.declared.part_scan.PartScan.{PartScan}
+use Rattle.mt_scan.specs.Sources.{Seen}
+use Rattle.mt_recover.specs.Check.{AllFrom, IsLogChecked, IsPartOutcome}
+use Rattle.mt_recover.specs.Inputs.{IsAnsweredBy}
+use Rattle.mt_recover.specs.Steps.Outcomes.{IsLogOutcome, read_parts}
+use Rattle.mt_recover.specs.Steps.Scanning.{numbered}
+use Rattle.mt_recover.specs.declared.scans.Kind.{Kind}
+use Rattle.mt_recover.proofs.SourceLemmas.{none_refused}
+
+-- what holds for each numbered job and its answer holds for each source and its answer
+pub all_numbered : {S A : Type 0} (R : ℕ → Seen → A → Type 0) (seen : S → Seen) (kind : Kind) (number : ℕ) (sources : List S) (answers : List A)
+    → AllZip (λ job answer. R job.number (seen job.source) answer) (numbered kind number sources) answers → AllFrom R number (map seen sources) answers
+all_numbered R seen kind number [] [] all = tt
+all_numbered R seen kind number [] (a ∷ rest) all = absurd all
+all_numbered R seen kind number (s ∷ ss) [] all = absurd all
+all_numbered R seen kind number (s ∷ ss) (a ∷ rest) all = (all.0, all_numbered R seen kind (suc number) ss rest all.1)
+
+-- each outcome is that of a source whose check led to it
+pub all_outcomes : (limit : ℕ) (kind : Kind) (number : ℕ) (sources : List Seen) (checks : List (Result LogCheck Fault)) (outcomes : List (Result LogScan Fault)) → AllFrom (IsLogChecked limit) number sources checks
+    → AllZip (λ job outcome. (limit : ℕ) (seen : Seen) → IsLogChecked limit job.number seen job.source → IsLogOutcome 0 job.number seen outcome) (numbered kind number checks) outcomes
+    → AllFrom (IsLogOutcome 0) number sources outcomes
+all_outcomes limit kind number [] [] [] are all = tt
+all_outcomes limit kind number [] [] (o ∷ os) are all = absurd all
+all_outcomes limit kind number [] (c ∷ cs) outcomes are all = absurd are
+all_outcomes limit kind number (s ∷ ss) [] outcomes are all = absurd are
+all_outcomes limit kind number (s ∷ ss) (c ∷ cs) [] are all = absurd all
+all_outcomes limit kind number (s ∷ ss) (c ∷ cs) (o ∷ os) are all = (all.0 limit s are.0, all_outcomes limit kind (suc number) ss cs os are.1 all.1)
+
+-- without logs, recovery says so
+pub none_checked : (limit : ℕ) (logs parts : List Seen) (checks : List (Result LogCheck Fault)) → checks ≡ [] → AllFrom (IsLogChecked limit) 0 logs checks → IsAnsweredBy (λ seen. seen) logs parts faults.NoLogs
+none_checked limit [] parts checks none are = none_refused 0 [] parts [] tt refl
+none_checked limit (s ∷ ss) parts checks none are = absurd (rw none at are)
+
+-- with logs, all parts are read
+pub parts_read : (limit : ℕ) (logs parts : List Seen) (checks : List (Result LogCheck Fault)) (scans : List (Result PartScan Fault)) → (checks ≡ [] → ⊥) → AllFrom (IsLogChecked limit) 0 logs checks
+    → AllFrom IsPartOutcome 0 parts scans → AllFrom IsPartOutcome 0 (read_parts logs parts) scans
+parts_read limit [] parts [] scans some are all = absurd (some refl)
+parts_read limit [] parts (c ∷ cs) scans some are all = absurd are
+parts_read limit (s ∷ ss) parts checks scans some are all = all
+
+-- ---- whether there are logs
+
+pub nil_if_empty : {T : Type 0} (xs : List T) (len : ℕ) (empty : Bool) → len ≡ length xs → empty ≡ (len == 0) → empty ≡ true → xs ≡ []
+nil_if_empty xs len empty number test outcome = nil_from_length xs (sym number ∙ (Decides-eqb len 0).0 (sym test ∙ outcome))
+
+pub some_if_not : {T : Type 0} (xs : List T) (len : ℕ) (empty : Bool) → len ≡ length xs → empty ≡ (len == 0) → empty ≡ false → xs ≡ [] → ⊥
+some_if_not xs len empty number test outcome none = false≢true (sym outcome ∙ test ∙ ap (λ (n : ℕ). n == 0) (number ∙ ap length none))

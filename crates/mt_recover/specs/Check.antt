@@ -1,0 +1,43 @@
+-- What a check of logs and checkpoint parts finds.
+use Rattle.std.specs.Prelude.{◌≡◌, ℕ, suc, IsTrue, List, [], ◌∷◌, Result, IfOk, IfErr}
+use Rattle.std.specs.Option.{option_map}
+use Rattle.mt_words.specs.declared.fault.Fault.{Fault}
+use Rattle.mt_replay.specs.declared.window.Window.{Window}
+use Rattle.mt_scan.specs.declared.checking.LogCheck.{LogCheck}
+use Rattle.mt_scan.specs.declared.part_scan.PartScan.{PartScan}
+use Rattle.mt_scan.specs.Sources.{Seen}
+use Rattle.mt_scan.specs.Scans.{OfTold, IsScanFault, failures_of}
+use Rattle.mt_scan.specs.Checks.{IsCheckOf}
+use Rattle.mt_scan.specs.PartScans.{IsKnown, known_by, IsPartScanFault}
+use Rattle.mt_scan.specs.Choice.{checkpoint_in, AreSkipped, AreNameless}
+use Rattle.mt_recover.specs.Segments.{IsGap}
+use Rattle.mt_recover.specs.Recovery.{Facts, begin_of}
+use Rattle.mt_recover.specs.declared.checking.Start.{Start}
+
+-- the answer of the check of log number `log`: its check, or why it has none; a steady source is never reported as failed
+pub record IsLogChecked (limit log : ℕ) (seen : Seen) (answer : Result LogCheck Fault) : Type 0 where
+  pub check : IfOk answer (λ check. OfTold seen.told (λ bytes. IsCheckOf limit bytes check))
+  pub fault : IfErr answer (λ fault. OfTold seen.told (λ bytes. IsScanFault log bytes fault))
+  pub steady : IsTrue seen.steady → failures_of answer ≡ 0
+
+-- the answer of the scan of a part: what is known of its bytes, or a fault of that scan; a steady source is never reported as failed
+pub record IsPartOutcome (part : ℕ) (seen : Seen) (outcome : Result PartScan Fault) : Type 0 where
+  pub scan : IfOk outcome (λ scan. OfTold seen.told (λ bytes. IsKnown bytes (known_by scan)))
+  pub fault : IfErr outcome (IsPartScanFault part)
+  pub steady : IsTrue seen.steady → failures_of outcome ≡ 0
+
+-- `R` holds for the items of two lists, place by place, and for their number, which counts up from `number`; the lists are equally long
+abbrev pub AllFrom : {A B : Type 0} → (ℕ → A → B → Type 0) → ℕ → List A → List B → Type 0
+AllFrom R number [] [] = Unit {0}
+AllFrom R number [] (y ∷ ys) = ⊥
+AllFrom R number (x ∷ xs) [] = ⊥
+AllFrom R number (x ∷ xs) (y ∷ ys) = R number x y × AllFrom R (suc number) xs ys
+
+-- where recovery of logs and parts begins: no log has a gap, and the window and the choice of a checkpoint are those of the facts
+pub record IsStartOf (logs parts : List (List ℕ)) (start : Start) : Type 0 where
+  pub facts : Facts logs parts
+  pub no_gap : (i : ℕ) → IsGap (begin_of facts.chosen) facts.readings i → ⊥
+  pub window : start.window ≡ record { begin = begin_of facts.chosen; cutoff = facts.cutoff }
+  pub chosen : option_map checkpoint_in start.choice.chosen ≡ facts.chosen
+  pub skipped : AreSkipped facts.known start.choice.skipped.items
+  pub nameless : AreNameless facts.known start.choice.nameless.items
