@@ -5,7 +5,7 @@ use crate::folder::{self, Folder};
 use crate::mistake::Mistake;
 use crate::source::inputs_of;
 use crate::words::{push_arguments, small_of};
-use mt_cli::{answer, command, run_words};
+use mt_cli::{Names, answer, command, run_words};
 use mt_recover::dump_files;
 use mt_scan::{LONGEST_BUFFER, Rack};
 use std::alloc::Global;
@@ -163,7 +163,8 @@ impl Run {
         let status = match command(rt, &self.words, &mut out, &mut err) {
             Ok(command) => {
                 let inputs = inputs_of(rt.alloc(), drafts, rack.slots())?;
-                answer(rt, &command, inputs, &mut out, &mut err)
+                let names = Names::new(rt.alloc());
+                answer(rt, &command, &names, inputs, &mut out, &mut err)
             }
             Err(status) => status,
         };

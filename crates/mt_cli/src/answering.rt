@@ -1,12 +1,17 @@
 //! Answers a query, from the recovered store or by an audit.
 ghost use Rattle.std.specs.Prelude.{◌≤◌};
 
+use crate::caveat::{Caveat, Losses};
 use crate::clashes::write_clash;
 use crate::failure::tell;
-use crate::request::{Command, Query, StoreQuery};
+use crate::file_names::Names;
+use crate::form::Form;
+use crate::json::write_report;
+use crate::refusal::Refusal;
+use crate::request::{Command, Query, Range, StoreQuery};
 use mt_recover::{
-    Clash, Cutting, Failure, Inputs, NoGate, Pieces, Recovered, Store, Wanted, Workers, audit,
-    recover, write_dump, write_pair,
+    Clash, Cutting, Failure, Inputs, NoGate, Pieces, Recovered, Report, Store, Workers, audit,
+    recover, write_dump,
 };
 use mt_scan::Source;
 use mt_words::Key;
@@ -15,20 +20,23 @@ use std::io::{self, BufWriter, Write};
 use std::mem;
 use std::thread::Threads;
 
-/// Answers the command's query from the sources, and returns the exit status: 0 if the answer was printed. On a failure,
-/// prints its line on `err` and returns its status. The output is buffered.
+/// Answers the command's query from the sources, and returns the exit status: 0 if the answer was printed, 4 if it was
+/// with a caveat. On a failure, prints its line on `err` and returns its status. `names` are the files that the sources
+/// are of, for a second line. The output is buffered.
 pub fn answer<R: AllocGlobal + Threads + Sync, S: Source + Send, O: Write, E: Write>(
     rt: &R,
     command: &Command<'_>,
+    names: &Names,
     inputs: Inputs<S>,
     out: &mut O,
     err: &mut E,
 ) -> u8
-    ensures status { result ≤ 3 }
+    ensures status { result ≤ 4 }
 {
     match answer_query(rt, command, inputs, out) {
-        Ok(()) => 0,
-        Err(failure) => tell(&failure, err),
+        Ok(None) => 0,
+        Ok(Some(caveat)) => caveat.tell(err),
+        Err(refusal) => tell(&refusal, command.explaining(names), err),
     }
 }
 
@@ -38,12 +46,15 @@ fn answer_query<R: AllocGlobal + Threads + Sync, S: Source + Send, O: Write>(
     command: &Command<'_>,
     inputs: Inputs<S>,
     out: &mut O,
-) -> Result<(), Failure<'static>> {
+) -> Result<Option<Caveat>, Refusal<'static>> {
     match &command.query {
         Query::Store(query, pieces) => {
             recover_and_print(rt, inputs, command.workers, *pieces, query, out)
         }
-        Query::Audit => audit_and_print(rt, inputs, command.workers, out),
+        Query::Audit => {
+            audit_and_print(rt, inputs, command.workers, out)?;
+            Ok(None)
+        }
     }
 }
 
@@ -56,12 +67,12 @@ fn recover_and_print<R: AllocGlobal + Threads + Sync, S: Source + Send, O: Write
     pieces: Pieces,
     query: &StoreQuery,
     out: &mut O,
-) -> Result<(), Failure<'static>> {
+) -> Result<Option<Caveat>, Refusal<'static>> {
     let cutting = Cutting::Sampled(pieces);
     let recovered = recover(rt, rt.alloc(), inputs, workers, cutting, &NoGate)?;
-    print_all(rt.alloc(), &recovered, query, out)?;
+    let caveat = print_all(rt.alloc(), &recovered, query, out)?;
     mem::forget(recovered);
-    Ok(())
+    Ok(caveat)
 }
 
 /// Audits the logs, and prints the line of each clash.
@@ -70,7 +81,7 @@ fn audit_and_print<R: AllocGlobal + Threads + Sync, S: Source + Send, O: Write>(
     inputs: Inputs<S>,
     workers: Workers,
     out: &mut O,
-) -> Result<(), Failure<'static>> {
+) -> Result<(), Refusal<'static>> {
     let clashes = audit(rt, rt.alloc(), inputs, workers)?;
     print_clashes(rt.alloc(), &clashes, out)
 }
@@ -83,7 +94,7 @@ fn print_clashes<O: Write>(
     alloc: Global,
     clashes: &[Clash],
     out: &mut O,
-) -> Result<(), Failure<'static>> {
+) -> Result<(), Refusal<'static>> {
     let mut out = BufWriter::with_capacity(alloc, PRINTED_AT_ONCE, out)?;
     for clash in clashes {
         write_clash(alloc, clash, &mut out)?;
@@ -97,10 +108,11 @@ fn print_all<O: Write>(
     recovered: &Recovered,
     query: &StoreQuery,
     out: &mut O,
-) -> Result<(), Failure<'static>> {
+) -> Result<Option<Caveat>, Refusal<'static>> {
     let mut out = BufWriter::with_capacity(alloc, PRINTED_AT_ONCE, out)?;
-    print(recovered, query, &mut out)?;
-    Ok(out.flush()?)
+    let caveat = print(recovered, query, &mut out)?;
+    out.flush()?;
+    Ok(caveat)
 }
 
 /// Prints what the query asks for.
@@ -108,34 +120,69 @@ fn print<O: Write>(
     recovered: &Recovered,
     query: &StoreQuery,
     out: &mut O,
-) -> Result<(), Failure<'static>> {
+) -> Result<Option<Caveat>, Refusal<'static>> {
     let store = recovered.store();
     match query {
-        StoreQuery::Report => write!(out, "{}", recovered.report())?,
-        StoreQuery::Get(key) => write_found(store, key, out)?,
-        StoreQuery::Range(start, count) => print_range(store, start, *count, out)?,
-        StoreQuery::Dump => write_dump(store, out)?,
+        StoreQuery::Report { is_json, is_strict } => {
+            print_report(recovered.report(), *is_json, out)?;
+            return Ok(losses_of(recovered.report(), *is_strict));
+        }
+        StoreQuery::Exists(key) if store.get(key.as_bytes()).is_none() => {
+            return Ok(Some(Caveat::No));
+        }
+        StoreQuery::Exists(_) => {}
+        StoreQuery::Get(key, form) => write_found(store, key, *form, out)?,
+        StoreQuery::Range(range, form) => print_range(store, range, *form, out)?,
+        StoreQuery::Dump(form) => print_dump(store, *form, out)?,
     }
-    Ok(())
+    Ok(None)
+}
+
+/// Prints the report, as lines or as JSON.
+fn print_report<O: Write>(report: &Report, is_json: bool, out: &mut O) -> io::Result<()> {
+    if is_json {
+        return write_report(report, out);
+    }
+    write!(out, "{report}")
+}
+
+/// Returns the losses of a report as a caveat, if it is strict and has some.
+fn losses_of(report: &Report, is_strict: bool) -> Option<Caveat> {
+    if !is_strict {
+        return None;
+    }
+    Losses::of(report).map(Caveat::Losses)
 }
 
 /// Prints the pair of the key, or that it is absent.
-fn write_found<O: Write>(store: &Store, key: &Key, out: &mut O) -> io::Result<()> {
+fn write_found<O: Write>(store: &Store, key: &Key, form: Form, out: &mut O) -> io::Result<()> {
     match store.get(key.as_bytes()) {
-        Some(columns) => write_pair(key.as_bytes(), columns, out),
-        None => out.write_all(b"absent\n"),
+        Some(columns) => form.write(key.as_bytes(), columns, out),
+        None => form.write_absent(out),
     }
 }
 
-/// Prints the first `count` pairs at or after `start`, with all columns.
+/// Prints the pairs of the range, each with those of its columns that are wanted.
 fn print_range<O: Write>(
     store: &Store,
-    start: &Key,
-    count: u32,
+    range: &Range,
+    form: Form,
     out: &mut O,
-) -> Result<(), Failure<'static>> {
-    for hit in store.getrange(start.as_bytes(), count as usize, Wanted::all())? {
-        write_pair(hit.key.as_bytes(), &hit.columns, out)?;
+) -> Result<(), Refusal<'static>> {
+    let wanted = range.wanted().ok_or(Failure::Words)?;
+    for hit in store.getrange(range.start(), range.count as usize, wanted)? {
+        if !range.has(hit.key.as_bytes()) {
+            break;
+        }
+        form.write(hit.key.as_bytes(), &hit.columns, out)?;
     }
     Ok(())
+}
+
+/// Prints all pairs.
+fn print_dump<O: Write>(store: &Store, form: Form, out: &mut O) -> io::Result<()> {
+    if form.is_dump() {
+        return write_dump(store, out);
+    }
+    store.visit(&form, out)
 }

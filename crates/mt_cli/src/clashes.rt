@@ -1,5 +1,6 @@
 //! Prints clashes.
-use mt_recover::{Clash, Failure};
+use crate::refusal::Refusal;
+use mt_recover::Clash;
 use std::alloc::Global;
 use std::io::Write;
 
@@ -9,7 +10,7 @@ pub fn write_clash<W: Write>(
     alloc: Global,
     clash: &Clash,
     out: &mut W,
-) -> Result<(), Failure<'static>> {
+) -> Result<(), Refusal<'static>> {
     let key = hex::encode(alloc, clash.key.as_bytes())?;
     write!(out, "{key} {}:", clash.version)?;
     for place in &clash.places {

@@ -12,7 +12,7 @@ pub struct Names {
 
 impl Names {
     /// Creates an empty `Names`.
-    pub(crate) fn new(alloc: Global) -> Names {
+    pub fn new(alloc: Global) -> Names {
         Names {
             logs: Vec::new(alloc),
             parts: Vec::new(alloc),

@@ -2,6 +2,7 @@
 use clap::builder::ValueParser;
 use clap::{Arg, Command, arg};
 use mt_recover::{MOST_PIECES, MOST_WORKERS};
+use mt_words::GREATEST_COLUMN;
 use std::alloc::{AllocError, Global};
 
 /// Returns the grammar of the arguments that the program takes. Err: out of memory.
@@ -23,7 +24,8 @@ fn with<'a>(
 
 /// The exit statuses.
 const STATUSES: &str =
-    "Exit status: 0 done, 1 no store (a fault), 2 bad arguments, 3 folder, file or output failed";
+    "Exit status: 0 done, 1 no store (a fault), 2 bad arguments, 3 folder, file or output failed,\n\
+     4 done, but the answer is no, or something was torn, late or skipped";
 
 /// Returns the program without its subcommands.
 fn program<'a>(alloc: Global) -> Result<Command<'a>, AllocError> {
@@ -43,29 +45,36 @@ fn program<'a>(alloc: Global) -> Result<Command<'a>, AllocError> {
 fn report<'a>(alloc: Global) -> Result<Command<'a>, AllocError> {
     let about = "Prints what recovery found in the logs and parts, as NAME=VALUE lines";
     let example = "Example: mtrecover report examples/store";
-    of_store(alloc, "report", about, example)
+    let report = of_store(alloc, "report", about, example);
+    let report = taking(report, json(alloc));
+    taking(report, strict(alloc))
 }
 
 /// Returns the subcommand `get`.
 fn get<'a>(alloc: Global) -> Result<Command<'a>, AllocError> {
     let about = "Prints a key with its columns, or `absent`";
     let example = "Example: mtrecover get examples/store 666967";
-    of_store(alloc, "get", about, example)?.arg(key(alloc))
+    let get = of_pairs(alloc, "get", about, example);
+    let get = taking(get, key(alloc));
+    taking(get, exists(alloc))
 }
 
 /// Returns the subcommand `range`.
 fn range<'a>(alloc: Global) -> Result<Command<'a>, AllocError> {
     let about = "Prints the first keys at or after a key, with their columns";
     let example = "Example: mtrecover range examples/store 6b 2";
-    of_store(alloc, "range", about, example)?
-        .arg(key(alloc))?
-        .arg(count(alloc))
+    let range = of_pairs(alloc, "range", about, example);
+    let range = taking(range, key(alloc));
+    let range = taking(range, count(alloc));
+    let range = taking(range, to(alloc));
+    let range = taking(range, prefix(alloc));
+    taking(range, columns(alloc))
 }
 
 /// Returns the subcommand `dump`.
 fn dump<'a>(alloc: Global) -> Result<Command<'a>, AllocError> {
     let example = "Example: mtrecover dump examples/store --workers 8";
-    of_store(alloc, "dump", "Prints all keys with their columns", example)
+    of_pairs(alloc, "dump", "Prints all keys with their columns", example)
 }
 
 /// Returns the subcommand `audit`.
@@ -76,6 +85,18 @@ fn audit<'a>(alloc: Global) -> Result<Command<'a>, AllocError> {
     subcommand(alloc, "audit", about, example)
 }
 
+/// Returns a subcommand that prints pairs of the store, with the arguments that all of these take.
+fn of_pairs<'a>(
+    alloc: Global,
+    name: &'a str,
+    about: &'a str,
+    example: &'a str,
+) -> Result<Command<'a>, AllocError> {
+    let command = of_store(alloc, name, about, example);
+    let command = taking(command, json(alloc));
+    taking(command, text(alloc))
+}
+
 /// Returns a subcommand that recovers the store, with the arguments that all of these take.
 fn of_store<'a>(
     alloc: Global,
@@ -83,7 +104,7 @@ fn of_store<'a>(
     about: &'a str,
     example: &'a str,
 ) -> Result<Command<'a>, AllocError> {
-    subcommand(alloc, name, about, example)?.arg(pieces(alloc))
+    taking(subcommand(alloc, name, about, example), pieces(alloc))
 }
 
 /// Returns a subcommand with the arguments that all subcommands take.
@@ -93,11 +114,18 @@ fn subcommand<'a>(
     about: &'a str,
     example: &'a str,
 ) -> Result<Command<'a>, AllocError> {
-    Command::new(alloc, name)
-        .about(about)
-        .after_help(example)
-        .arg(folder(alloc))?
-        .arg(workers(alloc))
+    let command = Command::new(alloc, name).about(about).after_help(example);
+    let command = taking(Ok(command), folder(alloc));
+    let command = taking(command, workers(alloc));
+    taking(command, verbose(alloc))
+}
+
+/// Adds an argument to a command. If that is an Err, returns the Err. Err: out of memory.
+fn taking<'a>(
+    command: Result<Command<'a>, AllocError>,
+    argument: Arg<'a>,
+) -> Result<Command<'a>, AllocError> {
+    command?.arg(argument)
 }
 
 /// Returns the argument that names the folder.
@@ -107,7 +135,7 @@ fn folder<'a>(alloc: Global) -> Arg<'a> {
 
 /// Returns the argument that gives the key.
 fn key<'a>(alloc: Global) -> Arg<'a> {
-    arg!(in alloc; <KEY> "The key in hexadecimal; '' is the empty key")
+    arg!(in alloc; <KEY> "The key in hexadecimal, or with --text as text; '' is the empty key")
 }
 
 /// Returns the argument that gives the number of pairs.
@@ -116,6 +144,48 @@ fn count<'a>(alloc: Global) -> Arg<'a> {
         0,
         u64::from(u32::MAX),
     ))
+}
+
+/// Returns the option that explains a failure.
+fn verbose<'a>(alloc: Global) -> Arg<'a> {
+    arg!(in alloc; --verbose "After a failure, print its file or the system's reason, and what to try")
+}
+
+/// Returns the option that prints JSON.
+fn json<'a>(alloc: Global) -> Arg<'a> {
+    arg!(in alloc; --json "Print a JSON object a line")
+}
+
+/// Returns the option that takes and prints keys and values as text.
+fn text<'a>(alloc: Global) -> Arg<'a> {
+    arg!(in alloc; --text "Keys and values are text with escapes, as \\n and \\x00, and not hexadecimal")
+}
+
+/// Returns the option that makes losses decide the status.
+fn strict<'a>(alloc: Global) -> Arg<'a> {
+    arg!(in alloc; --strict "End with status 4 if anything is torn, late, skipped or nameless")
+}
+
+/// Returns the option that asks only whether the key is there.
+fn exists<'a>(alloc: Global) -> Arg<'a> {
+    arg!(in alloc; --exists "Print nothing: the status is 0 if the key is there, 4 if not")
+}
+
+/// Returns the option that gives the end of a range.
+fn to<'a>(alloc: Global) -> Arg<'a> {
+    arg!(in alloc; --to <KEY> "Print only keys below this one")
+}
+
+/// Returns the option that gives what the keys of a range begin with.
+fn prefix<'a>(alloc: Global) -> Arg<'a> {
+    arg!(in alloc; --prefix <KEY> "Print only keys that begin with this one")
+}
+
+/// Returns the option that gives the columns of a range.
+fn columns<'a>(alloc: Global) -> Arg<'a> {
+    arg!(in alloc; --columns <LIST> "Print only columns of these numbers, as 0,3. A key without any is printed too")
+        .value_delimiter(',')
+        .value_parser(ValueParser::unsigned(0, u64::from(GREATEST_COLUMN)))
 }
 
 /// The number of workers if the option is not given.

@@ -10,19 +10,27 @@
 #![tactic(auto)]
 
 mod answering;
+mod caveat;
 mod clashes;
+mod escapes;
+mod explaining;
 mod failure;
 mod file_names;
+mod form;
 mod grammar;
+mod json;
 mod listing;
 mod opening;
+mod ranges;
+mod refusal;
 mod request;
 mod running;
 mod words;
 
 pub use answering::answer;
 pub use file_names::Names;
+pub use form::Form;
 pub use listing::names;
-pub use request::{Command, Query, StoreQuery};
+pub use request::{Command, Query, Range, StoreQuery};
 pub use running::{run, run_words};
 pub use words::command;

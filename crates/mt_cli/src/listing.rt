@@ -3,33 +3,37 @@ ghost use Rattle.std.specs.Prelude.{◌≤◌, IfErr};
 
 use crate::failure::or_tell;
 use crate::file_names::Names;
+use crate::refusal::Refusal;
 use mt_recover::{Failure, MOST_FILES};
 use std::fs::{self, Files};
 use std::io::{self, Write};
 
 /// Lists the logs and parts of the folder. Only the ending of a name decides whether it is a log or a part. An Err is
-/// the exit status; the line of the failure is then printed on `err`.
+/// the exit status; the line of the failure is then printed on `err`, with a second line if `is_verbose`.
 pub fn names<R: AllocGlobal + Files + Clone + Drop, E: Write>(
     rt: &R,
     folder: &str,
+    is_verbose: bool,
     err: &mut E,
 ) -> Result<Names, u8>
     ensures status { IfErr result (λ status. status ≤ 3) }
 {
-    or_tell(list(rt, folder), err)
+    let no_names = Names::new(rt.alloc());
+    or_tell(list(rt, folder), is_verbose.then_some(&no_names), err)
 }
 
 /// Lists the logs and parts of the folder, each kind in byte order.
 fn list<'a, R: AllocGlobal + Files + Clone + Drop>(
     rt: &R,
     folder: &'a str,
-) -> Result<Names, Failure<'a>> {
-    let mut names = read_names(rt, folder).map_err(|error| Failure::List(folder).or_memory(
-        &error,
+) -> Result<Names, Refusal<'a>> {
+    let mut names = read_names(rt, folder).map_err(|error| Refusal::of(
+        Failure::List(folder),
+        error,
     ))?;
     // Logs and parts count together.
     if names.logs.len().saturating_add(names.parts.len()) > MOST_FILES {
-        return Err(Failure::TooManyFiles);
+        return Err(Refusal::from(Failure::TooManyFiles));
     }
     names.logs.sort_unstable();
     names.parts.sort_unstable();

@@ -1,4 +1,5 @@
 //! Opens files as sources.
+use crate::refusal::Refusal;
 use mt_recover::{Failure, MOST_BYTES};
 use mt_scan::{ReaderSource, Slot};
 use std::fs::{File, Files, OpenFile};
@@ -12,7 +13,7 @@ pub fn open_all<'a, 'b, R: AllocGlobal + Files>(
     folder: &str,
     names: &'a [String],
     slots: &'b mut [Slot],
-) -> Result<Vec<ReaderSource<'b, R::File>>, Failure<'a>> {
+) -> Result<Vec<ReaderSource<'b, R::File>>, Refusal<'a>> {
     let mut sources = Vec::with_capacity(rt.alloc(), names.len())?;
     for (name, slot) in names.iter().zip(slots) {
         sources.push(open_source(rt, folder, name.as_str(), slot)?)?;
@@ -26,10 +27,10 @@ fn open_source<'a, 'b, R: AllocGlobal + Files>(
     folder: &str,
     name: &'a str,
     slot: &'b mut Slot,
-) -> Result<ReaderSource<'b, R::File>, Failure<'a>> {
-    let file = open(rt, folder, name).map_err(|error| Failure::Open(name).or_memory(&error))?;
+) -> Result<ReaderSource<'b, R::File>, Refusal<'a>> {
+    let file = open(rt, folder, name).map_err(|error| Refusal::of(Failure::Open(name), error))?;
     // None only if the slot is empty. No slot of a new rack is empty.
-    ReaderSource::new(file, MOST_BYTES, slot).ok_or(Failure::Open(name))
+    ReaderSource::new(file, MOST_BYTES, slot).ok_or(Refusal::from(Failure::Open(name)))
 }
 
 /// Opens the file of this name in the folder.

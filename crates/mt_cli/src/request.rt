@@ -1,4 +1,6 @@
 //! The request that the arguments make.
+use crate::file_names::Names;
+use crate::form::Form;
 use mt_recover::{Pieces, Workers};
 use mt_words::Key;
 
@@ -9,8 +11,17 @@ pub struct Command<'a> {
     pub folder: &'a str,
     /// The number of threads that work.
     pub workers: Workers,
+    /// Whether a failure has a second line, which explains it.
+    pub is_verbose: bool,
     /// The query to answer.
     pub query: Query,
+}
+
+impl<'a> Command<'a> {
+    /// Returns the names if a failure is to be explained.
+    pub(crate) fn explaining<'b>(&self, names: &'b Names) -> Option<&'b Names> {
+        self.is_verbose.then_some(names)
+    }
 }
 
 /// A query: what to print.
@@ -25,12 +36,29 @@ pub enum Query {
 /// A query on the recovered store.
 #[derive(Debug, Drop)]
 pub enum StoreQuery {
-    /// The report of recovery.
-    Report,
+    /// The report of recovery. If it is strict, what was lost or passed over decides the status.
+    Report { is_json: bool, is_strict: bool },
     /// The pair of a key.
-    Get(Key),
-    /// The first pairs at or after a key, up to this number.
-    Range(Key, u32),
+    Get(Key, Form),
+    /// Whether there is this key. Prints nothing.
+    Exists(Key),
+    /// Some pairs in order.
+    Range(Range, Form),
     /// All pairs.
-    Dump,
+    Dump(Form),
+}
+
+/// The pairs of a range: the first ones, up to a number.
+#[derive(Debug, Drop)]
+pub struct Range {
+    /// The key at or after which the range begins.
+    pub from: Key,
+    /// The most pairs.
+    pub count: u32,
+    /// The key below which the range ends, if it ends before the last key.
+    pub to: Option<Key>,
+    /// What all keys of the range begin with, if not just anything.
+    pub prefix: Option<Key>,
+    /// The numbers of the columns to print. None: all columns.
+    pub columns: Option<Vec<u8>>,
 }

@@ -6,6 +6,7 @@ use crate::failure::{or_tell, tell};
 use crate::file_names::Names;
 use crate::listing::names;
 use crate::opening::open_all;
+use crate::refusal::Refusal;
 use crate::request::Command;
 use crate::words::command;
 use mt_recover::{Failure, Inputs};
@@ -20,11 +21,11 @@ pub fn run<R, O: Write, E: Write>(rt: &R, out: &mut O, err: &mut E) -> u8
 where
     R: AllocGlobal + Clone + Drop + Env + Files + Threads + Sync,
     R::File: Send,
-    ensures status { result ≤ 3 }
+    ensures status { result ≤ 4 }
 {
     match words_of_process(rt) {
         Ok(words) => run_words(rt, &words, out, err),
-        Err(error) => tell(&Failure::Words.or_memory(&error), err),
+        Err(error) => tell(&Refusal::of(Failure::Words, error), None, err),
     }
 }
 
@@ -38,7 +39,7 @@ pub fn run_words<R, O: Write, E: Write>(rt: &R, words: &[String], out: &mut O, e
 where
     R: AllocGlobal + Clone + Drop + Files + Threads + Sync,
     R::File: Send,
-    ensures status { result ≤ 3 }
+    ensures status { result ≤ 4 }
 {
     match try_words(rt, words, out, err) {
         Ok(status) | Err(status) => status,
@@ -55,11 +56,11 @@ fn try_words<R, O: Write, E: Write>(
 where
     R: AllocGlobal + Clone + Drop + Files + Threads + Sync,
     R::File: Send,
-    ensures answered { IfOk result (λ status. status ≤ 3) }
+    ensures answered { IfOk result (λ status. status ≤ 4) }
     ensures not { IfErr result (λ status. status ≤ 3) }
 {
     let command = command(rt, words, out, err)?;
-    let names = names(rt, command.folder, err)?;
+    let names = names(rt, command.folder, command.is_verbose, err)?;
     answer_files(rt, &command, &names, out, err)
 }
 
@@ -75,12 +76,13 @@ fn answer_files<R, O: Write, E: Write>(
 where
     R: AllocGlobal + Files + Threads + Sync,
     R::File: Send,
-    ensures answered { IfOk result (λ status. status ≤ 3) }
+    ensures answered { IfOk result (λ status. status ≤ 4) }
     ensures not { IfErr result (λ status. status ≤ 3) }
 {
-    let mut rack = or_tell(rack_of(rt, names), err)?;
-    let inputs = or_tell(open(rt, command, names, rack.slots()), err)?;
-    Ok(answer(rt, command, inputs, out, err))
+    let mut rack = or_tell(rack_of(rt, names), command.explaining(names), err)?;
+    let inputs = open(rt, command, names, rack.slots());
+    let inputs = or_tell(inputs, command.explaining(names), err)?;
+    Ok(answer(rt, command, names, inputs, out, err))
 }
 
 /// The bytes that the buffers of many files share. Up to 128 files have buffers of `LONGEST_BUFFER` each.
@@ -90,7 +92,7 @@ const SHARED_BYTES: usize = 8 << 20;
 const SHORTEST_BUFFER: usize = 16_384;
 
 /// Creates a rack with a buffer for each file.
-fn rack_of<R: AllocGlobal>(rt: &R, names: &Names) -> Result<Rack, Failure<'static>> {
+fn rack_of<R: AllocGlobal>(rt: &R, names: &Names) -> Result<Rack, Refusal<'static>> {
     let count = names.logs.len().saturating_add(names.parts.len());
     let share = SHARED_BYTES / count.max(1);
     let size = share.clamp(SHORTEST_BUFFER, LONGEST_BUFFER);
@@ -103,7 +105,7 @@ fn open<'a, 'b, R: AllocGlobal + Files>(
     command: &Command<'_>,
     names: &'a Names,
     slots: &'b mut [Slot],
-) -> Result<Inputs<ReaderSource<'b, R::File>>, Failure<'a>> {
+) -> Result<Inputs<ReaderSource<'b, R::File>>, Refusal<'a>> {
     let log_count = names.logs.len().min(slots.len());
     let (log_slots, part_slots) = slots.split_at_mut(log_count);
     let logs = open_all(rt, command.folder, &names.logs, log_slots)?;

@@ -1,9 +1,13 @@
 //! Reads the arguments.
 ghost use Rattle.std.specs.Prelude.{◌≤◌, IfErr};
 
+use crate::escapes::unescape;
 use crate::failure::{or_tell, tell};
+use crate::file_names::Names;
+use crate::form::Form;
 use crate::grammar::grammar;
-use crate::request::{Command, Query, StoreQuery};
+use crate::refusal::Refusal;
+use crate::request::{Command, Query, Range, StoreQuery};
 use clap::ArgMatches;
 use clap::error::ErrorKind;
 use hex::FromHexError;
@@ -23,9 +27,25 @@ pub fn command<'a, R: AllocGlobal, O: Write, E: Write>(
     ensures status { IfErr result (λ status. status ≤ 3) }
 {
     match parse(rt.alloc(), words) {
-        Ok(matches) => or_tell(read(rt.alloc(), &matches), err),
+        Ok(matches) => read_or_tell(rt.alloc(), &matches, err),
         Err(error) => Err(tell_error(&error, out, err)),
     }
+}
+
+/// Reads the request from the parsed arguments. An Err is the exit status; the failure is then printed on `err`.
+fn read_or_tell<'a, E: Write>(
+    alloc: Global,
+    matches: &ArgMatches<'a>,
+    err: &mut E,
+) -> Result<Command<'a>, u8>
+    ensures { IfErr result (λ status. status ≤ 3) }
+{
+    let no_names = Names::new(alloc);
+    let is_verbose = matches
+        .subcommand()
+        .is_some_and(|(_, matches)| matches.get_flag("verbose"));
+    let request = read(alloc, matches).map_err(Refusal::from);
+    or_tell(request, is_verbose.then_some(&no_names), err)
 }
 
 /// Parses the arguments by the grammar.
@@ -38,7 +58,7 @@ fn tell_error<O: Write, E: Write>(error: &clap::Error, out: &mut O, err: &mut E)
     ensures { result ≤ 3 }
 {
     if error.kind() == ErrorKind::OutOfMemory {
-        return tell(&Failure::from(Fault::Memory), err);
+        return tell(&Refusal::from(Fault::Memory), None, err);
     }
     if error.use_stderr() {
         // A write error does not change the status.
@@ -46,7 +66,7 @@ fn tell_error<O: Write, E: Write>(error: &clap::Error, out: &mut O, err: &mut E)
         return 2;
     }
     if write!(out, "{error}").is_err() || out.flush().is_err() {
-        return tell(&Failure::Output, err);
+        return tell(&Refusal::from(Failure::Output), None, err);
     }
     0
 }
@@ -63,6 +83,7 @@ fn read<'a>(alloc: Global, matches: &ArgMatches<'a>) -> Result<Command<'a>, Fail
     Ok(Command {
         folder,
         workers,
+        is_verbose: matches.get_flag("verbose"),
         query,
     })
 }
@@ -88,19 +109,86 @@ fn store_query(
     matches: &ArgMatches<'_>,
 ) -> Result<StoreQuery, Failure<'static>> {
     match name {
-        "report" => Ok(StoreQuery::Report),
-        "get" => Ok(StoreQuery::Get(key(alloc, matches)?)),
-        "range" => Ok(StoreQuery::Range(key(alloc, matches)?, found(matches.get_one("COUNT"))?)),
-        "dump" => Ok(StoreQuery::Dump),
+        "report" => Ok(StoreQuery::Report {
+            is_json: matches.get_flag("json"),
+            is_strict: matches.get_flag("strict"),
+        }),
+        "get" => get(alloc, matches),
+        "range" => Ok(StoreQuery::Range(range(alloc, matches)?, form(matches))),
+        "dump" => Ok(StoreQuery::Dump(form(matches))),
         _ => Err(Failure::Words),
     }
 }
 
-/// Decodes the key. By then the parser has accepted all arguments.
-fn key(alloc: Global, matches: &ArgMatches<'_>) -> Result<Key, Failure<'static>> {
-    let digits = found(matches.get_str("KEY"))?;
+/// Returns the query of the subcommand `get`.
+fn get(alloc: Global, matches: &ArgMatches<'_>) -> Result<StoreQuery, Failure<'static>> {
+    let key = found(key(alloc, matches, "KEY")?)?;
+    if matches.get_flag("exists") {
+        return Ok(StoreQuery::Exists(key));
+    }
+    Ok(StoreQuery::Get(key, form(matches)))
+}
+
+/// Returns the form in which pairs are printed.
+fn form(matches: &ArgMatches<'_>) -> Form {
+    Form {
+        is_json: matches.get_flag("json"),
+        is_text: matches.get_flag("text"),
+    }
+}
+
+/// Returns the range of the subcommand `range`.
+fn range(alloc: Global, matches: &ArgMatches<'_>) -> Result<Range, Failure<'static>> {
+    let from = found(key(alloc, matches, "KEY")?)?;
+    let to = key(alloc, matches, "to")?;
+    let prefix = key(alloc, matches, "prefix")?;
+    Ok(Range {
+        from,
+        count: found(matches.get_one("COUNT"))?,
+        to,
+        prefix,
+        columns: columns(alloc, matches)?,
+    })
+}
+
+/// Returns the numbers of the columns. None: the arguments name none.
+fn columns(alloc: Global, matches: &ArgMatches<'_>) -> Result<Option<Vec<u8>>, Failure<'static>> {
+    let Some(words) = matches.get_strs("columns") else {
+        return Ok(None);
+    };
+    let mut numbers = Vec::new(alloc);
+    for word in words {
+        numbers.push(found(word.parse::<u8>().ok())?)?;
+    }
+    Ok(Some(numbers))
+}
+
+/// Decodes the key of this argument. None: it is not given. By then the parser has accepted all arguments.
+fn key(
+    alloc: Global,
+    matches: &ArgMatches<'_>,
+    argument: &str,
+) -> Result<Option<Key>, Failure<'static>> {
+    match matches.get_str(argument) {
+        Some(word) => Ok(Some(key_of(alloc, word, matches.get_flag("text"))?)),
+        None => Ok(None),
+    }
+}
+
+/// Decodes a key: text with escapes, or hexadecimal.
+fn key_of(alloc: Global, word: &str, is_text: bool) -> Result<Key, Failure<'static>> {
+    let bytes = if is_text {
+        unescape(alloc, word)?
+    } else {
+        bytes_of(alloc, word)?
+    };
+    Key::new(bytes).ok_or(Failure::Key)
+}
+
+/// Decodes hexadecimal digits.
+fn bytes_of(alloc: Global, digits: &str) -> Result<Vec<u8>, Failure<'static>> {
     match hex::decode(alloc, digits) {
-        Ok(bytes) => Key::new(bytes).ok_or(Failure::Key),
+        Ok(bytes) => Ok(bytes),
         Err(FromHexError::OutOfMemory) => Err(Failure::from(Fault::Memory)),
         Err(_) => Err(Failure::Key),
     }

@@ -112,7 +112,7 @@ fn push_names<R: Abort + AllocGlobal>(rt: &R, mut names: Vec<String>, text: &mut
 /// Returns the logs and parts of a folder, or the message and the status.
 fn told<R: Abort + AllocGlobal>(rt: &R, folder: &Folder) -> Vec<u8> {
     let mut text = Vec::new(rt.alloc());
-    match names(folder, "F", &mut text) {
+    match names(folder, "F", false, &mut text) {
         Ok(Names { logs, parts }) => {
             push_names(rt, logs, &mut text);
             push_names(rt, parts, &mut text);

@@ -1,0 +1,79 @@
+//! Bytes as text with escapes.
+use mt_recover::Failure;
+use std::alloc::Global;
+use std::io::{self, Write};
+
+/// Whether a byte stands for itself in printed text: ASCII from `!` to `~`, but `"`, `:`, `=` and `\`.
+pub fn is_plain(byte: u8) -> bool {
+    byte.is_ascii_graphic() && !matches!(byte, b'"' | b':' | b'=' | b'\\')
+}
+
+/// Prints a byte as two lowercase hexadecimal digits.
+pub fn write_digits<W: Write>(byte: u8, out: &mut W) -> io::Result<()> {
+    let mut digits = [0; 2];
+    // Ok, since two digits fit.
+    let _encoded = hex::encode_to_slice([byte].as_slice(), &mut digits);
+    out.write_all(&digits)
+}
+
+/// How far an escape was read.
+#[derive(Clone, Copy)]
+enum State {
+    /// No escape has begun.
+    Outside,
+    /// After `\`.
+    Begun,
+    /// After `\x`.
+    Hex,
+    /// After `\x` and this digit.
+    Digit(u8),
+}
+
+/// Returns the bytes of a text with the escapes `\n`, `\r`, `\t`, `\0`, `\\`, `\"`, `\'`, and `\x00` to `\xff`. Err: another
+/// escape, or out of memory.
+pub fn unescape(alloc: Global, text: &str) -> Result<Vec<u8>, Failure<'static>> {
+    let mut bytes = Vec::new(alloc);
+    let mut state = State::Outside;
+    for byte in text.as_bytes() {
+        state = step(state, *byte, &mut bytes)?;
+    }
+    match state {
+        State::Outside => Ok(bytes),
+        _ => Err(Failure::Key),
+    }
+}
+
+/// Reads the next byte of a text, and appends the byte that ends with it, if one does.
+fn step(state: State, byte: u8, bytes: &mut Vec<u8>) -> Result<State, Failure<'static>> {
+    let ended = match state {
+        State::Outside if byte == b'\\' => return Ok(State::Begun),
+        State::Outside => byte,
+        State::Begun if byte == b'x' => return Ok(State::Hex),
+        State::Begun => named(byte).ok_or(Failure::Key)?,
+        State::Hex => return Ok(State::Digit(byte)),
+        State::Digit(first) => byte_of(first, byte).ok_or(Failure::Key)?,
+    };
+    bytes.push(ended)?;
+    Ok(State::Outside)
+}
+
+/// Returns the byte that this letter stands for after `\`. None: no byte.
+fn named(letter: u8) -> Option<u8> {
+    match letter {
+        b'n' => Some(b'\n'),
+        b'r' => Some(b'\r'),
+        b't' => Some(b'\t'),
+        b'0' => Some(b'\0'),
+        b'\\' | b'"' | b'\'' => Some(letter),
+        _ => None,
+    }
+}
+
+/// Returns the byte of two hexadecimal digits. None: one is no such digit.
+fn byte_of(first: u8, second: u8) -> Option<u8> {
+    let mut byte = [0];
+    match hex::decode_to_slice([first, second].as_slice(), &mut byte) {
+        Ok(()) => Some(byte[0]),
+        Err(_) => None,
+    }
+}
