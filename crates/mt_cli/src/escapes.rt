@@ -1,11 +1,15 @@
 //! Bytes as text with escapes.
+ghost use Rattle.std.specs.Prelude.{◌≢◌, ◌≤◌, ◌↔◌, IsTrue};
+
 use mt_recover::Failure;
 use std::alloc::Global;
 use std::io::{self, Write};
 
 /// Whether a byte stands for itself in printed text: ASCII from `!` to `~`, but `"`, `:`, `=` and `\`.
-pub fn is_plain(byte: u8) -> bool {
-    byte.is_ascii_graphic() && !matches!(byte, b'"' | b':' | b'=' | b'\\')
+pub fn is_plain(byte: u8) -> bool
+    ensures { IsTrue result ↔ (33 ≤ byte) × (byte ≤ 126) × (byte ≢ 34) × (byte ≢ 58) × (byte ≢ 61) × (byte ≢ 92) }
+{
+    byte >= b'!' && byte <= b'~' && byte != b'"' && byte != b':' && byte != b'=' && byte != b'\\'
 }
 
 /// Prints a byte as two lowercase hexadecimal digits.
