@@ -11,7 +11,8 @@ pub fn grammar<'a>(alloc: Global) -> Result<Command<'a>, AllocError> {
     let program = with(program, get(alloc));
     let program = with(program, range(alloc));
     let program = with(program, dump(alloc));
-    with(program, audit(alloc))
+    let program = with(program, audit(alloc));
+    with(program, completions(alloc))
 }
 
 /// Adds a subcommand to the program. If either is an Err, returns that Err. Err: out of memory.
@@ -23,7 +24,7 @@ fn with<'a>(
 }
 
 /// The exit statuses.
-const STATUSES: &str =
+pub const STATUSES: &str =
     "Exit status: 0 done, 1 no store (a fault), 2 bad arguments, 3 folder, file or output failed,\n\
      4 done, but the answer is no, or something was torn, late or skipped";
 
@@ -85,6 +86,17 @@ fn audit<'a>(alloc: Global) -> Result<Command<'a>, AllocError> {
     subcommand(alloc, "audit", about, example)
 }
 
+/// Returns the subcommand `completions`, which takes no folder.
+fn completions<'a>(alloc: Global) -> Result<Command<'a>, AllocError> {
+    let about =
+        "Prints a script for a shell that completes arguments (`mtrecover help --man` prints the manual page)";
+    let example = "Example: source <(mtrecover completions bash)";
+    let command = Command::new(alloc, "completions")
+        .about(about)
+        .after_help(example);
+    taking(Ok(command), shell(alloc))
+}
+
 /// Returns a subcommand that prints pairs of the store, with the arguments that all of these take.
 fn of_pairs<'a>(
     alloc: Global,
@@ -144,6 +156,14 @@ fn count<'a>(alloc: Global) -> Arg<'a> {
         0,
         u64::from(u32::MAX),
     ))
+}
+
+/// The shells that have completions.
+const SHELLS: &[&str] = &["bash"];
+
+/// Returns the argument that names the shell.
+fn shell<'a>(alloc: Global) -> Arg<'a> {
+    arg!(in alloc; <SHELL> "The shell").value_parser(SHELLS)
 }
 
 /// Returns the option that explains a failure.

@@ -12,6 +12,7 @@
 mod answering;
 mod caveat;
 mod clashes;
+mod completions;
 mod escapes;
 mod explaining;
 mod failure;
@@ -20,11 +21,13 @@ mod form;
 mod grammar;
 mod json;
 mod listing;
+mod manual;
 mod opening;
 mod ranges;
 mod refusal;
 mod request;
 mod running;
+mod texts;
 mod words;
 
 pub use answering::answer;

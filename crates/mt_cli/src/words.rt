@@ -8,6 +8,7 @@ use crate::form::Form;
 use crate::grammar::grammar;
 use crate::refusal::Refusal;
 use crate::request::{Command, Query, Range, StoreQuery};
+use crate::texts::{Text, tell_text};
 use clap::ArgMatches;
 use clap::error::ErrorKind;
 use hex::FromHexError;
@@ -26,7 +27,13 @@ pub fn command<'a, R: AllocGlobal, O: Write, E: Write>(
 ) -> Result<Command<'a>, u8>
     ensures status { IfErr result (λ status. status ≤ 3) }
 {
+    if asks_for_manual(words) {
+        return Err(tell_text(rt.alloc(), Text::Manual, out, err));
+    }
     match parse(rt.alloc(), words) {
+        Ok(matches) if matches.subcommand_name() == Some("completions") => {
+            Err(tell_text(rt.alloc(), Text::Completions, out, err))
+        }
         Ok(matches) => read_or_tell(rt.alloc(), &matches, err),
         Err(error) => Err(tell_error(&error, out, err)),
     }
@@ -46,6 +53,14 @@ fn read_or_tell<'a, E: Write>(
         .is_some_and(|(_, matches)| matches.get_flag("verbose"));
     let request = read(alloc, matches).map_err(Refusal::from);
     or_tell(request, is_verbose.then_some(&no_names), err)
+}
+
+/// Returns whether the arguments are `help --man`. The parser has no options for `help`.
+fn asks_for_manual(words: &[String]) -> bool {
+    match words {
+        [command, option] => command.as_str() == "help" && option.as_str() == "--man",
+        _ => false,
+    }
 }
 
 /// Parses the arguments by the grammar.

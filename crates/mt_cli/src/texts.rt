@@ -1,0 +1,39 @@
+//! The texts that are made from the grammar.
+ghost use Rattle.std.specs.Prelude.{◌≤◌};
+
+use crate::completions::write_completions;
+use crate::failure::tell;
+use crate::grammar::{STATUSES, grammar};
+use crate::manual::write_manual;
+use crate::refusal::Refusal;
+use std::alloc::Global;
+use std::io::Write;
+
+/// A text that is made from the grammar.
+#[derive(Clone, Copy)]
+pub enum Text {
+    /// The manual page.
+    Manual,
+    /// The completions for bash.
+    Completions,
+}
+
+/// Prints a text and returns the exit status. On a failure, prints its line on `err`.
+pub fn tell_text<O: Write, E: Write>(alloc: Global, text: Text, out: &mut O, err: &mut E) -> u8
+    ensures { result ≤ 3 }
+{
+    match write_text(alloc, text, out) {
+        Ok(()) => 0,
+        Err(refusal) => tell(&refusal, None, err),
+    }
+}
+
+/// Prints a text.
+fn write_text<O: Write>(alloc: Global, text: Text, out: &mut O) -> Result<(), Refusal<'static>> {
+    let program = grammar(alloc)?;
+    match text {
+        Text::Manual => write_manual(alloc, &program, STATUSES, out)?,
+        Text::Completions => write_completions(&program, out)?,
+    }
+    Ok(out.flush()?)
+}
