@@ -55,6 +55,8 @@ fn answer_query<R: AllocGlobal + Threads + Sync, S: Source + Send, O: Write>(
             audit_and_print(rt, inputs, command.workers, out)?;
             Ok(None)
         }
+        // A check reads its files twice, so it opens them itself.
+        Query::Check { .. } => Err(Refusal::from(Failure::Words)),
     }
 }
 

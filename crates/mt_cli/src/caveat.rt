@@ -43,11 +43,21 @@ impl Caveat {
 impl Losses {
     /// Returns what the report says was lost or passed over. None: nothing.
     pub fn of(report: &Report) -> Option<Losses> {
+        Losses::new(
+            report.torn as u128,
+            report.late,
+            report.skipped.len() as u128,
+            report.nameless.len() as u128,
+        )
+    }
+
+    /// Returns these losses. None: there are none.
+    pub fn new(torn: u128, late: u128, skipped: u128, nameless: u128) -> Option<Losses> {
         let losses = Losses {
-            torn: report.torn as u128,
-            late: report.late,
-            skipped: report.skipped.len() as u128,
-            nameless: report.nameless.len() as u128,
+            torn,
+            late,
+            skipped,
+            nameless,
         };
         if losses.is_none() {
             return None;

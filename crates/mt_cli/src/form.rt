@@ -77,7 +77,7 @@ impl Form {
     }
 
     /// Prints bytes, without quotes around them.
-    fn write_bytes<W: Write>(self, bytes: &[u8], out: &mut W) -> io::Result<()> {
+    pub(crate) fn write_bytes<W: Write>(self, bytes: &[u8], out: &mut W) -> io::Result<()> {
         for byte in bytes {
             self.write_byte(*byte, out)?;
         }

@@ -12,6 +12,7 @@ pub fn grammar<'a>(alloc: Global) -> Result<Command<'a>, AllocError> {
     let program = with(program, range(alloc));
     let program = with(program, dump(alloc));
     let program = with(program, audit(alloc));
+    let program = with(program, check(alloc));
     with(program, completions(alloc))
 }
 
@@ -84,6 +85,14 @@ fn audit<'a>(alloc: Global) -> Result<Command<'a>, AllocError> {
         "Prints each version of a key that two or more surviving log updates share, with their records";
     let example = "Example: mtrecover audit examples/store";
     subcommand(alloc, "audit", about, example)
+}
+
+/// Returns the subcommand `check`.
+fn check<'a>(alloc: Global) -> Result<Command<'a>, AllocError> {
+    let about =
+        "Prints what is in each log, part and checkpoint, all that is wrong, and where recovery begins";
+    let example = "Example: mtrecover check examples/store";
+    taking(subcommand(alloc, "check", about, example), json(alloc))
 }
 
 /// Returns the subcommand `completions`, which takes no folder.

@@ -11,11 +11,15 @@
 
 mod answering;
 mod caveat;
+mod checked;
+mod checking;
 mod clashes;
 mod completions;
 mod escapes;
 mod explaining;
 mod failure;
+mod fates;
+mod fields;
 mod file_names;
 mod form;
 mod grammar;

@@ -1,10 +1,25 @@
 //! Opens files as sources.
+use crate::file_names::Names;
 use crate::refusal::Refusal;
 use mt_recover::{Failure, MOST_BYTES};
-use mt_scan::{ReaderSource, Slot};
-use std::fs::{File, Files, OpenFile};
+use mt_scan::{LONGEST_BUFFER, Rack, ReaderSource, Slot};
+use std::fs::{self, File, Files, OpenFile};
 use std::io;
 use std::path::Path;
+
+/// The bytes that the buffers of many files share. Up to 128 files have buffers of `LONGEST_BUFFER` each.
+const SHARED_BYTES: usize = 8 << 20;
+
+/// The size of the shortest buffers. Shorter ones would take many more reads.
+const SHORTEST_BUFFER: usize = 16_384;
+
+/// Creates a rack with a buffer for each file.
+pub fn rack_of<R: AllocGlobal>(rt: &R, names: &Names) -> Result<Rack, Refusal<'static>> {
+    let count = names.logs.len().saturating_add(names.parts.len());
+    let share = SHARED_BYTES / count.max(1);
+    let size = share.clamp(SHORTEST_BUFFER, LONGEST_BUFFER);
+    Ok(Rack::new(rt.alloc(), count, size)?)
+}
 
 /// Opens the files of these names in the folder as sources, each with the buffer of a slot. Err: a file cannot be
 /// opened, or out of memory.
@@ -37,4 +52,11 @@ fn open_source<'a, 'b, R: AllocGlobal + Files>(
 fn open<R: AllocGlobal + Files>(rt: &R, folder: &str, name: &str) -> io::Result<R::File> {
     let path = Path::new(folder).join(rt.alloc(), name)?;
     File::open(rt, &path)
+}
+
+/// Returns the size of the file of this name in the folder in bytes. None: the system does not tell.
+pub fn size_of<R: AllocGlobal + Files>(rt: &R, folder: &str, name: &str) -> Option<u64> {
+    let path = Path::new(folder).join(rt.alloc(), name).ok()?;
+    let metadata = fs::metadata(rt, &path).ok()?;
+    Some(metadata.len())
 }

@@ -31,6 +31,8 @@ pub enum Query {
     Store(StoreQuery, Pieces),
     /// The clashes of the logs, which take no store.
     Audit,
+    /// What is in each file, as JSON or not, for which files are read twice.
+    Check { is_json: bool },
 }
 
 /// A query on the recovered store.

@@ -2,15 +2,16 @@
 ghost use Rattle.std.specs.Prelude.{◌≤◌, IfErr, IfOk};
 
 use crate::answering::answer;
+use crate::checking::check;
 use crate::failure::{or_tell, tell};
 use crate::file_names::Names;
 use crate::listing::names;
-use crate::opening::open_all;
+use crate::opening::{open_all, rack_of};
 use crate::refusal::Refusal;
-use crate::request::Command;
+use crate::request::{Command, Query};
 use crate::words::command;
 use mt_recover::{Failure, Inputs};
-use mt_scan::{LONGEST_BUFFER, Rack, ReaderSource, Slot};
+use mt_scan::{ReaderSource, Slot};
 use std::env::{self, Env};
 use std::fs::Files;
 use std::io::{self, Write};
@@ -79,24 +80,13 @@ where
     ensures answered { IfOk result (λ status. status ≤ 4) }
     ensures not { IfErr result (λ status. status ≤ 3) }
 {
+    if let Query::Check { is_json } = command.query {
+        return Ok(check(rt, command, is_json, names, out, err));
+    }
     let mut rack = or_tell(rack_of(rt, names), command.explaining(names), err)?;
     let inputs = open(rt, command, names, rack.slots());
     let inputs = or_tell(inputs, command.explaining(names), err)?;
     Ok(answer(rt, command, names, inputs, out, err))
-}
-
-/// The bytes that the buffers of many files share. Up to 128 files have buffers of `LONGEST_BUFFER` each.
-const SHARED_BYTES: usize = 8 << 20;
-
-/// The size of the shortest buffers. Shorter ones would take many more reads.
-const SHORTEST_BUFFER: usize = 16_384;
-
-/// Creates a rack with a buffer for each file.
-fn rack_of<R: AllocGlobal>(rt: &R, names: &Names) -> Result<Rack, Refusal<'static>> {
-    let count = names.logs.len().saturating_add(names.parts.len());
-    let share = SHARED_BYTES / count.max(1);
-    let size = share.clamp(SHORTEST_BUFFER, LONGEST_BUFFER);
-    Ok(Rack::new(rt.alloc(), count, size)?)
 }
 
 /// Opens the sources of the logs, and then those of the parts.

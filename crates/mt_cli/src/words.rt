@@ -113,6 +113,10 @@ fn query(alloc: Global, name: &str, matches: &ArgMatches<'_>) -> Result<Query, F
     if name == "audit" {
         return Ok(Query::Audit);
     }
+    if name == "check" {
+        let is_json = matches.get_flag("json");
+        return Ok(Query::Check { is_json });
+    }
     let pieces = found(matches.get_one("pieces").and_then(Pieces::new))?;
     Ok(Query::Store(store_query(alloc, name, matches)?, pieces))
 }

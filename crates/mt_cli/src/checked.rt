@@ -1,0 +1,192 @@
+//! What a check finds in the files of a folder, as lines.
+use crate::caveat::Losses;
+use crate::fates::{PartState, fate_of, numbers_of};
+use crate::fields::Fields;
+use crate::file_names::Names;
+use mt_record::{LogFront, Rest};
+use mt_recover::{LogCheck, Start};
+use mt_words::{Fault, Format};
+use std::alloc::{AllocError, Global};
+use std::io::{self, Write};
+
+/// What a check finds in the files of a folder.
+#[derive(Drop)]
+pub struct Checked {
+    /// The check of each log, or its fault.
+    pub logs: Vec<Result<LogCheck, Fault>>,
+    /// The size of each log's file in bytes, if the system tells.
+    pub sizes: Vec<Option<u64>>,
+    /// What is known of each part.
+    pub parts: Vec<PartState>,
+    /// Where recovery begins, or the fault that it names.
+    pub start: Result<Start, Fault>,
+}
+
+impl Checked {
+    /// Prints a line for each log, for each part, for each checkpoint, and for the cutoff. Err: write error.
+    pub fn write<W: Write>(&self, names: &Names, is_json: bool, out: &mut W) -> io::Result<()> {
+        for (log, name) in names.logs.iter().enumerate() {
+            self.write_log(log, name.as_str(), Fields::new(out, is_json)?)?;
+        }
+        for (part, name) in names.parts.iter().enumerate() {
+            self.write_part(part, name.as_str(), Fields::new(out, is_json)?)?;
+        }
+        Ok(())
+    }
+
+    /// Prints the lines of the checkpoints and of the cutoff. Err: write error, or out of memory.
+    pub fn write_choice<W: Write>(
+        &self,
+        alloc: Global,
+        is_json: bool,
+        out: &mut W,
+    ) -> Result<io::Result<()>, AllocError> {
+        for number in &numbers_of(alloc, &self.parts)? {
+            let fate = fate_of(*number, &self.parts, &self.start);
+            let line = Fields::new(out, is_json).and_then(|line| fate.write(*number, line));
+            if line.is_err() {
+                return Ok(line);
+            }
+        }
+        Ok(self.write_cutoff(is_json, out))
+    }
+
+    /// Prints the line of the cutoff, if there is one, with the first log whose last timestamp it is.
+    fn write_cutoff<W: Write>(&self, is_json: bool, out: &mut W) -> io::Result<()> {
+        let Ok(start) = &self.start else {
+            return Ok(());
+        };
+        let mut line = Fields::new(out, is_json)?;
+        line.number("cutoff", start.window.cutoff)?;
+        if let Some(log) = self.log_of(start.window.cutoff) {
+            line.number("log", log)?;
+        }
+        line.number("begin", start.window.begin)?;
+        line.end()
+    }
+
+    /// Returns the first log whose last timestamp is the cutoff.
+    fn log_of(&self, cutoff: u64) -> Option<usize> {
+        (0..self.logs.len()).find(|log| self.last_of(*log) == Some(cutoff))
+    }
+
+    /// Returns the last timestamp of the log that this file belongs to: of a segment, the greatest of its worker's.
+    fn last_of(&self, log: usize) -> Option<u64> {
+        let front = front_of(self.logs.get(log)?)?;
+        let Some((worker, _)) = front.head.writer else {
+            return Some(last_in(front));
+        };
+        self.logs
+            .iter()
+            .filter_map(front_of)
+            .filter(|other| other.head.writer.is_some_and(|(other, _)| other == worker))
+            .map(last_in)
+            .max()
+    }
+
+    /// Prints the line of a log.
+    fn write_log<W: Write>(
+        &self,
+        log: usize,
+        name: &str,
+        mut line: Fields<'_, W>,
+    ) -> io::Result<()> {
+        line.number("log", log)?;
+        line.file(name)?;
+        if let Some(Some(size)) = self.sizes.get(log) {
+            line.number("bytes", size)?;
+        }
+        match self.logs.get(log) {
+            Some(Ok(check)) => write_check(check, self.start.is_ok(), &mut line)?,
+            Some(Err(Fault::Header { .. })) => line.word("state", "header")?,
+            _ => line.word("state", "unread")?,
+        }
+        line.end()
+    }
+
+    /// Prints the line of a part.
+    fn write_part<W: Write>(
+        &self,
+        part: usize,
+        name: &str,
+        mut line: Fields<'_, W>,
+    ) -> io::Result<()> {
+        line.number("part", part)?;
+        line.file(name)?;
+        match self.parts.get(part) {
+            Some(state) => state.write(&mut line)?,
+            None => line.word("state", "unread")?,
+        }
+        line.end()
+    }
+
+    /// Returns what recovery loses or passes over. None: nothing.
+    pub fn losses(&self) -> Option<Losses> {
+        let mut torn = 0;
+        let mut late = 0;
+        for check in self.logs.iter().filter_map(|check| check.as_ref().ok()) {
+            torn = u128::from(check.front.rest == Rest::Torn).saturating_add(torn);
+            late = u128::from(check.late).saturating_add(late);
+        }
+        let Ok(start) = &self.start else {
+            return None;
+        };
+        let skipped = start.choice.skipped.len() as u128;
+        let nameless = start.choice.nameless.len() as u128;
+        Losses::new(torn, late, skipped, nameless)
+    }
+}
+
+/// Returns the front of a log that has a header.
+fn front_of(check: &Result<LogCheck, Fault>) -> Option<&LogFront> {
+    check.as_ref().ok().map(|check| &check.front)
+}
+
+/// Returns the last timestamp of a file.
+fn last_in(front: &LogFront) -> u64 {
+    front.head.from.max(front.latest)
+}
+
+/// Prints what a check found in a log. The late updates are known if there is a cutoff.
+fn write_check<W: Write>(
+    check: &LogCheck,
+    has_cutoff: bool,
+    line: &mut Fields<'_, W>,
+) -> io::Result<()> {
+    let LogFront {
+        head,
+        whole,
+        end,
+        rest,
+        ..
+    } = check.front;
+    match rest {
+        Rest::Nothing => line.word("state", "whole")?,
+        Rest::Torn => line.word("state", "torn")?,
+        Rest::Faulty(what) => line.word("state", what)?,
+    }
+    line.number("end", end)?;
+    line.number("records", whole)?;
+    line.number("marks", check.marks)?;
+    if has_cutoff {
+        line.number("late", check.late)?;
+    }
+    line.number("from", head.from)?;
+    line.number("last", last_in(&check.front))?;
+    match head.writer {
+        Some((worker, segment)) => {
+            line.number("format", 3)?;
+            line.number("worker", worker)?;
+            line.number("segment", segment)
+        }
+        None => line.number("format", digit(head.format)),
+    }
+}
+
+/// Returns the number of a format.
+fn digit(format: Format) -> u8 {
+    match format {
+        Format::One => 1,
+        Format::Two => 2,
+    }
+}

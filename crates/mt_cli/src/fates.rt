@@ -1,0 +1,213 @@
+//! What becomes of parts and checkpoints, and why.
+use crate::fields::Fields;
+use mt_recover::{PartScan, Start};
+use mt_words::Fault;
+use std::alloc::{AllocError, Global};
+use std::io::{self, Write};
+
+/// What is known of a part.
+#[derive(Clone, Copy, Debug)]
+pub enum PartState {
+    /// It is complete.
+    Whole(Part),
+    /// It has a header, but is broken.
+    Broken { checkpoint: u32 },
+    /// It has no header.
+    Nameless,
+    /// Its source failed.
+    Unread,
+}
+
+/// What a complete part says.
+#[derive(Clone, Copy, Debug)]
+pub struct Part {
+    pub checkpoint: u32,
+    pub place: u16,
+    pub parts: u16,
+    pub begin: u64,
+    pub end: u64,
+    pub entries: usize,
+}
+
+/// What becomes of a checkpoint.
+#[derive(Clone, Copy, Debug)]
+pub struct Fate {
+    /// What becomes of it, in a word.
+    word: &'static str,
+    /// The number of parts with its number.
+    parts: usize,
+    /// Where its first complete part says that it begins and ends.
+    window: Option<(u64, u64)>,
+}
+
+impl PartState {
+    /// Returns what is known of a part from its scan.
+    pub fn of(scan: &Result<PartScan, Fault>) -> PartState {
+        match scan {
+            Ok(PartScan::Whole(text)) => PartState::Whole(Part {
+                checkpoint: text.number,
+                place: text.part,
+                parts: text.parts,
+                begin: text.begin,
+                end: text.end,
+                entries: text.entries.len(),
+            }),
+            Ok(PartScan::Broken { number }) => PartState::Broken {
+                checkpoint: *number,
+            },
+            Ok(PartScan::Nameless) => PartState::Nameless,
+            Err(_) => PartState::Unread,
+        }
+    }
+
+    /// Returns the number of its checkpoint.
+    fn checkpoint(self) -> Option<u32> {
+        match self {
+            PartState::Whole(part) => Some(part.checkpoint),
+            PartState::Broken { checkpoint } => Some(checkpoint),
+            PartState::Nameless | PartState::Unread => None,
+        }
+    }
+
+    /// Returns what it says, if it is complete and belongs to this checkpoint.
+    fn of_checkpoint(self, number: u32) -> Option<Part> {
+        match self {
+            PartState::Whole(part) if part.checkpoint == number => Some(part),
+            _ => None,
+        }
+    }
+
+    /// Prints its values. Err: write error.
+    pub fn write<W: Write>(self, line: &mut Fields<'_, W>) -> io::Result<()> {
+        match self {
+            PartState::Whole(part) => part.write(line),
+            PartState::Broken { checkpoint } => {
+                line.word("state", "broken")?;
+                line.number("checkpoint", checkpoint)
+            }
+            PartState::Nameless => line.word("state", "nameless"),
+            PartState::Unread => line.word("state", "unread"),
+        }
+    }
+}
+
+impl Part {
+    /// Prints its values.
+    fn write<W: Write>(self, line: &mut Fields<'_, W>) -> io::Result<()> {
+        line.word("state", "whole")?;
+        line.number("checkpoint", self.checkpoint)?;
+        line.number("place", self.place)?;
+        line.number("parts", self.parts)?;
+        line.number("begin", self.begin)?;
+        line.number("end", self.end)?;
+        line.number("entries", self.entries)
+    }
+}
+
+impl Fate {
+    /// Prints the line of the checkpoint with this number. Err: write error.
+    pub fn write<W: Write>(self, number: u32, mut line: Fields<'_, W>) -> io::Result<()> {
+        line.number("checkpoint", number)?;
+        line.word("state", self.word)?;
+        line.number("parts", self.parts)?;
+        if let Some((begin, end)) = self.window {
+            line.number("begin", begin)?;
+            line.number("end", end)?;
+        }
+        line.end()
+    }
+}
+
+/// Returns the numbers of the checkpoints that have parts, rising. Err: out of memory.
+pub fn numbers_of(alloc: Global, parts: &[PartState]) -> Result<Vec<u32>, AllocError> {
+    let mut numbers = Vec::with_capacity(alloc, parts.len())?;
+    for part in parts {
+        if let Some(number) = part.checkpoint() {
+            numbers.push(number)?;
+        }
+    }
+    numbers.sort_unstable();
+    numbers.dedup();
+    Ok(numbers)
+}
+
+/// Returns what becomes of the checkpoint with this number.
+pub fn fate_of(number: u32, parts: &[PartState], start: &Result<Start, Fault>) -> Fate {
+    let first = parts.iter().find_map(|part| part.of_checkpoint(number));
+    Fate {
+        word: word_of(number, parts, start),
+        parts: count_of(number, parts),
+        window: first.map(|part| (part.begin, part.end)),
+    }
+}
+
+/// Returns what becomes of the checkpoint, in a word.
+fn word_of(number: u32, parts: &[PartState], start: &Result<Start, Fault>) -> &'static str {
+    let wholes = parts
+        .iter()
+        .filter(|part| part.of_checkpoint(number).is_some())
+        .count();
+    let Some(first) = parts.iter().find_map(|part| part.of_checkpoint(number)) else {
+        return "broken";
+    };
+    if wholes < count_of(number, parts) {
+        return "broken";
+    }
+    if !are_all(number, first, wholes, parts) {
+        return "incomplete";
+    }
+    match start {
+        Ok(start) => word_from(number, first, start),
+        Err(_) => "unjudged",
+    }
+}
+
+/// Returns what becomes of a checkpoint whose parts are complete and go together, in a word.
+fn word_from(number: u32, first: Part, start: &Start) -> &'static str {
+    let chosen = start.choice.chosen.as_ref();
+    if chosen.is_some_and(|checkpoint| checkpoint.number == number) {
+        return "chosen";
+    }
+    if start.choice.skipped.contains(&number) {
+        return "unordered";
+    }
+    if first.end >= start.window.cutoff {
+        return "late";
+    }
+    "older"
+}
+
+/// Returns whether the complete parts of the checkpoint, of which there are `count`, go together: each place is there
+/// once, and they agree with the first one.
+fn are_all(number: u32, first: Part, count: usize, parts: &[PartState]) -> bool {
+    if usize::from(first.parts) != count || first.begin > first.end {
+        return false;
+    }
+    (0..first.parts).all(|place| count_at(number, first, place, parts) == 1)
+}
+
+/// Returns how many parts of the checkpoint are at this place, and agree with the first one.
+fn count_at(number: u32, first: Part, place: u16, parts: &[PartState]) -> usize {
+    parts
+        .iter()
+        .filter(|part| goes_with(part.of_checkpoint(number), first, place))
+        .count()
+}
+
+/// Returns whether there is a part, it is at this place, and it agrees with the first one.
+fn goes_with(part: Option<Part>, first: Part, place: u16) -> bool {
+    part.is_some_and(|part| {
+        part.place == place
+            && part.parts == first.parts
+            && part.begin == first.begin
+            && part.end == first.end
+    })
+}
+
+/// Returns how many parts the checkpoint has.
+fn count_of(number: u32, parts: &[PartState]) -> usize {
+    parts
+        .iter()
+        .filter(|part| part.checkpoint() == Some(number))
+        .count()
+}
