@@ -89,7 +89,7 @@ fn audit_and_print<R: AllocGlobal + Threads + Sync, S: Source + Send, O: Write>(
 }
 
 /// The size of the output buffer in bytes.
-const PRINTED_AT_ONCE: usize = 65_536;
+pub const PRINTED_AT_ONCE: usize = 65_536;
 
 /// Prints the line of each clash, through a buffer.
 fn print_clashes<O: Write>(

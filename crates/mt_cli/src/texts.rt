@@ -1,13 +1,14 @@
 //! The texts that are made from the grammar.
 ghost use Rattle.std.specs.Prelude.{◌≤◌};
 
+use crate::answering::PRINTED_AT_ONCE;
 use crate::completions::write_completions;
 use crate::failure::tell;
 use crate::grammar::{STATUSES, grammar};
 use crate::manual::write_manual;
 use crate::refusal::Refusal;
 use std::alloc::Global;
-use std::io::Write;
+use std::io::{BufWriter, Write};
 
 /// A text that is made from the grammar.
 #[derive(Clone, Copy)]
@@ -28,12 +29,13 @@ pub fn tell_text<O: Write, E: Write>(alloc: Global, text: Text, out: &mut O, err
     }
 }
 
-/// Prints a text.
+/// Prints a text, through a buffer.
 fn write_text<O: Write>(alloc: Global, text: Text, out: &mut O) -> Result<(), Refusal<'static>> {
     let program = grammar(alloc)?;
+    let mut out = BufWriter::with_capacity(alloc, PRINTED_AT_ONCE, out)?;
     match text {
-        Text::Manual => write_manual(alloc, &program, STATUSES, out)?,
-        Text::Completions => write_completions(&program, out)?,
+        Text::Manual => write_manual(alloc, &program, STATUSES, &mut out)?,
+        Text::Completions => write_completions(&program, &mut out)?,
     }
     Ok(out.flush()?)
 }
