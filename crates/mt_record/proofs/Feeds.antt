@@ -102,10 +102,10 @@ fed_next {F = F} holds is_left shows taken old new held left text piece (Err fau
 
 -- ---- the bytes held back
 
-pub nil_if_empty : (xs : List ℕ) (len : ℕ) (empty : Bool) → len ≡ length xs → empty ≡ (len == 0) → empty ≡ true → xs ≡ []
+pub nil_if_empty : {T : Type 0} (xs : List T) (len : ℕ) (empty : Bool) → len ≡ length xs → empty ≡ (len == 0) → empty ≡ true → xs ≡ []
 nil_if_empty xs len empty number test outcome = nil_from_length xs (sym number ∙ (Decides-eqb len 0).0 (sym test ∙ outcome))
 
-pub some_if_not : (xs : List ℕ) (len : ℕ) (empty : Bool) → len ≡ length xs → empty ≡ (len == 0) → empty ≡ false → xs ≡ [] → ⊥
+pub some_if_not : {T : Type 0} (xs : List T) (len : ℕ) (empty : Bool) → len ≡ length xs → empty ≡ (len == 0) → empty ≡ false → xs ≡ [] → ⊥
 some_if_not xs len empty number test outcome none = false≢true (sym outcome ∙ test ∙ ap (λ (n : ℕ). n == 0) (number ∙ ap length none))
 
 -- if the items at the front are dropped, the rest is left

@@ -1,7 +1,8 @@
 -- The items of a log, one after the other, and what its feed was fed.
 use Rattle.std.proofs.lemmas.Option.{same_Some}
-use Rattle.std.proofs.Common.{◌≡◌, ◌⊎◌, inl, inr, ℕ, ◌+◌, ◌-◌, ◌^◌, ◌<◌, min, max, Option, Some, None, List, [], ◌∷◌, ◌++◌, length, refl, sym, ap, ◌∙◌, subst, append_assoc, arith}
-use Rattle.std.proofs.lemmas.List.{length-append, append-nil, flat_map_more}
+use Rattle.std.proofs.Common.{◌≡◌, ◌⊎◌, inl, inr, ℕ, ◌+◌, ◌-◌, ◌^◌, ◌<◌, ◌≤◌, min, max, Option, Some, None, List, [], ◌∷◌, ◌++◌, length, take, drop, refl, sym, ap, ◌∙◌, subst, append_assoc, arith}
+use Rattle.std.proofs.lemmas.List.{length-append, append-nil, flat_map_more, take-append-drop, take-take, drop-take}
+use Rattle.std.proofs.Math.Seq.{take-append_seam}
 use Rattle.std.specs.Prelude.{◌==◌, Bool, not, IfSome}
 use Rattle.std.specs.List.{flat_map}
 use Rattle.mt_words.specs.declared.fault.What.{What}
@@ -19,7 +20,8 @@ use Rattle.mt_record.specs.declared.feed.head.Head.{Head}
 use Rattle.mt_record.specs.Spelling.{framed, spelling, IsRecordLength}
 use Rattle.mt_record.specs.Fronts.{bytes_of, ShowsNone, IsCutFront}
 use Rattle.mt_record.specs.Heads.{IsHead, head_of, head_bytes, HasNoHeader}
-use Rattle.mt_record.specs.Logs.{AreRecords, latest, IsTorn, IsLog, LogReading, IsLast, IsTextIn, count_of}
+use Rattle.mt_record.specs.Logs.{AreRecords, latest, IsTorn, IsLog, LogReading, IsLast, IsTextIn, count_of, log_bytes}
+use Rattle.mt_record.specs.declared.front.LogFront.{LogFront}
 use Rattle.mt_record.specs.LogFaults.{RestFault, IsLogFault}
 use Rattle.mt_record.specs.declared.front.Rest.{Rest}
 use Rattle.mt_record.specs.declared.front.Rest.TheVariants.{Torn, Faulty}
@@ -73,7 +75,7 @@ header_read listed old head bytes after none is e =
     })
 
 -- if a format allows a change, so does the widest format
-logged_within : (format : Format) (o : Option Change) → IfSome o (IsLoggedChange (limits_of format)) → IfSome o (IsLoggedChange widest)
+pub logged_within : (format : Format) (o : Option Change) → IfSome o (IsLoggedChange (limits_of format)) → IfSome o (IsLoggedChange widest)
 logged_within format None logged = tt
 logged_within format (Some change) logged = (change_within format change logged.0, logged.1)
 
@@ -171,6 +173,25 @@ front_torn taken s head text left some (reads, rest) more = by (rw some at rest)
     by : (left ≡ []) ⊎ IsTorn (limits_of head.format) left → IsFrontOf text (taken ++ s.ready) (record { head = head; whole = s.whole; latest = s.latest; end = s.end; rest = Torn })
     by (inl none) = absurd (more none)
     by (inr torn) = front_is taken s head text left Torn some reads torn
+
+-- the header and the records of the front are the first bytes
+pub front_bytes : (bytes : List ℕ) (records : List Logged) (front : LogFront) → length bytes < 2 ^ 64 → IsFrontOf bytes records front
+    → (front.end ≤ length bytes) × (take front.end bytes ≡ log_bytes front.head records)
+front_bytes bytes records front fits is =
+    let log = log_bytes front.head records in
+    let sizes = length-append log is.rest in
+    let same : front.end ≡ length log = omega (arith, fits, is.end, sizes, ap length is.spelled) in (
+      omega (arith, same, sizes, ap length is.spelled),
+      (λ i. take (same i) (is.spelled i)) ∙ take-append_seam log is.rest,
+    )
+
+-- the bytes up to `end` are those up to `read` and the chunk after them
+pub chunk_read : (bytes chunk : List ℕ) (read end : ℕ) → read ≤ end → end ≤ length bytes → chunk ≡ take (end - read) (drop read bytes)
+    → take end bytes ≡ take read bytes ++ chunk
+chunk_read bytes chunk read end le within e =
+    let sum : read + (end - read) ≡ end = omega (arith, le) in
+    sym (take-append-drop read (take end bytes))
+    ∙ (λ i. take-take read end bytes le i ++ (ap (λ (n : ℕ). drop read (take n bytes)) (sym sum) ∙ drop-take read (end - read) bytes ∙ sym e) i)
 
 -- ---- faults
 

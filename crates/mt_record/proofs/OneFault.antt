@@ -1,5 +1,5 @@
 -- The bytes after the records have at most one fault, and none if they are empty, torn or begin with a record.
-use Rattle.std.proofs.Common.{◌≡◌, ◌≢◌, ◌⊎◌, inl, inr, ℕ, ◌<◌, ◌≤◌, List, [], ◌++◌, length, Option, Some, None, refl, sym, ◌∙◌, subst, arith}
+use Rattle.std.proofs.Common.{◌≡◌, ◌⊎◌, inl, inr, ℕ, ◌<◌, ◌≤◌, List, [], ◌++◌, length, Option, Some, None, refl, sym, ◌∙◌, subst, arith}
 use Rattle.std.specs.Prelude.{slice_index, IfSome}
 use Rattle.byteorder.specs.Endian.{big_bytes}
 use Rattle.mt_words.specs.declared.limits.Format.{Format}
@@ -12,8 +12,8 @@ use Rattle.mt_words.specs.declared.limits.Limits.{Limits}
 use Rattle.mt_words.specs.Limits.{limits_of}
 use Rattle.mt_words.specs.Words.{IsKey}
 use Rattle.mt_words.specs.Changes.{Logged, changed, AllowsKind, IsLawful, IsLogged, IsLoggedChange}
-use Rattle.mt_record.specs.Spelling.{kind_byte, body_of, body, framed, spelling, Fits, IsRecordLength}
-use Rattle.mt_record.specs.Logs.{IsTorn}
+use Rattle.mt_record.specs.Spelling.{kind_byte, body_of, body, framed, Fits, IsRecordLength}
+use Rattle.mt_record.specs.Logs.{IsTorn, Stops}
 use Rattle.mt_record.specs.LogFaults.{IsKindByte, HasLengthFault, HasFrame, BodyFault, RestFault}
 use Rattle.mt_record.proofs.Unique.{same_split, same_number, same_body}
 use Rattle.mt_words.proofs.Formats.{within}
@@ -164,10 +164,6 @@ one_rest format low rest a b h k = both (tested_rest a format low rest h) (teste
     both (inr x) (inr y) = one_name (same_frame format rest a low x.0 y.0 x.1) y.1 (λ _ _ f g. one_body (limits_of format) low y.0.body a b f g)
 
 -- ---- what ends the records
-
--- the rest does not begin with a lawful record whose timestamp is at least `low`
-abbrev pub Stops : Limits → ℕ → List ℕ → Type 0
-Stops limits low rest = (r : Logged) (after : List ℕ) → IsLawful limits r → low ≤ r.timestamp → rest ≢ spelling r ++ after
 
 -- if the rest has a fault, it does not begin with such a record
 pub fault_stops : (format : Format) (low : ℕ) (rest : List ℕ) (a : What) → RestFault a (limits_of format) low rest → Stops (limits_of format) low rest

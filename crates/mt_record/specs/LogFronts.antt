@@ -1,4 +1,4 @@
--- How far bytes are a log, and what stands behind.
+-- How far bytes are a log, and what follows.
 use Rattle.std.specs.Prelude.{◌≡◌, ℕ, List, [], ◌++◌}
 use Rattle.mt_words.specs.declared.limits.Limits.{Limits}
 use Rattle.mt_words.specs.Limits.{limits_of}
@@ -10,13 +10,13 @@ use Rattle.mt_record.specs.Heads.{IsHead}
 use Rattle.mt_record.specs.Logs.{AreRecords, latest, IsTorn, count_of, log_bytes}
 use Rattle.mt_record.specs.LogFaults.{RestFault}
 
--- what stands behind the records of a log, of which the last has the timestamp `low`
+-- what follows the records of a log, of which the last has the timestamp `low`
 abbrev pub IsRest : Limits → ℕ → List ℕ → Rest → Type 0
 IsRest limits low rest Nothing = rest ≡ []
 IsRest limits low rest Torn = IsTorn limits rest
 IsRest limits low rest (Faulty what) = RestFault what limits low rest
 
--- The bytes begin with a header and these records, and what stands behind is no record. The front has their header and their numbers.
+-- The bytes begin with a header and these records, and what follows is no record. The front has their header and their numbers.
 pub record IsFrontOf (bytes : List ℕ) (records : List Logged) (front : LogFront) : Type 0 where
   pub rest : List ℕ
   pub spelled : bytes ≡ log_bytes front.head records ++ rest

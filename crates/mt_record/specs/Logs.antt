@@ -1,5 +1,5 @@
 -- Which bytes are a log, what the log contains, and its last timestamp.
-use Rattle.std.specs.Prelude.{◌≡◌, ℕ, ◌+◌, ◌-◌, ◌≤◌, ◌<◌, ◌^◌, ◌↔◌, ◌⊎◌, min, Bool, IsTrue, List, [], ◌∷◌, ◌++◌, length, map, Contains, All, Vec}
+use Rattle.std.specs.Prelude.{◌≡◌, ◌≢◌, ℕ, ◌+◌, ◌-◌, ◌≤◌, ◌<◌, ◌^◌, ◌↔◌, ◌⊎◌, min, Bool, IsTrue, List, [], ◌∷◌, ◌++◌, length, map, Contains, All, Vec}
 use Rattle.std.specs.Global.{Global}
 use Rattle.std.specs.List.{flat_map}
 use Rattle.byteorder.specs.Endian.{big_bytes}
@@ -20,6 +20,16 @@ AreRecords limits low (r ∷ rs) = IsLawful limits r × (low ≤ r.timestamp) ×
 abbrev pub latest : ℕ → List Logged → ℕ
 latest low [] = low
 latest low (r ∷ rs) = latest r.timestamp rs
+
+-- the bytes are the encoding of this lawful record, whose timestamp is at least `low`, and then `after`
+pub record IsNext (limits : Limits) (low : ℕ) (bytes : List ℕ) (r : Logged) (after : List ℕ) : Type 0 where
+  pub lawful : IsLawful limits r
+  pub rises : low ≤ r.timestamp
+  pub spelled : bytes ≡ spelling r ++ after
+
+-- the bytes do not begin with a lawful record whose timestamp is at least `low`
+abbrev pub Stops : Limits → ℕ → List ℕ → Type 0
+Stops limits low bytes = (r : Logged) (after : List ℕ) → IsLawful limits r → low ≤ r.timestamp → bytes ≢ spelling r ++ after
 
 -- an allowed length, followed by fewer bytes than the body and the second length need
 pub record IsCutFrame (IsLength : ℕ → Type 0) (rest : List ℕ) : Type 0 where

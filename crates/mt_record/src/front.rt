@@ -2,7 +2,7 @@
 use crate::feed::head::Head;
 use mt_words::What;
 
-/// How far bytes are a log: their header, the complete records after it, and what stands behind these.
+/// How far bytes are a log: their header, the complete records after it, and what follows these.
 #[derive(Clone, Copy, Debug)]
 pub struct LogFront {
     pub head: Head,
@@ -15,7 +15,7 @@ pub struct LogFront {
     pub rest: Rest,
 }
 
-/// What stands behind the complete records of a log.
+/// What follows the complete records of a log.
 #[derive(Clone, Copy, Debug, PartialEq, Eq)]
 pub enum Rest {
     Nothing,

@@ -8,6 +8,7 @@
 //! `feed.rt`.
 #![tactic(auto)]
 
+mod at_end;
 mod body;
 mod encode;
 mod feed;
@@ -17,12 +18,13 @@ mod laws;
 mod part_text;
 mod read;
 
+pub use at_end::{RecordsAtEnd, records_at_end};
 pub use body::lent::Lent;
 pub use body::lent_writes::LentWrites;
 pub use encode::parts::{encode_part, encode_part_2};
 pub use encode::updates::body_of_update;
 pub use encode::{encode_log_header, encode_log_header_2, encode_log_header_3, encode_record};
-pub use feed::head::Head;
+pub use feed::head::{Head, header_at};
 pub use feed::log_feed::LogFeed;
 pub use feed::part_feed::PartFeed;
 pub use front::{LogFront, Rest};
@@ -32,4 +34,4 @@ pub use kept::texts::Texts;
 pub use kept::updates::Updates;
 pub use laws::{one_part, one_reading};
 pub use part_text::{PartFault, PartHead, PartText};
-pub use read::{FeedFault, LogText, read_log};
+pub use read::{FeedFault, LogText, cut_log, read_log, record_at};

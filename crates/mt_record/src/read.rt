@@ -1,11 +1,17 @@
-//! What a log says, why bytes are not a log, and `read_log` for a log whose bytes are all in memory.
-ghost use Rattle.std.specs.Prelude.{◌≡◌, IfOk, IfErr};
+//! What a log says, why bytes are not a log, and functions for logs whose bytes are all in memory.
+ghost use Rattle.std.specs.Prelude.{◌≡◌, List, IfOk, IfErr, MatchOption};
+ghost use Rattle.mt_words.specs.Changes.{Logged};
+ghost use Rattle.mt_words.specs.Limits.{limits_of};
 ghost use Rattle.mt_record.specs.declared.read.FeedFault.TheVariants as faults;
-ghost use Rattle.mt_record.specs.Logs.{IsTextOf};
+ghost use Rattle.mt_record.specs.Logs.{IsTextOf, IsNext, Stops, log_bytes};
+ghost use Rattle.mt_record.specs.LogFronts.{IsFrontOf};
 ghost use Rattle.mt_record.specs.LogFaults.{IsAnswered, fault_at};
 
+use crate::body::copy::copy_record;
+use crate::feed::frame::next_record;
 use crate::feed::log_feed::LogFeed;
-use mt_words::{Fault, Memory, Record, What};
+use crate::front::LogFront;
+use mt_words::{Fault, Format, Memory, Record, What};
 use std::alloc::Global;
 use thiserror::Error;
 
@@ -72,4 +78,47 @@ pub fn read_log(alloc: Global, bytes: &[u8]) -> Result<LogText, FeedFault>
     let mut feed = LogFeed::new(alloc);
     feed.feed(bytes)?;
     feed.finish()
+}
+
+/// The number of bytes of a log in memory that are read at once.
+const READ_AT_ONCE: usize = 65_536;
+
+/// Returns how far bytes are a log, and the bytes of just the header and the complete records, which are a log. It
+/// keeps no record.
+/// Err: the bytes have no header, or `Memory` if an allocation failed.
+pub fn cut_log(alloc: Global, bytes: &[u8]) -> Result<(LogFront, &[u8]), FeedFault>
+    ensures log { IfOk result (λ cut. (records : List Logged) × IsFrontOf bytes.now records cut.0 × (cut.1.now ≡ log_bytes cut.0.head records)) }
+    ensures fault { IfErr result (IsAnswered bytes.now) }
+{
+    let mut feed = LogFeed::keeping(alloc);
+    let mut read = 0;
+    while read < bytes.len() {
+        let end = read.saturating_add(READ_AT_ONCE).min(bytes.len());
+        // The feed keeps a fault, and reads no further.
+        let _ = feed.feed(&bytes[read..end]);
+        let _ = feed.drop_kept();
+        read = end;
+    }
+    let front = feed.front()?;
+    Ok((front, &bytes[..front.end as usize]))
+}
+
+/// Returns the record at the front of bytes, and the bytes after it. `latest` is the timestamp of the record before it.
+/// Returns None if no record of this format is at the front. Err: out of memory.
+pub fn record_at(
+    alloc: Global,
+    format: Format,
+    latest: u64,
+    bytes: &[u8],
+) -> Result<Option<(Record, &[u8])>, Memory>
+    ensures { IfOk result (λ found. MatchOption found (Stops (limits_of format) latest bytes.now)
+        (λ x. IsNext (limits_of format) latest bytes.now x.0 x.1.now)) }
+{
+    match next_record(format, latest, bytes) {
+        Ok(Some((_, body, after))) => Ok(Some((copy_record(alloc, body)?, after))),
+        // Nothing, or a torn tail.
+        Ok(None) => Ok(None),
+        // A fault.
+        Err(_) => Ok(None),
+    }
 }

@@ -16,7 +16,7 @@ use std::alloc::Global;
 /// What a check finds in a log that has a header.
 #[derive(Clone, Copy, Debug)]
 pub struct LogCheck {
-    /// How far its bytes are a log, and what stands behind.
+    /// How far its bytes are a log, and what follows.
     pub front: LogFront,
     /// The number of marks among its complete records.
     pub marks: u64,
@@ -26,7 +26,7 @@ pub struct LogCheck {
 
 impl LogCheck {
     /// Returns the scan of the log with this number, without its updates: as if all had been dropped. Err: the fault
-    /// behind its records.
+    /// after its records.
     pub fn scan(&self, alloc: Global, log: usize) -> Result<LogScan, Fault>
         ensures scan { (limit : ℕ) (bytes : List ℕ) → IsCheckOf limit bytes self.now → IfOk result (HasAllBelow 0 log bytes) }
         ensures fault { (limit : ℕ) (bytes : List ℕ) → IsCheckOf limit bytes self.now → IfErr result (IsScanFault log bytes) }
@@ -121,7 +121,7 @@ impl Fed for CheckingFeed {
 }
 
 /// Checks the log with this number from its source, up to the end or the first fault. It reads no further than that, and
-/// keeps no record. `limit` is the timestamp from which updates count as late. A fault behind the header is no error.
+/// keeps no record. `limit` is the timestamp from which updates count as late. A fault after the header is no error.
 /// Err: the log has no header, its source failed, or out of memory.
 pub fn check_log<S: Source>(
     alloc: Global,

@@ -11,16 +11,11 @@ use Rattle.mt_words.specs.Limits.{widest}
 use Rattle.mt_words.specs.Words.{AreColumns}
 use Rattle.mt_words.specs.Changes.{Logged, IsLawful, IsLawfulChange, AllowsKind, IsEntry}
 use Rattle.mt_record.specs.declared.body.ChangeFields.{ChangeFields}
-use Rattle.mt_record.specs.Spelling.{counted, column_bytes, kind_byte, kind_bytes, change_bytes, body, framed, spelling, FitsColumn, FitsKind, FitsChange}
+use Rattle.mt_record.specs.Spelling.{counted, column_bytes, kind_byte, kind_bytes, change_bytes, body, framed, FitsColumn, FitsKind, FitsChange}
+use Rattle.mt_record.specs.Logs.{IsNext}
 use Rattle.mt_record.specs.LogFaults.{HasLengthFault, HasTrailerFault, HasVersionFault, HasKeyFault, HasColumnsFault}
 
--- the bytes are the encoding of this lawful record, whose timestamp is at least `low`, and then `after`
-pub record IsNext (limits : Limits) (low : ℕ) (bytes : List ℕ) (r : Logged) (after : List ℕ) : Type 0 where
-  pub lawful : IsLawful limits r
-  pub rises : low ≤ r.timestamp
-  pub spelled : bytes ≡ spelling r ++ after
-
--- the bytes begin with such a record, with this timestamp and the body `found`, and `after` follows
+-- the bytes begin with a lawful record, with this timestamp and the body `found`, and `after` follows
 pub record IsNextBody (limits : Limits) (low : ℕ) (bytes : List ℕ) (timestamp : ℕ) (found after : List ℕ) : Type 0 where
   pub next : Logged
   pub is_next : IsNext limits low bytes next after

@@ -34,7 +34,7 @@ pub struct Head {
 }
 
 /// Returns the header at the front and the bytes after it. Returns None if the bytes do not begin with a header.
-fn header_at(bytes: &[u8]) -> Option<(Head, &[u8])>
+pub fn header_at(bytes: &[u8]) -> Option<(Head, &[u8])>
     ensures found { IfSome result (λ x. IsHead x.0 × (bytes.now ≡ head_bytes x.0 ++ x.1.now)) }
     ensures none { IfNone result (HasNoHeader bytes.now) }
 {

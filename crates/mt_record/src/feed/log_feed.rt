@@ -168,7 +168,7 @@ impl<R: Records> LogFeed<R> {
         self.feed.items.finish(torn)
     }
 
-    /// Returns how far the bytes are a log, which may have a fault behind its records.
+    /// Returns how far the bytes are a log, which may have a fault after its records.
     /// Err: the bytes have no header, or `Memory` if an allocation failed.
     pub fn front(&self) -> Result<LogFront, FeedFault>
         ensures front { (bytes : List ℕ) (taken : List Logged) → IsLogFed self.now bytes taken →
@@ -185,7 +185,7 @@ impl<R: Records> LogFeed<R> {
     }
 }
 
-/// Returns what stands behind the records of a log with this fault. Err: the fault, if it is not that of a record.
+/// Returns what follows the records of a log with this fault. Err: the fault, if it is not that of a record.
 fn rest_of(fault: FeedFault) -> Result<Rest, FeedFault>
     ensures rest { IfOk result (λ rest. (nth : ℕ) × (what : WhatValue) × (fault ≡ faults.Record nth what) × (rest ≡ Faulty what)) }
     ensures other { IfErr result (λ other. other ≡ fault) }

@@ -97,7 +97,7 @@ impl<R: Records> LogItems<R> {
         }
     }
 
-    /// Returns what was read, with what stands behind it. Err: no header was read.
+    /// Returns what was read, with what follows it. Err: no header was read.
     pub fn front(&self, rest: Rest) -> Result<LogFront, FeedFault>
         ensures front { IfOk result (λ front. (self.now.head ≡ Some front.head) × (front ≡ record { head = front.head; whole = self.now.whole; latest = self.now.latest; end = self.now.end; rest = rest })) }
         ensures none { IfErr result (λ fault. (fault ≡ faults.Header) × (self.now.head ≡ None)) }
