@@ -50,6 +50,8 @@ impl Model for Draft {
 pub struct Tree {
     alloc: Global,
     root: Option<Node>,
+    /// The number of pairs, capped at the greatest `u128`.
+    count: u128,
     /// The number of trees, capped at the greatest `u64`. They were counted as they were finished.
     layers: u64,
 }
@@ -60,6 +62,7 @@ impl Drop for Tree {
         let Tree {
             alloc: _,
             root: _,
+            count: _,
             layers: _,
         } = self;
     }
@@ -68,14 +71,16 @@ impl Drop for Tree {
 impl Model for Tree {
     ghost use Rattle.std.specs.Prelude.{Option};
     ghost use Rattle.mt_tree.specs.Nodes.{NodeView};
-    ghost use Rattle.mt_tree.specs.Trees.{tree_walk, IsTree, HasLayers};
+    ghost use Rattle.mt_tree.specs.Trees.{tree_walk, IsTree, HasLayers, IsCount};
     ghost use Rattle.mt_tree.specs.Steps.Pairs.{FitsAfter};
 
     ghost Value = { Option NodeView };
 
     ghost view = { λ t. t.root };
 
-    ghost invariant = { λ t. IsTree t.root × FitsAfter 0 (tree_walk t.root) × HasLayers t.root t.layers };
+    ghost invariant = { λ t.
+        IsTree t.root × FitsAfter 0 (tree_walk t.root) × HasLayers t.root t.layers
+        × IsCount (tree_walk t.root) t.count };
 }
 
 impl Draft {
@@ -144,18 +149,21 @@ impl Draft {
         ensures below { IfOk result (λ t. tree_below t ≡ self.below) }
         ensures lawful { IfOk result IsTree }
     {
-        let alloc = self.layer.allocator();
-        if self.layer.is_empty() {
+        let Draft { layer, count } = self;
+        let alloc = layer.allocator();
+        if layer.is_empty() {
             return Ok(Tree {
                 alloc,
                 root: None,
+                count,
                 layers: 1,
             });
         }
-        let Finished { made, below } = finish(alloc, self.layer)?;
+        let Finished { made, below } = finish(alloc, layer)?;
         Ok(Tree {
             alloc,
             root: Some(made),
+            count,
             layers: below.saturating_add(1),
         })
     }
@@ -212,8 +220,10 @@ impl Tree {
         self.visit_from(&[], visitor, target)
     }
 
-    /// Shows the pairs that are at or after the start to the visitor in key order. Err: the visitor's first error.
-    fn visit_from<T, V: Visitor<T>>(
+    /// Shows all pairs whose keys are at or after the start to the visitor in key order, without allocating. The start
+    /// may have any length. The walk ends once the target is full. Err: the visitor's first error; no further pair is
+    /// shown.
+    pub fn visit_from<T, V: Visitor<T>>(
         &self,
         start: &[u8],
         visitor: &V,
@@ -225,6 +235,13 @@ impl Tree {
             None => Ok(()),
             Some(root) => root.visit(start, &mut ArrayVec::new(), visitor, target),
         }
+    }
+
+    /// Returns the number of pairs, capped at the greatest `u128`.
+    pub fn len(&self) -> u128
+        ensures { IsCount (tree_walk self.now) result }
+    {
+        self.count
     }
 
     /// Returns the number of trees, capped at the greatest `u64`.

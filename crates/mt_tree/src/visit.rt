@@ -18,7 +18,7 @@ use crate::place::{Content, Place};
 use arrayvec::ArrayVec;
 use mt_words::{Columns, Kept, LONGEST_KEY, slice_bytes, slice_of};
 
-/// The action on each pair of a walk.
+/// The action on each pair of a walk. By `is_full` it ends the walk early.
 pub trait Visitor<T> {
     /// The reason why the visitor did not take a pair.
     type Error;
