@@ -73,6 +73,22 @@ impl Recovered {
     {
         &self.report
     }
+
+    /// Returns the store alone.
+    pub fn into_store(self) -> Store
+        ensures { result ≡ self.store }
+    {
+        self.into_parts().0
+    }
+
+    /// Returns the store and the report.
+    pub fn into_parts(self) -> (Store, Report)
+        ensures store { result.0 ≡ self.store }
+        ensures report { result.1 ≡ self.report }
+    {
+        let Recovered { store, report } = self;
+        (store, report)
+    }
 }
 
 /// Recovers the store of the logs and checkpoint parts that the sources have, and its report, on one thread. If there

@@ -1,8 +1,8 @@
 //! The recovered store.
 ghost use Rattle.std.specs.Prelude.{◌≡◌, List, ℕ, MatchOption, Contains, IfOk, OnOk};
 ghost use Rattle.mt_words.specs.Walks.{IsMap};
-ghost use Rattle.mt_tree.specs.Range.{hits};
-ghost use Rattle.mt_tree.specs.Trees.{tree_walk};
+ghost use Rattle.mt_tree.specs.Range.{from, hits};
+ghost use Rattle.mt_tree.specs.Trees.{tree_walk, IsCount};
 
 use mt_tree::{Hit, Tree, Visitor, Wanted};
 use mt_words::{Columns, Kept, Memory};
@@ -59,11 +59,32 @@ impl Store {
         self.tree.getrange(start, n, wanted)
     }
 
+    /// Returns the number of pairs, capped at the greatest `u128`.
+    pub fn len(&self) -> u128
+        ensures { IsCount self.now result }
+    {
+        self.tree.len()
+    }
+
     /// Shows all pairs to the visitor, in order. Allocates no memory. Shows no further pair after an Err of the
     /// visitor.
     pub fn visit<T, V: Visitor<T>>(&self, visitor: &V, target: &mut T) -> Result<(), V::Error>
         ensures { OnOk result (V.shown target.old target.new self.now) }
     {
         self.tree.visit(visitor, target)
+    }
+
+    /// Shows all pairs whose key is at or after `start` to the visitor, in order. The start may have any length.
+    /// Allocates no memory. The walk ends once the visitor says that the target is full. Err: the visitor's first error;
+    /// no further pair is shown.
+    pub fn visit_from<T, V: Visitor<T>>(
+        &self,
+        start: &[u8],
+        visitor: &V,
+        target: &mut T,
+    ) -> Result<(), V::Error>
+        ensures { OnOk result (V.shown target.old target.new (from start.now self.now)) }
+    {
+        self.tree.visit_from(start, visitor, target)
     }
 }
