@@ -7,11 +7,12 @@ use crate::failure::tell;
 use crate::file_names::Names;
 use crate::form::Form;
 use crate::json::write_report;
+use crate::printing::print_range;
 use crate::refusal::Refusal;
-use crate::request::{Command, Query, Range, StoreQuery};
+use crate::request::{Command, Query, StoreQuery};
 use mt_recover::{
-    Clash, Cutting, Failure, Inputs, NoGate, Pieces, Recovered, Report, Store, Workers, audit,
-    recover, write_dump,
+    Clash, Cutting, Failure, Inputs, NoGate, Pieces, Recovered, Report, Store, Wanted, Workers,
+    audit, recover, write_dump,
 };
 use mt_scan::Source;
 use mt_words::Key;
@@ -159,26 +160,9 @@ fn losses_of(report: &Report, is_strict: bool) -> Option<Caveat> {
 /// Prints the pair of the key, or that it is absent.
 fn write_found<O: Write>(store: &Store, key: &Key, form: Form, out: &mut O) -> io::Result<()> {
     match store.get(key.as_bytes()) {
-        Some(columns) => form.write(key.as_bytes(), columns, out),
+        Some(columns) => form.write(key.as_bytes(), columns, &Wanted::all(), out),
         None => form.write_absent(out),
     }
-}
-
-/// Prints the pairs of the range, each with those of its columns that are wanted.
-fn print_range<O: Write>(
-    store: &Store,
-    range: &Range,
-    form: Form,
-    out: &mut O,
-) -> Result<(), Refusal<'static>> {
-    let wanted = range.wanted().ok_or(Failure::Words)?;
-    for hit in store.getrange(range.start(), range.count as usize, wanted)? {
-        if !range.has(hit.key.as_bytes()) {
-            break;
-        }
-        form.write(hit.key.as_bytes(), &hit.columns, out)?;
-    }
-    Ok(())
 }
 
 /// Prints all pairs.

@@ -3,21 +3,12 @@ ghost use Rattle.std.specs.Prelude.{◌≢◌, ◌≤◌, ◌↔◌, IsTrue};
 
 use mt_recover::Failure;
 use std::alloc::Global;
-use std::io::{self, Write};
 
 /// Whether a byte stands for itself in printed text: ASCII from `!` to `~`, but `"`, `:`, `=` and `\`.
 pub fn is_plain(byte: u8) -> bool
     ensures { IsTrue result ↔ (33 ≤ byte) × (byte ≤ 126) × (byte ≢ 34) × (byte ≢ 58) × (byte ≢ 61) × (byte ≢ 92) }
 {
     byte >= b'!' && byte <= b'~' && byte != b'"' && byte != b':' && byte != b'=' && byte != b'\\'
-}
-
-/// Prints a byte as two lowercase hexadecimal digits.
-pub fn write_digits<W: Write>(byte: u8, out: &mut W) -> io::Result<()> {
-    let mut digits = [0; 2];
-    // Ok, since two digits fit.
-    let _encoded = hex::encode_to_slice([byte].as_slice(), &mut digits);
-    out.write_all(&digits)
 }
 
 /// How far an escape was read.

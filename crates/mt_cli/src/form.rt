@@ -1,6 +1,6 @@
 //! The forms in which pairs are printed.
-use crate::escapes::{is_plain, write_digits};
-use mt_recover::{Visitor, write_pair};
+use crate::escapes::is_plain;
+use mt_recover::{Visitor, Wanted, write_hex};
 use mt_words::{Columns, Kept};
 use std::io::{self, Write};
 
@@ -19,20 +19,18 @@ impl Form {
         !self.is_json && !self.is_text
     }
 
-    /// Prints a pair on a line. Err: write error.
+    /// Prints a pair on a line, with those of its columns that are wanted. Err: write error.
     pub fn write<W: Write>(
         self,
         key: &[u8],
         columns: &Columns<Kept>,
+        wanted: &Wanted,
         out: &mut W,
     ) -> io::Result<()> {
         if self.is_json {
-            return self.write_object(key, columns, out);
+            return self.write_object(key, columns, wanted, out);
         }
-        if self.is_text {
-            return self.write_line(key, columns, out);
-        }
-        write_pair(key, columns, out)
+        self.write_line(key, columns, wanted, out)
     }
 
     /// Prints that a key is absent. Err: write error.
@@ -45,13 +43,16 @@ impl Form {
         self,
         key: &[u8],
         columns: &Columns<Kept>,
+        wanted: &Wanted,
         out: &mut W,
     ) -> io::Result<()> {
         self.write_bytes(key, out)?;
         out.write_all(b":")?;
         for column in columns.as_slice() {
-            write!(out, " {}=", column.number)?;
-            self.write_bytes(&column.bytes, out)?;
+            if wanted.has(column.number) {
+                write!(out, " {}=", column.number)?;
+                self.write_bytes(&column.bytes, out)?;
+            }
         }
         out.write_all(b"\n")
     }
@@ -61,6 +62,7 @@ impl Form {
         self,
         key: &[u8],
         columns: &Columns<Kept>,
+        wanted: &Wanted,
         out: &mut W,
     ) -> io::Result<()> {
         out.write_all(b"{\"key\":\"")?;
@@ -68,31 +70,34 @@ impl Form {
         out.write_all(b"\",\"columns\":{")?;
         let mut sign = "";
         for column in columns.as_slice() {
-            write!(out, "{sign}\"{}\":\"", column.number)?;
-            self.write_bytes(&column.bytes, out)?;
-            out.write_all(b"\"")?;
-            sign = ",";
+            if wanted.has(column.number) {
+                write!(out, "{sign}\"{}\":\"", column.number)?;
+                self.write_bytes(&column.bytes, out)?;
+                out.write_all(b"\"")?;
+                sign = ",";
+            }
         }
         out.write_all(b"}}\n")
     }
 
     /// Prints bytes, without quotes around them.
     pub(crate) fn write_bytes<W: Write>(self, bytes: &[u8], out: &mut W) -> io::Result<()> {
+        if !self.is_text {
+            return write_hex(bytes, out);
+        }
         for byte in bytes {
             self.write_byte(*byte, out)?;
         }
         Ok(())
     }
 
-    /// Prints a byte. In a JSON string two backslashes stand for one.
+    /// Prints a byte as text. In a JSON string two backslashes stand for one.
     fn write_byte<W: Write>(self, byte: u8, out: &mut W) -> io::Result<()> {
-        if self.is_text {
-            if is_plain(byte) {
-                return out.write_all(&[byte]);
-            }
-            out.write_all(if self.is_json { b"\\\\x" } else { b"\\x" })?;
+        if is_plain(byte) {
+            return out.write_all(&[byte]);
         }
-        write_digits(byte, out)
+        out.write_all(if self.is_json { b"\\\\x" } else { b"\\x" })?;
+        write_hex(&[byte], out)
     }
 }
 
@@ -103,7 +108,7 @@ impl<W: Write> Visitor<W> for Form {
     ghost shown = { λ _ _ _. Unit {0} };
 
     fn visit(&self, out: &mut W, key: &[u8], columns: &Columns<Kept>) -> io::Result<()> {
-        self.write(key, columns, out)
+        self.write(key, columns, &Wanted::all(), out)
     }
 
     ghost none = { λ _. record {} };

@@ -27,6 +27,7 @@ mod json;
 mod listing;
 mod manual;
 mod opening;
+mod printing;
 mod ranges;
 mod refusal;
 mod request;

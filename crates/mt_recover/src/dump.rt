@@ -71,8 +71,8 @@ fn write_column<W: Write>(column: &Column, out: &mut W) -> Result<(), io::Error>
 /// The number of bytes that are printed at once.
 const CHUNK: usize = 64;
 
-/// Prints bytes in lowercase hexadecimal.
-fn write_hex<W: Write>(bytes: &[u8], out: &mut W) -> Result<(), io::Error>
+/// Prints bytes in lowercase hexadecimal. Err: write error.
+pub fn write_hex<W: Write>(bytes: &[u8], out: &mut W) -> Result<(), io::Error>
     ensures { OnOk result
         (Appends (W.contents out.old) (W.contents out.new) (encode_lower bytes.now)) }
 {

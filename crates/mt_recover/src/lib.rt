@@ -35,7 +35,7 @@ mod working;
 pub use assembling::assemble;
 pub use auditing::audit;
 pub use checking::{Start, check_logs, check_parts, start_of};
-pub use dump::{write_dump, write_pair};
+pub use dump::{write_dump, write_hex, write_pair};
 pub use failure::Failure;
 pub use haul::Haul;
 pub use job::{Job, prepare};

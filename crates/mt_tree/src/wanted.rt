@@ -56,8 +56,8 @@ impl Wanted {
     }
 
     /// Returns whether the column of this number is wanted.
-    pub(crate) fn has(self, number: u8) -> bool
-        ensures { result ≡ wants self number }
+    pub fn has(&self, number: u8) -> bool
+        ensures { result ≡ wants self.now number }
     {
         number <= GREATEST_COLUMN && self.flags[number as usize]
     }
