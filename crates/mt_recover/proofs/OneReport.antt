@@ -1,19 +1,19 @@
 -- Logs and parts have one report, apart from where its lists are stored.
-use Rattle.std.proofs.Common.{◌≡◌, ◌∙◌, ℕ, ◌+◌, ◌<◌, suc, Option, List, [], ◌∷◌, length, Contains, sym, ap, subst, arith}
-use Rattle.std.specs.Prelude.{filter}
+use Rattle.std.proofs.Common.{◌≡◌, ◌∙◌, ℕ, ◌+◌, ◌<◌, ◌≤◌, suc, Option, List, [], ◌∷◌, length, Contains, sym, ap, subst, arith}
+use Rattle.std.specs.Prelude.{filter, map}
 use Rattle.std.specs.Option.{option_map}
-use Rattle.std.specs.List.{AllPairs}
+use Rattle.std.specs.List.{AllPairs, flat_map}
 use Rattle.std.specs.List.Sorted.{IsStrictlyIncreasing}
-use Rattle.std.proofs.lemmas.List.Elements.{recursion_from_All}
+use Rattle.std.proofs.lemmas.List.Elements.{recursion_from_All, All-contains}
 use Rattle.std.proofs.lemmas.List.Kept.{AllPairs-from_increasing}
 use Rattle.mt_words.specs.Changes.{is_mark}
-use Rattle.mt_record.specs.Logs.{LogReading}
+use Rattle.mt_record.specs.Logs.{LogReading, IsGreatestOf, times_of}
 use Rattle.mt_scan.specs.PartScans.{KnownPart}
 use Rattle.mt_scan.specs.Choice.{CheckpointReading, AreSkipped, AreNameless}
 use Rattle.mt_replay.specs.Survivors.{is_early}
 use Rattle.mt_recover.specs.Segments.{is_first_file}
 use Rattle.mt_recover.specs.Recovery.{records_of, begin_of, entry_updates, survivors}
-use Rattle.mt_recover.specs.Report.{all_records, logged_updates, is_late, Outcome, IsRecoveredOf, SaysTheSame}
+use Rattle.mt_recover.specs.Report.{all_records, logged_updates, is_late, end_of, Outcome, IsRecoveredOf, SaysTheSame}
 use Rattle.mt_tree.specs.Layers.{CountsLayers}
 use Rattle.mt_tree.proofs.Uniques.{one_count}
 use Rattle.mt_recover.proofs.OneVerdict.{same_facts, one_store}
@@ -45,6 +45,16 @@ one_nameless parts others xs ys same is too =
     let is : AreNameless others xs = subst (λ (x : List KnownPart). AreNameless x xs) same is in
     same_numbers xs ys is.rise too.rise (λ n at. (too.exact n).1 ((is.exact n).0 at)) (λ n at. (is.exact n).1 ((too.exact n).0 at))
 
+-- ---- the greatest time
+
+-- lists of the same times have one greatest time
+one_greatest : (times others : List ℕ) (m n : ℕ) → times ≡ others → IsGreatestOf times m → IsGreatestOf others n → m ≡ n
+one_greatest times others m n same is too =
+    let it : IsGreatestOf times n = subst (λ (ts : List ℕ). IsGreatestOf ts n) (sym same) too in
+    let low : m ≤ n = All-contains (λ (time : ℕ). time ≤ n) times m it.1 is.0 in
+    let high : n ≤ m = All-contains (λ (time : ℕ). time ≤ m) times n is.1 it.0 in
+    omega (arith, low, high)
+
 -- ---- reports
 
 pub one_report : (logs parts : List (List ℕ)) (outcome other : Outcome) → IsRecoveredOf logs parts outcome → IsRecoveredOf logs parts other
@@ -57,12 +67,15 @@ one_report logs parts outcome other is too =
     record {
       skipped = one_skipped is.store.facts.known too.store.facts.known outcome.report.skipped.items other.report.skipped.items same.2 a.skipped b.skipped;
       nameless = one_nameless is.store.facts.known too.store.facts.known outcome.report.nameless.items other.report.nameless.items same.2 a.nameless b.nameless;
+      ends = a.ends ∙ ap (map end_of) same.0 ∙ sym b.ends;
       rest = λ i. record {
         logs = (a.logs ∙ sym b.logs) i;
         writers = (a.writers ∙ ap (λ (x : List LogReading). length (filter (is_first_file x) x)) same.0 ∙ sym b.writers) i;
         records = (a.records ∙ ap (λ (x : List LogReading). length (all_records x)) same.0 ∙ sym b.records) i;
         marks = (a.marks ∙ ap (λ (x : List LogReading). length (filter is_mark (all_records x))) same.0 ∙ sym b.marks) i;
         torn = (a.torn ∙ ap (λ (x : List LogReading). length (filter (λ (log : LogReading). log.torn) x)) same.0 ∙ sym b.torn) i;
+        ends = outcome.report.ends;
+        last = one_greatest (flat_map times_of is.store.facts.readings) (flat_map times_of too.store.facts.readings) outcome.report.last other.report.last (ap (flat_map times_of) same.0) a.last b.last i;
         cutoff = (a.cutoff ∙ same.1 ∙ sym b.cutoff) i;
         checkpoint = (a.checkpoint ∙ ap (option_map (λ (x : CheckpointReading). x.number)) same.3 ∙ sym b.checkpoint) i;
         begin = (a.begin ∙ ap begin_of same.3 ∙ sym b.begin) i;

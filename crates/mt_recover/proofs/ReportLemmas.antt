@@ -1,10 +1,10 @@
 -- What a report counts, log by log and part by part.
-use Rattle.std.proofs.Common.{◌≡◌, ◌∙◌, ℕ, suc, ◌+◌, ◌≤◌, Bool, false, Option, Some, None, List, [], ◌∷◌, ◌++◌, length, refl, sym, ap, arith}
+use Rattle.std.proofs.Common.{◌≡◌, ◌∙◌, inl, inr, ℕ, suc, ◌≤◌, Bool, false, Option, Some, None, List, [], ◌∷◌, ◌++◌, length, map, All, Contains, IfSome, IfNone, unwrap_or, refl, sym, ap, subst, arith}
 use Rattle.std.specs.List.{filter, flat_map, sum_by, count_by}
 use Rattle.std.specs.Option.{option_map}
 use Rattle.std.proofs.lemmas.List.{length-map}
 use Rattle.std.proofs.lemmas.List.Concat.{length-flat_map}
-use Rattle.std.proofs.lemmas.List.Elements.{filter-append}
+use Rattle.std.proofs.lemmas.List.Elements.{filter-append, All-nil, All-append, All-contains, Contains-append_left, Contains-append_right}
 use Rattle.std.proofs.lemmas.Slice.Zip.{AllZip-long}
 use Rattle.std.proofs.lemmas.List.Sums.{sum_by-cons, length-filter}
 use Rattle.mt_words.specs.declared.record.Change.{Change}
@@ -12,10 +12,12 @@ use Rattle.mt_words.specs.declared.update.Origin.TheVariants as origins
 use Rattle.mt_words.specs.declared.update.Update.{Update}
 use Rattle.mt_words.specs.Changes.{is_mark}
 use Rattle.mt_words.specs.Updates.{update_at, updates_from}
-use Rattle.mt_record.specs.Logs.{LogReading, IsReading}
+use Rattle.mt_words.proofs.Elements.{no_element, head_or_tail, head_in, tail_in}
+use Rattle.mt_record.specs.Logs.{LogReading, IsReading, IsGreatestOf, times_of}
 use Rattle.mt_scan.specs.declared.checkpoint.Checkpoint.{Checkpoint}
 use Rattle.mt_scan.specs.declared.log_scan.LogScan.{LogScan}
 use Rattle.mt_scan.specs.Scans.{HasNumbersOf, HaveNumbersOf}
+use Rattle.mt_scan.specs.Cutoff.{IsCutoff}
 use Rattle.mt_scan.specs.PartScans.{KeptPart, shown_by_all}
 use Rattle.mt_scan.specs.Choice.{CheckpointReading, checkpoint_in}
 use Rattle.mt_scan.specs.Steps.Checkpoints.{entries_of}
@@ -24,7 +26,7 @@ use Rattle.mt_replay.specs.Survivors.{all_updates, wholes}
 use Rattle.mt_replay.proofs.BatchLemmas.{one_if}
 use Rattle.mt_recover.specs.Steps.LogScans.{ShowAll, kept, kept_by}
 use Rattle.mt_recover.specs.Recovery.{AreReadings, records_of}
-use Rattle.mt_recover.specs.Report.{all_records}
+use Rattle.mt_recover.specs.Report.{all_records, end_of}
 
 -- ---- what a filter keeps of lists
 
@@ -80,6 +82,52 @@ pub torn_counted : (scans : List LogScan) (readings : List LogReading) → HaveN
 torn_counted scans readings numbers =
     same_sums (λ (scan : LogScan). one_if scan.torn) (λ (log : LogReading). one_if log.torn) (λ s l is. ap one_if is.torn) scans readings numbers
     ∙ sym (length-filter (λ (log : LogReading). log.torn) readings)
+
+pub ends_are : (scans : List LogScan) (readings : List LogReading) → HaveNumbersOf scans readings → map (λ (scan : LogScan). scan.end) scans ≡ map end_of readings
+ends_are [] [] numbers = refl
+ends_are [] (l ∷ ls) numbers = absurd numbers
+ends_are (s ∷ ss) [] numbers = absurd numbers
+ends_are (s ∷ ss) (l ∷ ls) numbers = λ i. numbers.0.end i ∷ ends_are ss ls numbers.1 i
+
+-- a last timestamp of a scan is a time of the logs
+has_last : (scans : List LogScan) (readings : List LogReading) (n : ℕ) → HaveNumbersOf scans readings → Contains (map (λ (scan : LogScan). scan.last) scans) n → Contains (flat_map times_of readings) n
+has_last [] [] n numbers at = absurd (no_element n at)
+has_last [] (l ∷ ls) n numbers at = absurd numbers
+has_last (s ∷ ss) [] n numbers at = absurd numbers
+has_last (s ∷ ss) (l ∷ ls) n numbers at =
+    elim (head_or_tail s.last n (map (λ (scan : LogScan). scan.last) ss) at) as (λ _. Contains (times_of l ++ flat_map times_of ls) n) [
+      | inl e ↦ Contains-append_left (times_of l) (flat_map times_of ls) n (subst (Contains (times_of l)) e numbers.0.last.0)
+      | inr later ↦ Contains-append_right (times_of l) (flat_map times_of ls) n (has_last ss ls n numbers.1 later)
+    ]
+
+-- no time of the logs is above all last timestamps
+bound_lasts : (scans : List LogScan) (readings : List LogReading) (n : ℕ) → HaveNumbersOf scans readings → ((t : ℕ) → Contains (map (λ (scan : LogScan). scan.last) scans) t → t ≤ n) → All (λ time. time ≤ n) (flat_map times_of readings)
+bound_lasts [] [] n numbers least = All-nil (λ (time : ℕ). time ≤ n)
+bound_lasts [] (l ∷ ls) n numbers least = absurd numbers
+bound_lasts (s ∷ ss) [] n numbers least = absurd numbers
+bound_lasts (s ∷ ss) (l ∷ ls) n numbers least =
+    let lasts = map (λ (scan : LogScan). scan.last) ss in
+    let own : s.last ≤ n = least s.last (head_in s.last lasts) in
+    All-append (λ (time : ℕ). time ≤ n) (times_of l) (flat_map times_of ls)
+    (λ i d within. omega (arith, own, numbers.0.last.1 i d within))
+    (bound_lasts ss ls n numbers.1 (λ t at. least t (tail_in s.last t lasts at)))
+
+-- the greatest of the last timestamps is the greatest time of the logs
+pub greatest_is : (scans : List LogScan) (readings : List LogReading) (n : ℕ) → HaveNumbersOf scans readings → Contains (map (λ (scan : LogScan). scan.last) scans) n
+    → All (λ last. last ≤ n) (map (λ (scan : LogScan). scan.last) scans) → IsGreatestOf (flat_map times_of readings) n
+greatest_is scans readings n numbers at most =
+    (has_last scans readings n numbers at, bound_lasts scans readings n numbers (λ t there. All-contains (λ (last : ℕ). last ≤ n) (map (λ (scan : LogScan). scan.last) scans) t most there))
+
+no_log : (readings : List LogReading) (log : LogReading) → HaveNumbersOf [] readings → Contains readings log → ⊥
+no_log [] log numbers at = no_element log at
+no_log (l ∷ ls) log numbers at = absurd numbers
+
+-- logs that have a cutoff are some logs, so they have a greatest time
+pub last_is : (scans : List LogScan) (readings : List LogReading) (cutoff : ℕ) (last : Option ℕ) → HaveNumbersOf scans readings → IsCutoff readings cutoff
+    → IfSome last (IsGreatestOf (flat_map times_of readings)) → IfNone last (scans ≡ []) → IsGreatestOf (flat_map times_of readings) (unwrap_or last 0)
+last_is scans readings cutoff (Some n) numbers is found none = found
+last_is scans readings cutoff None numbers is found none =
+    absurd (no_log readings is.has.log (subst (λ (ss : List LogScan). HaveNumbersOf ss readings) none numbers) is.has.stands)
 
 -- scans that show their logs have the numbers of the logs
 pub numbers_of : (limit number : ℕ) (scans : List LogScan) (readings : List LogReading) → ShowAll limit number scans readings → HaveNumbersOf scans readings

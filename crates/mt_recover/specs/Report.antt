@@ -1,11 +1,11 @@
 -- What recovery reports: the counts of what it found, and of what became of it.
-use Rattle.std.specs.Prelude.{◌≡◌, ℕ, Bool, nat_le, List, length, filter}
+use Rattle.std.specs.Prelude.{◌≡◌, ℕ, Bool, nat_le, List, length, filter, map}
 use Rattle.std.specs.List.{flat_map}
 use Rattle.std.specs.Option.{option_map}
 use Rattle.mt_words.specs.declared.update.Update.{Update}
 use Rattle.mt_words.specs.Changes.{Logged, is_mark}
 use Rattle.mt_words.specs.Walks.{Pair}
-use Rattle.mt_record.specs.Logs.{LogReading}
+use Rattle.mt_record.specs.Logs.{LogReading, IsGreatestOf, times_of, count_of, log_bytes}
 use Rattle.mt_scan.specs.Choice.{AreSkipped, AreNameless}
 use Rattle.mt_replay.specs.Survivors.{log_updates, is_early}
 use Rattle.mt_tree.specs.Layers.{CountsLayers}
@@ -25,6 +25,10 @@ logged_updates readings = log_updates (records_of readings)
 abbrev pub is_late : ℕ → Update → Bool
 is_late cutoff update = nat_le cutoff update.timestamp
 
+-- where the complete records of a log end: the number of bytes of its header and of these records, or 2^64 - 1 if there are more
+abbrev pub end_of : LogReading → ℕ
+end_of log = count_of (log_bytes log.head log.records)
+
 -- the report says what was found in these logs and parts, before replay
 pub record IsFoundIn {log_bytes part_bytes : List (List ℕ)} (facts : Facts log_bytes part_bytes) (report : Report) : Type 0 where
   pub logs : report.logs ≡ length log_bytes
@@ -32,6 +36,8 @@ pub record IsFoundIn {log_bytes part_bytes : List (List ℕ)} (facts : Facts log
   pub records : report.records ≡ length (all_records facts.readings)
   pub marks : report.marks ≡ length (filter is_mark (all_records facts.readings))
   pub torn : report.torn ≡ length (filter (λ log. log.torn) facts.readings)
+  pub ends : report.ends.items ≡ map end_of facts.readings
+  pub last : IsGreatestOf (flat_map times_of facts.readings) report.last
   pub cutoff : report.cutoff ≡ facts.cutoff
   pub checkpoint : report.checkpoint ≡ option_map (λ checkpoint. checkpoint.number) facts.chosen
   pub begin : report.begin ≡ begin_of facts.chosen
@@ -62,4 +68,5 @@ pub record IsRecoveredOf (logs parts : List (List ℕ)) (outcome : Outcome) : Ty
 pub record SaysTheSame (report other : Report) : Type 0 where
   pub skipped : report.skipped.items ≡ other.skipped.items
   pub nameless : report.nameless.items ≡ other.nameless.items
-  pub rest : report ≡ record other { skipped = report.skipped; nameless = report.nameless }
+  pub ends : report.ends.items ≡ other.ends.items
+  pub rest : report ≡ record other { skipped = report.skipped; nameless = report.nameless; ends = report.ends }

@@ -63,7 +63,7 @@ impl Prepared {
         ensures { (logs parts : List (List ℕ)) → IsFoundOf logs parts found → IfOk result (IsPreparedOf logs parts) }
     {
         let window = found.window;
-        let (counts, scans, chosen) = Counts::of(found);
+        let (counts, scans, chosen) = Counts::of(alloc, found)?;
         let logs = in_turn(
             alloc,
             batches_of(alloc, &scans, 1)?,
@@ -85,7 +85,7 @@ impl Prepared {
         ensures { (logs parts : List (List ℕ)) → IsFoundOf logs parts found → IfOk result (IsPreparedOf logs parts) }
     {
         let window = found.window;
-        let (counts, scans, chosen) = Counts::of(found);
+        let (counts, scans, chosen) = Counts::of(alloc, found)?;
         let logs = by_workers(
             rt,
             alloc,

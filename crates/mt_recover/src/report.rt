@@ -1,8 +1,11 @@
 //! The report of what recovery found in logs and parts, and of what became of it.
-ghost use Rattle.std.specs.Prelude.{◌≡◌, List, ℕ, length, sum_by};
+ghost use Rattle.std.specs.Prelude.{◌≡◌, List, [], ℕ, length, map, sum_by, IfOk, IfSome, IfNone};
 ghost use Rattle.std.specs.Fn.{FnReturnsAt};
+ghost use Rattle.std.specs.List.{flat_map};
 ghost use Rattle.std.specs.Option.{option_map};
+ghost use Rattle.mt_record.specs.Logs.{LogReading, IsGreatestOf, times_of};
 ghost use Rattle.mt_scan.specs.Choice.{checkpoint_in};
+ghost use Rattle.mt_scan.specs.Scans.{HaveNumbersOf};
 ghost use Rattle.mt_recover.specs.Prepared.{report_of};
 ghost use Rattle.mt_recover.specs.Steps.Preparing.{AreCountsOf, HasRoomFor, IsFoundOf};
 ghost use Rattle.mt_recover.specs.Recovery.{entry_updates};
@@ -10,6 +13,8 @@ ghost use Rattle.mt_recover.specs.Recovery.{entry_updates};
 use crate::found::Found;
 use crate::segments::writer_count;
 use mt_scan::{Checkpoint, Choice, LogScan};
+use mt_words::Memory;
+use std::alloc::Global;
 
 /// The report of what recovery found in logs and parts, and of what became of it. The updates of logs are their puts,
 /// removes and erases. Each complete record of a log is a mark, or an update that is early, late or survives.
@@ -25,6 +30,11 @@ pub struct Report {
     pub marks: u128,
     /// The number of log files that end in a torn tail.
     pub torn: usize,
+    /// For each log file, in their order, where its complete records end: the number of bytes of the header and of these
+    /// records, counted up to 2^64 - 1.
+    pub ends: Vec<u64>,
+    /// The greatest timestamp in the logs: of the times of their headers and of their complete records.
+    pub last: u64,
     /// The timestamp below which updates survive.
     pub cutoff: u64,
     /// The number of the chosen checkpoint, if there is one.
@@ -58,6 +68,8 @@ pub(crate) struct Counts {
     pub records: u128,
     pub marks: u128,
     pub torn: usize,
+    pub ends: Vec<u64>,
+    pub last: u64,
     pub cutoff: u64,
     pub checkpoint: Option<u32>,
     pub begin: u64,
@@ -67,36 +79,38 @@ pub(crate) struct Counts {
 }
 
 impl Counts {
-    /// Counts what was found. Also returns what is replayed: the scans, and the chosen checkpoint.
-    pub fn of(found: Found) -> (Counts, Vec<LogScan>, Option<Checkpoint>)
-        ensures scans { result.1 ≡ found.scans }
-        ensures chosen { result.2 ≡ found.choice.chosen }
-        ensures counts { (logs parts : List (List ℕ)) (is : IsFoundOf logs parts found) → AreCountsOf is.facts result.0 }
+    /// Counts what was found. Also returns what is replayed: the scans, and the chosen checkpoint. Err: out of memory.
+    pub fn of(
+        alloc: Global,
+        found: Found,
+    ) -> Result<(Counts, Vec<LogScan>, Option<Checkpoint>), Memory>
+        ensures scans { IfOk result (λ counted. counted.1 ≡ found.scans) }
+        ensures chosen { IfOk result (λ counted. counted.2 ≡ found.choice.chosen) }
+        ensures counts { (logs parts : List (List ℕ)) (is : IsFoundOf logs parts found) →
+            IfOk result (λ counted. AreCountsOf is.facts counted.0) }
     {
-        let Found {
-            scans,
-            window,
-            choice,
-        } = found;
         let Choice {
             chosen,
             skipped,
             nameless,
-        } = choice;
+        } = found.choice;
+        let scans = found.scans;
         let counts = Counts {
             logs: scans.len(),
             writers: writer_count(&scans),
             records: total(&scans, |scan| scan.whole),
             marks: total(&scans, |scan| scan.marks),
             torn: scans.iter().filter(|scan| scan.torn).count(),
-            cutoff: window.cutoff,
+            ends: ends_of(alloc, &scans)?,
+            last: last_of(&scans).unwrap_or(0),
+            cutoff: found.window.cutoff,
             checkpoint: chosen.as_ref().map(|checkpoint| checkpoint.number),
-            begin: window.begin,
+            begin: found.window.begin,
             skipped,
             nameless,
             entries: entry_count(&chosen),
         };
-        (counts, scans, chosen)
+        Ok((counts, scans, chosen))
     }
 
     /// Returns the report of these counts, with the numbers of early updates, survivors, keys and layers.
@@ -112,6 +126,8 @@ impl Counts {
             records: self.records,
             marks: self.marks,
             torn: self.torn,
+            ends: self.ends,
+            last: self.last,
             cutoff: self.cutoff,
             checkpoint: self.checkpoint,
             begin: self.begin,
@@ -138,6 +154,22 @@ pub(crate) fn total<T, F: Fn(&T) -> u64>(items: &[T], number: F) -> u128
         sum += u128::from(number(item));
     }
     sum
+}
+
+/// Returns where the complete records of each scanned log end. Err: out of memory.
+fn ends_of(alloc: Global, scans: &[LogScan]) -> Result<Vec<u64>, Memory>
+    ensures { IfOk result (λ ends. ends.items ≡ map (λ scan. scan.end) scans.now) }
+{
+    Ok(scans.iter().map(|scan| scan.end).collect(alloc)?)
+}
+
+/// Returns the greatest timestamp of the scanned logs, or None if there is no log.
+fn last_of(scans: &[LogScan]) -> Option<u64>
+    ensures found { (logs : List LogReading) → HaveNumbersOf scans.now logs →
+        IfSome result (IsGreatestOf (flat_map times_of logs)) }
+    ensures none { IfNone result (scans.now ≡ []) }
+{
+    scans.iter().map(|scan| scan.last).max()
 }
 
 /// Counts the entries of the checkpoint: 0 without one.
