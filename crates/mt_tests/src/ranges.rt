@@ -1,9 +1,11 @@
-//! A recovered store: ranges from a start longer than any key, columns that are not wanted, and walks that end early.
+//! A recovered store: ranges from a start longer than any key, columns that are not wanted, walks that end early, and
+//! what its report says besides its lines.
 use crate::asserting::{assert_bytes, assert_same};
-use crate::logs::LOG_OF_THREE;
+use crate::logs::{LOG_FROM_3_TO_9, LOG_OF_THREE};
 use mt_recover::{Store, Wanted, recover_logs, write_pair};
 use mt_tree::Visitor;
 use mt_words::{Columns, Kept};
+use std::io;
 use std::process::Abort;
 
 /// Checks the first `count` pairs from this start on, with the wanted columns.
@@ -19,6 +21,52 @@ fn assert_range<R: Abort + AllocGlobal>(
         write_pair(hit.key.as_bytes(), &hit.columns, &mut text).expect(rt, "memory");
     }
     assert_bytes(rt, expected, &text, expected.as_bytes());
+}
+
+/// The text of the pairs that a walk showed, and how many more pairs there is room for.
+#[derive(Drop)]
+struct Page {
+    room: usize,
+    text: Vec<u8>,
+}
+
+/// A visitor that prints pairs as long as there is room.
+#[derive(Clone, Copy)]
+struct Printer;
+
+impl Visitor<Page> for Printer {
+    type Error = io::Error;
+
+    ghost shown = { λ _ _ _. Unit {0} };
+
+    fn visit(&self, page: &mut Page, key: &[u8], columns: &Columns<Kept>) -> io::Result<()> {
+        page.room = page.room.saturating_sub(1);
+        write_pair(key, columns, &mut page.text)
+    }
+
+    fn is_full(&self, page: &Page) -> bool {
+        page.room == 0
+    }
+
+    ghost none = { λ _. record {} };
+
+    ghost more = { λ _ _ _ _ _ _ _. record {} };
+}
+
+/// Checks the pairs that a walk from this start on shows to a visitor with room for `count`.
+fn assert_walk<R: Abort + AllocGlobal>(
+    rt: &R,
+    store: &Store,
+    (start, count): (&[u8], usize),
+    expected: &str,
+) {
+    let mut page = Page {
+        room: count,
+        text: Vec::new(rt.alloc()),
+    };
+    let walked = store.visit_from(start, &Printer, &mut page);
+    walked.expect(rt, "memory");
+    assert_bytes(rt, expected, &page.text, expected.as_bytes());
 }
 
 /// Starts of ranges, how many pairs are asked for, and the pairs that come: with all columns, and with only a column
@@ -48,6 +96,26 @@ fn a_range_begins_at_or_after_its_start(rt: HostRuntime) {
         assert_range(&rt, store, (start, *count), Wanted::all(), pairs);
         assert_range(&rt, store, (start, *count), other, keys);
     }
+}
+
+#[test]
+fn a_walk_begins_at_its_start_and_ends_when_full(rt: HostRuntime) {
+    let recovered = recover_logs(rt.alloc(), &[LOG_OF_THREE]);
+    let store = recovered.expect(&rt, "a store").into_store();
+    assert_same(&rt, &store.len(), &3);
+    for (start, count, pairs, _) in RANGES {
+        assert_walk(&rt, &store, (start, *count), pairs);
+    }
+}
+
+#[test]
+fn a_report_says_where_records_end_and_the_last_time(rt: HostRuntime) {
+    let torn = &LOG_FROM_3_TO_9[..127];
+    let recovered = recover_logs(rt.alloc(), &[LOG_OF_THREE, torn]);
+    let (store, report) = recovered.expect(&rt, "a store").into_parts();
+    assert_same(&rt, &store.len(), &4);
+    assert_same(&rt, &report.ends.as_slice(), &[128, 111].as_slice());
+    assert_same(&rt, &report.last, &9);
 }
 
 /// A visitor that takes this many pairs, and counts those that it is shown.
