@@ -1,5 +1,5 @@
 -- The clashes of updates that come in the order of their keys.
-use Rattle.std.proofs.Common.{◌≡◌, ◌↔◌, inl, inr, ℕ, ◌+◌, ◌<◌, List, [], ◌∷◌, ◌++◌, length, map, take, Bool, Option, Some, None, Contains, IsPermutation, MatchOption, true, false, true≢false, refl, sym, ap, ◌∙◌, subst, append_assoc}
+use Rattle.std.proofs.Common.{◌≡◌, ◌↔◌, inl, inr, ℕ, ◌+◌, ◌<◌, List, [], ◌∷◌, ◌++◌, length, take, Bool, Option, Some, None, Contains, IsPermutation, MatchOption, true, false, true≢false, refl, sym, ap, ◌∙◌, subst, append_assoc}
 use Rattle.std.specs.Prelude.{slice_index_or}
 use Rattle.std.specs.List.{filter, flat_map}
 use Rattle.std.proofs.lemmas.List.{append-nil, take_more}
@@ -18,8 +18,6 @@ use Rattle.mt_replay.specs.Steps.Walker.{IsLastKey}
 use Rattle.mt_replay.specs.Steps.Auditor.{AreClashesOf, IsSeen, seen_by, seen_in, AddClashes, IsAuditSoFar}
 use Rattle.mt_replay.proofs.ClashLemmas.{stands, has_in, no_clashes, same_clashes, clashes_append, clashes_of_updates, updates_of_clashes, same_updates, Either}
 use Rattle.mt_replay.proofs.FilterLemmas.{filter_every}
-use Rattle.mt_replay.proofs.Members.{of_filter, in_filter}
-use Rattle.mt_replay.proofs.MergeLemmas.{of_runs, in_runs}
 use Rattle.mt_replay.proofs.SeenLemmas.{seen_stands}
 use Rattle.mt_replay.proofs.WalkerLemmas.{more_of_key, above_others, next_key}
 
@@ -111,15 +109,6 @@ seen_next updates update old new first seen fresh so_far order apart done begun 
 
 pub moved_clashes : (updates others : List Update) (clashes : List Clash) → IsPermutation updates others → AreClashes others clashes → AreClashes updates clashes
 moved_clashes updates others clashes moved are = same_updates others updates clashes (λ u. (λ at. Contains-permutation others updates u (IsPermutation-sym updates others moved) at, λ at. Contains-permutation updates others u moved at)) are
-
--- the clashes of the runs of a piece are those of its updates
-pub clashes_of_runs : (cuts : List (List ℕ)) (i : ℕ) (lists runs : List (List Update)) (clashes : List Clash) → runs ≡ map (updates_in cuts i) lists → AreClashes (joined runs) clashes → AreClashes (updates_in cuts i (joined lists)) clashes
-clashes_of_runs cuts i lists runs clashes is are =
-    let passes : Update → Bool = λ u. in_piece cuts i u.key in
-    same_updates (joined runs) (updates_in cuts i (joined lists)) clashes (λ u. (
-      λ at. let from = of_runs cuts i lists runs u is at in in_filter passes (joined lists) u from.1 from.0,
-      λ at. let from = of_filter passes (joined lists) u at in in_runs cuts i lists runs u is from.0 from.1,
-    )) are
 
 -- the cells of one log more
 pub cells_more : {V : Type 0} (updates_of : V → List Update) (passes : Update → Bool) (logs : List V) (i : ℕ) (log : V) (lists new : List (List Update)) (cells : List Update) → i < length logs → log ≡ slice_index_or logs i log

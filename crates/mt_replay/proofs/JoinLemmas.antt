@@ -16,31 +16,28 @@ use Rattle.mt_replay.specs.Steps.SortedUpdates.{AreDistinctWhere}
 use Rattle.mt_replay.proofs.KeyOrder.{below_by, below_trans}
 use Rattle.mt_replay.proofs.Rising.{below_later, rise_append}
 use Rattle.mt_words.proofs.Elements.{no_element}
-use Rattle.mt_replay.proofs.Members.{all_from, of_map, in_map, of_flat_map, in_flat_map, of_filter, in_filter}
+use Rattle.mt_replay.proofs.Members.{all_from, of_map, in_map, of_flat_map, of_filter, in_filter}
 
 -- ---- a piece
 
--- the keys of the parts that lie in a piece are the keys of the piece
-pub of_parts : (cuts : List (List ℕ)) (i : ℕ) (lists parts : List (List Update)) (keys : List (List ℕ)) → parts ≡ map (updates_in cuts i) lists → AreDistinctKeys (keys_in (joined parts)) keys → AreDistinctWhere (in_piece cuts i) (keys_in (joined lists)) keys
-of_parts cuts i lists parts keys are distinct = record {
-  rise = distinct.rise;
-  same = λ key. (
-    λ at.
-        let u = of_map (λ (u : Update). u.key) (joined parts) key ((distinct.same key).0 at) in
-        let part = of_flat_map (λ (us : List Update). us) parts u.0 u.1 in
-        let list = of_map (updates_in cuts i) lists part.0 (subst (λ (ps : List (List Update)). Contains ps part.0) are part.1) in
-        let from = of_filter (λ (v : Update). in_piece cuts i v.key) list.0 u.0 (subst (λ (us : List Update). Contains us u.0) (sym list.2) part.2) in
-        let there = in_map (λ (u : Update). u.key) (joined lists) u.0 (in_flat_map (λ (us : List Update). us) lists list.0 u.0 list.1 from.0) in
-        (subst (Contains (keys_in (joined lists))) u.2 there, subst (λ (k : List ℕ). in_piece cuts i k ≡ true) u.2 from.1),
-    λ both.
-        let u = of_map (λ (u : Update). u.key) (joined lists) key both.0 in
-        let list = of_flat_map (λ (us : List Update). us) lists u.0 u.1 in
-        let passes : in_piece cuts i u.0.key ≡ true = subst (λ (k : List ℕ). in_piece cuts i k ≡ true) (sym u.2) both.1 in
-        let part : Contains parts (updates_in cuts i list.0) = subst (λ (ps : List (List Update)). Contains ps (updates_in cuts i list.0)) (sym are) (in_map (updates_in cuts i) lists list.0 list.1) in
-        let there = in_flat_map (λ (us : List Update). us) parts (updates_in cuts i list.0) u.0 part (in_filter (λ (v : Update). in_piece cuts i v.key) list.0 u.0 passes list.2) in
-        (distinct.same key).1 (subst (Contains (keys_in (joined parts))) u.2 (in_map (λ (u : Update). u.key) (joined parts) u.0 there)),
-  );
-}
+-- the keys of the updates in a piece are the keys in the piece
+pub of_part : (cuts : List (List ℕ)) (i : ℕ) (updates : List Update) (keys : List (List ℕ)) → AreDistinctKeys (keys_in (updates_in cuts i updates)) keys → AreDistinctWhere (in_piece cuts i) (keys_in updates) keys
+of_part cuts i updates keys distinct =
+    let passes : Update → Bool = λ u. in_piece cuts i u.key in
+    let key_of : Update → List ℕ = λ u. u.key in
+    record {
+      rise = distinct.rise;
+      same = λ key. (
+        λ at.
+            let u = of_map key_of (updates_in cuts i updates) key ((distinct.same key).0 at) in
+            let from = of_filter passes updates u.0 u.1 in
+            (subst (Contains (keys_in updates)) u.2 (in_map key_of updates u.0 from.0), subst (λ (k : List ℕ). in_piece cuts i k ≡ true) u.2 from.1),
+        λ both.
+            let u = of_map key_of updates key both.0 in
+            let there = in_filter passes updates u.0 (subst (λ (k : List ℕ). in_piece cuts i k ≡ true) (sym u.2) both.1) u.1 in
+            (distinct.same key).1 (subst (Contains (keys_in (updates_in cuts i updates))) u.2 (in_map key_of (updates_in cuts i updates) u.0 there)),
+      );
+    }
 
 -- ---- pieces in their order
 

@@ -22,14 +22,6 @@ use Rattle.mt_replay.proofs.StepLemmas.{AddsPair, map_more, rises_above, walk_mo
 
 -- ---- updates in the order of their keys
 
--- updates in order without the last are in order
-pub front_in_order : (updates : List Update) (update : Update) → InKeyOrder (updates ++ update ∷ []) → InKeyOrder updates
-front_in_order updates update order = λ k d low below.
-    let whole : length (updates ++ update ∷ []) ≡ length updates + 1 = length-append updates (update ∷ []) in
-    let first : slice_index_or (updates ++ update ∷ []) k d ≡ slice_index_or updates k d = get_or_append_left updates (update ∷ []) d k (omega arith) in
-    let next : slice_index_or (updates ++ update ∷ []) (k + 1) d ≡ slice_index_or updates (k + 1) d = get_or_append_left updates (update ∷ []) d (k + 1) below in
-    (λ i. key_below (sym next i) (sym first i)) ∙ order k d low (omega (arith, whole))
-
 -- the last of updates in order is below none of the others
 pub not_below_last : (updates : List Update) (update u : Update) → InKeyOrder (updates ++ update ∷ []) → Contains updates u → key_below update u ≡ false
 not_below_last updates update u order at =

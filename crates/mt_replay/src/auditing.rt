@@ -1,16 +1,14 @@
 //! Finds the clashes of updates.
-ghost use Rattle.std.specs.Prelude.{◌≡◌, ◌<◌, ◌+◌, length, filter, All, IfOk};
+ghost use Rattle.std.specs.Prelude.{◌<◌, ◌+◌, length, filter, IfOk};
 ghost use Rattle.std.specs.List.{flat_map};
 ghost use Rattle.mt_words.specs.Walks.{joined};
-ghost use Rattle.mt_replay.specs.Cuts.{updates_in, InKeyOrder};
+ghost use Rattle.mt_replay.specs.Cuts.{updates_in};
 ghost use Rattle.mt_replay.specs.Clashes.{AreClashes, is_logged_in};
 
 use crate::auditor::Auditor;
 use crate::clash::Clash;
-use crate::parts::runs_of;
-use crate::runs::{ByKey, Run};
+use crate::parts::merged_piece;
 use crate::{Cuts, LogCells, Window};
-use itertools::Itertools;
 use mt_words::{Memory, Update};
 use std::alloc::Global;
 
@@ -41,18 +39,9 @@ pub fn clashes_in(
     ensures { IfOk result (λ clashes.
         AreClashes (updates_in cuts.now piece (joined lists.now)) clashes.items) }
 {
-    let runs = runs_of(alloc, lists, cuts, piece)?;
-    audit_runs(alloc, runs)
-}
-
-/// Merges the runs, and returns the clashes of their updates. Err: out of memory.
-fn audit_runs(alloc: Global, runs: Vec<Run<'_>>) -> Result<Vec<Clash>, Memory>
-    requires { All InKeyOrder runs.items }
-    ensures { IfOk result (λ clashes. AreClashes (joined runs.entry.items) clashes.items) }
-{
     let mut auditor = Auditor::new(alloc);
-    for sliced in runs.into_iter().kmerge_by(alloc, ByKey)? {
-        auditor.see(alloc, sliced)?;
+    for update in merged_piece(alloc, lists, cuts, piece)? {
+        auditor.see(alloc, update)?;
     }
     auditor.into_clashes(alloc)
 }

@@ -1,5 +1,5 @@
 //! The surviving updates of a log, sorted by key.
-ghost use Rattle.std.specs.Prelude.{◌≡◌, ◌≤◌, ◌<◌, ◌++◌, true, false, IfOk, IsPermutation, List, length, map, filter, slice_index_or};
+ghost use Rattle.std.specs.Prelude.{◌≡◌, ◌≤◌, ◌<◌, true, false, IfOk, IsPermutation, List, length, map, filter, slice_index_or};
 ghost use Rattle.std.specs.List.Sorted.{IsPartitionPoint};
 ghost use Rattle.mt_words.specs.declared.update.Update.{Update as UpdateValue};
 ghost use Rattle.mt_words.specs.Words.{AreRising};
@@ -99,6 +99,11 @@ impl LogCells {
             Held::Sorted(bodies) => bodies.len(),
             Held::Read(entries) => entries.len(),
         }
+    }
+
+    /// Returns whether these are the entries of a checkpoint part.
+    pub(crate) fn has_entries(&self) -> bool {
+        matches!(&self.held, Held::Read(_))
     }
 
     /// Returns the update at this place.

@@ -1,14 +1,14 @@
 //! Updates that are borrowed from their bodies, each with the slices of its key: which of them survive, and how their
 //! keys compare.
-ghost use Rattle.std.specs.Prelude.{◌≡◌, ◌≤◌, ◌↔◌, ◌++◌, false, IsTrue, MatchOption, OnOk, filter, drop};
-ghost use Rattle.std.specs.Ordering.{nat_cmp};
-ghost use Rattle.std.specs.Cmp.Lexicographic.{slice_cmp};
+ghost use Rattle.std.specs.Prelude.{◌≡◌, ◌↔◌, ◌++◌, false, IsTrue, MatchOption, OnOk, filter, drop, nat_eq};
+ghost use Rattle.std.specs.Cmp.{partial_equiv_from_equiv, on_per, on_po};
+ghost use Rattle.std.specs.Cmp.Lexicographic.{pointwise, nat_list_eq_equiv, texts_po};
 ghost use Rattle.mt_words.specs.Limits.{widest};
 ghost use Rattle.mt_words.specs.Words.{IsKey};
 ghost use Rattle.mt_words.specs.Updates.{as_list};
 ghost use Rattle.mt_replay.specs.Survivors.{in_window};
 ghost use Rattle.mt_replay.specs.Steps.SortedUpdates.{IsSliced};
-ghost use Rattle.mt_replay.specs.Steps.Fronts.{front_of, front_cmp, rest_cmp, AreAlike};
+ghost use Rattle.mt_replay.specs.Steps.Fronts.{key_cmp, front_of, front_cmp, rest_cmp, AreAlike};
 
 use crate::Window;
 use mt_record::Lent;
@@ -105,13 +105,6 @@ impl<'a> Sliced<'a> {
         self.update.key()
     }
 
-    /// Compares the keys of two updates.
-    pub(crate) fn compare(&self, other: &Sliced<'_>) -> Ordering
-        ensures { result ≡ slice_cmp nat_cmp self.now.key other.now.key }
-    {
-        self.compare_from(other, 0)
-    }
-
     /// Compares what follows the first `depth` bytes of two keys. It reads bodies only if the fronts do not decide, or
     /// are of another depth.
     pub(crate) fn compare_from(&self, other: &Sliced<'_>, depth: u32) -> Ordering
@@ -168,6 +161,27 @@ impl<'a> Sliced<'a> {
     }
 }
 
+impl<'a> PartialEq for Sliced<'a> {
+    ghost eq = { λ a b. pointwise nat_eq a.key b.key };
+
+    ghost laws = { on_per (λ u. u.key) (partial_equiv_from_equiv nat_list_eq_equiv) };
+
+    fn eq(&self, other: &Sliced<'a>) -> bool {
+        self.compare_from(other, 0).is_eq()
+    }
+}
+
+/// Updates are ordered by their keys.
+impl<'a> PartialOrd for Sliced<'a> {
+    ghost partial_cmp = { key_cmp };
+
+    ghost laws = { on_po (λ u. u.key) texts_po };
+
+    fn partial_cmp(&self, other: &Sliced<'a>) -> Option<Ordering> {
+        Some(self.compare_from(other, 0))
+    }
+}
+
 /// Returns what follows the first `depth` bytes of a key.
 pub(crate) fn rest_of(key: &[u8], depth: u32) -> &[u8]
     ensures { result.now ≡ drop depth key.now }
@@ -184,7 +198,7 @@ pub(crate) fn is_of_first(first: &Option<Sliced<'_>>, update: &Sliced<'_>) -> bo
 {
     match first {
         None => false,
-        Some(first) => first.compare(update).is_eq(),
+        Some(first) => first == update,
     }
 }
 

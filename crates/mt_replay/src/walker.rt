@@ -1,5 +1,5 @@
 //! The walk of updates that come in the order of their keys.
-ghost use Rattle.std.specs.Prelude.{◌≡◌, ◌++◌, [], ◌∷◌, List, ℕ, Some, IfOk, OnOk};
+ghost use Rattle.std.specs.Prelude.{◌≡◌, ◌++◌, [], ◌∷◌, List, Some, IfOk, OnOk};
 ghost use Rattle.mt_words.specs.declared.update.Update.{Update as UpdateValue};
 ghost use Rattle.mt_replay.specs.Cuts.{InKeyOrder};
 ghost use Rattle.mt_replay.specs.Groups.{HasLawfulWrites, IsGroupOf};

@@ -1,10 +1,14 @@
 -- Fronts of keys, by which updates are sorted first, and the order of what follows some bytes of their keys.
-use Rattle.std.specs.Prelude.{◌≡◌, ℕ, ◌+◌, ◌<◌, ◌≤◌, false, slice_index_or, List, length, min, take, drop}
+use Rattle.std.specs.Prelude.{◌≡◌, ℕ, ◌+◌, ◌<◌, ◌≤◌, false, slice_index_or, Option, Some, List, length, min, take, drop}
 use Rattle.std.specs.declared.cmp.Ordering.{Ordering}
 use Rattle.std.specs.Ordering.{nat_cmp, is_lt, ordering_then}
 use Rattle.std.specs.Cmp.Lexicographic.{slice_cmp}
 use Rattle.std.specs.List.Sorted.{IsSortedBy}
 use Rattle.mt_words.specs.declared.update.Update.{Update}
+
+-- the order of updates by their keys
+abbrev pub key_cmp : Update → Update → Option Ordering
+key_cmp a b = Some (slice_cmp nat_cmp a.key b.key)
 
 -- the first sixteen bytes, and how many bytes there are, counted up to 17
 abbrev pub front_in : List ℕ → List ℕ × ℕ

@@ -1,8 +1,8 @@
 -- The walk of updates that come in the order of their keys.
-use Rattle.std.specs.Prelude.{◌≡◌, ℕ, ◌<◌, nat_lt, if◌then◌else◌, Option, Some, None, List, [], ◌∷◌, ◌++◌, length, All, Contains, IsPermutation}
+use Rattle.std.specs.Prelude.{◌≡◌, ℕ, ◌<◌, nat_lt, if◌then◌else◌, Option, Some, None, List, [], ◌∷◌, ◌++◌, length, All, Contains}
 use Rattle.mt_words.specs.declared.update.Update.{Update}
 use Rattle.mt_words.specs.Words.{IsBelow}
-use Rattle.mt_words.specs.Walks.{Pair, joined}
+use Rattle.mt_words.specs.Walks.{Pair}
 use Rattle.mt_replay.specs.Walk.{IsWalk, AreApart}
 use Rattle.mt_replay.specs.Groups.{Group, HasLawfulWrites, IsGroupOf, IsMapOf}
 
@@ -39,9 +39,3 @@ pub record IsWalkSoFar (updates : List Update) (pairs : List Pair) (first : Opti
   pub split : updates ≡ before ++ last
   pub made : IsMade before pairs
   pub in_hand : IsInHand before last first group
-
--- what is made of the merged updates of these runs
-pub record IsMadeOfRuns (runs : List (List Update)) (pairs : List Pair) : Type 0 where
-  pub merged : List Update
-  pub all : IsPermutation (joined runs) merged
-  pub made : IsMade merged pairs
