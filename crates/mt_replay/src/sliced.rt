@@ -19,36 +19,36 @@ use std::marker::Model;
 /// The number of bytes in two slices.
 const TWO_SLICES: usize = 16;
 
-/// The front of some bytes: their first two slices, and how many they are, counted up to 17. It tells all of at most 16
-/// bytes.
+/// The front of what follows the first `depth` bytes of a key: its first two slices, and how many bytes it has, counted
+/// up to 17. It tells all of at most 16 bytes.
 #[derive(Clone, Copy)]
 struct Front {
     slice: u64,
     second: u64,
     length: u32,
+    depth: u32,
 }
 
 impl Front {
-    /// Returns the front of these bytes.
-    fn of(bytes: &[u8]) -> Front
-        ensures { IsSliced result.slice result.second result.length bytes.now }
+    /// Returns the front of what follows the first `depth` bytes of a key.
+    fn of(key: &[u8], depth: u32) -> Front
+        ensures front { IsSliced result.slice result.second result.length (drop depth key.now) }
+        ensures depth { result.depth ≡ depth }
     {
+        let rest = rest_of(key, depth);
         Front {
-            slice: slice_of(bytes),
-            second: slice_at(bytes, 8),
-            length: bytes.len().min(TWO_SLICES + 1) as u32,
+            slice: slice_of(rest),
+            second: slice_at(rest, 8),
+            length: rest.len().min(TWO_SLICES + 1) as u32,
+            depth,
         }
     }
 }
 
-/// An update with the front of what follows the first `depth` bytes of its key. If fronts decide, comparing keys reads
-/// no body. The fields of the front stand here, so that a `Sliced` has 64 bytes.
+/// An update with a front of its key. If fronts decide, comparing keys reads no body.
 #[derive(Drop)]
 pub(crate) struct Sliced<'a> {
-    slice: u64,
-    second: u64,
-    length: u32,
-    depth: u32,
+    front: Front,
     update: Lent<'a>,
 }
 
@@ -61,7 +61,7 @@ impl<'a> Model for Sliced<'a> {
 
     ghost view = { λ s. s.update };
 
-    ghost invariant = { λ s. IsSliced s.slice s.second s.length (drop s.depth s.update.key) };
+    ghost invariant = { λ s. IsSliced s.front.slice s.front.second s.front.length (drop s.front.depth s.update.key) };
 }
 
 impl<'a> Sliced<'a> {
@@ -69,25 +69,15 @@ impl<'a> Sliced<'a> {
     pub(crate) fn of(update: Lent<'a>) -> Sliced<'a>
         ensures { result ≡ update.entry }
     {
-        let front = Front::of(update.key());
-        Sliced {
-            slice: front.slice,
-            second: front.second,
-            length: front.length,
-            depth: 0,
-            update,
-        }
+        let front = Front::of(update.key(), 0);
+        Sliced { front, update }
     }
 
     /// Takes the front of what follows the first `depth` bytes of the key.
     pub(crate) fn cut(&mut self, depth: u32)
         ensures { self.new ≡ self.old }
     {
-        let front = Front::of(rest_of(self.key(), depth));
-        self.slice = front.slice;
-        self.second = front.second;
-        self.length = front.length;
-        self.depth = depth;
+        self.front = Front::of(self.key(), depth);
     }
 
     /// Returns the update.
@@ -150,14 +140,10 @@ impl<'a> Sliced<'a> {
     fn front(&self, depth: u32) -> Front
         ensures { IsSliced result.slice result.second result.length (drop depth self.now.key) }
     {
-        if self.depth != depth {
-            return Front::of(rest_of(self.key(), depth));
+        if self.front.depth != depth {
+            return Front::of(self.key(), depth);
         }
-        Front {
-            slice: self.slice,
-            second: self.second,
-            length: self.length,
-        }
+        self.front
     }
 }
 
