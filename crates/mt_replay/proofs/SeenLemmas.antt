@@ -1,9 +1,8 @@
 -- What was seen of the updates of one key, and the clashes of it.
 use Rattle.std.proofs.Common.{◌≡◌, ◌↔◌, inl, inr, ℕ, zero, suc, leb, true, false, ◌<◌, ◌≤◌, Some, List, [], ◌∷◌, ◌++◌, length, map, take, drop, Contains, refl, sym, ap, ◌∙◌, subst, append_assoc, arith}
 use Rattle.std.specs.Prelude.{slice_index_or, slice_get}
-use Rattle.std.specs.List.{AllWithin}
 use Rattle.std.specs.List.Sorted.{IsNonDecreasingBy, IsPartitionPoint}
-use Rattle.std.proofs.lemmas.Bool.{leb-true, leb-false, cases_lt}
+use Rattle.std.proofs.lemmas.Bool.{leb-true, leb-false}
 use Rattle.std.proofs.lemmas.List.{append-nil, length-map, take-append-drop}
 use Rattle.std.proofs.lemmas.List.Elements.{All-contains, Contains-get_or, Contains-append_cases, Contains-append_left, Contains-append_right}
 use Rattle.mt_words.specs.declared.update.Origin.{Origin}
@@ -159,10 +158,6 @@ version_added key version seen same later old mid new adds at_version above more
       };
     }
 
--- if nothing is left, all is done
-pub all_added : (key : List ℕ) (seen : List Seen) (old new : List Clash) → AddLower key seen [] old new → AddClashes key seen old new
-all_added key seen old new adds = subst (λ (ss : List Seen). AddClashes key ss old new) (sym (adds.split ∙ append-nil adds.lower)) adds.adds
-
 -- the first of what is left has the least version
 pub least_first : (first : Seen) (rest : List Seen) (one : Seen) → Rises IsLowerSeen (first ∷ rest) → Contains (first ∷ rest) one → first.version ≤ one.version
 least_first first rest one rise at = elim (head_or_tail first one rest at) as (λ _. first.version ≤ one.version) [
@@ -225,17 +220,6 @@ module _ (rest : List Seen) (first : Seen) (i : ℕ) (rise : Rises IsLowerSeen r
 
   above : (one : Seen) → Contains later one → first.version < one.version
   above one at = All-contains (λ (s : Seen). first.version < s.version) later one (back (λ (s : Seen). first.version < s.version) rest i point.1) at
-
-  -- it is not empty
-  pub some_same : 0 < i
-  some_same = elim (cases_lt 0 i) as (λ _. 0 < i) [
-    | inl lt ↦ lt
-    | inr none ↦ absurd (not_above rest (omega arith) first_is point.1)
-  ]
-    where
-      not_above : (xs : List Seen) → i ≡ 0 → Some first ≡ slice_get xs 0 → AllWithin (λ (s : Seen). first.version < s.version) xs i (length xs) → ⊥
-      not_above [] none is up = absurd cc
-      not_above (x ∷ xs) none is up = omega (arith, up 0 x (omega (arith, none)) (omega arith), ap (λ (s : Seen). s.version) (some_is first x is))
 
   module _ (key : List ℕ) (seen : List Seen) (old mid new : List Clash) (adds : AddLower key seen rest old mid) where
     step : AddClashes key same mid new → AddLower key seen later old new
