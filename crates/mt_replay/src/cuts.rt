@@ -91,7 +91,7 @@ impl Cuts {
         ensures fault { IfErr result (IsCutFault keys.items) }
     {
         for at in 1..keys.len() {
-            if keys[at] <= keys[at - 1] {
+            if keys[at - 1] >= keys[at] {
                 return Err(CutFault::NotRising { at });
             }
         }
