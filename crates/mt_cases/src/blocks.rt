@@ -21,9 +21,16 @@ impl<'a> Line<'a> {
     }
 }
 
-/// Returns the words of a text.
+/// Returns the words of a text, up to a word `#`, which begins a comment.
 pub fn words_of(alloc: Global, text: &str) -> Result<Vec<&str>, AllocError> {
-    text.split_whitespace().collect(alloc)
+    let mut words = Vec::new(alloc);
+    for word in text.split_whitespace() {
+        if word == "#" {
+            break;
+        }
+        words.push(word)?;
+    }
+    Ok(words)
 }
 
 /// Returns the lines of a file, except empty lines and those that begin with `#`.

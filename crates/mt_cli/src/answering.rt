@@ -56,8 +56,8 @@ fn answer_query<R: AllocGlobal + Threads + Sync, S: Source + Send, O: Write>(
             audit_and_print(rt, inputs, command.workers, out)?;
             Ok(None)
         }
-        // A check reads its files twice, so it opens them itself.
-        Query::Check { .. } => Err(Refusal::from(Failure::Words)),
+        // A check reads its files twice, and a query on one file takes no sources: these open files themselves.
+        Query::Check { .. } | Query::File(_) => Err(Refusal::from(Failure::Words)),
     }
 }
 

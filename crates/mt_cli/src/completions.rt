@@ -14,7 +14,7 @@ _mtrecover() {
 const END: &[u8] = b"    esac
     COMPREPLY=($(compgen -W \"$words\" -- \"$word\"))
 }
-complete -o dirnames -F _mtrecover mtrecover
+complete -o default -F _mtrecover mtrecover
 ";
 
 /// Prints a script after which bash completes the names of subcommands and options, and folders. Err: write error.

@@ -13,6 +13,8 @@ pub fn grammar<'a>(alloc: Global) -> Result<Command<'a>, AllocError> {
     let program = with(program, dump(alloc));
     let program = with(program, audit(alloc));
     let program = with(program, check(alloc));
+    let program = with(program, records(alloc));
+    let program = with(program, cut(alloc));
     with(program, completions(alloc))
 }
 
@@ -95,6 +97,41 @@ fn check<'a>(alloc: Global) -> Result<Command<'a>, AllocError> {
     taking(subcommand(alloc, "check", about, example), json(alloc))
 }
 
+/// Returns the subcommand `records`.
+fn records<'a>(alloc: Global) -> Result<Command<'a>, AllocError> {
+    let about =
+        "Prints the records of a log, each with its number and its byte, as lines of a case file";
+    let example = "Example: mtrecover records examples/a.mtl --from 1 --limit 2";
+    let records = of_file(alloc, "records", about, example);
+    let records = taking(records, from(alloc));
+    let records = taking(records, limit(alloc));
+    let records = taking(records, record_key(alloc));
+    taking(records, at(alloc))
+}
+
+/// Returns the subcommand `cut`.
+fn cut<'a>(alloc: Global) -> Result<Command<'a>, AllocError> {
+    let about =
+        "Prints the bytes of a log up to its fault or torn tail: a log of its complete records";
+    let example = "To go on with a damaged log, once it is copied elsewhere:\n\
+         \x20 mtrecover check DIR\n\
+         \x20 mtrecover cut DIR/w0.mtl > w0.cut && mv w0.cut DIR/w0.mtl\n\
+         \x20 mtrecover report DIR --strict";
+    of_file(alloc, "cut", about, example)
+}
+
+/// Returns a subcommand that takes one file.
+fn of_file<'a>(
+    alloc: Global,
+    name: &'a str,
+    about: &'a str,
+    example: &'a str,
+) -> Result<Command<'a>, AllocError> {
+    let command = Command::new(alloc, name).about(about).after_help(example);
+    let command = taking(Ok(command), file(alloc));
+    taking(command, verbose(alloc))
+}
+
 /// Returns the subcommand `completions`, which takes no folder.
 fn completions<'a>(alloc: Global) -> Result<Command<'a>, AllocError> {
     let about =
@@ -152,6 +189,11 @@ fn taking<'a>(
 /// Returns the argument that names the folder.
 fn folder<'a>(alloc: Global) -> Arg<'a> {
     arg!(in alloc; <DIR> "The folder with the logs (.mtl) and checkpoint parts (.mtc)")
+}
+
+/// Returns the argument that names the file.
+fn file<'a>(alloc: Global) -> Arg<'a> {
+    arg!(in alloc; <FILE> "The log (.mtl)")
 }
 
 /// Returns the argument that gives the key.
@@ -215,6 +257,32 @@ fn columns<'a>(alloc: Global) -> Arg<'a> {
     arg!(in alloc; --columns <LIST> "Print only columns of these numbers, as 0,3. A key without any is printed too")
         .value_delimiter(',')
         .value_parser(ValueParser::unsigned(0, u64::from(GREATEST_COLUMN)))
+}
+
+/// Returns the option that gives the number of the first record.
+fn from<'a>(alloc: Global) -> Arg<'a> {
+    arg!(in alloc; --from <N> "Print records from this number on, counted from 0").value_parser(
+        ValueParser::unsigned(0, u64::MAX),
+    )
+}
+
+/// Returns the option that gives the most records.
+fn limit<'a>(alloc: Global) -> Arg<'a> {
+    arg!(in alloc; --limit <N> "Print at most this many records").value_parser(
+        ValueParser::unsigned(0, u64::MAX),
+    )
+}
+
+/// Returns the option that gives the key of the records.
+fn record_key<'a>(alloc: Global) -> Arg<'a> {
+    arg!(in alloc; --key <KEY> "Print only records of this key, in hexadecimal")
+}
+
+/// Returns the option that gives the byte of the first record.
+fn at<'a>(alloc: Global) -> Arg<'a> {
+    arg!(in alloc; --at <BYTE> "Read on at this byte, for example after a fault; numbers count from there").value_parser(
+        ValueParser::unsigned(0, u64::MAX),
+    )
 }
 
 /// The number of workers if the option is not given.

@@ -3,8 +3,10 @@ use crate::file_names::Names;
 use crate::refusal::Refusal;
 use mt_recover::{Failure, MOST_BYTES};
 use mt_scan::{LONGEST_BUFFER, Rack, ReaderSource, Slot};
+use mt_words::Fault;
+use std::alloc::Global;
 use std::fs::{self, File, Files, OpenFile};
-use std::io;
+use std::io::{self, Read};
 use std::path::Path;
 
 /// The bytes that the buffers of many files share. Up to 128 files have buffers of `LONGEST_BUFFER` each.
@@ -52,6 +54,31 @@ fn open_source<'a, 'b, R: AllocGlobal + Files>(
 fn open<R: AllocGlobal + Files>(rt: &R, folder: &str, name: &str) -> io::Result<R::File> {
     let path = Path::new(folder).join(rt.alloc(), name)?;
     File::open(rt, &path)
+}
+
+/// Reads the log of this path. Err: the file cannot be opened or read, has more than `MOST_BYTES` bytes, or out of
+/// memory.
+pub fn read_log_file<'a, R: AllocGlobal + Files>(
+    rt: &R,
+    path: &'a str,
+) -> Result<Vec<u8>, Refusal<'a>> {
+    let file = File::open(rt, Path::new(path)).map_err(|error| Refusal::of(
+        Failure::Open(path),
+        error,
+    ))?;
+    let unread = Fault::Source { log: 0 };
+    let bytes = read(rt.alloc(), file).map_err(|error| Refusal::of(Failure::from(unread), error))?;
+    if bytes.len() as u64 > MOST_BYTES {
+        return Err(Refusal::from(unread));
+    }
+    Ok(bytes)
+}
+
+/// Reads a file, up to one byte past `MOST_BYTES`.
+fn read<F: Read + Drop>(alloc: Global, file: F) -> io::Result<Vec<u8>> {
+    let mut bytes = Vec::new(alloc);
+    let _ = file.take(MOST_BYTES + 1).read_to_end(&mut bytes)?;
+    Ok(bytes)
 }
 
 /// Returns the size of the file of this name in the folder in bytes. None: the system does not tell.

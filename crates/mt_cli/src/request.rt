@@ -1,13 +1,13 @@
 //! The request that the arguments make.
 use crate::file_names::Names;
 use crate::form::Form;
-use mt_recover::{Pieces, Workers};
+use mt_recover::{Pieces, Selection, Workers};
 use mt_words::Key;
 
 /// The request that the arguments make.
 #[derive(Debug, Drop)]
 pub struct Command<'a> {
-    /// The folder of the logs and parts.
+    /// The folder of the logs and parts, or the one file that the query takes.
     pub folder: &'a str,
     /// The number of threads that work.
     pub workers: Workers,
@@ -33,6 +33,17 @@ pub enum Query {
     Audit,
     /// What is in each file, as JSON or not, for which files are read twice.
     Check { is_json: bool },
+    /// A query on one file.
+    File(FileQuery),
+}
+
+/// A query on the file of a log.
+#[derive(Debug, Drop)]
+pub enum FileQuery {
+    /// The wanted records, from this byte on, or from the first one on.
+    Records(Selection, Option<u64>),
+    /// The bytes of the header and the complete records.
+    Cut,
 }
 
 /// A query on the recovered store.

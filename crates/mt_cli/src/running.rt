@@ -5,6 +5,7 @@ use crate::answering::answer;
 use crate::checking::check;
 use crate::failure::{or_tell, tell};
 use crate::file_names::Names;
+use crate::filing::answer_file;
 use crate::listing::names;
 use crate::opening::{open_all, rack_of};
 use crate::refusal::Refusal;
@@ -61,6 +62,9 @@ where
     ensures not { IfErr result (λ status. status ≤ 3) }
 {
     let command = command(rt, words, out, err)?;
+    if let Query::File(query) = &command.query {
+        return Ok(answer_file(rt, &command, query, out, err));
+    }
     let names = names(rt, command.folder, command.is_verbose, err)?;
     answer_files(rt, &command, &names, out, err)
 }

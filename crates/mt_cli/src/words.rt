@@ -7,12 +7,12 @@ use crate::file_names::Names;
 use crate::form::Form;
 use crate::grammar::grammar;
 use crate::refusal::Refusal;
-use crate::request::{Command, Query, Range, StoreQuery};
+use crate::request::{Command, FileQuery, Query, Range, StoreQuery};
 use crate::texts::{Text, tell_text};
 use clap::ArgMatches;
 use clap::error::ErrorKind;
 use hex::FromHexError;
-use mt_recover::{Failure, Pieces, Workers};
+use mt_recover::{Failure, Pieces, Selection, Workers};
 use mt_words::{Fault, Key};
 use std::alloc::Global;
 use std::io::Write;
@@ -89,6 +89,9 @@ fn tell_error<O: Write, E: Write>(error: &clap::Error, out: &mut O, err: &mut E)
 /// Reads the request from the parsed arguments.
 fn read<'a>(alloc: Global, matches: &ArgMatches<'a>) -> Result<Command<'a>, Failure<'static>> {
     let (name, matches) = matches.subcommand().ok_or(Failure::Words)?;
+    if name == "records" || name == "cut" {
+        return read_of_file(alloc, name, matches);
+    }
     let folder = matches.get_str("DIR");
     let workers = matches.get_one("workers").and_then(Workers::new);
     let (Some(folder), Some(workers)) = (folder, workers) else {
@@ -100,6 +103,38 @@ fn read<'a>(alloc: Global, matches: &ArgMatches<'a>) -> Result<Command<'a>, Fail
         workers,
         is_verbose: matches.get_flag("verbose"),
         query,
+    })
+}
+
+/// Reads the request of a subcommand that takes one file.
+fn read_of_file<'a>(
+    alloc: Global,
+    name: &str,
+    matches: &ArgMatches<'a>,
+) -> Result<Command<'a>, Failure<'static>> {
+    let query = if name == "cut" {
+        FileQuery::Cut
+    } else {
+        FileQuery::Records(selection(alloc, matches)?, matches.get_one("at"))
+    };
+    Ok(Command {
+        folder: found(matches.get_str("FILE"))?,
+        workers: found(Workers::new(1))?,
+        is_verbose: matches.get_flag("verbose"),
+        query: Query::File(query),
+    })
+}
+
+/// Returns which records to print.
+fn selection(alloc: Global, matches: &ArgMatches<'_>) -> Result<Selection, Failure<'static>> {
+    let key = match matches.get_str("key") {
+        Some(word) => Some(key_of(alloc, word, false)?),
+        None => None,
+    };
+    Ok(Selection {
+        from: matches.get_one("from").unwrap_or(0),
+        limit: matches.get_one("limit").unwrap_or(u64::MAX),
+        key,
     })
 }
 

@@ -1,9 +1,5 @@
 -- Checks of sources, by their numbers.
-use Rattle.std.proofs.Common.{◌≡◌, ◌∙◌, ℕ, suc, Bool, true, false, List, [], ◌∷◌, map, length, Result, refl, sym, ap}
-use Rattle.std.specs.Prelude.{◌==◌}
-use Rattle.std.proofs.lemmas.Bool.{false≢true}
-use Rattle.std.proofs.lemmas.Bool.Decides.{Decides-eqb}
-use Rattle.std.proofs.lemmas.List.{nil_from_length}
+use Rattle.std.proofs.Common.{◌≡◌, ℕ, suc, List, [], ◌∷◌, map, Result, refl, ap}
 use Rattle.std.specs.List.{AllZip}
 use Rattle.mt_words.specs.declared.fault.Fault.{Fault}
 use Rattle.mt_words.specs.declared.fault.Fault.TheVariants as faults
@@ -50,9 +46,3 @@ parts_read limit [] parts (c ∷ cs) scans some are all = absurd are
 parts_read limit (s ∷ ss) parts checks scans some are all = all
 
 -- ---- whether there are logs
-
-pub nil_if_empty : {T : Type 0} (xs : List T) (len : ℕ) (empty : Bool) → len ≡ length xs → empty ≡ (len == 0) → empty ≡ true → xs ≡ []
-nil_if_empty xs len empty number test outcome = nil_from_length xs (sym number ∙ (Decides-eqb len 0).0 (sym test ∙ outcome))
-
-pub some_if_not : {T : Type 0} (xs : List T) (len : ℕ) (empty : Bool) → len ≡ length xs → empty ≡ (len == 0) → empty ≡ false → xs ≡ [] → ⊥
-some_if_not xs len empty number test outcome none = false≢true (sym outcome ∙ test ∙ ap (λ (n : ℕ). n == 0) (number ∙ ap length none))

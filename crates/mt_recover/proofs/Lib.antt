@@ -19,3 +19,4 @@ pub mod ReportLemmas
 pub mod Preparing
 pub mod Assembles
 pub mod Works
+pub mod RecordLines

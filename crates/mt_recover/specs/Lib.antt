@@ -4,6 +4,7 @@ pub mod Audit
 pub mod Report
 pub mod Verdict
 pub mod Dump
+pub mod RecordText
 pub mod Inputs
 pub mod Check
 pub mod Job

@@ -2,11 +2,12 @@
 use crate::asserting::assert_bytes;
 use crate::folders::{folder_of, remove};
 use crate::logs::{LOG_A, LOG_B, PART};
-use mt_recover::{Inputs, MOST_BYTES, recover_one, write_dump};
+use mt_recover::{Cutting, Inputs, MOST_BYTES, NoGate, Pieces, Workers, recover, write_dump};
 use mt_scan::{LONGEST_BUFFER, Rack, ReaderSource, Slot};
 use std::fs::{self, File, Files};
 use std::io::{self, ErrorKind, Write};
 use std::process::Abort;
+use std::thread::Threads;
 
 /// Opens these files as sources, each with the buffer of a slot.
 fn sources_of<'a, R: AllocGlobal + Files>(
@@ -23,12 +24,18 @@ fn sources_of<'a, R: AllocGlobal + Files>(
     Ok(sources)
 }
 
-fn print_store<R: AllocGlobal + Files, W: Write>(
+fn print_store<R, W: Write>(
     rt: &R,
     logs: &[String],
     parts: &[String],
+    workers: Workers,
+    pieces: Pieces,
     out: &mut W,
-) -> io::Result<()> {
+) -> io::Result<()>
+where
+    R: AllocGlobal + Files + Threads + Sync,
+    R::File: Send,
+{
     let count = logs.len().saturating_add(parts.len());
     let Ok(mut rack) = Rack::new(rt.alloc(), count, LONGEST_BUFFER) else {
         return Err(ErrorKind::OutOfMemory.into());
@@ -36,7 +43,15 @@ fn print_store<R: AllocGlobal + Files, W: Write>(
     let (log_slots, part_slots) = rack.slots().split_at_mut(logs.len());
     let logs = sources_of(rt, logs, log_slots)?;
     let parts = sources_of(rt, parts, part_slots)?;
-    match recover_one(rt.alloc(), Inputs { logs, parts }) {
+    let inputs = Inputs { logs, parts };
+    match recover(
+        rt,
+        rt.alloc(),
+        inputs,
+        workers,
+        Cutting::Sampled(pieces),
+        &NoGate,
+    ) {
         Ok(recovered) => write_dump(recovered.store(), out),
         Err(fault) => writeln!(out, "{fault}"),
     }
@@ -62,7 +77,9 @@ fn recovers_from_files(rt: HostRuntime) {
     logs.append(&mut second).expect(&rt, "memory");
     let parts = made(&rt, folder.as_str(), "c.mtc", PART);
     let mut out = Vec::new(rt.alloc());
-    print_store(&rt, &logs, &parts, &mut out).expect(&rt, "the files");
+    let workers = Workers::new(4).expect(&rt, "1 to 64 workers");
+    let pieces = Pieces::new(16).expect(&rt, "1 to 4,096 pieces");
+    print_store(&rt, &logs, &parts, workers, pieces, &mut out).expect(&rt, "the files");
     assert_bytes(&rt, "", &out, b"61: 0=6f 1=70\n62: 0=79\n");
     remove(&rt, folder.as_str());
 }

@@ -2,7 +2,8 @@ use Rattle.std.proofs.Common.{refl}
 use Rattle.std.proofs.lemmas.Result.{err_from_is_err_and}
 use Rattle.mt_words.specs.declared.fault.Fault.TheVariants as faults
 use Rattle.mt_recover.proofs.SourceLemmas.{memory_refused}
-use Rattle.mt_recover.proofs.CheckLemmas.{none_checked, parts_read, nil_if_empty, some_if_not}
+use Rattle.mt_record.proofs.Feeds.{nil_if_empty, some_if_not}
+use Rattle.mt_recover.proofs.CheckLemmas.{none_checked, parts_read}
 use Rattle.mt_recover.proofs.checking.start_of.Goals as goal
 
 pub returns-then-is_empty-clause-fault : goal.returns-then-is_empty-clause-fault
