@@ -3,10 +3,11 @@ use crate::caveat::Losses;
 use crate::fates::{PartState, fate_of, numbers_of};
 use crate::fields::Fields;
 use crate::file_names::Names;
+use crate::refusal::Refusal;
 use mt_record::{LogFront, Rest};
 use mt_recover::{LogCheck, Start};
 use mt_words::{Fault, Format};
-use std::alloc::{AllocError, Global};
+use std::alloc::Global;
 use std::io::{self, Write};
 
 /// What a check finds in the files of a folder.
@@ -40,15 +41,12 @@ impl Checked {
         alloc: Global,
         is_json: bool,
         out: &mut W,
-    ) -> Result<io::Result<()>, AllocError> {
+    ) -> Result<(), Refusal<'static>> {
         for number in &numbers_of(alloc, &self.parts)? {
             let fate = fate_of(*number, &self.parts, &self.start);
-            let line = Fields::new(out, is_json).and_then(|line| fate.write(*number, line));
-            if line.is_err() {
-                return Ok(line);
-            }
+            fate.write(*number, Fields::new(out, is_json)?)?;
         }
-        Ok(self.write_cutoff(is_json, out))
+        Ok(self.write_cutoff(is_json, out)?)
     }
 
     /// Prints the line of the cutoff, if there is one, with the first log whose last timestamp it is.

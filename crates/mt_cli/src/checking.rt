@@ -1,6 +1,7 @@
 //! Answers the subcommand `check`: reads all files of a folder, and tells what is in each of them.
 ghost use Rattle.std.specs.Prelude.{◌≤◌, IfErr, IfOk};
 
+use crate::answering::PRINTED_AT_ONCE;
 use crate::caveat::Caveat;
 use crate::checked::Checked;
 use crate::failure::tell;
@@ -58,9 +59,6 @@ where
     Ok(losses.map(Caveat::Losses))
 }
 
-/// The size of the output buffer in bytes.
-const PRINTED_AT_ONCE: usize = 16_384;
-
 /// Prints what was found, through a buffer.
 fn print<O: Write>(
     alloc: Global,
@@ -71,7 +69,7 @@ fn print<O: Write>(
 ) -> Result<(), Refusal<'static>> {
     let mut out = BufWriter::with_capacity(alloc, PRINTED_AT_ONCE, out)?;
     checked.write(names, is_json, &mut out)?;
-    checked.write_choice(alloc, is_json, &mut out)??;
+    checked.write_choice(alloc, is_json, &mut out)?;
     Ok(out.flush()?)
 }
 
@@ -86,7 +84,7 @@ where
     let sources = open_all(rt, command.folder, &names.parts, rack.slots())?;
     let scans = check_parts(rt, rt.alloc(), sources, command.workers)?;
     let parts = states(rt.alloc(), &scans)?;
-    let start = start_of(rt.alloc(), copies(rt.alloc(), &logs)?, scans);
+    let start = start_of(rt.alloc(), Vec::from_slice(rt.alloc(), &logs)?, scans);
     if let Ok(start) = &start {
         logs = check_named(rt, command, names, rack.slots(), start.window.cutoff)?;
     }
@@ -135,16 +133,4 @@ fn states(alloc: Global, scans: &[Result<PartScan, Fault>]) -> Result<Vec<PartSt
         states.push(PartState::of(scan))?;
     }
     Ok(states)
-}
-
-/// Returns a copy of the checks.
-fn copies(
-    alloc: Global,
-    checks: &[Result<LogCheck, Fault>],
-) -> Result<Vec<Result<LogCheck, Fault>>, AllocError> {
-    let mut copies = Vec::with_capacity(alloc, checks.len())?;
-    for check in checks {
-        copies.push(*check)?;
-    }
-    Ok(copies)
 }
