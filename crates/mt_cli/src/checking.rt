@@ -10,7 +10,8 @@ use crate::file_names::Names;
 use crate::opening::{open_all, rack_of, size_of};
 use crate::refusal::Refusal;
 use crate::request::Command;
-use mt_recover::{LogCheck, PartScan, check_logs, check_parts, start_of};
+use mt_record::Rest;
+use mt_recover::{LogCheck, PartScan, Start, check_logs, check_parts, start_of};
 use mt_scan::Slot;
 use mt_words::{Fault, Memory};
 use std::alloc::{AllocError, Global};
@@ -84,9 +85,10 @@ where
     let sources = open_all(rt, command.folder, &names.parts, rack.slots())?;
     let scans = check_parts(rt, rt.alloc(), sources, command.workers)?;
     let parts = states(rt.alloc(), &scans)?;
-    let start = start_of(rt.alloc(), Vec::from_slice(rt.alloc(), &logs)?, scans);
-    if let Ok(start) = &start {
-        logs = check_named(rt, command, names, rack.slots(), start.window.cutoff)?;
+    let mut start = start_of(rt.alloc(), Vec::from_slice(rt.alloc(), &logs)?, scans);
+    if let Ok(found) = &start {
+        logs = check_named(rt, command, names, rack.slots(), found.window.cutoff)?;
+        start = unless_failed(start, &logs);
     }
     let sizes = sizes(rt, command, names)?;
     Ok(Checked {
@@ -111,6 +113,33 @@ where
 {
     let sources = open_all(rt, command.folder, &names.logs, slots)?;
     Ok(check_logs(rt, rt.alloc(), sources, command.workers, limit)?)
+}
+
+/// Returns where recovery begins, unless a later check of a log failed. Err: the fault of the first such log.
+fn unless_failed(
+    start: Result<Start, Fault>,
+    checks: &[Result<LogCheck, Fault>],
+) -> Result<Start, Fault> {
+    for (log, check) in checks.iter().enumerate() {
+        if let Some(fault) = fault_of(log, check) {
+            return Err(fault);
+        }
+    }
+    start
+}
+
+/// Returns the fault of the log with this number.
+fn fault_of(log: usize, check: &Result<LogCheck, Fault>) -> Option<Fault> {
+    match check {
+        Ok(check) => match check.front.rest {
+            Rest::Faulty(what) => {
+                let nth = check.front.whole;
+                Some(Fault::Record { log, nth, what })
+            }
+            Rest::Nothing | Rest::Torn => None,
+        },
+        Err(fault) => Some(*fault),
+    }
 }
 
 /// Returns the size of each log's file, if the system tells.
