@@ -1,10 +1,11 @@
 //! What a check finds in the files of a folder, as lines.
 use crate::caveat::Losses;
+use crate::ending::Ending;
 use crate::fates::{PartState, fate_of, numbers_of};
 use crate::fields::Fields;
 use crate::file_names::Names;
 use crate::refusal::Refusal;
-use mt_record::{LogFront, Rest};
+use mt_record::{Head, LogFront, Rest};
 use mt_recover::{LogCheck, Start};
 use mt_words::{Fault, Format};
 use std::alloc::Global;
@@ -15,12 +16,21 @@ use std::io::{self, Write};
 pub struct Checked {
     /// The check of each log, or its fault.
     pub logs: Vec<Result<LogCheck, Fault>>,
-    /// The size of each log's file in bytes, if the system tells.
-    pub sizes: Vec<Option<u64>>,
+    /// What follows the complete records of each log, if something does and its file could be read again.
+    pub endings: Vec<Option<Ending>>,
     /// What is known of each part.
     pub parts: Vec<PartState>,
+    /// The sizes of all files.
+    pub sizes: Sizes,
     /// Where recovery begins, or the fault that it names.
     pub start: Result<Start, Fault>,
+}
+
+/// The size of each file in bytes, if the system tells.
+#[derive(Drop)]
+pub struct Sizes {
+    pub logs: Vec<Option<u64>>,
+    pub parts: Vec<Option<u64>>,
 }
 
 impl Checked {
@@ -60,6 +70,9 @@ impl Checked {
             line.number("log", log)?;
         }
         line.number("begin", start.window.begin)?;
+        if let Some(memory) = self.sizes.memory() {
+            line.number("memory", memory)?;
+        }
         line.end()
     }
 
@@ -90,12 +103,10 @@ impl Checked {
         mut line: Fields<'_, W>,
     ) -> io::Result<()> {
         line.number("log", log)?;
-        line.file(name)?;
-        if let Some(Some(size)) = self.sizes.get(log) {
-            line.number("bytes", size)?;
-        }
+        write_file(name, self.sizes.logs.get(log), &mut line)?;
+        let ending = self.endings.get(log).copied().flatten();
         match self.logs.get(log) {
-            Some(Ok(check)) => write_check(check, self.start.is_ok(), &mut line)?,
+            Some(Ok(check)) => write_check(check, ending, self.start.is_ok(), &mut line)?,
             Some(Err(Fault::Header { .. })) => line.word("state", "header")?,
             _ => line.word("state", "unread")?,
         }
@@ -110,7 +121,7 @@ impl Checked {
         mut line: Fields<'_, W>,
     ) -> io::Result<()> {
         line.number("part", part)?;
-        line.file(name)?;
+        write_file(name, self.sizes.parts.get(part), &mut line)?;
         match self.parts.get(part) {
             Some(state) => state.write(&mut line)?,
             None => line.word("state", "unread")?,
@@ -135,6 +146,40 @@ impl Checked {
     }
 }
 
+impl Sizes {
+    /// Returns about how many bytes of memory recovery takes: three times those of all files. None: the size of one is
+    /// not known.
+    fn memory(&self) -> Option<u64> {
+        let bytes = sum(&self.logs)?.checked_add(sum(&self.parts)?)?;
+        bytes.checked_mul(MEMORY_A_BYTE)
+    }
+}
+
+/// The bytes of memory that recovery takes for a byte of ordinary logs and parts, about.
+const MEMORY_A_BYTE: u64 = 3;
+
+/// Returns the sum of the sizes. None: one of them is not known.
+fn sum(sizes: &[Option<u64>]) -> Option<u64> {
+    let mut sum: u64 = 0;
+    for size in sizes {
+        sum = sum.checked_add((*size)?)?;
+    }
+    Some(sum)
+}
+
+/// Prints the name of a file, and its size if that is known.
+fn write_file<W: Write>(
+    name: &str,
+    size: Option<&Option<u64>>,
+    line: &mut Fields<'_, W>,
+) -> io::Result<()> {
+    line.file(name)?;
+    if let Some(Some(size)) = size {
+        line.number("bytes", size)?;
+    }
+    Ok(())
+}
+
 /// Returns the front of a log that has a header.
 fn front_of(check: &Result<LogCheck, Fault>) -> Option<&LogFront> {
     check.as_ref().ok().map(|check| &check.front)
@@ -148,29 +193,40 @@ fn last_in(front: &LogFront) -> u64 {
 /// Prints what a check found in a log. The late updates are known if there is a cutoff.
 fn write_check<W: Write>(
     check: &LogCheck,
+    ending: Option<Ending>,
     has_cutoff: bool,
     line: &mut Fields<'_, W>,
 ) -> io::Result<()> {
-    let LogFront {
-        head,
-        whole,
-        end,
-        rest,
-        ..
-    } = check.front;
-    match rest {
-        Rest::Nothing => line.word("state", "whole")?,
-        Rest::Torn => line.word("state", "torn")?,
-        Rest::Faulty(what) => line.word("state", what)?,
-    }
-    line.number("end", end)?;
-    line.number("records", whole)?;
+    write_front(&check.front, ending, line)?;
     line.number("marks", check.marks)?;
     if has_cutoff {
         line.number("late", check.late)?;
     }
-    line.number("from", head.from)?;
+    line.number("from", check.front.head.from)?;
     line.number("last", last_in(&check.front))?;
+    write_format(check.front.head, line)
+}
+
+/// Prints how far bytes are a log, and what follows.
+fn write_front<W: Write>(
+    front: &LogFront,
+    ending: Option<Ending>,
+    line: &mut Fields<'_, W>,
+) -> io::Result<()> {
+    match front.rest {
+        Rest::Nothing => line.word("state", "whole")?,
+        Rest::Torn => line.word("state", "torn")?,
+        Rest::Faulty(what) => line.word("state", what)?,
+    }
+    line.number("end", front.end)?;
+    if let Some(ending) = ending {
+        ending.write(line)?;
+    }
+    line.number("records", front.whole)
+}
+
+/// Prints the format of a log, and which segment it is.
+fn write_format<W: Write>(head: Head, line: &mut Fields<'_, W>) -> io::Result<()> {
     match head.writer {
         Some((worker, segment)) => {
             line.number("format", 3)?;

@@ -3,11 +3,12 @@ ghost use Rattle.std.specs.Prelude.{◌≤◌, IfErr, IfOk};
 
 use crate::answering::PRINTED_AT_ONCE;
 use crate::caveat::Caveat;
-use crate::checked::Checked;
+use crate::checked::{Checked, Sizes};
+use crate::ending::Ending;
 use crate::failure::tell;
 use crate::fates::PartState;
 use crate::file_names::Names;
-use crate::opening::{open_all, rack_of, size_of};
+use crate::opening::{open_all, open_rest, rack_of, size_of};
 use crate::refusal::Refusal;
 use crate::request::Command;
 use mt_record::Rest;
@@ -74,7 +75,8 @@ fn print<O: Write>(
     Ok(out.flush()?)
 }
 
-/// Checks all logs and parts. If there is a cutoff, the logs are read once more, to count what is late.
+/// Checks all logs and parts. If there is a cutoff, the logs are read once more, to count what is late. What follows the
+/// complete records of a log is read after that.
 fn check_all<'a, R>(rt: &R, command: &Command<'_>, names: &'a Names) -> Result<Checked, Refusal<'a>>
 where
     R: AllocGlobal + Files + Threads + Sync,
@@ -82,19 +84,20 @@ where
 {
     let mut rack = rack_of(rt, names)?;
     let mut logs = check_named(rt, command, names, rack.slots(), u64::MAX)?;
-    let sources = open_all(rt, command.folder, &names.parts, rack.slots())?;
-    let scans = check_parts(rt, rt.alloc(), sources, command.workers)?;
+    let scans = scan_parts(rt, command, names, rack.slots())?;
     let parts = states(rt.alloc(), &scans)?;
     let mut start = start_of(rt.alloc(), Vec::from_slice(rt.alloc(), &logs)?, scans);
     if let Ok(found) = &start {
         logs = check_named(rt, command, names, rack.slots(), found.window.cutoff)?;
         start = unless_failed(start, &logs);
     }
-    let sizes = sizes(rt, command, names)?;
+    let endings = read_endings(rt, command.folder, &names.logs, &logs, rack.slots())?;
+    let sizes = sizes(rt, command.folder, names)?;
     Ok(Checked {
         logs,
-        sizes,
+        endings,
         parts,
+        sizes,
         start,
     })
 }
@@ -113,6 +116,21 @@ where
 {
     let sources = open_all(rt, command.folder, &names.logs, slots)?;
     Ok(check_logs(rt, rt.alloc(), sources, command.workers, limit)?)
+}
+
+/// Scans the parts of these names.
+fn scan_parts<'a, R>(
+    rt: &R,
+    command: &Command<'_>,
+    names: &'a Names,
+    slots: &mut [Slot],
+) -> Result<Vec<Result<PartScan, Fault>>, Refusal<'a>>
+where
+    R: AllocGlobal + Files + Threads + Sync,
+    R::File: Send,
+{
+    let sources = open_all(rt, command.folder, &names.parts, slots)?;
+    Ok(check_parts(rt, rt.alloc(), sources, command.workers)?)
 }
 
 /// Returns where recovery begins, unless a later check of a log failed. Err: the fault of the first such log.
@@ -142,15 +160,59 @@ fn fault_of(log: usize, check: &Result<LogCheck, Fault>) -> Option<Fault> {
     }
 }
 
-/// Returns the size of each log's file, if the system tells.
-fn sizes<R: AllocGlobal + Files>(
+/// Reads what follows the complete records of each log. None: nothing does, as far as its file tells.
+fn read_endings<R: AllocGlobal + Files>(
     rt: &R,
-    command: &Command<'_>,
-    names: &Names,
+    folder: &str,
+    names: &[String],
+    checks: &[Result<LogCheck, Fault>],
+    slots: &mut [Slot],
+) -> Result<Vec<Option<Ending>>, Memory> {
+    let mut endings = Vec::with_capacity(rt.alloc(), names.len())?;
+    for ((name, check), slot) in names.iter().zip(checks).zip(slots) {
+        let ending = match check {
+            Ok(check) => read_ending(rt, folder, name.as_str(), check, slot)?,
+            Err(_) => None,
+        };
+        endings.push(ending)?;
+    }
+    Ok(endings)
+}
+
+/// Reads what follows the complete records of a log. None: nothing does, or the file cannot be read again.
+fn read_ending<R: AllocGlobal + Files>(
+    rt: &R,
+    folder: &str,
+    name: &str,
+    check: &LogCheck,
+    slot: &mut Slot,
+) -> Result<Option<Ending>, Memory> {
+    if check.front.rest == Rest::Nothing {
+        return Ok(None);
+    }
+    match open_rest(rt, folder, name, check.front.end, slot) {
+        Some(mut source) => Ending::of_source(rt.alloc(), check.front.head.format, &mut source),
+        None => Ok(None),
+    }
+}
+
+/// Returns the sizes of the files.
+fn sizes<R: AllocGlobal + Files>(rt: &R, folder: &str, names: &Names) -> Result<Sizes, Memory> {
+    Ok(Sizes {
+        logs: sizes_of(rt, folder, &names.logs)?,
+        parts: sizes_of(rt, folder, &names.parts)?,
+    })
+}
+
+/// Returns the size of each file of these names, if the system tells.
+fn sizes_of<R: AllocGlobal + Files>(
+    rt: &R,
+    folder: &str,
+    names: &[String],
 ) -> Result<Vec<Option<u64>>, Memory> {
-    let mut sizes = Vec::with_capacity(rt.alloc(), names.logs.len())?;
-    for name in &names.logs {
-        sizes.push(size_of(rt, command.folder, name.as_str()))?;
+    let mut sizes = Vec::with_capacity(rt.alloc(), names.len())?;
+    for name in names {
+        sizes.push(size_of(rt, folder, name.as_str()))?;
     }
     Ok(sizes)
 }

@@ -1,6 +1,10 @@
 //! What follows the complete records of a log.
+use crate::fields::Fields;
 use mt_record::records_at_end;
-use mt_words::Format;
+use mt_scan::Source;
+use mt_words::{Format, Memory};
+use std::alloc::{AllocError, Global};
+use std::io::{self, Write};
 
 /// What follows the complete records of a log.
 #[derive(Clone, Copy, Debug)]
@@ -21,6 +25,82 @@ impl Ending {
             is_zero: !rest.is_empty() && are_zero(rest),
             records: records_at_end(format, rest).count,
         }
+    }
+
+    /// Does as `of`, but reads the rest from a source, and counts only records that lie in its last `SEARCHED` bytes.
+    /// Needs memory for about twice as many. None: the source failed. Err: out of memory.
+    pub fn of_source<S: Source>(
+        alloc: Global,
+        format: Format,
+        source: &mut S,
+    ) -> Result<Option<Ending>, Memory> {
+        let mut tail = Tail::new(alloc);
+        for _ in 0..u64::MAX {
+            match source.advance() {
+                Ok(0) => break,
+                Ok(_) => tail.push(source.piece())?,
+                Err(_) => return Ok(None),
+            }
+        }
+        Ok(Some(tail.ending(format)))
+    }
+
+    /// Prints its values. Err: write error.
+    pub fn write<W: Write>(self, line: &mut Fields<'_, W>) -> io::Result<()> {
+        line.number("left", self.bytes)?;
+        line.word("zeros", if self.is_zero { "yes" } else { "no" })?;
+        line.number("after", self.records)
+    }
+}
+
+/// The number of bytes at the end of a file in which records are looked for.
+const SEARCHED: usize = 1 << 20;
+
+/// The last of some bytes that come chunk by chunk.
+#[derive(Drop)]
+struct Tail {
+    /// The last `SEARCHED` bytes or more, or all bytes.
+    last: Vec<u8>,
+    /// The number of all bytes, counted up to 2^64 - 1.
+    bytes: u64,
+    /// Whether all bytes are 0.
+    is_zero: bool,
+}
+
+impl Tail {
+    /// Creates a tail of no bytes.
+    fn new(alloc: Global) -> Tail {
+        Tail {
+            last: Vec::new(alloc),
+            bytes: 0,
+            is_zero: true,
+        }
+    }
+
+    /// Appends a chunk. Err: out of memory.
+    fn push(&mut self, chunk: &[u8]) -> Result<(), AllocError> {
+        self.bytes = self.bytes.saturating_add(chunk.len() as u64);
+        self.is_zero = self.is_zero && are_zero(chunk);
+        halve(&mut self.last);
+        self.last.extend_from_slice(chunk)
+    }
+
+    /// Returns what the bytes are as the rest of a log of this format.
+    fn ending(&self, format: Format) -> Ending {
+        let start = self.last.len().saturating_sub(SEARCHED);
+        Ending {
+            bytes: self.bytes,
+            is_zero: self.is_zero && self.bytes > 0,
+            records: records_at_end(format, &self.last[start..]).count,
+        }
+    }
+}
+
+/// Removes all but the last `SEARCHED` bytes if there are twice as many.
+fn halve(bytes: &mut Vec<u8>) {
+    if bytes.len() >= 2 * SEARCHED {
+        let surplus = bytes.len() - SEARCHED;
+        bytes.drain(..surplus);
     }
 }
 

@@ -6,7 +6,7 @@ use mt_scan::{LONGEST_BUFFER, Rack, ReaderSource, Slot};
 use mt_words::Fault;
 use std::alloc::Global;
 use std::fs::{self, File, Files, OpenFile};
-use std::io::{self, Read};
+use std::io::{self, Seek, SeekFrom};
 use std::path::Path;
 
 /// The bytes that the buffers of many files share. Up to 128 files have buffers of `LONGEST_BUFFER` each.
@@ -48,6 +48,23 @@ fn open_source<'a, 'b, R: AllocGlobal + Files>(
     let file = open(rt, folder, name).map_err(|error| Refusal::of(Failure::Open(name), error))?;
     // None only if the slot is empty. No slot of a new rack is empty.
     ReaderSource::new(file, MOST_BYTES, slot).ok_or(Refusal::from(Failure::Open(name)))
+}
+
+/// Opens the file of this name in the folder as a source of its bytes from this one on. None: the file has no bytes
+/// there, as a pipe, which has no size, or cannot be opened.
+pub fn open_rest<'a, R: AllocGlobal + Files>(
+    rt: &R,
+    folder: &str,
+    name: &str,
+    start: u64,
+    slot: &'a mut Slot,
+) -> Option<ReaderSource<'a, R::File>> {
+    if size_of(rt, folder, name)? <= start {
+        return None;
+    }
+    let mut file = open(rt, folder, name).ok()?;
+    file.seek(SeekFrom::Start(start)).ok()?;
+    ReaderSource::new(file, MOST_BYTES, slot)
 }
 
 /// Opens the file of this name in the folder.
