@@ -15,15 +15,25 @@ pub struct Ending {
     pub is_zero: bool,
     /// The number of complete records that end them, found from their end by the second lengths.
     pub records: usize,
+    /// How many of the bytes precede these records.
+    pub before: u64,
 }
 
 impl Ending {
     /// Returns what the rest of a log of this format is: all bytes after its complete records.
     pub fn of(format: Format, rest: &[u8]) -> Ending {
+        let bytes = rest.len() as u64;
+        Ending::new(format, bytes, !rest.is_empty() && are_zero(rest), rest)
+    }
+
+    /// Returns the ending of so many bytes, of which these are the last ones.
+    fn new(format: Format, bytes: u64, is_zero: bool, last: &[u8]) -> Ending {
+        let run = records_at_end(format, last);
         Ending {
-            bytes: rest.len() as u64,
-            is_zero: !rest.is_empty() && are_zero(rest),
-            records: records_at_end(format, rest).count,
+            bytes,
+            is_zero,
+            records: run.count,
+            before: bytes.saturating_sub(last.len().saturating_sub(run.start) as u64),
         }
     }
 
@@ -88,11 +98,8 @@ impl Tail {
     /// Returns what the bytes are as the rest of a log of this format.
     fn ending(&self, format: Format) -> Ending {
         let start = self.last.len().saturating_sub(SEARCHED);
-        Ending {
-            bytes: self.bytes,
-            is_zero: self.is_zero && self.bytes > 0,
-            records: records_at_end(format, &self.last[start..]).count,
-        }
+        let is_zero = self.is_zero && self.bytes > 0;
+        Ending::new(format, self.bytes, is_zero, &self.last[start..])
     }
 }
 

@@ -6,7 +6,7 @@ use mt_scan::{LONGEST_BUFFER, Rack, ReaderSource, Slot};
 use mt_words::Fault;
 use std::alloc::Global;
 use std::fs::{self, File, Files, OpenFile};
-use std::io::{self, Seek, SeekFrom};
+use std::io::{self, Read, Seek, SeekFrom};
 use std::path::Path;
 
 /// The bytes that the buffers of many files share. Up to 128 files have buffers of `LONGEST_BUFFER` each.

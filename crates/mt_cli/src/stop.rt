@@ -1,7 +1,8 @@
 //! Where the complete records of a log stop before its bytes do.
 ghost use Rattle.std.specs.Prelude.{◌≤◌};
 
-use mt_record::{LogFront, RecordsAtEnd, Rest, records_at_end};
+use crate::ending::Ending;
+use mt_record::{LogFront, Rest};
 use mt_words::{Format, What};
 use std::fmt::{self, Display, Formatter, Write};
 
@@ -12,12 +13,8 @@ pub struct Stop {
     at: usize,
     /// What is there, if the log was read from its beginning.
     reason: Option<Reason>,
-    /// The number of bytes from there on.
-    left: usize,
-    /// Whether all of these are 0.
-    is_zero: bool,
-    /// The complete records that end these bytes.
-    tail: RecordsAtEnd,
+    /// The bytes from there on.
+    ending: Ending,
 }
 
 /// Why the records of a log stop.
@@ -54,9 +51,7 @@ impl Stop {
         Some(Stop {
             at,
             reason: None,
-            left: rest.len(),
-            is_zero: rest.iter().all(|byte| *byte == 0),
-            tail: records_at_end(format, rest),
+            ending: Ending::of(format, rest),
         })
     }
 
@@ -81,17 +76,26 @@ impl Stop {
         }
     }
 
-    /// Writes the records that end the bytes, if there are some.
-    fn write_tail<W: Write>(&self, f: &mut Formatter<W>) -> fmt::Result {
-        let RecordsAtEnd { start, count } = self.tail;
-        if count == 0 {
+    /// Writes how many bytes are left, and which.
+    fn write_ending<W: Write>(&self, f: &mut Formatter<W>) -> fmt::Result {
+        let Ending {
+            bytes,
+            is_zero,
+            records,
+            before,
+        } = self.ending;
+        write!(f, "; {bytes} bytes left")?;
+        if is_zero {
+            f.write_str(", all zero")?;
+        }
+        if records == 0 {
             return Ok(());
         }
-        let from = self.at.saturating_add(start);
-        let plural = if count == 1 { "" } else { "s" };
+        let from = before.saturating_add(self.at as u64);
+        let plural = if records == 1 { "" } else { "s" };
         write!(
             f,
-            ", whole again from byte {from} on ({count} record{plural}): damage, not a crash"
+            ", whole again from byte {from} on ({records} record{plural}): damage, not a crash"
         )
     }
 }
@@ -100,10 +104,6 @@ impl Stop {
 impl Display for Stop {
     fn fmt<W: Write>(&self, f: &mut Formatter<W>) -> fmt::Result {
         self.write_reason(f)?;
-        write!(f, "; {} bytes left", self.left)?;
-        if self.is_zero {
-            f.write_str(", all zero")?;
-        }
-        self.write_tail(f)
+        self.write_ending(f)
     }
 }
