@@ -12,7 +12,7 @@ use crate::opening::{open_all, open_rest, rack_of, size_of};
 use crate::refusal::Refusal;
 use crate::request::Command;
 use mt_record::Rest;
-use mt_recover::{LogCheck, PartScan, Start, check_logs, check_parts, start_of};
+use mt_recover::{LogCheck, PartScan, check_logs, check_parts, start_of};
 use mt_scan::Slot;
 use mt_words::{Fault, Memory};
 use std::alloc::{AllocError, Global};
@@ -89,7 +89,9 @@ where
     let mut start = start_of(rt.alloc(), Vec::from_slice(rt.alloc(), &logs)?, scans);
     if let Ok(found) = &start {
         logs = check_named(rt, command, names, rack.slots(), found.window.cutoff)?;
-        start = unless_failed(start, &logs);
+        if let Some(fault) = first_fault(&logs) {
+            start = Err(fault);
+        }
     }
     let endings = read_endings(rt, command.folder, &names.logs, &logs, rack.slots())?;
     let sizes = sizes(rt, command.folder, names)?;
@@ -133,17 +135,14 @@ where
     Ok(check_parts(rt, rt.alloc(), sources, command.workers)?)
 }
 
-/// Returns where recovery begins, unless a later check of a log failed. Err: the fault of the first such log.
-fn unless_failed(
-    start: Result<Start, Fault>,
-    checks: &[Result<LogCheck, Fault>],
-) -> Result<Start, Fault> {
+/// Returns the fault of the first log that has one.
+fn first_fault(checks: &[Result<LogCheck, Fault>]) -> Option<Fault> {
     for (log, check) in checks.iter().enumerate() {
         if let Some(fault) = fault_of(log, check) {
-            return Err(fault);
+            return Some(fault);
         }
     }
-    start
+    None
 }
 
 /// Returns the fault of the log with this number.
@@ -160,7 +159,7 @@ fn fault_of(log: usize, check: &Result<LogCheck, Fault>) -> Option<Fault> {
     }
 }
 
-/// Reads what follows the complete records of each log. None: nothing does, as far as its file tells.
+/// Reads what follows the complete records of each log. None: nothing does, or the file cannot be read again.
 fn read_endings<R: AllocGlobal + Files>(
     rt: &R,
     folder: &str,

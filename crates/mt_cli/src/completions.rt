@@ -2,7 +2,7 @@
 use clap::Command;
 use std::io::{self, Write};
 
-/// What comes before the words of the subcommands. A word that nothing completes is completed as a folder.
+/// What comes before the words of the subcommands. A word that nothing completes is completed as a file or folder.
 const BEGINNING: &[u8] = b"\
 # Completions of mtrecover in bash: source this file.
 _mtrecover() {
@@ -17,7 +17,7 @@ const END: &[u8] = b"    esac
 complete -o default -F _mtrecover mtrecover
 ";
 
-/// Prints a script after which bash completes the names of subcommands and options, and folders. Err: write error.
+/// Prints a script after which bash completes the names of subcommands and options, and files and folders. Err: write error.
 pub fn write_completions<W: Write>(program: &Command<'_>, out: &mut W) -> io::Result<()> {
     out.write_all(BEGINNING)?;
     out.write_all(b"        1,*) words='")?;

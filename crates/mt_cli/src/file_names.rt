@@ -19,6 +19,13 @@ impl Names {
         }
     }
 
+    /// Returns the name of one log, which may have any ending. Err: out of memory.
+    pub(crate) fn of_log(alloc: Global, name: &str) -> Result<Names, AllocError> {
+        let mut names = Names::new(alloc);
+        names.logs.push(String::from_str(alloc, name)?)?;
+        Ok(names)
+    }
+
     /// Adds the name of a log or a part. Ignores any other name. Err: out of memory.
     pub(crate) fn add(&mut self, alloc: Global, name: &str) -> Result<(), AllocError> {
         let kind = if name.ends_with(".mtl") {

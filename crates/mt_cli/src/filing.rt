@@ -26,14 +26,28 @@ pub fn answer_file<R: AllocGlobal + Files, O: Write, E: Write>(
 ) -> u8
     ensures status { result ≤ 4 }
 {
-    let no_names = Names::new(rt.alloc());
     let answered = match query {
         FileQuery::Cut => cut(rt, command.folder, out),
         FileQuery::Records(selection, at) => records(rt, command.folder, selection, *at, out),
     };
     match answered {
         Ok(stop) => tell_stop(stop, query, err),
-        Err(refusal) => tell(&refusal, command.explaining(&no_names), err),
+        Err(refusal) => tell_refusal(rt.alloc(), &refusal, command, err),
+    }
+}
+
+/// Tells a failure, with the file as log 0, and returns its exit status.
+fn tell_refusal<E: Write>(
+    alloc: Global,
+    refusal: &Refusal<'_>,
+    command: &Command<'_>,
+    err: &mut E,
+) -> u8
+    ensures status { result ≤ 3 }
+{
+    match Names::of_log(alloc, command.folder) {
+        Ok(names) => tell(refusal, command.explaining(&names), err),
+        Err(_) => tell(refusal, None, err),
     }
 }
 

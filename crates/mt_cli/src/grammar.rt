@@ -28,7 +28,7 @@ fn with<'a>(
 
 /// The exit statuses.
 pub const STATUSES: &str =
-    "Exit status: 0 done, 1 no store (a fault), 2 bad arguments, 3 folder, file or output failed,\n\
+    "Exit status: 0 done, 1 a fault (no store), 2 bad arguments, 3 folder, file or output failed,\n\
      4 done, but the answer is no, or something was torn, late or skipped";
 
 /// Returns the program without its subcommands.
@@ -36,7 +36,7 @@ fn program<'a>(alloc: Global) -> Result<Command<'a>, AllocError> {
     let program = Command::new(alloc, "mtrecover")
         .version("1.0 (file formats 1 to 3)")
         .about(
-            "Recovers the store of a folder of update logs and checkpoint parts and answers queries on it, or audits the logs",
+            "Recovers the store of a folder of update logs and checkpoint parts and answers queries on it; audits, checks, prints and cuts logs",
         )
         .after_help(STATUSES)
         .no_binary_name(true)
@@ -100,7 +100,7 @@ fn check<'a>(alloc: Global) -> Result<Command<'a>, AllocError> {
 /// Returns the subcommand `records`.
 fn records<'a>(alloc: Global) -> Result<Command<'a>, AllocError> {
     let about =
-        "Prints the records of a log, each with its number and its byte, as lines of a case file";
+        "Prints the records of a log, a line each, with its number and the byte where it begins";
     let example = "Example: mtrecover records examples/a.mtl --from 1 --limit 2";
     let records = of_file(alloc, "records", about, example);
     let records = taking(records, from(alloc));
@@ -165,7 +165,7 @@ fn of_store<'a>(
     taking(subcommand(alloc, name, about, example), pieces(alloc))
 }
 
-/// Returns a subcommand with the arguments that all subcommands take.
+/// Returns a subcommand with the arguments that all subcommands on a folder take.
 fn subcommand<'a>(
     alloc: Global,
     name: &'a str,

@@ -98,9 +98,10 @@ fn read<F: Read + Drop>(alloc: Global, file: F) -> io::Result<Vec<u8>> {
     Ok(bytes)
 }
 
-/// Returns the size of the file of this name in the folder in bytes. None: the system does not tell.
+/// Returns the size of the file of this name in the folder in bytes. None: the system does not tell, or it is no regular
+/// file, as a pipe.
 pub fn size_of<R: AllocGlobal + Files>(rt: &R, folder: &str, name: &str) -> Option<u64> {
     let path = Path::new(folder).join(rt.alloc(), name).ok()?;
     let metadata = fs::metadata(rt, &path).ok()?;
-    Some(metadata.len())
+    metadata.is_file().then_some(metadata.len())
 }

@@ -7,7 +7,7 @@ use mt_words::{Columns, Kept};
 use std::io::{self, Write};
 
 /// Prints the pairs of the range, each with those of its columns that are wanted. Each pair is printed as the walk shows
-/// it, without a copy. Err: write error.
+/// it, without a copy. Err: write error, or a column number is too great.
 pub fn print_range<O: Write>(
     store: &Store,
     range: &Range,

@@ -95,7 +95,7 @@ impl Stop {
         let plural = if records == 1 { "" } else { "s" };
         write!(
             f,
-            ", whole again from byte {from} on ({records} record{plural}): damage, not a crash"
+            ", whole again from byte {from} on ({records} record{plural}), which points to damage"
         )
     }
 }

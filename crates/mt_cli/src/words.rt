@@ -89,8 +89,8 @@ fn tell_error<O: Write, E: Write>(error: &clap::Error, out: &mut O, err: &mut E)
 /// Reads the request from the parsed arguments.
 fn read<'a>(alloc: Global, matches: &ArgMatches<'a>) -> Result<Command<'a>, Failure<'static>> {
     let (name, matches) = matches.subcommand().ok_or(Failure::Words)?;
-    if name == "records" || name == "cut" {
-        return read_of_file(alloc, name, matches);
+    if let Some(query) = file_query(alloc, name, matches) {
+        return read_of_file(query?, matches);
     }
     let folder = matches.get_str("DIR");
     let workers = matches.get_one("workers").and_then(Workers::new);
@@ -106,17 +106,30 @@ fn read<'a>(alloc: Global, matches: &ArgMatches<'a>) -> Result<Command<'a>, Fail
     })
 }
 
-/// Reads the request of a subcommand that takes one file.
-fn read_of_file<'a>(
+/// Returns the query of the subcommand of this name, if that takes one file.
+fn file_query(
     alloc: Global,
     name: &str,
+    matches: &ArgMatches<'_>,
+) -> Option<Result<FileQuery, Failure<'static>>> {
+    match name {
+        "records" => Some(records(alloc, matches)),
+        "cut" => Some(Ok(FileQuery::Cut)),
+        _ => None,
+    }
+}
+
+/// Returns the query of the subcommand `records`.
+fn records(alloc: Global, matches: &ArgMatches<'_>) -> Result<FileQuery, Failure<'static>> {
+    let selection = selection(alloc, matches)?;
+    Ok(FileQuery::Records(selection, matches.get_one("at")))
+}
+
+/// Returns the request of a query on one file.
+fn read_of_file<'a>(
+    query: FileQuery,
     matches: &ArgMatches<'a>,
 ) -> Result<Command<'a>, Failure<'static>> {
-    let query = if name == "cut" {
-        FileQuery::Cut
-    } else {
-        FileQuery::Records(selection(alloc, matches)?, matches.get_one("at"))
-    };
     Ok(Command {
         folder: found(matches.get_str("FILE"))?,
         workers: found(Workers::new(1))?,
