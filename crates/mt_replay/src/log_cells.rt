@@ -101,11 +101,6 @@ impl LogCells {
         }
     }
 
-    /// Returns whether these are the entries of a checkpoint part.
-    pub(crate) fn has_entries(&self) -> bool {
-        matches!(&self.held, Held::Read(_))
-    }
-
     /// Returns the update at this place.
     pub fn get(&self, at: usize) -> Lent<'_>
         requires { at < length self.now }
