@@ -18,7 +18,7 @@ const MOST_RECORDS: usize = 131_072;
 const LEAST_RECORDS: usize = 8_192;
 
 /// The number of batches that each worker gets, so that all workers have about the same to do.
-const BATCHES_OF_WORKER: usize = 4;
+const BATCHES_OF_WORKER: usize = 8;
 
 /// Shares out what the scans kept, in order, into batches for this number of workers.
 pub(crate) fn batches_of<'a>(

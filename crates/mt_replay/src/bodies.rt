@@ -1,30 +1,38 @@
-//! Bodies of updates, each with its origin.
+//! Updates as texts: of each its origin, then its body.
 ghost use Rattle.std.specs.Prelude.{◌≡◌, ◌<◌, ◌++◌, [], ◌∷◌, IfOk, OnOk, OnErr, length, slice_index_or};
 ghost use Rattle.mt_words.specs.declared.update.Update.{Update as UpdateValue};
 ghost use Rattle.mt_record.specs.Decoding.{IsChangeBody, update_in};
+ghost use Rattle.mt_replay.specs.Steps.Bodies.{IsTold, told, short_text, long_text};
 
+use byteorder::{BigEndian, ByteOrder};
 use mt_record::{Lent, Texts};
 use mt_words::{Memory, Origin};
 use std::alloc::Global;
 use std::marker::Model;
 
-/// Updates, each with its origin and its body. The bodies lie one after another in one buffer.
+/// The number of bytes of the origin of most updates: a tag, a log below 2^16 and a record below 2^32.
+const SHORT: usize = 7;
+
+/// The number of bytes of the origin of any log update: a tag, a log and a record.
+const LONG: usize = 17;
+
+/// Updates, one after another in one buffer: of each its origin in a few bytes, and its body. So a run of them is read
+/// as one stream.
 #[derive(Drop)]
 pub(crate) struct Bodies {
-    origins: Vec<Origin>,
     texts: Texts,
 }
 
 impl Model for Bodies {
-    ghost use Rattle.std.specs.Prelude.{List};
+    ghost use Rattle.std.specs.Prelude.{List, All, map};
     ghost use Rattle.mt_words.specs.declared.update.Update.{Update};
-    ghost use Rattle.mt_replay.specs.Steps.Bodies.{updates_at, AreBodies};
+    ghost use Rattle.mt_replay.specs.Steps.Bodies.{told, IsTold};
 
     ghost Value = { List Update };
 
-    ghost view = { λ b. updates_at b.origins.items b.texts };
+    ghost view = { λ b. map told b.texts };
 
-    ghost invariant = { λ b. AreBodies b.origins.items b.texts };
+    ghost invariant = { λ b. All IsTold b.texts };
 }
 
 impl Bodies {
@@ -37,9 +45,9 @@ impl Bodies {
     ) -> Result<Bodies, Memory>
         ensures { IfOk result (λ bodies. bodies ≡ []) }
     {
+        let size = bytes.saturating_add(updates.saturating_mul(SHORT));
         Ok(Bodies {
-            origins: Vec::with_capacity(alloc, updates)?,
-            texts: Texts::with_capacity(alloc, updates, bytes)?,
+            texts: Texts::with_capacity(alloc, updates, size)?,
         })
     }
 
@@ -47,7 +55,7 @@ impl Bodies {
     pub(crate) fn len(&self) -> usize
         ensures { result ≡ length self.now }
     {
-        self.origins.len()
+        self.texts.len()
     }
 
     /// Returns the update at this place.
@@ -55,7 +63,7 @@ impl Bodies {
         requires { at < length self.now }
         ensures { (d : UpdateValue) → result ≡ slice_index_or self.now at d }
     {
-        Lent::of(self.origins[at], self.texts.get(at))
+        lent_in(self.texts.get(at))
     }
 
     /// Appends the update with this origin and this body. Err: out of memory; nothing is appended.
@@ -64,9 +72,63 @@ impl Bodies {
         ensures ok { OnOk result (self.new ≡ self.old ++ update_in origin body.now ∷ []) }
         ensures err { OnErr result (self.new ≡ self.old) }
     {
-        self.origins.reserve(1)?;
-        self.texts.push(body)?;
-        self.origins.push_reserved(origin);
-        Ok(())
+        match origin {
+            Origin::Checkpoint => self.push_text(&[0], body),
+            Origin::Log { log, record } => {
+                if log > usize::from(u16::MAX) || record > u64::from(u32::MAX) {
+                    return self.push_text(&long(log as u64, record), body);
+                }
+                self.push_text(&short(log as u16, record as u32), body)
+            }
+        }
     }
+
+    /// Appends a text that is given as its origin and its body. Err: out of memory; nothing is appended.
+    fn push_text(&mut self, origin: &[u8], body: &[u8]) -> Result<(), Memory>
+        requires { IsTold (origin.now ++ body.now) }
+        ensures ok { OnOk result (self.new ≡ self.old ++ told (origin.now ++ body.now) ∷ []) }
+        ensures err { OnErr result (self.new ≡ self.old) }
+    {
+        self.texts.push_joined(origin, body)
+    }
+}
+
+/// Returns the update of a text.
+fn lent_in(text: &[u8]) -> Lent<'_>
+    requires { IsTold text.now }
+    ensures { result ≡ told text.now }
+{
+    match text[0] {
+        0 => Lent::of(Origin::Checkpoint, &text[1..]),
+        1 => {
+            let log = usize::from(BigEndian::read_u16(&text[1..]));
+            let record = u64::from(BigEndian::read_u32(&text[3..]));
+            Lent::of(Origin::Log { log, record }, &text[SHORT..])
+        }
+        _ => {
+            let log = BigEndian::read_u64(&text[1..]) as usize;
+            let record = BigEndian::read_u64(&text[9..]);
+            Lent::of(Origin::Log { log, record }, &text[LONG..])
+        }
+    }
+}
+
+/// Returns the text of an origin in a log below 2^16, at a record below 2^32.
+fn short(log: u16, record: u32) -> [u8; SHORT]
+    ensures { result ≡ short_text log «record» }
+{
+    let mut text = [1; SHORT];
+    BigEndian::write_u16(&mut text[1..], log);
+    BigEndian::write_u32(&mut text[3..], record);
+    text
+}
+
+/// Returns the text of an origin in any log.
+fn long(log: u64, record: u64) -> [u8; LONG]
+    ensures { result ≡ long_text log «record» }
+{
+    let mut text = [2; LONG];
+    BigEndian::write_u64(&mut text[1..], log);
+    BigEndian::write_u64(&mut text[9..], record);
+    text
 }

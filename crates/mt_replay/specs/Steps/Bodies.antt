@@ -1,16 +1,37 @@
--- Updates as bodies, each with its origin.
-use Rattle.std.specs.Prelude.{◌≡◌, ℕ, List, [], ◌∷◌, length, All}
+-- Updates as texts: of each its origin, then its body.
+use Rattle.std.specs.Prelude.{ℕ, zero, suc, ◌≤◌, List, [], ◌∷◌, ◌++◌, length, drop}
+use Rattle.byteorder.specs.Endian.{big_bytes, big_number}
 use Rattle.mt_words.specs.declared.update.Origin.{Origin}
+use Rattle.mt_words.specs.declared.update.Origin.TheVariants.{Log, Checkpoint}
 use Rattle.mt_words.specs.declared.update.Update.{Update}
 use Rattle.mt_record.specs.Decoding.{IsChangeBody, update_in}
 
--- the updates of these origins and bodies, taken pair by pair
-abbrev pub updates_at : List Origin → List (List ℕ) → List Update
-updates_at [] bodies = []
-updates_at (origin ∷ origins) [] = []
-updates_at (origin ∷ origins) (body ∷ bodies) = update_in origin body ∷ updates_at origins bodies
+-- the origin that a text begins with: 0 for the checkpoint, 1 and a log and a record of two and four bytes, or 2 and a log and a record of eight bytes
+abbrev pub origin_in : List ℕ → Origin
+origin_in [] = Checkpoint
+origin_in (zero ∷ rest) = Checkpoint
+origin_in (suc zero ∷ rest) = Log (big_number 2 rest) (big_number 4 (drop 2 rest))
+origin_in (suc (suc n) ∷ rest) = Log (big_number 8 rest) (big_number 8 (drop 8 rest))
 
--- bodies of changes, and as many origins
-pub record AreBodies (origins : List Origin) (bodies : List (List ℕ)) : Type 0 where
-  pub number : length origins ≡ length bodies
-  pub changes : All IsChangeBody bodies
+-- the number of bytes of the origin that a text begins with
+abbrev pub origin_size : List ℕ → ℕ
+origin_size [] = 1
+origin_size (zero ∷ rest) = 1
+origin_size (suc zero ∷ rest) = 7
+origin_size (suc (suc n) ∷ rest) = 17
+
+-- the update of a text
+abbrev pub told : List ℕ → Update
+told text = update_in (origin_in text) (drop (origin_size text) text)
+
+-- the text has an origin and the body of a change
+pub record IsTold (text : List ℕ) : Type 0 where
+  pub origin : origin_size text ≤ length text
+  pub body : IsChangeBody (drop (origin_size text) text)
+
+-- the text of an origin in two and four bytes, and in eight bytes each
+abbrev pub short_text : ℕ → ℕ → List ℕ
+short_text log «record» = 1 ∷ (big_bytes 2 log ++ big_bytes 4 «record»)
+
+abbrev pub long_text : ℕ → ℕ → List ℕ
+long_text log «record» = 2 ∷ (big_bytes 8 log ++ big_bytes 8 «record»)

@@ -1,32 +1,21 @@
-use Rattle.std.proofs.Common.{◌≡◌, [], List, get_or, sym, ap, subst, ◌∙◌, arith}
-use Rattle.std.proofs.lemmas.List.{get_or_read}
-use Rattle.mt_words.specs.declared.update.Origin.TheVariants.{Checkpoint}
+use Rattle.std.proofs.Common.{◌≡◌, [], List, ℕ, get_or, sym, ap, subst, ◌∙◌}
+use Rattle.std.proofs.lemmas.List.{get_or-map}
 use Rattle.mt_words.specs.declared.update.Update.{Update}
-use Rattle.mt_record.specs.Decoding.{IsChangeBody, update_in}
-use Rattle.mt_replay.proofs.BodyLemmas.{place_within, update_at_place}
+use Rattle.mt_replay.specs.Steps.Bodies.{IsTold, told}
+use Rattle.mt_replay.proofs.BodyLemmas.{place_within}
 use Rattle.mt_replay.proofs.bodies.Bodies.get.Goals as goal
 
-pub index-requires : goal.index-requires
-index-requires c =
-    let below = place_within c.self.inside.origins.items c.self.inside.texts c.args.self.now c.args.at c.self.view_is c.self.invariant.number c.requires in
-    omega (arith, below, c.self.inside.origins.ok.0)
-
-pub get-requires : goal.get-requires
-get-requires c =
-    let below = place_within c.self.inside.origins.items c.self.inside.texts c.args.self.now c.args.at c.self.view_is c.self.invariant.number c.requires in
-    omega (arith, below, c.self.invariant.number)
-
-pub of-requires : goal.of-requires
-of-requires c =
-    let below = place_within c.self.inside.origins.items c.self.inside.texts c.args.self.now c.args.at c.self.view_is c.self.invariant.number c.requires in
-    subst IsChangeBody (sym (c.get.ensures [])) (c.self.invariant.changes c.args.at [] (omega (arith, below, c.self.invariant.number)))
+pub lent_in-requires : goal.lent_in-requires
+lent_in-requires c =
+    let texts : List (List ℕ) = c.self.inside.texts in
+    let below = place_within texts c.args.self.now c.args.at c.self.view_is c.requires in
+    subst IsTold (sym (c.get.ensures [])) (c.self.invariant c.args.at [] below)
 
 pub returns : goal.returns
 returns c = λ d.
-    let below = place_within c.self.inside.origins.items c.self.inside.texts c.args.self.now c.args.at c.self.view_is c.self.invariant.number c.requires in
-    let there = update_at_place c.self.inside.origins.items c.self.inside.texts c.args.at d c.self.invariant.number below in
-    let origin : c.index.result.now ≡ get_or c.self.inside.origins.items c.args.at Checkpoint = get_or_read c.self.inside.origins.items _ _ below c.index.ensures Checkpoint in
-    c.of.ensures
-    ∙ (λ i. update_in (origin i) (c.get.ensures [] i))
-    ∙ sym there
+    let texts : List (List ℕ) = c.self.inside.texts in
+    let below = place_within texts c.args.self.now c.args.at c.self.view_is c.requires in
+    c.lent_in.ensures
+    ∙ ap told (c.get.ensures [])
+    ∙ sym (get_or-map told texts c.args.at [] d below)
     ∙ ap (λ (us : List Update). get_or us c.args.at d) c.self.view_is
