@@ -21,7 +21,7 @@ pub fn clashes(alloc: Global, logs: &[Vec<Update>], window: Window) -> Result<Ve
 {
     let mut lists = Vec::new(alloc);
     for updates in logs {
-        lists.push(LogCells::of_logged(alloc, updates, window)?)?;
+        lists.push(LogCells::of_spelled(alloc, updates, window, false)?)?;
     }
     clashes_in(alloc, &lists, &Cuts::none(alloc), 0)
 }

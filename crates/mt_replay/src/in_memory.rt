@@ -5,4 +5,4 @@ mod group;
 mod spelling;
 
 pub use cell::Cell;
-pub(crate) use spelling::{all_bodies, spell, spell_logged};
+pub(crate) use spelling::{all_bodies, spell};

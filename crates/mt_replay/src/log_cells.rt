@@ -5,12 +5,12 @@ ghost use Rattle.mt_words.specs.declared.update.Update.{Update as UpdateValue};
 ghost use Rattle.mt_words.specs.Words.{AreRising};
 ghost use Rattle.mt_replay.specs.Survivors.{in_window, survives as survives_in, wholes};
 ghost use Rattle.mt_replay.specs.Cuts.{is_below, InKeyOrder};
-ghost use Rattle.mt_replay.specs.Clashes.{is_logged_in};
+ghost use Rattle.mt_replay.specs.Steps.SortedUpdates.{survives_with};
 
 use crate::Window;
 use crate::batch::Batch;
 use crate::bodies::Bodies;
-use crate::in_memory::{all_bodies, spell, spell_logged};
+use crate::in_memory::{all_bodies, spell};
 use crate::sliced::Sliced;
 use crate::sorting::sort_by_key;
 use mt_record::{KeptEntries, Lent};
@@ -53,20 +53,20 @@ impl LogCells {
     pub fn of(alloc: Global, updates: Vec<Update>, window: Window) -> Result<LogCells, Memory>
         ensures { IfOk result (λ cells. IsPermutation (filter (survives_in window) updates.items) cells) }
     {
-        let bodies = spell(alloc, &updates, window)?;
-        let mut sliced = all_bodies(alloc, &bodies)?;
-        in_order(alloc, &mut sliced)
+        LogCells::of_spelled(alloc, &updates, window, true)
     }
 
-    /// Returns the log updates in the window. Err: out of memory.
-    pub(crate) fn of_logged(
+    /// Returns the log updates in the window, and with `entries` all entries too. It encodes each of them. Err: out of
+    /// memory.
+    pub(crate) fn of_spelled(
         alloc: Global,
         updates: &[Update],
         window: Window,
+        entries: bool,
     ) -> Result<LogCells, Memory>
-        ensures { IfOk result (λ cells. IsPermutation (filter (is_logged_in window) updates.now) cells) }
+        ensures { IfOk result (λ cells. IsPermutation (filter (survives_with entries window) updates.now) cells) }
     {
-        let bodies = spell_logged(alloc, updates, window)?;
+        let bodies = spell(alloc, updates, window, entries)?;
         let mut sliced = all_bodies(alloc, &bodies)?;
         in_order(alloc, &mut sliced)
     }

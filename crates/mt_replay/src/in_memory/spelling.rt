@@ -1,7 +1,6 @@
 //! Encodes updates in memory as bodies.
 ghost use Rattle.std.specs.Prelude.{◌≡◌, ◌++◌, [], ◌∷◌, IfOk, OnOk, filter};
-ghost use Rattle.mt_replay.specs.Survivors.{survives as survives_in};
-ghost use Rattle.mt_replay.specs.Clashes.{is_logged_in};
+ghost use Rattle.mt_replay.specs.Steps.SortedUpdates.{survives_with};
 
 use crate::Window;
 use crate::bodies::Bodies;
@@ -10,30 +9,18 @@ use mt_record::body_of_update;
 use mt_words::{Kind, Memory, Update};
 use std::alloc::Global;
 
-/// Returns the updates that survive, encoded as bodies. Err: out of memory.
-pub(crate) fn spell(alloc: Global, updates: &[Update], window: Window) -> Result<Bodies, Memory>
-    ensures { IfOk result (λ bodies. bodies ≡ filter (survives_in window) updates.now) }
-{
-    let mut bodies = Bodies::with_capacity(alloc, updates.len(), 0)?;
-    for update in updates {
-        if survives(update, window) {
-            add_body(alloc, &mut bodies, update)?;
-        }
-    }
-    Ok(bodies)
-}
-
-/// Returns the log updates in the window, encoded as bodies. Err: out of memory.
-pub(crate) fn spell_logged(
+/// Returns the log updates in the window encoded as bodies, and with `entries` all entries too. Err: out of memory.
+pub(crate) fn spell(
     alloc: Global,
     updates: &[Update],
     window: Window,
+    entries: bool,
 ) -> Result<Bodies, Memory>
-    ensures { IfOk result (λ bodies. bodies ≡ filter (is_logged_in window) updates.now) }
+    ensures { IfOk result (λ bodies. bodies ≡ filter (survives_with entries window) updates.now) }
 {
     let mut bodies = Bodies::with_capacity(alloc, updates.len(), 0)?;
     for update in updates {
-        if is_logged(update, window) {
+        if survives(update, window, entries) {
             add_body(alloc, &mut bodies, update)?;
         }
     }
@@ -49,22 +36,13 @@ fn add_body(alloc: Global, bodies: &mut Bodies, update: &Update) -> Result<(), M
     Ok(())
 }
 
-/// Returns whether an update survives. An entry always does. Any other update survives if it is in the window.
-fn survives(update: &Update, window: Window) -> bool
-    ensures { result ≡ survives_in window update.now }
+/// Returns whether an update survives. An entry survives with `entries`. Any other update survives if it is in the
+/// window.
+fn survives(update: &Update, window: Window, entries: bool) -> bool
+    ensures { result ≡ survives_with entries window update.now }
 {
     match &update.kind {
-        Kind::Whole(_) => true,
-        _ => window.contains(update.timestamp),
-    }
-}
-
-/// Returns whether an update is in the window and no entry.
-fn is_logged(update: &Update, window: Window) -> bool
-    ensures { result ≡ is_logged_in window update.now }
-{
-    match &update.kind {
-        Kind::Whole(_) => false,
+        Kind::Whole(_) => entries,
         _ => window.contains(update.timestamp),
     }
 }

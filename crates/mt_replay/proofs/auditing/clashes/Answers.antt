@@ -12,8 +12,8 @@ use Rattle.mt_replay.proofs.auditing.clashes.Goals as goal
 
 pub loop-updates-preserved : goal.loop-updates-preserved
 loop-updates-preserved c =
-    let cells : List Update = c.in_ok-of_logged.field-0 in
-    let own = subst (λ (us : List Update). IsPermutation (filter (is_logged_in c.args.window) us) cells) c.deref.ensures.value c.in_ok-of_logged.ensures in
+    let cells : List Update = c.in_ok-of_spelled.field-0 in
+    let own = subst (λ (us : List Update). IsPermutation (filter (is_logged_in c.args.window) us) cells) c.deref.ensures.value c.in_ok-of_spelled.ensures in
     cells_more (λ updates. updates.items) (is_logged_in c.args.window) c.args.logs.now c.loop-updates.updates-index c.updates-item.result c.loop-updates.lists.items c.push.new.self.items cells
     c.loop-updates-test.true c.updates-item.is c.loop-updates.invariant own c.in_ok-push.ensures.items
 

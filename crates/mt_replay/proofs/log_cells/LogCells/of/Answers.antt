@@ -1,11 +1,8 @@
-use Rattle.std.proofs.Common.{List, ap, subst, ◌∙◌}
-use Rattle.std.specs.Prelude.{IsPermutation, filter}
+use Rattle.std.proofs.Common.{List, subst}
+use Rattle.std.specs.Prelude.{IsPermutation, IfOk, filter}
 use Rattle.mt_words.specs.declared.update.Update.{Update}
 use Rattle.mt_replay.specs.Survivors.{survives}
-use Rattle.mt_replay.proofs.ExactLemmas.{ok_then}
 use Rattle.mt_replay.proofs.log_cells.LogCells.of.Goals as goal
 
 pub returns : goal.returns
-returns c =
-    let listed = c.in_ok-sliced.ensures ∙ c.in_ok-bodies.ensures ∙ ap (filter (survives c.args.window)) c.deref.ensures.value in
-    ok_then c.in_order.result (λ cells sorted. subst (λ (us : List Update). IsPermutation us cells) listed sorted) c.in_order.ensures
+returns c = subst (λ (us : List Update). IfOk c.of_spelled.result (IsPermutation (filter (survives c.args.window) us))) c.deref.ensures.value c.of_spelled.ensures
