@@ -5,6 +5,11 @@
 //! logs and parts in the folder; opens these as sources; then `answer` recovers the store or audits the logs, and prints
 //! the answer.
 //!
+//! ```
+//! let words = vec![in rt.alloc(); "report".to_string(rt.alloc())?, folder]?;
+//! let status = run_words(rt, &words, out, err);
+//! ```
+//!
 //! Begin with `running.rt`, which has these steps in order. `failure.rt` of `mt_recover` has the text and the exit
 //! status of each failure.
 #![tactic(auto)]

@@ -4,6 +4,14 @@
 //! of the bytes. They decode records and entries, or keep their validated bytes (`KeptRecords`, `KeptEntries`). `Lent`
 //! is an update borrowed from kept bytes. The functions `encode_..` write.
 //!
+//! ```
+//! let mut log = Vec::new(alloc);
+//! encode_log_header(0, &mut log)?;
+//! encode_record(&Record::mark(5), &mut log)?;
+//! // One record, and no torn tail.
+//! let text = read_log(alloc, &log)?;
+//! ```
+//!
 //! Begin with `read.rt`, `feed/log_feed.rt` and `specs/Logs.antt`, which says which bytes are a log. Both feeds share
 //! `feed.rt`.
 #![tactic(auto)]

@@ -6,6 +6,13 @@
 //!
 //! `audit` answers from the same `Inputs`, without a store: it finds the versions of a key that several updates share.
 //!
+//! ```
+//! match recover_logs(alloc, &[log]) {
+//!     Ok(recovered) => write_dump(recovered.store(), out),
+//!     Err(fault) => writeln!(out, "{fault}"),
+//! }
+//! ```
+//!
 //! Begin with `recovery.rt`, and with `specs/Inputs.antt`, which says what recovery returns.
 #![tactic(auto)]
 

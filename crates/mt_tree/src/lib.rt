@@ -4,6 +4,14 @@
 //! A `Draft` is a tree under construction. It takes pairs in key order, and drafts of neighbouring key ranges can be
 //! joined. `Draft::finish` makes it a `Tree`, which finds a key, returns a range as `Hit`s, and takes a `Visitor`.
 //!
+//! ```
+//! let mut draft = Draft::new(alloc);
+//! draft.push(b"a", first)?;
+//! draft.push(b"b", second)?;
+//! let tree = draft.finish()?;
+//! let columns = tree.get(b"a");
+//! ```
+//!
 //! Begin with `tree.rt`; then `layer.rt` has drafts, and `node.rt` finished trees. `specs/Layer.antt` has the law of a
 //! layer.
 #![tactic(auto)]

@@ -4,6 +4,12 @@
 //! them does to a `Key`, with the `Stamp` that orders the updates of that key. `Columns` are the values of a key. A
 //! `Fault` is the reason why there is no store.
 //!
+//! ```
+//! let key = Key::copy_of(alloc, b"k")?;
+//! // At time 9, key k is removed by version 2. A version of 0 would give None.
+//! let record = Record::remove(9, 2, key);
+//! ```
+//!
 //! Begin with `record.rt` and `update.rt`. `limits.rt` has the limits of both formats.
 #![tactic(auto)]
 
