@@ -11,7 +11,11 @@ pub enum PartState {
     /// It is complete.
     Whole(Part),
     /// It has a header, but is broken.
-    Broken { checkpoint: u32 },
+    Broken {
+        checkpoint: u32,
+        /// The number of complete entries before the fault.
+        entries: u64,
+    },
     /// It has no header.
     Nameless,
     /// Its source failed.
@@ -52,8 +56,9 @@ impl PartState {
                 end: text.end,
                 entries: text.entries.len(),
             }),
-            Ok(PartScan::Broken { number }) => PartState::Broken {
+            Ok(PartScan::Broken { number, entries }) => PartState::Broken {
                 checkpoint: *number,
+                entries: *entries,
             },
             Ok(PartScan::Nameless) => PartState::Nameless,
             Err(_) => PartState::Unread,
@@ -64,7 +69,10 @@ impl PartState {
     fn checkpoint(self) -> Option<u32> {
         match self {
             PartState::Whole(part) => Some(part.checkpoint),
-            PartState::Broken { checkpoint } => Some(checkpoint),
+            PartState::Broken {
+                checkpoint,
+                entries: _,
+            } => Some(checkpoint),
             PartState::Nameless | PartState::Unread => None,
         }
     }
@@ -81,9 +89,13 @@ impl PartState {
     pub fn write<W: Write>(self, line: &mut Fields<'_, W>) -> io::Result<()> {
         match self {
             PartState::Whole(part) => part.write(line),
-            PartState::Broken { checkpoint } => {
+            PartState::Broken {
+                checkpoint,
+                entries,
+            } => {
                 line.word("state", "broken")?;
-                line.number("checkpoint", checkpoint)
+                line.number("checkpoint", checkpoint)?;
+                line.number("entries", entries)
             }
             PartState::Nameless => line.word("state", "nameless"),
             PartState::Unread => line.word("state", "unread"),

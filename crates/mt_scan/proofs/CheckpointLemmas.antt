@@ -80,7 +80,7 @@ module _ (xs : List ℕ) (rise : IsStrictlyIncreasing xs) where
 
 abbrev part_in : KnownPart → ℕ
 part_in (whole part) = part.part
-part_in (broken number) = 0
+part_in (broken number entries) = 0
 part_in nameless = 0
 
 abbrev numbers_of : List PartReading → List ℕ

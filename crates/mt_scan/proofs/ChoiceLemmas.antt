@@ -23,11 +23,11 @@ use Rattle.mt_scan.proofs.CheckpointLemmas.{in_place_of}
 -- ---- the parts of one checkpoint
 
 -- a broken part is not among complete ones
-not_whole : (texts : List PartReading) (number : ℕ) → Contains (map whole texts) (broken number) → ⊥
-not_whole [] number at = omega (arith, at.1)
-not_whole (x ∷ xs) number at =
+not_whole : (texts : List PartReading) (number entries : ℕ) → Contains (map whole texts) (broken number entries) → ⊥
+not_whole [] number entries at = omega (arith, at.1)
+not_whole (x ∷ xs) number entries at =
     let fits : at.0 < length (x ∷ xs) = omega (arith, at.1, length-map (x ∷ xs) whole) in
-    cc (get_or-map whole (x ∷ xs) at.0 x (broken number) fits, at.2)
+    cc (get_or-map whole (x ∷ xs) at.0 x (broken number entries) fits, at.2)
 
 -- the parts of a valid checkpoint have a group, and that group can make up the checkpoint
 valid_has : (parts : List KnownPart) (group : Option PartGroup) (checkpoint : CheckpointReading) → IsGroupAt (parts_of checkpoint.number parts) group → IsValid parts checkpoint
@@ -45,7 +45,7 @@ valid_has parts (Some (groups.Whole texts)) checkpoint at valid = (
   },
 )
 valid_has parts (Some groups.Broken) checkpoint at valid =
-    absurd (not_whole valid.texts at.0 (Contains-permutation (parts_of checkpoint.number parts) (map whole valid.texts) (broken at.0) valid.are_whole at.1))
+    absurd (not_whole valid.texts at.0 at.1 (Contains-permutation (parts_of checkpoint.number parts) (map whole valid.texts) (broken at.0 at.1) valid.are_whole at.2))
 
 -- a checkpoint that the group of its parts can make up is valid
 has_valid : (parts : List KnownPart) (group : PartGroup) (checkpoint : CheckpointReading) → IsPartGroupOf (parts_of checkpoint.number parts) group → HasCheckpoint group checkpoint → IsValid parts checkpoint
@@ -58,7 +58,7 @@ has_valid parts groups.Broken checkpoint is has = absurd has
 
 some_parts : (parts : List KnownPart) (group : PartGroup) → IsPartGroupOf parts group → 0 < length parts
 some_parts parts (groups.Whole texts) is = is.0
-some_parts parts groups.Broken is = omega (arith, is.1.1)
+some_parts parts groups.Broken is = omega (arith, is.2.1)
 
 -- the same checkpoint under another number
 abbrev numbered : ℕ → CheckpointReading → CheckpointReading

@@ -35,8 +35,8 @@ pub record IsOf (number : ℕ) (part : KnownPart) : Type 0 where
 pub whole_is_of : (part : PartReading) → IsOf part.number (whole part)
 whole_is_of part = record { own = eq-eqb part.number part.number refl; alone = λ q other. ne_eqb part.number q other }
 
-pub broken_is_of : (number : ℕ) → IsOf number (broken number)
-broken_is_of number = record { own = eq-eqb number number refl; alone = λ q other. ne_eqb number q other }
+pub broken_is_of : (number entries : ℕ) → IsOf number (broken number entries)
+broken_is_of number entries = record { own = eq-eqb number number refl; alone = λ q other. ne_eqb number q other }
 
 -- one more part of a checkpoint changes the group of that checkpoint, and no other
 pub groups_more : (parts : List KnownPart) (part : KnownPart) (number : ℕ) (old new : BTreeMap ℕ PartGroup) → IsOf number part → IsGroupAt (parts_of number parts ++ part ∷ []) (get nat_cmp new number)
@@ -50,11 +50,11 @@ groups_more parts part number old new is own others are q = elim (cases_eq numbe
 ]
 
 -- a broken part makes the group of its checkpoint a broken one
-pub broken_more : (parts : List KnownPart) (number : ℕ) (old new : BTreeMap ℕ PartGroup) → get nat_cmp new number ≡ Some groups.Broken → AreOthers old new number → AreGroupsOf parts old
-    → AreGroupsOf (parts ++ broken number ∷ []) new
-broken_more parts number old new is others are =
-    groups_more parts (broken number) number old new (broken_is_of number)
-    (subst (IsGroupAt (parts_of number parts ++ broken number ∷ [])) (sym is) (number, Contains-push (parts_of number parts) (broken number))) others are
+pub broken_more : (parts : List KnownPart) (number entries : ℕ) (old new : BTreeMap ℕ PartGroup) → get nat_cmp new number ≡ Some groups.Broken → AreOthers old new number → AreGroupsOf parts old
+    → AreGroupsOf (parts ++ broken number entries ∷ []) new
+broken_more parts number entries old new is others are =
+    groups_more parts (broken number entries) number old new (broken_is_of number entries)
+    (subst (IsGroupAt (parts_of number parts ++ broken number entries ∷ [])) (sym is) (number, entries, Contains-push (parts_of number parts) (broken number entries))) others are
 
 -- a group that exists gets one more complete part
 pub whole_more : (parts : List KnownPart) (part : PartReading) (old new : BTreeMap ℕ PartGroup) (before after : PartGroup) → get nat_cmp old part.number ≡ Some before → get nat_cmp new part.number ≡ Some after
@@ -66,4 +66,4 @@ whole_more parts part old new before after was is others adds are =
 
 -- a broken group stays broken
 pub stays_broken : (parts : List KnownPart) (part : KnownPart) → IsPartGroupOf parts groups.Broken → IsPartGroupOf (parts ++ part ∷ []) groups.Broken
-stays_broken parts part is = (is.0, Contains-append_left parts (part ∷ []) (broken is.0) is.1)
+stays_broken parts part is = (is.0, is.1, Contains-append_left parts (part ∷ []) (broken is.0 is.1) is.2)

@@ -53,7 +53,7 @@ nameless_same parts part positions other are = record {
 
 known_nameless : (scan : PartScan) → known_by scan ≡ nameless → scan ≡ scans.Nameless
 known_nameless (scans.Whole text) e = cc
-known_nameless (scans.Broken number) e = cc
+known_nameless (scans.Broken number entries) e = cc
 known_nameless scans.Nameless e = refl
 
 module _ (all : List PartScan) (i : ℕ) (scan : PartScan) (fits : i < length all) (at : scan ≡ get_or all i scan) (positions : List ℕ) (are : AreNameless (map known_by (take i all)) positions) where

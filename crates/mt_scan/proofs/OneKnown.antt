@@ -6,11 +6,11 @@ use Rattle.mt_record.proofs.OnePart.{one_part}
 use Rattle.mt_record.proofs.OnePartFault.{one_part_fault, part_or_fault}
 use Rattle.mt_scan.specs.PartScans.{KnownPart, whole, broken, nameless, IsKnown}
 
--- the checkpoint number that a fault names, else 0
-abbrev named_by : PartFault → ℕ
-named_by (of_part.Broken number entries) = number
-named_by of_part.Header = 0
-named_by of_part.Memory = 0
+-- what is known of a part with this fault, which is not `Memory`
+abbrev known_from : PartFault → KnownPart
+known_from (of_part.Broken number entries) = broken number entries
+known_from of_part.Header = nameless
+known_from of_part.Memory = nameless
 
 -- a missing header and a broken part are different faults
 no_header_broken : (number entries : ℕ) → of_part.Header ≡ of_part.Broken number entries → ⊥
@@ -20,11 +20,11 @@ pub one_known : (bytes : List ℕ) (a b : KnownPart) → IsKnown bytes a → IsK
 one_known bytes (whole p) (whole q) x y =
     let same = one_part bytes _ _ p.entries q.entries p.end q.end x.1 y.1 in
     λ i. whole (record { number = (same.0 i).number; begin = (same.0 i).begin; part = (same.0 i).part; parts = (same.0 i).parts; entries = same.1 i; end = same.2 i })
-one_known bytes (whole p) (broken n) x y = absurd (part_or_fault bytes _ p.entries p.end (of_part.Broken n y.0) x.1 y.1)
+one_known bytes (whole p) (broken n k) x y = absurd (part_or_fault bytes _ p.entries p.end (of_part.Broken n k) x.1 y)
 one_known bytes (whole p) nameless x y = absurd (part_or_fault bytes _ p.entries p.end of_part.Header x.1 y)
-one_known bytes (broken n) (whole q) x y = absurd (part_or_fault bytes _ q.entries q.end (of_part.Broken n x.0) y.1 x.1)
-one_known bytes (broken n) (broken m) x y = ap broken (ap named_by (one_part_fault bytes (of_part.Broken n x.0) (of_part.Broken m y.0) x.1 y.1))
-one_known bytes (broken n) nameless x y = absurd (no_header_broken n x.0 (one_part_fault bytes of_part.Header (of_part.Broken n x.0) y x.1))
+one_known bytes (broken n k) (whole q) x y = absurd (part_or_fault bytes _ q.entries q.end (of_part.Broken n k) y.1 x)
+one_known bytes (broken n k) (broken m j) x y = ap known_from (one_part_fault bytes (of_part.Broken n k) (of_part.Broken m j) x y)
+one_known bytes (broken n k) nameless x y = absurd (no_header_broken n k (one_part_fault bytes of_part.Header (of_part.Broken n k) y x))
 one_known bytes nameless (whole q) x y = absurd (part_or_fault bytes _ q.entries q.end of_part.Header y.1 x)
-one_known bytes nameless (broken m) x y = absurd (no_header_broken m y.0 (one_part_fault bytes of_part.Header (of_part.Broken m y.0) x y.1))
+one_known bytes nameless (broken m j) x y = absurd (no_header_broken m j (one_part_fault bytes of_part.Header (of_part.Broken m j) x y))
 one_known bytes nameless nameless x y = refl

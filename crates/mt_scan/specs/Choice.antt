@@ -20,7 +20,7 @@ pub record CheckpointReading : Type 0 where
 -- the part belongs to the checkpoint with this number
 abbrev pub belongs_to : ℕ → KnownPart → Bool
 belongs_to number (whole part) = part.number == number
-belongs_to number (broken other) = other == number
+belongs_to number (broken other entries) = other == number
 belongs_to number nameless = false
 
 -- the parts of the checkpoint with this number

@@ -10,16 +10,16 @@ use Rattle.mt_record.specs.PartFaults.{IsPartFault}
 use Rattle.mt_scan.specs.declared.part_scan.PartScan.{PartScan}
 use Rattle.mt_scan.specs.declared.part_scan.PartScan.TheVariants as scans
 
--- what is known of a part: what it says if it is complete, the number of its checkpoint if it is broken, nothing if it has no header
+-- what is known of a part: what it says if it is complete, the number of its checkpoint and that of its entries before the fault if it is broken, nothing if it has no header
 pub data KnownPart : Type 0 where
   whole : PartReading → KnownPart
-  broken : ℕ → KnownPart
+  broken : ℕ → ℕ → KnownPart
   nameless : KnownPart
 
--- the bytes are those of a complete part that says this, of a broken part of this checkpoint, or have no header
+-- the bytes are those of a complete part that says this, of a broken part of this checkpoint with this many entries before the fault, or have no header
 abbrev pub IsKnown : List ℕ → KnownPart → Type 0
 IsKnown bytes (whole part) = IsPartReading bytes part
-IsKnown bytes (broken number) = (entries : ℕ) × IsPartFault bytes (of_part.Broken number entries)
+IsKnown bytes (broken number entries) = IsPartFault bytes (of_part.Broken number entries)
 IsKnown bytes nameless = IsPartFault bytes of_part.Header
 
 -- a part that was read, with the entries that were kept
@@ -37,7 +37,7 @@ shown_by_all texts = map shown_by texts
 -- what is known of a part from its scan
 abbrev pub known_by : PartScan → KnownPart
 known_by (scans.Whole text) = whole (shown_by text)
-known_by (scans.Broken number) = broken number
+known_by (scans.Broken number entries) = broken number entries
 known_by scans.Nameless = nameless
 
 -- the fault of scanning the part with this number: its source failed, or out of memory

@@ -1,5 +1,5 @@
 //! Parts grouped by the numbers of their checkpoints.
-ghost use Rattle.std.specs.Prelude.{List, [], ◌∷◌, ◌++◌, map, IfOk, OnOk, MatchOption};
+ghost use Rattle.std.specs.Prelude.{List, ℕ, [], ◌∷◌, ◌++◌, map, IfOk, OnOk, MatchOption};
 ghost use Rattle.mt_scan.specs.PartScans.{KnownPart, whole, broken, shown_by, known_by};
 ghost use Rattle.mt_scan.specs.Steps.Groups.{IsPartGroupOf, AreGroupsOf, HasNone, IsCheckpointOf};
 
@@ -64,7 +64,7 @@ fn add_scan(
 {
     match scan {
         PartScan::Whole(text) => add_whole(alloc, groups, text),
-        PartScan::Broken { number } => add_broken(groups, number),
+        PartScan::Broken { number, entries: _ } => add_broken(groups, number),
         PartScan::Nameless => Ok(()),
     }
 }
@@ -90,8 +90,8 @@ fn add_whole(
 
 /// Marks the group of this checkpoint as broken. Err: out of memory.
 fn add_broken(groups: &mut BTreeMap<u32, PartGroup>, number: u32) -> Result<(), Memory>
-    ensures { OnOk result ((parts : List KnownPart) → AreGroupsOf parts groups.old →
-        AreGroupsOf (parts ++ broken number ∷ []) groups.new) }
+    ensures { OnOk result ((parts : List KnownPart) (entries : ℕ) → AreGroupsOf parts groups.old →
+        AreGroupsOf (parts ++ broken number entries ∷ []) groups.new) }
 {
     groups.insert(number, PartGroup::Broken)?;
     Ok(())

@@ -18,6 +18,8 @@ pub enum PartScan {
     Broken {
         /// The number of its checkpoint.
         number: u32,
+        /// The number of complete entries before the fault.
+        entries: u64,
     },
     /// The part has no header: it belongs to no checkpoint.
     Nameless,
@@ -38,7 +40,7 @@ pub fn scan_part<S: Source>(alloc: Global, source: &mut S, part: usize) -> Resul
     };
     match feed.finish() {
         Ok(text) => Ok(PartScan::Whole(text)),
-        Err(PartFault::Broken { number, entries: _ }) => Ok(PartScan::Broken { number }),
+        Err(PartFault::Broken { number, entries }) => Ok(PartScan::Broken { number, entries }),
         Err(PartFault::Header) => Ok(PartScan::Nameless),
         Err(PartFault::Memory) => Err(Fault::Memory),
     }

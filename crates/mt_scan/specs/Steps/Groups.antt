@@ -12,7 +12,7 @@ use Rattle.mt_scan.specs.declared.checkpoint.Checkpoint.{Checkpoint}
 -- the group of the parts of a checkpoint: there is at least one and all are complete, or one of them is broken
 abbrev pub IsPartGroupOf : List KnownPart → PartGroup → Type 0
 IsPartGroupOf parts (groups.Whole texts) = (0 < length parts) × (parts ≡ map whole (shown_by_all texts.items))
-IsPartGroupOf parts groups.Broken = (number : ℕ) × Contains parts (broken number)
+IsPartGroupOf parts groups.Broken = (number : ℕ) × (entries : ℕ) × Contains parts (broken number entries)
 
 -- there are no parts and no group, or this is their group
 abbrev pub IsGroupAt : List KnownPart → Option PartGroup → Type 0

@@ -9,7 +9,7 @@ pub returns-in-Err-Broken-clause-scan : goal.returns-in-Err-Broken-clause-scan
 returns-in-Err-Broken-clause-scan g c =
     let all = c.in-Ok.ensures.fed in
     let fault = rw c.in-Err-Broken.field-0-is at (c.in-Err-Broken.ensures.fault all.0 all.2) in
-    (all.0, all.1, (c.in-Err-Broken.field-0-1, fault (λ same. cc)))
+    (all.0, all.1, fault (λ same. cc))
 
 pub returns-in-Err-Header-clause-scan : goal.returns-in-Err-Header-clause-scan
 returns-in-Err-Header-clause-scan g c =
