@@ -20,7 +20,7 @@ use Rattle.mt_record.specs.declared.feed.head.Head.{Head}
 use Rattle.mt_record.specs.Spelling.{framed, spelling, IsRecordLength}
 use Rattle.mt_record.specs.Fronts.{bytes_of, ShowsNone, IsCutFront}
 use Rattle.mt_record.specs.Heads.{IsHead, head_of, head_bytes, HasNoHeader}
-use Rattle.mt_record.specs.Logs.{AreRecords, latest, IsTorn, IsLog, LogReading, IsLast, IsTextIn, count_of, log_bytes}
+use Rattle.mt_record.specs.Logs.{AreRecords, latest, version_of, IsTorn, IsLog, LogReading, IsLast, IsTextIn, count_of, log_bytes}
 use Rattle.mt_record.specs.declared.front.LogFront.{LogFront}
 use Rattle.mt_record.specs.LogFaults.{RestFault, IsLogFault}
 use Rattle.mt_record.specs.declared.front.Rest.{Rest}
@@ -29,7 +29,9 @@ use Rattle.mt_record.specs.LogFronts.{IsRest, IsFrontOf}
 use Rattle.mt_record.specs.Steps.Bodies.{IsNextBody, IsBodyOf}
 use Rattle.mt_record.specs.Feeding.{HasRead, Reads, HoldsAll, HasShown}
 use Rattle.mt_record.specs.LogFeeding.{LogSoFar, log_so_far, ShowsFault, IsShown, ShowsNoFault, HoldsLog, IsLogLeft, IsLogFaulty}
-use Rattle.mt_record.proofs.Records.{records_push, latest_push, last_is, tells_torn}
+use Rattle.mt_record.proofs.Records.{records_push, latest_push, greatest_push, last_is, tells_torn}
+use Rattle.mt_record.specs.Decoding.{decode}
+use Rattle.mt_record.proofs.Decodes.{body_says}
 use Rattle.mt_record.proofs.OneReading.{not_both}
 use Rattle.mt_record.proofs.Beginnings.{cut_none, same_long, head_long, head_short}
 use Rattle.mt_record.proofs.Frames.{length_fault_on, frame_on}
@@ -70,6 +72,7 @@ header_read listed old head bytes after none is e =
       spelled = rw (before, empty) (sym (append-nil (head_bytes head)));
       lawful = (is, rw empty tt);
       latest = h.latest;
+      version = h.version;
       whole = h.whole;
       end = rw before (omega (arith, sizes, total, head_short head));
     })
@@ -80,31 +83,35 @@ logged_within format None logged = tt
 logged_within format (Some change) logged = (change_within format change logged.0, logged.1)
 
 -- a record is read after those before it
-pub record_read : {R : Type 0} (listed : R → List Logged) (old : LogItems R) (ready : R) (head : Head) (bytes body after : List ℕ) (time whole end : ℕ) → old.head ≡ Some head
+pub record_read : {R : Type 0} (listed : R → List Logged) (old : LogItems R) (ready : R) (head : Head) (bytes body after : List ℕ) (time version whole end : ℕ) → old.head ≡ Some head
     → IsNextBody (limits_of head.format) old.latest bytes time body after
-    → ((r : Logged) → IsBodyOf widest 0 body r → listed ready ≡ listed old.ready ++ r ∷ []) → whole ≡ min (old.whole + 1) (2 ^ 64 - 1)
+    → ((r : Logged) → IsBodyOf widest 0 body r → listed ready ≡ listed old.ready ++ r ∷ []) → version ≡ max old.version (version_of (decode body).change) → whole ≡ min (old.whole + 1) (2 ^ 64 - 1)
     → end ≡ min (old.end + (length bytes - length after)) (2 ^ 64 - 1)
-    → Reads (λ taken items. HoldsLog taken (log_so_far listed items)) old (record old { ready = ready; latest = time; whole = whole; end = end }) bytes after × (length after < length bytes)
-record_read listed old ready head bytes body after time whole end some found put count ends =
+    → Reads (λ taken items. HoldsLog taken (log_so_far listed items)) old (record old { ready = ready; latest = time; version = version; whole = whole; end = end }) bytes after × (length after < length bytes)
+record_read listed old ready head bytes body after time version whole end some found put newer count ends =
     let r = found.next in
     let limits = limits_of head.format in
     let lawful = found.is_next.lawful in
     let added = put r (record { lawful = (lawful.0, logged_within head.format r.change lawful.1); rises = omega arith; spelled = found.same_body }) in
+    let said = (body_says body r (lawful.0, logged_within head.format r.change lawful.1) found.same_body).0 in
+    let greater : version ≡ max old.version (version_of r.change) = newer ∙ ap (λ (x : Logged). max old.version (version_of x.change)) said in
     let sizes = length-append (spelling r) after in
     let total : length bytes ≡ length (spelling r ++ after) = ap length found.is_next.spelled in
-    front_read (λ taken items. HoldsLog taken (log_so_far listed items)) old (record old { ready = ready; latest = time; whole = whole; end = end }) (spelling r) bytes after found.is_next.spelled (omega arith)
+    front_read (λ taken items. HoldsLog taken (log_so_far listed items)) old (record old { ready = ready; latest = time; version = version; whole = whole; end = end }) (spelling r) bytes after found.is_next.spelled (omega arith)
     (λ taken front h.
     let rs = taken ++ listed old.ready in
     let list : taken ++ listed ready ≡ rs ++ r ∷ [] = ap (λ (x : List Logged). taken ++ x) added ∙ sym (append_assoc taken (listed old.ready) (r ∷ [])) in
     let before : IsHead head × AreRecords limits 0 rs = rw some at h.lawful in
     let number = length-append rs (r ∷ []) in
     let counted = h.whole in
+    let versions = h.version in
     let ended = h.end in
     let longer = length-append front (spelling r) in
     record {
       spelled = rw list (ap (λ (x : List ℕ). x ++ spelling r) h.spelled ∙ flat_map_more spelling (bytes_of head_bytes old.head) rs r);
       lawful = rw (some, list) (before.0, records_push limits 0 rs r before.1 lawful (rw (← h.latest) found.is_next.rises));
       latest = rw list (found.same_time ∙ sym (latest_push 0 rs r));
+      version = rw list (omega (arith, greater, versions, greatest_push rs r));
       whole = rw list (omega (arith, number, counted, count));
       end = omega (arith, sizes, total, longer, ended, ends);
     })
@@ -113,9 +120,9 @@ record_read listed old ready head bytes body after time whole end some found put
 
 -- a new feed has read nothing, and holds nothing
 pub nothing_read : {R : Type 0} (listed : R → List Logged) (records : R) → listed records ≡ []
-    → HoldsAll (λ items. HoldsLog [] (log_so_far listed items)) (λ items. IsLogLeft (log_so_far listed items)) (record { head = None; ready = records; latest = 0; whole = 0; end = 0 }) [] []
+    → HoldsAll (λ items. HoldsLog [] (log_so_far listed items)) (λ items. IsLogLeft (log_so_far listed items)) (record { head = None; ready = records; latest = 0; version = 0; whole = 0; end = 0 }) [] []
 nothing_read listed records none = (
-  record { front = []; joins = refl; read = rw none (record { spelled = refl; lawful = refl; latest = refl; whole = refl; end = refl }) },
+  record { front = []; joins = refl; read = rw none (record { spelled = refl; lawful = refl; latest = refl; version = refl; whole = refl; end = refl }) },
   record { head = head_of widest_format 0; more = head_bytes (head_of widest_format 0); is_head = record { from = omega arith; writer = tt }; some = omega arith; begun = refl },
 )
 
@@ -128,7 +135,7 @@ no_head_read taken s text left none (reads, rest) = subst HasNoHeader (unread ta
 -- if a header was read, the input is a log
 pub text_read : {R : Type 0} (listed : R → List Logged) (items : LogItems R) (taken : List Logged) (text left : List ℕ) (head : Head) (last : ℕ) (torn : Bool) → items.head ≡ Some head
     → HoldsAll (HoldsLog taken) IsLogLeft (log_so_far listed items) left text → torn ≡ not (length left == 0) → last ≡ max head.from items.latest
-    → IsTextIn listed taken text (record { from = head.from; writer = head.writer; last = last; records = items.ready; whole = items.whole; end = items.end; torn = torn })
+    → IsTextIn listed taken text (record { from = head.from; writer = head.writer; last = last; version = items.version; records = items.ready; whole = items.whole; end = items.end; torn = torn })
 text_read listed items taken text left head last torn some (reads, rest) test greatest =
     let ends : (left ≡ []) ⊎ IsTorn (limits_of head.format) left = rw some at rest in
     let log : LogReading = record { head = head; records = taken ++ listed items.ready; torn = torn } in
@@ -142,6 +149,7 @@ text_read listed items taken text left head last torn some (reads, rest) test gr
         from = refl;
         writer = refl;
         last = subst (λ (n : ℕ). IsLast log n) (sym time) (last_is (limits_of head.format) log read.lawful);
+        version = reads.read.version;
         records = refl;
         whole = reads.read.whole;
         end = rw some at (reads.read.end ∙ ap count_of reads.read.spelled);
@@ -151,7 +159,7 @@ text_read listed items taken text left head last torn some (reads, rest) test gr
 
 -- if a header was read, the input is the header, the records, and the rest
 pub front_is : (taken : List Logged) (s : LogSoFar) (head : Head) (text left : List ℕ) (rest : Rest) → s.head ≡ Some head → HasRead (HoldsLog taken s) text left → IsRest (limits_of head.format) s.latest left rest
-    → IsFrontOf text (taken ++ s.ready) (record { head = head; whole = s.whole; latest = s.latest; end = s.end; rest = rest })
+    → IsFrontOf text (taken ++ s.ready) (record { head = head; whole = s.whole; latest = s.latest; version = s.version; end = s.end; rest = rest })
 front_is taken s head text left rest some reads is =
     let read = begun taken s head text left some reads in
     record {
@@ -162,15 +170,16 @@ front_is taken s head text left rest some reads is =
       is_rest = rw reads.read.latest at is;
       whole = reads.read.whole;
       latest = reads.read.latest;
+      version = reads.read.version;
       end = rw some at (reads.read.end ∙ ap count_of reads.read.spelled);
     }
 
 -- the bytes left are a torn tail, if there are any
 pub front_torn : (taken : List Logged) (s : LogSoFar) (head : Head) (text left : List ℕ) → s.head ≡ Some head → HoldsAll (HoldsLog taken) IsLogLeft s left text → (left ≡ [] → ⊥)
-    → IsFrontOf text (taken ++ s.ready) (record { head = head; whole = s.whole; latest = s.latest; end = s.end; rest = Torn })
+    → IsFrontOf text (taken ++ s.ready) (record { head = head; whole = s.whole; latest = s.latest; version = s.version; end = s.end; rest = Torn })
 front_torn taken s head text left some (reads, rest) more = by (rw some at rest)
   where
-    by : (left ≡ []) ⊎ IsTorn (limits_of head.format) left → IsFrontOf text (taken ++ s.ready) (record { head = head; whole = s.whole; latest = s.latest; end = s.end; rest = Torn })
+    by : (left ≡ []) ⊎ IsTorn (limits_of head.format) left → IsFrontOf text (taken ++ s.ready) (record { head = head; whole = s.whole; latest = s.latest; version = s.version; end = s.end; rest = Torn })
     by (inl none) = absurd (more none)
     by (inr torn) = front_is taken s head text left Torn some reads torn
 
@@ -251,7 +260,7 @@ fed_shows taken s faults.Memory text h other = absurd (other refl)
 
 -- what stands behind the records has the fault that the input shows
 pub front_faulty : (taken : List Logged) (s : LogSoFar) (head : Head) (nth : ℕ) (what : What) (text : List ℕ) → s.head ≡ Some head → HasShown (HasRead (HoldsLog taken s) text) (IsLogFaulty s (faults.Record nth what))
-    → IsFrontOf text (taken ++ s.ready) (record { head = head; whole = s.whole; latest = s.latest; end = s.end; rest = Faulty what })
+    → IsFrontOf text (taken ++ s.ready) (record { head = head; whole = s.whole; latest = s.latest; version = s.version; end = s.end; rest = Faulty what })
 front_faulty taken s head nth what text some h =
     let same : h.fault.head ≡ head = same_Some _ _ (sym h.fault.begun ∙ some) in
     front_is taken s head text (h.shown ++ h.more) (Faulty what) some h.read (rest_fault_on what (limits_of head.format) s.latest h.shown h.more (rw same at h.fault.fault))

@@ -5,7 +5,7 @@ use Rattle.std.proofs.lemmas.List.Elements.{All-nil, All-cons, All-weaker, Conta
 use Rattle.std.specs.Prelude.{◌↔◌, ◌==◌, Bool, not, IsTrue, Contains, All}
 use Rattle.mt_words.specs.declared.limits.Limits.{Limits}
 use Rattle.mt_words.specs.Changes.{Logged, IsLawful}
-use Rattle.mt_record.specs.Logs.{AreRecords, latest, LogReading, IsLast, IsTorn}
+use Rattle.mt_record.specs.Logs.{AreRecords, latest, version_of, versions_of, greatest, LogReading, IsLast, IsTorn}
 
 -- ---- one more record
 
@@ -19,6 +19,11 @@ records_push limits low (s ∷ rs) r are lawful rises = (are.0, are.1, records_p
 pub latest_push : (low : ℕ) (rs : List Logged) (r : Logged) → latest low (rs ++ r ∷ []) ≡ r.timestamp
 latest_push low [] r = refl
 latest_push low (s ∷ rs) r = latest_push s.timestamp rs r
+
+-- after one more record, the greatest version is that of this record, or that before it
+pub greatest_push : (rs : List Logged) (r : Logged) → greatest (versions_of (rs ++ r ∷ [])) ≡ max (greatest (versions_of rs)) (version_of r.change)
+greatest_push [] r = omega arith
+greatest_push (s ∷ rs) r = omega (arith, greatest_push rs r)
 
 -- ---- the greatest timestamp
 

@@ -12,18 +12,20 @@ use Rattle.mt_record.specs.Spelling.{spelling}
 use Rattle.mt_record.specs.Fronts.{bytes_of, ShowsNone, IsCutFront}
 use Rattle.mt_record.specs.declared.feed.head.Head.{Head}
 use Rattle.mt_record.specs.Heads.{IsHead, head_bytes}
-use Rattle.mt_record.specs.Logs.{AreRecords, latest, IsTorn, count_of}
+use Rattle.mt_record.specs.Logs.{AreRecords, latest, IsTorn, versions_of, greatest, count_of}
 use Rattle.mt_record.specs.LogFaults.{RestFault, IsLogFault, OrMemory}
 use Rattle.mt_record.specs.Feeding.{Steps, Fed, IsFedBy}
 
 -- ---- what was read
 
 -- What was read of a log: its header, if complete, and the records not yet taken.
--- `latest` is the timestamp of the last record, `whole` the number of records, and `end` that of the bytes read; all include the records taken.
+-- `latest` is the timestamp of the last record, `version` the greatest version, `whole` the number of records, and `end` that of the bytes read; all
+-- include the records taken.
 pub record LogSoFar : Type 0 where
   pub head : Option Head
   pub ready : List Logged
   pub latest : ℕ
+  pub version : ℕ
   pub whole : ℕ
   pub end : ℕ
 
@@ -32,6 +34,7 @@ pub record HoldsLog (taken : List Logged) (so_far : LogSoFar) (front : List ℕ)
   pub spelled : front ≡ bytes_of head_bytes so_far.head ++ flat_map spelling (taken ++ so_far.ready)
   pub lawful : MatchOption so_far.head (taken ++ so_far.ready ≡ []) (λ head. IsHead head × AreRecords (limits_of head.format) 0 (taken ++ so_far.ready))
   pub latest : so_far.latest ≡ latest 0 (taken ++ so_far.ready)
+  pub version : so_far.version ≡ greatest (versions_of (taken ++ so_far.ready))
   pub whole : so_far.whole ≡ count_of (taken ++ so_far.ready)
   pub end : so_far.end ≡ count_of front
 
@@ -71,7 +74,7 @@ ShowsNoFault bytes = (fault : FeedFault) → ShowsFault bytes fault → ⊥
 
 -- what was read, as contracts see it; `listed` gives the records in the collection that the feed fills
 abbrev pub log_so_far : {R : Type 0} → (R → List Logged) → LogItems R → LogSoFar
-log_so_far listed items = record { head = items.head; ready = listed items.ready; latest = items.latest; whole = items.whole; end = items.end }
+log_so_far listed items = record { head = items.head; ready = listed items.ready; latest = items.latest; version = items.version; whole = items.whole; end = items.end }
 
 -- one step of reading a log
 abbrev pub StepsLog : {R : Type 0} → (R → List Logged) → LogItems R → LogItems R → List ℕ → Result (Option (Bor (List ℕ))) FeedFault → Type 0

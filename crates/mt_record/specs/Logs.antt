@@ -1,9 +1,10 @@
 -- Which bytes are a log, what the log contains, and its last timestamp.
-use Rattle.std.specs.Prelude.{◌≡◌, ◌≢◌, ℕ, ◌+◌, ◌-◌, ◌≤◌, ◌<◌, ◌^◌, ◌↔◌, ◌⊎◌, min, Bool, IsTrue, List, [], ◌∷◌, ◌++◌, length, map, Contains, All, Vec}
+use Rattle.std.specs.Prelude.{◌≡◌, ◌≢◌, ℕ, ◌+◌, ◌-◌, ◌≤◌, ◌<◌, ◌^◌, ◌↔◌, ◌⊎◌, min, max, Bool, IsTrue, List, [], ◌∷◌, ◌++◌, length, map, Contains, All, Option, Some, None, Vec}
 use Rattle.std.specs.Global.{Global}
 use Rattle.std.specs.List.{flat_map}
 use Rattle.byteorder.specs.Endian.{big_bytes}
 use Rattle.mt_words.specs.declared.limits.Limits.{Limits}
+use Rattle.mt_words.specs.declared.record.Change.{Change}
 use Rattle.mt_words.specs.Limits.{limits_of}
 use Rattle.mt_words.specs.Changes.{Logged, IsLawful}
 use Rattle.mt_record.specs.declared.read.LogText.{LogText}
@@ -81,6 +82,20 @@ IsGreatestOf times n = Contains times n × All (λ time. time ≤ n) times
 abbrev pub IsLast : LogReading → ℕ → Type 0
 IsLast log n = IsGreatestOf (times_of log) n
 
+-- the version of a record's change; a mark has no change, and counts as 0
+abbrev pub version_of : Option Change → ℕ
+version_of None = 0
+version_of (Some change) = change.version
+
+-- the versions of records
+abbrev pub versions_of : List Logged → List ℕ
+versions_of records = map (λ r. version_of r.change) records
+
+-- the greatest of numbers, or 0 if there are none
+abbrev pub greatest : List ℕ → ℕ
+greatest [] = 0
+greatest (n ∷ ns) = max n (greatest ns)
+
 -- the number of items, or 2^64 - 1 if there are more
 abbrev pub count_of : {T : Type 0} → List T → ℕ
 count_of items = min (length items) (2 ^ 64 - 1)
@@ -90,6 +105,7 @@ pub record ShowsIn {R : Type 0} (listed : R → List Logged) (taken : List Logge
   pub from : text.from ≡ log.head.from
   pub writer : text.writer ≡ log.head.writer
   pub last : IsLast log text.last
+  pub version : text.version ≡ greatest (versions_of log.records)
   pub records : taken ++ listed text.records ≡ log.records
   pub whole : text.whole ≡ count_of log.records
   pub end : text.end ≡ count_of (log_bytes log.head log.records)

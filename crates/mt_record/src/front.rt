@@ -10,6 +10,8 @@ pub struct LogFront {
     pub whole: u64,
     /// The timestamp of the last of them, or 0 without any.
     pub latest: u64,
+    /// The greatest version of the complete records, or 0 if none has a version.
+    pub version: u64,
     /// The number of bytes of the header and of the complete records, counted up to 2^64 - 1.
     pub end: u64,
     pub rest: Rest,

@@ -24,6 +24,8 @@ pub struct LogText<R = Vec<Record>> {
     pub writer: Option<(u32, u32)>,
     /// The last timestamp: the greatest of `from` and the timestamps of the complete records.
     pub last: u64,
+    /// The greatest version of the complete records, with those that were taken before, or 0 if none has a version.
+    pub version: u64,
     /// The complete records that were not taken before, in order.
     pub records: R,
     /// The number of complete records, with those that were taken before, counted up to 2^64 - 1.

@@ -16,6 +16,7 @@ pub mod SegmentLemmas
 pub mod SharingLemmas
 pub mod ScanLemmas
 pub mod ReportLemmas
+pub mod VersionLemmas
 pub mod Preparing
 pub mod Assembles
 pub mod Works

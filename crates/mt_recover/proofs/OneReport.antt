@@ -13,7 +13,7 @@ use Rattle.mt_scan.specs.Choice.{CheckpointReading, AreSkipped, AreNameless}
 use Rattle.mt_replay.specs.Survivors.{is_early}
 use Rattle.mt_recover.specs.Segments.{is_first_file}
 use Rattle.mt_recover.specs.Recovery.{records_of, begin_of, entry_updates, survivors}
-use Rattle.mt_recover.specs.Report.{all_records, logged_updates, is_late, end_of, Outcome, IsRecoveredOf, SaysTheSame}
+use Rattle.mt_recover.specs.Report.{all_records, all_versions, logged_updates, is_late, end_of, Outcome, IsRecoveredOf, SaysTheSame}
 use Rattle.mt_tree.specs.Layers.{CountsLayers}
 use Rattle.mt_tree.proofs.Uniques.{one_count}
 use Rattle.mt_recover.proofs.OneVerdict.{same_facts, one_store}
@@ -76,6 +76,7 @@ one_report logs parts outcome other is too =
         torn = (a.torn ∙ ap (λ (x : List LogReading). length (filter (λ (log : LogReading). log.torn) x)) same.0 ∙ sym b.torn) i;
         ends = outcome.report.ends;
         last = one_greatest (flat_map times_of is.store.facts.readings) (flat_map times_of too.store.facts.readings) outcome.report.last other.report.last (ap (flat_map times_of) same.0) a.last b.last i;
+        version = one_greatest (0 ∷ all_versions is.store.facts.readings is.store.facts.chosen) (0 ∷ all_versions too.store.facts.readings too.store.facts.chosen) outcome.report.version other.report.version (λ j. 0 ∷ all_versions (same.0 j) (same.3 j)) a.version b.version i;
         cutoff = (a.cutoff ∙ same.1 ∙ sym b.cutoff) i;
         checkpoint = (a.checkpoint ∙ ap (option_map (λ (x : CheckpointReading). x.number)) same.3 ∙ sym b.checkpoint) i;
         begin = (a.begin ∙ ap begin_of same.3 ∙ sym b.begin) i;

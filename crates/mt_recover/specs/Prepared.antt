@@ -20,6 +20,7 @@ report_of counts early survivors keys layers = record {
   torn = counts.torn;
   ends = counts.ends;
   last = counts.last;
+  version = counts.version;
   cutoff = counts.cutoff;
   checkpoint = counts.checkpoint;
   begin = counts.begin;

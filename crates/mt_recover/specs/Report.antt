@@ -1,12 +1,12 @@
 -- What recovery reports: the counts of what it found, and of what became of it.
-use Rattle.std.specs.Prelude.{◌≡◌, ℕ, Bool, nat_le, List, length, filter, map}
+use Rattle.std.specs.Prelude.{◌≡◌, ℕ, Bool, nat_le, Option, List, ◌∷◌, ◌++◌, length, filter, map}
 use Rattle.std.specs.List.{flat_map}
 use Rattle.std.specs.Option.{option_map}
 use Rattle.mt_words.specs.declared.update.Update.{Update}
 use Rattle.mt_words.specs.Changes.{Logged, is_mark}
 use Rattle.mt_words.specs.Walks.{Pair}
 use Rattle.mt_record.specs.Logs.{LogReading, IsGreatestOf, times_of, count_of, log_bytes}
-use Rattle.mt_scan.specs.Choice.{AreSkipped, AreNameless}
+use Rattle.mt_scan.specs.Choice.{CheckpointReading, AreSkipped, AreNameless}
 use Rattle.mt_replay.specs.Survivors.{log_updates, is_early}
 use Rattle.mt_tree.specs.Layers.{CountsLayers}
 use Rattle.mt_recover.specs.declared.report.Report.{Report}
@@ -25,6 +25,10 @@ logged_updates readings = log_updates (records_of readings)
 abbrev pub is_late : ℕ → Update → Bool
 is_late cutoff update = nat_le cutoff update.timestamp
 
+-- the versions of the puts, removes and erases of all logs, and of the entries of the chosen checkpoint
+abbrev pub all_versions : List LogReading → Option CheckpointReading → List ℕ
+all_versions readings chosen = map (λ update. update.stamp.version) (logged_updates readings ++ entry_updates chosen)
+
 -- where the complete records of a log end: the number of bytes of its header and of these records, or 2^64 - 1 if there are more
 abbrev pub end_of : LogReading → ℕ
 end_of log = count_of (log_bytes log.head log.records)
@@ -38,6 +42,7 @@ pub record IsFoundIn {log_bytes part_bytes : List (List ℕ)} (facts : Facts log
   pub torn : report.torn ≡ length (filter (λ log. log.torn) facts.readings)
   pub ends : report.ends.items ≡ map end_of facts.readings
   pub last : IsGreatestOf (flat_map times_of facts.readings) report.last
+  pub version : IsGreatestOf (0 ∷ all_versions facts.readings facts.chosen) report.version
   pub cutoff : report.cutoff ≡ facts.cutoff
   pub checkpoint : report.checkpoint ≡ option_map (λ checkpoint. checkpoint.number) facts.chosen
   pub begin : report.begin ≡ begin_of facts.chosen

@@ -3,15 +3,19 @@ ghost use Rattle.std.specs.Prelude.{◌≡◌, List, [], ℕ, length, map, sum_b
 ghost use Rattle.std.specs.Fn.{FnReturnsAt};
 ghost use Rattle.std.specs.List.{flat_map};
 ghost use Rattle.std.specs.Option.{option_map};
-ghost use Rattle.mt_record.specs.Logs.{LogReading, IsGreatestOf, times_of};
+ghost use Rattle.mt_record.specs.Logs.{LogReading, IsGreatestOf, times_of, greatest};
 ghost use Rattle.mt_scan.specs.Choice.{checkpoint_in};
+ghost use Rattle.mt_scan.specs.PartScans.{shown_by_all};
+ghost use Rattle.mt_scan.specs.Steps.Checkpoints.{entries_of};
 ghost use Rattle.mt_scan.specs.Scans.{HaveNumbersOf};
+ghost use Rattle.mt_recover.specs.Report.{all_versions};
 ghost use Rattle.mt_recover.specs.Prepared.{report_of};
-ghost use Rattle.mt_recover.specs.Steps.Preparing.{AreCountsOf, HasRoomFor, IsFoundOf};
+ghost use Rattle.mt_recover.specs.Steps.Preparing.{AreCountsOf, HasRoomFor, IsFoundOf, entry_versions};
 ghost use Rattle.mt_recover.specs.Recovery.{entry_updates};
 
 use crate::found::Found;
 use crate::segments::writer_count;
+use mt_record::{KeptEntries, PartText};
 use mt_scan::{Checkpoint, Choice, LogScan};
 use mt_words::Memory;
 use std::alloc::Global;
@@ -35,6 +39,9 @@ pub struct Report {
     pub ends: Vec<u64>,
     /// The greatest timestamp in the logs: of the times of their headers and of their complete records.
     pub last: u64,
+    /// The greatest version of all complete records of the logs, early and late ones included, and of the entries of the
+    /// chosen checkpoint, or 0 if there is none.
+    pub version: u64,
     /// The timestamp below which updates survive.
     pub cutoff: u64,
     /// The number of the chosen checkpoint, if there is one.
@@ -70,6 +77,7 @@ pub(crate) struct Counts {
     pub torn: usize,
     pub ends: Vec<u64>,
     pub last: u64,
+    pub version: u64,
     pub cutoff: u64,
     pub checkpoint: Option<u32>,
     pub begin: u64,
@@ -103,6 +111,7 @@ impl Counts {
             torn: scans.iter().filter(|scan| scan.torn).count(),
             ends: ends_of(alloc, &scans)?,
             last: last_of(&scans).unwrap_or(0),
+            version: version_of(&scans, &chosen),
             cutoff: found.window.cutoff,
             checkpoint: chosen.as_ref().map(|checkpoint| checkpoint.number),
             begin: found.window.begin,
@@ -128,6 +137,7 @@ impl Counts {
             torn: self.torn,
             ends: self.ends,
             last: self.last,
+            version: self.version,
             cutoff: self.cutoff,
             checkpoint: self.checkpoint,
             begin: self.begin,
@@ -170,6 +180,54 @@ fn last_of(scans: &[LogScan]) -> Option<u64>
     ensures none { IfNone result (scans.now ≡ []) }
 {
     scans.iter().map(|scan| scan.last).max()
+}
+
+/// Returns the greatest version of the scanned logs and of the entries of the checkpoint, or 0 if there is none.
+fn version_of(scans: &[LogScan], chosen: &Option<Checkpoint>) -> u64
+    ensures { (logs : List LogReading) → HaveNumbersOf scans.now logs →
+        result ≡ greatest (all_versions logs (option_map checkpoint_in chosen.now)) }
+{
+    let logged = greatest_of(scans, |scan| scan.version);
+    match chosen {
+        Some(checkpoint) => logged.max(version_of_parts(&checkpoint.parts)),
+        None => logged,
+    }
+}
+
+/// Returns the greatest version of the entries of these parts, or 0 if there is none.
+fn version_of_parts(parts: &[PartText<KeptEntries>]) -> u64
+    ensures { result ≡ greatest (entry_versions (entries_of (shown_by_all parts.now))) }
+{
+    greatest_of(
+        parts,
+        |part: &PartText<KeptEntries>| -> u64
+            ensures { result ≡ greatest (entry_versions part.now.entries) }
+        { version_of_entries(&part.entries) },
+    )
+}
+
+/// Returns the greatest version of these entries, or 0 if there is none.
+fn version_of_entries(entries: &KeptEntries) -> u64
+    ensures { result ≡ greatest (entry_versions entries.now) }
+{
+    let mut version = 0;
+    for number in 0..entries.len() {
+        version = entries.update(number).stamp().version.max(version);
+    }
+    version
+}
+
+/// Returns the greatest of a number of each item, or 0 if there is no item.
+fn greatest_of<T, F: Fn(&T) -> u64>(items: &[T], number: F) -> u64
+    requires { F.IsAlwaysCallable number }
+    ensures { (of : T → ℕ) → ((x : T) (n : ℕ) → FnReturnsAt F.Fn number x n → n ≡ of x) →
+        result ≡ greatest (map of items.now) }
+{
+    let mut most = 0;
+    for item in items {
+        most = number(item).max(most);
+    }
+    most
 }
 
 /// Counts the entries of the checkpoint: 0 without one.

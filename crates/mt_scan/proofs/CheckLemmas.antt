@@ -147,7 +147,7 @@ has_end limits low tail rest torn is (inr (cut, is_torn)) =
 pub scan_of_check : (log limit : ℕ) (bytes : List ℕ) (check : LogCheck) (torn : Bool) (last dropped : ℕ) → IsCheckOf limit bytes check
     → ((check.front.rest ≡ Nothing) × (torn ≡ false)) ⊎ ((check.front.rest ≡ Torn) × (torn ≡ true))
     → last ≡ max check.front.head.from check.front.latest → dropped ≡ check.front.whole - check.marks
-    → HasAllBelow 0 log bytes (record { from = check.front.head.from; writer = check.front.head.writer; last = last; whole = check.front.whole; end = check.front.end; marks = check.marks; updates = record { log = log; records = [] }; dropped = dropped; torn = torn })
+    → HasAllBelow 0 log bytes (record { from = check.front.head.from; writer = check.front.head.writer; last = last; version = check.front.version; whole = check.front.whole; end = check.front.end; marks = check.marks; updates = record { log = log; records = [] }; dropped = dropped; torn = torn })
 scan_of_check log limit bytes check torn last dropped is ends last_is_max dropped_is =
     let front = is.front in
     let head = check.front.head in
@@ -167,6 +167,7 @@ scan_of_check log limit bytes check torn last dropped is ends last_is_max droppe
           from = refl;
           writer = refl;
           last = subst (λ (n : ℕ). IsLast reading n) (sym time) (last_is limits reading front.lawful);
+          version = front.version;
           whole = is.whole;
           end = front.end;
           marks = is.marks;

@@ -63,7 +63,7 @@ below limit (Some kept) ready text keeps same = keeps.1
 -- the numbers of a scan are those of its log, if the records and the marks are counted exactly
 pub has_numbers : (number whole dropped marks : ℕ) (kept : Option (List Logged)) (taken : List Logged) (bytes : List ℕ) (text : LogText (List Logged)) (is : IsTextIn (λ records. records) taken bytes text) → whole ≡ length is.log.records
     → (scan_from number (record text { whole = whole }) kept dropped marks).marks ≡ length (filter is_mark is.log.records) → HasNumbersOf (scan_from number (record text { whole = whole }) kept dropped marks) is.log
-has_numbers number whole dropped marks kept taken bytes text is whole_is marks_are = record { from = is.shows.from; writer = is.shows.writer; last = is.shows.last; whole = whole_is; end = is.shows.end; marks = marks_are; torn = is.shows.torn }
+has_numbers number whole dropped marks kept taken bytes text is whole_is marks_are = record { from = is.shows.from; writer = is.shows.writer; last = is.shows.last; version = is.shows.version; whole = whole_is; end = is.shows.end; marks = marks_are; torn = is.shows.torn }
 
 pub scan_is : (feed : DroppingFeed) (limit number : ℕ) (bytes : List ℕ) (text : LogText (List Logged)) (h : IsFedBelow feed limit bytes) → length bytes < 2 ^ 64 → feed.feed.fault ≡ None
     → IsTextIn (λ records. records) (taken_of feed.kept ++ h.read.late) bytes text → text.records ≡ feed.feed.so_far.ready

@@ -7,16 +7,17 @@ use Rattle.mt_words.specs.Changes.{is_mark}
 use Rattle.mt_words.specs.Updates.{updates_from, kept_updates}
 use Rattle.mt_record.specs.declared.read.FeedFault.{FeedFault}
 use Rattle.mt_record.specs.declared.read.FeedFault.TheVariants as of_log
-use Rattle.mt_record.specs.Logs.{LogReading, IsReading, IsLast, count_of, log_bytes}
+use Rattle.mt_record.specs.Logs.{LogReading, IsReading, IsLast, versions_of, greatest, count_of, log_bytes}
 use Rattle.mt_record.specs.LogFaults.{IsLogFault, IsAnswered, fault_at}
 use Rattle.mt_scan.specs.declared.log_scan.LogScan.{LogScan}
 use Rattle.mt_scan.specs.Sources.{Agrees}
 
--- the numbers of the scan are those of the log: `from`, its worker and segment, the last timestamp, how many records and marks it has, where the records end, and whether it is torn
+-- the numbers of the scan are those of the log: `from`, its worker and segment, the last timestamp, the greatest version, how many records and marks it has, where the records end, and whether it is torn
 pub record HasNumbersOf (scan : LogScan) (log : LogReading) : Type 0 where
   pub from : scan.from ≡ log.head.from
   pub writer : scan.writer ≡ log.head.writer
   pub last : IsLast log scan.last
+  pub version : scan.version ≡ greatest (versions_of log.records)
   pub whole : scan.whole ≡ length log.records
   pub end : scan.end ≡ count_of (log_bytes log.head log.records)
   pub marks : scan.marks ≡ length (filter is_mark log.records)

@@ -36,6 +36,7 @@ impl LogCheck {
             head,
             whole,
             latest,
+            version,
             end,
             rest,
         } = self.front;
@@ -51,6 +52,7 @@ impl LogCheck {
             from: head.from,
             writer: head.writer,
             last: head.from.max(latest),
+            version,
             whole,
             end,
             marks: self.marks,

@@ -15,6 +15,8 @@ pub struct LogScan {
     pub writer: Option<(u32, u32)>,
     /// The last timestamp: the greatest of `from` and the timestamps of the complete records.
     pub last: u64,
+    /// The greatest version of the complete records, dropped ones included, or 0 if none has a version.
+    pub version: u64,
     /// The number of complete records.
     pub whole: u64,
     /// Where they end: the number of bytes of the header and of the complete records, counted up to 2^64 - 1.
@@ -56,6 +58,7 @@ pub(crate) fn scan_of(
         from,
         writer,
         last,
+        version,
         records,
         whole,
         end,
@@ -69,6 +72,7 @@ pub(crate) fn scan_of(
         from,
         writer,
         last,
+        version,
         whole,
         end,
         marks: records.marks().saturating_add(marks),

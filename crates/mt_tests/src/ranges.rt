@@ -1,7 +1,8 @@
 //! A recovered store: ranges from a start longer than any key, columns that are not wanted, walks that end early, and
 //! what its report says besides its lines.
 use crate::asserting::{assert_bytes, assert_same};
-use crate::logs::{LOG_FROM_3_TO_9, LOG_OF_THREE};
+use crate::logs::{LOG_A, LOG_FROM_3_TO_9, LOG_OF_THREE};
+use crate::refusals::recover_by;
 use mt_recover::{Store, Wanted, recover_logs, write_pair};
 use mt_tree::Visitor;
 use mt_words::{Columns, Kept};
@@ -116,6 +117,39 @@ fn a_report_says_where_records_end_and_the_last_time(rt: HostRuntime) {
     assert_same(&rt, &store.len(), &4);
     assert_same(&rt, &report.ends.as_slice(), &[128, 111].as_slice());
     assert_same(&rt, &report.last, &9);
+}
+
+/// A log of a mark at timestamp 9.
+const LOG_OF_A_MARK: &[u8] = b"MTL1\0\0\0\0\0\0\0\0\0\0\0\x09\x03\0\0\0\0\0\0\0\x09\0\0\0\x09";
+
+/// A log of a put of key k at timestamp 8, with version 7.
+const LOG_OF_VERSION_7: &[u8] = b"MTL1\0\0\0\0\0\0\0\0\
+    \0\0\0\x19\x01\0\0\0\0\0\0\0\x08\0\0\0\0\0\0\0\x07\0\x01k\x01\0\0\x01z\0\0\0\x19";
+
+/// A part of checkpoint 1, from 2 to 4: key k with version 9.
+const PART_OF_VERSION_9: &[u8] = b"MTC1\0\0\0\x01\0\0\0\0\0\0\0\x02\0\0\0\x01\
+    \0\0\0\x10\0\0\0\0\0\0\0\x09\0\x01k\x01\0\0\x01o\0\0\0\x10\
+    \0\0\0\0\0\0\0\0\0\0\0\x04\0\0\0\x01";
+
+#[test]
+fn a_report_has_the_version_of_a_late_update(rt: HostRuntime) {
+    let recovered = recover_logs(rt.alloc(), &[LOG_A, LOG_OF_VERSION_7]);
+    let (_, report) = recovered.expect(&rt, "a store").into_parts();
+    assert_same(&rt, &(report.late, report.version), &(1, 7));
+}
+
+#[test]
+fn a_report_has_the_version_of_an_entry(rt: HostRuntime) {
+    let recovered = recover_by(&rt, 1, 1, &[LOG_A, PART_OF_VERSION_9], 1);
+    let recovered = recovered.expect(&rt, "memory").expect(&rt, "a store");
+    assert_same(&rt, &recovered.report().version, &9);
+}
+
+#[test]
+fn a_report_of_marks_alone_has_no_version(rt: HostRuntime) {
+    let recovered = recover_logs(rt.alloc(), &[LOG_OF_A_MARK]);
+    let (_, report) = recovered.expect(&rt, "a store").into_parts();
+    assert_same(&rt, &(report.records, report.version), &(1, 0));
 }
 
 /// A visitor that takes this many pairs, and counts those that it is shown.

@@ -1,7 +1,8 @@
 //! Reads the fields of a validated body, without copying.
 ghost use Rattle.std.specs.Prelude.{◌≡◌, ◌↔◌, IsTrue};
 ghost use Rattle.mt_words.specs.Changes.{IsReset, writes_of};
-ghost use Rattle.mt_record.specs.Decoding.{IsBody, IsChangeBody, is_mark_in, code_in, time_in, version_in, key_in, carried_in, kind_in};
+ghost use Rattle.mt_record.specs.Logs.{version_of};
+ghost use Rattle.mt_record.specs.Decoding.{decode, IsBody, IsChangeBody, is_mark_in, code_in, time_in, version_in, key_in, carried_in, kind_in};
 
 use crate::body::lent_writes::LentWrites;
 use crate::body::{ChangeFields, MARK, fields_of};
@@ -22,6 +23,17 @@ pub fn timestamp(body: &[u8]) -> u64
     ensures { result ≡ time_in body.now }
 {
     BigEndian::read_u64(&body[1..])
+}
+
+/// Returns the version of the body's change, or 0 for a mark, which has none.
+pub fn version(body: &[u8]) -> u64
+    requires { IsBody body.now }
+    ensures { result ≡ version_of (decode body.now).change }
+{
+    if is_mark(body) {
+        return 0;
+    }
+    change(body).version
 }
 
 /// Returns the code of a change.

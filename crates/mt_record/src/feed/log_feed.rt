@@ -125,6 +125,7 @@ impl<R: Records> LogFeed<R> {
             head: None,
             ready: records,
             latest: 0,
+            version: 0,
             whole: 0,
             end: 0,
         };

@@ -7,6 +7,7 @@ ghost use Rattle.mt_record.specs.LogFaults.{IsAnswered};
 ghost use Rattle.mt_record.specs.Feeding.{HoldsAll};
 ghost use Rattle.mt_record.specs.LogFeeding.{log_so_far, HoldsLog, IsLogLeft, IsLogFaulty, StepsLog};
 
+use crate::body::spelled;
 use crate::feed::frame::{frame_wanted, next_record};
 use crate::feed::head::{Head, head_bytes_wanted, next_header};
 use crate::feed::items::{Items, Step};
@@ -24,6 +25,8 @@ pub struct LogItems<R: Records> {
     pub ready: R,
     /// The timestamp of the last record that was read, or 0 before the first.
     pub latest: u64,
+    /// The greatest version of the records that were read, or 0 if none has a version.
+    pub version: u64,
     /// The number of records that were read, counted up to 2^64 - 1.
     pub whole: u64,
     /// The number of bytes of the header and the records that were read, counted up to 2^64 - 1.
@@ -85,6 +88,7 @@ impl<R: Records> LogItems<R> {
             Ok(Some((timestamp, body, after))) => {
                 self.ready.put_record(body)?;
                 self.latest = timestamp;
+                self.version = self.version.max(spelled::version(body));
                 self.whole = self.whole.saturating_add(1);
                 self.end = self.end.saturating_add((bytes.len() - after.len()) as u64);
                 Ok(Some(after))
@@ -99,7 +103,7 @@ impl<R: Records> LogItems<R> {
 
     /// Returns what was read, with what follows it. Err: no header was read.
     pub fn front(&self, rest: Rest) -> Result<LogFront, FeedFault>
-        ensures front { IfOk result (λ front. (self.now.head ≡ Some front.head) × (front ≡ record { head = front.head; whole = self.now.whole; latest = self.now.latest; end = self.now.end; rest = rest })) }
+        ensures front { IfOk result (λ front. (self.now.head ≡ Some front.head) × (front ≡ record { head = front.head; whole = self.now.whole; latest = self.now.latest; version = self.now.version; end = self.now.end; rest = rest })) }
         ensures none { IfErr result (λ fault. (fault ≡ faults.Header) × (self.now.head ≡ None)) }
     {
         let head = self.head.ok_or(FeedFault::Header)?;
@@ -107,6 +111,7 @@ impl<R: Records> LogItems<R> {
             head,
             whole: self.whole,
             latest: self.latest,
+            version: self.version,
             end: self.end,
             rest,
         })
@@ -125,6 +130,7 @@ impl<R: Records> LogItems<R> {
             head,
             ready,
             latest,
+            version,
             whole,
             end,
         } = self;
@@ -135,6 +141,7 @@ impl<R: Records> LogItems<R> {
             from: head.from,
             writer: head.writer,
             last: head.from.max(latest),
+            version,
             records: ready,
             whole,
             end,

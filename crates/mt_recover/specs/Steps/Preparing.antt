@@ -5,6 +5,7 @@ use Rattle.std.specs.Option.{option_map}
 use Rattle.mt_words.specs.declared.fault.Fault.{Fault}
 use Rattle.mt_words.specs.declared.fault.Fault.TheVariants as faults
 use Rattle.mt_words.specs.declared.fault.Memory.{Memory}
+use Rattle.mt_words.specs.declared.record.Change.{Change}
 use Rattle.mt_words.specs.declared.update.Update.{Update}
 use Rattle.mt_record.specs.Logs.{LogReading}
 use Rattle.mt_scan.specs.declared.log_scan.LogScan.{LogScan}
@@ -48,6 +49,10 @@ pub record IsFoundOf (logs parts : List (List ℕ)) (found : Found) : Type 0 whe
   pub chosen : option_map checkpoint_in found.choice.chosen ≡ facts.chosen
   pub skipped : AreSkipped facts.known found.choice.skipped.items
   pub nameless : AreNameless facts.known found.choice.nameless.items
+
+-- the versions of entries
+abbrev pub entry_versions : List Change → List ℕ
+entry_versions entries = map (λ entry. entry.version) entries
 
 -- the counts are those of what was found
 abbrev pub AreCountsOf : {logs parts : List (List ℕ)} → Facts logs parts → Counts → Type 0

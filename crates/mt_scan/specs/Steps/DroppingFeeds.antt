@@ -52,6 +52,7 @@ scan_from log text kept dropped marks = record {
   from = text.from;
   writer = text.writer;
   last = text.last;
+  version = text.version;
   whole = text.whole;
   end = text.end;
   marks = min (count_of (filter is_mark (kept_in kept text)) + marks) (2 ^ 64 - 1);

@@ -1,12 +1,8 @@
 -- The last timestamps of logs, from their scans.
-use Rattle.std.specs.Prelude.{ℕ, max, Option, Some, None, List, [], ◌∷◌, filter, map}
+use Rattle.std.specs.Prelude.{ℕ, Option, Some, None, List, filter, map}
+use Rattle.mt_record.specs.Logs.{greatest}
 use Rattle.mt_scan.specs.declared.log_scan.LogScan.{LogScan}
 use Rattle.mt_scan.specs.Cutoff.{is_segment_of}
-
--- the greatest of numbers, or 0
-abbrev pub greatest : List ℕ → ℕ
-greatest [] = 0
-greatest (n ∷ ns) = max n (greatest ns)
 
 -- the greatest last timestamp of a worker's segments
 abbrev pub last_of_segments : ℕ → List LogScan → ℕ

@@ -1,12 +1,14 @@
-use Rattle.std.proofs.Common.{◌≡◌, ◌∙◌, Option, length, map, unwrap_or, sym, ap, subst, rules}
+use Rattle.std.proofs.Common.{◌≡◌, ◌∙◌, Option, ◌∷◌, length, map, unwrap_or, sym, ap, subst, rules}
 use Rattle.std.specs.List.{count_by, flat_map, sum_by}
 use Rattle.std.specs.Option.{option_map}
-use Rattle.mt_record.specs.Logs.{IsGreatestOf, times_of}
+use Rattle.mt_record.specs.Logs.{IsGreatestOf, times_of, greatest}
 use Rattle.mt_scan.specs.declared.checkpoint.Checkpoint.{Checkpoint}
 use Rattle.mt_scan.specs.declared.log_scan.LogScan.{LogScan}
 use Rattle.mt_scan.specs.Choice.{CheckpointReading}
 use Rattle.mt_replay.specs.declared.window.Window.{Window}
 use Rattle.mt_recover.specs.Recovery.{entry_updates}
+use Rattle.mt_recover.specs.Report.{all_versions}
+use Rattle.mt_recover.proofs.VersionLemmas.{greatest_is}
 use Rattle.mt_recover.proofs.ReportLemmas.{as_many, records_counted, marks_counted, torn_counted, ends_are, last_is, numbers_of, same_number}
 use Rattle.mt_recover.proofs.report.Counts.of.Goals as goal
 
@@ -32,6 +34,11 @@ returns-clause-counts c =
       ends = ends ∙ ends_are scans is.facts.readings numbers;
       last = subst (IsGreatestOf (flat_map times_of is.facts.readings)) (sym last) (last_is scans is.facts.readings is.facts.cutoff c.last_of.result numbers is.facts.is_cutoff
           ((rw c.deref-6.ensures.value at c.last_of.ensures.found) is.facts.readings numbers) (rw c.deref-6.ensures.value at c.last_of.ensures.none));
+      version =
+          let chosen = is.facts.chosen in
+          let version : c.version_of.result ≡ greatest (all_versions is.facts.readings chosen) =
+          (rw c.deref-7.ensures.value at c.version_of.ensures) is.facts.readings numbers ∙ ap (λ (o : Option CheckpointReading). greatest (all_versions is.facts.readings o)) is.chosen in
+          subst (IsGreatestOf (0 ∷ all_versions is.facts.readings chosen)) (sym version) (greatest_is (all_versions is.facts.readings chosen));
       cutoff = ap (λ (w : Window). w.cutoff) is.window;
       checkpoint = number ∙ same_number found.choice.chosen ∙ ap (λ (o : Option CheckpointReading). option_map (λ (checkpoint : CheckpointReading). checkpoint.number) o) is.chosen;
       begin = ap (λ (w : Window). w.begin) is.window;

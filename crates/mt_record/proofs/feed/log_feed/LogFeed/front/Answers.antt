@@ -25,7 +25,7 @@ returns-clause-front g c bytes taken fed =
     let held = c.self.inside.feed.held in
     let so_far = log_so_far g.R.Records.listed items in
     let is = rw (← c.self.view_is) at fed in
-    let front : (rest : Rest) → ((head : Head) → items.head ≡ Some head → IsFrontOf bytes (taken ++ g.R.Records.listed items.ready) (record { head = head; whole = items.whole; latest = items.latest; end = items.end; rest = rest }))
+    let front : (rest : Rest) → ((head : Head) → items.head ≡ Some head → IsFrontOf bytes (taken ++ g.R.Records.listed items.ready) (record { head = head; whole = items.whole; latest = items.latest; version = items.version; end = items.end; rest = rest }))
     → c.match-self.rest ≡ rest → IfOk c.front.result (IsFrontOf bytes (taken ++ g.R.Records.listed items.ready)) =
     λ rest of same. IfOk-weaker c.front.result _ _ (λ front it. rw it.1 (rw same (of front.head it.0))) c.front.ensures.front in
     rw (← c.self.view_is) (elim c.match-self.branch [

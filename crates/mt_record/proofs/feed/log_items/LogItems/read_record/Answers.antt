@@ -1,8 +1,18 @@
-use Rattle.mt_record.proofs.LogFeeds.{record_read}
+use Rattle.std.proofs.Common.{◌∙◌, ℕ, max, ap}
+use Rattle.mt_record.proofs.Decodes.{body_says}
+use Rattle.mt_record.proofs.LogFeeds.{logged_within, record_read}
 use Rattle.mt_record.proofs.feed.log_items.LogItems.read_record.Goals as goal
+
+pub version-requires : goal.version-requires
+version-requires g c =
+    let found = c.in-Ok-Some in
+    let is = rw found.field-0-is at found.ensures.found in
+    let r = is.next in
+    let lawful = is.is_next.lawful in
+    (body_says found.body.now r (lawful.0, logged_within c.args.head.format r.change lawful.1) is.same_body).1
 
 pub returns-in_ok-put_record-in-Ok-Some : goal.returns-in_ok-put_record-in-Ok-Some
 returns-in_ok-put_record-in-Ok-Some g c =
     let found = c.in-Ok-Some in
-    record_read g.R.Records.listed c.args.self.now c.put_record.new.self c.args.head c.args.bytes.now found.body.now found.after.now found.timestamp c.saturating_add-self.result c.saturating_add-self-in-Ok-Some.result c.requires
-    (rw found.field-0-is at found.ensures.found) c.in_ok-put_record-in-Ok-Some.ensures.ok c.saturating_add-self.ensures c.saturating_add-self-in-Ok-Some.ensures
+    record_read g.R.Records.listed c.args.self.now c.put_record.new.self c.args.head c.args.bytes.now found.body.now found.after.now found.timestamp c.max-self.result c.saturating_add-self.result c.saturating_add-self-in-Ok-Some.result c.requires
+    (rw found.field-0-is at found.ensures.found) c.in_ok-put_record-in-Ok-Some.ensures.ok (c.max-self.ensures ∙ ap (λ (n : ℕ). max c.args.self.now.version n) c.version.ensures) c.saturating_add-self.ensures c.saturating_add-self-in-Ok-Some.ensures
