@@ -23,6 +23,7 @@ mod feed;
 mod front;
 mod kept;
 mod laws;
+mod part_front;
 mod part_text;
 mod read;
 
@@ -35,11 +36,13 @@ pub use encode::{encode_log_header, encode_log_header_2, encode_log_header_3, en
 pub use feed::head::{Head, header_at};
 pub use feed::log_feed::LogFeed;
 pub use feed::part_feed::PartFeed;
+pub use feed::part_head::part_header_at;
 pub use front::{LogFront, Rest};
 pub use kept::log::{Dropped, KeptRecords};
 pub use kept::part::KeptEntries;
 pub use kept::texts::Texts;
 pub use kept::updates::Updates;
 pub use laws::{one_part, one_reading};
+pub use part_front::{entry_at, footer_of};
 pub use part_text::{PartFault, PartHead, PartText};
 pub use read::{FeedFault, LogText, cut_log, read_log, record_at};

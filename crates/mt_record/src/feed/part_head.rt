@@ -20,7 +20,7 @@ pub const PART_HEADER_BYTES: usize = 20;
 pub const FOOTER_BYTES: usize = 16;
 
 /// Returns the header at the front and the bytes after it. Returns None if the bytes do not begin with a header.
-fn part_header_at(bytes: &[u8]) -> Option<(PartHead, &[u8])>
+pub fn part_header_at(bytes: &[u8]) -> Option<(PartHead, &[u8])>
     ensures found { IfSome result (λ x. IsPartHead x.0 × (bytes.now ≡ part_head_bytes x.0 ++ x.1.now)) }
     ensures none { IfNone result (HasNoPartHeader bytes.now) }
 {
