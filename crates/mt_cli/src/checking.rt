@@ -89,7 +89,7 @@ where
     let mut start = start_of(rt.alloc(), Vec::from_slice(rt.alloc(), &logs)?, scans);
     if let Ok(found) = &start {
         logs = check_named(rt, command, names, rack.slots(), found.window.cutoff)?;
-        if let Some(fault) = first_fault(&logs) {
+        if let Some(fault) = first_fault(rt.alloc(), &logs) {
             start = Err(fault);
         }
     }
@@ -136,9 +136,9 @@ where
 }
 
 /// Returns the fault of the first log that has one.
-fn first_fault(checks: &[Result<LogCheck, Fault>]) -> Option<Fault> {
+fn first_fault(alloc: Global, checks: &[Result<LogCheck, Fault>]) -> Option<Fault> {
     for (log, check) in checks.iter().enumerate() {
-        if let Some(fault) = fault_of(log, check) {
+        if let Some(fault) = fault_of(alloc, log, check) {
             return Some(fault);
         }
     }
@@ -146,15 +146,9 @@ fn first_fault(checks: &[Result<LogCheck, Fault>]) -> Option<Fault> {
 }
 
 /// Returns the fault of the log with this number.
-fn fault_of(log: usize, check: &Result<LogCheck, Fault>) -> Option<Fault> {
+fn fault_of(alloc: Global, log: usize, check: &Result<LogCheck, Fault>) -> Option<Fault> {
     match check {
-        Ok(check) => match check.front.rest {
-            Rest::Faulty(what) => {
-                let nth = check.front.whole;
-                Some(Fault::Record { log, nth, what })
-            }
-            Rest::Nothing | Rest::Torn => None,
-        },
+        Ok(check) => check.scan(alloc, log).err(),
         Err(fault) => Some(*fault),
     }
 }
