@@ -1,4 +1,4 @@
-//! What follows the complete records of a log.
+//! What follows the complete records of a log, or the entries of a part.
 use crate::fields::Fields;
 use mt_record::records_at_end;
 use mt_scan::Source;
@@ -6,7 +6,7 @@ use mt_words::{Format, Memory};
 use std::alloc::{AllocError, Global};
 use std::io::{self, Write};
 
-/// What follows the complete records of a log.
+/// What follows the complete records of a log, or the entries of a part.
 #[derive(Clone, Copy, Debug)]
 pub struct Ending {
     /// The number of bytes.
@@ -24,6 +24,17 @@ impl Ending {
     pub fn of(format: Format, rest: &[u8]) -> Ending {
         let bytes = rest.len() as u64;
         Ending::new(format, bytes, !rest.is_empty() && are_zero(rest), rest)
+    }
+
+    /// Returns what these bytes are as the rest of a part. No records are looked for.
+    pub fn of_part(rest: &[u8]) -> Ending {
+        let bytes = rest.len() as u64;
+        Ending {
+            bytes,
+            is_zero: !rest.is_empty() && are_zero(rest),
+            records: 0,
+            before: bytes,
+        }
     }
 
     /// Returns the ending of so many bytes, of which these are the last ones.

@@ -4,19 +4,19 @@ ghost use Rattle.std.specs.Prelude.{◌≤◌, length};
 use crate::answering::PRINTED_AT_ONCE;
 use crate::failure::tell;
 use crate::file_names::Names;
-use crate::opening::read_log_file;
+use crate::opening::read_file;
 use crate::refusal::Refusal;
 use crate::request::{Command, FileQuery};
 use crate::stop::Stop;
-use mt_record::{Head, cut_log, header_at};
-use mt_recover::{Selection, write_head, write_records};
+use mt_record::{LogFront, PartFault, PartFeed, PartHead, cut_log, header_at, part_header_at};
+use mt_recover::{Selection, write_entries, write_head, write_part_head, write_records};
 use mt_words::Fault;
 use std::alloc::Global;
 use std::fs::Files;
 use std::io::{BufWriter, Write};
 
 /// Answers a query on the command's file, and returns the exit status: 0 if all was printed, or what `Stop::status`
-/// says. What follows the complete records of the log is told on `err`.
+/// says. What follows the complete records or entries is told on `err`.
 pub fn answer_file<R: AllocGlobal + Files, O: Write, E: Write>(
     rt: &R,
     command: &Command<'_>,
@@ -51,7 +51,7 @@ fn tell_refusal<E: Write>(
     }
 }
 
-/// Tells where the records stop, and returns the exit status. A write error does not change it.
+/// Tells where records or entries stop, and returns the exit status. A write error does not change it.
 fn tell_stop<E: Write>(stop: Option<Stop>, query: &FileQuery, err: &mut E) -> u8
     ensures status { result ≤ 4 }
 {
@@ -76,14 +76,20 @@ fn cut<'a, R: AllocGlobal + Files, O: Write>(
     path: &'a str,
     out: &mut O,
 ) -> Result<Option<Stop>, Refusal<'a>> {
-    let bytes = read_log_file(rt, path)?;
-    let (front, log) = cut_log(rt.alloc(), &bytes).map_err(|fault| Refusal::from(fault.of_log(0)))?;
+    let bytes = read_file(rt, path)?;
+    let (front, log) = cut_out(rt.alloc(), &bytes)?;
     out.write_all(log)?;
     out.flush()?;
     Ok(Stop::of(&front, &bytes))
 }
 
-/// Prints the header of the log, and its wanted records from a byte on, or from the first one on, each on a line.
+/// Does as `cut_log`, with the bytes as log 0.
+fn cut_out(alloc: Global, bytes: &[u8]) -> Result<(LogFront, &[u8]), Refusal<'static>> {
+    cut_log(alloc, bytes).map_err(|fault| Refusal::from(fault.of_log(0)))
+}
+
+/// Prints the header of a log or a part, and its wanted records or entries from a byte on, or from the first one on,
+/// each on a line.
 fn records<'a, R: AllocGlobal + Files, O: Write>(
     rt: &R,
     path: &'a str,
@@ -91,36 +97,84 @@ fn records<'a, R: AllocGlobal + Files, O: Write>(
     at: Option<u64>,
     out: &mut O,
 ) -> Result<Option<Stop>, Refusal<'a>> {
-    let bytes = read_log_file(rt, path)?;
-    let (head, rest) = header_at(&bytes).ok_or(Fault::Header { log: 0 })?;
-    let first = bytes.len() - rest.len();
-    let start = at.map_or(first, |at| at as usize).min(bytes.len());
-    let stopped = print_records(rt.alloc(), &head, &bytes, start, selection, out)?;
-    let Some(end) = stopped else {
+    let bytes = read_file(rt, path)?;
+    let mut out = BufWriter::with_capacity(rt.alloc(), PRINTED_AT_ONCE, out)?;
+    match part_header_at(&bytes) {
+        Some((head, rest)) => {
+            let first = bytes.len() - rest.len();
+            of_part(rt.alloc(), &head, &bytes, first, at, selection, &mut out)
+        }
+        None => of_log(rt.alloc(), &bytes, at, selection, &mut out),
+    }
+}
+
+/// Prints the header of a log and its wanted records. Returns where they stop before the bytes do.
+fn of_log<O: Write>(
+    alloc: Global,
+    bytes: &[u8],
+    at: Option<u64>,
+    selection: &Selection,
+    out: &mut O,
+) -> Result<Option<Stop>, Refusal<'static>> {
+    let (head, rest) = header_at(bytes).ok_or(Fault::Header { log: 0 })?;
+    let start = start_at(at, bytes.len() - rest.len(), bytes);
+    write_head(&head, selection.notation, out)?;
+    let stopped = write_records(alloc, head.format, bytes, start, selection, out)?;
+    out.flush()?;
+    let Some(stopped) = stopped else {
+        return Ok(None);
+    };
+    if at.is_some() || stopped.at == bytes.len() {
+        return Ok(Stop::at(head.format, bytes, stopped.at));
+    }
+    // What is wrong there tells a second reading.
+    let (front, _) = cut_out(alloc, bytes)?;
+    Ok(Stop::of(&front, bytes))
+}
+
+/// Prints the header of a part and its wanted entries, the first of which begins at byte `first`. Returns where they
+/// stop before the footer does.
+fn of_part<O: Write>(
+    alloc: Global,
+    head: &PartHead,
+    bytes: &[u8],
+    first: usize,
+    at: Option<u64>,
+    selection: &Selection,
+    out: &mut O,
+) -> Result<Option<Stop>, Refusal<'static>> {
+    let end = end_of(alloc, bytes)?;
+    write_part_head(head, end, selection.notation, out)?;
+    let start = start_at(at, first, bytes);
+    let stopped = write_entries(alloc, head.format, bytes, start, selection, out)?;
+    out.flush()?;
+    let Some(stopped) = stopped else {
         return Ok(None);
     };
     if at.is_some() {
-        return Ok(Stop::at(head.format, &bytes, end));
+        return Ok(Stop::at_entry(bytes, stopped.at));
     }
-    let (front, _) = cut_log(rt.alloc(), &bytes).map_err(|fault| Refusal::from(fault.of_log(0)))?;
-    Ok(Stop::of(&front, &bytes))
+    if end.is_some() {
+        return Ok(None);
+    }
+    Ok(Stop::of_entries(&stopped, bytes))
 }
 
-/// Prints the header of a log and its wanted records, through a buffer. Returns where they stop, as `write_records`
-/// does.
-fn print_records<O: Write>(
-    alloc: Global,
-    head: &Head,
-    bytes: &[u8],
-    start: usize,
-    selection: &Selection,
-    out: &mut O,
-) -> Result<Option<usize>, Refusal<'static>>
-    requires { start ≤ length bytes.now }
+/// Returns where the checkpoint ends of which the bytes are a part. None: the bytes are no part.
+fn end_of(alloc: Global, bytes: &[u8]) -> Result<Option<u64>, Refusal<'static>> {
+    let mut feed = PartFeed::keeping(alloc);
+    // The feed keeps a fault.
+    let _ = feed.feed(bytes);
+    match feed.finish() {
+        Ok(part) => Ok(Some(part.end)),
+        Err(PartFault::Memory) => Err(Refusal::from(Fault::Memory)),
+        Err(_) => Ok(None),
+    }
+}
+
+/// Returns the byte where reading begins: this one or, without it, the first one after the header.
+fn start_at(at: Option<u64>, first: usize, bytes: &[u8]) -> usize
+    ensures { result ≤ length bytes.now }
 {
-    let mut out = BufWriter::with_capacity(alloc, PRINTED_AT_ONCE, out)?;
-    write_head(head, &mut out)?;
-    let stopped = write_records(alloc, head.format, bytes, start, selection, &mut out)?;
-    out.flush()?;
-    Ok(stopped)
+    at.map_or(first, |at| at as usize).min(bytes.len())
 }

@@ -100,13 +100,14 @@ fn check<'a>(alloc: Global) -> Result<Command<'a>, AllocError> {
 /// Returns the subcommand `records`.
 fn records<'a>(alloc: Global) -> Result<Command<'a>, AllocError> {
     let about =
-        "Prints the records of a log, a line each, with its number and the byte where it begins";
+        "Prints the records of a log, or the entries of a part, with their numbers and the bytes where they begin";
     let example = "Example: mtrecover records examples/a.mtl --from 1 --limit 2";
-    let records = of_file(alloc, "records", about, example);
+    let records = of_file(alloc, "records", about, log_or_part(alloc), example);
     let records = taking(records, from(alloc));
     let records = taking(records, limit(alloc));
     let records = taking(records, record_key(alloc));
-    taking(records, at(alloc))
+    let records = taking(records, at(alloc));
+    taking(records, json(alloc))
 }
 
 /// Returns the subcommand `cut`.
@@ -117,7 +118,7 @@ fn cut<'a>(alloc: Global) -> Result<Command<'a>, AllocError> {
          \x20 mtrecover check DIR\n\
          \x20 mtrecover cut DIR/w0.mtl > w0.cut && mv w0.cut DIR/w0.mtl\n\
          \x20 mtrecover report DIR --strict";
-    of_file(alloc, "cut", about, example)
+    of_file(alloc, "cut", about, log(alloc), example)
 }
 
 /// Returns a subcommand that takes one file.
@@ -125,10 +126,11 @@ fn of_file<'a>(
     alloc: Global,
     name: &'a str,
     about: &'a str,
+    file: Arg<'a>,
     example: &'a str,
 ) -> Result<Command<'a>, AllocError> {
     let command = Command::new(alloc, name).about(about).after_help(example);
-    let command = taking(Ok(command), file(alloc));
+    let command = taking(Ok(command), file);
     taking(command, verbose(alloc))
 }
 
@@ -191,9 +193,14 @@ fn folder<'a>(alloc: Global) -> Arg<'a> {
     arg!(in alloc; <DIR> "The folder with the logs (.mtl) and checkpoint parts (.mtc)")
 }
 
-/// Returns the argument that names the file.
-fn file<'a>(alloc: Global) -> Arg<'a> {
+/// Returns the argument that names a log.
+fn log<'a>(alloc: Global) -> Arg<'a> {
     arg!(in alloc; <FILE> "The log (.mtl)")
+}
+
+/// Returns the argument that names a log or a part.
+fn log_or_part<'a>(alloc: Global) -> Arg<'a> {
+    arg!(in alloc; <FILE> "The log (.mtl) or the part (.mtc)")
 }
 
 /// Returns the argument that gives the key.
@@ -259,26 +266,27 @@ fn columns<'a>(alloc: Global) -> Arg<'a> {
         .value_parser(ValueParser::unsigned(0, u64::from(GREATEST_COLUMN)))
 }
 
-/// Returns the option that gives the number of the first record.
+/// Returns the option that gives the number of the first record or entry.
 fn from<'a>(alloc: Global) -> Arg<'a> {
-    arg!(in alloc; --from <N> "Print records from this number on, counted from 0").value_parser(
+    arg!(in alloc; --from <N> "Print from this number on, counted from 0").value_parser(
         ValueParser::unsigned(0, u64::MAX),
     )
 }
 
-/// Returns the option that gives the most records.
+/// Returns the option that gives the most records or entries.
 fn limit<'a>(alloc: Global) -> Arg<'a> {
-    arg!(in alloc; --limit <N> "Print at most this many records").value_parser(
-        ValueParser::unsigned(0, u64::MAX),
-    )
+    arg!(in alloc; --limit <N> "Print at most this many").value_parser(ValueParser::unsigned(
+        0,
+        u64::MAX,
+    ))
 }
 
-/// Returns the option that gives the key of the records.
+/// Returns the option that gives the key of the records or entries.
 fn record_key<'a>(alloc: Global) -> Arg<'a> {
-    arg!(in alloc; --key <KEY> "Print only records of this key, in hexadecimal")
+    arg!(in alloc; --key <KEY> "Print only those of this key, in hexadecimal")
 }
 
-/// Returns the option that gives the byte of the first record.
+/// Returns the option that gives the byte of the first record or entry.
 fn at<'a>(alloc: Global) -> Arg<'a> {
     arg!(in alloc; --at <BYTE> "Read on at this byte, for example after a fault; numbers count from there").value_parser(
         ValueParser::unsigned(0, u64::MAX),

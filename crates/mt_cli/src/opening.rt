@@ -73,9 +73,9 @@ fn open<R: AllocGlobal + Files>(rt: &R, folder: &str, name: &str) -> io::Result<
     File::open(rt, &path)
 }
 
-/// Reads the log of this path. Err: the file cannot be opened or read, has more than `MOST_BYTES` bytes, or out of
+/// Reads the file of this path, as log 0. Err: it cannot be opened or read, has more than `MOST_BYTES` bytes, or out of
 /// memory.
-pub fn read_log_file<'a, R: AllocGlobal + Files>(
+pub fn read_file<'a, R: AllocGlobal + Files>(
     rt: &R,
     path: &'a str,
 ) -> Result<Vec<u8>, Refusal<'a>> {

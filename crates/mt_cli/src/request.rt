@@ -37,12 +37,12 @@ pub enum Query {
     File(FileQuery),
 }
 
-/// A query on the file of a log.
+/// A query on one file.
 #[derive(Debug, Drop)]
 pub enum FileQuery {
-    /// The wanted records, from this byte on, or from the first one on.
+    /// The wanted records of a log, or entries of a part, from this byte on, or from the first one on.
     Records(Selection, Option<u64>),
-    /// The bytes of the header and the complete records.
+    /// The bytes of the header and the complete records of a log.
     Cut,
 }
 

@@ -1,45 +1,88 @@
-//! Where the complete records of a log stop before its bytes do.
+//! Where the complete records of a log, or the entries of a part, stop before its bytes do.
 ghost use Rattle.std.specs.Prelude.{◌≤◌};
 
 use crate::ending::Ending;
-use mt_record::{LogFront, Rest};
+use mt_record::{FOOTER_BYTES, LogFront, Rest, footer_of};
+use mt_recover::Stopped;
 use mt_words::{Format, What};
 use std::fmt::{self, Display, Formatter, Write};
 
-/// Where the complete records of a log stop before its bytes do, and what follows them.
+/// Where the complete records of a log, or the entries of a part, stop before its bytes do, and what follows them.
 #[derive(Clone, Copy, Debug)]
 pub struct Stop {
+    /// What one of them is called.
+    name: &'static str,
     /// The byte where they stop.
     at: usize,
-    /// What is there, if the log was read from its beginning.
+    /// What is there, if the file was read from its beginning.
     reason: Option<Reason>,
     /// The bytes from there on.
     ending: Ending,
 }
 
-/// Why the records of a log stop.
+/// Why records or entries stop.
 #[derive(Clone, Copy, Debug)]
 struct Reason {
-    /// The number of complete records before.
-    record: u64,
-    /// What is wrong with the next one. None: a torn tail.
-    what: Option<What>,
+    /// The number of those before.
+    number: u64,
+    /// What is there in place of the next one.
+    fault: Wrong,
+}
+
+/// What is there in place of a record or an entry.
+#[derive(Clone, Copy, Debug)]
+enum Wrong {
+    /// A torn tail.
+    Torn,
+    /// A record with this fault.
+    Record(What),
+    /// In a part: neither an entry nor just its footer.
+    Broken,
 }
 
 impl Stop {
     /// Returns where the records of these bytes stop. None: nothing follows them.
     pub fn of(front: &LogFront, bytes: &[u8]) -> Option<Stop> {
-        let what = match front.rest {
+        let fault = match front.rest {
             Rest::Nothing => return None,
-            Rest::Torn => None,
-            Rest::Faulty(what) => Some(what),
+            Rest::Torn => Wrong::Torn,
+            Rest::Faulty(what) => Wrong::Record(what),
         };
         let stop = Stop::at(front.head.format, bytes, front.end as usize)?;
-        let record = front.whole;
-        Some(Stop {
-            reason: Some(Reason { record, what }),
-            ..stop
-        })
+        Some(stop.because(front.whole, fault))
+    }
+
+    /// Returns where the entries of a broken part stop, all of which were counted.
+    pub fn of_entries(stopped: &Stopped, bytes: &[u8]) -> Option<Stop> {
+        let rest = bytes.get(stopped.at..)?;
+        Some(Stop::of_part(stopped.at, rest).because(stopped.count, Wrong::Broken))
+    }
+
+    /// Returns that entries stop at this byte. None: no byte follows, or just a footer.
+    pub fn at_entry(bytes: &[u8], at: usize) -> Option<Stop> {
+        let rest = bytes.get(at..)?;
+        if rest.is_empty() || is_footer(rest) {
+            return None;
+        }
+        Some(Stop::of_part(at, rest))
+    }
+
+    /// Returns that entries stop at this byte, before this rest.
+    fn of_part(at: usize, rest: &[u8]) -> Stop {
+        Stop {
+            name: "entry",
+            at,
+            reason: None,
+            ending: Ending::of_part(rest),
+        }
+    }
+
+    /// Returns this stop with a reason: what is there after so many.
+    fn because(self, number: u64, fault: Wrong) -> Stop {
+        Stop {
+            reason: Some(Reason { number, fault }),
+            ..self
+        }
     }
 
     /// Returns that records of this format stop at this byte. None: no byte follows.
@@ -49,30 +92,34 @@ impl Stop {
             return None;
         }
         Some(Stop {
+            name: "record",
             at,
             reason: None,
             ending: Ending::of(format, rest),
         })
     }
 
-    /// Returns the exit status after all records were printed: 1 if a fault follows them, else 4.
+    /// Returns the exit status after all was printed: 1 if a fault follows or the part is broken, else 4.
     pub fn status(&self) -> u8
         ensures { result ≤ 4 }
     {
-        let what = self.reason.and_then(|reason| reason.what);
-        if what.is_some() { 1 } else { 4 }
+        match self.reason.map(|reason| reason.fault) {
+            Some(Wrong::Record(_) | Wrong::Broken) => 1,
+            Some(Wrong::Torn) | None => 4,
+        }
     }
 
-    /// Writes where the records stop, and why.
+    /// Writes where they stop, and why.
     fn write_reason<W: Write>(&self, f: &mut Formatter<W>) -> fmt::Result {
-        let at = self.at;
-        let Some(Reason { record, what }) = self.reason else {
-            return write!(f, "no record at byte {at}");
+        let Stop { name, at, .. } = *self;
+        let Some(Reason { number, fault }) = self.reason else {
+            return write!(f, "no {name} at byte {at}");
         };
-        write!(f, "record {record} at byte {at}: ")?;
-        match what {
-            Some(what) => write!(f, "{what}"),
-            None => f.write_str("torn"),
+        write!(f, "{name} {number} at byte {at}: ")?;
+        match fault {
+            Wrong::Torn => f.write_str("torn"),
+            Wrong::Record(what) => write!(f, "{what}"),
+            Wrong::Broken => f.write_str("broken"),
         }
     }
 
@@ -100,10 +147,15 @@ impl Stop {
     }
 }
 
-/// Writes where the records stop, and what follows.
+/// Writes where they stop, and what follows.
 impl Display for Stop {
     fn fmt<W: Write>(&self, f: &mut Formatter<W>) -> fmt::Result {
         self.write_reason(f)?;
         self.write_ending(f)
     }
+}
+
+/// Returns whether the bytes are the footer of a part, whatever its numbers.
+fn is_footer(bytes: &[u8]) -> bool {
+    bytes.len() == FOOTER_BYTES && footer_of(bytes).is_some()
 }

@@ -12,7 +12,7 @@ use crate::texts::{Text, tell_text};
 use clap::ArgMatches;
 use clap::error::ErrorKind;
 use hex::FromHexError;
-use mt_recover::{Failure, Pieces, Selection, Workers};
+use mt_recover::{Failure, Notation, Pieces, Selection, Workers};
 use mt_words::{Fault, Key};
 use std::alloc::Global;
 use std::io::Write;
@@ -138,7 +138,7 @@ fn read_of_file<'a>(
     })
 }
 
-/// Returns which records to print.
+/// Returns which records or entries to print, and how.
 fn selection(alloc: Global, matches: &ArgMatches<'_>) -> Result<Selection, Failure<'static>> {
     let key = match matches.get_str("key") {
         Some(word) => Some(key_of(alloc, word, false)?),
@@ -148,7 +148,17 @@ fn selection(alloc: Global, matches: &ArgMatches<'_>) -> Result<Selection, Failu
         from: matches.get_one("from").unwrap_or(0),
         limit: matches.get_one("limit").unwrap_or(u64::MAX),
         key,
+        notation: notation(matches),
     })
+}
+
+/// Returns how lines are written.
+fn notation(matches: &ArgMatches<'_>) -> Notation {
+    if matches.get_flag("json") {
+        Notation::Json
+    } else {
+        Notation::Words
+    }
 }
 
 /// Returns a value that the grammar requires. Err: `Words`, if the parser did not find it.

@@ -36,7 +36,7 @@ pub use encode::{encode_log_header, encode_log_header_2, encode_log_header_3, en
 pub use feed::head::{Head, header_at};
 pub use feed::log_feed::LogFeed;
 pub use feed::part_feed::PartFeed;
-pub use feed::part_head::part_header_at;
+pub use feed::part_head::{FOOTER_BYTES, part_header_at};
 pub use front::{LogFront, Rest};
 pub use kept::log::{Dropped, KeptRecords};
 pub use kept::part::KeptEntries;

@@ -5,6 +5,8 @@ pub mod Report
 pub mod Verdict
 pub mod Dump
 pub mod RecordText
+pub mod RecordJson
+pub mod Listing
 pub mod Inputs
 pub mod Check
 pub mod Job

@@ -29,6 +29,7 @@ mod job;
 mod laws;
 mod prepared;
 mod program;
+mod record_json;
 mod record_text;
 mod records;
 mod recovery;
@@ -54,8 +55,9 @@ pub use mt_replay::{Clash, Cuts, MOST_PIECES, Pieces, Place, Window};
 pub use mt_scan::{Choice, LogCheck, PartScan};
 pub use mt_tree::{Hit, Visitor, Wanted};
 pub use program::{MOST_BYTES, MOST_FILES, dump_files};
-pub use record_text::write_head;
-pub use records::{Selection, write_records};
+pub use records::{
+    Notation, Selection, Stopped, write_entries, write_head, write_part_head, write_records,
+};
 pub use recovery::{Inputs, Recovered, recover, recover_logs, recover_one};
 pub use report::Report;
 pub use store::Store;

@@ -1,32 +1,31 @@
-//! The text of records and entries, in the words of case files.
+//! The text of headers, records and entries, in the words of case files.
 ghost use Rattle.std.specs.Prelude.{◌≡◌, ◌++◌, Some, None, OnOk, codes};
 ghost use Rattle.std.specs.List.{flat_map};
 ghost use Rattle.std.specs.Io.KnownBytes.{Appends};
 ghost use Rattle.mt_words.specs.Changes.{IsLoggedChange};
-ghost use Rattle.mt_record.specs.declared.feed.head.Head.{Head as HeadValue};
-ghost use Rattle.mt_recover.specs.RecordText.{change_text, column_words, format_words, head_line, hex_word, number_word, record_line, record_text, set_word, verb};
+ghost use Rattle.mt_recover.specs.RecordText.{placed_at, of_record, of_entry, log_words, part_words, named, place_words, end_words, format_words, words_line, item_words, change_words, time_words, column_words, number_word, hex_word, set_word, verb};
 
 use crate::dump::write_hex;
 use itoa::Buffer;
-use mt_record::Head;
-use mt_words::{Change, Column, Format, Kind, Record};
+use mt_record::{Head, PartHead};
+use mt_words::{Change, Column, Entry, Format, Kind, Record};
 use std::io::{self, Write};
 
 /// Prints the line of a log's header. Err: write error.
-pub fn write_head<W: Write>(head: &Head, out: &mut W) -> io::Result<()>
-    ensures { OnOk result (Appends (W.contents out.old) (W.contents out.new) (head_line head.now)) }
+pub(crate) fn write_log_words<W: Write>(head: &Head, out: &mut W) -> io::Result<()>
+    ensures { OnOk result (Appends (W.contents out.old) (W.contents out.new) (log_words head.now)) }
 {
     out.write_all(b"log from")?;
     write_number(head.from, out)?;
-    write_format(head, out)?;
+    write_format(head.format, head.writer, out)?;
     out.write_all(b"\n")
 }
 
 /// Prints how a header differs from that of format 1.
-fn write_format<W: Write>(head: &Head, out: &mut W) -> io::Result<()>
-    ensures { OnOk result (Appends (W.contents out.old) (W.contents out.new) (format_words head.now.format head.now.writer)) }
+fn write_format<W: Write>(format: Format, writer: Option<(u32, u32)>, out: &mut W) -> io::Result<()>
+    ensures { OnOk result (Appends (W.contents out.old) (W.contents out.new) (format_words format writer)) }
 {
-    match (head.writer, head.format) {
+    match (writer, format) {
         (Some((worker, segment)), _) => {
             out.write_all(b" worker")?;
             write_number(u64::from(worker), out)?;
@@ -38,16 +37,73 @@ fn write_format<W: Write>(head: &Head, out: &mut W) -> io::Result<()>
     }
 }
 
+/// Prints the line of a part's header, and where its checkpoint ends if the part has a footer. Err: write error.
+pub(crate) fn write_part_words<W: Write>(
+    head: &PartHead,
+    end: Option<u64>,
+    out: &mut W,
+) -> io::Result<()>
+    ensures { OnOk result (Appends (W.contents out.old) (W.contents out.new) (part_words head.now end)) }
+{
+    write_place_of_part(head, out)?;
+    write_named(b"from", head.begin, out)?;
+    write_end(end, out)?;
+    write_format(head.format, None, out)?;
+    out.write_all(b"\n")
+}
+
+/// Prints which part it is, and of which checkpoint.
+#[tactic(auto, unfolding(crate::specs::RecordText::place_words))]
+fn write_place_of_part<W: Write>(head: &PartHead, out: &mut W) -> io::Result<()>
+    ensures { OnOk result (Appends (W.contents out.old) (W.contents out.new) (place_words head.now)) }
+{
+    out.write_all(b"part")?;
+    write_number(u64::from(head.part), out)?;
+    write_named(b"of", u64::from(head.parts), out)?;
+    out.write_all(b" of")?;
+    write_named(b"checkpoint", u64::from(head.number), out)
+}
+
+/// Prints where a checkpoint ends, if that is known.
+fn write_end<W: Write>(end: Option<u64>, out: &mut W) -> io::Result<()>
+    ensures { OnOk result (Appends (W.contents out.old) (W.contents out.new) (end_words end)) }
+{
+    match end {
+        Some(end) => write_named(b"to", end, out),
+        None => Ok(()),
+    }
+}
+
 /// Prints the line of a record, with its number and the byte where it begins. Err: write error.
-pub(crate) fn write_record<W: Write>(
+pub(crate) fn write_record_words<W: Write>(
     record: &Record,
     number: u64,
     at: usize,
     out: &mut W,
 ) -> io::Result<()>
-    ensures { OnOk result (Appends (W.contents out.old) (W.contents out.new) (record_line (record { number = number; at = at; logged = «record».now }))) }
+    ensures { OnOk result (Appends (W.contents out.old) (W.contents out.new) (words_line (placed_at number at (of_record «record».now)))) }
 {
-    write_words(record, out)?;
+    write_record_said(record, out)?;
+    write_place(number, at, out)
+}
+
+/// Prints the line of an entry, with its number and the byte where it begins. Err: write error.
+pub(crate) fn write_entry_words<W: Write>(
+    entry: &Entry,
+    number: u64,
+    at: usize,
+    out: &mut W,
+) -> io::Result<()>
+    ensures { OnOk result (Appends (W.contents out.old) (W.contents out.new) (words_line (placed_at number at (of_entry entry.now)))) }
+{
+    write_change(entry.change(), None, out)?;
+    write_place(number, at, out)
+}
+
+/// Prints the end of a line: a number and a byte, after the sign of a comment.
+fn write_place<W: Write>(number: u64, at: usize, out: &mut W) -> io::Result<()>
+    ensures { OnOk result (Appends (W.contents out.old) (W.contents out.new) (codes " #" ++ (number_word number ++ (codes " at" ++ (number_word at ++ codes "\n"))))) }
+{
     out.write_all(b" #")?;
     write_number(number, out)?;
     out.write_all(b" at")?;
@@ -56,8 +112,8 @@ pub(crate) fn write_record<W: Write>(
 }
 
 /// Prints what a record says.
-fn write_words<W: Write>(record: &Record, out: &mut W) -> io::Result<()>
-    ensures { OnOk result (Appends (W.contents out.old) (W.contents out.new) (record_text «record».now)) }
+fn write_record_said<W: Write>(record: &Record, out: &mut W) -> io::Result<()>
+    ensures { OnOk result (Appends (W.contents out.old) (W.contents out.new) (item_words (of_record «record».now))) }
 {
     let timestamp = record.timestamp();
     match record.change() {
@@ -65,19 +121,29 @@ fn write_words<W: Write>(record: &Record, out: &mut W) -> io::Result<()>
             out.write_all(b"mark")?;
             write_number(timestamp, out)
         }
-        Some(change) => write_change(change, timestamp, out),
+        Some(change) => write_change(change, Some(timestamp), out),
     }
 }
 
-/// Prints what a change of a log says.
-fn write_change<W: Write>(change: &Change, timestamp: u64, out: &mut W) -> io::Result<()>
-    ensures { OnOk result (Appends (W.contents out.old) (W.contents out.new) (change_text (number_word timestamp) change.now)) }
+/// Prints what a change says, with its timestamp if it has one.
+fn write_change<W: Write>(change: &Change, timestamp: Option<u64>, out: &mut W) -> io::Result<()>
+    ensures { OnOk result (Appends (W.contents out.old) (W.contents out.new) (change_words timestamp change.now)) }
 {
     out.write_all(verb_of(&change.kind))?;
     write_bytes(change.key.as_bytes(), out)?;
     write_number(change.version, out)?;
-    write_number(timestamp, out)?;
+    write_time(timestamp, out)?;
     write_columns(&change.kind, out)
+}
+
+/// Prints a timestamp, if there is one.
+fn write_time<W: Write>(timestamp: Option<u64>, out: &mut W) -> io::Result<()>
+    ensures { OnOk result (Appends (W.contents out.old) (W.contents out.new) (time_words timestamp)) }
+{
+    match timestamp {
+        Some(timestamp) => write_number(timestamp, out),
+        None => Ok(()),
+    }
 }
 
 /// Returns what a change does, as a word and a space.
@@ -138,6 +204,16 @@ fn write_bytes<W: Write>(bytes: &[u8], out: &mut W) -> io::Result<()>
 {
     out.write_all(b"0x")?;
     write_hex(bytes, out)
+}
+
+/// Prints a space, a word, and a number.
+#[tactic(auto, unfolding(crate::specs::RecordText::named))]
+fn write_named<W: Write>(word: &[u8], number: u64, out: &mut W) -> io::Result<()>
+    ensures { OnOk result (Appends (W.contents out.old) (W.contents out.new) (named word.now number)) }
+{
+    out.write_all(b" ")?;
+    out.write_all(word)?;
+    write_number(number, out)
 }
 
 /// Prints a space and a number.

@@ -1,39 +1,70 @@
-//! Prints the records of a log whose bytes are in memory.
-ghost use Rattle.std.specs.Prelude.{◌≡◌, ◌≤◌, ◌++◌, ◌∷◌, [], List, ℕ, length, filter, IfOk, OnOk};
+//! Prints the records of a log, or the entries of a part, whose bytes are in memory.
+ghost use Rattle.std.specs.Prelude.{◌≡◌, ◌≤◌, ◌∷◌, [], length, filter, IfOk, OnOk};
 ghost use Rattle.std.specs.List.{flat_map};
 ghost use Rattle.std.specs.Io.KnownBytes.{Appends};
 ghost use Rattle.mt_words.specs.Limits.{limits_of};
-ghost use Rattle.mt_recover.specs.RecordText.{ArePrinted, has_key, is_wanted, record_line};
+ghost use Rattle.mt_recover.specs.RecordText.{placed_at, of_record, of_entry};
+ghost use Rattle.mt_recover.specs.Listing.{ArePrinted, EntriesArePrinted, has_key, is_wanted, line, head_line, part_line};
 
 use crate::failure::Failure;
-use crate::record_text::write_record;
-use mt_record::record_at;
-use mt_words::{Format, Key, Record};
+use crate::record_json::{write_entry_json, write_log_json, write_part_json, write_record_json};
+use crate::record_text::{
+    write_entry_words, write_log_words, write_part_words, write_record_words,
+};
+use mt_record::{Head, PartHead, entry_at, record_at};
+use mt_words::{Entry, Format, Key, Record};
 use std::alloc::Global;
 use std::io::{self, Write};
 
-/// Which records of a log are printed.
+/// How lines are written.
+#[derive(Clone, Copy, Debug)]
+pub enum Notation {
+    /// In the words of case files.
+    Words,
+    /// As JSON, an object a line.
+    Json,
+}
+
+/// Which records of a log, or entries of a part, are printed, and how.
 #[derive(Debug, Drop)]
 pub struct Selection {
     /// The number of the first one, counted from 0.
     pub from: u64,
     /// The most that are printed.
     pub limit: u64,
-    /// Only records that change this key, if there is one.
+    /// Only those that change this key, if there is one.
     pub key: Option<Key>,
+    /// How each line is written.
+    pub notation: Notation,
 }
 
 impl Selection {
     /// Returns whether the record with this number is wanted.
-    fn wants(&self, number: u64, at: usize, record: &Record) -> bool
-        ensures { result ≡ is_wanted self.now (record { number = number; at = at; logged = «record».now }) }
+    fn wants_record(&self, number: u64, at: usize, record: &Record) -> bool
+        ensures { result ≡ is_wanted self.now (placed_at number at (of_record «record».now)) }
     {
-        number >= self.from && changes(record, &self.key)
+        number >= self.from && record_has_key(record, &self.key)
+    }
+
+    /// Returns whether the entry with this number is wanted.
+    fn wants_entry(&self, number: u64, at: usize, entry: &Entry) -> bool
+        ensures { result ≡ is_wanted self.now (placed_at number at (of_entry entry.now)) }
+    {
+        number >= self.from && entry_has_key(entry, &self.key)
     }
 }
 
+/// Where records or entries stop.
+#[derive(Clone, Copy, Debug)]
+pub struct Stopped {
+    /// The byte where no further one follows.
+    pub at: usize,
+    /// The number of those before it.
+    pub count: u64,
+}
+
 /// Returns whether the record changes this key, if there is one.
-fn changes(record: &Record, key: &Option<Key>) -> bool
+fn record_has_key(record: &Record, key: &Option<Key>) -> bool
     ensures { result ≡ has_key key.now «record».now.change }
 {
     match (key, record.change()) {
@@ -43,8 +74,43 @@ fn changes(record: &Record, key: &Option<Key>) -> bool
     }
 }
 
-/// Prints the wanted records of this format from byte `start` on, each on a line. Returns the byte where no record
-/// follows, or None if it stopped at the limit. Err: write error, or out of memory.
+/// Returns whether the entry has this key, if there is one.
+fn entry_has_key(entry: &Entry, key: &Option<Key>) -> bool
+    ensures { result ≡ has_key key.now (of_entry entry.now).change }
+{
+    match key {
+        None => true,
+        Some(key) => entry.change().key.as_bytes() == key.as_bytes(),
+    }
+}
+
+/// Prints the line of a log's header. Err: write error.
+pub fn write_head<W: Write>(head: &Head, notation: Notation, out: &mut W) -> io::Result<()>
+    ensures { OnOk result (Appends (W.contents out.old) (W.contents out.new) (head_line notation head.now)) }
+{
+    match notation {
+        Notation::Words => write_log_words(head, out),
+        Notation::Json => write_log_json(head, out),
+    }
+}
+
+/// Prints the line of a part's header, and where its checkpoint ends if the part has a footer. Err: write error.
+pub fn write_part_head<W: Write>(
+    head: &PartHead,
+    end: Option<u64>,
+    notation: Notation,
+    out: &mut W,
+) -> io::Result<()>
+    ensures { OnOk result (Appends (W.contents out.old) (W.contents out.new) (part_line notation head.now end)) }
+{
+    match notation {
+        Notation::Words => write_part_words(head, end, out),
+        Notation::Json => write_part_json(head, end, out),
+    }
+}
+
+/// Prints the wanted records of this format from byte `start` on, each on a line. Returns where no record follows, or
+/// None if it stopped at the limit. Err: write error, or out of memory.
 pub fn write_records<W: Write>(
     alloc: Global,
     format: Format,
@@ -52,7 +118,7 @@ pub fn write_records<W: Write>(
     start: usize,
     selection: &Selection,
     out: &mut W,
-) -> Result<Option<usize>, Failure<'static>>
+) -> Result<Option<Stopped>, Failure<'static>>
     requires { start ≤ length bytes.now }
     ensures { IfOk result (λ stopped. ArePrinted (limits_of format) selection.now bytes.now start stopped (W.contents out.old) (W.contents out.new)) }
 {
@@ -61,11 +127,11 @@ pub fn write_records<W: Write>(
     let mut number = 0;
     let mut left = selection.limit;
     while left > 0 {
-        let Some((record, after)) = record_at(alloc, format, latest, rest)? else {
-            return Ok(Some(bytes.len() - rest.len()));
-        };
         let at = bytes.len() - rest.len();
-        left -= write_wanted(&record, number, at, selection, out)?;
+        let Some((record, after)) = record_at(alloc, format, latest, rest)? else {
+            return Ok(Some(Stopped { at, count: number }));
+        };
+        left -= write_record(&record, number, at, selection, out)?;
         latest = record.timestamp();
         number += 1;
         rest = after;
@@ -73,20 +139,71 @@ pub fn write_records<W: Write>(
     Ok(None)
 }
 
+/// Does as `write_records`, but with the entries of a part of this format.
+pub fn write_entries<W: Write>(
+    alloc: Global,
+    format: Format,
+    bytes: &[u8],
+    start: usize,
+    selection: &Selection,
+    out: &mut W,
+) -> Result<Option<Stopped>, Failure<'static>>
+    requires { start ≤ length bytes.now }
+    ensures { IfOk result (λ stopped. EntriesArePrinted (limits_of format) selection.now bytes.now start stopped (W.contents out.old) (W.contents out.new)) }
+{
+    let mut rest = &bytes[start..];
+    let mut number = 0;
+    let mut left = selection.limit;
+    while left > 0 {
+        let at = bytes.len() - rest.len();
+        let Some((entry, after)) = entry_at(alloc, format, rest)? else {
+            return Ok(Some(Stopped { at, count: number }));
+        };
+        left -= write_entry(&entry, number, at, selection, out)?;
+        number += 1;
+        rest = after;
+    }
+    Ok(None)
+}
+
 /// Prints a record if it is wanted. Returns how many lines that is.
-fn write_wanted<W: Write>(
+fn write_record<W: Write>(
     record: &Record,
     number: u64,
     at: usize,
     selection: &Selection,
     out: &mut W,
 ) -> io::Result<u64>
-    ensures count { IfOk result (λ count. count ≡ length (filter (is_wanted selection.now) (record { number = number; at = at; logged = «record».now } ∷ []))) }
-    ensures printed { OnOk result (Appends (W.contents out.old) (W.contents out.new) (flat_map record_line (filter (is_wanted selection.now) (record { number = number; at = at; logged = «record».now } ∷ [])))) }
+    ensures count { IfOk result (λ count. count ≡ length (filter (is_wanted selection.now) (placed_at number at (of_record «record».now) ∷ []))) }
+    ensures printed { OnOk result (Appends (W.contents out.old) (W.contents out.new) (flat_map (line selection.now.notation) (filter (is_wanted selection.now) (placed_at number at (of_record «record».now) ∷ [])))) }
 {
-    if !selection.wants(number, at, record) {
+    if !selection.wants_record(number, at, record) {
         return Ok(0);
     }
-    write_record(record, number, at, out)?;
+    match selection.notation {
+        Notation::Words => write_record_words(record, number, at, out)?,
+        Notation::Json => write_record_json(record, number, at, out)?,
+    }
+    Ok(1)
+}
+
+/// Prints an entry if it is wanted. Returns how many lines that is.
+fn write_entry<W: Write>(
+    entry: &Entry,
+    number: u64,
+    at: usize,
+    selection: &Selection,
+    out: &mut W,
+) -> io::Result<u64>
+    ensures count { IfOk result (λ count. count ≡ length (filter (is_wanted selection.now) (placed_at number at (of_entry entry.now) ∷ []))) }
+    ensures printed { OnOk result (Appends (W.contents out.old) (W.contents out.new) (flat_map (line selection.now.notation) (filter (is_wanted selection.now) (placed_at number at (of_entry entry.now) ∷ [])))) }
+{
+    if !selection.wants_entry(number, at, entry) {
+        return Ok(0);
+    }
+    match selection.notation {
+        Notation::Words => write_entry_words(entry, number, at, out)?,
+        Notation::Json => write_entry_json(entry, number, at, out)?,
+    }
     Ok(1)
 }
