@@ -149,7 +149,7 @@ impl Run {
 
     /// Runs `mtrecover` on these logs and parts in place of a folder, with buffers of this size. Err if a buffer is not
     /// back in its slot afterwards.
-    pub fn end_on<R: AllocGlobal + Threads + Sync>(
+    pub fn end_on<R: AllocGlobal + Files + Threads + Sync>(
         &self,
         rt: &R,
         drafts: &[Draft],

@@ -3,6 +3,7 @@ ghost use Rattle.std.specs.Prelude.{◌≤◌};
 
 use crate::caveat::{Caveat, Losses};
 use crate::clashes::write_clash;
+use crate::explaining::with_reason;
 use crate::failure::tell;
 use crate::file_names::Names;
 use crate::form::Form;
@@ -17,6 +18,7 @@ use mt_recover::{
 use mt_scan::Source;
 use mt_words::Key;
 use std::alloc::Global;
+use std::fs::Files;
 use std::io::{self, BufWriter, Write};
 use std::mem;
 use std::thread::Threads;
@@ -24,7 +26,7 @@ use std::thread::Threads;
 /// Answers the command's query from the sources, and returns the exit status: 0 if the answer was printed, 4 if it was
 /// with a caveat. On a failure, prints its line on `err` and returns its status. `names` are the files that the sources
 /// are of, for a second line. The output is buffered.
-pub fn answer<R: AllocGlobal + Threads + Sync, S: Source + Send, O: Write, E: Write>(
+pub fn answer<R: AllocGlobal + Files + Threads + Sync, S: Source + Send, O: Write, E: Write>(
     rt: &R,
     command: &Command<'_>,
     names: &Names,
@@ -37,7 +39,10 @@ pub fn answer<R: AllocGlobal + Threads + Sync, S: Source + Send, O: Write, E: Wr
     match answer_query(rt, command, inputs, out) {
         Ok(None) => 0,
         Ok(Some(caveat)) => caveat.tell(err),
-        Err(refusal) => tell(&refusal, command.explaining(names), err),
+        Err(refusal) => {
+            let refusal = with_reason(rt, command.folder, names, refusal);
+            tell(&refusal, command.explaining(names), err)
+        }
     }
 }
 

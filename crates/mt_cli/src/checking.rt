@@ -5,6 +5,7 @@ use crate::answering::PRINTED_AT_ONCE;
 use crate::caveat::Caveat;
 use crate::checked::{Checked, Sizes};
 use crate::ending::Ending;
+use crate::explaining::with_reason;
 use crate::failure::tell;
 use crate::fates::PartState;
 use crate::file_names::Names;
@@ -38,7 +39,10 @@ where
     match check_and_print(rt, command, is_json, names, out) {
         Ok(None) => 0,
         Ok(Some(caveat)) => caveat.tell(err),
-        Err(refusal) => tell(&refusal, command.explaining(names), err),
+        Err(refusal) => {
+            let refusal = with_reason(rt, command.folder, names, refusal);
+            tell(&refusal, command.explaining(names), err)
+        }
     }
 }
 

@@ -1,8 +1,10 @@
 //! The second line of a failure: which file it names, what the system says, and what to try.
 use crate::file_names::Names;
+use crate::opening::why_unread;
 use crate::refusal::Refusal;
 use mt_recover::Failure;
 use mt_words::Fault;
+use std::fs::Files;
 use std::io::{self, Write};
 
 /// Prints the second line of a failure: the name of the file with the fault, if these names have it; the reason that the
@@ -15,6 +17,26 @@ pub fn explain<E: Write>(refusal: &Refusal<'_>, names: &Names, err: &mut E) -> i
         write!(err, "reason: {reason}; ")?;
     }
     writeln!(err, "try: {}", advice(&refusal.failure))
+}
+
+/// Gives a failure of a source the reason that its file shows now.
+pub fn with_reason<'a, R: AllocGlobal + Files>(
+    rt: &R,
+    folder: &str,
+    names: &Names,
+    refusal: Refusal<'a>,
+) -> Refusal<'a> {
+    let unread = match &refusal.failure {
+        Failure::Recovery(Fault::Source { log }) => names.logs.get(*log),
+        Failure::Recovery(Fault::PartSource { part }) => names.parts.get(*part),
+        _ => None,
+    };
+    let Some(name) = unread else {
+        return refusal;
+    };
+    let reason = why_unread(rt, folder, name.as_str());
+    let Refusal { failure, .. } = refusal;
+    Refusal { failure, reason }
 }
 
 /// Returns the name of the file that has the fault.
@@ -53,7 +75,7 @@ fn advice(failure: &Failure<'_>) -> &'static str {
 /// Returns what to try after a fault.
 fn advice_on(fault: &Fault) -> &'static str {
     match fault {
-        Fault::NoLogs => "name the folder that has the .mtl files",
+        Fault::NoLogs => "name the folder that has the .mtl files, whose endings are in lower case",
         Fault::Header { .. } => "put a good copy back, or move the file away if it is no log",
         Fault::Record { .. } => "put a good copy back",
         Fault::Source { .. } | Fault::PartSource { .. } => {

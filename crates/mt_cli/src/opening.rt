@@ -6,7 +6,7 @@ use mt_scan::{LONGEST_BUFFER, Rack, ReaderSource, Slot};
 use mt_words::Fault;
 use std::alloc::Global;
 use std::fs::{self, File, Files, OpenFile};
-use std::io::{self, Read, Seek, SeekFrom};
+use std::io::{self, ErrorKind, Read, Seek, SeekFrom};
 use std::path::Path;
 
 /// The bytes that the buffers of many files share. Up to 128 files have buffers of `LONGEST_BUFFER` each.
@@ -104,4 +104,15 @@ pub fn size_of<R: AllocGlobal + Files>(rt: &R, folder: &str, name: &str) -> Opti
     let path = Path::new(folder).join(rt.alloc(), name).ok()?;
     let metadata = fs::metadata(rt, &path).ok()?;
     metadata.is_file().then_some(metadata.len())
+}
+
+/// Returns why the file of this name in the folder cannot be read as a whole: it is a folder, or it has more than
+/// `MOST_BYTES` bytes. None: neither, or the system does not tell.
+pub fn why_unread<R: AllocGlobal + Files>(rt: &R, folder: &str, name: &str) -> Option<io::Error> {
+    let path = Path::new(folder).join(rt.alloc(), name).ok()?;
+    let metadata = fs::metadata(rt, &path).ok()?;
+    if metadata.is_dir() {
+        return Some(ErrorKind::IsADirectory.into());
+    }
+    (metadata.len() > MOST_BYTES).then(|| ErrorKind::FileTooLarge.into())
 }
