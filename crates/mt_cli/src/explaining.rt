@@ -8,7 +8,7 @@ use std::fs::Files;
 use std::io::{self, Write};
 
 /// Prints the second line of a failure: the name of the file with the fault, if these names have it; the reason that the
-/// system gave, if it gave one; and what to try.
+/// system gave, if it gave one; and what to try. Err: write error.
 pub fn explain<E: Write>(refusal: &Refusal<'_>, names: &Names, err: &mut E) -> io::Result<()> {
     if let Some(name) = file_of(&refusal.failure, names) {
         write!(err, "file: {name}; ")?;

@@ -15,7 +15,7 @@ const SHARED_BYTES: usize = 8 << 20;
 /// The size of the shortest buffers. Shorter ones would take many more reads.
 const SHORTEST_BUFFER: usize = 16_384;
 
-/// Creates a rack with a buffer for each file.
+/// Creates a rack with a buffer for each file. Err: out of memory.
 pub fn rack_of<R: AllocGlobal>(rt: &R, names: &Names) -> Result<Rack, Refusal<'static>> {
     let count = names.logs.len().saturating_add(names.parts.len());
     let share = SHARED_BYTES / count.max(1);

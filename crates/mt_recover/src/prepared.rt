@@ -57,7 +57,7 @@ impl Model for Prepared {
 }
 
 impl Prepared {
-    /// Prepares what was found, on one thread.
+    /// Prepares what was found, on one thread. Err: out of memory.
     pub fn on_one_thread(alloc: Global, found: Found) -> Result<Prepared, Memory>
         requires { IsFound found }
         ensures { (logs parts : List (List ℕ)) → IsFoundOf logs parts found → IfOk result (IsPreparedOf logs parts) }
@@ -74,7 +74,7 @@ impl Prepared {
         Prepared::of(alloc, counts, logs, chosen)
     }
 
-    /// Does the same as `on_one_thread`, but with these workers.
+    /// Does the same as `on_one_thread`, but with these workers. Err: out of memory.
     pub fn by_workers<R: Threads + Sync>(
         rt: &R,
         alloc: Global,
@@ -123,7 +123,7 @@ impl Prepared {
         })
     }
 
-    /// Replays a piece into a draft of its own.
+    /// Replays a piece into a draft of its own. Err: out of memory.
     pub fn replay(&self, alloc: Global, cuts: &Cuts, piece: u32) -> Result<Draft, Memory>
         requires { piece < length cuts.now + 1 }
         ensures { IfOk result (λ draft. IsPiece self.now.updates cuts.now piece (layer_walk draft)) }
@@ -132,6 +132,7 @@ impl Prepared {
     }
 
     /// Makes the store from its draft, and the report. The draft must have the walk of the survivors.
+    /// Err: out of memory.
     pub fn finish(self, draft: Draft) -> Result<Recovered, Memory>
         requires { IsWalk self.updates (layer_walk draft) }
         ensures { IfOk result (IsMadeOf self) }

@@ -139,7 +139,7 @@ pub fn write_records<W: Write>(
     Ok(None)
 }
 
-/// Does as `write_records`, but with the entries of a part of this format.
+/// Does as `write_records`, but with the entries of a part of this format. Err: write error, or out of memory.
 pub fn write_entries<W: Write>(
     alloc: Global,
     format: Format,

@@ -16,7 +16,7 @@ pub(crate) struct BatchSurvivors {
 }
 
 impl BatchSurvivors {
-    /// Collects the surviving updates of the batch.
+    /// Collects the surviving updates of the batch. Err: out of memory.
     pub fn of(alloc: Global, batch: &Batch<'_>, window: Window) -> Result<BatchSurvivors, Memory>
         ensures { IfOk result (IsLeftBy window batch.now.updates) }
     {
