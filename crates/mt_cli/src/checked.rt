@@ -107,7 +107,7 @@ impl Checked {
         let ending = self.endings.get(log).copied().flatten();
         match self.logs.get(log) {
             Some(Ok(check)) => write_check(check, ending, self.start.is_ok(), &mut line)?,
-            Some(Err(Fault::Header { .. })) => line.word("state", "header")?,
+            Some(Err(Fault::Header { .. })) => write_headless(ending, &mut line)?,
             _ => line.word("state", "unread")?,
         }
         line.end()
@@ -207,6 +207,20 @@ fn write_check<W: Write>(
     write_format(check.front.head, line)
 }
 
+/// Prints that a log has no header, and what its bytes are.
+fn write_headless<W: Write>(ending: Option<Ending>, line: &mut Fields<'_, W>) -> io::Result<()> {
+    line.word("state", "header")?;
+    write_ending(ending, line)
+}
+
+/// Prints what follows, if that is known.
+fn write_ending<W: Write>(ending: Option<Ending>, line: &mut Fields<'_, W>) -> io::Result<()> {
+    match ending {
+        Some(ending) => ending.write(line),
+        None => Ok(()),
+    }
+}
+
 /// Prints how far bytes are a log, and what follows.
 fn write_front<W: Write>(
     front: &LogFront,
@@ -219,9 +233,7 @@ fn write_front<W: Write>(
         Rest::Faulty(what) => line.word("state", what)?,
     }
     line.number("end", front.end)?;
-    if let Some(ending) = ending {
-        ending.write(line)?;
-    }
+    write_ending(ending, line)?;
     line.number("records", front.whole)
 }
 

@@ -15,7 +15,7 @@ use crate::request::Command;
 use mt_record::Rest;
 use mt_recover::{LogCheck, PartScan, check_logs, check_parts, start_of};
 use mt_scan::Slot;
-use mt_words::{Fault, Memory};
+use mt_words::{Fault, Format, Memory};
 use std::alloc::{AllocError, Global};
 use std::fs::Files;
 use std::io::{BufWriter, Write};
@@ -157,7 +157,8 @@ fn fault_of(alloc: Global, log: usize, check: &Result<LogCheck, Fault>) -> Optio
     }
 }
 
-/// Reads what follows the complete records of each log. None: nothing does, or the file cannot be read again.
+/// Reads what follows the header and the complete records of each log. None: nothing does, or the file cannot be read
+/// again.
 fn read_endings<R: AllocGlobal + Files>(
     rt: &R,
     folder: &str,
@@ -167,11 +168,7 @@ fn read_endings<R: AllocGlobal + Files>(
 ) -> Result<Vec<Option<Ending>>, Memory> {
     let mut endings = Vec::with_capacity(rt.alloc(), names.len())?;
     for ((name, check), slot) in names.iter().zip(checks).zip(slots) {
-        let ending = match check {
-            Ok(check) => read_ending(rt, folder, name.as_str(), check, slot)?,
-            Err(_) => None,
-        };
-        endings.push(ending)?;
+        endings.push(read_ending(rt, folder, name.as_str(), check, slot)?)?;
     }
     Ok(endings)
 }
@@ -181,15 +178,28 @@ fn read_ending<R: AllocGlobal + Files>(
     rt: &R,
     folder: &str,
     name: &str,
-    check: &LogCheck,
+    check: &Result<LogCheck, Fault>,
     slot: &mut Slot,
 ) -> Result<Option<Ending>, Memory> {
-    if check.front.rest == Rest::Nothing {
+    let Some((start, format)) = rest_of(check) else {
         return Ok(None);
-    }
-    match open_rest(rt, folder, name, check.front.end, slot) {
-        Some(mut source) => Ending::of_source(rt.alloc(), check.front.head.format, &mut source),
+    };
+    match open_rest(rt, folder, name, start, slot) {
+        Some(mut source) => Ending::of_source(rt.alloc(), format, &mut source),
         None => Ok(None),
+    }
+}
+
+/// Returns where the bytes begin that follow the complete records of a log, and their format. None: there are none.
+fn rest_of(check: &Result<LogCheck, Fault>) -> Option<(u64, Format)> {
+    match check {
+        Ok(check) => {
+            let front = check.front;
+            (front.rest != Rest::Nothing).then_some((front.end, front.head.format))
+        }
+        // Without a header all bytes are left. The wider format has the records of both.
+        Err(Fault::Header { .. }) => Some((0, Format::Two)),
+        Err(_) => None,
     }
 }
 
