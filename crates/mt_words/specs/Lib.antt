@@ -6,3 +6,4 @@ pub mod Stamps
 pub mod Updates
 pub mod Walks
 pub mod Slices
+pub mod Faults

@@ -1,4 +1,7 @@
 //! Faults: the reasons why there is no store.
+ghost use Rattle.std.specs.Prelude.{◌≡◌};
+ghost use Rattle.mt_words.specs.Faults.{number_of};
+
 use std::alloc::{AllocError, AllocFailed};
 use thiserror::Error;
 
@@ -49,7 +52,8 @@ pub enum What {
     Clock,
 }
 
-/// The reason why there is no store. Logs, parts, records and pieces count from 0.
+/// The reason why there is no store. The variants stand in the order of their numbers, from 1 on (`number`); the order
+/// of refusals is that of `recover_one`. Logs, parts, records and pieces count from 0.
 #[derive(Clone, Copy, Debug, PartialEq, Eq, Error)]
 pub enum Fault {
     /// No log was given.
@@ -64,12 +68,6 @@ pub enum Fault {
     /// Reading the log from its source failed.
     #[error("log {log}: source failed")]
     Source { log: usize },
-    /// The log is the same segment of the same worker's log as a log before it.
-    #[error("log {log}: doubled")]
-    Doubled { log: usize },
-    /// The log has a torn tail, but a later segment of its worker's log is there.
-    #[error("log {log}: torn")]
-    Torn { log: usize },
     /// Reading the checkpoint part from its source failed.
     #[error("part {part}: source failed")]
     PartSource { part: usize },
@@ -82,6 +80,32 @@ pub enum Fault {
     /// Out of memory: an allocation failed.
     #[error("no memory")]
     Memory,
+    /// The log is the same segment of the same worker's log as a log before it.
+    #[error("log {log}: doubled")]
+    Doubled { log: usize },
+    /// The log has a torn tail, but a later segment of its worker's log is there.
+    #[error("log {log}: torn")]
+    Torn { log: usize },
+}
+
+impl Fault {
+    /// Returns the number of the fault, by which programs in other languages know it.
+    pub fn number(&self) -> u8
+        ensures { result ≡ number_of self.now }
+    {
+        match self {
+            Fault::NoLogs => 1,
+            Fault::Header { .. } => 2,
+            Fault::Record { .. } => 3,
+            Fault::Source { .. } => 4,
+            Fault::PartSource { .. } => 5,
+            Fault::Gap { .. } => 6,
+            Fault::Missing { .. } => 7,
+            Fault::Memory => 8,
+            Fault::Doubled { .. } => 9,
+            Fault::Torn { .. } => 10,
+        }
+    }
 }
 
 impl From<Memory> for Fault {
