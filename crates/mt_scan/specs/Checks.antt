@@ -1,5 +1,7 @@
 -- What a check finds in a log: its numbers, without its records.
 use Rattle.std.specs.Prelude.{◌≡◌, ℕ, ◌&&◌, Bool, not, nat_le, List, length, filter}
+use Rattle.mt_words.specs.declared.fault.Fault.{Fault}
+use Rattle.mt_words.specs.declared.fault.Fault.TheVariants as faults
 use Rattle.mt_words.specs.Changes.{Logged, is_mark}
 use Rattle.mt_record.specs.LogFronts.{IsFrontOf}
 use Rattle.mt_scan.specs.declared.checking.LogCheck.{LogCheck}
@@ -15,3 +17,8 @@ pub record IsCheckOf (limit : ℕ) (bytes : List ℕ) (check : LogCheck) : Type 
   pub whole : check.front.whole ≡ length records
   pub marks : check.marks ≡ length (filter is_mark records)
   pub late : check.late ≡ length (filter (is_late limit) records)
+
+-- the fault is one of a record, in the log with this number
+abbrev pub IsOfARecord : ℕ → Fault → Type 0
+IsOfARecord number (faults.Record log nth what) = log ≡ number
+IsOfARecord number fault = ⊥

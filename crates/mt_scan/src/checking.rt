@@ -2,7 +2,7 @@
 //! memory than a chunk.
 ghost use Rattle.std.specs.Prelude.{◌≡◌, ◌+◌, ◌^◌, ◌-◌, [], List, ℕ, min, IfOk, IfErr, IsTrue};
 ghost use Rattle.mt_scan.specs.Scans.{IsLogVerdict, IsScanFault, OfTold, failures_of};
-ghost use Rattle.mt_scan.specs.Checks.{IsCheckOf};
+ghost use Rattle.mt_scan.specs.Checks.{IsCheckOf, IsOfARecord};
 ghost use Rattle.mt_scan.specs.Dropping.{HasAllBelow};
 ghost use Rattle.mt_scan.specs.Steps.Checking.{HasCounted, Counts};
 
@@ -25,11 +25,12 @@ pub struct LogCheck {
 }
 
 impl LogCheck {
-    /// Returns the scan of the log with this number, without its updates: as if all had been dropped. Err: the fault
-    /// after its records.
+    /// Returns the scan of the log with this number, without its updates: as if all had been dropped. Allocates nothing.
+    /// Err: the fault of the record after its complete records.
     pub fn scan(&self, alloc: Global, log: usize) -> Result<LogScan, Fault>
         ensures scan { (limit : ℕ) (bytes : List ℕ) → IsCheckOf limit bytes self.now → IfOk result (HasAllBelow 0 log bytes) }
         ensures fault { (limit : ℕ) (bytes : List ℕ) → IsCheckOf limit bytes self.now → IfErr result (IsScanFault log bytes) }
+        ensures record { IfErr result (IsOfARecord log) }
         ensures no_source { failures_of result ≡ 0 }
     {
         let LogFront {
