@@ -1,5 +1,5 @@
 //! Slots: places for the buffers that sources borrow.
-ghost use Rattle.std.specs.Prelude.{◌≡◌, ◌≤◌, ◌↔◌, [], All, IfOk, IfSome, IsTrue, IsSome, Some, length};
+ghost use Rattle.std.specs.Prelude.{◌≡◌, ◌≤◌, ◌↔◌, [], All, IfOk, IfSome, IfNone, IsTrue, IsSome, Some, length};
 ghost use Rattle.std.specs.Borrow.{sem};
 ghost use Rattle.mt_scan.specs.declared.slot.TheConstants.{LONGEST_BUFFER};
 ghost use Rattle.mt_scan.specs.Sources.{HoldsBufferOf};
@@ -47,11 +47,12 @@ impl<B: Drop> Slot<B> {
 }
 
 impl Slot {
-    /// Takes the buffer out of the slot and clears it. Returns None if the slot is empty.
+    /// Takes the buffer out of the slot and clears it. Returns None, and changes nothing, if the slot is empty.
     pub(crate) fn take_out(&mut self) -> Option<Buffer>
         ensures variant { IsSome result ↔ IsSome self.old }
         ensures shown { IfSome result (λ buffer. buffer.shown ≡ []) }
         ensures size { IfSome result (λ buffer. HoldsBufferOf buffer.size self.old) }
+        ensures unchanged { IfNone result (self.new ≡ self.old) }
     {
         let mut buffer = self.buffer.take()?;
         buffer.clear();
