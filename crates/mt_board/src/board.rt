@@ -131,9 +131,10 @@ impl Board {
             .fetch_min::<Note>(&mut pass.seat, LEAST, number);
     }
 
-    /// Returns the least number that any pass noted so far, or `u64::MAX` if none did. It is read in one atomic step.
+    /// Looks at the board's least number, in one atomic step, and returns it.
     ///
-    /// Numbers that other passes note later may lower the least number. It never rises.
+    /// It is at most what this pass noted and what its earlier looks found, and at least what `close` returns. How much
+    /// it has of what other passes noted, no contract says.
     pub fn least(&self, pass: &mut Pass) -> u64
         requires { pass.old.board ≡ self.now }
         ensures pass { pass.new ≡ record pass.old { looks = pass.old.looks ++ result ∷ [] } }

@@ -1,7 +1,7 @@
 //! A board from which threads draw work, and on which they share the least number that any of them noted.
 //!
 //! A `Board` gives out the numbers below a total, each once, in rising order. The holder of a `Pass` of the board may
-//! `claim` the next number, `note` a number of its own, and ask for the `least` number noted so far. Each of these is
+//! `claim` the next number, `note` a number of its own, and look at the board's `least` number. Each of these is
 //! one atomic step through a `&Board`: no call waits for another thread. `Board::close` takes all passes back, and its
 //! contract says what they did together, however the threads' steps were interleaved. `Closed` has the least number
 //! noted.
