@@ -1,7 +1,6 @@
-use Rattle.std.proofs.Common.{ℕ, List, refl, ◌∙◌, subst}
+use Rattle.std.proofs.Common.{ℕ, refl, ◌∙◌, subst}
 use Rattle.std.proofs.lemmas.Result.{IfOk-weaker}
 use Rattle.mt_scan.specs.Checks.{IsCheckOf}
-use Rattle.mt_scan.specs.declared.checking.LogCheck.{LogCheck}
 use Rattle.mt_scan.proofs.Telling.{some_bytes}
 use Rattle.mt_scan.proofs.Steps.{faulty}
 use Rattle.mt_scan.proofs.checking.check_log.Goals as goal

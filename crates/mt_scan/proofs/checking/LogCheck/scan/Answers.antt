@@ -1,5 +1,4 @@
-use Rattle.std.proofs.Common.{◌∙◌, inl, inr, subst, sym, ap}
-use Rattle.mt_words.specs.Updates.{Kept}
+use Rattle.std.proofs.Common.{inl, inr}
 use Rattle.mt_scan.proofs.CheckLemmas.{scan_of_check}
 use Rattle.mt_scan.proofs.checking.LogCheck.scan.Goals as goal
 use Rattle.mt_scan.proofs.checking.LogCheck.scan.Goals.{in-Nothing, in-Torn}
