@@ -21,9 +21,9 @@ fn updates_at<R: Abort + AllocGlobal>(rt: &R, log: &[u8], position: usize) -> Ve
 #[test]
 fn a_cell_has_what_its_update_leaves(rt: HostRuntime) {
     let last = updates_of(&rt, LOG_OF_THREE).pop();
-    let mut cell = Cell::empty();
+    let mut cell = Cell::empty(rt.alloc());
     cell.apply(last.expect(&rt, "an update"));
-    let columns = cell.columns(rt.alloc()).expect(&rt, "memory");
+    let columns = cell.columns().expect(&rt, "memory");
     assert_same(&rt, &columns.get(0), &Some(b"3".as_slice()));
 }
 

@@ -16,6 +16,7 @@ use std::marker::Model;
 /// cell does not allocate. The bytes of the writes are moved.
 #[derive(Drop)]
 pub struct Cell {
+    alloc: Global,
     group: Group<Value>,
 }
 
@@ -28,11 +29,12 @@ impl Model for Cell {
 }
 
 impl Cell {
-    /// Creates the cell of no update.
-    pub fn empty() -> Cell
+    /// Creates the cell of no update. It does not allocate: `alloc` is kept for `columns`.
+    pub fn empty(alloc: Global) -> Cell
         ensures { (key : List ℕ) → IsGroupOf [] key result }
     {
         Cell {
+            alloc,
             group: Group::empty(),
         }
     }
@@ -52,18 +54,19 @@ impl Cell {
             IsGroupOf others key other → IsGroupOf (updates ++ others) key result }
     {
         Cell {
+            alloc: self.alloc,
             group: self.group.merge(other.group),
         }
     }
 
     /// Returns copies of the columns that the key has after the updates, in no more memory than they need.
     /// Err: out of memory.
-    pub fn columns(&self, alloc: Global) -> Result<Columns<Kept>, Memory>
+    pub fn columns(&self) -> Result<Columns<Kept>, Memory>
         ensures lawful { IfOk result (AreColumns widest) }
         ensures exact { IfOk result (λ columns. (updates : List UpdateValue) (key : List ℕ) →
             IsGroupOf updates key self.now → AreApart updates → All HasLawfulWrites updates →
             AreColumnsOf updates key columns) }
     {
-        self.group.columns(alloc)
+        self.group.columns(self.alloc)
     }
 }
