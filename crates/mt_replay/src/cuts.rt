@@ -26,7 +26,7 @@ pub const MOST_CUTS: usize = MOST_PIECES as usize - 1;
 /// The greatest number of pieces in which distinct keys are searched for. Each piece has a thread of its own.
 const ROUGH_PIECES: Pieces = Pieces { count: 16 };
 
-/// Why keys are not cuts.
+/// Why keys are not cuts. The variants are numbered 1 and 2, in this order.
 #[derive(Clone, Copy, Debug, PartialEq, Eq)]
 pub enum CutFault {
     /// The key at place `at` is not above the one before it.

@@ -1,4 +1,4 @@
-//! The surviving updates of a log, sorted by key.
+//! The surviving updates of a batch, or the entries of a checkpoint part, sorted by key.
 ghost use Rattle.std.specs.Prelude.{◌≡◌, ◌≤◌, ◌<◌, true, false, IfOk, IsPermutation, List, length, map, filter, slice_index_or};
 ghost use Rattle.std.specs.List.Sorted.{IsPartitionPoint};
 ghost use Rattle.mt_words.specs.declared.update.Update.{Update as UpdateValue};
@@ -27,8 +27,8 @@ enum Held {
     Read(KeptEntries),
 }
 
-/// The surviving updates of a log, or the entries of the chosen checkpoint, sorted by key. Their bodies lie in the same
-/// order, so that replay reads memory in order.
+/// The surviving updates of a batch, whose records may be of several logs, or the entries of a checkpoint part, sorted by
+/// key. Their bodies lie in the same order, so that replay reads memory in order.
 #[derive(Drop)]
 pub struct LogCells {
     held: Held,
@@ -79,8 +79,8 @@ impl LogCells {
         in_order(alloc, &mut sliced)
     }
 
-    /// Returns the entries of a checkpoint part, whose keys strictly rise. All of them survive, and they stay where they
-    /// are.
+    /// Returns the entries of a checkpoint part. All of them survive, and they stay where they are. Their keys must
+    /// strictly rise. No call tests that: only the parts of a valid checkpoint promise it.
     pub fn of_rising(entries: KeptEntries) -> LogCells
         requires { AreRising (map (λ entry. entry.key) entries) }
         ensures { result ≡ wholes entries }
