@@ -1,5 +1,5 @@
 -- Keys that strictly rise.
-use Rattle.std.proofs.Common.{◌≡◌, ◌∙◌, ℕ, zero, suc, ◌+◌, ◌-◌, ◌<◌, true, false, List, [], ◌∷◌, ◌++◌, length, map, take, Contains, sym, ap, subst, arith}
+use Rattle.std.proofs.Common.{◌≡◌, ◌∙◌, ℕ, zero, suc, ◌+◌, ◌-◌, ◌<◌, true, false, List, [], ◌∷◌, ◌++◌, length, map, take, sym, ap, subst, arith}
 use Rattle.std.specs.Prelude.{slice_index_or}
 use Rattle.std.specs.List.{AllByRecursion}
 use Rattle.std.specs.List.Sorted.{IsStrictlySortedBy}
@@ -16,11 +16,10 @@ use Rattle.mt_words.specs.declared.update.Origin.TheVariants as origins
 use Rattle.mt_words.specs.declared.update.Update.{Update}
 use Rattle.mt_words.specs.Updates.{update_at}
 use Rattle.mt_words.specs.Words.{IsBelow, AreRising}
-use Rattle.mt_words.proofs.Elements.{head_in, tail_in}
 use Rattle.mt_replay.specs.Cuts.{is_below, InKeyOrder}
 use Rattle.mt_replay.specs.Survivors.{wholes}
 use Rattle.mt_replay.proofs.KeyOrder.{below_order, below_trans}
-use Rattle.mt_replay.proofs.Members.{of_each, all_from, all_append}
+use Rattle.mt_replay.proofs.Members.{of_each, all_from}
 
 -- each key is below all keys after it
 pub below_later : (keys : List (List ℕ)) → AreRising keys → (i j : ℕ) (d : List ℕ) → i < j → j < length keys → IsBelow (slice_index_or keys i d) (slice_index_or keys j d)
@@ -35,14 +34,6 @@ rise_from [] each = tt
 rise_from (k ∷ ks) each = (
   all_from (IsBelow k) ks (λ x at. subst (IsBelow k) at.2 (each 0 (suc at.0) x (omega arith) (omega (arith, at.1)))),
   rise_from ks (λ i j d lt within. each (suc i) (suc j) d (omega (arith, lt)) (omega (arith, within))),
-)
-
--- keys rise with more keys, if each is below all of those
-pub rise_append : (xs ys : List (List ℕ)) → AreRising xs → AreRising ys → ((a b : List ℕ) → Contains xs a → Contains ys b → IsBelow a b) → AreRising (xs ++ ys)
-rise_append [] ys rise too below = too
-rise_append (x ∷ xs) ys rise too below = (
-  all_append (IsBelow x) xs ys rise.0 (all_from (IsBelow x) ys (λ y at. below x y (head_in x xs) at)),
-  rise_append xs ys rise.1 too (λ a b at here. below a b (tail_in x a xs at) here),
 )
 
 -- keys rise with one more key, if it is above the last of them

@@ -1,20 +1,17 @@
 //! Cuts that divide the keys into pieces.
-ghost use Rattle.std.specs.Prelude.{◌≡◌, ◌≤◌, ◌<◌, ◌+◌, ◌*◌, ◌^◌, ◌↔◌, [], length, max, slice_index_or, All, IfOk, IfErr, IsSome, IfSome};
+ghost use Rattle.std.specs.Prelude.{◌≡◌, ◌≤◌, ◌<◌, ◌+◌, ◌↔◌, [], length, map, max, All, IfOk, IfErr, IsSome, IfSome};
 ghost use Rattle.mt_words.specs.Limits.{widest};
 ghost use Rattle.mt_words.specs.Words.{IsKey, AreRising};
 ghost use Rattle.mt_words.specs.Walks.{joined};
 ghost use Rattle.mt_replay.specs.declared.cuts.TheConstants.{MOST_PIECES};
-ghost use Rattle.mt_replay.specs.Steps.SortedUpdates.{keys_of};
 ghost use Rattle.mt_replay.specs.Cuts.{AreCuts, IsCutFault};
 ghost use Rattle.mt_replay.specs.Even.{IsEven, AreEvenCuts, BeginPieces};
 
 use crate::LogCells;
-use crate::distinct::distinct_keys;
-use crate::sample::sample;
+use crate::keys::{distinct_keys, sampled_keys};
 use mt_words::{Key, Memory};
 use std::alloc::Global;
 use std::marker::Model;
-use std::slice;
 use std::thread::Threads;
 
 /// The greatest number of pieces.
@@ -22,9 +19,6 @@ pub const MOST_PIECES: u32 = 4096;
 
 /// The greatest number of cuts.
 pub const MOST_CUTS: usize = MOST_PIECES as usize - 1;
-
-/// The greatest number of pieces in which distinct keys are searched for. Each piece has a thread of its own.
-const ROUGH_PIECES: Pieces = Pieces { count: 16 };
 
 /// Why keys are not cuts. The variants are numbered 1 and 2, in this order.
 #[derive(Clone, Copy, Debug, PartialEq, Eq)]
@@ -126,7 +120,8 @@ impl Cuts {
         &self.keys
     }
 
-    /// Returns cuts that divide the keys of the updates into pieces with about the same number of keys each.
+    /// Returns cuts that divide the keys of the updates into pieces with about the same number of keys each. It sorts
+    /// the keys of all updates, even for one piece.
     /// Err: out of memory.
     pub fn even(
         rt: &(impl Threads + Sync),
@@ -136,13 +131,8 @@ impl Cuts {
     ) -> Result<Cuts, Memory>
         ensures { IfOk result (IsEven (joined lists.now) pieces) }
     {
-        // One piece has no cut, whatever the keys are.
-        if pieces.count == 1 {
-            return Ok(Cuts::none(alloc));
-        }
-        let rough = Cuts::sampled(rt, alloc, lists, ROUGH_PIECES)?;
-        let parts = distinct_keys(rt, alloc, lists, &rough)?;
-        Cuts::even_of(alloc, &parts, pieces)
+        let keys = distinct_keys(rt, alloc, lists)?;
+        Cuts::even_of(alloc, &keys, pieces)
     }
 
     /// Returns cuts into at most `pieces` pieces with roughly the same number of updates each, found in a sample of the
@@ -156,67 +146,34 @@ impl Cuts {
     ) -> Result<Cuts, Memory>
         ensures { IfOk result (λ cuts. length cuts < pieces) }
     {
-        let keys = sample(rt, alloc, lists, pieces.count)?;
-        Cuts::even_of(alloc, slice::from_ref(&keys), pieces)
+        let keys = sampled_keys(rt, alloc, lists, pieces.count)?;
+        Cuts::even_of(alloc, &keys, pieces)
     }
 
-    /// Returns cuts of rising keys into pieces with about the same number of keys each. The keys are given in parts,
-    /// one part after another.
-    fn even_of(alloc: Global, parts: &[Vec<&[u8]>], pieces: Pieces) -> Result<Cuts, Memory>
-        requires few { length parts.now ≤ MOST_PIECES }
-        requires rising { AreRising (keys_of parts.now) }
-        requires lawful { All (IsKey widest) (keys_of parts.now) }
-        ensures { IfOk result (AreEvenCuts (keys_of parts.now) pieces) }
+    /// Returns cuts of rising keys into pieces with about the same number of keys each. Err: out of memory.
+    fn even_of(alloc: Global, keys: &[&[u8]], pieces: Pieces) -> Result<Cuts, Memory>
+        requires rising { AreRising (map (λ key. key.now) keys.now) }
+        requires lawful { All (IsKey widest) (map (λ key. key.now) keys.now) }
+        ensures { IfOk result (AreEvenCuts (map (λ key. key.now) keys.now) pieces) }
     {
-        let asked = u128::from(pieces.count).min(key_count(parts).max(1));
-        let keys = even_keys(alloc, parts, asked)?;
+        let asked = (pieces.count as usize).min(keys.len().max(1));
+        let keys = even_keys(alloc, keys, asked)?;
         Ok(Cuts { keys })
     }
 }
 
-/// Returns the keys at which the pieces after the first begin, for `pieces` even pieces.
-fn even_keys(alloc: Global, parts: &[Vec<&[u8]>], pieces: u128) -> Result<Vec<Key>, Memory>
-    requires few { length parts.now ≤ MOST_PIECES }
-    requires lawful { All (IsKey widest) (keys_of parts.now) }
+/// Returns the keys at which the pieces after the first begin, for `pieces` even pieces. Err: out of memory.
+fn even_keys(alloc: Global, keys: &[&[u8]], pieces: usize) -> Result<Vec<Key>, Memory>
+    requires lawful { All (IsKey widest) (map (λ key. key.now) keys.now) }
     requires some { 0 < pieces }
-    requires most { pieces ≤ MOST_PIECES }
-    requires within { pieces ≤ max (length (keys_of parts.now)) 1 }
+    requires within { pieces ≤ max (length keys.now) 1 }
     ensures count { IfOk result (λ cuts. length cuts.items + 1 ≡ pieces) }
-    ensures begin { IfOk result (λ cuts. BeginPieces (keys_of parts.now) pieces cuts.items) }
+    ensures begin { IfOk result (λ cuts. BeginPieces (map (λ key. key.now) keys.now) pieces cuts.items) }
 {
-    let count = key_count(parts);
     let mut cuts = Vec::new(alloc);
     for cut in 1..pieces {
-        let key = key_at(parts, cut * count / pieces);
-        cuts.push(Key::copy_of(alloc, key)?)?;
+        let place = cut as u128 * keys.len() as u128 / pieces as u128;
+        cuts.push(Key::copy_of(alloc, keys[place as usize])?)?;
     }
     Ok(cuts)
-}
-
-/// Returns the number of keys in the parts. It is exact: a part has fewer than 2^64 keys.
-fn key_count(parts: &[Vec<&[u8]>]) -> u128
-    ensures value { result ≡ length (keys_of parts.now) }
-    ensures fits { result ≤ length parts.now * 2 ^ 64 }
-{
-    let mut count = 0;
-    for part in parts {
-        count += part.len() as u128;
-    }
-    count
-}
-
-/// Returns the key at this place, or an empty one if there are not so many keys. Places count through all parts in
-/// order.
-fn key_at<'a>(parts: &[Vec<&'a [u8]>], place: u128) -> &'a [u8]
-    ensures { result.now ≡ slice_index_or (keys_of parts.now) place [] }
-{
-    let mut rest = place;
-    for part in parts {
-        let count = part.len() as u128;
-        if rest < count {
-            return part[rest as usize];
-        }
-        rest -= count;
-    }
-    &[]
 }

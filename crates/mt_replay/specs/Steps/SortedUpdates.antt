@@ -1,16 +1,13 @@
 -- Updates in the order of their keys: how they are held, what a run of them yields, and what of them is in a piece.
-use Rattle.std.specs.Prelude.{◌≡◌, ℕ, ◌↔◌, ⊤, Bool, true, false, IsTrue, Option, Some, None, List, [], ◌∷◌, length, min, map, drop, Contains, IsPermutation, Vec}
-use Rattle.std.specs.Borrow.{Bor}
+use Rattle.std.specs.Prelude.{◌≡◌, ℕ, ⊤, Bool, true, false, Option, Some, None, List, [], ◌∷◌, length, min, drop, IsPermutation}
 use Rattle.std.specs.Global.{Global}
 use Rattle.std.specs.Iterator.{DrainsIf, at_most}
-use Rattle.std.specs.List.{flat_map}
 use Rattle.std.specs.Ordering.{partial_lt}
 use Rattle.itertools.specs.declared.kmerge_impl.KMergeBy.{KMergeBy}
 use Rattle.itertools.specs.declared.kmerge_impl.KMergeLt.{KMergeLt}
 use Rattle.itertools.specs.KMerge.{kmerge_can, kmerge_steps}
 use Rattle.mt_words.specs.declared.update.Update.{Update}
 use Rattle.mt_words.specs.Slices.{AreBytes, slice_in}
-use Rattle.mt_words.specs.Words.{AreRising}
 use Rattle.mt_replay.specs.declared.window.Window.{Window}
 use Rattle.mt_replay.specs.declared.log_cells.Held.{Held}
 use Rattle.mt_replay.specs.declared.log_cells.Held.TheVariants.{Sorted, Read}
@@ -61,12 +58,3 @@ pub record AreMerged (updates yielded : List Update) (ended : Bool) : Type 0 whe
 -- calls of `next` of a heap yield these updates, in order
 abbrev pub YieldsMerged : List Update → Heap → Type 0
 YieldsMerged updates start = (yielded : List Update) (ended : Bool) → DrainsIf heap_steps (ended ≡ true) start yielded → AreMerged updates yielded ended
-
--- the keys of parts, one part after the other
-abbrev pub keys_of : List (Vec (Bor (List ℕ)) Global) → List (List ℕ)
-keys_of parts = map (λ key. key.now) (flat_map (λ part. part.items) parts)
-
--- each of these keys that passes the test, once, in order
-pub record AreDistinctWhere (passes : List ℕ → Bool) (keys distinct : List (List ℕ)) : Type 0 where
-  pub rise : AreRising distinct
-  pub same : (key : List ℕ) → Contains distinct key ↔ (Contains keys key × IsTrue (passes key))

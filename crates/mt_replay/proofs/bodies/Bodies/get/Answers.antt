@@ -1,4 +1,4 @@
-use Rattle.std.proofs.Common.{◌≡◌, [], List, ℕ, get_or, sym, ap, subst, ◌∙◌}
+use Rattle.std.proofs.Common.{[], List, ℕ, get_or, sym, ap, subst, ◌∙◌}
 use Rattle.std.proofs.lemmas.List.{get_or-map}
 use Rattle.mt_words.specs.declared.update.Update.{Update}
 use Rattle.mt_replay.specs.Steps.Bodies.{IsTold, told}

@@ -1,8 +1,11 @@
-//! A sample of the keys of updates.
-ghost use Rattle.std.specs.Prelude.{◌<◌, ◌≤◌, map, All, IfOk, OnOk};
+//! The distinct keys of updates: all of them, or a sample.
+ghost use Rattle.std.specs.Prelude.{◌≡◌, ◌<◌, ◌≤◌, ◌++◌, map, All, IfOk, OnOk};
 ghost use Rattle.mt_words.specs.Limits.{widest};
 ghost use Rattle.mt_words.specs.Words.{IsKey, AreRising};
+ghost use Rattle.mt_words.specs.Walks.{joined};
 ghost use Rattle.mt_replay.specs.declared.cuts.TheConstants.{MOST_PIECES};
+ghost use Rattle.mt_replay.specs.Cuts.{keys_in};
+ghost use Rattle.mt_replay.specs.Even.{AreDistinctKeys};
 
 use crate::LogCells;
 use mt_words::Memory;
@@ -14,9 +17,23 @@ use std::thread::Threads;
 /// share, and that the sample has keys of each sorted run of a long log.
 const KEYS_OF_PIECE: usize = 64;
 
+/// Returns each key of the updates once, in order. Err: out of memory.
+pub(crate) fn distinct_keys<'a>(
+    rt: &(impl Threads + Sync),
+    alloc: Global,
+    lists: &'a [LogCells],
+) -> Result<Vec<&'a [u8]>, Memory>
+    ensures distinct { IfOk result (λ keys. AreDistinctKeys (keys_in (joined lists.now)) (map (λ key. key.now) keys.items)) }
+    ensures lawful { IfOk result (λ keys. All (IsKey widest) (map (λ key. key.now) keys.items)) }
+{
+    let mut keys = some_keys(alloc, lists, 1)?;
+    keep_each_once(rt, alloc, &mut keys)?;
+    Ok(keys)
+}
+
 /// Returns keys at equal distances in the lists, each once, in order: some for each of `pieces` pieces.
 /// Err: out of memory.
-pub(crate) fn sample<'a>(
+pub(crate) fn sampled_keys<'a>(
     rt: &(impl Threads + Sync),
     alloc: Global,
     lists: &'a [LogCells],
@@ -28,9 +45,21 @@ pub(crate) fn sample<'a>(
 {
     let distance = distance_for(lists, KEYS_OF_PIECE * pieces as usize);
     let mut keys = some_keys(alloc, lists, distance)?;
-    par_sort_unstable(rt, &mut keys);
-    keys.dedup();
+    keep_each_once(rt, alloc, &mut keys)?;
     Ok(keys)
+}
+
+/// Sorts the keys, and keeps each once. The sort merges the runs of keys that are sorted already. Err: out of memory.
+fn keep_each_once(
+    rt: &(impl Threads + Sync),
+    alloc: Global,
+    keys: &mut Vec<&[u8]>,
+) -> Result<(), Memory>
+    ensures { OnOk result (AreDistinctKeys (map (λ key. key.now) keys.old.items) (map (λ key. key.now) keys.new.items)) }
+{
+    par_sort(rt, alloc, keys)?;
+    keys.dedup();
+    Ok(())
 }
 
 /// Returns the distance between sampled keys, in updates, at which at most `most` keys are taken. It is the same for
@@ -46,10 +75,12 @@ fn distance_for(lists: &[LogCells], most: usize) -> usize
     updates.div_ceil(most).max(1)
 }
 
-/// Returns one key for each `distance` updates of each list. Err: out of memory.
+/// Returns one key for each `distance` updates of each list. At distance 1 these are the keys of all updates.
+/// Err: out of memory.
 fn some_keys(alloc: Global, lists: &[LogCells], distance: usize) -> Result<Vec<&[u8]>, Memory>
     requires { 0 < distance }
-    ensures { IfOk result (λ keys. All (IsKey widest) (map (λ key. key.now) keys.items)) }
+    ensures lawful { IfOk result (λ keys. All (IsKey widest) (map (λ key. key.now) keys.items)) }
+    ensures all { IfOk result (λ keys. distance ≡ 1 → map (λ key. key.now) keys.items ≡ keys_in (joined lists.now)) }
 {
     let mut keys = Vec::new(alloc);
     for cells in lists {
@@ -65,8 +96,10 @@ fn add_some<'a>(
     distance: usize,
 ) -> Result<(), Memory>
     requires { 0 < distance }
-    ensures { OnOk result (All (IsKey widest) (map (λ key. key.now) keys.old.items) →
+    ensures lawful { OnOk result (All (IsKey widest) (map (λ key. key.now) keys.old.items) →
         All (IsKey widest) (map (λ key. key.now) keys.new.items)) }
+    ensures all { OnOk result (distance ≡ 1 →
+        map (λ key. key.now) keys.new.items ≡ map (λ key. key.now) keys.old.items ++ keys_in cells.now) }
 {
     for number in 0..cells.len() / distance {
         keys.push(cells.get(number * distance + distance / 2).key())?;

@@ -1,0 +1,14 @@
+use Rattle.std.proofs.Common.{◌≡◌, map, take}
+use Rattle.std.specs.Prelude.{All}
+use Rattle.mt_words.specs.Limits.{widest}
+use Rattle.mt_words.specs.Words.{IsKey}
+use Rattle.mt_words.specs.Walks.{joined}
+use Rattle.mt_replay.specs.Cuts.{keys_in}
+use Rattle.mt_replay.proofs.keys.some_keys.Given as goal
+
+-- keys of the first lists
+abbrev pub invariant-loop-cells : goal.invariant-loop-cells
+invariant-loop-cells l = record {
+  lawful : All (IsKey widest) (map (λ key. key.now) l.keys.items);
+  all : l.fn.distance ≡ 1 → map (λ key. key.now) l.keys.items ≡ keys_in (joined (take l.cells-index l.lists));
+}
