@@ -29,6 +29,7 @@ mod job;
 mod laws;
 mod prepared;
 mod program;
+mod reading;
 mod record_json;
 mod record_text;
 mod records;
@@ -54,7 +55,8 @@ pub use mt_board::Pass;
 pub use mt_replay::{Clash, Cuts, MOST_PIECES, Pieces, Place, Window};
 pub use mt_scan::{Choice, LogCheck, PartScan};
 pub use mt_tree::{Hit, Visitor, Wanted};
-pub use program::{MOST_BYTES, MOST_FILES, dump_files};
+pub use program::{MOST_FILES, dump_files};
+pub use reading::{MOST_BYTES, read_file};
 pub use records::{
     Notation, Selection, Stopped, write_entries, write_head, write_part_head, write_records,
 };

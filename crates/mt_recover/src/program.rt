@@ -6,19 +6,17 @@ ghost use Rattle.mt_recover.specs.Dump.{dump_text, IsStoreOfSome, IsPrinted, sta
 
 use crate::dump::write_dump;
 use crate::failure::Failure;
+use crate::reading::read_file;
 use crate::recovery::{Recovered, recover_logs};
 use crate::store::Store;
 use mt_words::{Fault, Memory};
 use std::alloc::Global;
-use std::fs::{File, OpenFile};
-use std::io::{self, ErrorKind, Read, Write};
+use std::fs::File;
+use std::io::Write;
 use std::rt::Files;
 
 /// The most files that a program of this repository takes.
 pub const MOST_FILES: usize = 512;
-
-/// The most bytes that a file may have.
-pub const MOST_BYTES: u64 = 1_073_741_824;
 
 /// Prints the store of the log files of these names on `out`, or a line on `err` that says why it is not printed. Reads
 /// all files before it recovers any.
@@ -126,26 +124,10 @@ fn read_log<'a, R: Files + AllocGlobal>(
         Ok(file) => file,
         Err(error) => return Err(Failure::Open(name).or_memory(&error)),
     };
-    match read_file(rt, file) {
+    match read_file(rt.alloc(), file) {
         Ok(bytes) => Ok(bytes),
         Err(error) => Err(Failure::Recovery(Fault::Source { log }).or_memory(&error)),
     }
-}
-
-/// Reads the bytes of a file. Looks at its size first, to refuse a file that is too large at once. Reads at most one
-/// byte past the limit, to refuse a file that grows.
-fn read_file<R: Files + AllocGlobal>(rt: &R, file: R::File) -> io::Result<Vec<u8>> {
-    let size = file.metadata()?.len();
-    if size > MOST_BYTES {
-        return Err(io::Error::from(ErrorKind::FileTooLarge));
-    }
-    // One byte more than the file has, so that reading finds its end without growing the buffer.
-    let mut bytes = Vec::with_capacity(rt.alloc(), size as usize + 1)?;
-    let count = file.take(MOST_BYTES + 1).read_to_end(&mut bytes)?;
-    if count as u64 > MOST_BYTES {
-        return Err(io::Error::from(ErrorKind::FileTooLarge));
-    }
-    Ok(bytes)
 }
 
 /// Returns the bytes of each file as a slice.
