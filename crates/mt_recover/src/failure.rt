@@ -99,12 +99,24 @@ impl<'a> From<io::Error> for Failure<'a> {
 }
 
 impl<'a> From<Memory> for Failure<'a> {
+    ghost use Rattle.std.specs.Prelude.{◌≡◌};
+    ghost use Rattle.mt_words.specs.declared.fault.Fault.TheVariants as faults;
+    ghost use Rattle.mt_recover.specs.declared.failure.Failure.TheVariants.{Recovery};
+
+    ghost from_gives = { λ _ failure. failure ≡ Recovery faults.Memory };
+
     fn from(_memory: Memory) -> Failure<'a> {
         Failure::Recovery(Fault::Memory)
     }
 }
 
 impl<'a> From<AllocError> for Failure<'a> {
+    ghost use Rattle.std.specs.Prelude.{◌≡◌};
+    ghost use Rattle.mt_words.specs.declared.fault.Fault.TheVariants as faults;
+    ghost use Rattle.mt_recover.specs.declared.failure.Failure.TheVariants.{Recovery};
+
+    ghost from_gives = { λ _ failure. failure ≡ Recovery faults.Memory };
+
     fn from(_refused: AllocError) -> Failure<'a> {
         Failure::Recovery(Fault::Memory)
     }
