@@ -1,5 +1,5 @@
 //! Prints the records of a log, or the entries of a part, whose bytes are in memory.
-ghost use Rattle.std.specs.Prelude.{◌≡◌, ◌≤◌, ◌∷◌, [], length, filter, IfOk, OnOk};
+ghost use Rattle.std.specs.Prelude.{◌≡◌, ◌≤◌, ◌⊎◌, ◌∷◌, [], length, filter, IfOk, IfErr, OnOk};
 ghost use Rattle.std.specs.List.{flat_map};
 ghost use Rattle.std.specs.Io.KnownBytes.{Appends};
 ghost use Rattle.mt_words.specs.Limits.{limits_of};
@@ -12,7 +12,7 @@ use crate::record_text::{
     write_entry_words, write_log_words, write_part_words, write_record_words,
 };
 use mt_record::{Head, PartHead, entry_at, record_at};
-use mt_words::{Entry, Format, Key, Record};
+use mt_words::{Entry, Fault, Format, Key, Record};
 use std::alloc::Global;
 use std::io::{self, Write};
 
@@ -120,7 +120,8 @@ pub fn write_records<W: Write>(
     out: &mut W,
 ) -> Result<Option<Stopped>, Failure<'static>>
     requires { start ≤ length bytes.now }
-    ensures { IfOk result (λ stopped. ArePrinted (limits_of format) selection.now bytes.now start stopped (W.contents out.old) (W.contents out.new)) }
+    ensures printed { IfOk result (λ stopped. ArePrinted (limits_of format) selection.now bytes.now start stopped (W.contents out.old) (W.contents out.new)) }
+    ensures fault { IfErr result (λ failure. (failure ≡ Failure.Output) ⊎ (failure ≡ Failure.Recovery Fault.Memory)) }
 {
     let mut rest = &bytes[start..];
     let mut latest = 0;
@@ -149,7 +150,8 @@ pub fn write_entries<W: Write>(
     out: &mut W,
 ) -> Result<Option<Stopped>, Failure<'static>>
     requires { start ≤ length bytes.now }
-    ensures { IfOk result (λ stopped. EntriesArePrinted (limits_of format) selection.now bytes.now start stopped (W.contents out.old) (W.contents out.new)) }
+    ensures printed { IfOk result (λ stopped. EntriesArePrinted (limits_of format) selection.now bytes.now start stopped (W.contents out.old) (W.contents out.new)) }
+    ensures fault { IfErr result (λ failure. (failure ≡ Failure.Output) ⊎ (failure ≡ Failure.Recovery Fault.Memory)) }
 {
     let mut rest = &bytes[start..];
     let mut number = 0;
