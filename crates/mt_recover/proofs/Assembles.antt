@@ -19,7 +19,7 @@ use Rattle.mt_tree.specs.Borders.{DraftView, empty_draft, layer_walk}
 use Rattle.mt_recover.specs.declared.haul.Haul.{Haul}
 use Rattle.mt_recover.specs.declared.haul.Piece.{Piece}
 use Rattle.mt_recover.specs.Steps.Assembling.{all_held, AreDraftsOf, times_numbered, IsFirstLacking, IsLacking}
-use Rattle.mt_recover.specs.Hauls.{numbers, IsHaulOf, times_held, IsLeftOut, AllCameBack}
+use Rattle.mt_recover.specs.Hauls.{numbers, IsHaulOf, times_held, AreAllHeld, IsLeftOut, AllCameBack}
 use Rattle.mt_recover.specs.Job.{JobView, IsPieceOf}
 
 -- a held piece is the job's piece of its number
@@ -162,6 +162,12 @@ module _ (job : JobView) (hauls : List Haul) (pieces : List Piece) (count : ℕ)
       absurd (omega (arith, held, lacks.lacking, same_times i))
   none_left_out passes faults.Memory back drawn lacks = refl
   none_left_out passes fault back drawn lacks = absurd lacks
+
+  -- if there is a draft for each number, each piece of the job is held
+  pub all_are_held : (drafts : List DraftView) → length drafts ≡ count → AreDraftsOf pieces drafts → AreAllHeld job hauls
+  all_are_held drafts long are number lt =
+      let numbered = there pieces number (slice_index_or drafts number empty_draft) (are number empty_draft (omega (arith, lt, long, total))) in
+      omega (arith, numbered, same_times number)
 
   -- the drafts in order are those of the job's pieces
   pub in_order : (drafts : List DraftView) → job.board.total ≡ length job.cuts + 1 → All (IsHaulOf job) hauls → length drafts ≡ count → AreDraftsOf pieces drafts → ArePieces job.prepared.updates job.cuts (map layer_walk drafts)

@@ -31,6 +31,10 @@ pub record IsFirstMissing (job : JobView) (hauls : List Haul) (number : ℕ) : T
   pub missing : times_held number hauls ≡ 0
   pub first : (other : ℕ) → other < number → 0 < times_held other hauls
 
+-- each piece of the job is held by a haul
+abbrev pub AreAllHeld : JobView → List Haul → Type 0
+AreAllHeld job hauls = (number : ℕ) → number < job.board.total → 0 < times_held number hauls
+
 -- the fault is `Missing` with the least piece that no haul holds, or it is `Memory`
 abbrev pub IsLeftOut : JobView → List Haul → Fault → Type 0
 IsLeftOut job hauls (faults.Missing piece) = IsFirstMissing job hauls piece

@@ -1,11 +1,11 @@
 //! Assembles the store of a job from the pieces that workers hauled.
-ghost use Rattle.std.specs.Prelude.{◌≡◌, ◌<◌, ◌≤◌, ℕ, List, length, map, All, IfOk, IfErr, IsPermutation};
+ghost use Rattle.std.specs.Prelude.{◌≡◌, ◌<◌, ◌≤◌, ℕ, List, length, map, All, IfOk, IfErr, OnOk, IsPermutation};
 ghost use Rattle.std.specs.List.Sorted.{IsNonDecreasingBy};
 ghost use Rattle.mt_words.specs.declared.fault.Fault.TheVariants as faults;
 ghost use Rattle.mt_words.specs.Walks.{KeysRise, joined};
 ghost use Rattle.mt_tree.specs.Borders.{layer_walk};
 ghost use Rattle.mt_recover.specs.Steps.Assembling.{all_held, AreDraftsOf, IsLacking};
-ghost use Rattle.mt_recover.specs.Hauls.{AllCameBack, IsHaulOf, IsLeftOut};
+ghost use Rattle.mt_recover.specs.Hauls.{AllCameBack, AreAllHeld, IsHaulOf, IsLeftOut};
 ghost use Rattle.mt_recover.specs.Prepared.{IsMadeOf, IsPreparedOf};
 ghost use Rattle.mt_recover.specs.Report.{IsRecoveredOf};
 
@@ -33,6 +33,7 @@ pub fn assemble(
     requires passes { All (λ pass. pass.board ≡ job.board) passes.items }
     ensures store { IfOk result (IsMadeOf job.prepared) }
     ensures recovered { (logs parts : List (List ℕ)) → IsPreparedOf logs parts job.prepared → IfOk result (IsRecoveredOf logs parts) }
+    ensures held { OnOk result (AreAllHeld job hauls.items) }
     ensures missing { IfErr result (IsLeftOut job hauls.items) }
     ensures drawn { AllCameBack job hauls.items passes.items → IfErr result (λ fault. fault ≡ faults.Memory) }
 {

@@ -12,7 +12,7 @@ use Rattle.mt_recover.specs.Steps.Assembling.{all_held}
 use Rattle.mt_recover.specs.Hauls.{IsLeftOut}
 use Rattle.mt_recover.specs.Job.{JobView}
 use Rattle.mt_recover.specs.Prepared.{PreparedView, IsMadeOf}
-use Rattle.mt_recover.proofs.Assembles.{held_within, left_out, none_left_out, in_order}
+use Rattle.mt_recover.proofs.Assembles.{held_within, left_out, none_left_out, all_are_held, in_order}
 use Rattle.mt_recover.proofs.Preparing.{made_is}
 use Rattle.mt_recover.proofs.assembling.assemble.Goals as goal
 
@@ -46,6 +46,12 @@ returns-in_err-drafts-clause-drawn c back =
     let h : c.in_err-drafts.field-0.0 ≡ faults.Memory =
     none_left_out c.args.job c.args.hauls.items c.by_number-pieces.result.items c.pieces.result same total c.args.passes.items c.in_err-drafts.field-0.0 back drawn c.in_err-drafts.ensures.missing in
     search (rules, h)
+
+pub returns-clause-held : goal.returns-clause-held
+returns-clause-held c =
+    let total = total_is c.args.job _ c.pieces.result c.job.view_is c.job.invariant (search rules) in
+    let same = same_pieces c.args.hauls.items c.in_ok-pieces_of.field-0.items c.by_number-pieces.result.items c.in_ok-pieces_of.ensures c.by_number-pieces.ensures.same in
+    all_are_held c.args.job c.args.hauls.items c.by_number-pieces.result.items c.pieces.result same total c.in_ok-drafts.drafts.items c.in_ok-drafts.ensures.long c.in_ok-drafts.ensures.drafts
 
 -- the drafts joined in order are the walk
 walk_is : (c : goal.After-pieces_make_the_walk) → IsWalk c.args.job.prepared.updates (joined (map layer_walk c.in_ok-drafts.drafts.items))
