@@ -28,15 +28,30 @@ pub(crate) fn by_workers<R: Threads + Sync, J: Send + Drop, X: Send + Drop, F: F
     ensures { IfOk result (λ answers. AllZip (λ job answer. F.post work.now job answer) jobs.items answers.items) }
 {
     let shares = deal(alloc, jobs, workers.count())?;
-    let parts = thread::map_vec(
+    let parts = on_threads(
         rt,
         shares,
+        workers,
         &|share: VecDeque<J>| -> Result<IntoIter<X>, Memory>
             requires { All (λ job. F.pre work.now job) share.items }
             ensures { IfOk result (λ answers. AllZip (λ job answer. F.post work.entry.now job answer) share.items (into_iter_items answers)) }
         { Ok(in_turn(alloc, Vec::from(share), work)?.into_iter()) },
     )?;
     gather(alloc, all_done(alloc, parts)?)
+}
+
+/// Does each job on a thread of its own. Returns the answers in the order of the jobs.
+pub(crate) fn on_threads<R: Threads + Sync, J: Send + Drop, X: Send + Drop, F: Fn(J) -> X + Sync>(
+    rt: &R,
+    jobs: Vec<J>,
+    workers: Workers,
+    work: &F,
+) -> Result<Vec<X>, Memory>
+    requires few { length jobs.items ≤ workers }
+    requires each { All (λ job. F.pre work.now job) jobs.items }
+    ensures { IfOk result (λ answers. AllZip (λ job answer. F.post work.now job answer) jobs.items answers.items) }
+{
+    Ok(thread::map_vec(rt, jobs, work)?)
 }
 
 /// Does each job, one after the other. Returns the answers in the order of the jobs.

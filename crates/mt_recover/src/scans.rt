@@ -1,19 +1,18 @@
 //! Scans all logs and checkpoint parts. The scans of logs share a board with the least last timestamp so far. Each
 //! drops the updates at or past that timestamp: they are too late to survive.
-ghost use Rattle.std.specs.Prelude.{◌≡◌, ◌<◌, ◌≤◌, ◌++◌, [], ◌∷◌, map, length, All, IfOk, OnOk, option_to_list};
+ghost use Rattle.std.specs.Prelude.{◌≡◌, ◌<◌, ◌≤◌, ◌++◌, [], ◌∷◌, map, length, max, All, IfOk, OnOk, option_to_list};
 ghost use Rattle.std.specs.Vec.Iter.{into_iter_items};
 ghost use Rattle.mt_board.specs.Board.{nothing_noted};
 ghost use Rattle.mt_recover.specs.Steps.Outcomes.{AreOutcomes, in_memory, read_parts};
 ghost use Rattle.mt_recover.specs.Steps.Scanning.{AreGathered, HasScanned, IsFresh, numbered, log_jobs, part_jobs, log_in, part_in, logs_in, parts_in, passes_of, AreDealt};
 
-use crate::by_workers::{all_done, close, deal, gather, in_turn};
+use crate::by_workers::{all_done, close, deal, gather, in_turn, on_threads};
 use crate::{Inputs, Workers};
 use mt_board::{Board, Pass};
 use mt_scan::{LogScan, PartScan, Source, scan_bytes, scan_part, scan_shared};
 use mt_words::{Fault, Memory};
 use std::alloc::Global;
 use std::collections::VecDeque;
-use std::thread;
 use std::thread::Threads;
 use std::vec::IntoIter;
 
@@ -47,7 +46,7 @@ pub(crate) enum Kind {
     Part,
 }
 
-/// A source to scan, with the kind and the number of its log or part.
+/// A source to scan, or its check, with the kind and the number of its log or part.
 #[derive(Drop)]
 pub(crate) struct ScanJob<S> {
     pub kind: Kind,
@@ -103,9 +102,10 @@ pub(crate) fn scan_all<R: Threads + Sync, S: Source + Send>(
 {
     let jobs = jobs_of(alloc, inputs)?;
     let (board, shares) = share_out(alloc, jobs, workers.count())?;
-    let scans = thread::map_vec(
+    let scans = on_threads(
         rt,
         shares,
+        workers,
         &|share: Share<S>| { scan_jobs(alloc, &board, share) },
     )?;
     gather_scans(alloc, board, all_done(alloc, scans)?)
@@ -169,6 +169,7 @@ fn share_out<S: Drop>(
     ensures dealt { IfOk result (λ shared. AreDealt jobs.items (map (λ share. share.jobs.items) shared.1.items)) }
     ensures fresh { IfOk result (λ shared. All (λ share. IsFresh shared.0 share.pass) shared.1.items) }
     ensures some { IfOk result (λ shared. 0 < length shared.1.items) }
+    ensures few { IfOk result (λ shared. length shared.1.items ≤ max 1 workers) }
     ensures many { IfOk result (λ shared. shared.0.passes ≡ length shared.1.items) }
 {
     let dealt = deal(alloc, jobs, workers)?;

@@ -1,9 +1,9 @@
-use Rattle.std.proofs.Common.{◌≡◌, rules, IfOk, arith}
+use Rattle.std.proofs.Common.{◌≡◌, rules, IfOk}
 use Rattle.std.proofs.lemmas.Result.{IfOk-weaker}
 use Rattle.mt_board.specs.Board.{BoardId}
 use Rattle.mt_recover.specs.Steps.Scanning.{HasScanned, answers_of}
 use Rattle.mt_recover.proofs.ScanLemmas.{CanBeGathered, all_scanned}
-use Rattle.mt_recover.proofs.SharingLemmas.{zip_of_jobs}
+use Rattle.mt_recover.proofs.SharingLemmas.{zip_says}
 use Rattle.mt_recover.proofs.scans.scan_all.Goals as goal
 
 -- what the workers scanned can be gathered
@@ -11,8 +11,7 @@ scanned : (g : _) (c : goal.In_ok-all_done g) → (board : BoardId) → board �
 scanned g c =
     all_scanned g.S.Source.seen c.args.inputs.logs.items c.args.inputs.parts.items c.in_ok-jobs.jobs.items c.in_ok-board.shares.items c.in_ok-scans.scans.items c.in_ok-all_done.field-0.items c.in_ok-board.board
     c.in_ok-jobs.ensures c.in_ok-board.ensures.dealt c.in_ok-board.ensures.fresh c.in_ok-board.ensures.some c.in_ok-board.ensures.many
-    (zip_of_jobs (λ share answer. IfOk answer (λ scans. HasScanned g.S.Source.seen share.jobs.items (answers_of scans) share.pass scans.pass)) _ _ c.in_ok-board.shares.items c.in_ok-scans.scans.items
-    (omega (arith, c.in_ok-scans.ensures.len, c.in_ok-scans.scans.ok.0, c.in_ok-board.shares.ok.0)) c.in_ok-scans.ensures.each (λ share answer post. search rules)) c.in_ok-all_done.ensures.done
+    (zip_says (λ share answer. IfOk answer (λ scans. HasScanned g.S.Source.seen share.jobs.items (answers_of scans) share.pass scans.pass)) _ c.in_ok-board.shares.items c.in_ok-scans.scans.items (λ share answer post. search rules) c.in_ok-scans.ensures) c.in_ok-all_done.ensures.done
 
 pub gather_scans-requires-clause-some : goal.gather_scans-requires-clause-some
 gather_scans-requires-clause-some g c = (scanned g c _ c.board.view_is).some
