@@ -1,8 +1,9 @@
 //! The program that prints the store of log files.
-ghost use Rattle.std.specs.Prelude.{◌≡◌, ◌≢◌, ◌≤◌, ◌<◌, ◌↔◌, ◌⊎◌, [], length, IfOk, IfErr, OnOk, vec_len};
+ghost use Rattle.std.specs.Prelude.{◌≡◌, ◌≢◌, ◌≤◌, ◌<◌, ◌↔◌, ◌⊎◌, [], length, map, All, IfOk, IfErr, OnOk, vec_len};
 ghost use Rattle.std.specs.Io.KnownBytes.{Appends, Keeps};
 ghost use Rattle.mt_recover.specs.declared.program.TheConstants.{MOST_FILES};
-ghost use Rattle.mt_recover.specs.Dump.{dump_text, IsStoreOfSome, IsPrinted, status_of};
+ghost use Rattle.mt_recover.specs.Recovery.{IsStoreOf};
+ghost use Rattle.mt_recover.specs.Dump.{dump_text, AreOfSomeFile, IsStoreOfFiles, IsPrinted, status_of};
 
 use crate::dump::write_dump;
 use crate::failure::Failure;
@@ -31,7 +32,7 @@ pub fn dump_files<R: Files + AllocGlobal, O: Write, E: Write>(
     err: &mut E,
 ) -> u8
     ensures printed { result ≡ 0 →
-        IsPrinted (length names.now) (O.contents out.old) (O.contents out.new) }
+        IsPrinted R.File.remaining (length names.now) (O.contents out.old) (O.contents out.new) }
     ensures kept { (result ≡ 1) ⊎ (result ≡ 2) → Keeps (O.contents out.old) (O.contents out.new) }
     ensures no_files { result ≡ 2 ↔ (names.now ≡ []) }
     ensures too_many { MOST_FILES < length names.now → result ≡ 3 }
@@ -50,7 +51,7 @@ fn dump<'a, R: Files + AllocGlobal, O: Write>(
     out: &mut O,
 ) -> Result<(), Failure<'a>>
     ensures printed { OnOk result
-        (IsPrinted (length names.now) (O.contents out.old) (O.contents out.new)) }
+        (IsPrinted R.File.remaining (length names.now) (O.contents out.old) (O.contents out.new)) }
     ensures kept { IfErr result (λ failure. failure ≢ Failure.Output →
         Keeps (O.contents out.old) (O.contents out.new)) }
     ensures no_files { names.now ≡ [] → result ≡ Err Failure.NoFiles }
@@ -72,7 +73,7 @@ fn recover_files<'a, R: Files + AllocGlobal>(
     rt: &R,
     names: &'a [String],
 ) -> Result<Recovered, Failure<'a>>
-    ensures store { IfOk result (λ recovered. IsStoreOfSome (length names.now) recovered.store) }
+    ensures store { IfOk result (λ recovered. IsStoreOfFiles R.File.remaining (length names.now) recovered.store) }
     ensures files { IfErr result (λ failure. status_of failure ≢ 2) }
 {
     let files = read_files(rt, names)?;
@@ -81,7 +82,7 @@ fn recover_files<'a, R: Files + AllocGlobal>(
 
 /// Recovers the store of the logs that have these bytes.
 fn recover_bytes(alloc: Global, files: &[Vec<u8>]) -> Result<Recovered, Fault>
-    ensures { IfOk result (λ recovered. IsStoreOfSome (length files.now) recovered.store) }
+    ensures { IfOk result (λ recovered. IsStoreOf (map (λ file. file.items) files.now) [] recovered.store) }
 {
     let logs = slices_of(alloc, files)?;
     recover_logs(alloc, &logs)
@@ -102,7 +103,8 @@ fn read_files<'a, R: Files + AllocGlobal>(
     rt: &R,
     names: &'a [String],
 ) -> Result<Vec<Vec<u8>>, Failure<'a>>
-    ensures read { IfOk result (λ files. vec_len files ≡ length names.now) }
+    ensures many { IfOk result (λ files. vec_len files ≡ length names.now) }
+    ensures read { IfOk result (λ files. All (λ bytes. AreOfSomeFile R.File.remaining bytes.items) files.items) }
     ensures files { IfErr result (λ failure. status_of failure ≢ 2) }
 {
     let mut files = Vec::new(rt.alloc());
@@ -118,6 +120,7 @@ fn read_log<'a, R: Files + AllocGlobal>(
     log: usize,
     name: &'a str,
 ) -> Result<Vec<u8>, Failure<'a>>
+    ensures read { IfOk result (λ bytes. AreOfSomeFile R.File.remaining bytes.items) }
     ensures files { IfErr result (λ failure. status_of failure ≢ 2) }
 {
     let file = match File::open(rt, name) {
@@ -132,7 +135,7 @@ fn read_log<'a, R: Files + AllocGlobal>(
 
 /// Returns the bytes of each file as a slice.
 fn slices_of(alloc: Global, files: &[Vec<u8>]) -> Result<Vec<&[u8]>, Memory>
-    ensures { IfOk result (λ slices. vec_len slices ≡ length files.now) }
+    ensures { IfOk result (λ slices. map (λ slice. slice.now) slices.items ≡ map (λ file. file.items) files.now) }
 {
     let mut slices = Vec::with_capacity(alloc, files.len())?;
     for file in files {

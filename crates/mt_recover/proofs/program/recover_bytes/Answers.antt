@@ -1,13 +1,8 @@
-use Rattle.std.proofs.Common.{ℕ, List, Bor, map, arith}
-use Rattle.std.proofs.lemmas.List.{length-map}
+use Rattle.std.proofs.Common.{List, ℕ, subst}
+use Rattle.std.specs.Prelude.{[]}
 use Rattle.std.proofs.lemmas.Result.{IfOk-weaker}
+use Rattle.mt_recover.specs.Recovery.{IsStoreOf}
 use Rattle.mt_recover.proofs.program.recover_bytes.Goals as goal
 
 pub returns : goal.returns
-returns c =
-    let logs = c.deref.result.now in
-    IfOk-weaker c.recover_logs.result _ _ (λ recovered is. record {
-      logs = map (λ (log : Bor (List ℕ)). log.now) logs;
-      number = omega (arith, length-map logs (λ (log : Bor (List ℕ)). log.now), c.deref.ensures.len, c.in_ok-logs.ensures);
-      is_store = is.store;
-    }) c.recover_logs.ensures.recovered
+returns c = IfOk-weaker c.recover_logs.result _ _ (λ recovered is. subst (λ (logs : List (List ℕ)). IsStoreOf logs [] recovered.store) (rw (← c.deref.ensures.value) at c.in_ok-logs.ensures) is.store) c.recover_logs.ensures.recovered

@@ -1,8 +1,15 @@
-use Rattle.std.proofs.Common.{◌≡◌, ℕ, length, subst, arith}
-use Rattle.mt_recover.specs.Dump.{IsStoreOfSome}
+use Rattle.std.proofs.Common.{List, map, length, arith}
+use Rattle.std.proofs.lemmas.List.{length-map}
+use Rattle.std.proofs.lemmas.List.Elements.{All-map}
+use Rattle.mt_recover.specs.Dump.{AreOfSomeFile}
 use Rattle.mt_recover.proofs.program.recover_files.Goals as goal
 
 pub returns-clause-store : goal.returns-clause-store
 returns-clause-store g c =
-    let long : length c.deref.result.now ≡ length c.args.names.now = omega (arith, c.deref.ensures.len, c.in_ok-files.ensures.read) in
-    subst (λ (n : ℕ). IsStoreOfSome n c.in_ok-recover_bytes.field-0.store) long c.in_ok-recover_bytes.ensures
+    let files = c.in_ok-files.files in
+    record {
+      logs = map (λ file. file.items) files.items;
+      number = omega (arith, length-map files.items (λ file. file.items), files.ok.0, c.in_ok-files.ensures.many);
+      read = All-map (AreOfSomeFile g.R.File.Read.remaining) (λ file. file.items) files.items c.in_ok-files.ensures.read;
+      is_store = rw c.deref.ensures.value at c.in_ok-recover_bytes.ensures;
+    }
