@@ -31,7 +31,7 @@ use std::thread::Threads;
 /// parts. To use sources of several kinds together, put them into an enum that is a `Source`.
 #[derive(Debug, Drop)]
 pub struct Inputs<S> {
-    /// The sources of the logs, one for each worker's log.
+    /// The sources of the log files: one for each log, and for a log in segments one for each segment.
     pub logs: Vec<S>,
     /// The sources of the checkpoint parts, in any order.
     pub parts: Vec<S>,
@@ -99,8 +99,10 @@ impl Recovered {
 /// An Err is the first of these that holds:
 /// - `NoLogs`, if there is no log;
 /// - the fault of the first log that has one: a fault of its bytes, or `Source` if its source failed;
+/// - `Doubled` of the first log that is the same segment as a log before it;
+/// - `Torn` of the first log that is torn although a later segment of its worker's log is there;
 /// - `PartSource` of the first part whose source failed;
-/// - `Gap`, if a log has a gap.
+/// - `Gap` of the first log with a gap.
 ///
 /// Or it is `Memory`, if an allocation fails. `Source` and `PartSource` never blame a steady source. If a source does
 /// not report its bytes, the contract says only that it had some bytes.
