@@ -1,6 +1,4 @@
-use Rattle.std.proofs.Common.{subst}
 use Rattle.std.proofs.lemmas.Result.{IfOk-weaker}
-use Rattle.std.specs.List.{AllZip}
 use Rattle.mt_recover.specs.Check.{IsLogChecked}
 use Rattle.mt_recover.specs.declared.scans.Kind.TheVariants as kinds
 use Rattle.mt_recover.proofs.CheckLemmas.{all_numbered}

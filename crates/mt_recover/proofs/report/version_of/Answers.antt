@@ -6,7 +6,7 @@ use Rattle.mt_scan.specs.Steps.Checkpoints.{entries_of}
 use Rattle.mt_replay.specs.Survivors.{wholes}
 use Rattle.mt_recover.specs.Report.{logged_updates}
 use Rattle.mt_recover.specs.Steps.Preparing.{entry_versions}
-use Rattle.mt_recover.proofs.VersionLemmas.{versions, greatest_both, of_scans, of_entries}
+use Rattle.mt_recover.proofs.VersionLemmas.{greatest_both, of_scans, of_entries}
 use Rattle.mt_recover.proofs.report.version_of.Goals as goal
 
 pub returns-in-Some : goal.returns-in-Some
