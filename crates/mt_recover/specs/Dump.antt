@@ -47,9 +47,9 @@ pub record IsPrinted {F : Type 0} (remaining : F → Option (List ℕ)) (count :
 -- the exit status of a failure
 abbrev pub status_of : Failure → ℕ
 status_of (failures.Recovery fault) = 1
+status_of failures.Words = 2
 status_of failures.NoFiles = 2
 status_of failures.Key = 2
-status_of failures.Words = 3
 status_of (failures.List name) = 3
 status_of failures.TooManyFiles = 3
 status_of (failures.Open name) = 3

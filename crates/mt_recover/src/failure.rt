@@ -55,12 +55,8 @@ impl<'a> Failure<'a> {
     {
         match self {
             Failure::Recovery(_) => 1,
-            Failure::NoFiles | Failure::Key => 2,
-            Failure::Words
-            | Failure::List(_)
-            | Failure::TooManyFiles
-            | Failure::Open(_)
-            | Failure::Output => 3,
+            Failure::Words | Failure::NoFiles | Failure::Key => 2,
+            Failure::List(_) | Failure::TooManyFiles | Failure::Open(_) | Failure::Output => 3,
         }
     }
 
