@@ -83,7 +83,8 @@ impl Store {
         visitor: &V,
         target: &mut T,
     ) -> Result<(), V::Error>
-        ensures { OnOk result (V.shown target.old target.new (from start.now self.now)) }
+        ensures shown { OnOk result (V.shown target.old target.new (from start.now self.now)) }
+        ensures lawful { IsMap self.now }
     {
         self.tree.visit_from(start, visitor, target)
     }
