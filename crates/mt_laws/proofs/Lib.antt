@@ -8,3 +8,7 @@ pub mod Entries
 pub mod Sound
 pub mod Renamed
 pub mod History
+pub mod Decided
+pub mod Items
+pub mod Fitting
+pub mod SomeReading

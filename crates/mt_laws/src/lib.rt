@@ -1,11 +1,13 @@
-//! Laws of a crash: what it leaves of logs, what is never lost, and what a checkpoint and its server may leave out.
+//! Laws of all bytes: each list of them is a log or has a fault. And laws of a crash: what it leaves of logs,
+//! what is never lost, and what a checkpoint and its server may leave out.
 //!
-//! Each law is a function with an empty body, whose contract is the law. Begin with `specs/Crashes.antt`, which has the
-//! definitions, and with docs/DURABILITY.md, which says what a server must do for the laws to hold.
+//! Each law is a function with an empty body, whose contract is the law. For a crash begin with `specs/Crashes.antt`,
+//! which has the definitions, and with docs/DURABILITY.md, which says what a server must do for the laws to hold.
 #![tactic(auto)]
 
 mod checkpoints;
 mod crashes;
+mod readings;
 
 pub use checkpoints::{
     a_sound_checkpoint_changes_nothing, acknowledged_is_in_the_history, old_records_may_go,
@@ -13,3 +15,4 @@ pub use checkpoints::{
 pub use crashes::{
     a_crash_loses_nothing_below_the_cutoff, a_cut_log_is_a_log, acknowledged_is_safe,
 };
+pub use readings::some_reading;
