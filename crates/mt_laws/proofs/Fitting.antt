@@ -13,7 +13,7 @@ use Rattle.mt_words.specs.declared.update.Kind.TheVariants.{Put, Remove, Whole, 
 use Rattle.mt_words.specs.declared.code.Code.TheVariants as codes
 use Rattle.mt_words.specs.Codes.{byte_of}
 use Rattle.mt_words.specs.Words.{IsColumn, AreColumns, numbers_in}
-use Rattle.mt_words.specs.Changes.{Logged, changed, AllowsKind, IsLogged}
+use Rattle.mt_words.specs.Changes.{Logged, changed, AllowsKind, IsLogged, IsWhole, IsLawfulChange, IsEntry}
 use Rattle.mt_record.specs.Spelling.{counted, column_bytes, kind_bytes, body_of, body, FitsColumn, FitsKind, FitsChange, FitsLogged, Fits}
 use Rattle.mt_record.specs.Decoding.{columns_from, kind_from, code_from, code_in, change_unless, is_mark_in, time_in, version_in, key_length_in, key_in, carried_in, decode}
 use Rattle.mt_record.proofs.Decodes.{columns_back}
@@ -120,3 +120,17 @@ kind_allowed limits (Put columns) = columns_allowed limits columns
 kind_allowed limits Remove = inl tt
 kind_allowed limits (Whole columns) = columns_allowed limits columns
 kind_allowed limits (Erase numbers) = three (at_most (byte_of codes.Erase) limits.kind) (both (all (λ (n : ℕ). n ≤ limits.column) (λ n. at_most n limits.column) numbers) (rises 0 numbers)) (below 0 (length numbers))
+
+lawful_change : (limits : Limits) (change : Change) → Decided (IsLawfulChange limits change)
+lawful_change limits change =
+    alike (λ is. record { version = is.0; version_fits = is.1; key = is.2.0; kind = is.2.1 }) (λ (is : IsLawfulChange limits change). (is.version, is.version_fits, (is.key, is.kind)))
+    (three (below 0 change.version) (below change.version (2 ^ 64)) (both (at_most (length change.key) limits.key) (kind_allowed limits change.kind)))
+
+is_whole : (kind : Kind) → Decided (IsWhole kind)
+is_whole (Put columns) = inr (λ is. is)
+is_whole Remove = inr (λ is. is)
+is_whole (Whole columns) = inl tt
+is_whole (Erase numbers) = inr (λ is. is)
+
+pub is_entry : (limits : Limits) (change : Change) → Decided (IsEntry limits change)
+is_entry limits change = both (lawful_change limits change) (is_whole change.kind)

@@ -12,3 +12,4 @@ pub mod Decided
 pub mod Items
 pub mod Fitting
 pub mod SomeReading
+pub mod SomePart

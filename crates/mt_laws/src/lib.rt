@@ -1,4 +1,4 @@
-//! Laws of all bytes: each list of them is a log or has a fault. And laws of a crash: what it leaves of logs,
+//! Laws of all bytes: each list of them is a log or a part, or has a fault. And laws of a crash: what it leaves of logs,
 //! what is never lost, and what a checkpoint and its server may leave out.
 //!
 //! Each law is a function with an empty body, whose contract is the law. For a crash begin with `specs/Crashes.antt`,
@@ -15,4 +15,4 @@ pub use checkpoints::{
 pub use crashes::{
     a_crash_loses_nothing_below_the_cutoff, a_cut_log_is_a_log, acknowledged_is_safe,
 };
-pub use readings::some_reading;
+pub use readings::{some_part, some_reading};
