@@ -1,6 +1,6 @@
 -- A sound checkpoint and the updates from its begin on leave what the whole history leaves, key by key.
-use Rattle.std.proofs.Common.{◌≡◌, ◌⊎◌, ◌↔◌, inl, inr, ℕ, ◌<◌, ◌≤◌, nat_le, Some, None, List, [], ◌∷◌, Contains, refl, sym, ap, ◌∙◌, subst, arith}
-use Rattle.std.proofs.lemmas.Bool.{cases_lt, cases_eq}
+use Rattle.std.proofs.Common.{◌≡◌, ◌⊎◌, ◌↔◌, inl, inr, ℕ, ◌<◌, ◌≤◌, nat_le, Some, None, List, [], ◌∷◌, Contains, sym, ap, ◌∙◌, subst, arith}
+use Rattle.std.proofs.lemmas.Bool.{cases_lt}
 use Rattle.std.proofs.lemmas.List.Elements.{Contains-append_cases, Contains-append_left, Contains-append_right}
 use Rattle.mt_words.specs.declared.record.Change.{Change}
 use Rattle.mt_words.specs.declared.update.Update.{Update}
@@ -16,6 +16,7 @@ use Rattle.mt_replay.specs.Walk.{IsWalk}
 use Rattle.mt_replay.proofs.Members.{of_map, in_map, of_filter, in_filter}
 use Rattle.mt_recover.specs.Recovery.{survivors}
 use Rattle.mt_laws.specs.Crashes.{up_to, IsSeenAt, IsSoundAbsence, IsSound}
+use Rattle.mt_laws.proofs.Decided.{same_bytes}
 use Rattle.mt_laws.proofs.Windows.{is_least, at_least, within, not_early, not_late}
 use Rattle.mt_laws.proofs.Moved.{version_at_most, version_below, at_most, column_by, moved, same_walk}
 use Rattle.mt_laws.proofs.Entries.{entry_stamp, below_entry, above_entry, whole_resets, of_a_log, entry_update}
@@ -28,18 +29,6 @@ record HasEntry (entries : List Change) (key : List ℕ) : Type 0 where
   stands : Contains entries entry
   of_key : entry.key ≡ key
   greatest : (other : Change) → Contains entries other → other.key ≡ key → other.version ≤ entry.version
-
-one_key : (a b : List ℕ) → (a ≡ b) ⊎ (a ≡ b → ⊥)
-one_key [] [] = inl refl
-one_key [] (y ∷ ys) = inr (λ e. absurd cc)
-one_key (x ∷ xs) [] = inr (λ e. absurd cc)
-one_key (x ∷ xs) (y ∷ ys) = elim (cases_eq x y) as (λ _. (x ∷ xs ≡ y ∷ ys) ⊎ (x ∷ xs ≡ y ∷ ys → ⊥)) [
-  | inl first ↦ elim (one_key xs ys) as (λ _. (x ∷ xs ≡ y ∷ ys) ⊎ (x ∷ xs ≡ y ∷ ys → ⊥)) [
-    | inl rest ↦ inl (λ i. first i ∷ rest i)
-    | inr other ↦ inr (λ e. let rest : xs ≡ ys = cc in other rest)
-  ]
-  | inr other ↦ inr (λ e. let first : x ≡ y = cc in other first)
-]
 
 -- no entry is of the key
 abbrev HasNone : List Change → List ℕ → Type 0
@@ -96,7 +85,7 @@ one_other entry entries key not (inl has) = inl (record {
 
 has_or_not : (entries : List Change) (key : List ℕ) → HasEntry entries key ⊎ HasNone entries key
 has_or_not [] key = inr (λ entry at same. no_element entry at)
-has_or_not (e ∷ es) key = elim (one_key e.key key) as (λ _. HasEntry (e ∷ es) key ⊎ HasNone (e ∷ es) key) [
+has_or_not (e ∷ es) key = elim (same_bytes e.key key) as (λ _. HasEntry (e ∷ es) key ⊎ HasNone (e ∷ es) key) [
   | inl is ↦ inl (one_more e es key is (has_or_not es key))
   | inr not ↦ one_other e es key not (has_or_not es key)
 ]
