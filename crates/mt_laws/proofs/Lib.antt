@@ -13,3 +13,9 @@ pub mod Items
 pub mod Fitting
 pub mod SomeReading
 pub mod SomePart
+pub mod Finite
+pub mod Maps
+pub mod SomeCutoff
+pub mod SomeCheckpoint
+pub mod SomeChoice
+pub mod SomeWalk
