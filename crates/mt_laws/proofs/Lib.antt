@@ -19,3 +19,4 @@ pub mod SomeCutoff
 pub mod SomeCheckpoint
 pub mod SomeChoice
 pub mod SomeWalk
+pub mod SomeVerdict

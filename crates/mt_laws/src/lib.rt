@@ -1,5 +1,5 @@
-//! Laws of all bytes: each list of them is a log or a part, or has a fault. And laws of a crash: what it leaves of logs,
-//! what is never lost, and what a checkpoint and its server may leave out.
+//! Laws of all bytes: each list of them is a log or a part, or has a fault, and logs and parts have a store or a fault.
+//! And laws of a crash: what it leaves of logs, what is never lost, and what a checkpoint and its server may leave out.
 //!
 //! Each law is a function with an empty body, whose contract is the law. For a crash begin with `specs/Crashes.antt`,
 //! which has the definitions, and with docs/DURABILITY.md, which says what a server must do for the laws to hold.
@@ -8,6 +8,7 @@
 mod checkpoints;
 mod crashes;
 mod readings;
+mod verdicts;
 
 pub use checkpoints::{
     a_sound_checkpoint_changes_nothing, acknowledged_is_in_the_history, old_records_may_go,
@@ -16,3 +17,4 @@ pub use crashes::{
     a_crash_loses_nothing_below_the_cutoff, a_cut_log_is_a_log, acknowledged_is_safe,
 };
 pub use readings::{some_part, some_reading};
+pub use verdicts::some_verdict;
