@@ -1,6 +1,7 @@
 //! Checks of logs. A check reads a log as a scan does and counts its records, but keeps none, so it needs no more
 //! memory than a chunk.
 ghost use Rattle.std.specs.Prelude.{◌≡◌, ◌+◌, ◌^◌, ◌-◌, [], List, ℕ, min, IfOk, IfErr, IsTrue};
+ghost use Rattle.mt_words.specs.Updates.{kept_updates};
 ghost use Rattle.mt_scan.specs.Scans.{IsLogVerdict, IsScanFault, OfTold, failures_of};
 ghost use Rattle.mt_scan.specs.Checks.{IsCheckOf, IsOfARecord};
 ghost use Rattle.mt_scan.specs.Dropping.{HasAllBelow};
@@ -30,6 +31,7 @@ impl LogCheck {
     pub fn scan(&self, alloc: Global, log: usize) -> Result<LogScan, Fault>
         ensures scan { (limit : ℕ) (bytes : List ℕ) → IsCheckOf limit bytes self.now → IfOk result (HasAllBelow 0 log bytes) }
         ensures fault { (limit : ℕ) (bytes : List ℕ) → IsCheckOf limit bytes self.now → IfErr result (IsScanFault log bytes) }
+        ensures none { IfOk result (λ scan. kept_updates scan.updates ≡ []) }
         ensures record { IfErr result (IsOfARecord log) }
         ensures no_source { failures_of result ≡ 0 }
     {

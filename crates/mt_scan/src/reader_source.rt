@@ -95,6 +95,8 @@ impl<R: Read + Drop> Source for ReaderSource<'_, R> {
             ⊎ IsTrue (seen_of_reader R.remaining self.old).spent }
         ensures ended { result ≡ Ok 0 → IsTrue (at_its_end self.new) }
         ensures stays { IsTrue (at_its_end self.old) → result ≡ Ok 0 }
+        // After the reader's end, and after a failure, the reader is left alone.
+        ensures unread { IsTrue (at_its_end self.old) ⊎ IsTrue (has_failed self.old.progress) → self.new.reader ≡ self.old.reader }
         ensures size { reader_piece_size self.new ≡ reader_piece_size self.old }
         ensures slot { self.new.slot.ghost_name ≡ self.old.slot.ghost_name }
     {
