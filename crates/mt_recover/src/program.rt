@@ -24,7 +24,7 @@ pub const MOST_FILES: usize = 512;
 ///
 /// Returns the exit status: 0 if the store was printed; 1 for a fault of the logs or out of memory; 2 if no name is
 /// given; 3 if a file cannot be opened, for too many names and for a write error. Nothing is written to `out` if the
-/// status is 1 or 2.
+/// status is 1 or 2, nor for too many names.
 pub fn dump_files<R: Files + AllocGlobal, O: Write, E: Write>(
     rt: &R,
     names: &[String],
@@ -35,7 +35,7 @@ pub fn dump_files<R: Files + AllocGlobal, O: Write, E: Write>(
         IsPrinted R.File.remaining (length names.now) (O.contents out.old) (O.contents out.new) }
     ensures kept { (result ≡ 1) ⊎ (result ≡ 2) → Keeps (O.contents out.old) (O.contents out.new) }
     ensures no_files { result ≡ 2 ↔ (names.now ≡ []) }
-    ensures too_many { MOST_FILES < length names.now → result ≡ 3 }
+    ensures too_many { MOST_FILES < length names.now → (result ≡ 3) × Keeps (O.contents out.old) (O.contents out.new) }
     ensures range { result ≤ 3 }
 {
     match dump(rt, names, out) {
