@@ -9,18 +9,10 @@ use std::fs::{self, File, Files, OpenFile};
 use std::io::{self, ErrorKind, Read, Seek, SeekFrom};
 use std::path::Path;
 
-/// The bytes that the buffers of many files share. Up to 128 files have buffers of `LONGEST_BUFFER` each.
-const SHARED_BYTES: usize = 8 << 20;
-
-/// The size of the shortest buffers. Shorter ones would take many more reads.
-const SHORTEST_BUFFER: usize = 16_384;
-
 /// Creates a rack with a buffer for each file. Err: out of memory.
 pub fn rack_of<R: AllocGlobal>(rt: &R, names: &Names) -> Result<Rack, Refusal<'static>> {
     let count = names.logs.len().saturating_add(names.parts.len());
-    let share = SHARED_BYTES / count.max(1);
-    let size = share.clamp(SHORTEST_BUFFER, LONGEST_BUFFER);
-    Ok(Rack::new(rt.alloc(), count, size)?)
+    Ok(Rack::new(rt.alloc(), count, LONGEST_BUFFER)?)
 }
 
 /// Opens the files of these names in the folder as sources, each with the buffer of a slot. Err: a file cannot be
