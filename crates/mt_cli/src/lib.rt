@@ -1,9 +1,10 @@
-//! The code of the program `mtrecover`, which recovers the store of a folder and answers one query on it, or audits the
-//! logs of the folder.
+//! The code of the program `mtrecover`, which recovers the store of a folder and answers one query on it; audits the logs
+//! of the folder; checks all its files; or prints or cuts one file.
 //!
-//! `run` is the whole program. It reads the arguments into a `Command`, which has a `Query`; lists the `Names` of the
-//! logs and parts in the folder; opens these as sources; then `answer` recovers the store or audits the logs, and prints
-//! the answer.
+//! `run` is the whole program. It reads the arguments into a `Command`, which has a `Query`. A query on one file, as of
+//! `records` and `cut`, reads that file. All others list the `Names` of the logs and parts in the folder. `check` then reads
+//! each file by itself. The rest open the files as sources, from which `answer` recovers the store or audits the logs, and
+//! prints the answer.
 //!
 //! ```
 //! let words = vec![in rt.alloc(); "report".to_string(rt.alloc())?, folder]?;

@@ -1,4 +1,4 @@
-//! Recovers the store of a folder and answers queries on it.
+//! Recovers the store of a folder and answers queries on it; audits its logs, checks its files; prints or cuts one of them.
 #![tactic(auto)]
 
 use mt_cli::run;
