@@ -4,7 +4,7 @@ ghost use Rattle.std.specs.Prelude.{◌≤◌, length};
 use crate::answering::PRINTED_AT_ONCE;
 use crate::failure::tell;
 use crate::file_names::Names;
-use crate::opening::read_file;
+use crate::opening::read_path;
 use crate::refusal::Refusal;
 use crate::request::{Command, FileQuery};
 use crate::stop::Stop;
@@ -76,7 +76,7 @@ fn cut<'a, R: AllocGlobal + Files, O: Write>(
     path: &'a str,
     out: &mut O,
 ) -> Result<Option<Stop>, Refusal<'a>> {
-    let bytes = read_file(rt, path)?;
+    let bytes = read_path(rt, path)?;
     let (front, log) = cut_out(rt.alloc(), &bytes)?;
     out.write_all(log)?;
     out.flush()?;
@@ -97,7 +97,7 @@ fn records<'a, R: AllocGlobal + Files, O: Write>(
     at: Option<u64>,
     out: &mut O,
 ) -> Result<Option<Stop>, Refusal<'a>> {
-    let bytes = read_file(rt, path)?;
+    let bytes = read_path(rt, path)?;
     let mut out = BufWriter::with_capacity(rt.alloc(), PRINTED_AT_ONCE, out)?;
     match part_header_at(&bytes) {
         Some((head, rest)) => {

@@ -1,12 +1,11 @@
 //! Opens files as sources.
 use crate::file_names::Names;
 use crate::refusal::Refusal;
-use mt_recover::{Failure, MOST_BYTES};
+use mt_recover::{Failure, MOST_BYTES, read_file};
 use mt_scan::{LONGEST_BUFFER, Rack, ReaderSource, Slot};
 use mt_words::Fault;
-use std::alloc::Global;
 use std::fs::{self, File, Files, OpenFile};
-use std::io::{self, ErrorKind, Read, Seek, SeekFrom};
+use std::io::{self, ErrorKind, Seek, SeekFrom};
 use std::path::Path;
 
 /// Creates a rack with a buffer for each file. Err: out of memory.
@@ -67,7 +66,7 @@ fn open<R: AllocGlobal + Files>(rt: &R, folder: &str, name: &str) -> io::Result<
 
 /// Reads the file of this path, as log 0. Err: it cannot be opened or read, has more than `MOST_BYTES` bytes, or out of
 /// memory.
-pub fn read_file<'a, R: AllocGlobal + Files>(
+pub fn read_path<'a, R: AllocGlobal + Files>(
     rt: &R,
     path: &'a str,
 ) -> Result<Vec<u8>, Refusal<'a>> {
@@ -75,19 +74,10 @@ pub fn read_file<'a, R: AllocGlobal + Files>(
         Failure::Open(path),
         error,
     ))?;
-    let unread = Fault::Source { log: 0 };
-    let bytes = read(rt.alloc(), file).map_err(|error| Refusal::of(Failure::from(unread), error))?;
-    if bytes.len() as u64 > MOST_BYTES {
-        return Err(Refusal::from(unread));
-    }
-    Ok(bytes)
-}
-
-/// Reads a file, up to one byte past `MOST_BYTES`.
-fn read<F: Read + Drop>(alloc: Global, file: F) -> io::Result<Vec<u8>> {
-    let mut bytes = Vec::new(alloc);
-    let _ = file.take(MOST_BYTES + 1).read_to_end(&mut bytes)?;
-    Ok(bytes)
+    read_file(rt.alloc(), file).map_err(|error| Refusal::of(
+        Failure::from(Fault::Source { log: 0 }),
+        error,
+    ))
 }
 
 /// Returns the size of the file of this name in the folder in bytes. None: the system does not tell, or it is no regular
