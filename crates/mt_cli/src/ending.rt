@@ -1,4 +1,6 @@
 //! What follows the complete records of a log, or the entries of a part.
+ghost use Rattle.std.specs.Prelude.{◌≡◌, IfOk, IsSome};
+
 use crate::fields::Fields;
 use mt_record::records_at_end;
 use mt_scan::Source;
@@ -54,7 +56,9 @@ impl Ending {
         alloc: Global,
         format: Format,
         source: &mut S,
-    ) -> Result<Option<Ending>, Memory> {
+    ) -> Result<Option<Ending>, Memory>
+        ensures { IfOk result (λ ending. IsSome ending → (S.seen source.new).failures ≡ (S.seen source.old).failures) }
+    {
         let mut tail = Tail::new(alloc);
         for _ in 0..u64::MAX {
             match source.advance() {
