@@ -29,6 +29,8 @@ mod logs;
 #[cfg(test)]
 mod meeting;
 #[cfg(test)]
+mod mixing;
+#[cfg(test)]
 mod ranges;
 #[cfg(test)]
 mod refusals;
