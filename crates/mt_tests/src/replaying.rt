@@ -1,9 +1,9 @@
 //! Cells, cuts, pieces and clashes, which no case can show one by one.
 use crate::asserting::assert_same;
 use crate::logs::{HEADER, LOG_A, LOG_OF_THREE};
-use mt_replay::{Cell, Cuts, LogCells, Pieces, Place, Window, clashes, replay_piece};
+use mt_replay::{Cell, CutFault, Cuts, LogCells, Pieces, Place, Window, clashes, replay_piece};
 use mt_scan::scan_bytes;
-use mt_words::Update;
+use mt_words::{Key, Update};
 use std::process::Abort;
 use std::thread::Threads;
 
@@ -71,8 +71,54 @@ const EVEN: &[(&[u8], u32, &[usize])] = &[
     (LOG_OF_THREE, 2, &[1, 2]),
     (LOG_OF_THREE, 3, &[1, 1, 1]),
     (LOG_OF_THREE, 8, &[1, 1, 1]),
+    (LOG_OF_FIVE, 2, &[2, 3]),
+    (LOG_OF_FIVE, 3, &[1, 2, 2]),
+    (LOG_OF_FIVE, 5, &[1, 1, 1, 1, 1]),
     (HEADER, 4, &[0]),
 ];
+
+/// A log of puts of keys a to e, and a mark above them.
+const LOG_OF_FIVE: &[u8] = b"MTL1\0\0\0\0\0\0\0\0\
+    \0\0\0\x19\x01\0\0\0\0\0\0\0\x01\0\0\0\0\0\0\0\x01\0\x01a\x01\0\0\x011\0\0\0\x19\
+    \0\0\0\x19\x01\0\0\0\0\0\0\0\x02\0\0\0\0\0\0\0\x01\0\x01b\x01\0\0\x012\0\0\0\x19\
+    \0\0\0\x19\x01\0\0\0\0\0\0\0\x03\0\0\0\0\0\0\0\x01\0\x01c\x01\0\0\x013\0\0\0\x19\
+    \0\0\0\x19\x01\0\0\0\0\0\0\0\x04\0\0\0\0\0\0\0\x01\0\x01d\x01\0\0\x014\0\0\0\x19\
+    \0\0\0\x19\x01\0\0\0\0\0\0\0\x05\0\0\0\0\0\0\0\x01\0\x01e\x01\0\0\x015\0\0\0\x19\
+    \0\0\0\x09\x03\0\0\0\0\0\0\0\x09\0\0\0\x09";
+
+/// Returns cuts at these keys, or why they are none.
+fn cuts_of<R: Abort + AllocGlobal>(rt: &R, keys: &[[u8; 2]]) -> Result<Cuts, CutFault> {
+    let mut list = Vec::new(rt.alloc());
+    for key in keys {
+        let bytes = Vec::from_slice(rt.alloc(), key).expect(rt, "memory");
+        let key = Key::new(bytes).expect(rt, "a key");
+        list.push(key).expect(rt, "memory");
+    }
+    Cuts::new(list)
+}
+
+#[test]
+fn a_key_that_is_not_above_the_one_before_it_is_no_cut(rt: HostRuntime) {
+    let fault = cuts_of(&rt, &[*b"ab", *b"ab"]).err();
+    assert_same(&rt, &fault, &Some(CutFault::NotRising { at: 1 }));
+}
+
+/// Returns this many keys of two bytes that rise.
+fn rising<R: Abort + AllocGlobal>(rt: &R, count: u16) -> Vec<[u8; 2]> {
+    let mut keys = Vec::new(rt.alloc());
+    for number in 0..count {
+        keys.push(number.to_be_bytes()).expect(rt, "memory");
+    }
+    keys
+}
+
+#[test]
+fn there_are_at_most_4095_cuts(rt: HostRuntime) {
+    let most = cuts_of(&rt, &rising(&rt, 4_095)).expect(&rt, "cuts");
+    assert_same(&rt, &most.pieces(), &4_096);
+    let fault = cuts_of(&rt, &rising(&rt, 4_096)).err();
+    assert_same(&rt, &fault, &Some(CutFault::TooMany));
+}
 
 #[test]
 fn two_logs_with_one_version_of_a_key_clash(rt: HostRuntime) {

@@ -135,6 +135,25 @@ fn keys_of_equal_bytes_are_found(rt: HostRuntime) {
     assert_all(&rt, &tree, &keys);
 }
 
+#[test]
+fn a_draft_is_above_another_if_all_its_keys_are(rt: HostRuntime) {
+    for (left, right, expected) in ABOVE {
+        let left = draft_of(rt.alloc(), left).expect(&rt, "memory");
+        let right = draft_of(rt.alloc(), right).expect(&rt, "memory");
+        assert_same(&rt, &above(&left, &right), expected);
+    }
+}
+
+/// The keys of two drafts, and whether the second is above the first.
+const ABOVE: &[(&[&[u8]], &[&[u8]], bool)] = &[
+    (&[b"b"], &[b"b"], false),
+    (&[b"b"], &[b"a", b"c"], false),
+    (&[b"a", b"b"], &[b"c"], true),
+    (&[], &[b"b"], true),
+    (&[b"b"], &[], true),
+    (&[], &[], true),
+];
+
 /// Returns the pseudorandom number after this one.
 fn next_of(number: u64) -> u64 {
     let number = number ^ number << 13;
