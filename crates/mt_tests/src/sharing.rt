@@ -112,6 +112,20 @@ fn a_scan_with_a_fault_notes_nothing(rt: HostRuntime) {
     }
 }
 
+/// Segment 0 of the log of worker 7: a put of key c at timestamp 1.
+const SEGMENT: &[u8] = b"MTL3\0\0\0\0\0\0\0\0\0\0\0\x07\0\0\0\0\
+    \0\0\0\x19\x01\0\0\0\0\0\0\0\x01\0\0\0\0\0\0\0\x01\0\x01c\x01\0\0\x01z\0\0\0\x19";
+
+#[test]
+fn a_scan_of_a_segment_notes_nothing(rt: HostRuntime) {
+    for size in SIZES {
+        let (answer, least) = scan_after(&rt, None, SEGMENT, size);
+        let scan = answer.expect(&rt, "a scan");
+        assert_same(&rt, &(scan.updates.len(), scan.last), &(1, 1));
+        assert_same(&rt, &least, &u64::MAX);
+    }
+}
+
 /// The length of the first chunk: the header and a put.
 const FIRST_PIECE: usize = 45;
 
