@@ -7,7 +7,8 @@ use crate::asserting::assert_same;
 use crate::logs::LOG_OF_THREE;
 use mt_board::Pass;
 use mt_recover::{
-    Cuts, Cutting, Gate, Inputs, Job, NoGate, Recovered, Workers, prepare, recover, recover_one,
+    Cuts, Cutting, Gate, Inputs, Job, NoGate, Recovered, Workers, audit, check_logs, prepare,
+    recover, recover_one,
 };
 use mt_scan::{MemSource, Rack, Source, SourceFault};
 use mt_words::{Fault, Key};
@@ -41,6 +42,8 @@ pub struct Meeting {
     own: AtomicU64,
     /// How often the others have entered.
     others: AtomicU64,
+    /// 1 if the first worker saw them enter `wanted` times, else 0.
+    met: AtomicU64,
 }
 
 impl Meeting {
@@ -51,7 +54,13 @@ impl Meeting {
             first: AtomicU64::new(0),
             own: AtomicU64::new(0),
             others: AtomicU64::new(0),
+            met: AtomicU64::new(0),
         }
+    }
+
+    /// Whether the first worker saw the others enter as often as it waited for.
+    pub fn has_met(&self) -> bool {
+        self.met.load(Ordering::SeqCst) == 1
     }
 
     /// Returns how often the first worker has entered, and how often the others have.
@@ -69,7 +78,9 @@ impl Gate for Meeting {
             .compare_exchange(0, worker, Ordering::SeqCst, Ordering::SeqCst);
         let count = match first {
             Ok(_) => {
-                is_reached_in_time(&self.others, self.wanted);
+                if is_reached_in_time(&self.others, self.wanted) {
+                    self.met.store(1, Ordering::SeqCst);
+                }
                 &self.own
             }
             Err(first) if first == worker => &self.own,
@@ -172,7 +183,40 @@ fn two_workers_meet_in_scans_and_at_a_gate(rt: HostRuntime) {
     let recovered = recover_by_two(&rt, Inputs { logs, parts }, &gate);
     assert!(rt; recovered.is_ok());
     assert_same(&rt, &scans.load(Ordering::SeqCst), &2);
-    assert!(rt; gate.entries().1 > 0);
+    assert!(rt; gate.has_met());
+}
+
+/// Whether this many workers read the logs without a fault: for an audit (way 0), or for a check (any other).
+fn are_read<R: Abort + AllocGlobal + Threads + Sync, S: Source + Send>(
+    rt: &R,
+    logs: Vec<S>,
+    workers: u32,
+    way: u32,
+) -> bool {
+    let workers = Workers::new(workers).expect(rt, "1 to 64 workers");
+    if way > 0 {
+        return check_logs(rt, rt.alloc(), logs, workers, 9).is_ok();
+    }
+    let parts = Vec::new(rt.alloc());
+    audit(rt, rt.alloc(), Inputs { logs, parts }, workers).is_ok()
+}
+
+/// Checks that two workers read both logs at once, and that one worker reads one after the other: then the first sees no
+/// other begin, and the second has seen it.
+fn assert_at_once<R: Abort + AllocGlobal + Threads + Sync>(rt: &R, workers: u32, way: u32) {
+    let mut rack = Rack::new(rt.alloc(), 2, 16).expect(rt, "memory");
+    let (begun, met) = (AtomicU64::new(0), AtomicU64::new(0));
+    let logs = sources_that_wait(rt, &mut rack, &begun, &met);
+    assert!(rt; are_read(rt, logs, workers, way));
+    assert_same(rt, &met.load(Ordering::SeqCst), &u64::from(workers));
+}
+
+#[test]
+fn an_audit_and_a_check_read_as_many_logs_at_once_as_they_have_workers(rt: HostRuntime) {
+    for workers in 1..3 {
+        assert_at_once(&rt, workers, 0);
+        assert_at_once(&rt, workers, 1);
+    }
 }
 
 /// Returns the fault of the inputs: by one thread (way 0), by two workers (1), or of `prepare` (any other).
