@@ -12,15 +12,16 @@ use crate::tree::{ZEROS_AND_ONES, tree_of};
 use mt_board::Pass;
 use mt_record::{encode_log_header, encode_part_2, encode_record, read_log};
 use mt_recover::{
-    Cutting, Haul, Inputs, Job, NoGate, Pieces, Recovered, Workers, assemble, prepare, recover,
-    recover_logs, work,
+    Cuts, Cutting, Haul, Inputs, Job, NoGate, Pieces, Recovered, Workers, assemble, prepare,
+    recover, recover_logs, work,
 };
-use mt_replay::{Cuts, LogCells, replay_piece};
+use mt_replay::{LogCells, replay_piece};
 use mt_scan::{MemSource, Rack, Slot, choose, scan_bytes, scan_log, scan_part};
 use mt_tree::Wanted;
-use mt_words::{Fault, Record};
+use mt_words::{Fault, Key, Record};
 use std::alloc::Global;
 use std::process::Abort;
+use std::slice;
 use std::thread::Threads;
 
 /// A log of format 2 with `from` 2: a put of key a at version 3, an erase of its column 1 at version 4, and a mark.
@@ -97,27 +98,28 @@ fn a_refused_growth_of_recovery_by_two_workers_over_a_checkpoint_is_memory(rt: H
     }
 }
 
-/// Prepares the log in these pieces for these workers. Returns the job and its passes. None: no lawful number of workers
-/// or pieces, or out of memory.
+/// Prepares the log, cut so, for these workers. Returns the job and its passes. None: no lawful number of workers, or out
+/// of memory.
 fn prepare_log<R: AllocGlobal + Threads + Sync>(
     rt: &R,
     workers: u32,
-    pieces: u32,
+    cutting: Cutting,
     log: &[u8],
 ) -> Option<(Job, Vec<Pass>)>
     ensures { IfSome result (λ opened. opened.1.items ≡ fresh_passes opened.0.board workers) }
 {
-    let (pieces, workers) = (Pieces::new(pieces)?, Workers::new(workers)?);
+    let workers = Workers::new(workers)?;
     let mut rack = Rack::new(rt.alloc(), 1, 16).ok()?;
     let logs = sources_of(rt.alloc(), &[log], rack.slots())?;
     let parts = Vec::new(rt.alloc());
     let inputs = Inputs { logs, parts };
-    prepare(rt, rt.alloc(), inputs, workers, Cutting::Even(pieces)).ok()
+    prepare(rt, rt.alloc(), inputs, workers, cutting).ok()
 }
 
 /// Works on a log of one piece with one worker. Returns the entries at the gate. None: out of memory before the work.
 fn entries_of_work<R: AllocGlobal + Threads + Sync>(rt: &R) -> Option<(u64, u64)> {
-    let (job, mut passes) = prepare_log(rt, 1, 1, LOG_A)?;
+    let one_piece = Cutting::Even(Pieces::new(1)?);
+    let (job, mut passes) = prepare_log(rt, 1, one_piece, LOG_A)?;
     let mut pass = passes.pop()?;
     let gate = Turns::new();
     let _ = work(rt.alloc(), &job, &mut pass, &gate);
@@ -132,33 +134,66 @@ fn a_refused_growth_of_a_replay_comes_after_the_gate(rt: HostRuntime) {
     }
 }
 
-/// Works with the pass. None: out of memory.
-fn haul_of(alloc: Global, job: &Job, pass: &mut Pass) -> Option<Haul>
+/// Works with the pass, by the gate. None: out of memory.
+fn haul_of(alloc: Global, job: &Job, pass: &mut Pass, gate: &Turns) -> Option<Haul>
     requires { pass.old.board ≡ job.now.board }
     ensures haul { IfSome result (IsHaulOf job.now) }
     ensures pass { pass.new.board ≡ pass.old.board }
 {
-    work(alloc, job, pass, &NoGate).ok()
+    work(alloc, job, pass, gate).ok()
 }
 
-/// Works on three pieces with one pass, which runs out of memory, and then with another. Returns the fault of the
-/// assembly. None: the first pass did not run out of memory, or something else did.
-fn fault_without_first<R: AllocGlobal + Threads + Sync>(rt: &R) -> Option<Fault> {
-    let (job, mut passes) = prepare_log(rt, 2, 3, LOG_OF_THREE)?;
+/// Returns cuts at these letters. None: they do not rise, or out of memory.
+fn cut_at(alloc: Global, letters: &[u8]) -> Option<Cutting> {
+    let mut keys = Vec::new(alloc);
+    for letter in letters {
+        let bytes = Vec::from_slice(alloc, slice::from_ref(letter)).ok()?;
+        keys = with(keys, Key::new(bytes))?;
+    }
+    Some(Cutting::At(Cuts::new(keys).ok()?))
+}
+
+/// Returns the fault of a job that is assembled from this haul alone. None: there is none, or out of memory before.
+fn fault_of_rest(alloc: Global, job: Job, rest: Haul, first: Pass, second: Pass) -> Option<Fault>
+    requires haul { IsHaulOf job rest }
+    requires passes { (first.board ≡ job.board) × (second.board ≡ job.board) }
+{
+    let hauls = vec![in alloc; rest].ok()?;
+    let passes = vec![in alloc; first, second].ok()?;
+    assemble(alloc, job, hauls, passes).err()
+}
+
+/// How a first pass ended early, and what was left: its fault, how many pieces it had entered and how many a second pass
+/// entered then, and the fault of the assembly.
+type Left = (Fault, (u64, u64), Option<Fault>);
+
+/// Works on a log of three keys, each in a piece, with one pass, which runs out of memory, and then with another. None:
+/// the first pass did not run out of memory, or something else did.
+fn left_by_first<R: AllocGlobal + Threads + Sync>(rt: &R) -> Option<Left> {
+    let cutting = cut_at(rt.alloc(), b"ce")?;
+    let (job, mut passes) = prepare_log(rt, 2, cutting, LOG_OF_THREE)?;
     let mut second = passes.pop()?;
     let mut first = passes.pop()?;
-    work(rt.alloc(), &job, &mut first, &NoGate).err()?;
-    let rest = haul_of(rt.alloc(), &job, &mut second)?;
-    let hauls = vec![in rt.alloc(); rest].ok()?;
-    let passes = vec![in rt.alloc(); first, second].ok()?;
-    assemble(rt.alloc(), job, hauls, passes).err()
+    let gate = Turns::new();
+    let refused = work(rt.alloc(), &job, &mut first, &gate).err()?;
+    let rest = haul_of(rt.alloc(), &job, &mut second, &gate)?;
+    let fault = fault_of_rest(rt.alloc(), job, rest, first, second);
+    Some((refused, gate.entries(), fault))
 }
 
-// The first pass drew piece 0, at least, before it ran out of memory.
+/// Each result of `left_by_first`: the first pass ran out of memory in piece 0, in piece 1 or in piece 2.
+const LEFT: [Left; 3] = [
+    (Fault::Memory, (1, 2), Some(Fault::Missing { piece: 0 })),
+    (Fault::Memory, (2, 1), Some(Fault::Missing { piece: 0 })),
+    (Fault::Memory, (3, 0), Some(Fault::Missing { piece: 0 })),
+];
+
+// `.ci/try_failures` wants each of the lines that this test writes.
 #[test]
 fn a_refused_growth_of_work_leaves_its_pieces_missing(rt: HostRuntime) {
-    if let Some(fault) = fault_without_first(&rt) {
-        assert_same(&rt, &fault, &Fault::Missing { piece: 0 });
+    if let Some(left) = left_by_first(&rt) {
+        assert!(rt; LEFT.contains(&left), "{left:?}");
+        eprintln!(rt; "reached: {} of 3 pieces", left.1.0).expect(&rt, "standard error");
     }
 }
 
