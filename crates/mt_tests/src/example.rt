@@ -1,4 +1,4 @@
-//! The example of the README: recovery over files.
+//! The example of docs/EMBEDDING.md: recovery over files.
 use crate::asserting::assert_bytes;
 use crate::folders::{folder_of, remove};
 use crate::logs::{LOG_A, LOG_B, PART};

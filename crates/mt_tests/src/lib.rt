@@ -3,7 +3,7 @@
 //!
 //! `logs` has the logs and parts of the tests as bytes. A `Meeting` is a gate where a worker waits for others.
 //!
-//! Begin with `example.rt`, the example of the README.
+//! Begin with `example.rt`, the example of docs/EMBEDDING.md.
 #![tactic(auto)]
 
 #[cfg(test)]
