@@ -18,11 +18,12 @@ pub struct Pass {
 
 impl Pass {
     /// Whether the pass takes this one of the six ways in even pieces, where 1 and 16 pieces alternate. Each makes
-    /// threads, so passes of one letter take the two numbers of pieces in turn, and passes of two letters the six ways.
+    /// threads, so passes of one letter take the two numbers of pieces in turn. Of 24 passes of two letters, six take
+    /// one way each.
     pub fn takes(self, way: usize) -> bool {
         match (self.n, self.m) {
             (None, None) => true,
-            (Some(_), Some(_)) => way % 6 == self.place % 6,
+            (Some(_), Some(_)) => way == self.place % 24,
             _ => way % 2 == self.place % 2,
         }
     }
