@@ -53,7 +53,9 @@ impl Mistake {
             Mistake::Misplaced => "an entry in a log or behind bytes, or a record in a part",
             Mistake::FileName => "a slash in the name of a file",
             Mistake::NoRun => "no command before it",
-            Mistake::Mixed => "the case has logs or parts, and mtdump or a line of F",
+            Mistake::Mixed => {
+                "the case has logs or parts, and mtdump, check, records, cut or a line of F"
+            }
             Mistake::Nothing => "the case expects nothing",
             Mistake::Slot => "a slot has no buffer",
             Mistake::Folder => "the folder F cannot be made or removed",

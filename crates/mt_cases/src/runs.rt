@@ -5,7 +5,7 @@ use crate::folder::{self, Folder};
 use crate::mistake::Mistake;
 use crate::source::inputs_of;
 use crate::words::{push_arguments, small_of};
-use mt_cli::{Names, answer, command, run_words};
+use mt_cli::{Command, Names, answer, command, run_words};
 use mt_recover::dump_files;
 use mt_scan::{LONGEST_BUFFER, Rack};
 use std::alloc::Global;
@@ -147,8 +147,8 @@ impl Run {
         Ok(Ends::of(out, err, status))
     }
 
-    /// Runs `mtrecover` on these logs and parts in place of a folder, with buffers of this size. Err if a buffer is not
-    /// back in its slot afterwards.
+    /// Runs `mtrecover` on these logs and parts in place of a folder, with buffers of this size. Err if the command
+    /// opens files itself, or a buffer is not back in its slot afterwards.
     pub fn end_on<R: AllocGlobal + Files + Threads + Sync>(
         &self,
         rt: &R,
@@ -161,11 +161,12 @@ impl Run {
         let size = size.clamp(1, LONGEST_BUFFER);
         let mut rack = Rack::new(rt.alloc(), drafts.len(), size)?;
         let status = match command(rt, &self.words, &mut out, &mut err) {
-            Ok(command) => {
+            Ok(Command::Query(folder, query)) => {
                 let inputs = inputs_of(rt.alloc(), drafts, rack.slots())?;
                 let names = Names::new(rt.alloc());
-                answer(rt, &command, &names, inputs, &mut out, &mut err)
+                answer(rt, &folder, &query, &names, inputs, &mut out, &mut err)
             }
+            Ok(_) => return Err(Mistake::Mixed),
             Err(status) => status,
         };
         if !rack.all_full() {

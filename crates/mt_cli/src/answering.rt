@@ -10,10 +10,10 @@ use crate::form::Form;
 use crate::json::write_report;
 use crate::printing::print_range;
 use crate::refusal::Refusal;
-use crate::request::{Command, Query, StoreQuery};
+use crate::request::{Folder, Query, StoreQuery};
 use mt_recover::{
-    Clash, Cutting, Failure, Inputs, NoGate, Pieces, Recovered, Report, Store, Wanted, Workers,
-    audit, recover, write_dump,
+    Clash, Cutting, Inputs, NoGate, Pieces, Recovered, Report, Store, Wanted, Workers, audit,
+    recover, write_dump,
 };
 use mt_scan::Source;
 use mt_words::Key;
@@ -23,12 +23,13 @@ use std::io::{self, BufWriter, Write};
 use std::mem;
 use std::thread::Threads;
 
-/// Answers the command's query from the sources, and returns the exit status: 0 if the answer was printed, 4 if it was
-/// with a caveat. On a failure, prints its line on `err` and returns its status. `names` are the files that the sources
-/// are of, for a second line. The output is buffered.
+/// Answers the query from the sources, and returns the exit status: 0 if the answer was printed, 4 if it was with a
+/// caveat. On a failure, prints its line on `err` and returns its status. `names` are the files of the folder that the
+/// sources are of, for a second line. The output is buffered.
 pub fn answer<R: AllocGlobal + Files + Threads + Sync, S: Source + Send, O: Write, E: Write>(
     rt: &R,
-    command: &Command<'_>,
+    folder: &Folder<'_>,
+    query: &Query,
     names: &Names,
     inputs: Inputs<S>,
     out: &mut O,
@@ -36,33 +37,27 @@ pub fn answer<R: AllocGlobal + Files + Threads + Sync, S: Source + Send, O: Writ
 ) -> u8
     ensures status { result ≤ 4 }
 {
-    match answer_query(rt, command, inputs, out) {
+    match answer_query(rt, folder.workers, query, inputs, out) {
         Ok(None) => 0,
         Ok(Some(caveat)) => caveat.tell(err),
         Err(refusal) => {
-            let refusal = with_reason(rt, command.folder, names, refusal);
-            tell(&refusal, command.explaining(names), err)
+            let refusal = with_reason(rt, folder.path, names, refusal);
+            tell(&refusal, folder.is_verbose.then_some(names), err)
         }
     }
 }
 
-/// Prints what the command asks for.
+/// Recovers the store or audits the logs, and prints what the query asks for.
 fn answer_query<R: AllocGlobal + Threads + Sync, S: Source + Send, O: Write>(
     rt: &R,
-    command: &Command<'_>,
+    workers: Workers,
+    query: &Query,
     inputs: Inputs<S>,
     out: &mut O,
 ) -> Result<Option<Caveat>, Refusal<'static>> {
-    match &command.query {
-        Query::Store(query, pieces) => {
-            recover_and_print(rt, inputs, command.workers, *pieces, query, out)
-        }
-        Query::Audit => {
-            audit_and_print(rt, inputs, command.workers, out)?;
-            Ok(None)
-        }
-        // A check reads its files twice, and a query on one file takes no sources: these open files themselves.
-        Query::Check { .. } | Query::File(_) => Err(Refusal::from(Failure::Words)),
+    match query {
+        Query::Store(query, pieces) => recover_and_print(rt, inputs, workers, *pieces, query, out),
+        Query::Audit => audit_and_print(rt, inputs, workers, out),
     }
 }
 
@@ -89,9 +84,10 @@ fn audit_and_print<R: AllocGlobal + Threads + Sync, S: Source + Send, O: Write>(
     inputs: Inputs<S>,
     workers: Workers,
     out: &mut O,
-) -> Result<(), Refusal<'static>> {
+) -> Result<Option<Caveat>, Refusal<'static>> {
     let clashes = audit(rt, rt.alloc(), inputs, workers)?;
-    print_clashes(rt.alloc(), &clashes, out)
+    print_clashes(rt.alloc(), &clashes, out)?;
+    Ok(None)
 }
 
 /// The size of the output buffer in bytes.

@@ -11,7 +11,7 @@ use crate::fates::PartState;
 use crate::file_names::Names;
 use crate::opening::{open_all, open_rest, rack_of, size_of};
 use crate::refusal::Refusal;
-use crate::request::Command;
+use crate::request::Folder;
 use mt_record::Rest;
 use mt_recover::{LogCheck, PartScan, check_logs, check_parts, start_of};
 use mt_scan::Slot;
@@ -25,7 +25,7 @@ use std::thread::Threads;
 /// if it names a fault, 4 if it loses something or passes over it.
 pub fn check<R, O: Write, E: Write>(
     rt: &R,
-    command: &Command<'_>,
+    folder: &Folder<'_>,
     is_json: bool,
     names: &Names,
     out: &mut O,
@@ -36,12 +36,12 @@ where
     R::File: Send,
     ensures status { result ≤ 4 }
 {
-    match check_and_print(rt, command, is_json, names, out) {
+    match check_and_print(rt, folder, is_json, names, out) {
         Ok(None) => 0,
         Ok(Some(caveat)) => caveat.tell(err),
         Err(refusal) => {
-            let refusal = with_reason(rt, command.folder, names, refusal);
-            tell(&refusal, command.explaining(names), err)
+            let refusal = with_reason(rt, folder.path, names, refusal);
+            tell(&refusal, folder.is_verbose.then_some(names), err)
         }
     }
 }
@@ -49,7 +49,7 @@ where
 /// Checks the files, and prints what is in each. Err: the fault that recovery names, after the lines; or a failure.
 fn check_and_print<'a, R, O: Write>(
     rt: &R,
-    command: &Command<'_>,
+    folder: &Folder<'_>,
     is_json: bool,
     names: &'a Names,
     out: &mut O,
@@ -58,7 +58,7 @@ where
     R: AllocGlobal + Files + Threads + Sync,
     R::File: Send,
 {
-    let checked = check_all(rt, command, names)?;
+    let checked = check_all(rt, folder, names)?;
     print(rt.alloc(), &checked, is_json, names, out)?;
     let losses = checked.losses();
     checked.start?;
@@ -81,24 +81,24 @@ fn print<O: Write>(
 
 /// Checks all logs and parts. If there is a cutoff, the logs are read once more, to count what is late. What follows the
 /// complete records of a log is read after that.
-fn check_all<'a, R>(rt: &R, command: &Command<'_>, names: &'a Names) -> Result<Checked, Refusal<'a>>
+fn check_all<'a, R>(rt: &R, folder: &Folder<'_>, names: &'a Names) -> Result<Checked, Refusal<'a>>
 where
     R: AllocGlobal + Files + Threads + Sync,
     R::File: Send,
 {
     let mut rack = rack_of(rt, names)?;
-    let mut logs = check_named(rt, command, names, rack.slots(), u64::MAX)?;
-    let scans = scan_parts(rt, command, names, rack.slots())?;
+    let mut logs = check_named(rt, folder, names, rack.slots(), u64::MAX)?;
+    let scans = scan_parts(rt, folder, names, rack.slots())?;
     let parts = states(rt.alloc(), &scans)?;
     let mut start = start_of(rt.alloc(), Vec::from_slice(rt.alloc(), &logs)?, scans);
     if let Ok(found) = &start {
-        logs = check_named(rt, command, names, rack.slots(), found.window.cutoff)?;
+        logs = check_named(rt, folder, names, rack.slots(), found.window.cutoff)?;
         if let Some(fault) = first_fault(rt.alloc(), &logs) {
             start = Err(fault);
         }
     }
-    let endings = read_endings(rt, command.folder, &names.logs, &logs, rack.slots())?;
-    let sizes = sizes(rt, command.folder, names)?;
+    let endings = read_endings(rt, folder.path, &names.logs, &logs, rack.slots())?;
+    let sizes = sizes(rt, folder.path, names)?;
     Ok(Checked {
         logs,
         endings,
@@ -111,7 +111,7 @@ where
 /// Checks the logs of these names. Updates at or past the limit count as late.
 fn check_named<'a, R>(
     rt: &R,
-    command: &Command<'_>,
+    folder: &Folder<'_>,
     names: &'a Names,
     slots: &mut [Slot],
     limit: u64,
@@ -120,14 +120,14 @@ where
     R: AllocGlobal + Files + Threads + Sync,
     R::File: Send,
 {
-    let sources = open_all(rt, command.folder, &names.logs, slots)?;
-    Ok(check_logs(rt, rt.alloc(), sources, command.workers, limit)?)
+    let sources = open_all(rt, folder.path, &names.logs, slots)?;
+    Ok(check_logs(rt, rt.alloc(), sources, folder.workers, limit)?)
 }
 
 /// Scans the parts of these names.
 fn scan_parts<'a, R>(
     rt: &R,
-    command: &Command<'_>,
+    folder: &Folder<'_>,
     names: &'a Names,
     slots: &mut [Slot],
 ) -> Result<Vec<Result<PartScan, Fault>>, Refusal<'a>>
@@ -135,8 +135,8 @@ where
     R: AllocGlobal + Files + Threads + Sync,
     R::File: Send,
 {
-    let sources = open_all(rt, command.folder, &names.parts, slots)?;
-    Ok(check_parts(rt, rt.alloc(), sources, command.workers)?)
+    let sources = open_all(rt, folder.path, &names.parts, slots)?;
+    Ok(check_parts(rt, rt.alloc(), sources, folder.workers)?)
 }
 
 /// Returns the fault of the first log that has one.
@@ -190,6 +190,9 @@ fn read_ending<R: AllocGlobal + Files>(
     }
 }
 
+/// The widest format, which has the records of all.
+const WIDEST: Format = Format::Two;
+
 /// Returns where the bytes begin that follow the complete records of a log, and their format. None: there are none.
 fn rest_of(check: &Result<LogCheck, Fault>) -> Option<(u64, Format)> {
     match check {
@@ -197,8 +200,8 @@ fn rest_of(check: &Result<LogCheck, Fault>) -> Option<(u64, Format)> {
             let front = check.front;
             (front.rest != Rest::Nothing).then_some((front.end, front.head.format))
         }
-        // Without a header all bytes are left. The wider format has the records of both.
-        Err(Fault::Header { .. }) => Some((0, Format::Two)),
+        // Without a header all bytes are left.
+        Err(Fault::Header { .. }) => Some((0, WIDEST)),
         Err(_) => None,
     }
 }

@@ -6,7 +6,7 @@ use crate::failure::tell;
 use crate::file_names::Names;
 use crate::opening::read_path;
 use crate::refusal::Refusal;
-use crate::request::{Command, FileQuery};
+use crate::request::FileQuery;
 use crate::stop::Stop;
 use mt_record::{LogFront, PartFault, PartFeed, PartHead, cut_log, header_at, part_header_at};
 use mt_recover::{Selection, write_entries, write_head, write_part_head, write_records};
@@ -15,11 +15,12 @@ use std::alloc::Global;
 use std::fs::Files;
 use std::io::{BufWriter, Write};
 
-/// Answers a query on the command's file, and returns the exit status: 0 if all was printed, or what `Stop::status`
+/// Answers a query on the file of this path, and returns the exit status: 0 if all was printed, or what `Stop::status`
 /// says. What follows the complete records or entries is told on `err`.
 pub fn answer_file<R: AllocGlobal + Files, O: Write, E: Write>(
     rt: &R,
-    command: &Command<'_>,
+    path: &str,
+    is_verbose: bool,
     query: &FileQuery,
     out: &mut O,
     err: &mut E,
@@ -27,12 +28,12 @@ pub fn answer_file<R: AllocGlobal + Files, O: Write, E: Write>(
     ensures status { result ≤ 4 }
 {
     let answered = match query {
-        FileQuery::Cut => cut(rt, command.folder, out),
-        FileQuery::Records(selection, at) => records(rt, command.folder, selection, *at, out),
+        FileQuery::Cut => cut(rt, path, out),
+        FileQuery::Records(selection, at) => records(rt, path, selection, *at, out),
     };
     match answered {
         Ok(stop) => tell_stop(stop, query, err),
-        Err(refusal) => tell_refusal(rt.alloc(), &refusal, command, err),
+        Err(refusal) => tell_refusal(rt.alloc(), &refusal, path, is_verbose, err),
     }
 }
 
@@ -40,13 +41,14 @@ pub fn answer_file<R: AllocGlobal + Files, O: Write, E: Write>(
 fn tell_refusal<E: Write>(
     alloc: Global,
     refusal: &Refusal<'_>,
-    command: &Command<'_>,
+    path: &str,
+    is_verbose: bool,
     err: &mut E,
 ) -> u8
     ensures status { result ≤ 3 }
 {
-    match Names::of_log(alloc, command.folder) {
-        Ok(names) => tell(refusal, command.explaining(&names), err),
+    match Names::of_log(alloc, path) {
+        Ok(names) => tell(refusal, is_verbose.then_some(&names), err),
         Err(_) => tell(refusal, None, err),
     }
 }

@@ -1,10 +1,9 @@
 //! The code of the program `mtrecover`, which recovers the store of a folder and answers one query on it; audits the logs
 //! of the folder; checks all its files; or prints or cuts one file.
 //!
-//! `run` is the whole program. It reads the arguments into a `Command`, which has a `Query`. A query on one file, as of
-//! `records` and `cut`, reads that file. All others list the `Names` of the logs and parts in the folder. `check` then reads
-//! each file by itself. The rest open the files as sources, from which `answer` recovers the store or audits the logs, and
-//! prints the answer.
+//! `run` is the whole program. It reads the arguments into a `Command`. One on a file, as of `records` and `cut`, reads
+//! that file. The others list the `Names` of the logs and parts in the `Folder`. `check` then reads each file by itself. A
+//! `Query` opens the files as sources, from which `answer` recovers the store or audits the logs, and prints the answer.
 //!
 //! ```
 //! let words = vec![in rt.alloc(); "report".to_string(rt.alloc())?, folder]?;
@@ -48,6 +47,6 @@ pub use answering::answer;
 pub use file_names::Names;
 pub use form::Form;
 pub use listing::names;
-pub use request::{Command, FileQuery, Query, Range, StoreQuery};
+pub use request::{Command, FileQuery, Folder, Query, Range, StoreQuery};
 pub use running::{run, run_words};
 pub use words::command;

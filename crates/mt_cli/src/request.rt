@@ -1,40 +1,44 @@
 //! The request that the arguments make.
-use crate::file_names::Names;
 use crate::form::Form;
 use mt_recover::{Pieces, Selection, Workers};
 use mt_words::Key;
 
-/// The request that the arguments make.
+/// The request that the arguments make. If it is verbose, a failure has a second line, which explains it.
 #[derive(Debug, Drop)]
-pub struct Command<'a> {
-    /// The folder of the logs and parts, or the one file that the query takes.
-    pub folder: &'a str,
+pub enum Command<'a> {
+    /// A query on a folder, whose logs and parts are sources.
+    Query(Folder<'a>, Query),
+    /// What is in each file of a folder, as JSON or not, for which files are read twice.
+    Check {
+        folder: Folder<'a>,
+        is_json: bool,
+    },
+    /// A query on the file of this path.
+    File {
+        path: &'a str,
+        is_verbose: bool,
+        query: FileQuery,
+    },
+}
+
+/// A folder, and how to read it.
+#[derive(Debug, Drop)]
+pub struct Folder<'a> {
+    /// The path of the folder of the logs and parts.
+    pub path: &'a str,
     /// The number of threads that work.
     pub workers: Workers,
     /// Whether a failure has a second line, which explains it.
     pub is_verbose: bool,
-    /// The query to answer.
-    pub query: Query,
 }
 
-impl<'a> Command<'a> {
-    /// Returns the names if a failure is to be explained.
-    pub(crate) fn explaining<'b>(&self, names: &'b Names) -> Option<&'b Names> {
-        self.is_verbose.then_some(names)
-    }
-}
-
-/// A query: what to print.
+/// A query on the logs and parts of a folder: what to print.
 #[derive(Debug, Drop)]
 pub enum Query {
     /// A query on the recovered store. Recovery cuts the keys into at most this many pieces.
     Store(StoreQuery, Pieces),
     /// The clashes of the logs, which take no store.
     Audit,
-    /// What is in each file, as JSON or not, for which files are read twice.
-    Check { is_json: bool },
-    /// A query on one file.
-    File(FileQuery),
 }
 
 /// A query on one file.

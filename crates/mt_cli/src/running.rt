@@ -9,7 +9,7 @@ use crate::filing::answer_file;
 use crate::listing::names;
 use crate::opening::{open_all, rack_of};
 use crate::refusal::Refusal;
-use crate::request::{Command, Query};
+use crate::request::{Command, Folder, Query};
 use crate::words::command;
 use mt_recover::{Failure, Inputs};
 use mt_scan::{ReaderSource, Slot};
@@ -61,48 +61,52 @@ where
     ensures answered { IfOk result (λ status. status ≤ 4) }
     ensures not { IfErr result (λ status. status ≤ 3) }
 {
-    let command = command(rt, words, out, err)?;
-    if let Query::File(query) = &command.query {
-        return Ok(answer_file(rt, &command, query, out, err));
+    match &command(rt, words, out, err)? {
+        Command::Query(folder, query) => answer_folder(rt, folder, query, out, err),
+        Command::Check { folder, is_json } => {
+            let names = names(rt, folder.path, folder.is_verbose, err)?;
+            Ok(check(rt, folder, *is_json, &names, out, err))
+        }
+        Command::File {
+            path,
+            is_verbose,
+            query,
+        } => Ok(answer_file(rt, path, *is_verbose, query, out, err)),
     }
-    let names = names(rt, command.folder, command.is_verbose, err)?;
-    answer_files(rt, &command, &names, out, err)
 }
 
-/// Answers the command from the files of these names and returns the exit status: as an Err if it could not allocate
-/// the buffers or open the files.
-fn answer_files<R, O: Write, E: Write>(
+/// Answers the query from the files of the folder and returns the exit status: as an Err if it could not list or open
+/// the files, or allocate the buffers.
+fn answer_folder<R, O: Write, E: Write>(
     rt: &R,
-    command: &Command<'_>,
-    names: &Names,
+    folder: &Folder<'_>,
+    query: &Query,
     out: &mut O,
     err: &mut E,
 ) -> Result<u8, u8>
 where
-    R: AllocGlobal + Files + Threads + Sync,
+    R: AllocGlobal + Clone + Drop + Files + Threads + Sync,
     R::File: Send,
     ensures answered { IfOk result (λ status. status ≤ 4) }
     ensures not { IfErr result (λ status. status ≤ 3) }
 {
-    if let Query::Check { is_json } = command.query {
-        return Ok(check(rt, command, is_json, names, out, err));
-    }
-    let mut rack = or_tell(rack_of(rt, names), command.explaining(names), err)?;
-    let inputs = open(rt, command, names, rack.slots());
-    let inputs = or_tell(inputs, command.explaining(names), err)?;
-    Ok(answer(rt, command, names, inputs, out, err))
+    let names = names(rt, folder.path, folder.is_verbose, err)?;
+    let explaining = folder.is_verbose.then_some(&names);
+    let mut rack = or_tell(rack_of(rt, &names), explaining, err)?;
+    let inputs = or_tell(open(rt, folder.path, &names, rack.slots()), explaining, err)?;
+    Ok(answer(rt, folder, query, &names, inputs, out, err))
 }
 
 /// Opens the sources of the logs, and then those of the parts.
 fn open<'a, 'b, R: AllocGlobal + Files>(
     rt: &R,
-    command: &Command<'_>,
+    folder: &str,
     names: &'a Names,
     slots: &'b mut [Slot],
 ) -> Result<Inputs<ReaderSource<'b, R::File>>, Refusal<'a>> {
     let log_count = names.logs.len().min(slots.len());
     let (log_slots, part_slots) = slots.split_at_mut(log_count);
-    let logs = open_all(rt, command.folder, &names.logs, log_slots)?;
-    let parts = open_all(rt, command.folder, &names.parts, part_slots)?;
+    let logs = open_all(rt, folder, &names.logs, log_slots)?;
+    let parts = open_all(rt, folder, &names.parts, part_slots)?;
     Ok(Inputs { logs, parts })
 }

@@ -7,7 +7,7 @@ use crate::file_names::Names;
 use crate::form::Form;
 use crate::grammar::grammar;
 use crate::refusal::Refusal;
-use crate::request::{Command, FileQuery, Query, Range, StoreQuery};
+use crate::request::{Command, FileQuery, Folder, Query, Range, StoreQuery};
 use crate::texts::{Text, tell_text};
 use clap::ArgMatches;
 use clap::error::ErrorKind;
@@ -89,53 +89,34 @@ fn tell_error<O: Write, E: Write>(error: &clap::Error, out: &mut O, err: &mut E)
 /// Reads the request from the parsed arguments.
 fn read<'a>(alloc: Global, matches: &ArgMatches<'a>) -> Result<Command<'a>, Failure<'static>> {
     let (name, matches) = matches.subcommand().ok_or(Failure::Words)?;
-    if let Some(query) = file_query(alloc, name, matches) {
-        return read_of_file(query?, matches);
-    }
-    let folder = matches.get_str("DIR");
-    let workers = matches.get_one("workers").and_then(Workers::new);
-    let (Some(folder), Some(workers)) = (folder, workers) else {
-        return Err(Failure::Words);
+    let query = match name {
+        "records" => FileQuery::Records(selection(alloc, matches)?, matches.get_one("at")),
+        "cut" => FileQuery::Cut,
+        _ => return of_folder(alloc, name, matches),
     };
-    let query = query(alloc, name, matches)?;
-    Ok(Command {
-        folder,
-        workers,
+    Ok(Command::File {
+        path: found(matches.get_str("FILE"))?,
         is_verbose: matches.get_flag("verbose"),
         query,
     })
 }
 
-/// Returns the query of the subcommand of this name, if that takes one file.
-fn file_query(
+/// Returns the request of the subcommand of this name, which takes a folder.
+fn of_folder<'a>(
     alloc: Global,
     name: &str,
-    matches: &ArgMatches<'_>,
-) -> Option<Result<FileQuery, Failure<'static>>> {
-    match name {
-        "records" => Some(records(alloc, matches)),
-        "cut" => Some(Ok(FileQuery::Cut)),
-        _ => None,
-    }
-}
-
-/// Returns the query of the subcommand `records`.
-fn records(alloc: Global, matches: &ArgMatches<'_>) -> Result<FileQuery, Failure<'static>> {
-    let selection = selection(alloc, matches)?;
-    Ok(FileQuery::Records(selection, matches.get_one("at")))
-}
-
-/// Returns the request of a query on one file.
-fn read_of_file<'a>(
-    query: FileQuery,
     matches: &ArgMatches<'a>,
 ) -> Result<Command<'a>, Failure<'static>> {
-    Ok(Command {
-        folder: found(matches.get_str("FILE"))?,
-        workers: found(Workers::new(1))?,
+    let folder = Folder {
+        path: found(matches.get_str("DIR"))?,
+        workers: found(matches.get_one("workers").and_then(Workers::new))?,
         is_verbose: matches.get_flag("verbose"),
-        query: Query::File(query),
-    })
+    };
+    if name == "check" {
+        let is_json = matches.get_flag("json");
+        return Ok(Command::Check { folder, is_json });
+    }
+    Ok(Command::Query(folder, query(alloc, name, matches)?))
 }
 
 /// Returns which records or entries to print, and how.
@@ -166,14 +147,10 @@ fn found<T>(value: Option<T>) -> Result<T, Failure<'static>> {
     value.ok_or(Failure::Words)
 }
 
-/// Returns the query of the subcommand of this name.
+/// Returns the query on a folder of the subcommand of this name.
 fn query(alloc: Global, name: &str, matches: &ArgMatches<'_>) -> Result<Query, Failure<'static>> {
     if name == "audit" {
         return Ok(Query::Audit);
-    }
-    if name == "check" {
-        let is_json = matches.get_flag("json");
-        return Ok(Query::Check { is_json });
     }
     let pieces = found(matches.get_one("pieces").and_then(Pieces::new))?;
     Ok(Query::Store(store_query(alloc, name, matches)?, pieces))

@@ -17,40 +17,40 @@ fn words_of<R: Abort + AllocGlobal>(rt: &R, line: &str) -> Vec<String> {
 const TAKEN: &[(&str, &str)] = &[
     (
         "mtrecover report F",
-        "Command { folder: \"F\", workers: Workers { count: 4 }, is_verbose: false, \
-         query: Store(Report { is_json: false, is_strict: false }, Pieces { count: 16 }) }",
+        "Query(Folder { path: \"F\", workers: Workers { count: 4 }, is_verbose: false }, \
+         Store(Report { is_json: false, is_strict: false }, Pieces { count: 16 }))",
     ),
     (
         "mtrecover get F 6aB0 --workers 1 --pieces 1",
-        "Command { folder: \"F\", workers: Workers { count: 1 }, is_verbose: false, \
-         query: Store(Get(Key { bytes: [106, 176] }, Form { is_json: false, is_text: false }), Pieces { count: 1 }) }",
+        "Query(Folder { path: \"F\", workers: Workers { count: 1 }, is_verbose: false }, \
+         Store(Get(Key { bytes: [106, 176] }, Form { is_json: false, is_text: false }), Pieces { count: 1 }))",
     ),
     (
         "mtrecover range F  4294967295 --workers 64 --pieces 4096",
-        "Command { folder: \"F\", workers: Workers { count: 64 }, is_verbose: false, \
-         query: Store(Range(Range { from: Key { bytes: [] }, count: 4294967295, to: None, prefix: None, columns: None }, \
-         Form { is_json: false, is_text: false }), Pieces { count: 4096 }) }",
+        "Query(Folder { path: \"F\", workers: Workers { count: 64 }, is_verbose: false }, \
+         Store(Range(Range { from: Key { bytes: [] }, count: 4294967295, to: None, prefix: None, columns: None }, \
+         Form { is_json: false, is_text: false }), Pieces { count: 4096 }))",
     ),
     (
         "mtrecover get F \\x6a\\n --text --exists",
-        "Command { folder: \"F\", workers: Workers { count: 4 }, is_verbose: false, \
-         query: Store(Exists(Key { bytes: [106, 10] }), Pieces { count: 16 }) }",
+        "Query(Folder { path: \"F\", workers: Workers { count: 4 }, is_verbose: false }, \
+         Store(Exists(Key { bytes: [106, 10] }), Pieces { count: 16 }))",
     ),
     (
         "mtrecover range F 61 5 --to 6263 --prefix  --columns 3,0",
-        "Command { folder: \"F\", workers: Workers { count: 4 }, is_verbose: false, \
-         query: Store(Range(Range { from: Key { bytes: [97] }, count: 5, to: Some(Key { bytes: [98, 99] }), \
+        "Query(Folder { path: \"F\", workers: Workers { count: 4 }, is_verbose: false }, \
+         Store(Range(Range { from: Key { bytes: [97] }, count: 5, to: Some(Key { bytes: [98, 99] }), \
          prefix: Some(Key { bytes: [] }), columns: Some([3, 0]) }, \
-         Form { is_json: false, is_text: false }), Pieces { count: 16 }) }",
+         Form { is_json: false, is_text: false }), Pieces { count: 16 }))",
     ),
     (
         "mtrecover dump  --pieces 2 --json",
-        "Command { folder: \"\", workers: Workers { count: 4 }, is_verbose: false, \
-         query: Store(Dump(Form { is_json: true, is_text: false }), Pieces { count: 2 }) }",
+        "Query(Folder { path: \"\", workers: Workers { count: 4 }, is_verbose: false }, \
+         Store(Dump(Form { is_json: true, is_text: false }), Pieces { count: 2 }))",
     ),
     (
         "mtrecover audit F --workers 2 --verbose",
-        "Command { folder: \"F\", workers: Workers { count: 2 }, is_verbose: true, query: Audit }",
+        "Query(Folder { path: \"F\", workers: Workers { count: 2 }, is_verbose: true }, Audit)",
     ),
 ];
 
