@@ -28,16 +28,16 @@ pub record PassView : Type 0 where
 abbrev pub IsTotal : ℕ → Type 0
 IsTotal total = total ≤ MOST_NUMBERS
 
-abbrev pub IsCount : ℕ → Type 0
-IsCount passes = (1 ≤ passes) × (passes ≤ MOST_PASSES)
+abbrev pub IsPassCount : ℕ → Type 0
+IsPassCount passes = (1 ≤ passes) × (passes ≤ MOST_PASSES)
 
 abbrev pub AreCounts : ℕ → ℕ → Type 0
-AreCounts total passes = IsTotal total × IsCount passes
+AreCounts total passes = IsTotal total × IsPassCount passes
 
 -- the fault is true of these counts: the total is checked first, then the passes; out of memory comes only if both are lawful
 abbrev pub IsBoardFault : ℕ → ℕ → BoardFault → Type 0
 IsBoardFault total passes Total = ¬ (IsTotal total)
-IsBoardFault total passes Passes = IsTotal total × (¬ (IsCount passes))
+IsBoardFault total passes Passes = IsTotal total × (¬ (IsPassCount passes))
 IsBoardFault total passes Memory = AreCounts total passes
 
 -- the value that stands for the least number noted if none was: the greatest u64

@@ -7,13 +7,13 @@ use Rattle.mt_words.specs.declared.limits.Limits.{Limits}
 use Rattle.mt_words.specs.Changes.{Logged, IsLawful}
 use Rattle.mt_record.specs.Fronts.{GoTogether}
 use Rattle.mt_record.specs.Spelling.{body, spelling, IsRecordLength}
-use Rattle.mt_record.specs.Logs.{IsCut, IsTorn}
+use Rattle.mt_record.specs.Logs.{IsUnfinished, IsTorn}
 use Rattle.mt_record.proofs.Feeds.{apart}
 use Rattle.mt_record.proofs.Lawful.{lawful_length}
 
 -- bytes that go together with a lawful length, and are fewer than it asks for
 cut_at : (IsLength : ℕ → Type 0) (n : ℕ) (bytes : List ℕ) → IsLength n → 0 < length bytes → length bytes < n + 8
-    → GoTogether bytes (big_bytes 4 n) → IsCut IsLength bytes
+    → GoTogether bytes (big_bytes 4 n) → IsUnfinished IsLength bytes
 cut_at IsLength n bytes is some short (inl u) =
     let all : length bytes ≡ length (big_bytes 4 n) + length u.0 = ap length u.1 ∙ length-append (big_bytes 4 n) u.0 in
     let four : length (big_bytes 4 n) ≡ 4 = length-bytes_high_first 4 n in
@@ -31,8 +31,8 @@ cut_at IsLength n bytes is some short (inr (x ∷ xs, e)) =
     inl (some, omega (arith, all, four))
 
 -- a beginning of a tail is a tail
-pub cut_end : (IsLength : ℕ → Type 0) (tail bytes lost : List ℕ) → tail ≡ bytes ++ lost → (tail ≡ []) ⊎ IsCut IsLength tail
-    → (bytes ≡ []) ⊎ IsCut IsLength bytes
+pub cut_end : (IsLength : ℕ → Type 0) (tail bytes lost : List ℕ) → tail ≡ bytes ++ lost → (tail ≡ []) ⊎ IsUnfinished IsLength tail
+    → (bytes ≡ []) ⊎ IsUnfinished IsLength bytes
 cut_end IsLength tail [] lost e end = inl refl
 cut_end IsLength tail (b ∷ bs) lost e (inl none) =
     let all : 0 ≡ length (b ∷ bs) + length lost = ap length (sym none ∙ e) ∙ length-append (b ∷ bs) lost in

@@ -14,7 +14,7 @@ use Rattle.mt_words.specs.declared.code.Code.TheVariants as codes
 use Rattle.mt_words.specs.Codes.{byte_of}
 use Rattle.mt_words.specs.Words.{IsColumn, AreColumns, numbers_in}
 use Rattle.mt_words.specs.Changes.{Logged, changed, AllowsKind, IsLogged, IsWhole, IsLawfulChange, IsEntry}
-use Rattle.mt_record.specs.Spelling.{counted, column_bytes, kind_bytes, body_of, body, FitsColumn, FitsKind, FitsChange, FitsLogged, Fits}
+use Rattle.mt_record.specs.Spelling.{with_length, column_bytes, kind_bytes, body_of, body, FitsColumn, FitsKind, FitsChange, FitsLogged, Fits}
 use Rattle.mt_record.specs.Decoding.{columns_from, kind_from, code_from, code_in, change_unless, is_mark_in, time_in, version_in, key_length_in, key_in, carried_in, decode}
 use Rattle.mt_record.proofs.Decodes.{columns_back}
 use Rattle.mt_laws.proofs.Decided.{Decided, at_most, below, same_bytes, both, alike, three, all, if_some, rises, some_or_none}
@@ -23,7 +23,7 @@ use Rattle.mt_laws.proofs.Decided.{Decided, at_most, below, same_bytes, both, al
 
 -- the body of a change, field by field; each field is read back below
 abbrev change_body : ℕ → ℕ → List ℕ → ℕ → List ℕ → List ℕ
-change_body byte t key v carried = byte ∷ (big_bytes 8 t ++ (big_bytes 8 v ++ (counted key ++ carried)))
+change_body byte t key v carried = byte ∷ (big_bytes 8 t ++ (big_bytes 8 v ++ (with_length key ++ carried)))
 
 time_back : (byte t : ℕ) (rest : List ℕ) → t < 2 ^ 64 → time_in (byte ∷ (big_bytes 8 t ++ rest)) ≡ t
 unfolding time_in
@@ -31,7 +31,7 @@ time_back byte t rest fits = big_number-reads_back 8 t rest fits
 
 version_back : (byte t v : ℕ) (key carried : List ℕ) → v < 2 ^ 64 → version_in (change_body byte t key v carried) ≡ v
 unfolding version_in
-version_back byte t v key carried fits = big_number-reads_back 8 v (counted key ++ carried) fits
+version_back byte t v key carried fits = big_number-reads_back 8 v (with_length key ++ carried) fits
 
 length_back : (byte t v : ℕ) (key carried : List ℕ) → length key < 2 ^ 16 → key_length_in (change_body byte t key v carried) ≡ length key
 unfolding key_length_in
@@ -56,7 +56,7 @@ unfolding is_mark_in code_in
 changed_back byte t v key carried kind no_mark is fits_t fits =
     let made = ap (kind_from (code_from byte)) (carried_back byte t v key carried fits.key) ∙ is in
     λ i. record {
-      timestamp = time_back byte t (big_bytes 8 v ++ (counted key ++ carried)) fits_t i;
+      timestamp = time_back byte t (big_bytes 8 v ++ (with_length key ++ carried)) fits_t i;
       change = change_unless (no_mark i) (record { version = version_back byte t v key carried fits.version i; key = key_back byte t v key carried fits.key i; kind = made i });
     }
 

@@ -4,7 +4,7 @@ use Rattle.std.proofs.Math.Seq.{drop-append_seam}
 use Rattle.std.proofs.lemmas.List.{length-append, flat_map_more}
 use Rattle.std.specs.List.{flat_map}
 use Rattle.mt_record.specs.Spelling.{framed}
-use Rattle.mt_record.specs.Fronts.{NoneBegins}
+use Rattle.mt_record.specs.Heads.{NoneBegins}
 use Rattle.mt_record.proofs.Runs.{length_framed}
 use Rattle.mt_laws.proofs.Decided.{Decided, same_bytes, both, some_or_none}
 

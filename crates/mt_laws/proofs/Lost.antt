@@ -12,7 +12,8 @@ use Rattle.mt_words.specs.Walks.{Pair}
 use Rattle.mt_words.specs.Updates.{update_of, updates_from}
 use Rattle.mt_words.proofs.Elements.{no_element, head_or_tail, head_in, tail_in}
 use Rattle.mt_record.specs.declared.feed.head.Head.{Head}
-use Rattle.mt_record.specs.Logs.{AreRecords, latest, LogReading, IsReading, IsGreatestOf, IsLast}
+use Rattle.mt_record.specs.Logs.{AreRecords, latest, LogReading, IsReading, IsGreatestOf}
+use Rattle.mt_record.specs.LogTexts.{IsLast}
 use Rattle.mt_record.proofs.Records.{last_is}
 use Rattle.mt_record.proofs.OneReading.{one_reading_of}
 use Rattle.mt_scan.specs.Cutoff.{HasLast, IsCutoff}

@@ -9,7 +9,8 @@ use Rattle.std.proofs.lemmas.List.Sorted.{Contains-permutation, IsPermutation-re
 use Rattle.mt_words.specs.Words.{IsBelow, AreRising}
 use Rattle.mt_words.proofs.Elements.{head_in, tail_in}
 use Rattle.mt_record.specs.Parts.{PartReading}
-use Rattle.mt_scan.specs.PartScans.{KnownPart, KeptPart, whole, broken, nameless, shown_by, shown_by_all}
+use Rattle.mt_scan.specs.PartScans.{KnownPart, whole, broken, nameless}
+use Rattle.mt_scan.specs.PartsShown.{KeptPart, shown_by, shown_by_all}
 use Rattle.mt_scan.specs.Choice.{CheckpointReading, parts_of, IsPartAt, AreInPlace, entry_keys, MakeUp, IsValid}
 use Rattle.mt_scan.specs.Steps.Checkpoints.{MakeUpNone, reading_of}
 use Rattle.mt_scan.proofs.CheckpointLemmas.{in_place_of, none_made, none_of_none}

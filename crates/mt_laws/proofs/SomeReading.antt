@@ -19,9 +19,11 @@ use Rattle.mt_words.specs.Changes.{Logged, IsLawful, AllowsKind}
 use Rattle.mt_record.specs.declared.read.FeedFault.{FeedFault}
 use Rattle.mt_record.specs.declared.read.FeedFault.TheVariants as faults
 use Rattle.mt_record.specs.declared.feed.head.Head.{Head}
-use Rattle.mt_record.specs.Heads.{IsHead, head_of, segment_head, head_bytes, HasNoHeader}
+use Rattle.mt_record.specs.Heads.{IsHead, head_bytes, HasNoHeader}
+use Rattle.mt_record.specs.Encoding.{head_of, segment_head}
 use Rattle.mt_record.specs.Spelling.{body, body_of, framed, spelling, FitsLogged, IsRecordLength, longest_record}
-use Rattle.mt_record.specs.Logs.{AreRecords, latest, IsNext, IsTorn, LogReading, IsReading, count_of}
+use Rattle.mt_record.specs.Logs.{AreRecords, latest, IsTorn, LogReading, IsReading, count_of}
+use Rattle.mt_record.specs.Fronts.{IsNext}
 use Rattle.mt_record.specs.LogFaults.{IsKindByte, HasVersionFault, HasKeyFault, HasColumnsFault, IsBodyOfChange, BodyFault, HasBodyFault, RestFault, IsLogFault}
 use Rattle.mt_record.proofs.Frames.{trailer_fault}
 use Rattle.mt_record.proofs.Numbers.{AreBytes, bytes_back, four, number_front}

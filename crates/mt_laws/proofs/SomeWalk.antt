@@ -7,13 +7,15 @@ use Rattle.mt_words.specs.declared.update.Stamp.{Stamp}
 use Rattle.mt_words.specs.declared.update.Update.{Update}
 use Rattle.mt_words.specs.Limits.{widest}
 use Rattle.mt_words.specs.Words.{IsKey, IsColumn}
-use Rattle.mt_words.specs.Changes.{Write, Writes, writes_of, IsWrite, AreWrites, AllowsKind, IsReset}
+use Rattle.mt_words.specs.Changes.{Write, Writes, writes_of, AllowsKind, IsReset}
+use Rattle.mt_words.specs.Writes.{IsWrite, AreWrites}
 use Rattle.mt_words.specs.Stamps.{IsAtMost}
 use Rattle.mt_words.specs.Walks.{Pair}
 use Rattle.mt_words.proofs.Elements.{no_element, head_or_tail, head_in, tail_in}
 use Rattle.mt_words.proofs.WriteLemmas.{set_writes, erase_writes}
 use Rattle.mt_replay.specs.KeyColumns.{HasColumn}
-use Rattle.mt_replay.specs.Walk.{IsWalk, AreApart}
+use Rattle.mt_replay.specs.Walk.{IsWalk}
+use Rattle.mt_replay.specs.Cells.{AreApart}
 use Rattle.mt_replay.proofs.Members.{of_each, of_map, in_map, of_flat_map, in_flat_map}
 use Rattle.mt_replay.proofs.ExactLemmas.{same_bytes}
 use Rattle.mt_replay.proofs.StampLemmas.{same_stamp, not_newer, older_or_not}

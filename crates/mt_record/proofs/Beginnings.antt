@@ -10,8 +10,9 @@ use Rattle.mt_words.specs.declared.limits.Format.{Format}
 use Rattle.mt_words.specs.declared.limits.Format.TheVariants.{One, Two}
 use Rattle.mt_words.specs.Limits.{limits_of, widest_format, magic}
 use Rattle.mt_record.specs.declared.feed.head.Head.{Head}
-use Rattle.mt_record.specs.Fronts.{GoTogether, GoesWithMagic, NoneBegins, ShowsNone, IsCutFront}
-use Rattle.mt_record.specs.Heads.{IsHead, head_of, segment_head, log_magic, writer_bytes, head_bytes, GoesWithLog}
+use Rattle.mt_record.specs.Fronts.{GoTogether, GoesWithMagic, ShowsNone, IsUnfinishedFront, GoesWithLog}
+use Rattle.mt_record.specs.Heads.{NoneBegins, IsHead, log_magic, writer_bytes, head_bytes}
+use Rattle.mt_record.specs.Encoding.{head_of, segment_head}
 use Rattle.mt_record.proofs.Feeds.{apart}
 use Rattle.mt_record.proofs.Numbers.{AreBytes, bytes_front, bytes_back, bytes_padded, four, eight, number_front}
 
@@ -24,7 +25,7 @@ lacks Is spelled head bytes (x ∷ more) is none e = omega arith
 
 -- if no encoding is a proper prefix of another, a proper prefix of one begins with none
 pub cut_none : {H : Type 0} (Is : H → Type 0) (spelled : H → List ℕ) → ((head other : H) (more : List ℕ) → spelled head ≡ spelled other ++ more → length (spelled head) ≡ length (spelled other))
-    → (bytes : List ℕ) → IsCutFront Is spelled bytes → NoneBegins Is spelled bytes
+    → (bytes : List ℕ) → IsUnfinishedFront Is spelled bytes → NoneBegins Is spelled bytes
 cut_none Is spelled long bytes cut other rest too f =
     let whole = ap length cut.begun ∙ length-append bytes cut.more in
     let front = ap length f ∙ length-append (spelled other) rest in
@@ -67,10 +68,10 @@ module _ {H : Type 0} (Is : H → Type 0) (spelled : H → List ℕ) (first : Li
   alike bytes (inr u) small = tail_alike bytes u.0 [] (sym u.1 ∙ sym (append-nil bytes)) (bytes_back first u.0 (subst AreBytes u.1 small))
 
   -- so bytes that go with the magic but do not begin with an encoding are a proper prefix of one
-  pub cut_front : (bytes : List ℕ) → GoTogether first bytes → AreBytes bytes → NoneBegins Is spelled bytes → IsCutFront Is spelled bytes
+  pub cut_front : (bytes : List ℕ) → GoTogether first bytes → AreBytes bytes → NoneBegins Is spelled bytes → IsUnfinishedFront Is spelled bytes
   cut_front bytes goes small none =
       let one = alike bytes goes small in
-      elim one.2 as (λ _. IsCutFront Is spelled bytes) [
+      elim one.2 as (λ _. IsUnfinishedFront Is spelled bytes) [
         | inl u ↦ record { head = one.0; more = u.0; is_head = one.1; some = lacks Is spelled one.0 bytes u.0 one.1 none u.1; begun = u.1 }
         | inr u ↦ absurd (none one.0 u.0 one.1 u.1)
       ]
@@ -152,7 +153,7 @@ log_none bytes not_so = shows_none IsHead head_bytes (λ (head : Head). log_magi
     by format (Some writer) goes = not_so (inr goes)
 
 -- bytes that go with it but do not begin with a header are a proper prefix of one
-pub log_cut : (bytes : List ℕ) → GoesWithLog bytes → AreBytes bytes → NoneBegins IsHead head_bytes bytes → IsCutFront IsHead head_bytes bytes
+pub log_cut : (bytes : List ℕ) → GoesWithLog bytes → AreBytes bytes → NoneBegins IsHead head_bytes bytes → IsUnfinishedFront IsHead head_bytes bytes
 log_cut bytes (inl goes) = cut_front IsHead head_bytes (magic (codes "MTL") goes.0) 8 (log_whole goes.0) bytes goes.1
 log_cut bytes (inr goes) = cut_front IsHead head_bytes (codes "MTL3") 16 segment_whole bytes goes
 

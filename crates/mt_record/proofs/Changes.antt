@@ -14,7 +14,7 @@ use Rattle.mt_words.specs.declared.limits.Limits.{Limits}
 use Rattle.mt_words.specs.Codes.{byte_of, payload_of}
 use Rattle.mt_words.specs.Words.{AreNumbers}
 use Rattle.mt_record.specs.declared.body.ChangeFields.{ChangeFields}
-use Rattle.mt_record.specs.Spelling.{counted, kind_bytes, change_bytes, FitsChange}
+use Rattle.mt_record.specs.Spelling.{with_length, kind_bytes, change_bytes, FitsChange}
 use Rattle.mt_record.specs.Steps.Bodies.{IsNoChange, IsChangeWith, IsKindOf, HasKind, IsJudgedKind, SpellFields, AreSpelled, AreJudgedColumns}
 use Rattle.mt_record.proofs.Unique.{same_number, same_counted}
 
@@ -76,7 +76,7 @@ of_change code bytes f P are kind is holds = record {
   change = change_of f kind;
   fits = record { version = are.version_fits; key = are.key_fits; kind = is.fits };
   code = is.code;
-  spelled = are.spelled ∙ ap (λ (x : List ℕ). big_bytes 8 f.version ++ (counted f.key.now ++ x)) is.spelled;
+  spelled = are.spelled ∙ ap (λ (x : List ℕ). big_bytes 8 f.version ++ (with_length f.key.now ++ x)) is.spelled;
   holds = holds;
 }
 
@@ -84,7 +84,7 @@ of_change code bytes f P are kind is holds = record {
 pub same_fields : (bytes : List ℕ) (fields : ChangeFields) (change : Change) → SpellFields bytes fields → FitsChange change → bytes ≡ change_bytes change
     → (fields.version ≡ change.version) × (fields.key.now ≡ change.key) × (fields.carried.now ≡ kind_bytes change.kind)
 same_fields bytes fields change are fits e =
-    let version = same_number 8 fields.version change.version (counted fields.key.now ++ fields.carried.now) (counted change.key ++ kind_bytes change.kind) are.version_fits fits.version (sym are.spelled ∙ e) in
+    let version = same_number 8 fields.version change.version (with_length fields.key.now ++ fields.carried.now) (with_length change.key ++ kind_bytes change.kind) are.version_fits fits.version (sym are.spelled ∙ e) in
     let key = same_counted fields.key.now change.key fields.carried.now (kind_bytes change.kind) are.key_fits fits.key version.1 in
     (version.0, key.0, key.1)
 

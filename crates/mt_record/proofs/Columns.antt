@@ -2,7 +2,8 @@
 use Rattle.std.proofs.Common.{◌≡◌, ℕ, suc, ◌+◌, ◌-◌, ◌<◌, ◌≤◌, List, [], ◌∷◌, ◌++◌, sym, ap, ◌∙◌, subst, append_assoc, arith}
 use Rattle.std.specs.List.{flat_map, AllByRecursion}
 use Rattle.mt_words.specs.declared.limits.Limits.{Limits}
-use Rattle.mt_words.specs.Words.{IsColumn, AreColumns, CanFollow, NumbersRise, NumbersBelow}
+use Rattle.mt_words.specs.Words.{IsColumn, AreColumns, NumbersRise}
+use Rattle.mt_words.specs.Columns.{CanFollow, NumbersBelow}
 use Rattle.mt_record.specs.Spelling.{column_bytes, FitsColumn}
 use Rattle.mt_record.specs.Steps.Bodies.{AreSpelled, HasColumns}
 use Rattle.mt_record.proofs.Unique.{same_column}

@@ -8,7 +8,8 @@ use Rattle.mt_words.specs.declared.code.Code.TheVariants as codes
 use Rattle.mt_words.specs.declared.code.Payload.TheVariants as payloads
 use Rattle.mt_words.specs.declared.record.Change.{Change}
 use Rattle.mt_words.specs.Limits.{limits_of, widest, widest_format}
-use Rattle.mt_words.specs.Words.{IsKey, IsColumn, AreColumns, CanFollow}
+use Rattle.mt_words.specs.Words.{IsKey, IsColumn, AreColumns}
+use Rattle.mt_words.specs.Columns.{CanFollow}
 use Rattle.mt_words.specs.Changes.{AllowsKind, IsLawful, IsLoggedChange}
 use Rattle.mt_words.proofs.Formats.{change_within}
 use Rattle.mt_record.specs.Spelling.{column_bytes, kind_bytes, change_bytes, FitsColumn, FitsChange}

@@ -17,20 +17,21 @@ use Rattle.mt_words.specs.declared.update.Update.{Update}
 use Rattle.mt_words.specs.Limits.{widest, widest_format}
 use Rattle.mt_words.specs.Codes.{code_of, byte_of, payload_of, Clears}
 use Rattle.mt_words.specs.Words.{IsColumn, AreNumbers}
-use Rattle.mt_words.specs.Changes.{Logged, changed, IsLawful, IsLawfulChange, IsLoggedChange, AllowsKind, AreWrites, IsReset, set, writes_of}
+use Rattle.mt_words.specs.Changes.{Logged, changed, IsLawful, IsLawfulChange, IsLoggedChange, AllowsKind, IsReset, set, writes_of}
+use Rattle.mt_words.specs.Writes.{AreWrites}
 use Rattle.mt_words.proofs.WriteLemmas.{set_writes, set_columns, erase_writes, erase_numbers}
 use Rattle.mt_words.specs.Updates.{update_at}
-use Rattle.mt_record.specs.Spelling.{counted, column_bytes, kind_byte, kind_bytes, change_bytes, body_of, body, FitsColumn, FitsKind, FitsChange}
+use Rattle.mt_record.specs.Spelling.{with_length, column_bytes, kind_byte, kind_bytes, change_bytes, body_of, body, FitsColumn, FitsKind, FitsChange}
 use Rattle.mt_record.proofs.Lawful.{key_room, put_fits, erase_fits}
 use Rattle.mt_record.specs.Steps.Bodies.{AreSpelled}
 use Rattle.mt_record.proofs.Columns.{no_columns}
 use Rattle.mt_record.proofs.Unique.{same_column}
-use Rattle.mt_record.specs.Decoding.{columns_from, columns_counted, numbers_counted, writes_from, writes_carried, kind_from, change_unless, is_mark_in, code_from, code_in, time_in, version_in, key_length_in, key_in, carried_in, kind_in, change_in, update_in, change_unless, decode, IsSound, IsBody, IsChangeBody, IsEntryBody, IsCarried, AreLentColumns, AreLent, AreCounted}
+use Rattle.mt_record.specs.Decoding.{columns_from, columns_counted, numbers_counted, writes_from, writes_carried, kind_from, change_unless, is_mark_in, code_from, code_in, time_in, version_in, key_length_in, key_in, carried_in, kind_in, change_in, update_in, change_unless, decode, IsSoundChange, IsBody, IsChangeBody, IsEntryBody, IsCarried, AreLentColumns, AreLent, AreCounted}
 
 -- ---- fields
 
--- the length of counted bytes is read back
-counted_front : (front more : List ℕ) → length front < 2 ^ 16 → big_from 0 2 (counted front ++ more) ≡ length front
+-- the length of with_length bytes is read back
+counted_front : (front more : List ℕ) → length front < 2 ^ 16 → big_from 0 2 (with_length front ++ more) ≡ length front
 counted_front front more below = big_number-reads_back 2 (length front) (front ++ more) below
 
 take_front : (n : ℕ) (front more : List ℕ) → n ≡ length front → take n (front ++ more) ≡ front
@@ -46,8 +47,8 @@ columns_back (c ∷ cs) more all =
     let after = flat_map column_bytes cs ++ more in
     let regrouped : flat_map column_bytes (c ∷ cs) ++ more ≡ column_bytes c ++ after = append_assoc (column_bytes c) (flat_map column_bytes cs) more in
     let n = counted_front c.1 after all.0.1 in
-    let front = take_front (big_from 0 2 (counted c.1 ++ after)) c.1 after n in
-    let rest = drop_front (big_from 0 2 (counted c.1 ++ after)) c.1 after n in
+    let front = take_front (big_from 0 2 (with_length c.1 ++ after)) c.1 after n in
+    let rest = drop_front (big_from 0 2 (with_length c.1 ++ after)) c.1 after n in
     let tail = columns_back cs more all.1 in
     subst (λ bytes. columns_from (suc (length cs)) bytes ≡ c ∷ cs) (sym regrouped) (λ i. (c.0, front i) ∷ (ap (columns_from (length cs)) rest ∙ tail) i)
 
@@ -55,7 +56,7 @@ columns_back (c ∷ cs) more all =
 
 -- the body of a change, field by field; each field is read back below
 abbrev change_body : ℕ → ℕ → List ℕ → ℕ → List ℕ → List ℕ
-change_body code t key v carried = code ∷ (big_bytes 8 t ++ (big_bytes 8 v ++ (counted key ++ carried)))
+change_body code t key v carried = code ∷ (big_bytes 8 t ++ (big_bytes 8 v ++ (with_length key ++ carried)))
 
 time_back : (code t : ℕ) (rest : List ℕ) → t < 2 ^ 64 → time_in (code ∷ (big_bytes 8 t ++ rest)) ≡ t
 unfolding time_in
@@ -63,7 +64,7 @@ time_back code t rest below = big_number-reads_back 8 t rest below
 
 version_back : (code t v : ℕ) (key carried : List ℕ) → v < 2 ^ 64 → version_in (change_body code t key v carried) ≡ v
 unfolding version_in
-version_back code t v key carried below = big_number-reads_back 8 v (counted key ++ carried) below
+version_back code t v key carried below = big_number-reads_back 8 v (with_length key ++ carried) below
 
 key_length_back : (code t v : ℕ) (key carried : List ℕ) → length key < 2 ^ 16 → key_length_in (change_body code t key v carried) ≡ length key
 unfolding key_length_in
@@ -94,7 +95,7 @@ unfolding is_mark_in code_in
 changed_back byte t v key carried kind no_mark is fits_t fits_v fits_key =
     let made = ap (kind_from (code_from byte)) (carried_back byte t v key carried fits_key) ∙ is in
     λ i. record {
-      timestamp = time_back byte t (big_bytes 8 v ++ (counted key ++ carried)) fits_t i;
+      timestamp = time_back byte t (big_bytes 8 v ++ (with_length key ++ carried)) fits_t i;
       change = change_unless (no_mark i) (record { version = version_back byte t v key carried fits_v i; key = key_back byte t v key carried fits_key i; kind = made i });
     }
 
@@ -111,7 +112,7 @@ change_back t change fits_t fits = by_kind change.kind fits.kind
 -- ---- a record
 
 -- a sound change fits its fields
-fits_of : (change : Change) → IsSound change → FitsChange change
+fits_of : (change : Change) → IsSoundChange change → FitsChange change
 fits_of change sound = record { version = sound.version; key = omega (arith, sound.key, key_room widest_format); kind = by_kind change.kind sound.writes }
   where
     by_kind : (kind : Kind) → AreWrites widest (writes_of kind) → FitsKind kind
@@ -121,7 +122,7 @@ fits_of change sound = record { version = sound.version; key = omega (arith, sou
     by_kind (Erase ns) are = erase_fits widest_format ns (erase_numbers widest ns are)
 
 -- a lawful change is sound
-pub lawful_sound : (change : Change) → IsLawfulChange widest change → IsSound change
+pub lawful_sound : (change : Change) → IsLawfulChange widest change → IsSoundChange change
 lawful_sound change lawful = record { version = lawful.version_fits; key = lawful.key; writes = by_kind change.kind lawful.kind }
   where
     by_kind : (kind : Kind) → AllowsKind widest kind → AreWrites widest (writes_of kind)
@@ -130,18 +131,18 @@ lawful_sound change lawful = record { version = lawful.version_fits; key = lawfu
     by_kind (Whole cs) allowed = set_writes widest cs allowed.0
     by_kind (Erase ns) allowed = erase_writes widest ns allowed.1
 
-record_back : (t : ℕ) (change : Option Change) → t < 2 ^ 64 → IfSome change IsSound → decode (body_of t change) ≡ record { timestamp = t; change = change }
+record_back : (t : ℕ) (change : Option Change) → t < 2 ^ 64 → IfSome change IsSoundChange → decode (body_of t change) ≡ record { timestamp = t; change = change }
 record_back t None below sound = mark_back t below
 record_back t (Some change) below sound = change_back t change below (fits_of change sound)
 
 -- the body of a mark or of a sound change satisfies `IsBody` and decodes to its record
-pub says : (bytes : List ℕ) (r : Logged) → r.timestamp < 2 ^ 64 → IfSome r.change IsSound → bytes ≡ body r → (decode bytes ≡ r) × IsBody bytes
+pub says : (bytes : List ℕ) (r : Logged) → r.timestamp < 2 ^ 64 → IfSome r.change IsSoundChange → bytes ≡ body r → (decode bytes ≡ r) × IsBody bytes
 says bytes r below sound same =
     let back : decode bytes ≡ r = ap decode same ∙ record_back r.timestamp r.change below sound in (
       back,
       record {
         time = subst (λ (q : Logged). q.timestamp < 2 ^ 64) (sym back) below;
-        change = subst (λ (q : Logged). IfSome q.change IsSound) (sym back) sound;
+        change = subst (λ (q : Logged). IfSome q.change IsSoundChange) (sym back) sound;
         spelled = same ∙ ap body (sym back);
       },
     )
@@ -150,7 +151,7 @@ says bytes r below sound same =
 pub body_says : (bytes : List ℕ) (r : Logged) → IsLawful widest r → bytes ≡ body r → (decode bytes ≡ r) × IsBody bytes
 body_says bytes r lawful same = says bytes r lawful.0 (sound_change r.change lawful.1) same
   where
-    sound_change : (change : Option Change) → IfSome change (IsLoggedChange widest) → IfSome change IsSound
+    sound_change : (change : Option Change) → IfSome change (IsLoggedChange widest) → IfSome change IsSoundChange
     sound_change None is = tt
     sound_change (Some change) is = lawful_sound change is.0
 
@@ -167,7 +168,7 @@ entry_says bytes entry lawful same =
     (change.1, record { change = (back.1, change.0); no_time = ap (λ (r : Logged). r.timestamp) back.0 })
 
 -- the body of an update decodes to the update
-pub update_says : (bytes : List ℕ) (u : Update) → u.timestamp < 2 ^ 64 → IsSound (record { version = u.stamp.version; key = u.key; kind = u.kind })
+pub update_says : (bytes : List ℕ) (u : Update) → u.timestamp < 2 ^ 64 → IsSoundChange (record { version = u.stamp.version; key = u.key; kind = u.kind })
     → bytes ≡ body_of u.timestamp (Some (record { version = u.stamp.version; key = u.key; kind = u.kind })) → IsChangeBody bytes × (update_in u.stamp.origin bytes ≡ u)
 update_says bytes u below sound same =
     let back = says bytes (changed u.timestamp (record { version = u.stamp.version; key = u.key; kind = u.kind })) below sound same in
@@ -182,8 +183,8 @@ pub spelled_change : (bytes : List ℕ) → IsChangeBody bytes
     → bytes ≡ change_body (kind_byte (kind_in bytes)) (time_in bytes) (key_in bytes) (version_in bytes) (kind_bytes (kind_in bytes))
 spelled_change bytes is = is.0.spelled ∙ ap (λ (mark : Bool). body_of (time_in bytes) (change_unless mark (change_in bytes))) is.1
 
-pub change_sound : (bytes : List ℕ) → IsChangeBody bytes → IsSound (change_in bytes)
-change_sound bytes is = subst (λ (mark : Bool). IfSome (change_unless mark (change_in bytes)) IsSound) is.1 is.0.change
+pub change_sound : (bytes : List ℕ) → IsChangeBody bytes → IsSoundChange (change_in bytes)
+change_sound bytes is = subst (λ (mark : Bool). IfSome (change_unless mark (change_in bytes)) IsSoundChange) is.1 is.0.change
 
 change_fits : (bytes : List ℕ) → IsChangeBody bytes → FitsChange (change_in bytes)
 change_fits bytes is = fits_of (change_in bytes) (change_sound bytes is)
@@ -275,8 +276,8 @@ next_column : (n left : ℕ) (bytes after : List ℕ) (c : ℕ × List ℕ) → 
     → (columns_from left bytes ≡ c ∷ columns_from n after) × IsColumn widest c × AreLentColumns n after
 next_column n left bytes after c more fit same are =
     let length_is = counted_front c.1 after fit.1 in
-    let front = take_front (big_from 0 2 (counted c.1 ++ after)) c.1 after length_is in
-    let rest = drop_front (big_from 0 2 (counted c.1 ++ after)) c.1 after length_is in
+    let front = take_front (big_from 0 2 (with_length c.1 ++ after)) c.1 after length_is in
+    let rest = drop_front (big_from 0 2 (with_length c.1 ++ after)) c.1 after length_is in
     let here : columns_from (suc n) (column_bytes c ++ after) ≡ c ∷ columns_from n after = λ i. (c.0, front i) ∷ columns_from n (rest i) in
     let is : columns_from left bytes ≡ c ∷ columns_from n after = (λ i. columns_from (more i) (same i)) ∙ here in
     let all : AreSpelled left bytes (c ∷ columns_from n after) = subst (AreSpelled left bytes) is are.spelled in

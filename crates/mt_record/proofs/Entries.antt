@@ -14,7 +14,8 @@ use Rattle.mt_words.specs.Limits.{limits_of}
 use Rattle.mt_words.specs.Changes.{AllowsKind, IsWhole, IsEntry}
 use Rattle.mt_words.proofs.Formats.{within}
 use Rattle.mt_record.specs.Spelling.{column_bytes, kind_bytes, change_bytes}
-use Rattle.mt_record.specs.Parts.{entry_spelling, IsEntryLength}
+use Rattle.mt_record.specs.Parts.{entry_spelling}
+use Rattle.mt_record.specs.PartTexts.{IsEntryLength}
 use Rattle.mt_record.proofs.Lawful.{kind_length}
 
 -- one or more columns take at least three bytes

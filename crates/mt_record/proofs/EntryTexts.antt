@@ -12,7 +12,7 @@ use Rattle.mt_words.specs.Limits.{limits_of}
 use Rattle.mt_words.specs.Changes.{IsWhole, IsEntry}
 use Rattle.mt_record.specs.Spelling.{kind_byte, change_bytes, framed, FitsChange}
 use Rattle.mt_record.specs.LogFaults.{HasTrailerFault}
-use Rattle.mt_record.specs.Parts.{IsEntryLength}
+use Rattle.mt_record.specs.PartTexts.{IsEntryLength}
 use Rattle.mt_record.specs.PartFeeding.{HasWrongEntry, ShowsNoEntry}
 use Rattle.mt_record.specs.Steps.Bodies.{AreNoFields, IsChangeWith, IsChangeFault, IsFrame, IsFrameFault}
 use Rattle.mt_record.proofs.Unique.{same_split, same_number, same_change}

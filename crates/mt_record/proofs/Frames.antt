@@ -7,7 +7,7 @@ use Rattle.mt_words.specs.declared.fault.What.TheVariants.{Length, Trailer}
 use Rattle.mt_words.specs.declared.limits.Limits.{Limits}
 use Rattle.mt_record.specs.Spelling.{framed, IsRecordLength}
 use Rattle.mt_record.specs.Steps.Bodies.{IsFrameFault}
-use Rattle.mt_record.specs.Logs.{IsCut}
+use Rattle.mt_record.specs.Logs.{IsUnfinished}
 use Rattle.mt_record.specs.LogFaults.{HasLengthFault, HasFrame, HasTrailerFault, RestFault}
 use Rattle.mt_record.proofs.Unique.{same_number, framed_apart}
 use Rattle.mt_record.proofs.Feeds.{behind_on}
@@ -72,7 +72,7 @@ module _ (IsLength : ℕ → Type 0) (small : (n : ℕ) → IsLength n → n < 2
   wrong_begins rest h = record { number = h.number; more = h.more; fits = h.fits; spelled = h.spelled; enough = λ is. absurd (h.wrong is) }
 
   -- an empty or cut rest has too few bytes
-  pub none_begins : (rest : List ℕ) → (rest ≡ []) ⊎ IsCut IsLength rest → Begins rest → ⊥
+  pub none_begins : (rest : List ℕ) → (rest ≡ []) ⊎ IsUnfinished IsLength rest → Begins rest → ⊥
   none_begins rest (inl e) b = let n : length rest ≡ 0 = ap length e in let m = ap length b.spelled in omega (arith, n, m)
   none_begins rest (inr (inl short)) b = let m = ap length b.spelled in omega (arith, m, short.1)
   none_begins rest (inr (inr cut)) b =

@@ -18,9 +18,11 @@ use Rattle.mt_record.specs.declared.read.FeedFault.TheVariants as faults
 use Rattle.mt_record.specs.declared.feed.log_items.LogItems.{LogItems}
 use Rattle.mt_record.specs.declared.feed.head.Head.{Head}
 use Rattle.mt_record.specs.Spelling.{framed, spelling, IsRecordLength}
-use Rattle.mt_record.specs.Fronts.{bytes_of, ShowsNone, IsCutFront}
-use Rattle.mt_record.specs.Heads.{IsHead, head_of, head_bytes, HasNoHeader}
-use Rattle.mt_record.specs.Logs.{AreRecords, latest, version_of, IsTorn, IsLog, LogReading, IsLast, IsTextIn, count_of, log_bytes}
+use Rattle.mt_record.specs.Fronts.{bytes_of, ShowsNone, IsUnfinishedFront}
+use Rattle.mt_record.specs.Heads.{IsHead, head_bytes, HasNoHeader}
+use Rattle.mt_record.specs.Encoding.{head_of}
+use Rattle.mt_record.specs.Logs.{AreRecords, latest, IsTorn, IsLog, LogReading, count_of, log_bytes}
+use Rattle.mt_record.specs.LogTexts.{version_of, IsLast, IsTextIn}
 use Rattle.mt_record.specs.declared.front.LogFront.{LogFront}
 use Rattle.mt_record.specs.LogFaults.{RestFault, IsLogFault}
 use Rattle.mt_record.specs.declared.front.Rest.{Rest}
@@ -211,7 +213,7 @@ shown_fault (faults.Record nth what) bytes h = h
 shown_fault faults.Memory bytes h = h
 
 -- a proper prefix of a header shows no fault
-cut_shows_none : (bytes : List ℕ) → IsCutFront IsHead head_bytes bytes → ShowsNoFault bytes
+cut_shows_none : (bytes : List ℕ) → IsUnfinishedFront IsHead head_bytes bytes → ShowsNoFault bytes
 cut_shows_none bytes cut faults.Header h = h.1 cut.head cut.more cut.is_head cut.begun
 cut_shows_none bytes cut (faults.Record nth what) h =
     cut_none IsHead head_bytes same_long bytes cut h.fault.head (flat_map spelling h.records ++ h.fault.rest) h.fault.is_head h.fault.spelled

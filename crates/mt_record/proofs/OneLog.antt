@@ -14,7 +14,7 @@ use Rattle.mt_record.specs.Logs.{AreRecords, latest}
 use Rattle.mt_record.proofs.Beginnings.{no_digit}
 use Rattle.mt_record.proofs.Unique.{same_number, same_body, same_framed}
 use Rattle.mt_record.proofs.Lawful.{length_fits, lawful_fits, lawful_length}
-use Rattle.mt_record.specs.Logs.{Stops}
+use Rattle.mt_record.specs.Fronts.{Stops}
 
 abbrev head_from : Format → ℕ → Option (ℕ × ℕ) → Head
 head_from format from writer = record { format = format; from = from; writer = writer }

@@ -12,10 +12,11 @@ use Rattle.mt_record.specs.declared.part_text.PartHead.{PartHead}
 use Rattle.mt_record.specs.declared.part_text.PartFault.{PartFault}
 use Rattle.mt_record.specs.declared.part_text.PartFault.TheVariants as faults
 use Rattle.mt_record.specs.Spelling.{change_bytes}
-use Rattle.mt_record.specs.Parts.{part_head_bytes, IsPartHead, entry_spelling, footer_bytes, IsEntryLength, IsPart, PartReading, IsPartReading}
+use Rattle.mt_record.specs.Parts.{part_head_bytes, IsPartHead, entry_spelling, footer_bytes, IsPart, PartReading, IsPartReading}
+use Rattle.mt_record.specs.PartTexts.{IsEntryLength}
 use Rattle.mt_record.specs.LogFaults.{HasFrame}
 use Rattle.mt_record.specs.PartFaults.{HasNoPartHeader, HasNoEntry, BeginsPart, IsBroken, IsPartFault}
-use Rattle.mt_record.specs.Fronts.{ShowsNone, IsCutFront}
+use Rattle.mt_record.specs.Fronts.{ShowsNone, IsUnfinishedFront}
 use Rattle.mt_record.specs.Feeding.{HasRead, HoldsAll, HasShown}
 use Rattle.mt_record.specs.PartFeeding.{HasWrongLength, HasWrongEntry, ShowsNoPart, ShowsPartFault, IsPartShown, ShowsNoPartFault, IsCutItem, PartSoFar, end_bytes, HoldsPart, IsPartLeft, IsPartFaulty}
 use Rattle.mt_record.proofs.Unique.{same_split, same_number, framed_apart}
@@ -177,13 +178,13 @@ shown_fault (faults.Broken number entries) bytes (front, h) =
 shown_fault faults.Memory bytes h = h
 
 -- a proper prefix of a header does not begin with a header
-cut_no_header : (bytes : List ℕ) → IsCutFront IsPartHead part_head_bytes bytes → HasNoPartHeader bytes
+cut_no_header : (bytes : List ℕ) → IsUnfinishedFront IsPartHead part_head_bytes bytes → HasNoPartHeader bytes
 cut_no_header bytes cut = cut_none IsPartHead part_head_bytes (λ head other more e. refl) bytes cut
 
 -- ---- bytes that show no fault
 
 -- a proper prefix of a part's header shows no fault
-cut_shows_none : (bytes : List ℕ) → IsCutFront IsPartHead part_head_bytes bytes → ShowsNoPartFault bytes
+cut_shows_none : (bytes : List ℕ) → IsUnfinishedFront IsPartHead part_head_bytes bytes → ShowsNoPartFault bytes
 cut_shows_none bytes cut faults.Header h = h.1 cut.head cut.more cut.is_head cut.begun
 cut_shows_none bytes cut (faults.Broken number entries) (front, h) =
     cut_no_header bytes cut front.head (flat_map entry_spelling front.entries ++ front.rest) front.begins.is_head front.begins.spelled

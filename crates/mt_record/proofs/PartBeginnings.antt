@@ -8,7 +8,8 @@ use Rattle.mt_words.specs.declared.limits.Format.{Format}
 use Rattle.mt_words.specs.Limits.{magic}
 use Rattle.mt_record.specs.declared.part_text.PartHead.{PartHead}
 use Rattle.mt_record.specs.Parts.{part_head, part_head_bytes, IsPartHead}
-use Rattle.mt_record.specs.Fronts.{GoesWithMagic, NoneBegins, ShowsNone, IsCutFront}
+use Rattle.mt_record.specs.Fronts.{GoesWithMagic, ShowsNone, IsUnfinishedFront}
+use Rattle.mt_record.specs.Heads.{NoneBegins}
 use Rattle.mt_record.proofs.Beginnings.{shows_none, cut_front}
 use Rattle.mt_record.proofs.Numbers.{AreBytes, two, four, eight, number_front}
 
@@ -35,5 +36,5 @@ part_none bytes not_so = shows_none IsPartHead part_head_bytes (λ (head : PartH
     (λ head. (big_bytes 4 head.number ++ (big_bytes 8 head.begin ++ (big_bytes 2 head.part ++ big_bytes 2 head.parts)), refl)) bytes (λ head goes. not_so (head.format, goes))
 
 -- bytes that go with it but do not begin with a header are a proper prefix of one
-pub part_cut : (bytes : List ℕ) → GoesWithMagic (codes "MTC") bytes → AreBytes bytes → NoneBegins IsPartHead part_head_bytes bytes → IsCutFront IsPartHead part_head_bytes bytes
+pub part_cut : (bytes : List ℕ) → GoesWithMagic (codes "MTC") bytes → AreBytes bytes → NoneBegins IsPartHead part_head_bytes bytes → IsUnfinishedFront IsPartHead part_head_bytes bytes
 part_cut bytes goes = cut_front IsPartHead part_head_bytes (magic (codes "MTC") goes.0) 16 (part_whole goes.0) bytes goes.1

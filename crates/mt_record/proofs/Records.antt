@@ -5,7 +5,8 @@ use Rattle.std.proofs.lemmas.List.Elements.{All-nil, All-cons, All-weaker, Conta
 use Rattle.std.specs.Prelude.{◌↔◌, ◌==◌, Bool, not, IsTrue, Contains, All}
 use Rattle.mt_words.specs.declared.limits.Limits.{Limits}
 use Rattle.mt_words.specs.Changes.{Logged, IsLawful}
-use Rattle.mt_record.specs.Logs.{AreRecords, latest, version_of, versions_of, greatest, LogReading, IsLast, IsTorn}
+use Rattle.mt_record.specs.Logs.{AreRecords, latest, LogReading, IsTorn}
+use Rattle.mt_record.specs.LogTexts.{version_of, versions_of, greatest, IsLast}
 
 -- ---- one more record
 

@@ -15,7 +15,7 @@ use Rattle.mt_record.specs.AtEnd.{AreFrom, IsLongestRun}
 use Rattle.mt_record.specs.Spelling.{body, framed, spelling}
 use Rattle.mt_record.specs.Steps.Bodies.{IsNextBody}
 use Rattle.mt_record.proofs.Unique.{same_split, same_number, same_framed}
-use Rattle.mt_record.specs.Logs.{Stops}
+use Rattle.mt_record.specs.Fronts.{Stops}
 use Rattle.mt_record.proofs.Lawful.{length_fits, lawful_length}
 
 -- ---- frames

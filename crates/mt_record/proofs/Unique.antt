@@ -8,7 +8,7 @@ use Rattle.mt_words.specs.declared.record.Change.{Change}
 use Rattle.mt_words.specs.declared.update.Kind.{Kind}
 use Rattle.mt_words.specs.declared.update.Kind.TheVariants.{Put, Remove, Whole, Erase}
 use Rattle.mt_words.specs.Changes.{Logged}
-use Rattle.mt_record.specs.Spelling.{counted, column_bytes, kind_byte, kind_bytes, change_bytes, body_of, body, framed, FitsColumn, FitsKind, FitsChange, FitsLogged, Fits}
+use Rattle.mt_record.specs.Spelling.{with_length, column_bytes, kind_byte, kind_bytes, change_bytes, body_of, body, framed, FitsColumn, FitsKind, FitsChange, FitsLogged, Fits}
 
 -- ---- fields
 
@@ -30,8 +30,8 @@ same_number n a b x y fits_a fits_b e = (
   (same_split (big_bytes n a) (big_bytes n b) x y (length-bytes_high_first n a ∙ sym (length-bytes_high_first n b)) e).1,
 )
 
--- bytes begin with only one list of counted bytes
-pub same_counted : (a b x y : List ℕ) → length a < 2 ^ 16 → length b < 2 ^ 16 → counted a ++ x ≡ counted b ++ y → (a ≡ b) × (x ≡ y)
+-- bytes begin with only one list of with_length bytes
+pub same_counted : (a b x y : List ℕ) → length a < 2 ^ 16 → length b < 2 ^ 16 → with_length a ++ x ≡ with_length b ++ y → (a ≡ b) × (x ≡ y)
 same_counted a b x y fits_a fits_b e =
     let apart : big_bytes 2 (length a) ++ (a ++ x) ≡ big_bytes 2 (length b) ++ (b ++ y) =
     sym (append_assoc (big_bytes 2 (length a)) a x) ∙ e ∙ append_assoc (big_bytes 2 (length b)) b y in
@@ -42,7 +42,7 @@ same_counted a b x y fits_a fits_b e =
 pub same_column : (c d : ℕ × List ℕ) (x y : List ℕ) → FitsColumn c → FitsColumn d → column_bytes c ++ x ≡ column_bytes d ++ y → (c ≡ d) × (x ≡ y)
 same_column c d x y fits_c fits_d e =
     let first : c.0 ≡ d.0 = cc in
-    let rest : counted c.1 ++ x ≡ counted d.1 ++ y = cc in
+    let rest : with_length c.1 ++ x ≡ with_length d.1 ++ y = cc in
     let bytes = same_counted c.1 d.1 x y fits_c.1 fits_d.1 rest in
     (λ i. (first i, bytes.0 i), bytes.1)
 
@@ -93,8 +93,8 @@ same_kind (Erase ns) (Erase ms) fits_a fits_b code e = ap Erase (ap (drop 1) e)
 -- bytes are the fields of only one change whose kind has this byte
 pub same_change : (a b : Change) → FitsChange a → FitsChange b → kind_byte a.kind ≡ kind_byte b.kind → change_bytes a ≡ change_bytes b → a ≡ b
 same_change a b fits_a fits_b code e =
-    let left = counted a.key ++ kind_bytes a.kind in
-    let right = counted b.key ++ kind_bytes b.kind in
+    let left = with_length a.key ++ kind_bytes a.kind in
+    let right = with_length b.key ++ kind_bytes b.kind in
     let version = same_number 8 a.version b.version left right fits_a.version fits_b.version e in
     let key = same_counted a.key b.key (kind_bytes a.kind) (kind_bytes b.kind) fits_a.key fits_b.key version.1 in
     let kind = same_kind a.kind b.kind fits_a.kind fits_b.kind code key.1 in

@@ -3,9 +3,10 @@ use Rattle.std.proofs.Common.{◌≡◌, [], ◌∷◌, ◌++◌, refl}
 use Rattle.std.specs.List.{flat_map}
 use Rattle.mt_words.specs.declared.limits.Format.TheVariants.{One, Two}
 use Rattle.mt_words.specs.Limits.{limits_of}
-use Rattle.mt_words.specs.Changes.{mark_of, erase_of, put_of, remove_of, entry_of}
+use Rattle.mt_words.specs.Built.{mark_of, erase_of, put_of, remove_of, entry_of}
 use Rattle.mt_record.specs.Spelling.{spelling, longest_record, longest_change}
-use Rattle.mt_record.specs.Heads.{head_of, segment_head, head_bytes}
+use Rattle.mt_record.specs.Heads.{head_bytes}
+use Rattle.mt_record.specs.Encoding.{head_of, segment_head}
 use Rattle.mt_record.specs.Parts.{part_head, part_bytes}
 
 -- the longest body of format 1, and the longest change

@@ -14,7 +14,8 @@ use Rattle.mt_words.specs.declared.update.Update.{Update}
 use Rattle.mt_words.specs.Limits.{widest}
 use Rattle.mt_words.specs.Codes.{byte_of}
 use Rattle.mt_words.specs.Words.{IsKey, IsColumn}
-use Rattle.mt_words.specs.Changes.{Logged, Write, set, erased, writes_of, AreWrites}
+use Rattle.mt_words.specs.Changes.{Logged, Write, set, erased, writes_of}
+use Rattle.mt_words.specs.Writes.{AreWrites}
 use Rattle.mt_words.specs.Updates.{update_at}
 use Rattle.mt_record.specs.Spelling.{body}
 use Rattle.mt_record.specs.Steps.Bodies.{AreSpelled}
@@ -113,7 +114,7 @@ abbrev pub decode : List ℕ → Logged
 decode bytes = record { timestamp = time_in bytes; change = change_unless (is_mark_in bytes) (change_in bytes) }
 
 -- a sound change, which an update in memory may have: like a lawful one, but its version may be 0, and it may write no column
-pub record IsSound (change : Change) : Type 0 where
+pub record IsSoundChange (change : Change) : Type 0 where
   pub version : change.version < 2 ^ 64
   pub key : IsKey widest change.key
   pub writes : AreWrites widest (writes_of change.kind)
@@ -121,7 +122,7 @@ pub record IsSound (change : Change) : Type 0 where
 -- The bytes are the body of a mark or of a sound change. The body of an entry is encoded as a record of its kind would be.
 pub record IsBody (bytes : List ℕ) : Type 0 where
   pub time : time_in bytes < 2 ^ 64
-  pub change : IfSome (decode bytes).change IsSound
+  pub change : IfSome (decode bytes).change IsSoundChange
   pub spelled : bytes ≡ body (decode bytes)
 
 -- the bytes are the body of a change, not of a mark

@@ -1,19 +1,14 @@
 -- Headers of logs.
-use Rattle.std.specs.Prelude.{◌≡◌, ◌⊎◌, ℕ, ◌<◌, ◌^◌, Option, Some, None, IfSome, List, [], ◌++◌, codes}
+use Rattle.std.specs.Prelude.{◌≡◌, ℕ, ◌<◌, ◌^◌, Option, Some, None, IfSome, List, [], ◌++◌, codes, ◌≢◌}
 use Rattle.byteorder.specs.Endian.{big_bytes}
 use Rattle.mt_words.specs.declared.limits.Format.{Format}
 use Rattle.mt_words.specs.declared.limits.Format.TheVariants.{Two}
 use Rattle.mt_words.specs.Limits.{magic}
 use Rattle.mt_record.specs.declared.feed.head.Head.{Head}
-use Rattle.mt_record.specs.Fronts.{GoTogether, GoesWithMagic, NoneBegins}
 
--- the header of a log with this format and this `from`, which is no segment
-abbrev pub head_of : Format → ℕ → Head
-head_of format from = record { format = format; from = from; writer = None }
-
--- the header of this segment of this worker's log, with this `from`
-abbrev pub segment_head : ℕ → ℕ → ℕ → Head
-segment_head from worker segment = record { format = Two; from = from; writer = Some (worker, segment) }
+-- the bytes do not begin with the encoding of any value that satisfies `Is`
+abbrev pub NoneBegins : {H : Type 0} → (H → Type 0) → (H → List ℕ) → List ℕ → Type 0
+NoneBegins {H} Is spelled bytes = (head : H) (more : List ℕ) → Is head → bytes ≢ spelled head ++ more
 
 -- the magic of a log: that of its format, or the magic of segments
 abbrev pub log_magic : Format → Option (ℕ × ℕ) → List ℕ
@@ -32,10 +27,6 @@ head_bytes head = log_magic head.format head.writer ++ (big_bytes 8 head.from ++
 pub record IsHead (head : Head) : Type 0 where
   pub from : head.from < 2 ^ 64
   pub writer : IfSome head.writer (λ writer. (head.format ≡ Two) × (writer.0 < 2 ^ 32) × (writer.1 < 2 ^ 32))
-
--- the bytes begin with the magic of a log, or are a prefix of it
-abbrev pub GoesWithLog : List ℕ → Type 0
-GoesWithLog bytes = GoesWithMagic (codes "MTL") bytes ⊎ GoTogether (codes "MTL3") bytes
 
 -- the bytes do not begin with a header
 abbrev pub HasNoHeader : List ℕ → Type 0

@@ -3,8 +3,6 @@ use Rattle.std.specs.Prelude.{◌≡◌, ◌≢◌, ℕ, ◌≤◌, ◌<◌, ◌
 use Rattle.std.specs.List.{flat_map}
 use Rattle.byteorder.specs.Endian.{big_bytes}
 use Rattle.mt_words.specs.declared.record.Change.{Change}
-use Rattle.mt_words.specs.declared.fault.Fault.{Fault}
-use Rattle.mt_words.specs.declared.fault.Fault.TheVariants as of_all
 use Rattle.mt_words.specs.declared.fault.What.{What}
 use Rattle.mt_words.specs.declared.fault.What.TheVariants.{Length, Trailer, Kind, Frame, Version, Key, Columns, Clock}
 use Rattle.mt_words.specs.declared.limits.Limits.{Limits}
@@ -117,16 +115,6 @@ IsLogFault bytes faults.Header = HasNoHeader bytes
 IsLogFault bytes (faults.Record nth what) = IsRecordFault bytes nth what
 IsLogFault bytes faults.Memory = ⊥
 
--- the fault of this log as a fault of recovery
-abbrev pub fault_at : ℕ → FeedFault → Fault
-fault_at log faults.Header = of_all.Header log
-fault_at log (faults.Record nth what) = of_all.Record log nth what
-fault_at log faults.Memory = of_all.Memory
-
 -- `P` holds for the fault, unless the fault is `memory`, that is out of memory; then nothing is claimed
 abbrev pub OrMemory : {F : Type 0} → F → (F → Type 0) → F → Type 0
 OrMemory memory P fault = fault ≢ memory → P fault
-
--- a returned fault is the fault of the bytes, unless it is `Memory`
-abbrev pub IsAnswered : List ℕ → FeedFault → Type 0
-IsAnswered bytes = OrMemory faults.Memory (IsLogFault bytes)

@@ -9,10 +9,11 @@ use Rattle.mt_words.specs.declared.fault.What.{What}
 use Rattle.mt_record.specs.declared.read.FeedFault.TheVariants as faults
 use Rattle.mt_record.specs.declared.feed.log_items.LogItems.{LogItems}
 use Rattle.mt_record.specs.Spelling.{spelling}
-use Rattle.mt_record.specs.Fronts.{bytes_of, ShowsNone, IsCutFront}
+use Rattle.mt_record.specs.Fronts.{bytes_of, ShowsNone, IsUnfinishedFront}
 use Rattle.mt_record.specs.declared.feed.head.Head.{Head}
 use Rattle.mt_record.specs.Heads.{IsHead, head_bytes}
-use Rattle.mt_record.specs.Logs.{AreRecords, latest, IsTorn, versions_of, greatest, count_of}
+use Rattle.mt_record.specs.Logs.{AreRecords, latest, IsTorn, count_of}
+use Rattle.mt_record.specs.LogTexts.{versions_of, greatest}
 use Rattle.mt_record.specs.LogFaults.{RestFault, IsLogFault, OrMemory}
 use Rattle.mt_record.specs.Feeding.{Steps, Fed, IsFedBy}
 
@@ -40,7 +41,7 @@ pub record HoldsLog (taken : List Logged) (so_far : LogSoFar) (front : List ℕ)
 
 -- nothing more can be read from the rest, and it shows no fault
 abbrev pub IsLogLeft : LogSoFar → List ℕ → Type 0
-IsLogLeft so_far rest = MatchOption so_far.head (IsCutFront IsHead head_bytes rest) (λ head. (rest ≡ []) ⊎ IsTorn (limits_of head.format) rest)
+IsLogLeft so_far rest = MatchOption so_far.head (IsUnfinishedFront IsHead head_bytes rest) (λ head. (rest ≡ []) ⊎ IsTorn (limits_of head.format) rest)
 
 -- after the records so far, `nth` of them, the rest has this fault
 pub record IsFaultBehind (so_far : LogSoFar) (nth : ℕ) (what : What) (rest : List ℕ) : Type 0 where

@@ -7,7 +7,8 @@ use Rattle.mt_record.specs.declared.front.Rest.{Rest}
 use Rattle.mt_record.specs.declared.front.Rest.TheVariants.{Nothing, Torn, Faulty}
 use Rattle.mt_record.specs.declared.front.LogFront.{LogFront}
 use Rattle.mt_record.specs.Heads.{IsHead}
-use Rattle.mt_record.specs.Logs.{AreRecords, latest, IsTorn, versions_of, greatest, count_of, log_bytes}
+use Rattle.mt_record.specs.Logs.{AreRecords, latest, IsTorn, count_of, log_bytes}
+use Rattle.mt_record.specs.LogTexts.{versions_of, greatest}
 use Rattle.mt_record.specs.LogFaults.{RestFault}
 
 -- what follows the records of a log, of which the last has the timestamp `low`

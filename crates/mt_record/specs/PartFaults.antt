@@ -8,9 +8,8 @@ use Rattle.mt_words.specs.Changes.{IsEntry}
 use Rattle.mt_record.specs.declared.part_text.PartHead.{PartHead}
 use Rattle.mt_record.specs.declared.part_text.PartFault.{PartFault}
 use Rattle.mt_record.specs.declared.part_text.PartFault.TheVariants as faults
-use Rattle.mt_record.specs.Fronts.{NoneBegins}
+use Rattle.mt_record.specs.Heads.{NoneBegins}
 use Rattle.mt_record.specs.Parts.{part_head_bytes, IsPartHead, entry_spelling, PartReading, IsPartReading}
-use Rattle.mt_record.specs.LogFaults.{OrMemory}
 
 -- the bytes do not begin with the header of a part
 abbrev pub HasNoPartHeader : List ℕ → Type 0
@@ -46,7 +45,3 @@ abbrev pub IsPartFault : List ℕ → PartFault → Type 0
 IsPartFault bytes faults.Header = HasNoPartHeader bytes
 IsPartFault bytes (faults.Broken number entries) = IsBroken bytes number entries
 IsPartFault bytes faults.Memory = ⊥
-
--- a returned fault is the fault of the bytes, unless it is `Memory`
-abbrev pub IsPartAnswered : List ℕ → PartFault → Type 0
-IsPartAnswered bytes = OrMemory faults.Memory (IsPartFault bytes)

@@ -10,10 +10,11 @@ use Rattle.mt_words.specs.Changes.{IsEntry}
 use Rattle.mt_record.specs.declared.part_text.PartHead.{PartHead}
 use Rattle.mt_record.specs.declared.part_text.PartFault.{PartFault}
 use Rattle.mt_record.specs.declared.part_text.PartFault.TheVariants as faults
-use Rattle.mt_record.specs.Logs.{IsCut}
+use Rattle.mt_record.specs.Logs.{IsUnfinished}
 use Rattle.mt_record.specs.LogFaults.{HasLengthFault, HasFrame, OrMemory}
-use Rattle.mt_record.specs.Parts.{part_head_bytes, IsPartHead, entry_spelling, footer_bytes, IsEntryLength}
-use Rattle.mt_record.specs.Fronts.{bytes_of, ShowsNone, IsCutFront}
+use Rattle.mt_record.specs.Parts.{part_head_bytes, IsPartHead, entry_spelling, footer_bytes}
+use Rattle.mt_record.specs.PartTexts.{IsEntryLength}
+use Rattle.mt_record.specs.Fronts.{bytes_of, ShowsNone, IsUnfinishedFront}
 use Rattle.mt_record.specs.PartFaults.{BeginsPartOf}
 use Rattle.mt_record.specs.declared.feed.part_items.PartItems.{PartItems}
 use Rattle.mt_record.specs.Feeding.{Steps, Fed, IsFedBy}
@@ -90,12 +91,12 @@ pub record HoldsPart (so_far : PartSoFar) (front : List ℕ) : Type 0 where
 
 -- the beginning of an entry, or of a footer; of an entry only the length is checked
 abbrev pub IsCutItem : Limits → List ℕ → Type 0
-IsCutItem limits rest = IsCut (IsEntryLength limits) rest ⊎ ((more : List ℕ) × (length more < 12) × (rest ≡ big_bytes 4 0 ++ more))
+IsCutItem limits rest = IsUnfinished (IsEntryLength limits) rest ⊎ ((more : List ℕ) × (length more < 12) × (rest ≡ big_bytes 4 0 ++ more))
 
 -- nothing more can be read from the rest, and it shows no fault; if the footer is complete, the rest is empty
 abbrev pub IsPartLeft : PartSoFar → List ℕ → Type 0
 IsPartLeft so_far rest =
-    MatchOption so_far.head (IsCutFront IsPartHead part_head_bytes rest) (λ head. (rest ≡ []) ⊎ ((so_far.end ≡ None) × IsCutItem (limits_of head.format) rest))
+    MatchOption so_far.head (IsUnfinishedFront IsPartHead part_head_bytes rest) (λ head. (rest ≡ []) ⊎ ((so_far.end ≡ None) × IsCutItem (limits_of head.format) rest))
 
 -- after the entries so far, and the footer if it is complete, the rest shows that the part of checkpoint `number` is broken
 pub record IsBrokenBehind (so_far : PartSoFar) (number entries : ℕ) (rest : List ℕ) : Type 0 where

@@ -1,15 +1,13 @@
 -- Parts of checkpoints: how they are encoded, and which bytes are a part.
-use Rattle.std.specs.Prelude.{◌≡◌, ℕ, ◌≤◌, ◌<◌, ◌^◌, List, ◌++◌, length, codes}
+use Rattle.std.specs.Prelude.{◌≡◌, ℕ, ◌<◌, ◌^◌, List, ◌++◌, length, codes}
 use Rattle.std.specs.List.{flat_map, AllByRecursion}
 use Rattle.byteorder.specs.Endian.{big_bytes}
 use Rattle.mt_words.specs.declared.record.Change.{Change}
-use Rattle.mt_words.specs.declared.limits.Limits.{Limits}
 use Rattle.mt_words.specs.Limits.{limits_of, magic}
 use Rattle.mt_words.specs.declared.limits.Format.{Format}
 use Rattle.mt_words.specs.Changes.{IsEntry}
 use Rattle.mt_record.specs.declared.part_text.PartHead.{PartHead}
-use Rattle.mt_record.specs.declared.part_text.PartText.{PartText}
-use Rattle.mt_record.specs.Spelling.{change_bytes, framed, longest_change}
+use Rattle.mt_record.specs.Spelling.{change_bytes, framed}
 
 -- the header of a part: its format, the number and the begin of its checkpoint, the part's own number, and the number of parts
 abbrev pub part_head : Format → ℕ → ℕ → ℕ → ℕ → PartHead
@@ -27,10 +25,6 @@ pub record IsPartHead (head : PartHead) : Type 0 where
 -- the encoding of an entry: the fields of its change in a frame
 abbrev pub entry_spelling : Change → List ℕ
 entry_spelling change = framed (change_bytes change)
-
--- an entry may have this length: from that of an empty key with one empty column to that of the longest change
-abbrev pub IsEntryLength : Limits → ℕ → Type 0
-IsEntryLength limits n = (14 ≤ n) × (n ≤ longest_change limits)
 
 -- the footer of a part: a length of zero, where its checkpoint ends, and the number of entries
 abbrev pub footer_bytes : ℕ → ℕ → List ℕ
@@ -59,11 +53,3 @@ pub record PartReading : Type 0 where
 
 abbrev pub IsPartReading : List ℕ → PartReading → Type 0
 IsPartReading bytes part = (format : Format) × IsPart bytes (part_head format part.number part.begin part.part part.parts) part.entries part.end
-
--- what a `PartText` contains; `listed` gives the entries in the collection that was filled
-abbrev pub shown_in : {E : Type 0} → (E → List Change) → PartText E → PartReading
-shown_in listed text = record { number = text.number; begin = text.begin; part = text.part; parts = text.parts; entries = listed text.entries; end = text.end }
-
--- the bytes are a part, and the `PartText` agrees with it
-abbrev pub IsPartText : {E : Type 0} → (E → List Change) → List ℕ → PartText E → Type 0
-IsPartText listed bytes text = IsPartReading bytes (shown_in listed text)

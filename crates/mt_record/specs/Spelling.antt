@@ -11,12 +11,12 @@ use Rattle.mt_words.specs.Codes.{code_of, byte_of}
 use Rattle.mt_words.specs.Changes.{Logged, IsLogged}
 
 -- bytes after their two-byte length
-abbrev pub counted : List ℕ → List ℕ
-counted bytes = big_bytes 2 (length bytes) ++ bytes
+abbrev pub with_length : List ℕ → List ℕ
+with_length bytes = big_bytes 2 (length bytes) ++ bytes
 
--- the encoding of a column: its number, and its counted value
+-- the encoding of a column: its number, and its with_length value
 abbrev pub column_bytes : ℕ × List ℕ → List ℕ
-column_bytes column = column.0 ∷ counted column.1
+column_bytes column = column.0 ∷ with_length column.1
 
 -- the byte of a kind
 abbrev pub kind_byte : Kind → ℕ
@@ -29,9 +29,9 @@ kind_bytes Remove = []
 kind_bytes (Whole columns) = length columns ∷ flat_map column_bytes columns
 kind_bytes (Erase numbers) = length numbers ∷ numbers
 
--- the fields of a change: its version, its counted key, and what its kind carries
+-- the fields of a change: its version, its with_length key, and what its kind carries
 abbrev pub change_bytes : Change → List ℕ
-change_bytes change = big_bytes 8 change.version ++ (counted change.key ++ kind_bytes change.kind)
+change_bytes change = big_bytes 8 change.version ++ (with_length change.key ++ kind_bytes change.kind)
 
 -- the body of a record: the byte of its kind, its timestamp, and the fields of its change; a mark has byte 3 and no change
 abbrev pub body_of : ℕ → Option Change → List ℕ

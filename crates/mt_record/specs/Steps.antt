@@ -1,5 +1,5 @@
 -- What private contracts, models of types and proofs say. No public contract names these definitions.
 pub mod Bodies
 pub mod Adding
-pub mod Texts
+pub mod ByteStrings
 pub mod Kept

@@ -7,9 +7,11 @@ ghost use Rattle.std.specs.Prelude.{◌≡◌, ◌<◌, ◌^◌, ◌++◌, lengt
 ghost use Rattle.mt_words.specs.Limits.{widest};
 ghost use Rattle.mt_words.specs.declared.limits.Format.TheVariants.{One, Two};
 ghost use Rattle.mt_words.specs.Words.{AreColumns, AreNumbers};
-ghost use Rattle.mt_words.specs.Changes.{AreWrites, writes_of};
+ghost use Rattle.mt_words.specs.Changes.{writes_of};
+ghost use Rattle.mt_words.specs.Writes.{AreWrites};
 ghost use Rattle.mt_words.specs.declared.update.Kind.TheVariants.{Put, Erase};
-ghost use Rattle.mt_record.specs.Heads.{head_of, segment_head, head_bytes};
+ghost use Rattle.mt_record.specs.Heads.{head_bytes};
+ghost use Rattle.mt_record.specs.Encoding.{head_of, segment_head};
 ghost use Rattle.mt_record.specs.Spelling.{column_bytes, kind_bytes, change_bytes, body, spelling, IsRecordLength};
 ghost use Rattle.mt_record.specs.Steps.Adding.{HasRoom, Adds};
 

@@ -40,7 +40,7 @@ pub use feed::part_head::{FOOTER_BYTES, part_header_at};
 pub use front::{LogFront, Rest};
 pub use kept::log::{Dropped, KeptRecords};
 pub use kept::part::KeptEntries;
-pub use kept::texts::Texts;
+pub use kept::byte_strings::ByteStrings;
 pub use kept::updates::Updates;
 pub use laws::{one_part, one_reading};
 pub use part_front::{entry_at, footer_of};

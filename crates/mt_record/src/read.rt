@@ -3,9 +3,11 @@ ghost use Rattle.std.specs.Prelude.{◌≡◌, List, IfOk, IfErr, MatchOption};
 ghost use Rattle.mt_words.specs.Changes.{Logged};
 ghost use Rattle.mt_words.specs.Limits.{limits_of};
 ghost use Rattle.mt_record.specs.declared.read.FeedFault.TheVariants as faults;
-ghost use Rattle.mt_record.specs.Logs.{IsTextOf, IsNext, Stops, log_bytes};
+ghost use Rattle.mt_record.specs.Logs.{log_bytes};
+ghost use Rattle.mt_record.specs.LogTexts.{IsTextOf};
+ghost use Rattle.mt_record.specs.Fronts.{IsNext, Stops};
 ghost use Rattle.mt_record.specs.LogFronts.{IsFrontOf};
-ghost use Rattle.mt_record.specs.LogFaults.{IsAnswered, fault_at};
+ghost use Rattle.mt_record.specs.Answered.{IsAnswered, fault_at};
 
 use crate::body::copy::copy_record;
 use crate::feed::frame::next_record;

@@ -8,15 +8,16 @@ use Rattle.std.proofs.lemmas.List.{append-nil}
 use Rattle.mt_words.specs.declared.fault.Fault.{Fault}
 use Rattle.mt_words.proofs.Elements.{head_in, tail_in}
 use Rattle.mt_board.specs.Board.{least_of, nothing_noted}
-use Rattle.mt_record.specs.Logs.{LogReading, IsLast, IsGreatestOf, times_of}
+use Rattle.mt_record.specs.Logs.{LogReading, IsGreatestOf, times_of}
+use Rattle.mt_record.specs.LogTexts.{IsLast}
 use Rattle.mt_scan.specs.declared.choice.Choice.{Choice}
 use Rattle.mt_scan.specs.declared.log_scan.LogScan.{LogScan}
 use Rattle.mt_scan.specs.declared.part_scan.PartScan.{PartScan}
-use Rattle.mt_scan.specs.Choice.{IsChoiceOf, checkpoint_in}
+use Rattle.mt_scan.specs.Choosing.{IsChoiceOf, checkpoint_in}
 use Rattle.mt_scan.specs.Cutoff.{files_of, IsCutoff}
 use Rattle.mt_scan.specs.Scans.{HaveNumbersOf}
 use Rattle.mt_scan.proofs.Drops.{shows_lower}
-use Rattle.mt_scan.specs.PartScans.{known_by}
+use Rattle.mt_scan.specs.PartsShown.{known_by}
 use Rattle.mt_scan.specs.Sources.{Seen}
 use Rattle.mt_recover.specs.Steps.Preparing.{IsFirstOrNone, IsFoundOf}
 use Rattle.mt_recover.specs.Inputs.{OfSources}

@@ -13,7 +13,8 @@ use Rattle.mt_scan.specs.Choice.{CheckpointReading, AreSkipped, AreNameless}
 use Rattle.mt_replay.specs.Survivors.{is_early}
 use Rattle.mt_recover.specs.Segments.{is_first_file}
 use Rattle.mt_recover.specs.Recovery.{records_of, begin_of, entry_updates, survivors}
-use Rattle.mt_recover.specs.Report.{all_records, all_versions, logged_updates, is_late, end_of, Outcome, IsRecoveredOf, SaysTheSame}
+use Rattle.mt_recover.specs.Report.{all_records, all_versions, logged_updates, is_late, end_of, Outcome, IsRecoveredOf}
+use Rattle.mt_recover.specs.Laws.{SaysTheSame}
 use Rattle.mt_tree.specs.Layers.{CountsLayers}
 use Rattle.mt_tree.proofs.Uniques.{one_count}
 use Rattle.mt_recover.proofs.OneVerdict.{same_facts, one_store}

@@ -12,7 +12,8 @@ use Rattle.mt_words.specs.Walks.{Pair}
 use Rattle.mt_record.specs.declared.read.FeedFault.{FeedFault}
 use Rattle.mt_record.specs.declared.read.FeedFault.TheVariants as of_log
 use Rattle.mt_record.specs.Logs.{LogReading, IsReading}
-use Rattle.mt_record.specs.LogFaults.{IsLogFault, fault_at}
+use Rattle.mt_record.specs.LogFaults.{IsLogFault}
+use Rattle.mt_record.specs.Answered.{fault_at}
 use Rattle.mt_record.proofs.OneReading.{one_reading_of, one_fault, not_both}
 use Rattle.mt_scan.specs.Cutoff.{IsCutoff}
 use Rattle.mt_scan.specs.PartScans.{KnownPart, IsKnown}

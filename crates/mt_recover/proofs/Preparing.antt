@@ -11,16 +11,17 @@ use Rattle.mt_words.specs.declared.update.Update.{Update}
 use Rattle.mt_words.specs.Walks.{Pair, joined}
 use Rattle.mt_scan.specs.declared.checkpoint.Checkpoint.{Checkpoint}
 use Rattle.mt_scan.specs.declared.log_scan.LogScan.{LogScan}
-use Rattle.mt_scan.specs.Choice.{checkpoint_in}
+use Rattle.mt_scan.specs.Choosing.{checkpoint_in}
 use Rattle.mt_replay.specs.declared.window.Window.{Window}
 use Rattle.mt_replay.specs.Survivors.{in_window, is_within, log_survivors, is_early}
-use Rattle.mt_replay.specs.Walk.{AreApart, IsWalk}
+use Rattle.mt_replay.specs.Walk.{IsWalk}
+use Rattle.mt_replay.specs.Cells.{AreApart}
 use Rattle.mt_replay.proofs.StepLemmas.{same_column}
 use Rattle.mt_tree.specs.Trees.{IsCount}
 use Rattle.mt_recover.specs.declared.found.Found.{Found}
 use Rattle.mt_recover.specs.declared.report.Counts.{Counts}
 use Rattle.mt_recover.specs.declared.survivors.BatchSurvivors.{BatchSurvivors}
-use Rattle.mt_recover.specs.Steps.LogScans.{kept, kept_in}
+use Rattle.mt_recover.specs.Steps.LogScans.{kept, kept_in_window}
 use Rattle.mt_recover.specs.Prepared.{PreparedView, IsPreparedOf, IsMadeOf}
 use Rattle.mt_recover.specs.Steps.Preparing.{AreCountsOf, HasRoomFor, IsLeftBy, AreBatchesLeft, AreLeftBy, cells_of, early_of, IsFoundOf}
 use Rattle.mt_recover.specs.Recovery.{records_of, begin_of, entry_updates}
@@ -39,13 +40,13 @@ not_early : (begin cutoff time : ℕ) → begin ≤ cutoff → cutoff ≤ time �
 not_early begin cutoff time in_order past = grind (arith, nat_tests)
 
 -- what survives of the scans is what survives of their logs
-pub same_logged : (logs parts : List (List ℕ)) (found : Found) (is : IsFoundOf logs parts found) → kept_in found.window found.scans.items ≡ log_survivors (record { begin = begin_of is.facts.chosen; cutoff = is.facts.cutoff }) (records_of is.facts.readings)
+pub same_logged : (logs parts : List (List ℕ)) (found : Found) (is : IsFoundOf logs parts found) → kept_in_window found.window found.scans.items ≡ log_survivors (record { begin = begin_of is.facts.chosen; cutoff = is.facts.cutoff }) (records_of is.facts.readings)
 same_logged logs parts found is =
     same_updates (in_window found.window) is.facts.cutoff 0 found.scans.items is.facts.readings (λ u past. past_window found.window is.facts.cutoff u.timestamp (ap (λ (w : Window). w.cutoff) is.window) past) is.show
     ∙ (λ i. filter (in_window (is.window i)) (logged_updates is.facts.readings))
 
 -- and with the entries of the checkpoint, all that survives
-same_survivors : (logs parts : List (List ℕ)) (found : Found) (is : IsFoundOf logs parts found) → kept_in found.window found.scans.items ++ entry_updates (option_map checkpoint_in found.choice.chosen) ≡ survivors_in is.facts
+same_survivors : (logs parts : List (List ℕ)) (found : Found) (is : IsFoundOf logs parts found) → kept_in_window found.window found.scans.items ++ entry_updates (option_map checkpoint_in found.choice.chosen) ≡ survivors_in is.facts
 same_survivors logs parts found is = λ i. same_logged logs parts found is i ++ entry_updates (is.chosen i)
 
 -- and the scans have as many early updates as their logs

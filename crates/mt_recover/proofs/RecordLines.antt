@@ -11,7 +11,8 @@ use Rattle.mt_words.specs.declared.record.Change.{Change}
 use Rattle.mt_words.specs.Changes.{Logged, IsEntry}
 use Rattle.mt_words.proofs.Rising.{all_push}
 use Rattle.mt_record.specs.Spelling.{body, spelling, change_bytes}
-use Rattle.mt_record.specs.Logs.{AreRecords, IsNext, Stops, latest}
+use Rattle.mt_record.specs.Logs.{AreRecords, latest}
+use Rattle.mt_record.specs.Fronts.{IsNext, Stops}
 use Rattle.mt_record.specs.Parts.{entry_spelling}
 use Rattle.mt_record.specs.PartFronts.{IsNextEntryOf}
 use Rattle.mt_record.proofs.Records.{records_push, latest_push}

@@ -10,7 +10,7 @@ use Rattle.mt_words.specs.declared.update.Update.{Update}
 use Rattle.mt_words.specs.declared.update.Origin.TheVariants as origins
 use Rattle.mt_words.specs.Updates.{update_at}
 use Rattle.mt_words.specs.Walks.{joined}
-use Rattle.mt_scan.specs.PartScans.{KeptPart, shown_by_all}
+use Rattle.mt_scan.specs.PartsShown.{KeptPart, shown_by_all}
 use Rattle.mt_scan.specs.Steps.Checkpoints.{entries_of}
 use Rattle.mt_replay.specs.declared.window.Window.{Window}
 use Rattle.mt_replay.specs.Batches.{BatchView, batched}

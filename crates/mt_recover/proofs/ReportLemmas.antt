@@ -18,8 +18,9 @@ use Rattle.mt_scan.specs.declared.checkpoint.Checkpoint.{Checkpoint}
 use Rattle.mt_scan.specs.declared.log_scan.LogScan.{LogScan}
 use Rattle.mt_scan.specs.Scans.{HasNumbersOf, HaveNumbersOf}
 use Rattle.mt_scan.specs.Cutoff.{IsCutoff}
-use Rattle.mt_scan.specs.PartScans.{KeptPart, shown_by_all}
-use Rattle.mt_scan.specs.Choice.{CheckpointReading, checkpoint_in}
+use Rattle.mt_scan.specs.PartsShown.{KeptPart, shown_by_all}
+use Rattle.mt_scan.specs.Choice.{CheckpointReading}
+use Rattle.mt_scan.specs.Choosing.{checkpoint_in}
 use Rattle.mt_scan.specs.Steps.Checkpoints.{entries_of}
 use Rattle.mt_scan.proofs.Drops.{same_kept}
 use Rattle.mt_replay.specs.Survivors.{all_updates, wholes}

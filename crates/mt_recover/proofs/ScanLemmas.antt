@@ -11,7 +11,7 @@ use Rattle.mt_words.specs.declared.fault.Fault.{Fault}
 use Rattle.mt_words.specs.declared.fault.Memory.{Memory}
 use Rattle.mt_record.specs.declared.read.FeedFault.{FeedFault}
 use Rattle.mt_record.specs.declared.read.FeedFault.TheVariants as of_log
-use Rattle.mt_record.specs.LogFaults.{IsAnswered, fault_at}
+use Rattle.mt_record.specs.Answered.{IsAnswered, fault_at}
 use Rattle.mt_board.specs.Board.{BoardId, PassView, fresh_pass, fresh_passes, least_of, least_noted, nothing_noted, SawNoneBelow}
 use Rattle.mt_scan.specs.declared.log_scan.LogScan.{LogScan}
 use Rattle.mt_scan.specs.Dropping.{HasLooked, IsSharedScan, noted_for, lowered_by}
@@ -27,7 +27,7 @@ use Rattle.mt_recover.specs.declared.scans.Kind.TheVariants as kinds
 use Rattle.mt_recover.specs.Steps.Outcomes.{IsLogOutcome, IsPartOutcome, AllFrom, AreOutcomes, last_in, lasts, read_parts, in_memory}
 use Rattle.mt_recover.specs.declared.scans.Scans.{Scans}
 use Rattle.mt_recover.specs.declared.scans.Share.{Share}
-use Rattle.mt_recover.specs.Steps.Scanning.{numbered, log_jobs, part_jobs, IsOutcome, IsScanned, IsFresh, HasScanned, AreGathered, answers_of, passes_of, log_in, logs_in, parts_in, AreDealt}
+use Rattle.mt_recover.specs.Steps.Scanning.{numbered, log_jobs, part_jobs, IsOutcome, IsScanned, IsFresh, HasScanned, AreGathered, answers_of, passes_of, log_in, logs_in, part_scans_in, AreDealt}
 use Rattle.mt_recover.proofs.ReplayLemmas.{all_answered}
 use Rattle.mt_recover.proofs.SharingLemmas.{dealt_answers, zip_says}
 
@@ -65,7 +65,7 @@ next_told {X} tells answers answer told new are pushed =
 
 -- the answers of parts, numbered from this part on
 part_answers : {S : Type 0} (seen : S → Seen) (limit log part : ℕ) (parts : List S) (answers : List Scanned) → AllZip (IsScanned seen limit) (part_jobs part parts) answers
-    → AllFrom (IsLogOutcome limit) log [] (logs_in answers) × AllFrom IsPartOutcome part (map seen parts) (parts_in answers)
+    → AllFrom (IsLogOutcome limit) log [] (logs_in answers) × AllFrom IsPartOutcome part (map seen parts) (part_scans_in answers)
 part_answers seen limit log part [] [] zip = (tt, tt)
 part_answers seen limit log part [] (a ∷ rest) zip = absurd zip
 part_answers seen limit log part (p ∷ ps) [] zip = absurd zip
@@ -76,7 +76,7 @@ part_answers seen limit log part (p ∷ ps) (scanned.Part outcome ∷ rest) zip 
 
 -- the answers of logs, numbered from this log on, and then of all parts
 all_answers : {S : Type 0} (seen : S → Seen) (limit log : ℕ) (logs parts : List S) (answers : List Scanned) → AllZip (IsScanned seen limit) (log_jobs log logs ++ part_jobs 0 parts) answers
-    → AllFrom (IsLogOutcome limit) log (map seen logs) (logs_in answers) × AllFrom IsPartOutcome 0 (map seen parts) (parts_in answers)
+    → AllFrom (IsLogOutcome limit) log (map seen logs) (logs_in answers) × AllFrom IsPartOutcome 0 (map seen parts) (part_scans_in answers)
 all_answers seen limit log [] parts answers zip = part_answers seen limit log 0 parts answers zip
 all_answers seen limit log (l ∷ ls) parts [] zip = absurd zip
 all_answers seen limit log (l ∷ ls) parts (scanned.Part outcome ∷ rest) zip = absurd zip.0
@@ -86,7 +86,7 @@ all_answers seen limit log (l ∷ ls) parts (scanned.Log outcome ∷ rest) zip =
 
 -- the answers of all jobs are the outcomes of logs and parts
 outcomes_of : {S : Type 0} (seen : S → Seen) (logs parts : List S) (jobs : List (ScanJob S)) (answers : List Scanned) (outcomes : Outcomes) → jobs ≡ log_jobs 0 logs ++ part_jobs 0 (read_parts logs parts)
-    → AllZip (IsScanned seen (least_of (lasts (logs_in answers)))) jobs answers → outcomes.logs.items ≡ logs_in answers → outcomes.parts.items ≡ parts_in answers → AreOutcomes (map seen logs) (map seen parts) outcomes
+    → AllZip (IsScanned seen (least_of (lasts (logs_in answers)))) jobs answers → outcomes.logs.items ≡ logs_in answers → outcomes.parts.items ≡ part_scans_in answers → AreOutcomes (map seen logs) (map seen parts) outcomes
 outcomes_of {S} seen logs parts jobs answers outcomes same zip logs_are parts_are =
     let limit : ℕ = least_of (lasts (logs_in answers)) in
     let both = all_answers seen limit 0 logs (read_parts logs parts) answers (subst (λ (js : List (ScanJob S)). AllZip (IsScanned seen limit) js answers) same zip) in

@@ -14,7 +14,7 @@ use Rattle.mt_scan.specs.declared.log_scan.LogScan.{LogScan}
 use Rattle.mt_scan.specs.declared.part_scan.PartScan.{PartScan}
 use Rattle.mt_scan.specs.Sources.{Seen, Agrees}
 use Rattle.mt_scan.specs.Scans.{IsScanFault, HaveNumbersOf, failures_of}
-use Rattle.mt_scan.specs.PartScans.{known_by, IsPartScanFault}
+use Rattle.mt_scan.specs.PartsShown.{known_by, IsPartScanFault}
 use Rattle.mt_scan.proofs.Telling.{some_bytes}
 use Rattle.mt_recover.specs.Segments.{AreWriters}
 use Rattle.mt_recover.specs.Recovery.{AreReadings, AreKnown}

@@ -13,7 +13,7 @@ use Rattle.mt_words.proofs.Elements.{no_element, head_or_tail}
 use Rattle.mt_replay.specs.declared.window.Window.{Window}
 use Rattle.mt_replay.specs.Survivors.{in_window, log_updates, log_survivors, wholes}
 use Rattle.mt_recover.specs.Recovery.{entry_updates, begin_of, survivors}
-use Rattle.mt_replay.specs.Walk.{AreApart}
+use Rattle.mt_replay.specs.Cells.{AreApart}
 use Rattle.mt_replay.proofs.Members.{of_each, of_map, in_map, of_filter}
 use Rattle.mt_replay.proofs.StepLemmas.{below_itself}
 use Rattle.mt_recover.proofs.Apart.{of_logs, logs_apart}

@@ -10,10 +10,11 @@ use Rattle.mt_words.specs.declared.update.Update.{Update}
 use Rattle.mt_words.specs.Changes.{Logged}
 use Rattle.mt_words.specs.Updates.{update_by, updates_from}
 use Rattle.mt_words.proofs.Elements.{head_or_tail, head_in, tail_in}
-use Rattle.mt_record.specs.Logs.{LogReading, IsGreatestOf, version_of, versions_of, greatest}
+use Rattle.mt_record.specs.Logs.{LogReading, IsGreatestOf}
+use Rattle.mt_record.specs.LogTexts.{version_of, versions_of, greatest}
 use Rattle.mt_scan.specs.declared.log_scan.LogScan.{LogScan}
 use Rattle.mt_scan.specs.Scans.{HaveNumbersOf}
-use Rattle.mt_scan.specs.PartScans.{KeptPart, shown_by_all}
+use Rattle.mt_scan.specs.PartsShown.{KeptPart, shown_by_all}
 use Rattle.mt_scan.specs.Steps.Checkpoints.{entries_of}
 use Rattle.mt_replay.specs.Survivors.{all_updates, wholes}
 use Rattle.mt_recover.specs.Recovery.{records_of}

@@ -3,7 +3,8 @@ use Rattle.std.proofs.Common.{◌≡◌, [], ◌∷◌, Some, None, refl}
 use Rattle.mt_words.specs.declared.update.Origin.TheVariants as origins
 use Rattle.mt_words.specs.declared.update.Update.{Update}
 use Rattle.mt_words.specs.declared.update.Kind.TheVariants.{Put, Whole}
-use Rattle.mt_words.specs.Changes.{Logged, mark_of, put_of, entry_of}
+use Rattle.mt_words.specs.Changes.{Logged}
+use Rattle.mt_words.specs.Built.{mark_of, put_of, entry_of}
 use Rattle.mt_scan.specs.Choice.{CheckpointReading}
 use Rattle.mt_recover.specs.Recovery.{survivors}
 

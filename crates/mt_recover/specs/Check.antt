@@ -8,8 +8,10 @@ use Rattle.mt_scan.specs.declared.part_scan.PartScan.{PartScan}
 use Rattle.mt_scan.specs.Sources.{Seen}
 use Rattle.mt_scan.specs.Scans.{OfTold, IsScanFault, failures_of}
 use Rattle.mt_scan.specs.Checks.{IsCheckOf}
-use Rattle.mt_scan.specs.PartScans.{IsKnown, known_by, IsPartScanFault}
-use Rattle.mt_scan.specs.Choice.{checkpoint_in, AreSkipped, AreNameless}
+use Rattle.mt_scan.specs.PartScans.{IsKnown}
+use Rattle.mt_scan.specs.PartsShown.{known_by, IsPartScanFault}
+use Rattle.mt_scan.specs.Choice.{AreSkipped, AreNameless}
+use Rattle.mt_scan.specs.Choosing.{checkpoint_in}
 use Rattle.mt_recover.specs.Segments.{IsGap}
 use Rattle.mt_recover.specs.Recovery.{Facts, begin_of}
 use Rattle.mt_recover.specs.declared.checking.Start.{Start}

@@ -2,6 +2,7 @@ pub mod Segments
 pub mod Recovery
 pub mod Audit
 pub mod Report
+pub mod Laws
 pub mod Verdict
 pub mod Dump
 pub mod RecordText

@@ -9,7 +9,8 @@ use Rattle.mt_words.specs.Changes.{Logged, IsEntry}
 use Rattle.mt_record.specs.declared.feed.head.Head.{Head}
 use Rattle.mt_record.specs.declared.part_text.PartHead.{PartHead}
 use Rattle.mt_record.specs.Spelling.{spelling}
-use Rattle.mt_record.specs.Logs.{AreRecords, Stops, latest}
+use Rattle.mt_record.specs.Logs.{AreRecords, latest}
+use Rattle.mt_record.specs.Fronts.{Stops}
 use Rattle.mt_record.specs.Parts.{entry_spelling}
 use Rattle.mt_record.specs.PartFaults.{HasNoEntry}
 use Rattle.mt_recover.specs.declared.records.Notation.{Notation}

@@ -68,10 +68,3 @@ pub record Outcome : Type 0 where
 pub record IsRecoveredOf (logs parts : List (List ℕ)) (outcome : Outcome) : Type 0 where
   pub store : IsStoreOf logs parts outcome.store
   pub report : IsReportOf store.facts outcome.store outcome.report
-
--- two reports are equal, apart from where their lists are stored
-pub record SaysTheSame (report other : Report) : Type 0 where
-  pub skipped : report.skipped.items ≡ other.skipped.items
-  pub nameless : report.nameless.items ≡ other.nameless.items
-  pub ends : report.ends.items ≡ other.ends.items
-  pub rest : report ≡ record other { skipped = report.skipped; nameless = report.nameless; ends = report.ends }

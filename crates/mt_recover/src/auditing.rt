@@ -7,7 +7,7 @@ ghost use Rattle.mt_replay.specs.Clashes.{AreClashes};
 ghost use Rattle.mt_replay.specs.Survivors.{in_window};
 ghost use Rattle.mt_recover.specs.Audit.{IsAuditOf};
 ghost use Rattle.mt_recover.specs.Inputs.{IsAnswerFrom};
-ghost use Rattle.mt_recover.specs.Steps.LogScans.{kept_in};
+ghost use Rattle.mt_recover.specs.Steps.LogScans.{kept_in_window};
 ghost use Rattle.mt_recover.specs.Steps.Preparing.{IsFound, IsFoundOf};
 
 use crate::batches::batches_of;
@@ -17,7 +17,7 @@ use crate::recovery::Inputs;
 use crate::scans::scan_all;
 use crate::workers::{MOST_WORKERS, Workers};
 use mt_replay::{
-    Batch, Clash, Cuts, LogCells, MOST_PIECES, Pieces, Window, clashes_in, pieces_make_the_audit,
+    Batch, Clash, Cuts, SortedUpdates, MOST_PIECES, Pieces, Window, clashes_in, pieces_make_the_audit,
 };
 use mt_scan::{LogScan, Source};
 use mt_words::{Fault, Memory};
@@ -65,17 +65,17 @@ fn cells_of<R: Threads + Sync>(
     scans: &[LogScan],
     window: Window,
     workers: Workers,
-) -> Result<Vec<LogCells>, Memory>
-    ensures { IfOk result (λ lists. IsPermutation (kept_in window scans.now) (joined lists.items)) }
+) -> Result<Vec<SortedUpdates>, Memory>
+    ensures { IfOk result (λ lists. IsPermutation (kept_in_window window scans.now) (joined lists.items)) }
 {
     let logs = by_workers(
         rt,
         alloc,
         batches_of(alloc, scans, workers.count())?,
         workers,
-        &|batch: Batch<'_>| -> Result<LogCells, Memory>
+        &|batch: Batch<'_>| -> Result<SortedUpdates, Memory>
             ensures { IfOk result (IsPermutation (filter (in_window window) batch.entry.updates)) }
-        { LogCells::of_batch(alloc, &batch, window) },
+        { SortedUpdates::of_batch(alloc, &batch, window) },
     )?;
     all_done(alloc, logs)
 }
@@ -94,7 +94,7 @@ fn pieces_for(workers: Workers) -> Pieces {
 fn all_clashes<R: Threads + Sync>(
     rt: &R,
     alloc: Global,
-    lists: &[LogCells],
+    lists: &[SortedUpdates],
     cuts: &Cuts,
     workers: Workers,
 ) -> Result<Vec<Clash>, Memory>

@@ -1,6 +1,6 @@
 //! Shares out the records of logs into batches, which are sorted each by itself.
 ghost use Rattle.std.specs.Prelude.{◌≡◌, ◌<◌, ◌≤◌, ◌++◌, IfOk, OnOk, length};
-ghost use Rattle.mt_words.specs.Updates.{kept_updates};
+ghost use Rattle.mt_words.specs.OneLog.{kept_updates};
 ghost use Rattle.mt_replay.specs.Batches.{batched, updates_between};
 ghost use Rattle.mt_recover.specs.Steps.LogScans.{kept};
 

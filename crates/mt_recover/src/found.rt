@@ -1,7 +1,7 @@
 //! What recovery finds in logs and parts, or why it refuses them.
 ghost use Rattle.std.specs.Prelude.{◌≡◌, ℕ, List, IfOk, IfErr, OnOk};
 ghost use Rattle.std.specs.Option.{option_map};
-ghost use Rattle.mt_scan.specs.Choice.{checkpoint_in};
+ghost use Rattle.mt_scan.specs.Choosing.{checkpoint_in};
 ghost use Rattle.mt_scan.specs.Sources.{Seen};
 ghost use Rattle.mt_record.specs.Logs.{LogReading};
 ghost use Rattle.mt_scan.specs.Scans.{HaveNumbersOf};

@@ -13,7 +13,7 @@ use crate::recovery::Inputs;
 use crate::scans::scan_all;
 use crate::workers::{Cutting, MOST_WORKERS, Workers};
 use mt_board::{Board, MOST_NUMBERS, MOST_PASSES, Pass};
-use mt_replay::{Cuts, LogCells, MOST_PIECES};
+use mt_replay::{Cuts, SortedUpdates, MOST_PIECES};
 use mt_scan::Source;
 use mt_words::{Fault, Memory};
 use std::alloc::Global;
@@ -101,7 +101,7 @@ fn open<R: Threads + Sync>(
 fn cuts_of<R: Threads + Sync>(
     rt: &R,
     alloc: Global,
-    lists: &[LogCells],
+    lists: &[SortedUpdates],
     cutting: Cutting,
 ) -> Result<Cuts, Memory>
     ensures { IfOk result (AreCutBy cutting (joined lists.now)) }

@@ -7,9 +7,11 @@ ghost use Rattle.mt_words.specs.Walks.{Pair};
 ghost use Rattle.mt_scan.specs.PartScans.{KnownPart};
 ghost use Rattle.mt_scan.specs.Choice.{CheckpointReading, IsChosenOf};
 ghost use Rattle.mt_replay.specs.Survivors.{log_updates};
-ghost use Rattle.mt_replay.specs.Walk.{IsWalk, AreApart};
+ghost use Rattle.mt_replay.specs.Walk.{IsWalk};
+ghost use Rattle.mt_replay.specs.Cells.{AreApart};
 ghost use Rattle.mt_recover.specs.Recovery.{IsStoreOf, survivors};
-ghost use Rattle.mt_recover.specs.Report.{Outcome, IsRecoveredOf, SaysTheSame};
+ghost use Rattle.mt_recover.specs.Report.{Outcome, IsRecoveredOf};
+ghost use Rattle.mt_recover.specs.Laws.{SaysTheSame};
 ghost use Rattle.mt_recover.specs.Verdict.{IsVerdict};
 
 /// States that no two updates of logs share a stamp, and that no two survivors of a key do, whichever checkpoint is

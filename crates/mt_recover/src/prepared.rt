@@ -4,8 +4,9 @@ ghost use Rattle.std.specs.Option.{option_map};
 ghost use Rattle.mt_words.specs.Walks.{joined};
 ghost use Rattle.mt_words.specs.Words.{AreRising};
 ghost use Rattle.mt_scan.specs.Steps.Checkpoints.{entries_of};
-ghost use Rattle.mt_scan.specs.Choice.{checkpoint_in, entry_keys};
-ghost use Rattle.mt_scan.specs.PartScans.{shown_by_all};
+ghost use Rattle.mt_scan.specs.Choice.{entry_keys};
+ghost use Rattle.mt_scan.specs.Choosing.{checkpoint_in};
+ghost use Rattle.mt_scan.specs.PartsShown.{shown_by_all};
 ghost use Rattle.mt_replay.specs.Pieces.{IsPiece};
 ghost use Rattle.mt_replay.specs.Survivors.{wholes};
 ghost use Rattle.mt_replay.specs.Walk.{IsWalk};
@@ -24,7 +25,7 @@ use crate::report::{Counts, total};
 use crate::store::Store;
 use crate::survivors::BatchSurvivors;
 use mt_record::{KeptEntries, PartText};
-use mt_replay::{Batch, Cuts, LogCells, replay_into};
+use mt_replay::{Batch, Cuts, SortedUpdates, replay_into};
 use mt_scan::Checkpoint;
 use mt_tree::Draft;
 use mt_words::Memory;
@@ -36,7 +37,7 @@ use std::thread::Threads;
 #[derive(Drop)]
 pub(crate) struct Prepared {
     /// The cells of the logs, and of each part of the checkpoint.
-    pub lists: Vec<LogCells>,
+    pub lists: Vec<SortedUpdates>,
     /// The number of log updates below the window.
     early: u128,
     counts: Counts,
@@ -45,7 +46,7 @@ pub(crate) struct Prepared {
 impl Model for Prepared {
     ghost use Rattle.std.specs.Prelude.{length};
     ghost use Rattle.mt_words.specs.Walks.{joined};
-    ghost use Rattle.mt_replay.specs.Walk.{AreApart};
+    ghost use Rattle.mt_replay.specs.Cells.{AreApart};
     ghost use Rattle.mt_recover.specs.Prepared.{PreparedView};
     ghost use Rattle.mt_recover.specs.Steps.Preparing.{HasRoomFor};
 
@@ -163,13 +164,13 @@ fn parts_of(alloc: Global, chosen: Option<Checkpoint>) -> Vec<PartText<KeptEntri
 }
 
 /// Returns the cells of each of these parts. Err: out of memory.
-fn cells_of_parts(alloc: Global, parts: Vec<PartText<KeptEntries>>) -> Result<Vec<LogCells>, Memory>
+fn cells_of_parts(alloc: Global, parts: Vec<PartText<KeptEntries>>) -> Result<Vec<SortedUpdates>, Memory>
     requires { AreRising (entry_keys (entries_of (shown_by_all parts.items))) }
     ensures { IfOk result (λ lists. joined lists.items ≡ wholes (entries_of (shown_by_all parts.items))) }
 {
     let mut lists = Vec::with_capacity(alloc, parts.len())?;
     for part in parts {
-        lists.push(LogCells::of_rising(part.entries))?;
+        lists.push(SortedUpdates::of_rising(part.entries))?;
     }
     Ok(lists)
 }

@@ -3,9 +3,10 @@ ghost use Rattle.std.specs.Prelude.{◌≡◌, List, [], ℕ, length, map, sum_b
 ghost use Rattle.std.specs.Fn.{FnReturnsAt};
 ghost use Rattle.std.specs.List.{flat_map};
 ghost use Rattle.std.specs.Option.{option_map};
-ghost use Rattle.mt_record.specs.Logs.{LogReading, IsGreatestOf, times_of, greatest};
-ghost use Rattle.mt_scan.specs.Choice.{checkpoint_in};
-ghost use Rattle.mt_scan.specs.PartScans.{shown_by_all};
+ghost use Rattle.mt_record.specs.Logs.{LogReading, IsGreatestOf, times_of};
+ghost use Rattle.mt_record.specs.LogTexts.{greatest};
+ghost use Rattle.mt_scan.specs.Choosing.{checkpoint_in};
+ghost use Rattle.mt_scan.specs.PartsShown.{shown_by_all};
 ghost use Rattle.mt_scan.specs.Steps.Checkpoints.{entries_of};
 ghost use Rattle.mt_scan.specs.Scans.{HaveNumbersOf};
 ghost use Rattle.mt_recover.specs.Report.{all_versions};

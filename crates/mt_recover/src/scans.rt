@@ -4,7 +4,7 @@ ghost use Rattle.std.specs.Prelude.{◌≡◌, ◌<◌, ◌≤◌, ◌++◌, [],
 ghost use Rattle.std.specs.Vec.Iter.{into_iter_items};
 ghost use Rattle.mt_board.specs.Board.{nothing_noted};
 ghost use Rattle.mt_recover.specs.Steps.Outcomes.{AreOutcomes, in_memory, read_parts};
-ghost use Rattle.mt_recover.specs.Steps.Scanning.{AreGathered, HasScanned, IsFresh, numbered, log_jobs, part_jobs, log_in, part_in, logs_in, parts_in, passes_of, AreDealt};
+ghost use Rattle.mt_recover.specs.Steps.Scanning.{AreGathered, HasScanned, IsFresh, numbered, log_jobs, part_jobs, log_in, part_in, logs_in, part_scans_in, passes_of, AreDealt};
 
 use crate::by_workers::{all_done, close, deal, gather, in_turn, on_threads};
 use crate::{Inputs, Workers};
@@ -257,7 +257,7 @@ fn split(alloc: Global, scans: Vec<Scans>) -> Result<(Vec<Pass>, Vec<IntoIter<Sc
 
 /// Separates the answers of logs from those of parts.
 fn outcomes_of(alloc: Global, scanned: Vec<Scanned>) -> Result<Outcomes, Memory>
-    ensures { IfOk result (λ outcomes. (outcomes.logs.items ≡ logs_in scanned.items) × (outcomes.parts.items ≡ parts_in scanned.items)) }
+    ensures { IfOk result (λ outcomes. (outcomes.logs.items ≡ logs_in scanned.items) × (outcomes.parts.items ≡ part_scans_in scanned.items)) }
 {
     let mut outcomes = Outcomes {
         logs: Vec::new(alloc),

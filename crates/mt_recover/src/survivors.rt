@@ -2,7 +2,7 @@
 ghost use Rattle.std.specs.Prelude.{IfOk};
 ghost use Rattle.mt_recover.specs.Steps.Preparing.{IsLeftBy};
 
-use mt_replay::{Batch, LogCells, Window};
+use mt_replay::{Batch, SortedUpdates, Window};
 use mt_words::Memory;
 use std::alloc::Global;
 
@@ -12,7 +12,7 @@ pub(crate) struct BatchSurvivors {
     /// The number of its updates below the window.
     pub early: usize,
     /// Its updates in the window.
-    pub cells: LogCells,
+    pub cells: SortedUpdates,
 }
 
 impl BatchSurvivors {
@@ -22,7 +22,7 @@ impl BatchSurvivors {
     {
         Ok(BatchSurvivors {
             early: batch.early_count(window.begin),
-            cells: LogCells::of_batch(alloc, batch, window)?,
+            cells: SortedUpdates::of_batch(alloc, batch, window)?,
         })
     }
 }

@@ -8,8 +8,10 @@ use Rattle.std.proofs.lemmas.List.{length-take, length-take-le, length-drop, len
 use Rattle.std.proofs.lemmas.List.Concat.{flat_map-append}
 use Rattle.std.proofs.lemmas.List.Elements.{filter-append}
 use Rattle.mt_words.specs.declared.update.Update.{Update}
-use Rattle.mt_words.specs.Changes.{Logged, mark_of}
-use Rattle.mt_words.specs.Updates.{update_of, updates_from, as_list, Kept}
+use Rattle.mt_words.specs.Changes.{Logged}
+use Rattle.mt_words.specs.Built.{mark_of}
+use Rattle.mt_words.specs.Updates.{update_of, updates_from}
+use Rattle.mt_words.specs.OneLog.{as_list, OneLog}
 use Rattle.mt_words.specs.Walks.{joined}
 use Rattle.mt_record.proofs.RecordLemmas.{updates_push, marks_and_updates}
 use Rattle.mt_replay.specs.declared.window.Window.{Window}
@@ -27,11 +29,11 @@ updates_both log nth count (x ∷ xs) ys same =
     ∙ ap (λ (us : List Update). update_of log nth x ++ us) (updates_both log (suc nth) count xs ys (omega (arith, same)))
 
 -- between equal numbers lies no record
-pub none_between : (kept : Kept) (from : ℕ) → updates_between kept from from ≡ []
+pub none_between : (kept : OneLog) (from : ℕ) → updates_between kept from from ≡ []
 none_between kept from = ap (updates_from kept.log from) (drop_all from (take from kept.records) (omega (arith, length-take from kept.records)))
 
 -- the updates up to a number, and then those up to a later one
-pub between_both : (kept : Kept) (start from end : ℕ) → start ≤ from → from ≤ end → end ≤ length kept.records
+pub between_both : (kept : OneLog) (start from end : ℕ) → start ≤ from → from ≤ end → end ≤ length kept.records
     → updates_between kept start from ++ updates_between kept from end ≡ updates_between kept start end
 between_both kept start from end first second within =
     let rs : List Logged = take end kept.records in
@@ -43,7 +45,7 @@ between_both kept start from end first second within =
     ∙ ap (updates_from kept.log start) cut
 
 -- one record more
-pub between_step : (kept : Kept) (from i : ℕ) (more : List Update) → from ≤ i → i < length kept.records → ((d : Logged) → more ≡ update_of kept.log i (get_or kept.records i d))
+pub between_step : (kept : OneLog) (from i : ℕ) (more : List Update) → from ≤ i → i < length kept.records → ((d : Logged) → more ≡ update_of kept.log i (get_or kept.records i d))
     → updates_between kept from (i + 1) ≡ updates_between kept from i ++ more
 between_step kept from i more first below is =
     let one : i + 1 ≡ suc i = omega arith in
@@ -56,7 +58,7 @@ between_step kept from i more first below is =
     ∙ ap (λ (us : List Update). updates_between kept from i ++ us) (sym (is (mark_of 0)))
 
 -- and its survivors
-pub survivors_step : (window : Window) (kept : Kept) (from i : ℕ) (start old new more : List Update) → from ≤ i → i < length kept.records → ((d : Logged) → more ≡ update_of kept.log i (get_or kept.records i d))
+pub survivors_step : (window : Window) (kept : OneLog) (from i : ℕ) (start old new more : List Update) → from ≤ i → i < length kept.records → ((d : Logged) → more ≡ update_of kept.log i (get_or kept.records i d))
     → old ≡ start ++ filter (in_window window) (updates_between kept from i) → new ≡ old ++ filter (in_window window) more
     → new ≡ start ++ filter (in_window window) (updates_between kept from (i + 1))
 survivors_step window kept from i start old new more first below is so_far added =
@@ -67,7 +69,7 @@ survivors_step window kept from i start old new more first below is so_far added
     ∙ ap (λ (us : List Update). start ++ us) (sym (filter-append (in_window window) (updates_between kept from i) more) ∙ ap (filter (in_window window)) (sym (between_step kept from i more first below is)))
 
 -- there are at most as many updates as records
-pub between_few : (kept : Kept) (from end : ℕ) → end ≤ length kept.records → length (updates_between kept from end) ≤ end - from
+pub between_few : (kept : OneLog) (from end : ℕ) → end ≤ length kept.records → length (updates_between kept from end) ≤ end - from
 between_few kept from end within =
     let rs : List Logged = drop from (take end kept.records) in
     omega (arith, marks_and_updates kept.log from rs, length-drop from (take end kept.records), length-take-le end kept.records within)

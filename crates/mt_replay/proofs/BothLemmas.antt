@@ -5,7 +5,7 @@ use Rattle.std.proofs.lemmas.List.Elements.{Contains-append_left, Contains-appen
 use Rattle.mt_words.specs.declared.update.Stamp.{Stamp}
 use Rattle.mt_words.specs.declared.update.Update.{Update}
 use Rattle.mt_words.specs.Limits.{widest}
-use Rattle.mt_words.specs.Changes.{IsWrite}
+use Rattle.mt_words.specs.Writes.{IsWrite}
 use Rattle.mt_words.specs.Changes.{IsReset}
 use Rattle.mt_words.specs.Stamps.{IsAtMost}
 use Rattle.mt_replay.specs.Cells.{Written, Slots, IsNewer, IsNewestOf, IsGreatest, IsUnwritten, IsCellOf}

@@ -7,9 +7,8 @@ use Rattle.mt_words.specs.declared.update.Stamp.{Stamp}
 use Rattle.mt_words.specs.declared.update.Update.{Update}
 use Rattle.mt_words.specs.Changes.{Writes}
 use Rattle.mt_words.specs.Stamps.{IsAtMost}
-use Rattle.mt_replay.specs.Cells.{Written, Slots, IsCellOf}
+use Rattle.mt_replay.specs.Cells.{Written, Slots, IsCellOf, AreApart}
 use Rattle.mt_replay.specs.Groups.{Group, HasLawfulWrites, IsWriteOf, IsGreatestReset, IsResetOf, IsGroupOf}
-use Rattle.mt_replay.specs.Walk.{AreApart}
 use Rattle.mt_replay.proofs.StampLemmas.{same_stamp}
 use Rattle.mt_replay.proofs.CellLemmas.{IsRight}
 use Rattle.mt_replay.proofs.BothLemmas.{same_cell}

@@ -10,9 +10,8 @@ use Rattle.mt_words.specs.declared.update.Update.{Update}
 use Rattle.mt_words.specs.Limits.{widest}
 use Rattle.mt_words.specs.Words.{IsKey, IsBelow, AreColumns}
 use Rattle.mt_words.specs.Walks.{Pair, KeysRise}
-use Rattle.mt_replay.specs.Walk.{AreApart}
+use Rattle.mt_replay.specs.Cells.{AreApart, Written, IsCellOf, IsColumnsOf}
 use Rattle.mt_replay.specs.Cuts.{is_below, key_below, InKeyOrder}
-use Rattle.mt_replay.specs.Cells.{Written, IsCellOf, IsColumnsOf}
 use Rattle.mt_replay.specs.Groups.{Group, HasLawfulWrites, IsGroupOf}
 use Rattle.mt_replay.specs.Steps.Walker.{with_pair, IsMade, IsLastKey, AreLast, IsWalkSoFar}
 use Rattle.mt_words.proofs.Elements.{no_element, head_in}

@@ -7,7 +7,8 @@ use Rattle.mt_words.specs.Words.{IsBelow}
 use Rattle.mt_words.specs.Stamps.{IsBefore}
 use Rattle.mt_replay.specs.declared.clash.Place.{Place}
 use Rattle.mt_replay.specs.declared.window.Window.{Window}
-use Rattle.mt_replay.specs.Survivors.{is_whole, in_window}
+use Rattle.mt_replay.specs.Survivors.{in_window}
+use Rattle.mt_replay.specs.Batches.{is_whole}
 use Rattle.mt_replay.specs.Cuts.{updates_in}
 
 -- a clash: a key, a version of it, and the records that have it

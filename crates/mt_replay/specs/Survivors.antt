@@ -1,8 +1,6 @@
 -- The updates of logs and of a checkpoint, and which of them survive.
-use Rattle.std.specs.Prelude.{ℕ, suc, ◌&&◌, ◌||◌, Bool, true, false, nat_lt, nat_le, List, [], ◌∷◌, ◌++◌, map, filter}
+use Rattle.std.specs.Prelude.{ℕ, suc, ◌&&◌, Bool, nat_lt, nat_le, List, [], ◌∷◌, ◌++◌, map, filter}
 use Rattle.mt_words.specs.declared.record.Change.{Change}
-use Rattle.mt_words.specs.declared.update.Kind.{Kind}
-use Rattle.mt_words.specs.declared.update.Kind.TheVariants.{Put, Remove, Whole, Erase}
 use Rattle.mt_words.specs.declared.update.Origin.TheVariants as origins
 use Rattle.mt_words.specs.declared.update.Update.{Update}
 use Rattle.mt_words.specs.Changes.{Logged}
@@ -36,14 +34,3 @@ is_early begin update = nat_lt update.timestamp begin
 -- the log updates in the window
 abbrev pub log_survivors : Window → List (List Logged) → List Update
 log_survivors window logs = filter (in_window window) (log_updates logs)
-
--- whether this is the entry of a checkpoint
-abbrev pub is_whole : Kind → Bool
-is_whole (Put columns) = false
-is_whole Remove = false
-is_whole (Whole columns) = true
-is_whole (Erase numbers) = false
-
--- whether an update survives: a log update if it is in the window, and the entry of a checkpoint, which has no timestamp, always
-abbrev pub survives : Window → Update → Bool
-survives window update = is_whole update.kind || in_window window update

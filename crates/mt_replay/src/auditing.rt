@@ -8,7 +8,7 @@ ghost use Rattle.mt_replay.specs.Clashes.{AreClashes, is_logged_in};
 use crate::auditor::Auditor;
 use crate::clash::Clash;
 use crate::parts::merged_piece;
-use crate::{Cuts, LogCells, Window};
+use crate::{Cuts, SortedUpdates, Window};
 use mt_words::{Memory, Update};
 use std::alloc::Global;
 
@@ -21,7 +21,7 @@ pub fn clashes(alloc: Global, logs: &[Vec<Update>], window: Window) -> Result<Ve
 {
     let mut lists = Vec::new(alloc);
     for updates in logs {
-        lists.push(LogCells::of_spelled(alloc, updates, window, false)?)?;
+        lists.push(SortedUpdates::of_spelled(alloc, updates, window, false)?)?;
     }
     clashes_in(alloc, &lists, &Cuts::none(alloc), 0)
 }
@@ -31,7 +31,7 @@ pub fn clashes(alloc: Global, logs: &[Vec<Update>], window: Window) -> Result<Ve
 /// Err: out of memory.
 pub fn clashes_in(
     alloc: Global,
-    lists: &[LogCells],
+    lists: &[SortedUpdates],
     cuts: &Cuts,
     piece: u32,
 ) -> Result<Vec<Clash>, Memory>

@@ -1,7 +1,7 @@
 //! Batches: log records that are sorted together.
 ghost use Rattle.std.specs.Prelude.{◌≡◌, ◌≤◌, ◌<◌, ◌+◌, ◌-◌, ◌^◌, ◌++◌, [], IfOk, OnOk, length, filter};
 ghost use Rattle.std.specs.List.{list_any};
-ghost use Rattle.mt_words.specs.Updates.{as_list};
+ghost use Rattle.mt_words.specs.OneLog.{as_list};
 ghost use Rattle.mt_replay.specs.Batches.{updates_between};
 ghost use Rattle.mt_replay.specs.Survivors.{in_window, is_early};
 

@@ -2,10 +2,10 @@
 ghost use Rattle.std.specs.Prelude.{◌≡◌, ◌<◌, ◌++◌, [], ◌∷◌, IfOk, OnOk, OnErr, length, slice_index_or};
 ghost use Rattle.mt_words.specs.declared.update.Update.{Update as UpdateValue};
 ghost use Rattle.mt_record.specs.Decoding.{IsChangeBody, update_in};
-ghost use Rattle.mt_replay.specs.Steps.Bodies.{IsTold, told, short_text, long_text};
+ghost use Rattle.mt_replay.specs.Steps.Bodies.{IsUpdateText, update_in_text, short_text, long_text};
 
 use byteorder::{BigEndian, ByteOrder};
-use mt_record::{Lent, Texts};
+use mt_record::{Lent, ByteStrings};
 use mt_words::{Memory, Origin};
 use std::alloc::Global;
 use std::marker::Model;
@@ -20,19 +20,19 @@ const LONG: usize = 17;
 /// as one stream.
 #[derive(Drop)]
 pub(crate) struct Bodies {
-    texts: Texts,
+    texts: ByteStrings,
 }
 
 impl Model for Bodies {
     ghost use Rattle.std.specs.Prelude.{List, All, map};
     ghost use Rattle.mt_words.specs.declared.update.Update.{Update};
-    ghost use Rattle.mt_replay.specs.Steps.Bodies.{told, IsTold};
+    ghost use Rattle.mt_replay.specs.Steps.Bodies.{update_in_text, IsUpdateText};
 
     ghost Value = { List Update };
 
-    ghost view = { λ b. map told b.texts };
+    ghost view = { λ b. map update_in_text b.texts };
 
-    ghost invariant = { λ b. All IsTold b.texts };
+    ghost invariant = { λ b. All IsUpdateText b.texts };
 }
 
 impl Bodies {
@@ -47,7 +47,7 @@ impl Bodies {
     {
         let size = bytes.saturating_add(updates.saturating_mul(SHORT));
         Ok(Bodies {
-            texts: Texts::with_capacity(alloc, updates, size)?,
+            texts: ByteStrings::with_capacity(alloc, updates, size)?,
         })
     }
 
@@ -85,8 +85,8 @@ impl Bodies {
 
     /// Appends a text that is given as its origin and its body. Err: out of memory; nothing is appended.
     fn push_text(&mut self, origin: &[u8], body: &[u8]) -> Result<(), Memory>
-        requires { IsTold (origin.now ++ body.now) }
-        ensures ok { OnOk result (self.new ≡ self.old ++ told (origin.now ++ body.now) ∷ []) }
+        requires { IsUpdateText (origin.now ++ body.now) }
+        ensures ok { OnOk result (self.new ≡ self.old ++ update_in_text (origin.now ++ body.now) ∷ []) }
         ensures err { OnErr result (self.new ≡ self.old) }
     {
         self.texts.push_joined(origin, body)
@@ -95,8 +95,8 @@ impl Bodies {
 
 /// Returns the update of a text.
 fn lent_in(text: &[u8]) -> Lent<'_>
-    requires { IsTold text.now }
-    ensures { result ≡ told text.now }
+    requires { IsUpdateText text.now }
+    ensures { result ≡ update_in_text text.now }
 {
     match text[0] {
         0 => Lent::of(Origin::Checkpoint, &text[1..]),

@@ -7,7 +7,7 @@ ghost use Rattle.mt_replay.specs.declared.cuts.TheConstants.{MOST_PIECES};
 ghost use Rattle.mt_replay.specs.Cuts.{AreCuts, IsCutFault};
 ghost use Rattle.mt_replay.specs.Even.{IsEven, AreEvenCuts, BeginPieces};
 
-use crate::LogCells;
+use crate::SortedUpdates;
 use crate::keys::{distinct_keys, sampled_keys};
 use mt_words::{Key, Memory};
 use std::alloc::Global;
@@ -126,7 +126,7 @@ impl Cuts {
     pub fn even(
         rt: &(impl Threads + Sync),
         alloc: Global,
-        lists: &[LogCells],
+        lists: &[SortedUpdates],
         pieces: Pieces,
     ) -> Result<Cuts, Memory>
         ensures { IfOk result (IsEven (joined lists.now) pieces) }
@@ -141,7 +141,7 @@ impl Cuts {
     pub fn sampled(
         rt: &(impl Threads + Sync),
         alloc: Global,
-        lists: &[LogCells],
+        lists: &[SortedUpdates],
         pieces: Pieces,
     ) -> Result<Cuts, Memory>
         ensures { IfOk result (λ cuts. length cuts < pieces) }

@@ -7,7 +7,7 @@ ghost use Rattle.mt_replay.specs.declared.cuts.TheConstants.{MOST_PIECES};
 ghost use Rattle.mt_replay.specs.Cuts.{keys_in};
 ghost use Rattle.mt_replay.specs.Even.{AreDistinctKeys};
 
-use crate::LogCells;
+use crate::SortedUpdates;
 use mt_words::Memory;
 use rayon::prelude::*;
 use std::alloc::Global;
@@ -21,7 +21,7 @@ const KEYS_OF_PIECE: usize = 64;
 pub(crate) fn distinct_keys<'a>(
     rt: &(impl Threads + Sync),
     alloc: Global,
-    lists: &'a [LogCells],
+    lists: &'a [SortedUpdates],
 ) -> Result<Vec<&'a [u8]>, Memory>
     ensures distinct { IfOk result (λ keys. AreDistinctKeys (keys_in (joined lists.now)) (map (λ key. key.now) keys.items)) }
     ensures lawful { IfOk result (λ keys. All (IsKey widest) (map (λ key. key.now) keys.items)) }
@@ -36,7 +36,7 @@ pub(crate) fn distinct_keys<'a>(
 pub(crate) fn sampled_keys<'a>(
     rt: &(impl Threads + Sync),
     alloc: Global,
-    lists: &'a [LogCells],
+    lists: &'a [SortedUpdates],
     pieces: u32,
 ) -> Result<Vec<&'a [u8]>, Memory>
     requires { (0 < pieces) × (pieces ≤ MOST_PIECES) }
@@ -64,7 +64,7 @@ fn keep_each_once(
 
 /// Returns the distance between sampled keys, in updates, at which at most `most` keys are taken. It is the same for
 /// all lists, so a long list gives more keys than a short one.
-fn distance_for(lists: &[LogCells], most: usize) -> usize
+fn distance_for(lists: &[SortedUpdates], most: usize) -> usize
     requires { 0 < most }
     ensures { 0 < result }
 {
@@ -77,7 +77,7 @@ fn distance_for(lists: &[LogCells], most: usize) -> usize
 
 /// Returns one key for each `distance` updates of each list. At distance 1 these are the keys of all updates.
 /// Err: out of memory.
-fn some_keys(alloc: Global, lists: &[LogCells], distance: usize) -> Result<Vec<&[u8]>, Memory>
+fn some_keys(alloc: Global, lists: &[SortedUpdates], distance: usize) -> Result<Vec<&[u8]>, Memory>
     requires { 0 < distance }
     ensures lawful { IfOk result (λ keys. All (IsKey widest) (map (λ key. key.now) keys.items)) }
     ensures all { IfOk result (λ keys. distance ≡ 1 → map (λ key. key.now) keys.items ≡ keys_in (joined lists.now)) }
@@ -92,7 +92,7 @@ fn some_keys(alloc: Global, lists: &[LogCells], distance: usize) -> Result<Vec<&
 /// Appends one key for each `distance` updates of these cells, from the middle of those updates. Err: out of memory.
 fn add_some<'a>(
     keys: &mut Vec<&'a [u8]>,
-    cells: &'a LogCells,
+    cells: &'a SortedUpdates,
     distance: usize,
 ) -> Result<(), Memory>
     requires { 0 < distance }

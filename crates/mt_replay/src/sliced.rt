@@ -5,7 +5,7 @@ ghost use Rattle.std.specs.Cmp.{partial_equiv_from_equiv, on_per, on_po};
 ghost use Rattle.std.specs.Cmp.Lexicographic.{pointwise, nat_list_eq_equiv, texts_po};
 ghost use Rattle.mt_words.specs.Limits.{widest};
 ghost use Rattle.mt_words.specs.Words.{IsKey};
-ghost use Rattle.mt_words.specs.Updates.{as_list};
+ghost use Rattle.mt_words.specs.OneLog.{as_list};
 ghost use Rattle.mt_replay.specs.Survivors.{in_window};
 ghost use Rattle.mt_replay.specs.Steps.SortedUpdates.{IsSliced};
 ghost use Rattle.mt_replay.specs.Steps.Fronts.{key_cmp, front_of, front_cmp, rest_cmp, AreAlike};

@@ -3,7 +3,8 @@ ghost use Rattle.std.specs.Prelude.{◌≡◌, ◌≤◌, ◌<◌, true, false, 
 ghost use Rattle.std.specs.List.Sorted.{IsPartitionPoint};
 ghost use Rattle.mt_words.specs.declared.update.Update.{Update as UpdateValue};
 ghost use Rattle.mt_words.specs.Words.{AreRising};
-ghost use Rattle.mt_replay.specs.Survivors.{in_window, survives as survives_in, wholes};
+ghost use Rattle.mt_replay.specs.Survivors.{in_window, wholes};
+ghost use Rattle.mt_replay.specs.Batches.{survives as survives_in};
 ghost use Rattle.mt_replay.specs.Cuts.{is_below, InKeyOrder};
 ghost use Rattle.mt_replay.specs.Steps.SortedUpdates.{survives_with};
 
@@ -30,11 +31,11 @@ enum Held {
 /// The surviving updates of a batch, whose records may be of several logs, or the entries of a checkpoint part, sorted by
 /// key. Their bodies lie in the same order, so that replay reads memory in order.
 #[derive(Drop)]
-pub struct LogCells {
+pub struct SortedUpdates {
     held: Held,
 }
 
-impl Model for LogCells {
+impl Model for SortedUpdates {
     ghost use Rattle.std.specs.Prelude.{List};
     ghost use Rattle.mt_words.specs.declared.update.Update.{Update};
     ghost use Rattle.mt_replay.specs.Cuts.{InKeyOrder};
@@ -47,13 +48,13 @@ impl Model for LogCells {
     ghost invariant = { λ c. InKeyOrder (held_in c.held) };
 }
 
-impl LogCells {
+impl SortedUpdates {
     /// Returns the updates that survive. It encodes each of them. If they are bodies already, `of_batch` and
     /// `of_rising` avoid that. Err: out of memory.
-    pub fn of(alloc: Global, updates: Vec<Update>, window: Window) -> Result<LogCells, Memory>
+    pub fn of(alloc: Global, updates: Vec<Update>, window: Window) -> Result<SortedUpdates, Memory>
         ensures { IfOk result (λ cells. IsPermutation (filter (survives_in window) updates.items) cells) }
     {
-        LogCells::of_spelled(alloc, &updates, window, true)
+        SortedUpdates::of_spelled(alloc, &updates, window, true)
     }
 
     /// Returns the log updates in the window, and with `entries` all entries too. It encodes each of them. Err: out of
@@ -63,7 +64,7 @@ impl LogCells {
         updates: &[Update],
         window: Window,
         entries: bool,
-    ) -> Result<LogCells, Memory>
+    ) -> Result<SortedUpdates, Memory>
         ensures { IfOk result (λ cells. IsPermutation (filter (survives_with entries window) updates.now) cells) }
     {
         let bodies = spell(alloc, updates, window, entries)?;
@@ -72,7 +73,7 @@ impl LogCells {
     }
 
     /// Returns the updates of a batch that are in the window. Err: out of memory.
-    pub fn of_batch(alloc: Global, batch: &Batch<'_>, window: Window) -> Result<LogCells, Memory>
+    pub fn of_batch(alloc: Global, batch: &Batch<'_>, window: Window) -> Result<SortedUpdates, Memory>
         ensures { IfOk result (λ cells. IsPermutation (filter (in_window window) batch.now.updates) cells) }
     {
         let mut sliced = batch.survivors(alloc, window)?;
@@ -81,11 +82,11 @@ impl LogCells {
 
     /// Returns the entries of a checkpoint part. All of them survive, and they stay where they are. Their keys must
     /// strictly rise. No call tests that: only the parts of a valid checkpoint promise it.
-    pub fn of_rising(entries: KeptEntries) -> LogCells
+    pub fn of_rising(entries: KeptEntries) -> SortedUpdates
         requires { AreRising (map (λ entry. entry.key) entries) }
         ensures { result ≡ wholes entries }
     {
-        LogCells {
+        SortedUpdates {
             held: Held::Read(entries),
         }
     }
@@ -141,7 +142,7 @@ fn comes_before(first: &[u8], second: &[u8]) -> bool
 }
 
 /// Sorts these updates by key, and returns cells of them.
-fn in_order(alloc: Global, sliced: &mut Vec<Sliced<'_>>) -> Result<LogCells, Memory>
+fn in_order(alloc: Global, sliced: &mut Vec<Sliced<'_>>) -> Result<SortedUpdates, Memory>
     ensures { IfOk result (λ cells. IsPermutation sliced.old.items cells) }
 {
     sort_by_key(sliced);
@@ -158,7 +159,7 @@ fn size_of(updates: &[Sliced<'_>]) -> usize {
 }
 
 /// Returns cells of these updates. Room for `size` bytes of bodies is reserved.
-fn gather(alloc: Global, size: usize, updates: &[Sliced<'_>]) -> Result<LogCells, Memory>
+fn gather(alloc: Global, size: usize, updates: &[Sliced<'_>]) -> Result<SortedUpdates, Memory>
     requires { InKeyOrder updates.now }
     ensures { IfOk result (λ cells. cells ≡ updates.now) }
 {
@@ -168,5 +169,5 @@ fn gather(alloc: Global, size: usize, updates: &[Sliced<'_>]) -> Result<LogCells
         bodies.push(update.origin(), update.body())?;
     }
     let held = Held::Sorted(bodies);
-    Ok(LogCells { held })
+    Ok(SortedUpdates { held })
 }

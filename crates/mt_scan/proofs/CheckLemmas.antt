@@ -15,7 +15,8 @@ use Rattle.mt_words.specs.Updates.{updates_from}
 use Rattle.mt_record.specs.Fronts.{bytes_of}
 use Rattle.mt_record.specs.Heads.{head_bytes}
 use Rattle.mt_record.specs.Spelling.{spelling}
-use Rattle.mt_record.specs.Logs.{latest, LogReading, IsLast, IsTorn}
+use Rattle.mt_record.specs.Logs.{latest, LogReading, IsTorn}
+use Rattle.mt_record.specs.LogTexts.{IsLast}
 use Rattle.mt_record.specs.LogFronts.{IsRest}
 use Rattle.mt_record.specs.declared.front.Rest.{Rest}
 use Rattle.mt_record.specs.declared.front.Rest.TheVariants.{Nothing, Torn, Faulty}
@@ -26,7 +27,7 @@ use Rattle.mt_record.specs.Cutting.{HasCut, IsCountOf}
 use Rattle.mt_record.specs.LogFeeding.{IsLogFed, FedLog, HoldsLog}
 use Rattle.mt_scan.specs.declared.checking.CheckingFeed.{CheckingFeed}
 use Rattle.mt_scan.specs.declared.checking.LogCheck.{LogCheck}
-use Rattle.mt_scan.specs.Checks.{is_late, IsCheckOf}
+use Rattle.mt_scan.specs.Checks.{is_late_record, IsCheckOf}
 use Rattle.mt_scan.specs.Scans.{IsScanFault}
 use Rattle.mt_scan.specs.Dropping.{HasAllBelow}
 use Rattle.mt_scan.specs.Steps.Checking.{HasCounted}
@@ -55,31 +56,31 @@ rise_low low [] rise = tt
 rise_low low (x ∷ xs) rise = (omega arith, rise.1)
 
 -- none of the records below the limit is late
-none_late : (limit : ℕ) (xs : List Logged) → All (λ r. r.timestamp < limit) xs → length (filter (is_late limit) xs) ≡ 0
+none_late : (limit : ℕ) (xs : List Logged) → All (λ r. r.timestamp < limit) xs → length (filter (is_late_record limit) xs) ≡ 0
 none_late limit [] all = refl
 none_late limit (x ∷ xs) all =
     let below = All-head (λ (r : Logged). r.timestamp < limit) x xs all in
     let early : nat_le limit x.timestamp ≡ false = grind (arith, nat_tests) in
-    ap (λ b. length (cond (not (is_mark x) && b) (x ∷ filter (is_late limit) xs) (filter (is_late limit) xs))) early
+    ap (λ b. length (cond (not (is_mark x) && b) (x ∷ filter (is_late_record limit) xs) (filter (is_late_record limit) xs))) early
     ∙ by (is_mark x)
     ∙ none_late limit xs (All-tail (λ (r : Logged). r.timestamp < limit) x xs all)
   where
-    by : (mark : Bool) → length (cond (not mark && false) (x ∷ filter (is_late limit) xs) (filter (is_late limit) xs)) ≡ length (filter (is_late limit) xs)
+    by : (mark : Bool) → length (cond (not mark && false) (x ∷ filter (is_late_record limit) xs) (filter (is_late_record limit) xs)) ≡ length (filter (is_late_record limit) xs)
     by true = refl
     by false = refl
 
 -- of the records past the limit, those are late that are no marks
-all_late : (limit : ℕ) (xs : List Logged) → All (λ r. limit ≤ r.timestamp) xs → length (filter (is_late limit) xs) + length (filter is_mark xs) ≡ length xs
+all_late : (limit : ℕ) (xs : List Logged) → All (λ r. limit ≤ r.timestamp) xs → length (filter (is_late_record limit) xs) + length (filter is_mark xs) ≡ length xs
 all_late limit [] all = refl
 all_late limit (x ∷ xs) all =
     let past = All-head (λ (r : Logged). limit ≤ r.timestamp) x xs all in
     let late : nat_le limit x.timestamp ≡ true = grind (arith, nat_tests) in
     let rest = all_late limit xs (All-tail (λ (r : Logged). limit ≤ r.timestamp) x xs all) in
-    ap (λ b. length (cond (not (is_mark x) && b) (x ∷ filter (is_late limit) xs) (filter (is_late limit) xs)) + length (cond (is_mark x) (x ∷ filter is_mark xs) (filter is_mark xs))) late
+    ap (λ b. length (cond (not (is_mark x) && b) (x ∷ filter (is_late_record limit) xs) (filter (is_late_record limit) xs)) + length (cond (is_mark x) (x ∷ filter is_mark xs) (filter is_mark xs))) late
     ∙ by rest (is_mark x)
   where
-    by : length (filter (is_late limit) xs) + length (filter is_mark xs) ≡ length xs → (mark : Bool)
-        → length (cond (not mark && true) (x ∷ filter (is_late limit) xs) (filter (is_late limit) xs)) + length (cond mark (x ∷ filter is_mark xs) (filter is_mark xs)) ≡ length (x ∷ xs)
+    by : length (filter (is_late_record limit) xs) + length (filter is_mark xs) ≡ length xs → (mark : Bool)
+        → length (cond (not mark && true) (x ∷ filter (is_late_record limit) xs) (filter (is_late_record limit) xs)) + length (cond mark (x ∷ filter is_mark xs) (filter is_mark xs)) ≡ length (x ∷ xs)
     by rest true = omega (arith, rest)
     by rest false = omega (arith, rest)
 
@@ -87,16 +88,16 @@ all_late limit (x ∷ xs) all =
 most_marks : (rs : List Logged) → length (filter is_mark rs) ≤ length rs
 most_marks rs = omega (arith, marks_and_updates 0 0 rs)
 
-most_late : (limit : ℕ) (rs : List Logged) → length (filter (is_late limit) rs) ≤ length rs
+most_late : (limit : ℕ) (rs : List Logged) → length (filter (is_late_record limit) rs) ≤ length rs
 most_late limit [] = omega arith
-most_late limit (r ∷ rs) = by (most_late limit rs) (is_late limit r)
+most_late limit (r ∷ rs) = by (most_late limit rs) (is_late_record limit r)
   where
-    by : length (filter (is_late limit) rs) ≤ length rs → (late : Bool) → length (cond late (r ∷ filter (is_late limit) rs) (filter (is_late limit) rs)) ≤ length (r ∷ rs)
+    by : length (filter (is_late_record limit) rs) ≤ length rs → (late : Bool) → length (cond late (r ∷ filter (is_late_record limit) rs) (filter (is_late_record limit) rs)) ≤ length (r ∷ rs)
     by rest true = omega (arith, rest)
     by rest false = omega (arith, rest)
 
-late_both : (limit : ℕ) (xs ys : List Logged) → length (filter (is_late limit) (xs ++ ys)) ≡ length (filter (is_late limit) xs) + length (filter (is_late limit) ys)
-late_both limit xs ys = ap length (filter-append (is_late limit) xs ys) ∙ length-append (filter (is_late limit) xs) (filter (is_late limit) ys)
+late_both : (limit : ℕ) (xs ys : List Logged) → length (filter (is_late_record limit) (xs ++ ys)) ≡ length (filter (is_late_record limit) xs) + length (filter (is_late_record limit) ys)
+late_both limit xs ys = ap length (filter-append (is_late_record limit) xs ys) ∙ length-append (filter (is_late_record limit) xs) (filter (is_late_record limit) ys)
 
 -- one more chunk was fed, and its records were counted and dropped
 pub counts_more : (old new : CheckingFeed) (fed : FedLog) (before bytes : List ℕ) (late others : Dropped) → HasCounted old before → length bytes < 2 ^ 64 → new.limit ≡ old.limit
@@ -117,7 +118,7 @@ counts_more old new fed before bytes late others h small same feeds drops droppe
     let none = none_late limit kept (cut_below limit limit kept kept_rise cut.ends (omega arith)) in
     let all = all_late limit cut.late cut.past in
     let marks_in : length (filter is_mark ready) ≡ length (filter is_mark (kept ++ cut.late)) = ap (λ (rs : List Logged). length (filter is_mark rs)) cut.joins in
-    let late_in : length (filter (is_late limit) ready) ≡ length (filter (is_late limit) (kept ++ cut.late)) = ap (λ (rs : List Logged). length (filter (is_late limit) rs)) cut.joins in
+    let late_in : length (filter (is_late_record limit) ready) ≡ length (filter (is_late_record limit) (kept ++ cut.late)) = ap (λ (rs : List Logged). length (filter (is_late_record limit) rs)) cut.joins in
     let all_marks = most_marks (h.records ++ ready) in
     record {
       records = h.records ++ ready;

@@ -10,9 +10,11 @@ use Rattle.std.proofs.lemmas.Cmp.{nat_eq_equiv}
 use Rattle.mt_words.specs.declared.record.Change.{Change}
 use Rattle.mt_words.specs.Words.{AreRising}
 use Rattle.mt_record.specs.Parts.{PartReading}
-use Rattle.mt_scan.specs.PartScans.{KnownPart, KeptPart, whole, broken, nameless, shown_by, shown_by_all}
-use Rattle.mt_scan.specs.Choice.{CheckpointReading, IsPartAt, AreInPlace, entry_keys, MakeUp, checkpoint_in}
-use Rattle.mt_scan.specs.Steps.Checkpoints.{entries_of, MakeUpNone, AreSameTexts, IsMadeOf, reading_of}
+use Rattle.mt_scan.specs.PartScans.{KnownPart, whole, broken, nameless}
+use Rattle.mt_scan.specs.PartsShown.{KeptPart, shown_by, shown_by_all}
+use Rattle.mt_scan.specs.Choice.{CheckpointReading, IsPartAt, AreInPlace, entry_keys, MakeUp}
+use Rattle.mt_scan.specs.Choosing.{checkpoint_in}
+use Rattle.mt_scan.specs.Steps.Checkpoints.{entries_of, MakeUpNone, AreSameTexts, IsMadeOfParts, reading_of}
 use Rattle.mt_scan.specs.declared.checkpoint.Checkpoint.{Checkpoint}
 use Rattle.mt_scan.proofs.OneChoice.{at_place, AreNumbered, are_numbered, same_texts}
 
@@ -179,5 +181,5 @@ entries_shown [] = refl
 entries_shown (part ∷ parts) = ap (λ (entries : List Change). part.entries ++ entries) (entries_shown parts)
 
 pub made : (number : ℕ) (texts : List KeptPart) (value : Checkpoint) → value.number ≡ number → IsPermutation texts value.parts.items
-    → MakeUp (shown_by_all value.parts.items) (checkpoint_in value) → IsMadeOf number (shown_by_all texts) value
+    → MakeUp (shown_by_all value.parts.items) (checkpoint_in value) → IsMadeOfParts number (shown_by_all texts) value
 made number texts value number_is moved make_up = record { number_is = number_is; same = same_texts_as texts value.parts.items moved; make_up = make_up }

@@ -11,7 +11,8 @@ use Rattle.std.proofs.lemmas.Map.Lookups.{exact_unsigned}
 use Rattle.std.proofs.lemmas.Map.Views.{btree_map_get_iff}
 use Rattle.mt_record.specs.Parts.{PartReading}
 use Rattle.mt_scan.specs.PartScans.{KnownPart, whole, broken}
-use Rattle.mt_scan.specs.Choice.{CheckpointReading, IsValid, MayBeChosen, IsChosenOf, IsSkipped, parts_of, checkpoint_in}
+use Rattle.mt_scan.specs.Choice.{CheckpointReading, IsValid, MayBeChosen, IsChosenOf, IsSkipped, parts_of}
+use Rattle.mt_scan.specs.Choosing.{checkpoint_in}
 use Rattle.mt_scan.specs.Steps.Groups.{IsPartGroupOf, IsGroupAt, AreGroupsOf, HasCheckpoint}
 use Rattle.mt_scan.specs.Steps.Selections.{IsOffered, IsPassed, IsBestOf, IsSelectionOf, IsSelectionFor}
 use Rattle.mt_scan.specs.declared.checkpoint.Checkpoint.{Checkpoint}

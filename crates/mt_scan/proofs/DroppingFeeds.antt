@@ -16,7 +16,7 @@ use Rattle.mt_record.specs.declared.kept.log.Dropped.{Dropped}
 use Rattle.mt_record.specs.Cutting.{HasCut, IsCountOf}
 use Rattle.mt_record.proofs.RecordLemmas.{marks_and_updates}
 use Rattle.mt_scan.specs.declared.dropping_feed.DroppingFeed.{DroppingFeed}
-use Rattle.mt_scan.specs.Steps.DroppingFeeds.{taken_of, GoesOn, KeepsRecords, HasRead, IsFedBelow}
+use Rattle.mt_scan.specs.Steps.DroppingFeeds.{taken_of, GoesOn, KeepsRecords, HasDropped, IsFedBelow}
 use Rattle.mt_scan.proofs.Rises.{Rise, read_rise, latest_behind, rise_front, rise_behind, never_falls, all_past, all_below, cut_below}
 
 -- the records that a feed without a fault has read
@@ -28,7 +28,7 @@ module _ (feed : FedLog) (bytes taken : List _) (fed : IsLogFed feed bytes taken
   fed_latest = let held = fed.0 sound in held.0.read.latest
 
 -- what was read under one limit holds under a lower one
-lowered : (feed : DroppingFeed) (limit lower : ℕ) (bytes : List ℕ) → lower ≤ limit → HasRead feed limit bytes → HasRead feed lower bytes
+lowered : (feed : DroppingFeed) (limit lower : ℕ) (bytes : List ℕ) → lower ≤ limit → HasDropped feed limit bytes → HasDropped feed lower bytes
 lowered feed limit lower bytes le h = record {
   late = h.late;
   fed = h.fed;
@@ -45,7 +45,7 @@ lowered feed limit lower bytes le h = record {
 -- ---- dropping
 
 -- no record is at or past the limit
-pub none_late : (feed : DroppingFeed) (limit : ℕ) (bytes : List ℕ) → HasRead feed limit bytes → feed.feed.fault ≡ None → feed.kept ≡ None → feed.feed.so_far.latest < limit → IsFedBelow feed limit bytes
+pub none_late : (feed : DroppingFeed) (limit : ℕ) (bytes : List ℕ) → HasDropped feed limit bytes → feed.feed.fault ≡ None → feed.kept ≡ None → feed.feed.so_far.latest < limit → IsFedBelow feed limit bytes
 none_late feed limit bytes h sound none below =
     let late : h.late ≡ [] = rw none at (h.goes_on sound) in
     let taken : taken_of feed.kept ++ h.late ≡ [] = (λ i. taken_of (none i) ++ late i) in
@@ -63,7 +63,7 @@ others : (rs : List Logged) → length (filter is_mark rs) ≤ length rs
 others rs = omega (arith, marks_and_updates 0 0 rs)
 
 -- a record was late before: so are all records that the feed has, and those that were kept are cut once more
-pub more_late : (old new : DroppingFeed) (limit : ℕ) (bytes : List ℕ) (was kept : List Logged) (gone later : Dropped) → HasRead old limit bytes → old.feed.fault ≡ None → old.kept ≡ Some was → new.kept ≡ Some kept
+pub more_late : (old new : DroppingFeed) (limit : ℕ) (bytes : List ℕ) (was kept : List Logged) (gone later : Dropped) → HasDropped old limit bytes → old.feed.fault ≡ None → old.kept ≡ Some was → new.kept ≡ Some kept
     → new.feed ≡ record old.feed { so_far = record old.feed.so_far { ready = [] } } → ((taken : List Logged) → IsLogFed old.feed bytes taken → IsLogFed new.feed bytes (taken ++ old.feed.so_far.ready))
     → IsCountOf old.feed.so_far.ready later → HasCut limit was kept gone → new.marks ≡ min (min (old.marks + gone.marks) (2 ^ 64 - 1) + later.marks) (2 ^ 64 - 1)
     → new.dropped ≡ min (min (old.dropped + gone.updates) (2 ^ 64 - 1) + later.updates) (2 ^ 64 - 1) → IsFedBelow new limit bytes
@@ -78,7 +78,7 @@ more_late old new limit bytes was kept gone later h sound some same taken_is fee
     append_assoc was h.late ready ∙ ap (λ (l : List Logged). l ++ (h.late ++ ready)) cut.joins ∙ append_assoc kept cut.late (h.late ++ ready) in
     let kept_rise : Rise 0 kept = rise_front 0 kept (cut.late ++ (h.late ++ ready)) (subst (Rise 0) all rise) in
     let fed : IsLogFed new.feed bytes ((was ++ h.late) ++ ready) = subst (λ (k : Option (List Logged)). IsLogFed new.feed bytes ((taken_of k ++ h.late) ++ ready)) some (feeds (taken_of old.kept ++ h.late) h.fed) in
-    let read : HasRead new limit bytes = record {
+    let read : HasDropped new limit bytes = record {
       late = cut.late ++ (h.late ++ ready);
       fed = subst (IsLogFed new.feed bytes) (all ∙ ap (λ (k : Option (List Logged)). taken_of k ++ (cut.late ++ (h.late ++ ready))) (sym same)) fed;
       past = All-append (λ (r : Logged). limit ≤ r.timestamp) cut.late (h.late ++ ready) cut.past (All-append (λ (r : Logged). limit ≤ r.timestamp) h.late ready h.past past);
@@ -102,7 +102,7 @@ more_late old new limit bytes was kept gone later h sound some same taken_is fee
     record { read = read; keeps = λ _. rw same (ap (λ (f : FedLog). f.so_far.ready) taken_is, cut_below limit limit kept kept_rise cut.ends (omega arith)) }
 
 -- the first late record, and all records after it
-pub first_late : (old new : DroppingFeed) (limit : ℕ) (bytes : List ℕ) (kept : List Logged) (gone : Dropped) → HasRead old limit bytes → old.feed.fault ≡ None → old.kept ≡ None → new.kept ≡ Some kept
+pub first_late : (old new : DroppingFeed) (limit : ℕ) (bytes : List ℕ) (kept : List Logged) (gone : Dropped) → HasDropped old limit bytes → old.feed.fault ≡ None → old.kept ≡ None → new.kept ≡ Some kept
     → new.feed ≡ record old.feed { so_far = record old.feed.so_far { ready = [] } } → ((taken : List Logged) → IsLogFed old.feed bytes taken → IsLogFed new.feed bytes (taken ++ old.feed.so_far.ready))
     → HasCut limit old.feed.so_far.ready kept gone → limit ≤ old.feed.so_far.latest → new.marks ≡ min (old.marks + gone.marks) (2 ^ 64 - 1) → new.dropped ≡ min (old.dropped + gone.updates) (2 ^ 64 - 1) → IsFedBelow new limit bytes
 first_late old new limit bytes kept gone h sound none some taken_is feeds cut past marks dropped =
@@ -114,7 +114,7 @@ first_late old new limit bytes kept gone h sound none some taken_is feeds cut pa
     let last = fed_latest old.feed bytes [] fed sound in
     let kept_rise : Rise 0 kept = rise_front 0 kept cut.late (subst (Rise 0) cut.joins rise) in
     let no_marks : length (filter is_mark h.late) ≡ 0 = ap (λ (l : List Logged). length (filter is_mark l)) late in
-    let read : HasRead new limit bytes = record {
+    let read : HasDropped new limit bytes = record {
       late = cut.late;
       fed = subst (IsLogFed new.feed bytes) (cut.joins ∙ ap (λ (k : Option (List Logged)). taken_of k ++ cut.late) (sym some)) (feeds [] fed);
       past = cut.past;
@@ -157,7 +157,7 @@ now_sound P (Err f) on ok = absurd (false≢true ok)
 
 -- one more chunk, under a limit that may have fallen
 pub read_on : (old new : DroppingFeed) (was limit : ℕ) (bytes piece : List ℕ) (h : IsFedBelow old was bytes) → limit ≤ was → new ≡ record old { feed = new.feed } → old.feed.fault ≡ None
-    → IsLogFed new.feed (bytes ++ piece) (taken_of old.kept ++ h.read.late) → HasRead new limit (bytes ++ piece)
+    → IsLogFed new.feed (bytes ++ piece) (taken_of old.kept ++ h.read.late) → HasDropped new limit (bytes ++ piece)
 read_on old new was limit bytes piece h le same sound fed = lowered new was limit (bytes ++ piece) le (record {
   late = h.read.late;
   fed = subst (λ (k : Option (List Logged)). IsLogFed new.feed (bytes ++ piece) (taken_of k ++ h.read.late)) (sym (ap (λ (f : DroppingFeed). f.kept) same)) fed;

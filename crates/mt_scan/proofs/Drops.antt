@@ -4,7 +4,8 @@ use Rattle.std.specs.List.{All, filter}
 use Rattle.std.proofs.lemmas.List.{append-nil}
 use Rattle.std.proofs.lemmas.List.Elements.{All-head, All-tail, All-nil, All-weaker}
 use Rattle.mt_words.specs.declared.update.Update.{Update}
-use Rattle.mt_words.specs.Updates.{updates_from, kept_updates}
+use Rattle.mt_words.specs.Updates.{updates_from}
+use Rattle.mt_words.specs.OneLog.{kept_updates}
 use Rattle.mt_record.specs.Logs.{LogReading}
 use Rattle.mt_board.specs.Board.{least_of, nothing_noted}
 use Rattle.mt_scan.specs.declared.log_scan.LogScan.{LogScan}

@@ -6,7 +6,8 @@ use Rattle.std.proofs.lemmas.Bool.{false≢true, cases_lt, eq-eqb}
 use Rattle.mt_words.proofs.Elements.{no_element, head_or_tail, head_in, tail_in}
 use Rattle.std.proofs.lemmas.List.Elements.{All-from_recursion, All-contains, Contains-append_cases, Contains-append_left, Contains-append_right}
 use Rattle.mt_scan.specs.declared.log_scan.LogScan.{LogScan}
-use Rattle.mt_record.specs.Logs.{LogReading, IsGreatestOf, times_of, greatest}
+use Rattle.mt_record.specs.Logs.{LogReading, IsGreatestOf, times_of}
+use Rattle.mt_record.specs.LogTexts.{greatest}
 use Rattle.mt_scan.specs.Cutoff.{is_segment_of, files_of, IsLastOf, IsCutoff}
 use Rattle.mt_scan.specs.Scans.{HasNumbersOf, HaveNumbersOf}
 use Rattle.mt_scan.specs.Steps.Lasts.{last_of_segments, last_by, last_of}

@@ -4,7 +4,8 @@ use Rattle.std.specs.List.{slice_get}
 use Rattle.std.proofs.lemmas.List.{length-map, length-take-le, map_push, take_more}
 use Rattle.std.proofs.lemmas.List.Elements.{Contains-push, Contains-push_cases, Contains-append_left}
 use Rattle.std.proofs.lemmas.Option.{slice_get_within, same_Some}
-use Rattle.mt_scan.specs.PartScans.{KnownPart, nameless, known_by}
+use Rattle.mt_scan.specs.PartScans.{KnownPart, nameless}
+use Rattle.mt_scan.specs.PartsShown.{known_by}
 use Rattle.mt_scan.specs.Choice.{AreNameless}
 use Rattle.mt_scan.specs.declared.part_scan.PartScan.{PartScan}
 use Rattle.mt_scan.specs.declared.part_scan.PartScan.TheVariants as scans

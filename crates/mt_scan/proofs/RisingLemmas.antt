@@ -13,9 +13,9 @@ use Rattle.mt_words.specs.declared.record.Change.{Change}
 use Rattle.mt_words.specs.declared.update.Kind.TheVariants.{Remove}
 use Rattle.mt_words.specs.Words.{IsBelow, AreRising}
 use Rattle.mt_record.specs.Parts.{PartReading}
-use Rattle.mt_scan.specs.PartScans.{KeptPart, shown_by, shown_by_all}
+use Rattle.mt_scan.specs.PartsShown.{KeptPart, shown_by, shown_by_all}
 use Rattle.mt_scan.specs.Choice.{entry_keys}
-use Rattle.mt_scan.specs.Steps.Checkpoints.{entries_of, none_or_one, last_of}
+use Rattle.mt_scan.specs.Steps.Checkpoints.{entries_of, none_or_one, last_key_of}
 
 abbrev AreAbove : List ℕ → List (List ℕ) → Type 0
 AreAbove x xs = AllByRecursion (IsBelow x) xs
@@ -42,25 +42,25 @@ rise_front [] ys rise = tt
 rise_front (x ∷ xs) ys rise = (above_front x xs ys rise.0, rise_front xs ys rise.1)
 
 -- in a rising list, the last key of a front and all keys after it rise
-pub rise_back : (xs ys : List (List ℕ)) → AreRising (xs ++ ys) → AreRising (last_of xs ++ ys)
+pub rise_back : (xs ys : List (List ℕ)) → AreRising (xs ++ ys) → AreRising (last_key_of xs ++ ys)
 rise_back [] ys rise = rise
 rise_back (x ∷ []) ys rise = rise
 rise_back (x ∷ y ∷ xs) ys rise = rise_back (y ∷ xs) ys rise.1
 
 -- if a list rises, and its last key with the next list rises, both lists joined rise
-pub rise_on : (xs ys : List (List ℕ)) → AreRising xs → AreRising (last_of xs ++ ys) → AreRising (xs ++ ys)
+pub rise_on : (xs ys : List (List ℕ)) → AreRising xs → AreRising (last_key_of xs ++ ys) → AreRising (xs ++ ys)
 rise_on [] ys rise on = on
 rise_on (x ∷ []) ys rise on = on
 rise_on (x ∷ y ∷ xs) ys rise on =
     let rest : AreRising (y ∷ xs ++ ys) = rise_on (y ∷ xs) ys rise.1 on in
     ((rise.0.0, above_all x y (xs ++ ys) rise.0.0 rest.0), rest)
 
-pub last_of_push : (xs : List (List ℕ)) (x : List ℕ) → last_of (xs ++ x ∷ []) ≡ x ∷ []
+pub last_of_push : (xs : List (List ℕ)) (x : List ℕ) → last_key_of (xs ++ x ∷ []) ≡ x ∷ []
 last_of_push [] x = refl
 last_of_push (y ∷ []) x = refl
 last_of_push (y ∷ z ∷ xs) x = last_of_push (z ∷ xs) x
 
-last_of_on : (xs ys : List (List ℕ)) → last_of (xs ++ ys) ≡ last_of (last_of xs ++ ys)
+last_of_on : (xs ys : List (List ℕ)) → last_key_of (xs ++ ys) ≡ last_key_of (last_key_of xs ++ ys)
 last_of_on [] ys = refl
 last_of_on (x ∷ []) ys = refl
 last_of_on (x ∷ y ∷ xs) ys = last_of_on (y ∷ xs) ys
@@ -68,13 +68,13 @@ last_of_on (x ∷ y ∷ xs) ys = last_of_on (y ∷ xs) ys
 -- the keys rise, and this is the last of them
 pub record RiseTo (xs last : List (List ℕ)) : Type 0 where
   pub rise : AreRising xs
-  pub is_last : last ≡ last_of xs
+  pub is_last : last ≡ last_key_of xs
 
 -- the keys rise with more keys, if these rise after the last one
-pub rise_to_more : (xs ys last new : List (List ℕ)) → RiseTo xs last → AreRising (last ++ ys) → new ≡ last_of (last ++ ys) → RiseTo (xs ++ ys) new
+pub rise_to_more : (xs ys last new : List (List ℕ)) → RiseTo xs last → AreRising (last ++ ys) → new ≡ last_key_of (last ++ ys) → RiseTo (xs ++ ys) new
 rise_to_more xs ys last new to on is = record {
   rise = rise_on xs ys to.rise (subst (λ (zs : List (List ℕ)). AreRising (zs ++ ys)) to.is_last on);
-  is_last = is ∙ ap (λ (zs : List (List ℕ)). last_of (zs ++ ys)) to.is_last ∙ sym (last_of_on xs ys);
+  is_last = is ∙ ap (λ (zs : List (List ℕ)). last_key_of (zs ++ ys)) to.is_last ∙ sym (last_of_on xs ys);
 }
 
 -- if the next keys do not rise after the last one, the complete list does not rise
@@ -103,7 +103,7 @@ module _ (before xs : List (List ℕ)) (i : ℕ) (e : List ℕ) (last : List (Li
 pub follows : (a b : List ℕ) → IsBelow a b ↔ AreRising (a ∷ b ∷ [])
 follows a b = (λ h. ((h, tt), (tt, tt)), λ rise. rise.0.0)
 
-last_at : (xs : List (List ℕ)) (k : List ℕ) → 0 < length xs → k ≡ get_or xs (length xs - 1) k → k ∷ [] ≡ last_of xs
+last_at : (xs : List (List ℕ)) (k : List ℕ) → 0 < length xs → k ≡ get_or xs (length xs - 1) k → k ∷ [] ≡ last_key_of xs
 last_at [] k some at = absurd (omega (arith, some))
 last_at (x ∷ []) k some at = ap (λ (y : List ℕ). y ∷ []) at
 last_at (x ∷ y ∷ ys) k some at =
@@ -111,7 +111,7 @@ last_at (x ∷ y ∷ ys) k some at =
     last_at (y ∷ ys) k (omega arith) (at ∙ ap (λ (n : ℕ). get_or (x ∷ y ∷ ys) n k) e)
 
 -- if at least one key is added, the last key is that of the added ones
-pub last_behind : (before : Option (Bor (List ℕ))) (xs : List (List ℕ)) (k : List ℕ) → 0 < length xs → k ≡ get_or xs (length xs - 1) k → k ∷ [] ≡ last_of (none_or_one before ++ xs)
+pub last_behind : (before : Option (Bor (List ℕ))) (xs : List (List ℕ)) (k : List ℕ) → 0 < length xs → k ≡ get_or xs (length xs - 1) k → k ∷ [] ≡ last_key_of (none_or_one before ++ xs)
 last_behind None xs k some at = last_at xs k some at
 last_behind (Some b) [] k some at = absurd (omega (arith, some))
 last_behind (Some b) (x ∷ xs) k some at = last_at (x ∷ xs) k some at
@@ -148,7 +148,7 @@ part_rises before text after rise =
 
 module _ (texts : List KeptPart) (i : ℕ) (text : KeptPart) (last : List (List ℕ)) (fits : i < length texts) (at : text ≡ get_or texts i text) where
   -- the keys rise with those of one more part, if these rise after the last one
-  pub text_more : (new : List (List ℕ)) → RiseTo (keys_in (take i texts)) last → AreRising (last ++ entry_keys text.entries) → new ≡ last_of (last ++ entry_keys text.entries) → RiseTo (keys_in (take (i + 1) texts)) new
+  pub text_more : (new : List (List ℕ)) → RiseTo (keys_in (take i texts)) last → AreRising (last ++ entry_keys text.entries) → new ≡ last_key_of (last ++ entry_keys text.entries) → RiseTo (keys_in (take (i + 1) texts)) new
   text_more new to on is =
       let keys : List (List ℕ) = entry_keys text.entries in
       let more : take (i + 1) texts ≡ take i texts ++ text ∷ [] = take_more texts i text fits ∙ ap (λ (x : KeptPart). take i texts ++ x ∷ []) (sym at) in

@@ -11,8 +11,10 @@ use Rattle.std.proofs.lemmas.List.{length_push, get_or_push, get_or_append_left}
 use Rattle.std.proofs.lemmas.List.Elements.{Contains-push, Contains-push_cases, Contains-append_left, Contains-get_or}
 use Rattle.std.proofs.lemmas.List.Sorted.{IsPermutation-sym, IsPermutation-trans}
 use Rattle.mt_record.specs.Parts.{PartReading}
-use Rattle.mt_scan.specs.PartScans.{whole, shown_by_all}
-use Rattle.mt_scan.specs.Choice.{CheckpointReading, AreInPlace, MakeUp, IsNoBetter, checkpoint_in}
+use Rattle.mt_scan.specs.PartScans.{whole}
+use Rattle.mt_scan.specs.PartsShown.{shown_by_all}
+use Rattle.mt_scan.specs.Choice.{CheckpointReading, AreInPlace, MakeUp, IsNoBetter}
+use Rattle.mt_scan.specs.Choosing.{checkpoint_in}
 use Rattle.mt_scan.specs.Steps.Checkpoints.{AreSameTexts}
 use Rattle.mt_scan.specs.Steps.Groups.{HasCheckpoint, HasNone, IsCheckpointOf}
 use Rattle.mt_scan.specs.Steps.Selections.{GroupsBelow, IsOffered, IsPassed, IsBestOf, IsSelectionOf, IsNoWorse}

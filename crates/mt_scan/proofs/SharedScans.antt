@@ -10,7 +10,8 @@ use Rattle.mt_words.specs.Updates.{updates_from, update_of}
 use Rattle.mt_record.specs.declared.read.LogText.{LogText}
 use Rattle.mt_record.specs.Spelling.{spelling}
 use Rattle.mt_record.specs.Heads.{head_bytes}
-use Rattle.mt_record.specs.Logs.{LogReading, IsReading, IsTextIn}
+use Rattle.mt_record.specs.Logs.{LogReading, IsReading}
+use Rattle.mt_record.specs.LogTexts.{IsTextIn}
 use Rattle.mt_record.proofs.RecordLemmas.{marks_and_updates}
 use Rattle.mt_scan.specs.declared.dropping_feed.DroppingFeed.{DroppingFeed}
 use Rattle.mt_scan.specs.Scans.{HasNumbersOf}

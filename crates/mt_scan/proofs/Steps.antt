@@ -6,7 +6,7 @@ use Rattle.std.specs.Io.KnownBytes.{Consumes, IsAtEnd}
 use Rattle.mt_words.specs.declared.fault.Fault.{Fault}
 use Rattle.mt_record.specs.declared.read.FeedFault.{FeedFault}
 use Rattle.mt_record.specs.declared.read.FeedFault.TheVariants as of_log
-use Rattle.mt_record.specs.LogFaults.{IsAnswered, fault_at}
+use Rattle.mt_record.specs.Answered.{IsAnswered, fault_at}
 use Rattle.mt_scan.specs.declared.log_scan.LogScan.{LogScan}
 use Rattle.mt_scan.specs.Sources.{Seen, Agrees}
 use Rattle.mt_scan.specs.Scans.{IsScanOf, IsScanFault, IsLogVerdict, OfTold}

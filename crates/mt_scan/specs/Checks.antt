@@ -7,8 +7,8 @@ use Rattle.mt_record.specs.LogFronts.{IsFrontOf}
 use Rattle.mt_scan.specs.declared.checking.LogCheck.{LogCheck}
 
 -- the record is an update at or past the limit
-abbrev pub is_late : ℕ → Logged → Bool
-is_late limit r = not (is_mark r) && nat_le limit r.timestamp
+abbrev pub is_late_record : ℕ → Logged → Bool
+is_late_record limit r = not (is_mark r) && nat_le limit r.timestamp
 
 -- the check has the front of the log that these bytes begin with, and the numbers of its records, of the marks and of the late updates among them
 pub record IsCheckOf (limit : ℕ) (bytes : List ℕ) (check : LogCheck) : Type 0 where
@@ -16,7 +16,7 @@ pub record IsCheckOf (limit : ℕ) (bytes : List ℕ) (check : LogCheck) : Type 
   pub front : IsFrontOf bytes records check.front
   pub whole : check.front.whole ≡ length records
   pub marks : check.marks ≡ length (filter is_mark records)
-  pub late : check.late ≡ length (filter (is_late limit) records)
+  pub late : check.late ≡ length (filter (is_late_record limit) records)
 
 -- the fault is one of a record, in the log with this number
 abbrev pub IsOfARecord : ℕ → Fault → Type 0

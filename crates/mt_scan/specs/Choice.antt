@@ -2,13 +2,10 @@
 use Rattle.std.specs.Prelude.{◌≡◌, ℕ, suc, ◌<◌, ◌≤◌, ◌⊎◌, ◌↔◌, ◌==◌, Bool, false, Option, Some, None, List, [], ◌∷◌, length, map, filter, Contains, slice_get, IsPermutation}
 use Rattle.std.specs.List.Sorted.{IsStrictlyIncreasing}
 use Rattle.std.specs.List.{flat_map}
-use Rattle.std.specs.Option.{option_map}
 use Rattle.mt_words.specs.declared.record.Change.{Change}
 use Rattle.mt_words.specs.Words.{AreRising}
 use Rattle.mt_record.specs.Parts.{PartReading}
-use Rattle.mt_scan.specs.declared.choice.Choice.{Choice}
-use Rattle.mt_scan.specs.declared.checkpoint.Checkpoint.{Checkpoint}
-use Rattle.mt_scan.specs.PartScans.{KnownPart, whole, broken, nameless, shown_by_all}
+use Rattle.mt_scan.specs.PartScans.{KnownPart, whole, broken, nameless}
 
 -- what a checkpoint says: its number, the timestamp from which logs are replayed over it, the timestamp at which it was complete, and its entries
 pub record CheckpointReading : Type 0 where
@@ -87,18 +84,3 @@ pub record AreSkipped (parts : List KnownPart) (numbers : List ℕ) : Type 0 whe
 pub record AreNameless (parts : List KnownPart) (positions : List ℕ) : Type 0 where
   pub rise : IsStrictlyIncreasing positions
   pub exact : (i : ℕ) → Contains positions i ↔ (slice_get parts i ≡ Some nameless)
-
--- a checkpoint in memory, as contracts see it: its entries are those of its parts, one part after another
-abbrev pub checkpoint_in : Checkpoint → CheckpointReading
-checkpoint_in checkpoint = record {
-  number = checkpoint.number;
-  begin = checkpoint.begin;
-  end = checkpoint.end;
-  entries = flat_map (λ text. text.entries) (shown_by_all checkpoint.parts.items);
-}
-
--- the choice among these parts: the chosen checkpoint, the skipped numbers and the nameless positions
-pub record IsChoiceOf (parts : List KnownPart) (cutoff : ℕ) (choice : Choice) : Type 0 where
-  pub chosen : IsChosenOf parts cutoff (option_map checkpoint_in choice.chosen)
-  pub skipped : AreSkipped parts choice.skipped.items
-  pub nameless : AreNameless parts choice.nameless.items

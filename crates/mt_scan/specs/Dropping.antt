@@ -1,7 +1,8 @@
 -- Scans of logs that share a cutoff, and drop what is too late for it.
 use Rattle.std.specs.Prelude.{◌≡◌, ℕ, ◌≤◌, ◌<◌, Option, Some, None, List, ◌∷◌, ◌++◌, length, min, All}
 use Rattle.mt_words.specs.declared.update.Update.{Update}
-use Rattle.mt_words.specs.Updates.{updates_from, kept_updates}
+use Rattle.mt_words.specs.Updates.{updates_from}
+use Rattle.mt_words.specs.OneLog.{kept_updates}
 use Rattle.mt_record.specs.Logs.{LogReading, IsReading}
 use Rattle.mt_board.specs.Board.{PassView, least_of}
 use Rattle.mt_scan.specs.declared.log_scan.LogScan.{LogScan}

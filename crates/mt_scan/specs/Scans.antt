@@ -4,11 +4,14 @@ use Rattle.std.specs.List.{AllZip, filter}
 use Rattle.mt_words.specs.declared.fault.Fault.{Fault}
 use Rattle.mt_words.specs.declared.fault.Fault.TheVariants as faults
 use Rattle.mt_words.specs.Changes.{is_mark}
-use Rattle.mt_words.specs.Updates.{updates_from, kept_updates}
+use Rattle.mt_words.specs.Updates.{updates_from}
+use Rattle.mt_words.specs.OneLog.{kept_updates}
 use Rattle.mt_record.specs.declared.read.FeedFault.{FeedFault}
 use Rattle.mt_record.specs.declared.read.FeedFault.TheVariants as of_log
-use Rattle.mt_record.specs.Logs.{LogReading, IsReading, IsLast, versions_of, greatest, count_of, log_bytes}
-use Rattle.mt_record.specs.LogFaults.{IsLogFault, IsAnswered, fault_at}
+use Rattle.mt_record.specs.Logs.{LogReading, IsReading, count_of, log_bytes}
+use Rattle.mt_record.specs.LogTexts.{IsLast, versions_of, greatest}
+use Rattle.mt_record.specs.LogFaults.{IsLogFault}
+use Rattle.mt_record.specs.Answered.{IsAnswered, fault_at}
 use Rattle.mt_scan.specs.declared.log_scan.LogScan.{LogScan}
 use Rattle.mt_scan.specs.Sources.{Agrees}
 

@@ -2,7 +2,8 @@
 use Rattle.std.specs.Prelude.{◌≡◌, ℕ, min, List, [], length, ◌++◌, take, drop, Option, Some, Bool, true, false, nat_eq, Result, Ok, IfSome}
 use Rattle.std.specs.Io.KnownBytes.{Consumes}
 use Rattle.std.specs.Borrow.{Lends, MutBor, Fml, Array}
-use Rattle.mt_scan.specs.Sources.{Seen, Buffered}
+use Rattle.mt_scan.specs.Sources.{Seen}
+use Rattle.mt_scan.specs.Advancing.{Buffered}
 use Rattle.mt_scan.specs.declared.source.SourceFault.{SourceFault}
 use Rattle.mt_scan.specs.declared.mem_source.MemSource.{MemSource}
 use Rattle.mt_scan.specs.declared.fault_source.FaultSource.{FaultSource}

@@ -18,7 +18,7 @@ pub struct Buffer {
 
 impl Model for Buffer {
     ghost use Rattle.std.specs.Prelude.{◌≤◌, ◌<◌, take, vec_len};
-    ghost use Rattle.mt_scan.specs.Sources.{Buffered};
+    ghost use Rattle.mt_scan.specs.Advancing.{Buffered};
 
     ghost Value = { Buffered };
 

@@ -1,7 +1,7 @@
 //! Checks of logs. A check reads a log as a scan does and counts its records, but keeps none, so it needs no more
 //! memory than a chunk.
 ghost use Rattle.std.specs.Prelude.{◌≡◌, ◌+◌, ◌^◌, ◌-◌, [], List, ℕ, min, IfOk, IfErr, IsTrue};
-ghost use Rattle.mt_words.specs.Updates.{kept_updates};
+ghost use Rattle.mt_words.specs.OneLog.{kept_updates};
 ghost use Rattle.mt_scan.specs.Scans.{IsLogVerdict, IsScanFault, OfTold, failures_of};
 ghost use Rattle.mt_scan.specs.Checks.{IsCheckOf, IsOfARecord};
 ghost use Rattle.mt_scan.specs.Dropping.{HasAllBelow};

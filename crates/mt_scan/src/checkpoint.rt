@@ -24,15 +24,15 @@ pub struct Checkpoint {
 
 impl Checkpoint {
     ghost use Rattle.std.specs.Prelude.{MatchOption};
-    ghost use Rattle.mt_scan.specs.PartScans.{shown_by_all};
-    ghost use Rattle.mt_scan.specs.Steps.Checkpoints.{MakeUpNone, IsMadeOf};
+    ghost use Rattle.mt_scan.specs.PartsShown.{shown_by_all};
+    ghost use Rattle.mt_scan.specs.Steps.Checkpoints.{MakeUpNone, IsMadeOfParts};
 
     /// Creates the checkpoint with this number from its parts, which come in any order. Returns None if they make up no
     /// valid checkpoint.
     pub(crate) fn of(number: u32, parts: Vec<PartText<KeptEntries>>) -> Option<Checkpoint>
         ensures { MatchOption result
             (MakeUpNone (shown_by_all parts.items))
-            (IsMadeOf number (shown_by_all parts.items)) }
+            (IsMadeOfParts number (shown_by_all parts.items)) }
     {
         let mut parts = parts;
         parts.sort_unstable_by_key(|text| text.part);

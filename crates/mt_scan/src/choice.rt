@@ -1,7 +1,8 @@
 //! The choice of the checkpoint to begin from.
 ghost use Rattle.std.specs.Prelude.{IfOk, map};
-ghost use Rattle.mt_scan.specs.PartScans.{known_by};
-ghost use Rattle.mt_scan.specs.Choice.{AreNameless, IsChoiceOf};
+ghost use Rattle.mt_scan.specs.PartsShown.{known_by};
+ghost use Rattle.mt_scan.specs.Choice.{AreNameless};
+ghost use Rattle.mt_scan.specs.Choosing.{IsChoiceOf};
 
 use crate::checkpoint::Checkpoint;
 use crate::group::group_parts;

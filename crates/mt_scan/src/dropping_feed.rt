@@ -2,7 +2,7 @@
 ghost use Rattle.std.specs.Prelude.{◌≡◌, None, false, ◌≤◌, ◌<◌, ◌++◌, ◌^◌, [], List, ℕ, length, min, ◌+◌, ◌-◌, IfOk, IfErr, IsErr};
 ghost use Rattle.mt_scan.specs.Scans.{IsLogVerdict, failures_of};
 ghost use Rattle.mt_scan.specs.Dropping.{HasAllBelow, KeepsOnlyBelow};
-ghost use Rattle.mt_scan.specs.Steps.DroppingFeeds.{IsFedBelow, HasRead, HasStopped};
+ghost use Rattle.mt_scan.specs.Steps.DroppingFeeds.{IsFedBelow, HasDropped, HasStopped};
 
 use crate::log_scan::{LogScan, scan_of};
 use mt_record::{Dropped, KeptRecords, LogFeed};
@@ -51,7 +51,7 @@ impl DroppingFeed {
 
     /// Drops the records at or past the limit. Timestamps do not fall, so these are the last ones.
     fn drop_late(&mut self, limit: u64)
-        ensures { (bytes : List ℕ) → self.old.feed.fault ≡ None → HasRead self.old limit bytes → IsFedBelow self.new limit bytes }
+        ensures { (bytes : List ℕ) → self.old.feed.fault ≡ None → HasDropped self.old limit bytes → IsFedBelow self.new limit bytes }
     {
         match &mut self.kept {
             Some(kept) => {

@@ -1,7 +1,7 @@
 //! A source of bytes in memory that fails.
 ghost use Rattle.std.specs.Prelude.{◌≡◌, ◌+◌, ◌-◌, ◌≤◌, ◌<◌, ◌↔◌, [], IfSome, IsSome, Some, Err, false};
 ghost use Rattle.mt_scan.specs.declared.source.SourceFault.TheVariants.{Device};
-ghost use Rattle.mt_scan.specs.Sources.{Advances, HoldsBufferOf};
+ghost use Rattle.mt_scan.specs.Advancing.{Advances, HoldsBufferOf};
 ghost use Rattle.mt_scan.specs.SourceTypes.{seen_of_fault, calls_left, fault_piece_size, GivesPiece, slot_after};
 
 use crate::buffer::Buffer;

@@ -1,6 +1,7 @@
 //! Parts grouped by the numbers of their checkpoints.
 ghost use Rattle.std.specs.Prelude.{List, ℕ, [], ◌∷◌, ◌++◌, map, IfOk, OnOk, MatchOption};
-ghost use Rattle.mt_scan.specs.PartScans.{KnownPart, whole, broken, shown_by, known_by};
+ghost use Rattle.mt_scan.specs.PartScans.{KnownPart, whole, broken};
+ghost use Rattle.mt_scan.specs.PartsShown.{shown_by, known_by};
 ghost use Rattle.mt_scan.specs.Steps.Groups.{IsPartGroupOf, AreGroupsOf, HasNone, IsCheckpointOf};
 
 use crate::checkpoint::Checkpoint;

@@ -1,6 +1,6 @@
 //! The results of scanning logs.
 ghost use Rattle.std.specs.Prelude.{◌≡◌, List, ℕ};
-ghost use Rattle.mt_record.specs.Logs.{IsKeptTextOf};
+ghost use Rattle.mt_record.specs.LogTexts.{IsKeptTextOf};
 ghost use Rattle.mt_scan.specs.Scans.{IsScanOf};
 ghost use Rattle.mt_scan.specs.Steps.DroppingFeeds.{scan_from};
 

@@ -1,6 +1,6 @@
 //! A source of bytes in memory.
 ghost use Rattle.std.specs.Prelude.{◌≡◌, ◌↔◌, [], IfSome, IsSome, IsTrue, Some};
-ghost use Rattle.mt_scan.specs.Sources.{Advances, HoldsBufferOf};
+ghost use Rattle.mt_scan.specs.Advancing.{Advances, HoldsBufferOf};
 ghost use Rattle.mt_scan.specs.SourceTypes.{seen_of_memory, piece_size, GivesPiece, slot_after};
 
 use crate::buffer::Buffer;

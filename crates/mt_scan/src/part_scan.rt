@@ -1,7 +1,8 @@
 //! Scans of checkpoint parts.
 ghost use Rattle.std.specs.Prelude.{◌≡◌, ◌+◌, IfOk, IfErr, IsTrue};
 ghost use Rattle.mt_scan.specs.Scans.{OfTold, failures_of};
-ghost use Rattle.mt_scan.specs.PartScans.{IsKnown, known_by, IsPartScanFault};
+ghost use Rattle.mt_scan.specs.PartScans.{IsKnown};
+ghost use Rattle.mt_scan.specs.PartsShown.{known_by, IsPartScanFault};
 
 use crate::feeding::feed_all;
 use crate::source::Source;

@@ -1,7 +1,7 @@
 //! A source of the bytes of a reader.
 ghost use Rattle.std.specs.Prelude.{◌≡◌, ◌+◌, ◌↔◌, ◌⊎◌, [], IfSome, IfOk, IfErr, IsSome, IsTrue, Some, Ok, Err, false};
 ghost use Rattle.mt_scan.specs.declared.source.SourceFault.TheVariants.{Device, TooLong};
-ghost use Rattle.mt_scan.specs.Sources.{Advances, HoldsBufferOf};
+ghost use Rattle.mt_scan.specs.Advancing.{Advances, HoldsBufferOf};
 ghost use Rattle.std.specs.Io.KnownBytes.{Keeps};
 ghost use Rattle.mt_scan.specs.SourceTypes.{seen_of_reader, reader_piece_size, HasTooMany, at_its_end, has_failed, slot_after};
 

@@ -1,9 +1,9 @@
 //! Checks that keys rise.
 ghost use Rattle.std.specs.Prelude.{◌≡◌, ◌↔◌, [], ◌∷◌, ◌++◌, IsTrue};
 ghost use Rattle.mt_words.specs.Words.{AreRising};
-ghost use Rattle.mt_scan.specs.PartScans.{shown_by_all};
+ghost use Rattle.mt_scan.specs.PartsShown.{shown_by_all};
 ghost use Rattle.mt_scan.specs.Choice.{entry_keys};
-ghost use Rattle.mt_scan.specs.Steps.Checkpoints.{entries_of, none_or_one, last_of};
+ghost use Rattle.mt_scan.specs.Steps.Checkpoints.{entries_of, none_or_one, last_key_of};
 
 use mt_record::{KeptEntries, PartText};
 
@@ -48,7 +48,7 @@ fn can_follow(last: Option<&[u8]>, key: &[u8]) -> bool
 
 /// Returns the last key of the entries, or the last one before them if there are no entries.
 fn last_key<'a>(before: Option<&'a [u8]>, entries: &'a KeptEntries) -> Option<&'a [u8]>
-    ensures { none_or_one result ≡ last_of (none_or_one before.entry ++ entry_keys entries.now) }
+    ensures { none_or_one result ≡ last_key_of (none_or_one before.entry ++ entry_keys entries.now) }
 {
     let count = entries.len();
     if count == 0 {

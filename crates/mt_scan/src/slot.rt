@@ -2,7 +2,7 @@
 ghost use Rattle.std.specs.Prelude.{◌≡◌, ◌≤◌, ◌↔◌, [], All, IfOk, IfSome, IfNone, IsTrue, IsSome, Some, length};
 ghost use Rattle.std.specs.Borrow.{sem};
 ghost use Rattle.mt_scan.specs.declared.slot.TheConstants.{LONGEST_BUFFER};
-ghost use Rattle.mt_scan.specs.Sources.{HoldsBufferOf};
+ghost use Rattle.mt_scan.specs.Advancing.{HoldsBufferOf};
 ghost use Rattle.mt_scan.specs.SourceTypes.{LendsSlots};
 
 use crate::buffer::Buffer;
@@ -75,7 +75,7 @@ impl Drop for Rack {
 
 impl Model for Rack {
     ghost use Rattle.std.specs.Prelude.{List, Option};
-    ghost use Rattle.mt_scan.specs.Sources.{Buffered};
+    ghost use Rattle.mt_scan.specs.Advancing.{Buffered};
 
     ghost Value = { List (Option Buffered) };
 

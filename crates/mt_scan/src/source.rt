@@ -1,6 +1,7 @@
 //! Sources: bytes that come chunk by chunk.
 ghost use Rattle.std.specs.Prelude.{◌≡◌};
-ghost use Rattle.mt_scan.specs.Sources.{Seen, Advances};
+ghost use Rattle.mt_scan.specs.Sources.{Seen};
+ghost use Rattle.mt_scan.specs.Advancing.{Advances};
 
 use thiserror::Error;
 

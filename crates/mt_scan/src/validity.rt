@@ -1,6 +1,6 @@
 //! Checks that parts make up a checkpoint.
 ghost use Rattle.std.specs.Prelude.{◌<◌, ◌↔◌, ℕ, List, length, IsTrue};
-ghost use Rattle.mt_scan.specs.PartScans.{KeptPart, shown_by, shown_by_all};
+ghost use Rattle.mt_scan.specs.PartsShown.{KeptPart, shown_by, shown_by_all};
 ghost use Rattle.mt_scan.specs.Choice.{IsPartAt, AreInPlace, MakeUp};
 ghost use Rattle.mt_scan.specs.Steps.Checkpoints.{reading_of};
 

@@ -15,7 +15,7 @@ use mt_recover::{
     Cuts, Cutting, Haul, Inputs, Job, NoGate, Pieces, Recovered, Workers, assemble, prepare,
     recover, recover_logs, work,
 };
-use mt_replay::{LogCells, replay_piece};
+use mt_replay::{SortedUpdates, replay_piece};
 use mt_scan::{MemSource, Rack, Slot, choose, scan_bytes, scan_log, scan_part};
 use mt_tree::Wanted;
 use mt_words::{Fault, Key, Record};
@@ -225,7 +225,7 @@ fn a_refused_growth_of_scans_is_memory(rt: HostRuntime) {
 fn replay_second<R: AllocGlobal + Threads + Sync>(rt: &R) -> Result<usize, Fault> {
     let alloc = rt.alloc();
     let updates = scan_bytes(alloc, LOG_OF_THREE, 0)?.updates.into_vec(alloc)?;
-    let lists = [LogCells::of(alloc, updates, ALL)?];
+    let lists = [SortedUpdates::of(alloc, updates, ALL)?];
     let Some(pieces) = Pieces::new(2) else {
         return Ok(0);
     };

@@ -1,7 +1,7 @@
 //! Cells, cuts, pieces and clashes, which no case can show one by one.
 use crate::asserting::assert_same;
 use crate::logs::{HEADER, LOG_A, LOG_OF_THREE};
-use mt_replay::{Cell, CutFault, Cuts, LogCells, Pieces, Place, Window, clashes, replay_piece};
+use mt_replay::{Cell, CutFault, Cuts, SortedUpdates, Pieces, Place, Window, clashes, replay_piece};
 use mt_scan::scan_bytes;
 use mt_words::{Key, Update};
 use std::process::Abort;
@@ -28,8 +28,8 @@ fn a_cell_has_what_its_update_leaves(rt: HostRuntime) {
 }
 
 /// Returns the cells of a log.
-fn cells_of<R: Abort + AllocGlobal>(rt: &R, log: &[u8]) -> LogCells {
-    LogCells::of(rt.alloc(), updates_of(rt, log), ALL).expect(rt, "memory")
+fn cells_of<R: Abort + AllocGlobal>(rt: &R, log: &[u8]) -> SortedUpdates {
+    SortedUpdates::of(rt.alloc(), updates_of(rt, log), ALL).expect(rt, "memory")
 }
 
 /// Checks how many keys each piece of a log has, cut evenly into `pieces` pieces and by a sample.
@@ -49,7 +49,7 @@ fn assert_sizes<R: Abort + AllocGlobal + Threads + Sync>(
 }
 
 /// Returns how many keys each piece has.
-fn sizes_of<R: Abort + AllocGlobal>(rt: &R, lists: &[LogCells], cuts: &Cuts) -> Vec<usize> {
+fn sizes_of<R: Abort + AllocGlobal>(rt: &R, lists: &[SortedUpdates], cuts: &Cuts) -> Vec<usize> {
     let mut sizes = Vec::new(rt.alloc());
     for piece in 0..cuts.pieces() {
         let pairs = replay_piece(rt.alloc(), lists, cuts, piece).expect(rt, "memory");

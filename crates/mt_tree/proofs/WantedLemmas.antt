@@ -4,7 +4,8 @@ use Rattle.std.specs.Prelude.{filter}
 use Rattle.std.specs.List.{AllByRecursion}
 use Rattle.mt_words.specs.declared.limits.TheConstants.{GREATEST_COLUMN}
 use Rattle.mt_words.specs.Limits.{widest}
-use Rattle.mt_words.specs.Words.{IsColumn, AreColumns, NumbersBelow, NumbersRise, CanFollow}
+use Rattle.mt_words.specs.Words.{IsColumn, AreColumns, NumbersRise}
+use Rattle.mt_words.specs.Columns.{NumbersBelow, CanFollow}
 use Rattle.mt_tree.specs.Range.{wants, wanted_of}
 
 all_at : {A : Type 0} (P : A → Type 0) (xs : List A) (i : ℕ) (d : A) → AllByRecursion P xs → i < length xs → P (get_or xs i d)

@@ -4,7 +4,8 @@ use Rattle.std.proofs.lemmas.List.{nil_from_length, map-append, length-map, get_
 use Rattle.std.specs.List.{AllByRecursion}
 use Rattle.mt_words.specs.declared.limits.Limits.{Limits}
 use Rattle.mt_words.specs.Limits.{widest}
-use Rattle.mt_words.specs.Words.{AreBelow, Rise, AreNumbers, IsColumn, numbers_in, NumbersBelow, NumbersRise, AreColumns, CanFollow}
+use Rattle.mt_words.specs.Words.{Rise, AreNumbers, IsColumn, numbers_in, NumbersRise, AreColumns}
+use Rattle.mt_words.specs.Columns.{AllBelow, NumbersBelow, CanFollow}
 
 -- if P holds of all elements and of one more, it holds of all after that one is appended
 pub all_push : {A : Type 0} (P : A → Type 0) (xs : List A) (x : A) → AllByRecursion P xs → P x → AllByRecursion P (xs ++ x ∷ [])
@@ -18,7 +19,7 @@ all_front P (x ∷ xs) ys all = (all.0, all_front P xs ys all.1)
 
 -- ---- numbers
 
-rise_push : (low : ℕ) (ns : List ℕ) (n : ℕ) → low ≤ n → Rise low ns → AreBelow ns n → Rise low (ns ++ n ∷ [])
+rise_push : (low : ℕ) (ns : List ℕ) (n : ℕ) → low ≤ n → Rise low ns → AllBelow ns n → Rise low (ns ++ n ∷ [])
 rise_push low [] n least rise below = (least, tt)
 rise_push low (m ∷ ms) n least rise below = (rise.0, rise_push (suc m) ms n (omega arith) rise.1 below.1)
 
@@ -27,7 +28,7 @@ rise_front low [] ys rise = tt
 rise_front low (x ∷ xs) ys rise = (rise.0, rise_front (suc x) xs ys rise.1)
 
 -- a number that comes after rising ones is above them all
-rise_above : (low : ℕ) (ns : List ℕ) (n : ℕ) → Rise low (ns ++ n ∷ []) → AreBelow ns n
+rise_above : (low : ℕ) (ns : List ℕ) (n : ℕ) → Rise low (ns ++ n ∷ []) → AllBelow ns n
 rise_above low [] n rise = tt
 rise_above low (m ∷ ms) n rise = (least (suc m) ms rise.1, rise_above (suc m) ms n rise.1)
   where
@@ -36,12 +37,12 @@ rise_above low (m ∷ ms) n rise = (least (suc m) ms rise.1, rise_above (suc m) 
     least low (k ∷ ks) rise = omega (arith, rise.0, least (suc k) ks rise.1)
 
 -- a list of numbers that rise from `low` on and are below n has at most n - low elements
-pub rise_room : (low : ℕ) (ns : List ℕ) (n : ℕ) → low ≤ n → Rise low ns → AreBelow ns n → low + length ns ≤ n
+pub rise_room : (low : ℕ) (ns : List ℕ) (n : ℕ) → low ≤ n → Rise low ns → AllBelow ns n → low + length ns ≤ n
 rise_room low [] n least rise below = omega arith
 rise_room low (m ∷ ms) n least rise below = omega (arith, rise_room (suc m) ms n (omega arith) rise.1 below.1)
 
 -- a number above the last of rising numbers is above them all
-pub above_last : (low : ℕ) (ns : List ℕ) (i n d : ℕ) → Rise low ns → i + 1 ≡ length ns → get_or ns i d < n → AreBelow ns n
+pub above_last : (low : ℕ) (ns : List ℕ) (i n d : ℕ) → Rise low ns → i + 1 ≡ length ns → get_or ns i d < n → AllBelow ns n
 above_last low [] i n d rise last lt = absurd (omega arith)
 above_last low (m ∷ ms) zero n d rise last lt = let none : ms ≡ [] = nil_from_length ms (omega arith) in rw none (lt, tt)
 above_last low (m ∷ []) (suc i) n d rise last lt = absurd (omega arith)
@@ -50,25 +51,25 @@ above_last low (m ∷ k ∷ ks) (suc i) n d rise last lt =
     let first : m < n = omega (arith, rest.0, rise.1.0) in
     (first, rest)
 
-pub below_at : (ns : List ℕ) (i n d : ℕ) → i < length ns → AreBelow ns n → get_or ns i d < n
+pub below_at : (ns : List ℕ) (i n d : ℕ) → i < length ns → AllBelow ns n → get_or ns i d < n
 below_at [] i n d lt below = absurd (omega arith)
 below_at (m ∷ ms) zero n d lt below = below.0
 below_at (m ∷ ms) (suc i) n d lt below = below_at ms i n d (omega arith) below.1
 
 -- numbers below `suc most` are at most `most`
-pub up_to : (most : ℕ) (ns : List ℕ) → AreBelow ns (suc most) → AllByRecursion (λ number. number ≤ most) ns
+pub up_to : (most : ℕ) (ns : List ℕ) → AllBelow ns (suc most) → AllByRecursion (λ number. number ≤ most) ns
 up_to most [] below = tt
 up_to most (n ∷ ns) below = (omega (arith, below.0), up_to most ns below.1)
 
-pub below_next : (most : ℕ) (ns : List ℕ) → AllByRecursion (λ number. number ≤ most) ns → AreBelow ns (suc most)
+pub below_next : (most : ℕ) (ns : List ℕ) → AllByRecursion (λ number. number ≤ most) ns → AllBelow ns (suc most)
 below_next most [] up = tt
 below_next most (n ∷ ns) up = (omega (arith, up.0), below_next most ns up.1)
 
 -- column numbers with one more at the end are column numbers exactly if that one is allowed and above the others
-pub numbers_push : (limits : Limits) (ns : List ℕ) (n : ℕ) → AreNumbers limits ns → n ≤ limits.column → AreBelow ns n → AreNumbers limits (ns ++ n ∷ [])
+pub numbers_push : (limits : Limits) (ns : List ℕ) (n : ℕ) → AreNumbers limits ns → n ≤ limits.column → AllBelow ns n → AreNumbers limits (ns ++ n ∷ [])
 numbers_push limits ns n are le below = (all_push (λ number. number ≤ limits.column) ns n are.0 le, rise_push 0 ns n (omega arith) are.1 below)
 
-pub last_number : (limits : Limits) (ns : List ℕ) (n : ℕ) → AreNumbers limits (ns ++ n ∷ []) → (n ≤ limits.column) × AreBelow ns n
+pub last_number : (limits : Limits) (ns : List ℕ) (n : ℕ) → AreNumbers limits (ns ++ n ∷ []) → (n ≤ limits.column) × AllBelow ns n
 last_number limits ns n are = (last ns are.0, rise_above 0 ns n are.1)
   where
     last : (ms : List ℕ) → AllByRecursion (λ number. number ≤ limits.column) (ms ++ n ∷ []) → n ≤ limits.column
@@ -85,11 +86,11 @@ numbers_room limits ns are = omega (arith, rise_room 0 ns (suc limits.column) (o
 
 -- ---- columns, by their numbers
 
-numbers_below : (columns : List (ℕ × List ℕ)) (n : ℕ) → NumbersBelow columns n → AreBelow (numbers_in columns) n
+numbers_below : (columns : List (ℕ × List ℕ)) (n : ℕ) → NumbersBelow columns n → AllBelow (numbers_in columns) n
 numbers_below [] n below = tt
 numbers_below (c ∷ cs) n below = (below.0, numbers_below cs n below.1)
 
-columns_of : (columns : List (ℕ × List ℕ)) (n : ℕ) → AreBelow (numbers_in columns) n → NumbersBelow columns n
+columns_of : (columns : List (ℕ × List ℕ)) (n : ℕ) → AllBelow (numbers_in columns) n → NumbersBelow columns n
 columns_of [] n below = tt
 columns_of (c ∷ cs) n below = (below.0, columns_of cs n below.1)
 

@@ -3,7 +3,8 @@ use Rattle.std.proofs.Common.{ℕ, suc, ◌≤◌, List, [], ◌∷◌, map}
 use Rattle.std.specs.List.{AllByRecursion}
 use Rattle.mt_words.specs.declared.limits.Limits.{Limits}
 use Rattle.mt_words.specs.Words.{IsColumn, AreColumns, AreNumbers, NumbersRise, Rise}
-use Rattle.mt_words.specs.Changes.{Write, set, erased, IsWrite, AreWrites}
+use Rattle.mt_words.specs.Changes.{Write, set, erased}
+use Rattle.mt_words.specs.Writes.{IsWrite, AreWrites}
 
 abbrev RiseOf : ℕ → List Write → Type 0
 RiseOf low writes = Rise low (map (λ write. write.0) writes)

@@ -5,30 +5,16 @@ use Rattle.mt_words.specs.declared.update.Kind.{Kind}
 use Rattle.mt_words.specs.declared.update.Kind.TheVariants.{Put, Remove, Whole, Erase}
 use Rattle.mt_words.specs.declared.code.Code.TheVariants as codes
 use Rattle.mt_words.specs.declared.limits.Limits.{Limits}
-use Rattle.std.specs.List.{AllByRecursion}
-use Rattle.mt_words.specs.declared.limits.TheConstants.{LONGEST_VALUE}
 use Rattle.mt_words.specs.Codes.{code_of, byte_of, Clears}
-use Rattle.mt_words.specs.Words.{IsKey, AreColumns, AreNumbers, Rise}
+use Rattle.mt_words.specs.Words.{IsKey, AreColumns, AreNumbers}
 
 -- a record, lawful or not: a timestamp and, unless it is a mark, a change
 pub record Logged : Type 0 where
   pub timestamp : ℕ
   pub change : Option Change
 
-abbrev pub mark_of : ℕ → Logged
-mark_of timestamp = record { timestamp = timestamp; change = None }
-
 abbrev pub changed : ℕ → Change → Logged
 changed timestamp change = record { timestamp = timestamp; change = Some change }
-
-abbrev pub put_of : ℕ → ℕ → List ℕ → List (ℕ × List ℕ) → Logged
-put_of timestamp version key columns = changed timestamp (record { version = version; key = key; kind = Put columns })
-
-abbrev pub remove_of : ℕ → ℕ → List ℕ → Logged
-remove_of timestamp version key = changed timestamp (record { version = version; key = key; kind = Remove })
-
-abbrev pub erase_of : ℕ → ℕ → List ℕ → List ℕ → Logged
-erase_of timestamp version key numbers = changed timestamp (record { version = version; key = key; kind = Erase numbers })
 
 -- whether the record is a mark: a record without a change
 abbrev pub is_mark : Logged → Bool
@@ -37,10 +23,6 @@ is_mark r = by r.change
     by : Option Change → Bool
     by None = true
     by (Some change) = false
-
--- the entry of a checkpoint, as a change
-abbrev pub entry_of : ℕ → List ℕ → List (ℕ × List ℕ) → Change
-entry_of version key columns = record { version = version; key = key; kind = Whole columns }
 
 -- The limits allow this kind. A put and a `Whole` need lawful columns, at least one. An erase needs a format that has erases, and lawful numbers, at
 -- least one. A remove is always allowed.
@@ -102,14 +84,6 @@ writes_of (Erase numbers) = map erased numbers
 
 abbrev pub Writes : Kind → ℕ → Option (List ℕ) → Type 0
 Writes kind number bytes = Contains (writes_of kind) (number, bytes)
-
--- a lawful write: a column number that the format allows and, if it sets bytes, at most LONGEST_VALUE of them
-abbrev pub IsWrite : Limits → Write → Type 0
-IsWrite limits write = (write.0 ≤ limits.column) × IfSome write.1 (λ bytes. length bytes ≤ LONGEST_VALUE)
-
--- lawful writes whose column numbers strictly rise, so that each column is written once
-abbrev pub AreWrites : Limits → List Write → Type 0
-AreWrites limits writes = AllByRecursion (IsWrite limits) writes × Rise 0 (map (λ write. write.0) writes)
 
 -- a change of this kind clears all columns of its key
 abbrev pub IsReset : Kind → Type 0

@@ -1,9 +1,13 @@
 pub mod Limits
 pub mod Words
+pub mod Columns
 pub mod Codes
 pub mod Changes
+pub mod Writes
+pub mod Built
 pub mod Stamps
 pub mod Updates
+pub mod OneLog
 pub mod Walks
 pub mod Slices
 pub mod Faults

@@ -23,17 +23,3 @@ update_of log nth r = update_by (origins.Log log nth) r.timestamp r.change
 abbrev pub updates_from : ℕ → ℕ → List Logged → List Update
 updates_from log nth [] = []
 updates_from log nth (r ∷ rs) = update_of log nth r ++ updates_from log (suc nth) rs
-
--- the records of a log, with the number of the log
-pub record Kept : Type 0 where
-  pub log : ℕ
-  pub records : List Logged
-
--- the updates that these records make
-abbrev pub kept_updates : Kept → List Update
-kept_updates kept = updates_from kept.log 0 kept.records
-
--- the update as a list, which is empty if there is none
-abbrev pub as_list : Option Update → List Update
-as_list None = []
-as_list (Some update) = update ∷ []

@@ -1,12 +1,10 @@
 -- Keys and columns: which bytes are a key, and which pairs of a number and bytes are a column.
-use Rattle.std.specs.Prelude.{ℕ, suc, ◌≤◌, ◌<◌, List, [], ◌∷◌, length, map, IsTrue}
+use Rattle.std.specs.Prelude.{ℕ, suc, ◌≤◌, List, [], ◌∷◌, length, map, IsTrue}
 use Rattle.std.specs.List.{AllByRecursion}
 use Rattle.std.specs.Ordering.{nat_cmp, is_lt}
 use Rattle.std.specs.Cmp.Lexicographic.{slice_cmp}
 use Rattle.mt_words.specs.declared.limits.TheConstants.{LONGEST_VALUE}
 use Rattle.mt_words.specs.declared.limits.Limits.{Limits}
-use Rattle.mt_words.specs.declared.storage.Kept.{Kept}
-use Rattle.mt_words.specs.declared.storage.Kept.TheVariants.{Empty, One, Many}
 
 -- a key: at most as many bytes as the limits allow
 abbrev pub IsKey : Limits → List ℕ → Type 0
@@ -25,10 +23,6 @@ AreRising (key ∷ keys) = AllByRecursion (IsBelow key) keys × AreRising keys
 abbrev pub IsColumn : Limits → ℕ × List ℕ → Type 0
 IsColumn limits column = (column.0 ≤ limits.column) × (length column.1 ≤ LONGEST_VALUE)
 
--- each number is below the limit
-abbrev pub AreBelow : List ℕ → ℕ → Type 0
-AreBelow numbers limit = AllByRecursion (λ number. number < limit) numbers
-
 -- the numbers strictly rise, and the first is at least `low`
 abbrev pub Rise : ℕ → List ℕ → Type 0
 Rise low [] = Unit {0}
@@ -41,10 +35,6 @@ AreNumbers limits numbers = AllByRecursion (λ number. number ≤ limits.column)
 abbrev pub numbers_in : List (ℕ × List ℕ) → List ℕ
 numbers_in columns = map (λ column. column.0) columns
 
--- the number of each column is below this one
-abbrev pub NumbersBelow : List (ℕ × List ℕ) → ℕ → Type 0
-NumbersBelow columns number = AllByRecursion (λ column. column.0 < number) columns
-
 -- the numbers of the columns strictly rise, and the first is at least `low`
 abbrev pub NumbersRise : ℕ → List (ℕ × List ℕ) → Type 0
 NumbersRise low columns = Rise low (numbers_in columns)
@@ -52,13 +42,3 @@ NumbersRise low columns = Rise low (numbers_in columns)
 -- the columns of one key: lawful columns in strictly rising order of their numbers
 abbrev pub AreColumns : Limits → List (ℕ × List ℕ) → Type 0
 AreColumns limits columns = AllByRecursion (IsColumn limits) columns × NumbersRise 0 columns
-
--- a lawful column that may be appended to these: its number is above theirs
-abbrev pub CanFollow : Limits → List (ℕ × List ℕ) → ℕ × List ℕ → Type 0
-CanFollow limits columns column = IsColumn limits column × NumbersBelow columns column.0
-
--- kept columns as contracts see them: a list
-abbrev pub columns_of : Kept → List (ℕ × List ℕ)
-columns_of Empty = []
-columns_of (One column) = column ∷ []
-columns_of (Many columns) = columns.items

@@ -3,7 +3,8 @@ ghost use Rattle.std.specs.Prelude.{◌≡◌, ◌≤◌, ◌<◌, ◌↔◌, []
 ghost use Rattle.mt_words.specs.declared.limits.TheConstants.{GREATEST_COLUMN};
 ghost use Rattle.mt_words.specs.declared.limits.Limits.{Limits};
 ghost use Rattle.mt_words.specs.Limits.{widest};
-ghost use Rattle.mt_words.specs.Words.{AreColumns, CanFollow, NumbersRise, NumbersBelow};
+ghost use Rattle.mt_words.specs.Words.{AreColumns, NumbersRise};
+ghost use Rattle.mt_words.specs.Columns.{CanFollow, NumbersBelow};
 
 use crate::fault::Memory;
 use crate::limits::{GREATEST_COLUMN, LONGEST_VALUE};

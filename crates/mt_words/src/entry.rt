@@ -2,7 +2,8 @@
 ghost use Rattle.std.specs.Prelude.{◌≡◌, ◌<◌, ◌↔◌, length, IsSome, IfSome, IsTrue};
 ghost use Rattle.mt_words.specs.declared.limits.Format.TheVariants.{One};
 ghost use Rattle.mt_words.specs.Limits.{limits_of, widest};
-ghost use Rattle.mt_words.specs.Changes.{IsEntry, entry_of};
+ghost use Rattle.mt_words.specs.Changes.{IsEntry};
+ghost use Rattle.mt_words.specs.Built.{entry_of};
 
 use crate::{Change, Columns, Format, Key, Kind};
 use std::marker::Model;

@@ -2,7 +2,8 @@
 ghost use Rattle.std.specs.Prelude.{◌≡◌, ◌≤◌, ◌<◌, ◌↔◌, length, IsSome, IfSome, IsTrue};
 ghost use Rattle.mt_words.specs.declared.limits.TheConstants.{GREATEST_COLUMN};
 ghost use Rattle.mt_words.specs.Limits.{widest};
-ghost use Rattle.mt_words.specs.Words.{AreBelow, Rise, AreNumbers};
+ghost use Rattle.mt_words.specs.Words.{Rise, AreNumbers};
+ghost use Rattle.mt_words.specs.Columns.{AllBelow};
 ghost use Rattle.mt_words.specs.declared.limits.Limits.{Limits};
 
 use crate::limits::{GREATEST_COLUMN, MOST_COLUMNS};
@@ -83,7 +84,7 @@ impl Numbers {
 /// Returns whether the number may be appended to these.
 fn may_follow(numbers: &[u8], number: u8) -> bool
     requires { Rise 0 numbers.now }
-    ensures { IsTrue result ↔ ((number ≤ GREATEST_COLUMN) × AreBelow numbers.now number) }
+    ensures { IsTrue result ↔ ((number ≤ GREATEST_COLUMN) × AllBelow numbers.now number) }
 {
     match numbers.last() {
         None => number <= GREATEST_COLUMN,

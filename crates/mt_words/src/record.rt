@@ -2,7 +2,8 @@
 ghost use Rattle.std.specs.Prelude.{◌≡◌, ◌<◌, ◌↔◌, length, Some, None, IsSome, IfSome, IsTrue, MatchOption};
 ghost use Rattle.mt_words.specs.declared.limits.Format.TheVariants.{One};
 ghost use Rattle.mt_words.specs.Limits.{limits_of, widest};
-ghost use Rattle.mt_words.specs.Changes.{AllowsKind, IsLogged, IsLawful, IsLawfulChange, IsLoggedChange, mark_of, put_of, remove_of, erase_of, changed};
+ghost use Rattle.mt_words.specs.Changes.{AllowsKind, IsLogged, IsLawful, IsLawfulChange, IsLoggedChange, changed};
+ghost use Rattle.mt_words.specs.Built.{mark_of, put_of, remove_of, erase_of};
 
 use crate::{Columns, Format, Key, Kind, Numbers};
 use std::marker::Model;

@@ -1,6 +1,6 @@
 //! The storage of columns.
 ghost use Rattle.std.specs.Prelude.{◌≡◌, ◌++◌, [], ◌∷◌, IfOk, OnOk, OnErr};
-ghost use Rattle.mt_words.specs.Words.{columns_of};
+ghost use Rattle.mt_words.specs.Columns.{columns_of};
 
 use crate::columns::Column;
 use crate::fault::Memory;
@@ -119,7 +119,7 @@ impl Kept {
 }
 
 impl Storage for Kept {
-    ghost use Rattle.mt_words.specs.Words.{columns_of};
+    ghost use Rattle.mt_words.specs.Columns.{columns_of};
 
     ghost held = { columns_of };
 

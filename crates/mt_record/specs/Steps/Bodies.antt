@@ -11,8 +11,8 @@ use Rattle.mt_words.specs.Limits.{widest}
 use Rattle.mt_words.specs.Words.{AreColumns}
 use Rattle.mt_words.specs.Changes.{Logged, IsLawful, IsLawfulChange, AllowsKind, IsEntry}
 use Rattle.mt_record.specs.declared.body.ChangeFields.{ChangeFields}
-use Rattle.mt_record.specs.Spelling.{counted, column_bytes, kind_byte, kind_bytes, change_bytes, body, framed, FitsColumn, FitsKind, FitsChange}
-use Rattle.mt_record.specs.Logs.{IsNext}
+use Rattle.mt_record.specs.Spelling.{with_length, column_bytes, kind_byte, kind_bytes, change_bytes, body, framed, FitsColumn, FitsKind, FitsChange}
+use Rattle.mt_record.specs.Fronts.{IsNext}
 use Rattle.mt_record.specs.LogFaults.{HasLengthFault, HasTrailerFault, HasVersionFault, HasKeyFault, HasColumnsFault}
 
 -- the bytes begin with a lawful record, with this timestamp and the body `found`, and `after` follows
@@ -122,7 +122,7 @@ pub record IsJudgedKind (limits : Limits) (byte : ℕ) (bytes : List ℕ) (allow
 
 -- the bytes are these fields, one after the other
 pub record SpellFields (bytes : List ℕ) (fields : ChangeFields) : Type 0 where
-  pub spelled : bytes ≡ big_bytes 8 fields.version ++ (counted fields.key.now ++ fields.carried.now)
+  pub spelled : bytes ≡ big_bytes 8 fields.version ++ (with_length fields.key.now ++ fields.carried.now)
   pub version_fits : fields.version < 2 ^ 64
   pub key_fits : length fields.key.now < 2 ^ 16
 
@@ -138,7 +138,7 @@ pub record AreFieldsIn (change : Change) (fields : ChangeFields) : Type 0 where
 
 -- the bytes are not the fields of any change, whatever bytes its kind carries
 abbrev pub HasNoFields : List ℕ → Type 0
-HasNoFields bytes = (version : ℕ) (key carried : List ℕ) → version < 2 ^ 64 → length key < 2 ^ 16 → bytes ≢ big_bytes 8 version ++ (counted key ++ carried)
+HasNoFields bytes = (version : ℕ) (key carried : List ℕ) → version < 2 ^ 64 → length key < 2 ^ 16 → bytes ≢ big_bytes 8 version ++ (with_length key ++ carried)
 
 -- ---- columns
 

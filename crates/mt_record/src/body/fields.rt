@@ -1,7 +1,7 @@
 //! Reads fields from the front of bytes. Each function also returns the bytes after the field. Nothing is copied.
 ghost use Rattle.std.specs.Prelude.{◌≡◌, ◌<◌, ◌^◌, ◌++◌, List, ℕ, length, IfSome, IfNone};
 ghost use Rattle.byteorder.specs.Endian.{big_bytes};
-ghost use Rattle.mt_record.specs.Spelling.{counted, column_bytes, FitsColumn};
+ghost use Rattle.mt_record.specs.Spelling.{with_length, column_bytes, FitsColumn};
 
 use byteorder::{BigEndian, ByteOrder};
 
@@ -35,9 +35,9 @@ pub fn u64_at(bytes: &[u8]) -> Option<(u64, &[u8])>
 /// Reads a length of two bytes, and that many bytes after it. Returns None if there are fewer.
 pub fn counted_at(bytes: &[u8]) -> Option<(&[u8], &[u8])>
     ensures found { IfSome result
-        (λ x. (length x.0.now < 2 ^ 16) × (bytes.now ≡ counted x.0.now ++ x.1.now)) }
+        (λ x. (length x.0.now < 2 ^ 16) × (bytes.now ≡ with_length x.0.now ++ x.1.now)) }
     ensures none { IfNone result
-        ((front more : List ℕ) → length front < 2 ^ 16 → bytes.now ≡ counted front ++ more → ⊥) }
+        ((front more : List ℕ) → length front < 2 ^ 16 → bytes.now ≡ with_length front ++ more → ⊥) }
 {
     let (length, rest) = u16_at(bytes)?;
     rest.split_at_checked(length as usize)

@@ -2,7 +2,8 @@
 ghost use Rattle.std.specs.Prelude.{◌≡◌, ◌↔◌, IsTrue};
 ghost use Rattle.mt_words.specs.Limits.{widest};
 ghost use Rattle.mt_words.specs.Words.{IsKey};
-ghost use Rattle.mt_words.specs.Changes.{IsReset, AreWrites, writes_of};
+ghost use Rattle.mt_words.specs.Changes.{IsReset, writes_of};
+ghost use Rattle.mt_words.specs.Writes.{AreWrites};
 ghost use Rattle.mt_record.specs.Decoding.{IsChangeBody, update_in};
 
 use crate::body::lent_writes::LentWrites;

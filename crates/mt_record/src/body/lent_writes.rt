@@ -2,7 +2,7 @@
 ghost use Rattle.std.specs.Prelude.{◌≡◌, [], ◌∷◌, List, ℕ, IfSome, IfNone};
 ghost use Rattle.std.specs.Option.{option_map};
 ghost use Rattle.mt_words.specs.Limits.{widest};
-ghost use Rattle.mt_words.specs.Changes.{IsWrite};
+ghost use Rattle.mt_words.specs.Writes.{IsWrite};
 ghost use Rattle.mt_record.specs.Decoding.{IsCarried, writes_carried};
 
 use crate::body::fields::column_at;

@@ -1,7 +1,7 @@
 //! Reads the fields of a validated body, without copying.
 ghost use Rattle.std.specs.Prelude.{◌≡◌, ◌↔◌, IsTrue};
 ghost use Rattle.mt_words.specs.Changes.{IsReset, writes_of};
-ghost use Rattle.mt_record.specs.Logs.{version_of};
+ghost use Rattle.mt_record.specs.LogTexts.{version_of};
 ghost use Rattle.mt_record.specs.Decoding.{decode, IsBody, IsChangeBody, is_mark_in, code_in, time_in, version_in, key_in, carried_in, kind_in};
 
 use crate::body::lent_writes::LentWrites;

@@ -6,7 +6,8 @@ ghost use Rattle.mt_words.specs.declared.limits.Format.TheVariants.{One, Two};
 ghost use Rattle.mt_words.specs.Limits.{limits_of};
 ghost use Rattle.mt_words.specs.Changes.{IsEntry};
 ghost use Rattle.mt_record.specs.Spelling.{change_bytes};
-ghost use Rattle.mt_record.specs.Parts.{part_head, part_head_bytes, part_bytes, entry_spelling, footer_bytes, IsEntryLength};
+ghost use Rattle.mt_record.specs.Parts.{part_head, part_head_bytes, part_bytes, entry_spelling, footer_bytes};
+ghost use Rattle.mt_record.specs.PartTexts.{IsEntryLength};
 
 use crate::encode::put::{put_bytes, put_magic};
 use crate::encode::{change_length, put_change};

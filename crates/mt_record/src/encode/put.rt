@@ -1,7 +1,7 @@
 //! Appends fields to bytes, in room that was reserved before. Each field is copied once.
 ghost use Rattle.std.specs.Prelude.{◌<◌, ◌^◌, length};
 ghost use Rattle.mt_words.specs.Limits.{magic};
-ghost use Rattle.mt_record.specs.Spelling.{counted, column_bytes, FitsColumn};
+ghost use Rattle.mt_record.specs.Spelling.{with_length, column_bytes, FitsColumn};
 ghost use Rattle.mt_record.specs.Steps.Adding.{HasRoom, Adds};
 
 use mt_words::{Column, Format};
@@ -28,8 +28,8 @@ pub fn put_magic(letters: &[u8], format: Format, out: &mut Vec<u8>)
 /// Appends the length of the bytes, then the bytes.
 pub fn put_counted(bytes: &[u8], out: &mut Vec<u8>)
     requires short { length bytes.now < 2 ^ 16 }
-    requires room { HasRoom (length (counted bytes.now)) out.old }
-    ensures { Adds (counted bytes.now) out.old out.new }
+    requires room { HasRoom (length (with_length bytes.now)) out.old }
+    ensures { Adds (with_length bytes.now) out.old out.new }
 {
     let length = bytes.len() as u16;
     put_bytes(&length.to_be_bytes(), out);

@@ -3,9 +3,9 @@ ghost use Rattle.std.specs.Prelude.{◌≡◌, ◌<◌, ◌^◌, ◌⊎◌, ◌+
 ghost use Rattle.mt_words.specs.declared.limits.TheConstants.{LONGEST_VALUE};
 ghost use Rattle.mt_words.specs.Limits.{limits_of};
 ghost use Rattle.mt_record.specs.Spelling.{longest_change as longest_change_of};
-ghost use Rattle.mt_record.specs.Logs.{IsTorn, IsCut};
+ghost use Rattle.mt_record.specs.Logs.{IsTorn, IsUnfinished};
 ghost use Rattle.mt_record.specs.LogFaults.{RestFault};
-ghost use Rattle.mt_record.specs.Parts.{IsEntryLength};
+ghost use Rattle.mt_record.specs.PartTexts.{IsEntryLength};
 ghost use Rattle.mt_record.specs.PartFeeding.{ShowsNoEntry};
 ghost use Rattle.mt_record.specs.Steps.Bodies.{IsNextBody, IsNextEntry, IsWithin, IsFrame, IsFrameFault};
 
@@ -52,7 +52,7 @@ pub fn next_record(
 /// Err: the bytes do not begin with an entry, however they go on.
 pub fn next_entry(format: Format, bytes: &[u8]) -> Result<Option<(&[u8], &[u8])>, What>
     ensures found { IfOk result (λ found. MatchOption found
-        ((bytes.now ≡ []) ⊎ IsCut (IsEntryLength (limits_of format)) bytes.now)
+        ((bytes.now ≡ []) ⊎ IsUnfinished (IsEntryLength (limits_of format)) bytes.now)
         (λ x. IsNextEntry (limits_of format) bytes.now x.0.now x.1.now)) }
     ensures fault { OnErr result (ShowsNoEntry (limits_of format) bytes.now) }
 {
@@ -88,7 +88,7 @@ fn longest_change(format: Format) -> usize
 fn next_frame(bytes: &[u8], shortest: usize, longest: usize) -> Result<Option<(&[u8], &[u8])>, What>
     requires { longest < 2 ^ 32 }
     ensures found { IfOk result (λ found. MatchOption found
-        ((bytes.now ≡ []) ⊎ IsCut (IsWithin shortest longest) bytes.now)
+        ((bytes.now ≡ []) ⊎ IsUnfinished (IsWithin shortest longest) bytes.now)
         (λ x. IsFrame (IsWithin shortest longest) bytes.now x.0.now x.1.now)) }
     ensures fault { IfErr result (IsFrameFault (IsWithin shortest longest) bytes.now) }
 {

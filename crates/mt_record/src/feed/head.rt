@@ -2,9 +2,9 @@
 #![tactic(auto, using(crate::proofs::Beginnings::log_cut))]
 
 ghost use Rattle.std.specs.Prelude.{◌≡◌, ◌≢◌, ◌<◌, ◌++◌, List, ℕ, None, length, codes, IfSome, IfNone, MatchBool};
-ghost use Rattle.mt_record.specs.Fronts.{FindsFront};
+ghost use Rattle.mt_record.specs.Fronts.{FindsFront, GoesWithLog};
 ghost use Rattle.mt_record.specs.declared.feed.head.Head.{Head as HeadValue};
-ghost use Rattle.mt_record.specs.Heads.{IsHead, head_bytes, HasNoHeader, GoesWithLog};
+ghost use Rattle.mt_record.specs.Heads.{IsHead, head_bytes, HasNoHeader};
 
 use crate::body::fields::{u32_at, u64_at};
 use crate::feed::magic::{NoMagic, format_at, goes_with_magic};

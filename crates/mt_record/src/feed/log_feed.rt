@@ -6,8 +6,8 @@ ghost use Rattle.mt_record.specs.declared.read.FeedFault.TheVariants as faults;
 ghost use Rattle.mt_words.specs.declared.fault.What.{What as WhatValue};
 ghost use Rattle.mt_record.specs.declared.front.Rest.TheVariants.{Faulty};
 ghost use Rattle.mt_record.specs.Cutting.{IsCountOf, HasCut};
-ghost use Rattle.mt_record.specs.Logs.{IsTextIn};
-ghost use Rattle.mt_record.specs.LogFaults.{IsAnswered};
+ghost use Rattle.mt_record.specs.LogTexts.{IsTextIn};
+ghost use Rattle.mt_record.specs.Answered.{IsAnswered};
 ghost use Rattle.mt_record.specs.LogFronts.{IsFrontOf};
 ghost use Rattle.mt_record.specs.LogFeeding.{IsLogFed, ShowsNoFault, IsShown};
 

@@ -2,8 +2,8 @@
 ghost use Rattle.std.specs.Prelude.{◌≡◌, ◌==◌, List, ℕ, None, Some, length, not, IfOk, IfErr};
 ghost use Rattle.mt_words.specs.Changes.{Logged};
 ghost use Rattle.mt_record.specs.declared.read.FeedFault.TheVariants as faults;
-ghost use Rattle.mt_record.specs.Logs.{IsTextIn};
-ghost use Rattle.mt_record.specs.LogFaults.{IsAnswered};
+ghost use Rattle.mt_record.specs.LogTexts.{IsTextIn};
+ghost use Rattle.mt_record.specs.Answered.{IsAnswered};
 ghost use Rattle.mt_record.specs.Feeding.{HoldsAll};
 ghost use Rattle.mt_record.specs.LogFeeding.{log_so_far, HoldsLog, IsLogLeft, IsLogFaulty, StepsLog};
 

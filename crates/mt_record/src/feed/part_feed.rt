@@ -1,8 +1,8 @@
 //! Reads a part that comes in chunks.
 ghost use Rattle.std.specs.Prelude.{◌≡◌, ◌++◌, [], List, ℕ, Some, None, IsSome, IfOk, IfErr, OnOk};
 ghost use Rattle.mt_record.specs.declared.part_text.PartFault.{PartFault as FaultValue};
-ghost use Rattle.mt_record.specs.Parts.{IsPartText};
-ghost use Rattle.mt_record.specs.PartFaults.{IsPartAnswered};
+ghost use Rattle.mt_record.specs.PartTexts.{IsPartText};
+ghost use Rattle.mt_record.specs.Answered.{IsPartAnswered};
 ghost use Rattle.mt_record.specs.PartFeeding.{IsPartFed, ShowsNoPartFault, IsPartShown};
 
 use crate::feed::Feed;

@@ -2,8 +2,8 @@
 ghost use Rattle.std.specs.Prelude.{◌≡◌, ◌≢◌, ◌++◌, List, ℕ, None, Some, IfOk, IfErr, length};
 ghost use Rattle.byteorder.specs.Endian.{big_bytes};
 ghost use Rattle.mt_record.specs.declared.part_text.PartFault.TheVariants.{Broken};
-ghost use Rattle.mt_record.specs.Parts.{IsPartText};
-ghost use Rattle.mt_record.specs.PartFaults.{IsPartAnswered};
+ghost use Rattle.mt_record.specs.PartTexts.{IsPartText};
+ghost use Rattle.mt_record.specs.Answered.{IsPartAnswered};
 ghost use Rattle.mt_record.specs.Feeding.{HoldsAll};
 ghost use Rattle.mt_record.specs.PartFeeding.{part_so_far, HoldsPart, IsPartLeft, IsPartFaulty, StepsPart};
 

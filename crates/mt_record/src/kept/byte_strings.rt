@@ -1,22 +1,22 @@
 //! A list of byte strings in one buffer.
 ghost use Rattle.std.specs.Prelude.{◌≡◌, ◌<◌, ◌≤◌, ◌++◌, [], ◌∷◌, List, ℕ, OnOk, OnErr, IfOk, length, slice_index_or};
-ghost use Rattle.mt_record.specs.Steps.Texts.{start_at};
+ghost use Rattle.mt_record.specs.Steps.ByteStrings.{start_at};
 
 use crate::encode::put::put_bytes;
 use mt_words::Memory;
 use std::alloc::Global;
 use std::marker::Model;
 
-/// A list of byte strings, the texts. They lie one after another in one buffer.
+/// A list of byte strings, here called texts. They lie one after another in one buffer.
 #[derive(Debug, Drop)]
-pub struct Texts {
+pub struct ByteStrings {
     bytes: Vec<u8>,
     ends: Vec<usize>,
 }
 
-impl Model for Texts {
+impl Model for ByteStrings {
     ghost use Rattle.std.specs.Prelude.{List, ℕ, length};
-    ghost use Rattle.mt_record.specs.Steps.Texts.{texts_from, AreEnds};
+    ghost use Rattle.mt_record.specs.Steps.ByteStrings.{texts_from, AreEnds};
 
     ghost Value = { List (List ℕ) };
 
@@ -25,32 +25,32 @@ impl Model for Texts {
     ghost invariant = { λ t. AreEnds 0 (length t.bytes.items) t.ends.items };
 }
 
-impl Texts {
+impl ByteStrings {
     /// Creates an empty list.
-    pub fn new(alloc: Global) -> Texts
+    pub fn new(alloc: Global) -> ByteStrings
         ensures { result ≡ [] }
     {
-        Texts {
+        ByteStrings {
             bytes: Vec::new(alloc),
             ends: Vec::new(alloc),
         }
     }
 
     /// Creates an empty list with room for `texts` texts of `bytes` bytes in all. Err: out of memory.
-    pub fn with_capacity(alloc: Global, texts: usize, bytes: usize) -> Result<Texts, Memory>
+    pub fn with_capacity(alloc: Global, texts: usize, bytes: usize) -> Result<ByteStrings, Memory>
         ensures { IfOk result (λ texts. texts ≡ []) }
     {
-        Ok(Texts {
+        Ok(ByteStrings {
             bytes: Vec::with_capacity(alloc, bytes)?,
             ends: Vec::with_capacity(alloc, texts)?,
         })
     }
 
     /// Returns an empty list with the same allocator.
-    pub(crate) fn none(&self) -> Texts
+    pub(crate) fn none(&self) -> ByteStrings
         ensures { result ≡ [] }
     {
-        Texts::new(*self.bytes.allocator())
+        ByteStrings::new(*self.bytes.allocator())
     }
 
     /// Removes all texts.

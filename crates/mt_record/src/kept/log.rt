@@ -8,7 +8,7 @@ ghost use Rattle.mt_record.specs.Logs.{count_of};
 
 use crate::body::spelled;
 use crate::kept::Records;
-use crate::kept::texts::Texts;
+use crate::kept::byte_strings::ByteStrings;
 use mt_words::Memory;
 use std::alloc::Global;
 use std::marker::Model;
@@ -17,7 +17,7 @@ use std::marker::Model;
 /// record.
 #[derive(Debug, Drop)]
 pub struct KeptRecords {
-    bodies: Texts,
+    bodies: ByteStrings,
     /// The number of marks among them, counted up to 2^64 - 1.
     marks: u64,
 }
@@ -41,7 +41,7 @@ impl KeptRecords {
         ensures { result ≡ [] }
     {
         KeptRecords {
-            bodies: Texts::new(alloc),
+            bodies: ByteStrings::new(alloc),
             marks: 0,
         }
     }

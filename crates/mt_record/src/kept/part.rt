@@ -7,7 +7,7 @@ ghost use Rattle.mt_words.specs.Updates.{update_at};
 use crate::body::lent::Lent;
 use crate::body::spelled;
 use crate::kept::Entries;
-use crate::kept::texts::Texts;
+use crate::kept::byte_strings::ByteStrings;
 use mt_words::{Code, Memory, Origin};
 use std::alloc::Global;
 use std::marker::Model;
@@ -19,7 +19,7 @@ const BEFORE_FIELDS: &[u8] = &[Code::Whole as u8, 0, 0, 0, 0, 0, 0, 0, 0];
 /// be read as updates.
 #[derive(Debug, Drop)]
 pub struct KeptEntries {
-    bodies: Texts,
+    bodies: ByteStrings,
 }
 
 impl Model for KeptEntries {
@@ -40,7 +40,7 @@ impl KeptEntries {
         ensures { result ≡ [] }
     {
         KeptEntries {
-            bodies: Texts::new(alloc),
+            bodies: ByteStrings::new(alloc),
         }
     }
 

@@ -2,7 +2,8 @@
 ghost use Rattle.std.specs.Prelude.{◌≡◌, ◌<◌, ◌++◌, IfOk, OnOk, length, slice_index_or};
 ghost use Rattle.mt_words.specs.declared.update.Origin.TheVariants as origins;
 ghost use Rattle.mt_words.specs.Changes.{Logged};
-ghost use Rattle.mt_words.specs.Updates.{update_by, update_of, kept_updates, as_list};
+ghost use Rattle.mt_words.specs.Updates.{update_by, update_of};
+ghost use Rattle.mt_words.specs.OneLog.{kept_updates, as_list};
 
 use crate::body::copy::copy_record;
 use crate::body::lent::Lent;
@@ -20,9 +21,9 @@ pub struct Updates {
 }
 
 impl Model for Updates {
-    ghost use Rattle.mt_words.specs.Updates.{Kept};
+    ghost use Rattle.mt_words.specs.OneLog.{OneLog};
 
-    ghost Value = { Kept };
+    ghost Value = { OneLog };
 
     ghost view = { λ u. record { log = u.log; records = u.records } };
 }

@@ -2,7 +2,7 @@
 use Rattle.std.specs.Prelude.{ℕ, suc, List, [], ◌∷◌, filter}
 use Rattle.std.specs.List.{flat_map}
 use Rattle.mt_words.specs.declared.update.Update.{Update}
-use Rattle.mt_words.specs.Updates.{kept_updates}
+use Rattle.mt_words.specs.OneLog.{kept_updates}
 use Rattle.mt_record.specs.Logs.{LogReading}
 use Rattle.mt_scan.specs.declared.log_scan.LogScan.{LogScan}
 use Rattle.mt_scan.specs.Dropping.{ShowsAllBelow}
@@ -25,5 +25,5 @@ abbrev pub kept : List LogScan → List Update
 kept scans = flat_map kept_by scans
 
 -- the kept updates that lie in the window
-abbrev pub kept_in : Window → List LogScan → List Update
-kept_in window scans = filter (in_window window) (kept scans)
+abbrev pub kept_in_window : Window → List LogScan → List Update
+kept_in_window window scans = filter (in_window window) (kept scans)

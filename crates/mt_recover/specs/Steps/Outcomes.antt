@@ -8,7 +8,8 @@ use Rattle.mt_scan.specs.declared.part_scan.PartScan.{PartScan}
 use Rattle.mt_scan.specs.Sources.{Seen}
 use Rattle.mt_scan.specs.Scans.{OfTold, IsScanFault, failures_of}
 use Rattle.mt_scan.specs.Dropping.{HasAllBelow, noted_for}
-use Rattle.mt_scan.specs.PartScans.{IsKnown, known_by, IsPartScanFault}
+use Rattle.mt_scan.specs.PartScans.{IsKnown}
+use Rattle.mt_scan.specs.PartsShown.{known_by, IsPartScanFault}
 pub use Rattle.mt_recover.specs.Check.{AllFrom, IsPartOutcome}
 use Rattle.mt_recover.specs.declared.scans.Outcomes.{Outcomes}
 

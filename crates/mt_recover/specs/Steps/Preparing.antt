@@ -9,7 +9,8 @@ use Rattle.mt_words.specs.declared.record.Change.{Change}
 use Rattle.mt_words.specs.declared.update.Update.{Update}
 use Rattle.mt_record.specs.Logs.{LogReading}
 use Rattle.mt_scan.specs.declared.log_scan.LogScan.{LogScan}
-use Rattle.mt_scan.specs.Choice.{checkpoint_in, AreSkipped, AreNameless}
+use Rattle.mt_scan.specs.Choice.{AreSkipped, AreNameless}
+use Rattle.mt_scan.specs.Choosing.{checkpoint_in}
 use Rattle.mt_scan.specs.declared.checkpoint.Checkpoint.{Checkpoint}
 use Rattle.mt_replay.specs.declared.window.Window.{Window}
 use Rattle.mt_replay.specs.Batches.{BatchView, batched}

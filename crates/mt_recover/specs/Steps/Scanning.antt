@@ -71,8 +71,8 @@ abbrev pub logs_in : List Scanned → List (Result LogScan Fault)
 logs_in = filter_map log_in
 
 -- the answers of the scans of parts
-abbrev pub parts_in : List Scanned → List (Result PartScan Fault)
-parts_in = filter_map part_in
+abbrev pub part_scans_in : List Scanned → List (Result PartScan Fault)
+part_scans_in = filter_map part_in
 
 -- ---- workers
 
@@ -99,5 +99,5 @@ passes_of all = map (λ scans. scans.pass) all
 -- the answers of all workers were gathered in the order of the jobs, and the board was closed
 pub record AreGathered (board : BoardId) (all : List Scans) (outcomes : Outcomes) : Type 0 where
   pub logs : (answers : List Scanned) → AreDealt answers (map answers_of all) → outcomes.logs.items ≡ logs_in answers
-  pub parts : (answers : List Scanned) → AreDealt answers (map answers_of all) → outcomes.parts.items ≡ parts_in answers
+  pub parts : (answers : List Scanned) → AreDealt answers (map answers_of all) → outcomes.parts.items ≡ part_scans_in answers
   pub saw : board.passes ≤ length all → SawNoneBelow (least_noted (passes_of all)) (passes_of all)

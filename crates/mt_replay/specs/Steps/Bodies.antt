@@ -21,11 +21,11 @@ origin_size (suc zero ∷ rest) = 7
 origin_size (suc (suc n) ∷ rest) = 17
 
 -- the update of a text
-abbrev pub told : List ℕ → Update
-told text = update_in (origin_in text) (drop (origin_size text) text)
+abbrev pub update_in_text : List ℕ → Update
+update_in_text text = update_in (origin_in text) (drop (origin_size text) text)
 
 -- the text has an origin and the body of a change
-pub record IsTold (text : List ℕ) : Type 0 where
+pub record IsUpdateText (text : List ℕ) : Type 0 where
   pub origin : origin_size text ≤ length text
   pub body : IsChangeBody (drop (origin_size text) text)
 

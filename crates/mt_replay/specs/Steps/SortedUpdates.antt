@@ -9,10 +9,11 @@ use Rattle.itertools.specs.KMerge.{kmerge_can, kmerge_steps}
 use Rattle.mt_words.specs.declared.update.Update.{Update}
 use Rattle.mt_words.specs.Slices.{AreBytes, slice_in}
 use Rattle.mt_replay.specs.declared.window.Window.{Window}
-use Rattle.mt_replay.specs.declared.log_cells.Held.{Held}
-use Rattle.mt_replay.specs.declared.log_cells.Held.TheVariants.{Sorted, Read}
+use Rattle.mt_replay.specs.declared.sorted_updates.Held.{Held}
+use Rattle.mt_replay.specs.declared.sorted_updates.Held.TheVariants.{Sorted, Read}
 use Rattle.mt_replay.specs.Cuts.{InKeyOrder}
-use Rattle.mt_replay.specs.Survivors.{wholes, survives}
+use Rattle.mt_replay.specs.Survivors.{wholes}
+use Rattle.mt_replay.specs.Batches.{survives}
 use Rattle.mt_replay.specs.Clashes.{is_logged_in}
 use Rattle.mt_replay.specs.Steps.Fronts.{key_cmp}
 

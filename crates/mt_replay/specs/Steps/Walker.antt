@@ -3,7 +3,8 @@ use Rattle.std.specs.Prelude.{◌≡◌, ℕ, ◌<◌, nat_lt, if◌then◌else�
 use Rattle.mt_words.specs.declared.update.Update.{Update}
 use Rattle.mt_words.specs.Words.{IsBelow}
 use Rattle.mt_words.specs.Walks.{Pair}
-use Rattle.mt_replay.specs.Walk.{IsWalk, AreApart}
+use Rattle.mt_replay.specs.Walk.{IsWalk}
+use Rattle.mt_replay.specs.Cells.{AreApart}
 use Rattle.mt_replay.specs.Groups.{Group, HasLawfulWrites, IsGroupOf, IsMapOf}
 
 -- the pairs, and then this one, unless it has no column

@@ -3,7 +3,7 @@ ghost use Rattle.std.specs.Prelude.{◌≡◌, ◌++◌, [], ◌∷◌, List, �
 ghost use Rattle.mt_words.specs.declared.update.Update.{Update as UpdateValue};
 ghost use Rattle.mt_words.specs.Limits.{widest};
 ghost use Rattle.mt_words.specs.Words.{AreColumns};
-ghost use Rattle.mt_replay.specs.Walk.{AreApart};
+ghost use Rattle.mt_replay.specs.Cells.{AreApart};
 ghost use Rattle.mt_replay.specs.Groups.{IsGroupOf, HasLawfulWrites, AreColumnsOf};
 
 use crate::group::Group;

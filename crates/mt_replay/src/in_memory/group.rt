@@ -4,7 +4,8 @@ ghost use Rattle.mt_words.specs.declared.limits.TheConstants.{MOST_COLUMNS};
 ghost use Rattle.mt_words.specs.declared.update.Update.{Update as UpdateValue};
 ghost use Rattle.mt_words.specs.Limits.{widest};
 ghost use Rattle.mt_words.specs.Words.{AreColumns, AreNumbers};
-ghost use Rattle.mt_words.specs.Changes.{set, erased, writes_of, AreWrites, IsReset};
+ghost use Rattle.mt_words.specs.Changes.{set, erased, writes_of, IsReset};
+ghost use Rattle.mt_words.specs.Writes.{AreWrites};
 ghost use Rattle.mt_replay.specs.Cells.{Written, IsNewestOf, IsCellOf, written};
 ghost use Rattle.mt_replay.specs.Groups.{IsGroupOf, HasLawfulWrites, AreFreeFrom};
 

@@ -4,8 +4,10 @@ use Rattle.std.specs.Borrow.{Bor}
 use Rattle.std.specs.List.{flat_map}
 use Rattle.mt_words.specs.declared.record.Change.{Change}
 use Rattle.mt_record.specs.Parts.{PartReading}
-use Rattle.mt_scan.specs.PartScans.{KeptPart, whole, shown_by_all}
-use Rattle.mt_scan.specs.Choice.{CheckpointReading, MakeUp, checkpoint_in}
+use Rattle.mt_scan.specs.PartScans.{whole}
+use Rattle.mt_scan.specs.PartsShown.{KeptPart, shown_by_all}
+use Rattle.mt_scan.specs.Choice.{CheckpointReading, MakeUp}
+use Rattle.mt_scan.specs.Choosing.{checkpoint_in}
 use Rattle.mt_scan.specs.declared.checkpoint.Checkpoint.{Checkpoint}
 
 -- the entries of these parts, one part after another
@@ -31,7 +33,7 @@ abbrev pub MakeUpNone : List PartReading → Type 0
 MakeUpNone texts = (checkpoint : CheckpointReading) → CanMakeUp texts checkpoint → ⊥
 
 -- the checkpoint has this number, and is made of these parts: it has the same ones, and they make it up in its order
-pub record IsMadeOf (number : ℕ) (texts : List PartReading) (made : Checkpoint) : Type 0 where
+pub record IsMadeOfParts (number : ℕ) (texts : List PartReading) (made : Checkpoint) : Type 0 where
   pub number_is : made.number ≡ number
   pub same : AreSameTexts texts (shown_by_all made.parts.items)
   pub make_up : MakeUp (shown_by_all made.parts.items) (checkpoint_in made)
@@ -42,7 +44,7 @@ none_or_one None = []
 none_or_one (Some key) = key.now ∷ []
 
 -- the last key of a list, if there is one, as a list
-abbrev pub last_of : List (List ℕ) → List (List ℕ)
-last_of [] = []
-last_of (key ∷ []) = key ∷ []
-last_of (key ∷ next ∷ keys) = last_of (next ∷ keys)
+abbrev pub last_key_of : List (List ℕ) → List (List ℕ)
+last_key_of [] = []
+last_key_of (key ∷ []) = key ∷ []
+last_key_of (key ∷ next ∷ keys) = last_key_of (next ∷ keys)

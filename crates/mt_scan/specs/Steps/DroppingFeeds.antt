@@ -19,7 +19,7 @@ GoesOn limit (Some kept) late = limit ≤ latest 0 (kept ++ late)
 
 -- These bytes were fed. Of their records, those in `late` were dropped: all of them are at or past `limit`. The feed counts the marks and the updates
 -- among them, up to the greatest u64. As long as it has no fault, `GoesOn` holds.
-pub record HasRead (feed : DroppingFeed) (limit : ℕ) (bytes : List ℕ) : Type 0 where
+pub record HasDropped (feed : DroppingFeed) (limit : ℕ) (bytes : List ℕ) : Type 0 where
   pub late : List Logged
   pub fed : IsLogFed feed.feed bytes (taken_of feed.kept ++ late)
   pub past : All (λ r. limit ≤ r.timestamp) late
@@ -34,7 +34,7 @@ KeepsRecords limit (Some kept) ready = (ready ≡ []) × All (λ r. r.timestamp 
 
 -- these bytes were fed, and exactly the records at or past `limit` were dropped, as long as the feed has no fault
 pub record IsFedBelow (feed : DroppingFeed) (limit : ℕ) (bytes : List ℕ) : Type 0 where
-  pub read : HasRead feed limit bytes
+  pub read : HasDropped feed limit bytes
   pub keeps : feed.feed.fault ≡ None → KeepsRecords limit feed.kept feed.feed.so_far.ready
 
 -- the feed has a fault, which more bytes do not change

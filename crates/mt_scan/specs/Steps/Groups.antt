@@ -2,9 +2,10 @@
 use Rattle.std.specs.Prelude.{◌≡◌, ℕ, ◌<◌, List, [], length, map, Option, Some, None, Contains}
 use Rattle.std.specs.Ordering.{nat_cmp}
 use Rattle.std.specs.BTreeMap.{BTreeMap, get}
-use Rattle.mt_scan.specs.PartScans.{KnownPart, whole, broken, shown_by_all}
+use Rattle.mt_scan.specs.PartScans.{KnownPart, whole, broken}
+use Rattle.mt_scan.specs.PartsShown.{shown_by_all}
 use Rattle.mt_scan.specs.Choice.{CheckpointReading, parts_of}
-use Rattle.mt_scan.specs.Steps.Checkpoints.{CanMakeUp, IsMadeOf}
+use Rattle.mt_scan.specs.Steps.Checkpoints.{CanMakeUp, IsMadeOfParts}
 use Rattle.mt_scan.specs.declared.group.PartGroup.{PartGroup}
 use Rattle.mt_scan.specs.declared.group.PartGroup.TheVariants as groups
 use Rattle.mt_scan.specs.declared.checkpoint.Checkpoint.{Checkpoint}
@@ -34,5 +35,5 @@ HasNone group = (checkpoint : CheckpointReading) → HasCheckpoint group checkpo
 
 -- the checkpoint with this number, made of the parts of the group
 abbrev pub IsCheckpointOf : ℕ → PartGroup → Checkpoint → Type 0
-IsCheckpointOf number (groups.Whole texts) made = IsMadeOf number (shown_by_all texts.items) made
+IsCheckpointOf number (groups.Whole texts) made = IsMadeOfParts number (shown_by_all texts.items) made
 IsCheckpointOf number groups.Broken made = ⊥

@@ -1,6 +1,6 @@
 -- The last timestamps of logs, from their scans.
 use Rattle.std.specs.Prelude.{ℕ, Option, Some, None, List, filter, map}
-use Rattle.mt_record.specs.Logs.{greatest}
+use Rattle.mt_record.specs.LogTexts.{greatest}
 use Rattle.mt_scan.specs.declared.log_scan.LogScan.{LogScan}
 use Rattle.mt_scan.specs.Cutoff.{is_segment_of}
 

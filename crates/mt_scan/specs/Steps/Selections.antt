@@ -3,7 +3,8 @@ use Rattle.std.specs.Prelude.{ℕ, ◌<◌, ◌≤◌, ◌↔◌, List, Option, 
 use Rattle.std.specs.Option.{option_map}
 use Rattle.std.specs.List.Sorted.{IsStrictlyIncreasing}
 use Rattle.mt_scan.specs.PartScans.{KnownPart}
-use Rattle.mt_scan.specs.Choice.{CheckpointReading, IsNoBetter, IsChosenOf, AreSkipped, checkpoint_in}
+use Rattle.mt_scan.specs.Choice.{CheckpointReading, IsNoBetter, IsChosenOf, AreSkipped}
+use Rattle.mt_scan.specs.Choosing.{checkpoint_in}
 use Rattle.mt_scan.specs.Steps.Groups.{HasCheckpoint, HasNone}
 use Rattle.mt_scan.specs.declared.checkpoint.Checkpoint.{Checkpoint}
 use Rattle.mt_scan.specs.declared.group.PartGroup.{PartGroup}

@@ -64,10 +64,10 @@ kids_fall (k ∷ l ∷ ks) h a =
 pub branches_length : (ks : List NodeView) → length (branches ks) ≡ length ks
 branches_length ks = length-map ks _
 
-abbrev deep_place : Place NodeView → ℕ
-deep_place = weighed-NodeKind-Border-0-at-7.weight NodeView (λ n. weight (node_walk n) + 1)
+abbrev deep_node_place : Place NodeView → ℕ
+deep_node_place = weighed-NodeKind-Border-0-at-7.weight NodeView (λ n. weight (node_walk n) + 1)
 
-deep_link : (s : ℕ) (c : Content NodeView) → deep_place (record { slice = s; content = c }) ≤ link_weight node_walk c
+deep_link : (s : ℕ) (c : Content NodeView) → deep_node_place (record { slice = s; content = c }) ≤ link_weight node_walk c
 deep_link s (Short l c) = omega arith
 deep_link s (Suffix t c) = omega arith
 deep_link s (Link n) = omega arith
@@ -76,5 +76,5 @@ pub kind_falls : (k : NodeKind) → IsNodeKind k → deep-NodeKind k ≤ weight 
 kind_falls (Border b) h =
     let alone : weight (walk (views node_walk b.items ++ [])) ≡ weight (walk (views node_walk b.items)) = ap (λ (z : List PlaceView). weight (walk z)) (append-nil (views node_walk b.items)) in
     let layer : IsRanked (views node_walk b.items) = subst IsRanked (append-nil (views node_walk b.items)) (ranked (places (node_view (Border b))) h.tree.layer) in
-    omega (arith, alone, places_fall node_walk deep_place (λ p. deep_link p.slice p.content) 0 b.items layer)
+    omega (arith, alone, places_fall node_walk deep_node_place (λ p. deep_link p.slice p.content) 0 b.items layer)
 kind_falls (Interior ss ks) h = let two : 2 ≤ length ks.items = omega (arith, h.1.tree.interiors.0.two, branches_length ks.items) in omega (arith, kids_fall ks.items two h.0)

@@ -1,6 +1,7 @@
 use Rattle.std.proofs.Common.{inl, inr}
 use Rattle.mt_words.specs.Limits.{widest}
-use Rattle.mt_words.specs.Changes.{AreWrites, writes_of}
+use Rattle.mt_words.specs.Changes.{writes_of}
+use Rattle.mt_words.specs.Writes.{AreWrites}
 use Rattle.mt_words.proofs.WriteLemmas.{set_writes, erase_writes}
 use Rattle.mt_record.proofs.encode.put_kind.Goals as goal
 

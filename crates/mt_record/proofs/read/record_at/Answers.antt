@@ -1,6 +1,6 @@
 use Rattle.std.proofs.Common.{◌∙◌, subst, sym}
 use Rattle.mt_words.specs.Limits.{limits_of}
-use Rattle.mt_record.specs.Logs.{IsNext}
+use Rattle.mt_record.specs.Fronts.{IsNext}
 use Rattle.mt_record.proofs.Decodes.{body_says}
 use Rattle.mt_record.proofs.LogFeeds.{logged_within}
 use Rattle.mt_record.proofs.OneFault.{fault_stops}

@@ -1,6 +1,6 @@
 use Rattle.std.proofs.Common.{◌∙◌, List, length, ap, rules}
 use Rattle.std.specs.List.{sum_by}
-use Rattle.mt_scan.specs.PartScans.{KeptPart}
+use Rattle.mt_scan.specs.PartsShown.{KeptPart}
 use Rattle.mt_recover.proofs.ReportLemmas.{entries_counted}
 use Rattle.mt_recover.proofs.report.entry_count.Goals as goal
 

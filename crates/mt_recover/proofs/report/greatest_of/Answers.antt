@@ -1,6 +1,6 @@
 use Rattle.std.proofs.Common.{◌∙◌, List, map, refl, ap, take_all, arith}
 use Rattle.std.proofs.lemmas.Fn.{says_at}
-use Rattle.mt_record.specs.Logs.{greatest}
+use Rattle.mt_record.specs.LogTexts.{greatest}
 use Rattle.mt_recover.proofs.VersionLemmas.{greatest_more}
 use Rattle.mt_recover.proofs.report.greatest_of.Goals as goal
 

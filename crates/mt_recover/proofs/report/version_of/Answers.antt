@@ -1,7 +1,7 @@
 use Rattle.std.proofs.Common.{◌≡◌, ◌∙◌, List, [], map, ap, rules, arith}
-use Rattle.mt_record.specs.Logs.{greatest}
+use Rattle.mt_record.specs.LogTexts.{greatest}
 use Rattle.mt_scan.specs.declared.log_scan.LogScan.{LogScan}
-use Rattle.mt_scan.specs.PartScans.{KeptPart, shown_by_all}
+use Rattle.mt_scan.specs.PartsShown.{KeptPart, shown_by_all}
 use Rattle.mt_scan.specs.Steps.Checkpoints.{entries_of}
 use Rattle.mt_replay.specs.Survivors.{wholes}
 use Rattle.mt_recover.specs.Report.{logged_updates}

@@ -2,8 +2,8 @@ use Rattle.std.proofs.Common.{◌≡◌, ◌<◌, ◌∙◌, List, [], length, g
 use Rattle.mt_words.specs.declared.record.Change.{Change}
 use Rattle.mt_words.specs.declared.update.Stamp.{Stamp}
 use Rattle.mt_words.specs.declared.update.Update.{Update}
-use Rattle.mt_words.specs.Changes.{entry_of}
-use Rattle.mt_record.specs.Logs.{greatest}
+use Rattle.mt_words.specs.Built.{entry_of}
+use Rattle.mt_record.specs.LogTexts.{greatest}
 use Rattle.mt_recover.specs.Steps.Preparing.{entry_versions}
 use Rattle.mt_recover.proofs.VersionLemmas.{greatest_more}
 use Rattle.mt_recover.proofs.report.version_of_entries.Goals as goal

@@ -1,5 +1,5 @@
 use Rattle.std.proofs.Common.{◌≡◌, take}
-use Rattle.mt_record.specs.Logs.{greatest}
+use Rattle.mt_record.specs.LogTexts.{greatest}
 use Rattle.mt_recover.specs.Steps.Preparing.{entry_versions}
 use Rattle.mt_recover.proofs.report.version_of_entries.Given as goal
 

@@ -1,6 +1,6 @@
 use Rattle.std.proofs.Common.{◌∙◌, rules}
-use Rattle.mt_record.specs.Logs.{greatest}
-use Rattle.mt_scan.specs.PartScans.{KeptPart}
+use Rattle.mt_record.specs.LogTexts.{greatest}
+use Rattle.mt_scan.specs.PartsShown.{KeptPart}
 use Rattle.mt_recover.specs.Steps.Preparing.{entry_versions}
 use Rattle.mt_recover.proofs.VersionLemmas.{of_parts}
 use Rattle.mt_recover.proofs.report.version_of_parts.Goals as goal

@@ -5,7 +5,7 @@ use Rattle.std.proofs.lemmas.List.{length-map}
 use Rattle.std.proofs.lemmas.List.Elements.{All-map}
 use Rattle.std.proofs.lemmas.Result.{IfOk-weaker}
 use Rattle.mt_board.specs.Board.{PassView, least_noted, SawNoneBelow}
-use Rattle.mt_recover.specs.Steps.Scanning.{logs_in, parts_in}
+use Rattle.mt_recover.specs.Steps.Scanning.{logs_in, part_scans_in}
 use Rattle.mt_recover.proofs.ScanLemmas.{in_two_steps}
 use Rattle.mt_recover.proofs.scans.gather_scans.Goals as goal
 
@@ -18,7 +18,7 @@ returns c =
     IfOk-weaker c.outcomes_of.result _ _
     (λ outcomes are. record {
       logs = λ answers dealt. are.0 ∙ ap logs_in (c.in_ok-gather.ensures answers (rw (sym same) dealt));
-      parts = λ answers dealt. are.1 ∙ ap parts_in (c.in_ok-gather.ensures answers (rw (sym same) dealt));
+      parts = λ answers dealt. are.1 ∙ ap part_scans_in (c.in_ok-gather.ensures answers (rw (sym same) dealt));
       saw = λ many. subst (λ (passes : List PassView). SawNoneBelow (least_noted passes) passes) c.in_ok-passes.ensures.passes
           (c.close.ensures.saw (omega (arith, many, ap length c.in_ok-passes.ensures.passes, length-map c.args.scans.items (λ scans. scans.pass))));
     })

@@ -4,7 +4,7 @@ use Rattle.mt_words.specs.declared.update.Origin.{Origin}
 use Rattle.mt_words.specs.declared.update.Update.{Update}
 use Rattle.mt_record.specs.Decoding.{update_in}
 use Rattle.mt_replay.specs.Cuts.{InKeyOrder}
-use Rattle.mt_replay.proofs.log_cells.gather.Goals as goal
+use Rattle.mt_replay.proofs.sorted_updates.gather.Goals as goal
 
 pub loop-sliced-preserved : goal.loop-sliced-preserved
 loop-sliced-preserved c =

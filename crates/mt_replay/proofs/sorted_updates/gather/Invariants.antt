@@ -1,5 +1,5 @@
 use Rattle.std.proofs.Common.{◌≡◌, take}
-use Rattle.mt_replay.proofs.log_cells.gather.Given as goal
+use Rattle.mt_replay.proofs.sorted_updates.gather.Given as goal
 
 -- the first updates are gathered
 abbrev pub invariant-loop-sliced : goal.invariant-loop-sliced

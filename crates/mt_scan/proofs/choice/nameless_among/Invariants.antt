@@ -1,5 +1,5 @@
 use Rattle.std.proofs.Common.{map, take}
-use Rattle.mt_scan.specs.PartScans.{known_by}
+use Rattle.mt_scan.specs.PartsShown.{known_by}
 use Rattle.mt_scan.specs.Choice.{AreNameless}
 use Rattle.mt_scan.proofs.choice.nameless_among.Given as goal
 

@@ -1,7 +1,7 @@
 use Rattle.std.proofs.Common.{sym, refl, subst}
 use Rattle.std.specs.Option.{IsSome}
 use Rattle.std.proofs.lemmas.Result.{on_ok_weaker}
-use Rattle.mt_scan.specs.PartScans.{shown_by}
+use Rattle.mt_scan.specs.PartsShown.{shown_by}
 use Rattle.mt_scan.proofs.GroupLemmas.{whole_more}
 use Rattle.mt_scan.proofs.group.add_whole.Goals as goal
 

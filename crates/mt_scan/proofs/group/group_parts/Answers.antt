@@ -1,6 +1,7 @@
 use Rattle.std.proofs.Common.{List, map, sym, subst}
 use Rattle.std.proofs.lemmas.List.{map_push}
-use Rattle.mt_scan.specs.PartScans.{KnownPart, known_by}
+use Rattle.mt_scan.specs.PartScans.{KnownPart}
+use Rattle.mt_scan.specs.PartsShown.{known_by}
 use Rattle.mt_scan.specs.Steps.Groups.{AreGroupsOf}
 use Rattle.mt_scan.proofs.group.group_parts.Goals as goal
 

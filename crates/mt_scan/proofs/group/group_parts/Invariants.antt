@@ -1,5 +1,5 @@
 use Rattle.std.proofs.Common.{map}
-use Rattle.mt_scan.specs.PartScans.{known_by}
+use Rattle.mt_scan.specs.PartsShown.{known_by}
 use Rattle.mt_scan.specs.Steps.Groups.{AreGroupsOf}
 use Rattle.mt_scan.proofs.group.group_parts.Given as goal
 

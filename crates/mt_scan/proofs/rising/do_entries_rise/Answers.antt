@@ -2,7 +2,7 @@ use Rattle.std.proofs.Common.{List, refl, subst, arith}
 use Rattle.std.proofs.lemmas.List.{take_all}
 use Rattle.std.proofs.lemmas.Bool.{false≢true}
 use Rattle.mt_words.specs.Words.{AreRising}
-use Rattle.mt_scan.specs.PartScans.{KeptPart}
+use Rattle.mt_scan.specs.PartsShown.{KeptPart}
 use Rattle.mt_scan.specs.Steps.Checkpoints.{none_or_one}
 use Rattle.mt_scan.proofs.RisingLemmas.{keys_in, text_more, text_stops}
 use Rattle.mt_scan.proofs.rising.do_entries_rise.Goals as goal

@@ -1,5 +1,5 @@
 use Rattle.std.proofs.Common.{ℕ, length, take}
-use Rattle.mt_scan.specs.PartScans.{shown_by_all}
+use Rattle.mt_scan.specs.PartsShown.{shown_by_all}
 use Rattle.mt_scan.specs.Choice.{AreInPlace}
 use Rattle.mt_scan.specs.Steps.Checkpoints.{reading_of}
 use Rattle.mt_scan.proofs.validity.are_in_place.Given as goal

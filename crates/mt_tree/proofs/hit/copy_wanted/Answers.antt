@@ -1,6 +1,7 @@
 use Rattle.std.proofs.Common.{◌∙◌, ℕ, List, sym, ap, subst}
 use Rattle.mt_words.specs.Limits.{widest}
-use Rattle.mt_words.specs.Words.{AreColumns, CanFollow}
+use Rattle.mt_words.specs.Words.{AreColumns}
+use Rattle.mt_words.specs.Columns.{CanFollow}
 use Rattle.mt_tree.proofs.WantedLemmas.{next_follows}
 use Rattle.mt_tree.proofs.hit.copy_wanted.Goals as goal
 

@@ -2,7 +2,8 @@ use Rattle.std.proofs.Common.{refl, ap, arith}
 use Rattle.std.proofs.lemmas.Grind.{common_steps}
 use Rattle.mt_words.specs.declared.limits.Limits.{Limits}
 use Rattle.mt_words.specs.Limits.{limits_of}
-use Rattle.mt_words.specs.Changes.{mark_of, changed}
+use Rattle.mt_words.specs.Changes.{changed}
+use Rattle.mt_words.specs.Built.{mark_of}
 use Rattle.mt_record.specs.Steps.Bodies.{IsBodyOf}
 use Rattle.mt_record.proofs.Checked.{mark_byte}
 use Rattle.mt_record.proofs.body.check.check_record.Goals as goal

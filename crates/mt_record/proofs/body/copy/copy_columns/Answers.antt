@@ -1,6 +1,6 @@
 use Rattle.std.proofs.Common.{◌++◌, ◌∷◌, [], List, ℕ, sym, ap, ◌∙◌, subst}
 use Rattle.mt_words.specs.Limits.{widest}
-use Rattle.mt_words.specs.Words.{CanFollow}
+use Rattle.mt_words.specs.Columns.{CanFollow}
 use Rattle.mt_record.specs.Decoding.{columns_counted}
 use Rattle.mt_record.proofs.Copying.{take_next, all_taken}
 use Rattle.mt_record.proofs.body.copy.copy_columns.Goals as goal

@@ -4,7 +4,7 @@ use Rattle.std.proofs.lemmas.Iterator.Consumers.{YieldsList-end}
 use Rattle.std.proofs.lemmas.Iterator.Adapters.{YieldsList-from_vec}
 use Rattle.mt_words.specs.declared.update.Update.{Update}
 use Rattle.mt_words.specs.Walks.{joined}
-use Rattle.mt_replay.specs.Walk.{AreApart}
+use Rattle.mt_replay.specs.Cells.{AreApart}
 use Rattle.mt_recover.specs.Prepared.{IsPreparedOf}
 use Rattle.mt_recover.specs.Steps.Preparing.{HasRoomFor, cells_of, early_of}
 use Rattle.mt_recover.proofs.Preparing.{are_apart, have_room, is_prepared}

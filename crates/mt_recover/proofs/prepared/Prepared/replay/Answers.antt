@@ -3,7 +3,7 @@ use Rattle.std.proofs.lemmas.Result.{IfOk-weaker}
 use Rattle.mt_words.specs.declared.update.Update.{Update}
 use Rattle.mt_words.specs.Walks.{joined}
 use Rattle.mt_replay.specs.Pieces.{IsPiece}
-use Rattle.mt_replay.specs.Walk.{AreApart}
+use Rattle.mt_replay.specs.Cells.{AreApart}
 use Rattle.mt_tree.specs.Borders.{layer_walk}
 use Rattle.mt_recover.specs.Prepared.{PreparedView}
 use Rattle.mt_recover.proofs.prepared.Prepared.replay.Goals as goal

@@ -1,7 +1,8 @@
 use Rattle.std.proofs.Common.{◌≡◌, ◌∙◌, Option, ◌∷◌, length, map, unwrap_or, sym, ap, subst, rules}
 use Rattle.std.specs.List.{count_by, flat_map, sum_by}
 use Rattle.std.specs.Option.{option_map}
-use Rattle.mt_record.specs.Logs.{IsGreatestOf, times_of, greatest}
+use Rattle.mt_record.specs.Logs.{IsGreatestOf, times_of}
+use Rattle.mt_record.specs.LogTexts.{greatest}
 use Rattle.mt_scan.specs.declared.checkpoint.Checkpoint.{Checkpoint}
 use Rattle.mt_scan.specs.declared.log_scan.LogScan.{LogScan}
 use Rattle.mt_scan.specs.Choice.{CheckpointReading}

@@ -1,7 +1,7 @@
 use Rattle.std.proofs.Common.{◌≡◌, ◌+◌, ◌∙◌, ℕ, List, length, sym, ap, arith}
 use Rattle.std.specs.List.{filter}
 use Rattle.mt_words.specs.declared.update.Update.{Update}
-use Rattle.mt_words.specs.Updates.{as_list}
+use Rattle.mt_words.specs.OneLog.{as_list}
 use Rattle.mt_replay.specs.Batches.{updates_between}
 use Rattle.mt_replay.specs.Survivors.{is_early}
 use Rattle.mt_replay.proofs.BatchLemmas.{none_between, between_step, early_both, early_one, one_if}

@@ -1,7 +1,7 @@
 use Rattle.std.proofs.Common.{◌≡◌, ◌++◌, ℕ, List, append-nil, sym, ap, ◌∙◌, arith}
 use Rattle.std.specs.List.{filter}
 use Rattle.mt_words.specs.declared.update.Update.{Update}
-use Rattle.mt_words.specs.Updates.{as_list}
+use Rattle.mt_words.specs.OneLog.{as_list}
 use Rattle.mt_replay.specs.Batches.{updates_between}
 use Rattle.mt_replay.specs.Survivors.{in_window}
 use Rattle.mt_replay.proofs.BatchLemmas.{none_between, survivors_step}

@@ -1,7 +1,7 @@
 use Rattle.std.proofs.Common.{[], List, ℕ, get_or, sym, ap, subst, ◌∙◌}
 use Rattle.std.proofs.lemmas.List.{get_or-map}
 use Rattle.mt_words.specs.declared.update.Update.{Update}
-use Rattle.mt_replay.specs.Steps.Bodies.{IsTold, told}
+use Rattle.mt_replay.specs.Steps.Bodies.{IsUpdateText, update_in_text}
 use Rattle.mt_replay.proofs.BodyLemmas.{place_within}
 use Rattle.mt_replay.proofs.bodies.Bodies.get.Goals as goal
 
@@ -9,13 +9,13 @@ pub lent_in-requires : goal.lent_in-requires
 lent_in-requires c =
     let texts : List (List ℕ) = c.self.inside.texts in
     let below = place_within texts c.args.self.now c.args.at c.self.view_is c.requires in
-    subst IsTold (sym (c.get.ensures [])) (c.self.invariant c.args.at [] below)
+    subst IsUpdateText (sym (c.get.ensures [])) (c.self.invariant c.args.at [] below)
 
 pub returns : goal.returns
 returns c = λ d.
     let texts : List (List ℕ) = c.self.inside.texts in
     let below = place_within texts c.args.self.now c.args.at c.self.view_is c.requires in
     c.lent_in.ensures
-    ∙ ap told (c.get.ensures [])
-    ∙ sym (get_or-map told texts c.args.at [] d below)
+    ∙ ap update_in_text (c.get.ensures [])
+    ∙ sym (get_or-map update_in_text texts c.args.at [] d below)
     ∙ ap (λ (us : List Update). get_or us c.args.at d) c.self.view_is

@@ -8,7 +8,7 @@ use Rattle.mt_words.specs.declared.update.Update.{Update}
 use Rattle.mt_words.specs.Updates.{update_at}
 use Rattle.mt_replay.specs.Steps.SortedUpdates.{held_in}
 use Rattle.mt_replay.specs.Survivors.{wholes}
-use Rattle.mt_replay.proofs.log_cells.LogCells.get.Goals as goal
+use Rattle.mt_replay.proofs.sorted_updates.SortedUpdates.get.Goals as goal
 
 pub returns-in-Read : goal.returns-in-Read
 returns-in-Read c = λ d.

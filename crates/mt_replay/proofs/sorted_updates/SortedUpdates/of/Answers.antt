@@ -1,8 +1,8 @@
 use Rattle.std.proofs.Common.{List, subst}
 use Rattle.std.specs.Prelude.{IsPermutation, IfOk, filter}
 use Rattle.mt_words.specs.declared.update.Update.{Update}
-use Rattle.mt_replay.specs.Survivors.{survives}
-use Rattle.mt_replay.proofs.log_cells.LogCells.of.Goals as goal
+use Rattle.mt_replay.specs.Batches.{survives}
+use Rattle.mt_replay.proofs.sorted_updates.SortedUpdates.of.Goals as goal
 
 pub returns : goal.returns
 returns c = subst (λ (us : List Update). IfOk c.of_spelled.result (IsPermutation (filter (survives c.args.window) us))) c.deref.ensures.value c.of_spelled.ensures

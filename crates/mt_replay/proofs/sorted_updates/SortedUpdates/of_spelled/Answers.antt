@@ -2,7 +2,7 @@ use Rattle.std.proofs.Common.{List, subst, ◌∙◌}
 use Rattle.std.specs.Prelude.{IsPermutation}
 use Rattle.mt_words.specs.declared.update.Update.{Update}
 use Rattle.mt_replay.proofs.ExactLemmas.{ok_then}
-use Rattle.mt_replay.proofs.log_cells.LogCells.of_spelled.Goals as goal
+use Rattle.mt_replay.proofs.sorted_updates.SortedUpdates.of_spelled.Goals as goal
 
 pub returns : goal.returns
 returns c =

@@ -2,7 +2,7 @@ use Rattle.std.proofs.Common.{◌≡◌, ◌-◌, ◌<◌, ◌≤◌, ℕ, true,
 use Rattle.std.specs.Prelude.{slice_index_or}
 use Rattle.mt_words.specs.declared.update.Update.{Update}
 use Rattle.mt_replay.specs.Cuts.{is_below}
-use Rattle.mt_replay.proofs.log_cells.LogCells.place_of.Given as goal
+use Rattle.mt_replay.proofs.sorted_updates.SortedUpdates.place_of.Given as goal
 
 -- the place lies between `low` and `high`
 abbrev pub invariant-loop-low : goal.invariant-loop-low

@@ -5,7 +5,7 @@ use Rattle.std.proofs.lemmas.List.Sorted.{IsNonDecreasingBy-from_sort_by_key}
 use Rattle.mt_words.specs.declared.record.Change.{Change}
 use Rattle.mt_words.specs.Words.{AreRising}
 use Rattle.mt_scan.specs.Choice.{entry_keys}
-use Rattle.mt_scan.specs.PartScans.{KeptPart}
+use Rattle.mt_scan.specs.PartsShown.{KeptPart}
 use Rattle.mt_scan.proofs.CheckpointLemmas.{entries_shown, made, none_made, none_of_none}
 use Rattle.mt_scan.proofs.checkpoint.Checkpoint.of.Goals as goal
 

@@ -1,5 +1,6 @@
 use Rattle.std.proofs.Common.{List, ◌∷◌, [], ◌++◌, sym, subst}
-use Rattle.mt_scan.specs.PartScans.{KnownPart, whole, shown_by}
+use Rattle.mt_scan.specs.PartScans.{KnownPart, whole}
+use Rattle.mt_scan.specs.PartsShown.{shown_by}
 use Rattle.mt_scan.specs.Steps.Groups.{IsPartGroupOf}
 use Rattle.mt_scan.specs.declared.group.PartGroup.{PartGroup}
 use Rattle.mt_scan.proofs.GroupLemmas.{stays_broken}

@@ -1,5 +1,5 @@
 use Rattle.std.proofs.Common.{◌≡◌, All, vec_len}
-use Rattle.mt_scan.specs.Sources.{HoldsBufferOf}
+use Rattle.mt_scan.specs.Advancing.{HoldsBufferOf}
 use Rattle.mt_scan.proofs.slot.Rack.new.Given as goal
 
 -- there is one full slot for each turn so far

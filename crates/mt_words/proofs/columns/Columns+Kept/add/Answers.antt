@@ -1,8 +1,8 @@
 use Rattle.std.proofs.Common.{◌≡◌, ◌++◌, [], ◌∷◌, ℕ, List, OnOk, OnErr, sym, subst}
 use Rattle.std.specs.Prelude.{Ok, Err}
 use Rattle.mt_words.specs.Limits.{widest}
-use Rattle.mt_words.specs.Words.{AreColumns, CanFollow}
-use Rattle.mt_words.specs.Words.{columns_of}
+use Rattle.mt_words.specs.Words.{AreColumns}
+use Rattle.mt_words.specs.Columns.{CanFollow, columns_of}
 use Rattle.mt_words.proofs.Rising.{columns_push}
 use Rattle.mt_words.proofs.columns.Columns+Kept.add.Goals as goal
 

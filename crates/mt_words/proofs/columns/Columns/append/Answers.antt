@@ -1,6 +1,6 @@
 use Rattle.std.proofs.Common.{ℕ, List, sym, subst, arith}
 use Rattle.mt_words.specs.Limits.{widest}
-use Rattle.mt_words.specs.Words.{CanFollow}
+use Rattle.mt_words.specs.Columns.{CanFollow}
 use Rattle.mt_words.proofs.Rising.{columns_push, columns_room}
 use Rattle.mt_words.proofs.columns.Columns.append.Goals as goal
 

@@ -3,7 +3,8 @@ use Rattle.std.proofs.Math.Seq.{take-suc}
 use Rattle.std.proofs.lemmas.List.{take-append-drop, length-append}
 use Rattle.std.proofs.lemmas.Bool.{false≢true}
 use Rattle.mt_words.specs.Limits.{widest}
-use Rattle.mt_words.specs.Words.{AreBelow, AreNumbers}
+use Rattle.mt_words.specs.Words.{AreNumbers}
+use Rattle.mt_words.specs.Columns.{AllBelow}
 use Rattle.mt_words.proofs.Rising.{numbers_front, numbers_push, numbers_room, last_number}
 use Rattle.mt_words.proofs.numbers.Numbers.new.Goals as goal
 
@@ -36,7 +37,7 @@ loop-number-preserved c =
     let i = c.loop-number.number-index in
     let follows = c.if-not-may_follow.ensures.0 refl in
     let next : suc i ≡ i + 1 = omega arith in
-    let more = numbers_push widest c.loop-number.rising.items (get_or numbers i 0) c.loop-number.invariant.lawful follows.0 (subst (λ (x : List ℕ). AreBelow x (get_or numbers i 0)) c.as_slice.ensures.value follows.1) in
+    let more = numbers_push widest c.loop-number.rising.items (get_or numbers i 0) c.loop-number.invariant.lawful follows.0 (subst (λ (x : List ℕ). AllBelow x (get_or numbers i 0)) c.as_slice.ensures.value follows.1) in
     record {
       taken = c.push.ensures.items ∙ ap (λ (x : List ℕ). x ++ get_or numbers i 0 ∷ []) c.loop-number.invariant.taken ∙ sym (take-suc numbers i 0 c.loop-number-test.true) ∙ ap (λ n. take n numbers) next;
       lawful = subst (AreNumbers widest) (sym c.push.ensures.items) more;

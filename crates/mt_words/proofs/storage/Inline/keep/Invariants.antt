@@ -1,5 +1,5 @@
 use Rattle.std.proofs.Common.{◌≡◌, ◌++◌}
-use Rattle.mt_words.specs.Words.{columns_of}
+use Rattle.mt_words.specs.Columns.{columns_of}
 use Rattle.mt_words.proofs.storage.Inline.keep.Given as goal
 
 -- the columns so far are moved, and the others are left

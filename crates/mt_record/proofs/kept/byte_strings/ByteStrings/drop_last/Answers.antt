@@ -1,6 +1,6 @@
 use Rattle.std.proofs.Common.{rules, ◌∙◌, sym}
 use Rattle.mt_record.proofs.TextLemmas.{text_gone}
-use Rattle.mt_record.proofs.kept.texts.Texts.drop_last.Goals as goal
+use Rattle.mt_record.proofs.kept.byte_strings.ByteStrings.drop_last.Goals as goal
 
 pub invariant_of-self : goal.invariant_of-self
 invariant_of-self c =

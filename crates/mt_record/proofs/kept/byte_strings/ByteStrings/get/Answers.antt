@@ -1,7 +1,7 @@
 use Rattle.std.proofs.Common.{◌≡◌, ◌<◌, ◌≤◌, List, ℕ, length, ◌-◌, take, drop, get_or, sym, ap, subst, ◌∙◌, arith}
-use Rattle.mt_record.specs.Steps.Texts.{start_at, texts_from}
+use Rattle.mt_record.specs.Steps.ByteStrings.{start_at, texts_from}
 use Rattle.mt_record.proofs.TextLemmas.{texts_count, text_part}
-use Rattle.mt_record.proofs.kept.texts.Texts.get.Goals as goal
+use Rattle.mt_record.proofs.kept.byte_strings.ByteStrings.get.Goals as goal
 
 -- the number of a text is below the number of ends
 below_ends : (bytes ends : List ℕ) (texts : List (List ℕ)) (at : ℕ) → texts_from 0 bytes ends ≡ texts → at < length texts → at < length ends

@@ -1,6 +1,6 @@
 use Rattle.std.proofs.Common.{arith}
 use Rattle.mt_record.proofs.TextLemmas.{texts_count}
-use Rattle.mt_record.proofs.kept.texts.Texts.len.Goals as goal
+use Rattle.mt_record.proofs.kept.byte_strings.ByteStrings.len.Goals as goal
 
 pub returns : goal.returns
 returns c =

@@ -1,6 +1,6 @@
 use Rattle.std.proofs.Common.{◌∙◌}
 use Rattle.mt_record.proofs.TextLemmas.{text_added}
-use Rattle.mt_record.proofs.kept.texts.Texts.push.Goals as goal
+use Rattle.mt_record.proofs.kept.byte_strings.ByteStrings.push.Goals as goal
 
 pub returns-clause-ok : goal.returns-clause-ok
 returns-clause-ok c =

@@ -1,7 +1,7 @@
 use Rattle.std.proofs.Common.{◌++◌, ◌∙◌}
 use Rattle.mt_record.proofs.Encoding.{adds_both}
 use Rattle.mt_record.proofs.TextLemmas.{text_added}
-use Rattle.mt_record.proofs.kept.texts.Texts.push_joined.Goals as goal
+use Rattle.mt_record.proofs.kept.byte_strings.ByteStrings.push_joined.Goals as goal
 
 pub returns-clause-ok : goal.returns-clause-ok
 returns-clause-ok c =

@@ -1,6 +1,7 @@
 use Rattle.std.proofs.Common.{◌≡◌, ◌∙◌, ◌<◌, ◌-◌, ℕ, length, ap, sym, arith}
 use Rattle.std.proofs.lemmas.List.{length-map}
-use Rattle.mt_words.specs.Changes.{Logged, mark_of}
+use Rattle.mt_words.specs.Changes.{Logged}
+use Rattle.mt_words.specs.Built.{mark_of}
 use Rattle.mt_record.specs.Decoding.{decode}
 use Rattle.mt_record.proofs.Cuts.{late_is}
 use Rattle.mt_record.proofs.kept.log.KeptRecords.ends_late.Goals as goal

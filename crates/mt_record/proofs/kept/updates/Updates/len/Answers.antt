@@ -1,5 +1,5 @@
 use Rattle.std.proofs.Common.{length, ap, arith}
-use Rattle.mt_words.specs.Updates.{Kept, kept_updates}
+use Rattle.mt_words.specs.OneLog.{OneLog, kept_updates}
 use Rattle.mt_record.proofs.RecordLemmas.{marks_and_updates}
 use Rattle.mt_record.proofs.kept.updates.Updates.len.Goals as goal
 
@@ -15,5 +15,5 @@ returns c =
       c.len.type_inv,
       c.marks.ensures,
       marks_and_updates c.self.inside.log 0 c.self.inside.records,
-      ap (λ (k : Kept). length (kept_updates k)) c.self.view_is,
+      ap (λ (k : OneLog). length (kept_updates k)) c.self.view_is,
     )

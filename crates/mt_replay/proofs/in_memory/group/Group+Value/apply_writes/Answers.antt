@@ -2,7 +2,8 @@ use Rattle.std.proofs.Common.{◌≡◌, ◌⊎◌, ◌++◌, inl, inr, ℕ, Lis
 use Rattle.mt_words.specs.declared.update.Kind.{Kind}
 use Rattle.mt_words.specs.declared.update.Kind.TheVariants.{Put, Whole}
 use Rattle.mt_words.specs.Limits.{widest}
-use Rattle.mt_words.specs.Changes.{Write, set, erased, writes_of, AreWrites}
+use Rattle.mt_words.specs.Changes.{Write, set, erased, writes_of}
+use Rattle.mt_words.specs.Writes.{AreWrites}
 use Rattle.mt_words.proofs.WriteLemmas.{set_writes, erase_writes}
 use Rattle.mt_replay.specs.Cells.{IsCellOf, written}
 use Rattle.mt_replay.proofs.in_memory.group.Group+Value.apply_writes.Goals as goal
