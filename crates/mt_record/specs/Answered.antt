@@ -6,7 +6,7 @@ use Rattle.mt_record.specs.declared.read.FeedFault.{FeedFault}
 use Rattle.mt_record.specs.declared.read.FeedFault.TheVariants as faults
 use Rattle.mt_record.specs.LogFaults.{IsLogFault, OrMemory}
 use Rattle.mt_record.specs.declared.part_text.PartFault.{PartFault}
-use Rattle.mt_record.specs.declared.part_text.PartFault.TheVariants as faults
+use Rattle.mt_record.specs.declared.part_text.PartFault.TheVariants as of_part
 use Rattle.mt_record.specs.PartFaults.{IsPartFault}
 
 -- the fault of this log as a fault of recovery
@@ -21,4 +21,4 @@ IsAnswered bytes = OrMemory faults.Memory (IsLogFault bytes)
 
 -- a returned fault is the fault of the bytes, unless it is `Memory`
 abbrev pub IsPartAnswered : List ℕ → PartFault → Type 0
-IsPartAnswered bytes = OrMemory faults.Memory (IsPartFault bytes)
+IsPartAnswered bytes = OrMemory of_part.Memory (IsPartFault bytes)
