@@ -8,7 +8,7 @@ use Rattle.mt_record.specs.Parts.{PartReading}
 use Rattle.mt_record.specs.PartTexts.{shown_in}
 use Rattle.mt_scan.specs.declared.part_scan.PartScan.{PartScan}
 use Rattle.mt_scan.specs.declared.part_scan.PartScan.TheVariants as scans
-use Rattle.mt_scan.specs.PartScans.{KnownPart}
+use Rattle.mt_scan.specs.PartScans.{KnownPart, whole, broken, nameless}
 
 -- a part that was read, with the entries that were kept
 abbrev pub KeptPart : Type 0
