@@ -10,8 +10,9 @@ use Rattle.mt_words.specs.declared.limits.Format.{Format}
 use Rattle.mt_words.specs.declared.limits.Format.TheVariants.{One, Two}
 use Rattle.mt_words.specs.Limits.{limits_of, widest_format, magic}
 use Rattle.mt_record.specs.declared.feed.head.Head.{Head}
+use Rattle.mt_record.specs.declared.feed.head.Segment.{Segment}
 use Rattle.mt_record.specs.Fronts.{GoTogether, GoesWithMagic, ShowsNone, IsUnfinishedFront, GoesWithLog}
-use Rattle.mt_record.specs.Heads.{NoneBegins, IsHead, log_magic, writer_bytes, head_bytes}
+use Rattle.mt_record.specs.Heads.{NoneBegins, IsHead, log_magic, segment_bytes, head_bytes}
 use Rattle.mt_record.specs.Encoding.{head_of, segment_head}
 use Rattle.mt_record.proofs.Feeds.{apart}
 use Rattle.mt_record.proofs.Numbers.{AreBytes, bytes_front, bytes_back, bytes_padded, four, eight, number_front}
@@ -127,7 +128,7 @@ log_whole : (format : Format) (xs : List ℕ) → length xs ≡ 8 → AreBytes x
 log_whole format xs long small =
     let from : ℕ = big_from 0 8 xs in
     let spelled : big_bytes 8 from ++ [] ≡ xs = append-nil (big_bytes 8 from) ∙ eight xs long small in
-    (head_of format from, record { from = big_from-lt 0 8 xs small; writer = tt }, ap (λ (x : List ℕ). magic (codes "MTL") format ++ x) spelled)
+    (head_of format from, record { from = big_from-lt 0 8 xs small; segment = tt }, ap (λ (x : List ℕ). magic (codes "MTL") format ++ x) spelled)
 
 -- sixteen bytes after the magic of segments are a `from`, a worker and a segment
 segment_whole : (xs : List ℕ) → length xs ≡ 16 → AreBytes xs → (head : Head) × IsHead head × (head_bytes head ≡ codes "MTL3" ++ xs)
@@ -140,17 +141,17 @@ segment_whole xs long small =
     let whole : xs ≡ big_bytes 8 (big_from 0 8 xs) ++ (big_bytes 4 (big_from 0 4 behind) ++ big_bytes 4 (big_from 0 4 last)) =
     from.1 ∙ λ i. big_bytes 8 (big_from 0 8 xs) ++ (worker.1 ∙ λ j. big_bytes 4 (big_from 0 4 behind) ++ sym segment j) i in (
       segment_head (big_from 0 8 xs) (big_from 0 4 behind) (big_from 0 4 last),
-      record { from = from.0; writer = (refl, worker.0, big_from-lt 0 4 last worker.2) },
+      record { from = from.0; segment = (refl, worker.0, big_from-lt 0 4 last worker.2) },
       λ i. codes "MTL3" ++ sym whole i,
     )
 
 -- bytes that do not go with the magic of a log show that there is no header
 pub log_none : (bytes : List ℕ) → (GoesWithLog bytes → ⊥) → ShowsNone IsHead head_bytes bytes
-log_none bytes not_so = shows_none IsHead head_bytes (λ (head : Head). log_magic head.format head.writer) (λ head. (big_bytes 8 head.from ++ writer_bytes head.writer, refl)) bytes (λ head. by head.format head.writer)
+log_none bytes not_so = shows_none IsHead head_bytes (λ (head : Head). log_magic head.format head.segment) (λ head. (big_bytes 8 head.from ++ segment_bytes head.segment, refl)) bytes (λ head. by head.format head.segment)
   where
-    by : (format : Format) (writer : Option (ℕ × ℕ)) → GoTogether (log_magic format writer) bytes → ⊥
+    by : (format : Format) (segment : Option Segment) → GoTogether (log_magic format segment) bytes → ⊥
     by format None goes = not_so (inl (format, goes))
-    by format (Some writer) goes = not_so (inr goes)
+    by format (Some segment) goes = not_so (inr goes)
 
 -- bytes that go with it but do not begin with a header are a proper prefix of one
 pub log_cut : (bytes : List ℕ) → GoesWithLog bytes → AreBytes bytes → NoneBegins IsHead head_bytes bytes → IsUnfinishedFront IsHead head_bytes bytes
@@ -176,25 +177,25 @@ no_digit Two e = omega (arith, e)
 
 -- a header has bytes
 pub head_long : (head : Head) → 0 < length (head_bytes head)
-head_long head = by head.writer
+head_long head = by head.segment
   where
-    by : (writer : Option (ℕ × ℕ)) → 0 < length (log_magic head.format writer ++ (big_bytes 8 head.from ++ writer_bytes writer))
+    by : (segment : Option Segment) → 0 < length (log_magic head.format segment ++ (big_bytes 8 head.from ++ segment_bytes segment))
     by None = omega arith
-    by (Some writer) = omega arith
+    by (Some segment) = omega arith
 
 pub head_short : (head : Head) → length (head_bytes head) < 21
-head_short head = by head.writer
+head_short head = by head.segment
   where
-    by : (writer : Option (ℕ × ℕ)) → length (log_magic head.format writer ++ (big_bytes 8 head.from ++ writer_bytes writer)) < 21
+    by : (segment : Option Segment) → length (log_magic head.format segment ++ (big_bytes 8 head.from ++ segment_bytes segment)) < 21
     by None = omega arith
-    by (Some writer) = omega arith
+    by (Some segment) = omega arith
 
 -- headers of which one is a prefix of the other have the same length
 pub same_long : (head other : Head) (more : List ℕ) → head_bytes head ≡ head_bytes other ++ more → length (head_bytes head) ≡ length (head_bytes other)
-same_long head other more e = by head.format other.format head.writer other.writer (ap (λ (x : List ℕ). slice_index x 3) e)
+same_long head other more e = by head.format other.format head.segment other.segment (ap (λ (x : List ℕ). slice_index x 3) e)
   where
-    by : (f g : Format) (v w : Option (ℕ × ℕ)) → slice_index (log_magic f v ++ (big_bytes 8 head.from ++ writer_bytes v)) 3 ≡ slice_index ((log_magic g w ++ (big_bytes 8 other.from ++ writer_bytes w)) ++ more) 3
-        → length (log_magic f v ++ (big_bytes 8 head.from ++ writer_bytes v)) ≡ length (log_magic g w ++ (big_bytes 8 other.from ++ writer_bytes w))
+    by : (f g : Format) (v w : Option Segment) → slice_index (log_magic f v ++ (big_bytes 8 head.from ++ segment_bytes v)) 3 ≡ slice_index ((log_magic g w ++ (big_bytes 8 other.from ++ segment_bytes w)) ++ more) 3
+        → length (log_magic f v ++ (big_bytes 8 head.from ++ segment_bytes v)) ≡ length (log_magic g w ++ (big_bytes 8 other.from ++ segment_bytes w))
     by f g None None digit = refl
     by f g None (Some w) digit = absurd (no_digit f digit)
     by f g (Some v) None digit = absurd (no_digit g (sym digit))

@@ -1,9 +1,10 @@
 -- The items of a log, one after the other, and what its feed was fed.
 use Rattle.std.proofs.lemmas.Option.{same_Some}
-use Rattle.std.proofs.Common.{◌≡◌, ◌⊎◌, inl, inr, ℕ, ◌+◌, ◌-◌, ◌^◌, ◌<◌, ◌≤◌, min, max, Option, Some, None, List, [], ◌∷◌, ◌++◌, length, take, drop, refl, sym, ap, ◌∙◌, subst, append_assoc, arith}
+use Rattle.std.proofs.Common.{◌≡◌, ◌≢◌, ◌↔◌, ◌⊎◌, inl, inr, ℕ, ◌+◌, ◌-◌, ◌^◌, ◌<◌, ◌≤◌, min, max, Option, Some, None, List, [], ◌∷◌, ◌++◌, length, take, drop, refl, sym, ap, ◌∙◌, subst, append_assoc, arith}
 use Rattle.std.proofs.lemmas.List.{length-append, append-nil, flat_map_more, take-append-drop, take-take, drop-take}
 use Rattle.std.proofs.Math.Seq.{take-append_seam}
-use Rattle.std.specs.Prelude.{◌==◌, Bool, not, IfSome}
+use Rattle.std.specs.Prelude.{Bool, true, false, IsTrue, IfSome}
+use Rattle.std.proofs.lemmas.Bool.{false≢true}
 use Rattle.std.specs.List.{flat_map}
 use Rattle.mt_words.specs.declared.fault.What.{What}
 use Rattle.mt_words.specs.declared.fault.What.TheVariants.{Length, Trailer}
@@ -18,20 +19,20 @@ use Rattle.mt_record.specs.declared.read.FeedFault.TheVariants as faults
 use Rattle.mt_record.specs.declared.feed.log_items.LogItems.{LogItems}
 use Rattle.mt_record.specs.declared.feed.head.Head.{Head}
 use Rattle.mt_record.specs.Spelling.{framed, spelling, IsRecordLength}
-use Rattle.mt_record.specs.Fronts.{bytes_of, ShowsNone, IsUnfinishedFront}
+use Rattle.mt_record.specs.Fronts.{ShowsNone, IsUnfinishedFront}
 use Rattle.mt_record.specs.Heads.{IsHead, head_bytes, HasNoHeader}
 use Rattle.mt_record.specs.Encoding.{head_of}
-use Rattle.mt_record.specs.Logs.{AreRecords, latest, IsTorn, IsLog, LogReading, count_of, log_bytes}
-use Rattle.mt_record.specs.LogTexts.{version_of, IsLast, IsTextIn}
+use Rattle.mt_record.specs.Logs.{AreRecords, latest, IsTorn, IsLog, LogReading, IsReading, count_of, log_bytes}
+use Rattle.mt_record.specs.LogTexts.{version_of, versions_of, greatest, IsLast, front_of, tail_rest, front_in, IsTextIn}
 use Rattle.mt_record.specs.declared.front.LogFront.{LogFront}
 use Rattle.mt_record.specs.LogFaults.{RestFault, IsLogFault}
 use Rattle.mt_record.specs.declared.front.Rest.{Rest}
-use Rattle.mt_record.specs.declared.front.Rest.TheVariants.{Torn, Faulty}
+use Rattle.mt_record.specs.declared.front.Rest.TheVariants.{Nothing, Torn, Faulty}
 use Rattle.mt_record.specs.LogFronts.{IsRest, IsFrontOf}
 use Rattle.mt_record.specs.Steps.Bodies.{IsNextBody, IsBodyOf}
 use Rattle.mt_record.specs.Feeding.{HasRead, Reads, HoldsAll, HasShown}
-use Rattle.mt_record.specs.LogFeeding.{LogSoFar, log_so_far, ShowsFault, IsShown, ShowsNoFault, HoldsLog, IsLogLeft, IsLogFaulty}
-use Rattle.mt_record.proofs.Records.{records_push, latest_push, greatest_push, last_is, tells_torn}
+use Rattle.mt_record.specs.LogFeeding.{LogSoFar, log_so_far, ShowsFault, IsShown, ShowsNoFault, IsReadTo, HoldsLog, IsLogLeft, IsLogFaulty}
+use Rattle.mt_record.proofs.Records.{records_push, latest_push, greatest_push, last_is, torn_some}
 use Rattle.mt_record.specs.Decoding.{decode}
 use Rattle.mt_record.proofs.Decodes.{body_says}
 use Rattle.mt_record.proofs.OneReading.{not_both}
@@ -42,42 +43,49 @@ use Rattle.mt_record.proofs.Feeds.{behind_on, shows_none_on, front_read}
 -- ---- what was read
 
 -- if no header was read, nothing was: the rest is the input
-unread : (taken : List Logged) (s : LogSoFar) (text rest : List ℕ) → s.head ≡ None → HasRead (HoldsLog taken s) text rest → rest ≡ text
+unread : (taken : List Logged) (s : LogSoFar) (text rest : List ℕ) → s.front ≡ None → HasRead (HoldsLog taken s) text rest → rest ≡ text
 unread taken s text rest none reads =
-    let empty : taken ++ s.ready ≡ [] = rw none at reads.read.lawful in
-    sym (reads.joins ∙ ap (λ (x : List ℕ). x ++ rest) (rw (none, empty) at reads.read.spelled))
+    let read : (reads.front ≡ []) × (taken ++ s.ready ≡ []) = rw none at reads.read in
+    sym (reads.joins ∙ ap (λ (x : List ℕ). x ++ rest) read.0)
 
 -- if a header was read, the input is the header, the encodings of lawful records, and the rest
-begun : (taken : List Logged) (s : LogSoFar) (head : Head) (text rest : List ℕ) → s.head ≡ Some head → HasRead (HoldsLog taken s) text rest
-    → (text ≡ head_bytes head ++ (flat_map spelling (taken ++ s.ready) ++ rest)) × IsHead head × AreRecords (limits_of head.format) 0 (taken ++ s.ready)
-begun taken s head text rest some reads =
-    let lawful : IsHead head × AreRecords (limits_of head.format) 0 (taken ++ s.ready) = rw some at reads.read.lawful in
-    (reads.joins ∙ behind_on (head_bytes head) reads.front (flat_map spelling (taken ++ s.ready)) rest (rw some at reads.read.spelled), lawful.0, lawful.1)
+pub record IsBegun (taken : List Logged) (s : LogSoFar) (front : LogFront) (text rest : List ℕ) : Type 0 where
+  pub spelled : text ≡ head_bytes front.head ++ (flat_map spelling (taken ++ s.ready) ++ rest)
+  pub is_head : IsHead front.head
+  pub lawful : AreRecords (limits_of front.head.format) 0 (taken ++ s.ready)
+  pub numbers : front ≡ front_of front.head (taken ++ s.ready) Nothing
+
+begun : (taken : List Logged) (s : LogSoFar) (front : LogFront) (text rest : List ℕ) → s.front ≡ Some front → HasRead (HoldsLog taken s) text rest → IsBegun taken s front text rest
+begun taken s front text rest some reads =
+    let read : IsReadTo front (taken ++ s.ready) reads.front = rw some at reads.read in
+    record {
+      spelled = reads.joins ∙ behind_on (head_bytes front.head) reads.front (flat_map spelling (taken ++ s.ready)) rest read.spelled;
+      is_head = read.is_head;
+      lawful = read.lawful;
+      numbers = read.numbers;
+    }
 
 -- if a header was read and the rest is empty or torn, the input is a log
-is_log : (taken : List Logged) (s : LogSoFar) (head : Head) (text left : List ℕ) → s.head ≡ Some head → HasRead (HoldsLog taken s) text left → (left ≡ []) ⊎ IsTorn (limits_of head.format) left
-    → IsLog text head (taken ++ s.ready) left
-is_log taken s head text left some reads ends = let is = begun taken s head text left some reads in record { spelled = is.0; is_head = is.1; lawful = is.2; ends = ends }
+is_log : (taken : List Logged) (s : LogSoFar) (front : LogFront) (text left : List ℕ) → IsBegun taken s front text left → (left ≡ []) ⊎ IsTorn (limits_of front.head.format) left
+    → IsLog text front.head (taken ++ s.ready) left
+is_log taken s front text left is ends = record { spelled = is.spelled; is_head = is.is_head; lawful = is.lawful; ends = ends }
 
 -- ---- items
 
+-- the front of a header of so many bytes, before nothing
+abbrev pub begins_at : Head → ℕ → LogFront
+begins_at head size = record { head = head; count = 0; latest = 0; version = 0; bytes = size; rest = Nothing }
+
 -- the header is read if nothing was read before
-pub header_read : {R : Type 0} (listed : R → List Logged) (old : LogItems R) (head : Head) (bytes after : List ℕ) → old.head ≡ None → IsHead head → bytes ≡ head_bytes head ++ after
-    → Reads (λ taken items. HoldsLog taken (log_so_far listed items)) old (record old { head = Some head; end = length bytes - length after }) bytes after × (length after < length bytes)
+pub header_read : {R : Type 0} (listed : R → List Logged) (old : LogItems R) (head : Head) (bytes after : List ℕ) → old.front ≡ None → IsHead head → bytes ≡ head_bytes head ++ after
+    → Reads (λ taken items. HoldsLog taken (log_so_far listed items)) old (record old { front = Some (begins_at head (length bytes - length after)) }) bytes after × (length after < length bytes)
 header_read listed old head bytes after none is e =
     let sizes = length-append (head_bytes head) after in
     let total : length bytes ≡ length (head_bytes head ++ after) = ap length e in
-    front_read (λ taken items. HoldsLog taken (log_so_far listed items)) old (record old { head = Some head; end = length bytes - length after }) (head_bytes head) bytes after e (head_long head) (λ taken front h.
-    let empty : taken ++ listed old.ready ≡ [] = rw none at h.lawful in
-    let before : front ≡ [] = rw (none, empty) at h.spelled in
-    record {
-      spelled = rw (before, empty) (sym (append-nil (head_bytes head)));
-      lawful = (is, rw empty tt);
-      latest = h.latest;
-      version = h.version;
-      whole = h.whole;
-      end = rw before (omega (arith, sizes, total, head_short head));
-    })
+    let size : length bytes - length after ≡ count_of (log_bytes head []) = omega (arith, sizes, total, head_short head, length-append (head_bytes head) []) in
+    front_read (λ taken items. HoldsLog taken (log_so_far listed items)) old (record old { front = Some (begins_at head (length bytes - length after)) }) (head_bytes head) bytes after e (head_long head) (λ taken front h.
+    let read : (front ≡ []) × (taken ++ listed old.ready ≡ []) = rw none at h in
+    rw (read.0, read.1) (record { spelled = sym (append-nil (head_bytes head)); is_head = is; lawful = tt; numbers = λ i. begins_at head (size i) }))
 
 -- if a format allows a change, so does the widest format
 pub logged_within : (format : Format) (o : Option Change) → IfSome o (IsLoggedChange (limits_of format)) → IfSome o (IsLoggedChange widest)
@@ -85,113 +93,134 @@ logged_within format None logged = tt
 logged_within format (Some change) logged = (change_within format change logged.0, logged.1)
 
 -- a record is read after those before it
-pub record_read : {R : Type 0} (listed : R → List Logged) (old : LogItems R) (ready : R) (head : Head) (bytes body after : List ℕ) (time version whole end : ℕ) → old.head ≡ Some head
-    → IsNextBody (limits_of head.format) old.latest bytes time body after
-    → ((r : Logged) → IsBodyOf widest 0 body r → listed ready ≡ listed old.ready ++ r ∷ []) → version ≡ max old.version (version_of (decode body).change) → whole ≡ min (old.whole + 1) (2 ^ 64 - 1)
-    → end ≡ min (old.end + (length bytes - length after)) (2 ^ 64 - 1)
-    → Reads (λ taken items. HoldsLog taken (log_so_far listed items)) old (record old { ready = ready; latest = time; version = version; whole = whole; end = end }) bytes after × (length after < length bytes)
-record_read listed old ready head bytes body after time version whole end some found put newer count ends =
+pub record_read : {R : Type 0} (listed : R → List Logged) (old : LogItems R) (ready : R) (front : LogFront) (bytes body after : List ℕ) (count time version size : ℕ) → old.front ≡ Some front
+    → IsNextBody (limits_of front.head.format) front.latest bytes time body after
+    → ((r : Logged) → IsBodyOf widest 0 body r → listed ready ≡ listed old.ready ++ r ∷ []) → count ≡ min (front.count + 1) (2 ^ 64 - 1) → version ≡ max front.version (version_of (decode body).change)
+    → size ≡ min (front.bytes + (length bytes - length after)) (2 ^ 64 - 1)
+    → Reads (λ taken items. HoldsLog taken (log_so_far listed items)) old (record old { front = Some (record front { count = count; latest = time; version = version; bytes = size }); ready = ready }) bytes after × (length after < length bytes)
+record_read listed old ready front bytes body after count time version size some found put counted newer sized =
     let r = found.next in
-    let limits = limits_of head.format in
+    let limits = limits_of front.head.format in
     let lawful = found.is_next.lawful in
-    let added = put r (record { lawful = (lawful.0, logged_within head.format r.change lawful.1); rises = omega arith; spelled = found.same_body }) in
-    let said = (body_says body r (lawful.0, logged_within head.format r.change lawful.1) found.same_body).0 in
-    let greater : version ≡ max old.version (version_of r.change) = newer ∙ ap (λ (x : Logged). max old.version (version_of x.change)) said in
+    let added = put r (record { lawful = (lawful.0, logged_within front.head.format r.change lawful.1); rises = omega arith; spelled = found.same_body }) in
+    let said = (body_says body r (lawful.0, logged_within front.head.format r.change lawful.1) found.same_body).0 in
+    let greater : version ≡ max front.version (version_of r.change) = newer ∙ ap (λ (x : Logged). max front.version (version_of x.change)) said in
     let sizes = length-append (spelling r) after in
     let total : length bytes ≡ length (spelling r ++ after) = ap length found.is_next.spelled in
-    front_read (λ taken items. HoldsLog taken (log_so_far listed items)) old (record old { ready = ready; latest = time; version = version; whole = whole; end = end }) (spelling r) bytes after found.is_next.spelled (omega arith)
-    (λ taken front h.
+    front_read (λ taken items. HoldsLog taken (log_so_far listed items)) old (record old { front = Some (record front { count = count; latest = time; version = version; bytes = size }); ready = ready }) (spelling r) bytes after found.is_next.spelled (omega arith)
+    (λ taken before h.
     let rs = taken ++ listed old.ready in
     let list : taken ++ listed ready ≡ rs ++ r ∷ [] = ap (λ (x : List Logged). taken ++ x) added ∙ sym (append_assoc taken (listed old.ready) (r ∷ [])) in
-    let before : IsHead head × AreRecords limits 0 rs = rw some at h.lawful in
-    let number = length-append rs (r ∷ []) in
-    let counted = h.whole in
-    let versions = h.version in
-    let ended = h.end in
-    let longer = length-append front (spelling r) in
-    record {
-      spelled = rw list (ap (λ (x : List ℕ). x ++ spelling r) h.spelled ∙ flat_map_more spelling (bytes_of head_bytes old.head) rs r);
-      lawful = rw (some, list) (before.0, records_push limits 0 rs r before.1 lawful (rw (← h.latest) found.is_next.rises));
-      latest = rw list (found.same_time ∙ sym (latest_push 0 rs r));
-      version = rw list (omega (arith, greater, versions, greatest_push rs r));
-      whole = rw list (omega (arith, number, counted, count));
-      end = omega (arith, sizes, total, longer, ended, ends);
-    })
+    let read : IsReadTo front rs before = rw some at h in
+    let low : front.latest ≡ latest 0 rs = ap (λ (f : LogFront). f.latest) read.numbers in
+    let spelled : before ++ spelling r ≡ log_bytes front.head (rs ++ r ∷ []) = ap (λ (x : List ℕ). x ++ spelling r) read.spelled ∙ flat_map_more spelling (head_bytes front.head) rs r in
+    let count_is : count ≡ count_of (rs ++ r ∷ []) = omega (arith, length-append rs (r ∷ []), ap (λ (f : LogFront). f.count) read.numbers, counted) in
+    let version_is : version ≡ greatest (versions_of (rs ++ r ∷ [])) = omega (arith, greater, ap (λ (f : LogFront). f.version) read.numbers, greatest_push rs r) in
+    let size_is : size ≡ count_of (log_bytes front.head (rs ++ r ∷ [])) =
+    omega (arith, sizes, total, length-append before (spelling r), ap length read.spelled, ap length spelled, ap (λ (f : LogFront). f.bytes) read.numbers, sized) in
+    rw list (record {
+      spelled = spelled;
+      is_head = read.is_head;
+      lawful = records_push limits 0 rs r read.lawful lawful (rw (← low) found.is_next.rises);
+      numbers = λ i. record {
+        head = front.head;
+        count = count_is i;
+        latest = (found.same_time ∙ sym (latest_push 0 rs r)) i;
+        version = version_is i;
+        bytes = size_is i;
+        rest = (read.numbers i).rest;
+      };
+    }))
 
 -- ---- the beginning
 
 -- a new feed has read nothing, and holds nothing
 pub nothing_read : {R : Type 0} (listed : R → List Logged) (records : R) → listed records ≡ []
-    → HoldsAll (λ items. HoldsLog [] (log_so_far listed items)) (λ items. IsLogLeft (log_so_far listed items)) (record { head = None; ready = records; latest = 0; version = 0; whole = 0; end = 0 }) [] []
+    → HoldsAll (λ items. HoldsLog [] (log_so_far listed items)) (λ items. IsLogLeft (log_so_far listed items)) (record { front = None; ready = records }) [] []
 nothing_read listed records none = (
-  record { front = []; joins = refl; read = rw none (record { spelled = refl; lawful = refl; latest = refl; version = refl; whole = refl; end = refl }) },
-  record { head = head_of widest_format 0; more = head_bytes (head_of widest_format 0); is_head = record { from = omega arith; writer = tt }; some = omega arith; begun = refl },
+  record { front = []; joins = refl; read = (refl, none) },
+  record { head = head_of widest_format 0; more = head_bytes (head_of widest_format 0); is_head = record { from = omega arith; segment = tt }; some = omega arith; begun = refl },
 )
 
 -- ---- the end
 
 -- if no header was read, the input has none
-pub no_head_read : (taken : List Logged) (s : LogSoFar) (text left : List ℕ) → s.head ≡ None → HoldsAll (HoldsLog taken) IsLogLeft s left text → HasNoHeader text
+pub no_head_read : (taken : List Logged) (s : LogSoFar) (text left : List ℕ) → s.front ≡ None → HoldsAll (HoldsLog taken) IsLogLeft s left text → HasNoHeader text
 no_head_read taken s text left none (reads, rest) = subst HasNoHeader (unread taken s text left none reads) (cut_none IsHead head_bytes same_long left (rw none at rest))
 
--- if a header was read, the input is a log
-pub text_read : {R : Type 0} (listed : R → List Logged) (items : LogItems R) (taken : List Logged) (text left : List ℕ) (head : Head) (last : ℕ) (torn : Bool) → items.head ≡ Some head
-    → HoldsAll (HoldsLog taken) IsLogLeft (log_so_far listed items) left text → torn ≡ not (length left == 0) → last ≡ max head.from items.latest
-    → IsTextIn listed taken text (record { from = head.from; writer = head.writer; last = last; version = items.version; records = items.ready; whole = items.whole; end = items.end; torn = torn })
-text_read listed items taken text left head last torn some (reads, rest) test greatest =
-    let ends : (left ≡ []) ⊎ IsTorn (limits_of head.format) left = rw some at rest in
-    let log : LogReading = record { head = head; records = taken ++ listed items.ready; torn = torn } in
-    let read = is_log taken (log_so_far listed items) head text left some reads ends in
-    let tells = tells_torn (limits_of head.format) left (length left == 0) refl ends in
-    let time : last ≡ max head.from (latest 0 log.records) = greatest ∙ ap (λ (n : ℕ). max head.from n) reads.read.latest in
-    record {
-      log = log;
-      is_reading = record { tail = left; is_log = read; torn = rw test tells };
-      shows = record {
-        from = refl;
-        writer = refl;
-        last = subst (λ (n : ℕ). IsLast log n) (sym time) (last_is (limits_of head.format) log read.lawful);
-        version = reads.read.version;
-        records = refl;
-        whole = reads.read.whole;
-        end = rw some at (reads.read.end ∙ ap count_of reads.read.spelled);
-        torn = refl;
-      };
-    }
-
 -- if a header was read, the input is the header, the records, and the rest
-pub front_is : (taken : List Logged) (s : LogSoFar) (head : Head) (text left : List ℕ) (rest : Rest) → s.head ≡ Some head → HasRead (HoldsLog taken s) text left → IsRest (limits_of head.format) s.latest left rest
-    → IsFrontOf text (taken ++ s.ready) (record { head = head; whole = s.whole; latest = s.latest; version = s.version; end = s.end; rest = rest })
-front_is taken s head text left rest some reads is =
-    let read = begun taken s head text left some reads in
+pub front_is : (taken : List Logged) (s : LogSoFar) (front : LogFront) (text left : List ℕ) (rest : Rest) → s.front ≡ Some front → HasRead (HoldsLog taken s) text left
+    → IsRest (limits_of front.head.format) front.latest left rest → IsFrontOf text (taken ++ s.ready) (record front { rest = rest })
+front_is taken s front text left rest some reads is =
+    let read = begun taken s front text left some reads in
+    let low : front.latest ≡ latest 0 (taken ++ s.ready) = ap (λ (f : LogFront). f.latest) read.numbers in
     record {
       rest = left;
-      spelled = read.0 ∙ sym (append_assoc (head_bytes head) (flat_map spelling (taken ++ s.ready)) left);
-      is_head = read.1;
-      lawful = read.2;
-      is_rest = rw reads.read.latest at is;
-      whole = reads.read.whole;
-      latest = reads.read.latest;
-      version = reads.read.version;
-      end = rw some at (reads.read.end ∙ ap count_of reads.read.spelled);
+      spelled = read.spelled ∙ sym (append_assoc (head_bytes front.head) (flat_map spelling (taken ++ s.ready)) left);
+      is_head = read.is_head;
+      lawful = read.lawful;
+      is_rest = subst (λ (n : ℕ). IsRest (limits_of front.head.format) n left rest) low is;
+      numbers = λ i. record (read.numbers i) { rest = rest };
     }
 
 -- the bytes left are a torn tail, if there are any
-pub front_torn : (taken : List Logged) (s : LogSoFar) (head : Head) (text left : List ℕ) → s.head ≡ Some head → HoldsAll (HoldsLog taken) IsLogLeft s left text → (left ≡ [] → ⊥)
-    → IsFrontOf text (taken ++ s.ready) (record { head = head; whole = s.whole; latest = s.latest; version = s.version; end = s.end; rest = Torn })
-front_torn taken s head text left some (reads, rest) more = by (rw some at rest)
+pub front_torn : (taken : List Logged) (s : LogSoFar) (front : LogFront) (text left : List ℕ) → s.front ≡ Some front → HoldsAll (HoldsLog taken) IsLogLeft s left text → (left ≡ [] → ⊥)
+    → IsFrontOf text (taken ++ s.ready) (record front { rest = Torn })
+front_torn taken s front text left some (reads, rest) more = by (rw some at rest)
   where
-    by : (left ≡ []) ⊎ IsTorn (limits_of head.format) left → IsFrontOf text (taken ++ s.ready) (record { head = head; whole = s.whole; latest = s.latest; version = s.version; end = s.end; rest = Torn })
+    by : (left ≡ []) ⊎ IsTorn (limits_of front.head.format) left → IsFrontOf text (taken ++ s.ready) (record front { rest = Torn })
     by (inl none) = absurd (more none)
-    by (inr torn) = front_is taken s head text left Torn some reads torn
+    by (inr torn) = front_is taken s front text left Torn some reads torn
+
+-- bytes with this front are a log if no fault follows the records
+pub text_read : {R : Type 0} (listed : R → List Logged) (ready : R) (taken : List Logged) (bytes : List ℕ) (front : LogFront) → IsFrontOf bytes (taken ++ listed ready) front
+    → ((what : What) → front.rest ≢ Faulty what) → IsTextIn listed taken bytes (record { front = front; records = ready })
+text_read listed ready taken bytes front is sound = by front.rest refl is.is_rest
+  where
+    text : (torn : Bool) → front.rest ≡ tail_rest torn → (is.rest ≡ []) ⊎ IsTorn (limits_of front.head.format) is.rest → IsTrue torn ↔ IsTorn (limits_of front.head.format) is.rest
+        → IsTextIn listed taken bytes (record { front = front; records = ready })
+    text torn rest ends tells = record {
+      log = record { head = front.head; records = taken ++ listed ready; torn = torn };
+      is_reading = record {
+        tail = is.rest;
+        is_log = record { spelled = is.spelled ∙ append_assoc (head_bytes front.head) (flat_map spelling (taken ++ listed ready)) is.rest; is_head = is.is_head; lawful = is.lawful; ends = ends };
+        torn = tells;
+      };
+      shows = record { front = is.numbers ∙ ap (front_of front.head (taken ++ listed ready)) rest; records = refl };
+    }
+
+    by : (rest : Rest) → front.rest ≡ rest → IsRest (limits_of front.head.format) (latest 0 (taken ++ listed ready)) is.rest rest → IsTextIn listed taken bytes (record { front = front; records = ready })
+    by Nothing same none = text false same (inl none) (λ t. absurd (false≢true t), λ torn. absurd (omega (arith, ap length none, torn_some (limits_of front.head.format) is.rest torn)))
+    by Torn same torn = text true same (inr torn) (λ t. torn, λ torn. refl)
+    by (Faulty what) same fault = absurd (sound what same)
+
+-- the last timestamp of a log, by its front
+pub front_last : (bytes : List ℕ) (log : LogReading) (front : LogFront) (n : ℕ) → n ≡ max front.head.from front.latest → IsReading bytes log → front ≡ front_in log → IsLast log n
+front_last bytes log front n e is same =
+    let time : n ≡ max log.head.from (latest 0 log.records) = e ∙ ap (λ (f : LogFront). max f.head.from f.latest) same in
+    subst (λ (m : ℕ). IsLast log m) (sym time) (last_is (limits_of log.head.format) log is.is_log.lawful)
+
+-- nothing is no torn tail
+nothing_torn : Nothing ≡ Torn → ⊥
+nothing_torn e = cc
+
+-- the front of a log tells whether its tail is torn
+pub front_tells : (front : LogFront) (torn : Bool) → IsTrue torn ↔ (front.rest ≡ Torn) → (log : LogReading) → front ≡ front_in log → torn ≡ log.torn
+front_tells front torn tells log same = by torn log.torn tells (ap (λ (f : LogFront). f.rest) same)
+  where
+    by : (p q : Bool) → IsTrue p ↔ (front.rest ≡ Torn) → front.rest ≡ tail_rest q → p ≡ q
+    by false false t rest = refl
+    by true true t rest = refl
+    by false true t rest = absurd (false≢true (t.1 rest))
+    by true false t rest = absurd (nothing_torn (sym rest ∙ t.0 refl))
 
 -- the header and the records of the front are the first bytes
 pub front_bytes : (bytes : List ℕ) (records : List Logged) (front : LogFront) → length bytes < 2 ^ 64 → IsFrontOf bytes records front
-    → (front.end ≤ length bytes) × (take front.end bytes ≡ log_bytes front.head records)
+    → (front.bytes ≤ length bytes) × (take front.bytes bytes ≡ log_bytes front.head records)
 front_bytes bytes records front fits is =
     let log = log_bytes front.head records in
     let sizes = length-append log is.rest in
-    let same : front.end ≡ length log = omega (arith, fits, is.end, sizes, ap length is.spelled) in (
+    let same : front.bytes ≡ length log = omega (arith, fits, ap (λ (f : LogFront). f.bytes) is.numbers, sizes, ap length is.spelled) in (
       omega (arith, same, sizes, ap length is.spelled),
       (λ i. take (same i) (is.spelled i)) ∙ take-append_seam log is.rest,
     )
@@ -221,11 +250,11 @@ cut_shows_none bytes cut faults.Memory h = h
 
 -- the input of a feed without a fault shows no fault
 pub fed_shows_none : (taken : List Logged) (s : LogSoFar) (held text : List ℕ) → HoldsAll (HoldsLog taken) IsLogLeft s held text → ShowsNoFault text
-fed_shows_none taken s held text (reads, left) = by s.head refl
+fed_shows_none taken s held text (reads, left) = by s.front refl
   where
-    by : (o : Option Head) → s.head ≡ o → ShowsNoFault text
+    by : (o : Option LogFront) → s.front ≡ o → ShowsNoFault text
     by None none = subst ShowsNoFault (unread taken s text held none reads) (cut_shows_none held (rw none at left))
-    by (Some head) some = λ fault h. not_both text head (taken ++ s.ready) held fault (is_log taken s head text held some reads (rw some at left)) (shown_fault fault text h)
+    by (Some front) some = λ fault h. not_both text front.head (taken ++ s.ready) held fault (is_log taken s front text held (begun taken s front text held some reads) (rw some at left)) (shown_fault fault text h)
 
 -- a fault of the rest stays its fault when more bytes follow
 rest_fault_on : (what : What) (limits : Limits) (low : ℕ) (rest more : List ℕ) → RestFault what limits low rest → RestFault what limits low (rest ++ more)
@@ -244,25 +273,27 @@ pub fed_shows : (taken : List Logged) (s : LogSoFar) (fault : FeedFault) (text :
 fed_shows taken s faults.Header text h other =
     subst (ShowsNone IsHead head_bytes) (unread taken s text (h.shown ++ h.more) h.fault.0 h.read) (shows_none_on IsHead head_bytes h.shown h.more h.fault.1)
 fed_shows taken s (faults.Record nth what) text h other =
-    let head = h.fault.head in
-    let is = begun taken s head text (h.shown ++ h.more) h.fault.begun h.read in
+    let front = h.fault.front in
+    let is = begun taken s front text (h.shown ++ h.more) h.fault.begun h.read in
+    let low : front.latest ≡ latest 0 (taken ++ s.ready) = ap (λ (f : LogFront). f.latest) is.numbers in
     record {
       records = taken ++ s.ready;
       fault = record {
-        head = head;
+        head = front.head;
         rest = h.shown ++ h.more;
-        spelled = is.0;
-        is_head = is.1;
-        lawful = is.2;
-        fault = rest_fault_on what (limits_of head.format) (latest 0 (taken ++ s.ready)) h.shown h.more (rw h.read.read.latest at h.fault.fault);
+        spelled = is.spelled;
+        is_head = is.is_head;
+        lawful = is.lawful;
+        fault = rest_fault_on what (limits_of front.head.format) (latest 0 (taken ++ s.ready)) h.shown h.more
+            (subst (λ (n : ℕ). RestFault what (limits_of front.head.format) n h.shown) low h.fault.fault);
       };
-      number = h.fault.number ∙ h.read.read.whole;
+      number = h.fault.number ∙ ap (λ (f : LogFront). f.count) is.numbers;
     }
 fed_shows taken s faults.Memory text h other = absurd (other refl)
 
 -- what stands behind the records has the fault that the input shows
-pub front_faulty : (taken : List Logged) (s : LogSoFar) (head : Head) (nth : ℕ) (what : What) (text : List ℕ) → s.head ≡ Some head → HasShown (HasRead (HoldsLog taken s) text) (IsLogFaulty s (faults.Record nth what))
-    → IsFrontOf text (taken ++ s.ready) (record { head = head; whole = s.whole; latest = s.latest; version = s.version; end = s.end; rest = Faulty what })
-front_faulty taken s head nth what text some h =
-    let same : h.fault.head ≡ head = same_Some _ _ (sym h.fault.begun ∙ some) in
-    front_is taken s head text (h.shown ++ h.more) (Faulty what) some h.read (rest_fault_on what (limits_of head.format) s.latest h.shown h.more (rw same at h.fault.fault))
+pub front_faulty : (taken : List Logged) (s : LogSoFar) (front : LogFront) (nth : ℕ) (what : What) (text : List ℕ) → s.front ≡ Some front
+    → HasShown (HasRead (HoldsLog taken s) text) (IsLogFaulty s (faults.Record nth what)) → IsFrontOf text (taken ++ s.ready) (record front { rest = Faulty what })
+front_faulty taken s front nth what text some h =
+    let same : h.fault.front ≡ front = same_Some _ _ (sym h.fault.begun ∙ some) in
+    front_is taken s front text (h.shown ++ h.more) (Faulty what) some h.read (rest_fault_on what (limits_of front.head.format) front.latest h.shown h.more (rw same at h.fault.fault))

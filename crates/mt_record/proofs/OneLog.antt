@@ -9,26 +9,27 @@ use Rattle.mt_words.proofs.Formats.{same_format}
 use Rattle.mt_words.specs.Changes.{Logged}
 use Rattle.mt_record.specs.Spelling.{body, spelling}
 use Rattle.mt_record.specs.declared.feed.head.Head.{Head}
-use Rattle.mt_record.specs.Heads.{IsHead, log_magic, writer_bytes, head_bytes}
+use Rattle.mt_record.specs.declared.feed.head.Segment.{Segment}
+use Rattle.mt_record.specs.Heads.{IsHead, log_magic, segment_bytes, head_bytes}
 use Rattle.mt_record.specs.Logs.{AreRecords, latest}
 use Rattle.mt_record.proofs.Beginnings.{no_digit}
 use Rattle.mt_record.proofs.Unique.{same_number, same_body, same_framed}
 use Rattle.mt_record.proofs.Lawful.{length_fits, lawful_fits, lawful_length}
 use Rattle.mt_record.specs.Fronts.{Stops}
 
-abbrev head_from : Format → ℕ → Option (ℕ × ℕ) → Head
-head_from format from writer = record { format = format; from = from; writer = writer }
+abbrev head_from : Format → ℕ → Option Segment → Head
+head_from format from segment = record { format = format; from = from; segment = segment }
 
 -- bytes begin with only one header
 pub same_head : (a b : Head) (x y : List ℕ) → IsHead a → IsHead b → head_bytes a ++ x ≡ head_bytes b ++ y → (a ≡ b) × (x ≡ y)
-same_head a b x y = by a.format b.format a.writer b.writer
+same_head a b x y = by a.format b.format a.segment b.segment
   where
     -- the bytes after the magic
-    behind : (v w : Option (ℕ × ℕ)) → (big_bytes 8 a.from ++ writer_bytes v) ++ x ≡ (big_bytes 8 b.from ++ writer_bytes w) ++ y → big_bytes 8 a.from ++ (writer_bytes v ++ x) ≡ big_bytes 8 b.from ++ (writer_bytes w ++ y)
-    behind v w e = sym (append_assoc (big_bytes 8 a.from) (writer_bytes v) x) ∙ e ∙ append_assoc (big_bytes 8 b.from) (writer_bytes w) y
+    behind : (v w : Option Segment) → (big_bytes 8 a.from ++ segment_bytes v) ++ x ≡ (big_bytes 8 b.from ++ segment_bytes w) ++ y → big_bytes 8 a.from ++ (segment_bytes v ++ x) ≡ big_bytes 8 b.from ++ (segment_bytes w ++ y)
+    behind v w e = sym (append_assoc (big_bytes 8 a.from) (segment_bytes v) x) ∙ e ∙ append_assoc (big_bytes 8 b.from) (segment_bytes w) y
 
-    by : (f g : Format) (v w : Option (ℕ × ℕ)) → IsHead (record { format = f; from = a.from; writer = v }) → IsHead (record { format = g; from = b.from; writer = w })
-        → (log_magic f v ++ (big_bytes 8 a.from ++ writer_bytes v)) ++ x ≡ (log_magic g w ++ (big_bytes 8 b.from ++ writer_bytes w)) ++ y
+    by : (f g : Format) (v w : Option Segment) → IsHead (record { format = f; from = a.from; segment = v }) → IsHead (record { format = g; from = b.from; segment = w })
+        → (log_magic f v ++ (big_bytes 8 a.from ++ segment_bytes v)) ++ x ≡ (log_magic g w ++ (big_bytes 8 b.from ++ segment_bytes w)) ++ y
         → (head_from f a.from v ≡ head_from g b.from w) × (x ≡ y)
     by f g None None is_a is_b e =
         let format = same_format f g (ap (λ (bytes : List ℕ). slice_index bytes 3) e) in
@@ -37,12 +38,12 @@ same_head a b x y = by a.format b.format a.writer b.writer
     by f g None (Some w) is_a is_b e = absurd (no_digit f (ap (λ (bytes : List ℕ). slice_index bytes 3) e))
     by f g (Some v) None is_a is_b e = absurd (no_digit g (sym (ap (λ (bytes : List ℕ). slice_index bytes 3) e)))
     by f g (Some v) (Some w) is_a is_b e =
-        let format = is_a.writer.0 ∙ sym is_b.writer.0 in
-        let from = same_number 8 a.from b.from (writer_bytes (Some v) ++ x) (writer_bytes (Some w) ++ y) is_a.from is_b.from (behind (Some v) (Some w) (ap (drop 4) e)) in
-        let numbers = sym (append_assoc (big_bytes 4 v.0) (big_bytes 4 v.1) x) ∙ from.1 ∙ append_assoc (big_bytes 4 w.0) (big_bytes 4 w.1) y in
-        let worker = same_number 4 v.0 w.0 (big_bytes 4 v.1 ++ x) (big_bytes 4 w.1 ++ y) is_a.writer.1 is_b.writer.1 numbers in
-        let segment = same_number 4 v.1 w.1 x y is_a.writer.2 is_b.writer.2 worker.1 in
-        (λ i. head_from (format i) (from.0 i) (Some (worker.0 i, segment.0 i)), segment.1)
+        let format = is_a.segment.0 ∙ sym is_b.segment.0 in
+        let from = same_number 8 a.from b.from (segment_bytes (Some v) ++ x) (segment_bytes (Some w) ++ y) is_a.from is_b.from (behind (Some v) (Some w) (ap (drop 4) e)) in
+        let numbers = sym (append_assoc (big_bytes 4 v.worker) (big_bytes 4 v.number) x) ∙ from.1 ∙ append_assoc (big_bytes 4 w.worker) (big_bytes 4 w.number) y in
+        let worker = same_number 4 v.worker w.worker (big_bytes 4 v.number ++ x) (big_bytes 4 w.number ++ y) is_a.segment.1 is_b.segment.1 numbers in
+        let number = same_number 4 v.number w.number x y is_a.segment.2 is_b.segment.2 worker.1 in
+        (λ i. head_from (format i) (from.0 i) (Some (record { worker = worker.0 i; number = number.0 i })), number.1)
 
 -- bytes begin with only one list of records, if no further record follows
 same_records : (format : Format) (low : ℕ) (rs ss : List Logged) (x y : List ℕ) → AreRecords (limits_of format) low rs → AreRecords (limits_of format) low ss

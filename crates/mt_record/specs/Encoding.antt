@@ -6,8 +6,8 @@ use Rattle.mt_record.specs.declared.feed.head.Head.{Head}
 
 -- the header of a log with this format and this `from`, which is no segment
 abbrev pub head_of : Format → ℕ → Head
-head_of format from = record { format = format; from = from; writer = None }
+head_of format from = record { format = format; from = from; segment = None }
 
 -- the header of this segment of this worker's log, with this `from`
 abbrev pub segment_head : ℕ → ℕ → ℕ → Head
-segment_head from worker segment = record { format = Two; from = from; writer = Some (worker, segment) }
+segment_head from worker number = record { format = Two; from = from; segment = Some (record { worker = worker; number = number }) }

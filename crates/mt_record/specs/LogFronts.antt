@@ -7,8 +7,8 @@ use Rattle.mt_record.specs.declared.front.Rest.{Rest}
 use Rattle.mt_record.specs.declared.front.Rest.TheVariants.{Nothing, Torn, Faulty}
 use Rattle.mt_record.specs.declared.front.LogFront.{LogFront}
 use Rattle.mt_record.specs.Heads.{IsHead}
-use Rattle.mt_record.specs.Logs.{AreRecords, latest, IsTorn, count_of, log_bytes}
-use Rattle.mt_record.specs.LogTexts.{versions_of, greatest}
+use Rattle.mt_record.specs.Logs.{AreRecords, latest, IsTorn, log_bytes}
+pub use Rattle.mt_record.specs.LogTexts.{front_of, front_in}
 use Rattle.mt_record.specs.LogFaults.{RestFault}
 
 -- what follows the records of a log, of which the last has the timestamp `low`
@@ -24,7 +24,4 @@ pub record IsFrontOf (bytes : List ℕ) (records : List Logged) (front : LogFron
   pub is_head : IsHead front.head
   pub lawful : AreRecords (limits_of front.head.format) 0 records
   pub is_rest : IsRest (limits_of front.head.format) (latest 0 records) rest front.rest
-  pub whole : front.whole ≡ count_of records
-  pub latest : front.latest ≡ latest 0 records
-  pub version : front.version ≡ greatest (versions_of records)
-  pub end : front.end ≡ count_of (log_bytes front.head records)
+  pub numbers : front ≡ front_of front.head records front.rest

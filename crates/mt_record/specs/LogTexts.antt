@@ -1,10 +1,14 @@
 -- Logs in memory: their numbers, and the texts that agree with them.
-use Rattle.std.specs.Prelude.{◌≡◌, ℕ, ◌+◌, ◌-◌, max, List, [], ◌∷◌, ◌++◌, map, Option, Some, None, Vec}
+use Rattle.std.specs.Prelude.{◌≡◌, ℕ, max, Bool, true, false, List, [], ◌∷◌, ◌++◌, map, Option, Some, None, Vec}
 use Rattle.std.specs.Global.{Global}
 use Rattle.mt_words.specs.declared.record.Change.{Change}
 use Rattle.mt_words.specs.Changes.{Logged}
+use Rattle.mt_record.specs.declared.feed.head.Head.{Head}
+use Rattle.mt_record.specs.declared.front.Rest.{Rest}
+use Rattle.mt_record.specs.declared.front.Rest.TheVariants.{Nothing, Torn}
+use Rattle.mt_record.specs.declared.front.LogFront.{LogFront}
 use Rattle.mt_record.specs.declared.read.LogText.{LogText}
-use Rattle.mt_record.specs.Logs.{log_bytes, LogReading, IsReading, times_of, IsGreatestOf, count_of}
+use Rattle.mt_record.specs.Logs.{latest, log_bytes, LogReading, IsReading, times_of, IsGreatestOf, count_of}
 
 -- the last timestamp of a log by itself: the greatest of its times
 abbrev pub IsLast : LogReading → ℕ → Type 0
@@ -24,16 +28,24 @@ abbrev pub greatest : List ℕ → ℕ
 greatest [] = 0
 greatest (n ∷ ns) = max n (greatest ns)
 
+-- the front of a log with this header and these records, before this rest
+abbrev pub front_of : Head → List Logged → Rest → LogFront
+front_of head records rest =
+    record { head = head; count = count_of records; latest = latest 0 records; version = greatest (versions_of records); bytes = count_of (log_bytes head records); rest = rest }
+
+-- what follows the records of a log
+abbrev pub tail_rest : Bool → Rest
+tail_rest false = Nothing
+tail_rest true = Torn
+
+-- the front of this log
+abbrev pub front_in : LogReading → LogFront
+front_in log = front_of log.head log.records (tail_rest log.torn)
+
 -- the `LogText` agrees with the log; its own records, as `listed` gives them, come after those taken before
 pub record ShowsIn {R : Type 0} (listed : R → List Logged) (taken : List Logged) (text : LogText R) (log : LogReading) : Type 0 where
-  pub from : text.from ≡ log.head.from
-  pub writer : text.writer ≡ log.head.writer
-  pub last : IsLast log text.last
-  pub version : text.version ≡ greatest (versions_of log.records)
+  pub front : text.front ≡ front_in log
   pub records : taken ++ listed text.records ≡ log.records
-  pub whole : text.whole ≡ count_of log.records
-  pub end : text.end ≡ count_of (log_bytes log.head log.records)
-  pub torn : text.torn ≡ log.torn
 
 -- the bytes are a log, and the `LogText` agrees with it, after the records taken before
 pub record IsTextIn {R : Type 0} (listed : R → List Logged) (taken : List Logged) (bytes : List ℕ) (text : LogText R) : Type 0 where

@@ -1,5 +1,5 @@
 -- Parts in memory, and how long an entry may be.
-use Rattle.std.specs.Prelude.{ℕ, ◌≤◌, List, length}
+use Rattle.std.specs.Prelude.{ℕ, ◌≤◌, List}
 use Rattle.mt_words.specs.declared.record.Change.{Change}
 use Rattle.mt_words.specs.declared.limits.Limits.{Limits}
 use Rattle.mt_record.specs.declared.part_text.PartText.{PartText}

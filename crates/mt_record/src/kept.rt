@@ -1,7 +1,7 @@
 //! The collections into which the records of a log and the entries of a part are read.
+pub mod byte_strings;
 pub mod log;
 pub mod part;
-pub mod byte_strings;
 pub mod updates;
 
 ghost use Rattle.std.specs.Prelude.{◌≡◌, ◌++◌, [], ◌∷◌, List, length, OnOk, OnErr};

@@ -20,23 +20,10 @@ use thiserror::Error;
 /// A log that was read.
 #[derive(Debug, Drop)]
 pub struct LogText<R = Vec<Record>> {
-    /// Updates below this timestamp may be missing.
-    pub from: u64,
-    /// The worker and the segment of its log that this is, or None for a log that is no segment.
-    pub writer: Option<(u32, u32)>,
-    /// The last timestamp: the greatest of `from` and the timestamps of the complete records.
-    pub last: u64,
-    /// The greatest version of the complete records, with those that were taken before, or 0 if none has a version.
-    pub version: u64,
+    /// The header, and the numbers of all complete records, with those that were taken before.
+    pub front: LogFront,
     /// The complete records that were not taken before, in order.
     pub records: R,
-    /// The number of complete records, with those that were taken before, counted up to 2^64 - 1.
-    pub whole: u64,
-    /// Where the complete records end: the number of bytes of the header and of all complete records, counted up to
-    /// 2^64 - 1.
-    pub end: u64,
-    /// Whether a torn tail follows the complete records.
-    pub torn: bool,
 }
 
 /// Why bytes cannot be read as a log.
@@ -104,7 +91,7 @@ pub fn cut_log(alloc: Global, bytes: &[u8]) -> Result<(LogFront, &[u8]), FeedFau
         read = end;
     }
     let front = feed.front()?;
-    Ok((front, &bytes[..front.end as usize]))
+    Ok((front, &bytes[..front.bytes as usize]))
 }
 
 /// Returns the record at the front of bytes, and the bytes after it. `latest` is the timestamp of the record before it.

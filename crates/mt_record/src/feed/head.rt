@@ -22,6 +22,14 @@ pub const HEADER_BYTES: usize = 12;
 /// The number of bytes in the header of a segment.
 pub const SEGMENT_HEADER_BYTES: usize = 20;
 
+/// A segment of a worker's log.
+#[derive(Clone, Copy, Debug, PartialEq, Eq)]
+pub struct Segment {
+    pub worker: u32,
+    /// The number of the segment in its worker's log.
+    pub number: u32,
+}
+
 /// The header of a log.
 #[derive(Clone, Copy, Debug)]
 pub struct Head {
@@ -29,8 +37,8 @@ pub struct Head {
     pub format: Format,
     /// Updates below this timestamp may be missing.
     pub from: u64,
-    /// The worker and the segment, or None if the log is no segment.
-    pub writer: Option<(u32, u32)>,
+    /// The segment that the log is, or None if it is no segment.
+    pub segment: Option<Segment>,
 }
 
 /// Returns the header at the front and the bytes after it. Returns None if the bytes do not begin with a header.
@@ -47,15 +55,15 @@ pub fn header_at(bytes: &[u8]) -> Option<(Head, &[u8])>
 /// Returns the header of a log that is no segment, and the bytes after it. Returns None if the bytes do not begin with
 /// one.
 fn plain_head_at(bytes: &[u8]) -> Option<(Head, &[u8])>
-    ensures found { IfSome result (λ x. IsHead x.0 × (x.0.writer ≡ None) × (bytes.now ≡ head_bytes x.0 ++ x.1.now)) }
-    ensures none { IfNone result ((head : HeadValue) (more : List ℕ) → IsHead head → head.writer ≡ None → bytes.now ≢ head_bytes head ++ more) }
+    ensures found { IfSome result (λ x. IsHead x.0 × (x.0.segment ≡ None) × (bytes.now ≡ head_bytes x.0 ++ x.1.now)) }
+    ensures none { IfNone result ((head : HeadValue) (more : List ℕ) → IsHead head → head.segment ≡ None → bytes.now ≢ head_bytes head ++ more) }
 {
     let (format, rest) = format_at(LOG, bytes)?;
     let (from, rest) = u64_at(rest)?;
     let head = Head {
         format,
         from,
-        writer: None,
+        segment: None,
     };
     Some((head, rest))
 }
@@ -68,11 +76,11 @@ fn segment_head_at(bytes: &[u8]) -> Option<(Head, &[u8])>
 {
     let (from, rest) = u64_at(bytes)?;
     let (worker, rest) = u32_at(rest)?;
-    let (segment, rest) = u32_at(rest)?;
+    let (number, rest) = u32_at(rest)?;
     let head = Head {
         format: Format::Two,
         from,
-        writer: Some((worker, segment)),
+        segment: Some(Segment { worker, number }),
     };
     Some((head, rest))
 }

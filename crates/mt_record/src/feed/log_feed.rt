@@ -1,15 +1,14 @@
 //! Reads a log that comes in chunks.
-ghost use Rattle.std.specs.Prelude.{◌≡◌, ◌++◌, [], List, ℕ, Some, None, IsSome, IfOk, IfErr, OnOk};
+ghost use Rattle.std.specs.Prelude.{◌≡◌, ◌≢◌, ◌++◌, [], List, ℕ, Some, None, IsSome, IfOk, IfErr, OnOk};
 ghost use Rattle.mt_words.specs.Changes.{Logged};
 ghost use Rattle.mt_record.specs.declared.read.FeedFault.{FeedFault as FaultValue};
-ghost use Rattle.mt_record.specs.declared.read.FeedFault.TheVariants as faults;
 ghost use Rattle.mt_words.specs.declared.fault.What.{What as WhatValue};
 ghost use Rattle.mt_record.specs.declared.front.Rest.TheVariants.{Faulty};
 ghost use Rattle.mt_record.specs.Cutting.{IsCountOf, HasCut};
 ghost use Rattle.mt_record.specs.LogTexts.{IsTextIn};
 ghost use Rattle.mt_record.specs.Answered.{IsAnswered};
 ghost use Rattle.mt_record.specs.LogFronts.{IsFrontOf};
-ghost use Rattle.mt_record.specs.LogFeeding.{IsLogFed, ShowsNoFault, IsShown};
+ghost use Rattle.mt_record.specs.LogFeeding.{latest_read, IsLogFed, ShowsNoFault, IsShown};
 
 use crate::feed::Feed;
 use crate::feed::log_items::LogItems;
@@ -73,9 +72,12 @@ impl LogFeed<KeptRecords> {
 
     /// Returns the timestamp of the last complete record that was read, or 0 before the first.
     pub fn latest(&self) -> u64
-        ensures { result ≡ self.now.so_far.latest }
+        ensures { result ≡ latest_read self.now.so_far.front }
     {
-        self.feed.items.latest
+        match self.feed.items.front {
+            None => 0,
+            Some(front) => front.latest,
+        }
     }
 
     /// Takes the complete records that were read and not yet taken, in order, as `take` does.
@@ -122,12 +124,8 @@ impl<R: Records> LogFeed<R> {
         ensures sound { result.fault ≡ None }
     {
         let items = LogItems {
-            head: None,
+            front: None,
             ready: records,
-            latest: 0,
-            version: 0,
-            whole: 0,
-            end: 0,
         };
         LogFeed {
             feed: Feed::new(alloc, items),
@@ -165,8 +163,10 @@ impl<R: Records> LogFeed<R> {
         if let Some(fault) = self.feed.fault {
             return Err(fault);
         }
-        let torn = !self.feed.held.is_empty();
-        self.feed.items.finish(torn)
+        Ok(LogText {
+            front: self.front()?,
+            records: self.feed.items.ready,
+        })
     }
 
     /// Returns how far the bytes are a log, which may have a fault after its records.
@@ -176,23 +176,15 @@ impl<R: Records> LogFeed<R> {
             IfOk result (IsFrontOf bytes (taken ++ self.now.so_far.ready)) }
         ensures fault { (bytes : List ℕ) (taken : List Logged) → IsLogFed self.now bytes taken →
             IfErr result (IsAnswered bytes) }
+        ensures sound { (what : WhatValue) → self.now.fault ≡ None → IfOk result (λ front. front.rest ≢ Faulty what) }
     {
         let rest = match self.feed.fault {
-            Some(fault) => rest_of(fault)?,
+            Some(FeedFault::Record { nth: _, what }) => Rest::Faulty(what),
+            Some(fault) => return Err(fault),
             None if self.feed.held.is_empty() => Rest::Nothing,
             None => Rest::Torn,
         };
-        self.feed.items.front(rest)
-    }
-}
-
-/// Returns what follows the records of a log with this fault. Err: the fault, if it is not that of a record.
-fn rest_of(fault: FeedFault) -> Result<Rest, FeedFault>
-    ensures rest { IfOk result (λ rest. (nth : ℕ) × (what : WhatValue) × (fault ≡ faults.Record nth what) × (rest ≡ Faulty what)) }
-    ensures other { IfErr result (λ other. other ≡ fault) }
-{
-    match fault {
-        FeedFault::Record { nth: _, what } => Ok(Rest::Faulty(what)),
-        other => Err(other),
+        let front = self.feed.items.front.ok_or(FeedFault::Header)?;
+        Ok(LogFront { rest, ..front })
     }
 }

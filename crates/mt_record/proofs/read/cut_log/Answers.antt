@@ -28,7 +28,7 @@ slice_bounds-result-end c =
     let all : take c.loop-read.read bytes ≡ bytes = take_all c.loop-read.read bytes (omega (arith, c.loop-read-test.false)) in
     let is = subst (λ (b : List ℕ). IsFrontOf b (I.taken ++ c.loop-read.feed.so_far.ready) front) all (c.in_ok-front.ensures.front (take c.loop-read.read bytes) I.taken I.fed) in
     let cut = front_bytes bytes (I.taken ++ c.loop-read.feed.so_far.ready) front (omega (arith, c.loop-read-test.false, c.loop-read.auto.read-fits)) is in
-    sym (length-take-le front.end bytes cut.0)
+    sym (length-take-le front.bytes bytes cut.0)
 
 pub returns-clause-log : goal.returns-clause-log
 returns-clause-log c =

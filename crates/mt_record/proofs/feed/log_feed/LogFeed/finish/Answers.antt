@@ -1,6 +1,4 @@
-use Rattle.std.proofs.Common.{ℕ, ap, ◌∙◌}
-use Rattle.std.specs.Prelude.{◌==◌, not}
-use Rattle.mt_record.proofs.LogFeeds.{fed_shows, shown_fault}
+use Rattle.mt_record.proofs.LogFeeds.{fed_shows, shown_fault, text_read}
 use Rattle.mt_record.proofs.feed.log_feed.LogFeed.finish.Goals as goal
 
 pub returns-in-Some-clause-fault : goal.returns-in-Some-clause-fault
@@ -10,8 +8,5 @@ returns-in-Some-clause-fault g c bytes taken fed other =
 
 pub returns-clause-log : goal.returns-clause-log
 returns-clause-log g c bytes taken fed =
-    let held = c.self.inside.feed.held in
-    c.finish.ensures.log taken bytes held.items ((rw (← c.self.view_is) at fed).0 c.in_default.is) (ap not (c.is_empty-torn.ensures ∙ ap (λ (n : ℕ). n == 0) held.ok.0))
-
-pub returns-clause-fault : goal.returns-clause-fault
-returns-clause-fault g c bytes taken fed = c.finish.ensures.fault taken bytes c.self.inside.feed.held.items ((rw (← c.self.view_is) at fed).0 c.in_default.is)
+    let front = c.in_ok-front.ensures in
+    text_read g.R.Records.listed c.self.inside.feed.items.ready taken bytes c.in_ok-front.field-0 (rw (← c.self.view_is) at (front.front bytes taken fed)) (λ what. front.sound what (rw (← c.self.view_is) c.in_default.is))

@@ -9,10 +9,10 @@ version-requires g c =
     let is = rw found.field-0-is at found.ensures.found in
     let r = is.next in
     let lawful = is.is_next.lawful in
-    (body_says found.body.now r (lawful.0, logged_within c.args.head.format r.change lawful.1) is.same_body).1
+    (body_says found.body.now r (lawful.0, logged_within c.args.front.head.format r.change lawful.1) is.same_body).1
 
 pub returns-in_ok-put_record-in-Ok-Some : goal.returns-in_ok-put_record-in-Ok-Some
 returns-in_ok-put_record-in-Ok-Some g c =
     let found = c.in-Ok-Some in
-    record_read g.R.Records.listed c.args.self.now c.put_record.new.self c.args.head c.args.bytes.now found.body.now found.after.now found.timestamp c.max-self.result c.saturating_add-self.result c.saturating_add-self-in-Ok-Some.result c.requires
-    (rw found.field-0-is at found.ensures.found) c.in_ok-put_record-in-Ok-Some.ensures.ok (c.max-self.ensures ∙ ap (λ (n : ℕ). max c.args.self.now.version n) c.version.ensures) c.saturating_add-self.ensures c.saturating_add-self-in-Ok-Some.ensures
+    record_read g.R.Records.listed c.args.self.now c.put_record.new.self c.args.front c.args.bytes.now found.body.now found.after.now c.saturating_add.result found.timestamp c.max.result c.saturating_add-in-Ok-Some.result c.requires
+    (rw found.field-0-is at found.ensures.found) c.in_ok-put_record-in-Ok-Some.ensures.ok c.saturating_add.ensures (c.max.ensures ∙ ap (λ (n : ℕ). max c.args.front.version n) c.version.ensures) c.saturating_add-in-Ok-Some.ensures
