@@ -84,7 +84,7 @@ carried_back code t v key carried below = drop_front (key_length_in (change_body
 some_back : (cs : List (ℕ × List ℕ)) → AllByRecursion FitsColumn cs → columns_from (length cs) (flat_map column_bytes cs) ≡ cs
 some_back cs all = subst (λ bytes. columns_from (length cs) bytes ≡ cs) (append-nil (flat_map column_bytes cs)) (columns_back cs [] all)
 
-mark_back : (t : ℕ) → t < 2 ^ 64 → decode (body_of t None) ≡ record { timestamp = t; change = None }
+pub mark_back : (t : ℕ) → t < 2 ^ 64 → decode (body_of t None) ≡ record { timestamp = t; change = None }
 unfolding is_mark_in
 mark_back t below = λ i. record { timestamp = time_back 3 t [] below i; change = None }
 
@@ -99,7 +99,7 @@ changed_back byte t v key carried kind no_mark is fits_t fits_v fits_key =
       change = change_unless (no_mark i) (record { version = version_back byte t v key carried fits_v i; key = key_back byte t v key carried fits_key i; kind = made i });
     }
 
-change_back : (t : ℕ) (change : Change) → t < 2 ^ 64 → FitsChange change → decode (body_of t (Some change)) ≡ changed t change
+pub change_back : (t : ℕ) (change : Change) → t < 2 ^ 64 → FitsChange change → decode (body_of t (Some change)) ≡ changed t change
 change_back t change fits_t fits = by_kind change.kind fits.kind
   where
     by_kind : (kind : Kind) → FitsKind kind

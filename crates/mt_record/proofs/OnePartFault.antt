@@ -139,7 +139,7 @@ no_part_on allowed count rest more (inr (inr (inr h))) = inr (inr (inr (record {
 })))
 
 -- if bytes are a part and begin with entries that no further entry follows, these are its entries and the rest is its footer
-up_to_footer : (bytes rest : List ℕ) (head other : PartHead) (entries others : List Change) (end : ℕ) → BeginsPart bytes head entries rest → HasNoEntry (limits_of head.format) rest
+pub up_to_footer : (bytes rest : List ℕ) (head other : PartHead) (entries others : List Change) (end : ℕ) → BeginsPart bytes head entries rest → HasNoEntry (limits_of head.format) rest
     → IsPart bytes other others end → (entries ≡ others) × (rest ≡ footer_bytes end (length entries))
 up_to_footer bytes rest head other entries others end begins none is =
     let footer = footer_bytes end (length others) in
