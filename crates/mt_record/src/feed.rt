@@ -95,7 +95,7 @@ impl<I: Items> Feed<I> {
         let rest = top_up(&mut self.held, wanted, piece)?;
         let left = read_whole(&mut self.items, &self.held)?.len();
         let read = self.held.len() - left;
-        drop_front(&mut self.held, read);
+        self.held.drain(..read);
         Ok(rest)
     }
 }
@@ -131,12 +131,4 @@ fn append(held: &mut Vec<u8>, bytes: &[u8]) -> Result<(), Memory>
     ensures { OnOk result (held.new.items ≡ held.old.items ++ bytes.now) }
 {
     Ok(held.extend_from_slice(bytes)?)
-}
-
-/// Removes the first `count` bytes.
-fn drop_front(held: &mut Vec<u8>, count: usize)
-    requires { count ≤ length held.old.items }
-    ensures { held.new.items ≡ drop count held.old.items }
-{
-    held.drain(..count);
 }

@@ -87,6 +87,7 @@ impl<E: Entries> PartFeed<E> {
 
     /// Returns what the bytes say as a part.
     /// Err: the one fault of the bytes, or `Memory` if an allocation failed. A part that is cut short is a fault too.
+    #[tactic(auto, using(crate::proofs::OnePartFault::no_head_read))]
     pub fn finish(self) -> Result<PartText<E>, PartFault>
         ensures part { (bytes : List ℕ) → IsPartFed self bytes → IfOk result (IsPartText E.listed bytes) }
         ensures fault { (bytes : List ℕ) → IsPartFed self bytes → IfErr result (IsPartAnswered bytes) }
@@ -95,6 +96,19 @@ impl<E: Entries> PartFeed<E> {
         if let Some(fault) = self.feed.fault {
             return Err(fault);
         }
-        self.feed.items.finish()
+        let Some(head) = self.feed.items.head else {
+            return Err(PartFault::Header);
+        };
+        let Some(end) = self.feed.items.end else {
+            return Err(self.feed.items.broken(head));
+        };
+        Ok(PartText {
+            number: head.number,
+            begin: head.begin,
+            part: head.part,
+            parts: head.parts,
+            entries: self.feed.items.entries,
+            end,
+        })
     }
 }

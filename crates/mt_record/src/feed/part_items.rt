@@ -1,10 +1,7 @@
 //! The items of a part, in order: its header, its entries and its footer.
-ghost use Rattle.std.specs.Prelude.{◌≡◌, ◌≢◌, ◌++◌, List, ℕ, None, Some, IfOk, IfErr, length};
+ghost use Rattle.std.specs.Prelude.{◌≡◌, ◌≢◌, ◌++◌, List, ℕ, None, Some, length};
 ghost use Rattle.byteorder.specs.Endian.{big_bytes};
 ghost use Rattle.mt_record.specs.declared.part_text.PartFault.TheVariants.{Broken};
-ghost use Rattle.mt_record.specs.PartTexts.{IsPartText};
-ghost use Rattle.mt_record.specs.Answered.{IsPartAnswered};
-ghost use Rattle.mt_record.specs.Feeding.{HoldsAll};
 ghost use Rattle.mt_record.specs.PartFeeding.{part_so_far, HoldsPart, IsPartLeft, IsPartFaulty, StepsPart};
 
 use crate::body::fields::{u32_at, u64_at};
@@ -13,7 +10,7 @@ use crate::feed::items::{Items, Step};
 use crate::feed::magic::NoMagic;
 use crate::feed::part_head::{FOOTER_BYTES, PART_HEADER_BYTES, next_part_header};
 use crate::kept::Entries;
-use crate::part_text::{PartFault, PartHead, PartText};
+use crate::part_text::{PartFault, PartHead};
 
 /// What was read of a part so far.
 #[derive(Drop)]
@@ -135,40 +132,12 @@ impl<E: Entries> PartItems<E> {
     }
 
     /// Returns the fault of a part that is broken after the entries so far.
-    fn broken(&self, head: PartHead) -> PartFault
+    pub fn broken(&self, head: PartHead) -> PartFault
         ensures { result ≡ Broken head.number (length (E.listed self.now.entries)) }
     {
         PartFault::Broken {
             number: head.number,
             entries: self.entries.count() as u64,
         }
-    }
-
-    /// Returns what was read as a part, if its header and its footer are complete. Err: the part is cut short.
-    #[tactic(auto, using(crate::proofs::OnePartFault::no_head_read))]
-    pub fn finish(self) -> Result<PartText<E>, PartFault>
-        ensures part { (text left : List ℕ) → HoldsAll HoldsPart IsPartLeft (part_so_far E.listed self) left text →
-            IfOk result (IsPartText E.listed text) }
-        ensures fault { (text left : List ℕ) → HoldsAll HoldsPart IsPartLeft (part_so_far E.listed self) left text →
-            IfErr result (IsPartAnswered text) }
-    {
-        let PartItems { head, entries, end } = self;
-        let Some(head) = head else {
-            return Err(PartFault::Header);
-        };
-        let Some(end) = end else {
-            return Err(PartFault::Broken {
-                number: head.number,
-                entries: entries.count() as u64,
-            });
-        };
-        Ok(PartText {
-            number: head.number,
-            begin: head.begin,
-            part: head.part,
-            parts: head.parts,
-            entries,
-            end,
-        })
     }
 }
