@@ -1,7 +1,6 @@
 //! Encodes logs. Room for all bytes is reserved first, so a failed allocation writes nothing.
 pub mod parts;
 pub mod put;
-pub mod updates;
 
 ghost use Rattle.std.specs.Prelude.{◌≡◌, ◌<◌, ◌^◌, ◌++◌, length, OnOk, OnErr};
 ghost use Rattle.mt_words.specs.Limits.{widest};

@@ -1,23 +1,21 @@
 //! The updates of a log, borrowed from its records.
-ghost use Rattle.std.specs.Prelude.{◌≡◌, ◌<◌, ◌++◌, IfOk, OnOk, length, slice_index_or};
+ghost use Rattle.std.specs.Prelude.{◌≡◌, ◌<◌, length, slice_index_or};
 ghost use Rattle.mt_words.specs.declared.update.Origin.TheVariants as origins;
 ghost use Rattle.mt_words.specs.Changes.{Logged};
-ghost use Rattle.mt_words.specs.Updates.{update_by, update_of};
+ghost use Rattle.mt_words.specs.Updates.{update_of};
 ghost use Rattle.mt_words.specs.OneLog.{kept_updates, as_list};
 
-use crate::body::copy::copy_record;
 use crate::body::lent::Lent;
 use crate::body::spelled;
 use crate::kept::log::KeptRecords;
-use mt_words::{Change, Memory, Origin, Record, Stamp, Update};
-use std::alloc::Global;
+use mt_words::Origin;
 use std::marker::Model;
 
 /// The updates of a log, kept as its records.
 #[derive(Debug, Drop)]
 pub struct Updates {
     log: usize,
-    records: KeptRecords,
+    pub(crate) records: KeptRecords,
 }
 
 impl Model for Updates {
@@ -63,20 +61,8 @@ impl Updates {
         Some(Lent::of(self.origin(number), body))
     }
 
-    /// Returns all updates, each with a copy of its key and its values. Err: out of memory.
-    pub fn into_vec(self, alloc: Global) -> Result<Vec<Update>, Memory>
-        ensures { IfOk result (λ updates. updates.items ≡ kept_updates self) }
-    {
-        let mut updates = Vec::with_capacity(alloc, self.len())?;
-        for number in 0..self.record_count() {
-            let logged = copy_record(alloc, self.records.body(number))?;
-            push_update(&mut updates, self.origin(number), logged)?;
-        }
-        Ok(updates)
-    }
-
     /// Returns where the update of the record of this number comes from.
-    fn origin(&self, number: usize) -> Origin
+    pub(crate) fn origin(&self, number: usize) -> Origin
         ensures { result ≡ origins.Log self.now.log number }
     {
         Origin::Log {
@@ -84,24 +70,4 @@ impl Updates {
             log: self.log,
         }
     }
-}
-
-/// Appends the update of a record, if the record is not a mark. Err: out of memory.
-fn push_update(updates: &mut Vec<Update>, origin: Origin, logged: Record) -> Result<(), Memory>
-    ensures { OnOk result (updates.new.items ≡
-        updates.old.items ++ update_by origin logged.timestamp logged.change) }
-{
-    let timestamp = logged.timestamp();
-    let Some(change) = logged.into_change() else {
-        return Ok(());
-    };
-    let Change { version, key, kind } = change;
-    let stamp = Stamp { version, origin };
-    updates.push(Update {
-        key,
-        stamp,
-        timestamp,
-        kind,
-    })?;
-    Ok(())
 }

@@ -5,7 +5,7 @@ use Rattle.mt_record.specs.Decoding.{IsSoundChange}
 use Rattle.mt_words.specs.declared.record.Change.{Change}
 use Rattle.mt_record.proofs.Encoding.{adds_both}
 use Rattle.mt_record.proofs.Decodes.{update_says}
-use Rattle.mt_record.proofs.encode.updates.body_of_update.Goals as goal
+use Rattle.mt_record.proofs.in_memory.bodies.body_of_update.Goals as goal
 
 pub returns : goal.returns
 returns c =
