@@ -1,9 +1,10 @@
 -- The number of trees that a layer needs, by its links.
-use Rattle.std.proofs.Common.{◌≡◌, ◌≢◌, ℕ, zero, suc, ◌+◌, ◌-◌, ◌*◌, ◌^◌, ◌<◌, ◌≤◌, min, Bool, true, false, Option, Some, None, List, [], ◌∷◌, ◌++◌, length, take, drop, sym, refl, ap, ◌∙◌, subst, arith, append_assoc, length-append}
-use Rattle.std.specs.Prelude.{Contains, nat_eq, nat_lt, ◌&&◌}
+use Rattle.std.proofs.Common.{◌≡◌, ◌≢◌, ℕ, zero, suc, ◌+◌, ◌-◌, ◌*◌, ◌^◌, ◌<◌, ◌≤◌, min, Bool, true, false, Option, Some, None, List, [], ◌∷◌, ◌++◌, length, take, drop, sym, refl, ap, ◌∙◌, subst, inl, inr, ◌⊎◌, arith, append_assoc, length-append}
+use Rattle.std.specs.Prelude.{Contains, nat_eq, nat_lt, ◌&&◌, sum_by, if◌then◌else◌}
 use Rattle.std.specs.List.{AllByRecursion}
 use Rattle.std.specs.Cmp.Lexicographic.{pointwise, bytes_decides}
 use Rattle.std.proofs.lemmas.List.{append-nil, take_at, drop_at, take-append-drop, length-take, length-map}
+use Rattle.std.proofs.lemmas.List.Sums.{sum_by-cons}
 use Rattle.std.proofs.lemmas.Bool.{ltb-true, lt-ltb}
 use Rattle.mt_words.specs.Slices.{slice_in, slice_bytes}
 use Rattle.mt_tree.specs.Steps.Pairs.{key_rank}
@@ -14,11 +15,12 @@ use Rattle.mt_tree.specs.Layer.{PlaceView, short, long, link, pairs_at, put_befo
 use Rattle.mt_tree.specs.Steps.Ranks.{rank_at, IsLayerFrom, IsRanked, ranked}
 use Rattle.mt_words.specs.Walks.{Pair, joined}
 use Rattle.mt_words.specs.Words.{IsBelow, AreRising}
-use Rattle.mt_tree.specs.Layers.{under, lies_under, AreHeads, CountsFrom, own, more, IsLayers, CountsLayers}
+use Rattle.mt_tree.specs.Layers.{under, lies_under, AreHeads, IsLayers, own_and_under, CountsLayers}
 use Rattle.mt_tree.specs.Nodes.{NodeView, LayerView, places, IsLayerTree, IsTreeCount, AreLinked, each_borders, linked, unlinked, AreBelow}
 use Rattle.mt_tree.specs.Trees.{tree_walk, tree_count, IsTree, HasLayers}
 use Rattle.mt_tree.proofs.Finds.{pairs_rank}
 use Rattle.mt_tree.proofs.Joins.{all_append, all_weaker, all_front, all_back}
+use Rattle.mt_tree.proofs.Uniques.{not_itself, head_or_rest, below_all, later, same_sum}
 
 -- the sum of the numbers of trees of these walks
 abbrev SumsLayers : List (List Pair) → ℕ → Type 0
@@ -150,16 +152,6 @@ serves low v (link s w ∷ ps) h b =
     ∙ append-nil w in
     (here, subst (λ (z : List Pair). Serves z ps) (append_assoc v (put_before q w) (walk ps)) (serves (suc (s * 10 + 9)) (v ++ put_before q w) ps h.2 (ranks_more low v (link s w) h.0 h.1 b)))
 
-counts : (v : List Pair) (ps : List PlaceView) (n : ℕ) → Serves v ps → SumsLinks ps n → CountsFrom v (heads_at ps) (n + 1)
-counts v [] n e h = let one : 1 ≡ n + 1 = omega arith in subst (CountsFrom v []) one own
-counts v (short s l c ∷ ps) n e h = counts v ps n e h
-counts v (long s t c ∷ ps) n e h = counts v ps n e h
-counts v (link s w ∷ ps) n e h =
-    let l : IsLayers w h.0 = h.2 in
-    let sum : h.0 + (h.1 + 1) ≡ n + 1 = let f : n ≡ h.0 + h.1 = h.4 in omega arith in
-    subst (CountsFrom v (slice_bytes s ∷ heads_at ps)) sum
-    (more (subst (λ (z : List Pair). AreHeads z l.heads) (sym e.0) l.are) (subst (λ (z : List Pair). CountsFrom z l.heads h.0) (sym e.0) l.counts) (counts v ps h.1 e.1 h.3))
-
 -- ---- the heads rise
 rank_of_slice : (s : ℕ) → s < 2 ^ 64 → key_rank (slice_bytes s) ≡ s * 10 + 8
 rank_of_slice s h =
@@ -195,9 +187,6 @@ has_two low v (link s w ∷ ps) q h e (zero, lt, same) =
     rw is two
 has_two low v (link s w ∷ ps) q h e (suc k, lt, same) = has_two (suc (s * 10 + 9)) v ps q h.2 e.1 (k, omega arith, same)
 
-next : (qs : List (List ℕ)) (r q : List ℕ) → Contains qs q → Contains (r ∷ qs) q
-next qs r q m = let lt : m.0 < length qs = m.1 in (suc m.0, omega arith, m.2)
-
 is_head : (low : ℕ) (ps : List PlaceView) (q : List ℕ) → IsLayerFrom low ps → 2 ≤ length (under q (walk ps)) → Contains (heads_at ps) q
 is_head low [] q h two = absurd (omega arith)
 is_head low (short s l c ∷ ps) q h two = by (is_head (suc (s * 10 + l)) ps q h.2) (lies_under q (take l (slice_bytes s))) refl
@@ -222,7 +211,7 @@ is_head low (link s w ∷ ps) q h two = by (is_head (suc (s * 10 + 9)) ps q h.2)
         let other : q ≡ slice_bytes s → ⊥ = λ f. let t : pointwise nat_eq q (slice_bytes s) ≡ true = (bytes_decides q (slice_bytes s)).1 f in (cc) in
         let tail : under q (put_before (slice_bytes s) w ++ walk ps) ≡ under q (walk ps) =
         under-append q (put_before (slice_bytes s) w) (walk ps) ∙ ap (λ (z : List Pair). z ++ under q (walk ps)) (under_other (slice_bytes s) q w (slice_bytes-length s) other) in
-        next (heads_at ps) (slice_bytes s) q (rest (subst (λ (z : List Pair). 2 ≤ length z) tail two))
+        later (slice_bytes s) (heads_at ps) q (rest (subst (λ (z : List Pair). 2 ≤ length z) tail two))
 
 pub are_heads : (ps : List PlaceView) → IsRanked ps → AreHeads (walk ps) (heads_at ps)
 are_heads ps h = record {
@@ -230,9 +219,54 @@ are_heads ps h = record {
   each = λ q. (λ m. has_two 0 (walk ps) ps q h (serves 0 [] ps h tt) m, λ two. is_head 0 ps q h two);
 }
 
+-- ---- what lies under the heads has the trees of the links
+-- `f`, but `a` at `q`
+abbrev with_at : List ℕ → ℕ → (List ℕ → ℕ) → List ℕ → ℕ
+with_at q a f r = if pointwise nat_eq r q then a else f r
+
+at_it : (q : List ℕ) (a : ℕ) (f : List ℕ → ℕ) → with_at q a f q ≡ a
+at_it q a f = rw ((bytes_decides q q).1 refl) refl
+
+at_other : (q : List ℕ) (a : ℕ) (f : List ℕ → ℕ) (r : List ℕ) → IsBelow q r → with_at q a f r ≡ f r
+at_other q a f r low = by (pointwise nat_eq r q) refl
+  where
+    by : (b : Bool) → pointwise nat_eq r q ≡ b → with_at q a f r ≡ f r
+    by true e = absurd (not_itself q (subst (IsBelow q) ((bytes_decides r q).0 e) low))
+    by false e = rw e refl
+
+-- the number of trees of what lies under each head, and their sum
+record HasTrees (v : List Pair) (qs : List (List ℕ)) (n : ℕ) : Type 0 where
+  trees : List ℕ → ℕ
+  each : (q : List ℕ) → Contains qs q → IsLayers (under q v) (trees q)
+  sum : sum_by trees qs ≡ n
+
+one_more : (v : List Pair) (q : List ℕ) (a : ℕ) (qs : List (List ℕ)) (n : ℕ) → AllByRecursion (IsBelow q) qs → IsLayers (under q v) a → HasTrees v qs n → HasTrees v (q ∷ qs) (a + n)
+one_more v q a qs n above here more =
+    let other : (r : List ℕ) → Contains qs r → with_at q a more.trees r ≡ more.trees r = λ r m. at_other q a more.trees r (below_all q qs r above m) in
+    record {
+      trees = with_at q a more.trees;
+      each = λ r m. elim (head_or_rest q qs r m) [
+        | inl e ↦ subst (λ (z : List ℕ). IsLayers (under z v) (with_at q a more.trees z)) e (subst (IsLayers (under q v)) (sym (at_it q a more.trees)) here)
+        | inr n ↦ subst (IsLayers (under r v)) (sym (other r n)) (more.each r n)
+      ];
+      sum = omega (arith, sum_by-cons (with_at q a more.trees) q qs, at_it q a more.trees, same_sum qs (with_at q a more.trees) more.trees other, more.sum);
+    }
+
+trees_of : (low : ℕ) (v : List Pair) (ps : List PlaceView) (n : ℕ) → IsLayerFrom low ps → Serves v ps → SumsLinks ps n → HasTrees v (heads_at ps) n
+trees_of low v [] n h e sums = record { trees = λ q. 0; each = λ q m. absurd (let lt = m.1 in omega arith); sum = sym sums }
+trees_of low v (short s l c ∷ ps) n h e sums = trees_of (suc (s * 10 + l)) v ps n h.2 e sums
+trees_of low v (long s t c ∷ ps) n h e sums = trees_of (suc (s * 10 + 9)) v ps n h.2 e sums
+trees_of low v (link s w ∷ ps) n h e (a, b, here, rest, is) =
+    let q = slice_bytes s in
+    let more = trees_of (suc (s * 10 + 9)) v ps b h.2 e.1 rest in
+    subst (HasTrees v (q ∷ heads_at ps)) (sym is) (one_more v q a (heads_at ps) b (heads_above s (suc (s * 10 + 9)) ps h.0.0 (omega arith) h.2) (subst (λ (z : List Pair). IsLayers z a) (sym e.0) here) more)
+
 -- the number of trees of a layer, by its links
 pub layers_are : (ps : List PlaceView) (n : ℕ) → IsRanked ps → SumsLinks ps n → IsLayers (walk ps) (n + 1)
-layers_are ps n h s = record { heads = heads_at ps; are = are_heads ps h; counts = counts (walk ps) ps n (serves 0 [] ps h tt) s }
+layers_are ps n h s =
+    let under_heads = trees_of 0 (walk ps) ps n h (serves 0 [] ps h tt) s in
+    let is : 1 + sum_by under_heads.trees (heads_at ps) ≡ n + 1 = omega (arith, under_heads.sum) in
+    subst (IsLayers (walk ps)) is (own_and_under (are_heads ps h) under_heads.each)
 
 -- ---- sums
 sums_linked : (ws : List (List Pair)) (ls : List (List (List PlaceView))) → AllByRecursion (λ l. IsRanked (joined l)) ls → AreLinked ws ls → SumsLayers ws (length ls)
