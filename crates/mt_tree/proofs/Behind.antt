@@ -9,9 +9,8 @@ use Rattle.mt_tree.specs.Layer.{PlaceView, link, slice_at, length_at, pairs_at, 
 use Rattle.mt_tree.specs.Steps.Ranks.{rank_at, IsRanked, AreRanked, length_at-le}
 use Rattle.mt_tree.specs.Steps.Pairs.{key_rank, weight}
 use Rattle.mt_tree.specs.Steps.Seams.{Meet, first_slice_of}
-use Rattle.mt_tree.specs.Steps.Falls.{weight-append, walk-append, layer_back}
+use Rattle.mt_tree.specs.Steps.Falls.{weight-append, walk-append, layer_back, joined-append}
 use Rattle.mt_tree.specs.Nodes.{IsBorder}
-use Rattle.mt_tree.specs.Steps.NodeFalls.{joined-append}
 use Rattle.mt_tree.specs.Borders.{DraftView, borders_walk, layer_walk}
 use Rattle.mt_tree.specs.Steps.DraftViews.{border_views, draft_of, IsStored, PutBehind}
 use Rattle.mt_tree.specs.declared.layer.Border.{Border}

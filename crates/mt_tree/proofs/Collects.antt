@@ -16,7 +16,6 @@ use Rattle.mt_tree.specs.Steps.Ranks.{rank_at, IsLayerFrom, length_at-le, ranked
 use Rattle.mt_words.specs.Walks.{Pair, joined}
 use Rattle.mt_tree.specs.Nodes.{NodeView, places, IsNode, AreSeparated, SlicesFrom}
 use Rattle.mt_tree.specs.Steps.Levels.{borders_of, branches, node_walk}
-use Rattle.mt_tree.specs.Steps.NodeFalls.{joined-append, all_weight}
 use Rattle.mt_tree.specs.Steps.NodeViews.{node_view, IsNodeKind}
 use Rattle.mt_tree.specs.Range.{from}
 use Rattle.mt_tree.specs.declared.node.NodeKind.{NodeKind}
@@ -27,7 +26,7 @@ use Rattle.mt_tree.proofs.Finds.{pairs_rank, view_lawful, layer_lawful, border_l
 use Rattle.mt_tree.proofs.Orders.{pairs_bytes}
 use Rattle.mt_tree.proofs.Lights.{kid_lighter, view_light, kids_more}
 use Rattle.mt_tree.proofs.Ranged.{from-append, from_kept, from_empty, short_from, below_from, place_gone}
-use Rattle.mt_tree.specs.Steps.Falls.{walk-append}
+use Rattle.mt_tree.specs.Steps.Falls.{walk-append, joined-append, all_weight}
 use Rattle.mt_tree.proofs.Joins.{put_before-append, all_weaker, all_front, all_back}
 use Rattle.mt_tree.specs.Steps.Places.{views, view_of, view_of_content}
 use Rattle.mt_tree.specs.declared.place.Place.{Place}

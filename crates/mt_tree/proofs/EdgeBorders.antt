@@ -7,7 +7,6 @@ use Rattle.mt_tree.specs.Layer.{PlaceView, walk, IsPlace}
 use Rattle.mt_tree.specs.Steps.Ranks.{IsRanked}
 use Rattle.mt_words.specs.Walks.{Pair, joined}
 use Rattle.mt_tree.specs.Nodes.{IsBorder}
-use Rattle.mt_tree.specs.Steps.NodeFalls.{joined-append}
 use Rattle.mt_tree.specs.Borders.{DraftView, layer_walk}
 use Rattle.mt_tree.specs.Steps.Edges.{PlaceEdge, LastEdge, FirstEdge}
 use Rattle.mt_tree.specs.Steps.DraftViews.{border_view, border_views, draft_of, IsOpen, IsOpened, IsFirstOpen, IsLastOpen, IsStored}
@@ -15,7 +14,7 @@ use Rattle.mt_tree.specs.declared.layer.Border.{Border}
 use Rattle.mt_tree.specs.declared.layer.Border.TheVariants.{Open, Closed}
 use Rattle.mt_tree.proofs.Orders.{last_of, first_of, last_edge, first_edge}
 use Rattle.mt_tree.proofs.Puts.{borders-append, last_open}
-use Rattle.mt_tree.specs.Steps.Falls.{layer_back}
+use Rattle.mt_tree.specs.Steps.Falls.{layer_back, joined-append}
 use Rattle.mt_tree.proofs.Joins.{all_back}
 use Rattle.mt_tree.specs.Steps.Places.{views, view_of}
 use Rattle.mt_tree.specs.declared.place.Place.{Place}

@@ -7,10 +7,9 @@ use Rattle.mt_tree.proofs.Levels.{below-append}
 use Rattle.mt_tree.specs.Layer.{PlaceView, link, IsPlace, walk}
 use Rattle.mt_tree.specs.Steps.Ranks.{IsRanked, AreRanked}
 use Rattle.mt_tree.specs.Steps.Pairs.{weight}
-use Rattle.mt_tree.specs.Steps.Falls.{weight-append, walk-append, layer_back, layer_front}
+use Rattle.mt_tree.specs.Steps.Falls.{weight-append, walk-append, layer_back, layer_front, joined-append}
 use Rattle.mt_tree.specs.Nodes.{NodeView, AreLinked, linked, unlinked, each_borders, IsBorder, LayerView, IsLayerTree, IsNode, AreBelow, IsTreeCount}
 use Rattle.mt_tree.specs.Steps.Levels.{border_tree, node_walk}
-use Rattle.mt_tree.specs.Steps.NodeFalls.{joined-append}
 use Rattle.mt_tree.specs.Borders.{DraftView, borders_walk, layer_walk}
 use Rattle.mt_tree.specs.Steps.NodeViews.{border_node, trees_under}
 use Rattle.std.specs.List.{flat_map}

@@ -18,7 +18,6 @@ use Rattle.mt_tree.specs.Steps.Ranks.{rank_at, IsLayerFrom, IsRanked, ranked}
 use Rattle.mt_words.specs.Walks.{Pair, joined}
 use Rattle.mt_tree.specs.Nodes.{NodeView, places, IsNode, AreSeparated, SlicesFrom}
 use Rattle.mt_tree.specs.Steps.Levels.{borders_of, branches, node_walk}
-use Rattle.mt_tree.specs.Steps.NodeFalls.{joined-append, branches_length}
 use Rattle.std.proofs.Common.{Vec, Global, Bor}
 use Rattle.arrayvec.specs.declared.array_vec.ArrayVec.{ArrayVec}
 use Rattle.std.specs.Global.{Box}
@@ -28,7 +27,7 @@ use Rattle.mt_tree.specs.Steps.NodeViews.{node_view, IsNodeKind}
 use Rattle.mt_tree.specs.declared.place.Content.TheVariants.{Short, Suffix, Link}
 use Rattle.mt_tree.specs.declared.node.NodeKind.{NodeKind}
 use Rattle.mt_tree.specs.declared.node.NodeKind.TheVariants.{Border, Interior}
-use Rattle.mt_tree.specs.Steps.Falls.{walk-append}
+use Rattle.mt_tree.specs.Steps.Falls.{walk-append, joined-append, branches_length}
 use Rattle.mt_tree.proofs.Joins.{long_rank}
 use Rattle.mt_tree.specs.Steps.Places.{views, view_of, view_of_content}
 use Rattle.mt_tree.specs.declared.place.Place.{Place}

@@ -6,7 +6,7 @@ use Rattle.std.proofs.lemmas.Grind.{flat_map-append}
 use Rattle.std.proofs.lemmas.List.Folds.{flat_map-map}
 use Rattle.mt_words.specs.Slices.{slice_bytes}
 use Rattle.mt_words.proofs.SliceBytes.{slice_bytes-length}
-use Rattle.mt_tree.specs.Steps.Falls.{weight-append, walk-append, layer_back, layer_front}
+use Rattle.mt_tree.specs.Steps.Falls.{weight-append, walk-append, layer_back, layer_front, joined-append, branches_length}
 use Rattle.mt_tree.specs.Layer.{walk, pairs_at, PlaceView, short, long, link, slice_at, IsPlace, linked_walks}
 use Rattle.mt_tree.specs.Steps.Ranks.{rank_at, IsLayerFrom, IsRanked, layered}
 use Rattle.mt_tree.specs.Steps.Pairs.{weight}
@@ -14,7 +14,6 @@ use Rattle.mt_words.specs.Walks.{Pair, joined}
 use Rattle.mt_tree.specs.Nodes.{NodeView, BranchView, InteriorView, LayerView, HaveInteriors, as_branch, none, border, interior, AreLinked, AreBelow, each_borders, places, SlicesFrom, SlicesBelow, SlicesApart, IsBorder, IsNode, IsInterior, IsLayerTree, AreSeparated, linked, unlinked}
 use Rattle.mt_tree.specs.Steps.Levels.{borders_of, interiors_of, below_of, IsNodeAt, IsLevelAt, IsLevel, level_height, branches, first_of, interior_node, parent_node}
 use Rattle.mt_tree.specs.Steps.Seams.{CutAt, first_slice_of}
-use Rattle.mt_tree.specs.Steps.NodeFalls.{joined-append, branches_length}
 use Rattle.mt_tree.proofs.Finds.{AreChildren, interior_is}
 use Rattle.mt_tree.proofs.Joins.{all_append, below_lighter, all_back, all_front, all_weaker}
 use Rattle.mt_tree.proofs.Cuts.{slices_from, borders_of-append, level_is}

@@ -5,10 +5,9 @@ use Rattle.std.proofs.lemmas.List.{append-nil, take_more, map_more}
 use Rattle.mt_words.specs.Walks.{joined}
 use Rattle.mt_tree.specs.Layer.{PlaceView, link, pairs_at, walk, IsPlace}
 use Rattle.mt_tree.specs.Steps.Pairs.{weight}
-use Rattle.mt_tree.specs.Steps.Falls.{weight-append}
+use Rattle.mt_tree.specs.Steps.Falls.{weight-append, node_some, all_weight, all_weight-cons, joined-append}
 use Rattle.mt_tree.specs.Nodes.{NodeView, places, IsNode}
 use Rattle.mt_tree.specs.Steps.Levels.{borders_of, node_walk}
-use Rattle.mt_tree.specs.Steps.NodeFalls.{node_some, all_weight, all_weight-cons, joined-append}
 use Rattle.mt_tree.specs.declared.place.Content.TheVariants.{Link}
 use Rattle.mt_tree.proofs.Levels.{link_lighter}
 use Rattle.mt_tree.specs.Steps.Places.{views, view_of, view_of_content}

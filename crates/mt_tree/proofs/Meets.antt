@@ -6,9 +6,8 @@ use Rattle.mt_tree.specs.Layer.{PlaceView, slice_at, walk, AllKeysBelow}
 use Rattle.mt_tree.specs.Steps.Ranks.{IsRanked, AreRanked}
 use Rattle.mt_tree.specs.Steps.Pairs.{weight}
 use Rattle.mt_words.specs.Walks.{Pair, joined}
-use Rattle.mt_tree.specs.Steps.Falls.{weight-append, walk-append, layer_back, layer_front}
+use Rattle.mt_tree.specs.Steps.Falls.{weight-append, walk-append, layer_back, layer_front, joined-append}
 use Rattle.mt_tree.specs.Nodes.{IsBorder}
-use Rattle.mt_tree.specs.Steps.NodeFalls.{joined-append}
 use Rattle.mt_tree.specs.Borders.{DraftView, borders_walk, layer_walk}
 use Rattle.mt_tree.specs.Steps.Seams.{SameEnds, last_slice_of, first_slice_of}
 use Rattle.mt_tree.specs.Steps.DraftViews.{border_views, draft_of, IsStored, PutBehind}

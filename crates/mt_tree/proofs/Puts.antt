@@ -10,14 +10,13 @@ use Rattle.mt_tree.specs.Steps.Ranks.{rank_at, IsRanked, IsLayerFrom, AreRanked,
 use Rattle.mt_tree.specs.Nodes.{SlicesBelow, SlicesFrom, IsBorder}
 use Rattle.mt_tree.specs.Steps.Seams.{CutAt, OfSlice, first_slice_of, last_slice_of}
 use Rattle.mt_tree.specs.Borders.{layer_walk, DraftView}
-use Rattle.mt_tree.specs.Steps.NodeFalls.{joined-append}
 use Rattle.mt_tree.specs.Steps.DraftViews.{border_view, border_views, IsLawfulLink, HaveLawfulLinks, HasLawfulLinks, IsOpen, IsFirstOpen, IsLastOpen, PutBehind, PutOpen}
 use Rattle.mt_tree.specs.declared.layer.Border.{Border}
 use Rattle.mt_tree.specs.declared.layer.Border.TheVariants.{Open}
 use Rattle.mt_tree.proofs.Joins.{slice_at-draft, slice_at-lt, all_append, all_weaker, all_front, all_back}
 use Rattle.mt_tree.proofs.Cuts.{slices_from, cut_nil, run_few}
 use Rattle.mt_tree.proofs.Seams.{are_append, cut_each, up_to_last, from_first_slice}
-use Rattle.mt_tree.specs.Steps.Falls.{layer_back, layer_front}
+use Rattle.mt_tree.specs.Steps.Falls.{layer_back, layer_front, joined-append}
 use Rattle.mt_tree.specs.Steps.Places.{views, view_of}
 use Rattle.mt_tree.specs.declared.place.Place.{Place}
 

@@ -7,10 +7,9 @@ use Rattle.mt_tree.specs.Layer.{PlaceView, slice_at}
 use Rattle.mt_tree.specs.Steps.Ranks.{rank_at, IsRanked, IsLayerFrom, AreRanked, length_at-le}
 use Rattle.mt_tree.specs.Nodes.{SlicesFrom, SlicesApart, IsBorder}
 use Rattle.mt_tree.specs.Steps.Seams.{CutAt, SameEnds, last_slice_of, first_slice_of}
-use Rattle.mt_tree.specs.Steps.NodeFalls.{joined-append}
 use Rattle.mt_tree.proofs.Joins.{all_append, all_weaker, all_front, all_back}
 use Rattle.mt_tree.proofs.Cuts.{slices_from}
-use Rattle.mt_tree.specs.Steps.Falls.{layer_back, layer_front}
+use Rattle.mt_tree.specs.Steps.Falls.{layer_back, layer_front, joined-append}
 
 -- two lists of borders with slices apart make one such list, if the first list's slices are below the second's
 apart_append : (fs bs : List (List PlaceView)) → SlicesApart fs → SlicesApart bs → AllByRecursion (λ a. CutAt a (joined bs)) fs → SlicesApart (fs ++ bs)

@@ -5,7 +5,6 @@ pub mod Places
 pub mod Seams
 pub mod Levels
 pub mod NodeViews
-pub mod NodeFalls
 pub mod DraftViews
 pub mod Falls
 pub mod Edges

@@ -56,7 +56,7 @@ impl Model for Node {
     ghost size = { λ v. weight (node_walk v) };
 
     ghost use Rattle.std.proofs.Common.{arith};
-    ghost use Rattle.mt_tree.specs.Steps.NodeFalls.{kind_falls};
+    ghost use Rattle.mt_tree.specs.Steps.Falls.{kind_falls};
 
     ghost size_decreases = { λ a h. omega (arith, kind_falls a.kind h) };
 }
