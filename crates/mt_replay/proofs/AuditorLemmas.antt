@@ -1,23 +1,19 @@
 -- The clashes of updates that come in the order of their keys.
-use Rattle.std.proofs.Common.{◌≡◌, ◌↔◌, inl, inr, ℕ, ◌+◌, ◌<◌, List, [], ◌∷◌, ◌++◌, length, take, Bool, Option, Some, None, Contains, IsPermutation, MatchOption, true, false, true≢false, refl, sym, ap, ◌∙◌, subst, append_assoc}
-use Rattle.std.specs.Prelude.{slice_index_or}
-use Rattle.std.specs.List.{filter, flat_map}
-use Rattle.std.proofs.lemmas.List.{append-nil, take_more}
+use Rattle.std.proofs.Common.{◌≡◌, ◌↔◌, inl, inr, ℕ, List, [], ◌∷◌, ◌++◌, Option, Some, None, Contains, IsPermutation, MatchOption, true, false, true≢false, refl, sym, ap, ◌∙◌, subst, append_assoc}
+use Rattle.std.proofs.lemmas.List.{append-nil}
 use Rattle.std.proofs.lemmas.List.Concat.{flat_map-append}
-use Rattle.std.proofs.lemmas.List.Elements.{filter-append, Contains-append_cases, Contains-append_left, Contains-append_right}
-use Rattle.std.proofs.lemmas.List.Sorted.{IsPermutation-sym, IsPermutation-append, Contains-permutation}
+use Rattle.std.proofs.lemmas.List.Elements.{Contains-append_cases, Contains-append_left, Contains-append_right}
+use Rattle.std.proofs.lemmas.List.Sorted.{IsPermutation-sym, Contains-permutation}
 use Rattle.mt_words.specs.declared.update.Update.{Update}
 use Rattle.mt_words.specs.Words.{IsBelow}
-use Rattle.mt_words.specs.Walks.{joined}
 use Rattle.mt_words.proofs.Elements.{no_element}
 use Rattle.mt_replay.specs.declared.clash.Place.{Place}
 use Rattle.mt_replay.specs.declared.auditor.Seen.{Seen}
-use Rattle.mt_replay.specs.Cuts.{in_piece, updates_in, InKeyOrder}
+use Rattle.mt_replay.specs.Cuts.{InKeyOrder}
 use Rattle.mt_replay.specs.Clashes.{Clash, HasUpdateAt, AreClashes}
 use Rattle.mt_replay.specs.Steps.Walker.{IsLastKey}
 use Rattle.mt_replay.specs.Steps.Auditor.{AreClashesOf, IsSeen, seen_by, seen_in, AddClashes, IsAuditSoFar}
 use Rattle.mt_replay.proofs.ClashLemmas.{stands, has_in, no_clashes, same_clashes, clashes_append, clashes_of_updates, updates_of_clashes, same_updates, Either}
-use Rattle.mt_replay.proofs.FilterLemmas.{filter_every}
 use Rattle.mt_replay.proofs.SeenLemmas.{seen_stands}
 use Rattle.mt_replay.proofs.WalkerLemmas.{more_of_key, above_others, next_key}
 
@@ -109,19 +105,3 @@ seen_next updates update old new first seen fresh so_far order apart done begun 
 
 pub moved_clashes : (updates others : List Update) (clashes : List Clash) → IsPermutation updates others → AreClashes others clashes → AreClashes updates clashes
 moved_clashes updates others clashes moved are = same_updates others updates clashes (λ u. (λ at. Contains-permutation others updates u (IsPermutation-sym updates others moved) at, λ at. Contains-permutation updates others u moved at)) are
-
--- the cells of one log more
-pub cells_more : {V : Type 0} (updates_of : V → List Update) (passes : Update → Bool) (logs : List V) (i : ℕ) (log : V) (lists new : List (List Update)) (cells : List Update) → i < length logs → log ≡ slice_index_or logs i log
-    → IsPermutation (filter passes (flat_map updates_of (take i logs))) (joined lists) → IsPermutation (filter passes (updates_of log)) cells → new ≡ lists ++ cells ∷ []
-    → IsPermutation (filter passes (flat_map updates_of (take (i + 1) logs))) (joined new)
-cells_more {V} updates_of passes logs i log lists new cells lt is moved own pushed =
-    let first : List Update = flat_map updates_of (take i logs) in
-    let more : flat_map updates_of (take (i + 1) logs) ≡ first ++ updates_of log = ap (flat_map updates_of) (take_more logs i log lt ∙ ap (λ (v : V). take i logs ++ v ∷ []) (sym is))
-    ∙ flat_map-append updates_of (take i logs) (log ∷ []) ∙ ap (λ (us : List Update). first ++ us) (append-nil (updates_of log)) in
-    let all : joined new ≡ joined lists ++ cells = ap joined pushed ∙ flat_map-append (λ (list : List Update). list) lists (cells ∷ []) ∙ ap (λ (us : List Update). joined lists ++ us) (append-nil cells) in
-    subst (λ (us : List Update). IsPermutation us (joined new)) (sym (ap (filter passes) more ∙ filter-append passes first (updates_of log)))
-    (subst (IsPermutation (filter passes first ++ filter passes (updates_of log))) (sym all) (IsPermutation-append (filter passes first) (joined lists) (filter passes (updates_of log)) cells moved own))
-
--- without cuts all updates are in the one piece
-pub one_piece : (cuts : List (List ℕ)) (updates : List Update) → cuts ≡ [] → updates_in cuts 0 updates ≡ updates
-one_piece cuts updates none = ap (λ (keys : List (List ℕ)). updates_in keys 0 updates) none ∙ filter_every (λ (u : Update). in_piece [] 0 u.key) updates (λ k d lt. refl)

@@ -1,14 +1,11 @@
 -- Clashes: a version of a key that several updates of logs have.
-use Rattle.std.specs.Prelude.{◌≡◌, ℕ, ◌+◌, ◌<◌, ◌⊎◌, ◌↔◌, ◌&&◌, Bool, not, Some, slice_get, List, [], ◌∷◌, length, Contains}
+use Rattle.std.specs.Prelude.{◌≡◌, ℕ, ◌+◌, ◌<◌, ◌⊎◌, ◌↔◌, Some, slice_get, List, [], ◌∷◌, length, Contains}
 use Rattle.std.specs.List.{AllByRecursion}
 use Rattle.mt_words.specs.declared.update.Origin.TheVariants as origins
 use Rattle.mt_words.specs.declared.update.Update.{Update}
 use Rattle.mt_words.specs.Words.{IsBelow}
 use Rattle.mt_words.specs.Stamps.{IsBefore}
 use Rattle.mt_replay.specs.declared.clash.Place.{Place}
-use Rattle.mt_replay.specs.declared.window.Window.{Window}
-use Rattle.mt_replay.specs.Survivors.{in_window}
-use Rattle.mt_replay.specs.Batches.{is_whole}
 use Rattle.mt_replay.specs.Cuts.{updates_in}
 
 -- a clash: a key, a version of it, and the records that have it
@@ -53,7 +50,3 @@ pub record AreClashes (updates : List Update) (clashes : List Clash) : Type 0 wh
 pub record AreClashesOfPieces (updates : List Update) (cuts : List (List ℕ)) (pieces : List (List Clash)) : Type 0 where
   pub count : length pieces ≡ length cuts + 1
   pub each : (i : ℕ) (piece : List Clash) → slice_get pieces i ≡ Some piece → AreClashes (updates_in cuts i updates) piece
-
--- whether this is an update in the window, and no entry of a checkpoint
-abbrev pub is_logged_in : Window → Update → Bool
-is_logged_in window update = not (is_whole update.kind) && in_window window update

@@ -10,7 +10,7 @@ use Rattle.mt_replay.specs.declared.window.Window.{Window}
 -- the updates of these logs, numbered from `log` on
 abbrev pub all_updates : ℕ → List (List Logged) → List Update
 all_updates log [] = []
-all_updates log (rs ∷ rss) = updates_from log 0 rs ++ all_updates (suc log) rss
+all_updates log (records ∷ later) = updates_from log 0 records ++ all_updates (suc log) later
 
 -- the updates of the logs that have these records
 abbrev pub log_updates : List (List Logged) → List Update

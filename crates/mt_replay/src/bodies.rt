@@ -5,7 +5,7 @@ ghost use Rattle.mt_record.specs.Decoding.{IsChangeBody, update_in};
 ghost use Rattle.mt_replay.specs.Steps.Bodies.{IsUpdateText, update_in_text, short_text, long_text};
 
 use byteorder::{BigEndian, ByteOrder};
-use mt_record::{Lent, ByteStrings};
+use mt_record::{ByteStrings, Lent};
 use mt_words::{Memory, Origin};
 use std::alloc::Global;
 use std::marker::Model;

@@ -1,8 +1,14 @@
-//! Cells of updates in memory. Recovery reads bodies and needs none of this.
+//! For callers that have updates in memory: no program of the repository takes this way, and nothing else in the crate
+//! needs it.
 
 mod cell;
 mod group;
+mod pieces;
 mod spelling;
 
-pub use cell::Cell;
-pub(crate) use spelling::{all_bodies, spell};
+use crate::SortedUpdates;
+pub use cell::{Cell, one_cell};
+pub use pieces::{clashes, replay_piece};
+
+/// The name of `SortedUpdates` for callers that have updates in memory.
+pub type LogCells = SortedUpdates;

@@ -68,11 +68,11 @@ fn distance_for(lists: &[SortedUpdates], most: usize) -> usize
     requires { 0 < most }
     ensures { 0 < result }
 {
-    let mut updates = 0usize;
-    for cells in lists {
-        updates = updates.saturating_add(cells.len());
+    let mut count = 0usize;
+    for updates in lists {
+        count = count.saturating_add(updates.len());
     }
-    updates.div_ceil(most).max(1)
+    count.div_ceil(most).max(1)
 }
 
 /// Returns one key for each `distance` updates of each list. At distance 1 these are the keys of all updates.
@@ -83,26 +83,26 @@ fn some_keys(alloc: Global, lists: &[SortedUpdates], distance: usize) -> Result<
     ensures all { IfOk result (λ keys. distance ≡ 1 → map (λ key. key.now) keys.items ≡ keys_in (joined lists.now)) }
 {
     let mut keys = Vec::new(alloc);
-    for cells in lists {
-        add_some(&mut keys, cells, distance)?;
+    for updates in lists {
+        add_some(&mut keys, updates, distance)?;
     }
     Ok(keys)
 }
 
-/// Appends one key for each `distance` updates of these cells, from the middle of those updates. Err: out of memory.
+/// Appends one key for each `distance` of the updates, from the middle of those. Err: out of memory.
 fn add_some<'a>(
     keys: &mut Vec<&'a [u8]>,
-    cells: &'a SortedUpdates,
+    updates: &'a SortedUpdates,
     distance: usize,
 ) -> Result<(), Memory>
     requires { 0 < distance }
     ensures lawful { OnOk result (All (IsKey widest) (map (λ key. key.now) keys.old.items) →
         All (IsKey widest) (map (λ key. key.now) keys.new.items)) }
     ensures all { OnOk result (distance ≡ 1 →
-        map (λ key. key.now) keys.new.items ≡ map (λ key. key.now) keys.old.items ++ keys_in cells.now) }
+        map (λ key. key.now) keys.new.items ≡ map (λ key. key.now) keys.old.items ++ keys_in updates.now) }
 {
-    for number in 0..cells.len() / distance {
-        keys.push(cells.get(number * distance + distance / 2).key())?;
+    for number in 0..updates.len() / distance {
+        keys.push(updates.get(number * distance + distance / 2).key())?;
     }
     Ok(())
 }

@@ -4,22 +4,19 @@ ghost use Rattle.std.specs.List.Sorted.{IsPartitionPoint};
 ghost use Rattle.mt_words.specs.declared.update.Update.{Update as UpdateValue};
 ghost use Rattle.mt_words.specs.Words.{AreRising};
 ghost use Rattle.mt_replay.specs.Survivors.{in_window, wholes};
-ghost use Rattle.mt_replay.specs.Batches.{survives as survives_in};
 ghost use Rattle.mt_replay.specs.Cuts.{is_below, InKeyOrder};
-ghost use Rattle.mt_replay.specs.Steps.SortedUpdates.{survives_with};
 
 use crate::Window;
 use crate::batch::Batch;
 use crate::bodies::Bodies;
-use crate::in_memory::{all_bodies, spell};
 use crate::sliced::Sliced;
 use crate::sorting::sort_by_key;
 use mt_record::{KeptEntries, Lent};
-use mt_words::{Memory, Update};
+use mt_words::Memory;
 use std::alloc::Global;
 use std::marker::Model;
 
-/// Where the updates of cells lie.
+/// Where the updates lie.
 #[derive(Drop)]
 enum Held {
     /// In bodies that were sorted.
@@ -49,32 +46,13 @@ impl Model for SortedUpdates {
 }
 
 impl SortedUpdates {
-    /// Returns the updates that survive. It encodes each of them. If they are bodies already, `of_batch` and
-    /// `of_rising` avoid that. Err: out of memory.
-    pub fn of(alloc: Global, updates: Vec<Update>, window: Window) -> Result<SortedUpdates, Memory>
-        ensures { IfOk result (λ cells. IsPermutation (filter (survives_in window) updates.items) cells) }
-    {
-        SortedUpdates::of_spelled(alloc, &updates, window, true)
-    }
-
-    /// Returns the log updates in the window, and with `entries` all entries too. It encodes each of them. Err: out of
-    /// memory.
-    pub(crate) fn of_spelled(
-        alloc: Global,
-        updates: &[Update],
-        window: Window,
-        entries: bool,
-    ) -> Result<SortedUpdates, Memory>
-        ensures { IfOk result (λ cells. IsPermutation (filter (survives_with entries window) updates.now) cells) }
-    {
-        let bodies = spell(alloc, updates, window, entries)?;
-        let mut sliced = all_bodies(alloc, &bodies)?;
-        in_order(alloc, &mut sliced)
-    }
-
     /// Returns the updates of a batch that are in the window. Err: out of memory.
-    pub fn of_batch(alloc: Global, batch: &Batch<'_>, window: Window) -> Result<SortedUpdates, Memory>
-        ensures { IfOk result (λ cells. IsPermutation (filter (in_window window) batch.now.updates) cells) }
+    pub fn of_batch(
+        alloc: Global,
+        batch: &Batch<'_>,
+        window: Window,
+    ) -> Result<SortedUpdates, Memory>
+        ensures { IfOk result (λ sorted. IsPermutation (filter (in_window window) batch.now.updates) sorted) }
     {
         let mut sliced = batch.survivors(alloc, window)?;
         in_order(alloc, &mut sliced)
@@ -141,9 +119,9 @@ fn comes_before(first: &[u8], second: &[u8]) -> bool
     first.cmp(second).is_lt()
 }
 
-/// Sorts these updates by key, and returns cells of them.
-fn in_order(alloc: Global, sliced: &mut Vec<Sliced<'_>>) -> Result<SortedUpdates, Memory>
-    ensures { IfOk result (λ cells. IsPermutation sliced.old.items cells) }
+/// Sorts these updates by key, and copies their bodies in that order. Err: out of memory.
+pub(crate) fn in_order(alloc: Global, sliced: &mut Vec<Sliced<'_>>) -> Result<SortedUpdates, Memory>
+    ensures { IfOk result (λ sorted. IsPermutation sliced.old.items sorted) }
 {
     sort_by_key(sliced);
     gather(alloc, size_of(sliced), sliced)
@@ -158,10 +136,10 @@ fn size_of(updates: &[Sliced<'_>]) -> usize {
     size
 }
 
-/// Returns cells of these updates. Room for `size` bytes of bodies is reserved.
+/// Copies the bodies of these updates, in order. Room for `size` bytes is reserved. Err: out of memory.
 fn gather(alloc: Global, size: usize, updates: &[Sliced<'_>]) -> Result<SortedUpdates, Memory>
     requires { InKeyOrder updates.now }
-    ensures { IfOk result (λ cells. cells ≡ updates.now) }
+    ensures { IfOk result (λ sorted. sorted ≡ updates.now) }
 {
     let mut bodies = Bodies::with_capacity(alloc, updates.len(), size)?;
     for sliced in updates {

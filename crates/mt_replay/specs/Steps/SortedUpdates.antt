@@ -1,5 +1,5 @@
 -- Updates in the order of their keys: how they are held, what a run of them yields, and what of them is in a piece.
-use Rattle.std.specs.Prelude.{◌≡◌, ℕ, ⊤, Bool, true, false, Option, Some, None, List, [], ◌∷◌, length, min, drop, IsPermutation}
+use Rattle.std.specs.Prelude.{◌≡◌, ℕ, ⊤, Bool, true, Option, Some, None, List, [], ◌∷◌, length, min, drop, IsPermutation}
 use Rattle.std.specs.Global.{Global}
 use Rattle.std.specs.Iterator.{DrainsIf, at_most}
 use Rattle.std.specs.Ordering.{partial_lt}
@@ -8,24 +8,16 @@ use Rattle.itertools.specs.declared.kmerge_impl.KMergeLt.{KMergeLt}
 use Rattle.itertools.specs.KMerge.{kmerge_can, kmerge_steps}
 use Rattle.mt_words.specs.declared.update.Update.{Update}
 use Rattle.mt_words.specs.Slices.{AreBytes, slice_in}
-use Rattle.mt_replay.specs.declared.window.Window.{Window}
 use Rattle.mt_replay.specs.declared.sorted_updates.Held.{Held}
 use Rattle.mt_replay.specs.declared.sorted_updates.Held.TheVariants.{Sorted, Read}
 use Rattle.mt_replay.specs.Cuts.{InKeyOrder}
 use Rattle.mt_replay.specs.Survivors.{wholes}
-use Rattle.mt_replay.specs.Batches.{survives}
-use Rattle.mt_replay.specs.Clashes.{is_logged_in}
 use Rattle.mt_replay.specs.Steps.Fronts.{key_cmp}
 
 -- the updates that are held
 abbrev pub held_in : Held → List Update
 held_in (Sorted updates) = updates
 held_in (Read entries) = wholes entries
-
--- whether an update survives if entries do, or if they do not
-abbrev pub survives_with : Bool → Window → Update → Bool
-survives_with true window update = survives window update
-survives_with false window update = is_logged_in window update
 
 -- the numbers are the first two slices of a key, or of what follows some of its bytes, and its length, counted up to 17; it consists of bytes
 pub record IsSliced (slice second size : ℕ) (key : List ℕ) : Type 0 where

@@ -1,10 +1,10 @@
-//! The result of the updates of one key, for a caller that holds updates in memory.
-ghost use Rattle.std.specs.Prelude.{◌≡◌, ◌++◌, [], ◌∷◌, List, ℕ, IfOk, All};
+//! The result of the updates of one key.
+ghost use Rattle.std.specs.Prelude.{◌≡◌, ◌↔◌, ◌++◌, [], ◌∷◌, List, ℕ, IfOk, All, Contains};
 ghost use Rattle.mt_words.specs.declared.update.Update.{Update as UpdateValue};
 ghost use Rattle.mt_words.specs.Limits.{widest};
 ghost use Rattle.mt_words.specs.Words.{AreColumns};
 ghost use Rattle.mt_replay.specs.Cells.{AreApart};
-ghost use Rattle.mt_replay.specs.Groups.{IsGroupOf, HasLawfulWrites, AreColumnsOf};
+ghost use Rattle.mt_replay.specs.Groups.{Group as GroupValue, IsGroupOf, HasLawfulWrites, AreColumnsOf};
 
 use crate::group::Group;
 use mt_words::{Columns, Kept, Memory, Update, Value};
@@ -70,3 +70,11 @@ impl Cell {
         self.group.columns(self.alloc)
     }
 }
+
+/// The same updates make the same cell, in any order and however they were merged, if no two updates of a key share a
+/// stamp. This is a law: it has nothing to run.
+pub fn one_cell()
+    ensures { (updates others : List Update) (key : List ℕ) (group other : GroupValue) →
+        AreApart updates → All HasLawfulWrites updates → ((u : Update) → Contains updates u ↔ Contains others u) →
+        IsGroupOf updates key group → IsGroupOf others key other → group ≡ other }
+{}

@@ -6,8 +6,9 @@ ghost use Rattle.mt_words.specs.Limits.{widest};
 ghost use Rattle.mt_words.specs.Words.{AreColumns, AreNumbers};
 ghost use Rattle.mt_words.specs.Changes.{set, erased, writes_of, IsReset};
 ghost use Rattle.mt_words.specs.Writes.{AreWrites};
-ghost use Rattle.mt_replay.specs.Cells.{Written, IsNewestOf, IsCellOf, written};
+ghost use Rattle.mt_replay.specs.Cells.{Written, IsCellOf, written};
 ghost use Rattle.mt_replay.specs.Groups.{IsGroupOf, HasLawfulWrites, AreFreeFrom};
+ghost use Rattle.mt_replay.specs.InMemory.{IsNewestOf};
 
 use crate::group::{Bytes, Group, Write, is_newer};
 use mt_words::{Column, Columns, Kind, MOST_COLUMNS, Stamp, Update, Value};
@@ -76,18 +77,9 @@ impl Group<Value> {
             self.keep(stamp, *number, None);
         }
     }
-}
 
-/// Returns whether a change of this kind clears all columns of its key.
-fn is_reset(kind: &Kind) -> bool
-    ensures { IsTrue result ↔ IsReset kind.now }
-{
-    matches!(kind, Kind::Remove | Kind::Whole(_))
-}
-
-impl<B: Bytes> Group<B> {
     /// Returns the group of the updates of both.
-    pub(crate) fn merge(self, other: Group<B>) -> Group<B>
+    pub(crate) fn merge(self, other: Group<Value>) -> Group<Value>
         ensures { (updates others : List UpdateValue) (key : List ℕ) → IsGroupOf updates key self →
             IsGroupOf others key other → IsGroupOf (updates ++ others) key result }
     {
@@ -101,10 +93,17 @@ impl<B: Bytes> Group<B> {
     }
 }
 
+/// Returns whether a change of this kind clears all columns of its key.
+fn is_reset(kind: &Kind) -> bool
+    ensures { IsTrue result ↔ IsReset kind.now }
+{
+    matches!(kind, Kind::Remove | Kind::Whole(_))
+}
+
 /// Keeps the greater of two writes of each column.
-fn keep_each<B: Bytes>(
-    kept: &mut [Option<Write<B>>; MOST_COLUMNS],
-    writes: [Option<Write<B>>; MOST_COLUMNS],
+fn keep_each(
+    kept: &mut [Option<Write<Value>>; MOST_COLUMNS],
+    writes: [Option<Write<Value>>; MOST_COLUMNS],
 )
     ensures cell { (seen others : List Written) → IsCellOf seen kept.old → IsCellOf others writes →
         IsCellOf (seen ++ others) kept.new }
@@ -117,7 +116,7 @@ fn keep_each<B: Bytes>(
 }
 
 /// Keeps the greater of two writes of a column. Either may be absent.
-fn keep_newest<B: Bytes>(kept: &mut Option<Write<B>>, write: Option<Write<B>>)
+fn keep_newest(kept: &mut Option<Write<Value>>, write: Option<Write<Value>>)
     ensures { IsNewestOf kept.old write kept.new }
 {
     if let Some(write) = write {

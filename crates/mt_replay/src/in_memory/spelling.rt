@@ -1,21 +1,42 @@
-//! Encodes updates in memory as bodies.
-ghost use Rattle.std.specs.Prelude.{◌≡◌, ◌++◌, [], ◌∷◌, IfOk, OnOk, filter};
-ghost use Rattle.mt_replay.specs.Steps.SortedUpdates.{survives_with};
+//! Encodes updates in memory as bodies, and sorts them.
+ghost use Rattle.std.specs.Prelude.{◌≡◌, ◌++◌, [], ◌∷◌, IfOk, OnOk, IsPermutation, filter};
+ghost use Rattle.mt_replay.specs.InMemory.{survives as survives_in, survives_with};
 
-use crate::Window;
 use crate::bodies::Bodies;
 use crate::sliced::Sliced;
+use crate::sorted_updates::in_order;
+use crate::{SortedUpdates, Window};
 use mt_record::body_of_update;
 use mt_words::{Kind, Memory, Update};
 use std::alloc::Global;
 
-/// Returns the log updates in the window encoded as bodies, and with `entries` all entries too. Err: out of memory.
-pub(crate) fn spell(
+impl SortedUpdates {
+    /// Returns the updates that survive. It encodes each of them. If they are bodies already, `of_batch` and
+    /// `of_rising` avoid that. Err: out of memory.
+    pub fn of(alloc: Global, updates: Vec<Update>, window: Window) -> Result<SortedUpdates, Memory>
+        ensures { IfOk result (λ sorted. IsPermutation (filter (survives_in window) updates.items) sorted) }
+    {
+        sorted(alloc, &updates, window, true)
+    }
+}
+
+/// Returns the log updates in the window sorted by key, and with `entries` all entries too. It encodes each of them.
+/// Err: out of memory.
+pub(crate) fn sorted(
     alloc: Global,
     updates: &[Update],
     window: Window,
     entries: bool,
-) -> Result<Bodies, Memory>
+) -> Result<SortedUpdates, Memory>
+    ensures { IfOk result (λ sorted. IsPermutation (filter (survives_with entries window) updates.now) sorted) }
+{
+    let bodies = spell(alloc, updates, window, entries)?;
+    let mut sliced = all_bodies(alloc, &bodies)?;
+    in_order(alloc, &mut sliced)
+}
+
+/// Returns the log updates in the window encoded as bodies, and with `entries` all entries too. Err: out of memory.
+fn spell(alloc: Global, updates: &[Update], window: Window, entries: bool) -> Result<Bodies, Memory>
     ensures { IfOk result (λ bodies. bodies ≡ filter (survives_with entries window) updates.now) }
 {
     let mut bodies = Bodies::with_capacity(alloc, updates.len(), 0)?;
@@ -48,7 +69,7 @@ fn survives(update: &Update, window: Window, entries: bool) -> bool
 }
 
 /// Returns the updates of all bodies. Err: out of memory.
-pub(crate) fn all_bodies(alloc: Global, bodies: &Bodies) -> Result<Vec<Sliced<'_>>, Memory>
+fn all_bodies(alloc: Global, bodies: &Bodies) -> Result<Vec<Sliced<'_>>, Memory>
     ensures { IfOk result (λ sliced. sliced.items ≡ bodies.now) }
 {
     let mut sliced = Vec::with_capacity(alloc, bodies.len())?;

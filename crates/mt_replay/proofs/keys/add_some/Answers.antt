@@ -9,20 +9,20 @@ use Rattle.mt_replay.proofs.keys.add_some.Goals as goal
 
 pub loop-number-preserved : goal.loop-number-preserved
 loop-number-preserved c =
-    let cells = c.args.cells.now in
+    let updates = c.args.updates.now in
     let number = c.loop-number.number in
     let distance = c.args.distance in
     record {
       lawful = λ all. each_more (IsKey widest) (λ key. key.now) c.loop-number.keys.items c.push.new.self.items c.key.result c.in_ok-push.ensures.items (subst (IsKey widest) (sym c.key.ensures.value) c.key.ensures.lawful) (c.loop-number.invariant.lawful all);
       all = λ one.
-          let below : number < length cells = omega (arith, every_count c.len.result distance one) in
-          let is : c.get.result ≡ slice_index_or cells number c.get.result = c.get.ensures c.get.result ∙ ap (λ n. slice_index_or cells n c.get.result) (every_place number distance one) in
-          keys_more (λ key. key.now) c.args.keys.now.items c.loop-number.keys.items c.push.new.self.items cells number c.key.result c.get.result below is c.key.ensures.value c.in_ok-push.ensures.items (c.loop-number.invariant.all one);
+          let below : number < length updates = omega (arith, every_count c.len.result distance one) in
+          let is : c.get.result ≡ slice_index_or updates number c.get.result = c.get.ensures c.get.result ∙ ap (λ n. slice_index_or updates n c.get.result) (every_place number distance one) in
+          keys_more (λ key. key.now) c.args.keys.now.items c.loop-number.keys.items c.push.new.self.items updates number c.key.result c.get.result below is c.key.ensures.value c.in_ok-push.ensures.items (c.loop-number.invariant.all one);
     }
 
 pub returns-clause-all : goal.returns-clause-all
 returns-clause-all c = λ one.
-    let cells = c.args.cells.now in
+    let updates = c.args.updates.now in
     let old : List (List ℕ) = map (λ key. key.now) c.args.keys.now.items in
-    let all : c.loop-number.number ≡ length cells = omega (arith, every_count c.len.result c.args.distance one, c.len.ensures.value) in
-    c.loop-number.invariant.all one ∙ ap (λ n. old ++ keys_in (take n cells)) all ∙ ap (λ us. old ++ keys_in us) (take-length cells)
+    let all : c.loop-number.number ≡ length updates = omega (arith, every_count c.len.result c.args.distance one, c.len.ensures.value) in
+    c.loop-number.invariant.all one ∙ ap (λ n. old ++ keys_in (take n updates)) all ∙ ap (λ us. old ++ keys_in us) (take-length updates)

@@ -7,8 +7,8 @@ use Rattle.mt_replay.specs.Cuts.{keys_in}
 use Rattle.mt_replay.proofs.keys.some_keys.Given as goal
 
 -- keys of the first lists
-abbrev pub invariant-loop-cells : goal.invariant-loop-cells
-invariant-loop-cells l = record {
+abbrev pub invariant-loop-updates : goal.invariant-loop-updates
+invariant-loop-updates l = record {
   lawful : All (IsKey widest) (map (λ key. key.now) l.keys.items);
-  all : l.fn.distance ≡ 1 → map (λ key. key.now) l.keys.items ≡ keys_in (joined (take l.cells-index l.lists));
+  all : l.fn.distance ≡ 1 → map (λ key. key.now) l.keys.items ≡ keys_in (joined (take l.updates-index l.lists));
 }

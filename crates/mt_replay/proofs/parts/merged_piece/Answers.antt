@@ -9,23 +9,23 @@ use Rattle.mt_replay.specs.Steps.SortedUpdates.{YieldsMerged}
 use Rattle.mt_replay.proofs.BatchLemmas.{joined_step}
 use Rattle.mt_replay.proofs.parts.merged_piece.Goals as goal
 
-pub loop-cells-preserved : goal.loop-cells-preserved
-loop-cells-preserved c =
+pub loop-updates-preserved : goal.loop-updates-preserved
+loop-updates-preserved c =
     let lists : List (List Update) = c.args.lists.now in
-    let i = c.loop-cells.cells-index in
-    let cells = c.cells-item.result in
-    let runs : List (List Update) = c.loop-cells.runs.items in
+    let i = c.loop-updates.updates-index in
+    let updates = c.updates-item.result in
+    let runs : List (List Update) = c.loop-updates.runs.items in
     let run = c.part.result in
     let pushed = c.in_ok-push.ensures.items in
     let before = updates_in c.args.cuts.now c.args.piece in
-    let more : before (joined (take (i + 1) lists)) ≡ before (joined (take i lists)) ++ before cells = ap before (joined_step lists i cells c.loop-cells-test.true c.cells-item.is) ∙ filter-append (λ (u : Update). in_piece c.args.cuts.now c.args.piece u.key) (joined (take i lists)) cells in
+    let more : before (joined (take (i + 1) lists)) ≡ before (joined (take i lists)) ++ before updates = ap before (joined_step lists i updates c.loop-updates-test.true c.updates-item.is) ∙ filter-append (λ (u : Update). in_piece c.args.cuts.now c.args.piece u.key) (joined (take i lists)) updates in
     record {
-      all = ap joined pushed ∙ joined-more runs run ∙ (λ j. c.loop-cells.invariant.all j ++ c.part.ensures.value j) ∙ sym more;
-      in_order = subst (All InKeyOrder) (sym pushed) (All-push InKeyOrder runs run c.loop-cells.invariant.in_order c.part.ensures.in_order);
+      all = ap joined pushed ∙ joined-more runs run ∙ (λ j. c.loop-updates.invariant.all j ++ c.part.ensures.value j) ∙ sym more;
+      in_order = subst (All InKeyOrder) (sym pushed) (All-push InKeyOrder runs run c.loop-updates.invariant.in_order c.part.ensures.in_order);
     }
 
 pub returns-clause-yields : goal.returns-clause-yields
 returns-clause-yields c =
     let lists : List (List Update) = c.args.lists.now in
-    let all = c.loop-cells.invariant.all ∙ ap (λ (ls : List (List Update)). updates_in c.args.cuts.now c.args.piece (joined ls)) (take_all c.loop-cells.cells-index lists c.loop-cells-test.false) in
+    let all = c.loop-updates.invariant.all ∙ ap (λ (ls : List (List Update)). updates_in c.args.cuts.now c.args.piece (joined ls)) (take_all c.loop-updates.updates-index lists c.loop-updates-test.false) in
     subst (λ (us : List Update). IfOk c.heap_of.result (YieldsMerged us)) all c.heap_of.ensures.yields

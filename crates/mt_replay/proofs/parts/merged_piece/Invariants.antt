@@ -5,8 +5,8 @@ use Rattle.mt_replay.specs.Cuts.{updates_in, InKeyOrder}
 use Rattle.mt_replay.proofs.parts.merged_piece.Given as goal
 
 -- the runs of the lists so far
-abbrev pub invariant-loop-cells : goal.invariant-loop-cells
-invariant-loop-cells l = record {
-  all : joined l.runs.items ≡ updates_in l.cuts l.piece (joined (take l.cells-index l.lists));
+abbrev pub invariant-loop-updates : goal.invariant-loop-updates
+invariant-loop-updates l = record {
+  all : joined l.runs.items ≡ updates_in l.cuts l.piece (joined (take l.updates-index l.lists));
   in_order : All InKeyOrder l.runs.items;
 }

@@ -8,14 +8,14 @@ use Rattle.mt_replay.proofs.FilterLemmas.{all_after, from_point, lower_none, low
 use Rattle.mt_replay.proofs.parts.start_of.Goals as goal
 
 pub returns-then-piece-eq0 : goal.returns-then-piece-eq0
-returns-then-piece-eq0 c = all_after c.args.cells.now _ (ap (lower_cut c.args.cuts.now) c.if-piece-eq0.true)
+returns-then-piece-eq0 c = all_after c.args.updates.now _ (ap (lower_cut c.args.cuts.now) c.if-piece-eq0.true)
 
 pub returns-then-piece-cuts : goal.returns-then-piece-cuts
-returns-then-piece-cuts c = all_after c.args.cells.now _ (lower_none c.args.cuts.now c.args.piece (omega arith))
+returns-then-piece-cuts c = all_after c.args.updates.now _ (lower_none c.args.cuts.now c.args.piece (omega arith))
 
 pub returns : goal.returns
 returns c =
-    let updates : List Update = c.args.cells.now in
+    let updates : List Update = c.args.updates.now in
     let cut : List ℕ = c.index-cuts-piece.result in
     let there = lower_some c.args.cuts.now c.args.piece c.index-cuts-piece.result (omega arith) (omega arith) c.index-cuts-piece.is in
     let point = subst (λ (key : List ℕ). IsPartitionPoint (λ (u : Update). is_below u.key key ≡ true) (λ (u : Update). is_below u.key key ≡ false) updates c.place_of.result) c.as_bytes.ensures.value c.place_of.ensures.point in

@@ -9,4 +9,4 @@ gather-requires c = subst InKeyOrder (sym c.deref-2.ensures.value) c.sort_by_key
 
 pub returns : goal.returns
 returns c =
-    ok_then c.gather.result (λ cells same. subst (IsPermutation c.args.sliced.now.items) (sym (same ∙ c.deref-2.ensures.value)) c.sort_by_key.ensures.same) c.gather.ensures
+    ok_then c.gather.result (λ updates same. subst (IsPermutation c.args.sliced.now.items) (sym (same ∙ c.deref-2.ensures.value)) c.sort_by_key.ensures.same) c.gather.ensures

@@ -1,11 +1,11 @@
 use Rattle.std.proofs.Common.{◌≡◌, ◌∙◌, ℕ, sym, subst, arith}
 use Rattle.mt_words.specs.declared.limits.TheConstants.{MOST_COLUMNS}
 use Rattle.mt_replay.specs.Cells.{Slots}
-use Rattle.mt_replay.proofs.BothLemmas.{AreBoth, both_cells}
+use Rattle.mt_replay.proofs.InMemory.Merging.{AreBoth, both_cells}
 use Rattle.mt_replay.proofs.in_memory.group.keep_each.Goals as goal
 
 pub returns-clause-cell : goal.returns-clause-cell
-returns-clause-cell g c =
+returns-clause-cell c =
     let old : Slots = c.args.kept.now in
     let add : Slots = c.args.writes in
     let new : Slots = c.loop-number.kept in
@@ -15,4 +15,4 @@ returns-clause-cell g c =
     λ seen others was is. both_cells old add new left seen others are was is
 
 pub returns-clause-free : goal.returns-clause-free
-returns-clause-free g c = λ free number slot above at. free number slot above (sym (c.loop-number.invariant.stays number (omega (arith, above))) ∙ at)
+returns-clause-free c = λ free number slot above at. free number slot above (sym (c.loop-number.invariant.stays number (omega (arith, above))) ∙ at)

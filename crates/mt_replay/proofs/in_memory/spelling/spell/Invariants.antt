@@ -1,6 +1,6 @@
 use Rattle.std.proofs.Common.{◌≡◌, take}
 use Rattle.std.specs.Prelude.{filter}
-use Rattle.mt_replay.specs.Steps.SortedUpdates.{survives_with}
+use Rattle.mt_replay.specs.InMemory.{survives_with}
 use Rattle.mt_replay.proofs.in_memory.spelling.spell.Given as goal
 
 -- the survivors of the first updates

@@ -14,5 +14,5 @@ first_left us at end u below within is =
 pub returns-clause-steps : goal.returns-clause-steps
 returns-clause-steps c =
     sym c.self.view_is
-    ∙ first_left c.self.inside.cells.now c.self.inside.at c.self.inside.end c.of.result
+    ∙ first_left c.self.inside.updates.now c.self.inside.at c.self.inside.end c.of.result
     (omega (arith, c.if-self.false)) c.self.invariant (c.of.ensures ∙ c.get-lent.ensures c.of.result)

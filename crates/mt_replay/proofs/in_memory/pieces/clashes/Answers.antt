@@ -5,16 +5,18 @@ use Rattle.std.proofs.lemmas.List.{take_all}
 use Rattle.mt_words.specs.declared.update.Update.{Update}
 use Rattle.mt_words.specs.Walks.{joined}
 use Rattle.mt_replay.specs.Cuts.{updates_in}
-use Rattle.mt_replay.specs.Clashes.{is_logged_in, AreClashes}
+use Rattle.mt_replay.specs.Clashes.{AreClashes}
+use Rattle.mt_replay.specs.InMemory.{is_logged_in}
 use Rattle.mt_replay.proofs.ExactLemmas.{ok_then}
-use Rattle.mt_replay.proofs.AuditorLemmas.{cells_more, moved_clashes, one_piece}
-use Rattle.mt_replay.proofs.auditing.clashes.Goals as goal
+use Rattle.mt_replay.proofs.AuditorLemmas.{moved_clashes}
+use Rattle.mt_replay.proofs.InMemory.Logs.{log_more, one_piece}
+use Rattle.mt_replay.proofs.in_memory.pieces.clashes.Goals as goal
 
 pub loop-updates-preserved : goal.loop-updates-preserved
 loop-updates-preserved c =
-    let cells : List Update = c.in_ok-of_spelled.field-0 in
-    let own = subst (λ (us : List Update). IsPermutation (filter (is_logged_in c.args.window) us) cells) c.deref.ensures.value c.in_ok-of_spelled.ensures in
-    cells_more (λ updates. updates.items) (is_logged_in c.args.window) c.args.logs.now c.loop-updates.updates-index c.updates-item.result c.loop-updates.lists.items c.push.new.self.items cells
+    let updates : List Update = c.in_ok-sorted.field-0 in
+    let own = subst (λ (us : List Update). IsPermutation (filter (is_logged_in c.args.window) us) updates) c.deref.ensures.value c.in_ok-sorted.ensures in
+    log_more (λ updates. updates.items) (is_logged_in c.args.window) c.args.logs.now c.loop-updates.updates-index c.updates-item.result c.loop-updates.lists.items c.push.new.self.items updates
     c.loop-updates-test.true c.updates-item.is c.loop-updates.invariant own c.in_ok-push.ensures.items
 
 pub returns : goal.returns

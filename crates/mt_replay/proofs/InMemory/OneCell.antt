@@ -11,7 +11,7 @@ use Rattle.mt_replay.specs.Cells.{Written, Slots, IsCellOf, AreApart}
 use Rattle.mt_replay.specs.Groups.{Group, HasLawfulWrites, IsWriteOf, IsGreatestReset, IsResetOf, IsGroupOf}
 use Rattle.mt_replay.proofs.StampLemmas.{same_stamp}
 use Rattle.mt_replay.proofs.CellLemmas.{IsRight}
-use Rattle.mt_replay.proofs.BothLemmas.{same_cell}
+use Rattle.mt_replay.proofs.InMemory.Merging.{same_cell}
 use Rattle.mt_replay.proofs.ExactLemmas.{same_bytes}
 
 -- ---- resets

@@ -1,11 +1,11 @@
 use Rattle.std.proofs.Common.{sym, subst, arith}
 use Rattle.mt_replay.specs.Cells.{IsCellOf}
 use Rattle.mt_replay.specs.Groups.{Group, IsLatestOf}
-use Rattle.mt_replay.proofs.BothLemmas.{both_groups}
-use Rattle.mt_replay.proofs.group.Group.merge.Goals as goal
+use Rattle.mt_replay.proofs.InMemory.Merging.{both_groups}
+use Rattle.mt_replay.proofs.in_memory.group.Group+Value.merge.Goals as goal
 
 pub returns : goal.returns
-returns g c =
+returns c =
     let old : Group = c.args.self in
     let add : Group = c.args.other in
     let new : Group = record { reset = c.merged.inside.reset; slots = c.keep_each.new.kept } in
@@ -18,7 +18,7 @@ returns g c =
     was is
 
 pub invariant_of-merged : goal.invariant_of-merged
-invariant_of-merged g c = (
+invariant_of-merged c = (
   omega arith,
   c.keep_each.ensures.free (λ number slot above is. c.merged.invariant.1 number slot (omega (arith, above, c.merged.invariant.0)) is),
 )

@@ -1,0 +1,4 @@
+-- What only callers with updates in memory need.
+pub mod Merging
+pub mod OneCell
+pub mod Logs

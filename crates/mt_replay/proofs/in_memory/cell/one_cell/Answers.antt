@@ -1,0 +1,5 @@
+use Rattle.mt_replay.proofs.InMemory.OneCell.{one_group}
+use Rattle.mt_replay.proofs.in_memory.cell.one_cell.Goals as goal
+
+pub returns : goal.returns
+returns c = one_group

@@ -1,0 +1,43 @@
+//! The pieces of a walk as lists, and the clashes of updates in memory.
+ghost use Rattle.std.specs.Prelude.{◌<◌, ◌+◌, length, filter, IfOk};
+ghost use Rattle.std.specs.List.{flat_map};
+ghost use Rattle.mt_words.specs.Walks.{joined};
+ghost use Rattle.mt_replay.specs.Cells.{AreApart};
+ghost use Rattle.mt_replay.specs.Clashes.{AreClashes};
+ghost use Rattle.mt_replay.specs.Pieces.{IsPiece, IsMapIn};
+ghost use Rattle.mt_replay.specs.InMemory.{is_logged_in};
+
+use super::spelling::sorted;
+use crate::{Clash, Cuts, SortedUpdates, Window, clashes_in, replay_into};
+use mt_words::{Columns, Kept, Key, Memory, Update};
+use std::alloc::Global;
+
+/// Replays the updates whose keys lie in this piece, and returns this piece of their walk as a list.
+/// Err: out of memory.
+pub fn replay_piece(
+    alloc: Global,
+    lists: &[SortedUpdates],
+    cuts: &Cuts,
+    piece: u32,
+) -> Result<Vec<(Key, Columns<Kept>)>, Memory>
+    requires { piece < length cuts.now + 1 }
+    ensures map { IfOk result (λ pairs. IsMapIn cuts.now piece pairs.items) }
+    ensures walk { IfOk result (λ pairs. AreApart (joined lists.now) →
+        IsPiece (joined lists.now) cuts.now piece pairs.items) }
+{
+    replay_into(alloc, lists, cuts, piece, Vec::new(alloc))
+}
+
+/// Returns the clashes of the log updates in the window, in order: by key, then by version. Each list has updates of
+/// one log; the log and the number of the record are those of the update's stamp. Entries of checkpoints do not count.
+/// Err: out of memory.
+pub fn clashes(alloc: Global, logs: &[Vec<Update>], window: Window) -> Result<Vec<Clash>, Memory>
+    ensures { IfOk result (λ clashes.
+        AreClashes (filter (is_logged_in window) (flat_map (λ updates. updates.items) logs.now)) clashes.items) }
+{
+    let mut lists = Vec::new(alloc);
+    for updates in logs {
+        lists.push(sorted(alloc, updates, window, false)?)?;
+    }
+    clashes_in(alloc, &lists, &Cuts::none(alloc), 0)
+}
