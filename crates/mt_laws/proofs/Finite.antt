@@ -3,7 +3,7 @@ use Rattle.std.proofs.Common.{◌≡◌, ◌⊎◌, inl, inr, ◌↔◌, ℕ, ze
 use Rattle.std.specs.Prelude.{slice_get}
 use Rattle.std.proofs.lemmas.Bool.{cases_Bool, cases_lt, cases_eq, both_ways}
 use Rattle.mt_words.proofs.Elements.{no_element, head_or_tail, head_in, tail_in}
-use Rattle.mt_recover.specs.Verdict.{IsFirst}
+use Rattle.mt_scan.specs.Segments.{IsFirst}
 use Rattle.mt_laws.proofs.Decided.{Decided, both, alike}
 
 -- ---- single statements

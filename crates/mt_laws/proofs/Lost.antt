@@ -22,7 +22,7 @@ use Rattle.mt_replay.specs.Survivors.{all_updates, log_updates, is_within, in_wi
 use Rattle.mt_replay.specs.Walk.{IsWalk}
 use Rattle.mt_replay.proofs.Members.{in_filter}
 use Rattle.mt_scan.specs.Choice.{CheckpointReading}
-use Rattle.mt_recover.specs.Segments.{Passes, IsGap, has_gap, writers_of}
+use Rattle.mt_scan.specs.Segments.{Passes, IsGap, has_gap, writers_of}
 use Rattle.mt_recover.specs.Recovery.{AreReadings, entry_updates, begin_of, survivors, records_of, IsStoreOf}
 use Rattle.mt_recover.proofs.FoundLemmas.{alone}
 use Rattle.mt_laws.specs.Crashes.{IsCutOf, IsBeginningOf, IsAlone, NoSegments, IsCrash}

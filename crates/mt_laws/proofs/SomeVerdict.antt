@@ -27,7 +27,7 @@ use Rattle.mt_scan.specs.PartScans.{KnownPart, whole, IsKnown}
 use Rattle.mt_replay.specs.declared.window.Window.{Window}
 use Rattle.mt_replay.specs.Survivors.{all_updates, in_window, log_updates}
 use Rattle.mt_replay.proofs.Members.{of_each, of_map, of_flat_map, of_filter, in_map}
-use Rattle.mt_recover.specs.Segments.{IsDoubled, IsTornAmid, IsGap, AreWriters, writers_of, has_same, has_later, has_gap}
+use Rattle.mt_scan.specs.Segments.{IsDoubled, IsTornAmid, IsGap, AreWriters, writers_of, has_same, has_later, has_gap}
 use Rattle.mt_recover.specs.Recovery.{AreReadings, AreKnown, Facts, IsStoreOf, begin_of, records_of, survivors, entry_updates}
 use Rattle.mt_recover.specs.Verdict.{IsFirstFault, IsVerdict}
 use Rattle.mt_recover.proofs.SurvivorLemmas.{survivors_apart}

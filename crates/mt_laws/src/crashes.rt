@@ -7,7 +7,7 @@ ghost use Rattle.mt_scan.specs.Choice.{CheckpointReading};
 ghost use Rattle.mt_scan.specs.Cutoff.{HasLast, IsCutoff};
 ghost use Rattle.mt_replay.specs.Survivors.{log_updates};
 ghost use Rattle.mt_replay.specs.Walk.{IsWalk};
-ghost use Rattle.mt_recover.specs.Segments.{IsGap};
+ghost use Rattle.mt_scan.specs.Segments.{IsGap};
 ghost use Rattle.mt_recover.specs.Recovery.{AreReadings, begin_of, survivors, records_of, IsStoreOf};
 ghost use Rattle.mt_laws.specs.Crashes.{IsCutOf, SaysBeginning, IsCrash, AreSyncedBeyond};
 

@@ -19,13 +19,14 @@ use Rattle.mt_scan.specs.Scans.{HaveNumbersOf}
 use Rattle.mt_scan.proofs.Drops.{shows_lower}
 use Rattle.mt_scan.specs.PartsShown.{known_by}
 use Rattle.mt_scan.specs.Sources.{Seen}
-use Rattle.mt_recover.specs.Steps.Preparing.{IsFirstOrNone, IsFoundOf}
+use Rattle.mt_scan.specs.Firsts.{IsFirstOrNone}
+use Rattle.mt_recover.specs.Steps.Preparing.{IsFoundOf}
 use Rattle.mt_recover.specs.Inputs.{OfSources}
 use Rattle.mt_recover.specs.Steps.LogScans.{ShowAll}
 use Rattle.mt_recover.specs.Steps.Outcomes.{AreOutcomesTo, IsLogOutcome, IsPartOutcome, AllFrom, lasts, read_parts}
 use Rattle.mt_recover.specs.Check.{IsStartOf}
 use Rattle.mt_recover.specs.declared.scans.Outcomes.{Outcomes}
-use Rattle.mt_recover.specs.Segments.{AreWriters, IsGap}
+use Rattle.mt_scan.specs.Segments.{AreWriters, IsGap}
 use Rattle.mt_recover.specs.Recovery.{Facts, begin_of}
 use Rattle.mt_recover.proofs.ReportLemmas.{numbers_of}
 use Rattle.mt_recover.proofs.SourceLemmas.{whole_logs, known_parts}

@@ -12,7 +12,6 @@ pub mod OneVerdict
 pub mod OneReport
 pub mod Worked
 pub mod PiecesLemmas
-pub mod SegmentLemmas
 pub mod SharingLemmas
 pub mod ScanLemmas
 pub mod ReportLemmas

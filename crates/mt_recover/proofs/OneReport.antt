@@ -11,7 +11,7 @@ use Rattle.mt_record.specs.Logs.{LogReading, IsGreatestOf, times_of}
 use Rattle.mt_scan.specs.PartScans.{KnownPart}
 use Rattle.mt_scan.specs.Choice.{CheckpointReading, AreSkipped, AreNameless}
 use Rattle.mt_replay.specs.Survivors.{is_early}
-use Rattle.mt_recover.specs.Segments.{is_first_file}
+use Rattle.mt_scan.specs.Segments.{is_first_file}
 use Rattle.mt_recover.specs.Recovery.{records_of, begin_of, entry_updates, survivors}
 use Rattle.mt_recover.specs.Report.{all_records, all_versions, logged_updates, is_late, end_of, Outcome, IsRecoveredOf}
 use Rattle.mt_recover.specs.Laws.{SaysTheSame}

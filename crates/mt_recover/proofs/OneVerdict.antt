@@ -22,9 +22,9 @@ use Rattle.mt_scan.proofs.OneChoice.{one_chosen}
 use Rattle.mt_scan.proofs.OneKnown.{one_known}
 use Rattle.mt_words.proofs.Elements.{no_element}
 use Rattle.mt_replay.specs.Walk.{IsWalk}
-use Rattle.mt_recover.specs.Segments.{IsDoubled, IsTornAmid, IsGap, AreWriters}
+use Rattle.mt_scan.specs.Segments.{IsDoubled, IsTornAmid, IsGap, AreWriters, IsFirst}
 use Rattle.mt_recover.specs.Recovery.{AreReadings, Facts, records_of, IsStoreOf, begin_of, survivors}
-use Rattle.mt_recover.specs.Verdict.{IsFirst, IsFirstFault, IsVerdict}
+use Rattle.mt_recover.specs.Verdict.{IsFirstFault, IsVerdict}
 use Rattle.mt_recover.specs.Steps.Preparing.{IsWritersFault}
 use Rattle.mt_recover.proofs.OneWalk.{one_walk}
 use Rattle.mt_recover.proofs.CountLemmas.{survivors_in}

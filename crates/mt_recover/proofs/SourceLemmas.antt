@@ -16,7 +16,7 @@ use Rattle.mt_scan.specs.Sources.{Seen, Agrees}
 use Rattle.mt_scan.specs.Scans.{IsScanFault, HaveNumbersOf, failures_of}
 use Rattle.mt_scan.specs.PartsShown.{known_by, IsPartScanFault}
 use Rattle.mt_scan.proofs.Telling.{some_bytes}
-use Rattle.mt_recover.specs.Segments.{AreWriters}
+use Rattle.mt_scan.specs.Segments.{AreWriters}
 use Rattle.mt_recover.specs.Recovery.{AreReadings, AreKnown}
 use Rattle.mt_recover.specs.Verdict.{IsVerdict, IsVerdictOrMemory, AreSoundLogs, IsAnsweredFrom}
 use Rattle.mt_recover.specs.Steps.Preparing.{IsWritersFault}

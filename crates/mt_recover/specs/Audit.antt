@@ -2,7 +2,7 @@
 use Rattle.std.specs.Prelude.{ℕ, List}
 use Rattle.mt_replay.specs.Survivors.{log_survivors}
 use Rattle.mt_replay.specs.Clashes.{Clash, AreClashes}
-use Rattle.mt_recover.specs.Segments.{IsGap}
+use Rattle.mt_scan.specs.Segments.{IsGap}
 use Rattle.mt_recover.specs.Recovery.{Facts, records_of, begin_of}
 
 -- the audit of logs and parts: no log has a gap, and these are the clashes of the log updates that survive

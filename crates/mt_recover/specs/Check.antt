@@ -12,7 +12,7 @@ use Rattle.mt_scan.specs.PartScans.{IsKnown}
 use Rattle.mt_scan.specs.PartsShown.{known_by, IsPartScanFault}
 use Rattle.mt_scan.specs.Choice.{AreSkipped, AreNameless}
 use Rattle.mt_scan.specs.Choosing.{checkpoint_in}
-use Rattle.mt_recover.specs.Segments.{IsGap}
+use Rattle.mt_scan.specs.Segments.{IsGap}
 use Rattle.mt_recover.specs.Recovery.{Facts, begin_of}
 use Rattle.mt_recover.specs.declared.checking.Start.{Start}
 

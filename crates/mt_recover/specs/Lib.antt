@@ -1,4 +1,3 @@
-pub mod Segments
 pub mod Recovery
 pub mod Audit
 pub mod Report

@@ -6,7 +6,7 @@ use Rattle.mt_replay.specs.Walk.{IsWalk}
 use Rattle.mt_tree.specs.Layers.{CountsLayers}
 use Rattle.mt_recover.specs.declared.report.Counts.{Counts}
 use Rattle.mt_recover.specs.declared.report.Report.{Report}
-use Rattle.mt_recover.specs.Segments.{IsGap}
+use Rattle.mt_scan.specs.Segments.{IsGap}
 use Rattle.mt_recover.specs.Recovery.{Facts, records_of, begin_of, survivors}
 use Rattle.mt_recover.specs.Report.{IsReportOf, Outcome}
 

@@ -10,7 +10,7 @@ use Rattle.mt_scan.specs.PartScans.{KnownPart, IsKnown}
 use Rattle.mt_scan.specs.Choice.{CheckpointReading, IsChosenOf}
 use Rattle.mt_replay.specs.Survivors.{wholes, log_survivors}
 use Rattle.mt_replay.specs.Walk.{IsWalk}
-use Rattle.mt_recover.specs.Segments.{AreWriters, IsGap}
+use Rattle.mt_scan.specs.Segments.{AreWriters, IsGap}
 
 -- the updates of the entries of the chosen checkpoint, if there is one
 abbrev pub entry_updates : Option CheckpointReading → List Update

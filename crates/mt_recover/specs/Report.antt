@@ -10,7 +10,7 @@ use Rattle.mt_scan.specs.Choice.{CheckpointReading, AreSkipped, AreNameless}
 use Rattle.mt_replay.specs.Survivors.{log_updates, is_early}
 use Rattle.mt_tree.specs.Layers.{CountsLayers}
 use Rattle.mt_recover.specs.declared.report.Report.{Report}
-use Rattle.mt_recover.specs.Segments.{is_first_file}
+use Rattle.mt_scan.specs.Segments.{is_first_file}
 use Rattle.mt_recover.specs.Recovery.{Facts, IsStoreOf, records_of, begin_of, survivors, entry_updates}
 
 -- the complete records of all logs

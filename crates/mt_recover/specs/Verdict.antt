@@ -6,12 +6,8 @@ use Rattle.mt_record.specs.declared.read.FeedFault.{FeedFault}
 use Rattle.mt_record.specs.declared.read.FeedFault.TheVariants as of_log
 use Rattle.mt_record.specs.Logs.{LogReading}
 use Rattle.mt_record.specs.LogFaults.{IsLogFault, OrMemory}
-use Rattle.mt_recover.specs.Segments.{IsDoubled, IsTornAmid, IsGap, AreWriters}
+use Rattle.mt_scan.specs.Segments.{IsDoubled, IsTornAmid, IsGap, AreWriters, IsFirst}
 use Rattle.mt_recover.specs.Recovery.{AreReadings, Facts, begin_of}
-
--- i is the least number for which `P` holds
-abbrev pub IsFirst : (ℕ → Type 0) → ℕ → Type 0
-IsFirst P i = P i × ((j : ℕ) → j < i → P j → ⊥)
 
 -- log i has this fault, and each log before it has a reading
 pub record IsFirstFault (logs : List (List ℕ)) (i : ℕ) (fault : FeedFault) : Type 0 where

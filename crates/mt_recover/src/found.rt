@@ -5,7 +5,7 @@ ghost use Rattle.mt_scan.specs.Choosing.{checkpoint_in};
 ghost use Rattle.mt_scan.specs.Sources.{Seen};
 ghost use Rattle.mt_record.specs.Logs.{LogReading};
 ghost use Rattle.mt_scan.specs.Scans.{HaveNumbersOf};
-ghost use Rattle.mt_recover.specs.Segments.{AreWriters};
+ghost use Rattle.mt_scan.specs.Segments.{AreWriters};
 ghost use Rattle.mt_recover.specs.Steps.Preparing.{IsFoundOf, IsWritersFault};
 ghost use Rattle.mt_recover.specs.Inputs.{OfSources, IsAnsweredBy};
 ghost use Rattle.mt_recover.specs.Check.{IsStartOf};
@@ -14,9 +14,8 @@ ghost use Rattle.mt_recover.specs.Recovery.{begin_of as begin_in};
 
 use crate::by_workers::all_done;
 use crate::scans::Outcomes;
-use crate::segments::{first_doubled, first_gap, first_torn};
 use mt_replay::Window;
-use mt_scan::{Checkpoint, Choice, LogScan, choose, cutoff};
+use mt_scan::{Checkpoint, Choice, LogScan, choose, cutoff, first_doubled, first_gap, first_torn};
 use mt_words::Fault;
 use std::alloc::Global;
 

@@ -37,7 +37,6 @@ mod recovery;
 mod report;
 mod report_text;
 mod scans;
-mod segments;
 mod store;
 mod survivors;
 mod workers;

@@ -15,9 +15,8 @@ ghost use Rattle.mt_recover.specs.Steps.Preparing.{AreCountsOf, HasRoomFor, IsFo
 ghost use Rattle.mt_recover.specs.Recovery.{entry_updates};
 
 use crate::found::Found;
-use crate::segments::writer_count;
 use mt_record::{KeptEntries, PartText};
-use mt_scan::{Checkpoint, Choice, LogScan};
+use mt_scan::{Checkpoint, Choice, LogScan, writer_count};
 use mt_words::Memory;
 use std::alloc::Global;
 

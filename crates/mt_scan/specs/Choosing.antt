@@ -4,7 +4,7 @@ use Rattle.std.specs.List.{flat_map}
 use Rattle.std.specs.Option.{option_map}
 use Rattle.mt_scan.specs.declared.choice.Choice.{Choice}
 use Rattle.mt_scan.specs.declared.checkpoint.Checkpoint.{Checkpoint}
-use Rattle.mt_scan.specs.PartScans.{KnownPart, nameless}
+use Rattle.mt_scan.specs.PartScans.{KnownPart}
 use Rattle.mt_scan.specs.PartsShown.{shown_by_all}
 use Rattle.mt_scan.specs.Choice.{CheckpointReading, IsChosenOf, AreSkipped, AreNameless}
 

@@ -3,6 +3,7 @@ pub mod DroppingFeeds
 pub mod Feeding
 pub mod Checking
 pub mod Lasts
+pub mod Segments
 pub mod Rising
 pub mod Checkpoints
 pub mod Groups

@@ -18,21 +18,11 @@ use Rattle.mt_replay.specs.Survivors.{in_window, is_early}
 use Rattle.mt_recover.specs.declared.report.Counts.{Counts}
 use Rattle.mt_recover.specs.declared.survivors.BatchSurvivors.{BatchSurvivors}
 use Rattle.mt_recover.specs.Steps.LogScans.{kept, ShowAll}
-use Rattle.mt_recover.specs.Segments.{IsDoubled, IsTornAmid, IsGap}
+use Rattle.mt_scan.specs.Segments.{IsDoubled, IsTornAmid, IsGap, IsFirst}
 use Rattle.mt_recover.specs.Recovery.{Facts, begin_of}
 use Rattle.mt_recover.specs.Report.{IsFoundIn}
-use Rattle.mt_recover.specs.Verdict.{IsFirst}
 use Rattle.mt_recover.specs.declared.found.Found.{Found}
 use Rattle.mt_recover.specs.Prepared.{report_of}
-
--- the least number for which `P` holds, or none if there is no such number
-abbrev pub IsFirstOrNone : (ℕ → Type 0) → Option ℕ → Type 0
-IsFirstOrNone P None = (i : ℕ) → P i → ⊥
-IsFirstOrNone P (Some i) = IsFirst P i
-
--- the writers of the scanned files
-abbrev pub writers_in : List LogScan → List (Option (ℕ × ℕ))
-writers_in scans = map (λ scan. scan.writer) scans
 
 -- the fault is `Doubled` of the first log that is doubled, or, if none is, `Torn` of the first log that is torn amid its worker's log
 abbrev pub IsWritersFault : List LogReading → Fault → Type 0

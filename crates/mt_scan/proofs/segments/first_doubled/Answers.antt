@@ -1,12 +1,12 @@
 use Rattle.std.proofs.Common.{Some, None, below_more, arith}
 use Rattle.std.proofs.lemmas.Bool.{both_ways}
-use Rattle.mt_recover.proofs.SegmentLemmas.{doubled_at, doubled_within, first_doubled}
-use Rattle.mt_recover.proofs.segments.first_doubled.Goals as goal
+use Rattle.mt_scan.proofs.SegmentLemmas.{doubled_at, doubled_within, first_doubled}
+use Rattle.mt_scan.proofs.segments.first_doubled.Goals as goal
 
 pub returns-then-has_same : goal.returns-then-has_same
 returns-then-has_same c = λ logs show.
     let doubled = doubled_at c.args.scans.now c.loop-i.i c.index-scans-i.result c.has_same.result c.loop-i-test.true c.index-scans-i.is c.has_same.ensures in
-    first_doubled c.args.scans.now logs (Some c.loop-i.i) show (doubled.1 c.if-has_same.true, c.loop-i.invariant)
+    first_doubled c.args.scans.now logs (Some c.loop-i.i) (doubled.1 c.if-has_same.true, c.loop-i.invariant) show
 
 pub loop-i-preserved : goal.loop-i-preserved
 loop-i-preserved c =
@@ -15,4 +15,4 @@ loop-i-preserved c =
 
 pub returns : goal.returns
 returns c = λ logs show.
-    first_doubled c.args.scans.now logs None show (λ i doubled. c.loop-i.invariant i (omega (arith, doubled_within c.args.scans.now i doubled, c.loop-i-test.false)) doubled)
+    first_doubled c.args.scans.now logs None (λ i doubled. c.loop-i.invariant i (omega (arith, doubled_within c.args.scans.now i doubled, c.loop-i-test.false)) doubled) show
