@@ -1,5 +1,5 @@
 -- The counts of a check.
-use Rattle.std.proofs.Common.{◌≡◌, ◌∙◌, ◌⊎◌, inl, inr, ℕ, ◌+◌, ◌-◌, ◌<◌, ◌≤◌, ◌^◌, min, max, Bool, true, false, List, [], ◌∷◌, ◌++◌, length, Option, Some, None, refl, sym, ap, subst, append_assoc, arith, cond}
+use Rattle.std.proofs.Common.{◌≡◌, ◌∙◌, ◌⊎◌, inl, inr, ℕ, ◌+◌, ◌-◌, ◌<◌, ◌≤◌, ◌^◌, min, Bool, true, false, List, [], ◌∷◌, ◌++◌, length, Option, Some, None, refl, sym, ap, subst, append_assoc, arith, cond}
 use Rattle.std.specs.Prelude.{◌&&◌, ◌↔◌, not, nat_le, IsTrue}
 use Rattle.std.proofs.lemmas.Bool.{false≢true}
 use Rattle.std.specs.List.{All, filter, flat_map}
@@ -12,23 +12,24 @@ use Rattle.mt_words.specs.declared.limits.Limits.{Limits}
 use Rattle.mt_words.specs.Limits.{limits_of}
 use Rattle.mt_words.specs.Changes.{Logged, is_mark}
 use Rattle.mt_words.specs.Updates.{updates_from}
-use Rattle.mt_record.specs.Fronts.{bytes_of}
 use Rattle.mt_record.specs.Heads.{head_bytes}
 use Rattle.mt_record.specs.Spelling.{spelling}
-use Rattle.mt_record.specs.Logs.{latest, LogReading, IsTorn}
-use Rattle.mt_record.specs.LogTexts.{IsLast}
+use Rattle.mt_record.specs.Logs.{latest, LogReading, IsReading, IsTorn}
+use Rattle.mt_record.specs.LogTexts.{front_of, tail_rest}
+use Rattle.mt_record.specs.declared.front.LogFront.{LogFront}
 use Rattle.mt_record.specs.LogFronts.{IsRest}
 use Rattle.mt_record.specs.declared.front.Rest.{Rest}
 use Rattle.mt_record.specs.declared.front.Rest.TheVariants.{Nothing, Torn, Faulty}
-use Rattle.mt_record.proofs.Records.{last_is, torn_some}
+use Rattle.mt_record.proofs.Records.{torn_some}
+use Rattle.mt_record.proofs.LogFeeds.{front_last}
 use Rattle.mt_record.specs.declared.read.FeedFault.{FeedFault}
 use Rattle.mt_record.specs.declared.kept.log.Dropped.{Dropped}
 use Rattle.mt_record.specs.Cutting.{HasCut, IsCountOf}
-use Rattle.mt_record.specs.LogFeeding.{IsLogFed, FedLog, HoldsLog}
+use Rattle.mt_record.specs.LogFeeding.{LogSoFar, IsLogFed, FedLog, HoldsLog}
 use Rattle.mt_scan.specs.declared.checking.CheckingFeed.{CheckingFeed}
 use Rattle.mt_scan.specs.declared.checking.LogCheck.{LogCheck}
 use Rattle.mt_scan.specs.Checks.{is_late_record, IsCheckOf}
-use Rattle.mt_scan.specs.Scans.{IsScanFault}
+use Rattle.mt_scan.specs.Scans.{last_in, IsScanFault}
 use Rattle.mt_scan.specs.Dropping.{HasAllBelow}
 use Rattle.mt_scan.specs.Steps.Checking.{HasCounted}
 use Rattle.mt_scan.proofs.Rises.{Rise, read_rise, rise_front, rise_behind, cut_below}
@@ -44,12 +45,19 @@ has_read feed bytes taken fed = by feed.fault refl
     by None is = let held = fed.0 is in (held.0.front, feed.held, held.0.joins, held.0.read)
     by (Some fault) is = let shown = fed.1 fault is in (shown.read.front, shown.shown ++ shown.more, shown.read.joins, shown.read.read)
 
+few_held : (taken : List Logged) (so_far : LogSoFar) (front : List ℕ) → HoldsLog taken so_far front → length (taken ++ so_far.ready) ≤ length front
+few_held taken so_far front h = by so_far.front refl
+  where
+    by : (read : Option LogFront) → so_far.front ≡ read → length (taken ++ so_far.ready) ≤ length front
+    by None is = let none = rw is at h in omega (arith, ap length none.1)
+    by (Some read) is =
+        let are = rw is at h in
+        let records = taken ++ so_far.ready in
+        omega (arith, ap length are.spelled, length-append (head_bytes read.head) (flat_map spelling records), spelled_long records)
+
 -- there are no more records than bytes
 few_read : (feed : FedLog) (bytes : List ℕ) (taken : List Logged) → IsLogFed feed bytes taken → length (taken ++ feed.so_far.ready) ≤ length bytes
-few_read feed bytes taken fed =
-    let (front, rest, joins, read) = has_read feed bytes taken fed in
-    let records = taken ++ feed.so_far.ready in
-    omega (arith, ap length joins, length-append front rest, ap length read.spelled, length-append (bytes_of head_bytes feed.so_far.head) (flat_map spelling records), spelled_long records)
+few_read feed bytes taken fed = let (front, rest, joins, read) = has_read feed bytes taken fed in omega (arith, ap length joins, length-append front rest, few_held taken feed.so_far front read)
 
 rise_low : (low : ℕ) (xs : List Logged) → Rise low xs → Rise 0 xs
 rise_low low [] rise = tt
@@ -145,44 +153,49 @@ has_end limits low tail rest torn is (inr (cut, is_torn)) =
     (inr torn_is, (λ yes. torn_is, λ other. is_torn))
 
 -- a scan without updates, of a log whose records are followed by nothing or a torn tail
-pub scan_of_check : (log limit : ℕ) (bytes : List ℕ) (check : LogCheck) (torn : Bool) (last dropped : ℕ) → IsCheckOf limit bytes check
-    → ((check.front.rest ≡ Nothing) × (torn ≡ false)) ⊎ ((check.front.rest ≡ Torn) × (torn ≡ true))
-    → last ≡ max check.front.head.from check.front.latest → dropped ≡ check.front.whole - check.marks
-    → HasAllBelow 0 log bytes (record { from = check.front.head.from; writer = check.front.head.writer; last = last; version = check.front.version; whole = check.front.whole; end = check.front.end; marks = check.marks; updates = record { log = log; records = [] }; dropped = dropped; torn = torn })
-scan_of_check log limit bytes check torn last dropped is ends last_is_max dropped_is =
+scan_with : (log limit : ℕ) (bytes : List ℕ) (check : LogCheck) (torn : Bool) (dropped : ℕ) → IsCheckOf limit bytes check
+    → ((check.front.rest ≡ Nothing) × (torn ≡ false)) ⊎ ((check.front.rest ≡ Torn) × (torn ≡ true)) → check.front.rest ≡ tail_rest torn → dropped ≡ check.front.count - check.marks
+    → HasAllBelow 0 log bytes (record { front = check.front; marks = check.marks; updates = record { log = log; records = [] }; dropped = dropped })
+scan_with log limit bytes check torn dropped is ends rest dropped_is =
     let front = is.front in
     let head = check.front.head in
     let limits = limits_of head.format in
     let reading : LogReading = record { head = head; records = is.records; torn = torn } in
     let end = has_end limits (latest 0 is.records) front.rest check.front.rest torn front.is_rest ends in
-    let time : last ≡ max head.from (latest 0 is.records) = last_is_max ∙ ap (λ (n : ℕ). max head.from n) front.latest in
+    let is_reading : IsReading bytes reading = record {
+      tail = front.rest;
+      is_log = record { spelled = front.spelled ∙ append_assoc (head_bytes head) (flat_map spelling is.records) front.rest; is_head = front.is_head; lawful = front.lawful; ends = end.0 };
+      torn = end.1;
+    } in
+    let same = front.numbers ∙ ap (front_of head is.records) rest in
     record {
       log = reading;
-      is_reading = record {
-        tail = front.rest;
-        is_log = record { spelled = front.spelled ∙ append_assoc (head_bytes head) (flat_map spelling is.records) front.rest; is_head = front.is_head; lawful = front.lawful; ends = end.0 };
-        torn = end.1;
-      };
+      is_reading = is_reading;
       shows = record {
         numbers = record {
-          from = refl;
-          writer = refl;
-          last = subst (λ (n : ℕ). IsLast reading n) (sym time) (last_is limits reading front.lawful);
-          version = front.version;
-          whole = is.whole;
-          end = front.end;
+          front = same;
+          last = front_last bytes reading check.front (last_in check.front) refl is_reading same;
+          count = is.count;
           marks = is.marks;
-          torn = refl;
         };
         lost = updates_from log 0 is.records;
         updates = refl;
         past = nothing_lost log 0 is.records;
-        dropped = omega (arith, dropped_is, is.whole, is.marks, marks_and_updates log 0 is.records);
+        dropped = omega (arith, dropped_is, is.count, is.marks, marks_and_updates log 0 is.records);
       };
     }
 
+pub scan_of_check : (log limit : ℕ) (bytes : List ℕ) (check : LogCheck) (dropped : ℕ) → IsCheckOf limit bytes check → ((what : What) → check.front.rest ≡ Faulty what → ⊥) → dropped ≡ check.front.count - check.marks
+    → HasAllBelow 0 log bytes (record { front = check.front; marks = check.marks; updates = record { log = log; records = [] }; dropped = dropped })
+scan_of_check log limit bytes check dropped is sound dropped_is = by check.front.rest refl
+  where
+    by : (rest : Rest) → check.front.rest ≡ rest → HasAllBelow 0 log bytes (record { front = check.front; marks = check.marks; updates = record { log = log; records = [] }; dropped = dropped })
+    by Nothing e = scan_with log limit bytes check false dropped is (inl (e, refl)) e dropped_is
+    by Torn e = scan_with log limit bytes check true dropped is (inr (e, refl)) e dropped_is
+    by (Faulty what) e = absurd (sound what e)
+
 -- the fault of a log whose records are followed by one
-pub fault_of_check : (log limit : ℕ) (bytes : List ℕ) (check : LogCheck) (what : What) → IsCheckOf limit bytes check → check.front.rest ≡ Faulty what → IsScanFault log bytes (of_all.Record log check.front.whole what)
+pub fault_of_check : (log limit : ℕ) (bytes : List ℕ) (check : LogCheck) (what : What) → IsCheckOf limit bytes check → check.front.rest ≡ Faulty what → IsScanFault log bytes (of_all.Record log check.front.count what)
 fault_of_check log limit bytes check what is faulty =
     let front = is.front in
     let head = check.front.head in (
@@ -197,6 +210,6 @@ fault_of_check log limit bytes check what is faulty =
           lawful = front.lawful;
           fault = rw faulty at front.is_rest;
         };
-        number = front.whole;
+        number = ap (λ (f : LogFront). f.count) front.numbers;
       },
     )

@@ -10,22 +10,22 @@ use Rattle.std.proofs.lemmas.List.Elements.{All-weaker, All-append, filter-appen
 use Rattle.mt_words.specs.Changes.{Logged, is_mark}
 use Rattle.mt_record.specs.Logs.{latest}
 use Rattle.mt_record.specs.declared.read.FeedFault.{FeedFault}
-use Rattle.mt_record.specs.LogFeeding.{IsLogFed, FedLog, HoldsLog, IsLogLeft, IsLogFaulty}
+use Rattle.mt_record.specs.LogFeeding.{latest_read, IsLogFed, FedLog, HoldsLog, IsLogLeft, IsLogFaulty}
 use Rattle.mt_record.proofs.Feeds.{fed_on}
 use Rattle.mt_record.specs.declared.kept.log.Dropped.{Dropped}
 use Rattle.mt_record.specs.Cutting.{HasCut, IsCountOf}
 use Rattle.mt_record.proofs.RecordLemmas.{marks_and_updates}
 use Rattle.mt_scan.specs.declared.dropping_feed.DroppingFeed.{DroppingFeed}
 use Rattle.mt_scan.specs.Steps.DroppingFeeds.{taken_of, GoesOn, KeepsRecords, HasDropped, IsFedBelow}
-use Rattle.mt_scan.proofs.Rises.{Rise, read_rise, latest_behind, rise_front, rise_behind, never_falls, all_past, all_below, cut_below}
+use Rattle.mt_scan.proofs.Rises.{Rise, read_rise, read_latest, latest_behind, rise_front, rise_behind, never_falls, all_past, all_below, cut_below}
 
 -- the records that a feed without a fault has read
 module _ (feed : FedLog) (bytes taken : List _) (fed : IsLogFed feed bytes taken) (sound : feed.fault ≡ None) where
   pub fed_rise : Rise 0 (taken ++ feed.so_far.ready)
   fed_rise = let held = fed.0 sound in read_rise taken feed.so_far held.0.front held.0.read
 
-  pub fed_latest : feed.so_far.latest ≡ latest 0 (taken ++ feed.so_far.ready)
-  fed_latest = let held = fed.0 sound in held.0.read.latest
+  pub fed_latest : latest_read feed.so_far.front ≡ latest 0 (taken ++ feed.so_far.ready)
+  fed_latest = let held = fed.0 sound in read_latest taken feed.so_far held.0.front held.0.read
 
 -- what was read under one limit holds under a lower one
 lowered : (feed : DroppingFeed) (limit lower : ℕ) (bytes : List ℕ) → lower ≤ limit → HasDropped feed limit bytes → HasDropped feed lower bytes
@@ -45,7 +45,7 @@ lowered feed limit lower bytes le h = record {
 -- ---- dropping
 
 -- no record is at or past the limit
-pub none_late : (feed : DroppingFeed) (limit : ℕ) (bytes : List ℕ) → HasDropped feed limit bytes → feed.feed.fault ≡ None → feed.kept ≡ None → feed.feed.so_far.latest < limit → IsFedBelow feed limit bytes
+pub none_late : (feed : DroppingFeed) (limit : ℕ) (bytes : List ℕ) → HasDropped feed limit bytes → feed.feed.fault ≡ None → feed.kept ≡ None → latest_read feed.feed.so_far.front < limit → IsFedBelow feed limit bytes
 none_late feed limit bytes h sound none below =
     let late : h.late ≡ [] = rw none at (h.goes_on sound) in
     let taken : taken_of feed.kept ++ h.late ≡ [] = (λ i. taken_of (none i) ++ late i) in
@@ -104,7 +104,7 @@ more_late old new limit bytes was kept gone later h sound some same taken_is fee
 -- the first late record, and all records after it
 pub first_late : (old new : DroppingFeed) (limit : ℕ) (bytes : List ℕ) (kept : List Logged) (gone : Dropped) → HasDropped old limit bytes → old.feed.fault ≡ None → old.kept ≡ None → new.kept ≡ Some kept
     → new.feed ≡ record old.feed { so_far = record old.feed.so_far { ready = [] } } → ((taken : List Logged) → IsLogFed old.feed bytes taken → IsLogFed new.feed bytes (taken ++ old.feed.so_far.ready))
-    → HasCut limit old.feed.so_far.ready kept gone → limit ≤ old.feed.so_far.latest → new.marks ≡ min (old.marks + gone.marks) (2 ^ 64 - 1) → new.dropped ≡ min (old.dropped + gone.updates) (2 ^ 64 - 1) → IsFedBelow new limit bytes
+    → HasCut limit old.feed.so_far.ready kept gone → limit ≤ latest_read old.feed.so_far.front → new.marks ≡ min (old.marks + gone.marks) (2 ^ 64 - 1) → new.dropped ≡ min (old.dropped + gone.updates) (2 ^ 64 - 1) → IsFedBelow new limit bytes
 first_late old new limit bytes kept gone h sound none some taken_is feeds cut past marks dropped =
     let ready : List Logged = old.feed.so_far.ready in
     let late : h.late ≡ [] = rw none at (h.goes_on sound) in

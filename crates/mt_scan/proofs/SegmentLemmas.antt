@@ -4,11 +4,13 @@ use Rattle.std.specs.Prelude.{◌↔◌, slice_get}
 use Rattle.std.specs.List.{Any, AllZip, AllWithin, HoldsAt, list_any, slice_index_or}
 use Rattle.std.proofs.lemmas.Option.{slice_get_read, slice_get_cases}
 use Rattle.mt_scan.specs.declared.log_scan.LogScan.{LogScan}
+use Rattle.mt_record.specs.declared.feed.head.Segment.{Segment}
 use Rattle.mt_record.specs.Logs.{LogReading}
 use Rattle.mt_scan.specs.Scans.{HasNumbersOf, HaveNumbersOf}
 use Rattle.mt_scan.specs.Segments.{HasFile, IsEarlier, IsJustBefore, IsSame, IsDoubled, HasGap, IsGap, IsTornAmid, is_earlier, is_first_file}
 use Rattle.mt_scan.specs.Firsts.{IsFirstOrNone}
 use Rattle.mt_scan.specs.Steps.Segments.{HasScan, IsScanDoubled, IsScanTornAmid, HasScanGap}
+use Rattle.mt_scan.proofs.Numbers.{from_shown, segment_shown, torn_shown}
 
 -- ---- elements of lists
 
@@ -66,33 +68,34 @@ first_alike P Q (Some i) alike found = ((alike i).0 found.0, λ j lt is. found.1
 -- ---- scans and files
 
 -- a statement on segments holds for one of the scans if and only if it does for one of the files
-has_alike : (P : Option (ℕ × ℕ) → Type 0) (scans : List LogScan) (logs : List LogReading) → HaveNumbersOf scans logs → HasScan scans P ↔ HasFile logs P
-has_alike P scans logs show = any_alike HasNumbersOf (λ scan. P scan.writer) (λ log. P log.head.writer) scans logs show (λ scan log shows. (subst P shows.writer, subst P (sym shows.writer)))
+has_alike : (P : Option Segment → Type 0) (scans : List LogScan) (logs : List LogReading) → HaveNumbersOf scans logs → HasScan scans P ↔ HasFile logs P
+has_alike P scans logs show = any_alike HasNumbersOf (λ scan. P scan.front.head.segment) (λ log. P log.head.segment) scans logs show (λ scan log shows. (subst P (segment_shown scan log shows), subst P (sym (segment_shown scan log shows))))
 
-torn_alike : (scans : List LogScan) (logs : List LogReading) → HaveNumbersOf scans logs → (scan : LogScan) (log : LogReading) → HasNumbersOf scan log → IsScanTornAmid scans scan ↔ IsTrue log.torn × HasFile logs (IsEarlier log.head.writer)
+torn_alike : (scans : List LogScan) (logs : List LogReading) → HaveNumbersOf scans logs → (scan : LogScan) (log : LogReading) → HasNumbersOf scan log → IsScanTornAmid scans scan ↔ IsTrue log.torn × HasFile logs (IsEarlier log.head.segment)
 torn_alike scans logs show scan log shows =
-    let later = has_alike (IsEarlier log.head.writer) scans logs show in
-    rw (shows.torn, shows.writer) (λ is. (is.0, later.0 is.1), λ is. (is.0, later.1 is.1))
+    let later = has_alike (IsEarlier log.head.segment) scans logs show in
+    let torn = torn_shown scan log shows in
+    rw (segment_shown scan log shows) (λ is. (torn.0 is.0, later.0 is.1), λ is. (torn.1 is.0, later.1 is.1))
 
 gap_alike : (begin : ℕ) (scans : List LogScan) (logs : List LogReading) → HaveNumbersOf scans logs → (scan : LogScan) (log : LogReading) → HasNumbersOf scan log → HasScanGap begin scans scan ↔ HasGap begin logs log
 gap_alike begin scans logs show scan log shows =
-    let earlier = has_alike (λ other. IsEarlier other log.head.writer) scans logs show in
-    let before = has_alike (λ other. IsJustBefore other log.head.writer) scans logs show in
-    rw (shows.from, shows.writer) (
+    let earlier = has_alike (λ other. IsEarlier other log.head.segment) scans logs show in
+    let before = has_alike (λ other. IsJustBefore other log.head.segment) scans logs show in
+    rw (from_shown scan log shows, segment_shown scan log shows) (
       λ gap. elim gap [ inl lacks ↦ inl (earlier.0 lacks.0, λ has. lacks.1 (before.1 has)) | inr late ↦ inr (λ has. late.0 (earlier.1 has), late.1) ],
       λ gap. elim gap [ inl lacks ↦ inl (earlier.1 lacks.0, λ has. lacks.1 (before.0 has)) | inr late ↦ inr (λ has. late.0 (earlier.0 has), late.1) ],
     )
 
 doubled_alike : (scans : List LogScan) (logs : List LogReading) → HaveNumbersOf scans logs → (i : ℕ) → IsScanDoubled scans i ↔ IsDoubled logs i
 doubled_alike scans logs show i =
-    at_alike HasNumbersOf (λ scan. HasScan (take i scans) (IsSame scan.writer)) (λ log. HasFile (take i logs) (IsSame log.head.writer)) scans logs i show
-    (λ scan log shows. rw shows.writer (has_alike (IsSame log.head.writer) (take i scans) (take i logs) (zip_take HasNumbersOf scans logs i show)))
+    at_alike HasNumbersOf (λ scan. HasScan (take i scans) (IsSame scan.front.head.segment)) (λ log. HasFile (take i logs) (IsSame log.head.segment)) scans logs i show
+    (λ scan log shows. rw (segment_shown scan log shows) (has_alike (IsSame log.head.segment) (take i scans) (take i logs) (zip_take HasNumbersOf scans logs i show)))
 
 -- ---- the first
 
 pub first_torn : (scans : List LogScan) (logs : List LogReading) (r : Option ℕ) → IsSearch (IsScanTornAmid scans) scans r → HaveNumbersOf scans logs → IsFirstOrNone (IsTornAmid logs) r
 first_torn scans logs r is show =
-    first_alike _ (IsTornAmid logs) r (λ i. at_alike HasNumbersOf (IsScanTornAmid scans) (λ log. IsTrue log.torn × HasFile logs (IsEarlier log.head.writer)) scans logs i show (torn_alike scans logs show))
+    first_alike _ (IsTornAmid logs) r (λ i. at_alike HasNumbersOf (IsScanTornAmid scans) (λ log. IsTrue log.torn × HasFile logs (IsEarlier log.head.segment)) scans logs i show (torn_alike scans logs show))
     (first_found (IsScanTornAmid scans) scans r is)
 
 pub first_gap : (begin : ℕ) (scans : List LogScan) (logs : List LogReading) (r : Option ℕ) → IsSearch (HasScanGap begin scans) scans r → HaveNumbersOf scans logs → IsFirstOrNone (IsGap begin logs) r
@@ -104,20 +107,20 @@ pub first_doubled : (scans : List LogScan) (logs : List LogReading) (r : Option 
 first_doubled scans logs r is show = first_alike (IsScanDoubled scans) (IsDoubled logs) r (doubled_alike scans logs show) is
 
 -- a segment is doubled if and only if the same one is found before it
-pub doubled_at : (scans : List LogScan) (i : ℕ) (scan : LogScan) (found : Bool) → i < length scans → scan ≡ get_or scans i scan → IsTrue found ↔ HasScan (take i scans) (IsSame scan.writer)
+pub doubled_at : (scans : List LogScan) (i : ℕ) (scan : LogScan) (found : Bool) → i < length scans → scan ≡ get_or scans i scan → IsTrue found ↔ HasScan (take i scans) (IsSame scan.front.head.segment)
     → IsScanDoubled scans i ↔ IsTrue found
 doubled_at scans i scan found lt same is = rw (slice_get_read scans (length scans) i scan refl lt same) (is.1, is.0)
 
 pub doubled_within : (scans : List LogScan) (i : ℕ) → IsScanDoubled scans i → i < length scans
-doubled_within scans i is = (at_place (λ scan. HasScan (take i scans) (IsSame scan.writer)) scans i is).1
+doubled_within scans i is = (at_place (λ scan. HasScan (take i scans) (IsSame scan.front.head.segment)) scans i is).1
 
 -- ---- the number of logs
 
-any_same : (test : Option (ℕ × ℕ) → Bool) (scans : List LogScan) (logs : List LogReading) → HaveNumbersOf scans logs → list_any (λ scan. test scan.writer) scans ≡ list_any (λ log. test log.head.writer) logs
+any_same : (test : Option Segment → Bool) (scans : List LogScan) (logs : List LogReading) → HaveNumbersOf scans logs → list_any (λ scan. test scan.front.head.segment) scans ≡ list_any (λ log. test log.head.segment) logs
 any_same test [] [] show = refl
 any_same test [] (l ∷ ls) show = absurd show
 any_same test (s ∷ ss) [] show = absurd show
-any_same test (s ∷ ss) (l ∷ ls) show = rw (show.0.writer, any_same test ss ls show.1) refl
+any_same test (s ∷ ss) (l ∷ ls) show = rw (segment_shown s l show.0, any_same test ss ls show.1) refl
 
 -- as many scans pass as files
 count_passing : (p : LogScan → Bool) (q : LogReading → Bool) (scans : List LogScan) (logs : List LogReading) → HaveNumbersOf scans logs → ((scan : LogScan) (log : LogReading) → HasNumbersOf scan log → p scan ≡ q log) → length (filter p scans) ≡ length (filter q logs)
@@ -128,8 +131,8 @@ count_passing p q (s ∷ ss) (l ∷ ls) show alike = grind (arith, alike s l sho
 
 -- no earlier segment is found
 abbrev pub is_first_scan : List LogScan → LogScan → Bool
-is_first_scan scans scan = not (list_any (λ other. is_earlier other.writer scan.writer) scans)
+is_first_scan scans scan = not (list_any (λ other. is_earlier other.front.head.segment scan.front.head.segment) scans)
 
 pub writer_count : (scans : List LogScan) (logs : List LogReading) → HaveNumbersOf scans logs → length (filter (is_first_scan scans) scans) ≡ length (filter (is_first_file logs) logs)
 writer_count scans logs show =
-    count_passing (is_first_scan scans) (is_first_file logs) scans logs show (λ scan log shows. rw (shows.writer, any_same (λ other. is_earlier other log.head.writer) scans logs show) refl)
+    count_passing (is_first_scan scans) (is_first_file logs) scans logs show (λ scan log shows. rw (segment_shown scan log shows, any_same (λ other. is_earlier other log.head.segment) scans logs show) refl)

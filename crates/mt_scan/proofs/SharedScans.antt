@@ -11,10 +11,13 @@ use Rattle.mt_record.specs.declared.read.LogText.{LogText}
 use Rattle.mt_record.specs.Spelling.{spelling}
 use Rattle.mt_record.specs.Heads.{head_bytes}
 use Rattle.mt_record.specs.Logs.{LogReading, IsReading}
-use Rattle.mt_record.specs.LogTexts.{IsTextIn}
+use Rattle.mt_record.specs.declared.front.LogFront.{LogFront}
+use Rattle.mt_record.specs.LogTexts.{front_in, IsTextIn}
+use Rattle.mt_record.proofs.LogFeeds.{front_last}
 use Rattle.mt_record.proofs.RecordLemmas.{marks_and_updates}
 use Rattle.mt_scan.specs.declared.dropping_feed.DroppingFeed.{DroppingFeed}
-use Rattle.mt_scan.specs.Scans.{HasNumbersOf}
+use Rattle.mt_scan.specs.declared.log_scan.LogScan.{LogScan}
+use Rattle.mt_scan.specs.Scans.{last_in, HasNumbersOf}
 use Rattle.mt_scan.specs.Dropping.{HasAllBelow, KeepsOnlyBelow}
 use Rattle.mt_scan.specs.Steps.DroppingFeeds.{taken_of, kept_in, scan_from, GoesOn, KeepsRecords, IsFedBelow}
 use Rattle.mt_scan.proofs.DroppingFeeds.{count_both}
@@ -61,10 +64,14 @@ below : (limit : ℕ) (kept : Option (List Logged)) (ready : List Logged) (text 
 below limit None ready text keeps same = subst (All (λ (r : Logged). r.timestamp < limit)) (sym same) keeps
 below limit (Some kept) ready text keeps same = keeps.1
 
--- the numbers of a scan are those of its log, if the records and the marks are counted exactly
-pub has_numbers : (number whole dropped marks : ℕ) (kept : Option (List Logged)) (taken : List Logged) (bytes : List ℕ) (text : LogText (List Logged)) (is : IsTextIn (λ records. records) taken bytes text) → whole ≡ length is.log.records
-    → (scan_from number (record text { whole = whole }) kept dropped marks).marks ≡ length (filter is_mark is.log.records) → HasNumbersOf (scan_from number (record text { whole = whole }) kept dropped marks) is.log
-has_numbers number whole dropped marks kept taken bytes text is whole_is marks_are = record { from = is.shows.from; writer = is.shows.writer; last = is.shows.last; version = is.shows.version; whole = whole_is; end = is.shows.end; marks = marks_are; torn = is.shows.torn }
+-- the numbers of a scan are those of its log, if the marks are counted exactly and the records are few
+pub has_numbers : (bytes : List ℕ) (log : LogReading) (scan : LogScan) → IsReading bytes log → scan.front ≡ front_in log → length log.records < 2 ^ 64 → scan.marks ≡ length (filter is_mark log.records) → HasNumbersOf scan log
+has_numbers bytes log scan is front few marks = record {
+  front = front;
+  last = front_last bytes log scan.front (last_in scan.front) refl is front;
+  count = omega (arith, few, ap (λ (f : LogFront). f.count) front);
+  marks = marks;
+}
 
 pub scan_is : (feed : DroppingFeed) (limit number : ℕ) (bytes : List ℕ) (text : LogText (List Logged)) (h : IsFedBelow feed limit bytes) → length bytes < 2 ^ 64 → feed.feed.fault ≡ None
     → IsTextIn (λ records. records) (taken_of feed.kept ++ h.read.late) bytes text → text.records ≡ feed.feed.so_far.ready
@@ -85,7 +92,7 @@ scan_is feed limit number bytes text h small sound is same =
         log = is.log;
         is_reading = is.is_reading;
         shows = record {
-          numbers = has_numbers number text.whole feed.dropped feed.marks feed.kept taken bytes text is (omega (arith, is.shows.whole, long, small))
+          numbers = has_numbers bytes is.log (scan_from number text feed.kept feed.dropped feed.marks) is.is_reading is.shows.front (omega (arith, long, small))
               (omega (arith, marks, h.read.marks, some, others, lengths, parts, long, small));
           lost = updates_from number (0 + length early) late;
           updates = updates_both number 0 early late ∙ ap (updates_from number 0) all;

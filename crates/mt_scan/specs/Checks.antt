@@ -14,7 +14,7 @@ is_late_record limit r = not (is_mark r) && nat_le limit r.timestamp
 pub record IsCheckOf (limit : ℕ) (bytes : List ℕ) (check : LogCheck) : Type 0 where
   pub records : List Logged
   pub front : IsFrontOf bytes records check.front
-  pub whole : check.front.whole ≡ length records
+  pub count : check.front.count ≡ length records
   pub marks : check.marks ≡ length (filter is_mark records)
   pub late : check.late ≡ length (filter (is_late_record limit) records)
 

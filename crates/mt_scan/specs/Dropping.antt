@@ -3,10 +3,11 @@ use Rattle.std.specs.Prelude.{◌≡◌, ℕ, ◌≤◌, ◌<◌, Option, Some, 
 use Rattle.mt_words.specs.declared.update.Update.{Update}
 use Rattle.mt_words.specs.Updates.{updates_from}
 use Rattle.mt_words.specs.OneLog.{kept_updates}
+use Rattle.mt_record.specs.declared.feed.head.Segment.{Segment}
 use Rattle.mt_record.specs.Logs.{LogReading, IsReading}
 use Rattle.mt_board.specs.Board.{PassView, least_of}
 use Rattle.mt_scan.specs.declared.log_scan.LogScan.{LogScan}
-use Rattle.mt_scan.specs.Scans.{HasNumbersOf}
+use Rattle.mt_scan.specs.Scans.{last_in, HasNumbersOf}
 
 -- The scan shows the log with this number: the log's numbers, and its first updates, among them all that are below `limit`. The rest was dropped: it
 -- is counted, but not kept.
@@ -36,14 +37,14 @@ pub record HasLooked (before after : PassView) : Type 0 where
   pub low : least_of after.looks ≤ before.noted
   pub rest : after ≡ record before { looks = after.looks; noted = after.noted }
 
--- the last timestamp of a file that has no writer
-abbrev pub noted_by : Option (ℕ × ℕ) → ℕ → Option ℕ
+-- the last timestamp of a file that is no segment
+abbrev pub noted_by : Option Segment → ℕ → Option ℕ
 noted_by None last = Some last
-noted_by (Some writer) last = None
+noted_by (Some segment) last = None
 
 -- what the scan of a file notes: its last timestamp, or nothing for a segment, since the last timestamp of its log may be greater
 abbrev pub noted_for : LogScan → Option ℕ
-noted_for scan = noted_by scan.writer scan.last
+noted_for scan = noted_by scan.front.head.segment (last_in scan.front)
 
 -- what a pass has noted, after it perhaps noted one more number
 abbrev pub lowered_by : ℕ → Option ℕ → ℕ

@@ -1,5 +1,5 @@
 -- The result of scanning a log: a function of the log's bytes.
-use Rattle.std.specs.Prelude.{◌≡◌, ℕ, List, Option, Result, Ok, Err, length}
+use Rattle.std.specs.Prelude.{◌≡◌, ℕ, max, List, Option, Result, Ok, Err, length}
 use Rattle.std.specs.List.{AllZip, filter}
 use Rattle.mt_words.specs.declared.fault.Fault.{Fault}
 use Rattle.mt_words.specs.declared.fault.Fault.TheVariants as faults
@@ -8,23 +8,24 @@ use Rattle.mt_words.specs.Updates.{updates_from}
 use Rattle.mt_words.specs.OneLog.{kept_updates}
 use Rattle.mt_record.specs.declared.read.FeedFault.{FeedFault}
 use Rattle.mt_record.specs.declared.read.FeedFault.TheVariants as of_log
-use Rattle.mt_record.specs.Logs.{LogReading, IsReading, count_of, log_bytes}
-use Rattle.mt_record.specs.LogTexts.{IsLast, versions_of, greatest}
+use Rattle.mt_record.specs.declared.front.LogFront.{LogFront}
+use Rattle.mt_record.specs.Logs.{LogReading, IsReading}
+use Rattle.mt_record.specs.LogTexts.{IsLast, front_in}
 use Rattle.mt_record.specs.LogFaults.{IsLogFault}
 use Rattle.mt_record.specs.Answered.{IsAnswered, fault_at}
 use Rattle.mt_scan.specs.declared.log_scan.LogScan.{LogScan}
 use Rattle.mt_scan.specs.Sources.{Agrees}
 
--- the numbers of the scan are those of the log: `from`, its worker and segment, the last timestamp, the greatest version, how many records and marks it has, where the records end, and whether it is torn
+-- the last timestamp of a log with this front
+abbrev pub last_in : LogFront → ℕ
+last_in front = max front.head.from front.latest
+
+-- the scan has the front of the log, and its numbers are those of the log: the last timestamp, and how many records and marks it has
 pub record HasNumbersOf (scan : LogScan) (log : LogReading) : Type 0 where
-  pub from : scan.from ≡ log.head.from
-  pub writer : scan.writer ≡ log.head.writer
-  pub last : IsLast log scan.last
-  pub version : scan.version ≡ greatest (versions_of log.records)
-  pub whole : scan.whole ≡ length log.records
-  pub end : scan.end ≡ count_of (log_bytes log.head log.records)
+  pub front : scan.front ≡ front_in log
+  pub last : IsLast log (last_in scan.front)
+  pub count : scan.front.count ≡ length log.records
   pub marks : scan.marks ≡ length (filter is_mark log.records)
-  pub torn : scan.torn ≡ log.torn
 
 -- each scan has the numbers of its log, in the same order
 abbrev pub HaveNumbersOf : List LogScan → List LogReading → Type 0

@@ -35,33 +35,15 @@ impl LogCheck {
         ensures record { IfErr result (IsOfARecord log) }
         ensures no_source { failures_of result ≡ 0 }
     {
-        let LogFront {
-            head,
-            whole,
-            latest,
-            version,
-            end,
-            rest,
-        } = self.front;
-        let torn = match rest {
-            Rest::Nothing => false,
-            Rest::Torn => true,
-            Rest::Faulty(what) => {
-                let nth = whole;
-                return Err(Fault::Record { log, nth, what });
-            }
-        };
+        if let Rest::Faulty(what) = self.front.rest {
+            let nth = self.front.count;
+            return Err(Fault::Record { log, nth, what });
+        }
         Ok(LogScan {
-            from: head.from,
-            writer: head.writer,
-            last: head.from.max(latest),
-            version,
-            whole,
-            end,
+            front: self.front,
             marks: self.marks,
             updates: Updates::of(log, KeptRecords::new(alloc)),
-            dropped: whole.saturating_sub(self.marks),
-            torn,
+            dropped: self.front.count.saturating_sub(self.marks),
         })
     }
 }

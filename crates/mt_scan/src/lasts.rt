@@ -6,6 +6,7 @@ ghost use Rattle.mt_scan.specs.Cutoff.{IsCutoff, is_segment_of};
 ghost use Rattle.mt_scan.specs.Steps.Lasts.{last_of, last_of_segments};
 
 use crate::log_scan::LogScan;
+use mt_record::Segment;
 
 /// Returns the cutoff of the logs of these scans: the least of their last timestamps. The last timestamp of a worker's
 /// log is the greatest of those of its segments. Returns None if there is no log. Allocates nothing. With n segments it
@@ -25,12 +26,13 @@ pub fn cutoff(scans: &[LogScan]) -> Option<u64>
 }
 
 /// Returns the last timestamp of the log that this file belongs to.
+#[tactic(auto, unfolding(crate::specs::Steps::Lasts::last_of))]
 fn last_of_log(scan: &LogScan, scans: &[LogScan]) -> u64
     ensures { result ≡ last_of scans.now scan.now }
 {
-    match scan.writer {
-        None => scan.last,
-        Some((worker, _)) => last_of_worker(scans, worker),
+    match scan.front.head.segment {
+        None => scan.front.last(),
+        Some(segment) => last_of_worker(scans, segment.worker),
     }
 }
 
@@ -40,16 +42,16 @@ fn last_of_worker(scans: &[LogScan], worker: u32) -> u64
 {
     let mut last = 0;
     for scan in scans {
-        if is_of(scan.writer, worker) {
-            last = scan.last.max(last);
+        if is_of(scan.front.head.segment, worker) {
+            last = scan.front.last().max(last);
         }
     }
     last
 }
 
-/// Returns whether a file with this writer is a segment of this worker's log.
-fn is_of(writer: Option<(u32, u32)>, worker: u32) -> bool
-    ensures { result ≡ is_segment_of worker writer }
+/// Returns whether this is a segment of this worker's log.
+fn is_of(segment: Option<Segment>, worker: u32) -> bool
+    ensures { result ≡ is_segment_of worker segment }
 {
-    writer.is_some_and(|writer| writer.0 == worker)
+    segment.is_some_and(|segment| segment.worker == worker)
 }

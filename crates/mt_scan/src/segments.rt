@@ -9,13 +9,14 @@ ghost use Rattle.mt_scan.specs.Firsts.{IsFirstOrNone};
 ghost use Rattle.mt_scan.specs.Steps.Segments.{HasScan, IsScanTornAmid, HasScanGap};
 
 use crate::log_scan::LogScan;
+use mt_record::Segment;
 
 /// Returns the first log that is the same segment of a worker's log as one before it, or None if there is none.
 pub fn first_doubled(scans: &[LogScan]) -> Option<usize>
     ensures { (logs : List LogReading) → HaveNumbersOf scans.now logs → IsFirstOrNone (IsDoubled logs) result }
 {
     for (i, scan) in scans.iter().enumerate() {
-        if has_same(&scans[..i], scan.writer) {
+        if has_same(&scans[..i], scan.front.head.segment) {
             return Some(i);
         }
     }
@@ -26,9 +27,7 @@ pub fn first_doubled(scans: &[LogScan]) -> Option<usize>
 pub fn first_torn(scans: &[LogScan]) -> Option<usize>
     ensures { (logs : List LogReading) → HaveNumbersOf scans.now logs → IsFirstOrNone (IsTornAmid logs) result }
 {
-    scans
-        .iter()
-        .position(|scan| scan.torn && has_later(scans, scan.writer))
+    scans.iter().position(|scan| scan.front.torn() && has_later(scans, scan.front.head.segment))
 }
 
 /// Returns the first log before which updates at or after `begin` may be missing, or None if there is none.
@@ -45,7 +44,7 @@ pub fn writer_count(scans: &[LogScan]) -> usize
 {
     scans
         .iter()
-        .filter(|scan| !has_earlier(scans, scan.writer))
+        .filter(|scan| !has_earlier(scans, scan.front.head.segment))
         .count()
 }
 
@@ -53,67 +52,73 @@ pub fn writer_count(scans: &[LogScan]) -> usize
 fn has_gap(scans: &[LogScan], begin: u64, scan: &LogScan) -> bool
     ensures { IsTrue result ↔ HasScanGap begin scans.now scan.now }
 {
-    if has_earlier(scans, scan.writer) {
-        !has_one_before(scans, scan.writer)
+    if has_earlier(scans, scan.front.head.segment) {
+        !has_one_before(scans, scan.front.head.segment)
     } else {
-        begin < scan.from
+        begin < scan.front.from()
     }
 }
 
 /// Returns whether an earlier segment of the same log is there.
-fn has_earlier(scans: &[LogScan], segment: Option<(u32, u32)>) -> bool
-    ensures test { result ≡ list_any (λ other. is_earlier_in other.writer segment) scans.now }
+fn has_earlier(scans: &[LogScan], segment: Option<Segment>) -> bool
+    ensures test { result ≡ list_any (λ other. is_earlier_in other.front.head.segment segment) scans.now }
     ensures is { IsTrue result ↔ HasScan scans.now (λ other. IsEarlier other segment) }
 {
-    scans.iter().any(|other| is_earlier(other.writer, segment))
+    scans
+        .iter()
+        .any(|other| is_earlier(other.front.head.segment, segment))
 }
 
 /// Returns whether a later segment of the same log is there.
-fn has_later(scans: &[LogScan], segment: Option<(u32, u32)>) -> bool
+fn has_later(scans: &[LogScan], segment: Option<Segment>) -> bool
     ensures { IsTrue result ↔ HasScan scans.now (IsEarlier segment) }
 {
-    scans.iter().any(|other| is_earlier(segment, other.writer))
+    scans
+        .iter()
+        .any(|other| is_earlier(segment, other.front.head.segment))
 }
 
 /// Returns whether the segment directly before this one is there.
-fn has_one_before(scans: &[LogScan], segment: Option<(u32, u32)>) -> bool
+fn has_one_before(scans: &[LogScan], segment: Option<Segment>) -> bool
     ensures { IsTrue result ↔ HasScan scans.now (λ other. IsJustBefore other segment) }
 {
     scans
         .iter()
-        .any(|other| is_just_before(other.writer, segment))
+        .any(|other| is_just_before(other.front.head.segment, segment))
 }
 
 /// Returns whether the same segment is there.
-fn has_same(scans: &[LogScan], segment: Option<(u32, u32)>) -> bool
+fn has_same(scans: &[LogScan], segment: Option<Segment>) -> bool
     ensures { IsTrue result ↔ HasScan scans.now (IsSame segment) }
 {
-    scans.iter().any(|other| is_same(segment, other.writer))
+    scans
+        .iter()
+        .any(|other| is_same(segment, other.front.head.segment))
 }
 
 /// Returns whether both are segments of one worker's log, and the first has the lower number.
-fn is_earlier(a: Option<(u32, u32)>, b: Option<(u32, u32)>) -> bool
+fn is_earlier(a: Option<Segment>, b: Option<Segment>) -> bool
     ensures test { result ≡ is_earlier_in a b }
     ensures is { IsTrue result ↔ IsEarlier a b }
 {
     match (a, b) {
-        (Some(a), Some(b)) => a.0 == b.0 && a.1 < b.1,
+        (Some(a), Some(b)) => a.worker == b.worker && a.number < b.number,
         _ => false,
     }
 }
 
 /// Returns whether both are segments of one worker's log, and the first comes directly before the second.
-fn is_just_before(a: Option<(u32, u32)>, b: Option<(u32, u32)>) -> bool
+fn is_just_before(a: Option<Segment>, b: Option<Segment>) -> bool
     ensures { IsTrue result ↔ IsJustBefore a b }
 {
     match (a, b) {
-        (Some(a), Some(b)) => a.0 == b.0 && a.1.checked_add(1) == Some(b.1),
+        (Some(a), Some(b)) => a.worker == b.worker && a.number.checked_add(1) == Some(b.number),
         _ => false,
     }
 }
 
 /// Returns whether both are the same segment.
-fn is_same(a: Option<(u32, u32)>, b: Option<(u32, u32)>) -> bool
+fn is_same(a: Option<Segment>, b: Option<Segment>) -> bool
     ensures { IsTrue result ↔ IsSame a b }
 {
     match (a, b) {

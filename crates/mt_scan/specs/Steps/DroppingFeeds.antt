@@ -49,14 +49,8 @@ kept_in (Some kept) text = kept
 -- the scan of the log with this number and this text, after this number of updates and of marks was dropped
 abbrev pub scan_from : ℕ → LogText (List Logged) → Option (List Logged) → ℕ → ℕ → LogScan
 scan_from log text kept dropped marks = record {
-  from = text.from;
-  writer = text.writer;
-  last = text.last;
-  version = text.version;
-  whole = text.whole;
-  end = text.end;
+  front = text.front;
   marks = min (count_of (filter is_mark (kept_in kept text)) + marks) (2 ^ 64 - 1);
   updates = record { log = log; records = kept_in kept text };
   dropped = dropped;
-  torn = text.torn;
 }

@@ -1,11 +1,14 @@
-use Rattle.std.proofs.Common.{◌≤◌, map, All, Contains, IfSome, rules}
-use Rattle.std.proofs.lemmas.Option.{IfSome_then}
+use Rattle.std.proofs.Common.{◌∙◌, sym, rules, tests}
+use Rattle.std.proofs.lemmas.Iterator.Adapters.{option_map_id}
+use Rattle.std.proofs.lemmas.Iterator.{YieldsList-from_slice, YieldsList-from_map}
+use Rattle.std.proofs.lemmas.Iterator.Consumers.{min_from_yields_List}
 use Rattle.mt_scan.specs.Steps.Lasts.{last_of}
-use Rattle.mt_scan.proofs.LeastLast.{cutoff_is}
+use Rattle.mt_scan.proofs.LeastLast.{cutoff_of}
 use Rattle.mt_scan.proofs.lasts.cutoff.Goals as goal
 
 pub returns-clause-found : goal.returns-clause-found
 returns-clause-found c = λ logs show.
     let scans = c.args.scans.now in
-    let least : IfSome c.min.result (λ n. Contains (map (last_of scans) scans) n × All (λ last. n ≤ last) (map (last_of scans) scans)) = search rules in
-    IfSome_then c.min.result least (λ n is. cutoff_is scans logs n show is.0 is.1)
+    let least = min_from_yields_List {v = λ n. n} c.map.result c.min.result c.min.ensures.ran
+    (YieldsList-from_map _ (last_of scans) (YieldsList-from_slice scans cc) c.map.ensures.closure (λ x r q k. search (rules, tests))) in
+    cutoff_of scans logs c.min.result show (sym (option_map_id c.min.result) ∙ least)
