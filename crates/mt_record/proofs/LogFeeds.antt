@@ -22,7 +22,7 @@ use Rattle.mt_record.specs.Spelling.{framed, spelling, IsRecordLength}
 use Rattle.mt_record.specs.Fronts.{ShowsNone, IsUnfinishedFront}
 use Rattle.mt_record.specs.Heads.{IsHead, head_bytes, HasNoHeader}
 use Rattle.mt_record.specs.Encoding.{head_of}
-use Rattle.mt_record.specs.Logs.{AreRecords, latest, IsTorn, IsLog, LogReading, IsReading, count_of, log_bytes}
+use Rattle.mt_record.specs.Logs.{latest, IsTorn, LogReading, IsReading, count_of, log_bytes}
 use Rattle.mt_record.specs.LogTexts.{version_of, versions_of, greatest, IsLast, front_of, tail_rest, front_in, IsTextIn}
 use Rattle.mt_record.specs.declared.front.LogFront.{LogFront}
 use Rattle.mt_record.specs.LogFaults.{RestFault, IsLogFault}
@@ -49,26 +49,11 @@ unread taken s text rest none reads =
     sym (reads.joins ∙ ap (λ (x : List ℕ). x ++ rest) read.0)
 
 -- if a header was read, the input is the header, the encodings of lawful records, and the rest
-pub record IsBegun (taken : List Logged) (s : LogSoFar) (front : LogFront) (text rest : List ℕ) : Type 0 where
-  pub spelled : text ≡ head_bytes front.head ++ (flat_map spelling (taken ++ s.ready) ++ rest)
-  pub is_head : IsHead front.head
-  pub lawful : AreRecords (limits_of front.head.format) 0 (taken ++ s.ready)
-  pub numbers : front ≡ front_of front.head (taken ++ s.ready) Nothing
-
-begun : (taken : List Logged) (s : LogSoFar) (front : LogFront) (text rest : List ℕ) → s.front ≡ Some front → HasRead (HoldsLog taken s) text rest → IsBegun taken s front text rest
+begun : (taken : List Logged) (s : LogSoFar) (front : LogFront) (text rest : List ℕ) → s.front ≡ Some front → (reads : HasRead (HoldsLog taken s) text rest)
+    → (text ≡ head_bytes front.head ++ (flat_map spelling (taken ++ s.ready) ++ rest)) × IsReadTo front (taken ++ s.ready) reads.front
 begun taken s front text rest some reads =
     let read : IsReadTo front (taken ++ s.ready) reads.front = rw some at reads.read in
-    record {
-      spelled = reads.joins ∙ behind_on (head_bytes front.head) reads.front (flat_map spelling (taken ++ s.ready)) rest read.spelled;
-      is_head = read.is_head;
-      lawful = read.lawful;
-      numbers = read.numbers;
-    }
-
--- if a header was read and the rest is empty or torn, the input is a log
-is_log : (taken : List Logged) (s : LogSoFar) (front : LogFront) (text left : List ℕ) → IsBegun taken s front text left → (left ≡ []) ⊎ IsTorn (limits_of front.head.format) left
-    → IsLog text front.head (taken ++ s.ready) left
-is_log taken s front text left is ends = record { spelled = is.spelled; is_head = is.is_head; lawful = is.lawful; ends = ends }
+    (reads.joins ∙ behind_on (head_bytes front.head) reads.front (flat_map spelling (taken ++ s.ready)) rest read.spelled, read)
 
 -- ---- items
 
@@ -152,11 +137,12 @@ no_head_read taken s text left none (reads, rest) = subst HasNoHeader (unread ta
 pub front_is : (taken : List Logged) (s : LogSoFar) (front : LogFront) (text left : List ℕ) (rest : Rest) → s.front ≡ Some front → HasRead (HoldsLog taken s) text left
     → IsRest (limits_of front.head.format) front.latest left rest → IsFrontOf text (taken ++ s.ready) (record front { rest = rest })
 front_is taken s front text left rest some reads is =
-    let read = begun taken s front text left some reads in
+    let is_begun = begun taken s front text left some reads in
+    let read = is_begun.1 in
     let low : front.latest ≡ latest 0 (taken ++ s.ready) = ap (λ (f : LogFront). f.latest) read.numbers in
     record {
       rest = left;
-      spelled = read.spelled ∙ sym (append_assoc (head_bytes front.head) (flat_map spelling (taken ++ s.ready)) left);
+      spelled = is_begun.0 ∙ sym (append_assoc (head_bytes front.head) (flat_map spelling (taken ++ s.ready)) left);
       is_head = read.is_head;
       lawful = read.lawful;
       is_rest = subst (λ (n : ℕ). IsRest (limits_of front.head.format) n left rest) low is;
@@ -200,20 +186,6 @@ front_last bytes log front n e is same =
     let time : n ≡ max log.head.from (latest 0 log.records) = e ∙ ap (λ (f : LogFront). max f.head.from f.latest) same in
     subst (λ (m : ℕ). IsLast log m) (sym time) (last_is (limits_of log.head.format) log is.is_log.lawful)
 
--- nothing is no torn tail
-nothing_torn : Nothing ≡ Torn → ⊥
-nothing_torn e = cc
-
--- the front of a log tells whether its tail is torn
-pub front_tells : (front : LogFront) (torn : Bool) → IsTrue torn ↔ (front.rest ≡ Torn) → (log : LogReading) → front ≡ front_in log → torn ≡ log.torn
-front_tells front torn tells log same = by torn log.torn tells (ap (λ (f : LogFront). f.rest) same)
-  where
-    by : (p q : Bool) → IsTrue p ↔ (front.rest ≡ Torn) → front.rest ≡ tail_rest q → p ≡ q
-    by false false t rest = refl
-    by true true t rest = refl
-    by false true t rest = absurd (false≢true (t.1 rest))
-    by true false t rest = absurd (nothing_torn (sym rest ∙ t.0 refl))
-
 -- the header and the records of the front are the first bytes
 pub front_bytes : (bytes : List ℕ) (records : List Logged) (front : LogFront) → length bytes < 2 ^ 64 → IsFrontOf bytes records front
     → (front.bytes ≤ length bytes) × (take front.bytes bytes ≡ log_bytes front.head records)
@@ -254,7 +226,9 @@ fed_shows_none taken s held text (reads, left) = by s.front refl
   where
     by : (o : Option LogFront) → s.front ≡ o → ShowsNoFault text
     by None none = subst ShowsNoFault (unread taken s text held none reads) (cut_shows_none held (rw none at left))
-    by (Some front) some = λ fault h. not_both text front.head (taken ++ s.ready) held fault (is_log taken s front text held (begun taken s front text held some reads) (rw some at left)) (shown_fault fault text h)
+    by (Some front) some = λ fault h.
+        let is = begun taken s front text held some reads in
+        not_both text front.head (taken ++ s.ready) held fault (record { spelled = is.0; is_head = is.1.is_head; lawful = is.1.lawful; ends = rw some at left }) (shown_fault fault text h)
 
 -- a fault of the rest stays its fault when more bytes follow
 rest_fault_on : (what : What) (limits : Limits) (low : ℕ) (rest more : List ℕ) → RestFault what limits low rest → RestFault what limits low (rest ++ more)
@@ -275,19 +249,19 @@ fed_shows taken s faults.Header text h other =
 fed_shows taken s (faults.Record nth what) text h other =
     let front = h.fault.front in
     let is = begun taken s front text (h.shown ++ h.more) h.fault.begun h.read in
-    let low : front.latest ≡ latest 0 (taken ++ s.ready) = ap (λ (f : LogFront). f.latest) is.numbers in
+    let low : front.latest ≡ latest 0 (taken ++ s.ready) = ap (λ (f : LogFront). f.latest) is.1.numbers in
     record {
       records = taken ++ s.ready;
       fault = record {
         head = front.head;
         rest = h.shown ++ h.more;
-        spelled = is.spelled;
-        is_head = is.is_head;
-        lawful = is.lawful;
+        spelled = is.0;
+        is_head = is.1.is_head;
+        lawful = is.1.lawful;
         fault = rest_fault_on what (limits_of front.head.format) (latest 0 (taken ++ s.ready)) h.shown h.more
             (subst (λ (n : ℕ). RestFault what (limits_of front.head.format) n h.shown) low h.fault.fault);
       };
-      number = h.fault.number ∙ ap (λ (f : LogFront). f.count) is.numbers;
+      number = h.fault.number ∙ ap (λ (f : LogFront). f.count) is.1.numbers;
     }
 fed_shows taken s faults.Memory text h other = absurd (other refl)
 
