@@ -11,7 +11,7 @@ use Rattle.mt_words.proofs.Elements.{head_in, tail_in}
 use Rattle.mt_record.specs.Parts.{PartReading}
 use Rattle.mt_scan.specs.PartScans.{KnownPart, whole, broken, nameless}
 use Rattle.mt_scan.specs.PartsShown.{KeptPart, shown_by, shown_by_all}
-use Rattle.mt_scan.specs.Choice.{CheckpointReading, parts_of, IsPartAt, AreInPlace, entry_keys, MakeUp, IsValid}
+use Rattle.mt_scan.specs.Choice.{CheckpointReading, parts_of, IsPartAt, AreInPlace, entry_keys, AreItsParts, IsValid}
 use Rattle.mt_scan.specs.Steps.Checkpoints.{MakeUpNone, reading_of}
 use Rattle.mt_scan.proofs.CheckpointLemmas.{in_place_of, none_made, none_of_none}
 use Rattle.mt_replay.proofs.Members.{of_map}
@@ -78,7 +78,7 @@ rising_decided (key ∷ keys) = both (all (IsBelow key) (λ other. passes (is_lt
 
 -- a checkpoint with the entries of the parts
 made_up_decided : (parts : List PartReading) (checkpoint : CheckpointReading) → checkpoint.entries ≡ flat_map (λ (part : PartReading). part.entries) parts
-    → Decided (MakeUp parts checkpoint)
+    → Decided (AreItsParts parts checkpoint)
 made_up_decided parts checkpoint entries = alike
     (λ four. record { some = four.0.0; in_place = four.0.1; begins = four.1.0; all = entries; rise = four.1.1 }) (λ is. ((is.some, is.in_place), (is.begins, is.rise)))
     (both (both (at_most 1 (length parts)) (in_place_decided checkpoint (length parts) 0 parts)) (both (at_most checkpoint.begin checkpoint.end) (rising_decided (entry_keys checkpoint.entries))))
@@ -131,8 +131,8 @@ none_valid known number texts are none other same valid = none other (record {
 })
 
 -- the number of a checkpoint is not among what its parts have to agree in
-numbered : (number other : ℕ) (first : KeptPart) (parts : List KeptPart) → MakeUp (shown_by_all parts) (reading_of number first.begin first.end parts)
-    → MakeUp (shown_by_all parts) (reading_of other first.begin first.end parts)
+numbered : (number other : ℕ) (first : KeptPart) (parts : List KeptPart) → AreItsParts (shown_by_all parts) (reading_of number first.begin first.end parts)
+    → AreItsParts (shown_by_all parts) (reading_of other first.begin first.end parts)
 numbered number other first parts make = record {
   some = make.some;
   in_place = in_place_of (reading_of number first.begin first.end parts) (reading_of other first.begin first.end parts) (length (shown_by_all parts)) 0 (shown_by_all parts) refl refl make.in_place;

@@ -12,7 +12,7 @@ use Rattle.mt_words.specs.Words.{AreRising}
 use Rattle.mt_record.specs.Parts.{PartReading}
 use Rattle.mt_scan.specs.PartScans.{KnownPart, whole, broken, nameless}
 use Rattle.mt_scan.specs.PartsShown.{KeptPart, shown_by, shown_by_all}
-use Rattle.mt_scan.specs.Choice.{CheckpointReading, IsPartAt, AreInPlace, entry_keys, MakeUp}
+use Rattle.mt_scan.specs.Choice.{CheckpointReading, IsPartAt, AreInPlace, entry_keys, AreItsParts}
 use Rattle.mt_scan.specs.Choosing.{checkpoint_in}
 use Rattle.mt_scan.specs.Steps.Checkpoints.{entries_of, MakeUpNone, AreSameTexts, IsMadeOfParts, reading_of}
 use Rattle.mt_scan.specs.declared.checkpoint.Checkpoint.{Checkpoint}
@@ -151,7 +151,7 @@ first_times checkpoint count (x ∷ xs) first at are =
 
 -- parts that make up no checkpoint in the order of their numbers make up none in any order
 pub none_made : (texts sorted : List KeptPart) (first : KeptPart) → IsPermutation texts sorted → IsNonDecreasingBy (λ (text : KeptPart). text.part) sorted → slice_get sorted 0 ≡ Some first
-    → ((number : ℕ) → MakeUp (shown_by_all sorted) (reading_of number first.begin first.end sorted) → ⊥) → MakeUpNone (shown_by_all texts)
+    → ((number : ℕ) → AreItsParts (shown_by_all sorted) (reading_of number first.begin first.end sorted) → ⊥) → MakeUpNone (shown_by_all texts)
 none_made texts parts first moved rise at not checkpoint can =
     let sorted : List PartReading = shown_by_all parts in
     let there : AreSameTexts (shown_by_all texts) sorted = same_texts_as texts parts moved in
@@ -159,7 +159,7 @@ none_made texts parts first moved rise at not checkpoint can =
     IsPermutation-trans (map whole sorted) (map whole (shown_by_all texts)) (map whole can.ordered) (IsPermutation-sym (map whole (shown_by_all texts)) (map whole sorted) there) can.same in
     let ordered_are : AreNumbered can.ordered = are_numbered checkpoint (length can.ordered) can.ordered can.make_up.in_place in
     let are : sorted ≡ can.ordered = same_texts sorted can.ordered (sorted_are_numbered parts can.ordered first rise ordered_are same) ordered_are same in
-    let make_up = subst (λ (xs : List PartReading). MakeUp xs checkpoint) (sym are) can.make_up in
+    let make_up = subst (λ (xs : List PartReading). AreItsParts xs checkpoint) (sym are) can.make_up in
     let times = first_times checkpoint (length sorted) parts first at make_up.in_place in
     not checkpoint.number (record {
       some = make_up.some;
@@ -181,5 +181,5 @@ entries_shown [] = refl
 entries_shown (part ∷ parts) = ap (λ (entries : List Change). part.entries ++ entries) (entries_shown parts)
 
 pub made : (number : ℕ) (texts : List KeptPart) (value : Checkpoint) → value.number ≡ number → IsPermutation texts value.parts.items
-    → MakeUp (shown_by_all value.parts.items) (checkpoint_in value) → IsMadeOfParts number (shown_by_all texts) value
+    → AreItsParts (shown_by_all value.parts.items) (checkpoint_in value) → IsMadeOfParts number (shown_by_all texts) value
 made number texts value number_is moved make_up = record { number_is = number_is; same = same_texts_as texts value.parts.items moved; make_up = make_up }

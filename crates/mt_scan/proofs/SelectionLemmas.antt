@@ -13,7 +13,7 @@ use Rattle.std.proofs.lemmas.List.Sorted.{IsPermutation-sym, IsPermutation-trans
 use Rattle.mt_record.specs.Parts.{PartReading}
 use Rattle.mt_scan.specs.PartScans.{whole}
 use Rattle.mt_scan.specs.PartsShown.{shown_by_all}
-use Rattle.mt_scan.specs.Choice.{CheckpointReading, AreInPlace, MakeUp, IsNoBetter}
+use Rattle.mt_scan.specs.Choice.{CheckpointReading, AreInPlace, AreItsParts, IsNoBetter}
 use Rattle.mt_scan.specs.Choosing.{checkpoint_in}
 use Rattle.mt_scan.specs.Steps.Checkpoints.{AreSameTexts}
 use Rattle.mt_scan.specs.Steps.Groups.{HasCheckpoint, HasNone, IsCheckpointOf}
@@ -31,7 +31,7 @@ abbrev pub Entry : Type 0
 Entry = ℕ × PartGroup
 
 -- two checkpoints that the same parts make up have the same begin and end
-same_times_of : (a b : CheckpointReading) (xs ys : List PartReading) → MakeUp xs a → MakeUp ys b → AreSameTexts xs ys → (a.begin ≡ b.begin) × (a.end ≡ b.end)
+same_times_of : (a b : CheckpointReading) (xs ys : List PartReading) → AreItsParts xs a → AreItsParts ys b → AreSameTexts xs ys → (a.begin ≡ b.begin) × (a.end ≡ b.end)
 same_times_of a b xs ys of_a of_b same =
     let texts : xs ≡ ys = same_texts xs ys (are_numbered a (length xs) xs of_a.in_place) (are_numbered b (length ys) ys of_b.in_place) same in
     same_times a b (length xs) (length ys) xs of_a.in_place (subst (λ (zs : List PartReading). AreInPlace b (length ys) 0 zs) (sym texts) of_b.in_place) of_a.some

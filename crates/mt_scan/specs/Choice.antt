@@ -42,7 +42,7 @@ entry_keys entries = map (λ entry. entry.key) entries
 
 -- These parts, in this order, make up the checkpoint. There is at least one. They agree in begin, end and the number of parts, and each has the
 -- number of its place. The checkpoint begins at its end at the latest. Its entries are theirs, one part after another, with strictly rising keys.
-pub record MakeUp (texts : List PartReading) (checkpoint : CheckpointReading) : Type 0 where
+pub record AreItsParts (texts : List PartReading) (checkpoint : CheckpointReading) : Type 0 where
   pub some : 0 < length texts
   pub in_place : AreInPlace checkpoint (length texts) 0 texts
   pub begins : checkpoint.begin ≤ checkpoint.end
@@ -53,7 +53,7 @@ pub record MakeUp (texts : List PartReading) (checkpoint : CheckpointReading) : 
 pub record IsValid (parts : List KnownPart) (checkpoint : CheckpointReading) : Type 0 where
   pub texts : List PartReading
   pub are_whole : IsPermutation (parts_of checkpoint.number parts) (map whole texts)
-  pub make_up : MakeUp texts checkpoint
+  pub make_up : AreItsParts texts checkpoint
 
 -- a valid checkpoint that ends below the cutoff
 pub record MayBeChosen (parts : List KnownPart) (cutoff : ℕ) (checkpoint : CheckpointReading) : Type 0 where

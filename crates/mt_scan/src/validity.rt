@@ -1,7 +1,7 @@
 //! Checks that parts make up a checkpoint.
 ghost use Rattle.std.specs.Prelude.{◌<◌, ◌↔◌, ℕ, List, length, IsTrue};
 ghost use Rattle.mt_scan.specs.PartsShown.{KeptPart, shown_by, shown_by_all};
-ghost use Rattle.mt_scan.specs.Choice.{IsPartAt, AreInPlace, MakeUp};
+ghost use Rattle.mt_scan.specs.Choice.{IsPartAt, AreInPlace, AreItsParts};
 ghost use Rattle.mt_scan.specs.Steps.Checkpoints.{reading_of};
 
 use crate::rising::do_entries_rise;
@@ -10,7 +10,7 @@ use mt_record::{KeptEntries, PartText};
 /// Returns whether the parts, of which there is at least one, make up a valid checkpoint in this order.
 pub fn make_up(begin: u64, end: u64, texts: &[PartText<KeptEntries>]) -> bool
     requires { 0 < length texts.now }
-    ensures { (number : ℕ) → IsTrue result ↔ MakeUp (shown_by_all texts.now) (reading_of number begin end texts.now) }
+    ensures { (number : ℕ) → IsTrue result ↔ AreItsParts (shown_by_all texts.now) (reading_of number begin end texts.now) }
 {
     begin <= end && are_in_place(begin, end, texts) && do_entries_rise(texts)
 }

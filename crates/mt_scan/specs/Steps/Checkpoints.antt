@@ -6,7 +6,7 @@ use Rattle.mt_words.specs.declared.record.Change.{Change}
 use Rattle.mt_record.specs.Parts.{PartReading}
 use Rattle.mt_scan.specs.PartScans.{whole}
 use Rattle.mt_scan.specs.PartsShown.{KeptPart, shown_by_all}
-use Rattle.mt_scan.specs.Choice.{CheckpointReading, MakeUp}
+use Rattle.mt_scan.specs.Choice.{CheckpointReading, AreItsParts}
 use Rattle.mt_scan.specs.Choosing.{checkpoint_in}
 use Rattle.mt_scan.specs.declared.checkpoint.Checkpoint.{Checkpoint}
 
@@ -26,7 +26,7 @@ AreSameTexts texts others = IsPermutation (map whole texts) (map whole others)
 pub record CanMakeUp (texts : List PartReading) (checkpoint : CheckpointReading) : Type 0 where
   pub ordered : List PartReading
   pub same : AreSameTexts texts ordered
-  pub make_up : MakeUp ordered checkpoint
+  pub make_up : AreItsParts ordered checkpoint
 
 -- the parts make up no checkpoint, in any order
 abbrev pub MakeUpNone : List PartReading → Type 0
@@ -36,7 +36,7 @@ MakeUpNone texts = (checkpoint : CheckpointReading) → CanMakeUp texts checkpoi
 pub record IsMadeOfParts (number : ℕ) (texts : List PartReading) (made : Checkpoint) : Type 0 where
   pub number_is : made.number ≡ number
   pub same : AreSameTexts texts (shown_by_all made.parts.items)
-  pub make_up : MakeUp (shown_by_all made.parts.items) (checkpoint_in made)
+  pub make_up : AreItsParts (shown_by_all made.parts.items) (checkpoint_in made)
 
 -- an optional key, as a list of at most one key
 abbrev pub none_or_one : Option (Bor (List ℕ)) → List (List ℕ)
