@@ -19,11 +19,6 @@ same_number m n = cases_eq m n
 pub passes : (test : Bool) → Decided (IsTrue test)
 passes test = elim (cases_Bool test) as (λ _. Decided (IsTrue test)) [ inl is ↦ inl is | inr not ↦ inr (both_ways test not) ]
 
--- whether there is a value and it passes the test
-pub some_passes : {T : Type 0} (test : T → Bool) (o : Option T) → Decided (IsSomeAnd o (λ x. IsTrue (test x)))
-some_passes test None = inr (λ none. none)
-some_passes test (Some x) = passes (test x)
-
 -- ---- lists
 
 -- whether P holds for each element

@@ -22,7 +22,8 @@ use Rattle.mt_replay.specs.Survivors.{all_updates, log_updates, is_within, in_wi
 use Rattle.mt_replay.specs.Walk.{IsWalk}
 use Rattle.mt_replay.proofs.Members.{in_filter}
 use Rattle.mt_scan.specs.Choice.{CheckpointReading}
-use Rattle.mt_scan.specs.Segments.{Passes, IsGap, has_gap, writers_of}
+use Rattle.mt_scan.specs.Segments.{IsGap}
+use Rattle.mt_scan.proofs.SegmentCases.{from_begin}
 use Rattle.mt_recover.specs.Recovery.{AreReadings, entry_updates, begin_of, survivors, records_of, IsStoreOf}
 use Rattle.mt_recover.proofs.FoundLemmas.{alone}
 use Rattle.mt_laws.specs.Crashes.{IsCutOf, IsBeginningOf, IsAlone, NoSegments, IsCrash}
@@ -115,20 +116,6 @@ all_survive window log (l ∷ ls) (h ∷ hs) are =
     ∙ (λ i. one_survives window log l h are.0 i ++ all_survive window (suc log) ls hs are.1 i)
     ∙ sym (filter-append (in_window window) (updates_from log 0 h.records) (all_updates (suc log) (records_of hs)))
 
--- a log that is no segment and has no gap has all from begin on
-from_begin : (begin : ℕ) (files ls : List LogReading) → ((i : ℕ) → Passes ls i (λ file. has_gap begin (writers_of files) file.head.from file.head.writer) → ⊥) → (log : LogReading)
-    → Contains ls log → log.head.writer ≡ None → log.head.from ≤ begin
-from_begin begin files [] none log at alone = absurd (no_element log at)
-from_begin begin files (l ∷ ls) none log at alone = elim (head_or_tail l log ls at) as (λ _. log.head.from ≤ begin) [
-  | inl e ↦ elim (cases_lt begin log.head.from) as (λ _. log.head.from ≤ begin) [
-    | inl gap ↦
-        let late : IsTrue (has_gap begin (writers_of files) log.head.from log.head.writer) = rw alone (lt-ltb begin log.head.from gap) in
-        absurd (none 0 (subst (λ (file : LogReading). IsTrue (has_gap begin (writers_of files) file.head.from file.head.writer)) (sym e) late))
-    | inr most ↦ most
-  ]
-  | inr later ↦ from_begin begin files ls (λ i gap. none (suc i) gap) log later alone
-]
-
 -- the greater of two numbers that is at least the cutoff is one of them
 one_reaches : (cutoff from begin last : ℕ) → from ≤ begin → cutoff ≤ max from last → (cutoff ≤ last) ⊎ (cutoff ≤ begin)
 one_reaches cutoff from begin last low reaches = elim (cases_lt last cutoff) as (λ _. (cutoff ≤ last) ⊎ (cutoff ≤ begin)) [
@@ -137,12 +124,12 @@ one_reaches cutoff from begin last low reaches = elim (cases_lt last cutoff) as 
 ]
 
 one_cut : (window : Window) (left written : List ℕ) (history log : LogReading) → IsCutOf left written → IsReading written history → IsReading left log
-    → history.head.writer ≡ None → (log.head.writer ≡ None → log.head.from ≤ window.begin) → (log.head.writer ≡ None → (last : ℕ) → IsLast log last → window.cutoff ≤ last)
+    → history.head.segment ≡ None → (log.head.segment ≡ None → log.head.from ≤ window.begin) → (log.head.segment ≡ None → (last : ℕ) → IsLast log last → window.cutoff ≤ last)
     → LosesNothing window log history
 one_cut window left written history log cut is is_log none low least =
     let said = cut_log left written history is cut in
     let begins = subst (λ (x : LogReading). IsBeginningOf x history) (one_reading_of left said.log log said.is_reading is_log) said.begins in
-    let alone : log.head.writer ≡ None = ap (λ (head : Head). head.writer) begins.head ∙ none in
+    let alone : log.head.segment ≡ None = ap (λ (head : Head). head.segment) begins.head ∙ none in
     let last = least alone (max log.head.from (latest 0 log.records)) (last_is (limits_of log.head.format) log is_log.is_log.lawful) in record {
       begins = begins;
       limits = limits_of history.head.format;
@@ -151,8 +138,8 @@ one_cut window left written history log cut is is_log none low least =
     }
 
 all_cut : (window : Window) (left written : List (List ℕ)) (hs ls : List LogReading) → AllZip IsCutOf left written → AreReadings written hs → AreReadings left ls
-    → NoSegments hs → ((log : LogReading) → Contains ls log → log.head.writer ≡ None → log.head.from ≤ window.begin)
-    → ((log : LogReading) → Contains ls log → log.head.writer ≡ None → (last : ℕ) → IsLast log last → window.cutoff ≤ last)
+    → NoSegments hs → ((log : LogReading) → Contains ls log → log.head.segment ≡ None → log.head.from ≤ window.begin)
+    → ((log : LogReading) → Contains ls log → log.head.segment ≡ None → (last : ℕ) → IsLast log last → window.cutoff ≤ last)
     → AllZip (LosesNothing window) ls hs
 all_cut window [] [] [] [] cuts read are none low least = tt
 all_cut window [] [] [] (l ∷ ls) cuts read are none low least = absurd are
@@ -175,7 +162,7 @@ pub nothing_lost : (left : List (List ℕ)) (histories readings : List LogReadin
 nothing_lost left histories readings cutoff chosen crash are is none =
     let window : Window = record { begin = begin_of chosen; cutoff = cutoff } in
     ap (λ (us : List Update). us ++ entry_updates chosen) (all_survive window 0 readings histories
-    (all_cut window left crash.written histories readings crash.cuts crash.read are crash.no_segments (from_begin (begin_of chosen) readings readings none)
+    (all_cut window left crash.written histories readings crash.cuts crash.read are crash.no_segments (from_begin (begin_of chosen) readings none)
     (λ log at own last is_last. is.least last (record { log = log; stands = at; is_last = subst (λ (times : List ℕ). IsGreatestOf times last) (alone readings log own) is_last }))))
 
 pub same_store : (left parts : List (List ℕ)) (histories : List LogReading) (pairs : List Pair) → IsCrash left histories → (store : IsStoreOf left parts pairs)

@@ -27,13 +27,14 @@ use Rattle.mt_scan.specs.PartScans.{KnownPart, whole, IsKnown}
 use Rattle.mt_replay.specs.declared.window.Window.{Window}
 use Rattle.mt_replay.specs.Survivors.{all_updates, in_window, log_updates}
 use Rattle.mt_replay.proofs.Members.{of_each, of_map, of_flat_map, of_filter, in_map}
-use Rattle.mt_scan.specs.Segments.{IsDoubled, IsTornAmid, IsGap, AreWriters, writers_of, has_same, has_later, has_gap}
+use Rattle.mt_scan.specs.Segments.{IsDoubled, IsTornAmid, IsGap, AreWriters}
+use Rattle.mt_scan.proofs.SegmentCases.{doubled_or_not, torn_or_not, gap_or_not}
 use Rattle.mt_recover.specs.Recovery.{AreReadings, AreKnown, Facts, IsStoreOf, begin_of, records_of, survivors, entry_updates}
 use Rattle.mt_recover.specs.Verdict.{IsFirstFault, IsVerdict}
 use Rattle.mt_recover.proofs.SurvivorLemmas.{survivors_apart}
 use Rattle.mt_laws.proofs.SomeReading.{ReadingOrFault, reading_or_fault}
 use Rattle.mt_laws.proofs.SomePart.{known_of}
-use Rattle.mt_laws.proofs.Finite.{HasFirst, has_first, some_passes, within_length}
+use Rattle.mt_laws.proofs.Finite.{HasFirst, has_first, within_length}
 use Rattle.mt_laws.proofs.SomeCutoff.{some_cutoff}
 use Rattle.mt_laws.proofs.SomeChoice.{some_choice}
 use Rattle.mt_laws.proofs.SomeWalk.{IsLawfulUpdate, some_walk}
@@ -80,19 +81,13 @@ all_known (p ∷ ps) =
 -- ---- segments
 
 first_doubled : (files : List LogReading) → HasFirst (IsDoubled files)
-first_doubled files =
-    has_first (IsDoubled files) (λ i. some_passes (has_same (take i (writers_of files))) (slice_get (writers_of files) i)) (length (writers_of files))
-    (λ i is. within_length _ (writers_of files) i is)
+first_doubled files = has_first (IsDoubled files) (doubled_or_not files) (length files) (λ i is. within_length _ files i is)
 
 first_torn : (files : List LogReading) → HasFirst (IsTornAmid files)
-first_torn files =
-    let test : LogReading → Bool = λ file. file.torn && has_later (writers_of files) file.head.writer in
-    has_first (IsTornAmid files) (λ i. some_passes test (slice_get files i)) (length files) (λ i is. within_length _ files i is)
+first_torn files = has_first (IsTornAmid files) (torn_or_not files) (length files) (λ i is. within_length _ files i is)
 
 first_gap : (begin : ℕ) (files : List LogReading) → HasFirst (IsGap begin files)
-first_gap begin files =
-    let test : LogReading → Bool = λ file. has_gap begin (writers_of files) file.head.from file.head.writer in
-    has_first (IsGap begin files) (λ i. some_passes test (slice_get files i)) (length files) (λ i is. within_length _ files i is)
+first_gap begin files = has_first (IsGap begin files) (gap_or_not begin files) (length files) (λ i is. within_length _ files i is)
 
 -- ---- the updates that survive are lawful
 
