@@ -2,20 +2,16 @@
 ghost use Rattle.std.specs.Prelude.{◌≤◌};
 
 use crate::caveat::{Caveat, Losses};
-use crate::clashes::write_clash;
 use crate::explaining::with_reason;
 use crate::failure::tell;
 use crate::file_names::Names;
-use crate::form::Form;
-use crate::json::write_report;
-use crate::printing::print_range;
-use crate::refusal::Refusal;
 use crate::request::{Folder, Query, StoreQuery};
 use mt_recover::{
-    Clash, Cutting, Inputs, NoGate, Pieces, Recovered, Report, Store, Wanted, Workers, audit,
-    recover, write_dump,
+    Clash, Cutting, Failure, Inputs, NoGate, Pieces, Recovered, Refusal, Report, Store, Wanted,
+    Workers, audit, recover, write_dump,
 };
 use mt_scan::Source;
+use mt_text::{Fields, Form, Printer, write_hex};
 use mt_words::Key;
 use std::alloc::Global;
 use std::fs::Files;
@@ -101,9 +97,20 @@ fn print_clashes<O: Write>(
 ) -> Result<(), Refusal<'static>> {
     let mut out = BufWriter::with_capacity(alloc, PRINTED_AT_ONCE, out)?;
     for clash in clashes {
-        write_clash(alloc, clash, &mut out)?;
+        write_clash(clash, &mut out)?;
     }
     Ok(out.flush()?)
+}
+
+/// Prints the line of a clash: the key in lowercase hexadecimal, a space, the version, a colon, and for each record a
+/// space, its log, `/` and its number in the log.
+fn write_clash<O: Write>(clash: &Clash, out: &mut O) -> io::Result<()> {
+    write_hex(clash.key.as_bytes(), out)?;
+    write!(out, " {}:", clash.version)?;
+    for place in &clash.places {
+        write!(out, " {}/{}", place.log, place.nth)?;
+    }
+    out.write_all(b"\n")
 }
 
 /// Prints what the query asks for, through a buffer.
@@ -136,18 +143,26 @@ fn print<O: Write>(
         }
         StoreQuery::Exists(_) => {}
         StoreQuery::Get(key, form) => write_found(store, key, *form, out)?,
-        StoreQuery::Range(range, form) => print_range(store, range, *form, out)?,
+        StoreQuery::Range(range, form) => {
+            let wanted = range.wanted().ok_or(Failure::Words)?;
+            let form = *form;
+            range.visit(store, &Printer { form, wanted }, out)?;
+        }
         StoreQuery::Dump(form) => print_dump(store, *form, out)?,
     }
     Ok(None)
 }
 
-/// Prints the report, as lines or as JSON.
+/// Prints the report, as lines or as one JSON object.
 fn print_report<O: Write>(report: &Report, is_json: bool, out: &mut O) -> io::Result<()> {
-    if is_json {
-        return write_report(report, out);
+    if !is_json {
+        return write!(out, "{report}");
     }
-    write!(out, "{report}")
+    let mut line = Fields::new(out, is_json);
+    for (name, value) in &report.values() {
+        line.value(name, *value)?;
+    }
+    line.end()
 }
 
 /// Returns the losses of a report as a caveat, if it is strict and has some.
@@ -161,7 +176,7 @@ fn losses_of(report: &Report, is_strict: bool) -> Option<Caveat> {
 /// Prints the pair of the key, or that it is absent.
 fn write_found<O: Write>(store: &Store, key: &Key, form: Form, out: &mut O) -> io::Result<()> {
     match store.get(key.as_bytes()) {
-        Some(columns) => form.write(key.as_bytes(), columns, &Wanted::all(), out),
+        Some(columns) => printer_of(form).write(key.as_bytes(), columns, out),
         None => form.write_absent(out),
     }
 }
@@ -171,5 +186,11 @@ fn print_dump<O: Write>(store: &Store, form: Form, out: &mut O) -> io::Result<()
     if form.is_dump() {
         return write_dump(store, out);
     }
-    store.visit(&form, out)
+    store.visit(&printer_of(form), out)
+}
+
+/// Returns the printer of all columns in this form.
+fn printer_of(form: Form) -> Printer {
+    let wanted = Wanted::all();
+    Printer { form, wanted }
 }

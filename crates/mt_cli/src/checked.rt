@@ -2,12 +2,11 @@
 use crate::caveat::Losses;
 use crate::ending::Ending;
 use crate::fates::{PartState, fate_of, numbers_of};
-use crate::fields::Fields;
 use crate::file_names::Names;
-use crate::refusal::Refusal;
-use mt_record::{Head, LogFront, Rest};
-use mt_recover::{LogCheck, Start};
-use mt_words::{Fault, Format};
+use mt_record::{LogFront, Rest};
+use mt_recover::{LogCheck, Refusal, Start};
+use mt_text::Fields;
+use mt_words::Fault;
 use std::alloc::Global;
 use std::io::{self, Write};
 
@@ -37,10 +36,10 @@ impl Checked {
     /// Prints a line for each log, for each part, for each checkpoint, and for the cutoff. Err: write error.
     pub fn write<W: Write>(&self, names: &Names, is_json: bool, out: &mut W) -> io::Result<()> {
         for (log, name) in names.logs.iter().enumerate() {
-            self.write_log(log, name.as_str(), Fields::new(out, is_json)?)?;
+            self.write_log(log, name.as_str(), Fields::new(out, is_json))?;
         }
         for (part, name) in names.parts.iter().enumerate() {
-            self.write_part(part, name.as_str(), Fields::new(out, is_json)?)?;
+            self.write_part(part, name.as_str(), Fields::new(out, is_json))?;
         }
         Ok(())
     }
@@ -54,7 +53,7 @@ impl Checked {
     ) -> Result<(), Refusal<'static>> {
         for number in &numbers_of(alloc, &self.parts)? {
             let fate = fate_of(*number, &self.parts, &self.start);
-            fate.write(*number, Fields::new(out, is_json)?)?;
+            fate.write(*number, Fields::new(out, is_json))?;
         }
         Ok(self.write_cutoff(is_json, out)?)
     }
@@ -64,7 +63,7 @@ impl Checked {
         let Ok(start) = &self.start else {
             return Ok(());
         };
-        let mut line = Fields::new(out, is_json)?;
+        let mut line = Fields::new(out, is_json);
         line.number("cutoff", start.window.cutoff)?;
         if let Some(log) = self.log_of(start.window.cutoff) {
             line.number("log", log)?;
@@ -84,14 +83,17 @@ impl Checked {
     /// Returns the last timestamp of the log that this file belongs to: of a segment, the greatest of its worker's.
     fn last_of(&self, log: usize) -> Option<u64> {
         let front = front_of(self.logs.get(log)?)?;
-        let Some((worker, _)) = front.head.writer else {
-            return Some(last_in(front));
+        let Some(segment) = front.head.segment else {
+            return Some(front.last());
         };
         self.logs
             .iter()
             .filter_map(front_of)
-            .filter(|other| other.head.writer.is_some_and(|(other, _)| other == worker))
-            .map(last_in)
+            .filter(|other| other
+                .head
+                .segment
+                .is_some_and(|other| other.worker == segment.worker))
+            .map(LogFront::last)
             .max()
     }
 
@@ -134,7 +136,7 @@ impl Checked {
         let mut torn = 0;
         let mut late = 0;
         for check in self.logs.iter().filter_map(|check| check.as_ref().ok()) {
-            torn = u128::from(check.front.rest == Rest::Torn).saturating_add(torn);
+            torn = u128::from(check.front.torn()).saturating_add(torn);
             late = u128::from(check.late).saturating_add(late);
         }
         let Ok(start) = &self.start else {
@@ -173,7 +175,7 @@ fn write_file<W: Write>(
     size: Option<&Option<u64>>,
     line: &mut Fields<'_, W>,
 ) -> io::Result<()> {
-    line.file(name)?;
+    line.text("file", name)?;
     if let Some(Some(size)) = size {
         line.number("bytes", size)?;
     }
@@ -183,11 +185,6 @@ fn write_file<W: Write>(
 /// Returns the front of a log that has a header.
 fn front_of(check: &Result<LogCheck, Fault>) -> Option<&LogFront> {
     check.as_ref().ok().map(|check| &check.front)
-}
-
-/// Returns the last timestamp of a file.
-fn last_in(front: &LogFront) -> u64 {
-    front.head.from.max(front.latest)
 }
 
 /// Prints what a check found in a log. The late updates are known if there is a cutoff.
@@ -203,8 +200,8 @@ fn write_check<W: Write>(
         line.number("late", check.late)?;
     }
     line.number("from", check.front.head.from)?;
-    line.number("last", last_in(&check.front))?;
-    write_format(check.front.head, line)
+    line.number("last", check.front.last())?;
+    line.format(&check.front.head)
 }
 
 /// Prints that a log has no header, and what its bytes are.
@@ -232,27 +229,7 @@ fn write_front<W: Write>(
         Rest::Torn => line.word("state", "torn")?,
         Rest::Faulty(what) => line.word("state", what)?,
     }
-    line.number("end", front.end)?;
+    line.number("end", front.bytes)?;
     write_ending(ending, line)?;
-    line.number("records", front.whole)
-}
-
-/// Prints the format of a log, and which segment it is.
-fn write_format<W: Write>(head: Head, line: &mut Fields<'_, W>) -> io::Result<()> {
-    match head.writer {
-        Some((worker, segment)) => {
-            line.number("format", 3)?;
-            line.number("worker", worker)?;
-            line.number("segment", segment)
-        }
-        None => line.number("format", digit(head.format)),
-    }
-}
-
-/// Returns the number of a format.
-fn digit(format: Format) -> u8 {
-    match format {
-        Format::One => 1,
-        Format::Two => 2,
-    }
+    line.number("records", front.count)
 }

@@ -10,10 +10,9 @@ use crate::failure::tell;
 use crate::fates::PartState;
 use crate::file_names::Names;
 use crate::opening::{open_all, open_rest, rack_of, size_of};
-use crate::refusal::Refusal;
 use crate::request::Folder;
 use mt_record::Rest;
-use mt_recover::{LogCheck, PartScan, check_logs, check_parts, start_of};
+use mt_recover::{LogCheck, PartScan, Refusal, check_logs, check_parts, start_of};
 use mt_scan::Slot;
 use mt_words::{Fault, Format, Memory};
 use std::alloc::{AllocError, Global};
@@ -198,7 +197,7 @@ fn rest_of(check: &Result<LogCheck, Fault>) -> Option<(u64, Format)> {
     match check {
         Ok(check) => {
             let front = check.front;
-            (front.rest != Rest::Nothing).then_some((front.end, front.head.format))
+            (front.rest != Rest::Nothing).then_some((front.bytes, front.head.format))
         }
         // Without a header all bytes are left.
         Err(Fault::Header { .. }) => Some((0, WIDEST)),

@@ -1,9 +1,9 @@
 //! What follows the complete records of a log, or the entries of a part.
 ghost use Rattle.std.specs.Prelude.{◌≡◌, IfOk, IsSome};
 
-use crate::fields::Fields;
 use mt_record::records_at_end;
 use mt_scan::Source;
+use mt_text::Fields;
 use mt_words::{Format, Memory};
 use std::alloc::{AllocError, Global};
 use std::io::{self, Write};

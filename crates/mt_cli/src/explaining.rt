@@ -1,8 +1,7 @@
 //! The second line of a failure: which file it names, what the system says, and what to try.
 use crate::file_names::Names;
 use crate::opening::why_unread;
-use crate::refusal::Refusal;
-use mt_recover::Failure;
+use mt_recover::{Failure, Refusal};
 use mt_words::Fault;
 use std::fs::Files;
 use std::io::{self, Write};

@@ -3,7 +3,7 @@ ghost use Rattle.std.specs.Prelude.{◌≤◌, IfErr};
 
 use crate::explaining::explain;
 use crate::file_names::Names;
-use crate::refusal::Refusal;
+use mt_recover::Refusal;
 use std::io::Write;
 
 /// Prints the line of the failure on `err` and returns its exit status. If there are names, prints a second line, which
@@ -11,7 +11,7 @@ use std::io::Write;
 pub fn tell<E: Write>(refusal: &Refusal<'_>, names: Option<&Names>, err: &mut E) -> u8
     ensures { result ≤ 3 }
 {
-    let status = refusal.failure.tell("mtrecover", err);
+    let status = refusal.tell("mtrecover", err);
     if let Some(names) = names {
         // A write error does not change the status.
         let _ = explain(refusal, names, err);

@@ -1,6 +1,6 @@
 //! What becomes of parts and checkpoints, and why.
-use crate::fields::Fields;
 use mt_recover::{PartScan, Start};
+use mt_text::Fields;
 use mt_words::Fault;
 use std::alloc::{AllocError, Global};
 use std::io::{self, Write};

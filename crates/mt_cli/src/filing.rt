@@ -4,12 +4,11 @@ ghost use Rattle.std.specs.Prelude.{◌≤◌, length};
 use crate::answering::PRINTED_AT_ONCE;
 use crate::failure::tell;
 use crate::file_names::Names;
-use crate::opening::read_path;
-use crate::refusal::Refusal;
 use crate::request::FileQuery;
 use crate::stop::Stop;
 use mt_record::{LogFront, PartFault, PartFeed, PartHead, cut_log, header_at, part_header_at};
-use mt_recover::{Selection, write_entries, write_head, write_part_head, write_records};
+use mt_recover::{Refusal, read_log};
+use mt_text::{Selection, write_entries, write_head, write_part_head, write_records};
 use mt_words::Fault;
 use std::alloc::Global;
 use std::fs::Files;
@@ -78,7 +77,7 @@ fn cut<'a, R: AllocGlobal + Files, O: Write>(
     path: &'a str,
     out: &mut O,
 ) -> Result<Option<Stop>, Refusal<'a>> {
-    let bytes = read_path(rt, path)?;
+    let bytes = read_log(rt, 0, path)?;
     let (front, log) = cut_out(rt.alloc(), &bytes)?;
     out.write_all(log)?;
     out.flush()?;
@@ -99,7 +98,7 @@ fn records<'a, R: AllocGlobal + Files, O: Write>(
     at: Option<u64>,
     out: &mut O,
 ) -> Result<Option<Stop>, Refusal<'a>> {
-    let bytes = read_path(rt, path)?;
+    let bytes = read_log(rt, 0, path)?;
     let mut out = BufWriter::with_capacity(rt.alloc(), PRINTED_AT_ONCE, out)?;
     match part_header_at(&bytes) {
         Some((head, rest)) => {

@@ -3,8 +3,7 @@ ghost use Rattle.std.specs.Prelude.{◌≤◌, IfErr};
 
 use crate::failure::or_tell;
 use crate::file_names::Names;
-use crate::refusal::Refusal;
-use mt_recover::{Failure, MOST_FILES};
+use mt_recover::{Failure, MOST_FILES, Refusal};
 use std::fs::{self, Files};
 use std::io::{self, Write};
 

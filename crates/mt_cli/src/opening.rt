@@ -1,9 +1,7 @@
 //! Opens files as sources.
 use crate::file_names::Names;
-use crate::refusal::Refusal;
-use mt_recover::{Failure, MOST_BYTES, read_file};
+use mt_recover::{Failure, MOST_BYTES, Refusal};
 use mt_scan::{LONGEST_BUFFER, Rack, ReaderSource, Slot};
-use mt_words::Fault;
 use std::fs::{self, File, Files, OpenFile};
 use std::io::{self, ErrorKind, Seek, SeekFrom};
 use std::path::Path;
@@ -62,22 +60,6 @@ pub fn open_rest<'a, R: AllocGlobal + Files>(
 fn open<R: AllocGlobal + Files>(rt: &R, folder: &str, name: &str) -> io::Result<R::File> {
     let path = Path::new(folder).join(rt.alloc(), name)?;
     File::open(rt, &path)
-}
-
-/// Reads the file of this path, as log 0. Err: it cannot be opened or read, has more than `MOST_BYTES` bytes, or out of
-/// memory.
-pub fn read_path<'a, R: AllocGlobal + Files>(
-    rt: &R,
-    path: &'a str,
-) -> Result<Vec<u8>, Refusal<'a>> {
-    let file = File::open(rt, Path::new(path)).map_err(|error| Refusal::of(
-        Failure::Open(path),
-        error,
-    ))?;
-    read_file(rt.alloc(), file).map_err(|error| Refusal::of(
-        Failure::from(Fault::Source { log: 0 }),
-        error,
-    ))
 }
 
 /// Returns the size of the file of this name in the folder in bytes. None: the system does not tell, or it is no regular

@@ -1,6 +1,6 @@
 //! The request that the arguments make.
-use crate::form::Form;
-use mt_recover::{Pieces, Selection, Workers};
+use mt_recover::{Pieces, Workers};
+use mt_text::{Form, Selection};
 use mt_words::Key;
 
 /// The request that the arguments make. If it is verbose, a failure has a second line, which explains it.

@@ -3,7 +3,7 @@ ghost use Rattle.std.specs.Prelude.{◌≤◌};
 
 use crate::ending::Ending;
 use mt_record::{FOOTER_BYTES, LogFront, Rest, footer_of};
-use mt_recover::Stopped;
+use mt_text::Stopped;
 use mt_words::{Format, What};
 use std::fmt::{self, Display, Formatter, Write};
 
@@ -48,8 +48,8 @@ impl Stop {
             Rest::Torn => Wrong::Torn,
             Rest::Faulty(what) => Wrong::Record(what),
         };
-        let stop = Stop::at(front.head.format, bytes, front.end as usize)?;
-        Some(stop.because(front.whole, fault))
+        let stop = Stop::at(front.head.format, bytes, front.bytes as usize)?;
+        Some(stop.because(front.count, fault))
     }
 
     /// Returns where the entries of a broken part stop, all of which were counted.

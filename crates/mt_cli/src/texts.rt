@@ -6,7 +6,7 @@ use crate::completions::write_completions;
 use crate::failure::tell;
 use crate::grammar::{STATUSES, grammar};
 use crate::manual::write_manual;
-use crate::refusal::Refusal;
+use mt_recover::Refusal;
 use std::alloc::Global;
 use std::io::{BufWriter, Write};
 

@@ -1,18 +1,16 @@
 //! Reads the arguments.
 ghost use Rattle.std.specs.Prelude.{◌≤◌, IfErr};
 
-use crate::escapes::unescape;
 use crate::failure::{or_tell, tell};
 use crate::file_names::Names;
-use crate::form::Form;
 use crate::grammar::grammar;
-use crate::refusal::Refusal;
 use crate::request::{Command, FileQuery, Folder, Query, Range, StoreQuery};
 use crate::texts::{Text, tell_text};
 use clap::ArgMatches;
 use clap::error::ErrorKind;
 use hex::FromHexError;
-use mt_recover::{Failure, Notation, Pieces, Selection, Workers};
+use mt_recover::{Failure, Pieces, Refusal, Workers};
+use mt_text::{Form, Notation, Selection, unescape};
 use mt_words::{Fault, Key};
 use std::alloc::Global;
 use std::io::Write;
@@ -51,8 +49,7 @@ fn read_or_tell<'a, E: Write>(
     let is_verbose = matches
         .subcommand()
         .is_some_and(|(_, matches)| matches.get_flag("verbose"));
-    let request = read(alloc, matches).map_err(Refusal::from);
-    or_tell(request, is_verbose.then_some(&no_names), err)
+    or_tell(read(alloc, matches), is_verbose.then_some(&no_names), err)
 }
 
 /// Returns whether the arguments are `help --man`. The parser has no options for `help`.
@@ -87,7 +84,7 @@ fn tell_error<O: Write, E: Write>(error: &clap::Error, out: &mut O, err: &mut E)
 }
 
 /// Reads the request from the parsed arguments.
-fn read<'a>(alloc: Global, matches: &ArgMatches<'a>) -> Result<Command<'a>, Failure<'static>> {
+fn read<'a>(alloc: Global, matches: &ArgMatches<'a>) -> Result<Command<'a>, Refusal<'static>> {
     let (name, matches) = matches.subcommand().ok_or(Failure::Words)?;
     let query = match name {
         "records" => FileQuery::Records(selection(alloc, matches)?, matches.get_one("at")),
@@ -106,7 +103,7 @@ fn of_folder<'a>(
     alloc: Global,
     name: &str,
     matches: &ArgMatches<'a>,
-) -> Result<Command<'a>, Failure<'static>> {
+) -> Result<Command<'a>, Refusal<'static>> {
     let folder = Folder {
         path: found(matches.get_str("DIR"))?,
         workers: found(matches.get_one("workers").and_then(Workers::new))?,
@@ -120,7 +117,7 @@ fn of_folder<'a>(
 }
 
 /// Returns which records or entries to print, and how.
-fn selection(alloc: Global, matches: &ArgMatches<'_>) -> Result<Selection, Failure<'static>> {
+fn selection(alloc: Global, matches: &ArgMatches<'_>) -> Result<Selection, Refusal<'static>> {
     let key = match matches.get_str("key") {
         Some(word) => Some(key_of(alloc, word, false)?),
         None => None,
@@ -143,12 +140,12 @@ fn notation(matches: &ArgMatches<'_>) -> Notation {
 }
 
 /// Returns a value that the grammar requires. Err: `Words`, if the parser did not find it.
-fn found<T>(value: Option<T>) -> Result<T, Failure<'static>> {
-    value.ok_or(Failure::Words)
+fn found<T>(value: Option<T>) -> Result<T, Refusal<'static>> {
+    value.ok_or(Refusal::from(Failure::Words))
 }
 
 /// Returns the query on a folder of the subcommand of this name.
-fn query(alloc: Global, name: &str, matches: &ArgMatches<'_>) -> Result<Query, Failure<'static>> {
+fn query(alloc: Global, name: &str, matches: &ArgMatches<'_>) -> Result<Query, Refusal<'static>> {
     if name == "audit" {
         return Ok(Query::Audit);
     }
@@ -161,7 +158,7 @@ fn store_query(
     alloc: Global,
     name: &str,
     matches: &ArgMatches<'_>,
-) -> Result<StoreQuery, Failure<'static>> {
+) -> Result<StoreQuery, Refusal<'static>> {
     match name {
         "report" => Ok(StoreQuery::Report {
             is_json: matches.get_flag("json"),
@@ -170,12 +167,12 @@ fn store_query(
         "get" => get(alloc, matches),
         "range" => Ok(StoreQuery::Range(range(alloc, matches)?, form(matches))),
         "dump" => Ok(StoreQuery::Dump(form(matches))),
-        _ => Err(Failure::Words),
+        _ => Err(Refusal::from(Failure::Words)),
     }
 }
 
 /// Returns the query of the subcommand `get`.
-fn get(alloc: Global, matches: &ArgMatches<'_>) -> Result<StoreQuery, Failure<'static>> {
+fn get(alloc: Global, matches: &ArgMatches<'_>) -> Result<StoreQuery, Refusal<'static>> {
     let key = found(key(alloc, matches, "KEY")?)?;
     if matches.get_flag("exists") {
         return Ok(StoreQuery::Exists(key));
@@ -192,7 +189,7 @@ fn form(matches: &ArgMatches<'_>) -> Form {
 }
 
 /// Returns the range of the subcommand `range`.
-fn range(alloc: Global, matches: &ArgMatches<'_>) -> Result<Range, Failure<'static>> {
+fn range(alloc: Global, matches: &ArgMatches<'_>) -> Result<Range, Refusal<'static>> {
     let from = found(key(alloc, matches, "KEY")?)?;
     let to = key(alloc, matches, "to")?;
     let prefix = key(alloc, matches, "prefix")?;
@@ -206,7 +203,7 @@ fn range(alloc: Global, matches: &ArgMatches<'_>) -> Result<Range, Failure<'stat
 }
 
 /// Returns the numbers of the columns. None: the arguments name none.
-fn columns(alloc: Global, matches: &ArgMatches<'_>) -> Result<Option<Vec<u8>>, Failure<'static>> {
+fn columns(alloc: Global, matches: &ArgMatches<'_>) -> Result<Option<Vec<u8>>, Refusal<'static>> {
     let Some(words) = matches.get_strs("columns") else {
         return Ok(None);
     };
@@ -222,7 +219,7 @@ fn key(
     alloc: Global,
     matches: &ArgMatches<'_>,
     argument: &str,
-) -> Result<Option<Key>, Failure<'static>> {
+) -> Result<Option<Key>, Refusal<'static>> {
     match matches.get_str(argument) {
         Some(word) => Ok(Some(key_of(alloc, word, matches.get_flag("text"))?)),
         None => Ok(None),
@@ -230,20 +227,20 @@ fn key(
 }
 
 /// Decodes a key: text with escapes, or hexadecimal.
-fn key_of(alloc: Global, word: &str, is_text: bool) -> Result<Key, Failure<'static>> {
+fn key_of(alloc: Global, word: &str, is_text: bool) -> Result<Key, Refusal<'static>> {
     let bytes = if is_text {
-        unescape(alloc, word)?
+        unescape(alloc, word)?.ok_or(Failure::Key)?
     } else {
         bytes_of(alloc, word)?
     };
-    Key::new(bytes).ok_or(Failure::Key)
+    Key::new(bytes).ok_or(Refusal::from(Failure::Key))
 }
 
 /// Decodes hexadecimal digits.
-fn bytes_of(alloc: Global, digits: &str) -> Result<Vec<u8>, Failure<'static>> {
+fn bytes_of(alloc: Global, digits: &str) -> Result<Vec<u8>, Refusal<'static>> {
     match hex::decode(alloc, digits) {
         Ok(bytes) => Ok(bytes),
-        Err(FromHexError::OutOfMemory) => Err(Failure::from(Fault::Memory)),
-        Err(_) => Err(Failure::Key),
+        Err(FromHexError::OutOfMemory) => Err(Refusal::from(Fault::Memory)),
+        Err(_) => Err(Refusal::from(Failure::Key)),
     }
 }

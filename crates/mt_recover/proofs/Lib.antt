@@ -7,7 +7,6 @@ pub mod SourceLemmas
 pub mod CountLemmas
 pub mod FoundLemmas
 pub mod CheckLemmas
-pub mod DumpLemmas
 pub mod OneVerdict
 pub mod OneReport
 pub mod Worked
@@ -19,4 +18,3 @@ pub mod VersionLemmas
 pub mod Preparing
 pub mod Assembles
 pub mod Works
-pub mod RecordLines

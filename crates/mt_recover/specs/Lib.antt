@@ -3,10 +3,7 @@ pub mod Audit
 pub mod Report
 pub mod Laws
 pub mod Verdict
-pub mod Dump
-pub mod RecordText
-pub mod RecordJson
-pub mod Listing
+pub mod Program
 pub mod Inputs
 pub mod Check
 pub mod Job

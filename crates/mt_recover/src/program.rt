@@ -1,20 +1,28 @@
 //! The program that prints the store of log files.
-ghost use Rattle.std.specs.Prelude.{◌≡◌, ◌≢◌, ◌≤◌, ◌<◌, ◌↔◌, ◌⊎◌, [], length, map, All, IfOk, IfErr, OnOk, vec_len};
+ghost use Rattle.std.specs.Prelude.{◌≡◌, ◌≢◌, ◌≤◌, ◌<◌, ◌↔◌, ◌⊎◌, [], length, map, All, IfOk, IfErr, IsErrAnd, OnOk, vec_len};
 ghost use Rattle.std.specs.Io.KnownBytes.{Appends, Keeps};
 ghost use Rattle.mt_recover.specs.declared.program.TheConstants.{MOST_FILES};
 ghost use Rattle.mt_recover.specs.Recovery.{IsStoreOf};
-ghost use Rattle.mt_recover.specs.Dump.{dump_text, AreOfSomeFile, IsStoreOfFiles, IsPrinted, status_of};
+ghost use Rattle.mt_text.specs.Pairs.{dump_text};
+ghost use Rattle.mt_recover.specs.Program.{AreOfSomeFile, IsStoreOfFiles, IsPrinted, status_of};
 
-use crate::dump::write_dump;
-use crate::failure::Failure;
-use crate::reading::read_file;
+use crate::failure::{Failure, Refusal};
+use crate::reading::read_log;
 use crate::recovery::{Recovered, recover_logs};
 use crate::store::Store;
+use mt_text::Lines;
 use mt_words::{Fault, Memory};
 use std::alloc::Global;
-use std::fs::File;
-use std::io::Write;
+use std::io::{self, Write};
 use std::rt::Files;
+
+/// Prints all pairs in order, one line each, as `write_pair` of `mt_text` does. Err: write error. The contract does not
+/// say how much was written then.
+pub fn write_dump<W: Write>(store: &Store, out: &mut W) -> io::Result<()>
+    ensures { OnOk result (Appends (W.contents out.old) (W.contents out.new) (dump_text store.now)) }
+{
+    store.visit(&Lines, out)
+}
 
 /// The most files that a program of this repository takes.
 pub const MOST_FILES: usize = 512;
@@ -40,7 +48,7 @@ pub fn dump_files<R: Files + AllocGlobal, O: Write, E: Write>(
 {
     match dump(rt, names, out) {
         Ok(()) => 0,
-        Err(failure) => failure.tell("mtdump", err),
+        Err(refusal) => refusal.tell("mtdump", err),
     }
 }
 
@@ -49,20 +57,20 @@ fn dump<'a, R: Files + AllocGlobal, O: Write>(
     rt: &R,
     names: &'a [String],
     out: &mut O,
-) -> Result<(), Failure<'a>>
+) -> Result<(), Refusal<'a>>
     ensures printed { OnOk result
         (IsPrinted R.File.remaining (length names.now) (O.contents out.old) (O.contents out.new)) }
-    ensures kept { IfErr result (λ failure. failure ≢ Failure.Output →
+    ensures kept { IfErr result (λ refusal. refusal.failure ≢ Failure.Output →
         Keeps (O.contents out.old) (O.contents out.new)) }
-    ensures no_files { names.now ≡ [] → result ≡ Err Failure.NoFiles }
-    ensures files { IfErr result (λ failure. status_of failure ≡ 2 → names.now ≡ []) }
-    ensures too_many { MOST_FILES < length names.now → result ≡ Err Failure.TooManyFiles }
+    ensures no_files { names.now ≡ [] → IsErrAnd result (λ refusal. refusal.failure ≡ Failure.NoFiles) }
+    ensures files { IfErr result (λ refusal. status_of refusal.failure ≡ 2 → names.now ≡ []) }
+    ensures too_many { MOST_FILES < length names.now → IsErrAnd result (λ refusal. refusal.failure ≡ Failure.TooManyFiles) }
 {
     if names.is_empty() {
-        return Err(Failure::NoFiles);
+        return Err(Refusal::from(Failure::NoFiles));
     }
     if names.len() > MOST_FILES {
-        return Err(Failure::TooManyFiles);
+        return Err(Refusal::from(Failure::TooManyFiles));
     }
     let recovered = recover_files(rt, names)?;
     print(recovered.store(), out)
@@ -72,9 +80,9 @@ fn dump<'a, R: Files + AllocGlobal, O: Write>(
 fn recover_files<'a, R: Files + AllocGlobal>(
     rt: &R,
     names: &'a [String],
-) -> Result<Recovered, Failure<'a>>
+) -> Result<Recovered, Refusal<'a>>
     ensures store { IfOk result (λ recovered. IsStoreOfFiles R.File.remaining (length names.now) recovered.store) }
-    ensures files { IfErr result (λ failure. status_of failure ≢ 2) }
+    ensures files { IfErr result (λ refusal. status_of refusal.failure ≢ 2) }
 {
     let files = read_files(rt, names)?;
     Ok(recover_bytes(rt.alloc(), &files)?)
@@ -89,10 +97,10 @@ fn recover_bytes(alloc: Global, files: &[Vec<u8>]) -> Result<Recovered, Fault>
 }
 
 /// Prints the store and flushes the output, so that a late write error has a status too.
-fn print<'a, O: Write>(store: &Store, out: &mut O) -> Result<(), Failure<'a>>
+fn print<'a, O: Write>(store: &Store, out: &mut O) -> Result<(), Refusal<'a>>
     ensures printed { OnOk result
         (Appends (O.contents out.old) (O.contents out.new) (dump_text store.now)) }
-    ensures output { IfErr result (λ failure. failure ≡ Failure.Output) }
+    ensures output { IfErr result (λ refusal. refusal.failure ≡ Failure.Output) }
 {
     write_dump(store, out)?;
     Ok(out.flush()?)
@@ -102,35 +110,16 @@ fn print<'a, O: Write>(store: &Store, out: &mut O) -> Result<(), Failure<'a>>
 fn read_files<'a, R: Files + AllocGlobal>(
     rt: &R,
     names: &'a [String],
-) -> Result<Vec<Vec<u8>>, Failure<'a>>
+) -> Result<Vec<Vec<u8>>, Refusal<'a>>
     ensures many { IfOk result (λ files. vec_len files ≡ length names.now) }
     ensures read { IfOk result (λ files. All (λ bytes. AreOfSomeFile R.File.remaining bytes.items) files.items) }
-    ensures files { IfErr result (λ failure. status_of failure ≢ 2) }
+    ensures files { IfErr result (λ refusal. status_of refusal.failure ≢ 2) }
 {
     let mut files = Vec::new(rt.alloc());
     for (log, name) in names.iter().enumerate() {
         files.push(read_log(rt, log, name.as_str())?)?;
     }
     Ok(files)
-}
-
-/// Reads the log of this number from the file of this name.
-fn read_log<'a, R: Files + AllocGlobal>(
-    rt: &R,
-    log: usize,
-    name: &'a str,
-) -> Result<Vec<u8>, Failure<'a>>
-    ensures read { IfOk result (λ bytes. AreOfSomeFile R.File.remaining bytes.items) }
-    ensures files { IfErr result (λ failure. status_of failure ≢ 2) }
-{
-    let file = match File::open(rt, name) {
-        Ok(file) => file,
-        Err(error) => return Err(Failure::Open(name).or_memory(&error)),
-    };
-    match read_file(rt.alloc(), file) {
-        Ok(bytes) => Ok(bytes),
-        Err(error) => Err(Failure::Recovery(Fault::Source { log }).or_memory(&error)),
-    }
 }
 
 /// Returns the bytes of each file as a slice.

@@ -1,20 +1,44 @@
-//! Reads a file into memory.
-ghost use Rattle.std.specs.Prelude.{◌≤◌, length, IfOk};
+//! Reads files into memory.
+ghost use Rattle.std.specs.Prelude.{◌≢◌, ◌≤◌, length, IfOk, IfErr};
 ghost use Rattle.mt_scan.specs.Sources.{Agrees};
 ghost use Rattle.mt_recover.specs.declared.reading.TheConstants.{MOST_BYTES};
+ghost use Rattle.mt_recover.specs.Program.{AreOfSomeFile, status_of};
 
+use crate::failure::{Failure, Refusal};
+use mt_words::Fault;
 use std::alloc::Global;
-use std::fs::OpenFile;
+use std::fs::{File, OpenFile};
 use std::io::{self, ErrorKind, Read};
+use std::rt::Files;
 
 /// The most bytes that a file may have.
 pub const MOST_BYTES: u64 = 1_073_741_824;
+
+/// Reads the file of this path as the log of this number. Err: it cannot be opened or read, has more than `MOST_BYTES`
+/// bytes, or out of memory.
+pub fn read_log<'a, R: Files + AllocGlobal>(
+    rt: &R,
+    log: usize,
+    path: &'a str,
+) -> Result<Vec<u8>, Refusal<'a>>
+    ensures read { IfOk result (λ bytes. AreOfSomeFile R.File.remaining bytes.items) }
+    ensures files { IfErr result (λ refusal. status_of refusal.failure ≢ 2) }
+{
+    let file = match File::open(rt, path) {
+        Ok(file) => file,
+        Err(error) => return Err(Refusal::of(Failure::Open(path), error)),
+    };
+    match read_file(rt.alloc(), file) {
+        Ok(bytes) => Ok(bytes),
+        Err(error) => Err(Refusal::of(Failure::Recovery(Fault::Source { log }), error)),
+    }
+}
 
 /// Reads the bytes of a file, all of them. Looks at its size first, to refuse a file that is too large at once. Reads
 /// at most one byte past `MOST_BYTES`, to refuse a file that grows.
 ///
 /// Err: a read error, `FileTooLarge` for more than `MOST_BYTES` bytes, or out of memory.
-pub fn read_file<F: Read + OpenFile + Drop>(alloc: Global, file: F) -> io::Result<Vec<u8>>
+fn read_file<F: Read + OpenFile + Drop>(alloc: Global, file: F) -> io::Result<Vec<u8>>
     ensures whole { IfOk result (λ bytes. Agrees (F.remaining file) bytes.items) }
     ensures few { IfOk result (λ bytes. length bytes.items ≤ MOST_BYTES) }
 {
@@ -22,18 +46,9 @@ pub fn read_file<F: Read + OpenFile + Drop>(alloc: Global, file: F) -> io::Resul
     if size > MOST_BYTES {
         return Err(io::Error::from(ErrorKind::FileTooLarge));
     }
-    read_all(alloc, file, size as usize)
-}
-
-/// Reads all bytes of a reader that has about `size` of them. Reads at most one byte past `MOST_BYTES`.
-fn read_all<F: Read + Drop>(alloc: Global, reader: F, size: usize) -> io::Result<Vec<u8>>
-    requires { size ≤ MOST_BYTES }
-    ensures whole { IfOk result (λ bytes. Agrees (F.remaining reader) bytes.items) }
-    ensures few { IfOk result (λ bytes. length bytes.items ≤ MOST_BYTES) }
-{
     // One byte more than the file has, so that reading finds its end without growing the buffer.
-    let mut bytes = Vec::with_capacity(alloc, size + 1)?;
-    let count = reader.take(MOST_BYTES + 1).read_to_end(&mut bytes)?;
+    let mut bytes = Vec::with_capacity(alloc, size as usize + 1)?;
+    let count = file.take(MOST_BYTES + 1).read_to_end(&mut bytes)?;
     if count as u64 > MOST_BYTES {
         return Err(io::Error::from(ErrorKind::FileTooLarge));
     }

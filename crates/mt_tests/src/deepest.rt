@@ -2,7 +2,8 @@
 //! bounds the stack, so this test builds, queries, prints and drops the tree, by several workers too.
 use crate::asserting::{assert_bytes, assert_same};
 use crate::refusals::recover_by;
-use mt_recover::{Store, Wanted, write_dump, write_pair};
+use mt_recover::{Store, Wanted, write_dump};
+use mt_text::write_pair;
 use std::process::Abort;
 
 /// What the keys share: all bytes but the last.

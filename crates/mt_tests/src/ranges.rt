@@ -3,7 +3,8 @@
 use crate::asserting::{assert_bytes, assert_same};
 use crate::logs::{LOG_A, LOG_FROM_3_TO_9, LOG_OF_THREE};
 use crate::refusals::recover_by;
-use mt_recover::{Store, Wanted, recover_logs, write_pair};
+use mt_recover::{Store, Wanted, recover_logs};
+use mt_text::write_pair;
 use mt_tree::Visitor;
 use mt_words::{Columns, Kept};
 use std::io;

@@ -1,7 +1,7 @@
 //! Prints the store of log files. The arguments after the name of the program are the names of the files.
 #![tactic(auto)]
 
-use mt_recover::{Failure, dump_files};
+use mt_recover::{Failure, Refusal, dump_files};
 use std::env;
 use std::io::{self, BufWriter};
 use std::process::ExitCode;
@@ -9,9 +9,7 @@ use std::process::ExitCode;
 fn main(rt: HostRuntime) -> ExitCode {
     let status = match run(&rt) {
         Ok(status) => status,
-        Err(error) => Failure::Words
-            .or_memory(&error)
-            .tell("mtdump", &mut rt.stderr()),
+        Err(error) => Refusal::of(Failure::Words, error).tell("mtdump", &mut rt.stderr()),
     };
     ExitCode::from(status)
 }

@@ -1,6 +1,6 @@
 use Rattle.std.proofs.Common.{length, sym, subst}
 use Rattle.std.proofs.lemmas.Result.{IfOk-weaker}
-use Rattle.mt_recover.specs.Dump.{IsStoreOfFiles}
+use Rattle.mt_recover.specs.Program.{IsStoreOfFiles}
 use Rattle.mt_recover.proofs.program.dump.Goals as goal
 
 pub returns-clause-printed : goal.returns-clause-printed

@@ -1,7 +1,7 @@
 use Rattle.std.proofs.Common.{sym, subst, arith}
 use Rattle.std.specs.List.{All}
 use Rattle.std.proofs.lemmas.List.Elements.{All-push}
-use Rattle.mt_recover.specs.Dump.{AreOfSomeFile}
+use Rattle.mt_recover.specs.Program.{AreOfSomeFile}
 use Rattle.mt_recover.proofs.program.read_files.Goals as goal
 
 pub loop-log-preserved : goal.loop-log-preserved

@@ -1,6 +1,6 @@
 use Rattle.std.proofs.Common.{◌≡◌, vec_len}
 use Rattle.std.specs.List.{All}
-use Rattle.mt_recover.specs.Dump.{AreOfSomeFile}
+use Rattle.mt_recover.specs.Program.{AreOfSomeFile}
 use Rattle.mt_recover.proofs.program.read_files.Given as goal
 
 -- there are bytes of each file so far

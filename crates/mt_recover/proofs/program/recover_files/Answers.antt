@@ -1,7 +1,7 @@
 use Rattle.std.proofs.Common.{List, map, length, arith}
 use Rattle.std.proofs.lemmas.List.{length-map}
 use Rattle.std.proofs.lemmas.List.Elements.{All-map}
-use Rattle.mt_recover.specs.Dump.{AreOfSomeFile}
+use Rattle.mt_recover.specs.Program.{AreOfSomeFile}
 use Rattle.mt_recover.proofs.program.recover_files.Goals as goal
 
 pub returns-clause-store : goal.returns-clause-store

@@ -1,0 +1,4 @@
+pub mod RecordText
+pub mod RecordJson
+pub mod Listing
+pub mod Pairs

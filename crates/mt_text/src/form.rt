@@ -1,0 +1,120 @@
+//! The forms in which pairs are printed.
+use crate::digits::write_hex;
+use crate::escapes::is_plain;
+use crate::json::write_name;
+use mt_tree::{Visitor, Wanted};
+use mt_words::{Columns, Kept};
+use std::io::{self, Write};
+
+/// The form in which pairs are printed.
+#[derive(Clone, Copy, Debug)]
+pub struct Form {
+    /// Each pair is a JSON object, and not a line of the dump.
+    pub is_json: bool,
+    /// Keys and values are text with escapes, and not hexadecimal.
+    pub is_text: bool,
+}
+
+impl Form {
+    /// Returns whether this is the form of the dump.
+    pub fn is_dump(self) -> bool {
+        !self.is_json && !self.is_text
+    }
+
+    /// Prints that a key is absent. Err: write error.
+    pub fn write_absent<W: Write>(self, out: &mut W) -> io::Result<()> {
+        out.write_all(if self.is_json { b"null\n" } else { b"absent\n" })
+    }
+
+    /// Prints bytes, in JSON as a string. Err: write error.
+    pub(crate) fn write_bytes<W: Write>(self, bytes: &[u8], out: &mut W) -> io::Result<()> {
+        let quote: &[u8] = if self.is_json { b"\"" } else { b"" };
+        out.write_all(quote)?;
+        if self.is_text {
+            self.write_text(bytes, out)?;
+        } else {
+            write_hex(bytes, out)?;
+        }
+        out.write_all(quote)
+    }
+
+    /// Prints bytes as text. In a JSON string two backslashes stand for one.
+    fn write_text<W: Write>(self, bytes: &[u8], out: &mut W) -> io::Result<()> {
+        let escape: &[u8] = if self.is_json { b"\\\\x" } else { b"\\x" };
+        for byte in bytes {
+            if is_plain(*byte) {
+                out.write_all(&[*byte])?;
+            } else {
+                out.write_all(escape)?;
+                write_hex(&[*byte], out)?;
+            }
+        }
+        Ok(())
+    }
+}
+
+/// The visitor that prints each pair in a form, with those of its columns that are wanted.
+#[derive(Drop)]
+pub struct Printer {
+    pub form: Form,
+    pub wanted: Wanted,
+}
+
+impl Printer {
+    /// Prints a pair on a line. Err: write error.
+    pub fn write<W: Write>(
+        &self,
+        key: &[u8],
+        columns: &Columns<Kept>,
+        out: &mut W,
+    ) -> io::Result<()> {
+        if self.form.is_json {
+            return self.write_object(key, columns, out);
+        }
+        self.form.write_bytes(key, out)?;
+        out.write_all(b":")?;
+        for column in columns.as_slice() {
+            if self.wanted.has(column.number) {
+                write!(out, " {}=", column.number)?;
+                self.form.write_bytes(&column.bytes, out)?;
+            }
+        }
+        out.write_all(b"\n")
+    }
+
+    /// Prints a pair as a JSON object.
+    fn write_object<W: Write>(
+        &self,
+        key: &[u8],
+        columns: &Columns<Kept>,
+        out: &mut W,
+    ) -> io::Result<()> {
+        write_name(b"{", b"key", out)?;
+        self.form.write_bytes(key, out)?;
+        write_name(b",", b"columns", out)?;
+        out.write_all(b"{")?;
+        let mut sign = "";
+        for column in columns.as_slice() {
+            if self.wanted.has(column.number) {
+                write!(out, "{sign}\"{}\":", column.number)?;
+                self.form.write_bytes(&column.bytes, out)?;
+                sign = ",";
+            }
+        }
+        out.write_all(b"}}\n")
+    }
+}
+
+impl<W: Write> Visitor<W> for Printer {
+    type Error = io::Error;
+
+    ghost shown = { λ _ _ _. Unit {0} };
+
+    fn visit(&self, out: &mut W, key: &[u8], columns: &Columns<Kept>) -> io::Result<()> {
+        self.write(key, columns, out)
+    }
+
+    ghost none = { λ _. record {} };
+
+    ghost more = { λ _ _ _ _ _ _ _. record {} };
+}
