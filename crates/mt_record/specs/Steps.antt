@@ -3,3 +3,4 @@ pub mod Bodies
 pub mod Adding
 pub mod ByteStrings
 pub mod Kept
+pub mod Splits

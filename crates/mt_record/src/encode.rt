@@ -57,7 +57,7 @@ pub fn encode_log_header_3(
 }
 
 /// Appends the header of a log of this format, which is no segment. Err: out of memory; nothing is appended.
-fn append_header(format: Format, from: u64, out: &mut Vec<u8>) -> Result<(), Memory>
+pub fn append_header(format: Format, from: u64, out: &mut Vec<u8>) -> Result<(), Memory>
     ensures ok { OnOk result (out.new.items ≡ out.old.items ++ head_bytes (head_of format from)) }
     ensures err { OnErr result (out.new.items ≡ out.old.items) }
 {

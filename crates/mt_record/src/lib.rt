@@ -27,6 +27,7 @@ mod laws;
 mod part_front;
 mod part_text;
 mod read;
+mod resume;
 
 pub use at_end::{RecordsAtEnd, records_at_end};
 pub use body::lent::Lent;
@@ -47,3 +48,4 @@ pub use laws::{one_part, one_reading};
 pub use part_front::{entry_at, footer_of};
 pub use part_text::{PartFault, PartHead, PartText};
 pub use read::{FeedFault, LogText, cut_log, read_log, record_at};
+pub use resume::{ResumedLog, resume_log};

@@ -1,0 +1,44 @@
+-- Resuming after a crash: what replaces a log.
+use Rattle.std.specs.Prelude.{◌≡◌, ℕ, ◌-◌, ◌^◌, ◌==◌, ◌&&◌, min, not, nat_lt, nat_le, if◌then◌else◌, Bool, false, List, [], ◌∷◌, ◌++◌, filter}
+use Rattle.std.specs.List.{list_any}
+use Rattle.mt_words.specs.Changes.{Logged, is_mark}
+use Rattle.mt_words.specs.Built.{mark_of}
+use Rattle.mt_record.specs.Logs.{log_bytes, LogReading, IsReading}
+
+-- the greatest timestamp that a record can have
+abbrev pub greatest_timestamp : ℕ
+greatest_timestamp = 2 ^ 64 - 1
+
+-- whether the record is the mark that ends a log: one at the greatest timestamp
+abbrev pub is_end : Logged → Bool
+is_end r = is_mark r && (r.timestamp == greatest_timestamp)
+
+-- whether a mark ends the log of these records
+abbrev pub is_ended : List Logged → Bool
+is_ended records = list_any is_end records
+
+-- the records below a timestamp
+abbrev pub below : ℕ → List Logged → List Logged
+below cutoff records = filter (λ r. nat_lt r.timestamp cutoff) records
+
+-- the updates at or past a timestamp
+abbrev pub updates_past : ℕ → List Logged → List Logged
+updates_past cutoff records = filter (λ r. nat_le cutoff r.timestamp && not (is_mark r)) records
+
+-- the marks of a resumed log: one at the cutoff and, if the log was ended, the mark that ends it again, unless the first is that mark
+abbrev pub marks_of : ℕ → List Logged → List Logged
+marks_of cutoff records = mark_of cutoff ∷ (if is_ended records && nat_lt cutoff greatest_timestamp then mark_of greatest_timestamp ∷ [] else [])
+
+-- what replaces a log: its header with a `from` of at most the cutoff, its records below the cutoff, and its marks; no torn tail
+abbrev pub resumed : ℕ → LogReading → LogReading
+resumed cutoff log = record {
+  head = record log.head { from = min log.head.from cutoff };
+  records = below cutoff log.records ++ marks_of cutoff log.records;
+  torn = false;
+}
+
+-- the bytes after are the encoding of what replaces the log
+pub record IsResumed (cutoff : ℕ) (before after : List ℕ) : Type 0 where
+  pub log : LogReading
+  pub is_reading : IsReading before log
+  pub spelled : after ≡ log_bytes (resumed cutoff log).head (resumed cutoff log).records
