@@ -1,5 +1,5 @@
 -- How many updates the records of logs make, and where their timestamps lie.
-use Rattle.std.proofs.Common.{◌≡◌, ◌∙◌, inl, inr, zero, sym, subst, Contains, ◌++◌, ℕ, suc, ◌+◌, ◌≤◌, Bool, true, false, List, [], ◌∷◌, length, Option, Some, None, refl, ap, arith}
+use Rattle.std.proofs.Common.{◌≡◌, ◌∙◌, inl, inr, zero, sym, subst, Contains, ◌++◌, ℕ, suc, ◌+◌, ◌-◌, ◌≤◌, Bool, true, false, List, [], ◌∷◌, length, Option, Some, None, refl, ap, arith}
 use Rattle.std.specs.Prelude.{cond, nat_lt, nat_le, filter}
 use Rattle.std.proofs.lemmas.Bool.Decides.{nat_tests}
 use Rattle.std.proofs.lemmas.List.{length-append}
@@ -17,9 +17,6 @@ use Rattle.mt_replay.specs.Survivors.{all_updates, in_window, is_within, is_earl
 use Rattle.mt_recover.specs.declared.report.Report.{Report}
 use Rattle.mt_recover.specs.Recovery.{Facts, records_of, begin_of, survivors, entry_updates}
 use Rattle.mt_recover.specs.Report.{all_records, logged_updates, is_late, IsFoundIn, IsReportOf}
-use Rattle.mt_recover.specs.declared.report.Counts.{Counts}
-use Rattle.mt_recover.specs.Prepared.{report_of}
-use Rattle.mt_recover.specs.Steps.Preparing.{AreCountsOf, HasRoomFor}
 use Rattle.mt_tree.specs.Layers.{CountsLayers}
 use Rattle.mt_replay.specs.Walk.{IsWalk}
 use Rattle.mt_replay.proofs.StepLemmas.{key_of_pair, below_itself}
@@ -106,20 +103,29 @@ adds_up facts report found =
       all = omega (arith, found.marks, found.records, found.entries, records, both, times);
     }
 
--- ---- what recovery reports
-
-pub room_for : {logs parts : List (List ℕ)} (facts : Facts logs parts) (counts : Counts) → AreCountsOf facts counts → HasRoomFor counts (length (early_in facts)) (length (survivors_in facts))
-room_for facts counts are =
-    let adds = adds_up facts (report_of counts 0 0 0 0) (are 0 0 0 0) in
-    record { marks = adds.marks; entries = adds.entries; updates = omega (arith, adds.marks, adds.entries, adds.all) }
-
--- the report of the counts is that of the facts
-pub report_is : {logs parts : List (List ℕ)} (facts : Facts logs parts) (counts : Counts) (pairs : List Pair) (early survivors layers : ℕ) → AreCountsOf facts counts
-    → early ≡ length (early_in facts) → survivors ≡ length (survivors_in facts) → CountsLayers pairs layers → IsReportOf facts pairs (report_of counts early survivors (length pairs) layers)
-report_is facts counts pairs early survivors layers are before same count =
-    let adds = adds_up facts (report_of counts 0 0 0 0) (are 0 0 0 0) in
+-- the report of what is prepared: that of what was found, with what survives, comes early and comes late
+pub report_is : {logs parts : List (List ℕ)} (facts : Facts logs parts) (report : Report) (pairs : List Pair) (survivors early layers : ℕ) → IsFoundIn facts report
+    → survivors ≡ length (survivors_in facts) → early ≡ length (early_in facts) → CountsLayers pairs layers
+    → IsReportOf facts pairs (record report { survivors = survivors; early = early; late = report.records - report.marks - early - (survivors - report.entries); keys = length pairs; layers = layers })
+report_is facts report pairs survivors early layers found same before count =
+    let adds = adds_up facts report found in
     record {
-      found = are early survivors (length pairs) layers;
+      found = record {
+        logs = found.logs;
+        writers = found.writers;
+        records = found.records;
+        marks = found.marks;
+        torn = found.torn;
+        ends = found.ends;
+        last = found.last;
+        version = found.version;
+        cutoff = found.cutoff;
+        checkpoint = found.checkpoint;
+        begin = found.begin;
+        skipped = found.skipped;
+        nameless = found.nameless;
+        entries = found.entries;
+      };
       survivors = same;
       early = before;
       late = omega (arith, before, same, adds.marks, adds.entries, adds.all);

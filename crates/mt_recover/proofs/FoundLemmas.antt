@@ -2,7 +2,7 @@
 use Rattle.std.proofs.Common.{◌≡◌, ◌∙◌, ℕ, suc, ◌≤◌, List, [], ◌∷◌, map, Option, Some, None, Ok, Contains, refl, sym, ap, subst, arith}
 use Rattle.std.specs.Prelude.{Vec, Result}
 use Rattle.std.specs.Global.{Global}
-use Rattle.std.specs.List.{flat_map}
+use Rattle.std.specs.List.{cons_option, flat_map}
 use Rattle.std.specs.Option.{option_map}
 use Rattle.std.proofs.lemmas.List.{append-nil}
 use Rattle.mt_words.specs.declared.fault.Fault.{Fault}
@@ -15,7 +15,10 @@ use Rattle.mt_scan.specs.declared.log_scan.LogScan.{LogScan}
 use Rattle.mt_scan.specs.declared.part_scan.PartScan.{PartScan}
 use Rattle.mt_scan.specs.Choosing.{IsChoiceOf, checkpoint_in}
 use Rattle.mt_scan.specs.Cutoff.{files_of, IsCutoff}
-use Rattle.mt_scan.specs.Scans.{HaveNumbersOf}
+use Rattle.mt_record.specs.declared.feed.head.Segment.{Segment}
+use Rattle.mt_scan.specs.Scans.{last_in, HaveNumbersOf}
+use Rattle.mt_scan.specs.Dropping.{noted_by}
+use Rattle.mt_scan.proofs.Numbers.{segment_shown}
 use Rattle.mt_scan.proofs.Drops.{shows_lower}
 use Rattle.mt_scan.specs.PartsShown.{known_by}
 use Rattle.mt_scan.specs.Sources.{Seen}
@@ -42,19 +45,19 @@ lowered limit lower number (s ∷ ss) (l ∷ ls) le show = (shows_lower number l
 
 -- a cutoff that is at most the last timestamp of each log that is no segment is at most the least timestamp that a scan noted
 at_most_noted : (cutoff : ℕ) (scans : List LogScan) (readings : List LogReading) → cutoff ≤ nothing_noted → HaveNumbersOf scans readings
-    → ((log : LogReading) (last : ℕ) → Contains readings log → log.head.writer ≡ None → IsLast log last → cutoff ≤ last) → cutoff ≤ least_of (lasts (map Ok scans))
+    → ((log : LogReading) (last : ℕ) → Contains readings log → log.head.segment ≡ None → IsLast log last → cutoff ≤ last) → cutoff ≤ least_of (lasts (map Ok scans))
 at_most_noted cutoff [] readings small are least = small
 at_most_noted cutoff (s ∷ ss) [] small are least = absurd are
 at_most_noted cutoff (s ∷ ss) (l ∷ ls) small are least =
-    by s.writer are.0.writer (at_most_noted cutoff ss ls small are.1 (λ log last at. least log last (tail_in l log ls at)))
+    by s.front.head.segment (segment_shown s l are.0) (at_most_noted cutoff ss ls small are.1 (λ log last at. least log last (tail_in l log ls at)))
   where
-    by : (writer : Option (ℕ × ℕ)) → writer ≡ l.head.writer → cutoff ≤ least_of (lasts (map Ok ss)) → cutoff ≤ least_of (lasts (map Ok (record s { writer = writer } ∷ ss)))
-    by None same rest = omega (arith, least l s.last (head_in l ls) (sym same) are.0.last, rest)
-    by (Some writer) same rest = rest
+    by : (segment : Option Segment) → segment ≡ l.head.segment → cutoff ≤ least_of (lasts (map Ok ss)) → cutoff ≤ least_of (cons_option (noted_by segment (last_in s.front)) (lasts (map Ok ss)))
+    by None same rest = omega (arith, least l (last_in s.front) (head_in l ls) (sym same) are.0.last, rest)
+    by (Some segment) same rest = rest
 
 -- a file that is no segment has the times of its log by itself
-pub alone : (files : List LogReading) (log : LogReading) → log.head.writer ≡ None → times_of log ≡ flat_map times_of (files_of log.head.writer log files)
-alone files log none = sym (ap (λ (writer : Option (ℕ × ℕ)). flat_map times_of (files_of writer log files)) none ∙ append-nil (times_of log))
+pub alone : (files : List LogReading) (log : LogReading) → log.head.segment ≡ None → times_of log ≡ flat_map times_of (files_of log.head.segment log files)
+alone files log none = sym (ap (λ (segment : Option Segment). flat_map times_of (files_of segment log files)) none ∙ append-nil (times_of log))
 
 -- what scans that dropped no update below `limit`, and the choice, show of logs and parts
 pub record AreShown (limit : ℕ) (scans : List LogScan) (cutoff : ℕ) (choice : Choice) (logs parts : List (List ℕ)) : Type 0 where
@@ -116,11 +119,10 @@ gap_of limit logs parts scans cutoff begin choice gap from is are =
     subst (λ (n : ℕ). IsFirstOrNone (IsGap n are.facts.readings) gap) (from ∙ ap begin_of are.chosen) (is are.facts.readings (numbers_of limit 0 scans are.facts.readings are.show))
 
 -- if there is no gap, this is where recovery begins
-pub start_is : (limit : ℕ) (logs parts : List (List ℕ)) (scans : List LogScan) (cutoff begin : ℕ) (choice : Choice) → begin ≡ begin_of (option_map checkpoint_in choice.chosen)
+abbrev pub start_is : (limit : ℕ) (logs parts : List (List ℕ)) (scans : List LogScan) (cutoff begin : ℕ) (choice : Choice) → begin ≡ begin_of (option_map checkpoint_in choice.chosen)
     → (are : AreShown limit scans cutoff choice logs parts) → IsFirstOrNone (IsGap (begin_of are.facts.chosen) are.facts.readings) None → IsStartOf logs parts (record { window = record { begin = begin; cutoff = cutoff }; choice = choice })
 start_is limit logs parts scans cutoff begin choice from are none = record {
-  facts = are.facts;
-  no_gap = none;
+  basis = record { facts = are.facts; no_gap = none };
   window = λ i. record { begin = (from ∙ ap begin_of are.chosen) i; cutoff = are.cutoff_is i };
   chosen = are.chosen;
   skipped = are.choice_is.skipped;
@@ -136,13 +138,8 @@ all_survive scans readings cutoff small show is =
 
 -- if there is no gap, this is what recovery finds
 pub found_of : (logs parts : List (List ℕ)) (scans : Vec LogScan Global) (cutoff begin : ℕ) (choice : Choice) → cutoff ≤ nothing_noted → begin ≡ begin_of (option_map checkpoint_in choice.chosen)
-    → (are : AreShown (least_of (lasts (map Ok scans.items))) scans.items cutoff choice logs parts) → IsFirstOrNone (IsGap (begin_of are.facts.chosen) are.facts.readings) None → IsFoundOf logs parts (record { scans = scans; window = record { begin = begin; cutoff = cutoff }; choice = choice })
+    → (are : AreShown (least_of (lasts (map Ok scans.items))) scans.items cutoff choice logs parts) → IsFirstOrNone (IsGap (begin_of are.facts.chosen) are.facts.readings) None → IsFoundOf logs parts (record { scans = scans; start = record { window = record { begin = begin; cutoff = cutoff }; choice = choice } })
 found_of logs parts scans cutoff begin choice small from are none = record {
-  facts = are.facts;
+  start = start_is (least_of (lasts (map Ok scans.items))) logs parts scans.items cutoff begin choice from are none;
   show = all_survive scans.items are.facts.readings are.facts.cutoff (rw are.cutoff_is at small) are.show are.facts.is_cutoff;
-  no_gap = none;
-  window = λ i. record { begin = (from ∙ ap begin_of are.chosen) i; cutoff = are.cutoff_is i };
-  chosen = are.chosen;
-  skipped = are.choice_is.skipped;
-  nameless = are.choice_is.nameless;
 }

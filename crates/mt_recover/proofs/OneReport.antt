@@ -63,11 +63,11 @@ pub one_report : (logs parts : List (List ℕ)) (outcome other : Outcome) → Is
 one_report logs parts outcome other is too =
     let a = is.report.found in
     let b = too.report.found in
-    let same = same_facts logs parts is.store.facts too.store.facts in
+    let same = same_facts logs parts is.store.basis.facts too.store.basis.facts in
     let store = one_store logs parts outcome.store other.store is.store too.store in
     record {
-      skipped = one_skipped is.store.facts.known too.store.facts.known outcome.report.skipped.items other.report.skipped.items same.2 a.skipped b.skipped;
-      nameless = one_nameless is.store.facts.known too.store.facts.known outcome.report.nameless.items other.report.nameless.items same.2 a.nameless b.nameless;
+      skipped = one_skipped is.store.basis.facts.known too.store.basis.facts.known outcome.report.skipped.items other.report.skipped.items same.2 a.skipped b.skipped;
+      nameless = one_nameless is.store.basis.facts.known too.store.basis.facts.known outcome.report.nameless.items other.report.nameless.items same.2 a.nameless b.nameless;
       ends = a.ends ∙ ap (map end_of) same.0 ∙ sym b.ends;
       rest = λ i. record {
         logs = (a.logs ∙ sym b.logs) i;
@@ -76,8 +76,8 @@ one_report logs parts outcome other is too =
         marks = (a.marks ∙ ap (λ (x : List LogReading). length (filter is_mark (all_records x))) same.0 ∙ sym b.marks) i;
         torn = (a.torn ∙ ap (λ (x : List LogReading). length (filter (λ (log : LogReading). log.torn) x)) same.0 ∙ sym b.torn) i;
         ends = outcome.report.ends;
-        last = one_greatest (flat_map times_of is.store.facts.readings) (flat_map times_of too.store.facts.readings) outcome.report.last other.report.last (ap (flat_map times_of) same.0) a.last b.last i;
-        version = one_greatest (0 ∷ all_versions is.store.facts.readings is.store.facts.chosen) (0 ∷ all_versions too.store.facts.readings too.store.facts.chosen) outcome.report.version other.report.version (λ j. 0 ∷ all_versions (same.0 j) (same.3 j)) a.version b.version i;
+        last = one_greatest (flat_map times_of is.store.basis.facts.readings) (flat_map times_of too.store.basis.facts.readings) outcome.report.last other.report.last (ap (flat_map times_of) same.0) a.last b.last i;
+        version = one_greatest (0 ∷ all_versions is.store.basis.facts.readings is.store.basis.facts.chosen) (0 ∷ all_versions too.store.basis.facts.readings too.store.basis.facts.chosen) outcome.report.version other.report.version (λ j. 0 ∷ all_versions (same.0 j) (same.3 j)) a.version b.version i;
         cutoff = (a.cutoff ∙ same.1 ∙ sym b.cutoff) i;
         checkpoint = (a.checkpoint ∙ ap (option_map (λ (x : CheckpointReading). x.number)) same.3 ∙ sym b.checkpoint) i;
         begin = (a.begin ∙ ap begin_of same.3 ∙ sym b.begin) i;
@@ -96,5 +96,5 @@ pub report_adds_up : (logs parts : List (List ℕ)) (outcome : Outcome) → IsRe
     → outcome.report.records + outcome.report.entries
     ≡ outcome.report.marks + outcome.report.early + outcome.report.late + outcome.report.survivors
 report_adds_up logs parts outcome is =
-    let adds = adds_up is.store.facts outcome.report is.report.found in
+    let adds = adds_up is.store.basis.facts outcome.report is.report.found in
     omega (arith, adds.all, is.report.early, is.report.survivors, is.report.late)

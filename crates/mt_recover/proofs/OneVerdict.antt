@@ -103,10 +103,10 @@ no_log_no_facts logs parts facts none =
 pub one_store : (logs parts : List (List ℕ)) (pairs others : List Pair) → IsStoreOf logs parts pairs → IsStoreOf logs parts others
     → pairs ≡ others
 one_store logs parts pairs others is too =
-    let same = same_facts logs parts is.facts too.facts in
-    let walk : IsWalk (survivors_in too.facts) pairs =
+    let same = same_facts logs parts is.basis.facts too.basis.facts in
+    let walk : IsWalk (survivors_in too.basis.facts) pairs =
     subst (λ (x : List Update). IsWalk x pairs) (λ i. survivors (same.1 i) (same.3 i) (records_of (same.0 i))) is.walk in
-    one_walk (survivors_in too.facts) pairs others walk too.walk
+    one_walk (survivors_in too.basis.facts) pairs others walk too.walk
 
 -- ---- faults
 
@@ -195,7 +195,7 @@ named logs parts faults.NoLogs is = inl (refl, is)
 named logs parts (faults.Header i) is = inr (inl (i, of_log.Header, refl, is))
 named logs parts (faults.Record i nth what) is = inr (inl (i, of_log.Record nth what, refl, is))
 named logs parts (faults.Doubled i) is = inr (inr is)
-named logs parts (faults.Torn i) is = inr (inr (is.0, is.1.0, (is.1.1, is.2)))
+named logs parts (faults.Torn i) is = inr (inr (is.0, is.1, (is.2, is.3)))
 named logs parts (faults.Gap i) is = inr (inr (is.0.readings, is.0.read, (is.0.writers, is)))
 named logs parts fault is = absurd is
 
@@ -242,17 +242,17 @@ one_verdict logs parts fault other is too = elim (named logs parts fault is) as 
 pub no_verdict : (logs parts : List (List ℕ)) (pairs : List Pair) (fault : Fault) → IsStoreOf logs parts pairs
     → IsVerdict logs parts fault → ⊥
 no_verdict logs parts pairs fault is too = elim (named logs parts fault too) as (λ _. ⊥) [
-  | inl none ↦ no_log_no_facts logs parts is.facts none.1
+  | inl none ↦ no_log_no_facts logs parts is.basis.facts none.1
   | inr some ↦ elim some as (λ _. ⊥) [
-    | inl first ↦ not_fault logs is.facts.readings fault is.facts.read first
-    | inr of ↦ no_fault fault (same_of logs parts of.0 is.facts.readings fault of.1 is.facts.read of.2)
+    | inl first ↦ not_fault logs is.basis.facts.readings fault is.basis.facts.read first
+    | inr of ↦ no_fault fault (same_of logs parts of.0 is.basis.facts.readings fault of.1 is.basis.facts.read of.2)
   ]
 ]
   where
-    no_fault : (fault : Fault) → IsOf logs parts is.facts.readings fault → ⊥
-    no_fault (faults.Doubled i) at = is.facts.writers.once i at.0
-    no_fault (faults.Torn i) at = is.facts.writers.sound i at.1.0
+    no_fault : (fault : Fault) → IsOf logs parts is.basis.facts.readings fault → ⊥
+    no_fault (faults.Doubled i) at = is.basis.facts.writers.once i at.0
+    no_fault (faults.Torn i) at = is.basis.facts.writers.sound i at.1.0
     no_fault (faults.Gap i) at =
-        let same = same_facts logs parts at.1.0 is.facts in
-        is.no_gap i (subst (λ (x : Option CheckpointReading × List LogReading). IsGap (begin_of x.0) x.1 i) (λ k. (same.3 k, same.0 k)) at.1.1.0)
+        let same = same_facts logs parts at.1.0 is.basis.facts in
+        is.basis.no_gap i (subst (λ (x : Option CheckpointReading × List LogReading). IsGap (begin_of x.0) x.1 i) (λ k. (same.3 k, same.0 k)) at.1.1.0)
     no_fault fault at = at

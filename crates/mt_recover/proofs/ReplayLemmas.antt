@@ -1,5 +1,5 @@
 -- The surviving updates, batch by batch.
-use Rattle.std.proofs.Common.{length, arith, ◌≡◌, map, Result, Ok, IfOk, List, [], ◌∷◌, ◌++◌, IsPermutation, refl, sym, ap, ◌∙◌, subst, append_assoc}
+use Rattle.std.proofs.Common.{ℕ, length, arith, ◌≡◌, map, Result, Ok, IfOk, List, [], ◌∷◌, ◌++◌, IsPermutation, refl, sym, ap, ◌∙◌, subst, append_assoc}
 use Rattle.std.specs.List.{filter, AllZip}
 use Rattle.std.proofs.lemmas.List.{map-append}
 use Rattle.std.proofs.lemmas.List.Sums.{sum_by-cons}
@@ -16,7 +16,6 @@ use Rattle.mt_replay.specs.declared.window.Window.{Window}
 use Rattle.mt_replay.specs.Batches.{BatchView, batched}
 use Rattle.mt_replay.specs.Survivors.{in_window, is_early, wholes}
 use Rattle.mt_replay.proofs.BatchLemmas.{early_both}
-use Rattle.mt_recover.specs.declared.survivors.BatchSurvivors.{BatchSurvivors}
 use Rattle.mt_recover.specs.Steps.Preparing.{IsLeftBy, cells_of, early_of}
 
 -- ---- cells
@@ -51,22 +50,22 @@ cells_of_all R cells window own (b ∷ bs) (l ∷ ls) all =
     (IsPermutation-append (filter (in_window window) b.updates) (cells l) (filter (in_window window) (batched bs)) (joined (map cells ls)) (own b l all.0) (cells_of_all R cells window own bs ls all.1))
 
 -- the cells of batches and parts have the updates of the batches in the window and the entries of the parts
-pub cells_of_both : (window : Window) (batches : List BatchView) (lefts : List BatchSurvivors) (entries : List Update) (parts : List (List Update)) → AllZip (λ batch. IsLeftBy window batch.updates) batches lefts → IsPermutation entries (joined parts)
+pub cells_of_both : (window : Window) (batches : List BatchView) (lefts : List (ℕ × List Update)) (entries : List Update) (parts : List (List Update)) → AllZip (λ batch. IsLeftBy window batch.updates) batches lefts → IsPermutation entries (joined parts)
     → IsPermutation (filter (in_window window) (batched batches) ++ entries) (joined (cells_of lefts ++ parts))
 cells_of_both window batches lefts entries parts of_batches of_parts =
     let cells = cells_of lefts in
     let logged = filter (in_window window) (batched batches) in
     subst (IsPermutation (logged ++ entries)) (sym (joined_append cells parts))
-    (IsPermutation-append logged (joined cells) entries (joined parts) (cells_of_all (λ batch. IsLeftBy window batch.updates) (λ (left : BatchSurvivors). left.cells) window (λ batch left is. is.cells) batches lefts of_batches) of_parts)
+    (IsPermutation-append logged (joined cells) entries (joined parts) (cells_of_all (λ batch. IsLeftBy window batch.updates) (λ (left : ℕ × List Update). left.1) window (λ batch left is. is.cells) batches lefts of_batches) of_parts)
 
 -- and the early updates of all batches are counted batch by batch
-pub early_of_all : (window : Window) (batches : List BatchView) (lefts : List BatchSurvivors) → AllZip (λ batch. IsLeftBy window batch.updates) batches lefts
+pub early_of_all : (window : Window) (batches : List BatchView) (lefts : List (ℕ × List Update)) → AllZip (λ batch. IsLeftBy window batch.updates) batches lefts
     → early_of lefts ≡ length (filter (is_early window.begin) (batched batches))
 early_of_all window [] [] all = refl
 early_of_all window [] (l ∷ ls) all = absurd all
 early_of_all window (b ∷ bs) [] all = absurd all
 early_of_all window (b ∷ bs) (l ∷ ls) all =
-    omega (arith, sum_by-cons (λ (left : BatchSurvivors). left.early) l ls, early_both window.begin b.updates (batched bs), all.0.early, early_of_all window bs ls all.1)
+    omega (arith, sum_by-cons (λ (left : ℕ × List Update). left.0) l ls, early_both window.begin b.updates (batched bs), all.0.early, early_of_all window bs ls all.1)
 
 -- the cells of all parts have the updates of all entries
 pub cells_of_all_parts : (parts : List KeptPart) → joined (map (λ part. wholes part.entries) parts) ≡ wholes (entries_of (shown_by_all parts))

@@ -1,5 +1,6 @@
 -- What a report counts, log by log and part by part.
-use Rattle.std.proofs.Common.{◌≡◌, ◌∙◌, inl, inr, ℕ, suc, ◌≤◌, Bool, false, Option, Some, None, List, [], ◌∷◌, ◌++◌, length, map, All, Contains, IfSome, IfNone, unwrap_or, refl, sym, ap, subst, arith}
+use Rattle.std.proofs.Common.{◌≡◌, ◌∙◌, inl, inr, ℕ, suc, ◌≤◌, Bool, true, false, Option, Some, None, List, [], ◌∷◌, ◌++◌, length, map, All, Contains, refl, sym, ap, subst, arith}
+use Rattle.std.specs.Prelude.{◌↔◌, IsTrue}
 use Rattle.std.specs.List.{filter, flat_map, sum_by, count_by}
 use Rattle.std.specs.Option.{option_map}
 use Rattle.std.proofs.lemmas.List.{length-map}
@@ -16,7 +17,11 @@ use Rattle.mt_words.proofs.Elements.{no_element, head_or_tail, head_in, tail_in}
 use Rattle.mt_record.specs.Logs.{LogReading, IsReading, IsGreatestOf, times_of}
 use Rattle.mt_scan.specs.declared.checkpoint.Checkpoint.{Checkpoint}
 use Rattle.mt_scan.specs.declared.log_scan.LogScan.{LogScan}
-use Rattle.mt_scan.specs.Scans.{HasNumbersOf, HaveNumbersOf}
+use Rattle.mt_record.specs.declared.front.LogFront.{LogFront}
+use Rattle.mt_record.specs.declared.front.Rest.{Rest}
+use Rattle.mt_record.specs.declared.front.Rest.TheVariants.{Nothing, Torn, Faulty}
+use Rattle.mt_record.specs.LogTexts.{greatest, tail_rest}
+use Rattle.mt_scan.specs.Scans.{last_in, HasNumbersOf, HaveNumbersOf}
 use Rattle.mt_scan.specs.Cutoff.{IsCutoff}
 use Rattle.mt_scan.specs.PartsShown.{KeptPart, shown_by_all}
 use Rattle.mt_scan.specs.Choice.{CheckpointReading}
@@ -28,6 +33,7 @@ use Rattle.mt_replay.proofs.BatchLemmas.{one_if}
 use Rattle.mt_recover.specs.Steps.LogScans.{ShowAll, kept, kept_by}
 use Rattle.mt_recover.specs.Recovery.{AreReadings, records_of}
 use Rattle.mt_recover.specs.Report.{all_records, end_of}
+use Rattle.mt_recover.proofs.VersionLemmas.{none_above, greatest_among}
 
 -- ---- what a filter keeps of lists
 
@@ -67,9 +73,9 @@ same_sums of_scan of_log same (s ∷ ss) [] numbers = absurd numbers
 same_sums of_scan of_log same (s ∷ ss) (l ∷ ls) numbers =
     omega (arith, sum_by-cons of_scan s ss, sum_by-cons of_log l ls, same s l numbers.0, same_sums of_scan of_log same ss ls numbers.1)
 
-pub records_counted : (scans : List LogScan) (readings : List LogReading) → HaveNumbersOf scans readings → sum_by (λ (scan : LogScan). scan.whole) scans ≡ length (all_records readings)
+pub records_counted : (scans : List LogScan) (readings : List LogReading) → HaveNumbersOf scans readings → sum_by (λ (scan : LogScan). scan.front.count) scans ≡ length (all_records readings)
 records_counted scans readings numbers =
-    same_sums (λ (scan : LogScan). scan.whole) (λ (log : LogReading). length log.records) (λ s l is. is.whole) scans readings numbers
+    same_sums (λ (scan : LogScan). scan.front.count) (λ (log : LogReading). length log.records) (λ s l is. is.count) scans readings numbers
     ∙ sym (length-flat_map (λ (log : LogReading). log.records) readings)
 
 pub marks_counted : (scans : List LogScan) (readings : List LogReading) → HaveNumbersOf scans readings
@@ -78,57 +84,74 @@ marks_counted scans readings numbers =
     same_sums (λ (scan : LogScan). scan.marks) (λ (log : LogReading). length (filter is_mark log.records)) (λ s l is. is.marks) scans readings numbers
     ∙ sym (length-filter_flat is_mark (λ (log : LogReading). log.records) readings)
 
+-- whether a torn tail is what follows the records
+abbrev pub is_torn : Rest → Bool
+is_torn Torn = true
+is_torn rest = false
+
+pub torn_is : (b : Bool) (rest : Rest) → (IsTrue b ↔ (rest ≡ Torn)) → b ≡ is_torn rest
+torn_is true rest is = sym (ap is_torn (is.0 refl))
+torn_is false Torn is = is.1 refl
+torn_is false Nothing is = refl
+torn_is false (Faulty what) is = refl
+
+torn_of : (torn : Bool) → is_torn (tail_rest torn) ≡ torn
+torn_of true = refl
+torn_of false = refl
+
 pub torn_counted : (scans : List LogScan) (readings : List LogReading) → HaveNumbersOf scans readings
-    → count_by (λ (scan : LogScan). scan.torn) scans ≡ length (filter (λ (log : LogReading). log.torn) readings)
+    → count_by (λ (scan : LogScan). is_torn scan.front.rest) scans ≡ length (filter (λ (log : LogReading). log.torn) readings)
 torn_counted scans readings numbers =
-    same_sums (λ (scan : LogScan). one_if scan.torn) (λ (log : LogReading). one_if log.torn) (λ s l is. ap one_if is.torn) scans readings numbers
+    same_sums (λ (scan : LogScan). one_if (is_torn scan.front.rest)) (λ (log : LogReading). one_if log.torn)
+    (λ s l is. ap one_if (ap (λ (front : LogFront). is_torn front.rest) is.front ∙ torn_of l.torn)) scans readings numbers
     ∙ sym (length-filter (λ (log : LogReading). log.torn) readings)
 
-pub ends_are : (scans : List LogScan) (readings : List LogReading) → HaveNumbersOf scans readings → map (λ (scan : LogScan). scan.end) scans ≡ map end_of readings
+pub ends_are : (scans : List LogScan) (readings : List LogReading) → HaveNumbersOf scans readings → map (λ (scan : LogScan). scan.front.bytes) scans ≡ map end_of readings
 ends_are [] [] numbers = refl
 ends_are [] (l ∷ ls) numbers = absurd numbers
 ends_are (s ∷ ss) [] numbers = absurd numbers
-ends_are (s ∷ ss) (l ∷ ls) numbers = λ i. numbers.0.end i ∷ ends_are ss ls numbers.1 i
+ends_are (s ∷ ss) (l ∷ ls) numbers = λ i. (numbers.0.front i).bytes ∷ ends_are ss ls numbers.1 i
 
 -- a last timestamp of a scan is a time of the logs
-has_last : (scans : List LogScan) (readings : List LogReading) (n : ℕ) → HaveNumbersOf scans readings → Contains (map (λ (scan : LogScan). scan.last) scans) n → Contains (flat_map times_of readings) n
+has_last : (scans : List LogScan) (readings : List LogReading) (n : ℕ) → HaveNumbersOf scans readings → Contains (map (λ (scan : LogScan). last_in scan.front) scans) n → Contains (flat_map times_of readings) n
 has_last [] [] n numbers at = absurd (no_element n at)
 has_last [] (l ∷ ls) n numbers at = absurd numbers
 has_last (s ∷ ss) [] n numbers at = absurd numbers
 has_last (s ∷ ss) (l ∷ ls) n numbers at =
-    elim (head_or_tail s.last n (map (λ (scan : LogScan). scan.last) ss) at) as (λ _. Contains (times_of l ++ flat_map times_of ls) n) [
+    elim (head_or_tail (last_in s.front) n (map (λ (scan : LogScan). last_in scan.front) ss) at) as (λ _. Contains (times_of l ++ flat_map times_of ls) n) [
       | inl e ↦ Contains-append_left (times_of l) (flat_map times_of ls) n (subst (Contains (times_of l)) e numbers.0.last.0)
       | inr later ↦ Contains-append_right (times_of l) (flat_map times_of ls) n (has_last ss ls n numbers.1 later)
     ]
 
 -- no time of the logs is above all last timestamps
-bound_lasts : (scans : List LogScan) (readings : List LogReading) (n : ℕ) → HaveNumbersOf scans readings → ((t : ℕ) → Contains (map (λ (scan : LogScan). scan.last) scans) t → t ≤ n) → All (λ time. time ≤ n) (flat_map times_of readings)
+bound_lasts : (scans : List LogScan) (readings : List LogReading) (n : ℕ) → HaveNumbersOf scans readings → ((t : ℕ) → Contains (map (λ (scan : LogScan). last_in scan.front) scans) t → t ≤ n) → All (λ time. time ≤ n) (flat_map times_of readings)
 bound_lasts [] [] n numbers least = All-nil (λ (time : ℕ). time ≤ n)
 bound_lasts [] (l ∷ ls) n numbers least = absurd numbers
 bound_lasts (s ∷ ss) [] n numbers least = absurd numbers
 bound_lasts (s ∷ ss) (l ∷ ls) n numbers least =
-    let lasts = map (λ (scan : LogScan). scan.last) ss in
-    let own : s.last ≤ n = least s.last (head_in s.last lasts) in
+    let lasts = map (λ (scan : LogScan). last_in scan.front) ss in
+    let own : last_in s.front ≤ n = least (last_in s.front) (head_in (last_in s.front) lasts) in
     All-append (λ (time : ℕ). time ≤ n) (times_of l) (flat_map times_of ls)
     (λ i d within. omega (arith, own, numbers.0.last.1 i d within))
-    (bound_lasts ss ls n numbers.1 (λ t at. least t (tail_in s.last t lasts at)))
+    (bound_lasts ss ls n numbers.1 (λ t at. least t (tail_in (last_in s.front) t lasts at)))
 
 -- the greatest of the last timestamps is the greatest time of the logs
-pub greatest_is : (scans : List LogScan) (readings : List LogReading) (n : ℕ) → HaveNumbersOf scans readings → Contains (map (λ (scan : LogScan). scan.last) scans) n
-    → All (λ last. last ≤ n) (map (λ (scan : LogScan). scan.last) scans) → IsGreatestOf (flat_map times_of readings) n
+greatest_is : (scans : List LogScan) (readings : List LogReading) (n : ℕ) → HaveNumbersOf scans readings → Contains (map (λ (scan : LogScan). last_in scan.front) scans) n
+    → All (λ last. last ≤ n) (map (λ (scan : LogScan). last_in scan.front) scans) → IsGreatestOf (flat_map times_of readings) n
 greatest_is scans readings n numbers at most =
-    (has_last scans readings n numbers at, bound_lasts scans readings n numbers (λ t there. All-contains (λ (last : ℕ). last ≤ n) (map (λ (scan : LogScan). scan.last) scans) t most there))
+    (has_last scans readings n numbers at, bound_lasts scans readings n numbers (λ t there. All-contains (λ (last : ℕ). last ≤ n) (map (λ (scan : LogScan). last_in scan.front) scans) t most there))
 
 no_log : (readings : List LogReading) (log : LogReading) → HaveNumbersOf [] readings → Contains readings log → ⊥
 no_log [] log numbers at = no_element log at
 no_log (l ∷ ls) log numbers at = absurd numbers
 
--- logs that have a cutoff are some logs, so they have a greatest time
-pub last_is : (scans : List LogScan) (readings : List LogReading) (cutoff : ℕ) (last : Option ℕ) → HaveNumbersOf scans readings → IsCutoff readings cutoff
-    → IfSome last (IsGreatestOf (flat_map times_of readings)) → IfNone last (scans ≡ []) → IsGreatestOf (flat_map times_of readings) (unwrap_or last 0)
-last_is scans readings cutoff (Some n) numbers is found none = found
-last_is scans readings cutoff None numbers is found none =
-    absurd (no_log readings is.has.log (subst (λ (ss : List LogScan). HaveNumbersOf ss readings) none numbers) is.has.stands)
+-- logs that have a cutoff are some logs, so the greatest of the last timestamps is their greatest time
+pub last_is : (scans : List LogScan) (readings : List LogReading) (cutoff : ℕ) → HaveNumbersOf scans readings → IsCutoff readings cutoff
+    → IsGreatestOf (flat_map times_of readings) (greatest (map (λ (scan : LogScan). last_in scan.front) scans))
+last_is [] readings cutoff numbers is = absurd (no_log readings is.has.log numbers is.has.stands)
+last_is (s ∷ ss) readings cutoff numbers is =
+    let lasts = map (λ (scan : LogScan). last_in scan.front) (s ∷ ss) in
+    greatest_is (s ∷ ss) readings (greatest lasts) numbers (greatest_among (last_in s.front) (map (λ (scan : LogScan). last_in scan.front) ss)) (none_above lasts)
 
 -- scans that show their logs have the numbers of the logs
 pub numbers_of : (limit number : ℕ) (scans : List LogScan) (readings : List LogReading) → ShowAll limit number scans readings → HaveNumbersOf scans readings

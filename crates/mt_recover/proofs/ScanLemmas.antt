@@ -2,11 +2,11 @@
 use Rattle.std.proofs.Common.{◌≡◌, ◌∙◌, ℕ, zero, suc, ◌+◌, ◌<◌, ◌≤◌, min, List, [], ◌∷◌, ◌++◌, length, get_or, map, take, Bor, Option, Some, None, Ok, Err, refl, sym, ap, subst, add-one, add-zero, arith}
 use Rattle.std.specs.Prelude.{Result, IfOk, IfErr, OnErr, IsTrue}
 use Rattle.std.specs.Option.{option_to_list}
-use Rattle.std.specs.List.{All, AllByRecursion, AllZip, cons_option, filter_map}
+use Rattle.std.specs.List.{All, AllByRecursion, AllZip, cons_option, filter_map, zip}
 use Rattle.std.proofs.Math.Seq.{take-suc}
 use Rattle.std.proofs.lemmas.List.{get_or-map, length-map, map-append}
 use Rattle.std.proofs.lemmas.List.Elements.{All-cons, All-head, All-nil, All-push, All-tail, filter_map-append}
-use Rattle.std.proofs.lemmas.Slice.Zip.{AllZip-long, all_zipped_more}
+use Rattle.std.proofs.lemmas.Slice.Zip.{AllZip-long, all_zipped_more, firsts-zip, seconds-zip, length-zip}
 use Rattle.mt_words.specs.declared.fault.Fault.{Fault}
 use Rattle.mt_words.specs.declared.fault.Memory.{Memory}
 use Rattle.mt_record.specs.declared.read.FeedFault.{FeedFault}
@@ -20,37 +20,13 @@ use Rattle.mt_scan.specs.Sources.{Seen}
 use Rattle.mt_scan.specs.Scans.{IsScanOf, IsScanFault, IsLogVerdict, OfTold, failures_of}
 use Rattle.mt_recover.specs.declared.scans.Outcomes.{Outcomes}
 use Rattle.mt_recover.specs.declared.scans.ScanJob.{ScanJob}
-use Rattle.mt_recover.specs.declared.scans.Kind.{Kind}
 use Rattle.mt_recover.specs.declared.scans.Scanned.{Scanned}
 use Rattle.mt_recover.specs.declared.scans.Scanned.TheVariants as scanned
-use Rattle.mt_recover.specs.declared.scans.Kind.TheVariants as kinds
+use Rattle.mt_recover.specs.declared.scans.ScanJob.TheVariants as jobs
 use Rattle.mt_recover.specs.Steps.Outcomes.{IsLogOutcome, IsPartOutcome, AllFrom, AreOutcomes, last_in, lasts, read_parts, in_memory}
-use Rattle.mt_recover.specs.declared.scans.Scans.{Scans}
-use Rattle.mt_recover.specs.declared.scans.Share.{Share}
-use Rattle.mt_recover.specs.Steps.Scanning.{numbered, log_jobs, part_jobs, IsOutcome, IsScanned, IsFresh, HasScanned, AreGathered, answers_of, passes_of, log_in, logs_in, part_scans_in, AreDealt}
+use Rattle.mt_recover.specs.Steps.Scanning.{log_jobs, part_jobs, IsScanned, IsFresh, HasScanned, AreGathered, log_in, logs_in, part_scans_in, AreDealt}
 use Rattle.mt_recover.proofs.ReplayLemmas.{all_answered}
 use Rattle.mt_recover.proofs.SharingLemmas.{dealt_answers, zip_says}
-
--- ---- numbered jobs
-
-length-numbered : {S : Type 0} (kind : Kind) (number : ℕ) (sources : List S) → length (numbered kind number sources) ≡ length sources
-length-numbered kind number [] = refl
-length-numbered kind number (s ∷ ss) = ap suc (length-numbered kind (suc number) ss)
-
-numbered-more : {S : Type 0} (kind : Kind) (number : ℕ) (sources : List S) (source : S)
-    → numbered kind number (sources ++ source ∷ []) ≡ numbered kind number sources ++ record { kind = kind; number = number + length sources; source = source } ∷ []
-numbered-more kind number [] source = rw add-zero refl
-numbered-more kind number (s ∷ ss) source =
-    let next : suc number + length ss ≡ number + length (s ∷ ss) = omega arith in
-    ap (λ js. record { kind = kind; number = number; source = s } ∷ js)
-    (numbered-more kind (suc number) ss source ∙ ap (λ (k : ℕ). numbered kind (suc number) ss ++ record { kind = kind; number = k; source = source } ∷ []) next)
-
--- the job of one more source has the next number
-pub next_job : {S : Type 0} (kind : Kind) (jobs new : List (ScanJob S)) (sources : List S) (source : S) (number : ℕ) → jobs ≡ numbered kind 0 sources → number ≡ length jobs
-    → new ≡ jobs ++ record { kind = kind; number = number; source = source } ∷ [] → new ≡ numbered kind 0 (sources ++ source ∷ [])
-next_job kind jobs new sources source number are at pushed =
-    let place : number ≡ 0 + length sources = omega (arith, at, ap length are, length-numbered kind 0 sources) in
-    pushed ∙ (λ i. are i ++ record { kind = kind; number = place i; source = source } ∷ []) ∙ sym (numbered-more kind 0 sources source)
 
 -- ---- the answers of scans, separated into those of logs and of parts
 
@@ -71,7 +47,7 @@ part_answers seen limit log part [] (a ∷ rest) zip = absurd zip
 part_answers seen limit log part (p ∷ ps) [] zip = absurd zip
 part_answers seen limit log part (p ∷ ps) (scanned.Log outcome ∷ rest) zip = absurd zip.0
 part_answers seen limit log part (p ∷ ps) (scanned.Part outcome ∷ rest) zip =
-    let later = part_answers seen limit log (suc part) ps rest zip.1 in
+    let later = part_answers seen limit log (suc part) ps rest (subst (λ (n : ℕ). AllZip (IsScanned seen limit) (part_jobs n ps) rest) (add-one part) zip.1) in
     (later.0, (zip.0, later.1))
 
 -- the answers of logs, numbered from this log on, and then of all parts
@@ -81,7 +57,7 @@ all_answers seen limit log [] parts answers zip = part_answers seen limit log 0 
 all_answers seen limit log (l ∷ ls) parts [] zip = absurd zip
 all_answers seen limit log (l ∷ ls) parts (scanned.Part outcome ∷ rest) zip = absurd zip.0
 all_answers seen limit log (l ∷ ls) parts (scanned.Log outcome ∷ rest) zip =
-    let later = all_answers seen limit (suc log) ls parts rest zip.1 in
+    let later = all_answers seen limit (suc log) ls parts rest (subst (λ (n : ℕ). AllZip (IsScanned seen limit) (log_jobs n ls ++ part_jobs 0 parts) rest) (add-one log) zip.1) in
     ((zip.0, later.0), later.1)
 
 -- the answers of all jobs are the outcomes of logs and parts
@@ -96,25 +72,24 @@ outcomes_of {S} seen logs parts jobs answers outcomes same zip logs_are parts_ar
     read [] = refl
     read (l ∷ ls) = refl
 
+-- if there is a log, all parts are read
+pub read_all : {L P : Type 0} (logs : List L) (parts : List P) → (logs ≡ [] → ⊥) → read_parts logs parts ≡ parts
+read_all [] parts some = absurd (some refl)
+read_all (l ∷ ls) parts some = refl
+
 -- ---- scans that share a board
 
 -- an answer that dropped nothing below a limit dropped nothing below a lower limit
 pub scanned_lower : {S : Type 0} (seen : S → Seen) (limit lower : ℕ) (job : ScanJob S) (answer : Scanned) → lower ≤ limit → IsScanned seen limit job answer → IsScanned seen lower job answer
-scanned_lower seen limit lower job answer le is = by job.kind answer is
-  where
-    outcome : (o : Result LogScan Fault) → IsLogOutcome limit job.number (seen job.source) o → IsLogOutcome lower job.number (seen job.source) o
-    outcome (Ok scan) is = record {
-      scan = (is.scan.0, is.scan.1, record { log = is.scan.2.log; is_reading = is.scan.2.is_reading; shows = shows_lower job.number limit lower scan is.scan.2.log le is.scan.2.shows });
-      fault = tt;
-      steady = is.steady;
-    }
-    outcome (Err fault) is = record { scan = tt; fault = is.fault; steady = is.steady }
-
-    by : (kind : Kind) (answer : Scanned) → IsOutcome limit kind job.number (seen job.source) answer → IsOutcome lower kind job.number (seen job.source) answer
-    by kinds.Log (scanned.Log o) is = outcome o is
-    by kinds.Part (scanned.Part o) is = is
-    by kinds.Log (scanned.Part o) is = absurd is
-    by kinds.Part (scanned.Log o) is = absurd is
+scanned_lower seen limit lower (jobs.Log log source) (scanned.Log (Ok scan)) le is = record {
+  scan = (is.scan.0, is.scan.1, record { log = is.scan.2.log; is_reading = is.scan.2.is_reading; shows = shows_lower log limit lower scan is.scan.2.log le is.scan.2.shows });
+  fault = tt;
+  steady = is.steady;
+}
+scanned_lower seen limit lower (jobs.Log log source) (scanned.Log (Err fault)) le is = record { scan = tt; fault = is.fault; steady = is.steady }
+scanned_lower seen limit lower (jobs.Part part source) (scanned.Part outcome) le is = is
+scanned_lower seen limit lower (jobs.Log log source) (scanned.Part outcome) le is = absurd is
+scanned_lower seen limit lower (jobs.Part part source) (scanned.Log outcome) le is = absurd is
 
 -- the least of numbers
 least_both : (xs ys : List ℕ) → least_of (xs ++ ys) ≡ min (least_of xs) (least_of ys)
@@ -130,25 +105,25 @@ noted_is noted None small = omega (arith, small)
 noted_is noted (Some n) small = omega (arith, small)
 
 -- the source of a log was scanned
-pub log_scanned : {S : Type 0} (seen : S → Seen) (job : ScanJob S) (answer : Result LogScan Fault) (before after : PassView) → job.kind ≡ kinds.Log → before.noted ≤ nothing_noted
-    → IfOk answer (λ scan. OfTold (seen job.source).told (λ bytes. IsSharedScan job.number before after bytes scan)) → IfErr answer (λ fault. OfTold (seen job.source).told (λ bytes. IsScanFault job.number bytes fault))
-    → OnErr answer (HasLooked before after × (after.noted ≡ before.noted)) → (IsTrue (seen job.source).steady → failures_of answer ≡ 0) → HasScanned seen (job ∷ []) (scanned.Log answer ∷ []) before after
-log_scanned {S} seen job (Ok scan) before after kind small is fails unnoted steady =
+pub log_scanned : {S : Type 0} (seen : S → Seen) (log : ℕ) (source : S) (answer : Result LogScan Fault) (before after : PassView) → before.noted ≤ nothing_noted
+    → IfOk answer (λ scan. OfTold (seen source).told (λ bytes. IsSharedScan log before after bytes scan)) → IfErr answer (λ fault. OfTold (seen source).told (λ bytes. IsScanFault log bytes fault))
+    → OnErr answer (HasLooked before after × (after.noted ≡ before.noted)) → (IsTrue (seen source).steady → failures_of answer ≡ 0) → HasScanned seen (jobs.Log log source ∷ []) (scanned.Log answer ∷ []) before after
+log_scanned {S} seen log source (Ok scan) before after small is fails unnoted steady =
     let shared = is.2 in
-    let outcome : IsLogOutcome (least_of after.looks) job.number (seen job.source) (Ok scan) = record { scan = (is.0, is.1, shared.is); fault = tt; steady = steady } in
+    let outcome : IsLogOutcome (least_of after.looks) log (seen source) (Ok scan) = record { scan = (is.0, is.1, shared.is); fault = tt; steady = steady } in
     record {
       board = ap (λ (p : PassView). p.board) shared.looked.rest;
       noted = shared.noted ∙ noted_is before.noted (noted_for scan) small;
       falls = omega (arith, ap least_of shared.looked.looks, least_both before.looks (shared.looked.first ∷ shared.looked.more));
-      answered = (rw kind outcome, tt);
+      answered = (outcome, tt);
     }
-log_scanned {S} seen job (Err fault) before after kind small is fails unnoted steady =
-    let outcome : IsLogOutcome (least_of after.looks) job.number (seen job.source) (Err fault) = record { scan = tt; fault = fails; steady = steady } in
+log_scanned {S} seen log source (Err fault) before after small is fails unnoted steady =
+    let outcome : IsLogOutcome (least_of after.looks) log (seen source) (Err fault) = record { scan = tt; fault = fails; steady = steady } in
     record {
       board = ap (λ (p : PassView). p.board) unnoted.0.rest;
       noted = omega (arith, unnoted.1, small);
       falls = omega (arith, ap least_of unnoted.0.looks, least_both before.looks (unnoted.0.first ∷ unnoted.0.more));
-      answered = (rw kind outcome, tt);
+      answered = (outcome, tt);
     }
 
 -- one more source was scanned
@@ -172,12 +147,22 @@ passes_fresh : (board : BoardId) (n : ℕ) → All (IsFresh board) (fresh_passes
 passes_fresh board zero = All-nil (IsFresh board)
 passes_fresh board (suc n) = All-push (IsFresh board) (fresh_passes board n) (fresh_pass board n) (passes_fresh board n) refl
 
-pub shares_fresh : {S : Type 0} (board : BoardId) (n : ℕ) (shares : List (Share S)) (passes : List PassView) → map (λ share. share.pass) shares ≡ passes → passes ≡ fresh_passes board n → All (λ share. IsFresh board share.pass) shares
-shares_fresh {S} board n shares passes are fresh = by shares (subst (All (IsFresh board)) (sym (are ∙ fresh)) (passes_fresh board n))
+-- and so are those of shares that got them
+pub shares_fresh : {J : Type 0} (board : BoardId) (n : ℕ) (shares : List (J × PassView)) (passes : List PassView) → map (λ share. share.1) shares ≡ passes → passes ≡ fresh_passes board n → All (λ share. IsFresh board share.1) shares
+shares_fresh {J} board n shares passes are fresh = by shares (subst (All (IsFresh board)) (sym (are ∙ fresh)) (passes_fresh board n))
   where
-    by : (shares : List (Share S)) → All (IsFresh board) (map (λ share. share.pass) shares) → All (λ share. IsFresh board share.pass) shares
-    by [] all = All-nil (λ (share : Share S). IsFresh board share.pass)
-    by (s ∷ ss) all = All-cons (λ (share : Share S). IsFresh board share.pass) s ss (All-head (IsFresh board) s.pass (map (λ share. share.pass) ss) all) (by ss (All-tail (IsFresh board) s.pass (map (λ share. share.pass) ss) all))
+    by : (shares : List (J × PassView)) → All (IsFresh board) (map (λ share. share.1) shares) → All (λ share. IsFresh board share.1) shares
+    by [] all = All-nil (λ (share : J × PassView). IsFresh board share.1)
+    by (s ∷ ss) all = All-cons (λ (share : J × PassView). IsFresh board share.1) s ss (All-head (IsFresh board) s.1 (map (λ share. share.1) ss) all) (by ss (All-tail (IsFresh board) s.1 (map (λ share. share.1) ss) all))
+
+-- shares that were paired with passes have both, in their order
+pub with_passes : {J : Type 0} (shares : List (J × PassView)) (dealt : List J) (passes : List PassView) → shares ≡ zip dealt passes → length passes ≡ length dealt
+    → (map (λ share. share.0) shares ≡ dealt) × (map (λ share. share.1) shares ≡ passes) × (length shares ≡ length dealt)
+with_passes {J} shares dealt passes are long = (
+  ap (map (λ (share : J × PassView). share.0)) are ∙ firsts-zip dealt passes long,
+  ap (map (λ (share : J × PassView). share.1)) are ∙ seconds-zip dealt passes long,
+  omega (arith, ap length are, length-zip dealt passes, long),
+)
 
 -- mapping in two steps is mapping by both at once
 pub in_two_steps : {A B C : Type 0} (f : A → B) (h : B → C) (xs : List A) (ys : List B) → map f xs ≡ ys → map (λ x. h (f x)) xs ≡ map h ys
@@ -228,74 +213,85 @@ least_dealt (a ∷ later) ((x ∷ xs) ∷ ps) dealt =
       least_small (lasts_in xs),
     )
 
--- if fresh passes noted only the timestamps of their own answers, the least number noted is the least of them all
-least_of_all : {S : Type 0} (seen : S → Seen) (board : BoardId) (shares : List (Share S)) (all : List Scans) → All (λ share. IsFresh board share.pass) shares
-    → AllZip (λ share scans. HasScanned seen share.jobs.items (answers_of scans) share.pass scans.pass) shares all → least_noted (passes_of all) ≡ least_of (map least_in (map answers_of all))
-least_of_all seen board [] [] fresh zip = refl
-least_of_all seen board [] (x ∷ xs) fresh zip = absurd zip
-least_of_all seen board (s ∷ ss) [] fresh zip = absurd zip
-least_of_all {S} seen board (s ∷ ss) (x ∷ xs) fresh zip =
-    let P : Share S → Type 0 = λ share. IsFresh board share.pass in
-    omega (
-      arith,
-      zip.0.noted,
-      ap (λ (p : PassView). p.noted) (All-head P s ss fresh),
-      least_small (lasts_in (answers_of x)),
-      least_of_all seen board ss xs (All-tail P s ss fresh) zip.1,
-    )
-
--- if no pass saw a number below the limit, no scan dropped an update below it
-all_above : {S : Type 0} (seen : S → Seen) (limit : ℕ) (shares : List (Share S)) (all : List Scans) → limit ≤ nothing_noted → SawNoneBelow limit (passes_of all)
-    → AllZip (λ share scans. HasScanned seen share.jobs.items (answers_of scans) share.pass scans.pass) shares all → AllZip (AllZip (IsScanned seen limit)) (map (λ share. share.jobs.items) shares) (map answers_of all)
-all_above seen limit [] [] small saw zip = tt
-all_above seen limit [] (x ∷ xs) small saw zip = absurd zip
-all_above seen limit (s ∷ ss) [] small saw zip = absurd zip
-all_above seen limit (s ∷ ss) (x ∷ xs) small saw zip =
-    let P : PassView → Type 0 = λ pass. All (λ look. limit ≤ look) pass.looks in
-    let low = under_looks limit x.pass.looks small (All-head P x.pass (passes_of xs) saw) in (
-      zip_says (IsScanned seen limit) (IsScanned seen (least_of x.pass.looks)) s.jobs.items (answers_of x) (λ j a at. scanned_lower seen (least_of x.pass.looks) limit j a low at) zip.0.answered,
-      all_above seen limit ss xs small (All-tail P x.pass (passes_of xs) saw) zip.1,
-    )
-
--- the answers gathered from all workers are the outcomes of logs and parts
-outcomes_gathered : {S : Type 0} (seen : S → Seen) (logs parts : List S) (jobs : List (ScanJob S)) (shares : List (Share S)) (all : List Scans) (board : BoardId) (outcomes : Outcomes)
-    → jobs ≡ log_jobs 0 logs ++ part_jobs 0 (read_parts logs parts) → AreDealt jobs (map (λ share. share.jobs.items) shares) → All (λ share. IsFresh board share.pass) shares → board.passes ≡ length shares
-    → AllZip (λ share scans. HasScanned seen share.jobs.items (answers_of scans) share.pass scans.pass) shares all → AreGathered board all outcomes → AreOutcomes (map seen logs) (map seen parts) outcomes
-outcomes_gathered seen logs parts jobs shares all board outcomes same dealt fresh many zip gathered =
-    let least : ℕ = least_noted (passes_of all) in
-    let saw = gathered.saw (omega (arith, many, AllZip-long (λ share scans. HasScanned seen share.jobs.items (answers_of scans) share.pass scans.pass) shares all zip)) in
-    let small = least_small (map (λ (p : PassView). p.noted) (passes_of all)) in
-    let answered = dealt_answers (IsScanned seen least) jobs (map (λ share. share.jobs.items) shares) (map answers_of all) dealt (all_above seen least shares all small saw zip) in
-    let limit : least ≡ least_in answered.0 = least_of_all seen board shares all fresh zip ∙ sym (least_dealt answered.0 (map answers_of all) answered.2) in
-    outcomes_of seen logs parts jobs answered.0 outcomes same (subst (λ (n : ℕ). AllZip (IsScanned seen n) jobs answered.0) limit answered.1) (gathered.logs answered.0 answered.2) (gathered.parts answered.0 answered.2)
-
--- passes that were fresh are still passes of their board
-boards_are : {S : Type 0} (seen : S → Seen) (board : BoardId) (shares : List (Share S)) (all : List Scans) → All (λ share. IsFresh board share.pass) shares
-    → AllZip (λ share scans. HasScanned seen share.jobs.items (answers_of scans) share.pass scans.pass) shares all → All (λ scans. scans.pass.board ≡ board) all
-boards_are seen board [] [] fresh zip = All-nil (λ (x : Scans). x.pass.board ≡ board)
-boards_are seen board [] (x ∷ xs) fresh zip = absurd zip
-boards_are seen board (s ∷ ss) [] fresh zip = absurd zip
-boards_are {S} seen board (s ∷ ss) (x ∷ xs) fresh zip =
-    let P : Share S → Type 0 = λ share. IsFresh board share.pass in
-    All-cons (λ (y : Scans). y.pass.board ≡ board) x xs (zip.0.board ∙ ap (λ (p : PassView). p.board) (All-head P s ss fresh)) (boards_are seen board ss xs (All-tail P s ss fresh) zip.1)
-
 -- what workers scanned can be gathered: there are answers, all passes are of the board, and what is gathered are the outcomes of logs and parts
-pub record CanBeGathered {S : Type 0} (seen : S → Seen) (logs parts : List S) (board : BoardId) (all : List Scans) : Type 0 where
+pub record CanBeGathered {S A : Type 0} (seen : S → Seen) (answers_in : A → List Scanned) (logs parts : List S) (board : BoardId) (all : List (A × PassView)) : Type 0 where
   pub some : 0 < length all
-  pub boards : All (λ scans. scans.pass.board ≡ board) all
-  pub outcomes : (outcomes : Outcomes) → AreGathered board all outcomes → AreOutcomes (map seen logs) (map seen parts) outcomes
+  pub boards : All (λ scans. scans.1.board ≡ board) all
+  pub outcomes : (outcomes : Outcomes) → AreGathered board (map (λ scans. answers_in scans.0) all) (map (λ scans. scans.1) all) outcomes → AreOutcomes (map seen logs) (map seen parts) outcomes
 
--- the answers of workers that scanned the dealt jobs, each with a fresh pass, can be gathered
-pub all_scanned : {S : Type 0} (seen : S → Seen) (logs parts : List S) (jobs : List (ScanJob S)) (shares : List (Share S)) (answers : List (Result Scans Memory)) (all : List Scans) (opened : BoardId)
-    → jobs ≡ log_jobs 0 logs ++ part_jobs 0 (read_parts logs parts) → AreDealt jobs (map (λ share. share.jobs.items) shares) → All (λ share. IsFresh opened share.pass) shares → 0 < length shares → opened.passes ≡ length shares
-    → AllZip (λ share answer. IfOk answer (λ scans. HasScanned seen share.jobs.items (answers_of scans) share.pass scans.pass)) shares answers → answers ≡ map Ok all → (board : BoardId) → board ≡ opened → CanBeGathered seen logs parts board all
-all_scanned {S} seen logs parts jobs shares answers all opened are dealt fresh some many answered done board same =
-    let zip = all_answered (λ (share : Share S) (scans : Scans). HasScanned seen share.jobs.items (answers_of scans) share.pass scans.pass) shares answers all answered done in
-    subst (λ (b : BoardId). CanBeGathered seen logs parts b all) (sym same) (record {
-      some = omega (arith, some, AllZip-long _ shares all zip);
-      boards = boards_are seen opened shares all fresh zip;
-      outcomes = λ outcomes gathered. outcomes_gathered seen logs parts jobs shares all opened outcomes are dealt fresh many zip gathered;
-    })
+module _ {S J A : Type 0} (seen : S → Seen) (jobs_in : J → List (ScanJob S)) (answers_in : A → List Scanned) where
+  -- a worker scanned the sources of its share, and gave these answers
+  abbrev Scans : J × PassView → A × PassView → Type 0
+  Scans share scans = HasScanned seen (jobs_in share.0) (answers_in scans.0) share.1 scans.1
+
+  abbrev passes_of : List (A × PassView) → List PassView
+  passes_of all = map (λ scans. scans.1) all
+
+  abbrev answers_of : List (A × PassView) → List (List Scanned)
+  answers_of all = map (λ scans. answers_in scans.0) all
+
+  -- if fresh passes noted only the timestamps of their own answers, the least number noted is the least of them all
+  least_of_all : (board : BoardId) (shares : List (J × PassView)) (all : List (A × PassView)) → All (λ share. IsFresh board share.1) shares
+      → AllZip Scans shares all → least_noted (passes_of all) ≡ least_of (map least_in (answers_of all))
+  least_of_all board [] [] fresh zip = refl
+  least_of_all board [] (x ∷ xs) fresh zip = absurd zip
+  least_of_all board (s ∷ ss) [] fresh zip = absurd zip
+  least_of_all board (s ∷ ss) (x ∷ xs) fresh zip =
+      let P : J × PassView → Type 0 = λ share. IsFresh board share.1 in
+      omega (
+        arith,
+        zip.0.noted,
+        ap (λ (p : PassView). p.noted) (All-head P s ss fresh),
+        least_small (lasts_in (answers_in x.0)),
+        least_of_all board ss xs (All-tail P s ss fresh) zip.1,
+      )
+
+  -- if no pass saw a number below the limit, no scan dropped an update below it
+  all_above : (limit : ℕ) (shares : List (J × PassView)) (all : List (A × PassView)) → limit ≤ nothing_noted → SawNoneBelow limit (passes_of all)
+      → AllZip Scans shares all → AllZip (AllZip (IsScanned seen limit)) (map (λ share. jobs_in share.0) shares) (answers_of all)
+  all_above limit [] [] small saw zip = tt
+  all_above limit [] (x ∷ xs) small saw zip = absurd zip
+  all_above limit (s ∷ ss) [] small saw zip = absurd zip
+  all_above limit (s ∷ ss) (x ∷ xs) small saw zip =
+      let P : PassView → Type 0 = λ pass. All (λ look. limit ≤ look) pass.looks in
+      let low = under_looks limit x.1.looks small (All-head P x.1 (passes_of xs) saw) in (
+        zip_says (IsScanned seen limit) (IsScanned seen (least_of x.1.looks)) (jobs_in s.0) (answers_in x.0) (λ j a at. scanned_lower seen (least_of x.1.looks) limit j a low at) zip.0.answered,
+        all_above limit ss xs small (All-tail P x.1 (passes_of xs) saw) zip.1,
+      )
+
+  -- the answers gathered from all workers are the outcomes of logs and parts
+  outcomes_gathered : (logs parts : List S) (jobs : List (ScanJob S)) (shares : List (J × PassView)) (all : List (A × PassView)) (board : BoardId) (outcomes : Outcomes)
+      → jobs ≡ log_jobs 0 logs ++ part_jobs 0 (read_parts logs parts) → AreDealt jobs (map (λ share. jobs_in share.0) shares) → All (λ share. IsFresh board share.1) shares → board.passes ≡ length shares
+      → AllZip Scans shares all → AreGathered board (answers_of all) (passes_of all) outcomes → AreOutcomes (map seen logs) (map seen parts) outcomes
+  outcomes_gathered logs parts jobs shares all board outcomes same dealt fresh many zip gathered =
+      let least : ℕ = least_noted (passes_of all) in
+      let saw = gathered.saw (omega (arith, many, AllZip-long Scans shares all zip, length-map all (λ (scans : A × PassView). scans.1))) in
+      let small = least_small (map (λ (p : PassView). p.noted) (passes_of all)) in
+      let answered = dealt_answers (IsScanned seen least) jobs (map (λ share. jobs_in share.0) shares) (answers_of all) dealt (all_above least shares all small saw zip) in
+      let limit : least ≡ least_in answered.0 = least_of_all board shares all fresh zip ∙ sym (least_dealt answered.0 (answers_of all) answered.2) in
+      outcomes_of seen logs parts jobs answered.0 outcomes same (subst (λ (n : ℕ). AllZip (IsScanned seen n) jobs answered.0) limit answered.1) (gathered.logs answered.0 answered.2) (gathered.parts answered.0 answered.2)
+
+  -- passes that were fresh are still passes of their board
+  boards_are : (board : BoardId) (shares : List (J × PassView)) (all : List (A × PassView)) → All (λ share. IsFresh board share.1) shares
+      → AllZip Scans shares all → All (λ scans. scans.1.board ≡ board) all
+  boards_are board [] [] fresh zip = All-nil (λ (x : A × PassView). x.1.board ≡ board)
+  boards_are board [] (x ∷ xs) fresh zip = absurd zip
+  boards_are board (s ∷ ss) [] fresh zip = absurd zip
+  boards_are board (s ∷ ss) (x ∷ xs) fresh zip =
+      let P : J × PassView → Type 0 = λ share. IsFresh board share.1 in
+      All-cons (λ (y : A × PassView). y.1.board ≡ board) x xs (zip.0.board ∙ ap (λ (p : PassView). p.board) (All-head P s ss fresh)) (boards_are board ss xs (All-tail P s ss fresh) zip.1)
+
+  -- the answers of workers that scanned the dealt jobs, each with a fresh pass, can be gathered
+  pub all_scanned : (logs parts : List S) (jobs : List (ScanJob S)) (shares : List (J × PassView)) (answers : List (Result (A × PassView) Memory)) (all : List (A × PassView)) (opened : BoardId)
+      → jobs ≡ log_jobs 0 logs ++ part_jobs 0 (read_parts logs parts) → AreDealt jobs (map (λ share. jobs_in share.0) shares) → All (λ share. IsFresh opened share.1) shares → 0 < length shares → opened.passes ≡ length shares
+      → AllZip (λ share answer. IfOk answer (Scans share)) shares answers → answers ≡ map Ok all → (board : BoardId) → board ≡ opened → CanBeGathered seen answers_in logs parts board all
+  all_scanned logs parts jobs shares answers all opened are dealt fresh some many answered done board same =
+      let zip = all_answered Scans shares answers all answered done in
+      subst (λ (b : BoardId). CanBeGathered seen answers_in logs parts b all) (sym same) (record {
+        some = omega (arith, some, AllZip-long Scans shares all zip);
+        boards = boards_are opened shares all fresh zip;
+        outcomes = λ outcomes gathered. outcomes_gathered logs parts jobs shares all opened outcomes are dealt fresh many zip gathered;
+      })
 
 -- ---- logs in memory
 

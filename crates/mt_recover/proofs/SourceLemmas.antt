@@ -172,7 +172,7 @@ writers_refused limit sources parts scans fault all is =
 
     by : (whole : AreWhole limit 0 sources scans) (fault : Fault) → IsWritersFault whole.readings fault → IsAnsweredBy (λ seen. seen) sources parts fault
     by whole (faults.Doubled i) is = (answered whole (faults.Doubled i) (whole.readings, whole.read, is), tt)
-    by whole (faults.Torn i) is = (answered whole (faults.Torn i) (whole.readings, (whole.read, is.0), is.1), tt)
+    by whole (faults.Torn i) is = (answered whole (faults.Torn i) (whole.readings, whole.read, is.0, is.1), tt)
     by whole fault is = absurd is
 
 -- the fault of a part, if there are logs, none has a fault, and none is doubled or torn

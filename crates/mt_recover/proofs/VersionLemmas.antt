@@ -12,6 +12,7 @@ use Rattle.mt_words.specs.Updates.{update_by, updates_from}
 use Rattle.mt_words.proofs.Elements.{head_or_tail, head_in, tail_in}
 use Rattle.mt_record.specs.Logs.{LogReading, IsGreatestOf}
 use Rattle.mt_record.specs.LogTexts.{version_of, versions_of, greatest}
+use Rattle.mt_record.specs.declared.front.LogFront.{LogFront}
 use Rattle.mt_scan.specs.declared.log_scan.LogScan.{LogScan}
 use Rattle.mt_scan.specs.Scans.{HaveNumbersOf}
 use Rattle.mt_scan.specs.PartsShown.{KeptPart, shown_by_all}
@@ -36,11 +37,23 @@ greatest_in (n ∷ ns) = elim (cases_lt (greatest ns) n) as (λ _. Contains (0 �
   | inr least ↦ let same : max n (greatest ns) ≡ greatest ns = omega (arith, least) in rw same (behind n (greatest ns) ns (greatest_in ns))
 ]
 
-none_above : (ns : List ℕ) → All (λ n. n ≤ greatest ns) ns
+pub none_above : (ns : List ℕ) → All (λ n. n ≤ greatest ns) ns
 none_above [] = All-nil (λ n. n ≤ 0)
 none_above (n ∷ ns) =
     let top = max n (greatest ns) in
     All-cons (λ k. k ≤ top) n ns (omega arith) (All-weaker (λ k. k ≤ greatest ns) (λ k. k ≤ top) (λ k least. omega (arith, least)) ns (none_above ns))
+
+-- the greatest of some numbers is one of them
+pub greatest_among : (n : ℕ) (ns : List ℕ) → Contains (n ∷ ns) (greatest (n ∷ ns))
+greatest_among n ns = elim (cases_lt (greatest ns) n) as (λ _. Contains (n ∷ ns) (max n (greatest ns))) [
+  | inl less ↦ let same : max n (greatest ns) ≡ n = omega (arith, less) in rw same (head_in n ns)
+  | inr least ↦
+      let same : max n (greatest ns) ≡ greatest ns = omega (arith, least) in
+      rw same (elim (head_or_tail 0 (greatest ns) ns (greatest_in ns)) as (λ _. Contains (n ∷ ns) (greatest ns)) [
+        | inl e ↦ let zero : n ≡ greatest ns = omega (arith, least, e) in subst (Contains (n ∷ ns)) zero (head_in n ns)
+        | inr later ↦ tail_in n (greatest ns) ns later
+      ])
+]
 
 pub greatest_is : (ns : List ℕ) → IsGreatestOf (0 ∷ ns) (greatest ns)
 greatest_is ns = (greatest_in ns, All-cons (λ k. k ≤ greatest ns) 0 ns (omega arith) (none_above ns))
@@ -80,12 +93,12 @@ of_records log nth (r ∷ rs) =
 
 -- the greatest version of scans is that of the updates of their logs
 pub of_scans : (number : ℕ) (scans : List LogScan) (readings : List LogReading) → HaveNumbersOf scans readings
-    → greatest (map (λ (scan : LogScan). scan.version) scans) ≡ greatest (versions (all_updates number (records_of readings)))
+    → greatest (map (λ (scan : LogScan). scan.front.version) scans) ≡ greatest (versions (all_updates number (records_of readings)))
 of_scans number [] [] numbers = refl
 of_scans number [] (l ∷ ls) numbers = absurd numbers
 of_scans number (s ∷ ss) [] numbers = absurd numbers
 of_scans number (s ∷ ss) (l ∷ ls) numbers =
-    omega (arith, numbers.0.version, of_records number 0 l.records, of_scans (suc number) ss ls numbers.1, greatest_both (updates_from number 0 l.records) (all_updates (suc number) (records_of ls)))
+    omega (arith, ap (λ (front : LogFront). front.version) numbers.0.front, of_records number 0 l.records, of_scans (suc number) ss ls numbers.1, greatest_both (updates_from number 0 l.records) (all_updates (suc number) (records_of ls)))
 
 -- ---- the versions of entries
 

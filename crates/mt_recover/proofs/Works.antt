@@ -1,10 +1,10 @@
 -- The numbers that passes draw, and the passes and hauls that workers return.
-use Rattle.std.proofs.Common.{◌≡◌, ◌∙◌, append_assoc, ℕ, zero, suc, ◌≤◌, List, [], ◌∷◌, ◌++◌, length, refl, sym, ap, subst, arith, Bool, cond}
+use Rattle.std.proofs.Common.{◌≡◌, ◌∙◌, append_assoc, ℕ, zero, suc, ◌≤◌, List, [], ◌∷◌, ◌++◌, length, map, refl, sym, ap, arith, Bool, cond}
 use Rattle.std.specs.List.{All, AllZip}
 use Rattle.std.proofs.lemmas.List.{length_push}
-use Rattle.std.proofs.lemmas.List.Sums.{sum_by_push, sum_by-cons}
-use Rattle.std.proofs.lemmas.List.Elements.{All-cons, All-nil, All-push}
-use Rattle.std.specs.Prelude.{IsTrue}
+use Rattle.std.proofs.lemmas.List.Sums.{sum_by-cons}
+use Rattle.std.proofs.lemmas.List.Elements.{All-cons, All-nil}
+use Rattle.std.specs.Prelude.{IsTrue, Result, Ok, Err, IfOk}
 use Rattle.mt_board.specs.Board.{BoardId, PassView, fresh_pass, fresh_passes, times, times_drawn, SomeIsDone}
 use Rattle.mt_recover.specs.declared.haul.Haul.{Haul}
 use Rattle.mt_recover.specs.Hauls.{numbers, IsHaulOf, times_held, HasWorked, HaveWorked, AllCameBack}
@@ -16,27 +16,22 @@ pub drew_on : (start now next : PassView) (drawn after : List ℕ) (n : ℕ) →
 drew_on start now next drawn after n was is more =
     is ∙ ap (λ (p : PassView). record p { draws = p.draws ++ n ∷ [] }) was ∙ ap (λ (l : List ℕ). record start { draws = l }) (append_assoc start.draws drawn (n ∷ []) ∙ ap (λ (l : List ℕ). start.draws ++ l) (sym more))
 
--- one more worker has worked
-pub worked_more : (job : JobView) (passes after : List PassView) (hauls more : List Haul) (pass : PassView) (haul : Haul) → HaveWorked job passes hauls → HasWorked job pass haul → after ≡ passes ++ pass ∷ [] → more ≡ hauls ++ haul ∷ []
-    → HaveWorked job after more
-worked_more job passes after hauls more pass haul have has is also = record {
-  boards = subst (All (λ (p : PassView). p.board ≡ job.board)) (sym is) (All-push (λ (p : PassView). p.board ≡ job.board) passes pass have.boards has.board);
-  are_hauls = subst (All (IsHaulOf job)) (sym also) (All-push (IsHaulOf job) hauls haul have.are_hauls has.is_haul);
-  done = subst (All (λ (p : PassView). IsTrue p.done)) (sym is) (All-push (λ (p : PassView). IsTrue p.done) passes pass have.done has.done);
-  held = λ x. omega (
-    arith,
-    ap (times_drawn x) is,
-    sum_by_push (λ (p : PassView). times x p.draws) passes pass,
-    ap (times_held x) also,
-    sum_by_push (λ (h : Haul). times x (numbers h)) hauls haul,
-    ap (times x) has.draws,
-    have.held x,
-  );
-}
-
--- no worker has worked
-pub none_worked : (job : JobView) → HaveWorked job [] []
-none_worked job = record { boards = All-nil (λ (p : PassView). p.board ≡ job.board); are_hauls = All-nil (IsHaulOf job); done = All-nil (λ (p : PassView). IsTrue p.done); held = λ x. refl }
+-- the passes and hauls of workers that have each worked
+pub all_worked : {P : Type 0} (job : JobView) (before : List P) (all : List (PassView × Haul)) → AllZip (λ pass worked. HasWorked job worked.0 worked.1) before all
+    → HaveWorked job (map (λ worked. worked.0) all) (map (λ worked. worked.1) all)
+all_worked job [] [] zip = record { boards = All-nil (λ (p : PassView). p.board ≡ job.board); are_hauls = All-nil (IsHaulOf job); done = All-nil (λ (p : PassView). IsTrue p.done); held = λ x. refl }
+all_worked job [] (w ∷ ws) zip = absurd zip
+all_worked job (b ∷ bs) [] zip = absurd zip
+all_worked job (b ∷ bs) (w ∷ ws) zip =
+    let later = all_worked job bs ws zip.1 in
+    let passes : List PassView = map (λ worked. worked.0) ws in
+    let hauls : List Haul = map (λ worked. worked.1) ws in
+    record {
+      boards = All-cons (λ (p : PassView). p.board ≡ job.board) w.0 passes zip.0.board later.boards;
+      are_hauls = All-cons (IsHaulOf job) w.1 hauls zip.0.is_haul later.are_hauls;
+      done = All-cons (λ (p : PassView). IsTrue p.done) w.0 passes zip.0.done later.done;
+      held = λ x. omega (arith, sum_by-cons (λ (p : PassView). times x p.draws) w.0 passes, sum_by-cons (λ (h : Haul). times x (numbers h)) w.1 hauls, ap (times x) zip.0.draws, later.held x);
+    }
 
 -- if all passes are done, one is
 some_done : (passes : List PassView) → 1 ≤ length passes → All (λ (p : PassView). IsTrue p.done) passes → SomeIsDone passes
@@ -58,9 +53,7 @@ pub length-fresh : (b : BoardId) (n : ℕ) → length (fresh_passes b n) ≡ n
 length-fresh b zero = refl
 length-fresh b (suc n) = omega (arith, length_push (fresh_passes b n) (fresh_pass b n), length-fresh b n)
 
--- what holds for each answer in turn holds for all
-pub zip_each : {X Y : Type 0} (Q : Y → Type 0) (xs : List X) (ys : List Y) → AllZip (λ x y. Q y) xs ys → All Q ys
-zip_each Q [] [] zip = All-nil Q
-zip_each Q [] (y ∷ ys) zip = absurd zip
-zip_each Q (x ∷ xs) [] zip = absurd zip
-zip_each Q (x ∷ xs) (y ∷ ys) zip = All-cons Q y ys zip.0 (zip_each Q xs ys zip.1)
+-- two facts of an Ok hold together
+pub both_ok : {X E : Type 0} (r : Result X E) (P Q : X → Type 0) → IfOk r P → IfOk r Q → IfOk r (λ x. P x × Q x)
+both_ok (Ok x) P Q p q = (p, q)
+both_ok (Err err) P Q p q = tt

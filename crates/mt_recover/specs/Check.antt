@@ -2,7 +2,6 @@
 use Rattle.std.specs.Prelude.{◌≡◌, ℕ, suc, IsTrue, List, [], ◌∷◌, Result, IfOk, IfErr}
 use Rattle.std.specs.Option.{option_map}
 use Rattle.mt_words.specs.declared.fault.Fault.{Fault}
-use Rattle.mt_replay.specs.declared.window.Window.{Window}
 use Rattle.mt_scan.specs.declared.checking.LogCheck.{LogCheck}
 use Rattle.mt_scan.specs.declared.part_scan.PartScan.{PartScan}
 use Rattle.mt_scan.specs.Sources.{Seen}
@@ -12,9 +11,8 @@ use Rattle.mt_scan.specs.PartScans.{IsKnown}
 use Rattle.mt_scan.specs.PartsShown.{known_by, IsPartScanFault}
 use Rattle.mt_scan.specs.Choice.{AreSkipped, AreNameless}
 use Rattle.mt_scan.specs.Choosing.{checkpoint_in}
-use Rattle.mt_scan.specs.Segments.{IsGap}
-use Rattle.mt_recover.specs.Recovery.{Facts, begin_of}
-use Rattle.mt_recover.specs.declared.checking.Start.{Start}
+use Rattle.mt_recover.specs.Recovery.{Basis, begin_of}
+use Rattle.mt_recover.specs.declared.found.Start.{Start}
 
 -- the answer of the check of log number `log`: its check, or why it has none; a steady source is never reported as failed
 pub record IsLogChecked (limit log : ℕ) (seen : Seen) (answer : Result LogCheck Fault) : Type 0 where
@@ -35,11 +33,10 @@ AllFrom R number [] (y ∷ ys) = ⊥
 AllFrom R number (x ∷ xs) [] = ⊥
 AllFrom R number (x ∷ xs) (y ∷ ys) = R number x y × AllFrom R (suc number) xs ys
 
--- where recovery of logs and parts begins: no log has a gap, and the window and the choice of a checkpoint are those of the facts
+-- where recovery of logs and parts begins: the window and the choice of a checkpoint are those of the facts
 pub record IsStartOf (logs parts : List (List ℕ)) (start : Start) : Type 0 where
-  pub facts : Facts logs parts
-  pub no_gap : (i : ℕ) → IsGap (begin_of facts.chosen) facts.readings i → ⊥
-  pub window : start.window ≡ record { begin = begin_of facts.chosen; cutoff = facts.cutoff }
-  pub chosen : option_map checkpoint_in start.choice.chosen ≡ facts.chosen
-  pub skipped : AreSkipped facts.known start.choice.skipped.items
-  pub nameless : AreNameless facts.known start.choice.nameless.items
+  pub basis : Basis logs parts
+  pub window : start.window ≡ record { begin = begin_of basis.facts.chosen; cutoff = basis.facts.cutoff }
+  pub chosen : option_map checkpoint_in start.choice.chosen ≡ basis.facts.chosen
+  pub skipped : AreSkipped basis.facts.known start.choice.skipped.items
+  pub nameless : AreNameless basis.facts.known start.choice.nameless.items

@@ -49,8 +49,12 @@ pub record Facts (logs parts : List (List ℕ)) : Type 0 where
 abbrev pub records_of : List LogReading → List (List Logged)
 records_of readings = map (λ log. log.records) readings
 
--- the store of logs and parts: no log has a gap, and the pairs are the walk of the survivors
-pub record IsStoreOf (logs parts : List (List ℕ)) (pairs : List Pair) : Type 0 where
+-- what recovery stands on: what it finds, where no log has a gap
+pub record Basis (logs parts : List (List ℕ)) : Type 0 where
   pub facts : Facts logs parts
   pub no_gap : (i : ℕ) → IsGap (begin_of facts.chosen) facts.readings i → ⊥
-  pub walk : IsWalk (survivors facts.cutoff facts.chosen (records_of facts.readings)) pairs
+
+-- the store of logs and parts: the pairs are the walk of the survivors
+pub record IsStoreOf (logs parts : List (List ℕ)) (pairs : List Pair) : Type 0 where
+  pub basis : Basis logs parts
+  pub walk : IsWalk (survivors basis.facts.cutoff basis.facts.chosen (records_of basis.facts.readings)) pairs

@@ -67,4 +67,4 @@ pub record Outcome : Type 0 where
 -- the outcome of logs and parts: their store, and the report of the facts from which that store was made
 pub record IsRecoveredOf (logs parts : List (List ℕ)) (outcome : Outcome) : Type 0 where
   pub store : IsStoreOf logs parts outcome.store
-  pub report : IsReportOf store.facts outcome.store outcome.report
+  pub report : IsReportOf store.basis.facts outcome.store outcome.report

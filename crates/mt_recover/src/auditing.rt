@@ -17,7 +17,8 @@ use crate::recovery::Inputs;
 use crate::scans::scan_all;
 use crate::workers::{MOST_WORKERS, Workers};
 use mt_replay::{
-    Batch, Clash, Cuts, SortedUpdates, MOST_PIECES, Pieces, Window, clashes_in, pieces_make_the_audit,
+    Batch, Clash, Cuts, MOST_PIECES, Pieces, SortedUpdates, Window, clashes_in,
+    pieces_make_the_audit,
 };
 use mt_scan::{LogScan, Source};
 use mt_words::{Fault, Memory};
@@ -41,6 +42,11 @@ pub fn audit<R: Threads + Sync, S: Source + Send>(
     Ok(audit_found(rt, alloc, found, workers)?)
 }
 
+/// The number of pieces that each worker gets, so that all workers have about the same to do.
+const PIECES_OF_WORKER: u32 = 4;
+
+const _: () = prove!(PIECES_OF_WORKER * MOST_WORKERS <= MOST_PIECES);
+
 /// Finds the clashes of what was found.
 fn audit_found<R: Threads + Sync>(
     rt: &R,
@@ -51,10 +57,11 @@ fn audit_found<R: Threads + Sync>(
     requires { IsFound found }
     ensures { (logs parts : List (List ℕ)) → IsFoundOf logs parts found → IfOk result (λ clashes. IsAuditOf logs parts clashes.items) }
 {
-    let Found { scans, window, .. } = found;
-    let lists = cells_of(rt, alloc, &scans, window, workers)?;
+    let Found { scans, start } = found;
+    let lists = cells_of(rt, alloc, &scans, start.window, workers)?;
     drop(scans);
-    let cuts = Cuts::sampled(rt, alloc, &lists, pieces_for(workers))?;
+    let pieces = Pieces::new(PIECES_OF_WORKER * workers.count()).unwrap();
+    let cuts = Cuts::sampled(rt, alloc, &lists, pieces)?;
     all_clashes(rt, alloc, &lists, &cuts, workers)
 }
 
@@ -78,16 +85,6 @@ fn cells_of<R: Threads + Sync>(
         { SortedUpdates::of_batch(alloc, &batch, window) },
     )?;
     all_done(alloc, logs)
-}
-
-/// The number of pieces that each worker gets, so that all workers have about the same to do.
-const PIECES_OF_WORKER: u32 = 4;
-
-const _: () = prove!(PIECES_OF_WORKER * MOST_WORKERS <= MOST_PIECES);
-
-/// Returns the number of pieces that these workers share.
-fn pieces_for(workers: Workers) -> Pieces {
-    Pieces::new(PIECES_OF_WORKER * workers.count()).unwrap()
 }
 
 /// Finds the clashes of each piece that the cuts make, and puts them together in order.

@@ -96,6 +96,17 @@ pub(crate) fn concat<X: Drop>(alloc: Global, lists: Vec<Vec<X>>) -> Result<Vec<X
     Ok(all)
 }
 
+/// Splits pairs into their firsts and their seconds. Err: out of memory.
+pub(crate) fn unzip<A: Drop, B: Drop>(
+    alloc: Global,
+    pairs: Vec<(A, B)>,
+) -> Result<(Vec<A>, Vec<B>), Memory>
+    ensures firsts { IfOk result (λ lists. lists.0.items ≡ map (λ pair. pair.0) pairs.items) }
+    ensures seconds { IfOk result (λ lists. lists.1.items ≡ map (λ pair. pair.1) pairs.items) }
+{
+    Ok(pairs.into_iter().unzip(alloc)?)
+}
+
 /// Deals the jobs to shares in turn. There is one share for each worker, but there are no more shares than jobs, so
 /// that no thread is made for nothing; there is at least one. The last job is dealt first, and the share that gets a
 /// job moves to the front.

@@ -1,28 +1,19 @@
 //! Checks logs and checkpoint parts: what is in each of them, and where recovery would begin. No store is made.
 ghost use Rattle.std.specs.Prelude.{◌≡◌, ℕ, List, map, IfOk, IfErr};
+ghost use Rattle.std.specs.List.{enumerate_from};
 ghost use Rattle.mt_scan.specs.Sources.{Seen};
 ghost use Rattle.mt_recover.specs.Check.{AllFrom, IsLogChecked, IsPartOutcome, IsStartOf};
 ghost use Rattle.mt_recover.specs.Inputs.{OfSources, IsAnsweredBy};
 ghost use Rattle.mt_recover.specs.Steps.Outcomes.{IsLogOutcome};
 
 use crate::by_workers::{by_workers, in_turn};
-use crate::found::{Found, find};
-use crate::scans::{Kind, Outcomes, ScanJob, number_all};
+use crate::found::{Start, find};
+use crate::scans::Outcomes;
 use crate::workers::Workers;
-use mt_replay::Window;
-use mt_scan::{Choice, LogCheck, LogScan, PartScan, Source, check_log, scan_part};
+use mt_scan::{LogCheck, LogScan, PartScan, Source, check_log, scan_part};
 use mt_words::{Fault, Memory};
 use std::alloc::Global;
 use std::thread::Threads;
-
-/// Where recovery of logs and checkpoint parts begins.
-#[derive(Debug, Drop)]
-pub struct Start {
-    /// The timestamps at which updates of logs survive.
-    pub window: Window,
-    /// The chosen checkpoint, the skipped checkpoints and the nameless parts.
-    pub choice: Choice,
-}
 
 /// Checks each log from its source, as `check_log` does. `limit` is the timestamp from which updates count as late.
 /// Needs a chunk of memory a worker. Err: out of memory.
@@ -38,13 +29,13 @@ pub fn check_logs<R: Threads + Sync, S: Source + Send>(
     by_workers(
         rt,
         alloc,
-        number_all(alloc, Kind::Log, logs)?,
+        numbered(alloc, logs)?,
         workers,
-        &|job: ScanJob<S>| -> Result<LogCheck, Fault>
-            ensures { IsLogChecked limit job.number (S.seen job.source) result }
+        &|(log, source): (usize, S)| -> Result<LogCheck, Fault>
+            ensures { IsLogChecked limit log (S.seen source) result }
         {
-            let mut source = job.source;
-            check_log(alloc, &mut source, job.number, limit)
+            let mut source = source;
+            check_log(alloc, &mut source, log, limit)
         },
     )
 }
@@ -61,13 +52,13 @@ pub fn check_parts<R: Threads + Sync, S: Source + Send>(
     by_workers(
         rt,
         alloc,
-        number_all(alloc, Kind::Part, parts)?,
+        numbered(alloc, parts)?,
         workers,
-        &|job: ScanJob<S>| -> Result<PartScan, Fault>
-            ensures { IsPartOutcome job.number (S.seen job.source) result }
+        &|(part, source): (usize, S)| -> Result<PartScan, Fault>
+            ensures { IsPartOutcome part (S.seen source) result }
         {
-            let mut source = job.source;
-            scan_part(alloc, &mut source, job.number)
+            let mut source = source;
+            scan_part(alloc, &mut source, part)
         },
     )
 }
@@ -87,8 +78,14 @@ pub fn start_of(
         return Err(Fault::NoLogs);
     }
     let logs = outcomes_of(alloc, checks)?;
-    let Found { window, choice, .. } = find(alloc, Outcomes { logs, parts })?;
-    Ok(Start { window, choice })
+    Ok(find(alloc, Outcomes { logs, parts })?.start)
+}
+
+/// Numbers these, from 0.
+fn numbered<T: Drop>(alloc: Global, items: Vec<T>) -> Result<Vec<(usize, T)>, Memory>
+    ensures { IfOk result (λ numbered. numbered.items ≡ enumerate_from 0 items.items) }
+{
+    Ok(items.into_iter().enumerate().collect(alloc)?)
 }
 
 /// Returns the scans of the checked logs, without updates.
@@ -100,10 +97,10 @@ fn outcomes_of(
 {
     in_turn(
         alloc,
-        number_all(alloc, Kind::Log, checks)?,
-        &|job: ScanJob<Result<LogCheck, Fault>>| -> Result<LogScan, Fault>
-            ensures { (limit : ℕ) (seen : Seen) → IsLogChecked limit job.number seen job.source → IsLogOutcome 0 job.number seen result }
-        { outcome_of(alloc, job.number, job.source) },
+        numbered(alloc, checks)?,
+        &|(log, check): (usize, Result<LogCheck, Fault>)| -> Result<LogScan, Fault>
+            ensures { (limit : ℕ) (seen : Seen) → IsLogChecked limit log seen check → IsLogOutcome 0 log seen result }
+        { outcome_of(alloc, log, check) },
     )
 }
 

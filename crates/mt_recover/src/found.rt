@@ -19,15 +19,22 @@ use mt_scan::{Checkpoint, Choice, LogScan, choose, cutoff, first_doubled, first_
 use mt_words::Fault;
 use std::alloc::Global;
 
-/// The scans, the window and the checkpoint that recovery finds in its inputs, if it does not refuse them.
-#[derive(Drop)]
-pub(crate) struct Found {
-    /// The scans of the logs, in the order of their numbers.
-    pub scans: Vec<LogScan>,
+/// Where recovery of logs and checkpoint parts begins.
+#[derive(Debug, Drop)]
+pub struct Start {
     /// The timestamps at which updates of logs survive.
     pub window: Window,
     /// The checkpoint over which the logs are replayed, the skipped checkpoints and the nameless parts.
     pub choice: Choice,
+}
+
+/// What recovery finds in its inputs, if it does not refuse them.
+#[derive(Drop)]
+pub(crate) struct Found {
+    /// The scans of the logs, in the order of their numbers.
+    pub scans: Vec<LogScan>,
+    /// Where recovery begins.
+    pub start: Start,
 }
 
 /// Finds where recovery begins. An Err is the first of these that holds: `NoLogs`; the fault of the least log that has
@@ -38,7 +45,7 @@ pub(crate) fn find(alloc: Global, outcomes: Outcomes) -> Result<Found, Fault>
     ensures found { (logs parts : List Seen) → AreOutcomes logs parts outcomes →
         IfOk result (λ found. OfSources (λ seen. seen) logs parts (λ ls ps. IsFoundOf ls ps found)) }
     ensures start { (limit : ℕ) (logs parts : List Seen) → AreOutcomesTo limit logs parts outcomes →
-        IfOk result (λ found. OfSources (λ seen. seen) logs parts (λ ls ps. IsStartOf ls ps (record { window = found.window; choice = found.choice }))) }
+        IfOk result (λ found. OfSources (λ seen. seen) logs parts (λ ls ps. IsStartOf ls ps found.start)) }
     ensures fault { (limit : ℕ) (logs parts : List Seen) → AreOutcomesTo limit logs parts outcomes →
         IfErr result (IsAnsweredBy (λ seen. seen) logs parts) }
 {
@@ -53,10 +60,10 @@ pub(crate) fn find(alloc: Global, outcomes: Outcomes) -> Result<Found, Fault>
     if let Some(log) = first_gap(&scans, begin) {
         return Err(Fault::Gap { log });
     }
+    let window = Window { begin, cutoff };
     Ok(Found {
         scans,
-        window: Window { begin, cutoff },
-        choice,
+        start: Start { window, choice },
     })
 }
 

@@ -13,7 +13,7 @@ use crate::recovery::Inputs;
 use crate::scans::scan_all;
 use crate::workers::{Cutting, MOST_WORKERS, Workers};
 use mt_board::{Board, MOST_NUMBERS, MOST_PASSES, Pass};
-use mt_replay::{Cuts, SortedUpdates, MOST_PIECES};
+use mt_replay::{Cuts, MOST_PIECES, SortedUpdates};
 use mt_scan::Source;
 use mt_words::{Fault, Memory};
 use std::alloc::Global;

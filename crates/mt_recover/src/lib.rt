@@ -34,14 +34,14 @@ mod report;
 mod report_text;
 mod scans;
 mod store;
-mod survivors;
 mod workers;
 mod working;
 
 pub use assembling::assemble;
 pub use auditing::audit;
-pub use checking::{Start, check_logs, check_parts, start_of};
+pub use checking::{check_logs, check_parts, start_of};
 pub use failure::{Failure, Refusal};
+pub use found::Start;
 pub use haul::Haul;
 pub use job::{Job, prepare};
 pub use laws::{one_report, one_verdict, one_walk};

@@ -1,5 +1,5 @@
 //! Recovery from sources, on one thread or by workers, and from logs in memory.
-ghost use Rattle.std.specs.Prelude.{◌≡◌, [], List, ℕ, map, length, All, IfOk, IfErr, IfSome};
+ghost use Rattle.std.specs.Prelude.{◌≡◌, [], List, ℕ, map, length, All, IfOk, IfErr};
 ghost use Rattle.mt_scan.specs.Sources.{Seen};
 ghost use Rattle.mt_recover.specs.Hauls.{HasWorked, HaveWorked};
 ghost use Rattle.mt_recover.specs.Inputs.{IsRecoveryFrom};
@@ -9,7 +9,7 @@ ghost use Rattle.mt_recover.specs.Report.{IsRecoveredOf};
 ghost use Rattle.mt_recover.specs.Verdict.{IsVerdictOrMemory};
 
 use crate::assembling::assemble;
-use crate::by_workers::by_workers;
+use crate::by_workers::{all_done, by_workers, unzip};
 use crate::found::{Found, find};
 use crate::haul::Haul;
 use crate::job::{Job, prepare};
@@ -163,9 +163,6 @@ fn replay_whole(alloc: Global, found: Found) -> Result<Recovered, Memory>
     prepared.finish(draft)
 }
 
-/// The result of a worker: its pass, and the haul of all pieces that it drew. None if it ran out of memory.
-type Worked = Option<(Pass, Haul)>;
-
 /// Lets each worker work on the job with a pass of its own, by fork and join. Returns their passes and hauls.
 fn work_all<R: Threads + Sync, G: Gate>(
     rt: &R,
@@ -184,41 +181,26 @@ fn work_all<R: Threads + Sync, G: Gate>(
         alloc,
         passes,
         workers,
-        &|pass: Pass| -> Worked
+        &|pass: Pass| -> Result<(Pass, Haul), Memory>
             requires { (pass.board ≡ job.now.board) × (pass.draws ≡ []) }
-            ensures { IfSome result (λ worked. HasWorked job.entry.now worked.0 worked.1) }
+            ensures { IfOk result (λ worked. HasWorked job.entry.now worked.0 worked.1) }
         { work_with(alloc, job, pass, gate) },
     )?;
-    settle(alloc, job, worked)
+    unzip(alloc, all_done(alloc, worked)?)
 }
 
-/// Works on the job with a pass. Returns the pass and the haul.
-fn work_with<G: Gate>(alloc: Global, job: &Job, mut pass: Pass, gate: &G) -> Worked
-    requires { (pass.board ≡ job.now.board) × (pass.draws ≡ []) }
-    ensures { IfSome result (λ worked. HasWorked job.now worked.0 worked.1) }
-{
-    let haul = work(alloc, job, &mut pass, gate).ok()?;
-    Some((pass, haul))
-}
-
-/// Splits the workers' results into passes and hauls. Err: a worker ran out of memory, or this call did.
-fn settle(
+/// Works on the job with a pass. Returns the pass and the haul of all pieces that it drew.
+fn work_with<G: Gate>(
     alloc: Global,
     job: &Job,
-    mut worked: Vec<Worked>,
-) -> Result<(Vec<Pass>, Vec<Haul>), Memory>
-    requires { All (λ done. IfSome done (λ worked. HasWorked job.now worked.0 worked.1)) worked.items }
-    ensures many { IfOk result (λ settled. length settled.0.items ≡ length worked.items) }
-    ensures worked { IfOk result (λ settled. HaveWorked job.now settled.0.items settled.1.items) }
+    mut pass: Pass,
+    gate: &G,
+) -> Result<(Pass, Haul), Memory>
+    requires { (pass.board ≡ job.now.board) × (pass.draws ≡ []) }
+    ensures { IfOk result (λ worked. HasWorked job.now worked.0 worked.1) }
 {
-    let mut passes = Vec::new(alloc);
-    let mut hauls = Vec::new(alloc);
-    while let Some(done) = worked.pop() {
-        let Some((pass, haul)) = done else {
-            return Err(Memory);
-        };
-        passes.push(pass)?;
-        hauls.push(haul)?;
+    match work(alloc, job, &mut pass, gate) {
+        Ok(haul) => Ok((pass, haul)),
+        Err(_) => Err(Memory),
     }
-    Ok((passes, hauls))
 }

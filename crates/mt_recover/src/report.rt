@@ -1,20 +1,18 @@
 //! The report of what recovery found in logs and parts, and of what became of it.
-ghost use Rattle.std.specs.Prelude.{◌≡◌, List, [], ℕ, length, map, sum_by, IfOk, IfSome, IfNone};
+ghost use Rattle.std.specs.Prelude.{◌≡◌, List, ℕ, length, map, sum_by, IfOk};
 ghost use Rattle.std.specs.Fn.{FnReturnsAt};
-ghost use Rattle.std.specs.List.{flat_map};
 ghost use Rattle.std.specs.Option.{option_map};
-ghost use Rattle.mt_record.specs.Logs.{LogReading, IsGreatestOf, times_of};
+ghost use Rattle.mt_record.specs.Logs.{LogReading};
 ghost use Rattle.mt_record.specs.LogTexts.{greatest};
 ghost use Rattle.mt_scan.specs.Choosing.{checkpoint_in};
 ghost use Rattle.mt_scan.specs.PartsShown.{shown_by_all};
 ghost use Rattle.mt_scan.specs.Steps.Checkpoints.{entries_of};
 ghost use Rattle.mt_scan.specs.Scans.{HaveNumbersOf};
-ghost use Rattle.mt_recover.specs.Report.{all_versions};
-ghost use Rattle.mt_recover.specs.Prepared.{report_of};
-ghost use Rattle.mt_recover.specs.Steps.Preparing.{AreCountsOf, HasRoomFor, IsFoundOf, entry_versions};
+ghost use Rattle.mt_recover.specs.Report.{IsFoundIn, all_versions};
+ghost use Rattle.mt_recover.specs.Steps.Preparing.{IsFoundOf, entry_versions};
 ghost use Rattle.mt_recover.specs.Recovery.{entry_updates};
 
-use crate::found::Found;
+use crate::found::{Found, Start};
 use mt_record::{KeptEntries, PartText};
 use mt_scan::{Checkpoint, Choice, LogScan, writer_count};
 use mt_words::Memory;
@@ -67,89 +65,43 @@ pub struct Report {
     pub layers: u64,
 }
 
-/// The counts that are known before replay.
-#[derive(Drop)]
-pub(crate) struct Counts {
-    pub logs: usize,
-    pub writers: usize,
-    pub records: u128,
-    pub marks: u128,
-    pub torn: usize,
-    pub ends: Vec<u64>,
-    pub last: u64,
-    pub version: u64,
-    pub cutoff: u64,
-    pub checkpoint: Option<u32>,
-    pub begin: u64,
-    pub skipped: Vec<u32>,
-    pub nameless: Vec<usize>,
-    pub entries: u128,
-}
-
-impl Counts {
-    /// Counts what was found. Also returns what is replayed: the scans, and the chosen checkpoint. Err: out of memory.
-    pub fn of(
-        alloc: Global,
-        found: Found,
-    ) -> Result<(Counts, Vec<LogScan>, Option<Checkpoint>), Memory>
-        ensures scans { IfOk result (λ counted. counted.1 ≡ found.scans) }
-        ensures chosen { IfOk result (λ counted. counted.2 ≡ found.choice.chosen) }
-        ensures counts { (logs parts : List (List ℕ)) (is : IsFoundOf logs parts found) →
-            IfOk result (λ counted. AreCountsOf is.facts counted.0) }
+impl Report {
+    /// Reports what was found, with no survivors, early or late updates, keys and layers yet. Also returns the chosen
+    /// checkpoint. Err: out of memory.
+    pub(crate) fn of(alloc: Global, found: Found) -> Result<(Report, Option<Checkpoint>), Memory>
+        ensures chosen { IfOk result (λ counted. counted.1 ≡ found.start.choice.chosen) }
+        ensures report { (logs parts : List (List ℕ)) (is : IsFoundOf logs parts found) →
+            IfOk result (λ counted. IsFoundIn is.start.basis.facts counted.0) }
     {
+        let Found { scans, start } = found;
+        let Start { window, choice } = start;
         let Choice {
             chosen,
             skipped,
             nameless,
-        } = found.choice;
-        let scans = found.scans;
-        let counts = Counts {
+        } = choice;
+        let report = Report {
             logs: scans.len(),
             writers: writer_count(&scans),
-            records: total(&scans, |scan| scan.whole),
+            records: total(&scans, |scan| scan.front.count),
             marks: total(&scans, |scan| scan.marks),
-            torn: scans.iter().filter(|scan| scan.torn).count(),
+            torn: scans.iter().filter(|scan| scan.front.torn()).count(),
             ends: ends_of(alloc, &scans)?,
-            last: last_of(&scans).unwrap_or(0),
+            last: greatest_of(&scans, |scan| scan.front.last()),
             version: version_of(&scans, &chosen),
-            cutoff: found.window.cutoff,
+            cutoff: window.cutoff,
             checkpoint: chosen.as_ref().map(|checkpoint| checkpoint.number),
-            begin: found.window.begin,
+            begin: window.begin,
             skipped,
             nameless,
             entries: entry_count(&chosen),
+            survivors: 0,
+            early: 0,
+            late: 0,
+            keys: 0,
+            layers: 0,
         };
-        Ok((counts, scans, chosen))
-    }
-
-    /// Returns the report of these counts, with the numbers of early updates, survivors, keys and layers.
-    pub fn report(self, early: u128, survivors: u128, keys: u128, layers: u64) -> Report
-        requires { HasRoomFor self early survivors }
-        ensures { result ≡ report_of self early survivors keys layers }
-    {
-        let updates = self.records - self.marks;
-        let late = updates - early - (survivors - self.entries);
-        Report {
-            logs: self.logs,
-            writers: self.writers,
-            records: self.records,
-            marks: self.marks,
-            torn: self.torn,
-            ends: self.ends,
-            last: self.last,
-            version: self.version,
-            cutoff: self.cutoff,
-            checkpoint: self.checkpoint,
-            begin: self.begin,
-            skipped: self.skipped,
-            nameless: self.nameless,
-            entries: self.entries,
-            survivors,
-            early,
-            late,
-            keys,
-            layers,
-        }
+        Ok((report, chosen))
     }
 }
 
@@ -168,18 +120,9 @@ pub(crate) fn total<T, F: Fn(&T) -> u64>(items: &[T], number: F) -> u128
 
 /// Returns where the complete records of each scanned log end. Err: out of memory.
 fn ends_of(alloc: Global, scans: &[LogScan]) -> Result<Vec<u64>, Memory>
-    ensures { IfOk result (λ ends. ends.items ≡ map (λ scan. scan.end) scans.now) }
+    ensures { IfOk result (λ ends. ends.items ≡ map (λ scan. scan.front.bytes) scans.now) }
 {
-    Ok(scans.iter().map(|scan| scan.end).collect(alloc)?)
-}
-
-/// Returns the greatest timestamp of the scanned logs, or None if there is no log.
-fn last_of(scans: &[LogScan]) -> Option<u64>
-    ensures found { (logs : List LogReading) → HaveNumbersOf scans.now logs →
-        IfSome result (IsGreatestOf (flat_map times_of logs)) }
-    ensures none { IfNone result (scans.now ≡ []) }
-{
-    scans.iter().map(|scan| scan.last).max()
+    Ok(scans.iter().map(|scan| scan.front.bytes).collect(alloc)?)
 }
 
 /// Returns the greatest version of the scanned logs and of the entries of the checkpoint, or 0 if there is none.
@@ -187,7 +130,7 @@ fn version_of(scans: &[LogScan], chosen: &Option<Checkpoint>) -> u64
     ensures { (logs : List LogReading) → HaveNumbersOf scans.now logs →
         result ≡ greatest (all_versions logs (option_map checkpoint_in chosen.now)) }
 {
-    let logged = greatest_of(scans, |scan| scan.version);
+    let logged = greatest_of(scans, |scan| scan.front.version);
     match chosen {
         Some(checkpoint) => logged.max(version_of_parts(&checkpoint.parts)),
         None => logged,

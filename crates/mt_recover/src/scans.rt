@@ -4,9 +4,9 @@ ghost use Rattle.std.specs.Prelude.{◌≡◌, ◌<◌, ◌≤◌, ◌++◌, [],
 ghost use Rattle.std.specs.Vec.Iter.{into_iter_items};
 ghost use Rattle.mt_board.specs.Board.{nothing_noted};
 ghost use Rattle.mt_recover.specs.Steps.Outcomes.{AreOutcomes, in_memory, read_parts};
-ghost use Rattle.mt_recover.specs.Steps.Scanning.{AreGathered, HasScanned, IsFresh, numbered, log_jobs, part_jobs, log_in, part_in, logs_in, part_scans_in, passes_of, AreDealt};
+ghost use Rattle.mt_recover.specs.Steps.Scanning.{AreGathered, HasScanned, IsFresh, log_jobs, part_jobs, log_in, part_in, logs_in, part_scans_in, AreDealt};
 
-use crate::by_workers::{all_done, close, deal, gather, in_turn, on_threads};
+use crate::by_workers::{all_done, close, deal, gather, in_turn, on_threads, unzip};
 use crate::{Inputs, Workers};
 use mt_board::{Board, Pass};
 use mt_scan::{LogScan, PartScan, Source, scan_bytes, scan_part, scan_shared};
@@ -39,19 +39,11 @@ impl Outcomes {
     }
 }
 
-/// The kind of a source: a log or a part.
-#[derive(Clone, Copy)]
-pub(crate) enum Kind {
-    Log,
-    Part,
-}
-
-/// A source to scan, or its check, with the kind and the number of its log or part.
+/// A source to scan, with the number of its log or part.
 #[derive(Drop)]
-pub(crate) struct ScanJob<S> {
-    pub kind: Kind,
-    pub number: usize,
-    pub source: S,
+enum ScanJob<S> {
+    Log(usize, S),
+    Part(usize, S),
 }
 
 /// The answer of the scan of a source.
@@ -62,18 +54,10 @@ enum Scanned {
 }
 
 /// The sources that a worker scans, and its pass to the board of all scans.
-#[derive(Drop)]
-struct Share<S> {
-    jobs: VecDeque<ScanJob<S>>,
-    pass: Pass,
-}
+type Share<S> = (VecDeque<ScanJob<S>>, Pass);
 
 /// The answers of a worker's scans, and its pass.
-#[derive(Drop)]
-struct Scans {
-    answers: IntoIter<Scanned>,
-    pass: Pass,
-}
+type Scans = (IntoIter<Scanned>, Pass);
 
 /// Scans the logs and then the parts, one after the other. Drops each source after its scan. Reads nothing if there is
 /// no log. Drops the updates of a log at or past the least last timestamp of the logs scanned before it.
@@ -134,30 +118,15 @@ fn jobs_of<S: Drop>(alloc: Global, inputs: Inputs<S>) -> Result<Vec<ScanJob<S>>,
     if logs.is_empty() {
         return Ok(Vec::new(alloc));
     }
-    let mut jobs = number_all(alloc, Kind::Log, logs)?;
-    let mut others = number_all(alloc, Kind::Part, parts)?;
-    jobs.append(&mut others)?;
-    Ok(jobs)
-}
-
-/// Returns the jobs of sources of this kind, numbered from 0.
-pub(crate) fn number_all<S: Drop>(
-    alloc: Global,
-    kind: Kind,
-    sources: Vec<S>,
-) -> Result<Vec<ScanJob<S>>, Memory>
-    ensures { IfOk result (λ jobs. jobs.items ≡ numbered kind 0 sources.items) }
-{
-    let mut jobs = Vec::with_capacity(alloc, sources.len())?;
-    for source in sources {
-        let number = jobs.len();
-        jobs.push(ScanJob {
-            kind,
-            number,
-            source,
-        })?;
-    }
-    Ok(jobs)
+    let logs = logs
+        .into_iter()
+        .enumerate()
+        .map(|(number, source)| ScanJob::Log(number, source));
+    let parts = parts
+        .into_iter()
+        .enumerate()
+        .map(|(number, source)| ScanJob::Part(number, source));
+    Ok(logs.chain(parts).collect(alloc)?)
 }
 
 /// Deals the jobs into shares, at most one for each worker, and gives each share a pass to a new board.
@@ -166,8 +135,8 @@ fn share_out<S: Drop>(
     jobs: Vec<ScanJob<S>>,
     workers: u32,
 ) -> Result<(Board, Vec<Share<S>>), Memory>
-    ensures dealt { IfOk result (λ shared. AreDealt jobs.items (map (λ share. share.jobs.items) shared.1.items)) }
-    ensures fresh { IfOk result (λ shared. All (λ share. IsFresh shared.0 share.pass) shared.1.items) }
+    ensures dealt { IfOk result (λ shared. AreDealt jobs.items (map (λ share. share.0.items) shared.1.items)) }
+    ensures fresh { IfOk result (λ shared. All (λ share. IsFresh shared.0 share.1) shared.1.items) }
     ensures some { IfOk result (λ shared. 0 < length shared.1.items) }
     ensures few { IfOk result (λ shared. length shared.1.items ≤ max 1 workers) }
     ensures many { IfOk result (λ shared. shared.0.passes ≡ length shared.1.items) }
@@ -176,41 +145,21 @@ fn share_out<S: Drop>(
     let Ok((board, passes)) = Board::open(alloc, 0, dealt.len() as u32) else {
         return Err(Memory);
     };
-    let shares = with_passes(alloc, dealt, passes)?;
+    let shares = dealt.into_iter().zip(passes).collect(alloc)?;
     Ok((board, shares))
-}
-
-/// Returns the shares of these jobs, each with a pass.
-fn with_passes<S: Drop>(
-    alloc: Global,
-    dealt: Vec<VecDeque<ScanJob<S>>>,
-    passes: Vec<Pass>,
-) -> Result<Vec<Share<S>>, Memory>
-    requires { length dealt.items ≡ length passes.items }
-    ensures jobs { IfOk result (λ shares. map (λ share. share.jobs) shares.items ≡ dealt.items) }
-    ensures passes { IfOk result (λ shares. map (λ share. share.pass) shares.items ≡ passes.items) }
-{
-    let mut shares = Vec::new(alloc);
-    for (jobs, pass) in dealt.into_iter().zip(passes) {
-        shares.push(Share { jobs, pass })?;
-    }
-    Ok(shares)
 }
 
 /// Scans the sources of a share, one after the other.
 fn scan_jobs<S: Source>(alloc: Global, board: &Board, share: Share<S>) -> Result<Scans, Memory>
-    requires { IsFresh board.now share.pass }
-    ensures { IfOk result (λ scans. HasScanned S.seen share.jobs.items (into_iter_items scans.answers) share.pass scans.pass) }
+    requires { IsFresh board.now share.1 }
+    ensures { IfOk result (λ scans. HasScanned S.seen share.0.items (into_iter_items scans.0) share.1 scans.1) }
 {
-    let Share { jobs, mut pass } = share;
+    let (jobs, mut pass) = share;
     let mut answers = Vec::with_capacity(alloc, jobs.len())?;
     for job in Vec::from(jobs) {
         answers.push(scan(alloc, job, board, &mut pass))?;
     }
-    Ok(Scans {
-        answers: answers.into_iter(),
-        pass,
-    })
+    Ok((answers.into_iter(), pass))
 }
 
 /// Scans the source of a job.
@@ -219,40 +168,23 @@ fn scan<S: Source>(alloc: Global, job: ScanJob<S>, board: &Board, pass: &mut Pas
     requires noted { pass.old.noted ≤ nothing_noted }
     ensures { HasScanned S.seen (job ∷ []) (result ∷ []) pass.old pass.new }
 {
-    let ScanJob {
-        kind,
-        number,
-        mut source,
-    } = job;
-    match kind {
-        Kind::Log => Scanned::Log(scan_shared(alloc, &mut source, number, board, pass)),
-        Kind::Part => Scanned::Part(scan_part(alloc, &mut source, number)),
+    match job {
+        ScanJob::Log(number, mut source) => {
+            Scanned::Log(scan_shared(alloc, &mut source, number, board, pass))
+        }
+        ScanJob::Part(number, mut source) => Scanned::Part(scan_part(alloc, &mut source, number)),
     }
 }
 
 /// Gathers the answers of all workers, and closes the board.
 fn gather_scans(alloc: Global, board: Board, scans: Vec<Scans>) -> Result<Outcomes, Memory>
     requires some { 0 < length scans.items }
-    requires boards { All (λ scans. scans.pass.board ≡ board) scans.items }
-    ensures { IfOk result (AreGathered board scans.items) }
+    requires boards { All (λ scans. scans.1.board ≡ board) scans.items }
+    ensures { IfOk result (AreGathered board (map (λ scans. into_iter_items scans.0) scans.items) (map (λ scans. scans.1) scans.items)) }
 {
-    let (passes, answers) = split(alloc, scans)?;
+    let (answers, passes) = unzip(alloc, scans)?;
     close(board, passes);
     outcomes_of(alloc, gather(alloc, answers)?)
-}
-
-/// Splits the scans of workers into their passes and their answers.
-fn split(alloc: Global, scans: Vec<Scans>) -> Result<(Vec<Pass>, Vec<IntoIter<Scanned>>), Memory>
-    ensures passes { IfOk result (λ split. split.0.items ≡ passes_of scans.items) }
-    ensures answers { IfOk result (λ split. split.1.items ≡ map (λ scans. scans.answers) scans.items) }
-{
-    let mut passes = Vec::new(alloc);
-    let mut answers = Vec::new(alloc);
-    for one in scans {
-        passes.push(one.pass)?;
-        answers.push(one.answers)?;
-    }
-    Ok((passes, answers))
 }
 
 /// Separates the answers of logs from those of parts.

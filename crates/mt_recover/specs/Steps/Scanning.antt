@@ -1,19 +1,16 @@
 -- How jobs are shared out among workers, and how sources are scanned by workers, each with a pass to the board that the scans share.
 use Rattle.std.specs.Prelude.{◌≡◌, ℕ, suc, ◌≤◌, min, Option, Some, None, List, [], ◌∷◌, ◌++◌, length, map, Result, Ok, Err}
-use Rattle.std.specs.List.{AllByRecursion, AllZip, filter_map}
-use Rattle.std.specs.Vec.Iter.{into_iter_items}
+use Rattle.std.specs.List.{AllByRecursion, AllZip, enumerate_from, filter_map}
 use Rattle.mt_words.specs.declared.fault.Fault.{Fault}
 use Rattle.mt_scan.specs.declared.log_scan.LogScan.{LogScan}
 use Rattle.mt_scan.specs.declared.part_scan.PartScan.{PartScan}
 use Rattle.mt_scan.specs.Sources.{Seen}
 use Rattle.mt_board.specs.Board.{BoardId, PassView, fresh_pass, least_of, least_noted, SawNoneBelow}
-use Rattle.mt_recover.specs.declared.scans.Kind.{Kind}
-use Rattle.mt_recover.specs.declared.scans.Kind.TheVariants as kinds
 use Rattle.mt_recover.specs.declared.scans.Outcomes.{Outcomes}
 use Rattle.mt_recover.specs.declared.scans.ScanJob.{ScanJob}
+use Rattle.mt_recover.specs.declared.scans.ScanJob.TheVariants as jobs
 use Rattle.mt_recover.specs.declared.scans.Scanned.{Scanned}
 use Rattle.mt_recover.specs.declared.scans.Scanned.TheVariants as scanned
-use Rattle.mt_recover.specs.declared.scans.Scans.{Scans}
 use Rattle.mt_recover.specs.Steps.Outcomes.{IsLogOutcome, IsPartOutcome, lasts}
 
 -- ---- jobs that are shared out
@@ -34,29 +31,20 @@ pub record IsFirstErr {X E : Type 0} (answers : List (Result X E)) (err : E) : T
 
 -- ---- one list of jobs
 
--- the jobs of sources of this kind, numbered from this number on
-abbrev pub numbered : {S : Type 0} → Kind → ℕ → List S → List (ScanJob S)
-numbered kind number [] = []
-numbered kind number (source ∷ sources) = record { kind = kind; number = number; source = source } ∷ numbered kind (suc number) sources
-
--- the jobs of logs
+-- the jobs of logs, numbered from this number on
 abbrev pub log_jobs : {S : Type 0} → ℕ → List S → List (ScanJob S)
-log_jobs = numbered kinds.Log
+log_jobs number sources = map (λ numbered. jobs.Log numbered.0 numbered.1) (enumerate_from number sources)
 
--- the jobs of parts
+-- the jobs of parts, numbered from this number on
 abbrev pub part_jobs : {S : Type 0} → ℕ → List S → List (ScanJob S)
-part_jobs = numbered kinds.Part
-
--- the answer of the scan of a source of this kind
-abbrev pub IsOutcome : ℕ → Kind → ℕ → Seen → Scanned → Type 0
-IsOutcome limit kinds.Log log seen (scanned.Log outcome) = IsLogOutcome limit log seen outcome
-IsOutcome limit kinds.Part part seen (scanned.Part outcome) = IsPartOutcome part seen outcome
-IsOutcome limit kinds.Log log seen (scanned.Part outcome) = ⊥
-IsOutcome limit kinds.Part part seen (scanned.Log outcome) = ⊥
+part_jobs number sources = map (λ numbered. jobs.Part numbered.0 numbered.1) (enumerate_from number sources)
 
 -- the answer of the scan of a job's source, which dropped no update below `limit`
 abbrev pub IsScanned : {S : Type 0} → (S → Seen) → ℕ → ScanJob S → Scanned → Type 0
-IsScanned seen limit job answer = IsOutcome limit job.kind job.number (seen job.source) answer
+IsScanned seen limit (jobs.Log log source) (scanned.Log outcome) = IsLogOutcome limit log (seen source) outcome
+IsScanned seen limit (jobs.Part part source) (scanned.Part outcome) = IsPartOutcome part (seen source) outcome
+IsScanned seen limit (jobs.Log log source) (scanned.Part outcome) = ⊥
+IsScanned seen limit (jobs.Part part source) (scanned.Log outcome) = ⊥
 
 abbrev pub log_in : Scanned → Option (Result LogScan Fault)
 log_in (scanned.Log outcome) = Some outcome
@@ -88,16 +76,8 @@ pub record HasScanned {S : Type 0} (seen : S → Seen) (jobs : List (ScanJob S))
   pub falls : least_of after.looks ≤ least_of before.looks
   pub answered : AllZip (IsScanned seen (least_of after.looks)) jobs answers
 
--- the answers of a worker's scans
-abbrev pub answers_of : Scans → List Scanned
-answers_of scans = into_iter_items scans.answers
-
--- the passes of workers
-abbrev pub passes_of : List Scans → List PassView
-passes_of all = map (λ scans. scans.pass) all
-
 -- the answers of all workers were gathered in the order of the jobs, and the board was closed
-pub record AreGathered (board : BoardId) (all : List Scans) (outcomes : Outcomes) : Type 0 where
-  pub logs : (answers : List Scanned) → AreDealt answers (map answers_of all) → outcomes.logs.items ≡ logs_in answers
-  pub parts : (answers : List Scanned) → AreDealt answers (map answers_of all) → outcomes.parts.items ≡ part_scans_in answers
-  pub saw : board.passes ≤ length all → SawNoneBelow (least_noted (passes_of all)) (passes_of all)
+pub record AreGathered (board : BoardId) (dealt : List (List Scanned)) (passes : List PassView) (outcomes : Outcomes) : Type 0 where
+  pub logs : (answers : List Scanned) → AreDealt answers dealt → outcomes.logs.items ≡ logs_in answers
+  pub parts : (answers : List Scanned) → AreDealt answers dealt → outcomes.parts.items ≡ part_scans_in answers
+  pub saw : board.passes ≤ length passes → SawNoneBelow (least_noted passes) passes

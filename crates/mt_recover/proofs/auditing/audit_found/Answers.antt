@@ -12,9 +12,8 @@ use Rattle.mt_recover.proofs.auditing.audit_found.Goals as goal
 pub returns : goal.returns
 returns g c = λ logs parts is.
     let lists = c.in_ok-lists.lists.items in
-    let moved = subst (λ (us : List Update). IsPermutation us (joined lists)) (ap (kept_in_window c.args.found.window) c.deref.ensures.value ∙ same_logged logs parts c.args.found is) c.in_ok-lists.ensures in
+    let moved = subst (λ (us : List Update). IsPermutation us (joined lists)) (ap (kept_in_window c.args.found.start.window) c.deref.ensures.value ∙ same_logged logs parts c.args.found is) c.in_ok-lists.ensures in
     IfOk-weaker c.all_clashes.result _ _ (λ clashes are. record {
-      facts = is.facts;
-      no_gap = is.no_gap;
+      basis = is.start.basis;
       exact = moved_clashes _ (joined lists) clashes.items moved (subst (λ (us : List (List Update)). AreClashes (joined us) clashes.items) c.deref-3.ensures.value are);
     }) c.all_clashes.ensures

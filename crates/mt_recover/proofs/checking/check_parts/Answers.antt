@@ -1,9 +1,8 @@
 use Rattle.std.proofs.lemmas.Result.{IfOk-weaker}
 use Rattle.mt_recover.specs.Check.{IsPartOutcome}
-use Rattle.mt_recover.specs.declared.scans.Kind.TheVariants as kinds
 use Rattle.mt_recover.proofs.CheckLemmas.{all_numbered}
 use Rattle.mt_recover.proofs.checking.check_parts.Goals as goal
 
 pub returns : goal.returns
 returns g c =
-    IfOk-weaker c.by_workers.result _ _ (λ answers all. all_numbered IsPartOutcome g.S.Source.seen kinds.Part 0 c.args.parts.items answers.items (rw c.in_ok-number_all.ensures at all)) c.by_workers.ensures
+    IfOk-weaker c.by_workers.result _ _ (λ answers all. all_numbered IsPartOutcome g.S.Source.seen 0 c.args.parts.items answers.items (rw c.in_ok-numbered.ensures at all)) c.by_workers.ensures

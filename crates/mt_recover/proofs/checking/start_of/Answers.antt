@@ -16,4 +16,4 @@ returns-in_err-logs-clause-fault c limit logs parts are all =
 
 pub returns-clause-start : goal.returns-clause-start
 returns-clause-start c limit logs parts are all =
-    c.in_ok-window.ensures.start 0 logs parts (record { logs_are = c.in_ok-logs.ensures limit logs are; parts_are = parts_read limit logs parts c.args.checks.items c.args.parts.items (some_if_not c.args.checks.items _ c.is_empty.result c.args.checks.ok.0 c.is_empty.ensures c.if-is_empty.false) are all })
+    c.in_ok-find.ensures.start 0 logs parts (record { logs_are = c.in_ok-logs.ensures limit logs are; parts_are = parts_read limit logs parts c.args.checks.items c.args.parts.items (some_if_not c.args.checks.items _ c.is_empty.result c.args.checks.ok.0 c.is_empty.ensures c.if-is_empty.false) are all })

@@ -13,7 +13,7 @@ pub returns-in-Some : goal.returns-in-Some
 returns-in-Some c =
     let scans = c.args.scans.now in
     let entries = entries_of (shown_by_all c.in-Some.checkpoint.parts.items) in
-    let logged : c.greatest_of-logged.result ≡ greatest (map (λ (scan : LogScan). scan.version) scans) = c.greatest_of-logged.ensures (λ (scan : LogScan). scan.version) (λ x n e. search rules) in
+    let logged : c.greatest_of-logged.result ≡ greatest (map (λ (scan : LogScan). scan.front.version) scans) = c.greatest_of-logged.ensures (λ (scan : LogScan). scan.front.version) (λ x n e. search rules) in
     let kept : c.version_of_parts.result ≡ greatest (entry_versions entries) = c.version_of_parts.ensures ∙ ap (λ (parts : List KeptPart). greatest (entry_versions (entries_of (shown_by_all parts)))) c.deref.ensures.value in
     rw c.in-Some.is (λ logs numbers.
     let both = greatest_both (logged_updates logs) (wholes entries) in
@@ -22,7 +22,7 @@ returns-in-Some c =
 pub returns-in-None : goal.returns-in-None
 returns-in-None c =
     let scans = c.args.scans.now in
-    let logged : c.greatest_of-logged.result ≡ greatest (map (λ (scan : LogScan). scan.version) scans) = c.greatest_of-logged.ensures (λ (scan : LogScan). scan.version) (λ x n e. search rules) in
+    let logged : c.greatest_of-logged.result ≡ greatest (map (λ (scan : LogScan). scan.front.version) scans) = c.greatest_of-logged.ensures (λ (scan : LogScan). scan.front.version) (λ x n e. search rules) in
     rw c.in-None.is (λ logs numbers.
     let both = greatest_both (logged_updates logs) [] in
     omega (arith, logged, of_scans 0 scans logs numbers, both))

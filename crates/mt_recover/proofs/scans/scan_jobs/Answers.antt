@@ -7,5 +7,5 @@ loop-job-preserved g c =
     let I = c.loop-job.invariant in
     record {
       rest = rw append_assoc (rw c.in-Some.ensures.steps.0 at I.rest);
-      has = rw c.in_ok-push.ensures.items (scanned_next g.S.Source.seen c.loop-job.yielded c.in-Some.job c.loop-job.answers.items c.scan.result c.args.share.pass c.loop-job.pass c.scan.new.pass I.has c.scan.ensures);
+      has = rw c.in_ok-push.ensures.items (scanned_next g.S.Source.seen c.loop-job.yielded c.in-Some.job c.loop-job.answers.items c.scan.result c.args.share.1 c.loop-job.pass c.scan.new.pass I.has c.scan.ensures);
     }

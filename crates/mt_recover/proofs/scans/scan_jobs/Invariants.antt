@@ -6,6 +6,6 @@ use Rattle.mt_recover.proofs.scans.scan_jobs.Given as goal
 -- the first sources are scanned
 abbrev pub invariant-loop-job : goal.invariant-loop-job
 invariant-loop-job g l = record {
-  rest : l.yielded ++ into_iter_items l.job-iterator ≡ l.fn.share.jobs.items;
-  has : HasScanned g.S.Source.seen l.yielded l.answers.items l.fn.share.pass l.pass;
+  rest : l.yielded ++ into_iter_items l.job-iterator ≡ l.fn.share.0.items;
+  has : HasScanned g.S.Source.seen l.yielded l.answers.items l.fn.share.1 l.pass;
 }

@@ -1,43 +1,77 @@
-use Rattle.std.proofs.Common.{rules, ◌≡◌, ◌++◌, ℕ, List, length, ◌∙◌, sym, ap, subst}
-use Rattle.std.proofs.lemmas.List.{map-id}
-use Rattle.std.proofs.lemmas.Iterator.Consumers.{YieldsList-end}
-use Rattle.std.proofs.lemmas.Iterator.Adapters.{YieldsList-from_vec}
+use Rattle.std.proofs.Common.{rules, ◌≡◌, ◌∙◌, ◌++◌, ◌-◌, ◌≤◌, ℕ, List, [], ◌∷◌, length, map, refl, sym, ap, subst, arith}
+use Rattle.std.specs.Prelude.{sum_by, IsPermutation}
+use Rattle.std.proofs.lemmas.List.Concat.{length-flat_map}
+use Rattle.std.proofs.lemmas.List.Sorted.{length_permutation}
+use Rattle.std.proofs.lemmas.List.Sums.{sum_by-cons}
 use Rattle.mt_words.specs.declared.update.Update.{Update}
 use Rattle.mt_words.specs.Walks.{joined}
-use Rattle.mt_replay.specs.Cells.{AreApart}
 use Rattle.mt_recover.specs.Prepared.{IsPreparedOf}
-use Rattle.mt_recover.specs.Steps.Preparing.{HasRoomFor, cells_of, early_of}
-use Rattle.mt_recover.proofs.Preparing.{are_apart, have_room, is_prepared}
+use Rattle.mt_recover.specs.Steps.Preparing.{cells_of, early_of, IsFoundOf}
+use Rattle.mt_recover.proofs.CountLemmas.{survivors_in, early_in, late_in, AddsUp, adds_up, report_is}
+use Rattle.mt_recover.proofs.Preparing.{apart_left, updates_are, early_is}
 use Rattle.mt_recover.proofs.prepared.Prepared.of.Goals as goal
+use Rattle.mt_recover.proofs.prepared.Prepared.of.Goals.{After-total-survivors}
 
--- the lists are the cells of all logs and of all parts
-lists_are : (c : goal.In_ok-append) → c.append.new.self.items ≡ cells_of c.in_ok-logs.logs.items ++ c.in_ok-parts.parts.items
+-- the lists are what the logs left and the entries
+lists_are : (c : After-total-survivors) → c.append.new.self.items ≡ cells_of c.in_ok-logs.logs.items ++ c.in_ok-entries.entries.items
 lists_are c =
-    let g = c.into_iter-log-iterator.ensures.into_iter_gives in
-    let seen = YieldsList-end (YieldsList-from_vec {s = c.into_iter-log-iterator.result} c.in_ok-logs.logs.items g.0 (g.1 ∙ c.in_ok-logs.logs.ok.0)) c.loop-log.yielded c.loop-log.log-iterator c.loop-log.yielded_by c.next.result c.next.new.self c.in-None.is c.next.ensures.steps in
-    let all : c.loop-log.yielded ≡ c.in_ok-logs.logs.items = sym (map-id c.loop-log.yielded) ∙ seen.0 in
-    c.in_ok-append.ensures.items ∙ ap (λ (cells : List (List Update)). cells ++ c.in_ok-parts.parts.items) (c.loop-log.invariant ∙ ap cells_of all)
+    c.in_ok-append.ensures.items ∙ ap (λ (ls : List (List Update)). ls ++ c.in_ok-entries.entries.items) c.in_ok-early.ensures.seconds
 
-early_is : (c : goal.In_ok-append) → c.total-early.result ≡ early_of c.in_ok-logs.logs.items
-early_is c = search rules
+-- the early updates are counted batch by batch
+sums : (logs : List (ℕ × List Update)) → sum_by (λ (n : ℕ). n) (map (λ left. left.0) logs) ≡ early_of logs
+sums [] = refl
+sums (l ∷ ls) = omega (arith, sum_by-cons (λ (n : ℕ). n) l.0 (map (λ left. left.0) ls), sum_by-cons (λ (left : ℕ × List Update). left.0) l ls, sums ls)
+
+early_are : (c : After-total-survivors) → c.total-early.result ≡ early_of c.in_ok-logs.logs.items
+early_are c =
+    c.total-early.ensures (λ n. n) (λ x n e. search rules) ∙ ap (sum_by (λ (n : ℕ). n)) (c.deref.ensures.value ∙ c.in_ok-early.ensures.firsts) ∙ sums c.in_ok-logs.logs.items
+
+-- the survivors are the updates of all lists
+survivors_are : (c : After-total-survivors) → c.total-survivors.result ≡ length (joined c.append.new.self.items)
+survivors_are c =
+    c.total-survivors.ensures (λ (updates : List Update). length updates) (λ x n e. search rules)
+    ∙ ap (sum_by (λ (updates : List Update). length updates)) c.deref-2.ensures.value
+    ∙ sym (length-flat_map (λ (updates : List Update). updates) c.append.new.self.items)
+
+-- the lists have what survives
+updates : (c : After-total-survivors) (ls ps : List (List ℕ)) (is : IsFoundOf ls ps c.args.found) → IsPermutation (survivors_in is.start.basis.facts) (joined c.append.new.self.items)
+updates c ls ps is =
+    subst (λ (lists : List (List Update)). IsPermutation (survivors_in is.start.basis.facts) (joined lists)) (sym (lists_are c))
+    (updates_are ls ps c.args.found is c.args.logs.items c.requires.left c.in_ok-logs.logs.items c.in_ok-entries.entries.items c.in_ok-logs.ensures.done (c.in_ok-entries.ensures ∙ rw c.in_ok-report.ensures.chosen refl))
+
+-- and they are counted
+many : (c : After-total-survivors) (ls ps : List (List ℕ)) (is : IsFoundOf ls ps c.args.found) → c.total-survivors.result ≡ length (survivors_in is.start.basis.facts)
+many c ls ps is = survivors_are c ∙ length_permutation (survivors_in is.start.basis.facts) (joined c.append.new.self.items) (updates c ls ps is)
+
+early : (c : After-total-survivors) (ls ps : List (List ℕ)) (is : IsFoundOf ls ps c.args.found) → c.total-early.result ≡ length (early_in is.start.basis.facts)
+early c ls ps is =
+    early_are c ∙ early_is ls ps c.args.found is c.args.logs.items c.requires.left c.in_ok-logs.logs.items c.in_ok-entries.entries.items c.in_ok-logs.ensures.done (c.in_ok-entries.ensures ∙ rw c.in_ok-report.ensures.chosen refl)
+
+-- so the report has room for them
+adds : (c : After-total-survivors) → (late : ℕ) × AddsUp c.in_ok-report.report c.total-early.result c.total-survivors.result late
+adds c =
+    let found = c.requires.found in
+    let facts = found.2.start.basis.facts in
+    (length (late_in facts), rw (early c found.0 found.1 found.2, many c found.0 found.1 found.2) (adds_up facts c.in_ok-report.report (c.in_ok-report.ensures.report found.0 found.1 found.2)))
+
+pub overflow_sub-late : goal.overflow_sub-late
+overflow_sub-late c = (adds c.before).1.marks
+
+pub overflow_sub-late-2 : goal.overflow_sub-late-2
+overflow_sub-late-2 c = let a = (adds c.before).1 in omega (arith, a.marks, a.entries, a.all)
+
+pub overflow_sub-late-3 : goal.overflow_sub-late-3
+overflow_sub-late-3 c = (adds c.before.before).1.entries
+
+pub overflow_sub-late-4 : goal.overflow_sub-late-4
+overflow_sub-late-4 c = let a = (adds c.before.before).1 in omega (arith, a.marks, a.entries, a.all)
 
 pub invariant_of-result : goal.invariant_of-result
-invariant_of-result c =
-    let logs = c.in_ok-logs.logs.items in
-    let parts = c.in_ok-parts.parts.items in
-    let found = c.requires in
-    let is = found.1 in
-    let room = have_room is.0 is.1 found.0 is.2 c.args.counts c.args.logs.items c.args.chosen found.2 logs parts c.in_ok-logs.ensures.done (c.in_ok-parts.ensures ∙ sym c.parts_of.ensures.entries) in (
-      subst (λ (ls : List (List Update)). AreApart (joined ls)) (sym (lists_are c))
-          (are_apart is.0 is.1 found.0 is.2 c.args.counts c.args.logs.items c.args.chosen found.2 logs parts c.in_ok-logs.ensures.done (c.in_ok-parts.ensures ∙ sym c.parts_of.ensures.entries)),
-      subst (λ (n : ℕ). HasRoomFor c.args.counts n (length (joined c.append.new.self.items))) (sym (early_is c))
-          (subst (λ (ls : List (List Update)). HasRoomFor c.args.counts (early_of logs) (length (joined ls))) (sym (lists_are c)) room),
-    )
+invariant_of-result c = let found = c.requires.found in (apart_left found.0 found.1 c.args.found found.2 _ (updates c.before.before found.0 found.1 found.2), survivors_are c.before.before, c.total-survivors.type_inv)
 
 pub returns : goal.returns
-returns c = λ ls ps found is are.
-    let logs = c.in_ok-logs.logs.items in
-    let parts = c.in_ok-parts.parts.items in
-    let prepared = is_prepared ls ps found is c.args.counts c.args.logs.items c.args.chosen are logs parts c.in_ok-logs.ensures.done (c.in_ok-parts.ensures ∙ sym c.parts_of.ensures.entries) in
-    subst (λ (lists : List (List Update)). IsPreparedOf ls ps (record { updates = joined lists; early = c.total-early.result; counts = c.args.counts })) (sym (lists_are c.before))
-    (subst (λ (n : ℕ). IsPreparedOf ls ps (record { updates = joined (cells_of logs ++ parts); early = n; counts = c.args.counts })) (sym (early_is c.before)) prepared)
+returns c = λ ls ps is. record {
+  basis = is.start.basis;
+  updates = updates c.before.before.before.before ls ps is;
+  report = λ pairs layers count. report_is is.start.basis.facts c.in_ok-report.report pairs c.total-survivors.result c.total-early.result layers (c.in_ok-report.ensures.report ls ps is) (many c.before.before.before.before ls ps is) (early c.before.before.before.before ls ps is) count;
+}
