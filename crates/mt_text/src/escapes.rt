@@ -26,7 +26,7 @@ enum State {
 /// Returns the bytes of a text with the escapes `\n`, `\r`, `\t`, `\0`, `\\`, `\"`, `\'`, and `\x00` to `\xff`. None: it has
 /// another escape. Err: out of memory.
 pub fn unescape(alloc: Global, text: &str) -> Result<Option<Vec<u8>>, AllocError> {
-    let mut bytes = Vec::with_capacity(alloc, text.len())?;
+    let mut bytes = Vec::new(alloc);
     let mut state = State::Outside;
     for byte in text.as_bytes() {
         state = match step(state, *byte, &mut bytes)? {

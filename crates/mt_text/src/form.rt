@@ -21,6 +21,14 @@ impl Form {
         !self.is_json && !self.is_text
     }
 
+    /// Returns the printer of pairs in this form, with all columns.
+    pub fn printer(self) -> Printer {
+        Printer {
+            form: self,
+            wanted: Wanted::all(),
+        }
+    }
+
     /// Prints that a key is absent. Err: write error.
     pub fn write_absent<W: Write>(self, out: &mut W) -> io::Result<()> {
         out.write_all(if self.is_json { b"null\n" } else { b"absent\n" })
