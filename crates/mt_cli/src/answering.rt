@@ -2,18 +2,16 @@
 ghost use Rattle.std.specs.Prelude.{◌≤◌};
 
 use crate::caveat::{Caveat, Losses};
-use crate::explaining::with_reason;
-use crate::failure::tell;
+use crate::failure::tell_outcome;
 use crate::file_names::Names;
 use crate::request::{Folder, Query, StoreQuery};
 use mt_recover::{
-    Clash, Cutting, Failure, Inputs, NoGate, Pieces, Recovered, Refusal, Report, Store, Wanted,
-    Workers, audit, recover, write_dump,
+    Clash, Cutting, Failure, Inputs, NoGate, Pieces, Recovered, Refusal, Report, Store, Workers,
+    audit, recover, write_dump,
 };
 use mt_scan::Source;
 use mt_text::{Fields, Form, Printer, write_hex};
 use mt_words::Key;
-use std::alloc::Global;
 use std::fs::Files;
 use std::io::{self, BufWriter, Write};
 use std::mem;
@@ -33,14 +31,8 @@ pub fn answer<R: AllocGlobal + Files + Threads + Sync, S: Source + Send, O: Writ
 ) -> u8
     ensures status { result ≤ 4 }
 {
-    match answer_query(rt, folder.workers, query, inputs, out) {
-        Ok(None) => 0,
-        Ok(Some(caveat)) => caveat.tell(err),
-        Err(refusal) => {
-            let refusal = with_reason(rt, folder.path, names, refusal);
-            tell(&refusal, folder.is_verbose.then_some(names), err)
-        }
-    }
+    let outcome = answer_query(rt, folder.workers, query, inputs, out);
+    tell_outcome(rt, folder, names, outcome, err)
 }
 
 /// Recovers the store or audits the logs, and prints what the query asks for.
@@ -57,8 +49,8 @@ fn answer_query<R: AllocGlobal + Threads + Sync, S: Source + Send, O: Write>(
     }
 }
 
-/// Recovers the store, and prints what the query asks for. The store is not freed: the process ends with its answer, and
-/// freeing a large store key by key takes a tenth of the time of its recovery.
+/// Recovers the store, and prints what the query asks for, through a buffer. The store is not freed: the process ends with
+/// its answer, and freeing a large store key by key takes a tenth of the time of its recovery.
 fn recover_and_print<R: AllocGlobal + Threads + Sync, S: Source + Send, O: Write>(
     rt: &R,
     inputs: Inputs<S>,
@@ -69,12 +61,17 @@ fn recover_and_print<R: AllocGlobal + Threads + Sync, S: Source + Send, O: Write
 ) -> Result<Option<Caveat>, Refusal<'static>> {
     let cutting = Cutting::Sampled(pieces);
     let recovered = recover(rt, rt.alloc(), inputs, workers, cutting, &NoGate)?;
-    let caveat = print_all(rt.alloc(), &recovered, query, out)?;
+    let mut out = BufWriter::with_capacity(rt.alloc(), PRINTED_AT_ONCE, out)?;
+    let caveat = print(&recovered, query, &mut out)?;
+    out.flush()?;
     mem::forget(recovered);
     Ok(caveat)
 }
 
-/// Audits the logs, and prints the line of each clash.
+/// The size of the output buffer in bytes.
+pub const PRINTED_AT_ONCE: usize = 65_536;
+
+/// Audits the logs, and prints the line of each clash, through a buffer.
 fn audit_and_print<R: AllocGlobal + Threads + Sync, S: Source + Send, O: Write>(
     rt: &R,
     inputs: Inputs<S>,
@@ -82,24 +79,12 @@ fn audit_and_print<R: AllocGlobal + Threads + Sync, S: Source + Send, O: Write>(
     out: &mut O,
 ) -> Result<Option<Caveat>, Refusal<'static>> {
     let clashes = audit(rt, rt.alloc(), inputs, workers)?;
-    print_clashes(rt.alloc(), &clashes, out)?;
-    Ok(None)
-}
-
-/// The size of the output buffer in bytes.
-pub const PRINTED_AT_ONCE: usize = 65_536;
-
-/// Prints the line of each clash, through a buffer.
-fn print_clashes<O: Write>(
-    alloc: Global,
-    clashes: &[Clash],
-    out: &mut O,
-) -> Result<(), Refusal<'static>> {
-    let mut out = BufWriter::with_capacity(alloc, PRINTED_AT_ONCE, out)?;
-    for clash in clashes {
+    let mut out = BufWriter::with_capacity(rt.alloc(), PRINTED_AT_ONCE, out)?;
+    for clash in &clashes {
         write_clash(clash, &mut out)?;
     }
-    Ok(out.flush()?)
+    out.flush()?;
+    Ok(None)
 }
 
 /// Prints the line of a clash: the key in lowercase hexadecimal, a space, the version, a colon, and for each record a
@@ -113,19 +98,6 @@ fn write_clash<O: Write>(clash: &Clash, out: &mut O) -> io::Result<()> {
     out.write_all(b"\n")
 }
 
-/// Prints what the query asks for, through a buffer.
-fn print_all<O: Write>(
-    alloc: Global,
-    recovered: &Recovered,
-    query: &StoreQuery,
-    out: &mut O,
-) -> Result<Option<Caveat>, Refusal<'static>> {
-    let mut out = BufWriter::with_capacity(alloc, PRINTED_AT_ONCE, out)?;
-    let caveat = print(recovered, query, &mut out)?;
-    out.flush()?;
-    Ok(caveat)
-}
-
 /// Prints what the query asks for.
 fn print<O: Write>(
     recovered: &Recovered,
@@ -136,7 +108,9 @@ fn print<O: Write>(
     match query {
         StoreQuery::Report { is_json, is_strict } => {
             print_report(recovered.report(), *is_json, out)?;
-            return Ok(losses_of(recovered.report(), *is_strict));
+            if *is_strict {
+                return Ok(Losses::of(recovered.report()).map(Caveat::Losses));
+            }
         }
         StoreQuery::Exists(key) if store.get(key.as_bytes()).is_none() => {
             return Ok(Some(Caveat::No));
@@ -165,18 +139,10 @@ fn print_report<O: Write>(report: &Report, is_json: bool, out: &mut O) -> io::Re
     line.end()
 }
 
-/// Returns the losses of a report as a caveat, if it is strict and has some.
-fn losses_of(report: &Report, is_strict: bool) -> Option<Caveat> {
-    if !is_strict {
-        return None;
-    }
-    Losses::of(report).map(Caveat::Losses)
-}
-
 /// Prints the pair of the key, or that it is absent.
 fn write_found<O: Write>(store: &Store, key: &Key, form: Form, out: &mut O) -> io::Result<()> {
     match store.get(key.as_bytes()) {
-        Some(columns) => printer_of(form).write(key.as_bytes(), columns, out),
+        Some(columns) => form.printer().write(key.as_bytes(), columns, out),
         None => form.write_absent(out),
     }
 }
@@ -186,11 +152,5 @@ fn print_dump<O: Write>(store: &Store, form: Form, out: &mut O) -> io::Result<()
     if form.is_dump() {
         return write_dump(store, out);
     }
-    store.visit(&printer_of(form), out)
-}
-
-/// Returns the printer of all columns in this form.
-fn printer_of(form: Form) -> Printer {
-    let wanted = Wanted::all();
-    Printer { form, wanted }
+    store.visit(&form.printer(), out)
 }

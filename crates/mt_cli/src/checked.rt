@@ -1,7 +1,7 @@
 //! What a check finds in the files of a folder, as lines.
 use crate::caveat::Losses;
 use crate::ending::Ending;
-use crate::fates::{PartState, fate_of, numbers_of};
+use crate::fates::{PartState, numbers_of, write_fate};
 use crate::file_names::Names;
 use mt_record::{LogFront, Rest};
 use mt_recover::{LogCheck, Refusal, Start};
@@ -52,8 +52,7 @@ impl Checked {
         out: &mut W,
     ) -> Result<(), Refusal<'static>> {
         for number in &numbers_of(alloc, &self.parts)? {
-            let fate = fate_of(*number, &self.parts, &self.start);
-            fate.write(*number, Fields::new(out, is_json))?;
+            write_fate(*number, &self.parts, &self.start, Fields::new(out, is_json))?;
         }
         Ok(self.write_cutoff(is_json, out)?)
     }
@@ -109,7 +108,10 @@ impl Checked {
         let ending = self.endings.get(log).copied().flatten();
         match self.logs.get(log) {
             Some(Ok(check)) => write_check(check, ending, self.start.is_ok(), &mut line)?,
-            Some(Err(Fault::Header { .. })) => write_headless(ending, &mut line)?,
+            Some(Err(Fault::Header { .. })) => {
+                line.word("state", "header")?;
+                write_ending(ending, &mut line)?;
+            }
             _ => line.word("state", "unread")?,
         }
         line.end()
@@ -152,22 +154,16 @@ impl Sizes {
     /// Returns about how many bytes of memory recovery takes: three times those of all files. None: the size of one is
     /// not known.
     fn memory(&self) -> Option<u64> {
-        let bytes = sum(&self.logs)?.checked_add(sum(&self.parts)?)?;
+        let mut bytes: u64 = 0;
+        for size in self.logs.iter().chain(&self.parts) {
+            bytes = bytes.checked_add((*size)?)?;
+        }
         bytes.checked_mul(MEMORY_A_BYTE)
     }
 }
 
 /// The bytes of memory that recovery takes for a byte of ordinary logs and parts, about.
 const MEMORY_A_BYTE: u64 = 3;
-
-/// Returns the sum of the sizes. None: one of them is not known.
-fn sum(sizes: &[Option<u64>]) -> Option<u64> {
-    let mut sum: u64 = 0;
-    for size in sizes {
-        sum = sum.checked_add((*size)?)?;
-    }
-    Some(sum)
-}
 
 /// Prints the name of a file, and its size if that is known.
 fn write_file<W: Write>(
@@ -194,36 +190,7 @@ fn write_check<W: Write>(
     has_cutoff: bool,
     line: &mut Fields<'_, W>,
 ) -> io::Result<()> {
-    write_front(&check.front, ending, line)?;
-    line.number("marks", check.marks)?;
-    if has_cutoff {
-        line.number("late", check.late)?;
-    }
-    line.number("from", check.front.head.from)?;
-    line.number("last", check.front.last())?;
-    line.format(&check.front.head)
-}
-
-/// Prints that a log has no header, and what its bytes are.
-fn write_headless<W: Write>(ending: Option<Ending>, line: &mut Fields<'_, W>) -> io::Result<()> {
-    line.word("state", "header")?;
-    write_ending(ending, line)
-}
-
-/// Prints what follows, if that is known.
-fn write_ending<W: Write>(ending: Option<Ending>, line: &mut Fields<'_, W>) -> io::Result<()> {
-    match ending {
-        Some(ending) => ending.write(line),
-        None => Ok(()),
-    }
-}
-
-/// Prints how far bytes are a log, and what follows.
-fn write_front<W: Write>(
-    front: &LogFront,
-    ending: Option<Ending>,
-    line: &mut Fields<'_, W>,
-) -> io::Result<()> {
+    let front = &check.front;
     match front.rest {
         Rest::Nothing => line.word("state", "whole")?,
         Rest::Torn => line.word("state", "torn")?,
@@ -231,5 +198,20 @@ fn write_front<W: Write>(
     }
     line.number("end", front.bytes)?;
     write_ending(ending, line)?;
-    line.number("records", front.count)
+    line.number("records", front.count)?;
+    line.number("marks", check.marks)?;
+    if has_cutoff {
+        line.number("late", check.late)?;
+    }
+    line.number("from", front.from())?;
+    line.number("last", front.last())?;
+    line.format(&front.head)
+}
+
+/// Prints what follows the complete records of a log, if that is known.
+fn write_ending<W: Write>(ending: Option<Ending>, line: &mut Fields<'_, W>) -> io::Result<()> {
+    match ending {
+        Some(ending) => ending.write(line),
+        None => Ok(()),
+    }
 }

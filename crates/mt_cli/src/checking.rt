@@ -5,17 +5,16 @@ use crate::answering::PRINTED_AT_ONCE;
 use crate::caveat::Caveat;
 use crate::checked::{Checked, Sizes};
 use crate::ending::Ending;
-use crate::explaining::with_reason;
-use crate::failure::tell;
+use crate::failure::tell_outcome;
 use crate::fates::PartState;
 use crate::file_names::Names;
 use crate::opening::{open_all, open_rest, rack_of, size_of};
 use crate::request::Folder;
 use mt_record::Rest;
-use mt_recover::{LogCheck, PartScan, Refusal, check_logs, check_parts, start_of};
+use mt_recover::{LogCheck, Refusal, check_logs, check_parts, start_of};
 use mt_scan::Slot;
 use mt_words::{Fault, Format, Memory};
-use std::alloc::{AllocError, Global};
+use std::alloc::Global;
 use std::fs::Files;
 use std::io::{BufWriter, Write};
 use std::thread::Threads;
@@ -35,14 +34,8 @@ where
     R::File: Send,
     ensures status { result ≤ 4 }
 {
-    match check_and_print(rt, folder, is_json, names, out) {
-        Ok(None) => 0,
-        Ok(Some(caveat)) => caveat.tell(err),
-        Err(refusal) => {
-            let refusal = with_reason(rt, folder.path, names, refusal);
-            tell(&refusal, folder.is_verbose.then_some(names), err)
-        }
-    }
+    let outcome = check_and_print(rt, folder, is_json, names, out);
+    tell_outcome(rt, folder, names, outcome, err)
 }
 
 /// Checks the files, and prints what is in each. Err: the fault that recovery names, after the lines; or a failure.
@@ -58,24 +51,13 @@ where
     R::File: Send,
 {
     let checked = check_all(rt, folder, names)?;
-    print(rt.alloc(), &checked, is_json, names, out)?;
+    let mut out = BufWriter::with_capacity(rt.alloc(), PRINTED_AT_ONCE, out)?;
+    checked.write(names, is_json, &mut out)?;
+    checked.write_choice(rt.alloc(), is_json, &mut out)?;
+    out.flush()?;
     let losses = checked.losses();
     checked.start?;
     Ok(losses.map(Caveat::Losses))
-}
-
-/// Prints what was found, through a buffer.
-fn print<O: Write>(
-    alloc: Global,
-    checked: &Checked,
-    is_json: bool,
-    names: &Names,
-    out: &mut O,
-) -> Result<(), Refusal<'static>> {
-    let mut out = BufWriter::with_capacity(alloc, PRINTED_AT_ONCE, out)?;
-    checked.write(names, is_json, &mut out)?;
-    checked.write_choice(alloc, is_json, &mut out)?;
-    Ok(out.flush()?)
 }
 
 /// Checks all logs and parts. If there is a cutoff, the logs are read once more, to count what is late. What follows the
@@ -87,8 +69,9 @@ where
 {
     let mut rack = rack_of(rt, names)?;
     let mut logs = check_named(rt, folder, names, rack.slots(), u64::MAX)?;
-    let scans = scan_parts(rt, folder, names, rack.slots())?;
-    let parts = states(rt.alloc(), &scans)?;
+    let sources = open_all(rt, folder.path, &names.parts, rack.slots())?;
+    let scans = check_parts(rt, rt.alloc(), sources, folder.workers)?;
+    let parts = scans.iter().map(PartState::of).collect(rt.alloc())?;
     let mut start = start_of(rt.alloc(), Vec::from_slice(rt.alloc(), &logs)?, scans);
     if let Ok(found) = &start {
         logs = check_named(rt, folder, names, rack.slots(), found.window.cutoff)?;
@@ -97,7 +80,10 @@ where
         }
     }
     let endings = read_endings(rt, folder.path, &names.logs, &logs, rack.slots())?;
-    let sizes = sizes(rt, folder.path, names)?;
+    let sizes = Sizes {
+        logs: sizes_of(rt, folder.path, &names.logs)?,
+        parts: sizes_of(rt, folder.path, &names.parts)?,
+    };
     Ok(Checked {
         logs,
         endings,
@@ -123,37 +109,19 @@ where
     Ok(check_logs(rt, rt.alloc(), sources, folder.workers, limit)?)
 }
 
-/// Scans the parts of these names.
-fn scan_parts<'a, R>(
-    rt: &R,
-    folder: &Folder<'_>,
-    names: &'a Names,
-    slots: &mut [Slot],
-) -> Result<Vec<Result<PartScan, Fault>>, Refusal<'a>>
-where
-    R: AllocGlobal + Files + Threads + Sync,
-    R::File: Send,
-{
-    let sources = open_all(rt, folder.path, &names.parts, slots)?;
-    Ok(check_parts(rt, rt.alloc(), sources, folder.workers)?)
-}
-
 /// Returns the fault of the first log that has one.
 fn first_fault(alloc: Global, checks: &[Result<LogCheck, Fault>]) -> Option<Fault> {
     for (log, check) in checks.iter().enumerate() {
-        if let Some(fault) = fault_of(alloc, log, check) {
-            return Some(fault);
+        match check {
+            Ok(check) => {
+                if let Err(fault) = check.scan(alloc, log) {
+                    return Some(fault);
+                }
+            }
+            Err(fault) => return Some(*fault),
         }
     }
     None
-}
-
-/// Returns the fault of the log with this number.
-fn fault_of(alloc: Global, log: usize, check: &Result<LogCheck, Fault>) -> Option<Fault> {
-    match check {
-        Ok(check) => check.scan(alloc, log).err(),
-        Err(fault) => Some(*fault),
-    }
 }
 
 /// Reads what follows the header and the complete records of each log. None: nothing does, or the file cannot be read
@@ -205,14 +173,6 @@ fn rest_of(check: &Result<LogCheck, Fault>) -> Option<(u64, Format)> {
     }
 }
 
-/// Returns the sizes of the files.
-fn sizes<R: AllocGlobal + Files>(rt: &R, folder: &str, names: &Names) -> Result<Sizes, Memory> {
-    Ok(Sizes {
-        logs: sizes_of(rt, folder, &names.logs)?,
-        parts: sizes_of(rt, folder, &names.parts)?,
-    })
-}
-
 /// Returns the size of each file of these names, if the system tells.
 fn sizes_of<R: AllocGlobal + Files>(
     rt: &R,
@@ -224,13 +184,4 @@ fn sizes_of<R: AllocGlobal + Files>(
         sizes.push(size_of(rt, folder, name.as_str()))?;
     }
     Ok(sizes)
-}
-
-/// Returns what is known of each part.
-fn states(alloc: Global, scans: &[Result<PartScan, Fault>]) -> Result<Vec<PartState>, AllocError> {
-    let mut states = Vec::with_capacity(alloc, scans.len())?;
-    for scan in scans {
-        states.push(PartState::of(scan))?;
-    }
-    Ok(states)
 }

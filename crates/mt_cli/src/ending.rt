@@ -22,31 +22,26 @@ pub struct Ending {
 }
 
 impl Ending {
-    /// Returns what the rest of a log of this format is: all bytes after its complete records.
-    pub fn of(format: Format, rest: &[u8]) -> Ending {
-        let bytes = rest.len() as u64;
-        Ending::new(format, bytes, !rest.is_empty() && are_zero(rest), rest)
-    }
-
-    /// Returns what these bytes are as the rest of a part. No records are looked for.
-    pub fn of_part(rest: &[u8]) -> Ending {
-        let bytes = rest.len() as u64;
-        Ending {
-            bytes,
-            is_zero: !rest.is_empty() && are_zero(rest),
-            records: 0,
-            before: bytes,
-        }
+    /// Returns what the rest of a log of this format is: all bytes after its complete records. Without a format they are
+    /// the rest of a part, in which no records are looked for.
+    pub fn of(format: Option<Format>, rest: &[u8]) -> Ending {
+        Ending::new(format, rest.len() as u64, are_zero(rest), rest)
     }
 
     /// Returns the ending of so many bytes, of which these are the last ones.
-    fn new(format: Format, bytes: u64, is_zero: bool, last: &[u8]) -> Ending {
-        let run = records_at_end(format, last);
+    fn new(format: Option<Format>, bytes: u64, are_zero: bool, last: &[u8]) -> Ending {
+        let (count, start) = match format {
+            Some(format) => {
+                let run = records_at_end(format, last);
+                (run.count, run.start)
+            }
+            None => (0, last.len()),
+        };
         Ending {
             bytes,
-            is_zero,
-            records: run.count,
-            before: bytes.saturating_sub(last.len().saturating_sub(run.start) as u64),
+            is_zero: are_zero && bytes > 0,
+            records: count,
+            before: bytes.saturating_sub(last.len().saturating_sub(start) as u64),
         }
     }
 
@@ -59,7 +54,11 @@ impl Ending {
     ) -> Result<Option<Ending>, Memory>
         ensures { IfOk result (λ ending. IsSome ending → (S.seen source.new).failures ≡ (S.seen source.old).failures) }
     {
-        let mut tail = Tail::new(alloc);
+        let mut tail = Tail {
+            last: Vec::new(alloc),
+            bytes: 0,
+            is_zero: true,
+        };
         for _ in 0..u64::MAX {
             match source.advance() {
                 Ok(0) => break,
@@ -67,7 +66,8 @@ impl Ending {
                 Err(_) => return Ok(None),
             }
         }
-        Ok(Some(tail.ending(format)))
+        let start = tail.last.len().saturating_sub(SEARCHED);
+        Ok(Some(Ending::new(Some(format), tail.bytes, tail.is_zero, &tail.last[start..])))
     }
 
     /// Prints its values. Err: write error.
@@ -93,36 +93,15 @@ struct Tail {
 }
 
 impl Tail {
-    /// Creates a tail of no bytes.
-    fn new(alloc: Global) -> Tail {
-        Tail {
-            last: Vec::new(alloc),
-            bytes: 0,
-            is_zero: true,
-        }
-    }
-
-    /// Appends a chunk. Err: out of memory.
+    /// Appends a chunk, and keeps at most twice `SEARCHED` bytes before it. Err: out of memory.
     fn push(&mut self, chunk: &[u8]) -> Result<(), AllocError> {
         self.bytes = self.bytes.saturating_add(chunk.len() as u64);
         self.is_zero = self.is_zero && are_zero(chunk);
-        halve(&mut self.last);
+        if self.last.len() >= 2 * SEARCHED {
+            let surplus = self.last.len() - SEARCHED;
+            self.last.drain(..surplus);
+        }
         self.last.extend_from_slice(chunk)
-    }
-
-    /// Returns what the bytes are as the rest of a log of this format.
-    fn ending(&self, format: Format) -> Ending {
-        let start = self.last.len().saturating_sub(SEARCHED);
-        let is_zero = self.is_zero && self.bytes > 0;
-        Ending::new(format, self.bytes, is_zero, &self.last[start..])
-    }
-}
-
-/// Removes all but the last `SEARCHED` bytes if there are twice as many.
-fn halve(bytes: &mut Vec<u8>) {
-    if bytes.len() >= 2 * SEARCHED {
-        let surplus = bytes.len() - SEARCHED;
-        bytes.drain(..surplus);
     }
 }
 

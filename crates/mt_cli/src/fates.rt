@@ -6,7 +6,7 @@ use std::alloc::{AllocError, Global};
 use std::io::{self, Write};
 
 /// What is known of a part.
-#[derive(Clone, Copy, Debug)]
+#[derive(Clone, Copy)]
 pub enum PartState {
     /// It is complete.
     Whole(Part),
@@ -23,7 +23,7 @@ pub enum PartState {
 }
 
 /// What a complete part says.
-#[derive(Clone, Copy, Debug)]
+#[derive(Clone, Copy)]
 pub struct Part {
     pub checkpoint: u32,
     pub place: u16,
@@ -31,17 +31,6 @@ pub struct Part {
     pub begin: u64,
     pub end: u64,
     pub entries: usize,
-}
-
-/// What becomes of a checkpoint.
-#[derive(Clone, Copy, Debug)]
-pub struct Fate {
-    /// What becomes of it, in a word.
-    word: &'static str,
-    /// The number of parts with its number.
-    parts: usize,
-    /// Where its first complete part says that it begins and ends.
-    window: Option<(u64, u64)>,
 }
 
 impl PartState {
@@ -88,7 +77,15 @@ impl PartState {
     /// Prints its values. Err: write error.
     pub fn write<W: Write>(self, line: &mut Fields<'_, W>) -> io::Result<()> {
         match self {
-            PartState::Whole(part) => part.write(line),
+            PartState::Whole(part) => {
+                line.word("state", "whole")?;
+                line.number("checkpoint", part.checkpoint)?;
+                line.number("place", part.place)?;
+                line.number("parts", part.parts)?;
+                line.number("begin", part.begin)?;
+                line.number("end", part.end)?;
+                line.number("entries", part.entries)
+            }
             PartState::Broken {
                 checkpoint,
                 entries,
@@ -100,33 +97,6 @@ impl PartState {
             PartState::Nameless => line.word("state", "nameless"),
             PartState::Unread => line.word("state", "unread"),
         }
-    }
-}
-
-impl Part {
-    /// Prints its values.
-    fn write<W: Write>(self, line: &mut Fields<'_, W>) -> io::Result<()> {
-        line.word("state", "whole")?;
-        line.number("checkpoint", self.checkpoint)?;
-        line.number("place", self.place)?;
-        line.number("parts", self.parts)?;
-        line.number("begin", self.begin)?;
-        line.number("end", self.end)?;
-        line.number("entries", self.entries)
-    }
-}
-
-impl Fate {
-    /// Prints the line of the checkpoint with this number. Err: write error.
-    pub fn write<W: Write>(self, number: u32, mut line: Fields<'_, W>) -> io::Result<()> {
-        line.number("checkpoint", number)?;
-        line.word("state", self.word)?;
-        line.number("parts", self.parts)?;
-        if let Some((begin, end)) = self.window {
-            line.number("begin", begin)?;
-            line.number("end", end)?;
-        }
-        line.end()
     }
 }
 
@@ -143,26 +113,42 @@ pub fn numbers_of(alloc: Global, parts: &[PartState]) -> Result<Vec<u32>, AllocE
     Ok(numbers)
 }
 
-/// Returns what becomes of the checkpoint with this number.
-pub fn fate_of(number: u32, parts: &[PartState], start: &Result<Start, Fault>) -> Fate {
+/// Prints the line of the checkpoint with this number: what becomes of it, the number of its parts, and where its first
+/// complete part says that it begins and ends. Err: write error.
+pub fn write_fate<W: Write>(
+    number: u32,
+    parts: &[PartState],
+    start: &Result<Start, Fault>,
+    mut line: Fields<'_, W>,
+) -> io::Result<()> {
+    let count = count_of(number, parts);
     let first = parts.iter().find_map(|part| part.of_checkpoint(number));
-    Fate {
-        word: word_of(number, parts, start),
-        parts: count_of(number, parts),
-        window: first.map(|part| (part.begin, part.end)),
+    line.number("checkpoint", number)?;
+    line.word("state", word_of(number, first, count, parts, start))?;
+    line.number("parts", count)?;
+    if let Some(part) = first {
+        line.number("begin", part.begin)?;
+        line.number("end", part.end)?;
     }
+    line.end()
 }
 
-/// Returns what becomes of the checkpoint, in a word.
-fn word_of(number: u32, parts: &[PartState], start: &Result<Start, Fault>) -> &'static str {
+/// Returns what becomes of the checkpoint, of `count` parts, in a word.
+fn word_of(
+    number: u32,
+    first: Option<Part>,
+    count: usize,
+    parts: &[PartState],
+    start: &Result<Start, Fault>,
+) -> &'static str {
     let wholes = parts
         .iter()
         .filter(|part| part.of_checkpoint(number).is_some())
         .count();
-    let Some(first) = parts.iter().find_map(|part| part.of_checkpoint(number)) else {
+    let Some(first) = first else {
         return "broken";
     };
-    if wholes < count_of(number, parts) {
+    if wholes < count {
         return "broken";
     }
     if !are_all(number, first, wholes, parts) {

@@ -32,23 +32,11 @@ pub fn answer_file<R: AllocGlobal + Files, O: Write, E: Write>(
     };
     match answered {
         Ok(stop) => tell_stop(stop, query, err),
-        Err(refusal) => tell_refusal(rt.alloc(), &refusal, path, is_verbose, err),
-    }
-}
-
-/// Tells a failure, with the file as log 0, and returns its exit status.
-fn tell_refusal<E: Write>(
-    alloc: Global,
-    refusal: &Refusal<'_>,
-    path: &str,
-    is_verbose: bool,
-    err: &mut E,
-) -> u8
-    ensures status { result ≤ 3 }
-{
-    match Names::of_log(alloc, path) {
-        Ok(names) => tell(refusal, is_verbose.then_some(&names), err),
-        Err(_) => tell(refusal, None, err),
+        // The file is log 0.
+        Err(refusal) => match Names::of_log(rt.alloc(), path) {
+            Ok(names) => tell(&refusal, is_verbose.then_some(&names), err),
+            Err(_) => tell(&refusal, None, err),
+        },
     }
 }
 

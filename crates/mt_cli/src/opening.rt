@@ -22,21 +22,16 @@ pub fn open_all<'a, 'b, R: AllocGlobal + Files>(
 ) -> Result<Vec<ReaderSource<'b, R::File>>, Refusal<'a>> {
     let mut sources = Vec::with_capacity(rt.alloc(), names.len())?;
     for (name, slot) in names.iter().zip(slots) {
-        sources.push(open_source(rt, folder, name.as_str(), slot)?)?;
+        let name = name.as_str();
+        let file = match open(rt, folder, name) {
+            Ok(file) => file,
+            Err(error) => return Err(Refusal::of(Failure::Open(name), error)),
+        };
+        // None only if the slot is empty. No slot of a new rack is empty.
+        let source = ReaderSource::new(file, MOST_BYTES, slot).ok_or(Failure::Open(name))?;
+        sources.push(source)?;
     }
     Ok(sources)
-}
-
-/// Opens the file of this name in the folder as a source.
-fn open_source<'a, 'b, R: AllocGlobal + Files>(
-    rt: &R,
-    folder: &str,
-    name: &'a str,
-    slot: &'b mut Slot,
-) -> Result<ReaderSource<'b, R::File>, Refusal<'a>> {
-    let file = open(rt, folder, name).map_err(|error| Refusal::of(Failure::Open(name), error))?;
-    // None only if the slot is empty. No slot of a new rack is empty.
-    ReaderSource::new(file, MOST_BYTES, slot).ok_or(Refusal::from(Failure::Open(name)))
 }
 
 /// Opens the file of this name in the folder as a source of its bytes from this one on. None: the file has no bytes

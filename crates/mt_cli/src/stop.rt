@@ -8,29 +8,20 @@ use mt_words::{Format, What};
 use std::fmt::{self, Display, Formatter, Write};
 
 /// Where the complete records of a log, or the entries of a part, stop before its bytes do, and what follows them.
-#[derive(Clone, Copy, Debug)]
+#[derive(Clone, Copy)]
 pub struct Stop {
     /// What one of them is called.
     name: &'static str,
     /// The byte where they stop.
     at: usize,
-    /// What is there, if the file was read from its beginning.
-    reason: Option<Reason>,
+    /// The number of those before, and what is there in place of the next one, if the file was read from its beginning.
+    reason: Option<(u64, Wrong)>,
     /// The bytes from there on.
     ending: Ending,
 }
 
-/// Why records or entries stop.
-#[derive(Clone, Copy, Debug)]
-struct Reason {
-    /// The number of those before.
-    number: u64,
-    /// What is there in place of the next one.
-    fault: Wrong,
-}
-
 /// What is there in place of a record or an entry.
-#[derive(Clone, Copy, Debug)]
+#[derive(Clone, Copy)]
 enum Wrong {
     /// A torn tail.
     Torn,
@@ -49,40 +40,35 @@ impl Stop {
             Rest::Faulty(what) => Wrong::Record(what),
         };
         let stop = Stop::at(front.head.format, bytes, front.bytes as usize)?;
-        Some(stop.because(front.count, fault))
+        Some(Stop {
+            reason: Some((front.count, fault)),
+            ..stop
+        })
     }
 
     /// Returns where the entries of a broken part stop, all of which were counted.
     pub fn of_entries(stopped: &Stopped, bytes: &[u8]) -> Option<Stop> {
-        let rest = bytes.get(stopped.at..)?;
-        Some(Stop::of_part(stopped.at, rest).because(stopped.count, Wrong::Broken))
+        Some(Stop {
+            name: "entry",
+            at: stopped.at,
+            reason: Some((stopped.count, Wrong::Broken)),
+            ending: Ending::of(None, bytes.get(stopped.at..)?),
+        })
     }
 
     /// Returns that entries stop at this byte. None: no byte follows, or just a footer.
     pub fn at_entry(bytes: &[u8], at: usize) -> Option<Stop> {
         let rest = bytes.get(at..)?;
-        if rest.is_empty() || is_footer(rest) {
+        let is_footer = rest.len() == FOOTER_BYTES && footer_of(rest).is_some();
+        if rest.is_empty() || is_footer {
             return None;
         }
-        Some(Stop::of_part(at, rest))
-    }
-
-    /// Returns that entries stop at this byte, before this rest.
-    fn of_part(at: usize, rest: &[u8]) -> Stop {
-        Stop {
+        Some(Stop {
             name: "entry",
             at,
             reason: None,
-            ending: Ending::of_part(rest),
-        }
-    }
-
-    /// Returns this stop with a reason: what is there after so many.
-    fn because(self, number: u64, fault: Wrong) -> Stop {
-        Stop {
-            reason: Some(Reason { number, fault }),
-            ..self
-        }
+            ending: Ending::of(None, rest),
+        })
     }
 
     /// Returns that records of this format stop at this byte. None: no byte follows.
@@ -95,7 +81,7 @@ impl Stop {
             name: "record",
             at,
             reason: None,
-            ending: Ending::of(format, rest),
+            ending: Ending::of(Some(format), rest),
         })
     }
 
@@ -103,16 +89,16 @@ impl Stop {
     pub fn status(&self) -> u8
         ensures { result ≤ 4 }
     {
-        match self.reason.map(|reason| reason.fault) {
-            Some(Wrong::Record(_) | Wrong::Broken) => 1,
-            Some(Wrong::Torn) | None => 4,
+        match self.reason {
+            Some((_, Wrong::Record(_) | Wrong::Broken)) => 1,
+            Some((_, Wrong::Torn)) | None => 4,
         }
     }
 
     /// Writes where they stop, and why.
     fn write_reason<W: Write>(&self, f: &mut Formatter<W>) -> fmt::Result {
         let Stop { name, at, .. } = *self;
-        let Some(Reason { number, fault }) = self.reason else {
+        let Some((number, fault)) = self.reason else {
             return write!(f, "no {name} at byte {at}");
         };
         write!(f, "{name} {number} at byte {at}: ")?;
@@ -153,9 +139,4 @@ impl Display for Stop {
         self.write_reason(f)?;
         self.write_ending(f)
     }
-}
-
-/// Returns whether the bytes are the footer of a part, whatever its numbers.
-fn is_footer(bytes: &[u8]) -> bool {
-    bytes.len() == FOOTER_BYTES && footer_of(bytes).is_some()
 }

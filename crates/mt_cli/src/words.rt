@@ -113,7 +113,12 @@ fn of_folder<'a>(
         let is_json = matches.get_flag("json");
         return Ok(Command::Check { folder, is_json });
     }
-    Ok(Command::Query(folder, query(alloc, name, matches)?))
+    if name == "audit" {
+        return Ok(Command::Query(folder, Query::Audit));
+    }
+    let pieces = found(matches.get_one("pieces").and_then(Pieces::new))?;
+    let query = Query::Store(store_query(alloc, name, matches)?, pieces);
+    Ok(Command::Query(folder, query))
 }
 
 /// Returns which records or entries to print, and how.
@@ -126,31 +131,17 @@ fn selection(alloc: Global, matches: &ArgMatches<'_>) -> Result<Selection, Refus
         from: matches.get_one("from").unwrap_or(0),
         limit: matches.get_one("limit").unwrap_or(u64::MAX),
         key,
-        notation: notation(matches),
+        notation: if matches.get_flag("json") {
+            Notation::Json
+        } else {
+            Notation::Words
+        },
     })
-}
-
-/// Returns how lines are written.
-fn notation(matches: &ArgMatches<'_>) -> Notation {
-    if matches.get_flag("json") {
-        Notation::Json
-    } else {
-        Notation::Words
-    }
 }
 
 /// Returns a value that the grammar requires. Err: `Words`, if the parser did not find it.
 fn found<T>(value: Option<T>) -> Result<T, Refusal<'static>> {
     value.ok_or(Refusal::from(Failure::Words))
-}
-
-/// Returns the query on a folder of the subcommand of this name.
-fn query(alloc: Global, name: &str, matches: &ArgMatches<'_>) -> Result<Query, Refusal<'static>> {
-    if name == "audit" {
-        return Ok(Query::Audit);
-    }
-    let pieces = found(matches.get_one("pieces").and_then(Pieces::new))?;
-    Ok(Query::Store(store_query(alloc, name, matches)?, pieces))
 }
 
 /// Returns the query on the store of the subcommand of this name.
@@ -164,20 +155,18 @@ fn store_query(
             is_json: matches.get_flag("json"),
             is_strict: matches.get_flag("strict"),
         }),
-        "get" => get(alloc, matches),
+        "get" => {
+            let key = found(key(alloc, matches, "KEY")?)?;
+            Ok(if matches.get_flag("exists") {
+                StoreQuery::Exists(key)
+            } else {
+                StoreQuery::Get(key, form(matches))
+            })
+        }
         "range" => Ok(StoreQuery::Range(range(alloc, matches)?, form(matches))),
         "dump" => Ok(StoreQuery::Dump(form(matches))),
         _ => Err(Refusal::from(Failure::Words)),
     }
-}
-
-/// Returns the query of the subcommand `get`.
-fn get(alloc: Global, matches: &ArgMatches<'_>) -> Result<StoreQuery, Refusal<'static>> {
-    let key = found(key(alloc, matches, "KEY")?)?;
-    if matches.get_flag("exists") {
-        return Ok(StoreQuery::Exists(key));
-    }
-    Ok(StoreQuery::Get(key, form(matches)))
 }
 
 /// Returns the form in which pairs are printed.
@@ -229,18 +218,13 @@ fn key(
 /// Decodes a key: text with escapes, or hexadecimal.
 fn key_of(alloc: Global, word: &str, is_text: bool) -> Result<Key, Refusal<'static>> {
     let bytes = if is_text {
-        unescape(alloc, word)?.ok_or(Failure::Key)?
+        unescape(alloc, word)?
     } else {
-        bytes_of(alloc, word)?
+        match hex::decode(alloc, word) {
+            Ok(bytes) => Some(bytes),
+            Err(FromHexError::OutOfMemory) => return Err(Refusal::from(Fault::Memory)),
+            Err(_) => None,
+        }
     };
-    Key::new(bytes).ok_or(Refusal::from(Failure::Key))
-}
-
-/// Decodes hexadecimal digits.
-fn bytes_of(alloc: Global, digits: &str) -> Result<Vec<u8>, Refusal<'static>> {
-    match hex::decode(alloc, digits) {
-        Ok(bytes) => Ok(bytes),
-        Err(FromHexError::OutOfMemory) => Err(Refusal::from(Fault::Memory)),
-        Err(_) => Err(Refusal::from(Failure::Key)),
-    }
+    bytes.and_then(Key::new).ok_or(Refusal::from(Failure::Key))
 }
