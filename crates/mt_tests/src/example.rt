@@ -1,9 +1,9 @@
 //! The example of docs/EMBEDDING.md: recovery over files.
 use crate::asserting::assert_bytes;
-use crate::folders::{folder_of, remove};
 use crate::logs::{LOG_A, LOG_B, PART};
 use mt_recover::{Cutting, Inputs, MOST_BYTES, NoGate, Pieces, Workers, recover, write_dump};
 use mt_scan::{LONGEST_BUFFER, Rack, ReaderSource, Slot};
+use std::env::{Env, temp_dir};
 use std::fs::{self, File, Files};
 use std::io::{self, ErrorKind, Write};
 use std::process::Abort;
@@ -57,29 +57,33 @@ where
     }
 }
 
-/// Makes a file of these bytes in the folder, and returns its path as a list of one.
-fn made<R: Abort + AllocGlobal + Files>(
+/// Makes a file of these bytes for a test of this process, and returns its path as a list of one.
+fn made<R: Abort + AllocGlobal + Env + Files>(
     rt: &R,
-    folder: &str,
+    id: u32,
     name: &str,
     bytes: &[u8],
 ) -> Vec<String> {
-    let path = format!(in rt.alloc(); "{folder}/{name}").expect(rt, "memory");
+    let folder = temp_dir(rt).expect(rt, "a folder");
+    let folder = folder.as_path().to_string_lossy();
+    let path = format!(in rt.alloc(); "{folder}/mt_tests-{id}-{name}").expect(rt, "memory");
     fs::write(rt, path.as_str(), bytes).expect(rt, "a file");
     vec![in rt.alloc(); path].expect(rt, "memory")
 }
 
 #[test]
 fn recovers_from_files(rt: HostRuntime) {
-    let folder = folder_of(&rt, std::process::id(rt.process()), "example");
-    let mut logs = made(&rt, folder.as_str(), "a.mtl", LOG_A);
-    let mut second = made(&rt, folder.as_str(), "b.mtl", LOG_B);
+    let id = std::process::id(rt.process());
+    let mut logs = made(&rt, id, "a.mtl", LOG_A);
+    let mut second = made(&rt, id, "b.mtl", LOG_B);
     logs.append(&mut second).expect(&rt, "memory");
-    let parts = made(&rt, folder.as_str(), "c.mtc", PART);
+    let parts = made(&rt, id, "c.mtc", PART);
     let mut out = Vec::new(rt.alloc());
     let workers = Workers::new(4).expect(&rt, "1 to 64 workers");
     let pieces = Pieces::new(16).expect(&rt, "1 to 4,096 pieces");
     print_store(&rt, &logs, &parts, workers, pieces, &mut out).expect(&rt, "the files");
     assert_bytes(&rt, "", &out, b"61: 0=6f 1=70\n62: 0=79\n");
-    remove(&rt, folder.as_str());
+    for path in logs.iter().chain(&parts) {
+        fs::remove_file(&rt, path.as_str()).expect(&rt, "the file");
+    }
 }

@@ -1,5 +1,5 @@
-//! Tests that no case file of `mt_cases` can express: sources of their own, files of the greatest size, failed
-//! allocations, feeds, threads that meet.
+//! Tests that no case file of `mt_cases` can express: threads that meet, sources of their own, failed allocations, calls
+//! that no program makes.
 //!
 //! `logs` has the logs and parts of the tests as bytes. A `Meeting` is a gate where a worker waits for others.
 //!
@@ -11,36 +11,20 @@ mod asserting;
 #[cfg(test)]
 mod claiming;
 #[cfg(test)]
-mod commands;
-#[cfg(test)]
-mod deepest;
-#[cfg(test)]
 mod example;
 #[cfg(test)]
 mod feeding;
-#[cfg(test)]
-mod folders;
-#[cfg(test)]
-mod greatest;
-#[cfg(test)]
-mod listing;
 #[cfg(test)]
 mod logs;
 #[cfg(test)]
 mod meeting;
 #[cfg(test)]
-mod mixing;
-#[cfg(test)]
-mod ranges;
-#[cfg(test)]
 mod refusals;
-#[cfg(test)]
-mod replaying;
 #[cfg(test)]
 mod scanning;
 #[cfg(test)]
 mod sharing;
 #[cfg(test)]
-mod tree;
+mod walking;
 #[cfg(test)]
 mod words;

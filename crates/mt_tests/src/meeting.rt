@@ -1,19 +1,12 @@
 //! Workers that meet: a thread that waits for another shows that there is another.
-ghost use Rattle.std.specs.Prelude.{◌≡◌, IfOk};
-ghost use Rattle.mt_board.specs.Board.{fresh_passes};
 ghost use Rattle.mt_scan.specs.SourceTypes.{seen_of_memory};
 
 use crate::asserting::assert_same;
 use crate::logs::LOG_OF_THREE;
-use mt_board::Pass;
-use mt_recover::{
-    Cuts, Cutting, Gate, Inputs, Job, NoGate, Recovered, Workers, audit, check_logs, prepare,
-    recover, recover_one,
-};
+use mt_recover::{Cuts, Cutting, Gate, Inputs, Pieces, Workers, audit, check_logs, recover};
 use mt_scan::{MemSource, Rack, Source, SourceFault};
 use mt_words::{Fault, Key};
 use std::process::Abort;
-use std::slice;
 use std::sync::atomic::{AtomicU64, Ordering};
 use std::thread::Threads;
 
@@ -42,8 +35,8 @@ pub struct Meeting {
     own: AtomicU64,
     /// How often the others have entered.
     others: AtomicU64,
-    /// 1 if the first worker saw them enter `wanted` times, else 0.
-    met: AtomicU64,
+    /// A byte for each of the first eight pieces, from the lowest: how often it was entered.
+    pieces: AtomicU64,
 }
 
 impl Meeting {
@@ -54,33 +47,30 @@ impl Meeting {
             first: AtomicU64::new(0),
             own: AtomicU64::new(0),
             others: AtomicU64::new(0),
-            met: AtomicU64::new(0),
+            pieces: AtomicU64::new(0),
         }
     }
 
-    /// Whether the first worker saw the others enter as often as it waited for.
-    pub fn has_met(&self) -> bool {
-        self.met.load(Ordering::SeqCst) == 1
-    }
-
-    /// Returns how often the first worker has entered, and how often the others have.
-    pub fn entries(&self) -> (u64, u64) {
+    /// Returns how often the first worker has entered, how often the others have, and how often each piece was entered, a
+    /// byte a piece.
+    pub fn entries(&self) -> (u64, u64, u64) {
         let own = self.own.load(Ordering::SeqCst);
-        (own, self.others.load(Ordering::SeqCst))
+        let others = self.others.load(Ordering::SeqCst);
+        (own, others, self.pieces.load(Ordering::SeqCst))
     }
 }
 
 impl Gate for Meeting {
-    fn enter(&self, worker: u32, _piece: u32) {
+    fn enter(&self, worker: u32, piece: u32) {
+        let of_piece = 1_u64.wrapping_shl(piece.wrapping_mul(8));
+        self.pieces.fetch_add(of_piece, Ordering::SeqCst);
         let worker = u64::from(worker).saturating_add(1);
         let first = self
             .first
             .compare_exchange(0, worker, Ordering::SeqCst, Ordering::SeqCst);
         let count = match first {
             Ok(_) => {
-                if is_reached_in_time(&self.others, self.wanted) {
-                    self.met.store(1, Ordering::SeqCst);
-                }
+                is_reached_in_time(&self.others, self.wanted);
                 &self.own
             }
             Err(first) if first == worker => &self.own,
@@ -120,8 +110,41 @@ impl Source for Waiting<'_> {
     }
 }
 
+/// What is asked of two sources that wait for each other.
+#[derive(Clone, Copy)]
+enum Call {
+    Recover,
+    /// To recover from them as parts, without a log.
+    RecoverParts,
+    Audit,
+    CheckLogs,
+}
+
+/// Makes the call. Returns its fault, if any.
+fn fault_of<R: Abort + AllocGlobal + Threads + Sync, S: Source + Send>(
+    rt: &R,
+    call: Call,
+    sources: Vec<S>,
+    workers: Workers,
+    gate: &Meeting,
+) -> Option<Fault> {
+    let cutting = Cutting::Even(Pieces::new(3).expect(rt, "1 to 4,096 pieces"));
+    let alloc = rt.alloc();
+    let (logs, parts) = match call {
+        Call::RecoverParts => (Vec::new(alloc), sources),
+        _ => (sources, Vec::new(alloc)),
+    };
+    match call {
+        Call::Audit => audit(rt, alloc, Inputs { logs, parts }, workers).err(),
+        Call::CheckLogs => check_logs(rt, alloc, logs, workers, 9)
+            .err()
+            .map(Fault::from),
+        _ => recover(rt, alloc, Inputs { logs, parts }, workers, cutting, gate).err(),
+    }
+}
+
 /// Returns the log of three keys as a waiting source for each slot.
-fn sources_that_wait<'a, R: Abort + AllocGlobal>(
+fn sources_in<'a, R: Abort + AllocGlobal>(
     rt: &R,
     rack: &'a mut Rack,
     begun: &'a AtomicU64,
@@ -140,107 +163,70 @@ fn sources_that_wait<'a, R: Abort + AllocGlobal>(
     sources
 }
 
-/// Returns cuts at the keys of these letters.
-pub fn cuts_at<R: Abort + AllocGlobal>(rt: &R, letters: &[u8]) -> Cutting {
-    let mut keys = Vec::new(rt.alloc());
-    for letter in letters {
-        let bytes = Vec::from_slice(rt.alloc(), slice::from_ref(letter)).expect(rt, "memory");
-        keys.push(Key::new(bytes).expect(rt, "a key"))
-            .expect(rt, "memory");
-    }
-    Cutting::At(Cuts::new(keys).expect(rt, "letters that rise"))
-}
-
-/// Prepares a job for two workers, cut at these letters.
-pub fn prepare_for_two<R: Abort + AllocGlobal + Threads + Sync, S: Source + Send>(
+/// Makes the call with two logs of three keys, which wait for each other. Returns how many of them met, and its fault.
+fn meet<R: Abort + AllocGlobal + Threads + Sync>(
     rt: &R,
-    inputs: Inputs<S>,
-    letters: &[u8],
-) -> Result<(Job, Vec<Pass>), Fault>
-    ensures { IfOk result (λ opened. opened.1.items ≡ fresh_passes opened.0.board 2) }
-{
-    let workers = Workers::new(2).expect(rt, "two workers");
-    prepare(rt, rt.alloc(), inputs, workers, cuts_at(rt, letters))
+    call: Call,
+    workers: u32,
+    gate: &Meeting,
+) -> (u64, Option<Fault>) {
+    let workers = Workers::new(workers).expect(rt, "1 to 64 workers");
+    let (begun, met) = (AtomicU64::new(0), AtomicU64::new(0));
+    let mut rack = Rack::new(rt.alloc(), 2, 16).expect(rt, "memory");
+    let sources = sources_in(rt, &mut rack, &begun, &met);
+    let fault = fault_of(rt, call, sources, workers, gate);
+    (met.load(Ordering::SeqCst), fault)
 }
 
-/// Recovers with two workers in four pieces, cut at c, d and e.
-pub fn recover_by_two<R: Abort + AllocGlobal + Threads + Sync, S: Source + Send, G: Gate>(
-    rt: &R,
-    inputs: Inputs<S>,
-    gate: &G,
-) -> Result<Recovered, Fault> {
-    let workers = Workers::new(2).expect(rt, "two workers");
-    recover(rt, rt.alloc(), inputs, workers, cuts_at(rt, b"cde"), gate)
-}
-
+// Each of the three keys is a piece. The second worker takes those that the first one leaves.
 #[test]
 fn two_workers_meet_in_scans_and_at_a_gate(rt: HostRuntime) {
-    let mut rack = Rack::new(rt.alloc(), 2, 16).expect(&rt, "memory");
-    let (begun, scans) = (AtomicU64::new(0), AtomicU64::new(0));
-    let gate = Meeting::new(1);
-    let logs = sources_that_wait(&rt, &mut rack, &begun, &scans);
-    let parts = Vec::new(rt.alloc());
-    let recovered = recover_by_two(&rt, Inputs { logs, parts }, &gate);
-    assert!(rt; recovered.is_ok());
-    assert_same(&rt, &scans.load(Ordering::SeqCst), &2);
-    assert!(rt; gate.has_met());
+    let gate = Meeting::new(2);
+    assert_same(&rt, &meet(&rt, Call::Recover, 2, &gate), &(2, None));
+    assert_same(&rt, &gate.entries(), &(1, 2, 0x01_01_01));
 }
 
-/// Whether this many workers read the logs without a fault: for an audit (way 0), or for a check (any other).
-fn are_read<R: Abort + AllocGlobal + Threads + Sync, S: Source + Send>(
+/// Recovers the log of three keys with one worker, cut so. Returns the entries at the gate.
+fn entries_of_one<R: Abort + AllocGlobal + Threads + Sync>(
     rt: &R,
-    logs: Vec<S>,
-    workers: u32,
-    way: u32,
-) -> bool {
-    let workers = Workers::new(workers).expect(rt, "1 to 64 workers");
-    if way > 0 {
-        return check_logs(rt, rt.alloc(), logs, workers, 9).is_ok();
-    }
+    cutting: Cutting,
+) -> (u64, u64, u64) {
+    let mut rack = Rack::new(rt.alloc(), 1, 16).expect(rt, "memory");
+    let slot = rack.slots().first_mut().expect(rt, "a slot");
+    let source = MemSource::new(LOG_OF_THREE, slot).expect(rt, "a full slot");
+    let mut logs = Vec::new(rt.alloc());
+    logs.push(source).expect(rt, "memory");
     let parts = Vec::new(rt.alloc());
-    audit(rt, rt.alloc(), Inputs { logs, parts }, workers).is_ok()
-}
-
-/// Checks that two workers read both logs at once, and that one worker reads one after the other: then the first sees no
-/// other begin, and the second has seen it.
-fn assert_at_once<R: Abort + AllocGlobal + Threads + Sync>(rt: &R, workers: u32, way: u32) {
-    let mut rack = Rack::new(rt.alloc(), 2, 16).expect(rt, "memory");
-    let (begun, met) = (AtomicU64::new(0), AtomicU64::new(0));
-    let logs = sources_that_wait(rt, &mut rack, &begun, &met);
-    assert!(rt; are_read(rt, logs, workers, way));
-    assert_same(rt, &met.load(Ordering::SeqCst), &u64::from(workers));
+    let (one, gate) = (Workers::new(1).expect(rt, "one worker"), Meeting::new(0));
+    let recovered = recover(rt, rt.alloc(), Inputs { logs, parts }, one, cutting, &gate);
+    assert_same(rt, &recovered.expect(rt, "a store").report().keys, &3);
+    gate.entries()
 }
 
 #[test]
-fn an_audit_and_a_check_read_as_many_logs_at_once_as_they_have_workers(rt: HostRuntime) {
-    for workers in 1..3 {
-        assert_at_once(&rt, workers, 0);
-        assert_at_once(&rt, workers, 1);
-    }
+fn a_worker_enters_each_piece_that_is_asked_for_once(rt: HostRuntime) {
+    let key = Key::new(Vec::new(rt.alloc())).expect(&rt, "a key");
+    let cuts = Cuts::new(vec![in rt.alloc(); key].expect(&rt, "memory"));
+    let cutting = Cutting::At(cuts.expect(&rt, "keys that rise"));
+    assert_same(&rt, &entries_of_one(&rt, cutting), &(2, 0, 0x01_01));
+    let three = Cutting::Sampled(Pieces::new(3).expect(&rt, "three pieces"));
+    assert_same(&rt, &entries_of_one(&rt, three), &(3, 0, 0x01_01_01));
 }
 
-/// Returns the fault of the inputs: by one thread (way 0), by two workers (1), or of `prepare` (any other).
-fn fault_of<R: Abort + AllocGlobal + Threads + Sync, S: Source + Send>(
-    rt: &R,
-    inputs: Inputs<S>,
-    way: u32,
-) -> Option<Fault> {
-    match way {
-        0 => recover_one(rt.alloc(), inputs).err(),
-        1 => recover_by_two(rt, inputs, &NoGate).err(),
-        _ => prepare_for_two(rt, inputs, b"").err(),
+// One worker reads one log after the other: then the first sees no other begin, and the second has seen it.
+#[test]
+fn an_audit_and_a_check_read_as_many_logs_at_once_as_they_have_workers(rt: HostRuntime) {
+    let gate = Meeting::new(0);
+    for workers in 1..3 {
+        for call in [Call::Audit, Call::CheckLogs] {
+            let met = meet(&rt, call, workers, &gate);
+            assert_same(&rt, &met, &(u64::from(workers), None));
+        }
     }
 }
 
 #[test]
 fn without_a_log_no_part_is_read(rt: HostRuntime) {
-    let (begun, met) = (AtomicU64::new(0), AtomicU64::new(0));
-    for way in 0..3 {
-        let mut rack = Rack::new(rt.alloc(), 2, 16).expect(&rt, "memory");
-        let logs = Vec::new(rt.alloc());
-        let parts = sources_that_wait(&rt, &mut rack, &begun, &met);
-        let fault = fault_of(&rt, Inputs { logs, parts }, way);
-        assert_same(&rt, &fault, &Some(Fault::NoLogs));
-    }
-    assert_same(&rt, &begun.load(Ordering::SeqCst), &0);
+    let met = meet(&rt, Call::RecoverParts, 1, &Meeting::new(0));
+    assert_same(&rt, &met, &(0, Some(Fault::NoLogs)));
 }

@@ -2,129 +2,11 @@
 ghost use Rattle.std.specs.Prelude.{◌≡◌};
 
 use crate::asserting::assert_same;
-use crate::logs::{LOG_FROM_3_TO_9, LOG_WITH_A_BAD_TRAILER};
+use crate::logs::LOG_FROM_3_TO_9;
 use mt_board::{Board, Pass};
-use mt_scan::{LogScan, MemSource, Rack, Source, SourceFault, scan_log, scan_shared};
-use mt_words::{Fault, What};
+use mt_scan::{Source, SourceFault, scan_shared};
 use std::marker::Model;
 use std::process::Abort;
-
-/// Opens a board without numbers, and returns it with its two passes in order.
-fn open<R: Abort + AllocGlobal>(rt: &R) -> (Board, Pass, Pass)
-    ensures { (result.1.board ≡ result.0) × (result.2.board ≡ result.0) }
-{
-    let opened = Board::open(rt.alloc(), 0, 2);
-    let (board, mut passes) = opened.expect(rt, "a board");
-    let second = passes.pop().expect(rt, "a second pass");
-    let first = passes.pop().expect(rt, "a first pass");
-    (board, first, second)
-}
-
-/// Closes the board with its two passes, and returns its least number.
-fn close<R: Abort + AllocGlobal>(rt: &R, board: Board, first: Pass, second: Pass) -> u64
-    requires { (first.board ≡ board) × (second.board ≡ board) }
-{
-    let passes = vec![in rt.alloc(); first, second].expect(rt, "memory");
-    let closed = board.close(passes).ok();
-    closed.expect(rt, "a board closed").least
-}
-
-/// Scans the source as log 0. The pass stays the board's.
-fn scan<R: AllocGlobal, S: Source>(
-    rt: &R,
-    source: &mut S,
-    board: &Board,
-    pass: &mut Pass,
-) -> Result<LogScan, Fault>
-    requires { pass.old.board ≡ board.now }
-    ensures { pass.new.board ≡ board.now }
-{
-    scan_shared(rt.alloc(), source, 0, board, pass)
-}
-
-/// Scans the log with the first pass and a buffer of this size, after the second pass noted this number, if any.
-/// Returns the scan, and the least number of the closed board.
-fn scan_after<R: Abort + AllocGlobal>(
-    rt: &R,
-    noted: Option<u64>,
-    log: &[u8],
-    size: usize,
-) -> (Result<LogScan, Fault>, u64) {
-    let (board, mut first, mut second) = open(rt);
-    if let Some(number) = noted {
-        board.note(&mut second, number);
-    }
-    let mut rack = Rack::new(rt.alloc(), 1, size.clamp(1, 65_536)).expect(rt, "memory");
-    let slot = rack.slots().first_mut().expect(rt, "a slot");
-    let mut source = MemSource::new(log, slot).expect(rt, "a full slot");
-    let answer = scan(rt, &mut source, &board, &mut first);
-    (answer, close(rt, board, first, second))
-}
-
-/// Checks that the scan is that of the log from 3 to 9, with `kept` updates kept and `dropped` dropped.
-fn assert_scan<R: Abort>(rt: &R, answer: Result<LogScan, Fault>, kept: usize, dropped: u64) {
-    let scan = answer.expect(rt, "a scan");
-    assert_same(rt, &(scan.updates.len(), scan.dropped), &(kept, dropped));
-    assert_same(rt, &(scan.marks, scan.whole), &(1, 4));
-    assert_same(rt, &(scan.last, scan.torn), &(9, false));
-}
-
-/// Sizes of buffers: a single byte, less than a record, and more than the log.
-const SIZES: [usize; 3] = [1, 16, 65_536];
-
-#[test]
-fn updates_at_or_past_the_least_number_are_dropped(rt: HostRuntime) {
-    for size in SIZES {
-        let (answer, least) = scan_after(&rt, Some(5), LOG_FROM_3_TO_9, size);
-        assert_scan(&rt, answer, 1, 2);
-        assert_same(&rt, &least, &5);
-    }
-}
-
-#[test]
-fn a_scan_keeps_all_where_nothing_was_noted(rt: HostRuntime) {
-    for size in SIZES {
-        let (answer, least) = scan_after(&rt, None, LOG_FROM_3_TO_9, size);
-        assert_scan(&rt, answer, 3, 0);
-        assert_same(&rt, &least, &9);
-    }
-}
-
-#[test]
-fn a_scan_by_itself_keeps_all(rt: HostRuntime) {
-    let mut rack = Rack::new(rt.alloc(), 1, 16).expect(&rt, "memory");
-    let slot = rack.slots().first_mut().expect(&rt, "a slot");
-    let mut source = MemSource::new(LOG_FROM_3_TO_9, slot).expect(&rt, "a full slot");
-    assert_scan(&rt, scan_log(rt.alloc(), &mut source, 0), 3, 0);
-}
-
-#[test]
-fn a_scan_with_a_fault_notes_nothing(rt: HostRuntime) {
-    let trailer = Fault::Record {
-        log: 0,
-        nth: 3,
-        what: What::Trailer,
-    };
-    for (noted, expected) in [(Some(5), 5), (None, u64::MAX)] {
-        let (answer, least) = scan_after(&rt, noted, LOG_WITH_A_BAD_TRAILER, 16);
-        assert_same(&rt, &answer.err(), &Some(trailer));
-        assert_same(&rt, &least, &expected);
-    }
-}
-
-/// Segment 0 of the log of worker 7: a put of key c at timestamp 1.
-const SEGMENT: &[u8] = b"MTL3\0\0\0\0\0\0\0\0\0\0\0\x07\0\0\0\0\
-    \0\0\0\x19\x01\0\0\0\0\0\0\0\x01\0\0\0\0\0\0\0\x01\0\x01c\x01\0\0\x01z\0\0\0\x19";
-
-#[test]
-fn a_scan_of_a_segment_notes_nothing(rt: HostRuntime) {
-    for size in SIZES {
-        let (answer, least) = scan_after(&rt, None, SEGMENT, size);
-        let scan = answer.expect(&rt, "a scan");
-        assert_same(&rt, &(scan.updates.len(), scan.last), &(1, 1));
-        assert_same(&rt, &least, &u64::MAX);
-    }
-}
 
 /// The length of the first chunk: the header and a put.
 const FIRST_PIECE: usize = 45;
@@ -180,27 +62,26 @@ impl Source for Noting<'_> {
     }
 }
 
-/// Scans that source, and checks that only what lies below 5 is kept. Returns the least number afterwards.
-fn scan_noting<R: Abort + AllocGlobal>(rt: &R, at_end: u64) -> u64 {
-    let (board, mut first, second) = open(rt);
+/// Scans that source. Returns how many updates are kept, how many are dropped, and the least number afterwards.
+fn scan_noting<R: Abort + AllocGlobal>(rt: &R, at_end: u64) -> (usize, u64, u64) {
+    let opened = Board::open(rt.alloc(), 0, 2);
+    let (board, mut passes) = opened.expect(rt, "a board");
+    let pass = passes.pop().expect(rt, "a second pass");
+    let mut first = passes.pop().expect(rt, "a first pass");
     let mut source = Noting {
         board: &board,
-        pass: second,
+        pass,
         shown: &[],
         rest: LOG_FROM_3_TO_9,
         at_end,
     };
-    let answer = scan(rt, &mut source, &board, &mut first);
-    assert_scan(rt, answer, 1, 2);
-    board.least(&mut first)
+    let scan = scan_shared(rt.alloc(), &mut source, 0, &board, &mut first);
+    let scan = scan.expect(rt, "a scan");
+    (scan.updates.len(), scan.dropped, board.least(&mut first))
 }
 
 #[test]
-fn a_scan_finds_what_is_noted_meanwhile(rt: HostRuntime) {
-    assert_same(&rt, &scan_noting(&rt, u64::MAX), &5);
-}
-
-#[test]
-fn a_scan_looks_before_the_last_call_of_its_source(rt: HostRuntime) {
-    assert_same(&rt, &scan_noting(&rt, 2), &2);
+fn a_scan_looks_before_each_call_of_its_source(rt: HostRuntime) {
+    assert_same(&rt, &scan_noting(&rt, u64::MAX), &(1, 2, 5));
+    assert_same(&rt, &scan_noting(&rt, 2), &(1, 2, 2));
 }
