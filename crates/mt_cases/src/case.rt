@@ -1,15 +1,14 @@
 //! A case in one pass: what is recovered or run, and what is expected.
-use crate::answer::{cuts_at, recover_from_memory, write_answer};
-use crate::devices::Outputs;
-use crate::draft::Draft;
-use crate::folder::Folder;
+use crate::answer::{cuts_of, recover_from_memory, write_answer};
+use crate::blocks::words_of;
+use crate::devices::outputs_of;
+use crate::draft::{Draft, Named};
+use crate::folder::{Entry, Kind};
 use crate::mistake::Mistake;
-use crate::names::{Named, begin_draft};
 use crate::passes::Pass;
-use crate::report::names_of;
-use crate::runs::{Ends, Run, Runs};
+use crate::runs::{Group, Run};
 use crate::source::inputs_of;
-use crate::words::{bytes_of, push_line, small_of};
+use crate::words::{number_of, push_line};
 use mt_recover::{Cutting, NoGate, Pieces, Recovered, Workers, recover, recover_one};
 use mt_scan::{LONGEST_BUFFER, Rack};
 use mt_words::Fault;
@@ -23,19 +22,15 @@ pub struct Case {
     drafts: Vec<Draft>,
     /// The one size of all buffers, if the case names it.
     size: Option<usize>,
-    /// The keys of each line `cuts`.
-    cuts: Vec<Vec<Vec<u8>>>,
+    /// The lines `cuts`.
+    cuts: Vec<String>,
     /// The expected text of recovery.
     expected: Vec<u8>,
-    /// Whether the case also expects a choice of checkpoint.
-    has_choice: bool,
-    /// The names of the report fields expected, line by line.
-    report: Vec<Vec<String>>,
     /// What commands find in the folder F.
-    folder: Folder,
-    runs: Runs,
-    /// The outputs on which commands run, if the case names some.
-    outputs: Vec<Outputs>,
+    folder: Vec<Entry>,
+    groups: Vec<Group>,
+    /// The lines `output` and `outputs`. Commands run once on each of these outputs.
+    outputs: Vec<String>,
 }
 
 /// How a case is tried.
@@ -46,11 +41,22 @@ pub enum Way<'a> {
     /// From sources with buffers of this size, on one thread.
     Buffers(usize),
     /// By `workers` workers, in `pieces` even pieces.
-    Even { workers: u32, pieces: u32 },
-    /// By `workers` workers, cut at the keys of line `line` of the case's lines `cuts`, counted from 0.
-    At { workers: u32, line: usize },
-    /// By the run of a command on these outputs.
-    Run { run: &'a Run, outputs: Outputs },
+    Even {
+        workers: u32,
+        pieces: u32,
+    },
+    /// By `workers` workers, cut at the keys of this line `cuts`, whose number counts from 0.
+    At {
+        workers: u32,
+        number: usize,
+        line: &'a str,
+    },
+    /// By the run of a command, which must end as these lines say, on the outputs of a line, which may be empty.
+    Run {
+        run: &'a Run,
+        ends: &'a str,
+        outputs: &'a str,
+    },
 }
 
 /// The sizes of buffers, if a case names none.
@@ -70,10 +76,8 @@ impl Case {
             size: None,
             cuts: Vec::new(alloc),
             expected: Vec::new(alloc),
-            has_choice: false,
-            report: Vec::new(alloc),
-            folder: Folder::new(alloc),
-            runs: Runs::new(alloc),
+            folder: Vec::new(alloc),
+            groups: Vec::new(alloc),
             outputs: Vec::new(alloc),
         }
     }
@@ -87,258 +91,221 @@ impl Case {
         words: &[&str],
     ) -> Result<(), Mistake> {
         match words {
-            ["log" | "part", ..] => Ok(self.drafts.push(begin_draft(alloc, names, words)?)?),
-            ["file" | "folder" | "dead", ..] => self.folder.add(alloc, names, words),
+            ["log" | "part", ..] => Ok(self.drafts.push(Draft::begin(alloc, names, words)?)?),
+            ["file" | "folder" | "dead", ..] => {
+                let entry = Entry::of_line(alloc, names, &self.folder, words)?;
+                Ok(self.folder.push(entry)?)
+            }
             // Lines `each` stand right after `case`, one for each letter.
-            ["each", ..] => Err(Mistake::Line),
+            ["each", ..] => Err(Mistake::LINE),
             ["buffers", size] => self.use_buffers(size),
-            ["cuts", keys @ ..] => self.cut_at(alloc, keys),
-            ["output" | "outputs", _] => Ok(self.outputs.push(Outputs::of_line(words)?)?),
-            ["run", ..] => self.runs.add(alloc, line, words),
-            ["prints" | "errs" | "status", ..] => self.runs.expect(line),
-            _ if is_expected(words) => self.expect(alloc, words),
+            ["cuts", ..] => {
+                // Read here, so that a mistake names this line.
+                cuts_of(alloc, line)?;
+                Ok(self.cuts.push(String::from_str(alloc, line)?)?)
+            }
+            ["output" | "outputs", _] => {
+                outputs_of(alloc, words)?;
+                Ok(self.outputs.push(String::from_str(alloc, line)?)?)
+            }
+            ["run", ..] => self.add_run(alloc, line, words),
+            ["prints" | "errs" | "status", ..] => match self.groups.last_mut() {
+                Some(group) => group.expect(line),
+                None => Err(Mistake::NO_RUN),
+            },
+            _ if is_expected(words) => push_line(alloc, words, &mut self.expected),
             _ => self.go_on(alloc, words),
         }
     }
 
     /// Gives all sources buffers of this size. Err: not a number from 1 to 65,536.
     fn use_buffers(&mut self, size: &str) -> Result<(), Mistake> {
-        let size = small_of::<usize>(size)?;
+        let size = number_of::<usize>(size)?;
         if size == 0 || size > LONGEST_BUFFER {
-            return Err(Mistake::Number);
+            return Err(Mistake::NUMBER);
         }
         self.size = Some(size);
         Ok(())
     }
 
-    /// Adds a way to try the case: with its keys cut at these. Err: the keys are not cuts.
-    fn cut_at(&mut self, alloc: Global, words: &[&str]) -> Result<(), Mistake> {
-        let keys = keys_of(alloc, words)?;
-        // Checked here, so that the mistake names this line.
-        cuts_at(alloc, &keys)?;
-        Ok(self.cuts.push(keys)?)
-    }
-
-    /// Adds a line to what is expected.
-    fn expect(&mut self, alloc: Global, words: &[&str]) -> Result<(), Mistake> {
-        match words {
-            ["choice", ..] => self.has_choice = true,
-            ["report", fields @ ..] => self.report.push(names_of(alloc, fields)?)?,
-            _ => {}
+    /// Adds the command of a line `run ..`. Those that follow one another have the same expectation.
+    fn add_run(&mut self, alloc: Global, line: &str, words: &[&str]) -> Result<(), Mistake> {
+        let run = Run::of_line(alloc, line, words)?;
+        match self.groups.last_mut() {
+            Some(group) if !group.is_whole() => Ok(group.runs.push(run)?),
+            _ => Ok(self.groups.push(Group::of(alloc, run)?)?),
         }
-        push_line(alloc, words, &mut self.expected)
     }
 
     /// Adds a line to the last log, part or file. Err if there is none.
     fn go_on(&mut self, alloc: Global, words: &[&str]) -> Result<(), Mistake> {
-        if let Some(file) = self.folder.last_file() {
-            return file.add_to_bytes(alloc, words);
+        if let Some(
+            Entry {
+                kind: Kind::File(file),
+                ..
+            },
+        ) = self.folder.last_mut()
+        {
+            return file.add(alloc, words);
         }
-        match self.drafts.last_mut() {
-            Some(draft) => draft.add(alloc, words),
-            None => Err(Mistake::NoDraft),
+        let Some(draft) = self.drafts.last_mut() else {
+            return Err(Mistake::NO_DRAFT);
+        };
+        match words {
+            ["fail", call] => draft.fail_from(number_of(call)?),
+            _ => draft.add(alloc, words),
         }
     }
 
     /// Encodes the parts that are still drafts. Err: the case expects nothing, a part cannot be encoded, or there are
     /// logs or parts beside what takes files.
-    pub fn finish(&mut self) -> Result<(), Mistake> {
-        if self.expected.is_empty() && !self.runs.are_whole() {
-            return Err(Mistake::Nothing);
+    pub fn finish(&mut self, alloc: Global) -> Result<(), Mistake> {
+        if self.expected.is_empty() && !self.groups.last().is_some_and(Group::is_whole) {
+            return Err(Mistake::NOTHING);
         }
-        if !self.drafts.is_empty() && (self.runs.have_mtdump() || !self.folder.is_empty()) {
-            return Err(Mistake::Mixed);
+        let takes_files = !self.folder.is_empty() || self.groups.iter().any(Group::has_mtdump);
+        if takes_files && !self.drafts.is_empty() {
+            return Err(Mistake::MIXED);
+        }
+        if self.outputs.is_empty() {
+            self.outputs.push(String::new(alloc))?;
         }
         for draft in &mut self.drafts {
             draft.spell_part()?;
         }
-        self.folder.spell_parts()
+        for entry in &mut self.folder {
+            if let Kind::File(draft) = &mut entry.kind {
+                draft.spell_part()?;
+            }
+        }
+        Ok(())
     }
 
     /// Returns the ways in which the case is tried in this pass.
     pub fn ways(&self, alloc: Global, pass: Pass) -> Result<Vec<Way<'_>>, Mistake> {
-        let mut ways = Vec::new(alloc);
-        if !self.expected.is_empty() {
-            self.push_ways_of_one_thread(&mut ways)?;
-            push_even_ways(pass, &mut ways)?;
-            for workers in WORKERS {
-                self.push_cut_ways(workers, &mut ways)?;
+        let mut ways = self.recoveries(alloc, pass)?;
+        for group in &self.groups {
+            for run in &group.runs {
+                for outputs in &self.outputs {
+                    let (ends, outputs) = (group.ends.as_str(), outputs.as_str());
+                    ways.push(Way::Run { run, ends, outputs })?;
+                }
             }
         }
-        self.push_runs(&mut ways)?;
         Ok(ways)
     }
 
-    /// Appends the ways on one thread: from memory only if there are no parts, no source fails and no size is named.
-    fn push_ways_of_one_thread(&self, ways: &mut Vec<Way<'_>>) -> Result<(), Mistake> {
+    /// Returns the ways of recovery: from memory only if there are no parts, no source fails and no size is named.
+    fn recoveries(&self, alloc: Global, pass: Pass) -> Result<Vec<Way<'_>>, Mistake> {
+        let mut ways = Vec::new(alloc);
+        if self.expected.is_empty() {
+            return Ok(ways);
+        }
         if let Some(size) = self.size {
-            return Ok(ways.push(Way::Buffers(size))?);
-        }
-        if self.drafts.iter().all(is_steady_log) {
-            ways.push(Way::Memory)?;
-        }
-        for size in SIZES {
             ways.push(Way::Buffers(size))?;
-        }
-        Ok(())
-    }
-
-    /// Appends the ways at given cuts with this number of workers.
-    fn push_cut_ways(&self, workers: u32, ways: &mut Vec<Way<'_>>) -> Result<(), Mistake> {
-        for line in 0..self.cuts.len() {
-            ways.push(Way::At { workers, line })?;
-        }
-        Ok(())
-    }
-
-    /// Appends the runs: each command on each of the outputs.
-    fn push_runs<'a>(&'a self, ways: &mut Vec<Way<'a>>) -> Result<(), Mistake> {
-        for run in &self.runs.list {
-            if self.outputs.is_empty() {
-                let outputs = Outputs::WORK;
-                ways.push(Way::Run { run, outputs })?;
+        } else {
+            if self.drafts.iter().all(Draft::is_steady_log) {
+                ways.push(Way::Memory)?;
             }
-            for outputs in &self.outputs {
-                let outputs = *outputs;
-                ways.push(Way::Run { run, outputs })?;
+            for size in SIZES {
+                ways.push(Way::Buffers(size))?;
             }
         }
-        Ok(())
+        for (place, (workers, pieces)) in EVEN.into_iter().enumerate() {
+            if pass.takes(place) {
+                ways.push(Way::Even { workers, pieces })?;
+            }
+        }
+        for workers in WORKERS {
+            for (number, line) in self.cuts.iter().enumerate() {
+                let line = line.as_str();
+                ways.push(Way::At {
+                    workers,
+                    number,
+                    line,
+                })?;
+            }
+        }
+        Ok(ways)
     }
 
     /// Returns the text that is expected in this way.
     pub fn expected_in<'a>(&'a self, way: Way<'a>) -> &'a [u8] {
         match way {
-            Way::Run { run, .. } => &run.expected,
+            Way::Run { ends, .. } => ends.as_bytes(),
             _ => &self.expected,
         }
     }
 
-    /// Tries the case in this way. Returns what comes, as text, or None if it is what is expected.
-    pub fn differs<R>(&self, rt: &R, way: Way<'_>) -> Result<Option<Vec<u8>>, Mistake>
+    /// Tries the case in this way. Returns what comes, as text, which is the expected text if it is what is expected.
+    pub fn come<R>(&self, rt: &R, way: Way<'_>) -> Result<Vec<u8>, Mistake>
     where
         R: AllocGlobal + Clone + Drop + Files + Threads + Sync,
         R::File: Send,
     {
-        if let Way::Run { run, outputs } = way {
-            return run.differs(rt.alloc(), &self.run(rt, run, outputs)?);
-        }
-        let came = self.come(rt, way)?;
-        if came == self.expected {
-            return Ok(None);
-        }
-        Ok(Some(came))
-    }
-
-    /// Runs the command on these outputs: in the folder F, or on the logs and parts if the case has some.
-    fn run<R>(&self, rt: &R, run: &Run, outputs: Outputs) -> Result<Ends, Mistake>
-    where
-        R: AllocGlobal + Clone + Drop + Files + Threads + Sync,
-        R::File: Send,
-    {
-        if self.drafts.is_empty() {
-            return run.end_in(rt, &self.folder, outputs);
-        }
-        let size = self.size.unwrap_or(LONGEST_BUFFER);
-        run.end_on(rt, &self.drafts, size, outputs)
-    }
-
-    /// Recovers the case in this way, and returns the result as text.
-    fn come<R: AllocGlobal + Threads + Sync>(
-        &self,
-        rt: &R,
-        way: Way<'_>,
-    ) -> Result<Vec<u8>, Mistake> {
-        let answer = match way {
-            Way::Memory => recover_from_memory(rt.alloc(), &self.drafts)?,
-            _ => self.recover_from_sources(rt, way)?,
+        let size = match way {
+            Way::Buffers(size) => size,
+            _ => self.size.unwrap_or(LONGEST_BUFFER),
         };
-        let mut text = Vec::new(rt.alloc());
-        let (has_choice, report) = (self.has_choice, self.report.as_slice());
-        write_answer(rt.alloc(), answer, has_choice, report, &mut text)?;
-        Ok(text)
+        let answer = match way {
+            Way::Run { run, ends, outputs } => {
+                let outputs = outputs_of(rt.alloc(), &words_of(rt.alloc(), outputs)?)?;
+                let found = if self.drafts.is_empty() {
+                    run.end_in(rt, &self.folder, outputs)?
+                } else {
+                    run.end_on(rt, &self.drafts, size, outputs)?
+                };
+                return found.beside(rt.alloc(), ends);
+            }
+            Way::Memory => recover_from_memory(rt.alloc(), &self.drafts)?,
+            _ => self.recover_from_sources(rt, size, way)?,
+        };
+        write_answer(rt.alloc(), answer, &self.expected)
     }
 
-    /// Recovers the case from sources in this way. Err if a buffer is not back in its slot afterwards.
+    /// Recovers the case from sources with buffers of this size. Err if a buffer is not back in its slot afterwards.
     fn recover_from_sources<R: AllocGlobal + Threads + Sync>(
         &self,
         rt: &R,
+        size: usize,
         way: Way<'_>,
     ) -> Result<Result<Recovered, Fault>, Mistake> {
-        let size = self.size_in(way).clamp(1, LONGEST_BUFFER);
+        let size = size.clamp(1, LONGEST_BUFFER);
         let mut rack = Rack::new(rt.alloc(), self.drafts.len(), size)?;
         let inputs = inputs_of(rt.alloc(), &self.drafts, rack.slots())?;
-        let answer = match self.cutting_in(rt.alloc(), way)? {
+        let answer = match cutting_in(rt.alloc(), way)? {
             None => recover_one(rt.alloc(), inputs),
             Some((workers, cutting)) => {
                 recover(rt, rt.alloc(), inputs, workers, cutting, &NoGate)
             }
         };
         if !rack.all_full() {
-            return Err(Mistake::Slot);
+            return Err(Mistake::SLOT);
         }
         Ok(answer)
     }
-
-    /// Returns the size of the buffers in this way.
-    fn size_in(&self, way: Way<'_>) -> usize {
-        match way {
-            Way::Buffers(size) => size,
-            _ => self.size.unwrap_or(LONGEST_BUFFER),
-        }
-    }
-
-    /// Returns the workers of this way and how the keys are cut, or None for a way on one thread.
-    fn cutting_in(
-        &self,
-        alloc: Global,
-        way: Way<'_>,
-    ) -> Result<Option<(Workers, Cutting)>, Mistake> {
-        let (workers, cutting) = match way {
-            Way::Memory | Way::Buffers(_) | Way::Run { .. } => return Ok(None),
-            Way::Even { workers, pieces } => {
-                let pieces = Pieces::new(pieces).ok_or(Mistake::Number)?;
-                (workers, Cutting::Even(pieces))
-            }
-            Way::At { workers, line } => {
-                let keys = self.cuts.get(line).ok_or(Mistake::Line)?;
-                (workers, Cutting::At(cuts_at(alloc, keys)?))
-            }
-        };
-        let workers = Workers::new(workers).ok_or(Mistake::Number)?;
-        Ok(Some((workers, cutting)))
-    }
 }
 
-/// Appends the ways in even pieces that this pass takes.
-fn push_even_ways(pass: Pass, ways: &mut Vec<Way<'_>>) -> Result<(), Mistake> {
-    for (place, (workers, pieces)) in EVEN.into_iter().enumerate() {
-        if pass.takes(place) {
-            ways.push(Way::Even { workers, pieces })?;
+/// Returns the workers of this way and how the keys are cut, or None for a way on one thread.
+fn cutting_in(alloc: Global, way: Way<'_>) -> Result<Option<(Workers, Cutting)>, Mistake> {
+    let (workers, cutting) = match way {
+        Way::Memory | Way::Buffers(_) | Way::Run { .. } => return Ok(None),
+        Way::Even { workers, pieces } => {
+            let pieces = Pieces::new(pieces).ok_or(Mistake::NUMBER)?;
+            (workers, Cutting::Even(pieces))
         }
-    }
-    Ok(())
+        Way::At { workers, line, .. } => (workers, Cutting::At(cuts_of(alloc, line)?)),
+    };
+    let workers = Workers::new(workers).ok_or(Mistake::NUMBER)?;
+    Ok(Some((workers, cutting)))
 }
 
 /// Whether these words are a line that states an expectation.
 fn is_expected(words: &[&str]) -> bool {
     match words {
-        ["store"] | ["choice" | "report" | "fault", ..] => true,
+        ["store"] | ["choice" | "fault", ..] => true,
+        ["report", fields @ ..] => fields.iter().all(|field| field.contains('=')),
         [first, ..] => first.ends_with(':'),
         [] => false,
     }
-}
-
-/// Whether this is a log whose source does not fail.
-fn is_steady_log(draft: &Draft) -> bool {
-    draft.is_log && draft.fails.is_none()
-}
-
-/// Reads each word as a key.
-fn keys_of(alloc: Global, words: &[&str]) -> Result<Vec<Vec<u8>>, Mistake> {
-    let mut keys = Vec::new(alloc);
-    for word in words {
-        keys.push(bytes_of(alloc, word)?)?;
-    }
-    Ok(keys)
 }

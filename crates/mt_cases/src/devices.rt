@@ -3,124 +3,58 @@ use crate::mistake::Mistake;
 use std::alloc::Global;
 use std::io::{self, ErrorKind, Write};
 
-/// What happens to the bytes written.
-#[derive(Clone, Copy)]
-pub enum Device {
-    /// They are kept.
-    Works,
-    /// The device takes no byte.
-    Full,
-    /// The device has a buffer, and is full when that is flushed.
-    Unflushed,
-    /// The output is a pipe whose reader is gone.
-    Closed,
-    /// The system has no memory for the bytes.
-    Starved,
-}
-
-impl Device {
-    /// Reads the word for a device that fails.
-    fn of_word(word: &str) -> Result<Device, Mistake> {
-        match word {
-            "full" => Ok(Device::Full),
-            "unflushed" => Ok(Device::Unflushed),
-            "closed" => Ok(Device::Closed),
-            "starved" => Ok(Device::Starved),
-            _ => Err(Mistake::Line),
-        }
-    }
-
-    /// Returns its word.
-    fn word(self) -> &'static str {
-        match self {
-            Device::Works => "works",
-            Device::Full => "full",
-            Device::Unflushed => "unflushed",
-            Device::Closed => "closed",
-            Device::Starved => "starved",
-        }
-    }
-}
-
-/// The devices of standard output and standard error.
-#[derive(Clone, Copy)]
-pub struct Outputs {
-    pub out: Device,
-    pub err: Device,
-}
-
-impl Outputs {
-    /// Outputs that work.
-    pub const WORK: Outputs = Outputs {
-        out: Device::Works,
-        err: Device::Works,
-    };
-
-    /// Reads a line: `output DEVICE` for standard output, or `outputs DEVICE` for both.
-    pub fn of_line(words: &[&str]) -> Result<Outputs, Mistake> {
-        match words {
-            ["output", word] => Ok(Outputs {
-                out: Device::of_word(word)?,
-                err: Device::Works,
-            }),
-            ["outputs", word] => {
-                let device = Device::of_word(word)?;
-                Ok(Outputs {
-                    out: device,
-                    err: device,
-                })
-            }
-            _ => Err(Mistake::Line),
-        }
-    }
-
-    /// Appends ` with `, and the line that `of_line` reads. Appends nothing if both outputs work.
-    pub fn write(self, text: &mut Vec<u8>) -> io::Result<()> {
-        match (self.out, self.err) {
-            (Device::Works, _) => Ok(()),
-            (out, Device::Works) => write!(text, " with output {}", out.word()),
-            (out, _) => write!(text, " with outputs {}", out.word()),
-        }
-    }
-}
-
 /// An output, and what was written to it.
 #[derive(Drop)]
 pub struct Output {
     pub text: Vec<u8>,
-    device: Device,
+    /// The error of each write, if they fail.
+    write: Option<ErrorKind>,
+    /// The error of a flush, if it fails.
+    flush: Option<ErrorKind>,
 }
 
 impl Output {
-    /// Creates an output to which nothing was written.
-    pub fn new(alloc: Global, device: Device) -> Output {
-        Output {
-            text: Vec::new(alloc),
-            device,
-        }
+    /// Creates an output on the device of this word, to which nothing was written. The empty word is a device that works.
+    fn on(alloc: Global, device: &str) -> Result<Output, Mistake> {
+        let (write, flush) = match device {
+            "" => (None, None),
+            "full" => (Some(ErrorKind::StorageFull), None),
+            "unflushed" => (None, Some(ErrorKind::StorageFull)),
+            "closed" => (Some(ErrorKind::BrokenPipe), None),
+            "starved" => (Some(ErrorKind::OutOfMemory), None),
+            _ => return Err(Mistake::LINE),
+        };
+        let text = Vec::new(alloc);
+        Ok(Output { text, write, flush })
     }
 }
 
-/// The error of a full device.
-fn full() -> io::Error {
-    io::Error::from(ErrorKind::StorageFull)
+/// Returns standard output and standard error for the words of a line: `output DEVICE` for standard output, `outputs
+/// DEVICE` for both, or nothing for outputs that work.
+pub fn outputs_of(alloc: Global, words: &[&str]) -> Result<(Output, Output), Mistake> {
+    let (out, err) = match words {
+        [] => ("", ""),
+        ["output", device] => (*device, ""),
+        ["outputs", device] => (*device, *device),
+        _ => return Err(Mistake::LINE),
+    };
+    Ok((Output::on(alloc, out)?, Output::on(alloc, err)?))
 }
 
 impl Write for Output {
     fn write(&mut self, bytes: &[u8]) -> io::Result<usize> {
-        match self.device {
-            Device::Works => self.text.write(bytes),
-            Device::Full => Err(full()),
-            Device::Unflushed => Ok(bytes.len()),
-            Device::Closed => Err(io::Error::from(ErrorKind::BrokenPipe)),
-            Device::Starved => Err(io::Error::from(ErrorKind::OutOfMemory)),
+        match self.write {
+            Some(kind) => Err(io::Error::from(kind)),
+            None => self.text.write(bytes),
         }
     }
 
+    /// A buffer that cannot be flushed is lost.
     fn flush(&mut self) -> io::Result<()> {
-        match self.device {
-            Device::Unflushed => Err(full()),
-            _ => Ok(()),
+        if let Some(kind) = self.flush {
+            self.text.clear();
+            return Err(io::Error::from(kind));
         }
+        Ok(())
     }
 }

@@ -1,13 +1,21 @@
-//! A log or a part while its lines are read.
+//! A log or a part while its lines are read, and bytes with a name.
+use crate::blocks::{Line, words_of};
 use crate::mistake::Mistake;
 use crate::records::{entry_of, record_of};
-use crate::words::{byte_of, number_of, push_digits, small_of};
+use crate::words::{byte_of, number_of, push_digits};
 use mt_record::{
     PartHead, encode_log_header, encode_log_header_2, encode_log_header_3, encode_part,
     encode_part_2, encode_record,
 };
 use mt_words::{Entry, Format};
 use std::alloc::Global;
+
+/// Bytes with a name.
+#[derive(Drop)]
+pub struct Named<'a> {
+    name: &'a str,
+    bytes: Vec<u8>,
+}
 
 /// A part that still takes entries.
 #[derive(Drop)]
@@ -17,33 +25,6 @@ struct PartDraft {
     entries: Vec<Entry>,
 }
 
-impl PartDraft {
-    /// Appends the encoded part. Err: an entry that its format does not allow, too many entries for a footer, or out of
-    /// memory.
-    fn spell(&self, out: &mut Vec<u8>) -> Result<(), Mistake> {
-        let PartDraft { head, end, entries } = self;
-        // A footer can count no more.
-        if entries.len() > u32::MAX as usize {
-            return Err(Mistake::Number);
-        }
-        let PartHead {
-            format,
-            number,
-            begin,
-            part,
-            parts,
-        } = *head;
-        match format {
-            Format::One if !entries.iter().all(Entry::fits_format_1) => {
-                return Err(Mistake::Format);
-            }
-            Format::One => encode_part(number, begin, part, parts, *end, entries, out)?,
-            Format::Two => encode_part_2(number, begin, part, parts, *end, entries, out)?,
-        }
-        Ok(())
-    }
-}
-
 /// A log or a part, as far as its lines have been read.
 #[derive(Drop)]
 pub struct Draft {
@@ -51,54 +32,41 @@ pub struct Draft {
     /// The part, until it is encoded into the bytes. After that it takes no entry.
     part: Option<PartDraft>,
     pub bytes: Vec<u8>,
-    /// The first call of `advance` that fails on its source, counted from 1. None if the source does not fail.
+    /// The first call of `advance` that fails on its source, counted from 1.
     pub fails: Option<u64>,
 }
 
 impl Draft {
-    /// Creates the log or part of these bytes.
-    pub fn of_bytes(is_log: bool, bytes: Vec<u8>) -> Draft {
-        Draft {
+    /// Begins the log or part of a line `log ..` or `part ..`.
+    pub fn begin(alloc: Global, names: &[Named<'_>], words: &[&str]) -> Result<Draft, Mistake> {
+        let (is_log, rest) = match words {
+            ["log", rest @ ..] => (true, rest),
+            ["part", rest @ ..] => (false, rest),
+            _ => return Err(Mistake::LINE),
+        };
+        let (mut part, mut bytes) = (None, Vec::new(alloc));
+        match rest {
+            ["is", name] => bytes.extend_from_slice(find(names, name).ok_or(Mistake::NO_NAME)?)?,
+            ["bytes", digits @ ..] => push_digits(alloc, digits, &mut bytes)?,
+            _ if is_log => push_log_header(rest, &mut bytes)?,
+            _ => part = Some(part_of(alloc, rest)?),
+        }
+        Ok(Draft {
             is_log,
-            part: None,
+            part,
             bytes,
             fails: None,
-        }
+        })
     }
 
-    /// Begins a log: `from FROM`, or nothing for 0; then a format, or `worker WORKER segment SEGMENT`, or nothing for
-    /// format 1.
-    pub fn begin_log(alloc: Global, words: &[&str]) -> Result<Draft, Mistake> {
-        let mut bytes = Vec::new(alloc);
-        if let [rest @ .., "worker", worker, "segment", segment] = words {
-            let (worker, segment) = (small_of::<u32>(worker)?, small_of::<u32>(segment)?);
-            encode_log_header_3(from_of(rest)?, worker, segment, &mut bytes)?;
-            return Ok(Draft::of_bytes(true, bytes));
-        }
-        let (format, words) = format_of(words)?;
-        match format {
-            Format::One => encode_log_header(from_of(words)?, &mut bytes)?,
-            Format::Two => encode_log_header_2(from_of(words)?, &mut bytes)?,
-        }
-        Ok(Draft::of_bytes(true, bytes))
-    }
-
-    /// Begins a part: `PART of PARTS of checkpoint NUMBER from BEGIN to END`; then a format, or nothing for format 1.
-    pub fn begin_part(alloc: Global, words: &[&str]) -> Result<Draft, Mistake> {
-        let (format, words) = format_of(words)?;
-        let (head, end) = head_of(format, words)?;
-        let entries = Vec::new(alloc);
-        let mut draft = Draft::of_bytes(false, Vec::new(alloc));
-        draft.part = Some(PartDraft { head, end, entries });
-        Ok(draft)
-    }
-
-    /// Adds a line.
+    /// Adds a line: a record, an entry, or a change of the bytes.
     pub fn add(&mut self, alloc: Global, words: &[&str]) -> Result<(), Mistake> {
-        match words {
-            ["put" | "remove" | "erase" | "mark", ..] => self.add_record(alloc, words),
-            ["entry", rest @ ..] => self.add_entry(alloc, rest),
-            ["fail", call] => self.fail_from(number_of(call)?),
+        match (words, &mut self.part) {
+            (["put" | "remove" | "erase" | "mark", ..], _) if self.is_log => {
+                Ok(encode_record(&record_of(alloc, words)?, &mut self.bytes)?)
+            }
+            (["entry", rest @ ..], Some(part)) => Ok(part.entries.push(entry_of(alloc, rest)?)?),
+            (["put" | "remove" | "erase" | "mark" | "entry", ..], _) => Err(Mistake::MISPLACED),
             _ => {
                 self.spell_part()?;
                 change(alloc, words, &mut self.bytes)
@@ -106,73 +74,84 @@ impl Draft {
         }
     }
 
-    /// Adds a line to bytes that have no source. So the line `fail` is an Err.
-    pub fn add_to_bytes(&mut self, alloc: Global, words: &[&str]) -> Result<(), Mistake> {
-        match words {
-            ["fail", ..] => Err(Mistake::Line),
-            _ => self.add(alloc, words),
-        }
-    }
-
-    /// Adds a record to the log. Err if this is a part.
-    fn add_record(&mut self, alloc: Global, words: &[&str]) -> Result<(), Mistake> {
-        if !self.is_log {
-            return Err(Mistake::Misplaced);
-        }
-        encode_record(&record_of(alloc, words)?, &mut self.bytes)?;
-        Ok(())
-    }
-
-    /// Adds an entry to the part. Err if this is not a part, or if the part takes no more entries.
-    fn add_entry(&mut self, alloc: Global, words: &[&str]) -> Result<(), Mistake> {
-        let Some(part) = self.part.as_mut() else {
-            return Err(Mistake::Misplaced);
-        };
-        part.entries.push(entry_of(alloc, words)?)?;
-        Ok(())
-    }
-
     /// Makes its source fail at this call of `advance` and all later ones. Calls count from 1.
-    fn fail_from(&mut self, call: u64) -> Result<(), Mistake> {
+    pub fn fail_from(&mut self, call: u64) -> Result<(), Mistake> {
         if call == 0 {
-            return Err(Mistake::Number);
+            return Err(Mistake::NUMBER);
         }
         self.fails = Some(call);
         Ok(())
     }
 
-    /// Encodes the part into the bytes, if that has not been done.
+    /// Whether this is a log whose source does not fail.
+    pub fn is_steady_log(&self) -> bool {
+        self.is_log && self.fails.is_none()
+    }
+
+    /// Encodes the part into the bytes, if that has not been done. Err: an entry that its format does not allow, too
+    /// many entries for a footer, or out of memory.
     pub fn spell_part(&mut self) -> Result<(), Mistake> {
-        match self.part.take() {
-            Some(part) => part.spell(&mut self.bytes),
-            None => Ok(()),
+        let Some(PartDraft { head, end, entries }) = self.part.take() else {
+            return Ok(());
+        };
+        // A footer can count no more.
+        if entries.len() > u32::MAX as usize {
+            return Err(Mistake::NUMBER);
+        }
+        let PartHead {
+            format,
+            number,
+            begin,
+            part,
+            parts,
+        } = head;
+        let out = &mut self.bytes;
+        match format {
+            Format::One if !entries.iter().all(Entry::fits_format_1) => Err(Mistake::FORMAT),
+            Format::One => Ok(encode_part(number, begin, part, parts, end, &entries, out)?),
+            Format::Two => Ok(encode_part_2(number, begin, part, parts, end, &entries, out)?),
         }
     }
 }
 
-/// Reads `from FROM`, or nothing for 0.
-fn from_of(words: &[&str]) -> Result<u64, Mistake> {
-    match words {
-        [] => Ok(0),
-        ["from", from] => number_of(from),
-        _ => Err(Mistake::Line),
+/// Returns the bytes of this name, or None if there is no such name.
+fn find<'n>(names: &'n [Named<'_>], name: &str) -> Option<&'n [u8]> {
+    for named in names {
+        if named.name == name {
+            return Some(&named.bytes);
+        }
     }
+    None
 }
 
-/// Returns the format that the last two words name, as in `format 2`, and the words before them. Without such words it
-/// returns format 1 and all words.
-fn format_of<'w, 'a>(words: &'w [&'a str]) -> Result<(Format, &'w [&'a str]), Mistake> {
-    let [rest @ .., "format", digit] = words else {
-        return Ok((Format::One, words));
+/// Appends a log's header: `from FROM`, or nothing for 0; then a format, or `worker WORKER segment SEGMENT`.
+fn push_log_header(words: &[&str], out: &mut Vec<u8>) -> Result<(), Mistake> {
+    let (from, rest) = match words {
+        ["from", from, rest @ ..] => (number_of(from)?, rest),
+        _ => (0, words),
     };
-    match digit.as_bytes() {
-        [digit] => Ok((Format::of_digit(*digit).ok_or(Mistake::Number)?, rest)),
-        _ => Err(Mistake::Number),
+    if let ["worker", worker, "segment", segment] = rest {
+        let (worker, segment) = (number_of(worker)?, number_of(segment)?);
+        return Ok(encode_log_header_3(from, worker, segment, out)?);
+    }
+    match format_of(rest)? {
+        Format::One => Ok(encode_log_header(from, out)?),
+        Format::Two => Ok(encode_log_header_2(from, out)?),
     }
 }
 
-/// Reads the head of a part and its end.
-fn head_of(format: Format, words: &[&str]) -> Result<(PartHead, u64), Mistake> {
+/// Reads a format: `format 1`, `format 2`, or nothing for format 1.
+fn format_of(words: &[&str]) -> Result<Format, Mistake> {
+    match words {
+        [] | ["format", "1"] => Ok(Format::One),
+        ["format", "2"] => Ok(Format::Two),
+        ["format", _] => Err(Mistake::NUMBER),
+        _ => Err(Mistake::LINE),
+    }
+}
+
+/// Begins a part: `PART of PARTS of checkpoint NUMBER from BEGIN to END`, then a format.
+fn part_of(alloc: Global, words: &[&str]) -> Result<PartDraft, Mistake> {
     let [
         part,
         "of",
@@ -184,18 +163,20 @@ fn head_of(format: Format, words: &[&str]) -> Result<(PartHead, u64), Mistake> {
         begin,
         "to",
         end,
+        format @ ..,
     ] = words
     else {
-        return Err(Mistake::Line);
+        return Err(Mistake::LINE);
     };
     let head = PartHead {
-        format,
-        number: small_of::<u32>(number)?,
+        format: format_of(format)?,
+        number: number_of(number)?,
         begin: number_of(begin)?,
-        part: small_of::<u16>(part)?,
-        parts: small_of::<u16>(parts)?,
+        part: number_of(part)?,
+        parts: number_of(parts)?,
     };
-    Ok((head, number_of(end)?))
+    let (end, entries) = (number_of(end)?, Vec::new(alloc));
+    Ok(PartDraft { head, end, entries })
 }
 
 /// Changes the bytes: `bytes DIGITS ..` appends, `byte PLACE VALUE` replaces a byte, `cut LENGTH` keeps the first
@@ -203,39 +184,53 @@ fn head_of(format: Format, words: &[&str]) -> Result<(PartHead, u64), Mistake> {
 fn change(alloc: Global, words: &[&str], bytes: &mut Vec<u8>) -> Result<(), Mistake> {
     match words {
         ["bytes", digits @ ..] => push_digits(alloc, digits, bytes),
-        ["byte", place, value] => put_byte(alloc, place, value, bytes),
-        ["cut", length] => cut(length, bytes),
-        ["spelled", digits @ ..] => ask_spelled(alloc, digits, bytes),
-        _ => Err(Mistake::Line),
+        ["byte", place, value] => {
+            let Some(byte) = bytes.get_mut(number_of::<usize>(place)?) else {
+                return Err(Mistake::PLACE);
+            };
+            *byte = byte_of(alloc, value)?;
+            Ok(())
+        }
+        ["cut", length] => match number_of::<usize>(length)? {
+            length if length > bytes.len() => Err(Mistake::PLACE),
+            length => Ok(bytes.truncate(length)),
+        },
+        ["spelled", digits @ ..] => {
+            let mut wanted = Vec::new(alloc);
+            push_digits(alloc, digits, &mut wanted)?;
+            if wanted == *bytes {
+                Ok(())
+            } else {
+                Err(Mistake::SPELLING)
+            }
+        }
+        _ => Err(Mistake::LINE),
     }
 }
 
-/// Replaces the byte at a place. Err if the place is past the end.
-fn put_byte(alloc: Global, place: &str, value: &str, bytes: &mut [u8]) -> Result<(), Mistake> {
-    let place = small_of::<usize>(place)?;
-    let Some(byte) = bytes.get_mut(place) else {
-        return Err(Mistake::Place);
+/// Reads the block of a name: `name NAME log ..` or `name NAME part ..`, and the lines after it. Sets `at` to the line
+/// that a mistake is reported for.
+pub fn read_name<'a>(
+    alloc: Global,
+    names: &[Named<'_>],
+    head: &Line<'a>,
+    body: &[Line<'a>],
+    at: &mut Line<'a>,
+) -> Result<Named<'a>, Mistake> {
+    let words = words_of(alloc, head.text)?;
+    let ["name", name, rest @ ..] = words.as_slice() else {
+        return Err(Mistake::LINE);
     };
-    *byte = byte_of(alloc, value)?;
-    Ok(())
-}
-
-/// Keeps the first `length` bytes. Err if there are fewer.
-fn cut(length: &str, bytes: &mut Vec<u8>) -> Result<(), Mistake> {
-    let length = small_of::<usize>(length)?;
-    if length > bytes.len() {
-        return Err(Mistake::Place);
+    if find(names, name).is_some() {
+        return Err(Mistake::TWICE);
     }
-    bytes.truncate(length);
-    Ok(())
-}
-
-/// Checks that the bytes are exactly these.
-fn ask_spelled(alloc: Global, digits: &[&str], bytes: &[u8]) -> Result<(), Mistake> {
-    let mut wanted = Vec::new(alloc);
-    push_digits(alloc, digits, &mut wanted)?;
-    if wanted.as_slice() != bytes {
-        return Err(Mistake::Spelling);
+    let mut draft = Draft::begin(alloc, names, rest)?;
+    for line in body {
+        *at = *line;
+        draft.add(alloc, &words_of(alloc, line.text)?)?;
     }
-    Ok(())
+    *at = *head;
+    draft.spell_part()?;
+    let bytes = draft.bytes;
+    Ok(Named { name, bytes })
 }

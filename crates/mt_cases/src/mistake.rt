@@ -3,88 +3,83 @@ use mt_words::Memory;
 use std::alloc::{AllocError, AllocFailed};
 use std::io;
 
-/// Why a line of a case file is not understood.
+/// Why a line of a case file is not understood, as text.
 #[derive(Clone, Copy)]
-pub enum Mistake {
-    Line,
-    Number,
-    NoPass,
-    Digits,
-    Column,
-    Key,
-    Cuts,
-    Unlawful,
-    Format,
-    NoDraft,
-    NoName,
-    Twice,
-    Place,
-    Spelling,
-    Misplaced,
-    FileName,
-    NoRun,
-    Mixed,
-    Nothing,
-    Slot,
-    Folder,
-    Memory,
-}
+pub struct Mistake(pub &'static str);
 
 impl Mistake {
-    /// Returns the text that is printed.
-    pub fn text(self) -> &'static str {
-        match self {
-            Mistake::Line => "no such line",
-            Mistake::Number => "not a number, or out of range",
-            Mistake::NoPass => {
-                "a letter stands for nothing, since the case does not begin with its line each"
-            }
-            Mistake::Digits => "not hexadecimal digits",
-            Mistake::Column => "not a column, or not above the one before it",
-            Mistake::Key => "the key is too long: spell it in bytes",
-            Mistake::Cuts => "the cuts do not rise, or are too many",
-            Mistake::Unlawful => "no lawful record or entry: spell it in bytes",
-            Mistake::Format => "an entry that format 1 does not have",
-            Mistake::NoDraft => "no log and no part before it",
-            Mistake::NoName => "no such name above",
-            Mistake::Twice => "the name is there already",
-            Mistake::Place => "no such place in the bytes",
-            Mistake::Spelling => "the bytes are others",
-            Mistake::Misplaced => "an entry in a log or behind bytes, or a record in a part",
-            Mistake::FileName => "a slash in the name of a file",
-            Mistake::NoRun => "no command before it",
-            Mistake::Mixed => {
-                "the case has logs or parts, and mtdump, check, records, cut or a line of F"
-            }
-            Mistake::Nothing => "the case expects nothing",
-            Mistake::Slot => "a slot has no buffer",
-            Mistake::Folder => "the folder F cannot be made or removed",
-            Mistake::Memory => "no memory",
-        }
-    }
+    pub const LINE: Mistake = Mistake("no such line");
+
+    pub const NUMBER: Mistake = Mistake("not a number, or out of range");
+
+    pub const NO_PASS: Mistake = Mistake(
+        "a letter stands for nothing, since the case does not begin with its line each",
+    );
+
+    pub const DIGITS: Mistake = Mistake("not hexadecimal digits");
+
+    pub const COLUMN: Mistake = Mistake("not a column, or not above the one before it");
+
+    pub const KEY: Mistake = Mistake("the key is too long: spell it in bytes");
+
+    pub const CUTS: Mistake = Mistake("the cuts do not rise, or are too many");
+
+    pub const UNLAWFUL: Mistake = Mistake("no lawful record or entry: spell it in bytes");
+
+    pub const FORMAT: Mistake = Mistake("an entry that format 1 does not have");
+
+    pub const NO_DRAFT: Mistake = Mistake("no log and no part before it");
+
+    pub const NO_NAME: Mistake = Mistake("no such name above");
+
+    pub const TWICE: Mistake = Mistake("the name is there already");
+
+    pub const PLACE: Mistake = Mistake("no such place in the bytes");
+
+    pub const SPELLING: Mistake = Mistake("the bytes are others");
+
+    pub const MISPLACED: Mistake = Mistake(
+        "an entry in a log or behind bytes, or a record in a part",
+    );
+
+    pub const FILE_NAME: Mistake = Mistake("a slash in the name of a file");
+
+    pub const NO_RUN: Mistake = Mistake("no command before it");
+
+    pub const MIXED: Mistake = Mistake(
+        "the case has logs or parts, and mtdump, check, records, cut or a line of F",
+    );
+
+    pub const NOTHING: Mistake = Mistake("the case expects nothing");
+
+    pub const SLOT: Mistake = Mistake("a slot has no buffer");
+
+    pub const FOLDER: Mistake = Mistake("the folder F cannot be made or removed");
+
+    pub const MEMORY: Mistake = Mistake("no memory");
 }
 
 impl From<Memory> for Mistake {
     fn from(_refused: Memory) -> Mistake {
-        Mistake::Memory
+        Mistake::MEMORY
     }
 }
 
 impl From<AllocError> for Mistake {
     fn from(_refused: AllocError) -> Mistake {
-        Mistake::Memory
+        Mistake::MEMORY
     }
 }
 
 impl<T: Drop> From<AllocFailed<T>> for Mistake {
     fn from(_refused: AllocFailed<T>) -> Mistake {
-        Mistake::Memory
+        Mistake::MEMORY
     }
 }
 
 /// Only writes to memory use this. They fail only if memory runs out.
 impl From<io::Error> for Mistake {
     fn from(_refused: io::Error) -> Mistake {
-        Mistake::Memory
+        Mistake::MEMORY
     }
 }

@@ -28,41 +28,29 @@ impl Pass {
         }
     }
 
-    /// Returns the line with its letters replaced by their numbers. Err if the line has a letter that stands for
-    /// nothing.
+    /// Returns the line with its letters replaced: `$n` by the number, `$xn` by its hexadecimal digits, at least two.
+    /// Err if the line has a letter that stands for nothing.
     pub fn replace(self, alloc: Global, line: &str) -> Result<String, Mistake> {
-        let line = replace_letter(alloc, line, "$n", "$xn", self.n)?;
-        replace_letter(alloc, line.as_str(), "$m", "$xm", self.m)
+        let mut text = String::from_str(alloc, line)?;
+        for (decimal, hex, number) in [("$n", "$xn", self.n), ("$m", "$xm", self.m)] {
+            if let Some(number) = number {
+                text = text.replace(alloc, decimal, number.to_string(alloc)?.as_str())?;
+                text = text.replace(alloc, hex, format!(in alloc; "{number:02x}")?.as_str())?;
+            } else if text.contains(decimal) || text.contains(hex) {
+                return Err(Mistake::NO_PASS);
+            }
+        }
+        Ok(text)
     }
 
     /// Appends what the letters stand for.
     pub fn write(self, text: &mut Vec<u8>) -> io::Result<()> {
-        if let Some(number) = self.n {
-            write!(text, " and n = {number}")?;
-        }
-        if let Some(number) = self.m {
-            write!(text, " and m = {number}")?;
+        for (letter, number) in [("n", self.n), ("m", self.m)] {
+            if let Some(number) = number {
+                write!(text, " and {letter} = {number}")?;
+            }
         }
         Ok(())
-    }
-}
-
-/// Replaces `decimal` by the number, and `hex` by its hexadecimal digits, at least two. Err if there is one of them and
-/// no number.
-fn replace_letter(
-    alloc: Global,
-    line: &str,
-    decimal: &str,
-    hex: &str,
-    number: Option<u64>,
-) -> Result<String, Mistake> {
-    match number {
-        Some(number) => {
-            let line = line.replace(alloc, decimal, number.to_string(alloc)?.as_str())?;
-            Ok(line.replace(alloc, hex, format!(in alloc; "{number:02x}")?.as_str())?)
-        }
-        None if line.contains(decimal) || line.contains(hex) => Err(Mistake::NoPass),
-        None => Ok(String::from_str(alloc, line)?),
     }
 }
 
@@ -75,19 +63,14 @@ pub fn passes_of<'l, 'a>(
 ) -> Result<(Vec<Pass>, &'l [Line<'a>]), Mistake> {
     let (ns, lines) = numbers_of(alloc, "n", lines, at)?;
     let (ms, lines) = numbers_of(alloc, "m", lines, at)?;
-    Ok((pairs(alloc, &ns, &ms)?, lines))
-}
-
-/// Returns a pass for each `n` and each `m`.
-fn pairs(alloc: Global, ns: &[Option<u64>], ms: &[Option<u64>]) -> Result<Vec<Pass>, Mistake> {
     let mut passes = Vec::new(alloc);
-    for n in ns {
-        for m in ms {
+    for n in &ns {
+        for m in &ms {
             let (n, m, place) = (*n, *m, passes.len());
             passes.push(Pass { n, m, place })?;
         }
     }
-    Ok(passes)
+    Ok((passes, lines))
 }
 
 /// Returns the numbers that the first line gives to the letter, and the lines that follow. A first line that is not for
@@ -113,33 +96,24 @@ fn numbers_of<'l, 'a>(
 /// Returns the numbers of a range: `FIRST to LAST`, or `FIRST to LAST but ONE ..`. Err if the first is above the last.
 fn range_of(alloc: Global, words: &[&str]) -> Result<Vec<Option<u64>>, Mistake> {
     let [first, "to", last, rest @ ..] = words else {
-        return Err(Mistake::Line);
+        return Err(Mistake::LINE);
     };
-    let (first, last) = (number_of(first)?, number_of(last)?);
-    if first > last {
-        return Err(Mistake::Number);
+    if !matches!(rest, [] | ["but", _, ..]) {
+        return Err(Mistake::LINE);
     }
-    let but = exceptions(alloc, rest)?;
+    let (first, last) = (number_of(first)?, number_of::<u64>(last)?);
+    if first > last {
+        return Err(Mistake::NUMBER);
+    }
+    let mut but = Vec::new(alloc);
+    for word in rest.iter().skip(1) {
+        but.push(number_of::<u64>(word)?)?;
+    }
     let mut numbers = Vec::new(alloc);
     for number in first..=last {
         if !but.contains(&number) {
             numbers.push(Some(number))?;
         }
-    }
-    Ok(numbers)
-}
-
-/// Returns the numbers that `but ONE ..` leaves out.
-fn exceptions(alloc: Global, words: &[&str]) -> Result<Vec<u64>, Mistake> {
-    let mut numbers = Vec::new(alloc);
-    match words {
-        [] => {}
-        ["but", _, ..] => {
-            for word in words.iter().skip(1) {
-                numbers.push(number_of(word)?)?;
-            }
-        }
-        _ => return Err(Mistake::Line),
     }
     Ok(numbers)
 }

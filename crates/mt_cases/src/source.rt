@@ -5,7 +5,8 @@ use mt_recover::Inputs;
 use mt_scan::{FaultSource, Slot};
 use std::alloc::Global;
 
-/// Returns the sources of the drafts, each with the buffer of a slot.
+/// Returns the sources of the drafts, each with the buffer of a slot. A source that must not fail is set to fail at a
+/// call that is never made.
 pub fn inputs_of<'a>(
     alloc: Global,
     drafts: &'a [Draft],
@@ -14,7 +15,8 @@ pub fn inputs_of<'a>(
     let mut logs = Vec::new(alloc);
     let mut parts = Vec::new(alloc);
     for (draft, slot) in drafts.iter().zip(slots) {
-        let source = source_of(draft, slot)?;
+        let call = draft.fails.unwrap_or(u64::MAX).max(1);
+        let source = FaultSource::new(&draft.bytes, slot, call).ok_or(Mistake::SLOT)?;
         if draft.is_log {
             logs.push(source)?;
         } else {
@@ -22,11 +24,4 @@ pub fn inputs_of<'a>(
         }
     }
     Ok(Inputs { logs, parts })
-}
-
-/// Returns the source of a draft, with the buffer of the slot. A source that must not fail is set to fail at a call
-/// that is never made.
-fn source_of<'a>(draft: &'a Draft, slot: &'a mut Slot) -> Result<FaultSource<'a>, Mistake> {
-    let call = draft.fails.unwrap_or(u64::MAX).max(1);
-    FaultSource::new(&draft.bytes, slot, call).ok_or(Mistake::Slot)
 }

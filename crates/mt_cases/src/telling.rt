@@ -1,7 +1,7 @@
 //! Tries the cases of files, and reports on them.
 use crate::blocks::{Line, lines_of};
+use crate::draft::{Named, read_name};
 use crate::mistake::Mistake;
-use crate::names::{Named, read_name};
 use crate::trying::try_case;
 use std::alloc::Global;
 use std::fs::Files;
@@ -105,7 +105,7 @@ impl Teller {
                 (false, "does not hold")
             }
             Err(mistake) => {
-                let why = mistake.text();
+                let Mistake(why) = mistake;
                 writeln!(self.out, "{file}:{number}: {why}: {text}")?;
                 (false, "is not understood")
             }
@@ -138,22 +138,17 @@ where
     R: AllocGlobal + Clone + Drop + Files + Threads + Sync,
     R::File: Send,
 {
-    match head.first_word() {
-        "refused" => ask_empty(body, at),
-        "name" => {
+    match (head.first_word(), body.first()) {
+        ("refused", None) => Ok(Trial::NoCase),
+        ("refused", Some(line)) => {
+            *at = *line;
+            Err(Mistake::LINE)
+        }
+        ("name", _) => {
             names.push(read_name(rt.alloc(), names, head, body, at)?)?;
             Ok(Trial::NoCase)
         }
-        "case" => try_case(rt, names, head, body, at),
-        _ => Err(Mistake::Line),
+        ("case", _) => try_case(rt, names, head, body, at),
+        _ => Err(Mistake::LINE),
     }
-}
-
-/// Checks that no line follows `refused` before the next block.
-fn ask_empty<'a>(body: &[Line<'a>], at: &mut Line<'a>) -> Result<Trial, Mistake> {
-    let Some(line) = body.first() else {
-        return Ok(Trial::NoCase);
-    };
-    *at = *line;
-    Err(Mistake::Line)
 }

@@ -1,8 +1,8 @@
 //! Whether a case holds.
 use crate::blocks::{Line, words_of};
 use crate::case::{Case, Way};
+use crate::draft::Named;
 use crate::mistake::Mistake;
-use crate::names::Named;
 use crate::passes::{Pass, passes_of};
 use crate::telling::Trial;
 use std::alloc::Global;
@@ -25,10 +25,14 @@ where
 {
     let (passes, lines) = passes_of(rt.alloc(), body, at)?;
     for pass in passes {
-        let case = case_of(rt.alloc(), names, lines, pass, at)?;
+        let mut case = case_of(rt.alloc(), names, lines, pass, at)?;
         *at = *head;
-        if let Some(difference) = compare(rt, case, pass)? {
-            return Ok(Trial::Differs(difference));
+        case.finish(rt.alloc())?;
+        for way in case.ways(rt.alloc(), pass)? {
+            let (came, expected) = (case.come(rt, way)?, case.expected_in(way));
+            if came.as_slice() != expected {
+                return Ok(Trial::Differs(difference(rt.alloc(), way, pass, expected, &came)?));
+            }
         }
     }
     Ok(Trial::Holds)
@@ -45,59 +49,29 @@ fn case_of<'a>(
     let mut case = Case::new(alloc);
     for line in lines {
         *at = *line;
-        read_line(alloc, names, line.text, pass, &mut case)?;
+        let text = pass.replace(alloc, line.text)?;
+        let words = words_of(alloc, text.as_str())?;
+        case.add(alloc, names, text.as_str(), &words)?;
     }
     Ok(case)
 }
 
-/// Adds the text of a line to the case.
-fn read_line(
+/// Returns the expected text, the way and the pass, and the actual text.
+fn difference(
     alloc: Global,
-    names: &[Named<'_>],
-    text: &str,
-    pass: Pass,
-    case: &mut Case,
-) -> Result<(), Mistake> {
-    let text = pass.replace(alloc, text)?;
-    case.add(
-        alloc,
-        names,
-        text.as_str(),
-        &words_of(alloc, text.as_str())?,
-    )
-}
-
-/// Tries the case in each way. Returns the first difference from what is expected, or None.
-fn compare<R>(rt: &R, mut case: Case, pass: Pass) -> Result<Option<Vec<u8>>, Mistake>
-where
-    R: AllocGlobal + Clone + Drop + Files + Threads + Sync,
-    R::File: Send,
-{
-    case.finish()?;
-    for way in case.ways(rt.alloc(), pass)? {
-        if let Some(came) = case.differs(rt, way)? {
-            let mut text = Vec::new(rt.alloc());
-            write_difference(way, pass, case.expected_in(way), &came, &mut text)?;
-            return Ok(Some(text));
-        }
-    }
-    Ok(None)
-}
-
-/// Appends the expected text, the way and the pass, and the actual text.
-fn write_difference(
     way: Way<'_>,
     pass: Pass,
     expected: &[u8],
     came: &[u8],
-    text: &mut Vec<u8>,
-) -> io::Result<()> {
+) -> io::Result<Vec<u8>> {
+    let mut text = Vec::new(alloc);
     text.extend_from_slice(b"expected:\n")?;
     text.extend_from_slice(expected)?;
-    write_way(way, text)?;
-    pass.write(text)?;
+    write_way(way, &mut text)?;
+    pass.write(&mut text)?;
     text.extend_from_slice(b":\n")?;
-    Ok(text.extend_from_slice(came)?)
+    text.extend_from_slice(came)?;
+    Ok(text)
 }
 
 /// Appends the way in which the case was tried.
@@ -108,12 +82,19 @@ fn write_way(way: Way<'_>, text: &mut Vec<u8>) -> io::Result<()> {
         Way::Even { workers, pieces } => {
             write!(text, "came, with {workers} workers and {pieces} pieces")
         }
-        Way::At { workers, line } => {
-            write!(text, "came, with {workers} workers and line {line} of cuts")
+        Way::At {
+            workers,
+            number,
+            ..
+        } => {
+            write!(
+                text,
+                "came, with {workers} workers and line {number} of cuts"
+            )
         }
-        Way::Run { run, outputs } => {
-            write!(text, "came, from {}", run.line)?;
-            outputs.write(text)
+        Way::Run { run, outputs, .. } => {
+            let with = if outputs.is_empty() { "" } else { " with " };
+            write!(text, "came, from {}{with}{outputs}", run.line)
         }
     }
 }
