@@ -1,11 +1,7 @@
 -- Which bytes are the body of a record, lawful or not.
-use Rattle.std.proofs.Common.{◌≡◌, ◌⊎◌, inl, inr, ℕ, eqb, ◌^◌, ◌<◌, ◌≤◌, List, [], ◌∷◌, ◌++◌, length, take, drop, Option, Some, None, false, refl, sym, ap, subst, ◌∙◌, arith}
-use Rattle.std.proofs.Math.Seq.{take-append_seam, drop-append_seam}
-use Rattle.std.proofs.lemmas.List.{append-nil, take_all}
+use Rattle.std.proofs.Common.{◌≡◌, ◌⊎◌, inl, inr, ℕ, ◌^◌, ◌<◌, ◌≤◌, List, length, Option, Some, None, ap, ◌∙◌}
 use Rattle.std.specs.Prelude.{IfSome}
-use Rattle.std.specs.List.{flat_map, AllByRecursion}
-use Rattle.byteorder.specs.Endian.{big_bytes}
-use Rattle.byteorder.specs.Numbers.{big_number-reads_back}
+use Rattle.std.specs.List.{AllByRecursion}
 use Rattle.mt_words.specs.declared.record.Change.{Change}
 use Rattle.mt_words.specs.declared.limits.Limits.{Limits}
 use Rattle.mt_words.specs.declared.update.Kind.{Kind}
@@ -13,67 +9,16 @@ use Rattle.mt_words.specs.declared.update.Kind.TheVariants.{Put, Remove, Whole, 
 use Rattle.mt_words.specs.declared.code.Code.TheVariants as codes
 use Rattle.mt_words.specs.Codes.{byte_of}
 use Rattle.mt_words.specs.Words.{IsColumn, AreColumns, numbers_in}
-use Rattle.mt_words.specs.Changes.{Logged, changed, AllowsKind, IsLogged, IsWhole, IsLawfulChange, IsEntry}
-use Rattle.mt_record.specs.Spelling.{with_length, column_bytes, kind_bytes, body_of, body, FitsColumn, FitsKind, FitsChange, FitsLogged, Fits}
-use Rattle.mt_record.specs.Decoding.{columns_from, kind_from, code_from, code_in, change_unless, is_mark_in, time_in, version_in, key_length_in, key_in, carried_in, decode}
-use Rattle.mt_record.proofs.Decodes.{columns_back}
+use Rattle.mt_words.specs.Changes.{Logged, AllowsKind, IsLogged, IsWhole, IsLawfulChange, IsEntry}
+use Rattle.mt_record.specs.Spelling.{body_of, body, FitsColumn, FitsKind, FitsChange, FitsLogged, Fits}
+use Rattle.mt_record.specs.Decoding.{time_in, decode}
+use Rattle.mt_record.proofs.Decodes.{mark_back, change_back}
 use Rattle.mt_laws.proofs.Decided.{Decided, at_most, below, same_bytes, both, alike, three, all, if_some, rises, some_or_none}
 
--- ---- a body decodes to its record
-
--- the body of a change, field by field; each field is read back below
-abbrev change_body : ℕ → ℕ → List ℕ → ℕ → List ℕ → List ℕ
-change_body byte t key v carried = byte ∷ (big_bytes 8 t ++ (big_bytes 8 v ++ (with_length key ++ carried)))
-
-time_back : (byte t : ℕ) (rest : List ℕ) → t < 2 ^ 64 → time_in (byte ∷ (big_bytes 8 t ++ rest)) ≡ t
-unfolding time_in
-time_back byte t rest fits = big_number-reads_back 8 t rest fits
-
-version_back : (byte t v : ℕ) (key carried : List ℕ) → v < 2 ^ 64 → version_in (change_body byte t key v carried) ≡ v
-unfolding version_in
-version_back byte t v key carried fits = big_number-reads_back 8 v (with_length key ++ carried) fits
-
-length_back : (byte t v : ℕ) (key carried : List ℕ) → length key < 2 ^ 16 → key_length_in (change_body byte t key v carried) ≡ length key
-unfolding key_length_in
-length_back byte t v key carried fits = big_number-reads_back 2 (length key) (key ++ carried) fits
-
-key_back : (byte t v : ℕ) (key carried : List ℕ) → length key < 2 ^ 16 → key_in (change_body byte t key v carried) ≡ key
-unfolding key_in
-key_back byte t v key carried fits = subst (λ (n : ℕ). take n (key ++ carried) ≡ key) (sym (length_back byte t v key carried fits)) (take-append_seam key carried)
-
-carried_back : (byte t v : ℕ) (key carried : List ℕ) → length key < 2 ^ 16 → carried_in (change_body byte t key v carried) ≡ carried
-unfolding carried_in
-carried_back byte t v key carried fits = subst (λ (n : ℕ). drop n (key ++ carried) ≡ carried) (sym (length_back byte t v key carried fits)) (drop-append_seam key carried)
-
-mark_back : (t : ℕ) → t < 2 ^ 64 → decode (body_of t None) ≡ record { timestamp = t; change = None }
-unfolding is_mark_in
-mark_back t fits = λ i. record { timestamp = time_back 3 t [] fits i; change = None }
-
--- the body of a change decodes to it if its byte and the bytes carried decode to its kind
-changed_back : (byte t v : ℕ) (key carried : List ℕ) (kind : Kind) → eqb byte 3 ≡ false → kind_from (code_from byte) carried ≡ kind → t < 2 ^ 64 → FitsChange (record { version = v; key = key; kind = kind })
-    → decode (change_body byte t key v carried) ≡ changed t (record { version = v; key = key; kind = kind })
-unfolding is_mark_in code_in
-changed_back byte t v key carried kind no_mark is fits_t fits =
-    let made = ap (kind_from (code_from byte)) (carried_back byte t v key carried fits.key) ∙ is in
-    λ i. record {
-      timestamp = time_back byte t (big_bytes 8 v ++ (with_length key ++ carried)) fits_t i;
-      change = change_unless (no_mark i) (record { version = version_back byte t v key carried fits.version i; key = key_back byte t v key carried fits.key i; kind = made i });
-    }
-
--- encoded columns with nothing after them decode to the same columns
-all_columns_back : (cs : List (ℕ × List ℕ)) → AllByRecursion FitsColumn cs → columns_from (length cs) (flat_map column_bytes cs) ≡ cs
-all_columns_back cs fit = subst (λ (bytes : List ℕ). columns_from (length cs) bytes ≡ cs) (append-nil (flat_map column_bytes cs)) (columns_back cs [] fit)
-
-change_decodes : (t v : ℕ) (key : List ℕ) (kind : Kind) → t < 2 ^ 64 → FitsChange (record { version = v; key = key; kind = kind })
-    → decode (body_of t (Some (record { version = v; key = key; kind = kind }))) ≡ changed t (record { version = v; key = key; kind = kind })
-change_decodes t v key (Put cs) fits_t fits = changed_back 1 t v key (kind_bytes (Put cs)) (Put cs) refl (ap Put (all_columns_back cs fits.kind.1)) fits_t fits
-change_decodes t v key Remove fits_t fits = changed_back 2 t v key [] Remove refl refl fits_t fits
-change_decodes t v key (Whole cs) fits_t fits = changed_back 0 t v key (kind_bytes (Whole cs)) (Whole cs) refl (ap Whole (all_columns_back cs fits.kind.1)) fits_t fits
-change_decodes t v key (Erase ns) fits_t fits = changed_back 4 t v key (kind_bytes (Erase ns)) (Erase ns) refl (ap Erase (take_all (length ns) ns (omega arith))) fits_t fits
-
+-- a body decodes to its record
 decodes : (t : ℕ) (change : Option Change) → t < 2 ^ 64 → IfSome change FitsLogged → decode (body_of t change) ≡ record { timestamp = t; change = change }
 decodes t None fits_t fits = mark_back t fits_t
-decodes t (Some change) fits_t fits = change_decodes t change.version change.key change.kind fits_t fits.0
+decodes t (Some change) fits_t fits = change_back t change fits_t fits.0
 
 -- ---- what fits its fields, by a test
 

@@ -166,23 +166,23 @@ nothing_lost left histories readings cutoff chosen crash are is none =
     (λ log at own last is_last. is.least last (record { log = log; stands = at; is_last = subst (λ (times : List ℕ). IsGreatestOf times last) (alone readings log own) is_last }))))
 
 pub same_store : (left parts : List (List ℕ)) (histories : List LogReading) (pairs : List Pair) → IsCrash left histories → (store : IsStoreOf left parts pairs)
-    → IsWalk (survivors store.facts.cutoff store.facts.chosen (records_of histories)) pairs
+    → IsWalk (survivors store.basis.facts.cutoff store.basis.facts.chosen (records_of histories)) pairs
 same_store left parts histories pairs crash store =
-    let facts = store.facts in
+    let facts = store.basis.facts in
     subst (λ (us : List Update). IsWalk us pairs)
-    (nothing_lost left histories facts.readings facts.cutoff facts.chosen crash facts.read facts.is_cutoff store.no_gap) store.walk
+    (nothing_lost left histories facts.readings facts.cutoff facts.chosen crash facts.read facts.is_cutoff store.basis.no_gap) store.walk
 
 -- an update of the written logs survives if it is from the window
 pub none_unsafe : (left parts : List (List ℕ)) (histories : List LogReading) (pairs : List Pair) (time : ℕ) → IsCrash left histories
-    → (store : IsStoreOf left parts pairs) → ((last : ℕ) → HasLast store.facts.readings last → time < last)
-    → (u : Update) → Contains (log_updates (records_of histories)) u → begin_of store.facts.chosen ≤ u.timestamp → u.timestamp ≤ time
-    → Contains (survivors store.facts.cutoff store.facts.chosen (records_of store.facts.readings)) u
+    → (store : IsStoreOf left parts pairs) → ((last : ℕ) → HasLast store.basis.facts.readings last → time < last)
+    → (u : Update) → Contains (log_updates (records_of histories)) u → begin_of store.basis.facts.chosen ≤ u.timestamp → u.timestamp ≤ time
+    → Contains (survivors store.basis.facts.cutoff store.basis.facts.chosen (records_of store.basis.facts.readings)) u
 none_unsafe left parts histories pairs time crash store synced u at low high =
-    let facts = store.facts in
+    let facts = store.basis.facts in
     let window : Window = record { begin = begin_of facts.chosen; cutoff = facts.cutoff } in
     let past : time < facts.cutoff = synced facts.cutoff facts.is_cutoff.has in
     let below : u.timestamp < facts.cutoff = omega (arith, high, past) in
-    let same = nothing_lost left histories facts.readings facts.cutoff facts.chosen crash facts.read facts.is_cutoff store.no_gap in
+    let same = nothing_lost left histories facts.readings facts.cutoff facts.chosen crash facts.read facts.is_cutoff store.basis.no_gap in
     let there = in_filter (in_window window) (log_updates (records_of histories)) u (within window u.timestamp low below) at in
     subst (λ (us : List Update). Contains us u) (sym same)
     (Contains-append_left (log_survivors window (records_of histories)) (entry_updates facts.chosen) u there)

@@ -170,7 +170,7 @@ of_facts logs parts facts = elim (first_gap (begin_of facts.chosen) facts.readin
   | inr none ↦
       let walk = some_walk (survivors facts.cutoff facts.chosen (records_of facts.readings))
       (survivors_apart facts.known facts.cutoff facts.chosen (records_of facts.readings) facts.is_chosen) (lawful_survivors logs parts facts) in
-      inl (walk.0, record { facts = facts; no_gap = none; walk = walk.1 })
+      inl (walk.0, record { basis = record { facts = facts; no_gap = none }; walk = walk.1 })
 ]
 
 -- readings lead to facts, if the segments are sound
@@ -198,7 +198,7 @@ of_readings : (logs parts : List (List ℕ)) (readings : List LogReading) (known
 of_readings logs parts readings known some read are = elim (first_doubled readings) as (λ _. StoreOrFault logs parts) [
   | inl doubled ↦ inr (faults.Doubled doubled.0, (readings, read, doubled.1))
   | inr once ↦ elim (first_torn readings) as (λ _. StoreOrFault logs parts) [
-    | inl torn ↦ inr (faults.Torn torn.0, (readings, (read, once), torn.1))
+    | inl torn ↦ inr (faults.Torn torn.0, (readings, read, once, torn.1))
     | inr sound ↦ of_facts logs parts (of_writers logs parts readings known some read (record { once = once; sound = sound }) are)
   ]
 ]

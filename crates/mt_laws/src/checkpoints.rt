@@ -33,10 +33,10 @@ pub fn old_records_may_go()
 pub fn acknowledged_is_in_the_history()
     ensures store { (left parts : List (List ℕ)) (kept : List LogReading) (full : List (List Logged)) (pairs : List Pair) →
         IsCrash left kept → (store : IsStoreOf left parts pairs) →
-        StandFor store.facts.chosen (records_of kept) full →
-        IsWalk (survivors store.facts.cutoff None full) pairs }
+        StandFor store.basis.facts.chosen (records_of kept) full →
+        IsWalk (survivors store.basis.facts.cutoff None full) pairs }
     ensures acknowledged { (left parts : List (List ℕ)) (full : List (List Logged)) (pairs : List Pair) (time : ℕ) →
         (store : IsStoreOf left parts pairs) → AreSyncedBeyond time left →
         (u : Update) → Contains (log_updates full) u → u.timestamp ≤ time →
-        Contains (survivors store.facts.cutoff None full) u }
+        Contains (survivors store.basis.facts.cutoff None full) u }
 {}

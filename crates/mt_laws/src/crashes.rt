@@ -28,7 +28,7 @@ pub fn a_crash_loses_nothing_below_the_cutoff()
         survivors cutoff chosen (records_of readings) ≡ survivors cutoff chosen (records_of histories) }
     ensures store { (left parts : List (List ℕ)) (histories : List LogReading) (pairs : List Pair) →
         IsCrash left histories → (store : IsStoreOf left parts pairs) →
-        IsWalk (survivors store.facts.cutoff store.facts.chosen (records_of histories)) pairs }
+        IsWalk (survivors store.basis.facts.cutoff store.basis.facts.chosen (records_of histories)) pairs }
 {}
 
 /// States that if what a crash left of each log has a last timestamp above `time`, each update of the written logs from
@@ -40,8 +40,8 @@ pub fn acknowledged_is_safe()
         (last : ℕ) → HasLast readings last → time < last }
     ensures survives { (left parts : List (List ℕ)) (histories : List LogReading) (pairs : List Pair) (time : ℕ) →
         IsCrash left histories → (store : IsStoreOf left parts pairs) →
-        ((last : ℕ) → HasLast store.facts.readings last → time < last) →
+        ((last : ℕ) → HasLast store.basis.facts.readings last → time < last) →
         (u : Update) → Contains (log_updates (records_of histories)) u →
-        begin_of store.facts.chosen ≤ u.timestamp → u.timestamp ≤ time →
-        Contains (survivors store.facts.cutoff store.facts.chosen (records_of store.facts.readings)) u }
+        begin_of store.basis.facts.chosen ≤ u.timestamp → u.timestamp ≤ time →
+        Contains (survivors store.basis.facts.cutoff store.basis.facts.chosen (records_of store.basis.facts.readings)) u }
 {}

@@ -1,5 +1,5 @@
 -- Checks of sources, by their numbers.
-use Rattle.std.proofs.Common.{◌≡◌, ℕ, suc, List, [], ◌∷◌, map, Result, refl, ap, subst, add-one}
+use Rattle.std.proofs.Common.{◌≡◌, ℕ, suc, List, [], ◌∷◌, map, Result, refl, subst, add-one}
 use Rattle.std.specs.List.{AllZip, enumerate_from}
 use Rattle.mt_words.specs.declared.fault.Fault.{Fault}
 use Rattle.mt_words.specs.declared.fault.Fault.TheVariants as faults

@@ -1,11 +1,10 @@
 -- What recovery finds in the scans of logs and parts.
 use Rattle.std.proofs.Common.{◌≡◌, ◌∙◌, ℕ, suc, ◌≤◌, List, [], ◌∷◌, map, Option, Some, None, Ok, Contains, refl, sym, ap, subst, arith}
-use Rattle.std.specs.Prelude.{Vec, Result}
+use Rattle.std.specs.Prelude.{Vec}
 use Rattle.std.specs.Global.{Global}
 use Rattle.std.specs.List.{cons_option, flat_map}
 use Rattle.std.specs.Option.{option_map}
 use Rattle.std.proofs.lemmas.List.{append-nil}
-use Rattle.mt_words.specs.declared.fault.Fault.{Fault}
 use Rattle.mt_words.proofs.Elements.{head_in, tail_in}
 use Rattle.mt_board.specs.Board.{least_of, nothing_noted}
 use Rattle.mt_record.specs.Logs.{LogReading, IsGreatestOf, times_of}

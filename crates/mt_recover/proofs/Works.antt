@@ -5,9 +5,9 @@ use Rattle.std.proofs.lemmas.List.{length_push}
 use Rattle.std.proofs.lemmas.List.Sums.{sum_by-cons}
 use Rattle.std.proofs.lemmas.List.Elements.{All-cons, All-nil}
 use Rattle.std.specs.Prelude.{IsTrue, Result, Ok, Err, IfOk}
-use Rattle.mt_board.specs.Board.{BoardId, PassView, fresh_pass, fresh_passes, times, times_drawn, SomeIsDone}
+use Rattle.mt_board.specs.Board.{BoardId, PassView, fresh_pass, fresh_passes, times, SomeIsDone}
 use Rattle.mt_recover.specs.declared.haul.Haul.{Haul}
-use Rattle.mt_recover.specs.Hauls.{numbers, IsHaulOf, times_held, HasWorked, HaveWorked, AllCameBack}
+use Rattle.mt_recover.specs.Hauls.{numbers, IsHaulOf, HasWorked, HaveWorked, AllCameBack}
 use Rattle.mt_recover.specs.Job.{JobView}
 
 -- one more draw, after those of this call

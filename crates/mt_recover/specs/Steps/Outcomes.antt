@@ -1,15 +1,12 @@
 -- The answers of the scans of sources.
-use Rattle.std.specs.Prelude.{◌≡◌, ℕ, suc, IsTrue, true, false, Option, Some, None, List, [], ◌∷◌, length, Result, Ok, Err, IfOk, IfErr}
+use Rattle.std.specs.Prelude.{◌≡◌, ℕ, IsTrue, true, false, Option, Some, None, List, [], ◌∷◌, length, Result, Ok, Err, IfOk, IfErr}
 use Rattle.std.specs.List.{filter_map}
 use Rattle.mt_words.specs.declared.fault.Fault.{Fault}
 use Rattle.mt_board.specs.Board.{least_of}
 use Rattle.mt_scan.specs.declared.log_scan.LogScan.{LogScan}
-use Rattle.mt_scan.specs.declared.part_scan.PartScan.{PartScan}
 use Rattle.mt_scan.specs.Sources.{Seen}
 use Rattle.mt_scan.specs.Scans.{OfTold, IsScanFault, failures_of}
 use Rattle.mt_scan.specs.Dropping.{HasAllBelow, noted_for}
-use Rattle.mt_scan.specs.PartScans.{IsKnown}
-use Rattle.mt_scan.specs.PartsShown.{known_by, IsPartScanFault}
 pub use Rattle.mt_recover.specs.Check.{AllFrom, IsPartOutcome}
 use Rattle.mt_recover.specs.declared.scans.Outcomes.{Outcomes}
 

@@ -1,5 +1,5 @@
 -- The steps of preparing: what was found, its counts, and what each log left.
-use Rattle.std.specs.Prelude.{◌≡◌, ℕ, ◌+◌, List, length, map, filter, sum_by, Option, Some, None, Result, IfOk, IsPermutation}
+use Rattle.std.specs.Prelude.{◌≡◌, ℕ, List, length, map, filter, sum_by, Result, IfOk, IsPermutation}
 use Rattle.std.specs.List.{AllZip}
 use Rattle.mt_words.specs.declared.fault.Fault.{Fault}
 use Rattle.mt_words.specs.declared.fault.Fault.TheVariants as faults

@@ -1,5 +1,5 @@
 -- How jobs are shared out among workers, and how sources are scanned by workers, each with a pass to the board that the scans share.
-use Rattle.std.specs.Prelude.{◌≡◌, ℕ, suc, ◌≤◌, min, Option, Some, None, List, [], ◌∷◌, ◌++◌, length, map, Result, Ok, Err}
+use Rattle.std.specs.Prelude.{◌≡◌, ℕ, ◌≤◌, min, Option, Some, None, List, [], ◌∷◌, ◌++◌, length, map, Result, Ok, Err}
 use Rattle.std.specs.List.{AllByRecursion, AllZip, enumerate_from, filter_map}
 use Rattle.mt_words.specs.declared.fault.Fault.{Fault}
 use Rattle.mt_scan.specs.declared.log_scan.LogScan.{LogScan}

@@ -1,4 +1,4 @@
-use Rattle.std.proofs.Common.{List, map, length, arith}
+use Rattle.std.proofs.Common.{map, arith}
 use Rattle.std.proofs.lemmas.List.{length-map}
 use Rattle.std.proofs.lemmas.List.Elements.{All-map}
 use Rattle.mt_recover.specs.Program.{AreOfSomeFile}

@@ -1,5 +1,4 @@
 use Rattle.std.proofs.Common.{◌≡◌, ap, sym, subst, length, map, arith}
-use Rattle.std.specs.List.{zip}
 use Rattle.std.proofs.lemmas.Iterator.{items_from_collect, YieldsList-from_zip}
 use Rattle.std.proofs.lemmas.Iterator.Adapters.{YieldsList-from_vec}
 use Rattle.std.proofs.lemmas.Result.{IfOk-at_ok}

@@ -1,5 +1,4 @@
 use Rattle.std.proofs.Common.{◌≡◌, ◌∙◌, Option, Some, None, List, length, refl, sym, ap, subst}
-use Rattle.mt_words.specs.declared.update.Update.{Update}
 use Rattle.mt_words.specs.Walks.{Pair, joined}
 use Rattle.mt_tree.specs.Borders.{layer_walk, borders_walk}
 use Rattle.mt_tree.specs.Layer.{PlaceView}

@@ -1,11 +1,10 @@
-use Rattle.std.proofs.Common.{rules, ◌≡◌, ◌∙◌, ◌++◌, ◌-◌, ◌≤◌, ℕ, List, [], ◌∷◌, length, map, refl, sym, ap, subst, arith}
+use Rattle.std.proofs.Common.{rules, ◌≡◌, ◌∙◌, ◌++◌, ℕ, List, [], ◌∷◌, length, map, refl, sym, ap, subst, arith}
 use Rattle.std.specs.Prelude.{sum_by, IsPermutation}
 use Rattle.std.proofs.lemmas.List.Concat.{length-flat_map}
 use Rattle.std.proofs.lemmas.List.Sorted.{length_permutation}
 use Rattle.std.proofs.lemmas.List.Sums.{sum_by-cons}
 use Rattle.mt_words.specs.declared.update.Update.{Update}
 use Rattle.mt_words.specs.Walks.{joined}
-use Rattle.mt_recover.specs.Prepared.{IsPreparedOf}
 use Rattle.mt_recover.specs.Steps.Preparing.{cells_of, early_of, IsFoundOf}
 use Rattle.mt_recover.proofs.CountLemmas.{survivors_in, early_in, late_in, AddsUp, adds_up, report_is}
 use Rattle.mt_recover.proofs.Preparing.{apart_left, updates_are, early_is}
