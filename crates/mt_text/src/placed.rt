@@ -29,14 +29,14 @@ impl<'a> Model for Placed<'a> {
 
 impl<'a> Placed<'a> {
     /// Places a record.
-    pub fn of_record(number: u64, at: usize, record: &'a Record) -> Placed<'a>
-        ensures { result ≡ placed_at number at (of_record «record».now) }
+    pub fn of_record(number: u64, at: usize, logged: &'a Record) -> Placed<'a>
+        ensures { result ≡ placed_at number at (of_record logged.now) }
     {
         Placed {
             number,
             at,
-            timestamp: Some(record.timestamp()),
-            change: record.change(),
+            timestamp: Some(logged.timestamp()),
+            change: logged.change(),
         }
     }
 
@@ -51,6 +51,7 @@ impl<'a> Placed<'a> {
             change: Some(entry.change()),
         }
     }
+
     /// Returns whether it changes this key, if there is one.
     pub fn has_key(&self, key: &Option<Key>) -> bool
         ensures { result ≡ has_key key.now self.now.item.change }
