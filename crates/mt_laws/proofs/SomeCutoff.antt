@@ -4,6 +4,7 @@ use Rattle.std.specs.List.{flat_map, AllByRecursion}
 use Rattle.std.proofs.lemmas.Bool.{cases_lt, eq-eqb}
 use Rattle.std.proofs.lemmas.List.Elements.{All-from_recursion, All-contains}
 use Rattle.mt_words.proofs.Elements.{no_element, head_or_tail, head_in, tail_in}
+use Rattle.mt_record.specs.declared.feed.head.Segment.{Segment}
 use Rattle.mt_record.specs.Logs.{LogReading, IsGreatestOf, times_of}
 use Rattle.mt_scan.specs.Cutoff.{is_segment_of, files_of, IsLastOf, HasLast, IsCutoff}
 use Rattle.mt_replay.proofs.Members.{of_each, all_from, in_flat_map, in_filter}
@@ -37,17 +38,17 @@ greatest_at_most times a b is too = All-contains (λ (time : ℕ). time ≤ b) t
 -- ---- last timestamps
 
 -- a file is among the files of its log
-own_file : (logs : List LogReading) (log : LogReading) → Contains logs log → Contains (files_of log.head.writer log logs) log
-own_file logs log at = by log.head.writer refl
+own_file : (logs : List LogReading) (log : LogReading) → Contains logs log → Contains (files_of log.head.segment log logs) log
+own_file logs log at = by log.head.segment refl
   where
-    by : (writer : Option (ℕ × ℕ)) → writer ≡ log.head.writer → Contains (files_of writer log logs) log
+    by : (segment : Option Segment) → segment ≡ log.head.segment → Contains (files_of segment log logs) log
     by None same = head_in log []
-    by (Some writer) same =
-        in_filter (λ (other : LogReading). is_segment_of writer.0 other.head.writer) logs log (ap (is_segment_of writer.0) (sym same) ∙ eq-eqb writer.0 writer.0 refl) at
+    by (Some segment) same =
+        in_filter (λ (other : LogReading). is_segment_of segment.worker other.head.segment) logs log (ap (is_segment_of segment.worker) (sym same) ∙ eq-eqb segment.worker segment.worker refl) at
 
 some_last : (logs : List LogReading) (log : LogReading) → Contains logs log → (last : ℕ) × IsLastOf logs log last
 some_last logs log at =
-    let files : List LogReading = files_of log.head.writer log logs in
+    let files : List LogReading = files_of log.head.segment log logs in
     some_greatest (flat_map times_of files) log.head.from (in_flat_map times_of files log log.head.from (own_file logs log at) (head_in log.head.from _))
 
 -- ---- the least of them
@@ -60,7 +61,7 @@ record IsLeastOf (logs these : List LogReading) (n : ℕ) : Type 0 where
 -- a last timestamp of one log is at most each last timestamp of this log
 own_least : (logs : List LogReading) (l log : LogReading) (own last : ℕ) → IsLastOf logs l own → l ≡ log → IsLastOf logs log last → own ≤ last
 own_least logs l log own last is same is_last =
-    greatest_at_most (flat_map times_of (files_of l.head.writer l logs)) own last is (subst (λ (x : LogReading). IsLastOf logs x last) (sym same) is_last)
+    greatest_at_most (flat_map times_of (files_of l.head.segment l logs)) own last is (subst (λ (x : LogReading). IsLastOf logs x last) (sym same) is_last)
 
 least_of : (logs : List LogReading) (l : LogReading) (ls : List LogReading) → ((log : LogReading) → Contains (l ∷ ls) log → Contains logs log) → (n : ℕ) × IsLeastOf logs (l ∷ ls) n
 least_of logs l [] among =

@@ -16,6 +16,7 @@ use Rattle.mt_words.specs.Limits.{limits_of}
 use Rattle.mt_words.specs.Slices as words
 use Rattle.mt_words.specs.Words.{IsKey}
 use Rattle.mt_words.specs.Changes.{Logged, IsLawful, AllowsKind}
+use Rattle.mt_record.specs.declared.feed.head.Segment.{Segment}
 use Rattle.mt_record.specs.declared.read.FeedFault.{FeedFault}
 use Rattle.mt_record.specs.declared.read.FeedFault.TheVariants as faults
 use Rattle.mt_record.specs.declared.feed.head.Head.{Head}
@@ -53,23 +54,23 @@ is_two Two = inl refl
 
 is_header : (head : Head) → Decided (IsHead head)
 is_header head =
-    alike (λ is. record { from = is.0; writer = is.1 }) (λ (is : IsHead head). (is.from, is.writer))
-    (both (below head.from (2 ^ 64)) (if_some (λ writer. (head.format ≡ Two) × (writer.0 < 2 ^ 32) × (writer.1 < 2 ^ 32)) (λ writer. three (is_two head.format) (below writer.0 (2 ^ 32)) (below writer.1 (2 ^ 32))) head.writer))
+    alike (λ is. record { from = is.0; segment = is.1 }) (λ (is : IsHead head). (is.from, is.segment))
+    (both (below head.from (2 ^ 64)) (if_some (λ segment. (head.format ≡ Two) × (segment.worker < 2 ^ 32) × (segment.number < 2 ^ 32)) (λ segment. three (is_two head.format) (below segment.worker (2 ^ 32)) (below segment.number (2 ^ 32))) head.segment))
 
 head_back : (head : Head) (more : List ℕ) → IsHead head → read_head (head_bytes head ++ more) ≡ head
-head_back head more is = by head.format head.writer is.writer
+head_back head more is = by head.format head.segment is.segment
   where
-    with : Format → Option (ℕ × ℕ) → Head
-    with format writer = record { format = format; from = head.from; writer = writer }
+    with : Format → Option Segment → Head
+    with format segment = record { format = format; from = head.from; segment = segment }
 
-    by : (format : Format) (writer : Option (ℕ × ℕ)) → IfSome writer (λ w. (format ≡ Two) × (w.0 < 2 ^ 32) × (w.1 < 2 ^ 32)) → read_head (head_bytes (with format writer) ++ more) ≡ with format writer
+    by : (format : Format) (segment : Option Segment) → IfSome segment (λ s. (format ≡ Two) × (s.worker < 2 ^ 32) × (s.number < 2 ^ 32)) → read_head (head_bytes (with format segment) ++ more) ≡ with format segment
     by One None fits = λ i. head_of One (big_number-reads_back 8 head.from more is.from i)
     by Two None fits = λ i. head_of Two (big_number-reads_back 8 head.from more is.from i)
-    by One (Some writer) fits = absurd (not_two fits.0)
-    by Two (Some writer) fits =
-        let segment = big_bytes 4 writer.1 ++ more in
-        let worker = big_bytes 4 writer.0 ++ segment in
-        λ i. segment_head (big_number-reads_back 8 head.from worker is.from i) (big_number-reads_back 4 writer.0 segment fits.1 i) (big_number-reads_back 4 writer.1 more fits.2 i)
+    by One (Some segment) fits = absurd (not_two fits.0)
+    by Two (Some segment) fits =
+        let number = big_bytes 4 segment.number ++ more in
+        let worker = big_bytes 4 segment.worker ++ number in
+        λ i. segment_head (big_number-reads_back 8 head.from worker is.from i) (big_number-reads_back 4 segment.worker number fits.1 i) (big_number-reads_back 4 segment.number more fits.2 i)
 
 header_or_none : (bytes : List ℕ) → Begins IsHead head_bytes bytes ⊎ HasNoHeader bytes
 header_or_none bytes = begins_or_none IsHead head_bytes bytes (read_head bytes) (λ head more is e. ap read_head e ∙ head_back head more is) (is_header (read_head bytes))

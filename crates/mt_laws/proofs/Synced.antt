@@ -39,7 +39,7 @@ one_beyond time synced left some log cut is_some is_log beyond =
     let first = last_is (limits_of some.head.format) some is_some.is_log.lawful in
     let n = max some.head.from (latest 0 some.records) in
     let above : time < n = beyond.1 n first in (
-      ap (λ (head : Head). head.writer) (sym begins.head) ∙ beyond.0,
+      ap (λ (head : Head). head.segment) (sym begins.head) ∙ beyond.0,
       λ last is.
           let most : n ≤ last = All-contains (λ (t : ℕ). t ≤ last) (times_of log) n is.1 (times_in some log n begins first.0) in
           omega (arith, above, most),

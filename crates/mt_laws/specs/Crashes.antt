@@ -43,7 +43,7 @@ pub record SaysBeginning (left : List ℕ) (written : LogReading) : Type 0 where
 
 -- the log is no segment of a worker's log
 abbrev pub IsAlone : LogReading → Type 0
-IsAlone log = log.head.writer ≡ None
+IsAlone log = log.head.segment ≡ None
 
 -- none of the logs is a segment of a worker's log
 abbrev pub NoSegments : List LogReading → Type 0
