@@ -1,0 +1,54 @@
+-- A store as the parts of one checkpoint, and the log that makes it count.
+use Rattle.std.specs.Prelude.{◌≡◌, ◌⊎◌, ◌≤◌, ◌<◌, ◌^◌, ◌+◌, ◌-◌, ℕ, List, [], ◌++◌, length, map, slice_index_or}
+use Rattle.std.specs.List.{flat_map, AllByRecursion}
+use Rattle.mt_words.specs.declared.record.Change.{Change}
+use Rattle.mt_words.specs.declared.limits.Format.TheVariants.{Two}
+use Rattle.mt_words.specs.Walks.{Pair, joined}
+use Rattle.mt_words.specs.Built.{entry_of, mark_of}
+use Rattle.mt_record.specs.Heads.{head_bytes}
+use Rattle.mt_record.specs.Encoding.{head_of}
+use Rattle.mt_record.specs.Spelling.{spelling}
+use Rattle.mt_record.specs.Parts.{part_head, part_bytes, entry_spelling}
+
+-- a checkpoint of a store: its number, the timestamp at which it begins and ends, the version of its entries, and the pairs of each part
+pub record Checkpoint : Type 0 where
+  pub number : ℕ
+  pub cutoff : ℕ
+  pub version : ℕ
+  pub parts : List (List Pair)
+
+-- the entries of these pairs, all of this version
+abbrev pub entries_of : ℕ → List Pair → List Change
+entries_of version pairs = map (λ pair. entry_of version pair.0 pair.1) pairs
+
+-- the encodings of these entries
+abbrev pub entries_text : ℕ → List Pair → List ℕ
+entries_text version pairs = flat_map entry_spelling (entries_of version pairs)
+
+-- the pairs of this part
+abbrev pub pairs_of : Checkpoint → ℕ → List Pair
+pairs_of checkpoint part = slice_index_or checkpoint.parts part []
+
+-- the bytes of this part: its header, the entries of its pairs, and its footer; the checkpoint begins and ends at one timestamp
+abbrev pub part_text : Checkpoint → ℕ → List ℕ
+part_text checkpoint part =
+    part_bytes (part_head Two checkpoint.number checkpoint.cutoff part (length checkpoint.parts)) (entries_of checkpoint.version (pairs_of checkpoint part)) checkpoint.cutoff
+
+-- the bytes of a log that makes the checkpoint count: a header that is from its end, and a mark above it
+abbrev pub log_text : Checkpoint → List ℕ
+log_text checkpoint = head_bytes (head_of Two checkpoint.cutoff) ++ spelling (mark_of (checkpoint.cutoff + 1))
+
+-- The checkpoint has these pairs, in order: each in exactly one part. Its numbers fit their fields, and a timestamp and a version are left above them.
+pub record IsCheckpointOf (pairs : List Pair) (checkpoint : Checkpoint) : Type 0 where
+  pub whole : joined checkpoint.parts ≡ pairs
+  pub some : 0 < length checkpoint.parts
+  pub few : length checkpoint.parts < 2 ^ 16
+  pub counts : AllByRecursion (λ part. length part < 2 ^ 32) checkpoint.parts
+  pub number : checkpoint.number < 2 ^ 32
+  pub cutoff : checkpoint.cutoff < 2 ^ 64 - 1
+  pub version : 0 < checkpoint.version
+  pub newest : checkpoint.version < 2 ^ 64 - 1
+
+-- each part has at most this many bytes, or a single entry
+abbrev pub ArePartsWithin : ℕ → Checkpoint → Type 0
+ArePartsWithin limit checkpoint = (part : ℕ) → (length (pairs_of checkpoint part) ≤ 1) ⊎ (length (part_text checkpoint part) ≤ limit)

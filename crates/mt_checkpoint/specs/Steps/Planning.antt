@@ -1,0 +1,71 @@
+-- Where parts begin. The two proofs stand here since a ghost member cites none of proofs/.
+use Rattle.std.specs.Prelude.{◌≡◌, ◌⊎◌, ◌≤◌, ◌<◌, ◌^◌, ◌+◌, ℕ, List, [], ◌∷◌, ◌++◌, length, map}
+use Rattle.std.specs.List.{AllByRecursion}
+use Rattle.std.proofs.Common.{sym, subst, append_assoc}
+use Rattle.std.proofs.lemmas.List.{append-nil}
+use Rattle.mt_words.specs.Walks.{Pair, joined}
+use Rattle.mt_tree.specs.Range.{range}
+use Rattle.mt_checkpoint.specs.Checkpoints.{entries_text}
+use Rattle.mt_checkpoint.specs.declared.planning.Stretch.{Stretch}
+use Rattle.mt_checkpoint.specs.declared.planning.Planning.{Planning}
+
+-- the pairs of the walk in this stretch
+abbrev pub within : List Pair → Stretch → List Pair
+within walk stretch = range walk stretch.start stretch.count
+
+-- the first pair, if there is one, has this key
+abbrev pub StartsAt : List ℕ → List Pair → Type 0
+StartsAt start [] = Unit {0}
+StartsAt start (pair ∷ pairs) = pair.0 ≡ start
+
+-- the stretch is that of these pairs
+pub record IsStretch (stretch : Stretch) (pairs : List Pair) : Type 0 where
+  pub start : StartsAt stretch.start pairs
+  pub count : stretch.count ≡ length pairs
+  pub fits : stretch.count < 2 ^ 32
+
+-- stretches of these lists of pairs
+abbrev pub AreStretches : List Stretch → List (List Pair) → Type 0
+AreStretches [] [] = Unit {0}
+AreStretches [] (list ∷ lists) = ⊥
+AreStretches (stretch ∷ stretches) [] = ⊥
+AreStretches (stretch ∷ stretches) (list ∷ lists) = IsStretch stretch list × AreStretches stretches lists
+
+-- how many bytes a part of these pairs has, of this version
+abbrev pub size_of : ℕ → List Pair → ℕ
+size_of version pairs = 36 + length (entries_text version pairs)
+
+-- a part of these pairs has at most this many bytes, or a single entry
+abbrev pub IsWithin : ℕ → List Pair → Type 0
+IsWithin limit pairs = (version : ℕ) → (length pairs ≤ 1) ⊎ (size_of version pairs ≤ limit)
+
+-- of the pairs so far, these stretches are the parts before the last, and the last
+pub record IsPlan (limit : ℕ) (plan : Planning) (seen : List Pair) : Type 0 where
+  pub full : List (List Pair)
+  pub last : List Pair
+  pub whole : seen ≡ joined full ++ last
+  pub full_are : AreStretches plan.full.items full
+  pub last_is : IsStretch plan.last last
+  pub few : length plan.full.items < 65535
+  pub limit_is : plan.limit ≡ limit
+  pub full_within : AllByRecursion (IsWithin limit) full
+  pub last_within : IsWithin limit last
+  pub size : (version : ℕ) → plan.size ≡ size_of version last
+
+-- the pairs in these stretches make up the walk, as parts that are not too many or too large
+pub record MakeUp (limit : ℕ) (walk : List Pair) (stretches : List Stretch) : Type 0 where
+  pub whole : joined (map (within walk) stretches) ≡ walk
+  pub some : 0 < length stretches
+  pub few : length stretches < 2 ^ 16
+  pub counts : AllByRecursion (λ part. length part < 2 ^ 32) (map (within walk) stretches)
+  pub within : AllByRecursion (IsWithin limit) (map (within walk) stretches)
+
+-- a plan of the pairs so far became one that has these pairs too
+abbrev pub HasPlanned : Planning → Planning → List Pair → Type 0
+HasPlanned old new pairs = (limit : ℕ) (seen : List Pair) → IsPlan limit old seen → IsPlan limit new (seen ++ pairs)
+
+pub none_planned : (a : Planning) → HasPlanned a a []
+none_planned a limit seen is = subst (IsPlan limit a) (sym (append-nil seen)) is
+
+pub both_planned : (a b c : Planning) (v w : List Pair) → HasPlanned a b v → HasPlanned b c w → HasPlanned a c (v ++ w)
+both_planned a b c v w first then limit seen is = subst (IsPlan limit c) (append_assoc seen v w) (then limit (seen ++ v) (first limit seen is))

@@ -1,0 +1,119 @@
+//! A checkpoint of a store.
+ghost use Rattle.std.specs.Prelude.{◌≡◌, ◌≢◌, ◌↔◌, ◌≤◌, ◌<◌, ◌++◌, max, length, IfOk, OnOk, OnErr};
+ghost use Rattle.std.specs.Io.KnownBytes.{Appends};
+ghost use Rattle.mt_words.specs.Walks.{KeysRise};
+ghost use Rattle.mt_tree.specs.Trees.{tree_walk};
+ghost use Rattle.mt_checkpoint.specs.Checkpoints.{IsCheckpointOf, ArePartsWithin, part_text, log_text};
+
+use crate::encode::{write_footer, write_header};
+use crate::entries::write_entries;
+use crate::plan_fault::PlanFault;
+use crate::planning::{Stretch, stretches_of};
+use mt_record::{encode_log_header_2, encode_record};
+use mt_tree::Tree;
+use mt_words::{Memory, Record};
+use std::alloc::Global;
+use std::io::{self, Write};
+use std::marker::Model;
+
+/// The most parts of a checkpoint.
+pub const MOST_PARTS: usize = 65_535;
+
+/// A checkpoint of the pairs of a tree, of which nothing is written yet. It begins and ends at the same timestamp, the
+/// cutoff of the recovery that gave the tree.
+#[derive(Drop)]
+pub struct Checkpoint<'a> {
+    tree: &'a Tree,
+    number: u32,
+    cutoff: u64,
+    version: u64,
+    stretches: Vec<Stretch>,
+}
+
+impl<'a> Model for Checkpoint<'a> {
+    ghost use Rattle.std.specs.Prelude.{◌<◌, ◌^◌, ◌-◌, length, map};
+    ghost use Rattle.mt_tree.specs.Trees.{tree_walk};
+    ghost use Rattle.mt_checkpoint.specs.Checkpoints.{Checkpoint as View};
+    ghost use Rattle.mt_checkpoint.specs.Steps.Planning.{within};
+
+    ghost Value = { View };
+
+    ghost view = { λ c. record {
+      number = c.number;
+      cutoff = c.cutoff;
+      version = c.version;
+      parts = map (within (tree_walk c.tree.now)) c.stretches.items;
+    } };
+
+    ghost invariant = { λ c. (c.cutoff < 2 ^ 64 - 1) × (length c.stretches.items < 2 ^ 16) };
+}
+
+impl<'a> Checkpoint<'a> {
+    /// Plans checkpoint `number` of the tree: which pairs each of its parts has. Writes nothing. The checkpoint is at the
+    /// timestamp `cutoff`, and its entries have the version `version`, or 1 if that is 0. A part has at most `limit`
+    /// bytes, or a single entry. Err: no timestamp is above the cutoff; no version is above `version`; there are too
+    /// many parts; out of memory.
+    pub fn plan(
+        alloc: Global,
+        tree: &'a Tree,
+        number: u32,
+        cutoff: u64,
+        version: u64,
+        limit: usize,
+    ) -> Result<Checkpoint<'a>, PlanFault>
+        requires { KeysRise (tree_walk tree.now) }
+        ensures number { IfOk result (λ made. made.number ≡ number) }
+        ensures cutoff { IfOk result (λ made. made.cutoff ≡ cutoff) }
+        ensures version { IfOk result (λ made. made.version ≡ max 1 version) }
+        ensures parts { IfOk result (IsCheckpointOf (tree_walk tree.now)) }
+        ensures within { IfOk result (ArePartsWithin limit) }
+        ensures last { cutoff ≡ u64.MAX → result ≡ Err PlanFault.Timestamp }
+        ensures newest { cutoff ≢ u64.MAX → version ≡ u64.MAX → result ≡ Err PlanFault.Version }
+    {
+        if cutoff == u64::MAX {
+            return Err(PlanFault::Timestamp);
+        }
+        if version == u64::MAX {
+            return Err(PlanFault::Version);
+        }
+        Ok(Checkpoint {
+            tree,
+            number,
+            cutoff,
+            version: version.max(1),
+            stretches: stretches_of(alloc, tree, limit)?,
+        })
+    }
+
+    /// Returns the number of parts.
+    pub fn parts(&self) -> u16
+        ensures { result ≡ length self.now.parts }
+    {
+        self.stretches.len() as u16
+    }
+
+    /// Writes part `part`. Parts count from 0. Err: write error. The contract does not say how much was written then.
+    pub fn write_part<W: Write>(&self, part: u16, out: &mut W) -> io::Result<()>
+        requires { part < length self.now.parts }
+        ensures { OnOk result (Appends (W.contents out.old) (W.contents out.new) (part_text self.now part)) }
+    {
+        write_header(self.number, self.cutoff, part, self.parts(), out)?;
+        let stretch = &self.stretches[part as usize];
+        let count = write_entries(self.tree, self.version, stretch, out)?;
+        write_footer(self.cutoff, count, out)
+    }
+
+    /// Appends the bytes of a log that makes the checkpoint count. Err: out of memory; nothing is appended.
+    pub fn append_log(&self, out: &mut Vec<u8>) -> Result<(), Memory>
+        ensures ok { OnOk result (out.new.items ≡ out.old.items ++ log_text self.now) }
+        ensures err { OnErr result (out.new.items ≡ out.old.items) }
+    {
+        let start = out.len();
+        encode_log_header_2(self.cutoff, out)?;
+        let outcome = encode_record(&Record::mark(self.cutoff + 1), out);
+        if outcome.is_err() {
+            out.truncate(start);
+        }
+        outcome
+    }
+}

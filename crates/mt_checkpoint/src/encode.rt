@@ -1,0 +1,115 @@
+//! Writes the header, the entries and the footer of a part.
+ghost use Rattle.std.specs.Prelude.{◌≡◌, ◌<◌, ◌^◌, ◌∷◌, length, OnOk};
+ghost use Rattle.std.specs.List.{flat_map};
+ghost use Rattle.std.specs.Io.KnownBytes.{Appends};
+ghost use Rattle.mt_words.specs.declared.limits.Format.TheVariants.{Two};
+ghost use Rattle.mt_words.specs.declared.update.Kind.TheVariants.{Whole};
+ghost use Rattle.mt_words.specs.Limits.{widest};
+ghost use Rattle.mt_words.specs.Words.{IsKey, AreColumns};
+ghost use Rattle.mt_words.specs.Built.{entry_of};
+ghost use Rattle.mt_record.specs.Parts.{part_head, part_head_bytes, entry_spelling, footer_bytes};
+ghost use Rattle.mt_record.specs.Spelling.{with_length, column_bytes, change_bytes, kind_bytes, FitsColumn};
+
+use crate::lengths::entry_length;
+use byteorder::{BigEndian, WriteBytesExt};
+use mt_words::{Column, Columns, Kept};
+use std::io::{self, Write};
+
+/// The first bytes of a part of format 2.
+const MAGIC: &[u8] = b"MTC2";
+
+/// Writes the header of a part: part `part` of the `parts` parts of checkpoint `number`, which begins at `begin`. Err:
+/// write error.
+pub fn write_header<W: Write>(
+    number: u32,
+    begin: u64,
+    part: u16,
+    parts: u16,
+    out: &mut W,
+) -> io::Result<()>
+    ensures { OnOk result (Appends (W.contents out.old) (W.contents out.new) (part_head_bytes (part_head Two number begin part parts))) }
+{
+    out.write_all(MAGIC)?;
+    out.write_u32::<BigEndian>(number)?;
+    out.write_u64::<BigEndian>(begin)?;
+    out.write_u16::<BigEndian>(part)?;
+    out.write_u16::<BigEndian>(parts)
+}
+
+/// Writes the footer of a part with `count` entries. Err: write error.
+pub fn write_footer<W: Write>(end: u64, count: u32, out: &mut W) -> io::Result<()>
+    ensures { OnOk result (Appends (W.contents out.old) (W.contents out.new) (footer_bytes end count)) }
+{
+    out.write_u32::<BigEndian>(0)?;
+    out.write_u64::<BigEndian>(end)?;
+    out.write_u32::<BigEndian>(count)
+}
+
+/// Writes the entry of a pair, of this version. Err: write error.
+pub fn write_entry<W: Write>(
+    version: u64,
+    key: &[u8],
+    columns: &Columns<Kept>,
+    out: &mut W,
+) -> io::Result<()>
+    requires { IsKey widest key.now }
+    ensures { OnOk result (Appends (W.contents out.old) (W.contents out.new) (entry_spelling (entry_of version key.now columns.now))) }
+{
+    let length = entry_length(key, columns) as u32;
+    out.write_u32::<BigEndian>(length)?;
+    write_fields(version, key, columns, out)?;
+    out.write_u32::<BigEndian>(length)
+}
+
+/// Writes the fields of an entry.
+fn write_fields<W: Write>(
+    version: u64,
+    key: &[u8],
+    columns: &Columns<Kept>,
+    out: &mut W,
+) -> io::Result<()>
+    requires { IsKey widest key.now }
+    ensures { OnOk result (Appends (W.contents out.old) (W.contents out.new) (change_bytes (entry_of version key.now columns.now))) }
+{
+    out.write_u64::<BigEndian>(version)?;
+    write_counted(key, out)?;
+    write_columns(columns.as_slice(), out)
+}
+
+/// Writes the length of the bytes, then the bytes.
+fn write_counted<W: Write>(bytes: &[u8], out: &mut W) -> io::Result<()>
+    requires { length bytes.now < 2 ^ 16 }
+    ensures { OnOk result (Appends (W.contents out.old) (W.contents out.new) (with_length bytes.now)) }
+{
+    out.write_u16::<BigEndian>(bytes.len() as u16)?;
+    out.write_all(bytes)
+}
+
+/// Writes the count of the columns, then the columns.
+fn write_columns<W: Write>(columns: &[Column], out: &mut W) -> io::Result<()>
+    requires { AreColumns widest columns.now }
+    ensures { OnOk result (Appends (W.contents out.old) (W.contents out.new) (kind_bytes (Whole columns.now))) }
+{
+    out.write_u8(columns.len() as u8)?;
+    write_each_column(columns, out)
+}
+
+/// Writes the columns.
+fn write_each_column<W: Write>(columns: &[Column], out: &mut W) -> io::Result<()>
+    requires { AreColumns widest columns.now }
+    ensures { OnOk result (Appends (W.contents out.old) (W.contents out.new) (flat_map column_bytes columns.now)) }
+{
+    for column in columns {
+        write_column(column, out)?;
+    }
+    Ok(())
+}
+
+/// Writes a column: its number, then its bytes with their length.
+fn write_column<W: Write>(column: &Column, out: &mut W) -> io::Result<()>
+    requires { FitsColumn column.now }
+    ensures { OnOk result (Appends (W.contents out.old) (W.contents out.new) (column_bytes column.now)) }
+{
+    out.write_u8(column.number)?;
+    write_counted(&column.bytes, out)
+}

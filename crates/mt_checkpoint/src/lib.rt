@@ -1,0 +1,28 @@
+//! Writes a store as the parts of one checkpoint, and the log that makes it count.
+//!
+//! `Checkpoint::plan` walks a tree once, writes nothing, and decides which pairs each part has. `write_part` writes a part
+//! to any writer, straight from the tree. So the caller creates one file after another, or several at once.
+//! `append_log` appends the bytes of a log that makes the checkpoint count.
+//!
+//! ```
+//! let checkpoint = Checkpoint::plan(alloc, &tree, number, cutoff, version, limit)?;
+//! for part in 0..checkpoint.parts() {
+//!     let mut file = BufWriter::new(alloc, File::create(alloc, name_of(part))?)?;
+//!     checkpoint.write_part(part, &mut file)?;
+//!     file.flush()?;
+//! }
+//! checkpoint.append_log(&mut log)?;
+//! ```
+//!
+//! Begin with `checkpoint.rt`, and with `specs/Checkpoints.antt`, which says what is written.
+#![tactic(auto)]
+
+mod checkpoint;
+mod encode;
+mod entries;
+mod lengths;
+mod plan_fault;
+mod planning;
+
+pub use checkpoint::{Checkpoint, MOST_PARTS};
+pub use plan_fault::PlanFault;

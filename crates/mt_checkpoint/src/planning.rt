@@ -1,0 +1,119 @@
+//! Where the parts of a checkpoint begin: a walk before anything is written.
+ghost use Rattle.std.specs.Prelude.{◌≡◌, ◌-◌, ◌≤◌, ◌<◌, ◌+◌, ◌^◌, length, IsTrue, IfOk};
+ghost use Rattle.mt_words.specs.Limits.{widest};
+ghost use Rattle.mt_words.specs.Words.{IsKey};
+ghost use Rattle.mt_words.specs.Walks.{KeysRise};
+ghost use Rattle.mt_tree.specs.Trees.{tree_walk};
+ghost use Rattle.mt_checkpoint.specs.Steps.Planning.{MakeUp, HasPlanned, none_planned, both_planned};
+
+use crate::checkpoint::MOST_PARTS;
+use crate::lengths::entry_length;
+use crate::plan_fault::PlanFault;
+use mt_tree::{Tree, Visitor};
+use mt_words::{Columns, Kept, Key};
+use std::alloc::Global;
+use std::mem;
+
+/// The number of bytes of the header and the footer of a part.
+const AROUND: usize = 36;
+
+/// The pairs of a part: the first ones at or after a key.
+#[derive(Drop)]
+pub struct Stretch {
+    /// The key at or after which they begin.
+    pub start: Key,
+    /// Their number.
+    pub count: u32,
+}
+
+/// Returns the parts of a tree. Each has at most `limit` bytes, or a single entry. Err: there are too many; out of memory.
+pub fn stretches_of(alloc: Global, tree: &Tree, limit: usize) -> Result<Vec<Stretch>, PlanFault>
+    requires { KeysRise (tree_walk tree.now) }
+    ensures { IfOk result (λ stretches. MakeUp limit (tree_walk tree.now) stretches.items) }
+{
+    let last = Stretch {
+        start: Key::copy_of(alloc, &[])?,
+        count: 0,
+    };
+    let mut plan = Planning {
+        alloc,
+        limit,
+        full: Vec::new(alloc),
+        last,
+        size: AROUND,
+    };
+    tree.visit(&Planner, &mut plan)?;
+    let Planning { mut full, last, .. } = plan;
+    full.push(last)?;
+    Ok(full)
+}
+
+/// The parts of the pairs so far.
+#[derive(Drop)]
+pub struct Planning {
+    pub alloc: Global,
+    /// The most bytes of a part that has more than one entry.
+    pub limit: usize,
+    /// The parts before the last.
+    pub full: Vec<Stretch>,
+    /// The last part.
+    pub last: Stretch,
+    /// The number of bytes of the last part.
+    pub size: usize,
+}
+
+impl Planning {
+    /// Returns whether the last part takes a further entry, of this many bytes.
+    fn takes(&self, length: usize) -> bool
+        ensures room { IsTrue result → self.now.size + length ≤ self.now.limit }
+        ensures some { IsTrue result → 0 < self.now.last.count }
+        ensures few { IsTrue result → self.now.last.count < 2 ^ 32 - 1 }
+    {
+        let has_room = self.size <= self.limit && length <= self.limit - self.size;
+        has_room && 0 < self.last.count && self.last.count < u32::MAX
+    }
+
+    /// Returns whether another part may begin.
+    fn may_begin(&self) -> bool
+        ensures { IsTrue result → length self.now.full.items + 1 < 65535 }
+    {
+        self.full.len() + 1 < MOST_PARTS
+    }
+}
+
+/// Adds each pair to the last part, or begins another part with it.
+pub struct Planner;
+
+impl Visitor<Planning> for Planner {
+    type Error = PlanFault;
+
+    ghost shown = { HasPlanned };
+
+    fn visit(
+        &self,
+        plan: &mut Planning,
+        key: &[u8],
+        columns: &Columns<Kept>,
+    ) -> Result<(), PlanFault> {
+        let length = 8 + entry_length(key, columns);
+        if plan.takes(length) {
+            plan.last.count += 1;
+            plan.size += length;
+            return Ok(());
+        }
+        if !plan.may_begin() {
+            return Err(PlanFault::Parts);
+        }
+        let start = Key::copy_of(plan.alloc, key)?;
+        let full = mem::replace(&mut plan.last, Stretch { start, count: 1 });
+        plan.size = AROUND + length;
+        if full.count > 0 {
+            plan.full.push(full)?;
+        }
+        Ok(())
+    }
+
+    ghost none = { none_planned };
+
+    ghost more = { both_planned };
+}
