@@ -14,6 +14,8 @@ use Rattle.mt_words.specs.Built.{entry_of}
 use Rattle.mt_record.specs.Spelling.{change_bytes}
 use Rattle.mt_tree.specs.Range.{from}
 use Rattle.mt_tree.proofs.Joins.{all_back, all_append}
+use Rattle.mt_checkpoint.specs.declared.checkpoint.TheConstants.{MOST_PARTS}
+use Rattle.mt_checkpoint.specs.declared.planning.TheConstants.{AROUND}
 use Rattle.mt_checkpoint.specs.declared.planning.Stretch.{Stretch}
 use Rattle.mt_checkpoint.specs.declared.planning.Planning.{Planning}
 use Rattle.mt_checkpoint.specs.Steps.Planning.{within, StartsAt, IsStretch, AreStretches, IsWithin, IsPlan, MakeUp}
@@ -63,8 +65,8 @@ module _ (limit : ℕ) (plan : Planning) (seen : List Pair) (pair : Pair) (field
   }
 
   -- another part begins with the pair, after these
-  began : (new : Planning) (full : List (List Pair)) → seen ≡ joined full → AreStretches new.full.items full → length new.full.items < 65535 → AllByRecursion (IsWithin limit) full
-      → new.limit ≡ plan.limit → pair.0 ≡ new.last.start → new.last.count ≡ 1 → new.size ≡ 36 + (8 + fields) → IsPlan limit new (seen ++ pair ∷ [])
+  began : (new : Planning) (full : List (List Pair)) → seen ≡ joined full → AreStretches new.full.items full → length new.full.items < MOST_PARTS → AllByRecursion (IsWithin limit) full
+      → new.limit ≡ plan.limit → pair.0 ≡ new.last.start → new.last.count ≡ 1 → new.size ≡ AROUND + (8 + fields) → IsPlan limit new (seen ++ pair ∷ [])
   began new full whole are few each of_limit start one size = record {
     full = full;
     last = pair ∷ [];
@@ -79,22 +81,22 @@ module _ (limit : ℕ) (plan : Planning) (seen : List Pair) (pair : Pair) (field
   }
 
   -- the last part is kept, and another one begins
-  pub began_next : (new : Planning) → new.full.items ≡ plan.full.items ++ plan.last ∷ [] → length plan.full.items + 1 < 65535
-      → new.limit ≡ plan.limit → pair.0 ≡ new.last.start → new.last.count ≡ 1 → new.size ≡ 36 + (8 + fields) → IsPlan limit new (seen ++ pair ∷ [])
+  pub began_next : (new : Planning) → new.full.items ≡ plan.full.items ++ plan.last ∷ [] → length plan.full.items + 1 < MOST_PARTS
+      → new.limit ≡ plan.limit → pair.0 ≡ new.last.start → new.last.count ≡ 1 → new.size ≡ AROUND + (8 + fields) → IsPlan limit new (seen ++ pair ∷ [])
   began_next new items few =
       let whole = is.whole ∙ sym (joined_snoc is.full is.last) in
       let are = subst (λ (z : List Stretch). AreStretches z (is.full ++ is.last ∷ [])) (sym items) (stretches_snoc plan.full.items is.full plan.last is.last is.full_are is.last_is) in
-      let fewer : length new.full.items < 65535 = omega (arith, few, ap (λ (z : List Stretch). length z) items, length-append plan.full.items (plan.last ∷ [])) in
+      let fewer : length new.full.items < MOST_PARTS = omega (arith, few, ap (λ (z : List Stretch). length z) items, length-append plan.full.items (plan.last ∷ [])) in
       began new (is.full ++ is.last ∷ []) whole are fewer (all_append (IsWithin limit) is.full (is.last ∷ []) is.full_within (is.last_within, tt))
 
   -- the first part begins
   pub began_first : (new : Planning) → new.full.items ≡ plan.full.items → plan.last.count ≡ 0
-      → new.limit ≡ plan.limit → pair.0 ≡ new.last.start → new.last.count ≡ 1 → new.size ≡ 36 + (8 + fields) → IsPlan limit new (seen ++ pair ∷ [])
+      → new.limit ≡ plan.limit → pair.0 ≡ new.last.start → new.last.count ≡ 1 → new.size ≡ AROUND + (8 + fields) → IsPlan limit new (seen ++ pair ∷ [])
   began_first new items none =
       let empty : is.last ≡ [] = no_length is.last (omega (arith, none, is.last_is.count)) in
       let whole = is.whole ∙ ap (λ (z : List Pair). joined is.full ++ z) empty ∙ append-nil (joined is.full) in
       let are = subst (λ (z : List Stretch). AreStretches z is.full) (sym items) is.full_are in
-      let fewer : length new.full.items < 65535 = omega (arith, is.few, ap (λ (z : List Stretch). length z) items) in
+      let fewer : length new.full.items < MOST_PARTS = omega (arith, is.few, ap (λ (z : List Stretch). length z) items) in
       began new is.full whole are fewer is.full_within
 
 -- ---- the pairs of a stretch
@@ -156,7 +158,7 @@ few_in_each (stretch ∷ stretches) [] are = absurd are
 few_in_each (stretch ∷ stretches) (list ∷ lists) are = (omega (arith, are.0.count, are.0.fits), few_in_each stretches lists are.1)
 
 -- a plan without pairs
-pub begun : (limit : ℕ) (plan : Planning) → plan.full.items ≡ [] → plan.last.count ≡ 0 → plan.size ≡ 36 → plan.limit ≡ limit → IsPlan limit plan []
+pub begun : (limit : ℕ) (plan : Planning) → plan.full.items ≡ [] → plan.last.count ≡ 0 → plan.size ≡ AROUND → plan.limit ≡ limit → IsPlan limit plan []
 begun limit plan empty none size of_limit = record {
   full = [];
   last = [];

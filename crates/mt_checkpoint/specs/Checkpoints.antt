@@ -5,6 +5,7 @@ use Rattle.mt_words.specs.declared.record.Change.{Change}
 use Rattle.mt_words.specs.declared.limits.Format.TheVariants.{Two}
 use Rattle.mt_words.specs.Walks.{Pair, joined}
 use Rattle.mt_words.specs.Built.{entry_of, mark_of}
+use Rattle.mt_record.specs.declared.part_text.PartHead.{PartHead}
 use Rattle.mt_record.specs.Heads.{head_bytes}
 use Rattle.mt_record.specs.Encoding.{head_of}
 use Rattle.mt_record.specs.Spelling.{spelling}
@@ -29,10 +30,13 @@ entries_text version pairs = flat_map entry_spelling (entries_of version pairs)
 abbrev pub pairs_of : Checkpoint → ℕ → List Pair
 pairs_of checkpoint part = slice_index_or checkpoint.parts part []
 
+-- the header of this part
+abbrev pub head_of_part : Checkpoint → ℕ → PartHead
+head_of_part checkpoint part = part_head Two checkpoint.number checkpoint.cutoff part (length checkpoint.parts)
+
 -- the bytes of this part: its header, the entries of its pairs, and its footer; the checkpoint begins and ends at one timestamp
 abbrev pub part_text : Checkpoint → ℕ → List ℕ
-part_text checkpoint part =
-    part_bytes (part_head Two checkpoint.number checkpoint.cutoff part (length checkpoint.parts)) (entries_of checkpoint.version (pairs_of checkpoint part)) checkpoint.cutoff
+part_text checkpoint part = part_bytes (head_of_part checkpoint part) (entries_of checkpoint.version (pairs_of checkpoint part)) checkpoint.cutoff
 
 -- the bytes of a log that makes the checkpoint count: a header that is from its end, and a mark above it
 abbrev pub log_text : Checkpoint → List ℕ

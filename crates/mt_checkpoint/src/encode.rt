@@ -27,7 +27,8 @@ pub fn write_header<W: Write>(
     parts: u16,
     out: &mut W,
 ) -> io::Result<()>
-    ensures { OnOk result (Appends (W.contents out.old) (W.contents out.new) (part_head_bytes (part_head Two number begin part parts))) }
+    ensures { OnOk result
+        (Appends (W.contents out.old) (W.contents out.new) (part_head_bytes (part_head Two number begin part parts))) }
 {
     out.write_all(MAGIC)?;
     out.write_u32::<BigEndian>(number)?;
@@ -53,7 +54,8 @@ pub fn write_entry<W: Write>(
     out: &mut W,
 ) -> io::Result<()>
     requires { IsKey widest key.now }
-    ensures { OnOk result (Appends (W.contents out.old) (W.contents out.new) (entry_spelling (entry_of version key.now columns.now))) }
+    ensures { OnOk result
+        (Appends (W.contents out.old) (W.contents out.new) (entry_spelling (entry_of version key.now columns.now))) }
 {
     let length = entry_length(key, columns) as u32;
     out.write_u32::<BigEndian>(length)?;
@@ -69,7 +71,8 @@ fn write_fields<W: Write>(
     out: &mut W,
 ) -> io::Result<()>
     requires { IsKey widest key.now }
-    ensures { OnOk result (Appends (W.contents out.old) (W.contents out.new) (change_bytes (entry_of version key.now columns.now))) }
+    ensures { OnOk result
+        (Appends (W.contents out.old) (W.contents out.new) (change_bytes (entry_of version key.now columns.now))) }
 {
     out.write_u64::<BigEndian>(version)?;
     write_counted(key, out)?;

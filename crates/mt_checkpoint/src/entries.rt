@@ -20,7 +20,8 @@ pub fn write_entries<W: Write>(
     out: &mut W,
 ) -> io::Result<u32>
     ensures count { IfOk result (λ count. count ≡ length (within (tree_walk tree.now) stretch.now)) }
-    ensures written { OnOk result (Appends (W.contents out.old) (W.contents out.new) (entries_text version (within (tree_walk tree.now) stretch.now))) }
+    ensures written { OnOk result
+        (Appends (W.contents out.old) (W.contents out.new) (entries_text version (within (tree_walk tree.now) stretch.now))) }
 {
     let mut rest = Rest {
         version,

@@ -20,9 +20,11 @@
 mod checkpoint;
 mod encode;
 mod entries;
+mod laws;
 mod lengths;
 mod plan_fault;
 mod planning;
 
 pub use checkpoint::{Checkpoint, MOST_PARTS};
+pub use laws::a_written_checkpoint_is_read;
 pub use plan_fault::PlanFault;

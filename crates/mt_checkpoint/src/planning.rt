@@ -9,13 +9,14 @@ ghost use Rattle.mt_checkpoint.specs.Steps.Planning.{MakeUp, HasPlanned, none_pl
 use crate::checkpoint::MOST_PARTS;
 use crate::lengths::entry_length;
 use crate::plan_fault::PlanFault;
+use mt_record::FOOTER_BYTES;
 use mt_tree::{Tree, Visitor};
 use mt_words::{Columns, Kept, Key};
 use std::alloc::Global;
 use std::mem;
 
-/// The number of bytes of the header and the footer of a part.
-const AROUND: usize = 36;
+/// The number of bytes around the entries of a part: the header has 20.
+const AROUND: usize = 20 + FOOTER_BYTES;
 
 /// The pairs of a part: the first ones at or after a key.
 #[derive(Drop)]
@@ -75,7 +76,7 @@ impl Planning {
 
     /// Returns whether another part may begin.
     fn may_begin(&self) -> bool
-        ensures { IsTrue result → length self.now.full.items + 1 < 65535 }
+        ensures { IsTrue result → length self.now.full.items + 1 < MOST_PARTS }
     {
         self.full.len() + 1 < MOST_PARTS
     }

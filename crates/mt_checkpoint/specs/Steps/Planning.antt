@@ -6,6 +6,8 @@ use Rattle.std.proofs.lemmas.List.{append-nil}
 use Rattle.mt_words.specs.Walks.{Pair, joined}
 use Rattle.mt_tree.specs.Range.{range}
 use Rattle.mt_checkpoint.specs.Checkpoints.{entries_text}
+use Rattle.mt_checkpoint.specs.declared.checkpoint.TheConstants.{MOST_PARTS}
+use Rattle.mt_checkpoint.specs.declared.planning.TheConstants.{AROUND}
 use Rattle.mt_checkpoint.specs.declared.planning.Stretch.{Stretch}
 use Rattle.mt_checkpoint.specs.declared.planning.Planning.{Planning}
 
@@ -33,7 +35,7 @@ AreStretches (stretch ∷ stretches) (list ∷ lists) = IsStretch stretch list �
 
 -- how many bytes a part of these pairs has, of this version
 abbrev pub size_of : ℕ → List Pair → ℕ
-size_of version pairs = 36 + length (entries_text version pairs)
+size_of version pairs = AROUND + length (entries_text version pairs)
 
 -- a part of these pairs has at most this many bytes, or a single entry
 abbrev pub IsWithin : ℕ → List Pair → Type 0
@@ -46,7 +48,7 @@ pub record IsPlan (limit : ℕ) (plan : Planning) (seen : List Pair) : Type 0 wh
   pub whole : seen ≡ joined full ++ last
   pub full_are : AreStretches plan.full.items full
   pub last_is : IsStretch plan.last last
-  pub few : length plan.full.items < 65535
+  pub few : length plan.full.items < MOST_PARTS
   pub limit_is : plan.limit ≡ limit
   pub full_within : AllByRecursion (IsWithin limit) full
   pub last_within : IsWithin limit last

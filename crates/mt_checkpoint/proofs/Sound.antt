@@ -1,0 +1,63 @@
+-- What is read of a checkpoint that was written.
+use Rattle.std.proofs.Common.{◌≡◌, ◌∙◌, ℕ, zero, suc, ◌+◌, ◌<◌, ◌^◌, List, [], ◌∷◌, ◌++◌, length, get_or, refl, sym, ap, subst, inl, arith}
+use Rattle.std.specs.List.{flat_map, AllByRecursion}
+use Rattle.std.proofs.lemmas.List.{append-nil, map-append, length-map}
+use Rattle.mt_words.specs.declared.limits.Format.TheVariants.{Two}
+use Rattle.mt_words.specs.declared.record.Change.{Change}
+use Rattle.mt_words.specs.Limits.{widest}
+use Rattle.mt_words.specs.Walks.{Pair, IsPair, IsMap, joined}
+use Rattle.mt_words.specs.Changes.{IsEntry}
+use Rattle.mt_words.specs.Built.{entry_of, mark_of}
+use Rattle.mt_record.specs.Heads.{head_bytes}
+use Rattle.mt_record.specs.Encoding.{head_of}
+use Rattle.mt_record.specs.Spelling.{spelling}
+use Rattle.mt_record.specs.Logs.{IsLog}
+use Rattle.mt_record.specs.Parts.{IsPart}
+use Rattle.mt_tree.proofs.Joins.{all_front, all_back}
+use Rattle.mt_checkpoint.specs.Checkpoints.{Checkpoint, IsCheckpointOf, head_of_part, entries_of, pairs_of, part_text, log_text}
+
+all_at : {X : Type 0} (P : X → Type 0) (xs : List X) (i : ℕ) (d : X) → i < length xs → AllByRecursion P xs → P (get_or xs i d)
+all_at P [] i d below all = absurd (omega (arith, below))
+all_at P (x ∷ xs) zero d below all = all.0
+all_at P (x ∷ xs) (suc i) d below all = all_at P xs i d (omega (arith, below)) all.1
+
+all_in_each : (P : Pair → Type 0) (lists : List (List Pair)) → AllByRecursion P (joined lists) → AllByRecursion (AllByRecursion P) lists
+all_in_each P [] all = tt
+all_in_each P (list ∷ lists) all = (all_front P list (joined lists) all, all_in_each P lists (all_back P list (joined lists) all))
+
+-- the entries of lawful pairs are lawful
+lawful_entries : (version : ℕ) (pairs : List Pair) → 0 < version → version < 2 ^ 64 → AllByRecursion IsPair pairs → AllByRecursion (IsEntry widest) (entries_of version pairs)
+lawful_entries version [] some fits all = tt
+lawful_entries version (pair ∷ pairs) some fits all =
+    ((record { version = some; version_fits = fits; key = all.0.0; kind = (all.0.1, all.0.2) }, tt), lawful_entries version pairs some fits all.1)
+
+pub is_part : (pairs : List Pair) (checkpoint : Checkpoint) (part : ℕ) → IsMap pairs → IsCheckpointOf pairs checkpoint → part < length checkpoint.parts
+    → IsPart (part_text checkpoint part) (head_of_part checkpoint part) (entries_of checkpoint.version (pairs_of checkpoint part)) checkpoint.cutoff
+is_part pairs checkpoint part map is below =
+    let each = all_in_each IsPair checkpoint.parts (subst (AllByRecursion IsPair) (sym is.whole) map.1) in
+    let few : length (pairs_of checkpoint part) < 2 ^ 32 = all_at (λ (z : List Pair). length z < 2 ^ 32) checkpoint.parts part [] below is.counts in
+    record {
+      spelled = refl;
+      is_head = record { number = is.number; begin = omega (arith, is.cutoff); part = omega (arith, below, is.few); parts = is.few };
+      lawful = lawful_entries checkpoint.version (pairs_of checkpoint part) is.version (omega (arith, is.newest)) (all_at (AllByRecursion IsPair) checkpoint.parts part [] below each);
+      fits = omega (arith, is.cutoff);
+      count = omega (arith, few, length-map (pairs_of checkpoint part) (λ pair. entry_of checkpoint.version pair.0 pair.1));
+    }
+
+entries_joined : (version : ℕ) (lists : List (List Pair)) → flat_map (entries_of version) lists ≡ entries_of version (joined lists)
+entries_joined version [] = refl
+entries_joined version (list ∷ lists) =
+    ap (λ (z : List Change). entries_of version list ++ z) (entries_joined version lists) ∙ sym (map-append (λ pair. entry_of version pair.0 pair.1) list (joined lists))
+
+pub all_entries : (pairs : List Pair) (checkpoint : Checkpoint) → IsCheckpointOf pairs checkpoint → flat_map (entries_of checkpoint.version) checkpoint.parts ≡ entries_of checkpoint.version pairs
+all_entries pairs checkpoint is = entries_joined checkpoint.version checkpoint.parts ∙ ap (entries_of checkpoint.version) is.whole
+
+pub is_log : (pairs : List Pair) (checkpoint : Checkpoint) → IsCheckpointOf pairs checkpoint → IsLog (log_text checkpoint) (head_of Two checkpoint.cutoff) (mark_of (checkpoint.cutoff + 1) ∷ []) []
+is_log pairs checkpoint is =
+    let mark = spelling (mark_of (checkpoint.cutoff + 1)) in
+    record {
+      spelled = ap (λ (z : List ℕ). head_bytes (head_of Two checkpoint.cutoff) ++ z) (sym (append-nil (mark ++ []) ∙ append-nil mark));
+      is_head = record { from = omega (arith, is.cutoff); segment = tt };
+      lawful = ((omega (arith, is.cutoff), tt), omega arith, tt);
+      ends = inl refl;
+    }
