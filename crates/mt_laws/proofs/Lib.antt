@@ -20,3 +20,4 @@ pub mod SomeCheckpoint
 pub mod SomeChoice
 pub mod SomeWalk
 pub mod SomeVerdict
+pub mod Resumed

@@ -8,6 +8,7 @@
 mod checkpoints;
 mod crashes;
 mod readings;
+mod resuming;
 mod verdicts;
 
 pub use checkpoints::{
@@ -17,4 +18,5 @@ pub use crashes::{
     a_crash_loses_nothing_below_the_cutoff, a_cut_log_is_a_log, acknowledged_is_safe,
 };
 pub use readings::{some_part, some_reading};
+pub use resuming::a_resumed_log_is_a_log;
 pub use verdicts::some_verdict;
