@@ -21,3 +21,7 @@ pub mod SomeChoice
 pub mod SomeWalk
 pub mod SomeVerdict
 pub mod Resumed
+pub mod Paired
+pub mod ResumedLogs
+pub mod Agreeing
+pub mod ResumedStores

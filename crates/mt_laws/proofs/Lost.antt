@@ -42,7 +42,7 @@ from_low limits low bound (r ∷ rs) most are =
     (above, from_low limits r.timestamp bound rs above are.2)
 
 -- what was lost is not before what was kept
-behind_latest : (limits : Limits) (low : ℕ) (kept lost : List Logged) → AreRecords limits low (kept ++ lost)
+pub behind_latest : (limits : Limits) (low : ℕ) (kept lost : List Logged) → AreRecords limits low (kept ++ lost)
     → AllByRecursion (λ (r : Logged). latest low kept ≤ r.timestamp) lost
 behind_latest limits low [] lost are = from_low limits low low lost (omega arith) are
 behind_latest limits low (r ∷ rs) lost are = behind_latest limits r.timestamp rs lost are.2
@@ -76,7 +76,16 @@ append_none : {A : Type 0} (xs ys : List A) → ys ≡ [] → xs ++ ys ≡ xs
 append_none [] ys e = e
 append_none (x ∷ xs) ys e = ap (λ zs. x ∷ zs) (append_none xs ys e)
 
-all_outside : (window : Window) (bound : ℕ) (rs : List Logged) → (window.cutoff ≤ bound) ⊎ (window.cutoff ≤ window.begin)
+-- if the last records are outside the window, the survivors are those of the first
+pub first_survive : (window : Window) (log : ℕ) (kept lost : List Logged) → AllByRecursion (λ (r : Logged). is_within window r.timestamp ≡ false) lost
+    → filter (in_window window) (updates_from log 0 (kept ++ lost)) ≡ filter (in_window window) (updates_from log 0 kept)
+first_survive window log kept lost out =
+    let more = updates_behind log 0 kept lost in
+    ap (filter (in_window window)) more.1
+    ∙ filter-append (in_window window) (updates_from log 0 kept) (updates_from log more.0 lost)
+    ∙ append_none (filter (in_window window) (updates_from log 0 kept)) (filter (in_window window) (updates_from log more.0 lost)) (none_survives window log more.0 lost out)
+
+pub all_outside : (window : Window) (bound : ℕ) (rs : List Logged) → (window.cutoff ≤ bound) ⊎ (window.cutoff ≤ window.begin)
     → AllByRecursion (λ (r : Logged). bound ≤ r.timestamp) rs → AllByRecursion (λ (r : Logged). is_within window r.timestamp ≡ false) rs
 all_outside window bound [] out low = tt
 all_outside window bound (r ∷ rs) (inl late) low =
@@ -97,12 +106,7 @@ one_survives window log left history h =
     let lost = h.begins.lost in
     let lawful = subst (AreRecords h.limits 0) h.begins.records h.lawful in
     let out = all_outside window (latest 0 left.records) lost h.reaches (behind_latest h.limits 0 left.records lost lawful) in
-    let more = updates_behind log 0 left.records lost in
-    let none = none_survives window log more.0 lost out in
-    sym (ap (λ (rs : List Logged). filter (in_window window) (updates_from log 0 rs)) h.begins.records
-    ∙ ap (filter (in_window window)) more.1
-    ∙ filter-append (in_window window) (updates_from log 0 left.records) (updates_from log more.0 lost)
-    ∙ append_none (filter (in_window window) (updates_from log 0 left.records)) (filter (in_window window) (updates_from log more.0 lost)) none)
+    sym (ap (λ (rs : List Logged). filter (in_window window) (updates_from log 0 rs)) h.begins.records ∙ first_survive window log left.records lost out)
 
 -- ---- all logs
 

@@ -46,7 +46,7 @@ own_file logs log at = by log.head.segment refl
     by (Some segment) same =
         in_filter (λ (other : LogReading). is_segment_of segment.worker other.head.segment) logs log (ap (is_segment_of segment.worker) (sym same) ∙ eq-eqb segment.worker segment.worker refl) at
 
-some_last : (logs : List LogReading) (log : LogReading) → Contains logs log → (last : ℕ) × IsLastOf logs log last
+pub some_last : (logs : List LogReading) (log : LogReading) → Contains logs log → (last : ℕ) × IsLastOf logs log last
 some_last logs log at =
     let files : List LogReading = files_of log.head.segment log logs in
     some_greatest (flat_map times_of files) log.head.from (in_flat_map times_of files log log.head.from (own_file logs log at) (head_in log.head.from _))

@@ -1,8 +1,12 @@
 //! Laws of resuming in place after a crash: of every state on the way, and of what comes after.
 ghost use Rattle.std.specs.Prelude.{◌≡◌, ◌<◌, ◌^◌, if◌then◌else◌, List, ℕ};
+ghost use Rattle.std.specs.List.{AllZip};
+ghost use Rattle.mt_words.specs.Walks.{Pair};
 ghost use Rattle.mt_record.specs.Logs.{LogReading, IsReading};
 ghost use Rattle.mt_record.specs.LogTexts.{IsLast};
+ghost use Rattle.mt_recover.specs.Recovery.{Facts, IsStoreOf};
 ghost use Rattle.mt_record.specs.Resuming.{greatest_timestamp, is_ended, resumed, IsResumed};
+ghost use Rattle.mt_laws.specs.Resuming.{IsOnTheWay, FindTheSame};
 
 /// States that what replaces a log is a log. Its last timestamp is the cutoff or, if the log was ended, the greatest one:
 /// no log claims more than the cutoff, and an ended log holds back nothing. Replacing it again changes nothing. This is a
@@ -13,4 +17,19 @@ pub fn a_resumed_log_is_a_log()
     ensures last { (log : LogReading) (cutoff last : ℕ) → cutoff < 2 ^ 64 → IsLast (resumed cutoff log) last →
         last ≡ (if is_ended log.records then greatest_timestamp else cutoff) }
     ensures again { (log : LogReading) (cutoff : ℕ) → resumed cutoff (resumed cutoff log) ≡ resumed cutoff log }
+{}
+
+/// States that every state on the way of a resume has the same store, with the same cutoff, chosen checkpoint and
+/// survivors. So it has no fault, and resuming from it leads to the same logs as from the start: it may stop, and begin
+/// again, at any step. This is a law: it has nothing to run.
+pub fn resuming_changes_nothing()
+    ensures store { (logs parts now left : List (List ℕ)) (pairs : List Pair) →
+        (store : IsStoreOf logs parts pairs) → IsOnTheWay store.basis.facts now left → IsStoreOf now left pairs }
+    ensures same { (logs parts now left : List (List ℕ)) (pairs : List Pair) →
+        (store : IsStoreOf logs parts pairs) → IsOnTheWay store.basis.facts now left →
+        (after : Facts now left) → FindTheSame store.basis.facts after }
+    ensures again { (logs parts now left after : List (List ℕ)) (pairs : List Pair) →
+        (store : IsStoreOf logs parts pairs) → IsOnTheWay store.basis.facts now left →
+        (found : Facts now left) → AllZip (IsResumed found.cutoff) now after →
+        AllZip (IsResumed store.basis.facts.cutoff) logs after }
 {}

@@ -1,0 +1,32 @@
+-- Resuming after a crash: every state on the way, and what comes after.
+use Rattle.std.specs.Prelude.{◌≡◌, ℕ, ◌⊎◌, Option, IfSome, List}
+use Rattle.std.specs.List.{AllZip}
+use Rattle.mt_record.specs.Resuming.{IsResumed}
+use Rattle.mt_scan.specs.PartScans.{KnownPart}
+use Rattle.mt_scan.specs.Choice.{CheckpointReading, IsValid}
+use Rattle.mt_recover.specs.Recovery.{AreKnown, Facts, survivors, records_of}
+
+-- the log is as it was, or it is replaced
+abbrev pub IsSameOrResumed : ℕ → List ℕ → List ℕ → Type 0
+IsSameOrResumed cutoff before after = (after ≡ before) ⊎ IsResumed cutoff before after
+
+-- ---- every state on the way
+
+-- the chosen checkpoint is valid still, and no checkpoint is that was not
+pub record NoneBecomesValid (chosen : Option CheckpointReading) (before after : List KnownPart) : Type 0 where
+  pub stays : IfSome chosen (IsValid after)
+  pub none_new : (checkpoint : CheckpointReading) → IsValid after checkpoint → IsValid before checkpoint
+
+-- A state on the way, of the logs and of the parts: each log is as it was, or replaced at the cutoff that recovery found. Parts may be gone, but the chosen
+-- checkpoint is valid still, and no checkpoint is that was not.
+pub record IsOnTheWay {logs parts : List (List ℕ)} (facts : Facts logs parts) (now left : List (List ℕ)) : Type 0 where
+  pub each : AllZip (IsSameOrResumed facts.cutoff) logs now
+  pub known : List KnownPart
+  pub are_known : AreKnown left known
+  pub checkpoints : NoneBecomesValid facts.chosen facts.known known
+
+-- recovery finds the same cutoff and the same checkpoint, and the same updates survive
+pub record FindTheSame {logs parts now left : List (List ℕ)} (before : Facts logs parts) (after : Facts now left) : Type 0 where
+  pub cutoff : after.cutoff ≡ before.cutoff
+  pub chosen : after.chosen ≡ before.chosen
+  pub survivors : survivors after.cutoff after.chosen (records_of after.readings) ≡ survivors before.cutoff before.chosen (records_of before.readings)
