@@ -25,3 +25,4 @@ pub mod Paired
 pub mod ResumedLogs
 pub mod Agreeing
 pub mod ResumedStores
+pub mod Deleted

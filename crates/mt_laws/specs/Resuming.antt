@@ -1,9 +1,10 @@
 -- Resuming after a crash: every state on the way, and what comes after.
-use Rattle.std.specs.Prelude.{◌≡◌, ℕ, ◌⊎◌, Option, IfSome, List}
+use Rattle.std.specs.Prelude.{◌≡◌, ℕ, ◌≤◌, ◌⊎◌, Option, IfSome, Contains, IsPermutation, List, [], ◌++◌, length}
 use Rattle.std.specs.List.{AllZip}
+use Rattle.mt_record.specs.Parts.{PartReading}
 use Rattle.mt_record.specs.Resuming.{IsResumed}
-use Rattle.mt_scan.specs.PartScans.{KnownPart}
-use Rattle.mt_scan.specs.Choice.{CheckpointReading, IsValid}
+use Rattle.mt_scan.specs.PartScans.{KnownPart, whole, broken}
+use Rattle.mt_scan.specs.Choice.{CheckpointReading, parts_of, IsValid}
 use Rattle.mt_recover.specs.Recovery.{AreKnown, Facts, survivors, records_of}
 
 -- the log is as it was, or it is replaced
@@ -30,3 +31,19 @@ pub record FindTheSame {logs parts now left : List (List ℕ)} (before : Facts l
   pub cutoff : after.cutoff ≡ before.cutoff
   pub chosen : after.chosen ≡ before.chosen
   pub survivors : survivors after.cutoff after.chosen (records_of after.readings) ≡ survivors before.cutoff before.chosen (records_of before.readings)
+
+-- ---- deleting checkpoints
+
+-- How far the deletion of the parts with one number may be: none of them is gone; or some are, and there were not too many, so that each complete part names
+-- at least as many as there were; or a broken part with the number is left; or none is left.
+pub data IsDeleting (number : ℕ) (before after : List KnownPart) : Type 0 where
+  none_gone : IsPermutation (parts_of number before) (parts_of number after) → IsDeleting number before after
+  some_gone : (gone : List KnownPart) → ((part : PartReading) → Contains (parts_of number before) (whole part) → length (parts_of number before) ≤ part.parts)
+      → IsPermutation (parts_of number before) (parts_of number after ++ gone) → IsDeleting number before after
+  over_broken : (entries : ℕ) → Contains after (broken number entries) → IsDeleting number before after
+  all_gone : parts_of number after ≡ [] → IsDeleting number before after
+
+-- The parts of the chosen checkpoint are kept, with no other part of its number. Those of each other number are deleted by the rule.
+pub record AreDeleting (chosen : Option CheckpointReading) (before after : List KnownPart) : Type 0 where
+  pub kept : IfSome chosen (λ checkpoint. IsPermutation (parts_of checkpoint.number before) (parts_of checkpoint.number after))
+  pub others : (number : ℕ) → IsDeleting number before after

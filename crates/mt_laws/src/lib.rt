@@ -18,5 +18,7 @@ pub use crashes::{
     a_crash_loses_nothing_below_the_cutoff, a_cut_log_is_a_log, acknowledged_is_safe,
 };
 pub use readings::{some_part, some_reading};
-pub use resuming::{a_resumed_log_is_a_log, resuming_changes_nothing};
+pub use resuming::{
+    a_resumed_log_is_a_log, deleting_makes_no_checkpoint_valid, resuming_changes_nothing,
+};
 pub use verdicts::some_verdict;

@@ -1,12 +1,14 @@
 //! Laws of resuming in place after a crash: of every state on the way, and of what comes after.
-ghost use Rattle.std.specs.Prelude.{◌≡◌, ◌<◌, ◌^◌, if◌then◌else◌, List, ℕ};
+ghost use Rattle.std.specs.Prelude.{◌≡◌, ◌<◌, ◌^◌, if◌then◌else◌, List, Option, ℕ};
 ghost use Rattle.std.specs.List.{AllZip};
 ghost use Rattle.mt_words.specs.Walks.{Pair};
 ghost use Rattle.mt_record.specs.Logs.{LogReading, IsReading};
 ghost use Rattle.mt_record.specs.LogTexts.{IsLast};
+ghost use Rattle.mt_scan.specs.PartScans.{KnownPart};
+ghost use Rattle.mt_scan.specs.Choice.{CheckpointReading, IsChosenOf};
 ghost use Rattle.mt_recover.specs.Recovery.{Facts, IsStoreOf};
 ghost use Rattle.mt_record.specs.Resuming.{greatest_timestamp, is_ended, resumed, IsResumed};
-ghost use Rattle.mt_laws.specs.Resuming.{IsOnTheWay, FindTheSame};
+ghost use Rattle.mt_laws.specs.Resuming.{IsOnTheWay, FindTheSame, AreDeleting, NoneBecomesValid};
 
 /// States that what replaces a log is a log. Its last timestamp is the cutoff or, if the log was ended, the greatest one:
 /// no log claims more than the cutoff, and an ended log holds back nothing. Replacing it again changes nothing. This is a
@@ -32,4 +34,12 @@ pub fn resuming_changes_nothing()
         (store : IsStoreOf logs parts pairs) → IsOnTheWay store.basis.facts now left →
         (found : Facts now left) → AllZip (IsResumed found.cutoff) now after →
         AllZip (IsResumed store.basis.facts.cutoff) logs after }
+{}
+
+/// States that no checkpoint becomes valid while the parts of those that are not chosen are deleted by the rule: where
+/// there are more parts with a number than some complete one names, a broken part with the number is there until all
+/// others are gone. So each state is as `resuming_changes_nothing` asks. This is a law: it has nothing to run.
+pub fn deleting_makes_no_checkpoint_valid()
+    ensures { (before after : List KnownPart) (cutoff : ℕ) (chosen : Option CheckpointReading) →
+        IsChosenOf before cutoff chosen → AreDeleting chosen before after → NoneBecomesValid chosen before after }
 {}
