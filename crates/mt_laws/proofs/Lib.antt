@@ -26,3 +26,4 @@ pub mod ResumedLogs
 pub mod Agreeing
 pub mod ResumedStores
 pub mod Deleted
+pub mod Continued

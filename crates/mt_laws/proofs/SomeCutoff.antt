@@ -38,7 +38,7 @@ greatest_at_most times a b is too = All-contains (λ (time : ℕ). time ≤ b) t
 -- ---- last timestamps
 
 -- a file is among the files of its log
-own_file : (logs : List LogReading) (log : LogReading) → Contains logs log → Contains (files_of log.head.segment log logs) log
+pub own_file : (logs : List LogReading) (log : LogReading) → Contains logs log → Contains (files_of log.head.segment log logs) log
 own_file logs log at = by log.head.segment refl
   where
     by : (segment : Option Segment) → segment ≡ log.head.segment → Contains (files_of segment log logs) log

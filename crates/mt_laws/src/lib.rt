@@ -19,6 +19,7 @@ pub use crashes::{
 };
 pub use readings::{some_part, some_reading};
 pub use resuming::{
-    a_resumed_log_is_a_log, deleting_makes_no_checkpoint_valid, resuming_changes_nothing,
+    a_resumed_log_is_a_log, an_update_after_a_resume, deleting_makes_no_checkpoint_valid,
+    resuming_changes_nothing,
 };
 pub use verdicts::some_verdict;

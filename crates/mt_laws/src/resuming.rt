@@ -1,14 +1,16 @@
 //! Laws of resuming in place after a crash: of every state on the way, and of what comes after.
-ghost use Rattle.std.specs.Prelude.{◌≡◌, ◌<◌, ◌^◌, if◌then◌else◌, List, Option, ℕ};
+ghost use Rattle.std.specs.Prelude.{◌≡◌, ◌<◌, ◌^◌, if◌then◌else◌, List, Option, ℕ, Contains};
 ghost use Rattle.std.specs.List.{AllZip};
+ghost use Rattle.mt_words.specs.declared.update.Update.{Update};
 ghost use Rattle.mt_words.specs.Walks.{Pair};
 ghost use Rattle.mt_record.specs.Logs.{LogReading, IsReading};
 ghost use Rattle.mt_record.specs.LogTexts.{IsLast};
 ghost use Rattle.mt_scan.specs.PartScans.{KnownPart};
 ghost use Rattle.mt_scan.specs.Choice.{CheckpointReading, IsChosenOf};
-ghost use Rattle.mt_recover.specs.Recovery.{Facts, IsStoreOf};
+ghost use Rattle.mt_replay.specs.Survivors.{log_updates};
+ghost use Rattle.mt_recover.specs.Recovery.{AreReadings, Facts, records_of, IsStoreOf};
 ghost use Rattle.mt_record.specs.Resuming.{greatest_timestamp, is_ended, resumed, IsResumed};
-ghost use Rattle.mt_laws.specs.Resuming.{IsOnTheWay, FindTheSame, AreDeleting, NoneBecomesValid};
+ghost use Rattle.mt_laws.specs.Resuming.{IsOnTheWay, FindTheSame, AreDeleting, NoneBecomesValid, IsResume, IsContinued, GoesOn};
 
 /// States that what replaces a log is a log. Its last timestamp is the cutoff or, if the log was ended, the greatest one:
 /// no log claims more than the cutoff, and an ended log holds back nothing. Replacing it again changes nothing. This is a
@@ -42,4 +44,18 @@ pub fn resuming_changes_nothing()
 pub fn deleting_makes_no_checkpoint_valid()
     ensures { (before after : List KnownPart) (cutoff : ℕ) (chosen : Option CheckpointReading) →
         IsChosenOf before cutoff chosen → AreDeleting chosen before after → NoneBecomesValid chosen before after }
+{}
+
+/// States that after a whole resume new records only add to what survived. The cutoff does not fall. What survives next
+/// is what survived, and of the updates at or past the old cutoff those below the new one; none of these is an update
+/// that the resume dropped. This is a law: it has nothing to run.
+pub fn an_update_after_a_resume()
+    ensures goes_on { (logs parts resumed later left : List (List ℕ)) (pairs : List Pair) →
+        (store : IsStoreOf logs parts pairs) → IsResume store.basis.facts resumed left →
+        AllZip IsContinued resumed later →
+        (now : Facts later left) → GoesOn store.basis.facts now }
+    ensures dropped { (logs parts resumed left : List (List ℕ)) (readings : List LogReading) (pairs : List Pair) →
+        (store : IsStoreOf logs parts pairs) → IsResume store.basis.facts resumed left →
+        AreReadings resumed readings →
+        (u : Update) → Contains (log_updates (records_of readings)) u → u.timestamp < store.basis.facts.cutoff }
 {}
