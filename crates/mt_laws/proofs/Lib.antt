@@ -27,3 +27,5 @@ pub mod Agreeing
 pub mod ResumedStores
 pub mod Deleted
 pub mod Continued
+pub mod LeftFiles
+pub mod Living

@@ -163,14 +163,18 @@ of_fault logs parts i of_log.Header is = inr (faults.Header i, is)
 of_fault logs parts i (of_log.Record nth what) is = inr (faults.Record i nth what, is)
 of_fault logs parts i of_log.Memory is = absurd is.is_fault
 
--- facts lead to a store, unless there is a gap
+-- facts without a gap lead to a store
+pub store_of : (logs parts : List (List ℕ)) (facts : Facts logs parts) → ((i : ℕ) → IsGap (begin_of facts.chosen) facts.readings i → ⊥)
+    → (pairs : List Pair) × IsStoreOf logs parts pairs
+store_of logs parts facts none =
+    let walk = some_walk (survivors facts.cutoff facts.chosen (records_of facts.readings))
+    (survivors_apart facts.known facts.cutoff facts.chosen (records_of facts.readings) facts.is_chosen) (lawful_survivors logs parts facts) in
+    (walk.0, record { basis = record { facts = facts; no_gap = none }; walk = walk.1 })
+
 of_facts : (logs parts : List (List ℕ)) → Facts logs parts → StoreOrFault logs parts
 of_facts logs parts facts = elim (first_gap (begin_of facts.chosen) facts.readings) as (λ _. StoreOrFault logs parts) [
   | inl gap ↦ inr (faults.Gap gap.0, (facts, gap.1))
-  | inr none ↦
-      let walk = some_walk (survivors facts.cutoff facts.chosen (records_of facts.readings))
-      (survivors_apart facts.known facts.cutoff facts.chosen (records_of facts.readings) facts.is_chosen) (lawful_survivors logs parts facts) in
-      inl (walk.0, record { basis = record { facts = facts; no_gap = none }; walk = walk.1 })
+  | inr none ↦ inl (store_of logs parts facts none)
 ]
 
 -- readings lead to facts, if the segments are sound

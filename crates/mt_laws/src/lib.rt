@@ -1,12 +1,15 @@
 //! Laws of all bytes: each list of them is a log or a part, or has a fault, and logs and parts have a store or a fault.
-//! And laws of a crash: what it leaves of logs, what is never lost, and what a checkpoint and its server may leave out.
+//! And laws of a crash: what it leaves of logs, what is never lost, what a checkpoint and its server may leave out, and
+//! how a server goes on, crash after crash.
 //!
 //! Each law is a function with an empty body, whose contract is the law. For a crash begin with `specs/Crashes.antt`,
-//! which has the definitions, and with docs/DURABILITY.md, which says what a server must do for the laws to hold.
+//! for going on with `specs/Resuming.antt` and `specs/Lives.antt`, which have the definitions, and with
+//! docs/DURABILITY.md, which says what a server must do for the laws to hold.
 #![tactic(auto)]
 
 mod checkpoints;
 mod crashes;
+mod lives;
 mod readings;
 mod resuming;
 mod verdicts;
@@ -17,6 +20,7 @@ pub use checkpoints::{
 pub use crashes::{
     a_crash_loses_nothing_below_the_cutoff, a_cut_log_is_a_log, acknowledged_is_safe,
 };
+pub use lives::a_life_of_crashes;
 pub use readings::{some_part, some_reading};
 pub use resuming::{
     a_resumed_log_is_a_log, an_update_after_a_resume, deleting_makes_no_checkpoint_valid,

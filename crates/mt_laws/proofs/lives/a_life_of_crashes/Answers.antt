@@ -1,0 +1,11 @@
+use Rattle.mt_laws.proofs.Living.{life_has_store, life_store, life_keeps}
+use Rattle.mt_laws.proofs.lives.a_life_of_crashes.Goals as goal
+
+pub returns-clause-no_fault : goal.returns-clause-no_fault
+returns-clause-no_fault c = λ acked history left life. life_has_store acked history left life
+
+pub returns-clause-store : goal.returns-clause-store
+returns-clause-store c = λ acked history left pairs life store. life_store acked history left pairs life store
+
+pub returns-clause-acknowledged : goal.returns-clause-acknowledged
+returns-clause-acknowledged c = λ acked history left pairs life store u at. life_keeps acked history left pairs life store u at
