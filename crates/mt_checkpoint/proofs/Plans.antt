@@ -18,7 +18,7 @@ use Rattle.mt_checkpoint.specs.declared.checkpoint.TheConstants.{MOST_PARTS}
 use Rattle.mt_checkpoint.specs.declared.planning.TheConstants.{AROUND}
 use Rattle.mt_checkpoint.specs.declared.planning.Stretch.{Stretch}
 use Rattle.mt_checkpoint.specs.declared.planning.Planning.{Planning}
-use Rattle.mt_checkpoint.specs.Steps.Planning.{within, StartsAt, IsStretch, AreStretches, IsWithin, IsPlan, MakeUp}
+use Rattle.mt_checkpoint.specs.Steps.Planning.{within, StartsAt, IsStretch, AreStretches, LiesWithin, IsPlan, MakeUp}
 use Rattle.mt_checkpoint.proofs.Texts.{size_more}
 
 -- ---- one more pair
@@ -65,7 +65,7 @@ module _ (limit : ℕ) (plan : Planning) (seen : List Pair) (pair : Pair) (field
   }
 
   -- another part begins with the pair, after these
-  began : (new : Planning) (full : List (List Pair)) → seen ≡ joined full → AreStretches new.full.items full → length new.full.items < MOST_PARTS → AllByRecursion (IsWithin limit) full
+  began : (new : Planning) (full : List (List Pair)) → seen ≡ joined full → AreStretches new.full.items full → length new.full.items < MOST_PARTS → AllByRecursion (LiesWithin limit) full
       → new.limit ≡ plan.limit → pair.0 ≡ new.last.start → new.last.count ≡ 1 → new.size ≡ AROUND + (8 + fields) → IsPlan limit new (seen ++ pair ∷ [])
   began new full whole are few each of_limit start one size = record {
     full = full;
@@ -87,7 +87,7 @@ module _ (limit : ℕ) (plan : Planning) (seen : List Pair) (pair : Pair) (field
       let whole = is.whole ∙ sym (joined_snoc is.full is.last) in
       let are = subst (λ (z : List Stretch). AreStretches z (is.full ++ is.last ∷ [])) (sym items) (stretches_snoc plan.full.items is.full plan.last is.last is.full_are is.last_is) in
       let fewer : length new.full.items < MOST_PARTS = omega (arith, few, ap (λ (z : List Stretch). length z) items, length-append plan.full.items (plan.last ∷ [])) in
-      began new (is.full ++ is.last ∷ []) whole are fewer (all_append (IsWithin limit) is.full (is.last ∷ []) is.full_within (is.last_within, tt))
+      began new (is.full ++ is.last ∷ []) whole are fewer (all_append (LiesWithin limit) is.full (is.last ∷ []) is.full_within (is.last_within, tt))
 
   -- the first part begins
   pub began_first : (new : Planning) → new.full.items ≡ plan.full.items → plan.last.count ≡ 0
@@ -185,5 +185,5 @@ made_up limit walk plan stretches rise is same =
       some = omega (arith, count);
       few = omega (arith, count, is.few);
       counts = subst (AllByRecursion (λ part. length part < 2 ^ 32)) (sym parts) (few_in_each stretches lists are);
-      within = subst (AllByRecursion (IsWithin limit)) (sym parts) (all_append (IsWithin limit) is.full (is.last ∷ []) is.full_within (is.last_within, tt));
+      within = subst (AllByRecursion (LiesWithin limit)) (sym parts) (all_append (LiesWithin limit) is.full (is.last ∷ []) is.full_within (is.last_within, tt));
     }

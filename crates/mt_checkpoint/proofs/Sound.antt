@@ -14,7 +14,7 @@ use Rattle.mt_record.specs.Spelling.{spelling}
 use Rattle.mt_record.specs.Logs.{IsLog}
 use Rattle.mt_record.specs.Parts.{IsPart}
 use Rattle.mt_tree.proofs.Joins.{all_front, all_back}
-use Rattle.mt_checkpoint.specs.Checkpoints.{Checkpoint, IsCheckpointOf, head_of_part, entries_of, pairs_of, part_text, log_text}
+use Rattle.mt_checkpoint.specs.Checkpoints.{Checkpoint, HasPairs, head_of_part, entries_with, pairs_of, part_text, log_text}
 
 all_at : {X : Type 0} (P : X → Type 0) (xs : List X) (i : ℕ) (d : X) → i < length xs → AllByRecursion P xs → P (get_or xs i d)
 all_at P [] i d below all = absurd (omega (arith, below))
@@ -26,13 +26,13 @@ all_in_each P [] all = tt
 all_in_each P (list ∷ lists) all = (all_front P list (joined lists) all, all_in_each P lists (all_back P list (joined lists) all))
 
 -- the entries of lawful pairs are lawful
-lawful_entries : (version : ℕ) (pairs : List Pair) → 0 < version → version < 2 ^ 64 → AllByRecursion IsPair pairs → AllByRecursion (IsEntry widest) (entries_of version pairs)
+lawful_entries : (version : ℕ) (pairs : List Pair) → 0 < version → version < 2 ^ 64 → AllByRecursion IsPair pairs → AllByRecursion (IsEntry widest) (entries_with version pairs)
 lawful_entries version [] some fits all = tt
 lawful_entries version (pair ∷ pairs) some fits all =
     ((record { version = some; version_fits = fits; key = all.0.0; kind = (all.0.1, all.0.2) }, tt), lawful_entries version pairs some fits all.1)
 
-pub is_part : (pairs : List Pair) (checkpoint : Checkpoint) (part : ℕ) → IsMap pairs → IsCheckpointOf pairs checkpoint → part < length checkpoint.parts
-    → IsPart (part_text checkpoint part) (head_of_part checkpoint part) (entries_of checkpoint.version (pairs_of checkpoint part)) checkpoint.cutoff
+pub is_part : (pairs : List Pair) (checkpoint : Checkpoint) (part : ℕ) → IsMap pairs → HasPairs pairs checkpoint → part < length checkpoint.parts
+    → IsPart (part_text checkpoint part) (head_of_part checkpoint part) (entries_with checkpoint.version (pairs_of checkpoint part)) checkpoint.cutoff
 is_part pairs checkpoint part map is below =
     let each = all_in_each IsPair checkpoint.parts (subst (AllByRecursion IsPair) (sym is.whole) map.1) in
     let few : length (pairs_of checkpoint part) < 2 ^ 32 = all_at (λ (z : List Pair). length z < 2 ^ 32) checkpoint.parts part [] below is.counts in
@@ -44,15 +44,15 @@ is_part pairs checkpoint part map is below =
       count = omega (arith, few, length-map (pairs_of checkpoint part) (λ pair. entry_of checkpoint.version pair.0 pair.1));
     }
 
-entries_joined : (version : ℕ) (lists : List (List Pair)) → flat_map (entries_of version) lists ≡ entries_of version (joined lists)
+entries_joined : (version : ℕ) (lists : List (List Pair)) → flat_map (entries_with version) lists ≡ entries_with version (joined lists)
 entries_joined version [] = refl
 entries_joined version (list ∷ lists) =
-    ap (λ (z : List Change). entries_of version list ++ z) (entries_joined version lists) ∙ sym (map-append (λ pair. entry_of version pair.0 pair.1) list (joined lists))
+    ap (λ (z : List Change). entries_with version list ++ z) (entries_joined version lists) ∙ sym (map-append (λ pair. entry_of version pair.0 pair.1) list (joined lists))
 
-pub all_entries : (pairs : List Pair) (checkpoint : Checkpoint) → IsCheckpointOf pairs checkpoint → flat_map (entries_of checkpoint.version) checkpoint.parts ≡ entries_of checkpoint.version pairs
-all_entries pairs checkpoint is = entries_joined checkpoint.version checkpoint.parts ∙ ap (entries_of checkpoint.version) is.whole
+pub all_entries : (pairs : List Pair) (checkpoint : Checkpoint) → HasPairs pairs checkpoint → flat_map (entries_with checkpoint.version) checkpoint.parts ≡ entries_with checkpoint.version pairs
+all_entries pairs checkpoint is = entries_joined checkpoint.version checkpoint.parts ∙ ap (entries_with checkpoint.version) is.whole
 
-pub is_log : (pairs : List Pair) (checkpoint : Checkpoint) → IsCheckpointOf pairs checkpoint → IsLog (log_text checkpoint) (head_of Two checkpoint.cutoff) (mark_of (checkpoint.cutoff + 1) ∷ []) []
+pub is_log : (pairs : List Pair) (checkpoint : Checkpoint) → HasPairs pairs checkpoint → IsLog (log_text checkpoint) (head_of Two checkpoint.cutoff) (mark_of (checkpoint.cutoff + 1) ∷ []) []
 is_log pairs checkpoint is =
     let mark = spelling (mark_of (checkpoint.cutoff + 1)) in
     record {

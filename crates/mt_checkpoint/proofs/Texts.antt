@@ -10,7 +10,7 @@ use Rattle.mt_words.specs.Walks.{Pair}
 use Rattle.mt_words.specs.Built.{entry_of}
 use Rattle.mt_record.specs.Spelling.{change_bytes}
 use Rattle.mt_record.specs.Parts.{entry_spelling, part_head, part_head_bytes, footer_bytes}
-use Rattle.mt_checkpoint.specs.Checkpoints.{Checkpoint, entries_of, entries_text, pairs_of, part_text}
+use Rattle.mt_checkpoint.specs.Checkpoints.{Checkpoint, entries_with, entries_text, pairs_of, part_text}
 use Rattle.mt_checkpoint.specs.Steps.Planning.{size_of}
 use Rattle.mt_checkpoint.specs.Steps.Writing.{no_pair, text_both}
 
@@ -44,7 +44,7 @@ pub part_written : (a b c d : Option (List ℕ)) (checkpoint : Checkpoint) (part
     → Appends a d (part_text checkpoint part)
 part_written a b c d checkpoint part parts count pairs many here few header entries footer =
     let head : ℕ → List ℕ = λ n. part_head_bytes (part_head Two checkpoint.number checkpoint.cutoff part n) in
-    let counted : count ≡ length (entries_of checkpoint.version (pairs_of checkpoint part)) =
+    let counted : count ≡ length (entries_with checkpoint.version (pairs_of checkpoint part)) =
     few ∙ ap (λ (z : List Pair). length z) (sym here) ∙ sym (length-map (pairs_of checkpoint part) (λ pair. entry_of checkpoint.version pair.0 pair.1)) in
     let all = Appends-trans a b d (head parts) (entries_text checkpoint.version pairs ++ footer_bytes checkpoint.cutoff count) header
     (Appends-trans b c d (entries_text checkpoint.version pairs) (footer_bytes checkpoint.cutoff count) entries footer) in

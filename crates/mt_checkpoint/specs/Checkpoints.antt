@@ -19,12 +19,12 @@ pub record Checkpoint : Type 0 where
   pub parts : List (List Pair)
 
 -- the entries of these pairs, all of this version
-abbrev pub entries_of : ℕ → List Pair → List Change
-entries_of version pairs = map (λ pair. entry_of version pair.0 pair.1) pairs
+abbrev pub entries_with : ℕ → List Pair → List Change
+entries_with version pairs = map (λ pair. entry_of version pair.0 pair.1) pairs
 
 -- the encodings of these entries
 abbrev pub entries_text : ℕ → List Pair → List ℕ
-entries_text version pairs = flat_map entry_spelling (entries_of version pairs)
+entries_text version pairs = flat_map entry_spelling (entries_with version pairs)
 
 -- the pairs of this part
 abbrev pub pairs_of : Checkpoint → ℕ → List Pair
@@ -36,14 +36,14 @@ head_of_part checkpoint part = part_head Two checkpoint.number checkpoint.cutoff
 
 -- the bytes of this part: its header, the entries of its pairs, and its footer; the checkpoint begins and ends at one timestamp
 abbrev pub part_text : Checkpoint → ℕ → List ℕ
-part_text checkpoint part = part_bytes (head_of_part checkpoint part) (entries_of checkpoint.version (pairs_of checkpoint part)) checkpoint.cutoff
+part_text checkpoint part = part_bytes (head_of_part checkpoint part) (entries_with checkpoint.version (pairs_of checkpoint part)) checkpoint.cutoff
 
 -- the bytes of a log that makes the checkpoint count: a header that is from its end, and a mark above it
 abbrev pub log_text : Checkpoint → List ℕ
 log_text checkpoint = head_bytes (head_of Two checkpoint.cutoff) ++ spelling (mark_of (checkpoint.cutoff + 1))
 
 -- The checkpoint has these pairs, in order: each in exactly one part. Its numbers fit their fields, and a timestamp and a version are left above them.
-pub record IsCheckpointOf (pairs : List Pair) (checkpoint : Checkpoint) : Type 0 where
+pub record HasPairs (pairs : List Pair) (checkpoint : Checkpoint) : Type 0 where
   pub whole : joined checkpoint.parts ≡ pairs
   pub some : 0 < length checkpoint.parts
   pub few : length checkpoint.parts < 2 ^ 16

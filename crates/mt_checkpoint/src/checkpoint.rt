@@ -3,7 +3,7 @@ ghost use Rattle.std.specs.Prelude.{◌≡◌, ◌≢◌, ◌↔◌, ◌≤◌, 
 ghost use Rattle.std.specs.Io.KnownBytes.{Appends};
 ghost use Rattle.mt_words.specs.Walks.{KeysRise};
 ghost use Rattle.mt_tree.specs.Trees.{tree_walk};
-ghost use Rattle.mt_checkpoint.specs.Checkpoints.{IsCheckpointOf, ArePartsWithin, part_text, log_text};
+ghost use Rattle.mt_checkpoint.specs.Checkpoints.{HasPairs, ArePartsWithin, part_text, log_text};
 
 use crate::encode::{write_footer, write_header};
 use crate::entries::write_entries;
@@ -65,7 +65,7 @@ impl<'a> Checkpoint<'a> {
         ensures number { IfOk result (λ made. made.number ≡ number) }
         ensures cutoff { IfOk result (λ made. made.cutoff ≡ cutoff) }
         ensures version { IfOk result (λ made. made.version ≡ max 1 version) }
-        ensures parts { IfOk result (IsCheckpointOf (tree_walk tree.now)) }
+        ensures parts { IfOk result (HasPairs (tree_walk tree.now)) }
         ensures within { IfOk result (ArePartsWithin limit) }
         ensures last { cutoff ≡ u64.MAX → result ≡ Err PlanFault.Timestamp }
         ensures newest { cutoff ≢ u64.MAX → version ≡ u64.MAX → result ≡ Err PlanFault.Version }

@@ -7,20 +7,20 @@ ghost use Rattle.mt_words.specs.Built.{mark_of};
 ghost use Rattle.mt_record.specs.Encoding.{head_of};
 ghost use Rattle.mt_record.specs.Logs.{IsLog};
 ghost use Rattle.mt_record.specs.Parts.{IsPart};
-ghost use Rattle.mt_checkpoint.specs.Checkpoints.{Checkpoint, IsCheckpointOf, head_of_part, entries_of, pairs_of, part_text, log_text};
+ghost use Rattle.mt_checkpoint.specs.Checkpoints.{Checkpoint, HasPairs, head_of_part, entries_with, pairs_of, part_text, log_text};
 
 /// The bytes of a part of a checkpoint of a store are a part, with the entries of its pairs. The entries of all parts,
 /// one part after another, are those of the store. The bytes of the log are a log with one mark. This is a law: it has
 /// nothing to run.
 pub fn a_written_checkpoint_is_read()
     ensures parts { (pairs : List Pair) (checkpoint : Checkpoint) (part : ℕ) →
-        IsMap pairs → IsCheckpointOf pairs checkpoint → part < length checkpoint.parts →
+        IsMap pairs → HasPairs pairs checkpoint → part < length checkpoint.parts →
         IsPart (part_text checkpoint part) (head_of_part checkpoint part)
-        (entries_of checkpoint.version (pairs_of checkpoint part)) checkpoint.cutoff }
+        (entries_with checkpoint.version (pairs_of checkpoint part)) checkpoint.cutoff }
     ensures entries { (pairs : List Pair) (checkpoint : Checkpoint) →
-        IsCheckpointOf pairs checkpoint →
-        flat_map (entries_of checkpoint.version) checkpoint.parts ≡ entries_of checkpoint.version pairs }
+        HasPairs pairs checkpoint →
+        flat_map (entries_with checkpoint.version) checkpoint.parts ≡ entries_with checkpoint.version pairs }
     ensures log { (pairs : List Pair) (checkpoint : Checkpoint) →
-        IsCheckpointOf pairs checkpoint →
+        HasPairs pairs checkpoint →
         IsLog (log_text checkpoint) (head_of Two checkpoint.cutoff) (mark_of (checkpoint.cutoff + 1) ∷ []) [] }
 {}

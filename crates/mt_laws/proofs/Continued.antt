@@ -29,7 +29,7 @@ use Rattle.mt_recover.specs.Recovery.{AreReadings, Facts, begin_of, entry_update
 use Rattle.mt_recover.proofs.OneVerdict.{same_facts}
 use Rattle.mt_words.specs.Built.{mark_of}
 use Rattle.mt_record.specs.Resuming.{below, marks_of, resumed, IsResumed}
-use Rattle.mt_laws.specs.Resuming.{IsResume, IsContinued, IsUpdateWithin, GoesOn}
+use Rattle.mt_laws.specs.Resuming.{IsResume, IsContinued, IsUpdateWithin, GoesOnFrom}
 use Rattle.mt_laws.proofs.Lost.{behind_latest}
 use Rattle.mt_laws.proofs.Windows.{within, not_early, not_late}
 use Rattle.mt_laws.proofs.Agreeing.{AgreeBelow, agreeing_survive}
@@ -174,7 +174,7 @@ survive_higher low high chosen logs nows rises begins agree u = (to, from)
 -- ---- the law
 
 pub goes_on : (logs parts between later left : List (List ℕ)) (pairs : List Pair) (store : IsStoreOf logs parts pairs) → IsResume store.basis.facts between left
-    → AllZip IsContinued between later → (now : Facts later left) → GoesOn store.basis.facts now
+    → AllZip IsContinued between later → (now : Facts later left) → GoesOnFrom store.basis.facts now
 goes_on logs parts between later left pairs store resume on now =
     let facts = store.basis.facts in
     let go = all_go_on facts.cutoff logs between later facts.readings now.readings (cutoff_fits logs facts.readings facts.cutoff facts.read facts.is_cutoff) facts.read resume.each on now.read in

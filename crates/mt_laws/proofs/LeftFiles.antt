@@ -19,7 +19,7 @@ use Rattle.mt_scan.specs.Segments.{IsEarlier, IsSame, HasFile, IsDoubled, AreWri
 use Rattle.mt_replay.proofs.Members.{of_map, in_map, of_flat_map, in_flat_map, of_filter, in_filter}
 use Rattle.mt_recover.specs.Recovery.{AreReadings}
 use Rattle.mt_laws.specs.Crashes.{IsCutOf, IsBeginningOf}
-use Rattle.mt_laws.specs.Lives.{OpenFile, bytes_of, reading_of, HasSynced, IsOpen, IsBehind, AreOpen, IsLeftOf, IsSyncedAbove}
+use Rattle.mt_laws.specs.Lives.{OpenFile, file_bytes, file_reading, HasSynced, IsOpenFile, IsBehind, AreOpen, IsLeftOf, IsSyncedAbove}
 use Rattle.mt_laws.proofs.CutLogs.{cut_log}
 use Rattle.mt_laws.proofs.Lost.{behind_latest}
 use Rattle.mt_laws.proofs.SomeCutoff.{some_last, own_file}
@@ -36,15 +36,15 @@ pub record SaysLeft (log : OpenFile) (left : LogReading) : Type 0 where
   pub bytes : List ℕ
   pub is_left : IsLeftOf log bytes
   pub is_reading : IsReading bytes left
-  pub begins : IsBeginningOf left (reading_of log)
-  pub is_open : IsOpen log
+  pub begins : IsBeginningOf left (file_reading log)
+  pub is_open : IsOpenFile log
 
-one_left : (log : OpenFile) (left : List ℕ) → IsOpen log → IsLeftOf log left → (reading : LogReading) × IsReading left reading × SaysLeft log reading
+one_left : (log : OpenFile) (left : List ℕ) → IsOpenFile log → IsLeftOf log left → (reading : LogReading) × IsReading left reading × SaysLeft log reading
 one_left log left is_open is =
-    let said = cut_log left (bytes_of log) (reading_of log) is_open.is_reading is.1 in
+    let said = cut_log left (file_bytes log) (file_reading log) is_open.is_reading is.1 in
     (said.log, said.is_reading, record { bytes = left; is_left = is; is_reading = said.is_reading; begins = said.begins; is_open = is_open })
 
-pub all_left : (logs : List OpenFile) (left : List (List ℕ)) → ((log : OpenFile) → Contains logs log → IsOpen log) → AllZip IsLeftOf logs left
+pub all_left : (logs : List OpenFile) (left : List (List ℕ)) → ((log : OpenFile) → Contains logs log → IsOpenFile log) → AllZip IsLeftOf logs left
     → (readings : List LogReading) × AreReadings left readings × AllZip SaysLeft logs readings
 all_left [] [] opens are = ([], tt, tt)
 all_left [] (l ∷ ls) opens are = absurd are
@@ -67,9 +67,9 @@ synced_left P log left says has =
     (has.at, subst (λ (rs : List Logged). Contains rs has.at) (sym begins.records) (Contains-append_left has.reading.records begins.lost has.at has.stands), has.holds)
 
 -- the times of what is left are times of the file
-left_times : (log : OpenFile) (left : LogReading) (time : ℕ) → SaysLeft log left → Contains (times_of left) time → Contains (times_of (reading_of log)) time
-left_times log left time says at = elim (head_or_tail left.head.from time (map time_of left.records) at) as (λ _. Contains (times_of (reading_of log)) time) [
-  | inl e ↦ subst (Contains (times_of (reading_of log))) (ap (λ (head : Head). head.from) (sym says.begins.head) ∙ e) (head_in log.head.from (map time_of log.records))
+left_times : (log : OpenFile) (left : LogReading) (time : ℕ) → SaysLeft log left → Contains (times_of left) time → Contains (times_of (file_reading log)) time
+left_times log left time says at = elim (head_or_tail left.head.from time (map time_of left.records) at) as (λ _. Contains (times_of (file_reading log)) time) [
+  | inl e ↦ subst (Contains (times_of (file_reading log))) (ap (λ (head : Head). head.from) (sym says.begins.head) ∙ e) (head_in log.head.from (map time_of log.records))
   | inr later ↦
       let found = of_map time_of left.records time later in
       let among = subst (λ (rs : List Logged). Contains rs found.0) (sym says.begins.records) (Contains-append_left left.records says.begins.lost found.0 found.1) in
@@ -77,18 +77,18 @@ left_times log left time says at = elim (head_or_tail left.head.from time (map t
 ]
 
 -- a file that is synced whole is left whole
-whole_left : (log : OpenFile) (left : LogReading) → SaysLeft log left → log.synced ≡ bytes_of log → left ≡ reading_of log
+whole_left : (log : OpenFile) (left : LogReading) → SaysLeft log left → log.synced ≡ file_bytes log → left ≡ file_reading log
 whole_left log left says whole =
     let first = says.is_left.0 in
     let second = says.is_left.1 in
-    let all : length (bytes_of log) ≡ length says.bytes + length second.lost = ap length second.begins ∙ length-append says.bytes second.lost in
+    let all : length (file_bytes log) ≡ length says.bytes + length second.lost = ap length second.begins ∙ length-append says.bytes second.lost in
     let part : length says.bytes ≡ length log.synced + length first.lost = ap length first.begins ∙ length-append log.synced first.lost in
-    let same : length log.synced ≡ length (bytes_of log) = ap length whole in
+    let same : length log.synced ≡ length (file_bytes log) = ap length whole in
     let none : second.lost ≡ [] = nil_from_length second.lost (omega (arith, all, part, same)) in
-    let bytes : bytes_of log ≡ says.bytes = second.begins ∙ ap (λ (l : List ℕ). says.bytes ++ l) none ∙ append-nil says.bytes in
-    one_reading_of says.bytes left (reading_of log) says.is_reading (subst (λ (l : List ℕ). IsReading l (reading_of log)) bytes says.is_open.is_reading)
+    let bytes : file_bytes log ≡ says.bytes = second.begins ∙ ap (λ (l : List ℕ). says.bytes ++ l) none ∙ append-nil says.bytes in
+    one_reading_of says.bytes left (file_reading log) says.is_reading (subst (λ (l : List ℕ). IsReading l (file_reading log)) bytes says.is_open.is_reading)
 
-pub claims_left : (log : OpenFile) (left : LogReading) → SaysLeft log left → ClaimsNoMore (reading_of log) left
+pub claims_left : (log : OpenFile) (left : LogReading) → SaysLeft log left → ClaimsNoMore (file_reading log) left
 claims_left log left says =
     let from : left.head.from ≡ log.head.from = ap (λ (head : Head). head.from) says.begins.head in
     record { segment = ap (λ (head : Head). head.segment) says.begins.head; from = omega (arith, from) }
@@ -107,7 +107,7 @@ none_at Q [] i none is = is
 none_at Q (x ∷ xs) zero none is = none x (head_in x xs) is
 none_at Q (x ∷ xs) (suc i) none is = none_at Q xs i (λ y at. none y (tail_in x y xs at)) is
 
-pub zip_claims : (logs : List OpenFile) (left : List LogReading) → AllZip SaysLeft logs left → AllZip ClaimsNoMore (map reading_of logs) left
+pub zip_claims : (logs : List OpenFile) (left : List LogReading) → AllZip SaysLeft logs left → AllZip ClaimsNoMore (map file_reading logs) left
 zip_claims [] [] are = tt
 zip_claims [] (l ∷ ls) are = absurd are
 zip_claims (log ∷ logs) [] are = absurd are
@@ -115,7 +115,7 @@ zip_claims (log ∷ logs) (l ∷ ls) are = (claims_left log l are.0, zip_claims 
 
 pub writers_left : (logs : List OpenFile) (left : List LogReading) → AreOpen logs → AllZip SaysLeft logs left → AreWriters left
 writers_left logs left open_logs are = record {
-  once = once_stays (map reading_of logs) left (zip_claims logs left are) open_logs.once;
+  once = once_stays (map file_reading logs) left (zip_claims logs left are) open_logs.once;
   sound = λ i. none_at (λ file. IsTrue file.torn × HasFile left (IsEarlier file.head.segment)) left i (λ file at amid.
       let log = partner_of SaysLeft logs left file are at in
       let has = amid.1 in

@@ -30,7 +30,7 @@ use Rattle.mt_recover.specs.Recovery.{AreReadings, Facts, begin_of, survivors, r
 use Rattle.mt_recover.proofs.OneVerdict.{same_facts}
 use Rattle.mt_laws.specs.Crashes.{IsCutOf}
 use Rattle.mt_laws.specs.Resuming.{IsOnTheWay}
-use Rattle.mt_laws.specs.Lives.{OpenFile, bytes_of, reading_of, HasSynced, IsOpen, AreOpen, State, running, down, written, IsWritten, IsSynced, IsSyncedAbove, AllSyncedAbove, IsLeftOf, IsResumedAs, IsStep, write, sync, acknowledge, add_file, crash, stop, resume, Life, begun, then}
+use Rattle.mt_laws.specs.Lives.{OpenFile, file_bytes, file_reading, HasSynced, IsOpenFile, AreOpen, State, running, down, written_records, IsWritten, IsSynced, IsSyncedAbove, AllSyncedAbove, IsLeftOf, IsResumedAs, IsStep, write, sync, acknowledge, add_file, crash, stop, resume, Life, begun, then}
 use Rattle.mt_laws.proofs.Windows.{within}
 use Rattle.mt_laws.proofs.CutLogs.{cut_log}
 use Rattle.mt_laws.proofs.SomeCutoff.{some_cutoff}
@@ -48,7 +48,7 @@ use Rattle.mt_laws.proofs.LeftFiles.{SaysLeft, all_left, says_less, zip_claims, 
 
 -- the update is in the logs, and in each of them a record above it is synced
 abbrev pub IsSafe : List OpenFile → Update → Type 0
-IsSafe logs u = Contains (log_updates (written logs)) u × AllSyncedAbove u.timestamp logs
+IsSafe logs u = Contains (log_updates (written_records logs)) u × AllSyncedAbove u.timestamp logs
 
 pub record IsRunning (acked : List Update) (logs : List OpenFile) : Type 0 where
   pub some : 0 < length logs
@@ -85,15 +85,15 @@ updates_stay log nth (r ∷ rs) new u at = elim (Contains-append_cases _ (update
 abbrev HasMore : OpenFile → OpenFile → Type 0
 HasMore before after = (new : List Logged) × (after.records ≡ before.records ++ new)
 
-all_stay : (log : ℕ) (before after : List OpenFile) (u : Update) → AllZip HasMore before after → Contains (all_updates log (written before)) u
-    → Contains (all_updates log (written after)) u
+all_stay : (log : ℕ) (before after : List OpenFile) (u : Update) → AllZip HasMore before after → Contains (all_updates log (written_records before)) u
+    → Contains (all_updates log (written_records after)) u
 all_stay log [] after u are at = absurd (no_element u at)
 all_stay log (b ∷ bs) [] u are at = absurd are
 all_stay log (b ∷ bs) (a ∷ rest) u are at =
     let more = are.0 in
-    elim (Contains-append_cases (updates_from log 0 b.records) (all_updates (suc log) (written bs)) u at) as (λ _. Contains (updates_from log 0 a.records ++ all_updates (suc log) (written rest)) u) [
-      | inl here ↦ Contains-append_left (updates_from log 0 a.records) (all_updates (suc log) (written rest)) u (subst (λ (rs : List Logged). Contains (updates_from log 0 rs) u) (sym more.1) (updates_stay log 0 b.records more.0 u here))
-      | inr later ↦ Contains-append_right (updates_from log 0 a.records) (all_updates (suc log) (written rest)) u (all_stay (suc log) bs rest u are.1 later)
+    elim (Contains-append_cases (updates_from log 0 b.records) (all_updates (suc log) (written_records bs)) u at) as (λ _. Contains (updates_from log 0 a.records ++ all_updates (suc log) (written_records rest)) u) [
+      | inl here ↦ Contains-append_left (updates_from log 0 a.records) (all_updates (suc log) (written_records rest)) u (subst (λ (rs : List Logged). Contains (updates_from log 0 rs) u) (sym more.1) (updates_stay log 0 b.records more.0 u here))
+      | inr later ↦ Contains-append_right (updates_from log 0 a.records) (all_updates (suc log) (written_records rest)) u (all_stay (suc log) bs rest u are.1 later)
     ]
 
 -- a step of each file keeps what holds if it keeps the header, the records and what is synced
@@ -134,9 +134,9 @@ written_keeps before after step = record {
   synced = λ time is. record { reading = is.reading; is_reading = subst (λ (bytes : List ℕ). IsReading bytes is.reading) (sym step.synced) is.is_reading; at = is.at; stands = is.stands; holds = is.holds };
 }
 
-synced_keeps : (before after : OpenFile) → IsSynced before after → IsOpen after → Keeps before after
+synced_keeps : (before after : OpenFile) → IsSynced before after → IsOpenFile after → Keeps before after
 synced_keeps before after step is_open =
-    let said = cut_log after.synced (bytes_of after) (reading_of after) is_open.is_reading is_open.synced in record {
+    let said = cut_log after.synced (file_bytes after) (file_reading after) is_open.is_reading is_open.synced in record {
       head = step.head;
       more = ([], step.records ∙ sym (append-nil before.records));
       synced = λ time is.
@@ -149,7 +149,7 @@ synced_keeps before after step is_open =
           };
     }
 
-all_synced_keep : (before after : List OpenFile) → AllZip IsSynced before after → ((log : OpenFile) → Contains after log → IsOpen log) → AllZip Keeps before after
+all_synced_keep : (before after : List OpenFile) → AllZip IsSynced before after → ((log : OpenFile) → Contains after log → IsOpenFile log) → AllZip Keeps before after
 all_synced_keep [] [] are opens = tt
 all_synced_keep [] (a ∷ rest) are opens = absurd are
 all_synced_keep (b ∷ bs) [] are opens = absurd are
@@ -173,14 +173,14 @@ found_some left (r ∷ rs) some read writers =
       same = refl;
     }
 
-crashed : (acked : List Update) (logs : List OpenFile) (left : List (List ℕ)) → AllZip IsLeftOf logs left → IsRunning acked logs → IsDown acked (written logs) left
+crashed : (acked : List Update) (logs : List OpenFile) (left : List (List ℕ)) → AllZip IsLeftOf logs left → IsRunning acked logs → IsDown acked (written_records logs) left
 crashed acked logs left are is =
     let says = all_left logs left is.opens.each are in
     let found = found_some left says.0 (omega (arith, is.some, AllZip-long SaysLeft logs says.0 says.2)) says.1 (writers_left logs says.0 is.opens says.2) in
     let facts = found.facts in
     let said = subst (λ (rs : List LogReading). AllZip SaysLeft logs rs) (sym found.same) says.2 in record {
       facts = facts;
-      no_gap = gaps_stay 0 (map reading_of logs) facts.readings (zip_claims logs facts.readings said) is.opens.no_gap;
+      no_gap = gaps_stay 0 (map file_reading logs) facts.readings (zip_claims logs facts.readings said) is.opens.no_gap;
       ends = λ x y at_x at_y earlier ended. inl (ends_left logs facts.readings is.opens said x y at_x at_y earlier ended);
       agree = zip_turned (AgreeBelow facts.cutoff) (λ (log : OpenFile). log.records) (λ (log : LogReading). log.records) logs facts.readings (all_left_agree logs facts.readings facts.cutoff is.opens said facts.is_cutoff);
       safe = λ u at. let safe = is.safe u at in (safe.0, last_above u.timestamp logs facts.readings facts.cutoff said safe.1 facts.is_cutoff.has);
@@ -263,7 +263,7 @@ zip_agree cutoff logs news others first next =
     (λ b c both. agree_too cutoff b both.0 c (agrees_back cutoff both.0 b both.1) both.2)
     (zip_back (AgreeBelow cutoff) (AgreeBelow cutoff) logs news others first next)
 
--- what was left agrees with what was written, by the facts of any recovery
+-- what was left agrees with what was written_records, by the facts of any recovery
 agree_by : (acked : List Update) (history : List (List Logged)) (left : List (List ℕ)) → IsDown acked history left → (facts : Facts left [])
     → AllZip (AgreeBelow facts.cutoff) (records_of facts.readings) history
 agree_by acked history left is facts =
@@ -287,18 +287,18 @@ stopped acked history left now facts way was =
 
 -- the open file is what replaces this reading, and all of it is synced
 record IsAfresh (cutoff : ℕ) (reading : LogReading) (log : OpenFile) : Type 0 where
-  same : reading_of log ≡ resumed cutoff reading
-  is_reading : IsReading (bytes_of log) (reading_of log)
-  synced : log.synced ≡ bytes_of log
+  same : file_reading log ≡ resumed cutoff reading
+  is_reading : IsReading (file_bytes log) (file_reading log)
+  synced : log.synced ≡ file_bytes log
   agrees : AgreeBelow cutoff reading.records log.records
 
 afresh : (cutoff : ℕ) (left : List ℕ) (reading : LogReading) (log : OpenFile) → cutoff < 2 ^ 64 → IsReading left reading → IsResumedAs cutoff left log
     → IsAfresh cutoff reading log
 afresh cutoff left reading log fits is as_log =
-    let same : reading_of log ≡ resumed cutoff reading = as_log.replaces ∙ ap (resumed cutoff) (one_reading_of left as_log.reading reading as_log.is_reading is) in
-    let to : IsResumed cutoff left (bytes_of log) = record { log = reading; is_reading = is; spelled = ap (λ (l : LogReading). log_bytes l.head l.records) same } in record {
+    let same : file_reading log ≡ resumed cutoff reading = as_log.replaces ∙ ap (resumed cutoff) (one_reading_of left as_log.reading reading as_log.is_reading is) in
+    let to : IsResumed cutoff left (file_bytes log) = record { log = reading; is_reading = is; spelled = ap (λ (l : LogReading). log_bytes l.head l.records) same } in record {
       same = same;
-      is_reading = subst (IsReading (bytes_of log)) (sym same) (reading_after cutoff left (bytes_of log) reading fits is to);
+      is_reading = subst (IsReading (file_bytes log)) (sym same) (reading_after cutoff left (file_bytes log) reading fits is to);
       synced = as_log.synced;
       agrees = subst (λ (l : LogReading). AgreeBelow cutoff reading.records l.records) (sym same) (resumed_agrees cutoff (limits_of reading.head.format) reading.records fits is.is_log.lawful);
     }
@@ -307,8 +307,8 @@ afresh cutoff left reading log fits is as_log =
 mark_synced : (P : Logged → Type 0) (cutoff : ℕ) (reading : LogReading) (log : OpenFile) → IsAfresh cutoff reading log → (r : Logged)
     → Contains (marks_of cutoff reading.records) r → P r → HasSynced P log
 mark_synced P cutoff reading log is r at holds = record {
-  reading = reading_of log;
-  is_reading = subst (λ (bytes : List ℕ). IsReading bytes (reading_of log)) (sym is.synced) is.is_reading;
+  reading = file_reading log;
+  is_reading = subst (λ (bytes : List ℕ). IsReading bytes (file_reading log)) (sym is.synced) is.is_reading;
   at = r;
   stands = subst (λ (l : LogReading). Contains l.records r) (sym is.same) (Contains-append_right (below cutoff reading.records) (marks_of cutoff reading.records) r at);
   holds = holds;
@@ -319,28 +319,28 @@ cutoff_synced : (P : Logged → Type 0) (cutoff : ℕ) (reading : LogReading) (l
 cutoff_synced P cutoff reading log is holds = mark_synced P cutoff reading log is (mark_of cutoff) (head_in (mark_of cutoff) _) holds
 
 -- all of a file is a beginning of it
-all_of_it : (log : OpenFile) → IsReading (bytes_of log) (reading_of log) → IsCutOf (bytes_of log) (bytes_of log)
+all_of_it : (log : OpenFile) → IsReading (file_bytes log) (file_reading log) → IsCutOf (file_bytes log) (file_bytes log)
 all_of_it log is = record {
   lost = [];
-  begins = sym (append-nil (bytes_of log));
+  begins = sym (append-nil (file_bytes log));
   header = record { head = log.head; is_head = is.is_log.is_head; more = flat_map spelling log.records; spelled = refl };
 }
 
-opens_afresh : (cutoff : ℕ) (reading : LogReading) (log : OpenFile) → IsAfresh cutoff reading log → IsOpen log
+opens_afresh : (cutoff : ℕ) (reading : LogReading) (log : OpenFile) → IsAfresh cutoff reading log → IsOpenFile log
 opens_afresh cutoff reading log is = record {
   is_reading = is.is_reading;
-  synced = subst (λ (bytes : List ℕ). IsCutOf bytes (bytes_of log)) (sym is.synced) (all_of_it log is.is_reading);
+  synced = subst (λ (bytes : List ℕ). IsCutOf bytes (file_bytes log)) (sym is.synced) (all_of_it log is.is_reading);
   claim = cutoff_synced (λ r. log.head.from ≤ r.timestamp) cutoff reading log is (low (ap (λ (l : LogReading). l.head.from) is.same));
 }
   where
     low : log.head.from ≡ min reading.head.from cutoff → log.head.from ≤ cutoff
     low e = omega (arith, e)
 
-claims_afresh : (cutoff : ℕ) (reading : LogReading) (log : OpenFile) → IsAfresh cutoff reading log → ClaimsNoMore reading (reading_of log)
+claims_afresh : (cutoff : ℕ) (reading : LogReading) (log : OpenFile) → IsAfresh cutoff reading log → ClaimsNoMore reading (file_reading log)
 claims_afresh cutoff reading log is = subst (ClaimsNoMore reading) (sym is.same) (record { segment = refl; from = omega arith })
 
 zip_afresh : (cutoff : ℕ) (readings : List LogReading) (logs : List OpenFile) → AllZip (IsAfresh cutoff) readings logs
-    → AllZip ClaimsNoMore readings (map reading_of logs)
+    → AllZip ClaimsNoMore readings (map file_reading logs)
 zip_afresh cutoff [] [] are = tt
 zip_afresh cutoff [] (l ∷ ls) are = absurd are
 zip_afresh cutoff (r ∷ rs) [] are = absurd are
@@ -357,7 +357,7 @@ end_synced cutoff reading log less is ended =
 
 -- a resumed file has a mark at or past each time of what is behind it
 beyond_afresh : (cutoff : ℕ) (x y : LogReading) (a b : OpenFile) (time : ℕ) → IsAfresh cutoff x a → IsAfresh cutoff y b
-    → (is_ended x.records ≡ true → (is_ended y.records ≡ true) ⊎ (cutoff ≡ greatest_timestamp)) → Contains (times_of (reading_of a)) time
+    → (is_ended x.records ≡ true → (is_ended y.records ≡ true) ⊎ (cutoff ≡ greatest_timestamp)) → Contains (times_of (file_reading a)) time
     → HasSynced (λ r. (is_mark r ≡ true) × (time ≤ r.timestamp)) b
 beyond_afresh cutoff x y a b time of_x of_y ends at = by (times_bound cutoff x time (subst (λ (l : LogReading). Contains (times_of l) time) of_x.same at))
   where
@@ -387,15 +387,15 @@ started acked history left logs facts are was =
     (zip_back IsReading (IsResumedAs facts.cutoff) left facts.readings logs facts.read are) in
     let of = λ (log : OpenFile) (at : Contains logs log). partner_of (IsAfresh facts.cutoff) facts.readings logs log fresh at in
     let agree = agree_by acked history left was facts in
-    let agree_now : AllZip (AgreeBelow facts.cutoff) (records_of facts.readings) (written logs) = zip_map (AgreeBelow facts.cutoff) (λ (log : LogReading). log.records) (λ (log : OpenFile). log.records) facts.readings logs
+    let agree_now : AllZip (AgreeBelow facts.cutoff) (records_of facts.readings) (written_records logs) = zip_map (AgreeBelow facts.cutoff) (λ (log : LogReading). log.records) (λ (log : OpenFile). log.records) facts.readings logs
     (zip_weaker (IsAfresh facts.cutoff) (λ reading log. AgreeBelow facts.cutoff reading.records log.records) facts.readings logs (λ reading log f. f.agrees) fresh) in
     let window : Window = record { begin = 0; cutoff = facts.cutoff } in
-    let survive = sym (agreeing_survive window 0 (records_of facts.readings) history agree) ∙ agreeing_survive window 0 (records_of facts.readings) (written logs) agree_now in record {
+    let survive = sym (agreeing_survive window 0 (records_of facts.readings) history agree) ∙ agreeing_survive window 0 (records_of facts.readings) (written_records logs) agree_now in record {
       some = omega (arith, some_reading facts, AllZip-long (IsAfresh facts.cutoff) facts.readings logs fresh);
       opens = record {
         each = λ log at. let x = of log at in opens_afresh facts.cutoff x.0 log x.2;
-        once = once_stays facts.readings (map reading_of logs) (zip_afresh facts.cutoff facts.readings logs fresh) facts.writers.once;
-        no_gap = gaps_stay 0 facts.readings (map reading_of logs) (zip_afresh facts.cutoff facts.readings logs fresh) (gap_by acked history left was facts);
+        once = once_stays facts.readings (map file_reading logs) (zip_afresh facts.cutoff facts.readings logs fresh) facts.writers.once;
+        no_gap = gaps_stay 0 facts.readings (map file_reading logs) (zip_afresh facts.cutoff facts.readings logs fresh) (gap_by acked history left was facts);
         whole = λ a b at_a at_b behind. (of a at_a).2.synced;
         beyond = λ a b at_a at_b behind time at.
             let x = of a at_a in
@@ -407,7 +407,7 @@ started acked history left logs facts are was =
           let safe = was.safe u at in
           let less : u.timestamp < facts.cutoff = subst (λ (cutoff : ℕ). u.timestamp < cutoff) same.1 safe.1 in
           let there = in_filter (in_window window) (log_updates history) u (within window u.timestamp (omega arith) less) safe.0 in
-          let here = of_filter (in_window window) (log_updates (written logs)) u (subst (λ (us : List Update). Contains us u) survive there) in
+          let here = of_filter (in_window window) (log_updates (written_records logs)) u (subst (λ (us : List Update). Contains us u) survive there) in
           (here.0, λ log among. let x = of log among in record { last = log; stands = among; of_log = inl refl; above = cutoff_synced (λ r. u.timestamp < r.timestamp) facts.cutoff x.0 log x.2 less });
     }
   where
@@ -420,7 +420,7 @@ started acked history left logs facts are was =
 
 -- ---- a life
 
-acknowledged : (acked : List Update) (logs : List OpenFile) (u : Update) → Contains (log_updates (written logs)) u → AllSyncedAbove u.timestamp logs
+acknowledged : (acked : List Update) (logs : List OpenFile) (u : Update) → Contains (log_updates (written_records logs)) u → AllSyncedAbove u.timestamp logs
     → IsRunning acked logs → IsRunning (u ∷ acked) logs
 acknowledged acked logs u at above is = record {
   some = is.some;
@@ -432,12 +432,12 @@ acknowledged acked logs u at above is = record {
 }
 
 -- updates stay when a log begins
-updates_of_more : (log : ℕ) (logs more : List OpenFile) (u : Update) → Contains (all_updates log (written logs)) u
-    → Contains (all_updates log (written (logs ++ more))) u
+updates_of_more : (log : ℕ) (logs more : List OpenFile) (u : Update) → Contains (all_updates log (written_records logs)) u
+    → Contains (all_updates log (written_records (logs ++ more))) u
 updates_of_more log [] more u at = absurd (no_element u at)
-updates_of_more log (l ∷ ls) more u at = elim (Contains-append_cases (updates_from log 0 l.records) (all_updates (suc log) (written ls)) u at) as (λ _. Contains (all_updates log (written (l ∷ ls ++ more))) u) [
-  | inl here ↦ Contains-append_left (updates_from log 0 l.records) (all_updates (suc log) (written (ls ++ more))) u here
-  | inr later ↦ Contains-append_right (updates_from log 0 l.records) (all_updates (suc log) (written (ls ++ more))) u (updates_of_more (suc log) ls more u later)
+updates_of_more log (l ∷ ls) more u at = elim (Contains-append_cases (updates_from log 0 l.records) (all_updates (suc log) (written_records ls)) u at) as (λ _. Contains (all_updates log (written_records (l ∷ ls ++ more))) u) [
+  | inl here ↦ Contains-append_left (updates_from log 0 l.records) (all_updates (suc log) (written_records (ls ++ more))) u here
+  | inr later ↦ Contains-append_right (updates_from log 0 l.records) (all_updates (suc log) (written_records (ls ++ more))) u (updates_of_more (suc log) ls more u later)
 ]
 
 -- what is synced of the old files, and of the new one

@@ -15,18 +15,18 @@ use Rattle.mt_laws.specs.Resuming.{IsOnTheWay}
 
 -- ---- files
 
--- a file of a log, as it is being written: its header, its records, and the bytes of it that are synced
+-- a file of a log, as it is being written_records: its header, its records, and the bytes of it that are synced
 pub record OpenFile : Type 0 where
   pub head : Head
   pub records : List Logged
   pub synced : List ℕ
 
-abbrev pub bytes_of : OpenFile → List ℕ
-bytes_of file = log_bytes file.head file.records
+abbrev pub file_bytes : OpenFile → List ℕ
+file_bytes file = log_bytes file.head file.records
 
 -- what the file says
-abbrev pub reading_of : OpenFile → LogReading
-reading_of file = record { head = file.head; records = file.records; torn = false }
+abbrev pub file_reading : OpenFile → LogReading
+file_reading file = record { head = file.head; records = file.records; torn = false }
 
 -- a record for which `P` holds is synced
 pub record HasSynced (P : Logged → Type 0) (file : OpenFile) : Type 0 where
@@ -37,9 +37,9 @@ pub record HasSynced (P : Logged → Type 0) (file : OpenFile) : Type 0 where
   pub holds : P at
 
 -- the file is lawful; what is synced is a beginning of it, with a whole header and a record at or past its `from`
-pub record IsOpen (file : OpenFile) : Type 0 where
-  pub is_reading : IsReading (bytes_of file) (reading_of file)
-  pub synced : IsCutOf file.synced (bytes_of file)
+pub record IsOpenFile (file : OpenFile) : Type 0 where
+  pub is_reading : IsReading (file_bytes file) (file_reading file)
+  pub synced : IsCutOf file.synced (file_bytes file)
   pub claim : HasSynced (λ r. file.head.from ≤ r.timestamp) file
 
 -- the first file is an earlier segment of the second one's log
@@ -49,16 +49,16 @@ IsBehind a b = IsEarlier a.head.segment b.head.segment
 -- Each file is open, none is there twice, and none has a gap. A file that is behind another is synced whole, and the other has a synced mark at or past each
 -- of its times.
 pub record AreOpen (files : List OpenFile) : Type 0 where
-  pub each : (file : OpenFile) → Contains files file → IsOpen file
-  pub once : (i : ℕ) → IsDoubled (map reading_of files) i → ⊥
-  pub no_gap : (i : ℕ) → IsGap 0 (map reading_of files) i → ⊥
-  pub whole : (a b : OpenFile) → Contains files a → Contains files b → IsBehind a b → a.synced ≡ bytes_of a
-  pub beyond : (a b : OpenFile) → Contains files a → Contains files b → IsBehind a b → (time : ℕ) → Contains (times_of (reading_of a)) time
+  pub each : (file : OpenFile) → Contains files file → IsOpenFile file
+  pub once : (i : ℕ) → IsDoubled (map file_reading files) i → ⊥
+  pub no_gap : (i : ℕ) → IsGap 0 (map file_reading files) i → ⊥
+  pub whole : (a b : OpenFile) → Contains files a → Contains files b → IsBehind a b → a.synced ≡ file_bytes a
+  pub beyond : (a b : OpenFile) → Contains files a → Contains files b → IsBehind a b → (time : ℕ) → Contains (times_of (file_reading a)) time
       → HasSynced (λ r. (is_mark r ≡ true) × (time ≤ r.timestamp)) b
 
 -- the records of the files
-abbrev pub written : List OpenFile → List (List Logged)
-written files = map (λ file. file.records) files
+abbrev pub written_records : List OpenFile → List (List Logged)
+written_records files = map (λ file. file.records) files
 
 -- in the file, or in a later segment of its log, a record above the timestamp is synced
 pub record IsSyncedAbove (time : ℕ) (files : List OpenFile) (file : OpenFile) : Type 0 where
@@ -88,16 +88,16 @@ pub record IsSynced (before after : OpenFile) : Type 0 where
 
 -- what is left of the file: at least what is synced
 abbrev pub IsLeftOf : OpenFile → List ℕ → Type 0
-IsLeftOf file left = IsCutOf file.synced left × IsCutOf left (bytes_of file)
+IsLeftOf file left = IsCutOf file.synced left × IsCutOf left (file_bytes file)
 
 -- the file is what replaces the one that was left, and all of it is synced
 pub record IsResumedAs (cutoff : ℕ) (left : List ℕ) (file : OpenFile) : Type 0 where
   pub reading : LogReading
   pub is_reading : IsReading left reading
-  pub replaces : reading_of file ≡ resumed cutoff reading
-  pub synced : file.synced ≡ bytes_of file
+  pub replaces : file_reading file ≡ resumed cutoff reading
+  pub synced : file.synced ≡ file_bytes file
 
--- A server, and the updates that it has acknowledged: it runs with these files; or it is down, these records were written, and these bytes are left of the
+-- A server, and the updates that it has acknowledged: it runs with these files; or it is down, these records were written_records, and these bytes are left of the
 -- files.
 pub data State : Type 0 where
   running : List Update → List OpenFile → State
@@ -110,12 +110,12 @@ pub data IsStep : State → State → Type 0 where
       → IsStep (running acked before) (running acked after)
   sync : (acked : List Update) (before after : List OpenFile) → AllZip IsSynced before after → AreOpen after
       → IsStep (running acked before) (running acked after)
-  acknowledge : (acked : List Update) (files : List OpenFile) (u : Update) → Contains (log_updates (written files)) u → AllSyncedAbove u.timestamp files
+  acknowledge : (acked : List Update) (files : List OpenFile) (u : Update) → Contains (log_updates (written_records files)) u → AllSyncedAbove u.timestamp files
       → IsStep (running acked files) (running (u ∷ acked) files)
   add_file : (acked : List Update) (files : List OpenFile) (file : OpenFile) → AreOpen (files ++ file ∷ [])
       → ((u : Update) → Contains acked u → HasSynced (λ r. u.timestamp < r.timestamp) file) → IsStep (running acked files) (running acked (files ++ file ∷ []))
   crash : (acked : List Update) (files : List OpenFile) (left : List (List ℕ)) → AllZip IsLeftOf files left
-      → IsStep (running acked files) (down acked (written files) left)
+      → IsStep (running acked files) (down acked (written_records files) left)
   stop : (acked : List Update) (history : List (List Logged)) (left now : List (List ℕ)) (facts : Facts left []) → IsOnTheWay facts now []
       → IsStep (down acked history left) (down acked history now)
   resume : (acked : List Update) (history : List (List Logged)) (left : List (List ℕ)) (files : List OpenFile) (facts : Facts left [])

@@ -77,7 +77,7 @@ IsUpdateWithin low high logs u = Contains (log_updates (records_of logs)) u × (
 
 -- Recovery goes on from what it found before: the cutoff does not fall, the same checkpoint is chosen, and no log has a gap. Exactly those updates survive
 -- that did before, and those of the logs from the cutoff before on, below the cutoff now.
-pub record GoesOn {logs parts later left : List (List ℕ)} (before : Facts logs parts) (now : Facts later left) : Type 0 where
+pub record GoesOnFrom {logs parts later left : List (List ℕ)} (before : Facts logs parts) (now : Facts later left) : Type 0 where
   pub cutoff : before.cutoff ≤ now.cutoff
   pub chosen : now.chosen ≡ before.chosen
   pub no_gap : (i : ℕ) → IsGap (begin_of now.chosen) now.readings i → ⊥

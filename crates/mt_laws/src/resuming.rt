@@ -10,7 +10,7 @@ ghost use Rattle.mt_scan.specs.Choice.{CheckpointReading, IsChosenOf};
 ghost use Rattle.mt_replay.specs.Survivors.{log_updates};
 ghost use Rattle.mt_recover.specs.Recovery.{AreReadings, Facts, records_of, IsStoreOf};
 ghost use Rattle.mt_record.specs.Resuming.{greatest_timestamp, is_ended, resumed, IsResumed};
-ghost use Rattle.mt_laws.specs.Resuming.{IsOnTheWay, FindTheSame, AreDeleting, NoneBecomesValid, IsResume, IsContinued, GoesOn};
+ghost use Rattle.mt_laws.specs.Resuming.{IsOnTheWay, FindTheSame, AreDeleting, NoneBecomesValid, IsResume, IsContinued, GoesOnFrom};
 
 /// States that what replaces a log is a log. Its last timestamp is the cutoff or, if the log was ended, the greatest one:
 /// no log claims more than the cutoff, and an ended log holds back nothing. Replacing it again changes nothing. This is a
@@ -53,7 +53,7 @@ pub fn an_update_after_a_resume()
     ensures goes_on { (logs parts resumed later left : List (List ℕ)) (pairs : List Pair) →
         (store : IsStoreOf logs parts pairs) → IsResume store.basis.facts resumed left →
         AllZip IsContinued resumed later →
-        (now : Facts later left) → GoesOn store.basis.facts now }
+        (now : Facts later left) → GoesOnFrom store.basis.facts now }
     ensures dropped { (logs parts resumed left : List (List ℕ)) (readings : List LogReading) (pairs : List Pair) →
         (store : IsStoreOf logs parts pairs) → IsResume store.basis.facts resumed left →
         AreReadings resumed readings →

@@ -38,8 +38,8 @@ abbrev pub size_of : ℕ → List Pair → ℕ
 size_of version pairs = AROUND + length (entries_text version pairs)
 
 -- a part of these pairs has at most this many bytes, or a single entry
-abbrev pub IsWithin : ℕ → List Pair → Type 0
-IsWithin limit pairs = (version : ℕ) → (length pairs ≤ 1) ⊎ (size_of version pairs ≤ limit)
+abbrev pub LiesWithin : ℕ → List Pair → Type 0
+LiesWithin limit pairs = (version : ℕ) → (length pairs ≤ 1) ⊎ (size_of version pairs ≤ limit)
 
 -- of the pairs so far, these stretches are the parts before the last, and the last
 pub record IsPlan (limit : ℕ) (plan : Planning) (seen : List Pair) : Type 0 where
@@ -50,8 +50,8 @@ pub record IsPlan (limit : ℕ) (plan : Planning) (seen : List Pair) : Type 0 wh
   pub last_is : IsStretch plan.last last
   pub few : length plan.full.items < MOST_PARTS
   pub limit_is : plan.limit ≡ limit
-  pub full_within : AllByRecursion (IsWithin limit) full
-  pub last_within : IsWithin limit last
+  pub full_within : AllByRecursion (LiesWithin limit) full
+  pub last_within : LiesWithin limit last
   pub size : (version : ℕ) → plan.size ≡ size_of version last
 
 -- the pairs in these stretches make up the walk, as parts that are not too many or too large
@@ -60,7 +60,7 @@ pub record MakeUp (limit : ℕ) (walk : List Pair) (stretches : List Stretch) : 
   pub some : 0 < length stretches
   pub few : length stretches < 2 ^ 16
   pub counts : AllByRecursion (λ part. length part < 2 ^ 32) (map (within walk) stretches)
-  pub within : AllByRecursion (IsWithin limit) (map (within walk) stretches)
+  pub within : AllByRecursion (LiesWithin limit) (map (within walk) stretches)
 
 -- a plan of the pairs so far became one that has these pairs too
 abbrev pub HasPlanned : Planning → Planning → List Pair → Type 0

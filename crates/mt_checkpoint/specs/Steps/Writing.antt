@@ -9,7 +9,7 @@ use Rattle.std.proofs.lemmas.List.Concat.{flat_map-append}
 use Rattle.mt_words.specs.Walks.{Pair}
 use Rattle.mt_words.specs.Built.{entry_of}
 use Rattle.mt_record.specs.Parts.{entry_spelling}
-use Rattle.mt_checkpoint.specs.Checkpoints.{entries_of, entries_text}
+use Rattle.mt_checkpoint.specs.Checkpoints.{entries_with, entries_text}
 use Rattle.mt_checkpoint.specs.declared.entries.Rest.{Rest}
 
 -- of these pairs, the entries of the first ones were written, as far as their number allows
@@ -25,7 +25,7 @@ no_pair (suc n) = refl
 
 pub text_both : (version : ℕ) (v w : List Pair) → entries_text version (v ++ w) ≡ entries_text version v ++ entries_text version w
 text_both version v w =
-    ap (flat_map entry_spelling) (map-append (λ pair. entry_of version pair.0 pair.1) v w) ∙ flat_map-append entry_spelling (entries_of version v) (entries_of version w)
+    ap (flat_map entry_spelling) (map-append (λ pair. entry_of version pair.0 pair.1) v w) ∙ flat_map-append entry_spelling (entries_with version v) (entries_with version w)
 
 take_both : (n : ℕ) (v w : List Pair) → take n v ++ take (n - length v) w ≡ take n (v ++ w)
 take_both zero [] w = refl
