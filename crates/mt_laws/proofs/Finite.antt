@@ -1,5 +1,5 @@
 -- What can be found among finitely many things by a statement that is decided of each.
-use Rattle.std.proofs.Common.{◌≡◌, ◌⊎◌, inl, inr, ◌↔◌, ℕ, zero, suc, ◌<◌, Bool, IsTrue, Option, Some, None, IsSomeAnd, List, [], ◌∷◌, length, Contains, subst, sym, arith}
+use Rattle.std.proofs.Common.{◌≡◌, ◌⊎◌, inl, inr, ◌↔◌, ℕ, zero, suc, ◌<◌, Bool, IsTrue, IsSomeAnd, List, [], ◌∷◌, length, Contains, subst, sym, arith}
 use Rattle.std.specs.Prelude.{slice_get}
 use Rattle.std.proofs.lemmas.Bool.{cases_Bool, cases_lt, cases_eq, both_ways}
 use Rattle.mt_words.proofs.Elements.{no_element, head_or_tail, head_in, tail_in}

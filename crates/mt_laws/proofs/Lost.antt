@@ -1,6 +1,6 @@
 -- What a crash loses of the updates in a window: nothing, where each log reaches the cutoff.
-use Rattle.std.proofs.Common.{◌≡◌, ◌⊎◌, inl, inr, ℕ, suc, ◌<◌, ◌≤◌, false, max, IsTrue, Option, None, List, [], ◌∷◌, ◌++◌, filter, Contains, refl, sym, ap, ◌∙◌, subst, append_assoc, arith}
-use Rattle.std.proofs.lemmas.Bool.{cases_lt, lt-ltb}
+use Rattle.std.proofs.Common.{◌≡◌, ◌⊎◌, inl, inr, ℕ, suc, ◌<◌, ◌≤◌, false, max, Option, None, List, [], ◌∷◌, ◌++◌, filter, Contains, refl, sym, ap, ◌∙◌, subst, append_assoc, arith}
+use Rattle.std.proofs.lemmas.Bool.{cases_lt}
 use Rattle.std.proofs.lemmas.List.Elements.{All-head, All-tail, filter-append, Contains-append_left}
 use Rattle.std.specs.List.{AllZip, AllByRecursion}
 use Rattle.mt_words.specs.declared.limits.Limits.{Limits}
@@ -10,7 +10,7 @@ use Rattle.mt_words.specs.Limits.{limits_of}
 use Rattle.mt_words.specs.Changes.{Logged}
 use Rattle.mt_words.specs.Walks.{Pair}
 use Rattle.mt_words.specs.Updates.{update_of, updates_from}
-use Rattle.mt_words.proofs.Elements.{no_element, head_or_tail, head_in, tail_in}
+use Rattle.mt_words.proofs.Elements.{head_in, tail_in}
 use Rattle.mt_record.specs.declared.feed.head.Head.{Head}
 use Rattle.mt_record.specs.Logs.{AreRecords, latest, LogReading, IsReading, IsGreatestOf}
 use Rattle.mt_record.specs.LogTexts.{IsLast}
