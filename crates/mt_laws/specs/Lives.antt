@@ -15,7 +15,7 @@ use Rattle.mt_laws.specs.Resuming.{IsOnTheWay}
 
 -- ---- files
 
--- a file of a log, as it is being written_records: its header, its records, and the bytes of it that are synced
+-- a file of a log, as it is being written: its header, its records, and the bytes of it that are synced
 pub record OpenFile : Type 0 where
   pub head : Head
   pub records : List Logged
@@ -97,7 +97,7 @@ pub record IsResumedAs (cutoff : ℕ) (left : List ℕ) (file : OpenFile) : Type
   pub replaces : file_reading file ≡ resumed cutoff reading
   pub synced : file.synced ≡ file_bytes file
 
--- A server, and the updates that it has acknowledged: it runs with these files; or it is down, these records were written_records, and these bytes are left of the
+-- A server, and the updates that it has acknowledged: it runs with these files; or it is down, these records were written, and these bytes are left of the
 -- files.
 pub data State : Type 0 where
   running : List Update → List OpenFile → State
