@@ -263,7 +263,7 @@ zip_agree cutoff logs news others first next =
     (λ b c both. agree_too cutoff b both.0 c (agrees_back cutoff both.0 b both.1) both.2)
     (zip_back (AgreeBelow cutoff) (AgreeBelow cutoff) logs news others first next)
 
--- what was left agrees with what was written_records, by the facts of any recovery
+-- what was left agrees with what was written, by the facts of any recovery
 agree_by : (acked : List Update) (history : List (List Logged)) (left : List (List ℕ)) → IsDown acked history left → (facts : Facts left [])
     → AllZip (AgreeBelow facts.cutoff) (records_of facts.readings) history
 agree_by acked history left is facts =
@@ -505,3 +505,23 @@ life_keeps acked history left pairs life store u among =
     let is : IsDown acked history left = life_holds (down acked history left) life in
     let safe = is.safe u among in
     in_history store.basis.facts.cutoff history u safe.0 (subst (λ (cutoff : ℕ). u.timestamp < cutoff) (down_by acked history left is store.basis.facts).1 safe.1)
+
+-- the file that replaces what was left
+abbrev resumed_as : ℕ → LogReading → OpenFile
+resumed_as cutoff reading =
+    record { head = (resumed cutoff reading).head; records = (resumed cutoff reading).records; synced = log_bytes (resumed cutoff reading).head (resumed cutoff reading).records }
+
+all_resumed : (cutoff : ℕ) (left : List (List ℕ)) (readings : List LogReading) → AreReadings left readings
+    → AllZip (IsResumedAs cutoff) left (map (resumed_as cutoff) readings)
+all_resumed cutoff [] [] read = tt
+all_resumed cutoff [] (r ∷ rs) read = absurd read
+all_resumed cutoff (l ∷ ls) [] read = absurd read
+all_resumed cutoff (l ∷ ls) (r ∷ rs) read = (record { reading = r; is_reading = read.0; replaces = refl; synced = refl }, all_resumed cutoff ls rs read.1)
+
+pub life_goes_on : (acked : List Update) (history : List (List Logged)) (left : List (List ℕ)) → Life (down acked history left)
+    → (files : List OpenFile) × Life (running acked files)
+life_goes_on acked history left life =
+    let is : IsDown acked history left = life_holds (down acked history left) life in
+    let facts = is.facts in
+    let files = map (resumed_as facts.cutoff) facts.readings in
+    (files, then (down acked history left) (running acked files) life (resume acked history left files facts (all_resumed facts.cutoff left facts.readings facts.read)))

@@ -5,11 +5,11 @@ ghost use Rattle.mt_words.specs.Changes.{Logged};
 ghost use Rattle.mt_words.specs.Walks.{Pair};
 ghost use Rattle.mt_replay.specs.Walk.{IsWalk};
 ghost use Rattle.mt_recover.specs.Recovery.{survivors, IsStoreOf};
-ghost use Rattle.mt_laws.specs.Lives.{down, Life};
+ghost use Rattle.mt_laws.specs.Lives.{OpenFile, running, down, Life};
 
 /// States that in each life of a server over logs, after each crash, there is a store and no fault. It is that of all
 /// updates below the cutoff that were written and that no resume dropped, and each update that was ever acknowledged is
-/// among them. This is a law: it has nothing to run.
+/// among them. The server can resume and go on. This is a law: it has nothing to run.
 pub fn a_life_of_crashes()
     ensures no_fault { (acked : List Update) (history : List (List Logged)) (left : List (List ℕ)) →
         Life (down acked history left) → (pairs : List Pair) × IsStoreOf left [] pairs }
@@ -19,4 +19,6 @@ pub fn a_life_of_crashes()
     ensures acknowledged { (acked : List Update) (history : List (List Logged)) (left : List (List ℕ)) (pairs : List Pair) →
         Life (down acked history left) → (store : IsStoreOf left [] pairs) →
         (u : Update) → Contains acked u → Contains (survivors store.basis.facts.cutoff None history) u }
+    ensures goes_on { (acked : List Update) (history : List (List Logged)) (left : List (List ℕ)) →
+        Life (down acked history left) → (files : List OpenFile) × Life (running acked files) }
 {}

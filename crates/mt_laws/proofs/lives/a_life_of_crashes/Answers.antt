@@ -1,4 +1,4 @@
-use Rattle.mt_laws.proofs.Living.{life_has_store, life_store, life_keeps}
+use Rattle.mt_laws.proofs.Living.{life_has_store, life_store, life_keeps, life_goes_on}
 use Rattle.mt_laws.proofs.lives.a_life_of_crashes.Goals as goal
 
 pub returns-clause-no_fault : goal.returns-clause-no_fault
@@ -9,3 +9,6 @@ returns-clause-store c = λ acked history left pairs life store. life_store acke
 
 pub returns-clause-acknowledged : goal.returns-clause-acknowledged
 returns-clause-acknowledged c = λ acked history left pairs life store u at. life_keeps acked history left pairs life store u at
+
+pub returns-clause-goes_on : goal.returns-clause-goes_on
+returns-clause-goes_on c = λ acked history left life. life_goes_on acked history left life
