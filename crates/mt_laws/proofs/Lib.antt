@@ -29,3 +29,4 @@ pub mod Deleted
 pub mod Continued
 pub mod LeftFiles
 pub mod Living
+pub mod SomeLife

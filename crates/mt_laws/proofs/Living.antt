@@ -319,7 +319,7 @@ cutoff_synced : (P : Logged → Type 0) (cutoff : ℕ) (reading : LogReading) (l
 cutoff_synced P cutoff reading log is holds = mark_synced P cutoff reading log is (mark_of cutoff) (head_in (mark_of cutoff) _) holds
 
 -- all of a file is a beginning of it
-all_of_it : (log : OpenFile) → IsReading (file_bytes log) (file_reading log) → IsCutOf (file_bytes log) (file_bytes log)
+pub all_of_it : (log : OpenFile) → IsReading (file_bytes log) (file_reading log) → IsCutOf (file_bytes log) (file_bytes log)
 all_of_it log is = record {
   lost = [];
   begins = sym (append-nil (file_bytes log));

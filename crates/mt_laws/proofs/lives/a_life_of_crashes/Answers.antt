@@ -1,4 +1,5 @@
 use Rattle.mt_laws.proofs.Living.{life_has_store, life_store, life_keeps, life_goes_on}
+use Rattle.mt_laws.proofs.SomeLife.{some_life}
 use Rattle.mt_laws.proofs.lives.a_life_of_crashes.Goals as goal
 
 pub returns-clause-no_fault : goal.returns-clause-no_fault
@@ -12,3 +13,6 @@ returns-clause-acknowledged c = λ acked history left pairs life store u at. lif
 
 pub returns-clause-goes_on : goal.returns-clause-goes_on
 returns-clause-goes_on c = λ acked history left life. life_goes_on acked history left life
+
+pub returns-clause-some : goal.returns-clause-some
+returns-clause-some c = some_life
