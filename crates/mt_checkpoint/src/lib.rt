@@ -24,6 +24,8 @@ mod laws;
 mod lengths;
 mod plan_fault;
 mod planning;
+#[cfg(test)]
+mod tests;
 
 pub use checkpoint::{Checkpoint, MOST_PARTS};
 pub use laws::a_written_checkpoint_is_read;

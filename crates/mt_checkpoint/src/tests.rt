@@ -1,0 +1,59 @@
+//! Tests of what no contract says: that a checkpoint can be planned and written.
+ghost use Rattle.std.specs.Prelude.{IfOk};
+ghost use Rattle.mt_words.specs.Walks.{KeysRise};
+ghost use Rattle.mt_tree.specs.Trees.{tree_walk};
+
+use crate::Checkpoint;
+use mt_tree::{Draft, Tree};
+use mt_words::{Columns, Kept, Memory};
+use std::alloc::Global;
+use std::process::Abort;
+
+/// Returns one column of one byte.
+fn column(alloc: Global) -> Result<Columns<Kept>, Memory> {
+    let mut columns = Columns::with_capacity(alloc, 1)?;
+    columns.add(alloc, 0, b"z")?;
+    Ok(columns)
+}
+
+/// Returns the tree of three keys with one column each. The fields of an entry have 16 bytes.
+fn tree_of_three(alloc: Global) -> Result<Tree, Memory>
+    ensures { IfOk result (λ tree. KeysRise (tree_walk tree)) }
+{
+    let mut draft = Draft::new(alloc);
+    draft.push(b"a", column(alloc)?)?;
+    draft.push(b"b", column(alloc)?)?;
+    draft.push(b"c", column(alloc)?)?;
+    draft.finish()
+}
+
+#[test]
+fn parts_are_cut_by_their_bytes(rt: HostRuntime) {
+    let tree = tree_of_three(rt.alloc()).expect(&rt, "memory");
+    let planned = Checkpoint::plan(rt.alloc(), &tree, 7, 100, 9, 36 + 2 * 24);
+    let checkpoint = planned.expect(&rt, "a checkpoint");
+    assert_eq!(&rt; checkpoint.parts(), 2);
+    let mut last = Vec::new(rt.alloc());
+    if 1 < checkpoint.parts() {
+        checkpoint.write_part(1, &mut last).expect(&rt, "memory");
+    }
+    assert_eq!(&rt; last.as_slice(), LAST_PART);
+}
+
+/// Part 1 of 2: its header, one entry, and its footer.
+const LAST_PART: &[u8] = b"MTC2\0\0\0\x07\0\0\0\0\0\0\0\x64\0\x01\0\x02\
+    \0\0\0\x10\0\0\0\0\0\0\0\x09\0\x01c\x01\0\0\x01z\0\0\0\x10\
+    \0\0\0\0\0\0\0\0\0\0\0\x64\0\0\0\x01";
+
+#[test]
+fn a_log_has_a_mark_above_the_cutoff(rt: HostRuntime) {
+    let tree = tree_of_three(rt.alloc()).expect(&rt, "memory");
+    let planned = Checkpoint::plan(rt.alloc(), &tree, 7, 100, 9, 1000);
+    let checkpoint = planned.expect(&rt, "a checkpoint");
+    let mut log = Vec::new(rt.alloc());
+    checkpoint.append_log(&mut log).expect(&rt, "memory");
+    assert_eq!(&rt; log.as_slice(), LOG);
+}
+
+/// A header that is from 100, and a mark at 101.
+const LOG: &[u8] = b"MTL2\0\0\0\0\0\0\0\x64\0\0\0\x09\x03\0\0\0\0\0\0\0\x65\0\0\0\x09";
