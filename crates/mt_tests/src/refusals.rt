@@ -29,7 +29,7 @@ fn scan_both(alloc: Global) -> Result<(usize, Option<u32>), Fault> {
     let slot = rack.slots().first_mut().ok_or(Fault::NoLogs)?;
     let mut part = MemSource::new(PART, slot).ok_or(Fault::NoLogs)?;
     let parts = vec![in alloc; scan_part(alloc, &mut part, 0)?]?;
-    let choice = choose(alloc, parts, scan.last)?;
+    let choice = choose(alloc, parts, scan.front.last())?;
     let number = choice.chosen.map(|chosen| chosen.number);
     Ok((scan.updates.len(), number))
 }
