@@ -291,12 +291,16 @@ fn cutting_in(alloc: Global, way: Way<'_>) -> Result<Option<(Workers, Cutting)>,
     let (workers, cutting) = match way {
         Way::Memory | Way::Buffers(_) | Way::Run { .. } => return Ok(None),
         Way::Even { workers, pieces } => {
-            let pieces = Pieces::new(pieces).ok_or(Mistake::NUMBER)?;
+            let Some(pieces) = Pieces::new(pieces) else {
+                return Err(Mistake::NUMBER);
+            };
             (workers, Cutting::Even(pieces))
         }
         Way::At { workers, line, .. } => (workers, Cutting::At(cuts_of(alloc, line)?)),
     };
-    let workers = Workers::new(workers).ok_or(Mistake::NUMBER)?;
+    let Some(workers) = Workers::new(workers) else {
+        return Err(Mistake::NUMBER);
+    };
     Ok(Some((workers, cutting)))
 }
 
