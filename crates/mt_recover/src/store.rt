@@ -59,6 +59,14 @@ impl Store {
         self.tree.getrange(start, n, wanted)
     }
 
+    /// Returns the tree of the pairs.
+    pub fn tree(&self) -> &Tree
+        ensures pairs { tree_walk result.now ≡ self.now }
+        ensures lawful { IsMap self.now }
+    {
+        &self.tree
+    }
+
     /// Returns the number of pairs, capped at the greatest `u128`.
     pub fn len(&self) -> u128
         ensures { IsCount self.now result }
