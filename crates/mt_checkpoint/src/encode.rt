@@ -1,5 +1,5 @@
-//! Writes the header, the entries and the footer of a part.
-ghost use Rattle.std.specs.Prelude.{◌≡◌, ◌<◌, ◌^◌, ◌∷◌, length, OnOk};
+//! Writes the header, the entries and the footer of a part to a writer.
+ghost use Rattle.std.specs.Prelude.{◌≡◌, ◌<◌, ◌^◌, ◌∷◌, ℕ, length, OnOk};
 ghost use Rattle.std.specs.List.{flat_map};
 ghost use Rattle.std.specs.Io.KnownBytes.{Appends};
 ghost use Rattle.mt_words.specs.declared.limits.Format.TheVariants.{Two};
@@ -10,13 +10,10 @@ ghost use Rattle.mt_words.specs.Built.{entry_of};
 ghost use Rattle.mt_record.specs.Parts.{part_head, part_head_bytes, entry_spelling, footer_bytes};
 ghost use Rattle.mt_record.specs.Spelling.{with_length, column_bytes, change_bytes, kind_bytes, FitsColumn};
 
-use crate::lengths::entry_length;
 use byteorder::{BigEndian, WriteBytesExt};
-use mt_words::{Column, Columns, Kept};
+use mt_record::{PART, columns_length};
+use mt_words::{Column, Columns, Format, Kept};
 use std::io::{self, Write};
-
-/// The first bytes of a part of format 2.
-const MAGIC: &[u8] = b"MTC2";
 
 /// Writes the header of a part: part `part` of the `parts` parts of checkpoint `number`, which begins at `begin`. Err:
 /// write error.
@@ -30,7 +27,8 @@ pub fn write_header<W: Write>(
     ensures { OnOk result
         (Appends (W.contents out.old) (W.contents out.new) (part_head_bytes (part_head Two number begin part parts))) }
 {
-    out.write_all(MAGIC)?;
+    out.write_all(PART)?;
+    out.write_u8(Format::Two.limits().digit)?;
     out.write_u32::<BigEndian>(number)?;
     out.write_u64::<BigEndian>(begin)?;
     out.write_u16::<BigEndian>(part)?;
@@ -44,6 +42,15 @@ pub fn write_footer<W: Write>(end: u64, count: u32, out: &mut W) -> io::Result<(
     out.write_u32::<BigEndian>(0)?;
     out.write_u64::<BigEndian>(end)?;
     out.write_u32::<BigEndian>(count)
+}
+
+/// Returns the number of bytes of the fields of this pair's entry, whatever its version. Its frame has eight more.
+pub fn entry_length(key: &[u8], columns: &Columns<Kept>) -> usize
+    requires { IsKey widest key.now }
+    ensures value { (version : ℕ) → result ≡ length (change_bytes (entry_of version key.now columns.now)) }
+    ensures short { result < 2 ^ 26 }
+{
+    10 + key.len() + columns_length(columns.as_slice())
 }
 
 /// Writes the entry of a pair, of this version. Err: write error.

@@ -21,7 +21,6 @@ mod checkpoint;
 mod encode;
 mod entries;
 mod laws;
-mod lengths;
 mod plan_fault;
 mod planning;
 #[cfg(test)]

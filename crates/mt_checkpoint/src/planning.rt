@@ -7,16 +7,16 @@ ghost use Rattle.mt_tree.specs.Trees.{tree_walk};
 ghost use Rattle.mt_checkpoint.specs.Steps.Planning.{MakeUp, HasPlanned, none_planned, both_planned};
 
 use crate::checkpoint::MOST_PARTS;
-use crate::lengths::entry_length;
+use crate::encode::entry_length;
 use crate::plan_fault::PlanFault;
-use mt_record::FOOTER_BYTES;
+use mt_record::{FOOTER_BYTES, PART_HEADER_BYTES};
 use mt_tree::{Tree, Visitor};
 use mt_words::{Columns, Kept, Key};
 use std::alloc::Global;
 use std::mem;
 
-/// The number of bytes around the entries of a part: the header has 20.
-const AROUND: usize = 20 + FOOTER_BYTES;
+/// The number of bytes around the entries of a part.
+const AROUND: usize = PART_HEADER_BYTES + FOOTER_BYTES;
 
 /// The pairs of a part: the first ones at or after a key.
 #[derive(Drop)]

@@ -111,9 +111,10 @@ pub fn kind_length(kind: &Kind) -> usize
 }
 
 /// Returns the number of bytes of the columns and of their count.
-fn columns_length(columns: &[Column]) -> usize
+pub fn columns_length(columns: &[Column]) -> usize
     requires { AreColumns widest columns.now }
-    ensures { result ≡ length (kind_bytes (Put columns.now)) }
+    ensures value { result ≡ length (kind_bytes (Put columns.now)) }
+    ensures few { result < 2 ^ 25 }
 {
     let mut length = 1;
     for column in columns {

@@ -33,11 +33,13 @@ pub use at_end::{RecordsAtEnd, records_at_end};
 pub use body::lent::Lent;
 pub use body::lent_writes::LentWrites;
 pub use encode::parts::{encode_part, encode_part_2};
-pub use encode::{encode_log_header, encode_log_header_2, encode_log_header_3, encode_record};
+pub use encode::{
+    columns_length, encode_log_header, encode_log_header_2, encode_log_header_3, encode_record,
+};
 pub use feed::head::{Head, Segment, header_at};
 pub use feed::log_feed::LogFeed;
 pub use feed::part_feed::PartFeed;
-pub use feed::part_head::{FOOTER_BYTES, part_header_at};
+pub use feed::part_head::{FOOTER_BYTES, PART, PART_HEADER_BYTES, part_header_at};
 pub use front::{LogFront, Rest};
 pub use in_memory::bodies::body_of_update;
 pub use kept::byte_strings::ByteStrings;

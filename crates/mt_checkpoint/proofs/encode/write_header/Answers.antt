@@ -9,5 +9,6 @@ returns g c =
     let part = Appends-trans _ _ _ _ _ c.in_ok-write_u16.ensures.bytes parts in
     let begin = Appends-trans _ _ _ _ _ c.in_ok-write_u64.ensures.bytes part in
     let number = Appends-trans _ _ _ _ _ c.in_ok-write_u32.ensures.bytes begin in
-    Appends-trans _ _ _ _ _ c.in_ok-write_all.ensures.bytes number)
+    let digit = Appends-trans _ _ _ _ _ (rw c.limits.ensures at c.in_ok-write_u8.ensures.bytes) number in
+    Appends-trans _ _ _ _ _ c.in_ok-write_all.ensures.bytes digit)
     c.write_u16-2.ensures.bytes
