@@ -6,7 +6,6 @@ use Rattle.std.specs.List.{All, filter, flat_map}
 use Rattle.std.proofs.lemmas.Bool.Decides.{nat_tests}
 use Rattle.std.proofs.lemmas.List.{length-append}
 use Rattle.std.proofs.lemmas.List.Elements.{All-head, All-tail, filter-append}
-use Rattle.mt_words.specs.declared.fault.Fault.TheVariants as of_all
 use Rattle.mt_words.specs.declared.fault.What.{What}
 use Rattle.mt_words.specs.declared.limits.Limits.{Limits}
 use Rattle.mt_words.specs.Limits.{limits_of}
@@ -29,7 +28,7 @@ use Rattle.mt_record.specs.LogFeeding.{LogSoFar, IsLogFed, FedLog, HoldsLog}
 use Rattle.mt_scan.specs.declared.checking.CheckingFeed.{CheckingFeed}
 use Rattle.mt_scan.specs.declared.checking.LogCheck.{LogCheck}
 use Rattle.mt_scan.specs.Checks.{is_late_record, IsCheckOf}
-use Rattle.mt_scan.specs.Scans.{last_in, IsScanFault}
+use Rattle.mt_scan.specs.Scans.{last_in}
 use Rattle.mt_scan.specs.Dropping.{HasAllBelow}
 use Rattle.mt_scan.specs.Steps.Checking.{HasCounted}
 use Rattle.mt_scan.proofs.Rises.{Rise, read_rise, rise_front, rise_behind, cut_below}
@@ -142,7 +141,7 @@ counts_more old new fed before bytes late others h small same feeds drops droppe
 nothing_lost : (log nth : ℕ) (rs : List Logged) → All (λ u. 0 ≤ u.timestamp) (updates_from log nth rs)
 nothing_lost log nth rs k d lt = omega arith
 
--- what is behind the records is empty or torn, as the scan says
+-- the tail after the records is empty or torn, as the scan says
 has_end : (limits : Limits) (low : ℕ) (tail : List ℕ) (rest : Rest) (torn : Bool) → IsRest limits low tail rest → ((rest ≡ Nothing) × (torn ≡ false)) ⊎ ((rest ≡ Torn) × (torn ≡ true))
     → ((tail ≡ []) ⊎ IsTorn limits tail) × (IsTrue torn ↔ IsTorn limits tail)
 has_end limits low tail rest torn is (inl (nothing, not_torn)) =
@@ -193,23 +192,3 @@ scan_of_check log limit bytes check dropped is sound dropped_is = by check.front
     by Nothing e = scan_with log limit bytes check false dropped is (inl (e, refl)) e dropped_is
     by Torn e = scan_with log limit bytes check true dropped is (inr (e, refl)) e dropped_is
     by (Faulty what) e = absurd (sound what e)
-
--- the fault of a log whose records are followed by one
-pub fault_of_check : (log limit : ℕ) (bytes : List ℕ) (check : LogCheck) (what : What) → IsCheckOf limit bytes check → check.front.rest ≡ Faulty what → IsScanFault log bytes (of_all.Record log check.front.count what)
-fault_of_check log limit bytes check what is faulty =
-    let front = is.front in
-    let head = check.front.head in (
-      refl,
-      record {
-        records = is.records;
-        fault = record {
-          head = head;
-          rest = front.rest;
-          spelled = front.spelled ∙ append_assoc (head_bytes head) (flat_map spelling is.records) front.rest;
-          is_head = front.is_head;
-          lawful = front.lawful;
-          fault = rw faulty at front.is_rest;
-        };
-        number = ap (λ (f : LogFront). f.count) front.numbers;
-      },
-    )

@@ -44,7 +44,7 @@ push_one worker (s ∷ ss) scan = omega (arith, with_one worker s (ss ++ scan �
 abbrev times_in : ℕ → List LogReading → List ℕ
 times_in worker logs = flat_map times_of (filter (λ file. is_segment_of worker file.head.segment) logs)
 
--- those of one file, if it is the worker's, before the others
+-- the times of one file, if it is of the worker, and then those of the others
 abbrev times_with : Bool → LogReading → List ℕ → List ℕ
 times_with true log times = times_of log ++ times
 times_with false log times = times
@@ -153,7 +153,7 @@ scanned (s ∷ ss) (l ∷ ls) log show at = elim (head_or_tail l log ls at) as (
 eqb_itself : (n : ℕ) → eqb n n ≡ true
 eqb_itself n = eq-eqb n n refl
 
--- what is found for a scan is the last of the writer's log that its file is of
+-- the number found for a scan is the last timestamp of the log that its file belongs to
 last_is : (scans : List LogScan) (logs : List LogReading) (scan : LogScan) (log : LogReading) → HaveNumbersOf scans logs → Contains logs log → HasNumbersOf scan log → IsLastOf logs log (last_of scans scan)
 unfolding last_of
 last_is scans logs scan log show at shows = by scan.front.head.segment (segment_shown scan log shows)
@@ -186,7 +186,7 @@ in_map f (s ∷ ss) scan at = elim (head_or_tail s scan ss at) as (λ _. Contain
   | inr later ↦ tail_in (f s) (f scan) (map f ss) (in_map f ss scan later)
 ]
 
--- the least of what is found for the scans is the cutoff
+-- the least of the numbers found for the scans is the cutoff
 cutoff_is : (scans : List LogScan) (logs : List LogReading) (n : ℕ) → HaveNumbersOf scans logs → Contains (map (last_of scans) scans) n → All (λ last. n ≤ last) (map (last_of scans) scans) → IsCutoff logs n
 cutoff_is scans logs n show at least =
     let from = from_map (last_of scans) scans n at in

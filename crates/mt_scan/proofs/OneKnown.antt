@@ -6,7 +6,7 @@ use Rattle.mt_record.proofs.OnePart.{one_part}
 use Rattle.mt_record.proofs.OnePartFault.{one_part_fault, part_or_fault}
 use Rattle.mt_scan.specs.PartScans.{KnownPart, whole, broken, nameless, IsKnown}
 
--- what is known of a part with this fault, which is not `Memory`
+-- what is known of a part with this fault, unless it is `Memory`
 abbrev known_from : PartFault → KnownPart
 known_from (of_part.Broken number entries) = broken number entries
 known_from of_part.Header = nameless

@@ -66,7 +66,7 @@ offered_more : (all : List Entry) (number : ℕ) (group : PartGroup) (cutoff : �
 offered_more all number group cutoff checkpoint is =
     record { group = is.group; stands = Contains-append_left all ((number, group) ∷ []) (checkpoint.number, is.group) is.stands; has = is.has; ends_below = is.ends_below }
 
--- what is offered was offered before, or belongs to the last group
+-- a checkpoint that is offered was offered before, or belongs to the last group
 pub record IsLast (number : ℕ) (group : PartGroup) (cutoff : ℕ) (checkpoint : CheckpointReading) : Type 0 where
   pub number_is : checkpoint.number ≡ number
   pub has : HasCheckpoint group checkpoint

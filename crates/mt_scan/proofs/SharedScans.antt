@@ -41,7 +41,7 @@ updates_both log nth (x ∷ xs) ys =
     append_assoc (update_of log nth x) (updates_from log (suc nth) xs) (updates_from log (nth + length (x ∷ xs)) ys)
     ∙ ap (λ (us : List Update). update_of log nth x ++ us) (ap (λ (n : ℕ). updates_from log (suc nth) xs ++ updates_from log n ys) (omega arith) ∙ updates_both log (suc nth) xs ys)
 
--- what holds for the timestamps of records holds for those of their updates
+-- a fact of the timestamps of records is a fact of the timestamps of their updates
 all_updates : (P : ℕ → Type 0) (log nth : ℕ) (rs : List Logged) → All (λ r. P r.timestamp) rs → All (λ u. P u.timestamp) (updates_from log nth rs)
 all_updates P log nth [] all = All-nil (λ (u : Update). P u.timestamp)
 all_updates P log nth (r ∷ rs) all =

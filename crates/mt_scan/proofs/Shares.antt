@@ -1,13 +1,15 @@
 -- The steps of a shared scan.
-use Rattle.std.proofs.Common.{◌≡◌, ◌⊎◌, inl, inr, ◌∙◌, ℕ, ◌<◌, ◌≤◌, ◌^◌, List, [], ◌∷◌, ◌++◌, true, false, Result, Ok, Err, refl, sym, ap, subst, append_assoc, append-nil, arith}
+use Rattle.std.proofs.Common.{◌≡◌, ◌⊎◌, inl, inr, ◌∙◌, ℕ, ◌<◌, ◌≤◌, ◌^◌, List, [], ◌∷◌, ◌++◌, Result, Ok, sym, ap, subst, append_assoc, arith}
 use Rattle.std.proofs.lemmas.Bool.{false≢true}
-use Rattle.std.specs.Result.{OnOk, OnErr, IsErr, is_err}
-use Rattle.std.specs.Borrow.{MutBor}
-use Rattle.mt_board.specs.Board.{BoardId, PassView, least_of}
-use Rattle.mt_scan.specs.declared.sharing.SharedFeed.{SharedFeed}
+use Rattle.std.specs.Result.{IsErr}
+use Rattle.std.specs.List.{All}
+use Rattle.mt_board.specs.Board.{PassView, least_of, nothing_noted}
+use Rattle.mt_scan.specs.declared.dropping_feed.DroppingFeed.{DroppingFeed}
 use Rattle.mt_scan.specs.Dropping.{HasLooked}
-use Rattle.mt_scan.specs.Steps.DroppingFeeds.{IsFedBelow}
-use Rattle.mt_scan.specs.Steps.Feeding.{LooksOn, MayShare}
+use Rattle.mt_scan.specs.Steps.DroppingFeeds.{HasStopped}
+use Rattle.mt_scan.specs.Steps.Feeding.{NeedsNoMore, LooksOn, IsFedUnder}
+use Rattle.mt_scan.proofs.DroppingFeeds.{stays_fed}
+use Rattle.mt_scan.proofs.Drops.{under_looks}
 
 -- ---- looks
 
@@ -21,49 +23,55 @@ looked_on begun old now more limit was is =
     let looks : old.looks ++ limit ∷ [] ≡ begun.looks ++ (more ++ limit ∷ []) = ap (λ (p : PassView). p.looks ++ limit ∷ []) was ∙ append_assoc begun.looks more (limit ∷ []) in
     is ∙ ap (λ (p : PassView). record p { looks = old.looks ++ limit ∷ [] }) was ∙ ap (λ (l : List ℕ). record begun { looks = l }) looks
 
--- ---- the scan
-
--- a shared scan that has fed nothing
-pub just_begun : (feed : SharedFeed) → feed.pass.now.board ≡ feed.board.now → feed.limit ≡ least_of feed.pass.now.looks → feed.limit ≤ feed.pass.now.noted → IsFedBelow feed.feed feed.limit [] → MayShare feed feed []
-just_begun feed board least low new = record {
-  was = feed.limit;
-  falls = omega arith;
-  shares = record {
-    looks = record {
-      same = refl;
-      board_is = board;
-      more = [];
-      looked = ap (λ (l : List ℕ). record feed.pass.now { looks = l }) (sym (append-nil feed.pass.now.looks));
-      least = least;
-      low = low;
-    };
-    fed = new;
-    few = inr (omega arith);
-  };
+pub first_look : (begun now : PassView) (limit : ℕ) → now ≡ record begun { looks = begun.looks ++ limit ∷ [] } → limit ≤ nothing_noted → limit ≤ begun.noted → All (λ look. limit ≤ look) begun.looks → LooksOn begun now limit
+first_look begun now limit is small low all = record {
+  first = limit;
+  more = [];
+  looked = is;
+  least = sym (ap (λ (p : PassView). least_of p.looks) is ∙ least_last begun.looks limit (under_looks limit begun.looks small all));
+  low = low;
 }
 
--- `HasLooked` holds since the pass looked for the first time
-pub has_looked : (before : PassView) (begun now : MutBor PassView) (board : BoardId) (first limit : ℕ) → begun.now ≡ record before { looks = before.looks ++ first ∷ [] } → LooksOn begun now board limit
-    → HasLooked before now.now × (now.now.noted ≡ before.noted)
-has_looked before begun now board first limit is s = (
+pub next_look : (begun old now : PassView) (was limit : ℕ) → LooksOn begun old was → now ≡ record old { looks = old.looks ++ limit ∷ [] } → limit ≤ nothing_noted → limit ≤ old.noted → All (λ look. limit ≤ look) old.looks
+    → LooksOn begun now limit × (limit ≤ was)
+next_look begun old now was limit s is small low all =
+    let under = under_looks limit old.looks small all in (
+      record {
+        first = s.first;
+        more = s.more ++ limit ∷ [];
+        looked = looked_on begun old now (s.first ∷ s.more) limit s.looked is;
+        least = sym (ap (λ (p : PassView). least_of p.looks) is ∙ least_last old.looks limit under);
+        low = omega (arith, low, ap (λ (p : PassView). p.noted) s.looked);
+      },
+      omega (arith, under, s.least),
+    )
+
+-- ---- the scan
+
+-- a feed that has stopped needs no more bytes
+pub no_more : (limit : ℕ) (feed : DroppingFeed) → HasStopped feed → NeedsNoMore (IsFedUnder limit) feed
+no_more limit feed stopped bytes more s = record { fed = stays_fed feed limit bytes more stopped s.fed; few = inl stopped }
+
+pub has_looked : (before now : PassView) (limit : ℕ) → LooksOn before now limit → HasLooked before now × (now.noted ≡ before.noted)
+has_looked before now limit s = (
   record {
-    first = first;
+    first = s.first;
     more = s.more;
     looks = looks;
-    low = omega (arith, s.least, s.low, ap (λ (p : PassView). p.noted) is);
-    rest = rest ∙ ap (λ (n : ℕ). record before { looks = now.now.looks; noted = n }) (sym noted);
+    low = omega (arith, s.least, s.low);
+    rest = rest ∙ ap (λ (n : ℕ). record before { looks = now.looks; noted = n }) (sym noted);
   },
   noted,
 )
   where
-    looks : now.now.looks ≡ before.looks ++ first ∷ s.more
-    looks = ap (λ (p : PassView). p.looks) s.looked ∙ ap (λ (p : PassView). p.looks ++ s.more) is ∙ append_assoc before.looks (first ∷ []) s.more
+    looks : now.looks ≡ before.looks ++ s.first ∷ s.more
+    looks = ap (λ (p : PassView). p.looks) s.looked
 
-    rest : now.now ≡ record before { looks = now.now.looks }
-    rest = s.looked ∙ ap (λ (p : PassView). record p { looks = begun.now.looks ++ s.more }) is ∙ ap (λ (l : List ℕ). record before { looks = l }) (sym (ap (λ (p : PassView). p.looks) s.looked))
+    rest : now ≡ record before { looks = now.looks }
+    rest = s.looked ∙ ap (λ (l : List ℕ). record before { looks = l }) (sym looks)
 
-    noted : now.now.noted ≡ before.noted
-    noted = ap (λ (p : PassView). p.noted) rest
+    noted : now.noted ≡ before.noted
+    noted = ap (λ (p : PassView). p.noted) s.looked
 
 -- `HasLooked` still holds after a number is noted
 pub noted_on : (number : ℕ) (before old new : PassView) → HasLooked before old → new ≡ record old { noted = number } → HasLooked before new
@@ -81,11 +89,3 @@ noted_on number before old new h is =
 pub few_bytes : {X F : Type 0} {Stopped : Type 0} (n : ℕ) (answer : Result X F) (x : X) → Stopped ⊎ (n < 2 ^ 64) → (Stopped → IsErr answer) → answer ≡ Ok x → n < 2 ^ 64
 few_bytes n answer x (inl stopped) errs ok = absurd (false≢true (subst IsErr ok (errs stopped)))
 few_bytes n answer x (inr few) errs ok = few
-
-pub not_err : {X F : Type 0} (P : Type 0) (answer : Result X F) → OnOk answer P → is_err answer ≡ false → P
-not_err P (Ok x) on no_err = on
-not_err P (Err f) on no_err = absurd (false≢true (sym no_err))
-
-pub not_ok : {X F : Type 0} (P : Type 0) (answer : Result X F) → OnErr answer P → is_err answer ≡ true → P
-not_ok P (Ok x) on err = absurd (false≢true err)
-not_ok P (Err f) on err = on

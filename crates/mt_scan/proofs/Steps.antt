@@ -1,7 +1,9 @@
 -- How the steps of a scan go together.
-use Rattle.std.proofs.Common.{◌≡◌, ◌⊎◌, inl, inr, List, ℕ, ◌++◌, Bool, false, Option, Some, None, Result, Ok, Err, [], refl, sym, subst, arith}
+use Rattle.std.proofs.Common.{◌≡◌, ◌⊎◌, inl, inr, ◌∙◌, List, ℕ, ◌+◌, ◌<◌, ◌^◌, ◌++◌, length, Bool, true, false, ◌&&◌, nat_lt, Option, Some, None, Result, Ok, Err, [], refl, sym, ap, subst, arith}
 use Rattle.std.specs.Result.{is_ok, IfOk, IfErr}
 use Rattle.std.proofs.lemmas.Bool.{false≢true}
+use Rattle.std.proofs.lemmas.Bool.Decides.{nat_tests}
+use Rattle.std.proofs.lemmas.List.{length-append}
 use Rattle.std.specs.Io.KnownBytes.{Consumes, IsAtEnd}
 use Rattle.mt_words.specs.declared.fault.Fault.{Fault}
 use Rattle.mt_record.specs.declared.read.FeedFault.{FeedFault}
@@ -9,6 +11,7 @@ use Rattle.mt_record.specs.declared.read.FeedFault.TheVariants as of_log
 use Rattle.mt_record.specs.Answered.{IsAnswered, fault_at}
 use Rattle.mt_scan.specs.declared.log_scan.LogScan.{LogScan}
 use Rattle.mt_scan.specs.Sources.{Seen, Agrees}
+use Rattle.mt_scan.specs.Advancing.{HandsOut}
 use Rattle.mt_scan.specs.Scans.{IsScanOf, IsScanFault, IsLogVerdict, OfTold}
 use Rattle.mt_scan.specs.Steps.Feeding.{NeedsNoMore, AreFew, FeedsPiece}
 use Rattle.mt_scan.proofs.Telling.{goes_on, handed_out, all_handed_out}
@@ -32,9 +35,9 @@ module _ {F : Type 0} (is_ready was_fed : F → List ℕ → Type 0) (first befo
   more_handed_out : Consumes first.told after.told (s.bytes ++ f.piece)
   more_handed_out = goes_on first.told before.told after.told s.bytes f.piece s.handed_out f.next
 
-  -- after one more chunk the feed was readied for the next
-  pub ready_again : (now : F) → is_ready now (s.bytes ++ f.piece) → HasFed is_ready first after now
-  ready_again now ready = record { bytes = s.bytes ++ f.piece; handed_out = more_handed_out; fed = ready; few = f.few }
+  -- after one more chunk the feed is ready for the next
+  pub ready_again : (is_next : F → List ℕ → Type 0) → is_next new (s.bytes ++ f.piece) → HasFed is_next first after new
+  ready_again is_next next = record { bytes = s.bytes ++ f.piece; handed_out = more_handed_out; fed = next; few = f.few }
 
   -- after the last chunk the feed was fed all bytes that the source may have
   pub last_fed : more ≡ false → OfTold first.told (was_fed new)
@@ -45,6 +48,34 @@ module _ {F : Type 0} (is_ready was_fed : F → List ℕ → Type 0) (first befo
       by (inr no_more) =
           let rest = handed_out first.told after.told (s.bytes ++ f.piece) more_handed_out in
           ((s.bytes ++ f.piece) ++ rest.0, rest.1, no_more (s.bytes ++ f.piece) rest.0 f.fed)
+
+-- a chunk that the source returned was fed
+pub feeds : {F : Type 0} (was_fed : F → List ℕ → Type 0) (before after : Seen) (new : F) (bytes : List ℕ) (on : Bool) (count : ℕ) → HandsOut before after count → AreFew before bytes → before.bound < 2 ^ 64
+    → (piece : List ℕ) → piece ≡ after.shown → (length (bytes ++ piece) < 2 ^ 64 → was_fed new (bytes ++ piece)) → (on ≡ false → NeedsNoMore was_fed new)
+    → FeedsPiece was_fed before after new bytes (on && nat_lt 0 count)
+feeds was_fed before after new bytes on count out few bounded piece shown fed stops = record {
+  piece = piece;
+  next = subst (Consumes before.told after.told) (sym shown) out.next;
+  fed = fed (omega (arith, few bounded, out.falls, size, sum));
+  falls = omega (arith, out.falls, size);
+  few = λ bound. omega (arith, few bounded, out.falls, size, sum);
+  some = λ more. some on more;
+  stops = λ ends. ended on ends stops;
+}
+  where
+    size : length piece ≡ count
+    size = ap length shown ∙ out.shown
+
+    sum : length (bytes ++ piece) ≡ length bytes + length piece
+    sum = length-append bytes piece
+
+    some : (on : Bool) → (on && nat_lt 0 count) ≡ true → 0 < length piece
+    some true more = let lt : nat_lt 0 count ≡ true = more in grind (arith, nat_tests, lt, size)
+    some false more = absurd (false≢true more)
+
+    ended : (on : Bool) → (on && nat_lt 0 count) ≡ false → (on ≡ false → NeedsNoMore was_fed new) → IsAtEnd after.told ⊎ NeedsNoMore was_fed new
+    ended true ends stops = let none : nat_lt 0 count ≡ false = ends in inl (out.at_end (grind (arith, nat_tests, none)))
+    ended false ends stops = inr (stops refl)
 
 -- a feed that does not return Ok has a fault
 pub has_fault : {X F : Type 0} (answer : Result X F) (fault : Option F) → is_ok answer ≡ false → IfErr answer (λ f. fault ≡ Some f) → (f : F) × (fault ≡ Some f)

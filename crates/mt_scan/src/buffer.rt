@@ -1,6 +1,7 @@
 //! Buffers for the bytes of a chunk.
 ghost use Rattle.std.specs.Prelude.{◌≡◌, ◌≤◌, ◌<◌, length, take, min, vec_len, [], IfOk, OnOk, OnErr};
 ghost use Rattle.std.specs.Io.KnownBytes.{Consumes, IsAtEnd, Keeps};
+ghost use Rattle.mt_scan.specs.Advancing.{Buffered};
 
 use std::alloc::{AllocError, Global};
 use std::io;
@@ -17,9 +18,6 @@ pub struct Buffer {
 }
 
 impl Model for Buffer {
-    ghost use Rattle.std.specs.Prelude.{◌≤◌, ◌<◌, take, vec_len};
-    ghost use Rattle.mt_scan.specs.Advancing.{Buffered};
-
     ghost Value = { Buffered };
 
     ghost view = { λ b. record { size = vec_len b.bytes; shown = take b.filled b.bytes.items } };

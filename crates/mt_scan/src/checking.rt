@@ -89,8 +89,6 @@ impl CheckingFeed {
 }
 
 impl Fed for CheckingFeed {
-    ghost is_ready = { Counts };
-
     ghost was_fed = { Counts };
 
     fn feed_next(&mut self, piece: &[u8]) -> bool {
@@ -103,8 +101,6 @@ impl Fed for CheckingFeed {
             .saturating_add(before.marks);
         goes_on
     }
-
-    fn before_next(&mut self) {}
 }
 
 /// Checks the log with this number from its source, up to the end or the first fault. It reads no further than that, and

@@ -7,7 +7,7 @@ ghost use Rattle.mt_scan.specs.Steps.Checkpoints.{reading_of};
 use crate::rising::do_entries_rise;
 use mt_record::{KeptEntries, PartText};
 
-/// Returns whether the parts, of which there is at least one, make up a valid checkpoint in this order.
+/// Returns whether the parts make up a valid checkpoint in this order. There must be at least one.
 pub fn make_up(begin: u64, end: u64, texts: &[PartText<KeptEntries>]) -> bool
     requires { 0 < length texts.now }
     ensures { (number : ℕ) → IsTrue result ↔ AreItsParts (shown_by_all texts.now) (reading_of number begin end texts.now) }

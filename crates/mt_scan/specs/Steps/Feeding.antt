@@ -1,9 +1,8 @@
 -- The steps of a scan, and of one that shares a cutoff.
-use Rattle.std.specs.Prelude.{◌≡◌, ◌⊎◌, ℕ, ◌+◌, ◌≤◌, ◌<◌, ◌^◌, List, ◌++◌, length, Bool, true, false}
+use Rattle.std.specs.Prelude.{◌≡◌, ◌⊎◌, ℕ, ◌+◌, ◌≤◌, ◌<◌, ◌^◌, List, ◌∷◌, ◌++◌, length, Bool, true, false}
 use Rattle.std.specs.Io.KnownBytes.{Consumes, IsAtEnd}
-use Rattle.std.specs.Borrow.{MutBor}
-use Rattle.mt_board.specs.Board.{BoardId, PassView, least_of}
-use Rattle.mt_scan.specs.declared.sharing.SharedFeed.{SharedFeed}
+use Rattle.mt_board.specs.Board.{PassView, least_of}
+use Rattle.mt_scan.specs.declared.dropping_feed.DroppingFeed.{DroppingFeed}
 use Rattle.mt_scan.specs.Steps.DroppingFeeds.{IsFedBelow, HasStopped}
 use Rattle.mt_scan.specs.Sources.{Seen}
 
@@ -25,27 +24,19 @@ pub record FeedsPiece {F : Type 0} (was_fed : F → List ℕ → Type 0) (before
   pub some : more ≡ true → 0 < length piece
   pub stops : more ≡ false → IsAtEnd after.told ⊎ NeedsNoMore was_fed new
 
--- Since a shared scan began, its pass of this board noted nothing and looked at most for more; `limit` is the least number that it has seen.
-pub record LooksOn (begun now : MutBor PassView) (board : BoardId) (limit : ℕ) : Type 0 where
-  pub same : now.ghost_name ≡ begun.ghost_name
-  pub board_is : now.now.board ≡ board
+-- since it began, the pass noted nothing and looked at least once, and `limit` is the least number that it has seen
+pub record LooksOn (begun now : PassView) (limit : ℕ) : Type 0 where
+  pub first : ℕ
   pub more : List ℕ
-  pub looked : now.now ≡ record begun.now { looks = begun.now.looks ++ more }
-  pub least : limit ≡ least_of now.now.looks
-  pub low : limit ≤ begun.now.noted
+  pub looked : now ≡ record begun { looks = begun.looks ++ first ∷ more }
+  pub least : limit ≡ least_of now.looks
+  pub low : limit ≤ begun.noted
 
--- these bytes were fed with `limit`, and they are fewer than 2 ^ 64, or the feed has stopped
-pub record SharesUnder (limit : ℕ) (begun now : SharedFeed) (bytes : List ℕ) : Type 0 where
-  pub looks : LooksOn begun.pass now.pass now.board.now now.limit
-  pub fed : IsFedBelow now.feed limit bytes
-  pub few : HasStopped now.feed ⊎ (length bytes < 2 ^ 64)
+-- these bytes were fed with this limit or a higher one
+abbrev pub IsFedAbove : ℕ → DroppingFeed → List ℕ → Type 0
+IsFedAbove limit feed bytes = (was : ℕ) × (limit ≤ was) × IsFedBelow feed was bytes
 
--- these bytes were fed with the least number that the pass has seen as the limit
-abbrev pub WasShared : SharedFeed → SharedFeed → List ℕ → Type 0
-WasShared begun now bytes = SharesUnder now.limit begun now bytes
-
--- these bytes were fed with a limit that was no lower than the least number that the pass has seen
-pub record MayShare (begun now : SharedFeed) (bytes : List ℕ) : Type 0 where
-  pub was : ℕ
-  pub falls : now.limit ≤ was
-  pub shares : SharesUnder was begun now bytes
+-- these bytes were fed with this limit, and they are fewer than 2 ^ 64, or the feed has stopped
+pub record IsFedUnder (limit : ℕ) (feed : DroppingFeed) (bytes : List ℕ) : Type 0 where
+  pub fed : IsFedBelow feed limit bytes
+  pub few : HasStopped feed ⊎ (length bytes < 2 ^ 64)

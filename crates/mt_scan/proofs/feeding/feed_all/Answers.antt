@@ -1,4 +1,4 @@
-use Rattle.std.proofs.Common.{List, ℕ, ◌++◌, sym, subst, arith, rules}
+use Rattle.std.proofs.Common.{arith, rules}
 use Rattle.mt_scan.proofs.Steps.{none_fed, ready_again, last_fed}
 use Rattle.mt_scan.proofs.feeding.feed_all.Goals as goal
 
@@ -6,14 +6,8 @@ pub pieces-init : goal.pieces-init
 pieces-init g c = record {
   failed = search rules;
   steady = λ is. is;
-  fed = none_fed (g.F.Fed.is_ready c.args.feed.now) (g.S.Source.seen c.args.source.now) c.args.feed.now c.requires;
+  fed = none_fed (g.F.Fed.was_fed c.args.feed.now) (g.S.Source.seen c.args.source.now) c.args.feed.now c.requires;
 }
-
-pub before_next-requires : goal.before_next-requires
-before_next-requires g c =
-    let s = c.pieces.invariant.fed in
-    let step = c.in_ok-feed_piece.ensures.fed c.args.feed.now s.bytes s.fed s.few in
-    (c.args.feed.now, s.bytes ++ step.piece, step.fed)
 
 pub pieces-smaller : goal.pieces-smaller
 pieces-smaller g c =
@@ -28,14 +22,8 @@ pieces-preserved g c =
     record {
       failed = search rules;
       steady = λ is. (c.in_ok-feed_piece.ensures.steady (c.pieces.invariant.steady is)).1;
-      fed = ready_again _ _ _ _ _ _ _ _ s step c.before_next.new.self (c.before_next.ensures c.args.feed.now (s.bytes ++ step.piece) step.fed);
+      fed = ready_again _ _ _ _ _ _ _ _ s step (g.F.Fed.was_fed c.args.feed.now) step.fed;
     }
-
-pub returns-in_err-feed_piece-clause-ready : goal.returns-in_err-feed_piece-clause-ready
-returns-in_err-feed_piece-clause-ready g c =
-    let s = c.pieces.invariant.fed in
-    let h : (bytes : List ℕ) × g.F.Fed.is_ready c.args.feed.now c.feed_piece.new.feed bytes = (s.bytes, subst (λ (feed : g.row.F.Denot). g.F.Fed.is_ready c.args.feed.now feed s.bytes) (sym c.in_err-feed_piece.ensures.unfed) s.fed) in
-    search (rules, h)
 
 pub returns-clause-fed : goal.returns-clause-fed
 returns-clause-fed g c =

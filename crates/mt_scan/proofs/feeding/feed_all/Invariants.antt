@@ -7,7 +7,7 @@ abbrev pub invariant-pieces : goal.invariant-pieces
 invariant-pieces g l = record {
   failed : (g.S.Source.seen l.source).failures ≡ (g.S.Source.seen l.fn.source).failures;
   steady : IsTrue (g.S.Source.seen l.fn.source).steady → IsTrue (g.S.Source.seen l.source).steady;
-  fed : HasFed (g.F.Fed.is_ready l.fn.feed) (g.S.Source.seen l.fn.source) (g.S.Source.seen l.source) l.feed;
+  fed : HasFed (g.F.Fed.was_fed l.fn.feed) (g.S.Source.seen l.fn.source) (g.S.Source.seen l.source) l.feed;
 }
 
 abbrev pub decreases-pieces : goal.decreases-pieces

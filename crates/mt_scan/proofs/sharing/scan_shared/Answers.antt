@@ -1,67 +1,71 @@
-use Rattle.std.proofs.Common.{rules, ◌≡◌, ◌∙◌, ◌<◌, ◌^◌, ℕ, List, length, refl, sym, ap, subst, arith}
+use Rattle.std.proofs.Common.{rules, ◌∙◌, ◌<◌, ◌^◌, ℕ, length, refl, sym, ap, subst, arith}
 use Rattle.mt_board.specs.Board.{PassView, least_of}
 use Rattle.mt_scan.specs.Scans.{IsScanFault, OfTold}
 use Rattle.std.specs.Prelude.{Option}
 use Rattle.mt_scan.specs.Dropping.{HasAllBelow, KeepsOnlyBelow, IsSharedScan, noted_for, lowered_by}
-use Rattle.mt_scan.specs.declared.sharing.SharedFeed.{SharedFeed}
+use Rattle.mt_scan.specs.Steps.Feeding.{IsFedAbove}
 use Rattle.mt_scan.proofs.Telling.{some_bytes}
-use Rattle.mt_scan.proofs.Drops.{under_looks}
-use Rattle.mt_scan.proofs.Steps.{answered}
-use Rattle.mt_scan.proofs.Shares.{least_last, just_begun, has_looked, noted_on, few_bytes, not_ok, not_err}
+use Rattle.mt_scan.proofs.Steps.{answered, none_fed, ready_again, last_fed}
+use Rattle.mt_scan.proofs.Shares.{first_look, next_look, has_looked, noted_on, few_bytes}
 use Rattle.mt_scan.proofs.sharing.scan_shared.Goals as goal
 
-pub feed_all-fed-requires : goal.feed_all-fed-requires
-feed_all-fed-requires g c =
-    let is = c.least-limit.ensures.pass in
-    let looks : List ℕ = c.args.pass.now.looks in
-    let low = under_looks c.least-limit.result looks (omega (arith, c.least-limit.type_inv)) c.least-limit.ensures.seen in
-    let noted = ap (λ (p : PassView). p.noted) is in
-    just_begun _ (ap (λ (p : PassView). p.board) is ∙ c.requires) (sym (ap (λ (p : PassView). least_of p.looks) is ∙ least_last looks c.least-limit.result low)) (omega (arith, noted, c.least-limit.ensures.noted)) (c.new.ensures c.least-limit.result)
+pub pieces-init : goal.pieces-init
+pieces-init g c =
+    let least = c.least-limit.result in record {
+      failed = search rules;
+      steady = λ is. is;
+      looks = first_look c.args.pass.now c.least-limit.new.pass least c.least-limit.ensures.pass (omega (arith, c.least-limit.type_inv)) c.least-limit.ensures.noted c.least-limit.ensures.seen;
+      fed = none_fed _ (g.S.Source.seen c.args.source.now) c.new-feed.result (least, omega arith, c.new-feed.ensures least);
+    }
 
-pub returns-then-is_err-clause-fault : goal.returns-then-is_err-clause-fault
-returns-then-is_err-clause-fault g c =
-    let some = some_bytes (g.S.Source.seen c.args.source.now).told in
-    (some.0, some.1, refl)
+pub pieces-smaller : goal.pieces-smaller
+pieces-smaller g c =
+    let s = c.pieces.invariant.fed in
+    let step = c.in_ok-feed_below.ensures.fed s.fed.0 s.bytes s.fed.1 s.fed.2 s.few in
+    omega (arith, step.falls, step.some c.if-branch.true)
 
-pub returns-then-is_err-clause-unnoted : goal.returns-then-is_err-clause-unnoted
-returns-then-is_err-clause-unnoted g c =
-    let ready = not_ok _ c.feed_all-fed.result c.feed_all-fed.ensures.ready (sym c.is_err.ensures.value ∙ c.if-is_err.true) in
-    let looks = ready.1.shares.looks in
-    let same = looks.same in
-    let looked = has_looked c.args.pass.now _ _ _ c.least-limit.result _ c.least-limit.ensures.pass looks in
-    grind (arith, looked, same)
+pub pieces-preserved : goal.pieces-preserved
+pieces-preserved g c =
+    let s = c.pieces.invariant.fed in
+    let step = c.in_ok-feed_below.ensures.fed s.fed.0 s.bytes s.fed.1 s.fed.2 s.few in
+    let look = next_look _ _ _ _ _ c.pieces.invariant.looks c.least-limit-in-pieces.ensures.pass (omega (arith, c.least-limit-in-pieces.type_inv)) c.least-limit-in-pieces.ensures.noted c.least-limit-in-pieces.ensures.seen in
+    record {
+      failed = search rules;
+      steady = λ is. (c.in_ok-feed_below.ensures.steady (c.pieces.invariant.steady is)).1;
+      looks = look.0;
+      fed = ready_again _ _ _ _ _ _ _ _ s step (IsFedAbove c.least-limit-in-pieces.result) (c.pieces.limit, look.1, step.fed.fed);
+    }
+
+pub returns-in_err-feed_below-clause-fault : goal.returns-in_err-feed_below-clause-fault
+returns-in_err-feed_below-clause-fault g c =
+    let told = (g.S.Source.seen c.args.source.now).told in
+    let some = some_bytes told in
+    let h : OfTold told (λ bytes. IsScanFault c.args.log bytes c.in_err-feed_below.field-0.0) = (some.0, some.1, subst (IsScanFault c.args.log some.0) (sym c.in_err-feed_below.ensures.fault) refl) in
+    search (rules, h)
 
 pub returns-in_err-scan-clause-fault : goal.returns-in_err-scan-clause-fault
 returns-in_err-scan-clause-fault g c =
     let told = (g.S.Source.seen c.args.source.now).told in
-    let all = not_err _ c.feed_all-fed.result c.feed_all-fed.ensures.fed (sym c.is_err.ensures.value ∙ c.if-is_err.false) in
-    let is = c.in_err-scan.ensures.fault c.feed_all-fed.new.feed.limit all.0 all.2.fed in
+    let s = c.pieces.invariant.fed in
+    let all = last_fed _ _ _ _ _ _ _ _ s (c.in_ok-feed_below.ensures.fed s.fed.0 s.bytes s.fed.1 s.fed.2 s.few) c.if-branch.false in
+    let is = c.in_err-scan.ensures.fault _ all.0 all.2.fed in
     let h : OfTold told (λ bytes. IsScanFault c.args.log bytes c.in_err-scan.field-0.0) = (all.0, all.1, subst (IsScanFault c.args.log all.0) (sym is.is) (answered c.args.log all.0 is.of_bytes is.answered)) in
     search (rules, h)
 
-pub returns-in_err-scan-clause-unnoted : goal.returns-in_err-scan-clause-unnoted
-returns-in_err-scan-clause-unnoted g c =
-    let all = not_err _ c.feed_all-fed.result c.feed_all-fed.ensures.fed (sym c.is_err.ensures.value ∙ c.if-is_err.false) in
-    let looks = all.2.looks in
-    let same = looks.same in
-    let looked = has_looked c.args.pass.now _ _ _ c.least-limit.result _ c.least-limit.ensures.pass looks in
-    grind (arith, looked, same)
-
 pub returns-clause-scan : goal.returns-clause-scan
 returns-clause-scan g c =
-    let all = not_err _ c.feed_all-fed.result c.feed_all-fed.ensures.fed (sym c.is_err.ensures.value ∙ c.if-is_err.false) in
-    let s = all.2 in
-    let same = s.looks.same in
-    let shared : SharedFeed = c.feed_all-fed.new.feed in
+    let s = c.pieces.invariant.fed in
+    let looks = c.pieces.invariant.looks in
+    let all = last_fed _ _ _ _ _ _ _ _ s (c.in_ok-feed_below.ensures.fed s.fed.0 s.bytes s.fed.1 s.fed.2 s.few) c.if-branch.false in
     let noted : Option ℕ = noted_for c.in_ok-scan.scan in
-    let looked = has_looked c.args.pass.now _ _ _ c.least-limit.result _ c.least-limit.ensures.pass s.looks in
-    let few : length all.0 < 2 ^ 64 = few_bytes (length all.0) c.finish.result c.in_ok-scan.scan s.few c.finish.ensures.stopped c.in_ok-scan.was in
-    let is : HasAllBelow shared.limit c.args.log all.0 c.in_ok-scan.scan × KeepsOnlyBelow shared.limit c.in_ok-scan.scan = c.in_ok-scan.ensures.scan shared.limit all.0 s.fed few in
-    let least : shared.limit ≡ least_of c.note_last.new.pass.looks = s.looks.least ∙ sym (ap (λ (p : PassView). least_of p.looks) c.note_last.ensures) in
+    let looked = has_looked c.args.pass.now _ _ looks in
+    let few : length all.0 < 2 ^ 64 = few_bytes (length all.0) c.finish.result c.in_ok-scan.scan all.2.few c.finish.ensures.stopped c.in_ok-scan.was in
+    let is = c.in_ok-scan.ensures.scan _ all.0 all.2.fed few in
+    let least = looks.least ∙ sym (ap (λ (p : PassView). least_of p.looks) c.note_last.ensures) in
     let scan : IsSharedScan c.args.log c.args.pass.now c.note_last.new.pass all.0 c.in_ok-scan.scan = record {
-      looked = noted_on (lowered_by shared.pass.now.noted noted) c.args.pass.now shared.pass.now c.note_last.new.pass looked.0 c.note_last.ensures;
+      looked = noted_on _ c.args.pass.now _ c.note_last.new.pass looked.0 c.note_last.ensures;
       noted = ap (λ (p : PassView). p.noted) c.note_last.ensures ∙ ap (λ (n : ℕ). lowered_by n noted) looked.1;
       is = subst (λ (n : ℕ). HasAllBelow n c.args.log all.0 c.in_ok-scan.scan) least is.0;
       kept = subst (λ (n : ℕ). KeepsOnlyBelow n c.in_ok-scan.scan) least is.1;
     } in
-    (all.0, all.1, grind (arith, scan, same))
+    (all.0, all.1, scan)
