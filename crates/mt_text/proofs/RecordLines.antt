@@ -58,23 +58,6 @@ module _ {T : Type 0} (item_of : T → Item) (encoded : T → List ℕ) where
     pub room : left + length (wanted_in item_of encoded selection start values) ≡ selection.limit
     pub printed : Appends old new (flat_map (line selection.notation) (wanted_in item_of encoded selection start values))
 
-  -- none at first
-  pub none_so_far : (So : List T → Type 0) (selection : Selection) (bytes : List ℕ) (start : ℕ) (rest : List ℕ) (out : Option (List ℕ)) → So [] → start ≤ length bytes → rest ≡ drop start bytes
-      → AreListedSoFar So selection bytes start rest 0 selection.limit out out
-  none_so_far So selection bytes start rest out so within e =
-      let long = length-drop start bytes in
-      let same = ap length e in
-      record {
-        values = [];
-        so = so;
-        spelled = sym e;
-        count = refl;
-        fits = omega (arith, long, same, within);
-        within = omega (arith, long, same, within);
-        room = omega arith;
-        printed = Appends-nil out;
-      }
-
   -- and one more
   pub one_more_so_far : (So Then : List T → Type 0) (selection : Selection) (bytes : List ℕ) (start : ℕ) (rest after : List ℕ) (number left at count : ℕ) (x : T) (old new newer : Option (List ℕ))
       → AreListedSoFar So selection bytes start rest number left old new → ((xs : List T) → So xs → Then (xs ++ x ∷ [])) → rest ≡ encoded x ++ after → 0 < length (encoded x)
@@ -111,36 +94,6 @@ module _ {T : Type 0} (item_of : T → Item) (encoded : T → List ℕ) where
           by true is = let length_one : length (filter p (y ∷ [])) ≡ 1 = rw is refl in omega (arith, is_length, length_one)
           by false isnt = let length_none : length (filter p (y ∷ [])) ≡ 0 = rw isnt refl in omega (arith, is_length, length_none)
 
-  -- all, where no further one follows
-  pub stopped_so_far : (So Are : List T → Type 0) (NoneFollows : List T → List ℕ → Type 0) (selection : Selection) (bytes : List ℕ) (start : ℕ) (rest : List ℕ) (number left : ℕ) (stop : Stopped) (old new : Option (List ℕ))
-      → AreListedSoFar So selection bytes start rest number left old new → ((xs : List T) → So xs → Are xs × NoneFollows xs rest) → stop.at ≡ length bytes - length rest → stop.count ≡ number
-      → AreListed item_of encoded Are NoneFollows selection bytes start (Some stop) old new
-  stopped_so_far So Are NoneFollows selection bytes start rest number left stop old new so_far ends at counted =
-      let are = ends so_far.values so_far.so in
-      record {
-        values = so_far.values;
-        rest = rest;
-        spelled = so_far.spelled;
-        lawful = are.0;
-        few = omega (arith, so_far.room);
-        ends = (are.1, omega (arith, at, so_far.within), counted ∙ so_far.count);
-        printed = so_far.printed;
-      }
-
-  -- as many as the limit allows
-  pub enough_so_far : (So Are : List T → Type 0) (NoneFollows : List T → List ℕ → Type 0) (selection : Selection) (bytes : List ℕ) (start : ℕ) (rest : List ℕ) (number left : ℕ) (old new : Option (List ℕ))
-      → AreListedSoFar So selection bytes start rest number left old new → ((xs : List T) → So xs → Are xs) → left ≡ 0
-      → AreListed item_of encoded Are NoneFollows selection bytes start None old new
-  enough_so_far So Are NoneFollows selection bytes start rest number left old new so_far are none = record {
-    values = so_far.values;
-    rest = rest;
-    spelled = so_far.spelled;
-    lawful = are so_far.values so_far.so;
-    few = omega (arith, so_far.room);
-    ends = omega (arith, so_far.room, none);
-    printed = so_far.printed;
-  }
-
 -- ---- records
 
 -- lawful records with this last timestamp
@@ -151,11 +104,6 @@ RecordsSoFar limits low rs = AreRecords limits 0 rs × (low ≡ latest 0 rs)
 pub record_push : (limits : Limits) (low : ℕ) (bytes after : List ℕ) (r : Logged) → IsNext limits low bytes r after → (rs : List Logged) → RecordsSoFar limits low rs
     → RecordsSoFar limits r.timestamp (rs ++ r ∷ [])
 record_push limits low bytes after r next rs so = (records_push limits 0 rs r so.0 next.lawful (rw (← so.1) next.rises), sym (latest_push 0 rs r))
-
--- where no record follows, they stop
-pub records_stop : (limits : Limits) (low : ℕ) (rest : List ℕ) → Stops limits low rest → (rs : List Logged) → RecordsSoFar limits low rs
-    → AreRecords limits 0 rs × Stops limits (latest 0 rs) rest
-records_stop limits low rest stops rs so = (so.0, rw (← so.1) stops)
 
 -- a record has at least eight bytes
 pub record_some : (r : Logged) → 0 < length (spelling r)

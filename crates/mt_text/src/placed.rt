@@ -1,7 +1,8 @@
 //! A record or an entry, with its place.
 ghost use Rattle.std.specs.Prelude.{◌≡◌};
-ghost use Rattle.mt_text.specs.RecordText.{placed_at, of_record, of_entry};
+ghost use Rattle.mt_text.specs.RecordText.{placed_at, of_record, of_entry, Placed};
 ghost use Rattle.mt_text.specs.Listing.{has_key};
+ghost use Rattle.std.specs.Option.{option_map};
 
 use mt_words::{Change, Entry, Key, Record};
 use std::marker::Model;
@@ -19,9 +20,6 @@ pub(crate) struct Placed<'a> {
 }
 
 impl<'a> Model for Placed<'a> {
-    ghost use Rattle.std.specs.Option.{option_map};
-    ghost use Rattle.mt_text.specs.RecordText.{Placed, placed_at};
-
     ghost Value = { Placed };
 
     ghost view = { λ p. placed_at p.number p.at (record { timestamp = p.timestamp; change = option_map (λ change. change.now) p.change }) };
