@@ -1,3 +1,3 @@
 mod Plans
-mod Sound
+pub mod Sound
 mod Texts

@@ -30,3 +30,5 @@ pub mod Continued
 pub mod LeftFiles
 pub mod Living
 pub mod SomeLife
+pub mod FreshParts
+pub mod FreshStores

@@ -1,3 +1,4 @@
 pub mod Crashes
 pub mod Resuming
 pub mod Lives
+pub mod Fresh

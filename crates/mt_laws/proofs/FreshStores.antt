@@ -1,0 +1,295 @@
+-- Recovery from a fresh start, and from the logs after it.
+use Rattle.std.proofs.Common.{◌≡◌, ◌⊎◌, ◌↔◌, inl, inr, ℕ, ◌+◌, ◌<◌, ◌≤◌, max, true, false, IsTrue, Option, Some, List, [], ◌∷◌, ◌++◌, take, map, Contains, refl, sym, ap, ◌∙◌, subst, arith}
+use Rattle.std.specs.Option.{option_map}
+use Rattle.std.proofs.lemmas.List.Elements.{All-contains, Contains-append_cases, Contains-append_left, Contains-append_right}
+use Rattle.mt_words.specs.declared.fault.Fault.{Fault}
+use Rattle.mt_words.specs.declared.limits.Format.TheVariants.{Two}
+use Rattle.mt_words.specs.declared.update.Stamp.{Stamp}
+use Rattle.mt_words.specs.declared.update.Update.{Update}
+use Rattle.mt_words.specs.Limits.{limits_of}
+use Rattle.mt_words.specs.Changes.{Writes, set}
+use Rattle.mt_words.specs.Stamps.{IsAtMost}
+use Rattle.mt_words.specs.Walks.{Pair, IsMap, Holds}
+use Rattle.mt_words.specs.Built.{mark_of, entry_of}
+use Rattle.mt_words.proofs.Elements.{no_element, head_or_tail, head_in, tail_in}
+use Rattle.mt_record.specs.Encoding.{head_of}
+use Rattle.mt_record.specs.Logs.{LogReading, IsReading, IsGreatestOf, times_of}
+use Rattle.mt_record.specs.LogTexts.{IsLast}
+use Rattle.mt_record.proofs.Records.{last_is, tells_torn}
+use Rattle.mt_checkpoint.specs.Checkpoints.{Checkpoint, HasPairs, entries_with, log_text}
+use Rattle.mt_checkpoint.proofs.Sound.{is_log}
+use Rattle.mt_scan.specs.Choice.{CheckpointReading}
+use Rattle.mt_scan.specs.Cutoff.{IsLastOf, HasLast, IsCutoff}
+use Rattle.mt_scan.specs.Segments.{IsEarlier, IsSame, HasFile, HasGap, IsGap}
+use Rattle.mt_replay.specs.KeyColumns.{HasColumn}
+use Rattle.mt_replay.specs.declared.window.Window.{Window}
+use Rattle.mt_replay.specs.Survivors.{wholes, in_window, log_survivors}
+use Rattle.mt_replay.specs.Walk.{IsWalk}
+use Rattle.mt_replay.proofs.Members.{of_map, in_map, of_filter}
+use Rattle.mt_recover.specs.Recovery.{entry_updates, begin_of, survivors, Facts, records_of, IsStoreOf}
+use Rattle.mt_recover.specs.Report.{logged_updates, all_versions, Outcome, IsRecoveredOf}
+use Rattle.mt_recover.specs.Verdict.{IsVerdict}
+use Rattle.mt_recover.proofs.FoundLemmas.{alone}
+use Rattle.mt_recover.proofs.OneVerdict.{one_store, no_verdict, same_facts}
+use Rattle.mt_laws.specs.Fresh.{AreAllParts, reading_with, IsFresh, surviving, updates_after, AreAbove}
+use Rattle.mt_laws.proofs.Entries.{entry_stamp, entry_update}
+use Rattle.mt_laws.proofs.Moved.{version_at_most, version_below, Decides, at_most, column_by, moved, same_walk}
+use Rattle.mt_laws.proofs.LeftFiles.{none_at}
+use Rattle.mt_laws.proofs.FreshParts.{known_as, chooses}
+
+-- ---- the entries of pairs
+
+-- the updates of the entries
+abbrev entry_updates_of : ℕ → List Pair → List Update
+entry_updates_of version pairs = wholes (entries_with version pairs)
+
+-- an update of an entry is that of a pair
+record IsOfPair (version : ℕ) (pairs : List Pair) (u : Update) : Type 0 where
+  pair : Pair
+  stands : Contains pairs pair
+  same : entry_update (entry_of version pair.0 pair.1) ≡ u
+
+of_pair : (version : ℕ) (pairs : List Pair) (u : Update) → Contains (entry_updates_of version pairs) u → IsOfPair version pairs u
+of_pair version pairs u at =
+    let entry = of_map entry_update (entries_with version pairs) u at in
+    let pair = of_map (λ (pair : Pair). entry_of version pair.0 pair.1) pairs entry.0 entry.1 in
+    record { pair = pair.0; stands = pair.1; same = ap entry_update pair.2 ∙ entry.2 }
+
+pair_in : (version : ℕ) (pairs : List Pair) (pair : Pair) → Contains pairs pair → Contains (entry_updates_of version pairs) (entry_update (entry_of version pair.0 pair.1))
+pair_in version pairs pair at =
+    in_map entry_update (entries_with version pairs) (entry_of version pair.0 pair.1) (in_map (λ (p : Pair). entry_of version p.0 p.1) pairs pair at)
+
+entry_version : (version : ℕ) (pairs : List Pair) (u : Update) → IsOfPair version pairs u → u.stamp ≡ entry_stamp version
+entry_version version pairs u is = ap (λ (x : Update). x.stamp) (sym is.same)
+
+-- a column that an entry writes is one of its pair
+pair_holds : (version : ℕ) (pairs : List Pair) (u : Update) (key : List ℕ) (number : ℕ) (bytes : List ℕ) → IsOfPair version pairs u → u.key ≡ key
+    → Writes u.kind number (Some bytes) → Holds pairs key number bytes
+pair_holds version pairs u key number bytes is of_key writes =
+    let columns = is.pair.1 in
+    let written : Contains (map set columns) (number, Some bytes) = subst (λ (x : Update). Writes x.kind number (Some bytes)) (sym is.same) writes in
+    let column = of_map set columns (number, Some bytes) written in
+    let same_number : column.0.0 ≡ number = ap (λ (w : ℕ × Option (List ℕ)). w.0) column.2 in
+    let same_bytes : Some column.0.1 ≡ Some bytes = ap (λ (w : ℕ × Option (List ℕ)). w.1) column.2 in
+    let bytes_are : column.0.1 ≡ bytes = cc in
+    let key_is : is.pair.0 ≡ key = ap (λ (x : Update). x.key) is.same ∙ of_key in (
+      columns,
+      subst (λ (k : List ℕ). Contains pairs (k, columns)) key_is is.stands,
+      subst (λ (c : ℕ × List ℕ). Contains columns c) (λ i. (same_number i, bytes_are i)) column.1,
+    )
+
+-- ---- the entries and newer updates
+
+-- Updates whose walk is these pairs, and newer ones: the first have at most this version, the others a greater one.
+record AreOlderAndNewer (version : ℕ) (pairs : List Pair) (older newer : List Update) : Type 0 where
+  walk : IsWalk older pairs
+  low : (u : Update) → Contains older u → u.stamp.version ≤ version
+  high : (u : Update) → Contains newer u → version < u.stamp.version
+
+-- what newer updates and entries leave, newer and older updates leave
+from_entries : (version : ℕ) (pairs : List Pair) (older newer : List Update) (key : List ℕ) (number : ℕ) (bytes : List ℕ) → AreOlderAndNewer version pairs older newer
+    → HasColumn (newer ++ entry_updates_of version pairs) key number bytes → HasColumn (older ++ newer) key number bytes
+from_entries version pairs older newer key number bytes are h =
+    let entries = entry_updates_of version pairs in
+    elim (Contains-append_cases newer entries h.write h.stands) as (λ _. HasColumn (older ++ newer) key number bytes) [
+      | inl new ↦ moved (newer ++ entries) (older ++ newer) key number bytes h (Contains-append_right older newer h.write new) (λ u at decides.
+          elim (Contains-append_cases older newer u at) as (λ _. Contains (newer ++ entries) u ⊎ IsAtMost u.stamp h.write.stamp) [
+            | inl old ↦
+                let low : u.stamp.version ≤ version = are.low u old in
+                let high : version < h.write.stamp.version = are.high h.write new in
+                inr (version_below u.stamp h.write.stamp (omega (arith, low, high)))
+            | inr too ↦ inl (Contains-append_left newer entries u too)
+          ])
+      | inr entry ↦
+          let is = of_pair version pairs h.write entry in
+          let same : h.write.stamp.version ≡ version = ap (λ (s : Stamp). s.version) (entry_version version pairs h.write is) in
+          let column = (are.walk.exact key number bytes).0 (pair_holds version pairs h.write key number bytes is h.of_key h.writes) in
+          moved older (older ++ newer) key number bytes column (Contains-append_left older newer column.write column.stands) (λ u at decides.
+          elim (Contains-append_cases older newer u at) as (λ _. Contains older u ⊎ IsAtMost u.stamp column.write.stamp) [
+            | inl old ↦ inl old
+            | inr new ↦
+                let low : u.stamp.version ≤ h.write.stamp.version =
+                version_at_most u.stamp h.write.stamp (at_most (newer ++ entries) key number bytes h u (Contains-append_left newer entries u new) decides) in
+                let high : version < u.stamp.version = are.high u new in
+                absurd (omega (arith, low, high, same))
+          ])
+    ]
+
+-- and the other way round
+to_entries : (version : ℕ) (pairs : List Pair) (older newer : List Update) (key : List ℕ) (number : ℕ) (bytes : List ℕ) → AreOlderAndNewer version pairs older newer
+    → HasColumn (older ++ newer) key number bytes → HasColumn (newer ++ entry_updates_of version pairs) key number bytes
+to_entries version pairs older newer key number bytes are h =
+    let entries = entry_updates_of version pairs in
+    elim (Contains-append_cases older newer h.write h.stands) as (λ _. HasColumn (newer ++ entries) key number bytes) [
+      | inl old ↦
+          let low : h.write.stamp.version ≤ version = are.low h.write old in
+          let none : (u : Update) → Contains newer u → Decides key number u → ⊥ = λ u new decides.
+          let most : u.stamp.version ≤ h.write.stamp.version =
+          version_at_most u.stamp h.write.stamp (at_most (older ++ newer) key number bytes h u (Contains-append_right older newer u new) decides) in
+          let high : version < u.stamp.version = are.high u new in
+          absurd (omega (arith, low, most, high)) in
+          let column = moved (older ++ newer) older key number bytes h old (λ u at decides. inl (Contains-append_left older newer u at)) in
+          let holds = (are.walk.exact key number bytes).1 column in
+          let pair : Pair = (key, holds.0) in
+          let entry = entry_update (entry_of version key holds.0) in
+          column_by (newer ++ entries) key number bytes entry (Contains-append_right newer entries entry (pair_in version pairs pair holds.1)) refl
+          (in_map set holds.0 (number, bytes) holds.2) (λ u at decides.
+          elim (Contains-append_cases newer entries u at) as (λ _. IsAtMost u.stamp entry.stamp) [
+            | inl new ↦ absurd (none u new decides)
+            | inr one ↦ inl (entry_version version pairs u (of_pair version pairs u one))
+          ])
+      | inr new ↦ moved (older ++ newer) (newer ++ entries) key number bytes h (Contains-append_left newer entries h.write new) (λ u at decides.
+          elim (Contains-append_cases newer entries u at) as (λ _. Contains (older ++ newer) u ⊎ IsAtMost u.stamp h.write.stamp) [
+            | inl too ↦ inl (Contains-append_right older newer u too)
+            | inr entry ↦
+                let same : u.stamp.version ≡ version = ap (λ (s : Stamp). s.version) (entry_version version pairs u (of_pair version pairs u entry)) in
+                let high : version < h.write.stamp.version = are.high h.write new in
+                inr (version_below u.stamp h.write.stamp (omega (arith, same, high)))
+          ])
+    ]
+
+-- ---- the entries alone
+
+entries_walk : (version : ℕ) (pairs : List Pair) → IsMap pairs → IsWalk (entry_updates_of version pairs) pairs
+entries_walk version pairs is_map = record {
+  map = is_map;
+  exact = λ key number bytes. (
+    λ holds.
+        let entry = entry_update (entry_of version key holds.0) in
+        column_by (entry_updates_of version pairs) key number bytes entry (pair_in version pairs (key, holds.0) holds.1) refl (in_map set holds.0 (number, bytes) holds.2)
+        (λ u at decides. inl (entry_version version pairs u (of_pair version pairs u at))),
+    λ column. pair_holds version pairs column.write key number bytes (of_pair version pairs column.write column.stands) column.of_key column.writes,
+  );
+}
+
+-- ---- what recovery finds at a fresh start
+
+abbrev fresh_log : Checkpoint → LogReading
+fresh_log checkpoint = record { head = head_of Two checkpoint.cutoff; records = mark_of (checkpoint.cutoff + 1) ∷ []; torn = false }
+
+only : {X : Type 0} (one x : X) → Contains (one ∷ []) x → one ≡ x
+only one x at = elim (head_or_tail one x [] at) as (λ _. one ≡ x) [ inl e ↦ e | inr none ↦ absurd (no_element x none) ]
+
+fresh_is_reading : (pairs : List Pair) (checkpoint : Checkpoint) → HasPairs pairs checkpoint → IsReading (log_text checkpoint) (fresh_log checkpoint)
+fresh_is_reading pairs checkpoint is = record {
+  tail = [];
+  is_log = is_log pairs checkpoint is;
+  torn = tells_torn (limits_of Two) [] true refl (inl refl);
+}
+
+fresh_cutoff : (pairs : List Pair) (checkpoint : Checkpoint) → HasPairs pairs checkpoint → IsCutoff (fresh_log checkpoint ∷ []) (checkpoint.cutoff + 1)
+fresh_cutoff pairs checkpoint is =
+    let log = fresh_log checkpoint in
+    let mark = checkpoint.cutoff + 1 in
+    let times = times_of log in
+    let later : max checkpoint.cutoff mark ≡ mark = omega arith in
+    let last : IsLast log mark = subst (IsLast log) later (last_is (limits_of Two) log (is_log pairs checkpoint is).lawful) in
+    let of_log : (other : LogReading) (n : ℕ) → log ≡ other → IsLastOf (log ∷ []) other n → IsLast log n = λ other n same is_last.
+    subst (λ (ts : List ℕ). IsGreatestOf ts n) (sym (alone (log ∷ []) log refl)) (subst (λ (x : LogReading). IsLastOf (log ∷ []) x n) (sym same) is_last) in record {
+      has = record { log = log; stands = head_in log []; is_last = subst (λ (ts : List ℕ). IsGreatestOf ts mark) (alone (log ∷ []) log refl) last };
+      least = λ n other.
+          let is_last = of_log other.log n (only log other.log other.stands) other.is_last in
+          All-contains (λ (time : ℕ). time ≤ n) times mark is_last.1 (tail_in checkpoint.cutoff mark (mark ∷ []) (head_in mark []));
+    }
+
+fresh_facts : (pairs : List Pair) (checkpoint : Checkpoint) (parts : List (List ℕ)) → IsMap pairs → HasPairs pairs checkpoint → AreAllParts checkpoint parts
+    → Facts (log_text checkpoint ∷ []) parts
+fresh_facts pairs checkpoint parts is_map is all =
+    let log = fresh_log checkpoint in
+    let files = log ∷ [] in
+    let found = known_as pairs checkpoint parts is_map is all in record {
+      readings = files;
+      read = (fresh_is_reading pairs checkpoint is, tt);
+      writers = record {
+        once = λ i. none_at (λ x. HasFile (take i files) (IsSame x.head.segment)) files i (λ x at has.
+            subst (λ (f : LogReading). IsSame f.head.segment has.1.head.segment) (sym (only log x at)) has.4);
+        sound = λ i. none_at (λ x. IsTrue x.torn × HasFile files (IsEarlier x.head.segment)) files i (λ x at amid.
+            let has = amid.1 in
+            subst (λ (f : LogReading). IsEarlier f.head.segment has.1.head.segment) (sym (only log x at)) has.4);
+      };
+      cutoff = checkpoint.cutoff + 1;
+      is_cutoff = fresh_cutoff pairs checkpoint is;
+      known = found.known;
+      are_known = found.are_known;
+      chosen = Some (reading_with checkpoint pairs);
+      is_chosen = found.chosen (checkpoint.cutoff + 1) (omega arith);
+    }
+
+fresh_no_gap : (checkpoint : Checkpoint) (i : ℕ) → IsGap checkpoint.cutoff (fresh_log checkpoint ∷ []) i → ⊥
+fresh_no_gap checkpoint i = none_at (HasGap checkpoint.cutoff files) files i (λ x at gap. elim gap as (λ _. ⊥) [
+  | inl amid ↦
+      let has = amid.0 in
+      subst (λ (f : LogReading). IsEarlier f.head.segment x.head.segment) (sym (only log has.1 (has.0, has.2, has.3))) has.4
+  | inr first ↦ let late : checkpoint.cutoff < checkpoint.cutoff = subst (λ (f : LogReading). checkpoint.cutoff < f.head.from) (sym (only log x at)) first.1 in omega (arith, late)
+])
+  where
+    log : LogReading
+    log = fresh_log checkpoint
+
+    files : List LogReading
+    files = log ∷ []
+
+-- ---- the laws
+
+pub fresh_store : (pairs : List Pair) (checkpoint : Checkpoint) (parts : List (List ℕ)) → IsMap pairs → HasPairs pairs checkpoint → AreAllParts checkpoint parts
+    → IsStoreOf (log_text checkpoint ∷ []) parts pairs
+unfolding fresh_facts
+fresh_store pairs checkpoint parts is_map is all = record {
+  basis = record { facts = fresh_facts pairs checkpoint parts is_map is all; no_gap = fresh_no_gap checkpoint };
+  walk = entries_walk checkpoint.version pairs is_map;
+}
+
+pub fresh_recovered : (pairs : List Pair) (checkpoint : Checkpoint) (parts : List (List ℕ)) (outcome : Outcome) → IsMap pairs → HasPairs pairs checkpoint
+    → AreAllParts checkpoint parts → IsRecoveredOf (log_text checkpoint ∷ []) parts outcome → IsFresh pairs checkpoint outcome
+unfolding fresh_facts
+fresh_recovered pairs checkpoint parts outcome is_map is all recovered =
+    let logs = log_text checkpoint ∷ [] in
+    let facts = recovered.store.basis.facts in
+    let fresh = fresh_facts pairs checkpoint parts is_map is all in
+    let same = same_facts logs parts facts fresh in
+    let found = recovered.report.found in record {
+      store = one_store logs parts outcome.store pairs recovered.store (fresh_store pairs checkpoint parts is_map is all);
+      chosen = found.checkpoint ∙ ap (option_map (λ (c : CheckpointReading). c.number)) same.3;
+      cutoff = found.cutoff ∙ same.1;
+    }
+
+pub fresh_no_fault : (pairs : List Pair) (checkpoint : Checkpoint) (parts : List (List ℕ)) (fault : Fault) → IsMap pairs → HasPairs pairs checkpoint
+    → AreAllParts checkpoint parts → IsVerdict (log_text checkpoint ∷ []) parts fault → ⊥
+fresh_no_fault pairs checkpoint parts fault is_map is all verdict =
+    no_verdict (log_text checkpoint ∷ []) parts pairs fault (fresh_store pairs checkpoint parts is_map is all) verdict
+
+-- no survivor has a version above the report's
+version_bound : (logs parts : List (List ℕ)) (outcome : Outcome) (is : IsRecoveredOf logs parts outcome) (u : Update)
+    → Contains (surviving is.store.basis.facts) u → u.stamp.version ≤ outcome.report.version
+version_bound logs parts outcome is u at =
+    let facts = is.store.basis.facts in
+    let all = logged_updates facts.readings in
+    let entries = entry_updates facts.chosen in
+    let window : Window = record { begin = begin_of facts.chosen; cutoff = facts.cutoff } in
+    let there : Contains (all ++ entries) u = elim (Contains-append_cases (log_survivors window (records_of facts.readings)) entries u at) as (λ _. Contains (all ++ entries) u) [
+      | inl logged ↦ Contains-append_left all entries u (of_filter (in_window window) all u logged).0
+      | inr entry ↦ Contains-append_right all entries u entry
+    ] in
+    All-contains (λ (n : ℕ). n ≤ outcome.report.version) (0 ∷ all_versions facts.readings facts.chosen) u.stamp.version is.report.found.version.1
+    (tail_in 0 u.stamp.version (all_versions facts.readings facts.chosen) (in_map (λ (x : Update). x.stamp.version) (all ++ entries) u there))
+
+pub goes_on_afresh : (logs parts later files : List (List ℕ)) (before after : Outcome) (checkpoint : Checkpoint) (was : IsRecoveredOf logs parts before)
+    → HasPairs before.store checkpoint → before.report.version ≤ checkpoint.version → AreAllParts checkpoint files → (is : IsRecoveredOf later files after)
+    → checkpoint.cutoff < after.report.cutoff → AreAbove checkpoint (updates_after checkpoint is.store.basis.facts)
+    → IsWalk (surviving was.store.basis.facts ++ updates_after checkpoint is.store.basis.facts) after.store
+goes_on_afresh logs parts later files before after checkpoint was has version all is past above =
+    let facts = is.store.basis.facts in
+    let older = surviving was.store.basis.facts in
+    let newer = updates_after checkpoint facts in
+    let below : checkpoint.cutoff < facts.cutoff = subst (λ (n : ℕ). checkpoint.cutoff < n) is.report.found.cutoff past in
+    let chosen = chooses before.store checkpoint later files facts was.store.walk.map has all below in
+    let are : AreOlderAndNewer checkpoint.version before.store older newer = record {
+      walk = was.store.walk;
+      low = λ u at. let most : u.stamp.version ≤ before.report.version = version_bound logs parts before was u at in omega (arith, most, version);
+      high = above;
+    } in
+    let walk = subst (λ (c : Option CheckpointReading). IsWalk (survivors facts.cutoff c (records_of facts.readings)) after.store) chosen is.store.walk in
+    same_walk (newer ++ entry_updates_of checkpoint.version before.store) (older ++ newer) after.store (λ key number bytes. (
+      λ h. from_entries checkpoint.version before.store older newer key number bytes are h,
+      λ h. to_entries checkpoint.version before.store older newer key number bytes are h,
+    )) walk

@@ -1,0 +1,15 @@
+use Rattle.mt_laws.proofs.FreshStores.{fresh_store, fresh_no_fault, fresh_recovered, goes_on_afresh}
+use Rattle.mt_laws.proofs.fresh.a_fresh_start_is_the_same_store.Goals as goal
+
+pub returns-clause-store : goal.returns-clause-store
+returns-clause-store c = λ logs parts files pairs checkpoint store is all. fresh_store pairs checkpoint files store.walk.map is all
+
+pub returns-clause-no_fault : goal.returns-clause-no_fault
+returns-clause-no_fault c = λ logs parts files pairs checkpoint fault store is all verdict. fresh_no_fault pairs checkpoint files fault store.walk.map is all verdict
+
+pub returns-clause-recovered : goal.returns-clause-recovered
+returns-clause-recovered c = λ logs parts files pairs checkpoint outcome store is all recovered. fresh_recovered pairs checkpoint files outcome store.walk.map is all recovered
+
+pub returns-clause-goes_on : goal.returns-clause-goes_on
+returns-clause-goes_on c = λ logs parts later files before after checkpoint was has version all is past above.
+    goes_on_afresh logs parts later files before after checkpoint was has version all is past above

@@ -1,0 +1,41 @@
+-- Starting afresh: recovery from one checkpoint of a store, and from the logs after it.
+use Rattle.std.specs.Prelude.{◌≡◌, ℕ, ◌+◌, ◌≤◌, ◌<◌, Some, List, length, map, Contains, IsPermutation}
+use Rattle.std.specs.List.{range_with_len}
+use Rattle.mt_words.specs.declared.update.Update.{Update}
+use Rattle.mt_words.specs.Walks.{Pair}
+use Rattle.mt_checkpoint.specs.Checkpoints.{Checkpoint, entries_with, part_text}
+use Rattle.mt_scan.specs.Choice.{CheckpointReading}
+use Rattle.mt_replay.specs.Survivors.{log_survivors}
+use Rattle.mt_recover.specs.Recovery.{Facts, survivors, records_of}
+use Rattle.mt_recover.specs.Report.{Outcome}
+
+-- the bytes of all parts of the checkpoint, in order
+abbrev pub part_texts : Checkpoint → List (List ℕ)
+part_texts checkpoint = map (part_text checkpoint) (range_with_len 0 (length checkpoint.parts))
+
+-- these are all parts of the checkpoint, in any order
+abbrev pub AreAllParts : Checkpoint → List (List ℕ) → Type 0
+AreAllParts checkpoint parts = IsPermutation (part_texts checkpoint) parts
+
+-- what the checkpoint of these pairs says: it begins and ends at its cutoff, and has an entry for each pair
+abbrev pub reading_with : Checkpoint → List Pair → CheckpointReading
+reading_with checkpoint pairs =
+    record { number = checkpoint.number; begin = checkpoint.cutoff; end = checkpoint.cutoff; entries = entries_with checkpoint.version pairs }
+
+-- what recovery returns at a fresh start: the pairs, over this checkpoint, and a cutoff one above the checkpoint's
+pub record IsFresh (pairs : List Pair) (checkpoint : Checkpoint) (outcome : Outcome) : Type 0 where
+  pub store : outcome.store ≡ pairs
+  pub chosen : outcome.report.checkpoint ≡ Some checkpoint.number
+  pub cutoff : outcome.report.cutoff ≡ checkpoint.cutoff + 1
+
+-- what survives of what recovery finds
+abbrev pub surviving : {logs parts : List (List ℕ)} → Facts logs parts → List Update
+surviving facts = survivors facts.cutoff facts.chosen (records_of facts.readings)
+
+-- the updates of the logs from the checkpoint's cutoff on, below the cutoff now
+abbrev pub updates_after : {logs parts : List (List ℕ)} → Checkpoint → Facts logs parts → List Update
+updates_after checkpoint facts = log_survivors (record { begin = checkpoint.cutoff; cutoff = facts.cutoff }) (records_of facts.readings)
+
+-- each update of these has a version above the checkpoint's
+abbrev pub AreAbove : Checkpoint → List Update → Type 0
+AreAbove checkpoint updates = (u : Update) → Contains updates u → checkpoint.version < u.stamp.version

@@ -1,0 +1,35 @@
+//! The law of starting afresh, from a checkpoint of a recovered store and one log.
+ghost use Rattle.std.specs.Prelude.{ℕ, ◌≤◌, ◌<◌, List, [], ◌∷◌, ◌++◌};
+ghost use Rattle.mt_words.specs.declared.fault.Fault.{Fault};
+ghost use Rattle.mt_words.specs.Walks.{Pair};
+ghost use Rattle.mt_checkpoint.specs.Checkpoints.{Checkpoint, HasPairs, log_text};
+ghost use Rattle.mt_replay.specs.Walk.{IsWalk};
+ghost use Rattle.mt_recover.specs.Recovery.{IsStoreOf};
+ghost use Rattle.mt_recover.specs.Report.{Outcome, IsRecoveredOf};
+ghost use Rattle.mt_recover.specs.Verdict.{IsVerdict};
+ghost use Rattle.mt_laws.specs.Fresh.{AreAllParts, IsFresh, surviving, updates_after, AreAbove};
+
+/// States that a recovered store that is written as a checkpoint and its log is recovered from these files alone: the
+/// same store and no fault, whatever the checkpoint's number, cutoff and version, however the pairs are split into parts,
+/// and in whatever order the parts come. The checkpoint is chosen, and the cutoff is one above its own.
+///
+/// It also states what logs from the checkpoint's cutoff on add. If their cutoff is above it, and each of their updates
+/// has a version above the checkpoint's, the store is that of the updates that survived before and of theirs, as if
+/// they had followed. This is a law: it has nothing to run.
+pub fn a_fresh_start_is_the_same_store()
+    ensures store { (logs parts files : List (List ℕ)) (pairs : List Pair) (checkpoint : Checkpoint) →
+        IsStoreOf logs parts pairs → HasPairs pairs checkpoint → AreAllParts checkpoint files →
+        IsStoreOf (log_text checkpoint ∷ []) files pairs }
+    ensures no_fault { (logs parts files : List (List ℕ)) (pairs : List Pair) (checkpoint : Checkpoint) (fault : Fault) →
+        IsStoreOf logs parts pairs → HasPairs pairs checkpoint → AreAllParts checkpoint files →
+        IsVerdict (log_text checkpoint ∷ []) files fault → ⊥ }
+    ensures recovered { (logs parts files : List (List ℕ)) (pairs : List Pair) (checkpoint : Checkpoint) (outcome : Outcome) →
+        IsStoreOf logs parts pairs → HasPairs pairs checkpoint → AreAllParts checkpoint files →
+        IsRecoveredOf (log_text checkpoint ∷ []) files outcome → IsFresh pairs checkpoint outcome }
+    ensures goes_on { (logs parts later files : List (List ℕ)) (before after : Outcome) (checkpoint : Checkpoint) →
+        (was : IsRecoveredOf logs parts before) → HasPairs before.store checkpoint →
+        before.report.version ≤ checkpoint.version → AreAllParts checkpoint files →
+        (is : IsRecoveredOf later files after) → checkpoint.cutoff < after.report.cutoff →
+        AreAbove checkpoint (updates_after checkpoint is.store.basis.facts) →
+        IsWalk (surviving was.store.basis.facts ++ updates_after checkpoint is.store.basis.facts) after.store }
+{}
