@@ -113,7 +113,7 @@ chosen_still before known cutoff higher (Some checkpoint) rises is stays no_othe
     )
 
 -- a chosen checkpoint begins below the cutoff
-begins_below : (known : List KnownPart) (cutoff : ℕ) (chosen : Option CheckpointReading) → IsChosenOf known cutoff chosen → begin_of chosen ≤ cutoff
+pub begins_below : (known : List KnownPart) (cutoff : ℕ) (chosen : Option CheckpointReading) → IsChosenOf known cutoff chosen → begin_of chosen ≤ cutoff
 begins_below known cutoff None is = omega arith
 begins_below known cutoff (Some checkpoint) is = omega (arith, is.0.valid.make_up.begins, is.0.ends_below)
 
@@ -195,7 +195,7 @@ goes_on logs parts between later left pairs store resume on now =
 -- ---- what was dropped
 
 -- an update is of a record with its timestamp, which is no mark
-abbrev IsOfRecord : Update → Logged → Type 0
+abbrev pub IsOfRecord : Update → Logged → Type 0
 IsOfRecord u r = (r.timestamp ≡ u.timestamp) × (is_mark r ≡ false)
 
 of_change : (origin : Origin) (time : ℕ) (change : Option Change) (u : Update) → Contains (update_by origin time change) u → IsOfRecord u (record { timestamp = time; change = change })
@@ -205,7 +205,7 @@ of_change origin time (Some change) u at = elim (head_or_tail (update_at origin 
   | inr none ↦ absurd (no_element u none)
 ]
 
-of_record : (log nth : ℕ) (rs : List Logged) (u : Update) → Contains (updates_from log nth rs) u → (r : Logged) × Contains rs r × IsOfRecord u r
+pub of_record : (log nth : ℕ) (rs : List Logged) (u : Update) → Contains (updates_from log nth rs) u → (r : Logged) × Contains rs r × IsOfRecord u r
 of_record log nth [] u at = absurd (no_element u at)
 of_record log nth (r ∷ rs) u at = elim (Contains-append_cases (update_of log nth r) (updates_from log (suc nth) rs) u at) as (λ _. (x : Logged) × Contains (r ∷ rs) x × IsOfRecord u x) [
   | inl here ↦ (r, head_in r rs, of_change (origins.Log log nth) r.timestamp r.change u here)
@@ -222,7 +222,7 @@ of_log_record log (l ∷ ls) u at =
     ]
 
 -- the records of a resumed log that are no marks are below the cutoff
-no_late_record : (cutoff : ℕ) (rs : List Logged) (r : Logged) → Contains (below cutoff rs ++ marks_of cutoff rs) r → is_mark r ≡ false → r.timestamp < cutoff
+pub no_late_record : (cutoff : ℕ) (rs : List Logged) (r : Logged) → Contains (below cutoff rs ++ marks_of cutoff rs) r → is_mark r ≡ false → r.timestamp < cutoff
 no_late_record cutoff rs r at change = elim (Contains-append_cases (below cutoff rs) (marks_of cutoff rs) r at) as (λ _. r.timestamp < cutoff) [
   | inl early ↦ ltb-true r.timestamp cutoff (of_filter (λ (x : Logged). nat_lt x.timestamp cutoff) rs r early).1
   | inr mark ↦ absurd (true≢false (sym (only_marks cutoff rs r mark) ∙ change))

@@ -21,7 +21,7 @@ count_given checkpoint texts text make_up at =
     sym (ap (λ (t : PartReading). t.parts) at.2) ∙ (at_place checkpoint (length texts) 0 texts at.0 text make_up.in_place at.1).parts
 
 -- some of these parts, of which there were not too many, make up a checkpoint only if none is gone
-none_is_gone : (before after gone : List KnownPart) (texts : List PartReading) (checkpoint : CheckpointReading)
+pub none_is_gone : (before after gone : List KnownPart) (texts : List PartReading) (checkpoint : CheckpointReading)
     → ((part : PartReading) → Contains before (whole part) → length before ≤ part.parts) → IsPermutation before (after ++ gone)
     → IsPermutation after (map whole texts) → AreItsParts texts checkpoint → gone ≡ []
 none_is_gone before after gone [] checkpoint enough split made make_up = absurd (omega (arith, make_up.some))

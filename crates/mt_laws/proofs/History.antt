@@ -16,7 +16,7 @@ use Rattle.mt_laws.proofs.Synced.{left_beyond}
 use Rattle.mt_laws.proofs.Sound.{in_history, same_over_sound}
 use Rattle.mt_laws.proofs.Renamed.{same_store_since}
 
-over_chosen : (known : List KnownPart) (cutoff : ℕ) (chosen : Option CheckpointReading) (logs : List (List Logged)) (pairs : List Pair)
+pub over_chosen : (known : List KnownPart) (cutoff : ℕ) (chosen : Option CheckpointReading) (logs : List (List Logged)) (pairs : List Pair)
     → IsChosenOf known cutoff chosen → IfSome chosen (IsSound (log_updates logs)) → IsWalk (survivors cutoff chosen logs) pairs
     → IsWalk (survivors cutoff None logs) pairs
 over_chosen known cutoff None logs pairs is sound walk = walk

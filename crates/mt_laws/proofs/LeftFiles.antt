@@ -113,7 +113,7 @@ zip_claims [] (l ∷ ls) are = absurd are
 zip_claims (log ∷ logs) [] are = absurd are
 zip_claims (log ∷ logs) (l ∷ ls) are = (claims_left log l are.0, zip_claims logs ls are.1)
 
-pub writers_left : (logs : List OpenFile) (left : List LogReading) → AreOpen logs → AllZip SaysLeft logs left → AreWriters left
+pub writers_left : {begin : ℕ} (logs : List OpenFile) (left : List LogReading) → AreOpen begin logs → AllZip SaysLeft logs left → AreWriters left
 writers_left logs left open_logs are = record {
   once = once_stays (map file_reading logs) left (zip_claims logs left are) open_logs.once;
   sound = λ i. none_at (λ file. IsTrue file.torn × HasFile left (IsEarlier file.head.segment)) left i (λ file at amid.
@@ -201,7 +201,7 @@ abbrev IsLastFile : List LogReading → LogReading → Type 0
 IsLastFile files file = (x : LogReading) → Contains files x → IsEarlier file.head.segment x.head.segment → ⊥
 
 -- the last file of a log reaches as far as the log
-reaches_last : (logs : List OpenFile) (files : List LogReading) (log : OpenFile) (file : LogReading) (last : ℕ) → AreOpen logs → AllZip SaysLeft logs files
+reaches_last : {begin : ℕ} (logs : List OpenFile) (files : List LogReading) (log : OpenFile) (file : LogReading) (last : ℕ) → AreOpen begin logs → AllZip SaysLeft logs files
     → AreWriters files → Contains logs log → Contains files file → SaysLeft log file → IsLastFile files file → IsLastOf files file last
     → last ≤ latest 0 file.records
 reaches_last logs files log file last open_logs are writers at_log at says is_last is =
@@ -310,7 +310,7 @@ reaching_agrees cutoff log file says reaches =
       same = sym (ap (below cutoff) says.begins.records ∙ same);
     }
 
-left_agrees : (logs : List OpenFile) (files : List LogReading) (cutoff : ℕ) → AreOpen logs → AllZip SaysLeft logs files → IsCutoff files cutoff
+left_agrees : {begin : ℕ} (logs : List OpenFile) (files : List LogReading) (cutoff : ℕ) → AreOpen begin logs → AllZip SaysLeft logs files → IsCutoff files cutoff
     → (log : OpenFile) (file : LogReading) → Contains logs log × Contains files file × SaysLeft log file → AgreeBelow cutoff file.records log.records
 left_agrees logs files cutoff open_logs are is log file (at_log, at, says) = elim (later_or_last files file) as (λ _. AgreeBelow cutoff file.records log.records) [
   | inl later ↦
@@ -324,7 +324,7 @@ left_agrees logs files cutoff open_logs are is log file (at_log, at, says) = eli
       reaching_agrees cutoff log file says (omega (arith, low, high))
 ]
 
-pub all_left_agree : (logs : List OpenFile) (files : List LogReading) (cutoff : ℕ) → AreOpen logs → AllZip SaysLeft logs files → IsCutoff files cutoff
+pub all_left_agree : {begin : ℕ} (logs : List OpenFile) (files : List LogReading) (cutoff : ℕ) → AreOpen begin logs → AllZip SaysLeft logs files → IsCutoff files cutoff
     → AllZip (λ log file. AgreeBelow cutoff file.records log.records) logs files
 all_left_agree logs files cutoff open_logs are is =
     zip_weaker (λ log file. Contains logs log × Contains files file × SaysLeft log file) (λ log file. AgreeBelow cutoff file.records log.records) logs files
@@ -378,7 +378,7 @@ any_in p (y ∷ ys) x at is = elim (head_or_tail y x ys at) as (λ _. list_any p
 ]
 
 -- what is behind an ended file is not ended, unless that is
-pub ends_left : (logs : List OpenFile) (files : List LogReading) → AreOpen logs → AllZip SaysLeft logs files → (x y : LogReading) → Contains files x
+pub ends_left : {begin : ℕ} (logs : List OpenFile) (files : List LogReading) → AreOpen begin logs → AllZip SaysLeft logs files → (x y : LogReading) → Contains files x
     → Contains files y → IsEarlier x.head.segment y.head.segment → is_ended x.records ≡ true → is_ended y.records ≡ true
 ends_left logs files open_logs are x y at_x at_y earlier ended =
     let a = partner_of SaysLeft logs files x are at_x in

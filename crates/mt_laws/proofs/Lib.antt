@@ -32,3 +32,7 @@ pub mod Living
 pub mod SomeLife
 pub mod FreshParts
 pub mod FreshStores
+pub mod SoundStays
+pub mod KeptLogs
+pub mod Afresh
+pub mod LeftParts

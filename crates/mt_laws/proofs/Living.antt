@@ -1,7 +1,8 @@
 -- Each step of a life keeps what the next recovery needs.
-use Rattle.std.proofs.Common.{◌≡◌, ◌⊎◌, inl, inr, ℕ, suc, ◌^◌, ◌<◌, ◌≤◌, ltb, Bool, true, cond, min, Option, Some, None, List, [], ◌∷◌, ◌++◌, length, map, Contains, refl, sym, ap, ◌∙◌, subst, arith}
+use Rattle.std.proofs.Common.{◌≡◌, ◌⊎◌, ◌↔◌, inl, inr, ℕ, zero, suc, ◌^◌, ◌<◌, ◌≤◌, ltb, Bool, true, cond, min, IsSomeAnd, Option, Some, None, List, [], ◌∷◌, ◌++◌, length, map, filter, Contains, refl, sym, ap, ◌∙◌, subst, arith}
+use Rattle.std.specs.Prelude.{IfSome, slice_get, nat_lt}
 use Rattle.std.specs.List.{AllZip, flat_map}
-use Rattle.std.proofs.lemmas.Bool.{cases_lt, lt-ltb, and_from, and_parts}
+use Rattle.std.proofs.lemmas.Bool.{cases_lt, lt-ltb, ltb-true, and_from, and_parts, both_ways}
 use Rattle.std.proofs.lemmas.List.{append-nil, length-append}
 use Rattle.std.proofs.lemmas.List.Elements.{Contains-append_left, Contains-append_right, Contains-append_cases, Contains-push_cases}
 use Rattle.std.proofs.lemmas.Slice.Zip.{AllZip-long}
@@ -19,40 +20,55 @@ use Rattle.mt_record.specs.Logs.{log_bytes, LogReading, IsReading, times_of}
 use Rattle.mt_record.specs.Resuming.{greatest_timestamp, is_ended, below, marks_of, resumed, IsResumed}
 use Rattle.mt_record.proofs.OneReading.{one_reading_of}
 use Rattle.mt_scan.specs.Cutoff.{IsCutoff}
-use Rattle.mt_scan.specs.PartScans.{KnownPart, IsKnown}
-use Rattle.mt_scan.specs.Choice.{CheckpointReading, IsChosenOf}
-use Rattle.mt_scan.specs.Segments.{IsEarlier, IsGap, AreWriters}
+use Rattle.mt_scan.specs.PartScans.{KnownPart}
+use Rattle.mt_scan.specs.Choice.{CheckpointReading, IsValid, IsChosenOf}
+use Rattle.mt_scan.specs.Segments.{IsEarlier, HasGap, IsGap, AreWriters}
 use Rattle.mt_replay.specs.declared.window.Window.{Window}
 use Rattle.mt_replay.specs.Survivors.{all_updates, log_updates, in_window}
 use Rattle.mt_replay.specs.Walk.{IsWalk}
-use Rattle.mt_replay.proofs.Members.{of_filter, in_filter}
-use Rattle.mt_recover.specs.Recovery.{AreReadings, Facts, begin_of, survivors, records_of, IsStoreOf}
+use Rattle.mt_replay.proofs.Members.{of_map, of_filter, in_filter}
+use Rattle.mt_recover.specs.Recovery.{AreReadings, AreKnown, Facts, begin_of, entry_updates, survivors, records_of, IsStoreOf}
 use Rattle.mt_recover.proofs.OneVerdict.{same_facts}
-use Rattle.mt_laws.specs.Crashes.{IsCutOf}
+use Rattle.mt_laws.specs.Crashes.{IsCutOf, IsSound}
 use Rattle.mt_laws.specs.Resuming.{IsOnTheWay}
-use Rattle.mt_laws.specs.Lives.{OpenFile, file_bytes, file_reading, HasSynced, IsOpenFile, AreOpen, State, running, down, written_records, IsWritten, IsSynced, IsSyncedAbove, AllSyncedAbove, IsLeftOf, IsResumedAs, IsStep, write, sync, acknowledge, add_file, crash, stop, resume, Life, begun, then}
+use Rattle.mt_laws.specs.Lives.{OpenFile, file_bytes, file_reading, HasSynced, IsOpenFile, AreOpen, IsSyncedAbove, AllSyncedAbove, LogOf, there, deleted, those_there, IsStill, as_written, history_of, updates_in, AreOld, Checkpoints, BeginsRise, IsNewOver, AddNew, AreLeftOf, listed, only, IsWritten, IsSynced, IsLeftOf, IsResumedAs, AreDeleted, State, running, down, IsStep, write, sync, acknowledge, add_file, write_checkpoint, stand, delete, crash, stop, resume, start_afresh, left_behind, IsFreshStart, records_in, Life, begun, then}
 use Rattle.mt_laws.proofs.Windows.{within}
 use Rattle.mt_laws.proofs.CutLogs.{cut_log}
 use Rattle.mt_laws.proofs.SomeCutoff.{some_cutoff}
+use Rattle.mt_laws.proofs.SomeChoice.{some_choice}
 use Rattle.mt_laws.proofs.SomeVerdict.{store_of}
-use Rattle.mt_laws.proofs.Sound.{in_history}
-use Rattle.mt_laws.proofs.Agreeing.{AgreeBelow, agree_too, agrees_back, resumed_agrees, agreeing_survive}
-use Rattle.mt_laws.proofs.Resumed.{reading_after, times_bound, ended_alike}
+use Rattle.mt_laws.proofs.Sound.{in_history, of_history}
+use Rattle.mt_laws.proofs.Moved.{same_walk}
+use Rattle.mt_laws.proofs.SoundStays.{of_same_key, sound_of_fewer, sound_of_more}
+use Rattle.mt_laws.proofs.Renamed.{same_store_since}
+use Rattle.mt_laws.proofs.History.{over_chosen}
+use Rattle.mt_laws.proofs.Agreeing.{NeverFall, AgreeBelow, agree_too, agrees_back, resumed_agrees, agreeing_survive}
+use Rattle.mt_laws.proofs.Resumed.{below_lawful, below_twice, reading_after, times_bound, ended_alike}
 use Rattle.mt_laws.proofs.Paired.{partner, partner_of, zip_weaker, zip_map, zip_turned, zip_back}
 use Rattle.mt_laws.proofs.ResumedLogs.{ClaimsNoMore, Replaces, all_claim, once_stays, gaps_stay}
 use Rattle.mt_laws.proofs.ResumedStores.{Became, replaces, cutoff_fits, found_now, all_agree}
-use Rattle.mt_laws.proofs.Deleted.{not_made_of_none}
+use Rattle.mt_laws.proofs.Continued.{of_record, no_late_record, begins_below}
+use Rattle.mt_laws.proofs.Afresh.{AreCovered, key_most, AreStored, fresh_sound}
 use Rattle.mt_laws.proofs.LeftFiles.{SaysLeft, all_left, says_less, zip_claims, writers_left, all_left_agree, last_above, ends_left}
+use Rattle.mt_laws.proofs.KeptLogs.{stay_in, zip_there, still_weaker, still_opens, there_written, there_append, there_of_all, AllOld, old_rises, old_of_all, old_append, old_stays, old_resumed, there_or_old, same_since, HasMore, all_stay, stay_with_more, HasSame, same_history, history_with_deleted, was_there, old_with_deleted, history_agrees, updates_old, all_positive}
 
 -- ---- what holds in each state
 
--- the update is in the logs, and in each of them a record above it is synced
-abbrev pub IsSafe : List OpenFile → Update → Type 0
-IsSafe logs u = Contains (log_updates (written_records logs)) u × AllSyncedAbove u.timestamp logs
+-- the update is in the history, and in each log a record above it is synced
+abbrev pub IsSafe : List (LogOf OpenFile) → Update → Type 0
+IsSafe logs u = Contains (updates_in logs) u × AllSyncedAbove u.timestamp (those_there logs)
 
-pub record IsRunning (acked : List Update) (logs : List OpenFile) : Type 0 where
-  pub some : 0 < length logs
-  pub opens : AreOpen logs
+-- the server stands on this checkpoint
+abbrev pub IsBase : List (LogOf OpenFile) → List CheckpointReading → CheckpointReading → Type 0
+IsBase logs written base = Contains written base × AllSyncedAbove base.end (those_there logs)
+
+pub record IsRunning (acked : List Update) (logs : List (LogOf OpenFile)) (checkpoints : Checkpoints) : Type 0 where
+  pub some : 0 < length (those_there logs)
+  pub opens : AreOpen (begin_of checkpoints.base) (those_there logs)
+  pub old : AllOld (begin_of checkpoints.base) (map as_written logs)
+  pub sound : (c : CheckpointReading) → Contains checkpoints.written c → IsSound (updates_in logs) c
+  pub rise : BeginsRise checkpoints.written
+  pub base_is : IfSome checkpoints.base (IsBase logs checkpoints.written)
   pub safe : (u : Update) → Contains acked u → IsSafe logs u
 
 -- what is behind an ended file is ended too, unless the cutoff is the greatest timestamp
@@ -60,41 +76,31 @@ abbrev pub EndTogether : ℕ → List LogReading → Type 0
 EndTogether cutoff files = (x y : LogReading) → Contains files x → Contains files y → IsEarlier x.head.segment y.head.segment → is_ended x.records ≡ true
     → (is_ended y.records ≡ true) ⊎ (cutoff ≡ greatest_timestamp)
 
-pub record IsDown (acked : List Update) (history : List (List Logged)) (left : List (List ℕ)) : Type 0 where
-  pub facts : Facts left []
-  pub no_gap : (i : ℕ) → IsGap 0 facts.readings i → ⊥
-  pub ends : EndTogether facts.cutoff facts.readings
-  pub agree : AllZip (AgreeBelow facts.cutoff) (records_of facts.readings) history
-  pub safe : (u : Update) → Contains acked u → Contains (log_updates history) u × (u.timestamp < facts.cutoff)
+-- what holds of what recovery finds
+pub record IsFound (acked : List Update) (logs : List (LogOf (List Logged))) (readings : List LogReading) (cutoff : ℕ) (chosen : Option CheckpointReading) : Type 0 where
+  pub no_gap : (i : ℕ) → IsGap (begin_of chosen) readings i → ⊥
+  pub ends : EndTogether cutoff readings
+  pub agree : AllZip (AgreeBelow cutoff) (records_of readings) (those_there logs)
+  pub old : AllOld (begin_of chosen) logs
+  pub sound : IfSome chosen (IsSound (log_updates (history_of logs)))
+  pub safe : (u : Update) → Contains acked u → Contains (log_updates (history_of logs)) u × (u.timestamp < cutoff)
+
+abbrev pub IsFoundBy : {left parts : List (List ℕ)} → List Update → List (LogOf (List Logged)) → Facts left parts → Type 0
+IsFoundBy acked logs facts = IsFound acked logs facts.readings facts.cutoff facts.chosen
+
+pub record IsDown (acked : List Update) (logs : List (LogOf (List Logged))) (left parts : List (List ℕ)) : Type 0 where
+  pub facts : Facts left parts
+  pub found : IsFoundBy acked logs facts
 
 abbrev pub Holds : State → Type 0
-Holds (running acked logs) = IsRunning acked logs
-Holds (down acked history left) = IsDown acked history left
+Holds (running acked logs checkpoints) = IsRunning acked logs checkpoints
+Holds (down acked logs left parts) = IsDown acked logs left parts
 
 -- ---- writing
 
--- updates stay when records are appended
-updates_stay : (log nth : ℕ) (rs new : List Logged) (u : Update) → Contains (updates_from log nth rs) u → Contains (updates_from log nth (rs ++ new)) u
-updates_stay log nth [] new u at = absurd (no_element u at)
-updates_stay log nth (r ∷ rs) new u at = elim (Contains-append_cases _ (updates_from log (suc nth) rs) u at) as (λ _. Contains (updates_from log nth (r ∷ rs ++ new)) u) [
-  | inl here ↦ Contains-append_left _ (updates_from log (suc nth) (rs ++ new)) u here
-  | inr later ↦ Contains-append_right _ (updates_from log (suc nth) (rs ++ new)) u (updates_stay log (suc nth) rs new u later)
-]
-
--- each log has the records that it had, and perhaps more
-abbrev HasMore : OpenFile → OpenFile → Type 0
-HasMore before after = (new : List Logged) × (after.records ≡ before.records ++ new)
-
-all_stay : (log : ℕ) (before after : List OpenFile) (u : Update) → AllZip HasMore before after → Contains (all_updates log (written_records before)) u
-    → Contains (all_updates log (written_records after)) u
-all_stay log [] after u are at = absurd (no_element u at)
-all_stay log (b ∷ bs) [] u are at = absurd are
-all_stay log (b ∷ bs) (a ∷ rest) u are at =
-    let more = are.0 in
-    elim (Contains-append_cases (updates_from log 0 b.records) (all_updates (suc log) (written_records bs)) u at) as (λ _. Contains (updates_from log 0 a.records ++ all_updates (suc log) (written_records rest)) u) [
-      | inl here ↦ Contains-append_left (updates_from log 0 a.records) (all_updates (suc log) (written_records rest)) u (subst (λ (rs : List Logged). Contains (updates_from log 0 rs) u) (sym more.1) (updates_stay log 0 b.records more.0 u here))
-      | inr later ↦ Contains-append_right (updates_from log 0 a.records) (all_updates (suc log) (written_records rest)) u (all_stay (suc log) bs rest u are.1 later)
-    ]
+-- a record that is synced, if more holds of it
+synced_more : (P Q : Logged → Type 0) (file : OpenFile) → ((r : Logged) → P r → Q r) → HasSynced P file → HasSynced Q file
+synced_more P Q file follows has = record { reading = has.reading; is_reading = has.is_reading; at = has.at; stands = has.stands; holds = follows has.at has.holds }
 
 -- a step of each file keeps what holds if it keeps the header, the records and what is synced
 record Keeps (before after : OpenFile) : Type 0 where
@@ -120,12 +126,47 @@ keeps_above time before after are above log at = by (above x.0 x.1)
           }
     ]
 
-keeps_running : (acked : List Update) (before after : List OpenFile) → AllZip Keeps before after → AreOpen after → IsRunning acked before → IsRunning acked after
-keeps_running acked before after are opens is = record {
-  some = omega (arith, is.some, AllZip-long Keeps before after are);
-  opens = opens;
-  safe = λ u among. let safe = is.safe u among in (all_stay 0 before after u (zip_weaker Keeps HasMore before after (λ x y k. k.more) are) safe.0, keeps_above u.timestamp before after are safe.1);
-}
+-- the logs of the history never fall
+all_rise : (begin : ℕ) (logs : List (LogOf OpenFile)) → ((file : OpenFile) → Contains (those_there logs) file → IsOpenFile file) → AllOld begin (map as_written logs)
+    → (rs : List Logged) → Contains (history_of (map as_written logs)) rs → NeverFall rs
+all_rise begin logs opens old rs at = elim (there_or_old begin (map as_written logs) rs old at) as (λ _. NeverFall rs) [
+  | inl among ↦
+      let found = of_map (λ (file : OpenFile). file.records) (those_there logs) rs (subst (λ (l : List (List Logged)). Contains l rs) (there_written logs) among) in
+      subst NeverFall found.2 (limits_of found.0.head.format, (opens found.0 found.1).is_reading.is_log.lawful)
+  | inr is ↦ is.0
+]
+
+-- checkpoints stay sound when new updates are added
+still_sound : (before after : List (LogOf OpenFile)) (begin : ℕ) (checkpoints : Checkpoints) → ((u : Update) → Contains (updates_in before) u → Contains (updates_in after) u)
+    → AddNew checkpoints (updates_in before) (updates_in after) → ((file : OpenFile) → Contains (those_there after) file → IsOpenFile file)
+    → AllOld begin (map as_written after) → ((c : CheckpointReading) → Contains checkpoints.written c → IsSound (updates_in before) c)
+    → (c : CheckpointReading) → Contains checkpoints.written c → IsSound (updates_in after) c
+still_sound before after begin checkpoints more new opens old sound c at =
+    sound_of_more (updates_in before) (updates_in after) c more
+    (λ u among. elim (new u among) as (λ _. Contains (updates_in before) u ⊎ IsNewOver (updates_in before) c u) [ inl was ↦ inl was | inr over ↦ inr (over c at) ])
+    (λ u among. all_positive 0 (history_of (map as_written after)) u (all_rise begin after opens old) among) (sound c at)
+
+base_stays : (before after : List (LogOf OpenFile)) (base : Option CheckpointReading) (written : List CheckpointReading)
+    → ((time : ℕ) → AllSyncedAbove time (those_there before) → AllSyncedAbove time (those_there after)) → IfSome base (IsBase before written) → IfSome base (IsBase after written)
+base_stays before after None written above is = tt
+base_stays before after (Some base) written above is = (is.0, above base.end is.1)
+
+keeps_running : (acked : List Update) (before after : List (LogOf OpenFile)) (checkpoints : Checkpoints) → AllZip (IsStill Keeps) before after
+    → AreOpen (begin_of checkpoints.base) (those_there after) → AddNew checkpoints (updates_in before) (updates_in after)
+    → IsRunning acked before checkpoints → IsRunning acked after checkpoints
+keeps_running acked before after checkpoints are opens new is =
+    let files = zip_there Keeps before after are in
+    let more = all_stay 0 before after in
+    let grow = zip_weaker (IsStill Keeps) (IsStill HasMore) before after (still_weaker Keeps HasMore (λ x y k. k.more)) are in
+    let old = old_stays Keeps (begin_of checkpoints.base) before after are is.old in record {
+      some = omega (arith, is.some, AllZip-long Keeps (those_there before) (those_there after) files);
+      opens = opens;
+      old = old;
+      sound = still_sound before after (begin_of checkpoints.base) checkpoints (λ u at. more u grow at) new opens.each old is.sound;
+      rise = is.rise;
+      base_is = base_stays before after checkpoints.base checkpoints.written (λ time. keeps_above time (those_there before) (those_there after) files) is.base_is;
+      safe = λ u among. let safe = is.safe u among in (more u grow safe.0, keeps_above u.timestamp (those_there before) (those_there after) files safe.1);
+    }
 
 written_keeps : (before after : OpenFile) → IsWritten before after → Keeps before after
 written_keeps before after step = record {
@@ -134,8 +175,12 @@ written_keeps before after step = record {
   synced = λ time is. record { reading = is.reading; is_reading = subst (λ (bytes : List ℕ). IsReading bytes is.reading) (sym step.synced) is.is_reading; at = is.at; stands = is.stands; holds = is.holds };
 }
 
-synced_keeps : (before after : OpenFile) → IsSynced before after → IsOpenFile after → Keeps before after
-synced_keeps before after step is_open =
+-- a file that was synced is open
+abbrev IsSyncedOpen : OpenFile → OpenFile → Type 0
+IsSyncedOpen before after = IsSynced before after × IsOpenFile after
+
+synced_keeps : (before after : OpenFile) → IsSyncedOpen before after → Keeps before after
+synced_keeps before after (step, is_open) =
     let said = cut_log after.synced (file_bytes after) (file_reading after) is_open.is_reading is_open.synced in record {
       head = step.head;
       more = ([], step.records ∙ sym (append-nil before.records));
@@ -149,49 +194,218 @@ synced_keeps before after step is_open =
           };
     }
 
-all_synced_keep : (before after : List OpenFile) → AllZip IsSynced before after → ((log : OpenFile) → Contains after log → IsOpenFile log) → AllZip Keeps before after
-all_synced_keep [] [] are opens = tt
-all_synced_keep [] (a ∷ rest) are opens = absurd are
-all_synced_keep (b ∷ bs) [] are opens = absurd are
-all_synced_keep (b ∷ bs) (a ∷ rest) are opens = (synced_keeps b a are.0 (opens a (head_in a rest)), all_synced_keep bs rest are.1 (λ x at. opens x (tail_in a x rest at)))
+synced_running : (acked : List Update) (before after : List (LogOf OpenFile)) (checkpoints : Checkpoints) → AllZip (IsStill IsSynced) before after
+    → AreOpen (begin_of checkpoints.base) (those_there after) → IsRunning acked before checkpoints → IsRunning acked after checkpoints
+synced_running acked before after checkpoints are opens is =
+    let with_opens = still_opens IsSynced before after are opens.each in
+    let same = same_history before after (zip_weaker (IsStill IsSynced) (IsStill HasSame) before after (still_weaker IsSynced HasSame (λ x y s. s.records)) are) in
+    keeps_running acked before after checkpoints
+    (zip_weaker (IsStill IsSyncedOpen) (IsStill Keeps) before after (still_weaker IsSyncedOpen Keeps synced_keeps) with_opens) opens
+    (λ u at. inl (subst (λ (h : List (List Logged)). Contains (log_updates h) u) (sym same) at)) is
+
+-- ---- adding, acknowledging, checkpoints, deleting
+
+acknowledged : (acked : List Update) (logs : List (LogOf OpenFile)) (checkpoints : Checkpoints) (u : Update) → Contains (updates_in logs) u
+    → AllSyncedAbove u.timestamp (those_there logs) → IsRunning acked logs checkpoints → IsRunning (u ∷ acked) logs checkpoints
+acknowledged acked logs checkpoints u at above is = record {
+  some = is.some;
+  opens = is.opens;
+  old = is.old;
+  sound = is.sound;
+  rise = is.rise;
+  base_is = is.base_is;
+  safe = λ w among. elim (head_or_tail u w acked among) as (λ _. IsSafe logs w) [
+    | inl e ↦ subst (IsSafe logs) e (at, above)
+    | inr later ↦ is.safe w later
+  ];
+}
+
+-- what is synced of the old files, and of the new one
+above_added : (time : ℕ) (files : List OpenFile) (file : OpenFile) → AllSyncedAbove time files → HasSynced (λ r. time < r.timestamp) file
+    → AllSyncedAbove time (files ++ file ∷ [])
+above_added time files file above new x at = elim (Contains-push_cases files file x at) as (λ _. IsSyncedAbove time (files ++ file ∷ []) x) [
+  | inl old ↦ let is = above x old in record { last = is.last; stands = Contains-append_left files (file ∷ []) is.last is.stands; of_log = is.of_log; above = is.above }
+  | inr e ↦ record { last = x; stands = at; of_log = inl refl; above = subst (HasSynced (λ r. time < r.timestamp)) e new }
+]
+
+base_with : (logs : List (LogOf OpenFile)) (file : OpenFile) (base : Option CheckpointReading) (written : List CheckpointReading)
+    → IfSome base (λ c. HasSynced (λ r. c.end < r.timestamp) file) → IfSome base (IsBase logs written) → IfSome base (IsBase (logs ++ there file ∷ []) written)
+base_with logs file None written new is = tt
+base_with logs file (Some base) written new is =
+    (is.0, subst (AllSyncedAbove base.end) (sym (there_append logs (there file ∷ []))) (above_added base.end (those_there logs) file is.1 new))
+
+added : (acked : List Update) (logs : List (LogOf OpenFile)) (checkpoints : Checkpoints) (file : OpenFile)
+    → AreOpen (begin_of checkpoints.base) (those_there (logs ++ there file ∷ [])) → AddNew checkpoints (updates_in logs) (updates_in (logs ++ there file ∷ []))
+    → ((u : Update) → Contains acked u → HasSynced (λ r. u.timestamp < r.timestamp) file) → IfSome checkpoints.base (λ c. HasSynced (λ r. c.end < r.timestamp) file)
+    → IsRunning acked logs checkpoints → IsRunning acked (logs ++ there file ∷ []) checkpoints
+added acked logs checkpoints file opens new above above_base is =
+    let after = logs ++ there file ∷ [] in
+    let files : those_there after ≡ those_there logs ++ file ∷ [] = there_append logs (there file ∷ []) in
+    let old = old_append (begin_of checkpoints.base) logs file is.old in record {
+      some = omega (arith, is.some, length-append (those_there logs) (file ∷ []), ap length files);
+      opens = opens;
+      old = old;
+      sound = still_sound logs after (begin_of checkpoints.base) checkpoints (stay_with_more 0 logs file) new opens.each old is.sound;
+      rise = is.rise;
+      base_is = base_with logs file checkpoints.base checkpoints.written above_base is.base_is;
+      safe = λ u among.
+          let safe = is.safe u among in
+          (stay_with_more 0 logs file u safe.0, subst (AllSyncedAbove u.timestamp) (sym files) (above_added u.timestamp (those_there logs) file safe.1 (above u among)));
+    }
+
+base_among : (logs : List (LogOf OpenFile)) (new : CheckpointReading) (base : Option CheckpointReading) (written : List CheckpointReading)
+    → IfSome base (IsBase logs written) → IfSome base (IsBase logs (new ∷ written))
+base_among logs new None written is = tt
+base_among logs new (Some base) written is = (tail_in new base written is.0, is.1)
+
+checkpoint_written : (acked : List Update) (logs : List (LogOf OpenFile)) (checkpoints : Checkpoints) (new : CheckpointReading) → IsSound (updates_in logs) new
+    → BeginsRise (new ∷ checkpoints.written) → IsRunning acked logs checkpoints → IsRunning acked logs (record checkpoints { written = new ∷ checkpoints.written })
+checkpoint_written acked logs checkpoints new sound rise is = record {
+  some = is.some;
+  opens = is.opens;
+  old = is.old;
+  sound = λ c at. elim (head_or_tail new c checkpoints.written at) as (λ _. IsSound (updates_in logs) c) [
+    | inl e ↦ subst (IsSound (updates_in logs)) e sound
+    | inr later ↦ is.sound c later
+  ];
+  rise = rise;
+  base_is = base_among logs new checkpoints.base checkpoints.written is.base_is;
+  safe = is.safe;
+}
+
+-- where there is a gap at or after a timestamp, there is one at or after any lesser
+some_weaker : {X : Type 0} (P Q : X → Type 0) (xs : List X) (i : ℕ) → ((x : X) → P x → Q x) → IsSomeAnd (slice_get xs i) P → IsSomeAnd (slice_get xs i) Q
+some_weaker P Q [] i follows is = absurd is
+some_weaker P Q (x ∷ xs) zero follows is = follows x is
+some_weaker P Q (x ∷ xs) (suc i) follows is = some_weaker P Q xs i follows is
+
+less_gaps : (low high : ℕ) (files : List LogReading) (i : ℕ) → low ≤ high → IsGap high files i → IsGap low files i
+less_gaps low high files i rises gap = some_weaker (HasGap high files) (HasGap low files) files i (λ file has. elim has as (λ _. HasGap low files file) [
+  | inl amid ↦ inl amid
+  | inr first ↦ let late : high < file.head.from = first.1 in inr (first.0, omega (arith, rises, late))
+]) gap
+
+stood : (acked : List Update) (logs : List (LogOf OpenFile)) (checkpoints : Checkpoints) (new : CheckpointReading) → Contains checkpoints.written new
+    → begin_of checkpoints.base ≤ new.begin → AllSyncedAbove new.end (those_there logs) → IsRunning acked logs checkpoints
+    → IsRunning acked logs (record checkpoints { base = Some new })
+stood acked logs checkpoints new at rises above is = record {
+  some = is.some;
+  opens = record {
+    each = is.opens.each;
+    once = is.opens.once;
+    no_gap = λ i gap. is.opens.no_gap i (less_gaps (begin_of checkpoints.base) new.begin (map file_reading (those_there logs)) i rises gap);
+    whole = is.opens.whole;
+    beyond = is.opens.beyond;
+  };
+  old = old_rises (begin_of checkpoints.base) new.begin (map as_written logs) rises is.old;
+  sound = is.sound;
+  rise = is.rise;
+  base_is = (at, above);
+  safe = is.safe;
+}
+
+-- what is synced above a timestamp in each log is so in those that are left, if none is deleted before the earlier segments of its log
+above_left : (time begin : ℕ) (before after : List (LogOf OpenFile)) → AreDeleted begin before after → AllSyncedAbove time (those_there before)
+    → AllSyncedAbove time (those_there after)
+above_left time begin before after are above file at =
+    let is = above file (was_there begin before after file are.each at) in record {
+      last = is.last;
+      stands = elim is.of_log as (λ _. Contains (those_there after) is.last) [
+        | inl e ↦ subst (Contains (those_there after)) e at
+        | inr behind ↦ are.lowest_first file is.last at is.stands behind
+      ];
+      of_log = is.of_log;
+      above = is.above;
+    }
+
+were_deleted : (acked : List Update) (before after : List (LogOf OpenFile)) (checkpoints : Checkpoints) → AreDeleted (begin_of checkpoints.base) before after
+    → IsRunning acked before checkpoints → IsRunning acked after checkpoints
+were_deleted acked before after checkpoints are is =
+    let begin = begin_of checkpoints.base in
+    let same = history_with_deleted begin before after are.each in record {
+      some = are.some;
+      opens = are.opens;
+      old = old_with_deleted begin before after are.each (λ file at. (limits_of file.head.format, (is.opens.each file at).is_reading.is_log.lawful)) is.old;
+      sound = λ c at. subst (λ (h : List (List Logged)). IsSound (log_updates h) c) same (is.sound c at);
+      rise = is.rise;
+      base_is = base_stays before after checkpoints.base checkpoints.written (λ time. above_left time begin before after are) is.base_is;
+      safe = λ u among.
+          let safe = is.safe u among in
+          (subst (λ (h : List (List Logged)). Contains (log_updates h) u) same safe.0, above_left u.timestamp begin before after are safe.1);
+    }
 
 -- ---- a crash
 
--- sound files without checkpoints and gaps have facts
-record FoundSome (left : List (List ℕ)) (readings : List LogReading) : Type 0 where
-  facts : Facts left []
+-- sound files have facts, whatever is known of the parts
+record FoundSome (left parts : List (List ℕ)) (readings : List LogReading) (known : List KnownPart) : Type 0 where
+  facts : Facts left parts
   same : facts.readings ≡ readings
+  same_known : facts.known ≡ known
 
-no_choice : (cutoff : ℕ) → IsChosenOf [] cutoff None
-no_choice cutoff = λ other may. not_made_of_none [] may.valid.texts other refl may.valid.are_whole may.valid.make_up
-
-found_some : (left : List (List ℕ)) (readings : List LogReading) → 0 < length readings → AreReadings left readings → AreWriters readings → FoundSome left readings
-found_some left [] some read writers = absurd (omega arith)
-found_some left (r ∷ rs) some read writers =
-    let cutoff = some_cutoff r rs in record {
-      facts = record { readings = r ∷ rs; read = read; writers = writers; cutoff = cutoff.0; is_cutoff = cutoff.1; known = []; are_known = tt; chosen = None; is_chosen = no_choice cutoff.0 };
+found_some : (left parts : List (List ℕ)) (readings : List LogReading) (known : List KnownPart) → 0 < length readings → AreReadings left readings → AreWriters readings
+    → AreKnown parts known → FoundSome left parts readings known
+found_some left parts [] known some read writers are = absurd (omega arith)
+found_some left parts (r ∷ rs) known some read writers are =
+    let cutoff = some_cutoff r rs in
+    let choice = some_choice known cutoff.0 in record {
+      facts = record { readings = r ∷ rs; read = read; writers = writers; cutoff = cutoff.0; is_cutoff = cutoff.1; known = known; are_known = are; chosen = choice.0; is_chosen = choice.1 };
       same = refl;
+      same_known = refl;
     }
 
-crashed : (acked : List Update) (logs : List OpenFile) (left : List (List ℕ)) → AllZip IsLeftOf logs left → IsRunning acked logs → IsDown acked (written_records logs) left
-crashed acked logs left are is =
-    let says = all_left logs left is.opens.each are in
-    let found = found_some left says.0 (omega (arith, is.some, AllZip-long SaysLeft logs says.0 says.2)) says.1 (writers_left logs says.0 is.opens says.2) in
-    let facts = found.facts in
-    let said = subst (λ (rs : List LogReading). AllZip SaysLeft logs rs) (sym found.same) says.2 in record {
+-- the chosen checkpoint begins no earlier than the one that the server stood on
+begins_no_earlier : (base : Option CheckpointReading) (written : List CheckpointReading) (known : List KnownPart) (cutoff : ℕ) (chosen : Option CheckpointReading)
+    → BeginsRise written → ((c : CheckpointReading) → IsValid known c → Contains written c) → IfSome base (IsValid known) → IfSome base (λ c. c.end < cutoff)
+    → IsChosenOf known cutoff chosen → begin_of base ≤ begin_of chosen
+begins_no_earlier None written known cutoff chosen rise no_other valid ends is = omega arith
+begins_no_earlier (Some base) written known cutoff None rise no_other valid ends is = absurd (is base (record { valid = valid; ends_below = ends }))
+begins_no_earlier (Some base) written known cutoff (Some chosen) rise no_other valid ends is =
+    rise base chosen (no_other base valid) (no_other chosen is.0.valid) (is.1 base (record { valid = valid; ends_below = ends }))
+
+chosen_sound : (written : List CheckpointReading) (known : List KnownPart) (cutoff : ℕ) (chosen : Option CheckpointReading) (us : List Update)
+    → ((c : CheckpointReading) → IsValid known c → Contains written c) → ((c : CheckpointReading) → Contains written c → IsSound us c)
+    → IsChosenOf known cutoff chosen → IfSome chosen (IsSound us)
+chosen_sound written known cutoff None us no_other sound is = tt
+chosen_sound written known cutoff (Some chosen) us no_other sound is = sound chosen (no_other chosen is.0.valid)
+
+base_ends : (logs : List (LogOf OpenFile)) (base : Option CheckpointReading) (written : List CheckpointReading) (cutoff : ℕ)
+    → ((time : ℕ) → AllSyncedAbove time (those_there logs) → time < cutoff) → IfSome base (IsBase logs written) → IfSome base (λ c. c.end < cutoff)
+base_ends logs None written cutoff above is = tt
+base_ends logs (Some base) written cutoff above is = above base.end is.1
+
+crashed : (acked : List Update) (logs : List (LogOf OpenFile)) (checkpoints : Checkpoints) (left parts : List (List ℕ)) → AllZip IsLeftOf (those_there logs) left
+    → AreLeftOf checkpoints parts → IsRunning acked logs checkpoints → IsDown acked (map as_written logs) left parts
+crashed acked logs checkpoints left parts are of_parts is =
+    let files = those_there logs in
+    let says = all_left files left is.opens.each are in
+    let some = found_some left parts says.0 of_parts.known (omega (arith, is.some, AllZip-long SaysLeft files says.0 says.2)) says.1 (writers_left files says.0 is.opens says.2) of_parts.are_known in
+    let facts = some.facts in
+    let said = subst (λ (rs : List LogReading). AllZip SaysLeft files rs) (sym some.same) says.2 in
+    let valid = subst (λ (ks : List KnownPart). (c : CheckpointReading) → IsValid ks c → Contains checkpoints.written c) (sym some.same_known) of_parts.no_other in
+    let base_valid = subst (λ (ks : List KnownPart). IfSome checkpoints.base (IsValid ks)) (sym some.same_known) of_parts.base_is in
+    let past = λ (time : ℕ) (above : AllSyncedAbove time files). last_above time files facts.readings facts.cutoff said above facts.is_cutoff.has in
+    let rises = begins_no_earlier checkpoints.base checkpoints.written facts.known facts.cutoff facts.chosen is.rise valid base_valid (base_ends logs checkpoints.base checkpoints.written facts.cutoff past is.base_is) facts.is_chosen in record {
       facts = facts;
-      no_gap = gaps_stay 0 (map file_reading logs) facts.readings (zip_claims logs facts.readings said) is.opens.no_gap;
-      ends = λ x y at_x at_y earlier ended. inl (ends_left logs facts.readings is.opens said x y at_x at_y earlier ended);
-      agree = zip_turned (AgreeBelow facts.cutoff) (λ (log : OpenFile). log.records) (λ (log : LogReading). log.records) logs facts.readings (all_left_agree logs facts.readings facts.cutoff is.opens said facts.is_cutoff);
-      safe = λ u at. let safe = is.safe u at in (safe.0, last_above u.timestamp logs facts.readings facts.cutoff said safe.1 facts.is_cutoff.has);
+      found = record {
+        no_gap = λ i gap. gaps_stay (begin_of checkpoints.base) (map file_reading files) facts.readings (zip_claims files facts.readings said) is.opens.no_gap i
+            (less_gaps (begin_of checkpoints.base) (begin_of facts.chosen) facts.readings i rises gap);
+        ends = λ x y at_x at_y earlier ended. inl (ends_left files facts.readings is.opens said x y at_x at_y earlier ended);
+        agree = subst (AllZip (AgreeBelow facts.cutoff) (records_of facts.readings)) (sym (there_written logs))
+            (zip_turned (AgreeBelow facts.cutoff) (λ (log : OpenFile). log.records) (λ (log : LogReading). log.records) files facts.readings (all_left_agree files facts.readings facts.cutoff is.opens said facts.is_cutoff));
+        old = old_rises (begin_of checkpoints.base) (begin_of facts.chosen) (map as_written logs) rises is.old;
+        sound = chosen_sound checkpoints.written facts.known facts.cutoff facts.chosen (updates_in logs) valid is.sound facts.is_chosen;
+        safe = λ u at. let safe = is.safe u at in (safe.0, past u.timestamp safe.1);
+      };
     }
 
 -- ---- a resume
 
 -- what holds does not depend on how the facts were found
-down_by : (acked : List Update) (history : List (List Logged)) (left : List (List ℕ)) (is : IsDown acked history left) (facts : Facts left [])
-    → (is.facts.readings ≡ facts.readings) × (is.facts.cutoff ≡ facts.cutoff)
-down_by acked history left is facts = let same = same_facts left [] is.facts facts in (same.0, same.1)
+found_by : (acked : List Update) (logs : List (LogOf (List Logged))) (left parts : List (List ℕ)) → IsDown acked logs left parts → (facts : Facts left parts)
+    → IsFoundBy acked logs facts
+found_by acked logs left parts is facts =
+    let same = same_facts left parts is.facts facts in
+    subst (λ (x : List LogReading × ℕ × Option CheckpointReading). IsFound acked logs x.0 x.1 x.2) (λ i. (same.0 i, same.1 i, same.3 i)) is.found
 
 -- a resumed file is ended only if the file was, or the cutoff is the greatest timestamp
 ended_before : (cutoff : ℕ) (rs : List Logged) → cutoff < 2 ^ 64 → is_ended (below cutoff rs ++ marks_of cutoff rs) ≡ true
@@ -244,17 +458,6 @@ ends_now cutoff files now became ends x y at_x at_y earlier ended =
       ]
     ]
 
--- what holds of the files, by the facts of any recovery
-gap_by : (acked : List Update) (history : List (List Logged)) (left : List (List ℕ)) → IsDown acked history left → (facts : Facts left []) → (i : ℕ)
-    → IsGap 0 facts.readings i → ⊥
-gap_by acked history left is facts = subst (λ (rs : List LogReading). (i : ℕ) → IsGap 0 rs i → ⊥) (down_by acked history left is facts).0 is.no_gap
-
-ends_by : (acked : List Update) (history : List (List Logged)) (left : List (List ℕ)) → IsDown acked history left → (facts : Facts left [])
-    → EndTogether facts.cutoff facts.readings
-ends_by acked history left is facts =
-    let same = down_by acked history left is facts in
-    subst (λ (x : List LogReading × ℕ). EndTogether x.1 x.0) (λ i. (same.0 i, same.1 i)) is.ends
-
 -- lists that agree with the same one agree
 zip_agree : (cutoff : ℕ) (logs news others : List (List Logged)) → AllZip (AgreeBelow cutoff) logs news → AllZip (AgreeBelow cutoff) logs others
     → AllZip (AgreeBelow cutoff) news others
@@ -263,27 +466,22 @@ zip_agree cutoff logs news others first next =
     (λ b c both. agree_too cutoff b both.0 c (agrees_back cutoff both.0 b both.1) both.2)
     (zip_back (AgreeBelow cutoff) (AgreeBelow cutoff) logs news others first next)
 
--- what was left agrees with what was written, by the facts of any recovery
-agree_by : (acked : List Update) (history : List (List Logged)) (left : List (List ℕ)) → IsDown acked history left → (facts : Facts left [])
-    → AllZip (AgreeBelow facts.cutoff) (records_of facts.readings) history
-agree_by acked history left is facts =
-    let same = down_by acked history left is facts in
-    subst (λ (x : List LogReading × ℕ). AllZip (AgreeBelow x.1) (records_of x.0) history) (λ i. (same.0 i, same.1 i)) is.agree
-
-stopped : (acked : List Update) (history : List (List Logged)) (left now : List (List ℕ)) (facts : Facts left []) → IsOnTheWay facts now []
-    → IsDown acked history left → IsDown acked history now
-stopped acked history left now facts way was =
-    let same = down_by acked history left was facts in
-    let new = found_now left [] now [] facts way in
-    let claim = all_claim facts.cutoff facts.readings new.found.readings (zip_weaker (Became facts.cutoff) (Replaces facts.cutoff) facts.readings new.found.readings (replaces facts.cutoff) new.became) in
-    let agree = agree_by acked history left was facts in
-    let agree_now = zip_agree facts.cutoff (records_of facts.readings) (records_of new.found.readings) history (all_agree facts.cutoff facts.readings new.found.readings new.became) agree in record {
-      facts = new.found;
-      no_gap = gaps_stay 0 facts.readings new.found.readings claim (gap_by acked history left was facts);
-      ends = subst (λ (cutoff : ℕ). EndTogether cutoff new.found.readings) (sym new.cutoff) (ends_now facts.cutoff facts.readings new.found.readings new.became (ends_by acked history left was facts));
-      agree = subst (λ (cutoff : ℕ). AllZip (AgreeBelow cutoff) (records_of new.found.readings) history) (sym new.cutoff) agree_now;
-      safe = λ u at. let safe = was.safe u at in (safe.0, subst (λ (cutoff : ℕ). u.timestamp < cutoff) (same.1 ∙ sym new.cutoff) safe.1);
-    }
+stopped : (acked : List Update) (logs : List (LogOf (List Logged))) (left parts now now_parts : List (List ℕ)) (facts : Facts left parts) → IsOnTheWay facts now now_parts
+    → IsDown acked logs left parts → IsDown acked logs now now_parts
+stopped acked logs left parts now now_parts facts way was =
+    let before = found_by acked logs left parts was facts in
+    let new = found_now left parts now now_parts facts way in
+    let readings = new.found.readings in
+    let claim = all_claim facts.cutoff facts.readings readings (zip_weaker (Became facts.cutoff) (Replaces facts.cutoff) facts.readings readings (replaces facts.cutoff) new.became) in
+    let found : IsFound acked logs readings facts.cutoff facts.chosen = record {
+      no_gap = gaps_stay (begin_of facts.chosen) facts.readings readings claim before.no_gap;
+      ends = ends_now facts.cutoff facts.readings readings new.became before.ends;
+      agree = zip_agree facts.cutoff (records_of facts.readings) (records_of readings) (those_there logs) (all_agree facts.cutoff facts.readings readings new.became) before.agree;
+      old = before.old;
+      sound = before.sound;
+      safe = before.safe;
+    } in
+    record { facts = new.found; found = subst (λ (x : ℕ × Option CheckpointReading). IsFound acked logs readings x.0 x.1) (λ i. (sym new.cutoff i, sym new.chosen i)) found }
 
 -- the open file is what replaces this reading, and all of it is synced
 record IsAfresh (cutoff : ℕ) (reading : LogReading) (log : OpenFile) : Type 0 where
@@ -377,151 +575,328 @@ beyond_afresh cutoff x y a b time of_x of_y ends at = by (times_bound cutoff x t
     by (inl most) = at_cutoff most
     by (inr end) = elim (ends end.1) as (λ _. Marked) [ inl too ↦ at_end end.0 too | inr greatest ↦ at_cutoff (let e : time ≡ greatest_timestamp = end.0 in omega (arith, e, greatest)) ]
 
-started : (acked : List Update) (history : List (List Logged)) (left : List (List ℕ)) (logs : List OpenFile) (facts : Facts left [])
-    → AllZip (IsResumedAs facts.cutoff) left logs → IsDown acked history left → IsRunning acked logs
-started acked history left logs facts are was =
-    let same = down_by acked history left was facts in
+-- ---- the store
+
+-- the store is that of the history below the cutoff
+walk_of_history : (acked : List Update) (logs : List (LogOf (List Logged))) (readings : List LogReading) (known : List KnownPart) (cutoff : ℕ) (chosen : Option CheckpointReading) (pairs : List Pair)
+    → IsFound acked logs readings cutoff chosen → IsChosenOf known cutoff chosen → IsWalk (survivors cutoff chosen (records_of readings)) pairs
+    → IsWalk (survivors cutoff None (history_of logs)) pairs
+walk_of_history acked logs readings known cutoff chosen pairs found is walk =
+    let agree : survivors cutoff chosen (records_of readings) ≡ survivors cutoff chosen (those_there logs) = ap (λ (us : List Update). us ++ entry_updates chosen)
+    (agreeing_survive (record { begin = begin_of chosen; cutoff = cutoff }) 0 (records_of readings) (those_there logs) found.agree) in
+    let over = (same_store_since (those_there logs) (history_of logs) cutoff chosen pairs (same_since (begin_of chosen) logs found.old)).0
+    (subst (λ (us : List Update). IsWalk us pairs) agree walk) in
+    over_chosen known cutoff chosen (history_of logs) pairs is found.sound over
+
+-- ---- the server after a resume
+
+listed_sound : (chosen : Option CheckpointReading) (us vs : List Update) (known : List KnownPart) (cutoff : ℕ) → IsChosenOf known cutoff chosen
+    → ((u : Update) → Contains vs u ↔ Contains us u × (u.timestamp < cutoff)) → IfSome chosen (IsSound us) → (c : CheckpointReading) → Contains (listed chosen) c → IsSound vs c
+listed_sound None us vs known cutoff is same sound c at = absurd (no_element c at)
+listed_sound (Some chosen) us vs known cutoff is same sound c at = elim (head_or_tail chosen c [] at) as (λ _. IsSound vs c) [
+  | inl e ↦ subst (IsSound vs) e (sound_of_fewer us vs chosen cutoff is.0.ends_below same sound)
+  | inr none ↦ absurd (no_element c none)
+]
+
+pub listed_rise : (chosen : Option CheckpointReading) → BeginsRise (listed chosen)
+listed_rise None a b at_a at_b better = absurd (no_element a at_a)
+listed_rise (Some chosen) a b at_a at_b better = elim (head_or_tail chosen a [] at_a) as (λ _. a.begin ≤ b.begin) [
+  | inr none ↦ absurd (no_element a none)
+  | inl e ↦ elim (head_or_tail chosen b [] at_b) as (λ _. a.begin ≤ b.begin) [
+    | inr none ↦ absurd (no_element b none)
+    | inl f ↦
+        let first : chosen.begin ≡ a.begin = ap (λ (c : CheckpointReading). c.begin) e in
+        let second : chosen.begin ≡ b.begin = ap (λ (c : CheckpointReading). c.begin) f in
+        omega (arith, first, second)
+  ]
+]
+
+listed_base : (logs : List (LogOf OpenFile)) (chosen : Option CheckpointReading) (known : List KnownPart) (cutoff : ℕ) → IsChosenOf known cutoff chosen
+    → ((time : ℕ) → time < cutoff → AllSyncedAbove time (those_there logs)) → IfSome chosen (IsBase logs (listed chosen))
+listed_base logs None known cutoff is above = tt
+listed_base logs (Some chosen) known cutoff is above = (head_in chosen [], above chosen.end is.0.ends_below)
+
+-- the records of a resumed file are old at the cutoff
+afresh_old : (cutoff : ℕ) (reading : LogReading) (file : OpenFile) → IsAfresh cutoff reading file → AreOld cutoff file.records
+afresh_old cutoff reading file is r at change =
+    no_late_record cutoff reading.records r (subst (λ (l : LogReading). Contains l.records r) is.same at) change
+
+-- which updates are in the history after a resume: those from below the cutoff
+record AreResumed (cutoff : ℕ) (us vs : List Update) : Type 0 where
+  same : filter (in_window (record { begin = 0; cutoff = cutoff })) us ≡ filter (in_window (record { begin = 0; cutoff = cutoff })) vs
+  early : (u : Update) → Contains vs u → u.timestamp < cutoff
+
+same_below : (cutoff : ℕ) (us vs : List Update) → AreResumed cutoff us vs → (u : Update) → Contains vs u ↔ Contains us u × (u.timestamp < cutoff)
+same_below cutoff us vs are u = (
+  λ at.
+      let less = are.early u at in
+      let there = in_filter (in_window window) vs u (within window u.timestamp (omega arith) less) at in
+      ((of_filter (in_window window) us u (subst (λ (l : List Update). Contains l u) (sym are.same) there)).0, less),
+  λ both.
+      let there = in_filter (in_window window) us u (within window u.timestamp (omega arith) both.1) both.0 in
+      (of_filter (in_window window) vs u (subst (λ (l : List Update). Contains l u) are.same there)).0,
+)
+  where
+    window : Window
+    window = record { begin = 0; cutoff = cutoff }
+
+started : (acked : List Update) (before : List (LogOf (List Logged))) (left parts : List (List ℕ)) (after : List (LogOf OpenFile)) (facts : Facts left parts)
+    → AllZip (IsStill (λ records file. Unit {0})) before after → AllZip (IsResumedAs facts.cutoff) left (those_there after) → IsDown acked before left parts
+    → IsRunning acked after (only facts.chosen)
+started acked before left parts after facts places are was =
+    let found = found_by acked before left parts was facts in
+    let files = those_there after in
+    let begin = begin_of facts.chosen in
     let fits = cutoff_fits left facts.readings facts.cutoff facts.read facts.is_cutoff in
-    let fresh = zip_weaker (λ reading log. (bytes : List ℕ) × IsReading bytes reading × IsResumedAs facts.cutoff bytes log) (IsAfresh facts.cutoff) facts.readings logs
+    let begins = begins_below facts.known facts.cutoff facts.chosen facts.is_chosen in
+    let fresh = zip_weaker (λ reading log. (bytes : List ℕ) × IsReading bytes reading × IsResumedAs facts.cutoff bytes log) (IsAfresh facts.cutoff) facts.readings files
     (λ reading log both. afresh facts.cutoff both.0 reading log fits both.1 both.2)
-    (zip_back IsReading (IsResumedAs facts.cutoff) left facts.readings logs facts.read are) in
-    let of = λ (log : OpenFile) (at : Contains logs log). partner_of (IsAfresh facts.cutoff) facts.readings logs log fresh at in
-    let agree = agree_by acked history left was facts in
-    let agree_now : AllZip (AgreeBelow facts.cutoff) (records_of facts.readings) (written_records logs) = zip_map (AgreeBelow facts.cutoff) (λ (log : LogReading). log.records) (λ (log : OpenFile). log.records) facts.readings logs
-    (zip_weaker (IsAfresh facts.cutoff) (λ reading log. AgreeBelow facts.cutoff reading.records log.records) facts.readings logs (λ reading log f. f.agrees) fresh) in
+    (zip_back IsReading (IsResumedAs facts.cutoff) left facts.readings files facts.read are) in
+    let of = λ (log : OpenFile) (at : Contains files log). partner_of (IsAfresh facts.cutoff) facts.readings files log fresh at in
+    let agree_now : AllZip (AgreeBelow facts.cutoff) (records_of facts.readings) (map (λ (log : OpenFile). log.records) files) = zip_map (AgreeBelow facts.cutoff) (λ (log : LogReading). log.records) (λ (log : OpenFile). log.records) facts.readings files
+    (zip_weaker (IsAfresh facts.cutoff) (λ reading log. AgreeBelow facts.cutoff reading.records log.records) facts.readings files (λ reading log f. f.agrees) fresh) in
+    let agree = zip_agree facts.cutoff (records_of facts.readings) (those_there before) (those_there (map as_written after)) found.agree
+    (subst (AllZip (AgreeBelow facts.cutoff) (records_of facts.readings)) (sym (there_written after)) agree_now) in
     let window : Window = record { begin = 0; cutoff = facts.cutoff } in
-    let survive = sym (agreeing_survive window 0 (records_of facts.readings) history agree) ∙ agreeing_survive window 0 (records_of facts.readings) (written_records logs) agree_now in record {
-      some = omega (arith, some_reading facts, AllZip-long (IsAfresh facts.cutoff) facts.readings logs fresh);
+    let old = old_resumed begin before after places found.old in
+    let resumed_updates : AreResumed facts.cutoff (log_updates (history_of before)) (updates_in after) = record {
+      same = agreeing_survive window 0 (history_of before) (history_of (map as_written after)) (history_agrees facts.cutoff begin before after places found.old agree);
+      early = λ u at. updates_old facts.cutoff 0 (history_of (map as_written after)) u (λ rs among.
+          elim (there_or_old begin (map as_written after) rs old among) as (λ _. AreOld facts.cutoff rs) [
+            | inl there_is ↦
+                let file = of_map (λ (f : OpenFile). f.records) files rs (subst (λ (l : List (List Logged)). Contains l rs) (there_written after) there_is) in
+                let x = of file.0 file.1 in
+                subst (AreOld facts.cutoff) file.2 (afresh_old facts.cutoff x.0 file.0 x.2)
+            | inr is ↦ λ r at_r change. let less : r.timestamp < begin = is.1 r at_r change in omega (arith, less, begins)
+          ]) at;
+    } in
+    let same = same_below facts.cutoff (log_updates (history_of before)) (updates_in after) resumed_updates in
+    let above = λ (time : ℕ) (less : time < facts.cutoff) (log : OpenFile) (among : Contains files log).
+    let x = of log among in
+    let synced : IsSyncedAbove time files log = record { last = log; stands = among; of_log = inl refl; above = cutoff_synced (λ r. time < r.timestamp) facts.cutoff x.0 log x.2 less } in
+    synced in record {
+      some = omega (arith, some_reading facts, AllZip-long (IsAfresh facts.cutoff) facts.readings files fresh);
       opens = record {
         each = λ log at. let x = of log at in opens_afresh facts.cutoff x.0 log x.2;
-        once = once_stays facts.readings (map file_reading logs) (zip_afresh facts.cutoff facts.readings logs fresh) facts.writers.once;
-        no_gap = gaps_stay 0 facts.readings (map file_reading logs) (zip_afresh facts.cutoff facts.readings logs fresh) (gap_by acked history left was facts);
+        once = once_stays facts.readings (map file_reading files) (zip_afresh facts.cutoff facts.readings files fresh) facts.writers.once;
+        no_gap = gaps_stay begin facts.readings (map file_reading files) (zip_afresh facts.cutoff facts.readings files fresh) found.no_gap;
         whole = λ a b at_a at_b behind. (of a at_a).2.synced;
         beyond = λ a b at_a at_b behind time at.
             let x = of a at_a in
             let y = of b at_b in
             let earlier = subst (λ (s : Option Segment × Option Segment). IsEarlier s.0 s.1) (λ i. (ap (λ (l : LogReading). l.head.segment) x.2.same i, ap (λ (l : LogReading). l.head.segment) y.2.same i)) behind in
-            beyond_afresh facts.cutoff x.0 y.0 a b time x.2 y.2 (ends_by acked history left was facts x.0 y.0 x.1 y.1 earlier) at;
+            beyond_afresh facts.cutoff x.0 y.0 a b time x.2 y.2 (found.ends x.0 y.0 x.1 y.1 earlier) at;
       };
-      safe = λ u at.
-          let safe = was.safe u at in
-          let less : u.timestamp < facts.cutoff = subst (λ (cutoff : ℕ). u.timestamp < cutoff) same.1 safe.1 in
-          let there = in_filter (in_window window) (log_updates history) u (within window u.timestamp (omega arith) less) safe.0 in
-          let here = of_filter (in_window window) (log_updates (written_records logs)) u (subst (λ (us : List Update). Contains us u) survive there) in
-          (here.0, λ log among. let x = of log among in record { last = log; stands = among; of_log = inl refl; above = cutoff_synced (λ r. u.timestamp < r.timestamp) facts.cutoff x.0 log x.2 less });
+      old = old;
+      sound = listed_sound facts.chosen (log_updates (history_of before)) (updates_in after) facts.known facts.cutoff facts.is_chosen same found.sound;
+      rise = listed_rise facts.chosen;
+      base_is = listed_base after facts.chosen facts.known facts.cutoff facts.is_chosen above;
+      safe = λ u at. let safe = found.safe u at in ((same u).1 safe, above u.timestamp safe.1);
     }
   where
     some_of : (readings : List LogReading) (cutoff : ℕ) → IsCutoff readings cutoff → 0 < length readings
     some_of [] cutoff is = absurd (no_element is.has.log is.has.stands)
     some_of (r ∷ rs) cutoff is = omega arith
 
-    some_reading : (facts : Facts left []) → 0 < length facts.readings
+    some_reading : (facts : Facts left parts) → 0 < length facts.readings
     some_reading facts = some_of facts.readings facts.cutoff facts.is_cutoff
+
+-- ---- a fresh start
+
+-- what is left behind of the logs is old at the cutoff
+behind_old : (begin cutoff : ℕ) (logs : List (LogOf (List Logged))) → begin ≤ cutoff → AllOld begin logs
+    → ((rs : List Logged) → Contains (those_there logs) rs → NeverFall rs) → AllOld cutoff (map as_written (map (left_behind cutoff) logs))
+behind_old begin cutoff [] rises old rise = tt
+behind_old begin cutoff (there rs ∷ logs) rises old rise =
+    let lawful = rise rs (head_in rs (those_there logs)) in (
+      ((lawful.0, below_lawful lawful.0 cutoff 0 rs lawful.1), λ r at change. ltb-true r.timestamp cutoff (of_filter (λ (x : Logged). nat_lt x.timestamp cutoff) rs r at).1),
+      behind_old begin cutoff logs rises old.1 (λ ts at. rise ts (tail_in rs ts (those_there logs) at)),
+    )
+behind_old begin cutoff (deleted rs ∷ logs) rises old rise = (
+  (old.0.0, λ r at change. let less : r.timestamp < begin = old.0.1 r at change in omega (arith, less, rises)),
+  behind_old begin cutoff logs rises old.1 rise,
+)
+
+-- the history that is left behind agrees below the cutoff
+behind_agrees : (begin cutoff : ℕ) (logs : List (LogOf (List Logged))) → AllOld begin logs → ((rs : List Logged) → Contains (those_there logs) rs → NeverFall rs)
+    → AllZip (AgreeBelow cutoff) (history_of logs) (history_of (map as_written (map (left_behind cutoff) logs)))
+behind_agrees begin cutoff [] old rise = tt
+behind_agrees begin cutoff (there rs ∷ logs) old rise =
+    let lawful = rise rs (head_in rs (those_there logs)) in (
+      record { rise = lawful; others_rise = (lawful.0, below_lawful lawful.0 cutoff 0 rs lawful.1); same = sym (below_twice cutoff rs) },
+      behind_agrees begin cutoff logs old.1 (λ ts at. rise ts (tail_in rs ts (those_there logs) at)),
+    )
+behind_agrees begin cutoff (deleted rs ∷ logs) old rise = (record { rise = old.0.0; others_rise = old.0.0; same = refl }, behind_agrees begin cutoff logs old.1 rise)
+
+-- nothing is there of what is left behind
+none_there : (cutoff : ℕ) (logs : List (LogOf (List Logged))) → those_there (map (left_behind cutoff) logs) ≡ []
+none_there cutoff [] = refl
+none_there cutoff (there rs ∷ logs) = none_there cutoff logs
+none_there cutoff (deleted rs ∷ logs) = none_there cutoff logs
+
+all_behind : (cutoff : ℕ) (logs : List (LogOf (List Logged))) (begin : ℕ) → begin ≤ cutoff → AllOld begin logs
+    → ((rs : List Logged) → Contains (those_there logs) rs → NeverFall rs) → (rs : List Logged) → Contains (history_of (map as_written (map (left_behind cutoff) logs))) rs → AreOld cutoff rs
+all_behind cutoff logs begin rises old rise rs at =
+    let behind = map as_written (map (left_behind cutoff) logs) in
+    elim (there_or_old cutoff behind rs (behind_old begin cutoff logs rises old rise) at) as (λ _. AreOld cutoff rs) [
+      | inl among ↦ absurd (no_element rs (subst (λ (l : List (List Logged)). Contains l rs) (there_written (map (left_behind cutoff) logs) ∙ ap (map (λ (file : OpenFile). file.records)) (none_there cutoff logs)) among))
+      | inr is ↦ is.1
+    ]
+
+-- a file of marks adds no update
+marks_add_none : (log : ℕ) (logs : List (LogOf OpenFile)) (file : OpenFile) (u : Update) → ((r : Logged) → Contains file.records r → is_mark r ≡ true)
+    → Contains (all_updates log (history_of (map as_written (logs ++ there file ∷ [])))) u → Contains (all_updates log (history_of (map as_written logs))) u
+marks_add_none log [] file u marks at = elim (Contains-append_cases (updates_from log 0 file.records) [] u at) as (λ _. Contains (all_updates log []) u) [
+  | inl here ↦ let found = of_record log 0 file.records u here in absurd (both_ways (is_mark found.0) found.2.1 (marks found.0 found.1))
+  | inr none ↦ absurd (no_element u none)
+]
+marks_add_none log (x ∷ xs) file u marks at =
+    let rs = records_in (as_written x) in
+    stay_in log rs rs (history_of (map as_written (xs ++ there file ∷ []))) (history_of (map as_written xs)) u (λ here. here) (marks_add_none (suc log) xs file u marks) at
+
+started_afresh : (acked : List Update) (before : List (LogOf (List Logged))) (left parts : List (List ℕ)) (facts : Facts left parts) (file : OpenFile) (new : CheckpointReading)
+    → IsFreshStart facts file new → IsDown acked before left parts → IsRunning acked (map (left_behind facts.cutoff) before ++ there file ∷ []) (only (Some new))
+started_afresh acked before left parts facts file new start was =
+    let found = found_by acked before left parts was facts in
+    let cutoff = facts.cutoff in
+    let behind = map (left_behind cutoff) before in
+    let after = behind ++ there file ∷ [] in
+    let begins = begins_below facts.known cutoff facts.chosen facts.is_chosen in
+    let rise : (rs : List Logged) → Contains (those_there before) rs → NeverFall rs = λ rs at. (partner_of (AgreeBelow cutoff) (records_of facts.readings) (those_there before) rs found.agree at).2.others_rise in
+    let old = old_append cutoff behind file (behind_old (begin_of facts.chosen) cutoff before begins found.old rise) in
+    let window : Window = record { begin = 0; cutoff = cutoff } in
+    let us = log_updates (history_of before) in
+    let behind_updates : AreResumed cutoff us (updates_in behind) = record {
+      same = agreeing_survive window 0 (history_of before) (history_of (map as_written behind)) (behind_agrees (begin_of facts.chosen) cutoff before found.old rise);
+      early = λ u at. updates_old cutoff 0 (history_of (map as_written behind)) u (all_behind cutoff before (begin_of facts.chosen) begins found.old rise) at;
+    } in
+    let same = same_below cutoff us (updates_in behind) behind_updates in
+    let same_after : (u : Update) → Contains (updates_in after) u ↔ Contains us u × (u.timestamp < cutoff) = λ u. (
+      λ at. (same u).0 (marks_add_none 0 behind file u start.marks at),
+      λ both. stay_with_more 0 behind file u ((same u).1 both),
+    ) in
+    let there_is : those_there after ≡ file ∷ [] = there_append behind (there file ∷ []) ∙ ap (λ (fs : List OpenFile). fs ++ file ∷ []) (none_there cutoff before) in
+    let all = survivors cutoff None (history_of before) in
+    let covered : AreCovered before facts.readings cutoff facts.chosen start.version = record { agree = found.agree; old = found.old; sound = found.sound; most = start.most } in
+    let walk = walk_of_history acked before facts.readings facts.known cutoff facts.chosen start.pairs found facts.is_chosen start.walk in
+    let stored : AreStored (updates_in after) start.pairs cutoff start.version = record {
+      walk = same_walk all (updates_in after) start.pairs (λ key number bytes. (
+        of_same_key all (updates_in after) key number bytes (λ u of_key at. (same_after u).1 (of_history cutoff (history_of before) u at)) (λ u of_key at. let both = (same_after u).0 at in in_history cutoff (history_of before) u both.0 both.1),
+        of_same_key (updates_in after) all key number bytes (λ u of_key at. let both = (same_after u).0 at in in_history cutoff (history_of before) u both.0 both.1) (λ u of_key at. (same_after u).1 (of_history cutoff (history_of before) u at)),
+      )) walk;
+      early = λ u at. ((same_after u).0 at).1;
+      most = λ key number bytes column u at of_key.
+          let both = (same_after u).0 at in
+          let in_all = of_same_key (updates_in after) all key number bytes (λ w of_w among. let is = (same_after w).0 among in in_history cutoff (history_of before) w is.0 is.1) (λ w of_w among. (same_after w).1 (of_history cutoff (history_of before) w among)) column in
+          key_most before facts.readings facts.known cutoff facts.chosen start.version facts.is_chosen covered key number bytes in_all u both.0 both.1 of_key;
+    } in
+    let above : (time : ℕ) → time ≤ cutoff → AllSyncedAbove time (those_there after) = λ time most.
+    subst (AllSyncedAbove time) (sym there_is) (λ log at. elim (head_or_tail file log [] at) as (λ _. IsSyncedAbove time (file ∷ []) log) [
+      | inl e ↦ record {
+        last = log;
+        stands = at;
+        of_log = inl refl;
+        above = subst (HasSynced (λ r. time < r.timestamp)) e (synced_more (λ r. cutoff < r.timestamp) (λ r. time < r.timestamp) file (λ r more. let high : cutoff < r.timestamp = more in omega (arith, high, most)) start.above);
+      }
+      | inr none ↦ absurd (no_element log none)
+    ]) in record {
+      some = omega (arith, ap length there_is);
+      opens = subst (λ (x : ℕ × List OpenFile). AreOpen x.0 x.1) (λ i. (sym start.begins i, sym there_is i)) start.opens;
+      old = subst (λ (begin : ℕ). AllOld begin (map as_written after)) (sym start.begins) old;
+      sound = λ c at. elim (head_or_tail new c [] at) as (λ _. IsSound (updates_in after) c) [
+        | inl e ↦ subst (IsSound (updates_in after)) e (fresh_sound (updates_in after) start.pairs cutoff start.version new stored start.begins start.ends start.entries)
+        | inr none ↦ absurd (no_element c none)
+      ];
+      rise = listed_rise (Some new);
+      base_is = (head_in new [], above new.end (let ends : new.end ≡ cutoff = start.ends in omega (arith, ends)));
+      safe = λ u at. let safe = found.safe u at in let less : u.timestamp < cutoff = safe.1 in ((same_after u).1 safe, above u.timestamp (omega (arith, less)));
+    }
 
 -- ---- a life
 
-acknowledged : (acked : List Update) (logs : List OpenFile) (u : Update) → Contains (log_updates (written_records logs)) u → AllSyncedAbove u.timestamp logs
-    → IsRunning acked logs → IsRunning (u ∷ acked) logs
-acknowledged acked logs u at above is = record {
-  some = is.some;
-  opens = is.opens;
-  safe = λ w among. elim (head_or_tail u w acked among) as (λ _. IsSafe logs w) [
-    | inl e ↦ subst (IsSafe logs) e (at, above)
-    | inr later ↦ is.safe w later
-  ];
-}
-
--- updates stay when a log begins
-updates_of_more : (log : ℕ) (logs more : List OpenFile) (u : Update) → Contains (all_updates log (written_records logs)) u
-    → Contains (all_updates log (written_records (logs ++ more))) u
-updates_of_more log [] more u at = absurd (no_element u at)
-updates_of_more log (l ∷ ls) more u at = elim (Contains-append_cases (updates_from log 0 l.records) (all_updates (suc log) (written_records ls)) u at) as (λ _. Contains (all_updates log (written_records (l ∷ ls ++ more))) u) [
-  | inl here ↦ Contains-append_left (updates_from log 0 l.records) (all_updates (suc log) (written_records (ls ++ more))) u here
-  | inr later ↦ Contains-append_right (updates_from log 0 l.records) (all_updates (suc log) (written_records (ls ++ more))) u (updates_of_more (suc log) ls more u later)
-]
-
--- what is synced of the old files, and of the new one
-above_added : (time : ℕ) (logs : List OpenFile) (log : OpenFile) → AllSyncedAbove time logs → HasSynced (λ r. time < r.timestamp) log
-    → AllSyncedAbove time (logs ++ log ∷ [])
-above_added time logs log above new x at = elim (Contains-push_cases logs log x at) as (λ _. IsSyncedAbove time (logs ++ log ∷ []) x) [
-  | inl old ↦ let is = above x old in record { last = is.last; stands = Contains-append_left logs (log ∷ []) is.last is.stands; of_log = is.of_log; above = is.above }
-  | inr e ↦ record { last = x; stands = at; of_log = inl refl; above = subst (HasSynced (λ r. time < r.timestamp)) e new }
-]
-
-began : (acked : List Update) (logs : List OpenFile) (log : OpenFile) → AreOpen (logs ++ log ∷ [])
-    → ((u : Update) → Contains acked u → HasSynced (λ r. u.timestamp < r.timestamp) log) → IsRunning acked logs → IsRunning acked (logs ++ log ∷ [])
-began acked logs log opens above is = record {
-  some = omega (arith, is.some, length-append logs (log ∷ []));
-  opens = opens;
-  safe = λ u among. let safe = is.safe u among in (updates_of_more 0 logs (log ∷ []) u safe.0, above_added u.timestamp logs log safe.1 (above u among));
-}
-
 step_holds : (before after : State) → IsStep before after → Holds before → Holds after
-step_holds before after (write acked logs now are opens) is = keeps_running acked logs now (zip_weaker IsWritten Keeps logs now written_keeps are) opens is
-step_holds before after (sync acked logs now are opens) is = keeps_running acked logs now (all_synced_keep logs now are opens.each) opens is
-step_holds before after (acknowledge acked logs u at above) is = acknowledged acked logs u at above is
-step_holds before after (add_file acked logs log opens above) is = began acked logs log opens above is
-step_holds before after (crash acked logs left are) is = crashed acked logs left are is
-step_holds before after (stop acked history left now facts way) is = stopped acked history left now facts way is
-step_holds before after (resume acked history left logs facts are) is = started acked history left logs facts are is
+step_holds before after (write acked logs now checkpoints are opens new) is =
+    keeps_running acked logs now checkpoints (zip_weaker (IsStill IsWritten) (IsStill Keeps) logs now (still_weaker IsWritten Keeps written_keeps) are) opens new is
+step_holds before after (sync acked logs now checkpoints are opens) is = synced_running acked logs now checkpoints are opens is
+step_holds before after (acknowledge acked logs checkpoints u at above) is = acknowledged acked logs checkpoints u at above is
+step_holds before after (add_file acked logs checkpoints file opens new above above_base) is = added acked logs checkpoints file opens new above above_base is
+step_holds before after (write_checkpoint acked logs checkpoints new sound rise) is = checkpoint_written acked logs checkpoints new sound rise is
+step_holds before after (stand acked logs checkpoints new at rises above) is = stood acked logs checkpoints new at rises above is
+step_holds before after (delete acked logs now checkpoints are) is = were_deleted acked logs now checkpoints are is
+step_holds before after (crash acked logs checkpoints left parts are of_parts) is = crashed acked logs checkpoints left parts are of_parts is
+step_holds before after (stop acked logs left parts now now_parts facts way) is = stopped acked logs left parts now now_parts facts way is
+step_holds before after (resume acked logs left parts now facts places are) is = started acked logs left parts now facts places are is
+step_holds before after (start_afresh acked logs left parts facts file new start) is = started_afresh acked logs left parts facts file new start is
 
 pub life_holds : (state : State) → Life state → Holds state
-life_holds state (begun log logs opens) = record {
-  some = omega arith;
-  opens = opens;
-  safe = λ u none. absurd (no_element u none);
-}
+life_holds state (begun file files opens) =
+    let same = there_of_all (file ∷ files) in record {
+      some = omega (arith, ap length same);
+      opens = subst (AreOpen 0) (sym same) opens;
+      old = old_of_all 0 (file ∷ files);
+      sound = λ c none. absurd (no_element c none);
+      rise = λ a b none. absurd (no_element a none);
+      base_is = tt;
+      safe = λ u none. absurd (no_element u none);
+    }
 life_holds state (then before after life step) = step_holds before after step (life_holds before life)
 
 -- ---- the law
 
--- with no part, no checkpoint is chosen
-none_chosen : (chosen : Option CheckpointReading) (known : List KnownPart) (cutoff : ℕ) → AllZip IsKnown [] known → IsChosenOf known cutoff chosen → chosen ≡ None
-none_chosen None known cutoff are is = refl
-none_chosen (Some checkpoint) [] cutoff are is = absurd (not_made_of_none [] is.0.valid.texts checkpoint refl is.0.valid.are_whole is.0.valid.make_up)
-none_chosen (Some checkpoint) (part ∷ parts) cutoff are is = absurd are
+pub life_has_store : (acked : List Update) (logs : List (LogOf (List Logged))) (left parts : List (List ℕ)) → Life (down acked logs left parts)
+    → (pairs : List Pair) × IsStoreOf left parts pairs
+life_has_store acked logs left parts life =
+    let is : IsDown acked logs left parts = life_holds (down acked logs left parts) life in
+    store_of left parts is.facts is.found.no_gap
 
-pub life_has_store : (acked : List Update) (history : List (List Logged)) (left : List (List ℕ)) → Life (down acked history left)
-    → (pairs : List Pair) × IsStoreOf left [] pairs
-life_has_store acked history left life =
-    let is : IsDown acked history left = life_holds (down acked history left) life in
-    store_of left [] is.facts (subst (λ (c : Option CheckpointReading). (i : ℕ) → IsGap (begin_of c) is.facts.readings i → ⊥) (sym (none_chosen is.facts.chosen is.facts.known is.facts.cutoff is.facts.are_known is.facts.is_chosen)) is.no_gap)
-
-pub life_store : (acked : List Update) (history : List (List Logged)) (left : List (List ℕ)) (pairs : List Pair) → Life (down acked history left)
-    → (store : IsStoreOf left [] pairs) → IsWalk (survivors store.basis.facts.cutoff None history) pairs
-life_store acked history left pairs life store =
-    let is : IsDown acked history left = life_holds (down acked history left) life in
+pub life_store : (acked : List Update) (logs : List (LogOf (List Logged))) (left parts : List (List ℕ)) (pairs : List Pair) → Life (down acked logs left parts)
+    → (store : IsStoreOf left parts pairs) → IsWalk (survivors store.basis.facts.cutoff None (history_of logs)) pairs
+life_store acked logs left parts pairs life store =
+    let is : IsDown acked logs left parts = life_holds (down acked logs left parts) life in
     let facts = store.basis.facts in
-    let same = down_by acked history left is facts in
-    let agree = agree_by acked history left is facts in
-    let none = none_chosen facts.chosen facts.known facts.cutoff facts.are_known facts.is_chosen in
-    let survive : survivors facts.cutoff None (records_of facts.readings) ≡ survivors facts.cutoff None history =
-    ap (λ (us : List Update). us ++ []) (agreeing_survive (record { begin = 0; cutoff = facts.cutoff }) 0 (records_of facts.readings) history agree) in
-    subst (λ (us : List Update). IsWalk us pairs) survive (subst (λ (c : Option CheckpointReading). IsWalk (survivors facts.cutoff c (records_of facts.readings)) pairs) none store.walk)
+    walk_of_history acked logs facts.readings facts.known facts.cutoff facts.chosen pairs (found_by acked logs left parts is facts) facts.is_chosen store.walk
 
-pub life_keeps : (acked : List Update) (history : List (List Logged)) (left : List (List ℕ)) (pairs : List Pair) → Life (down acked history left)
-    → (store : IsStoreOf left [] pairs) → (u : Update) → Contains acked u → Contains (survivors store.basis.facts.cutoff None history) u
-life_keeps acked history left pairs life store u among =
-    let is : IsDown acked history left = life_holds (down acked history left) life in
-    let safe = is.safe u among in
-    in_history store.basis.facts.cutoff history u safe.0 (subst (λ (cutoff : ℕ). u.timestamp < cutoff) (down_by acked history left is store.basis.facts).1 safe.1)
+pub life_keeps : (acked : List Update) (logs : List (LogOf (List Logged))) (left parts : List (List ℕ)) (pairs : List Pair) → Life (down acked logs left parts)
+    → (store : IsStoreOf left parts pairs) → (u : Update) → Contains acked u → Contains (survivors store.basis.facts.cutoff None (history_of logs)) u
+life_keeps acked logs left parts pairs life store u among =
+    let is : IsDown acked logs left parts = life_holds (down acked logs left parts) life in
+    let safe = (found_by acked logs left parts is store.basis.facts).safe u among in
+    in_history store.basis.facts.cutoff (history_of logs) u safe.0 safe.1
 
 -- the file that replaces what was left
 abbrev resumed_as : ℕ → LogReading → OpenFile
 resumed_as cutoff reading =
     record { head = (resumed cutoff reading).head; records = (resumed cutoff reading).records; synced = log_bytes (resumed cutoff reading).head (resumed cutoff reading).records }
 
-all_resumed : (cutoff : ℕ) (left : List (List ℕ)) (readings : List LogReading) → AreReadings left readings
-    → AllZip (IsResumedAs cutoff) left (map (resumed_as cutoff) readings)
-all_resumed cutoff [] [] read = tt
-all_resumed cutoff [] (r ∷ rs) read = absurd read
-all_resumed cutoff (l ∷ ls) [] read = absurd read
-all_resumed cutoff (l ∷ ls) (r ∷ rs) read = (record { reading = r; is_reading = read.0; replaces = refl; synced = refl }, all_resumed cutoff ls rs read.1)
+-- the logs after a resume
+record AreAfter (cutoff : ℕ) (logs : List (LogOf (List Logged))) (left : List (List ℕ)) : Type 0 where
+  after : List (LogOf OpenFile)
+  places : AllZip (IsStill (λ (records : List Logged) (file : OpenFile). Unit {0})) logs after
+  resumed : AllZip (IsResumedAs cutoff) left (those_there after)
 
-pub life_goes_on : (acked : List Update) (history : List (List Logged)) (left : List (List ℕ)) → Life (down acked history left)
-    → (files : List OpenFile) × Life (running acked files)
-life_goes_on acked history left life =
-    let is : IsDown acked history left = life_holds (down acked history left) life in
+all_after : (R : List Logged → List Logged → Type 0) (cutoff : ℕ) (logs : List (LogOf (List Logged))) (left : List (List ℕ)) (readings : List LogReading) → AreReadings left readings
+    → AllZip R (records_of readings) (those_there logs) → AreAfter cutoff logs left
+all_after R cutoff [] [] [] read agree = record { after = []; places = tt; resumed = tt }
+all_after R cutoff [] [] (r ∷ rs) read agree = absurd read
+all_after R cutoff [] (l ∷ ls) [] read agree = absurd read
+all_after R cutoff [] (l ∷ ls) (r ∷ rs) read agree = absurd agree
+all_after R cutoff (deleted ts ∷ logs) left readings read agree =
+    let rest = all_after R cutoff logs left readings read agree in
+    record { after = deleted ts ∷ rest.after; places = (refl, rest.places); resumed = rest.resumed }
+all_after R cutoff (there ts ∷ logs) [] [] read agree = absurd agree
+all_after R cutoff (there ts ∷ logs) [] (r ∷ rs) read agree = absurd read
+all_after R cutoff (there ts ∷ logs) (l ∷ ls) [] read agree = absurd read
+all_after R cutoff (there ts ∷ logs) (l ∷ ls) (r ∷ rs) read agree =
+    let rest = all_after R cutoff logs ls rs read.1 agree.1 in record {
+      after = there (resumed_as cutoff r) ∷ rest.after;
+      places = (tt, rest.places);
+      resumed = (record { reading = r; is_reading = read.0; replaces = refl; synced = refl }, rest.resumed);
+    }
+
+pub life_goes_on : (acked : List Update) (logs : List (LogOf (List Logged))) (left parts : List (List ℕ)) → Life (down acked logs left parts)
+    → (after : List (LogOf OpenFile)) × (checkpoints : Checkpoints) × Life (running acked after checkpoints)
+life_goes_on acked logs left parts life =
+    let is : IsDown acked logs left parts = life_holds (down acked logs left parts) life in
     let facts = is.facts in
-    let files = map (resumed_as facts.cutoff) facts.readings in
-    (files, then (down acked history left) (running acked files) life (resume acked history left files facts (all_resumed facts.cutoff left facts.readings facts.read)))
+    let all = all_after (AgreeBelow facts.cutoff) facts.cutoff logs left facts.readings facts.read is.found.agree in
+    (all.after, only facts.chosen, then (down acked logs left parts) (running acked all.after (only facts.chosen)) life (resume acked logs left parts all.after facts all.places all.resumed))

@@ -34,7 +34,7 @@ records_join limits low middle [] others are most le too = lower limits middle l
 records_join limits low middle (r ∷ rs) others are most le too = (are.0, are.1, records_join limits r.timestamp middle rs others are.2 most.1 most.0 too)
 
 -- the records below a timestamp are lawful, and none is above it
-below_lawful : (limits : Limits) (cutoff low : ℕ) (rs : List Logged) → AreRecords limits low rs → AreRecords limits low (below cutoff rs)
+pub below_lawful : (limits : Limits) (cutoff low : ℕ) (rs : List Logged) → AreRecords limits low rs → AreRecords limits low (below cutoff rs)
 below_lawful limits cutoff low [] are = tt
 below_lawful limits cutoff low (r ∷ rs) are =
     let rest = below_lawful limits cutoff r.timestamp rs are.2 in
@@ -237,7 +237,7 @@ last_after log cutoff last fits is = by (cases_Bool (is_ended log.records)) (tim
 
 -- ---- twice
 
-below_twice : (cutoff : ℕ) (rs : List Logged) → below cutoff (below cutoff rs) ≡ below cutoff rs
+pub below_twice : (cutoff : ℕ) (rs : List Logged) → below cutoff (below cutoff rs) ≡ below cutoff rs
 below_twice cutoff [] = refl
 below_twice cutoff (r ∷ rs) = elim (cases_Bool (ltb r.timestamp cutoff)) as (λ _. below cutoff (below cutoff (r ∷ rs)) ≡ below cutoff (r ∷ rs)) [
   | inl is ↦ rw (is, is) (ap (λ (l : List Logged). r ∷ l) (below_twice cutoff rs))

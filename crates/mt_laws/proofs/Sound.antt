@@ -24,14 +24,14 @@ use Rattle.mt_laws.proofs.Entries.{entry_stamp, below_entry, above_entry, whole_
 -- ---- the entry of a key
 
 -- an entry of the key, of the greatest version that one has
-record HasEntry (entries : List Change) (key : List ℕ) : Type 0 where
-  entry : Change
-  stands : Contains entries entry
-  of_key : entry.key ≡ key
-  greatest : (other : Change) → Contains entries other → other.key ≡ key → other.version ≤ entry.version
+pub record HasEntry (entries : List Change) (key : List ℕ) : Type 0 where
+  pub entry : Change
+  pub stands : Contains entries entry
+  pub of_key : entry.key ≡ key
+  pub greatest : (other : Change) → Contains entries other → other.key ≡ key → other.version ≤ entry.version
 
 -- no entry is of the key
-abbrev HasNone : List Change → List ℕ → Type 0
+abbrev pub HasNone : List Change → List ℕ → Type 0
 HasNone entries key = (entry : Change) → Contains entries entry → entry.key ≡ key → ⊥
 
 -- a further entry, of the key, with the greatest version so far or without
@@ -83,7 +83,7 @@ one_other entry entries key not (inl has) = inl (record {
   ];
 })
 
-has_or_not : (entries : List Change) (key : List ℕ) → HasEntry entries key ⊎ HasNone entries key
+pub has_or_not : (entries : List Change) (key : List ℕ) → HasEntry entries key ⊎ HasNone entries key
 has_or_not [] key = inr (λ entry at same. no_element entry at)
 has_or_not (e ∷ es) key = elim (same_bytes e.key key) as (λ _. HasEntry (e ∷ es) key ⊎ HasNone (e ∷ es) key) [
   | inl is ↦ inl (one_more e es key is (has_or_not es key))
@@ -103,7 +103,7 @@ in_history cutoff logs u at below =
     let window = history_window cutoff in
     Contains-append_left (log_survivors window logs) [] u (in_filter (in_window window) (log_updates logs) u (within window u.timestamp (omega arith) below) at)
 
-of_history : (cutoff : ℕ) (logs : List (List Logged)) (u : Update) → Contains (survivors cutoff None logs) u → Contains (log_updates logs) u × (u.timestamp < cutoff)
+pub of_history : (cutoff : ℕ) (logs : List (List Logged)) (u : Update) → Contains (survivors cutoff None logs) u → Contains (log_updates logs) u × (u.timestamp < cutoff)
 of_history cutoff logs u at =
     let window = history_window cutoff in
     elim (Contains-append_cases (log_survivors window logs) [] u at) as (λ _. Contains (log_updates logs) u × (u.timestamp < cutoff)) [
@@ -146,10 +146,10 @@ of_both cutoff checkpoint logs u at =
       | inr whole ↦ let is = of_map entry_update checkpoint.entries u whole in inr (record { entry = is.0; stands = is.1; same = is.2 })
     ]
 
-in_up : (version : ℕ) (us : List Update) (u : Update) → Contains us u → u.stamp.version ≤ version → Contains (up_to version us) u
+pub in_up : (version : ℕ) (us : List Update) (u : Update) → Contains us u → u.stamp.version ≤ version → Contains (up_to version us) u
 in_up version us u at most = in_filter (λ (w : Update). nat_le w.stamp.version version) us u (is_least u.stamp.version version most) at
 
-of_up : (version : ℕ) (us : List Update) (u : Update) → Contains (up_to version us) u → Contains us u × (u.stamp.version ≤ version)
+pub of_up : (version : ℕ) (us : List Update) (u : Update) → Contains (up_to version us) u → Contains us u × (u.stamp.version ≤ version)
 of_up version us u at = let is = of_filter (λ (w : Update). nat_le w.stamp.version version) us u at in (is.0, at_least u.stamp.version version is.1)
 
 -- an update that a checkpoint has seen is from below the cutoff
@@ -162,7 +162,7 @@ seen_below cutoff checkpoint logs key version u ends seen at same =
     in_history cutoff logs u is.0 (omega (arith, ends, by_end))
 
 -- a column that the history leaves, by a write that a checkpoint has seen, is left up to the version
-seen_column : (cutoff : ℕ) (checkpoint : CheckpointReading) (logs : List (List Logged)) (key : List ℕ) (version number : ℕ) (bytes : List ℕ)
+pub seen_column : (cutoff : ℕ) (checkpoint : CheckpointReading) (logs : List (List Logged)) (key : List ℕ) (version number : ℕ) (bytes : List ℕ)
     → checkpoint.end < cutoff → IsSeenAt (log_updates logs) checkpoint key version → (h : HasColumn (survivors cutoff None logs) key number bytes)
     → h.write.stamp.version ≤ version → HasColumn (up_to version (log_updates logs)) key number bytes
 seen_column cutoff checkpoint logs key version number bytes ends seen h most =

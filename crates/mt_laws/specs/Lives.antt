@@ -1,16 +1,24 @@
--- Lives of a server over logs alone: it writes, syncs, acknowledges, adds logs and segments, crashes, recovers and resumes, as often as it may. There is no
--- checkpoint.
-use Rattle.std.specs.Prelude.{◌≡◌, ℕ, ◌≤◌, ◌<◌, ◌⊎◌, true, false, List, [], ◌∷◌, ◌++◌, map, Contains}
+-- Lives of a server: it writes, syncs, acknowledges, adds logs and segments, writes checkpoints, deletes old logs, crashes, recovers and resumes or
+-- starts afresh, as often as it may. A file counts as added from when a crash may leave it, and as deleted from when no crash may leave it: once the folder is synced. So a creation or a
+-- deletion that a crash finds unsynced is a step that was made before the crash, or was not.
+use Rattle.std.specs.Prelude.{◌≡◌, ℕ, ◌≤◌, ◌<◌, ◌⊎◌, Bool, true, false, Option, Some, None, IfSome, List, [], ◌∷◌, ◌++◌, length, map, Contains}
 use Rattle.std.specs.List.{AllZip}
+use Rattle.mt_words.specs.declared.record.Change.{Change}
 use Rattle.mt_words.specs.declared.update.Update.{Update}
 use Rattle.mt_words.specs.Changes.{Logged, is_mark}
+use Rattle.mt_words.specs.Built.{entry_of}
+use Rattle.mt_words.specs.Walks.{Pair}
 use Rattle.mt_record.specs.declared.feed.head.Head.{Head}
 use Rattle.mt_record.specs.Logs.{log_bytes, LogReading, IsReading, times_of}
-use Rattle.mt_record.specs.Resuming.{resumed}
+use Rattle.mt_record.specs.Parts.{PartReading, IsPartReading}
+use Rattle.mt_record.specs.Resuming.{below, resumed}
+use Rattle.mt_scan.specs.PartScans.{KnownPart, whole}
+use Rattle.mt_scan.specs.Choice.{CheckpointReading, belongs_to, parts_of, IsValid, IsNoBetter}
 use Rattle.mt_scan.specs.Segments.{IsEarlier, IsDoubled, IsGap}
 use Rattle.mt_replay.specs.Survivors.{log_updates}
-use Rattle.mt_recover.specs.Recovery.{Facts}
-use Rattle.mt_laws.specs.Crashes.{IsCutOf}
+use Rattle.mt_replay.specs.Walk.{IsWalk}
+use Rattle.mt_recover.specs.Recovery.{AreKnown, Facts, begin_of, survivors, records_of}
+use Rattle.mt_laws.specs.Crashes.{IsCutOf, IsSound}
 use Rattle.mt_laws.specs.Resuming.{IsOnTheWay}
 
 -- ---- files
@@ -46,19 +54,15 @@ pub record IsOpenFile (file : OpenFile) : Type 0 where
 abbrev pub IsBehind : OpenFile → OpenFile → Type 0
 IsBehind a b = IsEarlier a.head.segment b.head.segment
 
--- Each file is open, none is there twice, and none has a gap. A file that is behind another is synced whole, and the other has a synced mark at or past each
--- of its times.
-pub record AreOpen (files : List OpenFile) : Type 0 where
+-- Each file is open, none is there twice, and none has a gap at or after `begin`. A file that is behind another is synced whole, and the other has a synced
+-- mark at or past each of its times.
+pub record AreOpen (begin : ℕ) (files : List OpenFile) : Type 0 where
   pub each : (file : OpenFile) → Contains files file → IsOpenFile file
   pub once : (i : ℕ) → IsDoubled (map file_reading files) i → ⊥
-  pub no_gap : (i : ℕ) → IsGap 0 (map file_reading files) i → ⊥
+  pub no_gap : (i : ℕ) → IsGap begin (map file_reading files) i → ⊥
   pub whole : (a b : OpenFile) → Contains files a → Contains files b → IsBehind a b → a.synced ≡ file_bytes a
   pub beyond : (a b : OpenFile) → Contains files a → Contains files b → IsBehind a b → (time : ℕ) → Contains (times_of (file_reading a)) time
       → HasSynced (λ r. (is_mark r ≡ true) × (time ≤ r.timestamp)) b
-
--- the records of the files
-abbrev pub written_records : List OpenFile → List (List Logged)
-written_records files = map (λ file. file.records) files
 
 -- in the file, or in a later segment of its log, a record above the timestamp is synced
 pub record IsSyncedAbove (time : ℕ) (files : List OpenFile) (file : OpenFile) : Type 0 where
@@ -70,6 +74,84 @@ pub record IsSyncedAbove (time : ℕ) (files : List OpenFile) (file : OpenFile) 
 -- in each log a record above the timestamp is synced
 abbrev pub AllSyncedAbove : ℕ → List OpenFile → Type 0
 AllSyncedAbove time files = (file : OpenFile) → Contains files file → IsSyncedAbove time files file
+
+-- ---- logs that are there, and logs that were deleted
+
+-- a log of a life: it is there, or it was deleted, and had these records
+pub data LogOf (A : Type 0) : Type 0 where
+  there : A → LogOf A
+  deleted : List Logged → LogOf A
+
+-- the logs that are there
+abbrev pub those_there : {A : Type 0} → List (LogOf A) → List A
+those_there [] = []
+those_there (there log ∷ logs) = log ∷ those_there logs
+those_there (deleted records ∷ logs) = those_there logs
+
+-- each log that is there still is, as the relation says, and the deleted ones are deleted
+abbrev pub IsStill : {A B : Type 0} → (A → B → Type 0) → LogOf A → LogOf B → Type 0
+IsStill R (there before) (there after) = R before after
+IsStill R (deleted before) (deleted after) = after ≡ before
+IsStill R before after = ⊥
+
+-- the log with the records that were written to it
+abbrev pub as_written : LogOf OpenFile → LogOf (List Logged)
+as_written (there file) = there file.records
+as_written (deleted records) = deleted records
+
+-- the records of the logs, deleted or not
+abbrev pub records_in : LogOf (List Logged) → List Logged
+records_in (there records) = records
+records_in (deleted records) = records
+
+-- the history: the records of all logs
+abbrev pub history_of : List (LogOf (List Logged)) → List (List Logged)
+history_of logs = map records_in logs
+
+-- the updates of the history of these logs
+abbrev pub updates_in : List (LogOf OpenFile) → List Update
+updates_in logs = log_updates (history_of (map as_written logs))
+
+-- each update of the records is from before the timestamp
+abbrev pub AreOld : ℕ → List Logged → Type 0
+AreOld begin records = (r : Logged) → Contains records r → is_mark r ≡ false → r.timestamp < begin
+
+-- ---- checkpoints
+
+-- the checkpoints of which a crash may leave all parts, and the one that the server stands on, if any: its parts are synced
+pub record Checkpoints : Type 0 where
+  pub written : List CheckpointReading
+  pub base : Option CheckpointReading
+
+-- of two checkpoints the better one begins no earlier
+abbrev pub BeginsRise : List CheckpointReading → Type 0
+BeginsRise written = (a b : CheckpointReading) → Contains written a → Contains written b → IsNoBetter a b → a.begin ≤ b.begin
+
+-- The update is from after the checkpoint's begin, and its version is above those of the updates of its key until now, and of the key's entry.
+pub record IsNewOver (updates : List Update) (checkpoint : CheckpointReading) (u : Update) : Type 0 where
+  pub late : checkpoint.begin ≤ u.timestamp
+  pub newer : (before : Update) → Contains updates before → before.key ≡ u.key → before.stamp.version < u.stamp.version
+  pub above_entry : (entry : Change) → Contains checkpoint.entries entry → entry.key ≡ u.key → entry.version < u.stamp.version
+
+-- each update that was added is new over each checkpoint
+abbrev pub AddNew : Checkpoints → List Update → List Update → Type 0
+AddNew checkpoints before after = (u : Update) → Contains after u →
+    Contains before u ⊎ ((checkpoint : CheckpointReading) → Contains checkpoints.written checkpoint → IsNewOver before checkpoint u)
+
+-- What a crash leaves of the parts: a checkpoint that is valid was written, and the one that the server stands on is valid.
+pub record AreLeftOf (checkpoints : Checkpoints) (parts : List (List ℕ)) : Type 0 where
+  pub known : List KnownPart
+  pub are_known : AreKnown parts known
+  pub no_other : (checkpoint : CheckpointReading) → IsValid known checkpoint → Contains checkpoints.written checkpoint
+  pub base_is : IfSome checkpoints.base (IsValid known)
+
+abbrev pub listed : Option CheckpointReading → List CheckpointReading
+listed None = []
+listed (Some checkpoint) = checkpoint ∷ []
+
+-- the checkpoints after a resume: the one that was chosen, if any
+abbrev pub only : Option CheckpointReading → Checkpoints
+only chosen = record { written = listed chosen; base = chosen }
 
 -- ---- steps
 
@@ -97,31 +179,118 @@ pub record IsResumedAs (cutoff : ℕ) (left : List ℕ) (file : OpenFile) : Type
   pub replaces : file_reading file ≡ resumed cutoff reading
   pub synced : file.synced ≡ file_bytes file
 
--- A server, and the updates that it has acknowledged: it runs with these files; or it is down, these records were written, and these bytes are left of the
--- files.
+-- the log is as it was, or it was deleted, and has only old updates
+abbrev pub IsStillOrDeleted : ℕ → LogOf OpenFile → LogOf OpenFile → Type 0
+IsStillOrDeleted begin (there before) (there after) = after ≡ before
+IsStillOrDeleted begin (there before) (deleted records) = (records ≡ before.records) × AreOld begin records
+IsStillOrDeleted begin (deleted before) (there after) = ⊥
+IsStillOrDeleted begin (deleted before) (deleted after) = after ≡ before
+
+-- Old logs were deleted, but not all logs: those without updates from `begin` on, and none before the earlier segments of its log. What is left is open.
+pub record AreDeleted (begin : ℕ) (before after : List (LogOf OpenFile)) : Type 0 where
+  pub each : AllZip (IsStillOrDeleted begin) before after
+  pub some : 0 < length (those_there after)
+  pub lowest_first : (a b : OpenFile) → Contains (those_there after) a → Contains (those_there before) b → IsBehind a b → Contains (those_there after) b
+  pub opens : AreOpen begin (those_there after)
+
+-- what a fresh start leaves behind of a log: its records below the cutoff, in the history alone
+abbrev pub left_behind : ℕ → LogOf (List Logged) → LogOf OpenFile
+left_behind cutoff (there records) = deleted (below cutoff records)
+left_behind cutoff (deleted records) = deleted records
+
+-- A fresh start in a new folder: the store that recovery finds as one checkpoint, which begins and ends at the cutoff and has an entry of one version for each
+-- pair, and one file of marks, with a synced one above the cutoff. No update that survives is above the version.
+pub record IsFreshStart {left parts : List (List ℕ)} (facts : Facts left parts) (file : OpenFile) (new : CheckpointReading) : Type 0 where
+  pub pairs : List Pair
+  pub walk : IsWalk (survivors facts.cutoff facts.chosen (records_of facts.readings)) pairs
+  pub version : ℕ
+  pub most : (u : Update) → Contains (survivors facts.cutoff facts.chosen (records_of facts.readings)) u → u.stamp.version ≤ version
+  pub begins : new.begin ≡ facts.cutoff
+  pub ends : new.end ≡ facts.cutoff
+  pub entries : new.entries ≡ map (λ (pair : Pair). entry_of version pair.0 pair.1) pairs
+  pub opens : AreOpen facts.cutoff (file ∷ [])
+  pub marks : (r : Logged) → Contains file.records r → is_mark r ≡ true
+  pub above : HasSynced (λ r. facts.cutoff < r.timestamp) file
+
+-- A server, the updates that it has acknowledged, its logs and its checkpoints: it runs; or it is down, these records were written, and these bytes are left of
+-- the logs and of the parts.
 pub data State : Type 0 where
-  running : List Update → List OpenFile → State
-  down : List Update → List (List Logged) → List (List ℕ) → State
+  running : List Update → List (LogOf OpenFile) → Checkpoints → State
+  down : List Update → List (LogOf (List Logged)) → List (List ℕ) → List (List ℕ) → State
 
 -- A step of a life. An update is acknowledged once a record above it is synced in each log. A file that is added, of a new log or a new segment, has a synced
--- record above each acknowledged update. A crash leaves of each file at least what is synced. A resume may be stopped in any state on the way.
+-- record above each acknowledged update, and above the end of the checkpoint that the server stands on. A checkpoint that is written is sound. The server may
+-- stand on it once its parts are synced, and in each log a record above its end. A crash leaves of each file at least what is synced. A resume may be stopped in
+-- any state on the way. After it the chosen checkpoint is the only one. In place of a resume the server may start afresh in a new folder.
 pub data IsStep : State → State → Type 0 where
-  write : (acked : List Update) (before after : List OpenFile) → AllZip IsWritten before after → AreOpen after
-      → IsStep (running acked before) (running acked after)
-  sync : (acked : List Update) (before after : List OpenFile) → AllZip IsSynced before after → AreOpen after
-      → IsStep (running acked before) (running acked after)
-  acknowledge : (acked : List Update) (files : List OpenFile) (u : Update) → Contains (log_updates (written_records files)) u → AllSyncedAbove u.timestamp files
-      → IsStep (running acked files) (running (u ∷ acked) files)
-  add_file : (acked : List Update) (files : List OpenFile) (file : OpenFile) → AreOpen (files ++ file ∷ [])
-      → ((u : Update) → Contains acked u → HasSynced (λ r. u.timestamp < r.timestamp) file) → IsStep (running acked files) (running acked (files ++ file ∷ []))
-  crash : (acked : List Update) (files : List OpenFile) (left : List (List ℕ)) → AllZip IsLeftOf files left
-      → IsStep (running acked files) (down acked (written_records files) left)
-  stop : (acked : List Update) (history : List (List Logged)) (left now : List (List ℕ)) (facts : Facts left []) → IsOnTheWay facts now []
-      → IsStep (down acked history left) (down acked history now)
-  resume : (acked : List Update) (history : List (List Logged)) (left : List (List ℕ)) (files : List OpenFile) (facts : Facts left [])
-      → AllZip (IsResumedAs facts.cutoff) left files → IsStep (down acked history left) (running acked files)
+  write : (acked : List Update) (before after : List (LogOf OpenFile)) (checkpoints : Checkpoints) → AllZip (IsStill IsWritten) before after
+      → AreOpen (begin_of checkpoints.base) (those_there after) → AddNew checkpoints (updates_in before) (updates_in after)
+      → IsStep (running acked before checkpoints) (running acked after checkpoints)
+  sync : (acked : List Update) (before after : List (LogOf OpenFile)) (checkpoints : Checkpoints) → AllZip (IsStill IsSynced) before after
+      → AreOpen (begin_of checkpoints.base) (those_there after) → IsStep (running acked before checkpoints) (running acked after checkpoints)
+  acknowledge : (acked : List Update) (logs : List (LogOf OpenFile)) (checkpoints : Checkpoints) (u : Update) → Contains (updates_in logs) u
+      → AllSyncedAbove u.timestamp (those_there logs) → IsStep (running acked logs checkpoints) (running (u ∷ acked) logs checkpoints)
+  add_file : (acked : List Update) (logs : List (LogOf OpenFile)) (checkpoints : Checkpoints) (file : OpenFile)
+      → AreOpen (begin_of checkpoints.base) (those_there (logs ++ there file ∷ []))
+      → AddNew checkpoints (updates_in logs) (updates_in (logs ++ there file ∷ []))
+      → ((u : Update) → Contains acked u → HasSynced (λ r. u.timestamp < r.timestamp) file)
+      → IfSome checkpoints.base (λ base. HasSynced (λ r. base.end < r.timestamp) file)
+      → IsStep (running acked logs checkpoints) (running acked (logs ++ there file ∷ []) checkpoints)
+  write_checkpoint : (acked : List Update) (logs : List (LogOf OpenFile)) (checkpoints : Checkpoints) (new : CheckpointReading)
+      → IsSound (updates_in logs) new → BeginsRise (new ∷ checkpoints.written)
+      → IsStep (running acked logs checkpoints) (running acked logs (record checkpoints { written = new ∷ checkpoints.written }))
+  stand : (acked : List Update) (logs : List (LogOf OpenFile)) (checkpoints : Checkpoints) (new : CheckpointReading) → Contains checkpoints.written new
+      → begin_of checkpoints.base ≤ new.begin → AllSyncedAbove new.end (those_there logs)
+      → IsStep (running acked logs checkpoints) (running acked logs (record checkpoints { base = Some new }))
+  delete : (acked : List Update) (before after : List (LogOf OpenFile)) (checkpoints : Checkpoints) → AreDeleted (begin_of checkpoints.base) before after
+      → IsStep (running acked before checkpoints) (running acked after checkpoints)
+  crash : (acked : List Update) (logs : List (LogOf OpenFile)) (checkpoints : Checkpoints) (left parts : List (List ℕ)) → AllZip IsLeftOf (those_there logs) left
+      → AreLeftOf checkpoints parts → IsStep (running acked logs checkpoints) (down acked (map as_written logs) left parts)
+  stop : (acked : List Update) (logs : List (LogOf (List Logged))) (left parts now now_parts : List (List ℕ)) (facts : Facts left parts)
+      → IsOnTheWay facts now now_parts → IsStep (down acked logs left parts) (down acked logs now now_parts)
+  resume : (acked : List Update) (before : List (LogOf (List Logged))) (left parts : List (List ℕ)) (after : List (LogOf OpenFile)) (facts : Facts left parts)
+      → AllZip (IsStill (λ records file. Unit {0})) before after → AllZip (IsResumedAs facts.cutoff) left (those_there after)
+      → IsStep (down acked before left parts) (running acked after (only facts.chosen))
+  start_afresh : (acked : List Update) (before : List (LogOf (List Logged))) (left parts : List (List ℕ)) (facts : Facts left parts) (file : OpenFile)
+      (new : CheckpointReading) → IsFreshStart facts file new
+      → IsStep (down acked before left parts) (running acked (map (left_behind facts.cutoff) before ++ there file ∷ []) (only (Some new)))
 
--- the states of a life that begins with at least one file and nothing acknowledged
+-- the states of a life that begins with at least one file, no checkpoint and nothing acknowledged
 pub data Life : State → Type 0 where
-  begun : (file : OpenFile) (files : List OpenFile) → AreOpen (file ∷ files) → Life (running [] (file ∷ files))
+  begun : (file : OpenFile) (files : List OpenFile) → AreOpen 0 (file ∷ files) → Life (running [] (map there (file ∷ files)) (only None))
   then : (before after : State) → Life before → IsStep before after → Life after
+
+-- ---- the files of parts
+
+-- a file of a part, as it is being written: its bytes, and whether it is synced, in the folder too
+pub record PartFile : Type 0 where
+  pub bytes : List ℕ
+  pub synced : Bool
+
+-- the bytes begin a part
+pub record BeginsAPart (bytes : List ℕ) : Type 0 where
+  pub more : List ℕ
+  pub part : PartReading
+  pub is_part : IsPartReading (bytes ++ more) part
+
+-- a checkpoint that is valid among the files of parts, all of which are synced
+pub record IsSyncedIn (files : List PartFile) (known : List KnownPart) (checkpoint : CheckpointReading) : Type 0 where
+  pub valid : IsValid known checkpoint
+  pub synced : AllZip (λ (file : PartFile) part. belongs_to checkpoint.number part ≡ true → file.synced ≡ true) files known
+
+-- The files of the parts, of one number for each checkpoint: there are no more with a number than a complete part names. The checkpoints that are valid were
+-- written, and the one that the server stands on is synced. Each file begins a part.
+pub record AreFilesOf (checkpoints : Checkpoints) (files : List PartFile) : Type 0 where
+  pub each : (file : PartFile) → Contains files file → BeginsAPart file.bytes
+  pub known : List KnownPart
+  pub are_known : AreKnown (map (λ file. file.bytes) files) known
+  pub no_more : (part : PartReading) → Contains known (whole part) → length (parts_of part.number known) ≤ part.parts
+  pub written : (checkpoint : CheckpointReading) → IsValid known checkpoint → Contains checkpoints.written checkpoint
+  pub base_is : IfSome checkpoints.base (IsSyncedIn files known)
+
+-- what a crash leaves of the files of parts: each synced one, and of each other one a beginning, or nothing
+pub data AreCutParts : List PartFile → List (List ℕ) → Type 0 where
+  none : AreCutParts [] []
+  lost : (file : PartFile) (files : List PartFile) (left : List (List ℕ)) → file.synced ≡ false → AreCutParts files left → AreCutParts (file ∷ files) left
+  cut : (file : PartFile) (files : List PartFile) (bytes more : List ℕ) (left : List (List ℕ)) → file.bytes ≡ bytes ++ more → (file.synced ≡ true → more ≡ [])
+      → AreCutParts files left → AreCutParts (file ∷ files) (bytes ∷ left)

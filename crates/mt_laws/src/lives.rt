@@ -3,24 +3,35 @@ ghost use Rattle.std.specs.Prelude.{ℕ, None, List, [], ◌∷◌, Contains};
 ghost use Rattle.mt_words.specs.declared.update.Update.{Update};
 ghost use Rattle.mt_words.specs.Changes.{Logged};
 ghost use Rattle.mt_words.specs.Walks.{Pair};
+ghost use Rattle.mt_replay.specs.Survivors.{log_updates};
 ghost use Rattle.mt_replay.specs.Walk.{IsWalk};
 ghost use Rattle.mt_recover.specs.Recovery.{survivors, IsStoreOf};
-ghost use Rattle.mt_laws.specs.Lives.{OpenFile, running, down, Life};
+ghost use Rattle.mt_laws.specs.Lives.{OpenFile, LogOf, deleted, history_of, Checkpoints, running, down, Life, AreLeftOf, PartFile, AreFilesOf, AreCutParts};
 
-/// States that in each life of a server over logs, after each crash, there is a store and no fault. It is that of all
-/// updates below the cutoff that were written and that no resume dropped, and each update that was ever acknowledged is
-/// among them. The server can resume and go on. And there is such a life, in which an acknowledged update meets a crash.
-/// This is a law: it has nothing to run.
+/// States that in each life of a server over logs and checkpoints, after each crash, there is a store and no fault. It is
+/// that of all updates below the cutoff that were written and that no resume dropped, those of deleted logs included, and
+/// each update that was ever acknowledged is among them. The server can resume and go on. And there is such a life, in
+/// which a log with an acknowledged update is deleted before a crash. This is a law: it has nothing to run.
 pub fn a_life_of_crashes()
-    ensures no_fault { (acked : List Update) (history : List (List Logged)) (left : List (List ℕ)) →
-        Life (down acked history left) → (pairs : List Pair) × IsStoreOf left [] pairs }
-    ensures store { (acked : List Update) (history : List (List Logged)) (left : List (List ℕ)) (pairs : List Pair) →
-        Life (down acked history left) → (store : IsStoreOf left [] pairs) →
-        IsWalk (survivors store.basis.facts.cutoff None history) pairs }
-    ensures acknowledged { (acked : List Update) (history : List (List Logged)) (left : List (List ℕ)) (pairs : List Pair) →
-        Life (down acked history left) → (store : IsStoreOf left [] pairs) →
-        (u : Update) → Contains acked u → Contains (survivors store.basis.facts.cutoff None history) u }
-    ensures goes_on { (acked : List Update) (history : List (List Logged)) (left : List (List ℕ)) →
-        Life (down acked history left) → (files : List OpenFile) × Life (running acked files) }
-    ensures some { (u : Update) × (history : List (List Logged)) × (left : List (List ℕ)) × Life (down (u ∷ []) history left) }
+    ensures no_fault { (acked : List Update) (logs : List (LogOf (List Logged))) (left parts : List (List ℕ)) →
+        Life (down acked logs left parts) → (pairs : List Pair) × IsStoreOf left parts pairs }
+    ensures store { (acked : List Update) (logs : List (LogOf (List Logged))) (left parts : List (List ℕ)) (pairs : List Pair) →
+        Life (down acked logs left parts) → (store : IsStoreOf left parts pairs) →
+        IsWalk (survivors store.basis.facts.cutoff None (history_of logs)) pairs }
+    ensures acknowledged { (acked : List Update) (logs : List (LogOf (List Logged))) (left parts : List (List ℕ)) (pairs : List Pair) →
+        Life (down acked logs left parts) → (store : IsStoreOf left parts pairs) →
+        (u : Update) → Contains acked u → Contains (survivors store.basis.facts.cutoff None (history_of logs)) u }
+    ensures goes_on { (acked : List Update) (logs : List (LogOf (List Logged))) (left parts : List (List ℕ)) →
+        Life (down acked logs left parts) →
+        (after : List (LogOf OpenFile)) × (checkpoints : Checkpoints) × Life (running acked after checkpoints) }
+    ensures some { (u : Update) × (old : List Logged) × Contains (log_updates (old ∷ [])) u × (logs : List (LogOf (List Logged))) × (left parts : List (List ℕ)) ×
+        Life (down (u ∷ []) (deleted old ∷ logs) left parts) }
+{}
+
+/// States that what a crash leaves of the files of parts is as `a_life_of_crashes` asks: no checkpoint becomes valid that
+/// was not, and one whose parts were synced stays valid. So it is if the parts of a checkpoint have a number that no other
+/// part has. This is a law: it has nothing to run.
+pub fn a_crash_makes_no_checkpoint_valid()
+    ensures { (checkpoints : Checkpoints) (files : List PartFile) (left : List (List ℕ)) →
+        AreFilesOf checkpoints files → AreCutParts files left → AreLeftOf checkpoints left }
 {}

@@ -3,16 +3,16 @@ use Rattle.mt_laws.proofs.SomeLife.{some_life}
 use Rattle.mt_laws.proofs.lives.a_life_of_crashes.Goals as goal
 
 pub returns-clause-no_fault : goal.returns-clause-no_fault
-returns-clause-no_fault c = λ acked history left life. life_has_store acked history left life
+returns-clause-no_fault c = λ acked logs left parts life. life_has_store acked logs left parts life
 
 pub returns-clause-store : goal.returns-clause-store
-returns-clause-store c = λ acked history left pairs life store. life_store acked history left pairs life store
+returns-clause-store c = λ acked logs left parts pairs life store. life_store acked logs left parts pairs life store
 
 pub returns-clause-acknowledged : goal.returns-clause-acknowledged
-returns-clause-acknowledged c = λ acked history left pairs life store u at. life_keeps acked history left pairs life store u at
+returns-clause-acknowledged c = λ acked logs left parts pairs life store u at. life_keeps acked logs left parts pairs life store u at
 
 pub returns-clause-goes_on : goal.returns-clause-goes_on
-returns-clause-goes_on c = λ acked history left life. life_goes_on acked history left life
+returns-clause-goes_on c = λ acked logs left parts life. life_goes_on acked logs left parts life
 
 pub returns-clause-some : goal.returns-clause-some
 returns-clause-some c = some_life
