@@ -36,3 +36,4 @@ pub mod SoundStays
 pub mod KeptLogs
 pub mod Afresh
 pub mod LeftParts
+pub mod NewParts

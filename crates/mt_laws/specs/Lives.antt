@@ -294,3 +294,13 @@ pub data AreCutParts : List PartFile → List (List ℕ) → Type 0 where
   lost : (file : PartFile) (files : List PartFile) (left : List (List ℕ)) → file.synced ≡ false → AreCutParts files left → AreCutParts (file ∷ files) left
   cut : (file : PartFile) (files : List PartFile) (bytes more : List ℕ) (left : List (List ℕ)) → file.bytes ≡ bytes ++ more → (file.synced ≡ true → more ≡ [])
       → AreCutParts files left → AreCutParts (file ∷ files) (bytes ∷ left)
+
+-- The files of the parts of one checkpoint beside those in the folder, as far as they are there. Its number is above that of each part in the folder, and each
+-- of its complete parts names at least as many as there are. Each file begins a part.
+pub record AreNewFiles (before : List KnownPart) (number : ℕ) (files : List PartFile) : Type 0 where
+  pub each : (file : PartFile) → Contains files file → BeginsAPart file.bytes
+  pub known : List KnownPart
+  pub are_known : AreKnown (map (λ file. file.bytes) files) known
+  pub above : (part : KnownPart) (other : ℕ) → Contains before part → belongs_to other part ≡ true → other < number
+  pub numbered : (part : KnownPart) (other : ℕ) → Contains known part → belongs_to other part ≡ true → other ≡ number
+  pub no_more : (part : PartReading) → Contains known (whole part) → length files ≤ part.parts

@@ -22,7 +22,9 @@ pub use crashes::{
     a_crash_loses_nothing_below_the_cutoff, a_cut_log_is_a_log, acknowledged_is_safe,
 };
 pub use fresh::a_fresh_start_is_the_same_store;
-pub use lives::{a_crash_makes_no_checkpoint_valid, a_life_of_crashes};
+pub use lives::{
+    a_checkpoint_written_while_running, a_crash_makes_no_checkpoint_valid, a_life_of_crashes,
+};
 pub use readings::{some_part, some_reading};
 pub use resuming::{
     a_resumed_log_is_a_log, an_update_after_a_resume, deleting_makes_no_checkpoint_valid,
