@@ -8,6 +8,9 @@ use Rattle.mt_text.specs.Pairs.{dump_text}
 use Rattle.mt_recover.specs.Recovery.{IsStoreOf}
 use Rattle.mt_recover.specs.declared.failure.Failure.{Failure}
 use Rattle.mt_recover.specs.declared.failure.Failure.TheVariants as failures
+use Rattle.mt_text.specs.declared.print_fault.PrintFault.{PrintFault}
+use Rattle.mt_text.specs.declared.print_fault.PrintFault.TheVariants as print_faults
+use Rattle.mt_words.specs.declared.fault.Fault.TheVariants as faults
 
 -- the bytes are those of some file, if it tells them
 abbrev pub AreOfSomeFile : {F : Type 0} → (F → Option (List ℕ)) → List ℕ → Type 0
@@ -36,3 +39,8 @@ status_of (failures.List name) = 3
 status_of failures.TooManyFiles = 3
 status_of (failures.Open name) = 3
 status_of failures.Output = 3
+
+-- the failure of a program that could not print all
+abbrev pub failure_of : PrintFault → Failure
+failure_of (print_faults.Output error) = failures.Output
+failure_of print_faults.Memory = failures.Recovery faults.Memory

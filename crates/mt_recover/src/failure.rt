@@ -1,6 +1,8 @@
 //! The failures of the programs, with their texts and exit statuses.
 ghost use Rattle.std.specs.Prelude.{◌≡◌, ◌≤◌, ◌⊎◌};
-ghost use Rattle.mt_recover.specs.Program.{status_of};
+ghost use Rattle.mt_words.specs.declared.fault.Fault.TheVariants as faults;
+ghost use Rattle.mt_recover.specs.declared.failure.Failure.TheVariants.{Recovery, Output};
+ghost use Rattle.mt_recover.specs.Program.{status_of, failure_of};
 
 use mt_text::PrintFault;
 use mt_words::{Fault, Memory};
@@ -86,8 +88,6 @@ impl<'a> Refusal<'a> {
 }
 
 impl<'a> From<Failure<'a>> for Refusal<'a> {
-    ghost use Rattle.std.specs.Prelude.{◌≡◌};
-
     ghost from_gives = { λ failure refusal. refusal.failure ≡ failure };
 
     fn from(failure: Failure<'a>) -> Refusal<'a> {
@@ -98,9 +98,6 @@ impl<'a> From<Failure<'a>> for Refusal<'a> {
 
 /// An I/O error that no failure names is a write error on the output, whatever its kind.
 impl<'a> From<io::Error> for Refusal<'a> {
-    ghost use Rattle.std.specs.Prelude.{◌≡◌};
-    ghost use Rattle.mt_recover.specs.declared.failure.Failure.TheVariants.{Output};
-
     ghost from_gives = { λ _ refusal. refusal.failure ≡ Output };
 
     fn from(error: io::Error) -> Refusal<'a> {
@@ -112,6 +109,8 @@ impl<'a> From<io::Error> for Refusal<'a> {
 }
 
 impl<'a> From<PrintFault> for Refusal<'a> {
+    ghost from_gives = { λ fault refusal. refusal.failure ≡ failure_of fault };
+
     fn from(fault: PrintFault) -> Refusal<'a> {
         match fault {
             PrintFault::Output(error) => Refusal::from(error),
@@ -121,9 +120,6 @@ impl<'a> From<PrintFault> for Refusal<'a> {
 }
 
 impl<'a> From<Fault> for Refusal<'a> {
-    ghost use Rattle.std.specs.Prelude.{◌≡◌};
-    ghost use Rattle.mt_recover.specs.declared.failure.Failure.TheVariants.{Recovery};
-
     ghost from_gives = { λ fault refusal. refusal.failure ≡ Recovery fault };
 
     fn from(fault: Fault) -> Refusal<'a> {
@@ -132,10 +128,6 @@ impl<'a> From<Fault> for Refusal<'a> {
 }
 
 impl<'a> From<Memory> for Refusal<'a> {
-    ghost use Rattle.std.specs.Prelude.{◌≡◌};
-    ghost use Rattle.mt_words.specs.declared.fault.Fault.TheVariants as faults;
-    ghost use Rattle.mt_recover.specs.declared.failure.Failure.TheVariants.{Recovery};
-
     ghost from_gives = { λ _ refusal. refusal.failure ≡ Recovery faults.Memory };
 
     fn from(_memory: Memory) -> Refusal<'a> {
@@ -144,10 +136,6 @@ impl<'a> From<Memory> for Refusal<'a> {
 }
 
 impl<'a> From<AllocError> for Refusal<'a> {
-    ghost use Rattle.std.specs.Prelude.{◌≡◌};
-    ghost use Rattle.mt_words.specs.declared.fault.Fault.TheVariants as faults;
-    ghost use Rattle.mt_recover.specs.declared.failure.Failure.TheVariants.{Recovery};
-
     ghost from_gives = { λ _ refusal. refusal.failure ≡ Recovery faults.Memory };
 
     fn from(_refused: AllocError) -> Refusal<'a> {
@@ -156,10 +144,6 @@ impl<'a> From<AllocError> for Refusal<'a> {
 }
 
 impl<'a, T: Drop> From<AllocFailed<T>> for Refusal<'a> {
-    ghost use Rattle.std.specs.Prelude.{◌≡◌};
-    ghost use Rattle.mt_words.specs.declared.fault.Fault.TheVariants as faults;
-    ghost use Rattle.mt_recover.specs.declared.failure.Failure.TheVariants.{Recovery};
-
     ghost from_gives = { λ _ refusal. refusal.failure ≡ Recovery faults.Memory };
 
     fn from(_refused: AllocFailed<T>) -> Refusal<'a> {
