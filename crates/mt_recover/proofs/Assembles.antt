@@ -37,7 +37,7 @@ not_same a b ne = grind (arith, nat_tests)
 is_same : (a : ℕ) → nat_eq a a ≡ true
 is_same a = grind (arith, nat_tests)
 
--- how often x stands in a list with one more number in front
+-- how often x occurs in a list with one more number in front
 times_cons : (x y : ℕ) (ys : List ℕ) → times x (y ∷ ys) ≡ cond {A = ℕ} (nat_eq y x) 1 0 + times x ys
 times_cons x y ys = sum_by-cons (λ (z : ℕ). cond (nat_eq z x) 1 0) y ys
 
@@ -47,7 +47,7 @@ held_each : (job : JobView) (hauls : List Haul) → All (IsHaulOf job) hauls →
 held_each job [] all = All-nil (IsHeldBy job)
 held_each job (h ∷ hs) all = All-append (IsHeldBy job) h.pieces.items (all_held hs) (All-head (IsHaulOf job) h hs all).pieces (held_each job hs (All-tail (IsHaulOf job) h hs all))
 
--- a number stands among the pieces of all hauls as often as the hauls hold it
+-- a number occurs among the pieces of all hauls as often as in the hauls together
 times_all : (x : ℕ) (hauls : List Haul) → times x (map number_of (all_held hauls)) ≡ times_held x hauls
 times_all x [] = refl
 times_all x (h ∷ hs) = omega (

@@ -103,7 +103,7 @@ adds_up facts report found =
       all = omega (arith, found.marks, found.records, found.entries, records, both, times);
     }
 
--- the report of what is prepared: that of what was found, with what survives, comes early and comes late
+-- the prepared report: the report of what was found, with the numbers of surviving, early and late updates
 pub report_is : {logs parts : List (List ℕ)} (facts : Facts logs parts) (report : Report) (pairs : List Pair) (survivors early layers : ℕ) → IsFoundIn facts report
     → survivors ≡ length (survivors_in facts) → early ≡ length (early_in facts) → CountsLayers pairs layers
     → IsReportOf facts pairs (record report { survivors = survivors; early = early; late = report.records - report.marks - early - (survivors - report.entries); keys = length pairs; layers = layers })
@@ -135,7 +135,7 @@ report_is facts report pairs survivors early layers found same before count =
 
 -- ---- the keys of a walk
 
--- a list that has x is what is before x, then x, then what is after x
+-- a list that contains x is some list, then x, then another list
 around : {X : Type 0} (xs : List X) (x : X) → Contains xs x → (front : List X) × (back : List X) × (xs ≡ front ++ x ∷ back)
 around [] x at = absurd (no_element x at)
 around (y ∷ ys) x (zero, lt, e) = ([], ys, ap (λ z. z ∷ ys) e)

@@ -106,7 +106,7 @@ pub are_shown : (limit : ℕ) (sources parts : List Seen) (outcomes : Outcomes) 
 are_shown limit sources parts outcomes scans part_scans cutoff choice are logs_done parts_done writers is of =
     shown_by limit sources parts scans part_scans cutoff choice (subst (AllFrom (IsLogOutcome limit) 0 sources) logs_done are.logs_are) (subst (AllFrom IsPartOutcome 0 (read_parts sources parts)) parts_done are.parts_are) writers is of
 
--- what holds for all logs and parts that are shown so holds for some that the sources may have
+-- a fact of all logs and parts that these scans show is a fact of some that the sources may have
 pub of_shown : {limit : ℕ} {sources parts : List Seen} {scans : List LogScan} {cutoff : ℕ} {choice : Choice} (P : List (List ℕ) → List (List ℕ) → Type 0) → OfSources (λ seen. seen) sources parts (AreShown limit scans cutoff choice)
     → ((logs parts : List (List ℕ)) → AreShown limit scans cutoff choice logs parts → P logs parts) → OfSources (λ seen. seen) sources parts P
 of_shown P of holds = record { logs = of.logs; parts = of.parts; logs_may = of.logs_may; parts_may = of.parts_may; holds = holds of.logs of.parts of.holds }

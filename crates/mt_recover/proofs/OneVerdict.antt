@@ -214,7 +214,7 @@ not_none logs parts fault none (inr of) = by of.0 (subst (λ (x : List (List ℕ
 not_fault : (logs : List (List ℕ)) (readings : List LogReading) (fault : Fault) → AreReadings logs readings → NamesFault logs fault → ⊥
 not_fault logs readings fault read is = no_fault_at logs readings is.0 is.3.bytes is.1 read is.3.stands is.3.is_fault
 
--- what is so of the readings of logs is so of any readings of theirs
+-- a fact of the readings of logs is a fact of any readings of these logs
 same_of : (logs parts : List (List ℕ)) (a b : List LogReading) (fault : Fault) → AreReadings logs a → AreReadings logs b → IsOf logs parts a fault → IsOf logs parts b fault
 same_of logs parts a b fault read too = subst (λ (x : List LogReading). IsOf logs parts x fault) (one_zip IsReading one_reading_of logs a b read too)
 

@@ -32,7 +32,7 @@ same_head Before one_way x y xs ys low_x low_y at here = elim (head_or_tail y x 
   ]
 ]
 
--- if two rising lists have equal heads, what is in one tail and in the other list is in the other tail
+-- if two rising lists have equal heads, an element of one tail that is in the other list is in its tail
 in_tail : {A : Type 0} (Before : A → A → Type 0) → ((a b : A) → Before a b → Before b a → ⊥) → (x y a : A) (xs ys : List A)
     → x ≡ y → AllByRecursion (Before x) xs → Contains (y ∷ ys) a → Contains xs a → Contains ys a
 in_tail Before one_way x y a xs ys same low at here = elim (head_or_tail y a ys at) as (λ _. Contains ys a) [

@@ -1,4 +1,4 @@
--- From what is found to what is prepared, and from that to what is recovered.
+-- From findings to the prepared lists, and from these to the recovered store.
 use Rattle.std.proofs.Common.{◌≡◌, ◌∙◌, ◌^◌, ℕ, ◌<◌, ◌≤◌, false, List, ◌++◌, length, map, Contains, IsPermutation, Ok, sym, ap, subst, arith}
 use Rattle.std.specs.Prelude.{filter, nat_lt, Result}
 use Rattle.std.proofs.lemmas.Bool.Decides.{nat_tests}

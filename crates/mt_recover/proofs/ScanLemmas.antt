@@ -96,10 +96,6 @@ least_both : (xs ys : List ℕ) → least_of (xs ++ ys) ≡ min (least_of xs) (l
 least_both [] ys = omega (arith, least_small ys)
 least_both (x ∷ xs) ys = let rest = least_both xs ys in omega (arith, rest)
 
--- no source was scanned
-pub none_scanned : {S : Type 0} (seen : S → Seen) (pass : PassView) → pass.noted ≤ nothing_noted → HasScanned seen [] [] pass pass
-none_scanned seen pass small = record { board = refl; noted = omega (arith, small); falls = omega arith; answered = tt }
-
 noted_is : (noted : ℕ) (n : Option ℕ) → noted ≤ nothing_noted → lowered_by noted n ≡ min noted (least_of (cons_option n []))
 noted_is noted None small = omega (arith, small)
 noted_is noted (Some n) small = omega (arith, small)
@@ -213,7 +209,7 @@ least_dealt (a ∷ later) ((x ∷ xs) ∷ ps) dealt =
       least_small (lasts_in xs),
     )
 
--- what workers scanned can be gathered: there are answers, all passes are of the board, and what is gathered are the outcomes of logs and parts
+-- the scans of the workers can be gathered: there are answers, all passes belong to the board, and gathering gives the outcomes of logs and parts
 pub record CanBeGathered {S A : Type 0} (seen : S → Seen) (answers_in : A → List Scanned) (logs parts : List S) (board : BoardId) (all : List (A × PassView)) : Type 0 where
   pub some : 0 < length all
   pub boards : All (λ scans. scans.1.board ≡ board) all

@@ -276,7 +276,7 @@ answer_seen seen logs parts P result is = record {
 pub answer_without_memory : {S T : Type 0} (seen : S → Seen) (logs parts : List S) (P : List (List ℕ) → List (List ℕ) → T → Type 0) (result : Result T Fault) → result ≡ Err faults.Memory → IsAnswerFrom seen logs parts P result
 answer_without_memory seen logs parts P result is = rw is (record { value = tt; fault = answered_seen seen logs parts faults.Memory (memory_refused (map seen logs) (map seen parts) faults.Memory refl) })
 
--- what is made of some logs and parts that the sources may have, or `Memory`, is a result from them
+-- an answer for some logs and parts that the sources may have, or `Memory`, is an answer from the sources
 pub answer_made : {S T : Type 0} (seen : S → Seen) (logs parts : List S) (P : List (List ℕ) → List (List ℕ) → T → Type 0) {Q : List (List ℕ) → List (List ℕ) → Type 0} (result : Result T Fault)
     → (of : OfSources seen logs parts Q) → IfOk result (P of.logs of.parts) → IfErr result (λ fault. fault ≡ faults.Memory) → IsAnswerFrom seen logs parts P result
 answer_made seen logs parts P result of made memory = record {

@@ -23,7 +23,7 @@ use Rattle.mt_recover.specs.Steps.Preparing.{entry_versions}
 
 -- ---- the greatest of numbers
 
--- what is 0 or one of some numbers is 0 or one of more numbers
+-- a number that is 0 or in a list is 0 or in a longer list
 behind : (n m : ℕ) (ns : List ℕ) → Contains (0 ∷ ns) m → Contains (0 ∷ n ∷ ns) m
 behind n m ns at = elim (head_or_tail 0 m ns at) as (λ _. Contains (0 ∷ n ∷ ns) m) [
   | inl e ↦ subst (Contains (0 ∷ n ∷ ns)) e (head_in 0 (n ∷ ns))

@@ -3,7 +3,7 @@ ghost use Rattle.std.specs.Prelude.{◌≡◌, ◌+◌, ◌<◌, List, ℕ, leng
 ghost use Rattle.mt_board.specs.Board.{fresh_passes};
 ghost use Rattle.mt_words.specs.Walks.{joined};
 ghost use Rattle.mt_recover.specs.Inputs.{IsAnsweredBy, OfSources};
-ghost use Rattle.mt_recover.specs.Job.{AreCutBy};
+ghost use Rattle.mt_recover.specs.Job.{AreCutBy, JobView};
 ghost use Rattle.mt_recover.specs.Prepared.{IsPreparedOf};
 ghost use Rattle.mt_recover.specs.Steps.Preparing.{IsFound, IsFoundOf};
 
@@ -31,9 +31,6 @@ pub struct Job {
 }
 
 impl Model for Job {
-    ghost use Rattle.std.specs.Prelude.{◌≡◌, ◌+◌, length};
-    ghost use Rattle.mt_recover.specs.Job.{JobView};
-
     ghost Value = { JobView };
 
     ghost view = { λ j. record { prepared = j.prepared; cuts = j.cuts; board = j.board } };

@@ -1,14 +1,15 @@
 //! The survivors and the counts that are prepared before replay.
-ghost use Rattle.std.specs.Prelude.{◌≡◌, ◌<◌, ◌+◌, List, ℕ, length, IfOk};
+ghost use Rattle.std.specs.Prelude.{◌≡◌, ◌<◌, ◌+◌, List, ℕ, length, IfOk, ◌^◌};
 ghost use Rattle.std.specs.Option.{option_map};
 ghost use Rattle.mt_words.specs.Walks.{joined};
 ghost use Rattle.mt_scan.specs.Choosing.{checkpoint_in};
 ghost use Rattle.mt_replay.specs.Pieces.{IsPiece};
 ghost use Rattle.mt_replay.specs.Walk.{IsWalk};
 ghost use Rattle.mt_tree.specs.Borders.{layer_walk};
-ghost use Rattle.mt_recover.specs.Prepared.{IsMadeOf, IsPreparedOf};
+ghost use Rattle.mt_recover.specs.Prepared.{IsMadeOf, IsPreparedOf, PreparedView};
 ghost use Rattle.mt_recover.specs.Steps.Preparing.{AreBatchesLeft, IsFound, IsLeftBy, IsFoundOf};
 ghost use Rattle.mt_recover.specs.Recovery.{entry_updates};
+ghost use Rattle.mt_replay.specs.Cells.{AreApart};
 
 use crate::Workers;
 use crate::batches::batches_of;
@@ -35,11 +36,6 @@ pub(crate) struct Prepared {
 }
 
 impl Model for Prepared {
-    ghost use Rattle.std.specs.Prelude.{◌≡◌, ◌<◌, ◌^◌, length};
-    ghost use Rattle.mt_words.specs.Walks.{joined};
-    ghost use Rattle.mt_replay.specs.Cells.{AreApart};
-    ghost use Rattle.mt_recover.specs.Prepared.{PreparedView};
-
     ghost Value = { PreparedView };
 
     ghost view = { λ p. record { updates = joined p.lists.items; report = p.report } };

@@ -5,7 +5,7 @@ ghost use Rattle.mt_recover.specs.Hauls.{HasWorked, HaveWorked};
 ghost use Rattle.mt_recover.specs.Inputs.{IsRecoveryFrom};
 ghost use Rattle.mt_recover.specs.Steps.Outcomes.{AreOutcomes};
 ghost use Rattle.mt_recover.specs.Steps.Preparing.{IsFound, IsFoundOf};
-ghost use Rattle.mt_recover.specs.Report.{IsRecoveredOf};
+ghost use Rattle.mt_recover.specs.Report.{IsRecoveredOf, Outcome};
 ghost use Rattle.mt_recover.specs.Verdict.{IsVerdictOrMemory};
 
 use crate::assembling::assemble;
@@ -45,8 +45,6 @@ pub struct Recovered {
 }
 
 impl Model for Recovered {
-    ghost use Rattle.mt_recover.specs.Report.{Outcome};
-
     ghost Value = { Outcome };
 
     ghost view = { λ r. record { store = r.store; report = r.report } };

@@ -1,6 +1,6 @@
 //! The recovered store.
 ghost use Rattle.std.specs.Prelude.{◌≡◌, List, ℕ, MatchOption, Contains, IfOk, OnOk};
-ghost use Rattle.mt_words.specs.Walks.{IsMap};
+ghost use Rattle.mt_words.specs.Walks.{IsMap, Pair};
 ghost use Rattle.mt_tree.specs.Range.{from, hits};
 ghost use Rattle.mt_tree.specs.Trees.{tree_walk, IsCount};
 
@@ -21,10 +21,6 @@ impl Drop for Store {
 }
 
 impl Model for Store {
-    ghost use Rattle.std.specs.Prelude.{List};
-    ghost use Rattle.mt_words.specs.Walks.{Pair, IsMap};
-    ghost use Rattle.mt_tree.specs.Trees.{tree_walk};
-
     ghost Value = { List Pair };
 
     ghost view = { λ s. tree_walk s.tree };

@@ -1,5 +1,5 @@
 //! The number of threads, the way in which keys are cut for them, and the gate where they can be held.
-ghost use Rattle.std.specs.Prelude.{◌≡◌, ◌≤◌, ◌<◌, ◌↔◌, IsSome, IfSome};
+ghost use Rattle.std.specs.Prelude.{◌≡◌, ◌≤◌, ◌<◌, ◌↔◌, IsSome, IfSome, ℕ};
 ghost use Rattle.mt_recover.specs.declared.workers.TheConstants.{MOST_WORKERS};
 
 use mt_replay::{Cuts, Pieces};
@@ -15,9 +15,6 @@ pub struct Workers {
 }
 
 impl Model for Workers {
-    ghost use Rattle.std.specs.Prelude.{ℕ, ◌<◌, ◌≤◌};
-    ghost use Rattle.mt_recover.specs.declared.workers.TheConstants.{MOST_WORKERS};
-
     ghost Value = { ℕ };
 
     ghost view = { λ w. w.count };

@@ -5,7 +5,7 @@ use Rattle.std.proofs.lemmas.List.{length-take, take_all}
 use Rattle.mt_scan.specs.Sources.{Agrees}
 use Rattle.mt_recover.proofs.reading.read_file.Goals as goal
 
--- the first bytes of a reader, one more than the limit if it has so many, are all of them if they are no more than the limit
+-- up to limit + 1 bytes were read; if they are at most the limit, they are all bytes of the reader
 all_read : (told : Option (List ℕ)) (limit : ℕ) (bytes : List ℕ) → IfSome (option_map (take (limit + 1)) told) (λ xs. bytes ≡ xs) → length bytes ≤ limit → Agrees told bytes
 all_read None limit bytes read few = tt
 all_read (Some xs) limit bytes read few =
