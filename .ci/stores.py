@@ -1,0 +1,320 @@
+"""Logs, parts and folders, for the scripts that try commands which write files. Their arguments are [TIMES [MTRECOVER]]."""
+import os
+import shutil
+import struct
+import subprocess
+import sys
+from functools import lru_cache
+from pathlib import Path
+from typing import NamedTuple
+
+TOP = Path(__file__).resolve().parent.parent
+TIMES = int(sys.argv[1]) if len(sys.argv) > 1 else 300
+MTRECOVER = sys.argv[2] if len(sys.argv) > 2 else TOP / "crates/mtrecover/out/mtrecover"
+# Folders that are tried lie in memory if they can, where a sync takes no time.
+MEMORY = "/dev/shm" if Path("/dev/shm").is_dir() else None
+PUT, REMOVE, MARK, ERASE = 1, 2, 3, 4
+GREATEST = 2**64 - 1
+KEYS = [b"", b"a", b"b", b"aaaaaaaa", b"aaaaaaaab", b"aaaaaaaaaaaaaaaac"]
+
+counts = {True: 0, False: 0}
+
+
+def count(told, holds):
+    counts[bool(holds)] += 1
+    if not holds:
+        print(f"{told}: FAILED", flush=True)
+
+
+# ---- Bytes ----
+
+
+class Update(NamedTuple):
+    timestamp: int
+    version: int
+    kind: int
+    key: bytes
+    columns: tuple  # of a number and a value; of a number, in an erase
+
+
+def framed(body):
+    length = struct.pack(">I", len(body))
+    return length + body + length
+
+
+def columns_bytes(columns):
+    return bytes([len(columns)]) + b"".join(struct.pack(">BH", number, len(value)) + value for number, value in columns)
+
+
+def record(update):
+    body = struct.pack(">BQQH", update.kind, update.timestamp, update.version, len(update.key)) + update.key
+    if update.kind == PUT:
+        body += columns_bytes(update.columns)
+    elif update.kind == ERASE:
+        body += bytes([len(update.columns), *update.columns])
+    return framed(body)
+
+
+def mark(timestamp):
+    return framed(struct.pack(">BQ", MARK, timestamp))
+
+
+def header(form, start, worker=0, segment=0):
+    return b"MTL%d" % form + struct.pack(">Q", start) + (struct.pack(">II", worker, segment) if form == 3 else b"")
+
+
+def part(form, number, begin, place, parts, entries, end):
+    """Returns a part's bytes. Its entries are versions, keys and columns."""
+    head = b"MTC%d" % form + struct.pack(">IQHH", number, begin, place, parts)
+    bodies = [struct.pack(">QH", version, len(key)) + key + columns_bytes(columns) for version, key, columns in entries]
+    return head + b"".join(map(framed, bodies)) + struct.pack(">IQI", 0, end, len(entries))
+
+
+def end_of(part):
+    """Returns the end of the checkpoint of this part, if it is complete."""
+    return struct.unpack_from(">Q", part, len(part) - 12)[0] if len(part) >= 32 else GREATEST
+
+
+class Log(NamedTuple):
+    form: int
+    start: int
+    writer: object  # the number of the worker of a segment, or the name of another log
+    segment: int
+    kinds: list
+    times: list
+    ends: list  # the byte at which each record ends
+
+    def last(self):
+        return max(self.times, default=self.start)
+
+    def last_update(self):
+        return max([time for kind, time in zip(self.kinds, self.times) if kind != MARK], default=-1)
+
+    def size(self):
+        """Returns the number of bytes up to the end of the last complete record."""
+        return self.ends[-1] if self.ends else 20 if self.form == 3 else 12
+
+    def is_ended(self):
+        return self.times[-1:] == [GREATEST]
+
+
+@lru_cache(4096)
+def read_log(name, content):
+    form, (start,) = content[3] - ord("0"), struct.unpack_from(">Q", content, 4)
+    writer, segment, at = (*struct.unpack_from(">II", content, 12), 20) if form == 3 else (name, 0, 12)
+    log = Log(form, start, writer, segment, [], [], [])
+    while at + 4 <= len(content):
+        (length,) = struct.unpack_from(">I", content, at)
+        if length < 9 or at + length + 8 > len(content):
+            break
+        kind, time = struct.unpack_from(">BQ", content, at + 4)
+        at += length + 8
+        log.kinds.append(kind)
+        log.times.append(time)
+        log.ends.append(at)
+    return log
+
+
+def columns_after(updates):
+    """Returns the columns of a key after these updates of it, in order."""
+    columns = {}
+    for update in updates:
+        if update.kind == REMOVE:
+            columns = {}
+        elif update.kind == ERASE:
+            columns = {number: value for number, value in columns.items() if number not in update.columns}
+        else:
+            columns.update(update.columns)
+    return tuple(sorted(columns.items()))
+
+
+def dump_of(updates):
+    """Returns what `dump` prints of a store that these updates make."""
+    lines = b""
+    for key in sorted({update.key for update in updates}):
+        columns = columns_after(update for update in updates if update.key == key)
+        if columns:
+            lines += f"{key.hex()}:{''.join(f' {number}={value.hex()}' for number, value in columns)}\n".encode()
+    return lines
+
+
+# ---- Random updates ----
+
+
+def random_columns(rng, most):
+    return tuple((number, bytes([rng.randrange(256)])) for number in sorted(rng.sample(range(4), rng.randint(1, most))))
+
+
+def random_update(rng, form, timestamp, version):
+    kind = rng.choice([PUT, PUT, PUT, REMOVE] + [ERASE] * (form > 1))
+    columns = random_columns(rng, 3)
+    return Update(timestamp, version, kind, rng.choice(KEYS), columns if kind == PUT else tuple(n for n, _ in columns))
+
+
+# ---- Programs and folders ----
+
+
+def run(*words, **env):
+    ran = subprocess.run([MTRECOVER, *words], capture_output=True, env={**os.environ, **env}, timeout=120)
+    return ran.returncode, ran.stdout, ran.stderr
+
+
+def share(items, place, places):
+    """Returns one of some even shares of a list."""
+    return items[len(items) * place // places : len(items) * (place + 1) // places]
+
+
+def files_of(folder):
+    return {path.name: path.read_bytes() for path in folder.iterdir()}
+
+
+def lay(folder, files):
+    """Makes a folder have exactly these files."""
+    shutil.rmtree(folder, ignore_errors=True)
+    folder.mkdir()
+    for name, content in files.items():
+        (folder / name).write_bytes(content)
+    return folder
+
+
+def dump(folder):
+    return run("dump", folder, "--workers", "1")
+
+
+def is_out(out, store):
+    """Whether a new folder is no store, or this one."""
+    if not out.exists():
+        return True
+    dumped = dump(out)
+    return dumped == store or dumped[0::2] == (1, b"mtrecover: no logs\n")
+
+
+# ---- A disk ----
+
+
+class Crashed(Exception):
+    """The server crashed."""
+
+
+class File:
+    def __init__(self, content=b""):
+        self.content, self.synced = content, len(content)
+
+    def left(self, rng):
+        whole = len(self.content)
+        return self.content[: rng.choice([self.synced, rng.randint(self.synced, whole), whole])]
+
+
+class Disk:
+    """A folder: its files, those that a crash is sure to leave, and the changes of names since the folder was last synced."""
+
+    def __init__(self, files):
+        self.files = {name: File(content) for name, content in files.items()}
+        self.kept, self.changes = dict(self.files), []
+        self.calls_left = GREATEST
+
+    def call(self):
+        self.calls_left -= 1
+        if self.calls_left < 0:
+            raise Crashed
+
+    def change(self, names):
+        """Gives names to files. The file None has no name."""
+        self.call()
+        self.changes.append(names)
+        rename_all(self.files, names)
+
+    def create(self, name):
+        self.change({name: File()})
+
+    def rename(self, old, new):
+        self.change({old: None, new: self.files[old]})
+
+    def delete(self, name):
+        self.change({name: None})
+
+    def append(self, name, content):
+        self.call()
+        self.files[name].content += content
+
+    def sync_file(self, name):
+        self.call()
+        self.files[name].synced = len(self.files[name].content)
+
+    def sync(self):
+        self.call()
+        self.kept, self.changes = dict(self.files), []
+
+    def contents(self):
+        return {name: file.content for name, file in self.files.items()}
+
+    def crash(self, rng):
+        """Returns the files that a crash leaves: some of the changes of names, and of each file at least what is synced."""
+        chance = rng.choice([0, 0.5, 1])
+        for names in self.changes:
+            if rng.random() < chance:
+                rename_all(self.kept, names)
+        return {name: file.left(rng) for name, file in self.kept.items()}
+
+
+def after_calls(files, calls):
+    """Returns the disk on which a program made these calls."""
+    disk = Disk(files)
+    for call, *words in calls:
+        getattr(disk, call)(*words)
+    return disk
+
+
+def left_amid(files, calls, rng):
+    """Returns the files that a crash leaves in the midst of these calls."""
+    return after_calls(files, calls[: rng.randint(0, len(calls))]).crash(rng)
+
+
+def rename_all(files, names):
+    for name, file in names.items():
+        files.pop(name, None)
+        if file:
+            files[name] = file
+
+
+# ---- Programs whose calls fail or are told ----
+
+
+def build(work, source):
+    """Builds what a program is started with so that its calls fail, or are told."""
+    built = work / f"{source}.so"
+    subprocess.run([os.environ.get("CC", "cc"), "-O2", "-shared", "-fPIC", "-o", built, TOP / ".ci" / source], check=True)
+    return str(built)
+
+
+def run_told(work, tells, folder, *words):
+    """Runs a program. Returns how it ended, and its calls that changed this folder, as those of a disk."""
+    told = work / "told"
+    told.unlink(missing_ok=True)
+    ran = run(*words, LD_PRELOAD=tells, TOLD=str(told))
+    return ran, told_calls(told, folder)
+
+
+def told_calls(told, folder):
+    paths, calls = {}, []
+    for line in told.read_text().splitlines():
+        call, *words = line.split(" ")
+        if call in ("open", "create"):
+            paths[words[0]] = words[1]
+        path = Path(paths.get(words[0], words[0]))
+        if call == "create":
+            calls.append((call, Path(words[1]).name))
+        elif call == "write" and path.parent == folder:
+            calls.append(("append", path.name, bytes.fromhex(words[1])))
+        elif call == "sync" and path == folder:
+            calls.append(("sync",))
+        elif call == "sync" and path.parent == folder:
+            calls.append(("sync_file", path.name))
+        elif call in ("rename", "delete"):
+            calls.append((call, *(Path(word).name for word in words)))
+    return calls
+
+
+def end():
+    print(f"{counts[True]} passed, {counts[False]} failed")
+    sys.exit(counts[False] != 0)
