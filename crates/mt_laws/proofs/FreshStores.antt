@@ -26,15 +26,17 @@ use Rattle.mt_replay.specs.declared.window.Window.{Window}
 use Rattle.mt_replay.specs.Survivors.{wholes, in_window, log_survivors}
 use Rattle.mt_replay.specs.Walk.{IsWalk}
 use Rattle.mt_replay.proofs.Members.{of_map, in_map, of_filter}
-use Rattle.mt_recover.specs.Recovery.{entry_updates, begin_of, survivors, Facts, records_of, IsStoreOf}
+use Rattle.mt_recover.specs.Recovery.{AreReadings, entry_updates, begin_of, survivors, Facts, records_of, IsStoreOf}
 use Rattle.mt_recover.specs.Report.{logged_updates, all_versions, Outcome, IsRecoveredOf}
 use Rattle.mt_recover.specs.Verdict.{IsVerdict}
 use Rattle.mt_recover.proofs.FoundLemmas.{alone}
 use Rattle.mt_recover.proofs.OneVerdict.{one_store, no_verdict, same_facts}
-use Rattle.mt_laws.specs.Fresh.{AreAllParts, reading_with, IsFresh, surviving, updates_after, AreAbove}
+use Rattle.mt_laws.specs.Fresh.{AreAllParts, reading_with, IsFresh, GoOnAfter, surviving, updates_after, AreAbove}
 use Rattle.mt_laws.proofs.Entries.{entry_stamp, entry_update}
 use Rattle.mt_laws.proofs.Moved.{version_at_most, version_below, Decides, at_most, column_by, moved, same_walk}
 use Rattle.mt_laws.proofs.LeftFiles.{none_at}
+use Rattle.mt_laws.proofs.SomeCutoff.{some_cutoff}
+use Rattle.mt_laws.proofs.SomeVerdict.{store_of}
 use Rattle.mt_laws.proofs.FreshParts.{known_as, chooses}
 
 -- ---- the entries of pairs
@@ -257,6 +259,26 @@ pub fresh_no_fault : (pairs : List Pair) (checkpoint : Checkpoint) (parts : List
     → AreAllParts checkpoint parts → IsVerdict (log_text checkpoint ∷ []) parts fault → ⊥
 fresh_no_fault pairs checkpoint parts fault is_map is all verdict =
     no_verdict (log_text checkpoint ∷ []) parts pairs fault (fresh_store pairs checkpoint parts is_map is all) verdict
+
+-- recovery has no fault as the server goes on
+pub later_store : (pairs : List Pair) (checkpoint : Checkpoint) (later files : List (List ℕ)) (readings : List LogReading) → IsMap pairs → HasPairs pairs checkpoint
+    → AreAllParts checkpoint files → AreReadings later readings → GoOnAfter checkpoint readings → (others : List Pair) × IsStoreOf later files others
+later_store pairs checkpoint later files [] is_map is all are on = absurd (omega (arith, on.some))
+later_store pairs checkpoint later files (log ∷ logs) is_map is all are on =
+    let cutoff = some_cutoff log logs in
+    let found = known_as pairs checkpoint files is_map is all in
+    let facts : Facts later files = record {
+      readings = log ∷ logs;
+      read = are;
+      writers = on.writers;
+      cutoff = cutoff.0;
+      is_cutoff = cutoff.1;
+      known = found.known;
+      are_known = found.are_known;
+      chosen = Some (reading_with checkpoint pairs);
+      is_chosen = found.chosen cutoff.0 (on.beyond cutoff.0 cutoff.1.has);
+    } in
+    store_of later files facts on.no_gap
 
 -- no survivor has a version above the report's
 version_bound : (logs parts : List (List ℕ)) (outcome : Outcome) (is : IsRecoveredOf logs parts outcome) (u : Update)

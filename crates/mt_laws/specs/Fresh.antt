@@ -3,8 +3,11 @@ use Rattle.std.specs.Prelude.{◌≡◌, ℕ, ◌+◌, ◌≤◌, ◌<◌, Some,
 use Rattle.std.specs.List.{range_with_len}
 use Rattle.mt_words.specs.declared.update.Update.{Update}
 use Rattle.mt_words.specs.Walks.{Pair}
+use Rattle.mt_record.specs.Logs.{LogReading}
 use Rattle.mt_checkpoint.specs.Checkpoints.{Checkpoint, entries_with, part_text}
 use Rattle.mt_scan.specs.Choice.{CheckpointReading}
+use Rattle.mt_scan.specs.Cutoff.{HasLast}
+use Rattle.mt_scan.specs.Segments.{AreWriters, IsGap}
 use Rattle.mt_replay.specs.Survivors.{log_survivors}
 use Rattle.mt_recover.specs.Recovery.{Facts, survivors, records_of}
 use Rattle.mt_recover.specs.Report.{Outcome}
@@ -27,6 +30,14 @@ pub record IsFresh (pairs : List Pair) (checkpoint : Checkpoint) (outcome : Outc
   pub store : outcome.store ≡ pairs
   pub chosen : outcome.report.checkpoint ≡ Some checkpoint.number
   pub cutoff : outcome.report.cutoff ≡ checkpoint.cutoff + 1
+
+-- Logs with which a server goes on after a fresh start: there is one, none is doubled or torn before its last segment, none lacks updates from the checkpoint's
+-- cutoff on, and each reaches beyond it.
+pub record GoOnAfter (checkpoint : Checkpoint) (logs : List LogReading) : Type 0 where
+  pub some : 0 < length logs
+  pub writers : AreWriters logs
+  pub no_gap : (i : ℕ) → IsGap checkpoint.cutoff logs i → ⊥
+  pub beyond : (last : ℕ) → HasLast logs last → checkpoint.cutoff < last
 
 -- what survives of what recovery finds
 abbrev pub surviving : {logs parts : List (List ℕ)} → Facts logs parts → List Update

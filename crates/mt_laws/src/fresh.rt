@@ -2,20 +2,21 @@
 ghost use Rattle.std.specs.Prelude.{ℕ, ◌≤◌, ◌<◌, List, [], ◌∷◌, ◌++◌};
 ghost use Rattle.mt_words.specs.declared.fault.Fault.{Fault};
 ghost use Rattle.mt_words.specs.Walks.{Pair};
+ghost use Rattle.mt_record.specs.Logs.{LogReading};
 ghost use Rattle.mt_checkpoint.specs.Checkpoints.{Checkpoint, HasPairs, log_text};
 ghost use Rattle.mt_replay.specs.Walk.{IsWalk};
-ghost use Rattle.mt_recover.specs.Recovery.{IsStoreOf};
+ghost use Rattle.mt_recover.specs.Recovery.{AreReadings, IsStoreOf};
 ghost use Rattle.mt_recover.specs.Report.{Outcome, IsRecoveredOf};
 ghost use Rattle.mt_recover.specs.Verdict.{IsVerdict};
-ghost use Rattle.mt_laws.specs.Fresh.{AreAllParts, IsFresh, surviving, updates_after, AreAbove};
+ghost use Rattle.mt_laws.specs.Fresh.{AreAllParts, IsFresh, GoOnAfter, surviving, updates_after, AreAbove};
 
 /// States that a recovered store that is written as a checkpoint and its log is recovered from these files alone: the
 /// same store and no fault, whatever the checkpoint's number, cutoff and version, however the pairs are split into parts,
 /// and in whatever order the parts come. The checkpoint is chosen, and the cutoff is one above its own.
 ///
-/// It also states what logs from the checkpoint's cutoff on add. If their cutoff is above it, and each of their updates
-/// has a version above the checkpoint's, the store is that of the updates that survived before and of theirs, as if
-/// they had followed. This is a law: it has nothing to run.
+/// It also states what comes after. Logs with which a server goes on have a store, and no fault. If each of their updates
+/// from the checkpoint's cutoff on has a version above the checkpoint's, the store is that of the updates that survived
+/// before and of theirs, as if they had followed. This is a law: it has nothing to run.
 pub fn a_fresh_start_is_the_same_store()
     ensures store { (logs parts files : List (List ℕ)) (pairs : List Pair) (checkpoint : Checkpoint) →
         IsStoreOf logs parts pairs → HasPairs pairs checkpoint → AreAllParts checkpoint files →
@@ -23,9 +24,12 @@ pub fn a_fresh_start_is_the_same_store()
     ensures no_fault { (logs parts files : List (List ℕ)) (pairs : List Pair) (checkpoint : Checkpoint) (fault : Fault) →
         IsStoreOf logs parts pairs → HasPairs pairs checkpoint → AreAllParts checkpoint files →
         IsVerdict (log_text checkpoint ∷ []) files fault → ⊥ }
-    ensures recovered { (logs parts files : List (List ℕ)) (pairs : List Pair) (checkpoint : Checkpoint) (outcome : Outcome) →
+    ensures same { (logs parts files : List (List ℕ)) (pairs : List Pair) (checkpoint : Checkpoint) (outcome : Outcome) →
         IsStoreOf logs parts pairs → HasPairs pairs checkpoint → AreAllParts checkpoint files →
         IsRecoveredOf (log_text checkpoint ∷ []) files outcome → IsFresh pairs checkpoint outcome }
+    ensures some { (logs parts later files : List (List ℕ)) (readings : List LogReading) (pairs : List Pair) (checkpoint : Checkpoint) →
+        IsStoreOf logs parts pairs → HasPairs pairs checkpoint → AreAllParts checkpoint files →
+        AreReadings later readings → GoOnAfter checkpoint readings → (others : List Pair) × IsStoreOf later files others }
     ensures goes_on { (logs parts later files : List (List ℕ)) (before after : Outcome) (checkpoint : Checkpoint) →
         (was : IsRecoveredOf logs parts before) → HasPairs before.store checkpoint →
         before.report.version ≤ checkpoint.version → AreAllParts checkpoint files →

@@ -1,4 +1,4 @@
-use Rattle.mt_laws.proofs.FreshStores.{fresh_store, fresh_no_fault, fresh_recovered, goes_on_afresh}
+use Rattle.mt_laws.proofs.FreshStores.{fresh_store, fresh_no_fault, fresh_recovered, later_store, goes_on_afresh}
 use Rattle.mt_laws.proofs.fresh.a_fresh_start_is_the_same_store.Goals as goal
 
 pub returns-clause-store : goal.returns-clause-store
@@ -7,8 +7,11 @@ returns-clause-store c = λ logs parts files pairs checkpoint store is all. fres
 pub returns-clause-no_fault : goal.returns-clause-no_fault
 returns-clause-no_fault c = λ logs parts files pairs checkpoint fault store is all verdict. fresh_no_fault pairs checkpoint files fault store.walk.map is all verdict
 
-pub returns-clause-recovered : goal.returns-clause-recovered
-returns-clause-recovered c = λ logs parts files pairs checkpoint outcome store is all recovered. fresh_recovered pairs checkpoint files outcome store.walk.map is all recovered
+pub returns-clause-same : goal.returns-clause-same
+returns-clause-same c = λ logs parts files pairs checkpoint outcome store is all recovered. fresh_recovered pairs checkpoint files outcome store.walk.map is all recovered
+
+pub returns-clause-some : goal.returns-clause-some
+returns-clause-some c = λ logs parts later files readings pairs checkpoint store is all are on. later_store pairs checkpoint later files readings store.walk.map is all are on
 
 pub returns-clause-goes_on : goal.returns-clause-goes_on
 returns-clause-goes_on c = λ logs parts later files before after checkpoint was has version all is past above.
