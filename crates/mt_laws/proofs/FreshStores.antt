@@ -1,18 +1,22 @@
 -- Recovery from a fresh start, and from the logs after it.
-use Rattle.std.proofs.Common.{◌≡◌, ◌⊎◌, ◌↔◌, inl, inr, ℕ, ◌+◌, ◌<◌, ◌≤◌, max, true, false, IsTrue, Option, Some, List, [], ◌∷◌, ◌++◌, take, map, Contains, refl, sym, ap, ◌∙◌, subst, arith}
+use Rattle.std.proofs.Common.{◌≡◌, ◌⊎◌, ◌↔◌, inl, inr, ℕ, ◌+◌, ◌<◌, ◌≤◌, max, true, false, IsTrue, Option, Some, List, [], ◌∷◌, ◌++◌, map, Contains, refl, sym, ap, ◌∙◌, subst, arith}
 use Rattle.std.specs.Option.{option_map}
+use Rattle.std.proofs.lemmas.Bool.{false≢true}
+use Rattle.std.proofs.lemmas.List.{append-nil}
 use Rattle.std.proofs.lemmas.List.Elements.{All-contains, Contains-append_cases, Contains-append_left, Contains-append_right}
 use Rattle.mt_words.specs.declared.fault.Fault.{Fault}
 use Rattle.mt_words.specs.declared.limits.Format.TheVariants.{Two}
 use Rattle.mt_words.specs.declared.update.Stamp.{Stamp}
 use Rattle.mt_words.specs.declared.update.Update.{Update}
 use Rattle.mt_words.specs.Limits.{limits_of}
-use Rattle.mt_words.specs.Changes.{Writes, set}
+use Rattle.mt_words.specs.Changes.{Logged, is_mark, Writes, set}
 use Rattle.mt_words.specs.Stamps.{IsAtMost}
 use Rattle.mt_words.specs.Walks.{Pair, IsMap, Holds}
 use Rattle.mt_words.specs.Built.{mark_of, entry_of}
-use Rattle.mt_words.proofs.Elements.{no_element, head_or_tail, head_in, tail_in}
+use Rattle.mt_words.proofs.Elements.{head_in, tail_in}
 use Rattle.mt_record.specs.Encoding.{head_of}
+use Rattle.mt_record.specs.Heads.{head_bytes}
+use Rattle.mt_record.specs.Spelling.{spelling}
 use Rattle.mt_record.specs.Logs.{LogReading, IsReading, IsGreatestOf, times_of}
 use Rattle.mt_record.specs.LogTexts.{IsLast}
 use Rattle.mt_record.proofs.Records.{last_is, tells_torn}
@@ -20,7 +24,7 @@ use Rattle.mt_checkpoint.specs.Checkpoints.{Checkpoint, HasPairs, entries_with, 
 use Rattle.mt_checkpoint.proofs.Sound.{is_log}
 use Rattle.mt_scan.specs.Choice.{CheckpointReading}
 use Rattle.mt_scan.specs.Cutoff.{IsLastOf, HasLast, IsCutoff}
-use Rattle.mt_scan.specs.Segments.{IsEarlier, IsSame, HasFile, HasGap, IsGap}
+use Rattle.mt_scan.specs.Segments.{IsEarlier, HasFile}
 use Rattle.mt_replay.specs.KeyColumns.{HasColumn}
 use Rattle.mt_replay.specs.declared.window.Window.{Window}
 use Rattle.mt_replay.specs.Survivors.{wholes, in_window, log_survivors}
@@ -31,12 +35,14 @@ use Rattle.mt_recover.specs.Report.{logged_updates, all_versions, Outcome, IsRec
 use Rattle.mt_recover.specs.Verdict.{IsVerdict}
 use Rattle.mt_recover.proofs.FoundLemmas.{alone}
 use Rattle.mt_recover.proofs.OneVerdict.{one_store, no_verdict, same_facts}
-use Rattle.mt_laws.specs.Fresh.{AreAllParts, reading_with, IsFresh, GoOnAfter, surviving, updates_after, AreAbove}
+use Rattle.mt_laws.specs.Fresh.{AreAllParts, reading_with, log_file, IsFresh, GoOnAfter, surviving, updates_after, AreAbove}
+use Rattle.mt_laws.specs.Lives.{file_bytes, file_reading, HasSynced, IsOpenFile, AreOpen, IsFreshStart}
 use Rattle.mt_laws.proofs.Entries.{entry_stamp, entry_update}
 use Rattle.mt_laws.proofs.Moved.{version_at_most, version_below, Decides, at_most, column_by, moved, same_walk}
 use Rattle.mt_laws.proofs.LeftFiles.{none_at}
 use Rattle.mt_laws.proofs.SomeCutoff.{some_cutoff}
 use Rattle.mt_laws.proofs.SomeVerdict.{store_of}
+use Rattle.mt_laws.proofs.SomeLife.{only_one, IsAloneFrom, all_alone}
 use Rattle.mt_laws.proofs.FreshParts.{known_as, chooses}
 
 -- ---- the entries of pairs
@@ -167,10 +173,7 @@ entries_walk version pairs is_map = record {
 -- ---- what recovery finds at a fresh start
 
 abbrev fresh_log : Checkpoint → LogReading
-fresh_log checkpoint = record { head = head_of Two checkpoint.cutoff; records = mark_of (checkpoint.cutoff + 1) ∷ []; torn = false }
-
-only : {X : Type 0} (one x : X) → Contains (one ∷ []) x → one ≡ x
-only one x at = elim (head_or_tail one x [] at) as (λ _. one ≡ x) [ inl e ↦ e | inr none ↦ absurd (no_element x none) ]
+fresh_log checkpoint = file_reading (log_file checkpoint)
 
 fresh_is_reading : (pairs : List Pair) (checkpoint : Checkpoint) → HasPairs pairs checkpoint → IsReading (log_text checkpoint) (fresh_log checkpoint)
 fresh_is_reading pairs checkpoint is = record {
@@ -178,6 +181,31 @@ fresh_is_reading pairs checkpoint is = record {
   is_log = is_log pairs checkpoint is;
   torn = tells_torn (limits_of Two) [] true refl (inl refl);
 }
+
+-- the mark is synced
+mark_synced : (P : Logged → Type 0) (pairs : List Pair) (checkpoint : Checkpoint) → HasPairs pairs checkpoint → P (mark_of (checkpoint.cutoff + 1))
+    → HasSynced P (log_file checkpoint)
+mark_synced P pairs checkpoint is holds =
+    let mark = mark_of (checkpoint.cutoff + 1) in
+    record { reading = fresh_log checkpoint; is_reading = fresh_is_reading pairs checkpoint is; at = mark; stands = head_in mark []; holds = holds }
+
+-- the one file is open, and lacks no update from the checkpoint's cutoff on
+fresh_open : (pairs : List Pair) (checkpoint : Checkpoint) → HasPairs pairs checkpoint → AreOpen checkpoint.cutoff (log_file checkpoint ∷ [])
+fresh_open pairs checkpoint is =
+    let file = log_file checkpoint in
+    let head = head_of Two checkpoint.cutoff in
+    let mark = spelling (mark_of (checkpoint.cutoff + 1)) in
+    let bytes : file_bytes file ≡ log_text checkpoint = ap (λ (z : List ℕ). head_bytes head ++ z) (append-nil mark) in
+    let is_open : IsOpenFile file = record {
+      is_reading = subst (λ (z : List ℕ). IsReading z (fresh_log checkpoint)) (sym bytes) (fresh_is_reading pairs checkpoint is);
+      synced = record {
+        lost = [];
+        begins = bytes ∙ sym (append-nil (log_text checkpoint));
+        header = record { head = head; is_head = (is_log pairs checkpoint is).is_head; more = mark; spelled = refl };
+      };
+      claim = mark_synced (λ r. checkpoint.cutoff ≤ r.timestamp) pairs checkpoint is (omega arith);
+    } in
+    all_alone checkpoint.cutoff (file ∷ []) (λ one at. subst (IsAloneFrom checkpoint.cutoff) (only_one file one at) (record { is_open = is_open; alone = refl; from = omega arith }))
 
 fresh_cutoff : (pairs : List Pair) (checkpoint : Checkpoint) → HasPairs pairs checkpoint → IsCutoff (fresh_log checkpoint ∷ []) (checkpoint.cutoff + 1)
 fresh_cutoff pairs checkpoint is =
@@ -190,7 +218,7 @@ fresh_cutoff pairs checkpoint is =
     subst (λ (ts : List ℕ). IsGreatestOf ts n) (sym (alone (log ∷ []) log refl)) (subst (λ (x : LogReading). IsLastOf (log ∷ []) x n) (sym same) is_last) in record {
       has = record { log = log; stands = head_in log []; is_last = subst (λ (ts : List ℕ). IsGreatestOf ts mark) (alone (log ∷ []) log refl) last };
       least = λ n other.
-          let is_last = of_log other.log n (only log other.log other.stands) other.is_last in
+          let is_last = of_log other.log n (only_one log other.log other.stands) other.is_last in
           All-contains (λ (time : ℕ). time ≤ n) times mark is_last.1 (tail_in checkpoint.cutoff mark (mark ∷ []) (head_in mark []));
     }
 
@@ -203,11 +231,9 @@ fresh_facts pairs checkpoint parts is_map is all =
       readings = files;
       read = (fresh_is_reading pairs checkpoint is, tt);
       writers = record {
-        once = λ i. none_at (λ x. HasFile (take i files) (IsSame x.head.segment)) files i (λ x at has.
-            subst (λ (f : LogReading). IsSame f.head.segment has.1.head.segment) (sym (only log x at)) has.4);
+        once = (fresh_open pairs checkpoint is).once;
         sound = λ i. none_at (λ x. IsTrue x.torn × HasFile files (IsEarlier x.head.segment)) files i (λ x at amid.
-            let has = amid.1 in
-            subst (λ (f : LogReading). IsEarlier f.head.segment has.1.head.segment) (sym (only log x at)) has.4);
+            false≢true (subst (λ (f : LogReading). IsTrue f.torn) (sym (only_one log x at)) amid.0));
       };
       cutoff = checkpoint.cutoff + 1;
       is_cutoff = fresh_cutoff pairs checkpoint is;
@@ -217,27 +243,13 @@ fresh_facts pairs checkpoint parts is_map is all =
       is_chosen = found.chosen (checkpoint.cutoff + 1) (omega arith);
     }
 
-fresh_no_gap : (checkpoint : Checkpoint) (i : ℕ) → IsGap checkpoint.cutoff (fresh_log checkpoint ∷ []) i → ⊥
-fresh_no_gap checkpoint i = none_at (HasGap checkpoint.cutoff files) files i (λ x at gap. elim gap as (λ _. ⊥) [
-  | inl amid ↦
-      let has = amid.0 in
-      subst (λ (f : LogReading). IsEarlier f.head.segment x.head.segment) (sym (only log has.1 (has.0, has.2, has.3))) has.4
-  | inr first ↦ let late : checkpoint.cutoff < checkpoint.cutoff = subst (λ (f : LogReading). checkpoint.cutoff < f.head.from) (sym (only log x at)) first.1 in omega (arith, late)
-])
-  where
-    log : LogReading
-    log = fresh_log checkpoint
-
-    files : List LogReading
-    files = log ∷ []
-
 -- ---- the laws
 
 pub fresh_store : (pairs : List Pair) (checkpoint : Checkpoint) (parts : List (List ℕ)) → IsMap pairs → HasPairs pairs checkpoint → AreAllParts checkpoint parts
     → IsStoreOf (log_text checkpoint ∷ []) parts pairs
 unfolding fresh_facts
 fresh_store pairs checkpoint parts is_map is all = record {
-  basis = record { facts = fresh_facts pairs checkpoint parts is_map is all; no_gap = fresh_no_gap checkpoint };
+  basis = record { facts = fresh_facts pairs checkpoint parts is_map is all; no_gap = (fresh_open pairs checkpoint is).no_gap };
   walk = entries_walk checkpoint.version pairs is_map;
 }
 
@@ -315,3 +327,23 @@ goes_on_afresh logs parts later files before after checkpoint was has version al
       λ h. from_entries checkpoint.version before.store older newer key number bytes are h,
       λ h. to_entries checkpoint.version before.store older newer key number bytes are h,
     )) walk
+
+-- the files are a fresh start of a life
+pub fresh_step : (logs parts : List (List ℕ)) (before : Outcome) (checkpoint : Checkpoint) (was : IsRecoveredOf logs parts before) → HasPairs before.store checkpoint
+    → checkpoint.cutoff ≡ before.report.cutoff → before.report.version ≤ checkpoint.version
+    → IsFreshStart was.store.basis.facts (log_file checkpoint) (reading_with checkpoint before.store)
+fresh_step logs parts before checkpoint was has at version =
+    let facts = was.store.basis.facts in
+    let same : checkpoint.cutoff ≡ facts.cutoff = at ∙ was.report.found.cutoff in
+    let mark = mark_of (checkpoint.cutoff + 1) in record {
+      pairs = before.store;
+      walk = was.store.walk;
+      version = checkpoint.version;
+      most = λ u among. let low : u.stamp.version ≤ before.report.version = version_bound logs parts before was u among in omega (arith, low, version);
+      begins = same;
+      ends = same;
+      entries = refl;
+      opens = subst (λ (n : ℕ). AreOpen n (log_file checkpoint ∷ [])) same (fresh_open before.store checkpoint has);
+      marks = λ r among. subst (λ (x : Logged). is_mark x ≡ true) (only_one mark r among) refl;
+      above = mark_synced (λ r. facts.cutoff < r.timestamp) before.store checkpoint has (omega (arith, same));
+    }

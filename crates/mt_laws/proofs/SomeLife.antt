@@ -35,18 +35,18 @@ use Rattle.mt_laws.proofs.LeftFiles.{none_at}
 use Rattle.mt_laws.proofs.Afresh.{entries_at, AreStored, fresh_sound}
 use Rattle.mt_laws.proofs.Living.{all_of_it, listed_rise}
 
-only_one : {X : Type 0} (one x : X) → Contains (one ∷ []) x → one ≡ x
+pub only_one : {X : Type 0} (one x : X) → Contains (one ∷ []) x → one ≡ x
 only_one one x at = elim (head_or_tail one x [] at) as (λ _. one ≡ x) [ inl e ↦ e | inr none ↦ absurd (no_element x none) ]
 
 -- ---- files that are no segments
 
 -- an open file that is no segment, with a `from` of at most the timestamp
-record IsAloneFrom (begin : ℕ) (file : OpenFile) : Type 0 where
-  is_open : IsOpenFile file
-  alone : file.head.segment ≡ None
-  from : file.head.from ≤ begin
+pub record IsAloneFrom (begin : ℕ) (file : OpenFile) : Type 0 where
+  pub is_open : IsOpenFile file
+  pub alone : file.head.segment ≡ None
+  pub from : file.head.from ≤ begin
 
-all_alone : (begin : ℕ) (files : List OpenFile) → ((file : OpenFile) → Contains files file → IsAloneFrom begin file) → AreOpen begin files
+pub all_alone : (begin : ℕ) (files : List OpenFile) → ((file : OpenFile) → Contains files file → IsAloneFrom begin file) → AreOpen begin files
 all_alone begin files are = record {
   each = λ file at. (are file at).is_open;
   once = λ i. none_at (λ x. HasFile (take i readings) (IsSame x.head.segment)) readings i (λ x at has.

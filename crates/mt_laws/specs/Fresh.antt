@@ -1,16 +1,20 @@
 -- Starting afresh: recovery from one checkpoint of a store, and from the logs after it.
-use Rattle.std.specs.Prelude.{◌≡◌, ℕ, ◌+◌, ◌≤◌, ◌<◌, Some, List, length, map, Contains, IsPermutation}
+use Rattle.std.specs.Prelude.{◌≡◌, ℕ, ◌+◌, ◌≤◌, ◌<◌, Some, List, [], ◌∷◌, length, map, Contains, IsPermutation}
 use Rattle.std.specs.List.{range_with_len}
+use Rattle.mt_words.specs.declared.limits.Format.TheVariants.{Two}
 use Rattle.mt_words.specs.declared.update.Update.{Update}
+use Rattle.mt_words.specs.Built.{mark_of}
 use Rattle.mt_words.specs.Walks.{Pair}
+use Rattle.mt_record.specs.Encoding.{head_of}
 use Rattle.mt_record.specs.Logs.{LogReading}
-use Rattle.mt_checkpoint.specs.Checkpoints.{Checkpoint, entries_with, part_text}
+use Rattle.mt_checkpoint.specs.Checkpoints.{Checkpoint, entries_with, part_text, log_text}
 use Rattle.mt_scan.specs.Choice.{CheckpointReading}
 use Rattle.mt_scan.specs.Cutoff.{HasLast}
 use Rattle.mt_scan.specs.Segments.{AreWriters, IsGap}
 use Rattle.mt_replay.specs.Survivors.{log_survivors}
 use Rattle.mt_recover.specs.Recovery.{Facts, survivors, records_of}
 use Rattle.mt_recover.specs.Report.{Outcome}
+use Rattle.mt_laws.specs.Lives.{OpenFile}
 
 -- the bytes of all parts of the checkpoint, in order
 abbrev pub part_texts : Checkpoint → List (List ℕ)
@@ -24,6 +28,10 @@ AreAllParts checkpoint parts = IsPermutation (part_texts checkpoint) parts
 abbrev pub reading_with : Checkpoint → List Pair → CheckpointReading
 reading_with checkpoint pairs =
     record { number = checkpoint.number; begin = checkpoint.cutoff; end = checkpoint.cutoff; entries = entries_with checkpoint.version pairs }
+
+-- the file of the log that makes the checkpoint count, all of which is synced
+abbrev pub log_file : Checkpoint → OpenFile
+log_file checkpoint = record { head = head_of Two checkpoint.cutoff; records = mark_of (checkpoint.cutoff + 1) ∷ []; synced = log_text checkpoint }
 
 -- what recovery returns at a fresh start: the pairs, over this checkpoint, and a cutoff one above the checkpoint's
 pub record IsFresh (pairs : List Pair) (checkpoint : Checkpoint) (outcome : Outcome) : Type 0 where

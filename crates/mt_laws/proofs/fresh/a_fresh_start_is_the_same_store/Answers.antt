@@ -1,4 +1,4 @@
-use Rattle.mt_laws.proofs.FreshStores.{fresh_store, fresh_no_fault, fresh_recovered, later_store, goes_on_afresh}
+use Rattle.mt_laws.proofs.FreshStores.{fresh_store, fresh_no_fault, fresh_recovered, later_store, goes_on_afresh, fresh_step}
 use Rattle.mt_laws.proofs.fresh.a_fresh_start_is_the_same_store.Goals as goal
 
 pub returns-clause-store : goal.returns-clause-store
@@ -16,3 +16,6 @@ returns-clause-some c = λ logs parts later files readings pairs checkpoint stor
 pub returns-clause-goes_on : goal.returns-clause-goes_on
 returns-clause-goes_on c = λ logs parts later files before after checkpoint was has version all is past above.
     goes_on_afresh logs parts later files before after checkpoint was has version all is past above
+
+pub returns-clause-step : goal.returns-clause-step
+returns-clause-step c = λ logs parts before checkpoint was has at version. fresh_step logs parts before checkpoint was has at version
