@@ -30,7 +30,7 @@ use Rattle.mt_record.specs.Decoding.{columns_from, columns_counted, numbers_coun
 
 -- ---- fields
 
--- the length of with_length bytes is read back
+-- the length before some bytes is read back
 counted_front : (front more : List ℕ) → length front < 2 ^ 16 → big_from 0 2 (with_length front ++ more) ≡ length front
 counted_front front more below = big_number-reads_back 2 (length front) (front ++ more) below
 
@@ -270,7 +270,7 @@ code_first bytes is = ap byte_of (sym (same_code (code_in bytes) (carried_in byt
 
 -- ---- columns, one after the other
 
--- the decoded columns are the one at the front and those after it
+-- decoding gives the column at the front, then the others
 next_column : (n left : ℕ) (bytes after : List ℕ) (c : ℕ × List ℕ) → left ≡ suc n → FitsColumn c → bytes ≡ column_bytes c ++ after
     → AreLentColumns left bytes
     → (columns_from left bytes ≡ c ∷ columns_from n after) × IsColumn widest c × AreLentColumns n after
@@ -294,7 +294,7 @@ next_column n left bytes after c more fit same are =
       },
     )
 
--- the first of the writes sets the column at the front, and the others are those after it
+-- the first write sets the column at the front, and the other writes set the others
 pub next_set : (payload : Payload) (left : ℕ) (bytes after : List ℕ) (c : ℕ × List ℕ) → payload ≡ payloads.Columns → AreLent payload left bytes → FitsColumn c → bytes ≡ column_bytes c ++ after
     → (writes_from payload left bytes ≡ set c ∷ writes_from payload (left - 1) after) × AreLent payload (left - 1) after
 next_set payloads.Nothing left bytes after c is are fit same = absurd cc

@@ -66,7 +66,7 @@ adds_both {a = a} {xs = xs} {ys = ys} first then = record {
   room = omega (arith, first.room, then.room);
 }
 
--- a length, a body and the length again, appended in this order, are the framed body after what was there
+-- a length, a body and the length again, appended in this order, append the framed body
 pub adds_framed : {Z : Type 0} {old body : List ℕ} {n : ℕ} {a b c d : Vec ℕ Z} → n ≡ length body → a.items ≡ old → Adds (big_bytes 4 n) a b → Adds body b c
     → Adds (big_bytes 4 n) c d → d.items ≡ old ++ framed body
 adds_framed is same first second third = rw (← is, ← same) (adds_both first (adds_both second third)).items

@@ -54,14 +54,14 @@ one_more_entry out new entries i entry below is e =
     ap (λ (n : ℕ). take n entries) next ∙ take-suc entries i entry below ∙ ap (λ (d : Change). take i entries ++ d ∷ []) (sym is) in
     e ∙ flat_map_more entry_spelling out (take i entries) entry ∙ ap (λ (x : List Change). out ++ flat_map entry_spelling x) (sym front)
 
--- all entries, and then what ends them
+-- all entries, and then the footer
 pub entries_ended : (out made new : List ℕ) (entries : List Change) (i : ℕ) (end : List ℕ) → length entries ≤ i
     → made ≡ out ++ flat_map entry_spelling (take i entries) → new ≡ made ++ end → new ≡ out ++ (flat_map entry_spelling entries ++ end)
 entries_ended out made new entries i end all so_far e =
     let made_is = so_far ∙ ap (λ (cs : List Change). out ++ flat_map entry_spelling cs) (take_all i entries all) in
     e ∙ ap (λ (x : List ℕ). x ++ end) made_is ∙ append_assoc out (flat_map entry_spelling entries) end
 
--- the bytes that were there stay in front, whether more are appended or not
+-- the bytes that were there before stay in front
 pub front_kept : {T E : Type 0} (answer : Result T E) (out more made end new : List ℕ) → made ≡ out ++ more → OnOk answer (new ≡ made ++ end) → OnErr answer (new ≡ made) → StartsWith new out
 front_kept (Ok done) out more made end new so_far ok err = rw (ok, so_far, append_assoc) (take-append_seam out (more ++ end))
 front_kept (Err why) out more made end new so_far ok err = rw (err, so_far) (take-append_seam out more)

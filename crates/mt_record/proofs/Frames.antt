@@ -12,7 +12,7 @@ use Rattle.mt_record.specs.LogFaults.{HasLengthFault, HasFrame, HasTrailerFault,
 use Rattle.mt_record.proofs.Unique.{same_number, framed_apart}
 use Rattle.mt_record.proofs.Feeds.{behind_on}
 
--- a list in two parts: its first n elements, and the others
+-- a list is its first n elements and the others
 pub parts : (n : ℕ) (bytes front back : List ℕ) → front ≡ take n bytes → back ≡ drop n bytes → bytes ≡ front ++ back
 parts n bytes front back f b = sym (take-append-drop n bytes) ∙ λ i. sym f i ++ sym b i
 

@@ -42,7 +42,7 @@ use Rattle.mt_record.proofs.Feeds.{behind_on, shows_none_on, front_read}
 
 -- ---- what was read
 
--- if no header was read, nothing was: the rest is the input
+-- before the header is read, the rest is the whole input
 unread : (taken : List Logged) (s : LogSoFar) (text rest : List ℕ) → s.front ≡ None → HasRead (HoldsLog taken s) text rest → rest ≡ text
 unread taken s text rest none reads =
     let read : (reads.front ≡ []) × (taken ++ s.ready ≡ []) = rw none at reads.read in
@@ -57,7 +57,7 @@ begun taken s front text rest some reads =
 
 -- ---- items
 
--- the front of a header of so many bytes, before nothing
+-- the front of a header without records, at the end of its bytes
 abbrev pub begins_at : Head → ℕ → LogFront
 begins_at head size = record { head = head; count = 0; latest = 0; version = 0; bytes = size; rest = Nothing }
 
@@ -77,7 +77,7 @@ pub logged_within : (format : Format) (o : Option Change) → IfSome o (IsLogged
 logged_within format None logged = tt
 logged_within format (Some change) logged = (change_within format change logged.0, logged.1)
 
--- a record is read after those before it
+-- one more record is read
 pub record_read : {R : Type 0} (listed : R → List Logged) (old : LogItems R) (ready : R) (front : LogFront) (bytes body after : List ℕ) (count time version size : ℕ) → old.front ≡ Some front
     → IsNextBody (limits_of front.head.format) front.latest bytes time body after
     → ((r : Logged) → IsBodyOf widest 0 body r → listed ready ≡ listed old.ready ++ r ∷ []) → count ≡ min (front.count + 1) (2 ^ 64 - 1) → version ≡ max front.version (version_of (decode body).change)
@@ -149,7 +149,7 @@ front_is taken s front text left rest some reads is =
       numbers = λ i. record (read.numbers i) { rest = rest };
     }
 
--- the bytes left are a torn tail, if there are any
+-- if bytes are left, they are a torn tail
 pub front_torn : (taken : List Logged) (s : LogSoFar) (front : LogFront) (text left : List ℕ) → s.front ≡ Some front → HoldsAll (HoldsLog taken) IsLogLeft s left text → (left ≡ [] → ⊥)
     → IsFrontOf text (taken ++ s.ready) (record front { rest = Torn })
 front_torn taken s front text left some (reads, rest) more = by (rw some at rest)
@@ -197,7 +197,7 @@ front_bytes bytes records front fits is =
       (λ i. take (same i) (is.spelled i)) ∙ take-append_seam log is.rest,
     )
 
--- the bytes up to `end` are those up to `read` and the chunk after them
+-- the bytes up to `end` are the bytes up to `read` and the chunk after them
 pub chunk_read : (bytes chunk : List ℕ) (read end : ℕ) → read ≤ end → end ≤ length bytes → chunk ≡ take (end - read) (drop read bytes)
     → take end bytes ≡ take read bytes ++ chunk
 chunk_read bytes chunk read end le within e =
@@ -265,7 +265,7 @@ fed_shows taken s (faults.Record nth what) text h other =
     }
 fed_shows taken s faults.Memory text h other = absurd (other refl)
 
--- what stands behind the records has the fault that the input shows
+-- if the input shows a fault, the bytes after the records have it
 pub front_faulty : (taken : List Logged) (s : LogSoFar) (front : LogFront) (nth : ℕ) (what : What) (text : List ℕ) → s.front ≡ Some front
     → HasShown (HasRead (HoldsLog taken s) text) (IsLogFaulty s (faults.Record nth what)) → IsFrontOf text (taken ++ s.ready) (record front { rest = Faulty what })
 front_faulty taken s front nth what text some h =

@@ -199,7 +199,7 @@ begun_shows_none bytes head entries rest begins left (faults.Broken number count
     left_shows_none head.format count rest left (subst (λ (p : PartHead × List ℕ). ShowsNoPart (limits_of p.0.format) count p.1) (λ i. (sym same.0 i, sym same.2 i)) h)
 begun_shows_none bytes head entries rest begins left faults.Memory h = h
 
--- what a part with this header, these entries and this end contains
+-- the contents of a part with this header, these entries and this end
 abbrev reading_of : PartHead → List Change → ℕ → PartReading
 reading_of head entries end = record { number = head.number; begin = head.begin; part = head.part; parts = head.parts; entries = entries; end = end }
 
@@ -209,13 +209,13 @@ part_shows_none bytes head entries end is faults.Header h = h.0 head _ is.is_hea
 part_shows_none bytes head entries end is (faults.Broken number count) h = (shown_fault (faults.Broken number count) bytes h).no_part (reading_of head entries end) (head.format, is)
 part_shows_none bytes head entries end is faults.Memory h = h
 
--- if no header was read, nothing was: the rest is the input
+-- before the header is read, the rest is the whole input
 unread : (s : PartSoFar) (text rest : List ℕ) → s.head ≡ None → HasRead (HoldsPart s) text rest → rest ≡ text
 unread s text rest none reads =
     let empty : (s.entries ≡ []) × (s.end ≡ None) = rw none at reads.read.lawful in
     sym (reads.joins ∙ ap (λ (x : List ℕ). x ++ rest) (rw (none, empty.0, empty.1) at reads.read.spelled))
 
--- if a header was read, the input begins like a part: the header, the entries, the footer if it was read, and the rest
+-- after the header is read, the input is the header, the entries, the footer if it was read, and the rest
 begun : (s : PartSoFar) (head : PartHead) (text rest : List ℕ) → s.head ≡ Some head → HasRead (HoldsPart s) text rest → BeginsPart text head s.entries (end_bytes s ++ rest)
 begun s head text rest some reads =
     let lawful : IsPartHead head × AllByRecursion (IsEntry (limits_of head.format)) s.entries = rw some at reads.read.lawful in
@@ -225,7 +225,7 @@ begun s head text rest some reads =
       lawful = lawful.1;
     }
 
--- what is left after a header is nothing, or the beginning of an item
+-- after a header, the bytes left are the beginning of an item, or none
 left_item : (s : PartSoFar) (head : PartHead) (left : List ℕ) → s.head ≡ Some head → IsPartLeft s left → (left ≡ []) ⊎ IsCutItem (limits_of head.format) left
 left_item s head left some rest = elim (rw some at rest) as (λ _. (left ≡ []) ⊎ IsCutItem (limits_of head.format) left) [ inl e ↦ inl e | inr cut ↦ inr cut.1 ]
 

@@ -16,12 +16,12 @@ pub records_push : (limits : Limits) (low : ℕ) (rs : List Logged) (r : Logged)
 records_push limits low [] r are lawful rises = (lawful, rises, tt)
 records_push limits low (s ∷ rs) r are lawful rises = (are.0, are.1, records_push limits s.timestamp rs r are.2 lawful rises)
 
--- after one more record, the last timestamp is that of this record
+-- after one more record, its timestamp is the last
 pub latest_push : (low : ℕ) (rs : List Logged) (r : Logged) → latest low (rs ++ r ∷ []) ≡ r.timestamp
 latest_push low [] r = refl
 latest_push low (s ∷ rs) r = latest_push s.timestamp rs r
 
--- after one more record, the greatest version is that of this record, or that before it
+-- after one more record, the greatest version is its version or the greatest before it
 pub greatest_push : (rs : List Logged) (r : Logged) → greatest (versions_of (rs ++ r ∷ [])) ≡ max (greatest (versions_of rs)) (version_of r.change)
 greatest_push [] r = omega arith
 greatest_push (s ∷ rs) r = omega (arith, greatest_push rs r)

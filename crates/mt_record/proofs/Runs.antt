@@ -33,7 +33,7 @@ trailer_is front bytes =
     let number = big_bytes 4 (length bytes) in
     ap (λ (x : List ℕ). front ++ x) (sym (append_assoc number bytes number)) ∙ sym (append_assoc front (number ++ bytes) number)
 
--- what precedes the last bytes, which are a list of this length
+-- the bytes before a list that ends them, by its length
 drop_last : (all front back : List ℕ) (n : ℕ) → all ≡ front ++ back → n + length back ≡ length all → drop n all ≡ back
 drop_last all front back n e long =
     let same : n ≡ length front = omega (arith, long, ap length e, length-append front back) in
@@ -48,7 +48,7 @@ trailer_read all front bytes after n at fits small e long read =
     let last = drop_last all (front ++ (number ++ bytes)) number at (e ∙ trailer_is front bytes) (omega (arith, four, long)) in
     (same_number 4 n (length bytes) after [] small fits (sym read ∙ last ∙ sym (append-nil number))).0
 
--- bytes end with only one frame
+-- at most one frame ends the bytes
 same_last : (a b x y : List ℕ) → length x < 2 ^ 32 → length y < 2 ^ 32 → a ++ framed x ≡ b ++ framed y → a ≡ b
 same_last a b x y fits_x fits_y e =
     let four_x : length (big_bytes 4 (length x)) ≡ 4 = length-bytes_high_first 4 (length x) in
@@ -68,7 +68,7 @@ last_of {A = A} x (y ∷ ys) =
     let rest = last_of y ys in
     (x ∷ rest.0, rest.1, ap (λ (l : List A). x ∷ l) rest.2)
 
--- what holds for all elements of two lists, one after the other, holds for those of each
+-- a fact of all elements of two joined lists is a fact of the elements of each
 all_parts : {A : Type 0} (P : A → Type 0) (xs ys : List A) → AllByRecursion P (xs ++ ys) → AllByRecursion P xs × AllByRecursion P ys
 all_parts P [] ys all = (tt, all)
 all_parts P (x ∷ xs) ys all = let rest = all_parts P xs ys all.1 in ((all.0, rest.0), rest.1)
@@ -77,13 +77,13 @@ all_joined : {A : Type 0} (P : A → Type 0) (xs ys : List A) → AllByRecursion
 all_joined P [] ys these those = those
 all_joined P (x ∷ xs) ys these those = (these.0, all_joined P xs ys these.1 those)
 
--- the encodings of records, and then of one more
+-- one more record appends its encoding
 spelled_push : (init : List Logged) (r : Logged) → flat_map spelling (init ++ r ∷ []) ≡ flat_map spelling init ++ spelling r
 spelled_push init r = flat_map-append spelling init (r ∷ []) ∙ ap (λ (x : List ℕ). flat_map spelling init ++ x) (append-nil (spelling r))
 
 -- ---- runs
 
--- records that end the bytes are none, or those before the last one and the last one
+-- if records end the bytes, there are none, or there is a last one
 abbrev Ended : Limits → List ℕ → ℕ → Type 0
 Ended limits bytes start = (length bytes ≤ start) ⊎ ((init : List Logged) × (z : Logged) × AllByRecursion (IsLawful limits) init × IsLawful limits z
     × (bytes ≡ (take start bytes ++ flat_map spelling init) ++ spelling z))
@@ -118,7 +118,7 @@ none_longest limits bytes none = record {
   ];
 }
 
--- the longest run that ends what precedes the last record, and that record
+-- the longest run is the longest run before the last record, and that record
 pub one_more : (format : Format) (bytes : List ℕ) (at : ℕ) (last : Logged) (run : RecordsAtEnd) → IsLawful (limits_of format) last → at ≤ length bytes
     → drop at bytes ≡ spelling last → IsLongestRun (limits_of format) (take at bytes) run
     → IsLongestRun (limits_of format) bytes (record { start = run.start; count = 1 + run.count })
@@ -154,11 +154,11 @@ one_more format bytes at last run is within spelled h =
 
 -- ---- one record
 
--- bytes that do not begin with a lawful record are not one
+-- if bytes do not begin with a lawful record, they are not one
 pub stopped : (limits : Limits) (bytes : List ℕ) → Stops limits 0 bytes → (r : Logged) → IsLawful limits r → bytes ≢ spelling r
 stopped limits bytes stops r is e = stops r [] is (omega arith) (e ∙ sym (append-nil (spelling r)))
 
--- nothing follows the first record of bytes that are one record
+-- if bytes are one record, nothing follows their first record
 pub no_more : (format : Format) (bytes found after : List ℕ) (timestamp : ℕ) → IsNextBody (limits_of format) 0 bytes timestamp found after
     → (r : Logged) → IsLawful (limits_of format) r → bytes ≡ spelling r → length after ≡ 0
 no_more format bytes found after timestamp next r is e =
@@ -167,7 +167,7 @@ no_more format bytes found after timestamp next r is e =
     let rest = same_framed (body r) (body next.next) [] after (fits r is) (fits next.next next.is_next.lawful) (sym spelled ∙ sym e ∙ next.is_next.spelled) in
     ap length (sym rest.1)
 
--- a first record that nothing follows is all of the bytes
+-- if nothing follows the first record, it is all of the bytes
 pub whole : (limits : Limits) (bytes found after : List ℕ) (timestamp : ℕ) → IsNextBody limits 0 bytes timestamp found after → length after ≡ 0
     → (r : Logged) × IsLawful limits r × (bytes ≡ spelling r)
 whole limits bytes found after timestamp next none =
@@ -175,22 +175,13 @@ whole limits bytes found after timestamp next none =
 
 -- ---- the walk
 
--- the longest run that ends what precedes `at`, and the `count` records from there on
+-- the longest run is the longest run before byte `at`, and the `count` records from there on
 pub record IsSoFar (limits : Limits) (bytes : List ℕ) (at count : ℕ) : Type 0 where
   pub fits : at + count ≤ length bytes
   pub longest : (before : RecordsAtEnd) → IsLongestRun limits (take at bytes) before
       → IsLongestRun limits bytes (record { start = before.start; count = count + before.count })
 
--- at the end of the bytes
-pub nothing_yet : (limits : Limits) (bytes : List ℕ) → IsSoFar limits bytes (length bytes) 0
-nothing_yet limits bytes = record {
-  fits = omega arith;
-  longest = λ before h.
-      let sum : before.count ≡ 0 + before.count = omega arith in
-      subst (λ (p : List ℕ × ℕ). IsLongestRun limits p.0 (record { start = before.start; count = p.1 })) (λ i. (take_all (length bytes) bytes (omega arith) i, sum i)) h;
-}
-
--- with one more record
+-- one more record is read
 pub one_so_far : (format : Format) (bytes : List ℕ) (at start count : ℕ) (last : Logged) → IsSoFar (limits_of format) bytes at count
     → IsLawful (limits_of format) last → start ≤ length (take at bytes) → drop start (take at bytes) ≡ spelling last
     → IsSoFar (limits_of format) bytes start (count + 1)
@@ -207,7 +198,7 @@ one_so_far format bytes at start count last so_far is within spelled =
           subst (λ (n : ℕ). IsLongestRun limits bytes (record { start = before.start; count = n })) sum (so_far.longest (record { start = before.start; count = 1 + before.count }) more);
     }
 
--- if no record ends what precedes them
+-- if no record ends the bytes before them, they are all
 pub all_so_far : (limits : Limits) (bytes : List ℕ) (run : RecordsAtEnd) → IsSoFar limits bytes run.start run.count
     → ((last : Logged) (front : List ℕ) → IsLawful limits last → take run.start bytes ≢ front ++ spelling last) → IsLongestRun limits bytes run
 all_so_far limits bytes run so_far none =

@@ -1,4 +1,4 @@
--- The records that end bytes, whatever comes before them.
+-- The records at the end of bytes, whatever comes before them.
 use Rattle.std.specs.Prelude.{◌≡◌, ℕ, ◌≤◌, List, length, drop}
 use Rattle.std.specs.List.{flat_map, AllByRecursion}
 use Rattle.mt_words.specs.declared.limits.Limits.{Limits}
@@ -12,7 +12,7 @@ pub record AreFrom (limits : Limits) (bytes : List ℕ) (start : ℕ) (records :
   pub lawful : AllByRecursion (IsLawful limits) records
   pub spelled : drop start bytes ≡ flat_map spelling records
 
--- the longest run of lawful records that ends the bytes: no run begins before it
+-- the longest run of lawful records at the end of the bytes: no run begins before it
 pub record IsLongestRun (limits : Limits) (bytes : List ℕ) (run : RecordsAtEnd) : Type 0 where
   pub records : List Logged
   pub are : AreFrom limits bytes run.start records

@@ -15,7 +15,7 @@ pub record HasRead (holds : List ℕ → Type 0) (text rest : List ℕ) : Type 0
 abbrev pub Reads : {T I : Type 0} → (T → I → List ℕ → Type 0) → I → I → List ℕ → List ℕ → Type 0
 Reads {T} holds old new bytes after = HasRead (λ items. (taken : T) (front : List ℕ) → holds taken old front → holds taken new (front ++ items)) bytes after
 
--- after what was read come the bytes that show the fault, and then any others
+-- the bytes that show the fault follow what was read, and then any others
 pub record HasShown (is_read shows : List ℕ → Type 0) : Type 0 where
   pub shown : List ℕ
   pub more : List ℕ

@@ -4,7 +4,7 @@ use Rattle.mt_record.specs.Steps.Bodies.{HasColumns, AreSpelled}
 use Rattle.mt_record.proofs.Checked.{AreSoFar}
 use Rattle.mt_record.proofs.body.check.judge_columns.Given as goal
 
--- If the bytes are columns, the rest is those that are left. With the columns so far in front, they are all columns.
+-- If the bytes are columns, they are the columns so far and those in the rest.
 abbrev pub invariant-loop : goal.invariant-loop
 invariant-loop l = record {
   front : List (ℕ × List ℕ);
