@@ -1,7 +1,7 @@
 /* Loaded into a program, fails one of its calls, and says so on standard error. FAIL is the kind of call: growth (malloc,
-   realloc), thread, open, list, stat, read or write. AT is its number among the program's calls of that kind, from 1. WITH
-   is the errno, or 0 for a read or write of one byte. The kind change fails no read: before it, the file TO gets the bytes
-   of the file FROM in place. */
+   realloc), thread, open, list, stat, read, write, sync, rename, delete, make (mkdir), mode (fchmod) or owner (chown). AT is
+   its number among the program's calls of that kind, from 1. WITH is the errno, or 0 for a read or write of one byte. The
+   kind change fails no read: before it, the file TO gets the bytes of the file FROM in place. */
 #define _GNU_SOURCE
 #include <dlfcn.h>
 #include <errno.h>
@@ -109,4 +109,34 @@ ssize_t write(int file, const void *bytes, size_t size)
         size = size < 1 ? size : 1;
     }
     return NEXT(ssize_t (*)(int, const void *, size_t), "write")(file, bytes, size);
+}
+
+int fsync(int file)
+{
+    return fails("sync") ? -1 : NEXT(int (*)(int), "fsync")(file);
+}
+
+int rename(const char *from, const char *to)
+{
+    return fails("rename") ? -1 : NEXT(int (*)(const char *, const char *), "rename")(from, to);
+}
+
+int unlink(const char *path)
+{
+    return fails("delete") ? -1 : NEXT(int (*)(const char *), "unlink")(path);
+}
+
+int mkdir(const char *path, mode_t mode)
+{
+    return fails("make") ? -1 : NEXT(int (*)(const char *, mode_t), "mkdir")(path, mode);
+}
+
+int fchmod(int file, mode_t mode)
+{
+    return fails("mode") ? -1 : NEXT(int (*)(int, mode_t), "fchmod")(file, mode);
+}
+
+int chown(const char *path, uid_t owner, gid_t group)
+{
+    return fails("owner") ? -1 : NEXT(int (*)(const char *, uid_t, gid_t), "chown")(path, owner, group);
 }

@@ -166,7 +166,7 @@ impl Sizes {
 const MEMORY_A_BYTE: u64 = 3;
 
 /// Prints the name of a file, and its size if that is known.
-fn write_file<W: Write>(
+pub fn write_file<W: Write>(
     name: &str,
     size: Option<&Option<u64>>,
     line: &mut Fields<'_, W>,

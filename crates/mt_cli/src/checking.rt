@@ -62,7 +62,11 @@ where
 
 /// Checks all logs and parts. If there is a cutoff, the logs are read once more, to count what is late. What follows the
 /// complete records of a log is read after that.
-fn check_all<'a, R>(rt: &R, folder: &Folder<'_>, names: &'a Names) -> Result<Checked, Refusal<'a>>
+pub fn check_all<'a, R>(
+    rt: &R,
+    folder: &Folder<'_>,
+    names: &'a Names,
+) -> Result<Checked, Refusal<'a>>
 where
     R: AllocGlobal + Files + Threads + Sync,
     R::File: Send,

@@ -66,8 +66,21 @@ impl PartState {
         }
     }
 
+    /// Returns whether it is complete.
+    pub fn is_whole(self) -> bool {
+        matches!(self, PartState::Whole(_))
+    }
+
+    /// Returns whether it goes when a server resumes: it is of another checkpoint than the chosen one, or of none.
+    pub fn goes(self, chosen: Option<u32>) -> bool {
+        match self {
+            PartState::Unread => false,
+            _ => chosen.is_none() || self.checkpoint() != chosen,
+        }
+    }
+
     /// Returns what it says, if it is complete and belongs to this checkpoint.
-    fn of_checkpoint(self, number: u32) -> Option<Part> {
+    pub fn of_checkpoint(self, number: u32) -> Option<Part> {
         match self {
             PartState::Whole(part) if part.checkpoint == number => Some(part),
             _ => None,

@@ -1,7 +1,7 @@
 //! The arguments that the program takes.
 use clap::builder::ValueParser;
 use clap::{Arg, ArgAction, Command};
-use mt_recover::{MOST_PIECES, MOST_WORKERS};
+use mt_recover::{MOST_BYTES, MOST_PIECES, MOST_WORKERS};
 use mt_words::GREATEST_COLUMN;
 use std::alloc::{AllocError, Global};
 
@@ -48,6 +48,12 @@ const FOLDER: Argument = Argument(
     "DIR",
     Kind::Word,
     "The folder with the logs (.mtl) and checkpoint parts (.mtc)",
+);
+
+const OUT: Argument = Argument(
+    "OUT",
+    Kind::Word,
+    "The folder to make for the checkpoint; it must not be there",
 );
 
 const LOG: Argument = Argument("FILE", Kind::Word, "The log (.mtl)");
@@ -98,6 +104,30 @@ const STRICT: Argument = Argument(
     "strict",
     Kind::Flag,
     "End with status 4 if anything is torn, late, skipped or nameless",
+);
+
+const STRICT_RESUME: Argument = Argument(
+    "strict",
+    Kind::Flag,
+    "Change nothing, and end with status 4, if anything is torn, late, skipped or nameless",
+);
+
+const DRY_RUN: Argument = Argument(
+    "dry-run",
+    Kind::Flag,
+    "Change nothing: print what would be done",
+);
+
+const NUMBER: Argument = Argument(
+    "number",
+    Kind::UpTo("N", 4_294_967_295, "1"),
+    "The checkpoint's number: 1 to 4294967295",
+);
+
+const PART_LIMIT: Argument = Argument(
+    "limit",
+    Kind::UpTo("BYTES", MOST_BYTES, "1073741824"),
+    "Begin another part rather than write more bytes: 1 to 1073741824",
 );
 
 const EXISTS: Argument = Argument(
@@ -181,6 +211,18 @@ const SUBCOMMANDS: &[Subcommand] = &[
         arguments: &[FOLDER, WORKERS, VERBOSE, JSON],
     },
     Subcommand {
+        name: "resume",
+        about: "Makes the logs and parts those with which a server goes on after a crash; the store stays the same",
+        example: "Example: mtrecover resume DIR --dry-run",
+        arguments: &[FOLDER, WORKERS, VERBOSE, JSON, STRICT_RESUME, DRY_RUN],
+    },
+    Subcommand {
+        name: "checkpoint",
+        about: "Writes the store as a checkpoint and a log into a new folder",
+        example: "Example: mtrecover checkpoint examples/store fresh",
+        arguments: &[FOLDER, WORKERS, VERBOSE, PIECES, OUT, NUMBER, PART_LIMIT],
+    },
+    Subcommand {
         name: "records",
         about: "Prints the records of a log, or the entries of a part, with their numbers and the bytes where they begin",
         example: "Example: mtrecover records examples/a.mtl --from 1 --limit 2",
@@ -208,7 +250,7 @@ pub fn grammar<'a>(alloc: Global) -> Result<Command<'a>, AllocError> {
     let mut program = Command::new(alloc, "mtrecover")
         .version("1.0 (file formats 1 to 3)")
         .about(
-            "Recovers the store of a folder of update logs and checkpoint parts and answers queries on it; audits, checks, prints and cuts logs",
+            "Recovers the store of a folder of update logs and checkpoint parts and answers queries on it; audits, checks, resumes, prints and cuts logs",
         )
         .after_help(STATUSES)
         .no_binary_name(true)
@@ -234,10 +276,12 @@ impl Subcommand {
     }
 }
 
-// The help of two options names these limits.
+// The help of some options names these limits.
 const _: () = prove!(MOST_WORKERS == 64);
 
 const _: () = prove!(MOST_PIECES == 4096);
+
+const _: () = prove!(MOST_BYTES == 1_073_741_824);
 
 impl Argument {
     /// Returns the grammar of the argument.

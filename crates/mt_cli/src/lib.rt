@@ -1,9 +1,11 @@
-//! The code of the program `mtrecover`, which recovers the store of a folder and answers one query on it; audits the logs
-//! of the folder; checks all its files; or prints or cuts one file.
+//! The code of the program `mtrecover`, which recovers the store of a folder and answers one query on it, or writes it as a
+//! checkpoint into a new folder; audits the logs of the folder; checks all its files, or resumes them after a crash; or
+//! prints or cuts one file.
 //!
 //! `run` is the whole program. It reads the arguments into a `Command`. One on a file, as of `records` and `cut`, reads
-//! that file. The others list the `Names` of the logs and parts in the `Folder`. `check` then reads each file by itself. A
-//! `Query` opens the files as sources, from which `answer` recovers the store or audits the logs, and prints the answer.
+//! that file. The others list the `Names` of the logs and parts in the `Folder`. `check` and `resume` then
+//! read each file by itself. A `Query` and `checkpoint` open the files as sources, from which the store is recovered or the
+//! logs are audited. `saving.rt` has all calls that change files.
 //!
 //! ```
 //! let words = vec![in rt.alloc(); "report".to_string(rt.alloc())?, folder]?;
@@ -18,6 +20,7 @@ mod answering;
 mod caveat;
 mod checked;
 mod checking;
+mod checkpointing;
 mod completions;
 mod ending;
 mod explaining;
@@ -26,12 +29,15 @@ mod fates;
 mod file_names;
 mod filing;
 mod grammar;
+mod halt;
 mod listing;
 mod manual;
 mod opening;
 mod ranges;
 mod request;
+mod resuming;
 mod running;
+mod saving;
 mod stop;
 mod texts;
 mod words;
@@ -39,6 +45,6 @@ mod words;
 pub use answering::answer;
 pub use file_names::Names;
 pub use listing::names;
-pub use request::{Command, FileQuery, Folder, Query, Range, StoreQuery};
+pub use request::{Command, FileQuery, Folder, NewFolder, Query, Range, Resume, StoreQuery};
 pub use running::{run, run_words};
 pub use words::command;

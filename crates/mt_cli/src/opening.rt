@@ -1,6 +1,6 @@
 //! Opens files as sources.
 use crate::file_names::Names;
-use mt_recover::{Failure, MOST_BYTES, Refusal};
+use mt_recover::{Failure, Inputs, MOST_BYTES, Refusal};
 use mt_scan::{LONGEST_BUFFER, Rack, ReaderSource, Slot};
 use std::fs::{self, File, Files, OpenFile};
 use std::io::{self, ErrorKind, Seek, SeekFrom};
@@ -10,6 +10,20 @@ use std::path::Path;
 pub fn rack_of<R: AllocGlobal>(rt: &R, names: &Names) -> Result<Rack, Refusal<'static>> {
     let count = names.logs.len().saturating_add(names.parts.len());
     Ok(Rack::new(rt.alloc(), count, LONGEST_BUFFER)?)
+}
+
+/// Opens the sources of the logs, and then those of the parts.
+pub fn open_inputs<'a, 'b, R: AllocGlobal + Files>(
+    rt: &R,
+    folder: &str,
+    names: &'a Names,
+    slots: &'b mut [Slot],
+) -> Result<Inputs<ReaderSource<'b, R::File>>, Refusal<'a>> {
+    let log_count = names.logs.len().min(slots.len());
+    let (log_slots, part_slots) = slots.split_at_mut(log_count);
+    let logs = open_all(rt, folder, &names.logs, log_slots)?;
+    let parts = open_all(rt, folder, &names.parts, part_slots)?;
+    Ok(Inputs { logs, parts })
 }
 
 /// Opens the files of these names in the folder as sources, each with the buffer of a slot. Err: a file cannot be
@@ -52,7 +66,7 @@ pub fn open_rest<'a, R: AllocGlobal + Files>(
 }
 
 /// Opens the file of this name in the folder.
-fn open<R: AllocGlobal + Files>(rt: &R, folder: &str, name: &str) -> io::Result<R::File> {
+pub fn open<R: AllocGlobal + Files>(rt: &R, folder: &str, name: &str) -> io::Result<R::File> {
     let path = Path::new(folder).join(rt.alloc(), name)?;
     File::open(rt, &path)
 }

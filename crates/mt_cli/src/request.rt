@@ -13,6 +13,10 @@ pub enum Command<'a> {
         folder: Folder<'a>,
         is_json: bool,
     },
+    /// Makes the files of a folder those with which a server goes on after a crash.
+    Resume(Folder<'a>, Resume),
+    /// Writes the store of a folder as a checkpoint into a new folder.
+    Checkpoint(Folder<'a>, NewFolder<'a>),
     /// A query on the file of this path.
     File {
         path: &'a str,
@@ -30,6 +34,30 @@ pub struct Folder<'a> {
     pub workers: Workers,
     /// Whether a failure has a second line, which explains it.
     pub is_verbose: bool,
+}
+
+/// How to resume the files of a folder.
+#[derive(Clone, Copy, Debug)]
+pub struct Resume {
+    /// Whether nothing is changed: what would be is printed.
+    pub is_dry: bool,
+    /// Whether nothing is changed if anything was lost or passed over.
+    pub is_strict: bool,
+    /// Whether JSON is printed.
+    pub is_json: bool,
+}
+
+/// A new folder for a checkpoint of a store, and what the checkpoint is to be.
+#[derive(Debug, Drop)]
+pub struct NewFolder<'a> {
+    /// The path of the folder.
+    pub path: &'a str,
+    /// The number of the checkpoint.
+    pub number: u32,
+    /// The most bytes of a part that has several entries.
+    pub limit: usize,
+    /// Recovery cuts the keys into at most this many pieces.
+    pub pieces: Pieces,
 }
 
 /// A query on the logs and parts of a folder: what to print.

@@ -3,15 +3,16 @@ ghost use Rattle.std.specs.Prelude.{◌≤◌, IfErr, IfOk};
 
 use crate::answering::answer;
 use crate::checking::check;
+use crate::checkpointing::checkpoint;
 use crate::failure::{or_tell, tell};
 use crate::file_names::Names;
 use crate::filing::answer_file;
 use crate::listing::names;
-use crate::opening::{open_all, rack_of};
+use crate::opening::{open_inputs, rack_of};
 use crate::request::{Command, Folder, Query};
+use crate::resuming::resume;
 use crate::words::command;
-use mt_recover::{Failure, Inputs, Refusal};
-use mt_scan::{ReaderSource, Slot};
+use mt_recover::{Failure, Refusal};
 use std::env::{self, Env};
 use std::fs::Files;
 use std::io::{self, Write};
@@ -66,6 +67,14 @@ where
             let names = names(rt, folder.path, folder.is_verbose, err)?;
             Ok(check(rt, folder, *is_json, &names, out, err))
         }
+        Command::Resume(folder, how) => {
+            let names = names(rt, folder.path, folder.is_verbose, err)?;
+            Ok(resume(rt, folder, *how, &names, out, err))
+        }
+        Command::Checkpoint(folder, new) => {
+            let names = names(rt, folder.path, folder.is_verbose, err)?;
+            Ok(checkpoint(rt, folder, new, &names, out, err))
+        }
         Command::File {
             path,
             is_verbose,
@@ -92,20 +101,10 @@ where
     let names = names(rt, folder.path, folder.is_verbose, err)?;
     let explaining = folder.is_verbose.then_some(&names);
     let mut rack = or_tell(rack_of(rt, &names), explaining, err)?;
-    let inputs = or_tell(open(rt, folder.path, &names, rack.slots()), explaining, err)?;
+    let inputs = or_tell(
+        open_inputs(rt, folder.path, &names, rack.slots()),
+        explaining,
+        err,
+    )?;
     Ok(answer(rt, folder, query, &names, inputs, out, err))
-}
-
-/// Opens the sources of the logs, and then those of the parts.
-fn open<'a, 'b, R: AllocGlobal + Files>(
-    rt: &R,
-    folder: &str,
-    names: &'a Names,
-    slots: &'b mut [Slot],
-) -> Result<Inputs<ReaderSource<'b, R::File>>, Refusal<'a>> {
-    let log_count = names.logs.len().min(slots.len());
-    let (log_slots, part_slots) = slots.split_at_mut(log_count);
-    let logs = open_all(rt, folder, &names.logs, log_slots)?;
-    let parts = open_all(rt, folder, &names.parts, part_slots)?;
-    Ok(Inputs { logs, parts })
 }

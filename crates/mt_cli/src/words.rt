@@ -4,7 +4,7 @@ ghost use Rattle.std.specs.Prelude.{◌≤◌, IfErr};
 use crate::failure::{or_tell, tell};
 use crate::file_names::Names;
 use crate::grammar::grammar;
-use crate::request::{Command, FileQuery, Folder, Query, Range, StoreQuery};
+use crate::request::{Command, FileQuery, Folder, NewFolder, Query, Range, Resume, StoreQuery};
 use crate::texts::{Text, tell_text};
 use clap::ArgMatches;
 use clap::error::ErrorKind;
@@ -113,12 +113,38 @@ fn of_folder<'a>(
         let is_json = matches.get_flag("json");
         return Ok(Command::Check { folder, is_json });
     }
+    if name == "resume" {
+        return Ok(Command::Resume(folder, resume(matches)));
+    }
+    if name == "checkpoint" {
+        return Ok(Command::Checkpoint(folder, new_folder(matches)?));
+    }
     if name == "audit" {
         return Ok(Command::Query(folder, Query::Audit));
     }
     let pieces = found(matches.get_one("pieces").and_then(Pieces::new))?;
     let query = Query::Store(store_query(alloc, name, matches)?, pieces);
     Ok(Command::Query(folder, query))
+}
+
+/// Returns how to resume the files of a folder.
+fn resume(matches: &ArgMatches<'_>) -> Resume {
+    Resume {
+        is_dry: matches.get_flag("dry-run"),
+        is_strict: matches.get_flag("strict"),
+        is_json: matches.get_flag("json"),
+    }
+}
+
+/// Returns the new folder for a checkpoint.
+fn new_folder<'a>(matches: &ArgMatches<'a>) -> Result<NewFolder<'a>, Refusal<'static>> {
+    let limit: u64 = found(matches.get_one("limit"))?;
+    Ok(NewFolder {
+        path: found(matches.get_str("OUT"))?,
+        number: found(matches.get_one("number"))?,
+        limit: limit as usize,
+        pieces: found(matches.get_one("pieces").and_then(Pieces::new))?,
+    })
 }
 
 /// Returns which records or entries to print, and how.

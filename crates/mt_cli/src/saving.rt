@@ -1,0 +1,208 @@
+//! Writes, replaces and deletes the files of a folder. A crash leaves of each file the old bytes or the new ones.
+use crate::halt::Halt;
+use crate::opening::open;
+use std::fs::{self, File, Files, OpenFile, OpenOptions};
+use std::io::{self, ErrorKind, Read, Write};
+use std::os::unix::fs::{MetadataExt, OpenOptionsExt, chown};
+use std::path::{Path, PathBuf};
+
+/// A folder whose files are changed.
+#[derive(Drop)]
+pub struct Site<'a, R> {
+    pub rt: &'a R,
+    /// The path of the folder.
+    pub folder: &'a str,
+    /// What to try after a failure.
+    pub advice: &'static str,
+}
+
+impl<'a, R: AllocGlobal + Files> Site<'a, R> {
+    /// Refuses a file of this name that is not a regular one, such as a link.
+    pub fn expect_file(&self, name: &str) -> Result<(), Halt<'static>> {
+        match self.check_file(name) {
+            Ok(()) => Ok(()),
+            Err(error) => Err(Halt::stuck(
+                self.rt.alloc(),
+                "replace",
+                name,
+                error,
+                "put a file in place of it",
+            )),
+        }
+    }
+
+    /// Reads the file of this name.
+    pub fn read(&self, name: &str) -> Result<Vec<u8>, Halt<'static>> {
+        self.tell("read", name, self.read_file(name))
+    }
+
+    /// Syncs the bytes of the file of this name.
+    pub fn sync_file(&self, name: &str) -> Result<(), Halt<'static>> {
+        self.tell("sync", name, self.sync_bytes(name))
+    }
+
+    /// Syncs the names of the folder, and not the bytes of its files.
+    pub fn sync(&self) -> Result<(), Halt<'static>> {
+        self.tell("sync", self.folder, sync_folder(self.rt, self.folder))
+    }
+
+    /// Gives the file of this name these bytes, one after the other, in one step. It keeps its owner, its group and its mode.
+    pub fn replace(
+        &self,
+        name: &str,
+        header: &[u8],
+        records: &[u8],
+        marks: &[u8],
+    ) -> Result<(), Halt<'static>> {
+        self.tell(
+            "replace",
+            name,
+            self.replace_file(name, header, records, marks),
+        )
+    }
+
+    /// Leaves of a part its header alone, so that it is broken.
+    pub fn spoil(&self, name: &str) -> Result<(), Halt<'static>> {
+        self.tell("replace", name, self.spoil_file(name))
+    }
+
+    /// Deletes the file of this name.
+    pub fn delete(&self, name: &str) -> Result<(), Halt<'static>> {
+        self.tell("delete", name, self.delete_file(name))
+    }
+
+    /// Writes a new file of this name, in one step.
+    pub fn write(&self, name: &str, bytes: &[u8]) -> Result<(), Halt<'static>> {
+        self.tell("write", name, self.write_file(name, bytes))
+    }
+
+    /// Passes on what became of a step. An error says what could not be done.
+    pub fn tell<T: Drop>(
+        &self,
+        doing: &'static str,
+        name: &str,
+        outcome: io::Result<T>,
+    ) -> Result<T, Halt<'static>> {
+        match outcome {
+            Ok(value) => Ok(value),
+            Err(error) => Err(Halt::stuck(self.rt.alloc(), doing, name, error, self.advice)),
+        }
+    }
+
+    /// Returns the path of this name in the folder.
+    pub fn path(&self, name: &str) -> io::Result<PathBuf> {
+        Ok(Path::new(self.folder).join(self.rt.alloc(), name)?)
+    }
+
+    fn check_file(&self, name: &str) -> io::Result<()> {
+        let path = self.path(name)?;
+        if fs::symlink_metadata(self.rt, &path)?.is_file() {
+            return Ok(());
+        }
+        Err(io::Error::new(ErrorKind::Unsupported, "it is no regular file"))
+    }
+
+    fn read_file(&self, name: &str) -> io::Result<Vec<u8>> {
+        let path = self.path(name)?;
+        fs::read(self.rt, &path)
+    }
+
+    fn sync_bytes(&self, name: &str) -> io::Result<()> {
+        open(self.rt, self.folder, name)?.sync_all()
+    }
+
+    fn replace_file(
+        &self,
+        name: &str,
+        header: &[u8],
+        records: &[u8],
+        marks: &[u8],
+    ) -> io::Result<()> {
+        let path = self.path(name)?;
+        let old = fs::metadata(self.rt, &path)?;
+        let unfinished = unfinished(self.rt, &path)?;
+        let mut file = self.create_private(&unfinished)?;
+        chown(self.rt, &unfinished, Some(old.uid()), Some(old.gid()))?;
+        file.set_permissions(old.permissions())?;
+        file.write_all(header)?;
+        file.write_all(records)?;
+        file.write_all(marks)?;
+        file.sync_all()?;
+        fs::rename(self.rt, &unfinished, &path)
+    }
+
+    fn spoil_file(&self, name: &str) -> io::Result<()> {
+        let mut header = Vec::new(self.rt.alloc());
+        open(self.rt, self.folder, name)?
+            .take(PART_HEADER_BYTES)
+            .read_to_end(&mut header)?;
+        self.replace_file(name, &header, &[], &[])
+    }
+
+    fn delete_file(&self, name: &str) -> io::Result<()> {
+        let path = self.path(name)?;
+        fs::remove_file(self.rt, &path)
+    }
+
+    fn write_file(&self, name: &str, bytes: &[u8]) -> io::Result<()> {
+        let path = self.path(name)?;
+        let unfinished = unfinished(self.rt, &path)?;
+        let mut file = File::create_new(self.rt, &unfinished)?;
+        file.write_all(bytes)?;
+        file.sync_all()?;
+        fs::rename(self.rt, &unfinished, &path)
+    }
+
+    /// Creates a file that only its owner may read, in place of one that a crash may have left.
+    fn create_private(&self, path: &PathBuf) -> io::Result<R::File> {
+        match fs::remove_file(self.rt, path) {
+            Err(error) if error.kind() != ErrorKind::NotFound => return Err(error),
+            _ => {}
+        }
+        OpenOptions::new()
+            .write(true)
+            .create_new(true)
+            .mode(0o600)
+            .open(self.rt, path)
+    }
+}
+
+/// Makes the folder of this path, which must not be there, and syncs the folder that it is in.
+pub fn make_folder<R: AllocGlobal + Files>(rt: &R, path: &str) -> Result<(), Halt<'static>> {
+    match create_folder(rt, path) {
+        Ok(()) => Ok(()),
+        Err(error) => Err(Halt::stuck(
+            rt.alloc(),
+            "make",
+            path,
+            error,
+            "name a new folder, in one that can be written",
+        )),
+    }
+}
+
+fn create_folder<R: AllocGlobal + Files>(rt: &R, path: &str) -> io::Result<()> {
+    fs::create_dir(rt, path)?;
+    sync_folder(rt, parent_of(path))
+}
+
+/// The number of bytes of the header of a part.
+const PART_HEADER_BYTES: u64 = 20;
+
+/// Returns the path of a file that is being written and is to be at this path. No log and no part has such a name.
+fn unfinished<R: AllocGlobal>(rt: &R, path: &PathBuf) -> io::Result<PathBuf> {
+    Ok(path.with_added_extension(rt.alloc(), "new")?)
+}
+
+/// Syncs the folder of this path.
+fn sync_folder<R: AllocGlobal + Files>(rt: &R, path: &str) -> io::Result<()> {
+    File::open(rt, path)?.sync_all()
+}
+
+/// Returns the path of the folder that a path is in.
+fn parent_of(path: &str) -> &str {
+    match Path::new(path).parent() {
+        Some(parent) if !parent.as_str().is_empty() => parent.as_str(),
+        _ => ".",
+    }
+}
