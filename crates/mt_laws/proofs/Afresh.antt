@@ -209,11 +209,11 @@ some_column us pairs pair walk at = by pair.1 refl (of_each IsPair pairs pair wa
     }
 
 -- the greatest version of a list of updates
-abbrev greatest : List Update → ℕ
+abbrev pub greatest : List Update → ℕ
 greatest [] = 0
 greatest (u ∷ us) = max u.stamp.version (greatest us)
 
-below_greatest : (us : List Update) (u : Update) → Contains us u → u.stamp.version ≤ greatest us
+pub below_greatest : (us : List Update) (u : Update) → Contains us u → u.stamp.version ≤ greatest us
 below_greatest [] u at = absurd (no_element u at)
 below_greatest (x ∷ xs) u at = elim (head_or_tail x u xs at) as (λ _. u.stamp.version ≤ greatest (x ∷ xs)) [
   | inl e ↦ let same : x.stamp.version ≡ u.stamp.version = ap (λ (w : Update). w.stamp.version) e in omega (arith, same)

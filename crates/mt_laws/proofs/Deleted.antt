@@ -15,7 +15,7 @@ use Rattle.mt_replay.proofs.Members.{of_map, in_filter}
 use Rattle.mt_laws.specs.Resuming.{IsDeleting, none_gone, some_gone, over_broken, all_gone, AreDeleting, NoneBecomesValid}
 
 -- each of the parts that make up a checkpoint gives their number
-count_given : (checkpoint : CheckpointReading) (texts : List PartReading) (text : PartReading) → AreItsParts texts checkpoint → Contains texts text
+pub count_given : (checkpoint : CheckpointReading) (texts : List PartReading) (text : PartReading) → AreItsParts texts checkpoint → Contains texts text
     → text.parts ≡ length texts
 count_given checkpoint texts text make_up at =
     sym (ap (λ (t : PartReading). t.parts) at.2) ∙ (at_place checkpoint (length texts) 0 texts at.0 text make_up.in_place at.1).parts

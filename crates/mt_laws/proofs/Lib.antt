@@ -37,3 +37,5 @@ pub mod KeptLogs
 pub mod Afresh
 pub mod LeftParts
 pub mod NewParts
+pub mod ChosenParts
+pub mod Restart

@@ -18,10 +18,10 @@ use Rattle.mt_laws.proofs.Deleted.{not_made_of_none}
 -- ---- parts of a number
 
 -- no part has the number
-abbrev NoneOf : ℕ → List KnownPart → Type 0
+abbrev pub NoneOf : ℕ → List KnownPart → Type 0
 NoneOf number parts = (part : KnownPart) → Contains parts part → belongs_to number part ≡ true → ⊥
 
-no_parts : (number : ℕ) (parts : List KnownPart) → NoneOf number parts → parts_of number parts ≡ []
+pub no_parts : (number : ℕ) (parts : List KnownPart) → NoneOf number parts → parts_of number parts ≡ []
 no_parts number [] none = refl
 no_parts number (p ∷ ps) none = elim (cases_Bool (belongs_to number p)) as (λ _. parts_of number (p ∷ ps) ≡ []) [
   | inl is ↦ absurd (none p (head_in p ps) is)
@@ -46,7 +46,7 @@ few_parts number (p ∷ ps) = by (belongs_to number p) (few_parts number ps)
     by false few = omega (arith, few)
 
 -- a checkpoint is valid among parts if it is among those of its number
-same_valid : (parts others : List KnownPart) (checkpoint : CheckpointReading) → parts_of checkpoint.number parts ≡ parts_of checkpoint.number others → IsValid parts checkpoint
+pub same_valid : (parts others : List KnownPart) (checkpoint : CheckpointReading) → parts_of checkpoint.number parts ≡ parts_of checkpoint.number others → IsValid parts checkpoint
     → IsValid others checkpoint
 same_valid parts others checkpoint same valid = record {
   texts = valid.texts;
@@ -62,7 +62,7 @@ zip_joined R [] others (y ∷ ys) news are too = absurd are
 zip_joined R (x ∷ xs) others [] news are too = absurd are
 zip_joined R (x ∷ xs) others (y ∷ ys) news are too = (are.0, zip_joined R xs others ys news are.1 too)
 
-abbrev bytes_in : List PartFile → List (List ℕ)
+abbrev pub bytes_in : List PartFile → List (List ℕ)
 bytes_in files = map (λ (file : PartFile). file.bytes) files
 
 -- files of parts of which none has the number

@@ -38,6 +38,9 @@ use Rattle.mt_laws.proofs.Living.{all_of_it, listed_rise}
 pub only_one : {X : Type 0} (one x : X) → Contains (one ∷ []) x → one ≡ x
 only_one one x at = elim (head_or_tail one x [] at) as (λ _. one ≡ x) [ inl e ↦ e | inr none ↦ absurd (no_element x none) ]
 
+some_same : (a b : List ℕ) → Some a ≡ Some b → a ≡ b
+some_same a b same = cc
+
 -- ---- files that are no segments
 
 -- an open file that is no segment, with a `from` of at most the timestamp
@@ -199,8 +202,7 @@ walk = record {
         let written : Contains ((0, Some []) ∷ []) (number, Some bytes) = subst (λ (u : Update). Writes u.kind number (Some bytes)) (sym is) h.writes in
         let same : (0, Some []) ≡ (number, Some bytes) = only_one (0, Some []) (number, Some bytes) written in
         let number_is : 0 ≡ number = ap (λ (w : ℕ × Option (List ℕ)). w.0) same in
-        let some_is : Some [] ≡ Some bytes = ap (λ (w : ℕ × Option (List ℕ)). w.1) same in
-        let bytes_are : [] ≡ bytes = cc in
+        let bytes_are : [] ≡ bytes = some_same [] bytes (ap (λ (w : ℕ × Option (List ℕ)). w.1) same) in
         subst (λ (x : List ℕ × (ℕ × List ℕ)). Holds pairs x.0 x.1.0 x.1.1) (λ i. (of_key i, (number_is i, bytes_are i))) holds_one
 
 stored : AreStored (update ∷ []) pairs 2 1

@@ -145,6 +145,7 @@ pub record AreLeftOf (checkpoints : Checkpoints) (parts : List (List ℕ)) : Typ
   pub no_other : (checkpoint : CheckpointReading) → IsValid known checkpoint → Contains checkpoints.written checkpoint
   pub base_is : IfSome checkpoints.base (IsValid known)
 
+-- the checkpoint, if any, as a list
 abbrev pub listed : Option CheckpointReading → List CheckpointReading
 listed None = []
 listed (Some checkpoint) = checkpoint ∷ []
@@ -304,3 +305,13 @@ pub record AreNewFiles (before : List KnownPart) (number : ℕ) (files : List Pa
   pub above : (part : KnownPart) (other : ℕ) → Contains before part → belongs_to other part ≡ true → other < number
   pub numbered : (part : KnownPart) (other : ℕ) → Contains known part → belongs_to other part ≡ true → other ≡ number
   pub no_more : (part : PartReading) → Contains known (whole part) → length files ≤ part.parts
+
+-- the parts of the chosen checkpoint, if any
+abbrev pub chosen_parts : Option CheckpointReading → List KnownPart → List KnownPart
+chosen_parts None known = []
+chosen_parts (Some chosen) known = parts_of chosen.number known
+
+-- the files of the parts that a resume leaves: those of the chosen checkpoint, all synced
+pub record AreChosenFiles (chosen : Option CheckpointReading) (known : List KnownPart) (files : List PartFile) : Type 0 where
+  pub are_known : AreKnown (map (λ file. file.bytes) files) (chosen_parts chosen known)
+  pub synced : (file : PartFile) → Contains files file → file.synced ≡ true

@@ -24,6 +24,7 @@ pub use crashes::{
 pub use fresh::a_fresh_start_is_the_same_store;
 pub use lives::{
     a_checkpoint_written_while_running, a_crash_makes_no_checkpoint_valid, a_life_of_crashes,
+    a_resume_leaves_the_chosen_parts,
 };
 pub use readings::{some_part, some_reading};
 pub use resuming::{

@@ -1,17 +1,18 @@
 //! The law of a server that crashes, resumes and goes on, again and again.
-ghost use Rattle.std.specs.Prelude.{ℕ, None, List, [], ◌∷◌, ◌++◌, Contains};
+ghost use Rattle.std.specs.Prelude.{ℕ, ◌-◌, ◌^◌, ◌<◌, None, Some, List, [], ◌∷◌, ◌++◌, map, Contains};
 ghost use Rattle.mt_words.specs.declared.update.Update.{Update};
 ghost use Rattle.mt_words.specs.Changes.{Logged};
 ghost use Rattle.mt_words.specs.Walks.{Pair};
 ghost use Rattle.mt_scan.specs.Choice.{CheckpointReading, IsValid};
 ghost use Rattle.mt_replay.specs.Survivors.{log_updates};
 ghost use Rattle.mt_replay.specs.Walk.{IsWalk};
-ghost use Rattle.mt_recover.specs.Recovery.{survivors, IsStoreOf};
-ghost use Rattle.mt_laws.specs.Lives.{OpenFile, LogOf, deleted, history_of, Checkpoints, running, down, Life, AreLeftOf, PartFile, AreFilesOf, AreCutParts, AreNewFiles};
+ghost use Rattle.mt_recover.specs.Recovery.{Facts, survivors, IsStoreOf};
+ghost use Rattle.mt_laws.specs.Lives.{OpenFile, LogOf, there, deleted, history_of, left_behind, Checkpoints, running, down, Life, AreLeftOf, PartFile, AreFilesOf, AreCutParts, AreNewFiles, only, AreChosenFiles};
 
 /// States that in each life of a server over logs and checkpoints, after each crash, there is a store and no fault. It is
 /// that of all updates below the cutoff that were written and that no resume dropped, those of deleted logs included, and
-/// each update that was ever acknowledged is among them. The server can resume and go on. And there is such a life, in
+/// each update that was ever acknowledged is among them. The server can resume and go on, or start afresh in a
+/// new folder if the cutoff is not the greatest timestamp. And there is such a life, in
 /// which a log with an acknowledged update is deleted before a crash. This is a law: it has nothing to run.
 pub fn a_life_of_crashes()
     ensures no_fault { (acked : List Update) (logs : List (LogOf (List Logged))) (left parts : List (List ℕ)) →
@@ -25,6 +26,10 @@ pub fn a_life_of_crashes()
     ensures goes_on { (acked : List Update) (logs : List (LogOf (List Logged))) (left parts : List (List ℕ)) →
         Life (down acked logs left parts) →
         (after : List (LogOf OpenFile)) × (checkpoints : Checkpoints) × Life (running acked after checkpoints) }
+    ensures afresh { (acked : List Update) (logs : List (LogOf (List Logged))) (left parts : List (List ℕ)) (pairs : List Pair) →
+        Life (down acked logs left parts) → (store : IsStoreOf left parts pairs) → store.basis.facts.cutoff < 2 ^ 64 - 1 →
+        (file : OpenFile) × (new : CheckpointReading) ×
+        Life (running acked (map (left_behind store.basis.facts.cutoff) logs ++ there file ∷ []) (only (Some new))) }
     ensures some { (u : Update) × (old : List Logged) × Contains (log_updates (old ∷ [])) u × (logs : List (LogOf (List Logged))) × (left parts : List (List ℕ)) ×
         Life (down (u ∷ []) (deleted old ∷ logs) left parts) }
 {}
@@ -45,4 +50,11 @@ pub fn a_checkpoint_written_while_running()
         ((checkpoint : CheckpointReading) → Contains checkpoints.written checkpoint → Contains written checkpoint) →
         ((checkpoint : CheckpointReading) → IsValid parts.known checkpoint → Contains written checkpoint) →
         AreFilesOf (record checkpoints { written = written }) (files ++ new) }
+{}
+
+/// States that the files of parts are as `a_crash_makes_no_checkpoint_valid` asks after a resume, which leaves the parts of
+/// the chosen checkpoint and no others. This is a law: it has nothing to run.
+pub fn a_resume_leaves_the_chosen_parts()
+    ensures { (left parts : List (List ℕ)) (facts : Facts left parts) (files : List PartFile) →
+        AreChosenFiles facts.chosen facts.known files → AreFilesOf (only facts.chosen) files }
 {}

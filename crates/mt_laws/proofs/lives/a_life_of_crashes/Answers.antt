@@ -1,4 +1,5 @@
 use Rattle.mt_laws.proofs.Living.{life_has_store, life_store, life_keeps, life_goes_on}
+use Rattle.mt_laws.proofs.Restart.{life_starts_afresh}
 use Rattle.mt_laws.proofs.SomeLife.{some_life}
 use Rattle.mt_laws.proofs.lives.a_life_of_crashes.Goals as goal
 
@@ -13,6 +14,9 @@ returns-clause-acknowledged c = λ acked logs left parts pairs life store u at. 
 
 pub returns-clause-goes_on : goal.returns-clause-goes_on
 returns-clause-goes_on c = λ acked logs left parts life. life_goes_on acked logs left parts life
+
+pub returns-clause-afresh : goal.returns-clause-afresh
+returns-clause-afresh c = λ acked logs left parts pairs life store fits. life_starts_afresh acked logs left parts pairs life store fits
 
 pub returns-clause-some : goal.returns-clause-some
 returns-clause-some c = some_life
