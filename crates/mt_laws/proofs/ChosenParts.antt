@@ -1,19 +1,18 @@
 -- The parts that a resume leaves are those of the chosen checkpoint, which no other part is among.
-use Rattle.std.proofs.Common.{◌≡◌, inl, inr, ℕ, ◌≤◌, Bool, true, cond, Option, Some, None, List, [], ◌∷◌, ◌++◌, length, map, filter, Contains, refl, sym, ap, ◌∙◌, subst, arith}
-use Rattle.std.specs.Prelude.{IfSome}
+use Rattle.std.proofs.Common.{◌≡◌, inl, inr, ℕ, ◌≤◌, true, Option, Some, None, List, [], ◌∷◌, length, map, Contains, refl, sym, ap, ◌∙◌, subst, arith}
 use Rattle.std.specs.List.{AllZip}
-use Rattle.std.specs.List.Sorted.{IsPermutation}
 use Rattle.std.proofs.lemmas.Bool.{cases_Bool, cases_eq, eqb-true, false≢true}
 use Rattle.std.proofs.lemmas.List.{append-nil, length-map}
 use Rattle.std.proofs.lemmas.List.Sorted.{Contains-permutation, length_permutation}
-use Rattle.mt_words.proofs.Elements.{no_element, head_or_tail, head_in, tail_in}
+use Rattle.mt_words.proofs.Elements.{no_element, head_in, tail_in}
 use Rattle.mt_record.specs.Parts.{PartReading, IsPartReading}
 use Rattle.mt_scan.specs.PartScans.{KnownPart, whole, broken, nameless, IsKnown}
 use Rattle.mt_scan.specs.Choice.{CheckpointReading, belongs_to, parts_of, IsValid, IsChosenOf}
 use Rattle.mt_scan.proofs.OneChoice.{one_valid}
 use Rattle.mt_replay.proofs.Members.{of_map, in_map, of_filter}
-use Rattle.mt_recover.specs.Recovery.{AreKnown, Facts}
-use Rattle.mt_laws.specs.Lives.{listed, only, PartFile, BeginsAPart, IsSyncedIn, AreFilesOf, chosen_parts, AreChosenFiles}
+use Rattle.mt_recover.specs.Recovery.{Facts}
+use Rattle.mt_laws.specs.Lives.{only}
+use Rattle.mt_laws.specs.PartFiles.{PartFile, BeginsAPart, AreFilesOf, AreChosenFiles}
 use Rattle.mt_laws.proofs.Deleted.{count_given, not_made_of_none}
 use Rattle.mt_laws.proofs.Paired.{partner}
 use Rattle.mt_laws.proofs.NewParts.{bytes_in, no_parts, same_valid}

@@ -17,7 +17,8 @@ use Rattle.mt_scan.specs.Choice.{CheckpointReading, belongs_to, parts_of, IsVali
 use Rattle.mt_scan.proofs.OneKnown.{one_known}
 use Rattle.mt_replay.proofs.Members.{of_map, of_filter, in_filter}
 use Rattle.mt_recover.specs.Recovery.{AreKnown}
-use Rattle.mt_laws.specs.Lives.{Checkpoints, AreLeftOf, PartFile, BeginsAPart, IsSyncedIn, AreFilesOf, AreCutParts, none, lost, cut}
+use Rattle.mt_laws.specs.Lives.{Checkpoints, AreLeftOf}
+use Rattle.mt_laws.specs.PartFiles.{PartFile, BeginsAPart, IsSyncedIn, AreFilesOf, AreCutParts, none, lost, cut}
 use Rattle.mt_laws.proofs.Deleted.{none_is_gone}
 use Rattle.mt_laws.proofs.SomeVerdict.{all_known}
 

@@ -31,7 +31,7 @@ use Rattle.mt_recover.specs.Recovery.{AreReadings, AreKnown, Facts, begin_of, en
 use Rattle.mt_recover.proofs.OneVerdict.{same_facts}
 use Rattle.mt_laws.specs.Crashes.{IsCutOf, IsSound}
 use Rattle.mt_laws.specs.Resuming.{IsOnTheWay}
-use Rattle.mt_laws.specs.Lives.{OpenFile, file_bytes, file_reading, HasSynced, IsOpenFile, AreOpen, IsSyncedAbove, AllSyncedAbove, LogOf, there, deleted, those_there, IsStill, as_written, history_of, updates_in, AreOld, Checkpoints, BeginsRise, IsNewOver, AddNew, AreLeftOf, listed, only, IsWritten, IsSynced, IsLeftOf, IsResumedAs, AreDeleted, State, running, down, IsStep, write, sync, acknowledge, add_file, write_checkpoint, stand, delete, crash, stop, resume, start_afresh, left_behind, IsFreshStart, records_in, Life, begun, then}
+use Rattle.mt_laws.specs.Lives.{OpenFile, IsAdded, MayStandOn, file_bytes, file_reading, HasSynced, IsOpenFile, AreOpen, IsSyncedAbove, AllSyncedAbove, LogOf, there, deleted, those_there, IsStill, as_written, history_of, updates_in, AreOld, Checkpoints, BeginsRise, IsNewOver, AddNew, AreLeftOf, listed, only, IsWritten, IsSynced, IsLeftOf, IsResumedAs, AreDeleted, State, running, down, IsStep, write, sync, acknowledge, add_file, write_checkpoint, stand, delete, crash, stop, resume, start_afresh, left_behind, IsFreshStart, records_in, Life, begun, then}
 use Rattle.mt_laws.proofs.Windows.{within}
 use Rattle.mt_laws.proofs.CutLogs.{cut_log}
 use Rattle.mt_laws.proofs.SomeCutoff.{some_cutoff}
@@ -234,23 +234,21 @@ base_with logs file None written new is = tt
 base_with logs file (Some base) written new is =
     (is.0, subst (AllSyncedAbove base.end) (sym (there_append logs (there file ∷ []))) (above_added base.end (those_there logs) file is.1 new))
 
-added : (acked : List Update) (logs : List (LogOf OpenFile)) (checkpoints : Checkpoints) (file : OpenFile)
-    → AreOpen (begin_of checkpoints.base) (those_there (logs ++ there file ∷ [])) → AddNew checkpoints (updates_in logs) (updates_in (logs ++ there file ∷ []))
-    → ((u : Update) → Contains acked u → HasSynced (λ r. u.timestamp < r.timestamp) file) → IfSome checkpoints.base (λ c. HasSynced (λ r. c.end < r.timestamp) file)
+added : (acked : List Update) (logs : List (LogOf OpenFile)) (checkpoints : Checkpoints) (file : OpenFile) → IsAdded acked checkpoints logs file
     → IsRunning acked logs checkpoints → IsRunning acked (logs ++ there file ∷ []) checkpoints
-added acked logs checkpoints file opens new above above_base is =
+added acked logs checkpoints file was is =
     let after = logs ++ there file ∷ [] in
     let files : those_there after ≡ those_there logs ++ file ∷ [] = there_append logs (there file ∷ []) in
     let old = old_append (begin_of checkpoints.base) logs file is.old in record {
       some = omega (arith, is.some, length-append (those_there logs) (file ∷ []), ap length files);
-      opens = opens;
+      opens = was.opens;
       old = old;
-      sound = still_sound logs after (begin_of checkpoints.base) checkpoints (stay_with_more 0 logs file) new opens.each old is.sound;
+      sound = still_sound logs after (begin_of checkpoints.base) checkpoints (stay_with_more 0 logs file) was.new was.opens.each old is.sound;
       rise = is.rise;
-      base_is = base_with logs file checkpoints.base checkpoints.written above_base is.base_is;
+      base_is = base_with logs file checkpoints.base checkpoints.written was.above_base is.base_is;
       safe = λ u among.
           let safe = is.safe u among in
-          (stay_with_more 0 logs file u safe.0, subst (AllSyncedAbove u.timestamp) (sym files) (above_added u.timestamp (those_there logs) file safe.1 (above u among)));
+          (stay_with_more 0 logs file u safe.0, subst (AllSyncedAbove u.timestamp) (sym files) (above_added u.timestamp (those_there logs) file safe.1 (was.above u among)));
     }
 
 base_among : (logs : List (LogOf OpenFile)) (new : CheckpointReading) (base : Option CheckpointReading) (written : List CheckpointReading)
@@ -285,22 +283,21 @@ less_gaps low high files i rises gap = some_weaker (HasGap high files) (HasGap l
   | inr first ↦ let late : high < file.head.from = first.1 in inr (first.0, omega (arith, rises, late))
 ]) gap
 
-stood : (acked : List Update) (logs : List (LogOf OpenFile)) (checkpoints : Checkpoints) (new : CheckpointReading) → Contains checkpoints.written new
-    → begin_of checkpoints.base ≤ new.begin → AllSyncedAbove new.end (those_there logs) → IsRunning acked logs checkpoints
-    → IsRunning acked logs (record checkpoints { base = Some new })
-stood acked logs checkpoints new at rises above is = record {
+stood : (acked : List Update) (logs : List (LogOf OpenFile)) (checkpoints : Checkpoints) (new : CheckpointReading) → MayStandOn checkpoints logs new
+    → IsRunning acked logs checkpoints → IsRunning acked logs (record checkpoints { base = Some new })
+stood acked logs checkpoints new may is = record {
   some = is.some;
   opens = record {
     each = is.opens.each;
     once = is.opens.once;
-    no_gap = λ i gap. is.opens.no_gap i (less_gaps (begin_of checkpoints.base) new.begin (map file_reading (those_there logs)) i rises gap);
+    no_gap = λ i gap. is.opens.no_gap i (less_gaps (begin_of checkpoints.base) new.begin (map file_reading (those_there logs)) i may.begins gap);
     whole = is.opens.whole;
     beyond = is.opens.beyond;
   };
-  old = old_rises (begin_of checkpoints.base) new.begin (map as_written logs) rises is.old;
+  old = old_rises (begin_of checkpoints.base) new.begin (map as_written logs) may.begins is.old;
   sound = is.sound;
   rise = is.rise;
-  base_is = (at, above);
+  base_is = (may.written, may.synced);
   safe = is.safe;
 }
 
@@ -815,13 +812,13 @@ started_afresh acked before left parts facts file new start was =
 -- ---- a life
 
 step_holds : (before after : State) → IsStep before after → Holds before → Holds after
-step_holds before after (write acked logs now checkpoints are opens new) is =
-    keeps_running acked logs now checkpoints (zip_weaker (IsStill IsWritten) (IsStill Keeps) logs now (still_weaker IsWritten Keeps written_keeps) are) opens new is
+step_holds before after (write acked logs now checkpoints are) is =
+    keeps_running acked logs now checkpoints (zip_weaker (IsStill IsWritten) (IsStill Keeps) logs now (still_weaker IsWritten Keeps written_keeps) are.each) are.opens are.new is
 step_holds before after (sync acked logs now checkpoints are opens) is = synced_running acked logs now checkpoints are opens is
 step_holds before after (acknowledge acked logs checkpoints u at above) is = acknowledged acked logs checkpoints u at above is
-step_holds before after (add_file acked logs checkpoints file opens new above above_base) is = added acked logs checkpoints file opens new above above_base is
+step_holds before after (add_file acked logs checkpoints file was) is = added acked logs checkpoints file was is
 step_holds before after (write_checkpoint acked logs checkpoints new sound rise) is = checkpoint_written acked logs checkpoints new sound rise is
-step_holds before after (stand acked logs checkpoints new at rises above) is = stood acked logs checkpoints new at rises above is
+step_holds before after (stand acked logs checkpoints new may) is = stood acked logs checkpoints new may is
 step_holds before after (delete acked logs now checkpoints are) is = were_deleted acked logs now checkpoints are is
 step_holds before after (crash acked logs checkpoints left parts are of_parts) is = crashed acked logs checkpoints left parts are of_parts is
 step_holds before after (stop acked logs left parts now now_parts facts way) is = stopped acked logs left parts now now_parts facts way is

@@ -12,7 +12,8 @@ use Rattle.mt_record.specs.Parts.{PartReading}
 use Rattle.mt_scan.specs.PartScans.{KnownPart, whole, IsKnown}
 use Rattle.mt_scan.specs.Choice.{CheckpointReading, belongs_to, parts_of, IsValid}
 use Rattle.mt_recover.specs.Recovery.{AreKnown}
-use Rattle.mt_laws.specs.Lives.{Checkpoints, PartFile, BeginsAPart, IsSyncedIn, AreFilesOf, AreNewFiles}
+use Rattle.mt_laws.specs.Lives.{Checkpoints}
+use Rattle.mt_laws.specs.PartFiles.{PartFile, BeginsAPart, IsSyncedIn, AreFilesOf, AreNewFiles}
 use Rattle.mt_laws.proofs.Deleted.{not_made_of_none}
 
 -- ---- parts of a number

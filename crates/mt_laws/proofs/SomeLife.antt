@@ -29,7 +29,7 @@ use Rattle.mt_replay.specs.KeyColumns.{HasColumn}
 use Rattle.mt_replay.specs.Survivors.{log_updates}
 use Rattle.mt_replay.specs.Walk.{IsWalk}
 use Rattle.mt_replay.proofs.Members.{of_map}
-use Rattle.mt_laws.specs.Lives.{OpenFile, file_bytes, file_reading, HasSynced, IsOpenFile, IsBehind, AreOpen, AllSyncedAbove, LogOf, there, deleted, Checkpoints, AreLeftOf, only, AreDeleted, running, down, acknowledge, add_file, write_checkpoint, stand, delete, crash, Life, begun, then}
+use Rattle.mt_laws.specs.Lives.{OpenFile, file_bytes, file_reading, HasSynced, IsOpenFile, IsBehind, AreOpen, AllSyncedAbove, LogOf, there, deleted, Checkpoints, AreLeftOf, only, IsAdded, AreDeleted, running, down, acknowledge, add_file, write_checkpoint, stand, delete, crash, Life, begun, then}
 use Rattle.mt_laws.proofs.Deleted.{not_made_of_none}
 use Rattle.mt_laws.proofs.LeftFiles.{none_at}
 use Rattle.mt_laws.proofs.Afresh.{entries_at, AreStored, fresh_sound}
@@ -274,6 +274,14 @@ both = there old_file ∷ there new_file ∷ []
 abbrev last : List (LogOf OpenFile)
 last = deleted old_records ∷ there new_file ∷ []
 
+is_added : IsAdded (update ∷ []) stood first new_file
+is_added = record {
+  opens = both_open;
+  new = λ u at. inl at;
+  above = λ u at. subst (λ (w : Update). HasSynced (λ r. w.timestamp < r.timestamp) new_file) (only_one update u at) (new_synced (λ r. 1 < r.timestamp) (omega arith));
+  above_base = new_synced (λ r. 2 < r.timestamp) (omega arith);
+}
+
 are_deleted : AreDeleted 2 both last
 are_deleted = record {
   each = ((refl, old), (refl, tt));
@@ -300,10 +308,9 @@ some_life =
     let c = then (running (update ∷ []) first (only None)) (running (update ∷ []) first written) b
     (write_checkpoint (update ∷ []) first (only None) checkpoint (fresh_sound (update ∷ []) pairs 2 1 checkpoint stored refl refl refl) (listed_rise (Some checkpoint))) in
     let d = then (running (update ∷ []) first written) (running (update ∷ []) first stood) c
-    (stand (update ∷ []) first written checkpoint (head_in checkpoint []) (omega arith) (old_above 2 (omega arith))) in
+    (stand (update ∷ []) first written checkpoint (record { written = head_in checkpoint []; begins = omega arith; synced = old_above 2 (omega arith) })) in
     let e = then (running (update ∷ []) first stood) (running (update ∷ []) both stood) d
-    (add_file (update ∷ []) first stood new_file both_open (λ u at. inl at) (λ u at. subst (λ (w : Update). HasSynced (λ r. w.timestamp < r.timestamp) new_file) (only_one update u at) (new_synced (λ r. 1 < r.timestamp) (omega arith)))
-    (new_synced (λ r. 2 < r.timestamp) (omega arith))) in
+    (add_file (update ∷ []) first stood new_file is_added) in
     let f = then (running (update ∷ []) both stood) (running (update ∷ []) last stood) e (delete (update ∷ []) both last stood are_deleted) in
     let of_parts : AreLeftOf stood (part_text ∷ []) = record { known = whole part ∷ []; are_known = (is_part, tt); no_other = no_other; base_is = is_valid } in (
       update,

@@ -2,3 +2,4 @@ pub mod Crashes
 pub mod Resuming
 pub mod Lives
 pub mod Fresh
+pub mod PartFiles

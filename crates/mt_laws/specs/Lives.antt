@@ -1,7 +1,7 @@
--- Lives of a server: it writes, syncs, acknowledges, adds logs and segments, writes checkpoints, deletes old logs, crashes, recovers and resumes or
--- starts afresh, as often as it may. A file counts as added from when a crash may leave it, and as deleted from when no crash may leave it: once the folder is synced. So a creation or a
--- deletion that a crash finds unsynced is a step that was made before the crash, or was not.
-use Rattle.std.specs.Prelude.{◌≡◌, ℕ, ◌≤◌, ◌<◌, ◌⊎◌, Bool, true, false, Option, Some, None, IfSome, List, [], ◌∷◌, ◌++◌, length, map, Contains}
+-- Lives of a server: it writes, syncs, acknowledges, adds logs and segments, writes checkpoints, deletes old logs, crashes, recovers, and resumes or starts
+-- afresh, as often as it may. A file is added from when a crash may leave it, and deleted from when no crash may leave it: when the folder is synced. So if a
+-- crash finds a creation or a deletion unsynced, the step was made before the crash, or not at all.
+use Rattle.std.specs.Prelude.{◌≡◌, ℕ, ◌≤◌, ◌<◌, ◌⊎◌, true, false, Option, Some, None, IfSome, List, [], ◌∷◌, ◌++◌, length, map, Contains}
 use Rattle.std.specs.List.{AllZip}
 use Rattle.mt_words.specs.declared.record.Change.{Change}
 use Rattle.mt_words.specs.declared.update.Update.{Update}
@@ -10,10 +10,9 @@ use Rattle.mt_words.specs.Built.{entry_of}
 use Rattle.mt_words.specs.Walks.{Pair}
 use Rattle.mt_record.specs.declared.feed.head.Head.{Head}
 use Rattle.mt_record.specs.Logs.{log_bytes, LogReading, IsReading, times_of}
-use Rattle.mt_record.specs.Parts.{PartReading, IsPartReading}
 use Rattle.mt_record.specs.Resuming.{below, resumed}
-use Rattle.mt_scan.specs.PartScans.{KnownPart, whole}
-use Rattle.mt_scan.specs.Choice.{CheckpointReading, belongs_to, parts_of, IsValid, IsNoBetter}
+use Rattle.mt_scan.specs.PartScans.{KnownPart}
+use Rattle.mt_scan.specs.Choice.{CheckpointReading, IsValid, IsNoBetter}
 use Rattle.mt_scan.specs.Segments.{IsEarlier, IsDoubled, IsGap}
 use Rattle.mt_replay.specs.Survivors.{log_updates}
 use Rattle.mt_replay.specs.Walk.{IsWalk}
@@ -180,6 +179,27 @@ pub record IsResumedAs (cutoff : ℕ) (left : List ℕ) (file : OpenFile) : Type
   pub replaces : file_reading file ≡ resumed cutoff reading
   pub synced : file.synced ≡ file_bytes file
 
+-- Records were appended to logs. The files are open, and the updates are new over each checkpoint.
+pub record AreWritten (checkpoints : Checkpoints) (before after : List (LogOf OpenFile)) : Type 0 where
+  pub each : AllZip (IsStill IsWritten) before after
+  pub opens : AreOpen (begin_of checkpoints.base) (those_there after)
+  pub new : AddNew checkpoints (updates_in before) (updates_in after)
+
+-- A file was added, of a new log or a new segment. The files are open, and its updates are new over each checkpoint. It has a synced record above each
+-- acknowledged update, and one above the end of the checkpoint that the server stands on.
+pub record IsAdded (acked : List Update) (checkpoints : Checkpoints) (before : List (LogOf OpenFile)) (file : OpenFile) : Type 0 where
+  pub opens : AreOpen (begin_of checkpoints.base) (those_there (before ++ there file ∷ []))
+  pub new : AddNew checkpoints (updates_in before) (updates_in (before ++ there file ∷ []))
+  pub above : (u : Update) → Contains acked u → HasSynced (λ r. u.timestamp < r.timestamp) file
+  pub above_base : IfSome checkpoints.base (λ base. HasSynced (λ r. base.end < r.timestamp) file)
+
+-- The server may stand on a written checkpoint, all parts of which are synced: it begins no earlier than the one before, and in each log a record above its end
+-- is synced.
+pub record MayStandOn (checkpoints : Checkpoints) (logs : List (LogOf OpenFile)) (new : CheckpointReading) : Type 0 where
+  pub written : Contains checkpoints.written new
+  pub begins : begin_of checkpoints.base ≤ new.begin
+  pub synced : AllSyncedAbove new.end (those_there logs)
+
 -- the log is as it was, or it was deleted, and has only old updates
 abbrev pub IsStillOrDeleted : ℕ → LogOf OpenFile → LogOf OpenFile → Type 0
 IsStillOrDeleted begin (there before) (there after) = after ≡ before
@@ -187,7 +207,7 @@ IsStillOrDeleted begin (there before) (deleted records) = (records ≡ before.re
 IsStillOrDeleted begin (deleted before) (there after) = ⊥
 IsStillOrDeleted begin (deleted before) (deleted after) = after ≡ before
 
--- Old logs were deleted, but not all logs: those without updates from `begin` on, and none before the earlier segments of its log. What is left is open.
+-- Logs without updates from `begin` on were deleted, but not all logs, and no segment before the earlier ones of its log. The files that are left are open.
 pub record AreDeleted (begin : ℕ) (before after : List (LogOf OpenFile)) : Type 0 where
   pub each : AllZip (IsStillOrDeleted begin) before after
   pub some : 0 < length (those_there after)
@@ -219,29 +239,22 @@ pub data State : Type 0 where
   running : List Update → List (LogOf OpenFile) → Checkpoints → State
   down : List Update → List (LogOf (List Logged)) → List (List ℕ) → List (List ℕ) → State
 
--- A step of a life. An update is acknowledged once a record above it is synced in each log. A file that is added, of a new log or a new segment, has a synced
--- record above each acknowledged update, and above the end of the checkpoint that the server stands on. A checkpoint that is written is sound. The server may
--- stand on it once its parts are synced, and in each log a record above its end. A crash leaves of each file at least what is synced. A resume may be stopped in
--- any state on the way. After it the chosen checkpoint is the only one. In place of a resume the server may start afresh in a new folder.
+-- A step of a life. An update is acknowledged once a record above it is synced in each log. A checkpoint that is written is sound. A crash leaves of each file
+-- at least what is synced. A resume may be stopped in any state on the way; after it the chosen checkpoint is the only one. In place of a resume the server may
+-- start afresh in a new folder.
 pub data IsStep : State → State → Type 0 where
-  write : (acked : List Update) (before after : List (LogOf OpenFile)) (checkpoints : Checkpoints) → AllZip (IsStill IsWritten) before after
-      → AreOpen (begin_of checkpoints.base) (those_there after) → AddNew checkpoints (updates_in before) (updates_in after)
+  write : (acked : List Update) (before after : List (LogOf OpenFile)) (checkpoints : Checkpoints) → AreWritten checkpoints before after
       → IsStep (running acked before checkpoints) (running acked after checkpoints)
   sync : (acked : List Update) (before after : List (LogOf OpenFile)) (checkpoints : Checkpoints) → AllZip (IsStill IsSynced) before after
       → AreOpen (begin_of checkpoints.base) (those_there after) → IsStep (running acked before checkpoints) (running acked after checkpoints)
   acknowledge : (acked : List Update) (logs : List (LogOf OpenFile)) (checkpoints : Checkpoints) (u : Update) → Contains (updates_in logs) u
       → AllSyncedAbove u.timestamp (those_there logs) → IsStep (running acked logs checkpoints) (running (u ∷ acked) logs checkpoints)
-  add_file : (acked : List Update) (logs : List (LogOf OpenFile)) (checkpoints : Checkpoints) (file : OpenFile)
-      → AreOpen (begin_of checkpoints.base) (those_there (logs ++ there file ∷ []))
-      → AddNew checkpoints (updates_in logs) (updates_in (logs ++ there file ∷ []))
-      → ((u : Update) → Contains acked u → HasSynced (λ r. u.timestamp < r.timestamp) file)
-      → IfSome checkpoints.base (λ base. HasSynced (λ r. base.end < r.timestamp) file)
+  add_file : (acked : List Update) (logs : List (LogOf OpenFile)) (checkpoints : Checkpoints) (file : OpenFile) → IsAdded acked checkpoints logs file
       → IsStep (running acked logs checkpoints) (running acked (logs ++ there file ∷ []) checkpoints)
   write_checkpoint : (acked : List Update) (logs : List (LogOf OpenFile)) (checkpoints : Checkpoints) (new : CheckpointReading)
       → IsSound (updates_in logs) new → BeginsRise (new ∷ checkpoints.written)
       → IsStep (running acked logs checkpoints) (running acked logs (record checkpoints { written = new ∷ checkpoints.written }))
-  stand : (acked : List Update) (logs : List (LogOf OpenFile)) (checkpoints : Checkpoints) (new : CheckpointReading) → Contains checkpoints.written new
-      → begin_of checkpoints.base ≤ new.begin → AllSyncedAbove new.end (those_there logs)
+  stand : (acked : List Update) (logs : List (LogOf OpenFile)) (checkpoints : Checkpoints) (new : CheckpointReading) → MayStandOn checkpoints logs new
       → IsStep (running acked logs checkpoints) (running acked logs (record checkpoints { base = Some new }))
   delete : (acked : List Update) (before after : List (LogOf OpenFile)) (checkpoints : Checkpoints) → AreDeleted (begin_of checkpoints.base) before after
       → IsStep (running acked before checkpoints) (running acked after checkpoints)
@@ -260,58 +273,3 @@ pub data IsStep : State → State → Type 0 where
 pub data Life : State → Type 0 where
   begun : (file : OpenFile) (files : List OpenFile) → AreOpen 0 (file ∷ files) → Life (running [] (map there (file ∷ files)) (only None))
   then : (before after : State) → Life before → IsStep before after → Life after
-
--- ---- the files of parts
-
--- a file of a part, as it is being written: its bytes, and whether it is synced, in the folder too
-pub record PartFile : Type 0 where
-  pub bytes : List ℕ
-  pub synced : Bool
-
--- the bytes begin a part
-pub record BeginsAPart (bytes : List ℕ) : Type 0 where
-  pub more : List ℕ
-  pub part : PartReading
-  pub is_part : IsPartReading (bytes ++ more) part
-
--- a checkpoint that is valid among the files of parts, all of which are synced
-pub record IsSyncedIn (files : List PartFile) (known : List KnownPart) (checkpoint : CheckpointReading) : Type 0 where
-  pub valid : IsValid known checkpoint
-  pub synced : AllZip (λ (file : PartFile) part. belongs_to checkpoint.number part ≡ true → file.synced ≡ true) files known
-
--- The files of the parts, of one number for each checkpoint: there are no more with a number than a complete part names. The checkpoints that are valid were
--- written, and the one that the server stands on is synced. Each file begins a part.
-pub record AreFilesOf (checkpoints : Checkpoints) (files : List PartFile) : Type 0 where
-  pub each : (file : PartFile) → Contains files file → BeginsAPart file.bytes
-  pub known : List KnownPart
-  pub are_known : AreKnown (map (λ file. file.bytes) files) known
-  pub no_more : (part : PartReading) → Contains known (whole part) → length (parts_of part.number known) ≤ part.parts
-  pub written : (checkpoint : CheckpointReading) → IsValid known checkpoint → Contains checkpoints.written checkpoint
-  pub base_is : IfSome checkpoints.base (IsSyncedIn files known)
-
--- what a crash leaves of the files of parts: each synced one, and of each other one a beginning, or nothing
-pub data AreCutParts : List PartFile → List (List ℕ) → Type 0 where
-  none : AreCutParts [] []
-  lost : (file : PartFile) (files : List PartFile) (left : List (List ℕ)) → file.synced ≡ false → AreCutParts files left → AreCutParts (file ∷ files) left
-  cut : (file : PartFile) (files : List PartFile) (bytes more : List ℕ) (left : List (List ℕ)) → file.bytes ≡ bytes ++ more → (file.synced ≡ true → more ≡ [])
-      → AreCutParts files left → AreCutParts (file ∷ files) (bytes ∷ left)
-
--- The files of the parts of one checkpoint beside those in the folder, as far as they are there. Its number is above that of each part in the folder, and each
--- of its complete parts names at least as many as there are. Each file begins a part.
-pub record AreNewFiles (before : List KnownPart) (number : ℕ) (files : List PartFile) : Type 0 where
-  pub each : (file : PartFile) → Contains files file → BeginsAPart file.bytes
-  pub known : List KnownPart
-  pub are_known : AreKnown (map (λ file. file.bytes) files) known
-  pub above : (part : KnownPart) (other : ℕ) → Contains before part → belongs_to other part ≡ true → other < number
-  pub numbered : (part : KnownPart) (other : ℕ) → Contains known part → belongs_to other part ≡ true → other ≡ number
-  pub no_more : (part : PartReading) → Contains known (whole part) → length files ≤ part.parts
-
--- the parts of the chosen checkpoint, if any
-abbrev pub chosen_parts : Option CheckpointReading → List KnownPart → List KnownPart
-chosen_parts None known = []
-chosen_parts (Some chosen) known = parts_of chosen.number known
-
--- the files of the parts that a resume leaves: those of the chosen checkpoint, all synced
-pub record AreChosenFiles (chosen : Option CheckpointReading) (known : List KnownPart) (files : List PartFile) : Type 0 where
-  pub are_known : AreKnown (map (λ file. file.bytes) files) (chosen_parts chosen known)
-  pub synced : (file : PartFile) → Contains files file → file.synced ≡ true

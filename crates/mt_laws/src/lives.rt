@@ -3,11 +3,11 @@ ghost use Rattle.std.specs.Prelude.{ℕ, ◌-◌, ◌^◌, ◌<◌, None, Some, 
 ghost use Rattle.mt_words.specs.declared.update.Update.{Update};
 ghost use Rattle.mt_words.specs.Changes.{Logged};
 ghost use Rattle.mt_words.specs.Walks.{Pair};
-ghost use Rattle.mt_scan.specs.Choice.{CheckpointReading, IsValid};
+ghost use Rattle.mt_scan.specs.Choice.{CheckpointReading};
 ghost use Rattle.mt_replay.specs.Survivors.{log_updates};
 ghost use Rattle.mt_replay.specs.Walk.{IsWalk};
-ghost use Rattle.mt_recover.specs.Recovery.{Facts, survivors, IsStoreOf};
-ghost use Rattle.mt_laws.specs.Lives.{OpenFile, LogOf, there, deleted, history_of, left_behind, Checkpoints, running, down, Life, AreLeftOf, PartFile, AreFilesOf, AreCutParts, AreNewFiles, only, AreChosenFiles};
+ghost use Rattle.mt_recover.specs.Recovery.{survivors, IsStoreOf};
+ghost use Rattle.mt_laws.specs.Lives.{OpenFile, LogOf, there, deleted, history_of, Checkpoints, left_behind, only, running, down, Life};
 
 /// States that in each life of a server over logs and checkpoints, after each crash, there is a store and no fault. It is
 /// that of all updates below the cutoff that were written and that no resume dropped, those of deleted logs included, and
@@ -32,29 +32,4 @@ pub fn a_life_of_crashes()
         Life (running acked (map (left_behind store.basis.facts.cutoff) logs ++ there file ∷ []) (only (Some new))) }
     ensures some { (u : Update) × (old : List Logged) × Contains (log_updates (old ∷ [])) u × (logs : List (LogOf (List Logged))) × (left parts : List (List ℕ)) ×
         Life (down (u ∷ []) (deleted old ∷ logs) left parts) }
-{}
-
-/// States that what a crash leaves of the files of parts is as `a_life_of_crashes` asks: no checkpoint becomes valid that
-/// was not, and one whose parts were synced stays valid. This is a law: it has nothing to run.
-pub fn a_crash_makes_no_checkpoint_valid()
-    ensures { (checkpoints : Checkpoints) (files : List PartFile) (left : List (List ℕ)) →
-        AreFilesOf checkpoints files → AreCutParts files left → AreLeftOf checkpoints left }
-{}
-
-/// States that the files of parts stay as `a_crash_makes_no_checkpoint_valid` asks while the parts of a further checkpoint
-/// come, of a number above that of each part in the folder: no other checkpoint changes. This is a law: it has nothing to
-/// run.
-pub fn a_checkpoint_written_while_running()
-    ensures { (checkpoints : Checkpoints) (written : List CheckpointReading) (number : ℕ) (files new : List PartFile) →
-        (before : AreFilesOf checkpoints files) → (parts : AreNewFiles before.known number new) →
-        ((checkpoint : CheckpointReading) → Contains checkpoints.written checkpoint → Contains written checkpoint) →
-        ((checkpoint : CheckpointReading) → IsValid parts.known checkpoint → Contains written checkpoint) →
-        AreFilesOf (record checkpoints { written = written }) (files ++ new) }
-{}
-
-/// States that the files of parts are as `a_crash_makes_no_checkpoint_valid` asks after a resume, which leaves the parts of
-/// the chosen checkpoint and no others. This is a law: it has nothing to run.
-pub fn a_resume_leaves_the_chosen_parts()
-    ensures { (left parts : List (List ℕ)) (facts : Facts left parts) (files : List PartFile) →
-        AreChosenFiles facts.chosen facts.known files → AreFilesOf (only facts.chosen) files }
 {}
