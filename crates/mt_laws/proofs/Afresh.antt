@@ -15,6 +15,7 @@ use Rattle.mt_words.specs.Walks.{Pair, KeysRise, IsPair, Holds}
 use Rattle.mt_words.specs.Words.{IsBelow}
 use Rattle.mt_words.proofs.Elements.{no_element, head_or_tail, head_in}
 use Rattle.mt_record.specs.Logs.{LogReading}
+use Rattle.mt_checkpoint.specs.Checkpoints.{entries_with}
 use Rattle.mt_scan.specs.PartScans.{KnownPart}
 use Rattle.mt_scan.specs.Choice.{CheckpointReading, IsChosenOf}
 use Rattle.mt_replay.specs.declared.window.Window.{Window}
@@ -181,10 +182,6 @@ writes_held pairs pair number bytes rise at = (to, from)
         let same = same_columns pairs pair.0 holds.0 pair.1 rise holds.1 at in
         in_map set pair.1 (number, bytes) (subst (λ (cs : List (ℕ × List ℕ)). Contains cs (number, bytes)) same holds.2)
 
--- an entry for each pair, with this version
-abbrev pub entries_at : ℕ → List Pair → List Change
-entries_at version pairs = map (λ (pair : Pair). entry_of version pair.0 pair.1) pairs
-
 -- the updates, and a store of them, whose keys have no update above the version
 pub record AreStored (us : List Update) (pairs : List Pair) (cutoff version : ℕ) : Type 0 where
   pub walk : IsWalk us pairs
@@ -221,7 +218,7 @@ below_greatest (x ∷ xs) u at = elim (head_or_tail x u xs at) as (λ _. u.stamp
 ]
 
 pub fresh_sound : (us : List Update) (pairs : List Pair) (cutoff version : ℕ) (new : CheckpointReading) → AreStored us pairs cutoff version → new.begin ≡ cutoff → new.end ≡ cutoff
-    → new.entries ≡ entries_at version pairs → IsSound us new
+    → new.entries ≡ entries_with version pairs → IsSound us new
 fresh_sound us pairs cutoff version new stored begin end entries = record { entries = entry_is; others = absence_is }
   where
     by_end : (u : Update) → Contains us u → u.timestamp ≤ new.end

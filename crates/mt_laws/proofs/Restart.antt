@@ -14,11 +14,12 @@ use Rattle.mt_record.specs.Heads.{head_bytes}
 use Rattle.mt_record.specs.Logs.{IsReading}
 use Rattle.mt_record.specs.Spelling.{spelling}
 use Rattle.mt_record.proofs.Records.{tells_torn}
+use Rattle.mt_checkpoint.specs.Checkpoints.{entries_with}
 use Rattle.mt_scan.specs.Choice.{CheckpointReading}
 use Rattle.mt_replay.specs.Walk.{IsWalk}
 use Rattle.mt_recover.specs.Recovery.{Facts, survivors, records_of, IsStoreOf}
 use Rattle.mt_laws.specs.Lives.{OpenFile, file_bytes, file_reading, HasSynced, LogOf, there, left_behind, IsFreshStart, only, running, down, start_afresh, Life, then}
-use Rattle.mt_laws.proofs.Afresh.{entries_at, greatest, below_greatest}
+use Rattle.mt_laws.proofs.Afresh.{greatest, below_greatest}
 use Rattle.mt_laws.proofs.Living.{all_of_it}
 use Rattle.mt_laws.proofs.SomeLife.{only_one, IsAloneFrom, all_alone}
 
@@ -62,7 +63,7 @@ fresh_alone cutoff fits = record {
 
 -- the checkpoint of these pairs, in which no update is above the version
 abbrev fresh_checkpoint : ℕ → ℕ → List Pair → CheckpointReading
-fresh_checkpoint cutoff version pairs = record { number = 0; begin = cutoff; end = cutoff; entries = entries_at version pairs }
+fresh_checkpoint cutoff version pairs = record { number = 0; begin = cutoff; end = cutoff; entries = entries_with version pairs }
 
 fresh_start : (left parts : List (List ℕ)) (facts : Facts left parts) (pairs : List Pair) (us : List Update) → us ≡ survivors facts.cutoff facts.chosen (records_of facts.readings)
     → facts.cutoff < 2 ^ 64 - 1 → IsWalk us pairs → IsFreshStart facts (fresh_file facts.cutoff) (fresh_checkpoint facts.cutoff (greatest us) pairs)

@@ -22,6 +22,7 @@ use Rattle.mt_record.specs.Parts.{part_head, part_bytes, PartReading, IsPartRead
 use Rattle.mt_record.proofs.Records.{tells_torn}
 use Rattle.mt_words.specs.Limits.{limits_of}
 use Rattle.mt_scan.specs.PartScans.{whole}
+use Rattle.mt_checkpoint.specs.Checkpoints.{entries_with}
 use Rattle.mt_scan.specs.Choice.{CheckpointReading, parts_of, IsValid}
 use Rattle.mt_scan.specs.Segments.{IsEarlier, IsSame, HasFile, HasGap}
 use Rattle.mt_scan.proofs.OneChoice.{one_valid}
@@ -32,7 +33,7 @@ use Rattle.mt_replay.proofs.Members.{of_map}
 use Rattle.mt_laws.specs.Lives.{OpenFile, file_bytes, file_reading, HasSynced, IsOpenFile, IsBehind, AreOpen, AllSyncedAbove, LogOf, there, deleted, Checkpoints, AreLeftOf, only, IsAdded, AreDeleted, running, down, acknowledge, add_file, write_checkpoint, stand, delete, crash, Life, begun, then}
 use Rattle.mt_laws.proofs.Deleted.{not_made_of_none}
 use Rattle.mt_laws.proofs.LeftFiles.{none_at}
-use Rattle.mt_laws.proofs.Afresh.{entries_at, AreStored, fresh_sound}
+use Rattle.mt_laws.proofs.Afresh.{AreStored, fresh_sound}
 use Rattle.mt_laws.proofs.Living.{all_of_it, listed_rise}
 
 pub only_one : {X : Type 0} (one x : X) → Contains (one ∷ []) x → one ≡ x
@@ -214,14 +215,14 @@ stored = record {
 
 -- begun and ended at 2
 abbrev checkpoint : CheckpointReading
-checkpoint = record { number = 1; begin = 2; end = 2; entries = entries_at 1 pairs }
+checkpoint = record { number = 1; begin = 2; end = 2; entries = entries_with 1 pairs }
 
 -- its one part
 abbrev part : PartReading
-part = record { number = 1; begin = 2; part = 0; parts = 1; entries = entries_at 1 pairs; end = 2 }
+part = record { number = 1; begin = 2; part = 0; parts = 1; entries = entries_with 1 pairs; end = 2 }
 
 abbrev part_text : List ℕ
-part_text = part_bytes (part_head Two 1 2 0 1) (entries_at 1 pairs) 2
+part_text = part_bytes (part_head Two 1 2 0 1) (entries_with 1 pairs) 2
 
 is_part : IsPartReading part_text part
 is_part = (

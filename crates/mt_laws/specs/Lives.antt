@@ -6,11 +6,11 @@ use Rattle.std.specs.List.{AllZip}
 use Rattle.mt_words.specs.declared.record.Change.{Change}
 use Rattle.mt_words.specs.declared.update.Update.{Update}
 use Rattle.mt_words.specs.Changes.{Logged, is_mark}
-use Rattle.mt_words.specs.Built.{entry_of}
 use Rattle.mt_words.specs.Walks.{Pair}
 use Rattle.mt_record.specs.declared.feed.head.Head.{Head}
 use Rattle.mt_record.specs.Logs.{log_bytes, LogReading, IsReading, times_of}
 use Rattle.mt_record.specs.Resuming.{below, resumed}
+use Rattle.mt_checkpoint.specs.Checkpoints.{entries_with}
 use Rattle.mt_scan.specs.PartScans.{KnownPart}
 use Rattle.mt_scan.specs.Choice.{CheckpointReading, IsValid, IsNoBetter}
 use Rattle.mt_scan.specs.Segments.{IsEarlier, IsDoubled, IsGap}
@@ -228,7 +228,7 @@ pub record IsFreshStart {left parts : List (List ℕ)} (facts : Facts left parts
   pub most : (u : Update) → Contains (survivors facts.cutoff facts.chosen (records_of facts.readings)) u → u.stamp.version ≤ version
   pub begins : new.begin ≡ facts.cutoff
   pub ends : new.end ≡ facts.cutoff
-  pub entries : new.entries ≡ map (λ (pair : Pair). entry_of version pair.0 pair.1) pairs
+  pub entries : new.entries ≡ entries_with version pairs
   pub opens : AreOpen facts.cutoff (file ∷ [])
   pub marks : (r : Logged) → Contains file.records r → is_mark r ≡ true
   pub above : HasSynced (λ r. facts.cutoff < r.timestamp) file
