@@ -1,22 +1,21 @@
 -- The parts of a checkpoint that was written make it up, in any order, and no other checkpoint.
-use Rattle.std.proofs.Common.{◌≡◌, inl, inr, ℕ, zero, suc, ◌+◌, ◌<◌, ◌≤◌, true, List, [], ◌∷◌, length, get_or, set, map, Contains, Some, refl, sym, ap, ◌∙◌, subst, arith}
+use Rattle.std.proofs.Common.{◌≡◌, inr, ℕ, zero, suc, ◌+◌, ◌<◌, ◌≤◌, true, List, [], ◌∷◌, length, get_or, set, map, Contains, Some, refl, sym, ap, ◌∙◌, subst, arith}
 use Rattle.std.specs.List.{flat_map, range_with_len, swap, AllByRecursion}
 use Rattle.std.specs.List.Sorted.{IsPermutation}
 use Rattle.std.proofs.lemmas.Bool.{eq-eqb, eqb-true}
 use Rattle.std.proofs.lemmas.List.{length-map, map-set, get_or-map}
 use Rattle.std.proofs.lemmas.List.Folds.{flat_map-map}
-use Rattle.std.proofs.lemmas.List.FromFn.{length-range_with_len, length-map-range_with_len, fill_by_all}
+use Rattle.std.proofs.lemmas.List.FromFn.{length-map-range_with_len, fill_by_all}
 use Rattle.std.proofs.lemmas.List.Sorted.{Contains-permutation, IsPermutation-sym, IsPermutation-swap, IsPermutation-trans, IsPermutation-refl, IsPermutation-keeps, IsPermutation-map}
 use Rattle.mt_words.specs.declared.limits.Format.TheVariants.{Two}
 use Rattle.mt_words.specs.Words.{IsBelow, AreRising}
 use Rattle.mt_words.specs.Walks.{Pair, KeysRise, IsMap}
-use Rattle.mt_words.specs.Built.{entry_of}
 use Rattle.mt_words.proofs.Elements.{head_in}
-use Rattle.mt_record.specs.Parts.{PartReading, IsPartReading}
+use Rattle.mt_record.specs.Parts.{PartReading}
 use Rattle.mt_checkpoint.specs.Checkpoints.{Checkpoint, HasPairs, entries_with, pairs_of, part_text}
 use Rattle.mt_checkpoint.proofs.Sound.{is_part, all_entries}
-use Rattle.mt_scan.specs.PartScans.{KnownPart, whole, IsKnown}
-use Rattle.mt_scan.specs.Choice.{CheckpointReading, belongs_to, parts_of, AreInPlace, entry_keys, IsValid, MayBeChosen, IsChosenOf}
+use Rattle.mt_scan.specs.PartScans.{KnownPart, whole}
+use Rattle.mt_scan.specs.Choice.{CheckpointReading, belongs_to, parts_of, AreInPlace, entry_keys, IsValid, IsChosenOf}
 use Rattle.mt_scan.proofs.OneChoice.{one_valid}
 use Rattle.mt_replay.proofs.Members.{of_each, of_map, of_filter, all_from}
 use Rattle.mt_recover.specs.Recovery.{AreKnown, Facts}

@@ -1,5 +1,5 @@
 -- Recovery from a fresh start, and from the logs after it.
-use Rattle.std.proofs.Common.{◌≡◌, ◌⊎◌, ◌↔◌, inl, inr, ℕ, ◌+◌, ◌<◌, ◌≤◌, max, true, false, IsTrue, Option, Some, List, [], ◌∷◌, ◌++◌, map, Contains, refl, sym, ap, ◌∙◌, subst, arith}
+use Rattle.std.proofs.Common.{◌≡◌, ◌⊎◌, inl, inr, ℕ, ◌+◌, ◌<◌, ◌≤◌, max, true, IsTrue, Option, Some, List, [], ◌∷◌, ◌++◌, map, Contains, refl, sym, ap, ◌∙◌, subst, arith}
 use Rattle.std.specs.Option.{option_map}
 use Rattle.std.proofs.lemmas.Bool.{false≢true}
 use Rattle.std.proofs.lemmas.List.{append-nil}
@@ -23,7 +23,7 @@ use Rattle.mt_record.proofs.Records.{last_is, tells_torn}
 use Rattle.mt_checkpoint.specs.Checkpoints.{Checkpoint, HasPairs, entries_with, log_text}
 use Rattle.mt_checkpoint.proofs.Sound.{is_log}
 use Rattle.mt_scan.specs.Choice.{CheckpointReading}
-use Rattle.mt_scan.specs.Cutoff.{IsLastOf, HasLast, IsCutoff}
+use Rattle.mt_scan.specs.Cutoff.{IsLastOf, IsCutoff}
 use Rattle.mt_scan.specs.Segments.{IsEarlier, HasFile}
 use Rattle.mt_replay.specs.KeyColumns.{HasColumn}
 use Rattle.mt_replay.specs.declared.window.Window.{Window}

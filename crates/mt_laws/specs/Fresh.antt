@@ -1,5 +1,5 @@
 -- Starting afresh: recovery from one checkpoint of a store, and from the logs after it.
-use Rattle.std.specs.Prelude.{◌≡◌, ℕ, ◌+◌, ◌≤◌, ◌<◌, Some, List, [], ◌∷◌, length, map, Contains, IsPermutation}
+use Rattle.std.specs.Prelude.{◌≡◌, ℕ, ◌+◌, ◌<◌, Some, List, [], ◌∷◌, length, map, Contains, IsPermutation}
 use Rattle.std.specs.List.{range_with_len}
 use Rattle.mt_words.specs.declared.limits.Format.TheVariants.{Two}
 use Rattle.mt_words.specs.declared.update.Update.{Update}
