@@ -10,8 +10,8 @@ use mt_scan::LogScan;
 use mt_words::Memory;
 use std::alloc::Global;
 
-/// The most records of a batch. That many fit into the caches of a processor, where sorting them and copying their
-/// bodies takes much less time. Merging a few more runs costs less than this saves.
+/// The most records of a batch. A larger batch is sorted and copied more slowly, since less of it stays in the caches of
+/// a processor. Smaller batches make more runs, which cost more to merge.
 const MOST_RECORDS: usize = 131_072;
 
 /// Fewer records than these are not worth a thread.
