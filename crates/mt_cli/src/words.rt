@@ -117,7 +117,10 @@ fn of_folder<'a>(
         return Ok(Command::Resume(folder, resume(matches)));
     }
     if name == "checkpoint" {
-        return Ok(Command::Checkpoint(folder, new_folder(matches)?));
+        return match new_folder(matches) {
+            Ok(new) => Ok(Command::Checkpoint(folder, new)),
+            Err(refusal) => Err(refusal),
+        };
     }
     if name == "audit" {
         return Ok(Command::Query(folder, Query::Audit));
