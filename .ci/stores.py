@@ -1,4 +1,5 @@
 """Logs, parts and folders, for the scripts that try commands which write files. Their arguments are [TIMES [MTRECOVER]]."""
+import copy
 import os
 import shutil
 import struct
@@ -94,6 +95,10 @@ class Log(NamedTuple):
         """Returns the number of bytes up to the end of the last complete record."""
         return self.ends[-1] if self.ends else 20 if self.form == 3 else 12
 
+    def is_behind(self, other):
+        """Whether this is an earlier segment of the other's log."""
+        return self.writer == other.writer and self.segment < other.segment
+
     def is_ended(self):
         return self.times[-1:] == [GREATEST]
 
@@ -113,6 +118,11 @@ def read_log(name, content):
         log.times.append(time)
         log.ends.append(at)
     return log
+
+
+def whole_records(name, content):
+    """Returns a log without its torn tail, and any other file as it is."""
+    return content[: read_log(name, content).size()] if name.endswith(".mtl") else content
 
 
 def columns_after(updates):
@@ -248,26 +258,31 @@ class Disk:
     def contents(self):
         return {name: file.content for name, file in self.files.items()}
 
+    def is_synced(self):
+        """Whether a crash leaves all names, and all bytes of logs and parts."""
+        counting = [file for name, file in self.files.items() if name.endswith((".mtl", ".mtc"))]
+        return self.files == self.kept and all(file.synced == len(file.content) for file in counting)
+
     def crash(self, rng):
-        """Returns the files that a crash leaves: some of the changes of names, and of each file at least what is synced."""
+        """Returns what a crash leaves: some of the changes of names, and of each file at least what is synced."""
         chance = rng.choice([0, 0.5, 1])
         for names in self.changes:
             if rng.random() < chance:
                 rename_all(self.kept, names)
-        return {name: file.left(rng) for name, file in self.kept.items()}
+        return Disk({name: file.left(rng) for name, file in self.kept.items()})
 
 
-def after_calls(files, calls):
-    """Returns the disk on which a program made these calls."""
-    disk = Disk(files)
+def after_calls(disk, calls):
+    """Returns what a disk is after a program made these calls."""
+    disk = copy.deepcopy(disk)
     for call, *words in calls:
         getattr(disk, call)(*words)
     return disk
 
 
-def left_amid(files, calls, rng):
-    """Returns the files that a crash leaves in the midst of these calls."""
-    return after_calls(files, calls[: rng.randint(0, len(calls))]).crash(rng)
+def left_amid(disk, calls, rng):
+    """Returns the disk that a crash leaves in the midst of these calls."""
+    return after_calls(disk, calls[: rng.randint(0, len(calls))]).crash(rng)
 
 
 def rename_all(files, names):
