@@ -1,6 +1,7 @@
 //! Writes, replaces and deletes the files of a folder. A crash leaves of each file the old bytes or the new ones.
 use crate::halt::Halt;
 use crate::opening::open;
+use mt_record::PART_HEADER_BYTES;
 use std::fs::{self, File, Files, OpenFile, OpenOptions};
 use std::io::{self, ErrorKind, Read, Write};
 use std::os::unix::fs::{MetadataExt, OpenOptionsExt, chown};
@@ -134,7 +135,7 @@ impl<'a, R: AllocGlobal + Files> Site<'a, R> {
     fn spoil_file(&self, name: &str) -> io::Result<()> {
         let mut header = Vec::new(self.rt.alloc());
         open(self.rt, self.folder, name)?
-            .take(PART_HEADER_BYTES)
+            .take(PART_HEADER_BYTES as u64)
             .read_to_end(&mut header)?;
         self.replace_file(name, &header, &[], &[])
     }
@@ -185,9 +186,6 @@ fn create_folder<R: AllocGlobal + Files>(rt: &R, path: &str) -> io::Result<()> {
     fs::create_dir(rt, path)?;
     sync_folder(rt, parent_of(path))
 }
-
-/// The number of bytes of the header of a part.
-const PART_HEADER_BYTES: u64 = 20;
 
 /// Returns the path of a file that is being written and is to be at this path. No log and no part has such a name.
 fn unfinished<R: AllocGlobal>(rt: &R, path: &PathBuf) -> io::Result<PathBuf> {
