@@ -20,7 +20,7 @@ pub count_given : (checkpoint : CheckpointReading) (texts : List PartReading) (t
 count_given checkpoint texts text make_up at =
     sym (ap (λ (t : PartReading). t.parts) at.2) ∙ (at_place checkpoint (length texts) 0 texts at.0 text make_up.in_place at.1).parts
 
--- some of these parts, of which there were not too many, make up a checkpoint only if none is gone
+-- if there was no part too many, some of these parts make up a checkpoint only if none is gone
 pub none_is_gone : (before after gone : List KnownPart) (texts : List PartReading) (checkpoint : CheckpointReading)
     → ((part : PartReading) → Contains before (whole part) → length before ≤ part.parts) → IsPermutation before (after ++ gone)
     → IsPermutation after (map whole texts) → AreItsParts texts checkpoint → gone ≡ []

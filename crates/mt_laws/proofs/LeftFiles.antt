@@ -96,7 +96,7 @@ claims_left log left says =
 segment_left : (log : OpenFile) (left : LogReading) → SaysLeft log left → left.head.segment ≡ log.head.segment
 segment_left log left says = ap (λ (head : Head). head.segment) says.begins.head
 
--- what is behind what is left was behind the file
+-- the earlier segments of what is left were earlier segments of the file
 behind_left : (a b : OpenFile) (x y : LogReading) → SaysLeft a x → SaysLeft b y → IsEarlier x.head.segment y.head.segment → IsBehind a b
 behind_left a b x y of_a of_b earlier = subst (λ (s : Option Segment × Option Segment). IsEarlier s.0 s.1) (λ i. (segment_left a x of_a i, segment_left b y of_b i)) earlier
 

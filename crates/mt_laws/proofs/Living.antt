@@ -550,7 +550,7 @@ end_synced cutoff reading log less is ended =
     let at : Contains (marks_of cutoff reading.records) end = subst (λ (b : Bool). Contains (mark_of cutoff ∷ cond b (end ∷ []) []) end) (sym both) (tail_in (mark_of cutoff) end (end ∷ []) (head_in end [])) in
     mark_synced (λ r. (is_mark r ≡ true) × (greatest_timestamp ≤ r.timestamp)) cutoff reading log is end at (refl, omega arith)
 
--- a resumed file has a mark at or past each time of what is behind it
+-- a resumed file has a mark at or after each timestamp of the earlier segments
 beyond_afresh : (cutoff : ℕ) (x y : LogReading) (a b : OpenFile) (time : ℕ) → IsAfresh cutoff x a → IsAfresh cutoff y b
     → (is_ended x.records ≡ true → (is_ended y.records ≡ true) ⊎ (cutoff ≡ greatest_timestamp)) → Contains (times_of (file_reading a)) time
     → HasSynced (λ r. (is_mark r ≡ true) × (time ≤ r.timestamp)) b
