@@ -32,7 +32,9 @@ mod resume;
 pub use at_end::{RecordsAtEnd, records_at_end};
 pub use body::lent::Lent;
 pub use body::lent_writes::LentWrites;
-pub use encode::parts::{encode_part, encode_part_2};
+pub use encode::parts::{
+    encode_entry, encode_part, encode_part_2, encode_part_footer, encode_part_header,
+};
 pub use encode::{
     columns_length, encode_log_header, encode_log_header_2, encode_log_header_3, encode_record,
 };

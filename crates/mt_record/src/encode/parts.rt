@@ -77,7 +77,7 @@ fn append_part(head: PartHead, end: u64, entries: &[Entry], out: &mut Vec<u8>) -
     ensures err { OnErr result (out.new.items ≡ out.old.items) }
 {
     let start = out.len();
-    append_header(head, out)?;
+    encode_part_header(head, out)?;
     let outcome = append_rest(end, entries, out);
     if outcome.is_err() {
         out.truncate(start);
@@ -85,8 +85,8 @@ fn append_part(head: PartHead, end: u64, entries: &[Entry], out: &mut Vec<u8>) -
     outcome
 }
 
-/// Appends the header. Err: out of memory; nothing is appended.
-fn append_header(head: PartHead, out: &mut Vec<u8>) -> Result<(), Memory>
+/// Appends the header of a part. Err: out of memory; nothing is appended.
+pub fn encode_part_header(head: PartHead, out: &mut Vec<u8>) -> Result<(), Memory>
     ensures ok { OnOk result (out.new.items ≡ out.old.items ++ part_head_bytes head) }
     ensures err { OnErr result (out.new.items ≡ out.old.items) }
 {
@@ -107,13 +107,13 @@ fn append_rest(end: u64, entries: &[Entry], out: &mut Vec<u8>) -> Result<(), Mem
     ensures front { StartsWith out.new.items out.old.items }
 {
     for entry in entries {
-        append_entry(entry, out)?;
+        encode_entry(entry, out)?;
     }
-    append_footer(end, entries.len() as u32, out)
+    encode_part_footer(end, entries.len() as u32, out)
 }
 
-/// Appends the entry. Err: out of memory; nothing is appended.
-fn append_entry(entry: &Entry, out: &mut Vec<u8>) -> Result<(), Memory>
+/// Appends the entry of a part, of either format. Err: out of memory; nothing is appended.
+pub fn encode_entry(entry: &Entry, out: &mut Vec<u8>) -> Result<(), Memory>
     ensures ok { OnOk result (out.new.items ≡ out.old.items ++ entry_spelling entry.now) }
     ensures err { OnErr result (out.new.items ≡ out.old.items) }
 {
@@ -133,8 +133,9 @@ fn entry_length(entry: &Entry) -> usize
     change_length(entry.change())
 }
 
-/// Appends the footer. Err: out of memory; nothing is appended.
-fn append_footer(end: u64, count: u32, out: &mut Vec<u8>) -> Result<(), Memory>
+/// Appends the footer of a part with `count` entries, whose checkpoint ends at the timestamp `end`.
+/// Err: out of memory; nothing is appended.
+pub fn encode_part_footer(end: u64, count: u32, out: &mut Vec<u8>) -> Result<(), Memory>
     ensures ok { OnOk result (out.new.items ≡ out.old.items ++ footer_bytes end count) }
     ensures err { OnErr result (out.new.items ≡ out.old.items) }
 {

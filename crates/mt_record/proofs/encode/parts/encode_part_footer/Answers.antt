@@ -1,5 +1,5 @@
 use Rattle.mt_record.proofs.Encoding.{adds_both}
-use Rattle.mt_record.proofs.encode.parts.append_footer.Goals as goal
+use Rattle.mt_record.proofs.encode.parts.encode_part_footer.Goals as goal
 
 pub returns-clause-ok : goal.returns-clause-ok
 returns-clause-ok c =

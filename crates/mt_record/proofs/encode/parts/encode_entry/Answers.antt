@@ -1,5 +1,5 @@
 use Rattle.mt_record.proofs.Encoding.{adds_framed}
-use Rattle.mt_record.proofs.encode.parts.append_entry.Goals as goal
+use Rattle.mt_record.proofs.encode.parts.encode_entry.Goals as goal
 
 pub returns-clause-ok : goal.returns-clause-ok
 returns-clause-ok c =
