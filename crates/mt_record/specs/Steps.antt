@@ -4,3 +4,4 @@ pub mod Adding
 pub mod ByteStrings
 pub mod Kept
 pub mod Splits
+pub mod Salvages

@@ -1,5 +1,6 @@
 //! Laws that hold for all bytes.
-ghost use Rattle.std.specs.Prelude.{◌≡◌, ◌++◌, ℕ, List, []};
+ghost use Rattle.std.specs.Prelude.{◌≡◌, ◌++◌, ℕ, List, [], length};
+ghost use Rattle.std.specs.List.{flat_map};
 ghost use Rattle.mt_words.specs.declared.limits.Format.{Format};
 ghost use Rattle.mt_words.specs.Limits.{limits_of};
 ghost use Rattle.mt_words.specs.declared.record.Change.{Change};
@@ -7,6 +8,9 @@ ghost use Rattle.mt_words.specs.Changes.{Logged, IsLawful, IsEntry};
 ghost use Rattle.mt_record.specs.declared.read.FeedFault.{FeedFault};
 ghost use Rattle.mt_record.specs.Spelling.{spelling};
 ghost use Rattle.mt_record.specs.declared.feed.head.Head.{Head};
+ghost use Rattle.mt_record.specs.Heads.{IsHead, head_bytes};
+ghost use Rattle.mt_record.specs.declared.salvage.Stretch.{Stretch};
+ghost use Rattle.mt_record.specs.Salvage.{AreStretches, kept_bytes, spans, records_in};
 ghost use Rattle.mt_record.specs.Logs.{IsLog};
 ghost use Rattle.mt_record.specs.LogFaults.{IsLogFault};
 ghost use Rattle.mt_record.specs.declared.part_text.PartHead.{PartHead};
@@ -42,4 +46,20 @@ pub fn one_part()
     ensures prefix_free { (format : Format) (entry other : Change) (more : List ℕ) →
         IsEntry (limits_of format) entry → IsEntry (limits_of format) other →
         entry_spelling other ≡ entry_spelling entry ++ more → (entry ≡ other) × (more ≡ []) }
+{}
+
+/// Bytes have one list of stretches: the bytes that are kept and those that are skipped, in order, each once. What is
+/// kept is, after a header of the same format, a log of exactly the records that were counted. This is a law: it has
+/// nothing to run.
+pub fn one_salvage()
+    ensures one_list { (format : Format) (low : ℕ) (bytes : List ℕ) (stretches others : List Stretch) →
+        AreStretches (limits_of format) low bytes stretches → AreStretches (limits_of format) low bytes others →
+        spans stretches ≡ spans others }
+    ensures in_order { (format : Format) (low : ℕ) (bytes : List ℕ) (stretches : List Stretch) →
+        AreStretches (limits_of format) low bytes stretches →
+        bytes ≡ flat_map (λ stretch. stretch.kept.now ++ stretch.skipped.now) stretches }
+    ensures log { (head : Head) (bytes : List ℕ) (stretches : List Stretch) → IsHead head →
+        AreStretches (limits_of head.format) 0 bytes stretches →
+        (records : List Logged) × IsLog (head_bytes head ++ kept_bytes stretches) head records [] ×
+        (records_in stretches ≡ length records) }
 {}

@@ -147,8 +147,8 @@ fn is_end(timestamp: u64, body: &[u8]) -> bool
     spelled::is_mark(body) && timestamp == u64::MAX
 }
 
-/// Returns the encoding of the header.
-fn encode_head(alloc: Global, head: Head) -> Result<Vec<u8>, Memory>
+/// Returns the encoding of the header. Err: out of memory.
+pub fn encode_head(alloc: Global, head: Head) -> Result<Vec<u8>, Memory>
     ensures { IfOk result (λ out. out.items ≡ head_bytes head) }
 {
     let mut out = Vec::new(alloc);
