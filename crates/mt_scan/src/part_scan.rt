@@ -1,5 +1,6 @@
 //! Scans of checkpoint parts.
-ghost use Rattle.std.specs.Prelude.{◌≡◌, ◌+◌, IfOk, IfErr, IsTrue};
+ghost use Rattle.std.specs.Prelude.{◌≡◌, ◌+◌, List, ℕ, IfOk, IfErr, IsTrue};
+ghost use Rattle.mt_record.specs.PartFeeding.{IsPartFed};
 ghost use Rattle.mt_scan.specs.Scans.{OfTold, failures_of};
 ghost use Rattle.mt_scan.specs.PartScans.{IsKnown};
 ghost use Rattle.mt_scan.specs.PartsShown.{known_by, IsPartScanFault};
@@ -39,6 +40,15 @@ pub fn scan_part<S: Source>(alloc: Global, source: &mut S, part: usize) -> Resul
     let Ok(()) = feed_all(source, &mut feed) else {
         return Err(Fault::PartSource { part });
     };
+    finish_part(feed)
+}
+
+/// Returns the scan of a part from all that was fed. A broken part is not an error. Err: `Memory`, out of memory.
+pub fn finish_part(feed: PartFeed<KeptEntries>) -> Result<PartScan, Fault>
+    ensures scan { (bytes : List ℕ) → IsPartFed feed bytes → IfOk result (λ scan. IsKnown bytes (known_by scan)) }
+    ensures fault { (part : ℕ) → IfErr result (IsPartScanFault part) }
+    ensures no_source { failures_of result ≡ 0 }
+{
     match feed.finish() {
         Ok(text) => Ok(PartScan::Whole(text)),
         Err(PartFault::Broken { number, entries }) => Ok(PartScan::Broken { number, entries }),

@@ -20,7 +20,7 @@ pub fn scan_log<S: Source>(alloc: Global, source: &mut S, log: usize) -> Result<
 {
     let mut feed = LogFeed::keeping(alloc);
     match feed_all(source, &mut feed) {
-        Ok(()) => finish(feed, log),
+        Ok(()) => finish_log(feed, log),
         Err(_) => Err(Fault::Source { log }),
     }
 }
@@ -33,11 +33,12 @@ pub fn scan_bytes(alloc: Global, bytes: &[u8], log: usize) -> Result<LogScan, Fa
 {
     let mut feed = LogFeed::keeping(alloc);
     let _ = feed.feed(bytes);
-    finish(feed, log)
+    finish_log(feed, log)
 }
 
-/// Returns the scan of the log with this number from all that was fed, or the fault.
-fn finish(feed: LogFeed<KeptRecords>, log: usize) -> Result<LogScan, Fault>
+/// Returns the scan of the log with this number from all that was fed. Err: the fault of the bytes, or `Memory` if out
+/// of memory.
+pub fn finish_log(feed: LogFeed<KeptRecords>, log: usize) -> Result<LogScan, Fault>
     ensures scan { (bytes : List ℕ) → IsLogFed feed bytes [] → IfOk result (IsScanOf log bytes) }
     ensures fault { (bytes : List ℕ) → IsLogFed feed bytes [] → IfErr result (IsLogVerdict log bytes) }
     ensures no_source { failures_of result ≡ 0 }
