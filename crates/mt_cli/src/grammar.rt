@@ -82,7 +82,7 @@ const WORKERS: Argument = Argument(
 
 const PIECES: Argument = Argument(
     "pieces",
-    Kind::UpTo("P", MOST_PIECES as u64, "16"),
+    Kind::UpTo("P", MOST_PIECES as u64, "512"),
     "Cut the keys into at most this many ranges, which threads replay: 1 to 4096",
 );
 

@@ -170,12 +170,12 @@ module _ (job : JobView) (hauls : List Haul) (pieces : List Piece) (count : ℕ)
       omega (arith, numbered, same_times number)
 
   -- the drafts in order are those of the job's pieces
-  pub in_order : (drafts : List DraftView) → job.board.total ≡ length job.cuts + 1 → All (IsHaulOf job) hauls → length drafts ≡ count → AreDraftsOf pieces drafts → ArePieces job.prepared.updates job.cuts (map layer_walk drafts)
+  pub in_order : (drafts : List DraftView) → job.board.total ≡ length job.prepared.cuts + 1 → All (IsHaulOf job) hauls → length drafts ≡ count → AreDraftsOf pieces drafts → ArePieces job.prepared.updates job.prepared.cuts (map layer_walk drafts)
   in_order drafts cut hauls_are long are = record {
     count = omega (arith, length-map drafts layer_walk, long, total, cut);
     each = λ k piece here.
         let within : k < length drafts = omega (arith, slice_get_within (map layer_walk drafts) k piece here, length-map drafts layer_walk) in
         let at = Contains-permutation pieces (all_held hauls) _ (IsPermutation-sym (all_held hauls) pieces held) (are k empty_draft within) in
         let one = All-contains (IsHeldBy job) (all_held hauls) _ (held_each job hauls hauls_are) at in
-        subst (IsPiece job.prepared.updates job.cuts k) (sym (get_or-map layer_walk drafts k empty_draft piece within) ∙ get_or_from_slice_get (map layer_walk drafts) k piece piece here) one.1;
+        subst (IsPiece job.prepared.updates job.prepared.cuts k) (sym (get_or-map layer_walk drafts k empty_draft piece within) ∙ get_or_from_slice_get (map layer_walk drafts) k piece piece here) one.1;
   }

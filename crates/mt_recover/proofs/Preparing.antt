@@ -1,28 +1,33 @@
 -- From findings to the prepared lists, and from these to the recovered store.
-use Rattle.std.proofs.Common.{◌≡◌, ◌∙◌, ◌^◌, ℕ, ◌<◌, ◌≤◌, false, List, ◌++◌, length, map, Contains, IsPermutation, Ok, sym, ap, subst, arith}
-use Rattle.std.specs.Prelude.{filter, nat_lt, Result}
+use Rattle.std.proofs.Common.{◌≡◌, ◌∙◌, ◌^◌, ℕ, ◌<◌, ◌≤◌, false, List, Option, ◌++◌, length, Contains, IsPermutation, sym, ap, subst, arith}
+use Rattle.std.specs.Prelude.{filter, nat_lt}
 use Rattle.std.proofs.lemmas.Bool.Decides.{nat_tests}
-use Rattle.std.specs.List.{AllZip}
 use Rattle.std.specs.Option.{option_map}
-use Rattle.std.proofs.lemmas.List.Sorted.{IsPermutation-refl, IsPermutation-sym, Contains-permutation}
-use Rattle.mt_words.specs.declared.fault.Memory.{Memory}
+use Rattle.std.proofs.lemmas.List.Sorted.{IsPermutation-sym, Contains-permutation}
 use Rattle.mt_words.specs.declared.update.Update.{Update}
-use Rattle.mt_words.specs.Walks.{Pair, joined}
+use Rattle.mt_words.specs.Walks.{Pair}
+use Rattle.mt_scan.specs.declared.checkpoint.Checkpoint.{Checkpoint}
+use Rattle.mt_scan.specs.declared.log_scan.LogScan.{LogScan}
 use Rattle.mt_scan.specs.Choosing.{checkpoint_in}
 use Rattle.mt_replay.specs.declared.window.Window.{Window}
 use Rattle.mt_replay.specs.Survivors.{in_window, is_within, log_survivors, is_early}
 use Rattle.mt_replay.specs.Walk.{IsWalk}
 use Rattle.mt_replay.specs.Cells.{AreApart}
+use Rattle.mt_replay.specs.Divided.{DividedView}
+use Rattle.mt_replay.proofs.EvenLemmas.{even_in_any_order}
 use Rattle.mt_replay.proofs.StepLemmas.{same_column}
 use Rattle.mt_tree.specs.Trees.{IsCount}
 use Rattle.mt_recover.specs.declared.found.Found.{Found}
 use Rattle.mt_recover.specs.Steps.LogScans.{kept, kept_in_window}
 use Rattle.mt_recover.specs.Prepared.{PreparedView, IsPreparedOf, IsMadeOf}
-use Rattle.mt_recover.specs.Steps.Preparing.{IsLeftBy, AreBatchesLeft, cells_of, early_of, IsFoundOf}
-use Rattle.mt_recover.specs.Recovery.{records_of, begin_of, entry_updates}
-use Rattle.mt_recover.specs.Report.{Outcome, IsRecoveredOf, IsReportOf, logged_updates}
+use Rattle.mt_recover.specs.declared.report.Report.{Report}
+use Rattle.mt_recover.specs.declared.workers.Cutting.{Cutting}
+use Rattle.mt_recover.specs.declared.workers.Cutting.TheVariants.{Even, Sampled, At}
+use Rattle.mt_recover.specs.Job.{AreCutBy}
+use Rattle.mt_recover.specs.Steps.Preparing.{IsDividedOf, IsDivisionOf, IsFoundOf}
+use Rattle.mt_recover.specs.Recovery.{Facts, records_of, begin_of, entry_updates}
+use Rattle.mt_recover.specs.Report.{Outcome, IsFoundIn, IsRecoveredOf, IsReportOf, logged_updates}
 use Rattle.mt_recover.proofs.CountLemmas.{begins_below, survivors_in, early_in, walk_few}
-use Rattle.mt_recover.proofs.ReplayLemmas.{all_answered, cells_of_both, early_of_all}
 use Rattle.mt_recover.proofs.ReportLemmas.{same_updates}
 use Rattle.mt_recover.proofs.SurvivorLemmas.{survivors_apart}
 
@@ -73,30 +78,25 @@ walk_moved updates moved pairs same is =
 
 -- ---- what is prepared
 
--- and so has what a report counts of them
-pub apart_left : (ls ps : List (List ℕ)) (found : Found) (is : IsFoundOf ls ps found) (updates : List Update) → IsPermutation (survivors_in is.start.basis.facts) updates → AreApart updates
-apart_left ls ps found is updates same = apart_moved (survivors_in is.start.basis.facts) updates same (survivors_apart is.start.basis.facts.known is.start.basis.facts.cutoff is.start.basis.facts.chosen (records_of is.start.basis.facts.readings) is.start.basis.facts.is_chosen)
+pub apart_left : {logs parts : List (List ℕ)} (facts : Facts logs parts) (updates : List Update) → IsPermutation (survivors_in facts) updates → AreApart updates
+apart_left facts updates same = apart_moved (survivors_in facts) updates same (survivors_apart facts.known facts.cutoff facts.chosen (records_of facts.readings) facts.is_chosen)
 
-module _ (ls ps : List (List ℕ)) (found : Found) (is : IsFoundOf ls ps found) (logs : List (Result (ℕ × List Update) Memory)) (are : AreBatchesLeft found.start.window found.scans.items logs) (of_logs : List (ℕ × List Update)) (of_parts : List (List Update)) (logs_done : logs ≡ map Ok of_logs) (parts_are : joined of_parts ≡ entry_updates (option_map checkpoint_in found.start.choice.chosen)) where
-  left : AllZip (λ batch. IsLeftBy found.start.window batch.updates) are.batches of_logs
-  left = all_answered (λ batch. IsLeftBy found.start.window batch.updates) are.batches logs of_logs are.left logs_done
+-- what the scans kept and the entries of the checkpoint, divided, are what survives, divided
+pub division_is : {logs parts : List (List ℕ)} {found : Found} {scans : List LogScan} {chosen : Option Checkpoint} {entries : List Update} {report : Report} {division : DividedView × ℕ} (is : IsFoundOf logs parts found) → IsFoundIn is.start.basis.facts report
+    → scans ≡ found.scans.items → chosen ≡ found.start.choice.chosen → entries ≡ entry_updates (option_map checkpoint_in chosen) → IsDividedOf found.start.window (kept scans) entries division → IsDivisionOf logs parts report division
+division_is {logs} {parts} {found} {division = division} is in_report scans_are chosen_is entries_are divided = record {
+  basis = is.start.basis;
+  found = in_report;
+  updates = subst (λ (us : List Update). IsPermutation us division.0.updates)
+      ((λ i. kept_in_window found.start.window (scans_are i) ++ (entries_are ∙ ap (λ (o : Option Checkpoint). entry_updates (option_map checkpoint_in o)) chosen_is) i) ∙ same_survivors logs parts found is) divided.updates;
+  early = divided.early ∙ ap (λ (s : List LogScan). length (filter (is_early found.start.window.begin) (kept s))) scans_are ∙ same_early logs parts found is;
+}
 
-  entries : IsPermutation (entry_updates (option_map checkpoint_in found.start.choice.chosen)) (joined of_parts)
-  entries = subst (λ (us : List Update). IsPermutation us (joined of_parts)) parts_are (IsPermutation-refl (joined of_parts))
-
-  -- what the batches left, with the entries, is what survives
-  pub updates_are : IsPermutation (survivors_in is.start.basis.facts) (joined (cells_of of_logs ++ of_parts))
-  updates_are =
-      subst (λ (us : List Update). IsPermutation us (joined (cells_of of_logs ++ of_parts)))
-      (ap (λ (us : List Update). filter (in_window found.start.window) us ++ entry_updates (option_map checkpoint_in found.start.choice.chosen)) are.all ∙ same_survivors ls ps found is)
-      (cells_of_both found.start.window are.batches of_logs _ of_parts left entries)
-
-  -- and the batches have as many early updates as the logs
-  pub early_is : early_of of_logs ≡ length (early_in is.start.basis.facts)
-  early_is =
-      early_of_all found.start.window are.batches of_logs left
-      ∙ ap (λ (us : List Update). length (filter (is_early found.start.window.begin) us)) are.all
-      ∙ same_early ls ps found is
+-- cuts of updates are cuts of the updates in another order
+pub cut_moved : (cutting : Cutting) (updates moved : List Update) (cuts : List (List ℕ)) → IsPermutation updates moved → AreCutBy cutting updates cuts → AreCutBy cutting moved cuts
+cut_moved (Even pieces) updates moved cuts same are = even_in_any_order updates moved pieces cuts same are
+cut_moved (Sampled pieces) updates moved cuts same are = are
+cut_moved (At given) updates moved cuts same are = are
 
 -- ---- what is recovered
 

@@ -1,10 +1,9 @@
 -- The surviving updates, batch by batch.
-use Rattle.std.proofs.Common.{ℕ, length, arith, ◌≡◌, map, Result, Ok, IfOk, List, [], ◌∷◌, ◌++◌, IsPermutation, refl, sym, ap, ◌∙◌, subst, append_assoc}
-use Rattle.std.specs.List.{filter, AllZip}
+use Rattle.std.proofs.Common.{ℕ, length, arith, ◌≡◌, map, Result, Ok, IfOk, List, [], ◌∷◌, ◌++◌, refl, sym, ap, ◌∙◌, subst}
+use Rattle.std.specs.List.{filter, sum_by, AllZip}
 use Rattle.std.proofs.lemmas.List.{map-append}
 use Rattle.std.proofs.lemmas.List.Sums.{sum_by-cons}
 use Rattle.std.proofs.lemmas.List.Elements.{filter-append}
-use Rattle.std.proofs.lemmas.List.Sorted.{IsPermutation-refl, IsPermutation-append}
 use Rattle.mt_words.specs.declared.fault.Memory.{Memory}
 use Rattle.mt_words.specs.declared.update.Update.{Update}
 use Rattle.mt_words.specs.declared.update.Origin.TheVariants as origins
@@ -14,16 +13,10 @@ use Rattle.mt_scan.specs.PartsShown.{KeptPart, shown_by_all}
 use Rattle.mt_scan.specs.Steps.Checkpoints.{entries_of}
 use Rattle.mt_replay.specs.declared.window.Window.{Window}
 use Rattle.mt_replay.specs.Batches.{BatchView, batched}
+use Rattle.mt_replay.specs.Ranges.{dealt_by}
 use Rattle.mt_replay.specs.Survivors.{in_window, is_early, wholes}
 use Rattle.mt_replay.proofs.BatchLemmas.{early_both}
-use Rattle.mt_recover.specs.Steps.Preparing.{IsLeftBy, cells_of, early_of}
-
--- ---- cells
-
--- the updates of two lists of lists are those of the first and then those of the second
-joined_append : (lists others : List (List Update)) → joined (lists ++ others) ≡ joined lists ++ joined others
-joined_append [] others = refl
-joined_append (l ∷ ls) others = ap (λ (us : List Update). l ++ us) (joined_append ls others) ∙ sym (append_assoc l (joined ls) (joined others))
+use Rattle.mt_recover.specs.Steps.Preparing.{IsLeftBy}
 
 -- ---- what each job gave
 
@@ -39,33 +32,31 @@ all_answered P (j ∷ js) (a ∷ rest) (d ∷ ds) all are =
     let later : rest ≡ map Ok ds = cc in
     (subst (λ answer. IfOk answer (P j)) first all.0, all_answered P js rest ds all.1 later)
 
--- if the cells of each batch have its updates in the window, the cells of all batches have all of them
-pub cells_of_all : {X : Type 0} (R : BatchView → X → Type 0) (cells : X → List Update) (window : Window) → ((batch : BatchView) (left : X) → R batch left → IsPermutation (filter (in_window window) batch.updates) (cells left))
-    → (batches : List BatchView) (lefts : List X) → AllZip R batches lefts → IsPermutation (filter (in_window window) (batched batches)) (joined (map cells lefts))
-cells_of_all R cells window own [] [] all = IsPermutation-refl []
-cells_of_all R cells window own [] (l ∷ ls) all = absurd all
-cells_of_all R cells window own (b ∷ bs) [] all = absurd all
-cells_of_all R cells window own (b ∷ bs) (l ∷ ls) all =
-    subst (λ (us : List Update). IsPermutation us (cells l ++ joined (map cells ls))) (sym (filter-append (in_window window) b.updates (batched bs)))
-    (IsPermutation-append (filter (in_window window) b.updates) (cells l) (filter (in_window window) (batched bs)) (joined (map cells ls)) (own b l all.0) (cells_of_all R cells window own bs ls all.1))
+-- ---- what is left of batches
 
--- the cells of batches and parts have the updates of the batches in the window and the entries of the parts
-pub cells_of_both : (window : Window) (batches : List BatchView) (lefts : List (ℕ × List Update)) (entries : List Update) (parts : List (List Update)) → AllZip (λ batch. IsLeftBy window batch.updates) batches lefts → IsPermutation entries (joined parts)
-    → IsPermutation (filter (in_window window) (batched batches) ++ entries) (joined (cells_of lefts ++ parts))
-cells_of_both window batches lefts entries parts of_batches of_parts =
-    let cells = cells_of lefts in
-    let logged = filter (in_window window) (batched batches) in
-    subst (IsPermutation (logged ++ entries)) (sym (joined_append cells parts))
-    (IsPermutation-append logged (joined cells) entries (joined parts) (cells_of_all (λ batch. IsLeftBy window batch.updates) (λ (left : ℕ × List Update). left.1) window (λ batch left is. is.cells) batches lefts of_batches) of_parts)
+-- if this is left of each batch, its updates in the window were dealt
+pub shares_dealt : (window : Window) (cuts : List (List ℕ)) (batches : List BatchView) (lefts : List (ℕ × List (List Update))) → AllZip (λ batch. IsLeftBy window cuts batch.updates) batches lefts
+    → map (λ left. left.1) lefts ≡ map (dealt_by cuts) (map (λ batch. filter (in_window window) batch.updates) batches)
+shares_dealt window cuts [] [] all = refl
+shares_dealt window cuts [] (l ∷ ls) all = absurd all
+shares_dealt window cuts (b ∷ bs) [] all = absurd all
+shares_dealt window cuts (b ∷ bs) (l ∷ ls) all = λ i. all.0.dealt i ∷ shares_dealt window cuts bs ls all.1 i
+
+-- the updates in the window of each batch are those of all batches
+pub joined_in_window : (window : Window) (batches : List BatchView) → joined (map (λ batch. filter (in_window window) batch.updates) batches) ≡ filter (in_window window) (batched batches)
+joined_in_window window [] = refl
+joined_in_window window (b ∷ bs) = ap (λ (us : List Update). filter (in_window window) b.updates ++ us) (joined_in_window window bs) ∙ sym (filter-append (in_window window) b.updates (batched bs))
 
 -- and the early updates of all batches are counted batch by batch
-pub early_of_all : (window : Window) (batches : List BatchView) (lefts : List (ℕ × List Update)) → AllZip (λ batch. IsLeftBy window batch.updates) batches lefts
-    → early_of lefts ≡ length (filter (is_early window.begin) (batched batches))
-early_of_all window [] [] all = refl
-early_of_all window [] (l ∷ ls) all = absurd all
-early_of_all window (b ∷ bs) [] all = absurd all
-early_of_all window (b ∷ bs) (l ∷ ls) all =
-    omega (arith, sum_by-cons (λ (left : ℕ × List Update). left.0) l ls, early_both window.begin b.updates (batched bs), all.0.early, early_of_all window bs ls all.1)
+pub early_of_all : (window : Window) (cuts : List (List ℕ)) (batches : List BatchView) (lefts : List (ℕ × List (List Update))) → AllZip (λ batch. IsLeftBy window cuts batch.updates) batches lefts
+    → sum_by (λ (n : ℕ). n) (map (λ left. left.0) lefts) ≡ length (filter (is_early window.begin) (batched batches))
+early_of_all window cuts [] [] all = refl
+early_of_all window cuts [] (l ∷ ls) all = absurd all
+early_of_all window cuts (b ∷ bs) [] all = absurd all
+early_of_all window cuts (b ∷ bs) (l ∷ ls) all =
+    omega (arith, sum_by-cons (λ (n : ℕ). n) l.0 (map (λ left. left.0) ls), early_both window.begin b.updates (batched bs), all.0.early, early_of_all window cuts bs ls all.1)
+
+-- ---- the entries of parts
 
 -- the cells of all parts have the updates of all entries
 pub cells_of_all_parts : (parts : List KeptPart) → joined (map (λ part. wholes part.entries) parts) ≡ wholes (entries_of (shown_by_all parts))

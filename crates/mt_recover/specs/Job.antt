@@ -9,10 +9,9 @@ use Rattle.mt_recover.specs.declared.workers.Cutting.{Cutting}
 use Rattle.mt_recover.specs.declared.workers.Cutting.TheVariants.{Even, Sampled, At}
 use Rattle.mt_recover.specs.Prepared.{PreparedView}
 
--- a job: what was prepared, the cuts that make its pieces, and the board from which they are claimed
+-- a job: what was prepared, and the board from which its pieces are claimed
 pub record JobView : Type 0 where
   pub prepared : PreparedView
-  pub cuts : List (List ℕ)
   pub board : BoardId
 
 -- the cuts are as asked for: the even cuts into this many pieces, or cuts into at most this many pieces, or exactly the given cuts
@@ -23,4 +22,4 @@ AreCutBy (At given) updates cuts = cuts ≡ given
 
 -- the pairs are the job's piece of this number
 abbrev pub IsPieceOf : JobView → ℕ → List Pair → Type 0
-IsPieceOf job number pairs = (number < job.board.total) × IsPiece job.prepared.updates job.cuts number pairs
+IsPieceOf job number pairs = (number < job.board.total) × IsPiece job.prepared.updates job.prepared.cuts number pairs

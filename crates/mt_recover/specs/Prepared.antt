@@ -8,9 +8,10 @@ use Rattle.mt_recover.specs.declared.report.Report.{Report}
 use Rattle.mt_recover.specs.Recovery.{Basis, records_of, survivors}
 use Rattle.mt_recover.specs.Report.{IsReportOf, Outcome}
 
--- what is prepared: the surviving updates in any order, and the report without the keys and layers of the store
+-- what is prepared: the surviving updates in any order, the cuts that divide them into pieces, and the report without the keys and layers of the store
 pub record PreparedView : Type 0 where
   pub updates : List Update
+  pub cuts : List (List ℕ)
   pub report : Report
 
 -- the report of what is prepared, for a store with these numbers of keys and layers

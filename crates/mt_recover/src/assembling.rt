@@ -37,14 +37,10 @@ pub fn assemble(
     ensures missing { IfErr result (IsLeftOut job hauls.items) }
     ensures drawn { AllCameBack job hauls.items passes.items → IfErr result (λ fault. fault ≡ faults.Memory) }
 {
-    let Job {
-        prepared,
-        cuts,
-        board,
-    } = job;
+    let Job { prepared, board } = job;
     close(board, passes);
     let pieces = by_number(pieces_of(alloc, hauls)?);
-    let drafts = in_order(alloc, pieces, cuts.pieces())?;
+    let drafts = in_order(alloc, pieces, prepared.pieces())?;
     pieces_make_the_walk();
     Ok(prepared.finish(join_all(alloc, drafts)?)?)
 }

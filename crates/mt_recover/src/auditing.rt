@@ -10,17 +10,14 @@ ghost use Rattle.mt_recover.specs.Inputs.{IsAnswerFrom};
 ghost use Rattle.mt_recover.specs.Steps.LogScans.{kept_in_window};
 ghost use Rattle.mt_recover.specs.Steps.Preparing.{IsFound, IsFoundOf};
 
-use crate::batches::batches_of;
 use crate::by_workers::{all_done, by_workers, concat};
+use crate::dividing::divide;
 use crate::found::{Found, find};
 use crate::recovery::Inputs;
 use crate::scans::scan_all;
-use crate::workers::{MOST_WORKERS, Workers};
-use mt_replay::{
-    Batch, Clash, Cuts, MOST_PIECES, Pieces, SortedUpdates, Window, clashes_in,
-    pieces_make_the_audit,
-};
-use mt_scan::{LogScan, Source};
+use crate::workers::{Cutting, Workers};
+use mt_replay::{Clash, Divided, MOST_PIECES, Pieces, pieces_make_the_audit};
+use mt_scan::Source;
 use mt_words::{Fault, Memory};
 use std::alloc::Global;
 use std::thread::Threads;
@@ -42,11 +39,6 @@ pub fn audit<R: Threads + Sync, S: Source + Send>(
     Ok(audit_found(rt, alloc, found, workers)?)
 }
 
-/// The number of pieces that each worker gets, so that all workers have about the same to do.
-const PIECES_OF_WORKER: u32 = 4;
-
-const _: () = prove!(PIECES_OF_WORKER * MOST_WORKERS <= MOST_PIECES);
-
 /// Finds the clashes of what was found.
 fn audit_found<R: Threads + Sync>(
     rt: &R,
@@ -58,54 +50,38 @@ fn audit_found<R: Threads + Sync>(
     ensures { (logs parts : List (List ℕ)) → IsFoundOf logs parts found → IfOk result (λ clashes. IsAuditOf logs parts clashes.items) }
 {
     let Found { scans, start } = found;
-    let lists = cells_of(rt, alloc, &scans, start.window, workers)?;
-    drop(scans);
-    let pieces = Pieces::new(PIECES_OF_WORKER * workers.count()).unwrap();
-    let cuts = Cuts::sampled(rt, alloc, &lists, pieces)?;
-    all_clashes(rt, alloc, &lists, &cuts, workers)
-}
-
-/// Returns the cells of the updates in the window.
-fn cells_of<R: Threads + Sync>(
-    rt: &R,
-    alloc: Global,
-    scans: &[LogScan],
-    window: Window,
-    workers: Workers,
-) -> Result<Vec<SortedUpdates>, Memory>
-    ensures { IfOk result (λ lists. IsPermutation (kept_in_window window scans.now) (joined lists.items)) }
-{
-    let logs = by_workers(
+    let pieces = Pieces::new(MOST_PIECES).unwrap();
+    let cutting = Cutting::Sampled(pieces);
+    let (divided, _) = divide(
         rt,
         alloc,
-        batches_of(alloc, scans, workers.count())?,
+        scans,
+        start.window,
+        Vec::new(alloc),
         workers,
-        &|batch: Batch<'_>| -> Result<SortedUpdates, Memory>
-            ensures { IfOk result (IsPermutation (filter (in_window window) batch.entry.updates)) }
-        { SortedUpdates::of_batch(alloc, &batch, window) },
+        cutting,
     )?;
-    all_done(alloc, logs)
+    all_clashes(rt, alloc, &divided, workers)
 }
 
-/// Finds the clashes of each piece that the cuts make, and puts them together in order.
+/// Finds the clashes of each piece, and puts them together in order.
 fn all_clashes<R: Threads + Sync>(
     rt: &R,
     alloc: Global,
-    lists: &[SortedUpdates],
-    cuts: &Cuts,
+    divided: &Divided,
     workers: Workers,
 ) -> Result<Vec<Clash>, Memory>
-    ensures { IfOk result (λ clashes. AreClashes (joined lists.now) clashes.items) }
+    ensures { IfOk result (λ clashes. AreClashes divided.now.updates clashes.items) }
 {
     let found = by_workers(
         rt,
         alloc,
-        numbers(alloc, cuts.pieces())?,
+        numbers(alloc, divided.pieces())?,
         workers,
         &|piece: u32| -> Result<Vec<Clash>, Memory>
-            requires { piece < length cuts.now + 1 }
-            ensures { IfOk result (λ clashes. AreClashes (updates_in cuts.entry.now piece (joined lists.entry.now)) clashes.items) }
-        { clashes_in(alloc, lists, cuts, piece) },
+            requires { piece < length divided.now.cuts + 1 }
+            ensures { IfOk result (λ clashes. AreClashes (updates_in divided.entry.now.cuts piece divided.entry.now.updates) clashes.items) }
+        { divided.clashes_in(alloc, piece) },
     )?;
     pieces_make_the_audit();
     concat(alloc, all_done(alloc, found)?)

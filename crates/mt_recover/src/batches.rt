@@ -1,4 +1,4 @@
-//! Shares out the records of logs into batches, which are sorted each by itself.
+//! Shares out the records of logs into batches, one for each worker.
 ghost use Rattle.std.specs.Prelude.{◌≡◌, ◌<◌, ◌≤◌, ◌++◌, IfOk, OnOk, length};
 ghost use Rattle.mt_words.specs.OneLog.{kept_updates};
 ghost use Rattle.mt_replay.specs.Batches.{batched, updates_between};
@@ -10,17 +10,11 @@ use mt_scan::LogScan;
 use mt_words::Memory;
 use std::alloc::Global;
 
-/// The most records of a batch. A larger batch is sorted and copied more slowly, since less of it stays in the caches of
-/// a processor. Smaller batches make more runs, which cost more to merge.
-const MOST_RECORDS: usize = 131_072;
-
 /// Fewer records than these are not worth a thread.
 const LEAST_RECORDS: usize = 8_192;
 
-/// The number of batches that each worker gets, so that all workers have about the same to do.
-const BATCHES_OF_WORKER: usize = 8;
-
-/// Shares out what the scans kept, in order, into batches for this number of workers.
+/// Shares out what the scans kept, in order, into at most one batch for each of this number of
+/// workers.
 pub(crate) fn batches_of<'a>(
     alloc: Global,
     scans: &'a [LogScan],
@@ -44,8 +38,9 @@ fn size_for(scans: &[LogScan], workers: u32) -> usize
     for scan in scans {
         records = records.saturating_add(scan.updates.record_count());
     }
-    let batches = BATCHES_OF_WORKER.saturating_mul(workers as usize).max(1);
-    records.div_ceil(batches).clamp(LEAST_RECORDS, MOST_RECORDS)
+    records
+        .div_ceil((workers as usize).max(1))
+        .max(LEAST_RECORDS)
 }
 
 /// Appends the records of a log to batches of `size` records. Err: out of memory.

@@ -1,7 +1,6 @@
 //! Recovery as a job, whose pieces are claimed, replayed and assembled into the store.
 ghost use Rattle.std.specs.Prelude.{◌≡◌, ◌+◌, ◌<◌, List, ℕ, length, IfOk, IfErr};
 ghost use Rattle.mt_board.specs.Board.{fresh_passes};
-ghost use Rattle.mt_words.specs.Walks.{joined};
 ghost use Rattle.mt_recover.specs.Inputs.{IsAnsweredBy, OfSources};
 ghost use Rattle.mt_recover.specs.Job.{AreCutBy, JobView};
 ghost use Rattle.mt_recover.specs.Prepared.{IsPreparedOf};
@@ -13,7 +12,7 @@ use crate::recovery::Inputs;
 use crate::scans::scan_all;
 use crate::workers::{Cutting, MOST_WORKERS, Workers};
 use mt_board::{Board, MOST_NUMBERS, MOST_PASSES, Pass};
-use mt_replay::{Cuts, MOST_PIECES, SortedUpdates};
+use mt_replay::MOST_PIECES;
 use mt_scan::Source;
 use mt_words::{Fault, Memory};
 use std::alloc::Global;
@@ -25,7 +24,6 @@ use std::thread::Threads;
 #[derive(Drop)]
 pub struct Job {
     pub(crate) prepared: Prepared,
-    pub(crate) cuts: Cuts,
     /// The board that gives out the numbers of the pieces.
     pub(crate) board: Board,
 }
@@ -33,9 +31,9 @@ pub struct Job {
 impl Model for Job {
     ghost Value = { JobView };
 
-    ghost view = { λ j. record { prepared = j.prepared; cuts = j.cuts; board = j.board } };
+    ghost view = { λ j. record { prepared = j.prepared; board = j.board } };
 
-    ghost invariant = { λ j. j.board.total ≡ length j.cuts + 1 };
+    ghost invariant = { λ j. j.board.total ≡ length j.prepared.cuts + 1 };
 }
 
 /// Scans the sources with these workers, and prepares the job of their store. Returns the job and a pass for each
@@ -50,8 +48,8 @@ pub fn prepare<R: Threads + Sync, S: Source + Send>(
     cutting: Cutting,
 ) -> Result<(Job, Vec<Pass>), Fault>
     ensures job { IfOk result (λ opened. OfSources S.seen inputs.logs.items inputs.parts.items (λ logs parts. IsPreparedOf logs parts opened.0.prepared)) }
-    ensures cuts { IfOk result (λ opened. AreCutBy cutting opened.0.prepared.updates opened.0.cuts) }
-    ensures pieces { IfOk result (λ opened. opened.0.board.total ≡ length opened.0.cuts + 1) }
+    ensures cuts { IfOk result (λ opened. AreCutBy cutting opened.0.prepared.updates opened.0.prepared.cuts) }
+    ensures pieces { IfOk result (λ opened. opened.0.board.total ≡ length opened.0.prepared.cuts + 1) }
     ensures passes { IfOk result (λ opened. (opened.0.board.passes ≡ workers) × (opened.1.items ≡ fresh_passes opened.0.board workers)) }
     ensures some { IfOk result (λ opened. 0 < opened.0.board.passes) }
     ensures fault { IfErr result (IsAnsweredBy S.seen inputs.logs.items inputs.parts.items) }
@@ -76,36 +74,14 @@ fn open<R: Threads + Sync>(
 ) -> Result<(Job, Vec<Pass>), Memory>
     requires { IsFound found }
     ensures job { (logs parts : List (List ℕ)) → IsFoundOf logs parts found → IfOk result (λ opened. IsPreparedOf logs parts opened.0.prepared) }
-    ensures cuts { IfOk result (λ opened. AreCutBy cutting opened.0.prepared.updates opened.0.cuts) }
-    ensures pieces { IfOk result (λ opened. opened.0.board.total ≡ length opened.0.cuts + 1) }
+    ensures cuts { IfOk result (λ opened. AreCutBy cutting opened.0.prepared.updates opened.0.prepared.cuts) }
+    ensures pieces { IfOk result (λ opened. opened.0.board.total ≡ length opened.0.prepared.cuts + 1) }
     ensures passes { IfOk result (λ opened. (opened.0.board.passes ≡ workers) × (opened.1.items ≡ fresh_passes opened.0.board workers)) }
     ensures some { IfOk result (λ opened. 0 < opened.0.board.passes) }
 {
-    let prepared = Prepared::by_workers(rt, alloc, found, workers)?;
-    let cuts = cuts_of(rt, alloc, &prepared.lists, cutting)?;
-    let Ok((board, passes)) = Board::open(alloc, cuts.pieces(), workers.count()) else {
+    let prepared = Prepared::by_workers(rt, alloc, found, workers, cutting)?;
+    let Ok((board, passes)) = Board::open(alloc, prepared.pieces(), workers.count()) else {
         return Err(Memory);
     };
-    let job = Job {
-        prepared,
-        cuts,
-        board,
-    };
-    Ok((job, passes))
-}
-
-/// Returns the cuts of the keys of these cells.
-fn cuts_of<R: Threads + Sync>(
-    rt: &R,
-    alloc: Global,
-    lists: &[SortedUpdates],
-    cutting: Cutting,
-) -> Result<Cuts, Memory>
-    ensures { IfOk result (AreCutBy cutting (joined lists.now)) }
-{
-    match cutting {
-        Cutting::Even(pieces) => Cuts::even(rt, alloc, lists, pieces),
-        Cutting::Sampled(pieces) => Cuts::sampled(rt, alloc, lists, pieces),
-        Cutting::At(cuts) => Ok(cuts),
-    }
+    Ok((Job { prepared, board }, passes))
 }

@@ -21,6 +21,7 @@ mod auditing;
 mod batches;
 mod by_workers;
 mod checking;
+mod dividing;
 mod failure;
 mod found;
 mod haul;

@@ -157,7 +157,7 @@ fn replay_whole(alloc: Global, found: Found) -> Result<Recovered, Memory>
     ensures { (logs parts : List (List ℕ)) → IsFoundOf logs parts found → IfOk result (IsRecoveredOf logs parts) }
 {
     let prepared = Prepared::on_one_thread(alloc, found)?;
-    let draft = prepared.replay(alloc, &Cuts::none(alloc), 0)?;
+    let draft = prepared.replay(alloc, 0)?;
     prepared.finish(draft)
 }
 

@@ -66,10 +66,14 @@ pub struct Report {
 }
 
 impl Report {
-    /// Reports what was found, with no survivors, early or late updates, keys and layers yet. Also returns the chosen
-    /// checkpoint. Err: out of memory.
-    pub(crate) fn of(alloc: Global, found: Found) -> Result<(Report, Option<Checkpoint>), Memory>
-        ensures chosen { IfOk result (λ counted. counted.1 ≡ found.start.choice.chosen) }
+    /// Reports what was found, with no survivors, early or late updates, keys and layers yet. Also returns the scans and
+    /// the chosen checkpoint. Err: out of memory.
+    pub(crate) fn of(
+        alloc: Global,
+        found: Found,
+    ) -> Result<(Report, Vec<LogScan>, Option<Checkpoint>), Memory>
+        ensures scans { IfOk result (λ counted. counted.1.items ≡ found.scans.items) }
+        ensures chosen { IfOk result (λ counted. counted.2 ≡ found.start.choice.chosen) }
         ensures report { (logs parts : List (List ℕ)) (is : IsFoundOf logs parts found) →
             IfOk result (λ counted. IsFoundIn is.start.basis.facts counted.0) }
     {
@@ -101,7 +105,7 @@ impl Report {
             keys: 0,
             layers: 0,
         };
-        Ok((report, chosen))
+        Ok((report, scans, chosen))
     }
 }
 

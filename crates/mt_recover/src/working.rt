@@ -27,7 +27,7 @@ pub fn work<G: Gate>(alloc: Global, job: &Job, pass: &mut Pass, gate: &G) -> Res
     let mut pieces = Vec::new(alloc);
     while let Some(number) = job.board.claim(pass) {
         gate.enter(worker, number);
-        let draft = job.prepared.replay(alloc, &job.cuts, number)?;
+        let draft = job.prepared.replay(alloc, number)?;
         pieces.push(Piece { number, draft })?;
     }
     Ok(Haul {

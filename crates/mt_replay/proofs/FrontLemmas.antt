@@ -1,11 +1,11 @@
 -- Fronts decide the order of keys where they differ. Where they do not, what follows decides it.
 use Rattle.std.proofs.Common.{◌≡◌, ◌≢◌, ℕ, zero, suc, ◌+◌, ◌*◌, ◌^◌, ◌<◌, ◌≤◌, min, List, [], ◌∷◌, length, take, drop, Ordering, true, false, sym, refl, ap, ◌∙◌, arith}
 use Rattle.std.specs.declared.cmp.Ordering.TheVariants.{Less, Equal, Greater}
-use Rattle.std.specs.Cmp.{IsTotalOrder, nat_cmp_is}
+use Rattle.std.specs.Cmp.{nat_cmp_is}
 use Rattle.std.specs.Cmp.Lexicographic.{slice_cmp}
 use Rattle.std.specs.Ordering.{nat_cmp, ordering_then, MatchOrdering, is_eq, is_ne}
 use Rattle.std.proofs.lemmas.Bool.{true≢false, false≢true}
-use Rattle.std.proofs.lemmas.Cmp.{ranked, nat_cmp_total, nat_list_cmp_total, on_total, then_total}
+use Rattle.std.proofs.lemmas.Cmp.{ranked}
 use Rattle.std.proofs.lemmas.List.{get_or-take, drop-take, length-take, drop_all}
 use Rattle.byteorder.specs.Endian.{big_from}
 use Rattle.mt_words.specs.Slices.{AreBytes, slice_in}
@@ -122,7 +122,7 @@ pub by_fronts : (x y : List ℕ) → slice_cmp nat_cmp x y ≡ ordering_then (fr
 by_fronts x y = split_at 16 x y
 
 -- fronts that tie are one
-pub same_front : (f g : List ℕ × ℕ) → front_cmp f g ≡ Equal → f ≡ g
+same_front : (f g : List ℕ × ℕ) → front_cmp f g ≡ Equal → f ≡ g
 same_front f g tie = by (slice_cmp nat_cmp f.0 g.0) (nat_cmp f.1 g.1) refl refl tie
   where
     both : slice_cmp nat_cmp f.0 g.0 ≡ Equal → f.1 ≡ g.1 → f ≡ g
@@ -134,14 +134,6 @@ same_front f g tie = by (slice_cmp nat_cmp f.0 g.0) (nat_cmp f.1 g.1) refl refl 
     by Equal Greater e d t = absurd (cc)
     by Less p e d t = absurd (cc)
     by Greater p e d t = absurd (cc)
-
-pub front_total : IsTotalOrder front_cmp
-front_total = then_total (on_total (λ (f : List ℕ × ℕ). f.0) nat_list_cmp_total) (on_total (λ (f : List ℕ × ℕ). f.1) nat_cmp_total)
-
-pub ties_if_eq : (o : Ordering) → is_eq o ≡ true → o ≡ Equal
-ties_if_eq Less eq = absurd (false≢true eq)
-ties_if_eq Equal eq = refl
-ties_if_eq Greater eq = absurd (false≢true eq)
 
 -- short keys whose fronts tie are alike
 pub short_tie : (x y : List ℕ) → front_cmp (front_in x) (front_in y) ≡ Equal → min (length x) 17 ≢ 17 → slice_cmp nat_cmp x y ≡ Equal

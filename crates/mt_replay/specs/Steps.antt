@@ -2,5 +2,8 @@
 pub mod Walker
 pub mod Bodies
 pub mod SortedUpdates
+pub mod Runs
 pub mod Fronts
+pub mod Numbers
 pub mod Auditor
+pub mod Dealing

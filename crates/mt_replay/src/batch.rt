@@ -1,14 +1,20 @@
-//! Batches: log records that are sorted together.
-ghost use Rattle.std.specs.Prelude.{◌≡◌, ◌≤◌, ◌<◌, ◌+◌, ◌-◌, ◌^◌, ◌++◌, [], IfOk, OnOk, length, filter};
+//! Batches: log records that one worker deals.
+ghost use Rattle.std.specs.Prelude.{◌≡◌, ◌≤◌, ◌<◌, ◌+◌, ◌-◌, ◌^◌, ◌++◌, [], List, IfOk, OnOk, length, map, filter, All};
 ghost use Rattle.std.specs.List.{list_any};
+ghost use Rattle.mt_words.specs.Limits.{widest};
 ghost use Rattle.mt_words.specs.OneLog.{as_list};
+ghost use Rattle.mt_words.specs.declared.update.Update.{Update as UpdateValue};
+ghost use Rattle.mt_words.specs.Slices.{slice_in};
+ghost use Rattle.mt_words.specs.Words.{AreRising, IsKey};
 ghost use Rattle.mt_replay.specs.Batches.{updates_between};
+ghost use Rattle.mt_replay.specs.Ranges.{dealt_by};
 ghost use Rattle.mt_replay.specs.Survivors.{in_window, is_early};
 
-use crate::Window;
-use crate::sliced::{Sliced, add_survivor};
+use crate::bodies::Bodies;
+use crate::sliced::add_survivor;
+use crate::{Window, dealing};
 use mt_record::{Lent, Updates};
-use mt_words::Memory;
+use mt_words::{Key, Memory};
 use std::alloc::Global;
 use std::marker::Model;
 
@@ -42,14 +48,60 @@ impl<'a> Stretch<'a> {
     }
 
     /// Appends the updates in the window. Err: out of memory.
-    fn list_survivors(&self, window: Window, sliced: &mut Vec<Sliced<'a>>) -> Result<(), Memory>
-        ensures { OnOk result (sliced.new.items ≡ sliced.old.items ++ filter (in_window window) self.now) }
+    fn list_survivors(&self, window: Window, survivors: &mut Vec<Lent<'a>>) -> Result<(), Memory>
+        ensures { OnOk result (survivors.new.items ≡ survivors.old.items ++ filter (in_window window) self.now) }
     {
         let updates = self.updates;
         for number in self.from..self.end {
-            add_survivor(sliced, updates.update(number), window)?;
+            add_survivor(survivors, updates.update(number), window)?;
         }
         Ok(())
+    }
+
+    /// Deals the updates in the window to the lists of their pieces. `heads` has the slice of each cut.
+    /// Err: out of memory.
+    fn deal(
+        &self,
+        window: Window,
+        cuts: &[Key],
+        heads: &[u64],
+        lists: &mut [Bodies],
+    ) -> Result<(), Memory>
+        requires rising { AreRising cuts.now }
+        requires heads { heads.now ≡ map slice_in cuts.now }
+        requires dealt { (dealt : List UpdateValue) × (lists.old ≡ dealt_by cuts.now dealt) }
+        ensures { OnOk result ((dealt : List UpdateValue) → lists.old ≡ dealt_by cuts.now dealt →
+            lists.new ≡ dealt_by cuts.now (dealt ++ filter (in_window window) self.now)) }
+    {
+        let updates = self.updates;
+        for number in self.from..self.end {
+            dealing::deal(updates.update(number), window, cuts, heads, lists)?;
+        }
+        Ok(())
+    }
+
+    /// Appends the keys of record `first` and of each one at a multiple of `distance` after it, unless it is a mark.
+    /// Returns the place of the next one, counted from the end. Err: out of memory.
+    fn add_keys(
+        &self,
+        keys: &mut Vec<&'a [u8]>,
+        first: usize,
+        distance: usize,
+    ) -> Result<usize, Memory>
+        requires { 0 < distance }
+        ensures { IfOk result (λ _. All (IsKey widest) (map (λ key. key.now) keys.old.items) →
+            All (IsKey widest) (map (λ key. key.now) keys.new.items)) }
+    {
+        let updates = self.updates;
+        let count = self.end - self.from;
+        let mut at = first;
+        while at < count {
+            if let Some(update) = updates.update(self.from + at) {
+                keys.push(update.key())?;
+            }
+            at = at.saturating_add(distance);
+        }
+        Ok(at - count)
     }
 
     /// Counts the updates whose timestamp is below `begin`.
@@ -73,7 +125,7 @@ fn comes_early(update: Option<Lent<'_>>, begin: u64) -> bool
     update.is_some_and(|update| update.timestamp() < begin)
 }
 
-/// Log records that are sorted together: records of a long log, or those of several short ones.
+/// Log records that are dealt together: records of a long log, or those of several short ones.
 #[derive(Drop)]
 pub struct Batch<'a> {
     stretches: Vec<Stretch<'a>>,
@@ -137,14 +189,48 @@ impl<'a> Batch<'a> {
         count
     }
 
-    /// Lists the updates in the window. Err: out of memory.
-    pub(crate) fn survivors(&self, alloc: Global, window: Window) -> Result<Vec<Sliced<'a>>, Memory>
-        ensures { IfOk result (λ sliced. sliced.items ≡ filter (in_window window) self.now.updates) }
+    /// Appends the key of one record for each `distance`, unless it is a mark. Err: out of memory.
+    pub(crate) fn add_keys(&self, keys: &mut Vec<&'a [u8]>, distance: usize) -> Result<(), Memory>
+        requires { 0 < distance }
+        ensures { OnOk result (All (IsKey widest) (map (λ key. key.now) keys.old.items) →
+            All (IsKey widest) (map (λ key. key.now) keys.new.items)) }
     {
-        let mut sliced = Vec::with_capacity(alloc, self.records)?;
+        let mut next = distance / 2;
         for stretch in &self.stretches {
-            stretch.list_survivors(window, &mut sliced)?;
+            next = stretch.add_keys(keys, next, distance)?;
         }
-        Ok(sliced)
+        Ok(())
+    }
+
+    /// Deals the updates in the window to the lists of their pieces. `heads` has the slice of each cut.
+    /// Err: out of memory.
+    pub(crate) fn deal(
+        &self,
+        window: Window,
+        cuts: &[Key],
+        heads: &[u64],
+        lists: &mut [Bodies],
+    ) -> Result<(), Memory>
+        requires rising { AreRising cuts.now }
+        requires heads { heads.now ≡ map slice_in cuts.now }
+        requires dealt { (dealt : List UpdateValue) × (lists.old ≡ dealt_by cuts.now dealt) }
+        ensures { OnOk result ((dealt : List UpdateValue) → lists.old ≡ dealt_by cuts.now dealt →
+            lists.new ≡ dealt_by cuts.now (dealt ++ filter (in_window window) self.now.updates)) }
+    {
+        for stretch in &self.stretches {
+            stretch.deal(window, cuts, heads, lists)?;
+        }
+        Ok(())
+    }
+
+    /// Lists the updates in the window. Err: out of memory.
+    pub(crate) fn survivors(&self, alloc: Global, window: Window) -> Result<Vec<Lent<'a>>, Memory>
+        ensures { IfOk result (λ survivors. survivors.items ≡ filter (in_window window) self.now.updates) }
+    {
+        let mut survivors = Vec::with_capacity(alloc, self.records)?;
+        for stretch in &self.stretches {
+            stretch.list_survivors(window, &mut survivors)?;
+        }
+        Ok(survivors)
     }
 }

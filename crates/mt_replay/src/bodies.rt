@@ -1,6 +1,8 @@
 //! Updates as texts: of each its origin, then its body.
 ghost use Rattle.std.specs.Prelude.{◌≡◌, ◌<◌, ◌++◌, [], ◌∷◌, IfOk, OnOk, OnErr, length, slice_index_or};
 ghost use Rattle.mt_words.specs.declared.update.Update.{Update as UpdateValue};
+ghost use Rattle.mt_words.specs.Limits.{widest};
+ghost use Rattle.mt_words.specs.Words.{IsKey};
 ghost use Rattle.mt_record.specs.Decoding.{IsChangeBody, update_in};
 ghost use Rattle.mt_replay.specs.Steps.Bodies.{IsUpdateText, update_in_text, short_text, long_text};
 
@@ -63,7 +65,17 @@ impl Bodies {
         requires { at < length self.now }
         ensures { (d : UpdateValue) → result ≡ slice_index_or self.now at d }
     {
-        lent_in(self.texts.get(at))
+        self.text(at).lent()
+    }
+
+    /// Returns the text of the update at this place.
+    pub(crate) fn text(&self, at: usize) -> Text<'_>
+        requires { at < length self.now }
+        ensures { (d : UpdateValue) → result ≡ slice_index_or self.now at d }
+    {
+        Text {
+            bytes: self.texts.get(at),
+        }
     }
 
     /// Appends the update with this origin and this body. Err: out of memory; nothing is appended.
@@ -90,6 +102,47 @@ impl Bodies {
         ensures err { OnErr result (self.new ≡ self.old) }
     {
         self.texts.push_joined(origin, body)
+    }
+}
+
+/// An update as its text. It takes two words.
+#[derive(Drop)]
+pub(crate) struct Text<'a> {
+    bytes: &'a [u8],
+}
+
+impl<'a> Model for Text<'a> {
+    ghost use Rattle.mt_words.specs.declared.update.Update.{Update};
+    ghost use Rattle.mt_replay.specs.Steps.Bodies.{update_in_text, IsUpdateText};
+
+    ghost Value = { Update };
+
+    ghost view = { λ t. update_in_text t.bytes.now };
+
+    ghost invariant = { λ t. IsUpdateText t.bytes.now };
+}
+
+impl<'a> Text<'a> {
+    /// Returns the same text again.
+    pub(crate) fn copy(&self) -> Text<'a>
+        ensures { result ≡ self.now }
+    {
+        Text { bytes: self.bytes }
+    }
+
+    /// Returns the update.
+    pub(crate) fn lent(&self) -> Lent<'a>
+        ensures { result ≡ self.now }
+    {
+        lent_in(self.bytes)
+    }
+
+    /// Returns the key that it changes.
+    pub(crate) fn key(&self) -> &'a [u8]
+        ensures value { result.now ≡ self.now.key }
+        ensures lawful { IsKey widest self.now.key }
+    {
+        self.lent().key()
     }
 }
 

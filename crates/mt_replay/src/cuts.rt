@@ -1,14 +1,16 @@
 //! Cuts that divide the keys into pieces.
-ghost use Rattle.std.specs.Prelude.{◌≡◌, ◌≤◌, ◌<◌, ◌+◌, ◌↔◌, [], length, map, max, All, IfOk, IfErr, IsSome, IfSome};
+ghost use Rattle.std.specs.Prelude.{◌≡◌, ◌≤◌, ◌<◌, ◌+◌, ◌↔◌, ◌++◌, [], length, map, filter, max, All, IfOk, IfErr, IsSome, IfSome};
 ghost use Rattle.mt_words.specs.Limits.{widest};
 ghost use Rattle.mt_words.specs.Words.{IsKey, AreRising};
 ghost use Rattle.mt_words.specs.Walks.{joined};
 ghost use Rattle.mt_replay.specs.declared.cuts.TheConstants.{MOST_PIECES};
+ghost use Rattle.mt_replay.specs.Batches.{batched};
 ghost use Rattle.mt_replay.specs.Cuts.{AreCuts, IsCutFault};
 ghost use Rattle.mt_replay.specs.Even.{IsEven, AreEvenCuts, BeginPieces};
+ghost use Rattle.mt_replay.specs.Survivors.{in_window};
 
-use crate::SortedUpdates;
-use crate::keys::{distinct_keys, sampled_keys};
+use crate::keys::{sampled_keys, surviving_keys};
+use crate::{Batch, SortedUpdates, Window};
 use mt_words::{Key, Memory};
 use std::alloc::Global;
 use std::marker::Model;
@@ -76,6 +78,13 @@ impl Pieces {
         }
         Some(Pieces { count })
     }
+
+    /// Returns the number of pieces.
+    pub fn count(self) -> u32
+        ensures { result ≡ self }
+    {
+        self.count
+    }
 }
 
 impl Cuts {
@@ -131,22 +140,43 @@ impl Cuts {
     ) -> Result<Cuts, Memory>
         ensures { IfOk result (IsEven (joined lists.now) pieces) }
     {
-        let keys = distinct_keys(rt, alloc, lists)?;
+        // Without a batch any window will do.
+        let window = Window {
+            begin: 0,
+            cutoff: 0,
+        };
+        Cuts::even_of_batches(rt, alloc, &[], window, lists, pieces)
+    }
+
+    /// Returns the even cuts of the keys of these entries and of the updates of these batches that are in the window.
+    /// Err: out of memory.
+    pub fn even_of_batches(
+        rt: &(impl Threads + Sync),
+        alloc: Global,
+        batches: &[Batch<'_>],
+        window: Window,
+        entries: &[SortedUpdates],
+        pieces: Pieces,
+    ) -> Result<Cuts, Memory>
+        ensures { IfOk result (IsEven (filter (in_window window) (batched batches.now) ++ joined entries.now) pieces) }
+    {
+        let keys = surviving_keys(rt, alloc, batches, window, entries)?;
         Cuts::even_of(alloc, &keys, pieces)
     }
 
     /// Returns cuts into at most `pieces` pieces with roughly the same number of updates each, found in a sample of the
-    /// keys. They are found much sooner than even cuts, which need all keys.
+    /// keys of these batches and entries. They are found much sooner than even cuts, which need all keys.
     /// Err: out of memory.
     pub fn sampled(
         rt: &(impl Threads + Sync),
         alloc: Global,
-        lists: &[SortedUpdates],
+        batches: &[Batch<'_>],
+        entries: &[SortedUpdates],
         pieces: Pieces,
     ) -> Result<Cuts, Memory>
         ensures { IfOk result (λ cuts. length cuts < pieces) }
     {
-        let keys = sampled_keys(rt, alloc, lists, pieces.count)?;
+        let keys = sampled_keys(rt, alloc, batches, entries, pieces.count)?;
         Cuts::even_of(alloc, &keys, pieces)
     }
 

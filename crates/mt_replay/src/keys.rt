@@ -1,13 +1,16 @@
 //! The distinct keys of updates: all of them, or a sample.
-ghost use Rattle.std.specs.Prelude.{◌≡◌, ◌<◌, ◌≤◌, ◌++◌, map, All, IfOk, OnOk};
+ghost use Rattle.std.specs.Prelude.{◌≡◌, ◌<◌, ◌≤◌, ◌++◌, map, filter, All, IfOk, OnOk};
 ghost use Rattle.mt_words.specs.Limits.{widest};
 ghost use Rattle.mt_words.specs.Words.{IsKey, AreRising};
 ghost use Rattle.mt_words.specs.Walks.{joined};
 ghost use Rattle.mt_replay.specs.declared.cuts.TheConstants.{MOST_PIECES};
 ghost use Rattle.mt_replay.specs.Cuts.{keys_in};
+ghost use Rattle.mt_replay.specs.Batches.{batched};
+ghost use Rattle.mt_replay.specs.Survivors.{in_window};
 ghost use Rattle.mt_replay.specs.Even.{AreDistinctKeys};
 
-use crate::SortedUpdates;
+use crate::batch::Batch;
+use crate::{SortedUpdates, Window};
 use mt_words::Memory;
 use rayon::prelude::*;
 use std::alloc::Global;
@@ -15,36 +18,49 @@ use std::thread::Threads;
 
 /// The approximate number of sampled keys for each piece. It is large enough that no piece gets much more than its
 /// share, and that the sample has keys of each sorted run of a long log.
-const KEYS_OF_PIECE: usize = 64;
+const KEYS_OF_PIECE: usize = 16;
 
-/// Returns each key of the updates once, in order. Err: out of memory.
-pub(crate) fn distinct_keys<'a>(
+/// Returns each key that these entries have, or the updates of these batches that are in the window, once, in order.
+/// Err: out of memory.
+pub(crate) fn surviving_keys<'a>(
     rt: &(impl Threads + Sync),
     alloc: Global,
-    lists: &'a [SortedUpdates],
+    batches: &[Batch<'a>],
+    window: Window,
+    entries: &'a [SortedUpdates],
 ) -> Result<Vec<&'a [u8]>, Memory>
-    ensures distinct { IfOk result (λ keys. AreDistinctKeys (keys_in (joined lists.now)) (map (λ key. key.now) keys.items)) }
+    ensures distinct { IfOk result (λ keys. AreDistinctKeys
+        (keys_in (filter (in_window window) (batched batches.now) ++ joined entries.now)) (map (λ key. key.now) keys.items)) }
     ensures lawful { IfOk result (λ keys. All (IsKey widest) (map (λ key. key.now) keys.items)) }
 {
-    let mut keys = some_keys(alloc, lists, 1)?;
+    let mut keys = Vec::new(alloc);
+    for batch in batches {
+        add_survivors(alloc, &mut keys, batch, window)?;
+    }
+    add_entries(&mut keys, entries, 1)?;
     keep_each_once(rt, alloc, &mut keys)?;
     Ok(keys)
 }
 
-/// Returns keys at equal distances in the lists, each once, in order: some for each of `pieces` pieces.
-/// Err: out of memory.
+/// Returns keys at equal distances in the batches and in the entries, each once, in order: some for each of `pieces`
+/// pieces. Err: out of memory.
 pub(crate) fn sampled_keys<'a>(
     rt: &(impl Threads + Sync),
     alloc: Global,
-    lists: &'a [SortedUpdates],
+    batches: &[Batch<'a>],
+    entries: &'a [SortedUpdates],
     pieces: u32,
 ) -> Result<Vec<&'a [u8]>, Memory>
     requires { (0 < pieces) × (pieces ≤ MOST_PIECES) }
     ensures rising { IfOk result (λ keys. AreRising (map (λ key. key.now) keys.items)) }
     ensures lawful { IfOk result (λ keys. All (IsKey widest) (map (λ key. key.now) keys.items)) }
 {
-    let distance = distance_for(lists, KEYS_OF_PIECE * pieces as usize);
-    let mut keys = some_keys(alloc, lists, distance)?;
+    let distance = distance_for(batches, entries, KEYS_OF_PIECE * pieces as usize);
+    let mut keys = Vec::new(alloc);
+    for batch in batches {
+        batch.add_keys(&mut keys, distance)?;
+    }
+    add_entries(&mut keys, entries, distance)?;
     keep_each_once(rt, alloc, &mut keys)?;
     Ok(keys)
 }
@@ -63,30 +79,57 @@ fn keep_each_once(
 }
 
 /// Returns the distance between sampled keys, in updates, at which at most `most` keys are taken. It is the same for
-/// all lists, so a long list gives more keys than a short one.
-fn distance_for(lists: &[SortedUpdates], most: usize) -> usize
+/// all, so a long list gives more keys than a short one.
+fn distance_for(batches: &[Batch<'_>], entries: &[SortedUpdates], most: usize) -> usize
     requires { 0 < most }
     ensures { 0 < result }
 {
     let mut count = 0usize;
-    for updates in lists {
+    for batch in batches {
+        count = count.saturating_add(batch.records());
+    }
+    for updates in entries {
         count = count.saturating_add(updates.len());
     }
     count.div_ceil(most).max(1)
 }
 
-/// Returns one key for each `distance` updates of each list. At distance 1 these are the keys of all updates.
-/// Err: out of memory.
-fn some_keys(alloc: Global, lists: &[SortedUpdates], distance: usize) -> Result<Vec<&[u8]>, Memory>
-    requires { 0 < distance }
-    ensures lawful { IfOk result (λ keys. All (IsKey widest) (map (λ key. key.now) keys.items)) }
-    ensures all { IfOk result (λ keys. distance ≡ 1 → map (λ key. key.now) keys.items ≡ keys_in (joined lists.now)) }
+/// Appends the keys of the updates of a batch that are in the window. Err: out of memory.
+fn add_survivors<'a>(
+    alloc: Global,
+    keys: &mut Vec<&'a [u8]>,
+    batch: &Batch<'a>,
+    window: Window,
+) -> Result<(), Memory>
+    ensures lawful { OnOk result (All (IsKey widest) (map (λ key. key.now) keys.old.items) →
+        All (IsKey widest) (map (λ key. key.now) keys.new.items)) }
+    ensures all { OnOk result (map (λ key. key.now) keys.new.items ≡
+        map (λ key. key.now) keys.old.items ++ keys_in (filter (in_window window) batch.now.updates)) }
 {
-    let mut keys = Vec::new(alloc);
-    for updates in lists {
-        add_some(&mut keys, updates, distance)?;
+    let survivors = batch.survivors(alloc, window)?;
+    for update in &survivors {
+        keys.push(update.key())?;
     }
-    Ok(keys)
+    Ok(())
+}
+
+/// Appends one key for each `distance` updates of each list. At distance 1 these are the keys of all updates.
+/// Err: out of memory.
+fn add_entries<'a>(
+    keys: &mut Vec<&'a [u8]>,
+    entries: &'a [SortedUpdates],
+    distance: usize,
+) -> Result<(), Memory>
+    requires { 0 < distance }
+    ensures lawful { OnOk result (All (IsKey widest) (map (λ key. key.now) keys.old.items) →
+        All (IsKey widest) (map (λ key. key.now) keys.new.items)) }
+    ensures all { OnOk result (distance ≡ 1 →
+        map (λ key. key.now) keys.new.items ≡ map (λ key. key.now) keys.old.items ++ keys_in (joined entries.now)) }
+{
+    for updates in entries {
+        add_some(keys, updates, distance)?;
+    }
+    Ok(())
 }
 
 /// Appends one key for each `distance` of the updates, from the middle of those. Err: out of memory.

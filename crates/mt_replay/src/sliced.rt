@@ -1,14 +1,15 @@
 //! Updates that are borrowed from their bodies, each with the slices of its key: which of them survive, and how their
 //! keys compare.
-ghost use Rattle.std.specs.Prelude.{◌≡◌, ◌↔◌, ◌++◌, false, IsTrue, MatchOption, OnOk, filter, drop, nat_eq};
+ghost use Rattle.std.specs.Prelude.{◌≡◌, ◌↔◌, ◌++◌, false, IsTrue, MatchOption, OnOk, filter, length, min, nat_eq};
 ghost use Rattle.std.specs.Cmp.{partial_equiv_from_equiv, on_per, on_po};
-ghost use Rattle.std.specs.Cmp.Lexicographic.{pointwise, nat_list_eq_equiv, texts_po};
+ghost use Rattle.std.specs.Cmp.Lexicographic.{slice_cmp, pointwise, nat_list_eq_equiv, texts_po};
+ghost use Rattle.std.specs.Ordering.{nat_cmp};
 ghost use Rattle.mt_words.specs.Limits.{widest};
 ghost use Rattle.mt_words.specs.Words.{IsKey};
 ghost use Rattle.mt_words.specs.OneLog.{as_list};
 ghost use Rattle.mt_replay.specs.Survivors.{in_window};
 ghost use Rattle.mt_replay.specs.Steps.SortedUpdates.{IsSliced};
-ghost use Rattle.mt_replay.specs.Steps.Fronts.{key_cmp, front_of, front_cmp, rest_cmp, AreAlike};
+ghost use Rattle.mt_replay.specs.Steps.Fronts.{key_cmp, front_in, front_cmp};
 
 use crate::Window;
 use mt_record::Lent;
@@ -19,33 +20,29 @@ use std::marker::Model;
 /// The number of bytes in two slices.
 const TWO_SLICES: usize = 16;
 
-/// The front of what follows the first `depth` bytes of a key: its first two slices, and how many bytes it has, counted
-/// up to 17. It tells all of at most 16 bytes.
+/// The front of a key: its first two slices, and how many bytes it has, counted up to 17. It tells all of a key of at
+/// most 16 bytes.
 #[derive(Clone, Copy)]
 struct Front {
     slice: u64,
     second: u64,
     length: u32,
-    depth: u32,
 }
 
 impl Front {
-    /// Returns the front of what follows the first `depth` bytes of a key.
-    fn of(key: &[u8], depth: u32) -> Front
-        ensures front { IsSliced result.slice result.second result.length (drop depth key.now) }
-        ensures depth { result.depth ≡ depth }
+    /// Returns the front of a key.
+    fn of(key: &[u8]) -> Front
+        ensures { IsSliced result.slice result.second result.length key.now }
     {
-        let rest = rest_of(key, depth);
         Front {
-            slice: slice_of(rest),
-            second: slice_at(rest, 8),
-            length: rest.len().min(TWO_SLICES + 1) as u32,
-            depth,
+            slice: slice_of(key),
+            second: slice_at(key, 8),
+            length: key.len().min(TWO_SLICES + 1) as u32,
         }
     }
 }
 
-/// An update with a front of its key. If fronts decide, comparing keys reads no body.
+/// An update with the front of its key. If fronts decide, comparing keys reads no body.
 #[derive(Drop)]
 pub(crate) struct Sliced<'a> {
     front: Front,
@@ -53,7 +50,6 @@ pub(crate) struct Sliced<'a> {
 }
 
 impl<'a> Model for Sliced<'a> {
-    ghost use Rattle.std.specs.Prelude.{drop};
     ghost use Rattle.mt_words.specs.declared.update.Update.{Update};
     ghost use Rattle.mt_replay.specs.Steps.SortedUpdates.{IsSliced};
 
@@ -61,7 +57,7 @@ impl<'a> Model for Sliced<'a> {
 
     ghost view = { λ s. s.update };
 
-    ghost invariant = { λ s. IsSliced s.front.slice s.front.second s.front.length (drop s.front.depth s.update.key) };
+    ghost invariant = { λ s. IsSliced s.front.slice s.front.second s.front.length s.update.key };
 }
 
 impl<'a> Sliced<'a> {
@@ -69,15 +65,8 @@ impl<'a> Sliced<'a> {
     pub(crate) fn of(update: Lent<'a>) -> Sliced<'a>
         ensures { result ≡ update.entry }
     {
-        let front = Front::of(update.key(), 0);
+        let front = Front::of(update.key());
         Sliced { front, update }
-    }
-
-    /// Takes the front of what follows the first `depth` bytes of the key.
-    pub(crate) fn cut(&mut self, depth: u32)
-        ensures { self.new ≡ self.old }
-    {
-        self.front = Front::of(self.key(), depth);
     }
 
     /// Returns the update.
@@ -95,24 +84,23 @@ impl<'a> Sliced<'a> {
         self.update.key()
     }
 
-    /// Compares what follows the first `depth` bytes of two keys. It reads bodies only if the fronts do not decide, or
-    /// are of another depth.
-    pub(crate) fn compare_from(&self, other: &Sliced<'_>, depth: u32) -> Ordering
-        ensures { result ≡ rest_cmp depth self.now other.now }
+    /// Compares two keys. It reads bodies only if the fronts do not decide.
+    fn compare(&self, other: &Sliced<'_>) -> Ordering
+        ensures { result ≡ slice_cmp nat_cmp self.now.key other.now.key }
     {
-        let order = self.compare_front(other, depth);
-        if order.is_ne() || !self.is_long(depth) {
+        let order = self.compare_front(other);
+        if order.is_ne() || !self.is_long() {
             return order;
         }
-        rest_of(self.key(), depth).cmp(rest_of(other.key(), depth))
+        self.key().cmp(other.key())
     }
 
-    /// Compares the fronts of what follows the first `depth` bytes of two keys.
-    pub(crate) fn compare_front(&self, other: &Sliced<'_>, depth: u32) -> Ordering
-        ensures { result ≡ front_cmp (front_of depth self.now) (front_of depth other.now) }
+    /// Compares the fronts of two keys.
+    fn compare_front(&self, other: &Sliced<'_>) -> Ordering
+        ensures { result ≡ front_cmp (front_in self.now.key) (front_in other.now.key) }
     {
-        let first = self.front(depth);
-        let second = other.front(depth);
+        let first = &self.front;
+        let second = &other.front;
         if first.slice != second.slice {
             return first.slice.cmp(&second.slice);
         }
@@ -122,28 +110,11 @@ impl<'a> Sliced<'a> {
         first.length.cmp(&second.length)
     }
 
-    /// Returns whether both have one front, which does not tell all that follows the first `depth` bytes of their keys.
-    pub(crate) fn is_alike(&self, other: &Sliced<'_>, depth: u32) -> bool
-        ensures { IsTrue result ↔ AreAlike depth self.now other.now }
+    /// Returns whether the key has more than 16 bytes.
+    fn is_long(&self) -> bool
+        ensures { IsTrue result ↔ (min (length self.now.key) 17 ≡ 17) }
     {
-        self.is_long(depth) && self.compare_front(other, depth).is_eq()
-    }
-
-    /// Returns whether more than 16 bytes follow the first `depth` bytes of the key.
-    pub(crate) fn is_long(&self, depth: u32) -> bool
-        ensures { IsTrue result ↔ ((front_of depth self.now).1 ≡ 17) }
-    {
-        self.front(depth).length as usize > TWO_SLICES
-    }
-
-    /// Returns the front of what follows the first `depth` bytes of the key.
-    fn front(&self, depth: u32) -> Front
-        ensures { IsSliced result.slice result.second result.length (drop depth self.now.key) }
-    {
-        if self.front.depth != depth {
-            return Front::of(self.key(), depth);
-        }
-        self.front
+        self.front.length as usize > TWO_SLICES
     }
 }
 
@@ -153,7 +124,7 @@ impl<'a> PartialEq for Sliced<'a> {
     ghost laws = { on_per (λ u. u.key) (partial_equiv_from_equiv nat_list_eq_equiv) };
 
     fn eq(&self, other: &Sliced<'a>) -> bool {
-        self.compare_from(other, 0).is_eq()
+        self.compare(other).is_eq()
     }
 }
 
@@ -164,18 +135,8 @@ impl<'a> PartialOrd for Sliced<'a> {
     ghost laws = { on_po (λ u. u.key) texts_po };
 
     fn partial_cmp(&self, other: &Sliced<'a>) -> Option<Ordering> {
-        Some(self.compare_from(other, 0))
+        Some(self.compare(other))
     }
-}
-
-/// Returns what follows the first `depth` bytes of a key.
-pub(crate) fn rest_of(key: &[u8], depth: u32) -> &[u8]
-    ensures { result.now ≡ drop depth key.now }
-{
-    if key.len() <= depth as usize {
-        return &[];
-    }
-    &key[depth as usize..]
 }
 
 /// Returns whether the update is of the same key as the first one, if there is a first one.
@@ -190,11 +151,11 @@ pub(crate) fn is_of_first(first: &Option<Sliced<'_>>, update: &Sliced<'_>) -> bo
 
 /// Appends an update, if there is one and it is in the window.
 pub(crate) fn add_survivor<'a>(
-    sliced: &mut Vec<Sliced<'a>>,
+    survivors: &mut Vec<Lent<'a>>,
     update: Option<Lent<'a>>,
     window: Window,
 ) -> Result<(), Memory>
-    ensures { OnOk result (sliced.new.items ≡ sliced.old.items ++ filter (in_window window) (as_list update.entry)) }
+    ensures { OnOk result (survivors.new.items ≡ survivors.old.items ++ filter (in_window window) (as_list update.entry)) }
 {
     let Some(update) = update else {
         return Ok(());
@@ -202,6 +163,6 @@ pub(crate) fn add_survivor<'a>(
     if !window.contains(update.timestamp()) {
         return Ok(());
     }
-    sliced.push(Sliced::of(update))?;
+    survivors.push(update)?;
     Ok(())
 }

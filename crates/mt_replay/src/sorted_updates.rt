@@ -1,16 +1,13 @@
-//! The surviving updates of a batch, or the entries of a checkpoint part, sorted by key.
-ghost use Rattle.std.specs.Prelude.{◌≡◌, ◌≤◌, ◌<◌, true, false, IfOk, IsPermutation, List, length, map, filter, slice_index_or};
+//! Updates in memory, or the entries of a checkpoint part, sorted by key.
+ghost use Rattle.std.specs.Prelude.{◌≡◌, ◌≤◌, ◌<◌, true, false, IfOk, IsPermutation, List, length, map, slice_index_or};
 ghost use Rattle.std.specs.List.Sorted.{IsPartitionPoint};
 ghost use Rattle.mt_words.specs.declared.update.Update.{Update as UpdateValue};
 ghost use Rattle.mt_words.specs.Words.{AreRising};
-ghost use Rattle.mt_replay.specs.Survivors.{in_window, wholes};
+ghost use Rattle.mt_replay.specs.Survivors.{wholes};
 ghost use Rattle.mt_replay.specs.Cuts.{is_below, InKeyOrder};
 
-use crate::Window;
-use crate::batch::Batch;
-use crate::bodies::Bodies;
-use crate::sliced::Sliced;
-use crate::sorting::sort_by_key;
+use crate::bodies::{Bodies, Text};
+use crate::sorting::sorted_texts;
 use mt_record::{KeptEntries, Lent};
 use mt_words::Memory;
 use std::alloc::Global;
@@ -25,8 +22,8 @@ enum Held {
     Read(KeptEntries),
 }
 
-/// The surviving updates of a batch, whose records may be of several logs, or the entries of a checkpoint part, sorted by
-/// key. Their bodies lie in the same order, so that replay reads memory in order.
+/// Updates, or the entries of a checkpoint part, sorted by key. Their bodies lie in the same order, so that replay reads
+/// memory in order.
 #[derive(Drop)]
 pub struct SortedUpdates {
     held: Held,
@@ -46,18 +43,6 @@ impl Model for SortedUpdates {
 }
 
 impl SortedUpdates {
-    /// Returns the updates of a batch that are in the window. Err: out of memory.
-    pub fn of_batch(
-        alloc: Global,
-        batch: &Batch<'_>,
-        window: Window,
-    ) -> Result<SortedUpdates, Memory>
-        ensures { IfOk result (λ sorted. IsPermutation (filter (in_window window) batch.now.updates) sorted) }
-    {
-        let mut sliced = batch.survivors(alloc, window)?;
-        in_order(alloc, &mut sliced)
-    }
-
     /// Returns the entries of a checkpoint part. All of them survive, and they stay where they are. Their keys must
     /// strictly rise. No call tests that: only the parts of a valid checkpoint promise it.
     pub fn of_rising(entries: KeptEntries) -> SortedUpdates
@@ -119,31 +104,34 @@ fn comes_before(first: &[u8], second: &[u8]) -> bool
     first.cmp(second).is_lt()
 }
 
-/// Sorts these updates by key, and copies their bodies in that order. Err: out of memory.
-pub(crate) fn in_order(alloc: Global, sliced: &mut Vec<Sliced<'_>>) -> Result<SortedUpdates, Memory>
-    ensures { IfOk result (λ sorted. IsPermutation sliced.old.items sorted) }
+/// Copies these bodies in the order of their keys. Err: out of memory.
+pub(crate) fn in_order(alloc: Global, bodies: &Bodies) -> Result<SortedUpdates, Memory>
+    ensures { IfOk result (λ sorted. IsPermutation bodies.now sorted) }
 {
-    sort_by_key(sliced);
-    gather(alloc, size_of(sliced), sliced)
+    let texts = all_texts(alloc, bodies)?;
+    let sorted = sorted_texts(alloc, &texts)?;
+    gather(alloc, &sorted)
 }
 
-/// Returns the number of bytes of the bodies of these updates, counted up to the greatest `usize`.
-fn size_of(updates: &[Sliced<'_>]) -> usize {
-    let mut size = 0usize;
-    for sliced in updates {
-        size = size.saturating_add(sliced.update().body().len());
+/// Returns the texts of all bodies. Err: out of memory.
+fn all_texts(alloc: Global, bodies: &Bodies) -> Result<Vec<Text<'_>>, Memory>
+    ensures { IfOk result (λ texts. texts.items ≡ bodies.now) }
+{
+    let mut texts = Vec::with_capacity(alloc, bodies.len())?;
+    for at in 0..bodies.len() {
+        texts.push(bodies.text(at))?;
     }
-    size
+    Ok(texts)
 }
 
-/// Copies the bodies of these updates, in order. Room for `size` bytes is reserved. Err: out of memory.
-fn gather(alloc: Global, size: usize, updates: &[Sliced<'_>]) -> Result<SortedUpdates, Memory>
-    requires { InKeyOrder updates.now }
-    ensures { IfOk result (λ sorted. sorted ≡ updates.now) }
+/// Copies the bodies of these texts, in order. Err: out of memory.
+fn gather(alloc: Global, texts: &[Text<'_>]) -> Result<SortedUpdates, Memory>
+    requires { InKeyOrder texts.now }
+    ensures { IfOk result (λ sorted. sorted ≡ texts.now) }
 {
-    let mut bodies = Bodies::with_capacity(alloc, updates.len(), size)?;
-    for sliced in updates {
-        let update = sliced.update();
+    let mut bodies = Bodies::with_capacity(alloc, texts.len(), 0)?;
+    for text in texts {
+        let update = text.lent();
         bodies.push(update.origin(), update.body())?;
     }
     let held = Held::Sorted(bodies);

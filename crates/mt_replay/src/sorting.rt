@@ -1,125 +1,229 @@
-//! Sorts updates by their keys. If keys share a long beginning, it reads their bodies in order, and compares what
-//! follows.
-ghost use Rattle.std.specs.Prelude.{◌≡◌, ◌≤◌, ◌<◌, ◌+◌, ◌-◌, ℕ, slice_index_or, List, IsPermutation, length, take, drop, All};
+//! Sorts texts of updates by their keys, as numbers: each has the beginning of a key, and in its lowest bits the place
+//! of a text in its list. If keys share a beginning, the numbers have what follows it.
+ghost use Rattle.std.specs.Prelude.{◌≡◌, ◌≤◌, ◌<◌, ◌+◌, ◌-◌, ◌/◌, ◌%◌, ◌^◌, ℕ, IfOk, IsTrue, List, IsPermutation, slice_index_or, length, take, drop, All};
+ghost use Rattle.std.specs.List.{range_with_len};
+ghost use Rattle.std.specs.Ordering.{nat_cmp};
+ghost use Rattle.std.specs.Cmp.Lexicographic.{slice_cmp};
 ghost use Rattle.mt_words.specs.declared.update.Update.{Update};
 ghost use Rattle.mt_replay.specs.Cuts.{InKeyOrder};
-ghost use Rattle.mt_replay.specs.Steps.Fronts.{front_of, front_cmp, rest_cmp, AreAlike, InFrontOrder, InRestOrder};
+ghost use Rattle.mt_replay.specs.Steps.Numbers.{places, rest_of, rests, AreInOrder, BeginsWith, in_turn};
 
-use crate::sliced::{Sliced, rest_of};
-use mt_words::slice_at;
+use crate::bodies::Text;
+use mt_words::{Memory, slice_of};
+use std::alloc::Global;
 use std::cmp::Ordering;
 
-/// How often the updates of a run are sorted by fronts. Then their keys are compared as a whole.
+/// How often the texts of a run are sorted by numbers. Then their keys are compared as a whole.
 const ROUNDS: u32 = 8;
 
-/// Sorts updates by their keys. The updates of one key come out in any order.
-pub(crate) fn sort_by_key(updates: &mut Vec<Sliced<'_>>)
-    ensures same { IsPermutation updates.old.items updates.new.items }
-    ensures in_order { InKeyOrder updates.new.items }
+/// Fewer texts than these are sorted by their whole keys.
+const FEW: usize = 16;
+
+/// Returns texts in the order of their keys. The texts of one key come in any order. Err: out of memory.
+pub(crate) fn sorted_texts<'a>(alloc: Global, texts: &[Text<'a>]) -> Result<Vec<Text<'a>>, Memory>
+    ensures same { IfOk result (λ sorted. IsPermutation texts.now sorted.items) }
+    ensures in_order { IfOk result (λ sorted. InKeyOrder sorted.items) }
 {
-    sort_from(updates, 0, ROUNDS);
+    let bits = bits_for(texts.len());
+    let numbers = sorted_numbers(alloc, texts, bits)?;
+    gather(alloc, texts, &numbers, bits)
 }
 
-/// Sorts updates by what follows the first `depth` bytes of their keys: by fronts, and then each run of those that are
-/// alike.
-#[cycle(rounds)]
-fn sort_from(updates: &mut [Sliced<'_>], depth: u32, rounds: u32)
-    ensures same { IsPermutation updates.old updates.new }
-    ensures in_order { InRestOrder depth updates.new }
+/// Returns the number of bits of a place in a list of this length: 16 for all but long lists, so that 48 bits of a key
+/// are left.
+fn bits_for(length: usize) -> u32
+    requires { length ≤ 2 ^ 63 }
+    ensures below { result < 64 }
+    ensures fits { length ≤ 2 ^ result }
 {
-    sort_by_front(updates, depth);
+    if length <= 65_536 {
+        return 16;
+    }
+    if length <= 4_294_967_296 {
+        return 32;
+    }
+    63
+}
+
+/// Returns numbers of all texts, in the order of their keys. Err: out of memory.
+fn sorted_numbers(alloc: Global, texts: &[Text<'_>], bits: u32) -> Result<Vec<u64>, Memory>
+    requires below { bits < 64 }
+    requires fits { length texts.now ≤ 2 ^ bits }
+    ensures same { IfOk result (λ numbers. IsPermutation (range_with_len 0 (length texts.now)) (places bits numbers.items)) }
+    ensures in_order { IfOk result (λ numbers. AreInOrder (rests bits texts.now 0 numbers.items)) }
+{
+    let mut numbers = Vec::with_capacity(alloc, texts.len())?;
+    for place in 0..texts.len() {
+        numbers.push(place as u64)?;
+    }
+    sort_run(&mut numbers, texts, bits, 0, ROUNDS);
+    Ok(numbers)
+}
+
+/// Returns the texts at the places of the numbers. Err: out of memory.
+fn gather<'a>(
+    alloc: Global,
+    texts: &[Text<'a>],
+    numbers: &[u64],
+    bits: u32,
+) -> Result<Vec<Text<'a>>, Memory>
+    requires below { bits < 64 }
+    requires within { All (λ number. number % 2 ^ bits < length texts.now) numbers.now }
+    ensures { IfOk result (λ sorted. (d : Update) → sorted.items ≡ in_turn texts.now d (places bits numbers.now)) }
+{
+    let mut sorted = Vec::with_capacity(alloc, numbers.len())?;
+    for number in numbers {
+        sorted.push(texts[place_of(*number, bits)].copy())?;
+    }
+    Ok(sorted)
+}
+
+/// Returns the place that a number has in its lowest bits.
+fn place_of(number: u64, bits: u32) -> usize
+    requires { bits < 64 }
+    ensures value { result ≡ number % 2 ^ bits }
+    ensures below { result < 2 ^ bits }
+{
+    (number % (1u64 << bits)) as usize
+}
+
+/// Returns what follows the first `depth` bytes of the key of a number's text, or nothing if there is no text.
+fn rest<'a>(texts: &[Text<'a>], bits: u32, number: u64, depth: u32) -> &'a [u8]
+    requires { bits < 64 }
+    ensures value { result.now ≡ rest_of bits texts.now depth number }
+    ensures fits { depth + length result.now < 2 ^ 32 }
+{
+    let Some(text) = texts.get(place_of(number, bits)) else {
+        return &[];
+    };
+    key_rest(text.key(), depth)
+}
+
+/// Sorts numbers by what follows the first `depth` bytes of their texts' keys: by the numbers, and then each run of
+/// those that begin alike.
+#[cycle(rounds)]
+fn sort_from(numbers: &mut [u64], texts: &[Text<'_>], bits: u32, depth: u32, rounds: u32)
+    requires { bits < 64 }
+    ensures same { IsPermutation (places bits numbers.old) (places bits numbers.new) }
+    ensures in_order { AreInOrder (rests bits texts.now depth numbers.new) }
+{
+    begin_all(numbers, texts, bits, depth);
+    numbers.sort_unstable();
     let mut at = 0;
-    while at < updates.len() {
-        let end = end_of_run(updates, at, depth);
-        sort_run(&mut updates[at..end], depth, rounds);
+    while at < numbers.len() {
+        let end = end_of_run(numbers, bits, at);
+        sort_run(&mut numbers[at..end], texts, bits, depth, rounds);
         at = end;
     }
 }
 
-/// Sorts updates by the fronts of what follows the first `depth` bytes of their keys.
-fn sort_by_front(updates: &mut [Sliced<'_>], depth: u32)
-    ensures same { IsPermutation updates.old updates.new }
-    ensures in_order { InFrontOrder depth updates.new }
+/// Lets each number begin with what follows the first `depth` bytes of its text's key.
+fn begin_all(numbers: &mut [u64], texts: &[Text<'_>], bits: u32, depth: u32)
+    requires { bits < 64 }
+    ensures same { places bits numbers.new ≡ places bits numbers.old }
+    ensures heads { All (λ number. BeginsWith bits number (rest_of bits texts.now depth number)) numbers.new }
 {
-    updates.sort_unstable_by(
-        |a: &Sliced<'_>, b: &Sliced<'_>| -> Ordering
-            ensures { result ≡ front_cmp (front_of depth a.now) (front_of depth b.now) }
-        { a.compare_front(b, depth) },
-    );
+    for at in 0..numbers.len() {
+        let number = numbers[at];
+        numbers[at] = begun(rest(texts, bits, number, depth), number, bits);
+    }
 }
 
-/// Returns where the run of updates that are alike ends, which begins at this place.
-fn end_of_run(updates: &[Sliced<'_>], at: usize, depth: u32) -> usize
-    requires { at < length updates.now }
-    ensures within { (at < result) × (result ≤ length updates.now) }
-    ensures alike { (k : ℕ) (d : Update) → at ≤ k → k < result → front_of depth (slice_index_or updates.now k d) ≡ front_of depth (slice_index_or updates.now at d) }
-    ensures ends { (k : ℕ) (d : Update) → k + 1 ≡ result → result < length updates.now → ¬ (AreAlike depth (slice_index_or updates.now k d) (slice_index_or updates.now result d)) }
+/// Returns the number with this beginning, and with the place of another one.
+fn begun(rest: &[u8], number: u64, bits: u32) -> u64
+    requires { bits < 64 }
+    ensures begins { BeginsWith bits result rest.now }
+    ensures place { result % 2 ^ bits ≡ number % 2 ^ bits }
 {
-    for end in at + 1..updates.len() {
-        if !updates[end - 1].is_alike(&updates[end], depth) {
+    (slice_of(rest) >> bits << bits) | place_of(number, bits) as u64
+}
+
+/// Returns where the run of numbers that begin alike ends, which begins at this place.
+fn end_of_run(numbers: &[u64], bits: u32, at: usize) -> usize
+    requires below { bits < 64 }
+    requires some { at < length numbers.now }
+    ensures within { (at < result) × (result ≤ length numbers.now) }
+    ensures alike { (k d : ℕ) → at ≤ k → k < result → slice_index_or numbers.now k d / 2 ^ bits ≡ slice_index_or numbers.now at d / 2 ^ bits }
+    ensures ends { (d : ℕ) → result < length numbers.now → ¬ (slice_index_or numbers.now at d / 2 ^ bits ≡ slice_index_or numbers.now result d / 2 ^ bits) }
+{
+    for end in at + 1..numbers.len() {
+        if numbers[at] >> bits != numbers[end] >> bits {
             return end;
         }
     }
-    updates.len()
+    numbers.len()
 }
 
-/// Sorts updates by what follows the first `depth` bytes of their keys. It sorts them by what follows all bytes that
-/// the keys share.
+/// Sorts numbers by what follows the first `depth` bytes of their texts' keys: few of them by all that follows, and
+/// more by what follows all bytes that the keys share.
 #[cycle(rounds)]
-fn sort_run(updates: &mut [Sliced<'_>], depth: u32, rounds: u32)
-    ensures same { IsPermutation updates.old updates.new }
-    ensures in_order { InRestOrder depth updates.new }
+fn sort_run(numbers: &mut [u64], texts: &[Text<'_>], bits: u32, depth: u32, rounds: u32)
+    requires { bits < 64 }
+    ensures same { IsPermutation (places bits numbers.old) (places bits numbers.new) }
+    ensures in_order { AreInOrder (rests bits texts.now depth numbers.new) }
 {
-    if updates.len() < 2 {
+    if numbers.len() < 2 {
         return;
     }
-    let further = shared_depth(updates, depth);
-    cut_all(updates, further);
-    if rounds == 0 {
-        sort_by_rest(updates, further);
+    if numbers.len() < FEW || rounds == 0 {
+        sort_by_rest(numbers, texts, bits, depth);
         return;
     }
-    sort_from(updates, further, rounds - 1);
+    if are_alike(numbers, texts, bits, depth) {
+        return;
+    }
+    let further = shared_depth(numbers, texts, bits, depth);
+    sort_from(numbers, texts, bits, further, rounds - 1);
 }
 
-/// Sorts updates by what follows the first `depth` bytes of their keys, with one comparison for each pair.
-fn sort_by_rest(updates: &mut [Sliced<'_>], depth: u32)
-    ensures same { IsPermutation updates.old updates.new }
-    ensures in_order { InRestOrder depth updates.new }
+/// Sorts numbers by what follows the first `depth` bytes of their texts' keys, with one comparison for each pair.
+fn sort_by_rest(numbers: &mut [u64], texts: &[Text<'_>], bits: u32, depth: u32)
+    requires { bits < 64 }
+    ensures same { IsPermutation (places bits numbers.old) (places bits numbers.new) }
+    ensures in_order { AreInOrder (rests bits texts.now depth numbers.new) }
 {
-    updates.sort_unstable_by(
-        |a: &Sliced<'_>, b: &Sliced<'_>| -> Ordering
-            ensures { result ≡ rest_cmp depth a.now b.now }
-        { a.compare_from(b, depth) },
+    numbers.sort_unstable_by(
+        |a: &u64, b: &u64| -> Ordering
+            requires { bits < 64 }
+            ensures { result ≡ slice_cmp nat_cmp (rest_of bits texts.entry.now depth a.now) (rest_of bits texts.entry.now depth b.now) }
+        { rest(texts, bits, *a, depth).cmp(rest(texts, bits, *b, depth)) },
     );
 }
 
-/// Takes the fronts of what follows the first `depth` bytes of the keys.
-fn cut_all(updates: &mut [Sliced<'_>], depth: u32)
-    ensures { updates.new ≡ updates.old }
+/// Returns whether the same bytes follow the first `depth` bytes of all keys.
+fn are_alike(numbers: &[u64], texts: &[Text<'_>], bits: u32, depth: u32) -> bool
+    requires { bits < 64 }
+    ensures { IsTrue result → (shared : List ℕ) × All (λ rest. rest ≡ shared) (rests bits texts.now depth numbers.now) }
 {
-    for update in updates.iter_mut() {
-        update.cut(depth);
+    let Some(number) = numbers.first() else {
+        return true;
+    };
+    let first = rest(texts, bits, *number, depth);
+    for number in numbers {
+        if first != rest(texts, bits, *number, depth) {
+            return false;
+        }
     }
+    true
 }
 
-/// Returns a depth up to which all keys are alike after their first `depth` bytes. It is the greatest, but for up to 7
-/// bytes.
-fn shared_depth(updates: &[Sliced<'_>], depth: u32) -> u32
+/// Returns the greatest depth up to which all keys are alike after their first `depth` bytes.
+fn shared_depth(numbers: &[u64], texts: &[Text<'_>], bits: u32, depth: u32) -> u32
+    requires { bits < 64 }
     ensures deeper { depth ≤ result }
-    ensures shared { (shared : List ℕ) × All (λ update. take (result - depth) (drop depth update.key) ≡ shared) updates.now }
+    ensures shared { (shared : List ℕ) × All (λ rest. take (result - depth) rest ≡ shared) (rests bits texts.now depth numbers.now) }
 {
-    let Some(first) = updates.first() else {
+    let Some(first) = numbers.first() else {
         return depth;
     };
-    let mut shared = rest_of(first.key(), depth);
-    for update in updates {
-        shared = common_start(shared, rest_of(update.key(), depth));
+    let mut shared = rest(texts, bits, *first, depth);
+    for number in numbers {
+        shared = common_start(shared, rest(texts, bits, *number, depth));
     }
     depth + shared.len() as u32
 }
 
-/// Returns what both begin with: all of the first, or as much as a multiple of 8 bytes has.
+/// Returns what both begin with.
 fn common_start<'a>(first: &'a [u8], second: &[u8]) -> &'a [u8]
     ensures shorter { length result.now ≤ length first.now }
     ensures first { take (length result.now) first.now ≡ result.now }
@@ -128,11 +232,21 @@ fn common_start<'a>(first: &'a [u8], second: &[u8]) -> &'a [u8]
     if second.starts_with(first) {
         return first;
     }
-    let most = first.len().min(second.len()) / 8;
-    for slice in 0..most {
-        if slice_at(first, 8 * slice) != slice_at(second, 8 * slice) {
-            return &first[..8 * slice];
+    let most = first.len().min(second.len());
+    for at in 0..most {
+        if first[at] != second[at] {
+            return &first[..at];
         }
     }
-    &first[..8 * most]
+    &first[..most]
+}
+
+/// Returns what follows the first `depth` bytes of a key.
+fn key_rest(key: &[u8], depth: u32) -> &[u8]
+    ensures { result.now ≡ drop depth key.now }
+{
+    if key.len() <= depth as usize {
+        return &[];
+    }
+    &key[depth as usize..]
 }

@@ -70,7 +70,7 @@ fn replay_second<R: AllocGlobal + Threads + Sync>(rt: &R) -> Result<usize, Fault
     let alloc = rt.alloc();
     let lists = [SortedUpdates::of(alloc, updates_at(alloc, 0)?, ALL)?];
     let pieces = Pieces::new(2).ok_or(Fault::NoLogs)?;
-    let cuts = Cuts::sampled(rt, alloc, &lists, pieces)?;
+    let cuts = Cuts::sampled(rt, alloc, &[], &lists, pieces)?;
     let piece = cuts.pieces() - 1;
     Ok(replay_piece(alloc, &lists, &cuts, piece)?.len())
 }

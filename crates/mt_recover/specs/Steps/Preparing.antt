@@ -1,5 +1,5 @@
 -- The steps of preparing: what was found, its counts, and what each log left.
-use Rattle.std.specs.Prelude.{◌≡◌, ℕ, List, length, map, filter, sum_by, Result, IfOk, IsPermutation}
+use Rattle.std.specs.Prelude.{◌≡◌, ℕ, List, length, map, filter, ◌++◌, Result, IfOk, IsPermutation}
 use Rattle.std.specs.List.{AllZip}
 use Rattle.mt_words.specs.declared.fault.Fault.{Fault}
 use Rattle.mt_words.specs.declared.fault.Fault.TheVariants as faults
@@ -7,14 +7,18 @@ use Rattle.mt_words.specs.declared.fault.Memory.{Memory}
 use Rattle.mt_words.specs.declared.record.Change.{Change}
 use Rattle.mt_words.specs.declared.update.Update.{Update}
 use Rattle.mt_record.specs.Logs.{LogReading}
-use Rattle.mt_scan.specs.declared.log_scan.LogScan.{LogScan}
 use Rattle.mt_replay.specs.declared.window.Window.{Window}
+use Rattle.mt_replay.specs.Divided.{DividedView}
+use Rattle.mt_replay.specs.Ranges.{dealt_by}
 use Rattle.mt_replay.specs.Batches.{BatchView, batched}
 use Rattle.mt_replay.specs.Survivors.{in_window, is_early}
 use Rattle.mt_scan.specs.Segments.{IsDoubled, IsTornAmid, IsFirst}
-use Rattle.mt_recover.specs.Steps.LogScans.{kept, ShowAll}
+use Rattle.mt_recover.specs.Steps.LogScans.{ShowAll}
 use Rattle.mt_recover.specs.Check.{IsStartOf}
 use Rattle.mt_recover.specs.declared.found.Found.{Found}
+use Rattle.mt_recover.specs.declared.report.Report.{Report}
+use Rattle.mt_recover.specs.Recovery.{Basis, begin_of, records_of, survivors}
+use Rattle.mt_recover.specs.Report.{IsFoundIn, logged_updates}
 
 -- the fault is `Doubled` of the first log that is doubled, or, if none is, `Torn` of the first log that is torn amid its worker's log
 abbrev pub IsWritersFault : List LogReading → Fault → Type 0
@@ -35,21 +39,25 @@ entry_versions entries = map (λ entry. entry.version) entries
 abbrev pub IsFound : Found → Type 0
 IsFound found = (logs parts : List (List ℕ)) × IsFoundOf logs parts found
 
--- what is left of some updates: those in the window, and the number of the early ones
-pub record IsLeftBy (window : Window) (updates : List Update) (left : ℕ × List Update) : Type 0 where
+-- what is left of some updates: the number of the early ones, and those in the window, dealt to the pieces that the cuts make
+pub record IsLeftBy (window : Window) (cuts : List (List ℕ)) (updates : List Update) (left : ℕ × List (List Update)) : Type 0 where
   pub early : left.0 ≡ length (filter (is_early window.begin) updates)
-  pub cells : IsPermutation (filter (in_window window) updates) left.1
+  pub dealt : left.1 ≡ dealt_by cuts (filter (in_window window) updates)
 
--- the batches have what the scans kept, and this is left of each, or out of memory instead
-pub record AreBatchesLeft (window : Window) (scans : List LogScan) (logs : List (Result (ℕ × List Update) Memory)) : Type 0 where
+-- the batches have these updates, and this is left of each, or out of memory instead
+pub record AreBatchesLeft (window : Window) (cuts : List (List ℕ)) (updates : List Update) (left : List (Result (ℕ × List (List Update)) Memory)) : Type 0 where
   pub batches : List BatchView
-  pub all : batched batches ≡ kept scans
-  pub left : AllZip (λ batch answer. IfOk answer (IsLeftBy window batch.updates)) batches logs
+  pub all : batched batches ≡ updates
+  pub each : AllZip (λ batch answer. IfOk answer (IsLeftBy window cuts batch.updates)) batches left
 
--- the cells of all batches
-abbrev pub cells_of : List (ℕ × List Update) → List (List Update)
-cells_of logs = map (λ left. left.1) logs
+-- of these updates, those in the window and the entries are divided into pieces, and the early ones are counted
+pub record IsDividedOf (window : Window) (logged entries : List Update) (division : DividedView × ℕ) : Type 0 where
+  pub updates : IsPermutation (filter (in_window window) logged ++ entries) division.0.updates
+  pub early : division.1 ≡ length (filter (is_early window.begin) logged)
 
--- the number of early updates of all batches
-abbrev pub early_of : List (ℕ × List Update) → ℕ
-early_of logs = sum_by (λ left. left.0) logs
+-- the report says what was found in these logs and parts; what survives of it is divided into pieces, and the early updates are counted
+pub record IsDivisionOf (logs parts : List (List ℕ)) (report : Report) (division : DividedView × ℕ) : Type 0 where
+  pub basis : Basis logs parts
+  pub found : IsFoundIn basis.facts report
+  pub updates : IsPermutation (survivors basis.facts.cutoff basis.facts.chosen (records_of basis.facts.readings)) division.0.updates
+  pub early : division.1 ≡ length (filter (is_early (begin_of basis.facts.chosen)) (logged_updates basis.facts.readings))

@@ -19,7 +19,7 @@ abbrev pub held_in : Held → List Update
 held_in (Sorted updates) = updates
 held_in (Read entries) = wholes entries
 
--- the numbers are the first two slices of a key, or of what follows some of its bytes, and its length, counted up to 17; it consists of bytes
+-- the numbers are the first two slices of a key, and its length, counted up to 17; it consists of bytes
 pub record IsSliced (slice second size : ℕ) (key : List ℕ) : Type 0 where
   pub slice_is : slice ≡ slice_in key
   pub second_is : second ≡ slice_in (drop 8 key)

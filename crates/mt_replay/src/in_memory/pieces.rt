@@ -8,7 +8,9 @@ ghost use Rattle.mt_replay.specs.Pieces.{IsPiece, IsMapIn};
 ghost use Rattle.mt_replay.specs.InMemory.{is_logged_in};
 
 use super::spelling::sorted;
-use crate::{Clash, Cuts, SortedUpdates, Window, clashes_in, replay_into};
+use crate::auditing::clashes_in;
+use crate::replay::replay_into;
+use crate::{Clash, Cuts, SortedUpdates, Window};
 use mt_words::{Columns, Kept, Key, Memory, Update};
 use std::alloc::Global;
 

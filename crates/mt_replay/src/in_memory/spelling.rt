@@ -3,7 +3,6 @@ ghost use Rattle.std.specs.Prelude.{◌≡◌, ◌++◌, [], ◌∷◌, IfOk, On
 ghost use Rattle.mt_replay.specs.InMemory.{survives as survives_in, survives_with};
 
 use crate::bodies::Bodies;
-use crate::sliced::Sliced;
 use crate::sorted_updates::in_order;
 use crate::{SortedUpdates, Window};
 use mt_record::body_of_update;
@@ -11,8 +10,8 @@ use mt_words::{Kind, Memory, Update};
 use std::alloc::Global;
 
 impl SortedUpdates {
-    /// Returns the updates that survive. It encodes each of them. If they are bodies already, `of_batch` and
-    /// `of_rising` avoid that. Err: out of memory.
+    /// Returns the updates that survive. It encodes each of them. If they are bodies already, `of_rising`
+    /// avoids that. Err: out of memory.
     pub fn of(alloc: Global, updates: Vec<Update>, window: Window) -> Result<SortedUpdates, Memory>
         ensures { IfOk result (λ sorted. IsPermutation (filter (survives_in window) updates.items) sorted) }
     {
@@ -31,8 +30,7 @@ pub(crate) fn sorted(
     ensures { IfOk result (λ sorted. IsPermutation (filter (survives_with entries window) updates.now) sorted) }
 {
     let bodies = spell(alloc, updates, window, entries)?;
-    let mut sliced = all_bodies(alloc, &bodies)?;
-    in_order(alloc, &mut sliced)
+    in_order(alloc, &bodies)
 }
 
 /// Returns the log updates in the window encoded as bodies, and with `entries` all entries too. Err: out of memory.
@@ -66,15 +64,4 @@ fn survives(update: &Update, window: Window, entries: bool) -> bool
         Kind::Whole(_) => entries,
         _ => window.contains(update.timestamp),
     }
-}
-
-/// Returns the updates of all bodies. Err: out of memory.
-fn all_bodies(alloc: Global, bodies: &Bodies) -> Result<Vec<Sliced<'_>>, Memory>
-    ensures { IfOk result (λ sliced. sliced.items ≡ bodies.now) }
-{
-    let mut sliced = Vec::with_capacity(alloc, bodies.len())?;
-    for at in 0..bodies.len() {
-        sliced.push(Sliced::of(bodies.get(at)))?;
-    }
-    Ok(sliced)
 }

@@ -17,7 +17,7 @@ use Rattle.mt_recover.proofs.Preparing.{made_is}
 use Rattle.mt_recover.proofs.assembling.assemble.Goals as goal
 
 -- the board has a number for each piece
-total_is : (job inside : JobView) (pieces : ℕ) → inside ≡ job → inside.board.total ≡ length inside.cuts + 1 → pieces ≡ length inside.cuts + 1 → pieces ≡ job.board.total
+total_is : (job inside : JobView) (pieces : ℕ) → inside ≡ job → inside.board.total ≡ length inside.prepared.cuts + 1 → pieces ≡ length inside.prepared.cuts + 1 → pieces ≡ job.board.total
 total_is job inside pieces same total count = count ∙ sym total ∙ ap (λ (j : JobView). j.board.total) same
 
 -- the sorted pieces are those of the hauls
@@ -59,9 +59,9 @@ walk_is c =
     let job = c.args.job in
     let total = total_is job _ c.pieces.result c.job.view_is c.job.invariant (search rules) in
     let same = same_pieces c.args.hauls.items c.in_ok-pieces_of.field-0.items c.by_number-pieces.result.items c.in_ok-pieces_of.ensures c.by_number-pieces.ensures.same in
-    let cut = subst (λ (j : JobView). j.board.total ≡ length j.cuts + 1) c.job.view_is c.job.invariant in
-    let lawful = subst (λ (j : JobView). AreCuts j.cuts) c.job.view_is c.pieces.ensures.lawful in
-    c.pieces_make_the_walk.ensures.walk job.prepared.updates job.cuts (map layer_walk c.in_ok-drafts.drafts.items) lawful
+    let cut = subst (λ (j : JobView). j.board.total ≡ length j.prepared.cuts + 1) c.job.view_is c.job.invariant in
+    let lawful = subst (λ (j : JobView). AreCuts j.prepared.cuts) c.job.view_is c.pieces.ensures.lawful in
+    c.pieces_make_the_walk.ensures.walk job.prepared.updates job.prepared.cuts (map layer_walk c.in_ok-drafts.drafts.items) lawful
     (in_order job c.args.hauls.items c.by_number-pieces.result.items c.pieces.result same total c.in_ok-drafts.drafts.items cut c.requires.hauls c.in_ok-drafts.ensures.long c.in_ok-drafts.ensures.drafts)
 
 pub join_all-requires : goal.join_all-requires

@@ -6,4 +6,4 @@ use Rattle.mt_replay.proofs.batch.Batch.survivors.Given as goal
 
 -- the survivors of the stretches so far
 abbrev pub invariant-loop-stretch : goal.invariant-loop-stretch
-invariant-loop-stretch l = l.sliced.items ≡ filter (in_window l.window) (joined (take l.stretch-index l.stretch-items))
+invariant-loop-stretch l = l.survivors.items ≡ filter (in_window l.window) (joined (take l.stretch-index l.stretch-items))

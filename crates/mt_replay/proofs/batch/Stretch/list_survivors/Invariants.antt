@@ -7,4 +7,4 @@ use Rattle.mt_replay.proofs.batch.Stretch.list_survivors.Given as goal
 -- the survivors of the records so far
 abbrev pub invariant-loop-number : goal.invariant-loop-number
 invariant-loop-number l =
-    l.sliced.items ≡ l.initial.sliced.items ++ filter (in_window l.window) (updates_between l.updates l.initial.number l.number)
+    l.survivors.items ≡ l.initial.survivors.items ++ filter (in_window l.window) (updates_between l.updates l.initial.number l.number)

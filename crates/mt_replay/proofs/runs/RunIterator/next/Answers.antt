@@ -1,5 +1,6 @@
 use Rattle.std.proofs.Common.{◌≡◌, ℕ, suc, ◌+◌, ◌-◌, ◌<◌, ◌≤◌, List, ◌∷◌, length, take, drop, get_or, drop-cons, sym, ◌∙◌, arith}
 use Rattle.mt_words.specs.declared.update.Update.{Update}
+use Rattle.mt_replay.specs.Steps.Runs.{updates_of}
 use Rattle.mt_replay.proofs.runs.RunIterator.next.Goals as goal
 
 -- what is left is its first update and the rest
@@ -14,5 +15,5 @@ first_left us at end u below within is =
 pub returns-clause-steps : goal.returns-clause-steps
 returns-clause-steps c =
     sym c.self.view_is
-    ∙ first_left c.self.inside.updates.now c.self.inside.at c.self.inside.end c.of.result
+    ∙ first_left (updates_of c.self.inside.source) c.self.inside.at c.self.inside.end c.of.result
     (omega (arith, c.if-self.false)) c.self.invariant (c.of.ensures ∙ c.get-lent.ensures c.of.result)

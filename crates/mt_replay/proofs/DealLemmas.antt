@@ -1,0 +1,253 @@
+-- Each key lies in one piece, and so updates are dealt to pieces.
+use Rattle.std.proofs.Common.{◌≡◌, ◌≢◌, ◌∙◌, inl, inr, ℕ, zero, suc, ◌+◌, ◌<◌, ◌≤◌, Bool, true, false, not, ◌&&◌, List, [], ◌∷◌, ◌++◌, length, map, Option, Some, Ordering, refl, sym, ap, subst, cond, fold, append_assoc, arith}
+use Rattle.std.specs.Prelude.{slice_get, slice_index_or, slice_set, filter, nat_lt, All, IsPermutation}
+use Rattle.std.specs.List.{range_with_len}
+use Rattle.std.specs.Ordering.{nat_cmp, is_lt, MatchOrdering}
+use Rattle.std.specs.declared.cmp.Ordering.TheVariants.{Less, Equal, Greater}
+use Rattle.std.proofs.lemmas.Bool.{cases_lt, cases_order, and_parts, and_from, not-true, not_from_false, both_ways, false_from_ne_true}
+use Rattle.std.proofs.lemmas.Bool.Decides.{nat_tests}
+use Rattle.std.proofs.lemmas.Cmp.{ranked}
+use Rattle.std.proofs.lemmas.Option.{slice_get_past, slice_get-get_or}
+use Rattle.std.proofs.lemmas.List.{append-nil, same_lists, get_or_default, length-set, get_or-set_same, get_or-set_other}
+use Rattle.std.proofs.lemmas.List.FromFn.{length-map-range_with_len, get_or-map-range_with_len, map-range_with_len_more}
+use Rattle.std.proofs.lemmas.List.Elements.{filter-append, filter_passes}
+use Rattle.std.proofs.lemmas.List.Sorted.{IsPermutation-filter_both, IsPermutation-append, IsPermutation-trans, IsPermutation-refl}
+use Rattle.mt_words.specs.declared.update.Update.{Update}
+use Rattle.mt_words.specs.Slices.{AreBytes, slice_in}
+use Rattle.mt_words.specs.Words.{AreRising}
+use Rattle.mt_words.specs.Walks.{joined}
+use Rattle.mt_words.proofs.SliceLemmas.{by_slices}
+use Rattle.mt_words.specs.OneLog.{as_list}
+use Rattle.mt_replay.specs.declared.window.Window.{Window}
+use Rattle.mt_replay.specs.Survivors.{in_window}
+use Rattle.mt_replay.specs.Cuts.{AreCuts, is_below, is_after, is_below_cut, lower_cut, in_piece, updates_in}
+use Rattle.mt_replay.specs.Ranges.{dealt_by}
+use Rattle.mt_replay.specs.Steps.Dealing.{extended}
+use Rattle.mt_replay.proofs.KeyOrder.{above_by, below_trans}
+use Rattle.mt_replay.proofs.Rising.{below_later}
+use Rattle.mt_replay.proofs.FilterLemmas.{filter_both, filter_every}
+use Rattle.mt_replay.proofs.PieceLemmas.{all_pieces}
+
+-- ---- a key and a cut
+
+opposite : (a b : ℕ) → a ≢ b → nat_lt b a ≡ not (is_lt (nat_cmp a b))
+opposite a b apart = by (nat_cmp a b) (ranked a b _ refl)
+  where
+    by : (o : Ordering) → MatchOrdering o (a < b) (a ≡ b) (b < a) → nat_lt b a ≡ not (is_lt o)
+    by Less h = let low : a < b = h in grind (arith, nat_tests)
+    by Equal h = absurd (apart h)
+    by Greater h = let high : b < a = h in grind (arith, nat_tests)
+
+-- slices that differ tell whether a key is at or after a cut
+pub slices_tell : (key cut : List ℕ) → AreBytes key → AreBytes cut → slice_in key ≢ slice_in cut → nat_lt (slice_in cut) (slice_in key) ≡ not (is_below key cut)
+slices_tell key cut p q apart =
+    opposite (slice_in key) (slice_in cut) apart ∙ ap (λ (o : Ordering). not (is_lt o)) (sym (by_slices key cut p q apart))
+
+-- a key that is not below a cut is not below those before it
+pub none_above : (cuts : List (List ℕ)) (key : List ℕ) (m : ℕ) → AreRising cuts → m < length cuts → ((d : List ℕ) → is_below key (slice_index_or cuts m d) ≡ false)
+    → (k : ℕ) (d : List ℕ) → k < m + 1 → is_below key (slice_index_or cuts k d) ≡ false
+none_above cuts key m rise within here k d before = elim (cases_lt k m) as (λ _. is_below key (slice_index_or cuts k d) ≡ false) [
+  | inl lt ↦ above_by (slice_index_or cuts k d) (slice_index_or cuts m d) key (below_later cuts rise k m d lt within) (here d)
+  | inr ge ↦ let same : m ≡ k = omega arith in subst (λ n. is_below key (slice_index_or cuts n d) ≡ false) same (here d)
+]
+
+-- a key that is below a cut is below those after it
+pub all_above : (cuts : List (List ℕ)) (key : List ℕ) (m : ℕ) → AreRising cuts → ((d : List ℕ) → is_below key (slice_index_or cuts m d) ≡ true)
+    → (k : ℕ) (d : List ℕ) → m ≤ k → k < length cuts → is_below key (slice_index_or cuts k d) ≡ true
+all_above cuts key m rise here k d behind within = elim (cases_lt m k) as (λ _. is_below key (slice_index_or cuts k d) ≡ true) [
+  | inl lt ↦ below_trans key (slice_index_or cuts m d) (slice_index_or cuts k d) (here d) (below_later cuts rise m k d lt within)
+  | inr ge ↦ let same : m ≡ k = omega arith in subst (λ n. is_below key (slice_index_or cuts n d) ≡ true) same (here d)
+]
+
+-- ---- the piece of a key
+
+after_lower : (cuts : List (List ℕ)) (p : ℕ) (key : List ℕ) → p ≤ length cuts → ((k : ℕ) (d : List ℕ) → k < p → is_below key (slice_index_or cuts k d) ≡ false) → is_after (lower_cut cuts p) key ≡ true
+after_lower cuts zero key within before = refl
+after_lower cuts (suc p) key within before =
+    ap (λ (cut : Option (List ℕ)). is_after cut key) (slice_get-get_or cuts p [] (omega arith)) ∙ not_from_false (is_below key (slice_index_or cuts p [])) (before p [] (omega arith))
+
+below_upper : (cuts : List (List ℕ)) (p : ℕ) (key : List ℕ) → ((k : ℕ) (d : List ℕ) → p ≤ k → k < length cuts → is_below key (slice_index_or cuts k d) ≡ true) → is_below_cut (slice_get cuts p) key ≡ true
+below_upper cuts p key after = elim (cases_lt p (length cuts)) as (λ _. is_below_cut (slice_get cuts p) key ≡ true) [
+  | inl lt ↦ ap (λ (cut : Option (List ℕ)). is_below_cut cut key) (slice_get-get_or cuts p [] lt) ∙ after p [] (omega arith) lt
+  | inr ge ↦ ap (λ (cut : Option (List ℕ)). is_below_cut cut key) (slice_get_past cuts p ge)
+]
+
+-- a key is in the piece whose number is that of the cuts that are not above it
+pub piece_at : (cuts : List (List ℕ)) (p : ℕ) (key : List ℕ) → p ≤ length cuts → ((k : ℕ) (d : List ℕ) → k < p → is_below key (slice_index_or cuts k d) ≡ false)
+    → ((k : ℕ) (d : List ℕ) → p ≤ k → k < length cuts → is_below key (slice_index_or cuts k d) ≡ true) → in_piece cuts p key ≡ true
+piece_at cuts p key within before after =
+    and_from (is_after (lower_cut cuts p) key) (is_below_cut (slice_get cuts p) key) (after_lower cuts p key within before) (below_upper cuts p key after)
+
+-- a key of a piece is not in a later one
+not_later : (cuts : List (List ℕ)) (p q : ℕ) (key : List ℕ) → AreRising cuts → p < q → q ≤ length cuts → in_piece cuts p key ≡ true → in_piece cuts q key ≡ true → ⊥
+not_later cuts p zero key rise lt within first second = absurd (omega arith)
+not_later cuts p (suc q) key rise lt within first second =
+    let low : is_below key (slice_index_or cuts p []) ≡ true = sym (ap (λ (cut : Option (List ℕ)). is_below_cut cut key) (slice_get-get_or cuts p [] (omega arith))) ∙ (and_parts (is_after (lower_cut cuts p) key) (is_below_cut (slice_get cuts p) key) first).1 in
+    let high : not (is_below key (slice_index_or cuts q [])) ≡ true = sym (ap (λ (cut : Option (List ℕ)). is_after cut key) (slice_get-get_or cuts q [] (omega arith))) ∙ (and_parts (is_after (slice_get cuts q) key) (is_below_cut (slice_get cuts (suc q)) key) second).0 in
+    let up = all_above cuts key p rise (λ d. let same : slice_index_or cuts p d ≡ slice_index_or cuts p [] = get_or_default cuts p d [] (omega arith) in ap (is_below key) same ∙ low) q [] (omega arith) (omega arith) in
+    both_ways (is_below key (slice_index_or cuts q [])) (not-true (is_below key (slice_index_or cuts q [])) high) up
+
+-- a key is in one piece alone
+pub one_piece : (cuts : List (List ℕ)) (p q : ℕ) (key : List ℕ) → AreRising cuts → p ≤ length cuts → q ≤ length cuts → in_piece cuts p key ≡ true → q ≢ p → in_piece cuts q key ≡ false
+one_piece cuts p q key rise within too here apart = false_from_ne_true (in_piece cuts q key) (λ there. elim (cases_order q p) as (λ _. ⊥) [
+  | inl same ↦ apart same
+  | inr either ↦ elim either as (λ _. ⊥) [
+    | inl lt ↦ not_later cuts q p key rise lt within there here
+    | inr gt ↦ not_later cuts p q key rise gt too here there
+  ]
+])
+
+-- ---- updates that are dealt
+
+-- there is a list for each piece
+pub dealt_length : (cuts : List (List ℕ)) (updates : List Update) → length (dealt_by cuts updates) ≡ length cuts + 1
+dealt_length cuts updates = length-map-range_with_len (λ i. updates_in cuts i updates) 0 (length cuts + 1)
+
+-- it has the updates of the piece
+pub dealt_at : (cuts : List (List ℕ)) (updates : List Update) (i : ℕ) (d : List Update) → i < length cuts + 1 → slice_index_or (dealt_by cuts updates) i d ≡ updates_in cuts i updates
+dealt_at cuts updates i d below = get_or-map-range_with_len (λ n. updates_in cuts n updates) 0 (length cuts + 1) i i d below (omega arith)
+
+-- and their keys are in the piece
+pub all_in_piece : (cuts : List (List ℕ)) (updates : List Update) (i : ℕ) → All (λ u. in_piece cuts i u.key ≡ true) (updates_in cuts i updates)
+all_in_piece cuts updates i = filter_passes (λ (u : Update). in_piece cuts i u.key) updates
+
+-- one more list, if all are empty
+pub empty_more : (lists more : List (List Update)) (list : List Update) (n : ℕ) → lists ≡ map (λ (i : ℕ). []) (range_with_len 0 n) → list ≡ [] → more ≡ lists ++ list ∷ [] → more ≡ map (λ (i : ℕ). []) (range_with_len 0 (n + 1))
+empty_more lists more list n empty none is =
+    is ∙ (λ j. empty j ++ none j ∷ []) ∙ sym (map-range_with_len_more (λ (i : ℕ). []) 0 n n (omega arith))
+
+-- one update more belongs to the list of its piece
+own_more : (cuts : List (List ℕ)) (i : ℕ) (before : List Update) (u : Update) → in_piece cuts i u.key ≡ true → updates_in cuts i (before ++ u ∷ []) ≡ updates_in cuts i before ++ u ∷ []
+own_more cuts i before u here =
+    filter-append (λ (w : Update). in_piece cuts i w.key) before (u ∷ []) ∙ ap (λ b. updates_in cuts i before ++ cond b (u ∷ []) []) here
+
+other_same : (cuts : List (List ℕ)) (i : ℕ) (before : List Update) (u : Update) → in_piece cuts i u.key ≡ false → updates_in cuts i (before ++ u ∷ []) ≡ updates_in cuts i before
+other_same cuts i before u apart =
+    filter-append (λ (w : Update). in_piece cuts i w.key) before (u ∷ []) ∙ ap (λ b. updates_in cuts i before ++ cond b (u ∷ []) []) apart ∙ append-nil (updates_in cuts i before)
+
+pub dealt_more : (cuts : List (List ℕ)) (before : List Update) (u : Update) (p : ℕ) (old more : List Update) → AreRising cuts → p ≤ length cuts → in_piece cuts p u.key ≡ true
+    → old ≡ slice_index_or (dealt_by cuts before) p old → more ≡ old ++ u ∷ [] → slice_set (dealt_by cuts before) p more ≡ dealt_by cuts (before ++ u ∷ [])
+dealt_more cuts before u p old more rise within here is longer =
+    let lists : List (List Update) = dealt_by cuts before in
+    let count = dealt_length cuts before in
+    let long : length (slice_set lists p more) ≡ length cuts + 1 = length-set lists p more ∙ count in
+    same_lists (slice_set lists p more) (dealt_by cuts (before ++ u ∷ [])) (long ∙ sym (dealt_length cuts (before ++ u ∷ []))) (λ k d lt.
+    let below : k < length cuts + 1 = omega (arith, lt, long) in
+    let right = dealt_at cuts (before ++ u ∷ []) k d below in
+    elim (cases_order k p) as (λ _. slice_index_or (slice_set lists p more) k d ≡ slice_index_or (dealt_by cuts (before ++ u ∷ [])) k d) [
+      | inl same ↦
+          let own : old ≡ updates_in cuts p before = is ∙ dealt_at cuts before p old (omega (arith, within)) in
+          ap (λ n. slice_index_or (slice_set lists p more) n d) same
+          ∙ get_or-set_same lists p more d (omega (arith, within, count))
+          ∙ longer ∙ ap (λ (us : List Update). us ++ u ∷ []) own
+          ∙ sym (own_more cuts p before u here)
+          ∙ ap (λ n. updates_in cuts n (before ++ u ∷ [])) (sym same)
+          ∙ sym right
+      | inr either ↦
+          let apart : k ≢ p = λ e. elim either as (λ _. ⊥) [ inl low ↦ absurd (omega (arith, low, e)) | inr high ↦ absurd (omega (arith, high, e)) ] in
+          get_or-set_other lists p k more d apart
+          ∙ dealt_at cuts before k d below
+          ∙ sym (other_same cuts k before u (one_piece cuts p k u.key rise within (omega (arith, below)) here apart))
+          ∙ sym right
+    ])
+
+-- one update more, if it survives
+pub survivor_dealt : (cuts : List (List ℕ)) (window : Window) (dealt : List Update) (update : Option Update) (u : Update) (p : ℕ) (lists : List (List Update)) (old more : List Update) → AreRising cuts → p ≤ length cuts → in_piece cuts p u.key ≡ true
+    → update ≡ Some u → in_window window u ≡ true → lists ≡ dealt_by cuts dealt → old ≡ slice_index_or lists p old → more ≡ old ++ u ∷ []
+    → slice_set lists p more ≡ dealt_by cuts (dealt ++ filter (in_window window) (as_list update))
+survivor_dealt cuts window dealt update u p lists old more rise within here some survives are is longer =
+    let one : filter (in_window window) (as_list update) ≡ u ∷ [] = ap (λ (o : Option Update). filter (in_window window) (as_list o)) some ∙ ap (λ b. cond b (u ∷ []) []) survives in
+    ap (λ (ls : List (List Update)). slice_set ls p more) are
+    ∙ dealt_more cuts dealt u p old more rise within here (is ∙ ap (λ (ls : List (List Update)). slice_index_or ls p old) are) longer
+    ∙ ap (λ (us : List Update). dealt_by cuts (dealt ++ us)) (sym one)
+
+-- ---- dealt lists, one after another
+
+extended_maps : (f g : ℕ → List Update) (ns : List ℕ) → extended (map f ns) (map g ns) ≡ map (λ n. f n ++ g n) ns
+extended_maps f g [] = refl
+extended_maps f g (n ∷ ns) = ap (λ (lists : List (List Update)). (f n ++ g n) ∷ lists) (extended_maps f g ns)
+
+-- updates and then others are dealt as both together
+pub dealt_both : (cuts : List (List ℕ)) (updates others : List Update) → extended (dealt_by cuts updates) (dealt_by cuts others) ≡ dealt_by cuts (updates ++ others)
+dealt_both cuts updates others =
+    extended_maps (λ i. updates_in cuts i updates) (λ i. updates_in cuts i others) (range_with_len 0 (length cuts + 1))
+    ∙ (λ j. map (λ i. sym (filter-append (λ (u : Update). in_piece cuts i u.key) updates others) j) (range_with_len 0 (length cuts + 1)))
+
+pub extended_length : (lists others : List (List Update)) → length (extended lists others) ≡ length lists
+extended_length lists [] = refl
+extended_length [] (o ∷ others) = refl
+extended_length (list ∷ lists) (o ∷ others) = ap suc (extended_length lists others)
+
+-- one more list is appended to the list at its place
+pub extended_more : (lists others : List (List Update)) (other old : List Update) → length others < length lists → old ≡ slice_index_or (extended lists others) (length others) old
+    → slice_set (extended lists others) (length others) (old ++ other) ≡ extended lists (others ++ other ∷ [])
+extended_more [] others other old within is = absurd (omega (arith, within))
+extended_more (list ∷ lists) [] other old within is = ap (λ (l : List Update). (l ++ other) ∷ lists) is
+extended_more (list ∷ lists) (o ∷ others) other old within is = ap (λ (ls : List (List Update)). (list ++ o) ∷ ls) (extended_more lists others other old (omega (arith, within)) is)
+
+pub range_more : (lists ranges others : List (List Update)) (other old more : List Update) (p : ℕ) → ranges ≡ extended lists others → p ≡ length others → p < length ranges → old ≡ slice_index_or ranges p old → more ≡ old ++ other
+    → slice_set ranges p more ≡ extended lists (others ++ other ∷ [])
+range_more lists ranges others other old more p so_far place below is longer =
+    let long = ap length so_far ∙ extended_length lists others in
+    (λ i. slice_set (so_far i) (place i) (longer i))
+    ∙ extended_more lists others other old (omega (arith, long, place, below)) (is ∙ (λ i. slice_index_or (so_far i) (place i) old))
+
+-- what several lists of dealt updates have for each piece is what all their updates have
+pub dealt_in_turn : (cuts : List (List ℕ)) (before : List Update) (shares : List (List Update)) → fold extended (dealt_by cuts before) (map (dealt_by cuts) shares) ≡ dealt_by cuts (before ++ joined shares)
+dealt_in_turn cuts before [] = ap (dealt_by cuts) (sym (append-nil before))
+dealt_in_turn cuts before (share ∷ shares) =
+    ap (λ (lists : List (List Update)). fold extended lists (map (dealt_by cuts) shares)) (dealt_both cuts before share)
+    ∙ dealt_in_turn cuts (before ++ share) shares
+    ∙ ap (dealt_by cuts) (append_assoc before share (joined shares))
+
+-- one share more
+pub fold_push : (start : List (List Update)) (shares : List (List (List Update))) (share : List (List Update)) → fold extended start (shares ++ share ∷ []) ≡ extended (fold extended start shares) share
+fold_push start [] share = refl
+fold_push start (s ∷ shares) share = fold_push (extended start s) shares share
+
+-- where there is no list left, nothing more is appended
+pub extended_past : (lists others more : List (List Update)) → length lists ≤ length others → extended lists (others ++ more) ≡ extended lists others
+extended_past [] [] [] past = refl
+extended_past [] [] (m ∷ more) past = refl
+extended_past [] (o ∷ others) more past = refl
+extended_past (list ∷ lists) [] more past = absurd (omega (arith, past))
+extended_past (list ∷ lists) (o ∷ others) more past = ap (λ (ls : List (List Update)). (list ++ o) ∷ ls) (extended_past lists others more (omega (arith, past)))
+
+-- ---- all pieces together
+
+-- exactly the updates whose keys pass the test
+abbrev AreThose : List Update → (List ℕ → Bool) → List Update → Type 0
+AreThose updates passes those = IsPermutation (filter (λ u. passes u.key) updates) those
+
+same_those : (updates : List Update) (p q : List ℕ → Bool) (those : List Update) → ((key : List ℕ) → p key ≡ q key) → AreThose updates p those → AreThose updates q those
+same_those updates p q those agree are = subst (λ (us : List Update). IsPermutation us those) (λ j. filter (λ u. agree u.key j) updates) are
+
+implied : (a b : Bool) → (b ≡ false → a ≡ true) → (a && not b) ≡ not b
+implied a true follows = either_false a
+  where
+    either_false : (c : Bool) → (c && false) ≡ false
+    either_false true = refl
+    either_false false = refl
+implied a false follows = ap (λ c. c && true) (follows refl)
+
+join_those : (updates : List Update) (lower : Option (List ℕ)) (cut : List ℕ) (those others : List Update) → ((key : List ℕ) → is_below key cut ≡ false → is_after lower key ≡ true)
+    → AreThose updates (λ key. is_after lower key && is_below key cut) those → AreThose updates (λ key. not (is_below key cut)) others → AreThose updates (is_after lower) (those ++ others)
+join_those updates lower cut those others above are too =
+    let after : Update → Bool = λ u. is_after lower u.key in
+    let low : Update → Bool = λ u. is_below u.key cut in
+    let high : Update → Bool = λ u. not (is_below u.key cut) in
+    let us : List Update = filter after updates in
+    let first : filter low us ≡ filter (λ u. after u && low u) updates = filter_both after low updates in
+    let second : filter high us ≡ filter high updates = filter_both after high updates ∙ (λ j. filter (λ u. implied (is_after lower u.key) (is_below u.key cut) (above u.key) j) updates) in
+    IsPermutation-trans us (filter low us ++ filter high us) (those ++ others) (IsPermutation-filter_both low high (λ u. refl) us)
+    (IsPermutation-append (filter low us) those (filter high us) others
+    (subst (λ (ws : List Update). IsPermutation ws those) (sym first) are)
+    (subst (λ (ws : List Update). IsPermutation ws others) (sym second) too))
+
+-- the pieces together have each update once
+pub dealt_all : (cuts : List (List ℕ)) (updates : List Update) → AreCuts cuts → IsPermutation updates (joined (dealt_by cuts updates))
+dealt_all cuts updates are =
+    let count = dealt_length cuts updates in
+    let whole = all_pieces (AreThose updates) (record { same = same_those updates; join = join_those updates }) cuts (dealt_by cuts updates) are count
+    (λ i d lt. subst (IsPermutation (updates_in cuts i updates)) (sym (dealt_at cuts updates i d (omega (arith, lt, count)))) (IsPermutation-refl (updates_in cuts i updates))) in
+    subst (λ (us : List Update). IsPermutation us (joined (dealt_by cuts updates))) (filter_every (λ (u : Update). true) updates (λ k d lt. refl)) whole

@@ -1,0 +1,139 @@
+//! The surviving updates, divided by their keys into the pieces that are replayed.
+ghost use Rattle.std.specs.Prelude.{◌≡◌, ◌<◌, ◌+◌, ◌++◌, List, [], length, slice_index_or, All, IfOk, IsPermutation};
+ghost use Rattle.mt_words.specs.declared.update.Update.{Update as UpdateValue};
+ghost use Rattle.mt_words.specs.Walks.{joined};
+ghost use Rattle.mt_replay.specs.Cells.{AreApart};
+ghost use Rattle.mt_replay.specs.Clashes.{AreClashes};
+ghost use Rattle.mt_replay.specs.Cuts.{AreCuts, InKeyOrder, updates_in};
+ghost use Rattle.mt_replay.specs.Divided.{AreRangesOf};
+ghost use Rattle.mt_replay.specs.Pieces.{IsPiece, IsMapIn};
+
+use crate::auditing::clashes_of;
+use crate::bodies::Text;
+use crate::clash::Clash;
+use crate::dealing::Range;
+use crate::parts::parts;
+use crate::replay::replay_runs;
+use crate::runs::Run;
+use crate::sorting::sorted_texts;
+use crate::{Cuts, SortedUpdates};
+use mt_words::{Memory, PairSink};
+use std::alloc::Global;
+use std::marker::Model;
+
+/// The surviving updates, divided by their keys into pieces: those of the logs, dealt to the pieces but not sorted, and
+/// the entries of a checkpoint. A piece is sorted when it is replayed.
+#[derive(Drop)]
+pub struct Divided {
+    cuts: Cuts,
+    ranges: Vec<Range>,
+    entries: Vec<SortedUpdates>,
+}
+
+impl Model for Divided {
+    ghost use Rattle.std.specs.Prelude.{◌++◌};
+    ghost use Rattle.mt_words.specs.Walks.{joined};
+    ghost use Rattle.mt_replay.specs.Cuts.{AreCuts};
+    ghost use Rattle.mt_replay.specs.Divided.{DividedView, AreRangesOf};
+
+    ghost Value = { DividedView };
+
+    ghost view = { λ d. record { updates = joined d.ranges.items ++ joined d.entries.items; cuts = d.cuts } };
+
+    ghost invariant = { λ d. AreCuts d.cuts × AreRangesOf d.cuts d.ranges.items };
+}
+
+impl Divided {
+    /// Divides updates of logs, which were dealt to the pieces that the cuts make, and entries of a checkpoint.
+    pub fn of(cuts: Cuts, ranges: Vec<Range>, entries: Vec<SortedUpdates>) -> Divided
+        requires { AreRangesOf cuts ranges.items }
+        ensures updates { result.updates ≡ joined ranges.items ++ joined entries.items }
+        ensures cuts { result.cuts ≡ cuts }
+    {
+        // This call lets the proof see that the cuts rise.
+        let _ = cuts.pieces();
+        Divided {
+            cuts,
+            ranges,
+            entries,
+        }
+    }
+
+    /// Returns the number of updates.
+    pub fn len(&self) -> u128
+        ensures { result ≡ length self.now.updates }
+    {
+        let mut logged = 0;
+        for range in &self.ranges {
+            logged += range.len() as u128;
+        }
+        let mut kept = 0;
+        for entries in &self.entries {
+            kept += entries.len() as u128;
+        }
+        logged + kept
+    }
+
+    /// Returns the number of pieces.
+    pub fn pieces(&self) -> u32
+        ensures value { result ≡ length self.now.cuts + 1 }
+        ensures lawful { AreCuts self.now.cuts }
+    {
+        self.cuts.pieces()
+    }
+
+    /// Replays the updates whose keys lie in this piece, and adds this piece of their walk to a sink, pair by pair. The
+    /// sink must be empty.
+    /// Err: out of memory.
+    pub fn replay_into<S: PairSink>(&self, alloc: Global, piece: u32, sink: S) -> Result<S, Memory>
+        requires piece { piece < length self.now.cuts + 1 }
+        requires empty { S.pairs sink ≡ [] }
+        ensures map { IfOk result (λ filled. IsMapIn self.now.cuts piece (S.pairs filled)) }
+        ensures walk { IfOk result (λ filled. AreApart self.now.updates →
+            IsPiece self.now.updates self.now.cuts piece (S.pairs filled)) }
+    {
+        let texts = sorted(alloc, &self.ranges, piece as usize)?;
+        let runs = runs_in(alloc, &texts, &self.entries, &self.cuts, piece)?;
+        replay_runs(alloc, runs, sink)
+    }
+
+    /// Returns the clashes of the updates whose keys lie in this piece, in order: by key, then by version. Entries of the
+    /// checkpoint do not count.
+    /// Err: out of memory.
+    pub fn clashes_in(&self, alloc: Global, piece: u32) -> Result<Vec<Clash>, Memory>
+        requires { piece < length self.now.cuts + 1 }
+        ensures { IfOk result (λ clashes. AreClashes (updates_in self.now.cuts piece self.now.updates) clashes.items) }
+    {
+        let texts = sorted(alloc, &self.ranges, piece as usize)?;
+        let runs = runs_in(alloc, &texts, &self.entries, &self.cuts, piece)?;
+        clashes_of(alloc, runs)
+    }
+}
+
+/// Returns the updates of the range of a piece, sorted by key. Err: out of memory.
+fn sorted(alloc: Global, ranges: &[Range], piece: usize) -> Result<Vec<Text<'_>>, Memory>
+    requires { piece < length ranges.now }
+    ensures same { IfOk result (λ texts. (d : List UpdateValue) → IsPermutation (slice_index_or ranges.now piece d) texts.items) }
+    ensures in_order { IfOk result (λ texts. InKeyOrder texts.items) }
+{
+    let range = &ranges[piece];
+    let texts = range.texts(alloc)?;
+    sorted_texts(alloc, &texts)
+}
+
+/// Returns sorted runs: of each list of entries those that lie in this piece, and then the texts. Err: out of memory.
+fn runs_in<'a>(
+    alloc: Global,
+    texts: &'a [Text<'a>],
+    entries: &'a [SortedUpdates],
+    cuts: &Cuts,
+    piece: u32,
+) -> Result<Vec<Run<'a>>, Memory>
+    requires { InKeyOrder texts.now }
+    ensures all { IfOk result (λ runs. joined runs.items ≡ updates_in cuts.now piece (joined entries.now) ++ texts.now) }
+    ensures in_order { IfOk result (λ runs. All InKeyOrder runs.items) }
+{
+    let mut runs = parts(alloc, entries, cuts, piece)?;
+    runs.push(Run::of_texts(texts))?;
+    Ok(runs)
+}
