@@ -2,11 +2,12 @@
 ghost use Rattle.std.specs.Prelude.{◌≤◌, length};
 
 use crate::answering::PRINTED_AT_ONCE;
+use crate::cutting::{cut, cut_out};
 use crate::failure::tell;
 use crate::file_names::Names;
 use crate::request::FileQuery;
 use crate::stop::Stop;
-use mt_record::{LogFront, PartFault, PartFeed, PartHead, cut_log, header_at, part_header_at};
+use mt_record::{PartFault, PartFeed, PartHead, header_at, part_header_at};
 use mt_recover::{Refusal, read_log};
 use mt_text::{Selection, write_entries, write_head, write_part_head, write_records};
 use mt_words::Fault;
@@ -27,7 +28,7 @@ pub fn answer_file<R: AllocGlobal + Files, O: Write, E: Write>(
     ensures status { result ≤ 4 }
 {
     let answered = match query {
-        FileQuery::Cut => cut(rt, path, out),
+        FileQuery::Cut(how) => cut(rt, path, how, out, err),
         FileQuery::Records(selection, at) => records(rt, path, selection, *at, out),
     };
     match answered {
@@ -48,7 +49,7 @@ fn tell_stop<E: Write>(stop: Option<Stop>, query: &FileQuery, err: &mut E) -> u8
         return 0;
     };
     match query {
-        FileQuery::Cut => {
+        FileQuery::Cut(_) => {
             let _ = writeln!(err, "mtrecover: left out: {stop}");
             0
         }
@@ -57,24 +58,6 @@ fn tell_stop<E: Write>(stop: Option<Stop>, query: &FileQuery, err: &mut E) -> u8
             stop.status()
         }
     }
-}
-
-/// Prints the header and the complete records of the log, byte for byte.
-fn cut<'a, R: AllocGlobal + Files, O: Write>(
-    rt: &R,
-    path: &'a str,
-    out: &mut O,
-) -> Result<Option<Stop>, Refusal<'a>> {
-    let bytes = read_log(rt, 0, path)?;
-    let (front, log) = cut_out(rt.alloc(), &bytes)?;
-    out.write_all(log)?;
-    out.flush()?;
-    Ok(Stop::of(&front, &bytes))
-}
-
-/// Does as `cut_log`, with the bytes as log 0.
-fn cut_out(alloc: Global, bytes: &[u8]) -> Result<(LogFront, &[u8]), Refusal<'static>> {
-    cut_log(alloc, bytes).map_err(|fault| Refusal::from(fault.of_log(0)))
 }
 
 /// Prints the header of a log or a part, and its wanted records or entries from a byte on, or from the first one on,

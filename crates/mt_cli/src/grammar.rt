@@ -1,6 +1,7 @@
 //! The arguments that the program takes.
 use clap::builder::ValueParser;
 use clap::{Arg, ArgAction, Command};
+use mt_record::ENOUGH_RECORDS;
 use mt_recover::{MOST_BYTES, MOST_PIECES, MOST_WORKERS};
 use mt_words::GREATEST_COLUMN;
 use std::alloc::{AllocError, Global};
@@ -170,6 +171,26 @@ const AT: Argument = Argument(
     "Read on at this byte, for example after a fault; numbers count from there",
 );
 
+const SKIP: Argument = Argument(
+    "skip",
+    Kind::Flag,
+    "Go on after damage, where 8 records in a row begin, or fewer that end the log. \
+     A record with a timestamp above the next one's is damaged, if that is not below the one before. \
+     Complete records within the value of a damaged one are printed",
+);
+
+const HEADER: Argument = Argument(
+    "header",
+    Kind::Value("HEADER"),
+    "Print this header in place of a lost one, and go on as with --skip: FORMAT:FROM, as 1:0, or of a segment 3:FROM:WORKER:SEGMENT",
+);
+
+const BELOW: Argument = Argument(
+    "below",
+    Kind::NumberOf("TIMESTAMP"),
+    "Print only records with a timestamp below this one, for example the cutoff",
+);
+
 /// The subcommands, in the order of the help.
 const SUBCOMMANDS: &[Subcommand] = &[
     Subcommand {
@@ -230,12 +251,12 @@ const SUBCOMMANDS: &[Subcommand] = &[
     },
     Subcommand {
         name: "cut",
-        about: "Prints the bytes of a log up to its fault or torn tail: a log of its complete records",
+        about: "Prints a log of the complete records of a log, up to its fault or torn tail, or with --skip beyond it",
         example: "To go on with a damaged log, once it is copied elsewhere:\n\
          \x20 mtrecover check DIR\n\
          \x20 mtrecover cut DIR/w0.mtl > w0.cut && mv w0.cut DIR/w0.mtl\n\
          \x20 mtrecover report DIR --strict",
-        arguments: &[LOG, VERBOSE],
+        arguments: &[LOG, VERBOSE, SKIP, HEADER, BELOW],
     },
     Subcommand {
         name: "completions",
@@ -282,6 +303,8 @@ const _: () = prove!(MOST_WORKERS == 64);
 const _: () = prove!(MOST_PIECES == 4096);
 
 const _: () = prove!(MOST_BYTES == 1_073_741_824);
+
+const _: () = prove!(ENOUGH_RECORDS == 8);
 
 impl Argument {
     /// Returns the grammar of the argument.

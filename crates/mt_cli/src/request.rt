@@ -1,7 +1,8 @@
 //! The request that the arguments make.
+use mt_record::{Head, records_below};
 use mt_recover::{Pieces, Workers};
 use mt_text::{Form, Selection};
-use mt_words::Key;
+use mt_words::{Format, Key};
 
 /// The request that the arguments make. If it is verbose, a failure has a second line, which explains it.
 #[derive(Debug, Drop)]
@@ -74,8 +75,29 @@ pub enum Query {
 pub enum FileQuery {
     /// The wanted records of a log, or entries of a part, from this byte on, or from the first one on.
     Records(Selection, Option<u64>),
-    /// The bytes of the header and the complete records of a log.
-    Cut,
+    /// A log of the complete records of a log.
+    Cut(Cut),
+}
+
+/// How to cut a log.
+#[derive(Clone, Copy, Debug)]
+pub struct Cut {
+    /// Whether records go on after damage. If not, they end at it.
+    pub is_skipping: bool,
+    /// A header in place of the log's own, which is lost.
+    pub header: Option<Head>,
+    /// The timestamp below which records are kept. None: all are.
+    pub below: Option<u64>,
+}
+
+impl Cut {
+    /// Returns the records that are kept of these.
+    pub fn kept<'b>(&self, format: Format, records: &'b [u8]) -> &'b [u8] {
+        match self.below {
+            Some(timestamp) => records_below(format, timestamp, records),
+            None => records,
+        }
+    }
 }
 
 /// A query on the recovered store.

@@ -4,14 +4,17 @@ ghost use Rattle.std.specs.Prelude.{◌≤◌, IfErr};
 use crate::failure::{or_tell, tell};
 use crate::file_names::Names;
 use crate::grammar::grammar;
-use crate::request::{Command, FileQuery, Folder, NewFolder, Query, Range, Resume, StoreQuery};
+use crate::request::{
+    Command, Cut, FileQuery, Folder, NewFolder, Query, Range, Resume, StoreQuery,
+};
 use crate::texts::{Text, tell_text};
 use clap::ArgMatches;
 use clap::error::ErrorKind;
 use hex::FromHexError;
+use mt_record::{Head, Segment};
 use mt_recover::{Failure, Pieces, Refusal, Workers};
 use mt_text::{Form, Notation, Selection, unescape};
-use mt_words::{Fault, Key};
+use mt_words::{Fault, Format, Key};
 use std::alloc::Global;
 use std::io::Write;
 
@@ -60,9 +63,27 @@ fn asks_for_manual(words: &[String]) -> bool {
     }
 }
 
-/// Parses the arguments by the grammar.
+/// Parses the arguments by the grammar, which takes any word as the header of a log.
 fn parse<'a>(alloc: Global, words: &'a [String]) -> Result<ArgMatches<'a>, clap::Error> {
-    grammar(alloc)?.try_get_matches_from(words)
+    let mut grammar = grammar(alloc)?;
+    let matches = grammar.try_get_matches_from_mut(words)?;
+    if has_bad_header(&matches) {
+        return Err(grammar.error(ErrorKind::ValueValidation, BAD_HEADER)?);
+    }
+    Ok(matches)
+}
+
+/// What is wrong with a word that is no header of a log.
+const BAD_HEADER: &str = "a header is FORMAT:FROM, or of a segment 3:FROM:WORKER:SEGMENT";
+
+/// Returns whether there is a word for the header of a log, but it is none.
+fn has_bad_header(matches: &ArgMatches<'_>) -> bool {
+    match matches.subcommand() {
+        Some(("cut", matches)) => matches
+            .get_str("header")
+            .is_some_and(|word| header(word).is_none()),
+        _ => false,
+    }
 }
 
 /// Prints what the parser reports and returns the exit status.
@@ -88,7 +109,7 @@ fn read<'a>(alloc: Global, matches: &ArgMatches<'a>) -> Result<Command<'a>, Refu
     let (name, matches) = matches.subcommand().ok_or(Failure::Words)?;
     let query = match name {
         "records" => FileQuery::Records(selection(alloc, matches)?, matches.get_one("at")),
-        "cut" => FileQuery::Cut,
+        "cut" => FileQuery::Cut(cut(matches)),
         _ => return of_folder(alloc, name, matches),
     };
     Ok(Command::File {
@@ -165,6 +186,51 @@ fn selection(alloc: Global, matches: &ArgMatches<'_>) -> Result<Selection, Refus
         } else {
             Notation::Words
         },
+    })
+}
+
+/// Returns how to cut a log. After a header that is lost, records go on as after any damage.
+fn cut(matches: &ArgMatches<'_>) -> Cut {
+    let header = matches.get_str("header").and_then(header);
+    Cut {
+        is_skipping: matches.get_flag("skip") || header.is_some(),
+        header,
+        below: matches.get_one("below"),
+    }
+}
+
+/// Reads the header of a log: `FORMAT:FROM`, or `3:FROM:WORKER:SEGMENT` of a segment. None: the word is no header.
+fn header(word: &str) -> Option<Head> {
+    let (format, fields) = word.split_once(':')?;
+    match format {
+        "1" => plain_header(Format::One, fields),
+        "2" => plain_header(Format::Two, fields),
+        "3" => segment_header(fields),
+        _ => None,
+    }
+}
+
+/// Reads `FROM`, of a log of this format that is no segment.
+fn plain_header(format: Format, from: &str) -> Option<Head> {
+    Some(Head {
+        format,
+        from: from.parse::<u64>().ok()?,
+        segment: None,
+    })
+}
+
+/// Reads `FROM:WORKER:SEGMENT`.
+fn segment_header(fields: &str) -> Option<Head> {
+    let (from, segment) = fields.split_once(':')?;
+    let (worker, number) = segment.split_once(':')?;
+    let segment = Segment {
+        worker: worker.parse::<u32>().ok()?,
+        number: number.parse::<u32>().ok()?,
+    };
+    Some(Head {
+        format: Format::Two,
+        from: from.parse::<u64>().ok()?,
+        segment: Some(segment),
     })
 }
 
