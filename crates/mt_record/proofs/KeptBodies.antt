@@ -35,3 +35,9 @@ pub entry_more : (bodies new : List (List ℕ)) (entries : List Change) (body : 
     → change_in body ≡ entry → map change_in new ≡ entries ++ entry ∷ []
 entry_more bodies new entries body entry same added says =
     ap (map change_in) added ∙ map-append change_in bodies (body ∷ []) ∙ (λ i. same i ++ says i ∷ [])
+
+-- with one more entry, its key follows those of the others
+pub key_more : (bodies : List (List ℕ)) (entries : List Change) (entry : Change) (key : List ℕ) → map change_in bodies ≡ entries ++ entry ∷ [] → key ≡ entry.key
+    → map (λ (entry : Change). entry.key) entries ++ key ∷ [] ≡ map (λ (entry : Change). entry.key) (map change_in bodies)
+key_more bodies entries entry key same is =
+    (λ i. map (λ (entry : Change). entry.key) entries ++ is i ∷ []) ∙ sym (map-append (λ (entry : Change). entry.key) entries (entry ∷ [])) ∙ ap (map (λ (entry : Change). entry.key)) (sym same)

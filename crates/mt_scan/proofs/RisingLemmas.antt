@@ -1,45 +1,15 @@
 -- Lists of entries with rising keys.
-use Rattle.std.proofs.Common.{◌≡◌, ◌∙◌, ◌↔◌, ℕ, suc, ◌+◌, ◌-◌, ◌<◌, IsTrue, List, [], ◌∷◌, ◌++◌, length, get_or, take, drop, Option, Some, None, refl, sym, ap, subst, arith}
+use Rattle.std.proofs.Common.{◌≡◌, ◌∙◌, ◌↔◌, ℕ, suc, ◌+◌, ◌-◌, ◌<◌, List, [], ◌∷◌, ◌++◌, length, get_or, take, drop, Option, Some, None, refl, sym, ap, subst, arith}
 use Rattle.std.specs.Borrow.{Bor}
-use Rattle.std.specs.List.{AllByRecursion}
-use Rattle.std.specs.Ordering.{nat_cmp, is_lt}
-use Rattle.std.specs.declared.cmp.Ordering.{Ordering}
-use Rattle.std.specs.declared.cmp.Ordering.TheVariants.{Less, Equal, Greater}
-use Rattle.std.specs.Cmp.Lexicographic.{slice_cmp}
-use Rattle.std.proofs.lemmas.List.{append_assoc, append-nil, map-append, get_or-map, take_more, drop_more, take-append-drop}
+use Rattle.std.proofs.lemmas.List.{append_assoc, append-nil, map-append, take_more, drop_more, take-append-drop}
 use Rattle.std.proofs.lemmas.List.Concat.{flat_map-append}
-use Rattle.std.proofs.lemmas.Cmp.{nat_list_cmp_total}
 use Rattle.mt_words.specs.declared.record.Change.{Change}
-use Rattle.mt_words.specs.declared.update.Kind.TheVariants.{Remove}
 use Rattle.mt_words.specs.Words.{IsBelow, AreRising}
 use Rattle.mt_record.specs.Parts.{PartReading}
+use Rattle.mt_record.proofs.RisingKeys.{above_all, rise_front}
 use Rattle.mt_scan.specs.PartsShown.{KeptPart, shown_by, shown_by_all}
 use Rattle.mt_scan.specs.Choice.{entry_keys}
 use Rattle.mt_scan.specs.Steps.Checkpoints.{entries_of, none_or_one, last_key_of}
-
-abbrev AreAbove : List ℕ → List (List ℕ) → Type 0
-AreAbove x xs = AllByRecursion (IsBelow x) xs
-
-is_less : (o : Ordering) → IsTrue (is_lt o) → o ≡ Less
-is_less Less h = refl
-is_less Equal h = cc
-is_less Greater h = cc
-
-below_trans : (a b c : List ℕ) → IsBelow a b → IsBelow b c → IsBelow a c
-below_trans a b c h k = ap is_lt (nat_list_cmp_total.trans a b c (is_less (slice_cmp nat_cmp a b) h) (is_less (slice_cmp nat_cmp b c) k))
-
-above_all : (x y : List ℕ) (ys : List (List ℕ)) → IsBelow x y → AreAbove y ys → AreAbove x ys
-above_all x y [] h are = tt
-above_all x y (z ∷ zs) h are = (below_trans x y z h are.0, above_all x y zs h are.1)
-
-above_front : (x : List ℕ) (xs ys : List (List ℕ)) → AreAbove x (xs ++ ys) → AreAbove x xs
-above_front x [] ys are = tt
-above_front x (y ∷ xs) ys are = (are.0, above_front x xs ys are.1)
-
--- the front of a rising list rises
-pub rise_front : (xs ys : List (List ℕ)) → AreRising (xs ++ ys) → AreRising xs
-rise_front [] ys rise = tt
-rise_front (x ∷ xs) ys rise = (above_front x xs ys rise.0, rise_front xs ys rise.1)
 
 -- in a rising list, the last key of a front and all keys after it rise
 pub rise_back : (xs ys : List (List ℕ)) → AreRising (xs ++ ys) → AreRising (last_key_of xs ++ ys)
@@ -83,21 +53,20 @@ rise_to_end xs ys zs last to stops rise =
     let front = rise_front (xs ++ ys) zs (subst AreRising (sym (append_assoc xs ys zs)) rise) in
     stops (subst (λ (ws : List (List ℕ)). AreRising (ws ++ ys)) (sym to.is_last) (rise_back xs ys front))
 
-module _ (before xs : List (List ℕ)) (i : ℕ) (e : List ℕ) (last : List (List ℕ)) (fits : i < length xs) (at : e ≡ get_or xs i e) where
-  -- the keys rise with one more key, if it is above the last one
-  pub key_more : RiseTo (before ++ take i xs) last → AreRising (last ++ e ∷ []) → RiseTo (before ++ take (i + 1) xs) (e ∷ [])
-  key_more to on =
-      let more : take (i + 1) xs ≡ take i xs ++ e ∷ [] = take_more xs i e fits ∙ ap (λ (x : List ℕ). take i xs ++ x ∷ []) (sym at) in
-      let all : (before ++ take i xs) ++ e ∷ [] ≡ before ++ take (i + 1) xs = append_assoc before (take i xs) (e ∷ []) ∙ ap (λ (ys : List (List ℕ)). before ++ ys) (sym more) in
-      subst (λ (ys : List (List ℕ)). RiseTo ys (e ∷ [])) all (rise_to_more (before ++ take i xs) (e ∷ []) last (e ∷ []) to on (sym (last_of_push last e)))
+-- in a rising list, the keys after a front rise
+rise_after : (xs ys : List (List ℕ)) → AreRising (xs ++ ys) → AreRising ys
+rise_after [] ys rise = rise
+rise_after (x ∷ xs) ys rise = rise_after xs ys rise.1
 
-  -- if a key is not above the last one, the complete list does not rise
-  pub key_stops : RiseTo (before ++ take i xs) last → (AreRising (last ++ e ∷ []) → ⊥) → AreRising (before ++ xs) → ⊥
-  key_stops to stops rise =
-      let rest : drop i xs ≡ e ∷ drop (i + 1) xs = drop_more xs i e fits ∙ ap (λ (x : List ℕ). x ∷ drop (i + 1) xs) (sym at) in
-      let all : before ++ xs ≡ (before ++ take i xs) ++ (e ∷ [] ++ drop (i + 1) xs) =
-      ap (λ (ys : List (List ℕ)). before ++ ys) (sym (take-append-drop i xs)) ∙ sym (append_assoc before (take i xs) (drop i xs)) ∙ ap (λ (ys : List (List ℕ)). (before ++ take i xs) ++ ys) rest in
-      rise_to_end (before ++ take i xs) (e ∷ []) (drop (i + 1) xs) last to stops (subst AreRising all rise)
+-- rising keys rise after others exactly if the first of them does
+pub rise_behind : (before : List (List ℕ)) (keys : List (List ℕ)) (first : List ℕ) → 0 < length keys → first ≡ get_or keys 0 first → AreRising keys
+    → AreRising (before ++ first ∷ []) ↔ AreRising (before ++ keys)
+rise_behind before [] first some at rise = absurd (omega (arith, some))
+rise_behind before (k ∷ ks) first some at rise =
+    let all : (before ++ first ∷ []) ++ ks ≡ before ++ k ∷ ks = append_assoc before (first ∷ []) ks ∙ ap (λ (x : List ℕ). before ++ x ∷ ks) at in (
+      λ on. subst AreRising all (rise_on (before ++ first ∷ []) ks on (subst (λ (xs : List (List ℕ)). AreRising (xs ++ ks)) (ap (λ (x : List ℕ). x ∷ []) (sym at) ∙ sym (last_of_push before first)) rise)),
+      λ on. rise_front (before ++ first ∷ []) ks (subst AreRising (sym all) on),
+    )
 
 -- a key may follow another exactly if it is above it
 pub follows : (a b : List ℕ) → IsBelow a b ↔ AreRising (a ∷ b ∷ [])
@@ -118,12 +87,6 @@ last_behind (Some b) (x ∷ xs) k some at = last_at (x ∷ xs) k some at
 
 -- ---- keys of entries
 
--- the key of an entry is the key at its position in the list of all keys
-pub key_at : (entries : List Change) (n : ℕ) (key : List ℕ) → n < length entries → ((d : Change) → key ≡ (get_or entries n d).key) → key ≡ get_or (entry_keys entries) n key
-key_at entries n key below is =
-    let d : Change = record { version = 0; key = []; kind = Remove } in
-    is d ∙ sym (get_or-map (λ (entry : Change). entry.key) entries n d key below)
-
 -- the keys of the entries of these parts
 abbrev pub keys_in : List KeptPart → List (List ℕ)
 keys_in texts = entry_keys (entries_of (shown_by_all texts))
@@ -133,11 +96,6 @@ keys_in-append xs ys =
     ap (λ (zs : List PartReading). entry_keys (entries_of zs)) (map-append shown_by xs ys)
     ∙ ap (λ (es : List Change). entry_keys es) (flat_map-append (λ (text : PartReading). text.entries) (shown_by_all xs) (shown_by_all ys))
     ∙ map-append (λ (entry : Change). entry.key) (entries_of (shown_by_all xs)) (entries_of (shown_by_all ys))
-
--- in a rising list, the keys after a front rise
-rise_after : (xs ys : List (List ℕ)) → AreRising (xs ++ ys) → AreRising ys
-rise_after [] ys rise = rise
-rise_after (x ∷ xs) ys rise = rise_after xs ys rise.1
 
 -- if the keys of the entries of all parts rise, so do those of each part
 pub part_rises : (before : List KeptPart) (text : KeptPart) (after : List KeptPart) → AreRising (keys_in (before ++ text ∷ after)) → AreRising (entry_keys text.entries)

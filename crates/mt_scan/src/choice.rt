@@ -26,7 +26,7 @@ pub struct Choice {
 /// Chooses the checkpoint to begin from. The parts of all checkpoints come in any order. A checkpoint is valid if its
 /// parts are all complete, agree in begin, end and the number of parts, and are numbered from 0 on, once each; if the
 /// keys of its entries rise in the order of those numbers; and if its begin is at most its end. Parts are moved, none
-/// is copied. This takes time n log n for n parts, and one pass over the entries. Err: out of memory.
+/// is copied. This takes time n log n for n parts, and looks at the first and the last entry of each. Err: out of memory.
 pub fn choose(alloc: Global, scans: Vec<PartScan>, cutoff: u64) -> Result<Choice, Memory>
     ensures { IfOk result (IsChoiceOf (map known_by scans.items) cutoff) }
 {

@@ -25,15 +25,7 @@ pub fn do_entries_rise(texts: &[PartText<KeptEntries>]) -> bool
 fn do_rise_from(before: Option<&[u8]>, entries: &KeptEntries) -> bool
     ensures { IsTrue result ↔ AreRising (none_or_one before.entry ++ entry_keys entries.now) }
 {
-    let mut last = before;
-    for number in 0..entries.len() {
-        let key = entries.key(number);
-        if !can_follow(last, key) {
-            return false;
-        }
-        last = Some(key);
-    }
-    true
+    entries.is_rising() && (entries.len() == 0 || can_follow(before, entries.key(0)))
 }
 
 /// Returns whether the key is above the last one before it, if there is one.

@@ -1,11 +1,17 @@
--- The bodies that are kept of a log.
-use Rattle.std.specs.Prelude.{◌≡◌, ℕ, List, map, filter, All}
+-- The bodies that are kept of a log or a part.
+use Rattle.std.specs.Prelude.{◌≡◌, ◌↔◌, ℕ, Bool, List, map, filter, All, IsTrue}
+use Rattle.mt_words.specs.Words.{AreRising}
 use Rattle.mt_words.specs.Changes.{is_mark}
 use Rattle.mt_record.specs.Logs.{count_of}
-use Rattle.mt_record.specs.Decoding.{decode}
+use Rattle.mt_record.specs.Decoding.{decode, change_in, IsEntryBody}
 use Rattle.mt_record.specs.Steps.Bodies.{IsLawfulBody}
 
 -- these are the bodies of lawful records, and `marks` of them are marks, as far as a u64 counts
 pub record AreKept (bodies : List (List ℕ)) (marks : ℕ) : Type 0 where
   pub lawful : All IsLawfulBody bodies
   pub marked : marks ≡ count_of (filter is_mark (map decode bodies))
+
+-- these are the bodies of entries, and `rising` says whether their keys strictly rise
+pub record AreKeptEntries (bodies : List (List ℕ)) (rising : Bool) : Type 0 where
+  pub lawful : All IsEntryBody bodies
+  pub told : IsTrue rising ↔ AreRising (map (λ entry. entry.key) (map change_in bodies))

@@ -1,11 +1,12 @@
 //! Entries of a checkpoint, kept as bodies.
-ghost use Rattle.std.specs.Prelude.{◌≡◌, ◌<◌, [], length, slice_index_or};
+ghost use Rattle.std.specs.Prelude.{◌≡◌, ◌↔◌, ◌<◌, ◌++◌, [], ◌∷◌, length, map, slice_index_or, IsTrue};
 ghost use Rattle.mt_words.specs.declared.record.Change.{Change};
 ghost use Rattle.mt_words.specs.declared.update.Origin.TheVariants as origins;
+ghost use Rattle.mt_words.specs.Words.{AreRising};
 ghost use Rattle.mt_words.specs.Updates.{update_at};
 
 use crate::body::lent::Lent;
-use crate::body::spelled;
+use crate::body::{fields_of, spelled};
 use crate::kept::Entries;
 use crate::kept::byte_strings::ByteStrings;
 use mt_words::{Code, Memory, Origin};
@@ -20,18 +21,21 @@ const BEFORE_FIELDS: &[u8] = &[Code::Whole as u8, 0, 0, 0, 0, 0, 0, 0, 0];
 #[derive(Debug, Drop)]
 pub struct KeptEntries {
     bodies: ByteStrings,
+    /// Whether the keys strictly rise.
+    rising: bool,
 }
 
 impl Model for KeptEntries {
-    ghost use Rattle.std.specs.Prelude.{List, map, All};
+    ghost use Rattle.std.specs.Prelude.{List, map};
     ghost use Rattle.mt_words.specs.declared.record.Change.{Change};
-    ghost use Rattle.mt_record.specs.Decoding.{change_in, IsEntryBody};
+    ghost use Rattle.mt_record.specs.Decoding.{change_in};
+    ghost use Rattle.mt_record.specs.Steps.Kept.{AreKeptEntries};
 
     ghost Value = { List Change };
 
     ghost view = { λ e. map change_in e.bodies };
 
-    ghost invariant = { λ e. All IsEntryBody e.bodies };
+    ghost invariant = { λ e. AreKeptEntries e.bodies e.rising };
 }
 
 impl KeptEntries {
@@ -41,6 +45,7 @@ impl KeptEntries {
     {
         KeptEntries {
             bodies: ByteStrings::new(alloc),
+            rising: true,
         }
     }
 
@@ -66,13 +71,30 @@ impl KeptEntries {
     {
         spelled::change(self.bodies.get(number)).key
     }
+
+    /// Returns whether the keys strictly rise.
+    pub fn is_rising(&self) -> bool
+        ensures { IsTrue result ↔ AreRising (map (λ entry. entry.key) self.now) }
+    {
+        self.rising
+    }
+
+    /// Returns whether the keys strictly rise, with this one after them.
+    fn is_rising_to(&self, key: &[u8]) -> bool
+        ensures { IsTrue result ↔ AreRising (map (λ entry. entry.key) self.now ++ key.now ∷ []) }
+    {
+        let count = self.len();
+        self.rising && (count == 0 || self.key(count - 1) < key)
+    }
 }
 
 impl Entries for KeptEntries {
     ghost listed = { λ entries. entries };
 
     fn put_entry(&mut self, fields: &[u8]) -> Result<(), Memory> {
+        let rising = self.is_rising_to(fields_of(fields).key);
         self.bodies.push_joined(BEFORE_FIELDS, fields)?;
+        self.rising = rising;
         Ok(())
     }
 

@@ -1,8 +1,9 @@
 use Rattle.std.proofs.Common.{◌≡◌, ◌<◌, ◌-◌, ℕ, length, get_or, ap, ◌∙◌, arith}
 use Rattle.std.proofs.lemmas.List.{length-map}
 use Rattle.mt_words.specs.declared.record.Change.{Change}
+use Rattle.mt_record.proofs.RisingKeys.{key_at}
 use Rattle.mt_scan.specs.Choice.{entry_keys}
-use Rattle.mt_scan.proofs.RisingLemmas.{key_at, last_behind}
+use Rattle.mt_scan.proofs.RisingLemmas.{last_behind}
 use Rattle.mt_scan.proofs.rising.last_key.Goals as goal
 
 pub returns : goal.returns

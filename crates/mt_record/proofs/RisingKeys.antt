@@ -1,0 +1,67 @@
+-- Keys of entries, and keys that strictly rise.
+use Rattle.std.proofs.Common.{◌≡◌, ◌∙◌, ◌↔◌, ℕ, suc, ◌-◌, ◌<◌, IsTrue, List, [], ◌∷◌, ◌++◌, length, map, get_or, refl, sym, ap, subst, arith}
+use Rattle.std.specs.List.{AllByRecursion}
+use Rattle.std.specs.Ordering.{nat_cmp, is_lt}
+use Rattle.std.specs.declared.cmp.Ordering.{Ordering}
+use Rattle.std.specs.declared.cmp.Ordering.TheVariants.{Less, Equal, Greater}
+use Rattle.std.specs.Cmp.Lexicographic.{slice_cmp}
+use Rattle.std.proofs.lemmas.List.{get_or-map}
+use Rattle.std.proofs.lemmas.Cmp.{nat_list_cmp_total}
+use Rattle.mt_words.specs.declared.record.Change.{Change}
+use Rattle.mt_words.specs.declared.update.Kind.TheVariants.{Remove}
+use Rattle.mt_words.specs.Words.{IsBelow, AreRising}
+
+abbrev pub AreAbove : List ℕ → List (List ℕ) → Type 0
+AreAbove x xs = AllByRecursion (IsBelow x) xs
+
+is_less : (o : Ordering) → IsTrue (is_lt o) → o ≡ Less
+is_less Less h = refl
+is_less Equal h = cc
+is_less Greater h = cc
+
+below_trans : (a b c : List ℕ) → IsBelow a b → IsBelow b c → IsBelow a c
+below_trans a b c h k = ap is_lt (nat_list_cmp_total.trans a b c (is_less (slice_cmp nat_cmp a b) h) (is_less (slice_cmp nat_cmp b c) k))
+
+-- keys that are above another one are above each key below it
+pub above_all : (x y : List ℕ) (ys : List (List ℕ)) → IsBelow x y → AreAbove y ys → AreAbove x ys
+above_all x y [] h are = tt
+above_all x y (z ∷ zs) h are = (below_trans x y z h are.0, above_all x y zs h are.1)
+
+above_front : (x : List ℕ) (xs ys : List (List ℕ)) → AreAbove x (xs ++ ys) → AreAbove x xs
+above_front x [] ys are = tt
+above_front x (y ∷ xs) ys are = (are.0, above_front x xs ys are.1)
+
+-- the front of a rising list rises
+pub rise_front : (xs ys : List (List ℕ)) → AreRising (xs ++ ys) → AreRising xs
+rise_front [] ys rise = tt
+rise_front (x ∷ xs) ys rise = (above_front x xs ys rise.0, rise_front xs ys rise.1)
+
+-- the last of at least two keys is the last of them without the first
+last_at : (k l : List ℕ) (ks : List (List ℕ)) (last : List ℕ) → last ≡ get_or (k ∷ l ∷ ks) (length (k ∷ l ∷ ks) - 1) last → last ≡ get_or (l ∷ ks) (length (l ∷ ks) - 1) last
+last_at k l ks last at =
+    let e : length (k ∷ l ∷ ks) - 1 ≡ suc (length (l ∷ ks) - 1) = omega arith in
+    at ∙ ap (λ (n : ℕ). get_or (k ∷ l ∷ ks) n last) e
+
+-- rising keys rise with one more key, if it is above the last of them
+rise_push : (keys : List (List ℕ)) (last key : List ℕ) → 0 < length keys → last ≡ get_or keys (length keys - 1) last → AreRising keys → IsBelow last key → AreRising (keys ++ key ∷ [])
+rise_push [] last key some at rise below = absurd (omega (arith, some))
+rise_push (k ∷ []) last key some at rise below = ((subst (λ (x : List ℕ). IsBelow x key) at below, tt), (tt, tt))
+rise_push (k ∷ l ∷ ks) last key some at rise below =
+    let rest : AreRising (l ∷ ks ++ key ∷ []) = rise_push (l ∷ ks) last key (omega arith) (last_at k l ks last at) rise.1 below in
+    ((rise.0.0, above_all k l (ks ++ key ∷ []) rise.0.0 rest.0), rest)
+
+-- the last of rising keys is above the one before it
+above_last : (keys : List (List ℕ)) (last key : List ℕ) → 0 < length keys → last ≡ get_or keys (length keys - 1) last → AreRising (keys ++ key ∷ []) → IsBelow last key
+above_last [] last key some at rise = absurd (omega (arith, some))
+above_last (k ∷ []) last key some at rise = subst (λ (x : List ℕ). IsBelow x key) (sym at) rise.0.0
+above_last (k ∷ l ∷ ks) last key some at rise = above_last (l ∷ ks) last key (omega arith) (last_at k l ks last at) rise.1
+
+-- rising keys rise with one more key exactly if it is above the last of them
+pub rise_to : (keys : List (List ℕ)) (last key : List ℕ) → 0 < length keys → last ≡ get_or keys (length keys - 1) last → AreRising keys → IsBelow last key ↔ AreRising (keys ++ key ∷ [])
+rise_to keys last key some at rise = (rise_push keys last key some at rise, above_last keys last key some at)
+
+-- the key of an entry is the key at its position in the list of all keys
+pub key_at : (entries : List Change) (n : ℕ) (key : List ℕ) → n < length entries → ((d : Change) → key ≡ (get_or entries n d).key) → key ≡ get_or (map (λ (entry : Change). entry.key) entries) n key
+key_at entries n key below is =
+    let d : Change = record { version = 0; key = []; kind = Remove } in
+    is d ∙ sym (get_or-map (λ (entry : Change). entry.key) entries n d key below)
