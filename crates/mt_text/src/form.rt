@@ -1,4 +1,8 @@
 //! The forms in which pairs are printed.
+ghost use Rattle.std.specs.Prelude.{◌≡◌, ◌↔◌, IsTrue, OnOk, false};
+ghost use Rattle.std.specs.Io.KnownBytes.{Appends};
+ghost use Rattle.mt_text.specs.Forms.{IsDump, absent_text};
+
 use crate::digits::write_hex;
 use crate::escapes::is_plain;
 use crate::json::write_name;
@@ -17,7 +21,9 @@ pub struct Form {
 
 impl Form {
     /// Returns whether this is the form of the dump.
-    pub fn is_dump(self) -> bool {
+    pub fn is_dump(self) -> bool
+        ensures { IsTrue result ↔ IsDump self }
+    {
         !self.is_json && !self.is_text
     }
 
@@ -30,34 +36,58 @@ impl Form {
     }
 
     /// Prints that a key is absent. Err: write error.
-    pub fn write_absent<W: Write>(self, out: &mut W) -> io::Result<()> {
+    pub fn write_absent<W: Write>(self, out: &mut W) -> io::Result<()>
+        ensures { self.is_json ≡ false → OnOk result (Appends (W.contents out.old) (W.contents out.new) absent_text) }
+    {
         out.write_all(if self.is_json { b"null\n" } else { b"absent\n" })
     }
 
     /// Prints bytes, in JSON as a string. Err: write error.
     pub(crate) fn write_bytes<W: Write>(self, bytes: &[u8], out: &mut W) -> io::Result<()> {
-        let quote: &[u8] = if self.is_json { b"\"" } else { b"" };
-        out.write_all(quote)?;
+        self.write_quote(out)?;
         if self.is_text {
             self.write_text(bytes, out)?;
         } else {
             write_hex(bytes, out)?;
         }
-        out.write_all(quote)
+        self.write_quote(out)
     }
 
-    /// Prints bytes as text. In a JSON string two backslashes stand for one.
+    /// Prints a key as `write_bytes` prints bytes, but as text with an escape for a `-` that it begins with: an argument
+    /// with a first `-` is an option.
+    fn write_key<W: Write>(self, key: &[u8], out: &mut W) -> io::Result<()> {
+        match key {
+            [b'-', rest @ ..] if self.is_text => {
+                self.write_quote(out)?;
+                self.write_escape(b'-', out)?;
+                self.write_text(rest, out)?;
+                self.write_quote(out)
+            }
+            _ => self.write_bytes(key, out),
+        }
+    }
+
+    /// Prints what stands before and after a string in JSON.
+    fn write_quote<W: Write>(self, out: &mut W) -> io::Result<()> {
+        out.write_all(if self.is_json { b"\"" } else { b"" })
+    }
+
+    /// Prints bytes as text.
     fn write_text<W: Write>(self, bytes: &[u8], out: &mut W) -> io::Result<()> {
-        let escape: &[u8] = if self.is_json { b"\\\\x" } else { b"\\x" };
         for byte in bytes {
             if is_plain(*byte) {
                 out.write_all(&[*byte])?;
             } else {
-                out.write_all(escape)?;
-                write_hex(&[*byte], out)?;
+                self.write_escape(*byte, out)?;
             }
         }
         Ok(())
+    }
+
+    /// Prints the escape of a byte. In a JSON string two backslashes stand for one.
+    fn write_escape<W: Write>(self, byte: u8, out: &mut W) -> io::Result<()> {
+        out.write_all(if self.is_json { b"\\\\x" } else { b"\\x" })?;
+        write_hex(&[byte], out)
     }
 }
 
@@ -79,7 +109,7 @@ impl Printer {
         if self.form.is_json {
             return self.write_object(key, columns, out);
         }
-        self.form.write_bytes(key, out)?;
+        self.form.write_key(key, out)?;
         out.write_all(b":")?;
         for column in columns.as_slice() {
             if self.wanted.has(column.number) {
@@ -98,7 +128,7 @@ impl Printer {
         out: &mut W,
     ) -> io::Result<()> {
         write_name(b"{", b"key", out)?;
-        self.form.write_bytes(key, out)?;
+        self.form.write_key(key, out)?;
         write_name(b",", b"columns", out)?;
         out.write_all(b"{")?;
         let mut sign = "";
