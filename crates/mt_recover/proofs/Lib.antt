@@ -14,6 +14,7 @@ pub mod PiecesLemmas
 pub mod SharingLemmas
 pub mod ScanLemmas
 pub mod ReportLemmas
+pub mod FedLemmas
 pub mod VersionLemmas
 pub mod Preparing
 pub mod Assembles

@@ -297,14 +297,14 @@ fault_in_memory log bytes of_log.Memory is = (tt, refl)
 fault_in_memory log bytes of_log.Header is = ((refl, is (λ same. cc)), refl)
 fault_in_memory log bytes (of_log.Record nth what) is = ((refl, is (λ same. cc)), refl)
 
-outcome_in_memory : (limit log : ℕ) (bytes : List ℕ) (outcome : Result LogScan Fault) → IfOk outcome (IsScanOf log bytes) → IfErr outcome (IsLogVerdict log bytes) → IsLogOutcome limit log (in_memory bytes) outcome
+pub outcome_in_memory : (limit log : ℕ) (bytes : List ℕ) (outcome : Result LogScan Fault) → IfOk outcome (IsScanOf log bytes) → IfErr outcome (IsLogVerdict log bytes) → IsLogOutcome limit log (in_memory bytes) outcome
 outcome_in_memory limit log bytes (Ok scan) is fails = record { scan = (bytes, refl, record { log = is.log; is_reading = is.is_reading; shows = shows_all log limit scan is.log is.shows }); fault = tt; steady = λ _. refl }
 outcome_in_memory limit log bytes (Err fault) is fails =
     let both = fault_in_memory log bytes fails.of_bytes fails.answered in
     rw fails.is (record { scan = tt; fault = (bytes, refl, both.0); steady = λ _. both.1 })
 
 -- one more item in each list
-all_from_push : {A B : Type 0} (R : ℕ → A → B → Type 0) (number : ℕ) (xs : List A) (ys : List B) (x : A) (y : B) → AllFrom R number xs ys → R (number + length ys) x y → AllFrom R number (xs ++ x ∷ []) (ys ++ y ∷ [])
+pub all_from_push : {A B : Type 0} (R : ℕ → A → B → Type 0) (number : ℕ) (xs : List A) (ys : List B) (x : A) (y : B) → AllFrom R number xs ys → R (number + length ys) x y → AllFrom R number (xs ++ x ∷ []) (ys ++ y ∷ [])
 all_from_push R number [] [] x y all one = (rw add-zero at one, tt)
 all_from_push R number [] (b ∷ bs) x y all one = absurd all
 all_from_push R number (a ∷ rest) [] x y all one = absurd all

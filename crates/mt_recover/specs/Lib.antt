@@ -6,6 +6,7 @@ pub mod Verdict
 pub mod Program
 pub mod Inputs
 pub mod Check
+pub mod Fed
 pub mod Job
 pub mod Hauls
 pub mod Prepared

@@ -9,7 +9,7 @@ ghost use Rattle.mt_scan.specs.Segments.{AreWriters};
 ghost use Rattle.mt_recover.specs.Steps.Preparing.{IsFoundOf, IsWritersFault};
 ghost use Rattle.mt_recover.specs.Inputs.{OfSources, IsAnsweredBy};
 ghost use Rattle.mt_recover.specs.Check.{IsStartOf};
-ghost use Rattle.mt_recover.specs.Steps.Outcomes.{AreOutcomes, AreOutcomesTo};
+ghost use Rattle.mt_recover.specs.Steps.Outcomes.{AreOutcomes, AreOutcomesTo, AreAllOk};
 ghost use Rattle.mt_recover.specs.Recovery.{begin_of as begin_in};
 
 use crate::by_workers::all_done;
@@ -48,6 +48,7 @@ pub(crate) fn find(alloc: Global, outcomes: Outcomes) -> Result<Found, Fault>
         IfOk result (λ found. OfSources (λ seen. seen) logs parts (λ ls ps. IsStartOf ls ps found.start)) }
     ensures fault { (limit : ℕ) (logs parts : List Seen) → AreOutcomesTo limit logs parts outcomes →
         IfErr result (IsAnsweredBy (λ seen. seen) logs parts) }
+    ensures whole { OnOk result (AreAllOk outcomes) }
 {
     let scans = all_done(alloc, outcomes.logs)?;
     check_writers(&scans)?;

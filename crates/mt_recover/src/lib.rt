@@ -4,6 +4,8 @@
 //! `Report`. A caller with threads of its own takes the three steps of `recover` itself: `prepare` makes a `Job`,
 //! `work` replays pieces of it into a `Haul`, and `assemble` makes the store of all hauls.
 //!
+//! `Fed` takes logs and parts that the caller reads and feeds itself, and recovers from these as `recover_one` does.
+//!
 //! `audit` answers from the same `Inputs`, without a store: it finds the versions of a key that several updates share.
 //!
 //! ```
@@ -23,6 +25,7 @@ mod by_workers;
 mod checking;
 mod dividing;
 mod failure;
+mod fed;
 mod found;
 mod haul;
 mod job;
@@ -42,6 +45,7 @@ pub use assembling::assemble;
 pub use auditing::audit;
 pub use checking::{check_logs, check_parts, start_of};
 pub use failure::{Failure, Refusal};
+pub use fed::Fed;
 pub use found::Start;
 pub use haul::Haul;
 pub use job::{Job, prepare};

@@ -1,9 +1,9 @@
 //! Recovery from sources, on one thread or by workers, and from logs in memory.
-ghost use Rattle.std.specs.Prelude.{◌≡◌, [], List, ℕ, map, length, All, IfOk, IfErr};
+ghost use Rattle.std.specs.Prelude.{◌≡◌, [], List, ℕ, map, length, All, IfOk, IfErr, OnOk};
 ghost use Rattle.mt_scan.specs.Sources.{Seen};
 ghost use Rattle.mt_recover.specs.Hauls.{HasWorked, HaveWorked};
 ghost use Rattle.mt_recover.specs.Inputs.{IsRecoveryFrom};
-ghost use Rattle.mt_recover.specs.Steps.Outcomes.{AreOutcomes};
+ghost use Rattle.mt_recover.specs.Steps.Outcomes.{AreOutcomes, AreAllOk};
 ghost use Rattle.mt_recover.specs.Steps.Preparing.{IsFound, IsFoundOf};
 ghost use Rattle.mt_recover.specs.Report.{IsRecoveredOf, Outcome};
 ghost use Rattle.mt_recover.specs.Verdict.{IsVerdictOrMemory};
@@ -143,9 +143,10 @@ pub fn recover_logs(alloc: Global, logs: &[&[u8]]) -> Result<Recovered, Fault>
 }
 
 /// Recovers from these answers of the scans, on one thread and in one piece.
-fn recover_scanned(alloc: Global, outcomes: Outcomes) -> Result<Recovered, Fault>
+pub(crate) fn recover_scanned(alloc: Global, outcomes: Outcomes) -> Result<Recovered, Fault>
     requires { (logs parts : List Seen) × AreOutcomes logs parts outcomes }
-    ensures { (logs parts : List Seen) → AreOutcomes logs parts outcomes → IsRecoveryFrom (λ seen. seen) logs parts result }
+    ensures recovery { (logs parts : List Seen) → AreOutcomes logs parts outcomes → IsRecoveryFrom (λ seen. seen) logs parts result }
+    ensures whole { OnOk result (AreAllOk outcomes) }
 {
     let found = find(alloc, outcomes)?;
     Ok(replay_whole(alloc, found)?)

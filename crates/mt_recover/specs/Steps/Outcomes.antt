@@ -1,13 +1,15 @@
 -- The answers of the scans of sources.
-use Rattle.std.specs.Prelude.{◌≡◌, ℕ, IsTrue, true, false, Option, Some, None, List, [], ◌∷◌, length, Result, Ok, Err, IfOk, IfErr}
+use Rattle.std.specs.Prelude.{◌≡◌, ℕ, IsTrue, Option, None, List, [], ◌∷◌, map, Result, Ok, Err, IfOk, IfErr}
 use Rattle.std.specs.List.{filter_map}
 use Rattle.mt_words.specs.declared.fault.Fault.{Fault}
 use Rattle.mt_board.specs.Board.{least_of}
 use Rattle.mt_scan.specs.declared.log_scan.LogScan.{LogScan}
+use Rattle.mt_scan.specs.declared.part_scan.PartScan.{PartScan}
 use Rattle.mt_scan.specs.Sources.{Seen}
 use Rattle.mt_scan.specs.Scans.{OfTold, IsScanFault, failures_of}
 use Rattle.mt_scan.specs.Dropping.{HasAllBelow, noted_for}
 pub use Rattle.mt_recover.specs.Check.{AllFrom, IsPartOutcome}
+pub use Rattle.mt_recover.specs.Fed.{in_memory}
 use Rattle.mt_recover.specs.declared.scans.Outcomes.{Outcomes}
 
 -- the answer of the scan of a log: a scan that dropped no update below `limit`, or a fault of that scan; a steady source is never reported as failed
@@ -39,6 +41,9 @@ pub record AreOutcomesTo (limit : ℕ) (logs parts : List Seen) (outcomes : Outc
 abbrev pub AreOutcomes : List Seen → List Seen → Outcomes → Type 0
 AreOutcomes logs parts outcomes = AreOutcomesTo (least_of (lasts outcomes.logs.items)) logs parts outcomes
 
--- bytes in memory as a contract sees them: a steady source that reports these bytes
-abbrev pub in_memory : List ℕ → Seen
-in_memory bytes = record { told = Some bytes; bound = length bytes; failures = 0; steady = true; shown = []; spent = false }
+-- no scan has a fault
+pub record AreAllOk (outcomes : Outcomes) : Type 0 where
+  pub scans : List LogScan
+  pub logs : outcomes.logs.items ≡ map Ok scans
+  pub known : List PartScan
+  pub parts : outcomes.parts.items ≡ map Ok known

@@ -56,3 +56,11 @@ returns-clause-found c = λ logs parts are.
     of_shown _ of (λ ls ps is.
     let shown = rw c.in_ok-scans.ensures.done at is in
     found_of ls ps c.in_ok-scans.scans c.in-Some.cutoff _ c.in_ok-choice.choice (search rules) c.begin_of-begin.ensures shown (gap_of _ ls ps c.in_ok-scans.scans.items c.in-Some.cutoff _ c.in_ok-choice.choice None c.begin_of-begin.ensures gap shown))
+
+pub returns-clause-whole : goal.returns-clause-whole
+returns-clause-whole c = record {
+  scans = c.in_ok-scans.scans.items;
+  logs = c.in_ok-scans.ensures.done;
+  known = c.in_ok-parts.parts.items;
+  parts = c.in_ok-parts.ensures.done;
+}

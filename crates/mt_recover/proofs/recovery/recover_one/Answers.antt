@@ -10,4 +10,4 @@ returns-in_err-outcomes g c =
     answer_without_memory g.S.Source.seen c.args.inputs.logs.items c.args.inputs.parts.items IsRecoveredOf c.from_residual.result (p.1 ∙ ap Err p.2)
 
 pub returns : goal.returns
-returns g c = answer_seen g.S.Source.seen c.args.inputs.logs.items c.args.inputs.parts.items IsRecoveredOf c.recover_scanned.result (c.recover_scanned.ensures _ _ c.in_ok-outcomes.ensures)
+returns g c = answer_seen g.S.Source.seen c.args.inputs.logs.items c.args.inputs.parts.items IsRecoveredOf c.recover_scanned.result (c.recover_scanned.ensures.recovery _ _ c.in_ok-outcomes.ensures)

@@ -1,0 +1,21 @@
+use Rattle.std.proofs.Common.{[], ◌∷◌, ◌++◌, None, Err, refl, sym, subst, arith}
+use Rattle.mt_words.specs.declared.fault.Fault.TheVariants as faults
+use Rattle.mt_recover.specs.Fed.{AreFed}
+use Rattle.mt_recover.proofs.FedLemmas.{part_more}
+use Rattle.mt_recover.proofs.fed.Fed.fail_part.Goals as goal
+
+pub invariant_of-self-2 : goal.invariant_of-self-2
+invariant_of-self-2 c =
+    let held = c.self.inside.outcomes in
+    let was = c.self.invariant in (
+      was.0,
+      was.1 ++ None ∷ [],
+      part_more was.0 was.1 (record { logs = held.logs.items; parts = held.parts.items }) c.push.new.self.items c.len-part.result None (Err (faults.PartSource c.len-part.result))
+          (omega (arith, c.len-part.ensures, held.parts.ok.0)) refl c.in_ok-push.ensures.items was.2,
+    )
+
+pub returns-clause-added : goal.returns-clause-added
+returns-clause-added c = λ logs parts fed.
+    let held = c.self.inside.outcomes in
+    part_more logs parts (record { logs = held.logs.items; parts = held.parts.items }) c.push.new.self.items c.len-part.result None (Err (faults.PartSource c.len-part.result))
+    (omega (arith, c.len-part.ensures, held.parts.ok.0)) refl c.in_ok-push.ensures.items (subst (AreFed logs parts) (sym c.self.view_is) fed)
