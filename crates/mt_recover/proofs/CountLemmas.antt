@@ -116,6 +116,7 @@ report_is facts report pairs survivors early layers found same before count =
         records = found.records;
         marks = found.marks;
         torn = found.torn;
+        holes = found.holes;
         ends = found.ends;
         last = found.last;
         version = found.version;

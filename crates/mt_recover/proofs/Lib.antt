@@ -16,6 +16,7 @@ pub mod ScanLemmas
 pub mod ReportLemmas
 pub mod FedLemmas
 pub mod VersionLemmas
+pub mod HoleLemmas
 pub mod Preparing
 pub mod Assembles
 pub mod Works

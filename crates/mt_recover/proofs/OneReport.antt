@@ -12,6 +12,7 @@ use Rattle.mt_scan.specs.PartScans.{KnownPart}
 use Rattle.mt_scan.specs.Choice.{CheckpointReading, AreSkipped, AreNameless}
 use Rattle.mt_replay.specs.Survivors.{is_early}
 use Rattle.mt_scan.specs.Segments.{is_first_file}
+use Rattle.mt_recover.specs.Holes.{has_hole}
 use Rattle.mt_recover.specs.Recovery.{records_of, begin_of, entry_updates, survivors}
 use Rattle.mt_recover.specs.Report.{all_records, all_versions, logged_updates, is_late, end_of, Outcome, IsRecoveredOf}
 use Rattle.mt_recover.specs.Laws.{SaysTheSame}
@@ -75,6 +76,7 @@ one_report logs parts outcome other is too =
         records = (a.records ∙ ap (λ (x : List LogReading). length (all_records x)) same.0 ∙ sym b.records) i;
         marks = (a.marks ∙ ap (λ (x : List LogReading). length (filter is_mark (all_records x))) same.0 ∙ sym b.marks) i;
         torn = (a.torn ∙ ap (λ (x : List LogReading). length (filter (λ (log : LogReading). log.torn) x)) same.0 ∙ sym b.torn) i;
+        holes = (a.holes ∙ (λ j. length (filter (has_hole (record { begin = begin_of (same.3 j); cutoff = same.1 j }) (same.0 j)) (same.0 j))) ∙ sym b.holes) i;
         ends = outcome.report.ends;
         last = one_greatest (flat_map times_of is.store.basis.facts.readings) (flat_map times_of too.store.basis.facts.readings) outcome.report.last other.report.last (ap (flat_map times_of) same.0) a.last b.last i;
         version = one_greatest (0 ∷ all_versions is.store.basis.facts.readings is.store.basis.facts.chosen) (0 ∷ all_versions too.store.basis.facts.readings too.store.basis.facts.chosen) outcome.report.version other.report.version (λ j. 0 ∷ all_versions (same.0 j) (same.3 j)) a.version b.version i;

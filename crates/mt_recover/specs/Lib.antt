@@ -1,4 +1,5 @@
 pub mod Recovery
+pub mod Holes
 pub mod Audit
 pub mod Report
 pub mod Laws

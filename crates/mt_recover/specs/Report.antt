@@ -11,6 +11,7 @@ use Rattle.mt_replay.specs.Survivors.{log_updates, is_early}
 use Rattle.mt_tree.specs.Layers.{CountsLayers}
 use Rattle.mt_recover.specs.declared.report.Report.{Report}
 use Rattle.mt_scan.specs.Segments.{is_first_file}
+use Rattle.mt_recover.specs.Holes.{has_hole}
 use Rattle.mt_recover.specs.Recovery.{Facts, IsStoreOf, records_of, begin_of, survivors, entry_updates}
 
 -- the complete records of all logs
@@ -40,6 +41,7 @@ pub record IsFoundIn {log_bytes part_bytes : List (List ℕ)} (facts : Facts log
   pub records : report.records ≡ length (all_records facts.readings)
   pub marks : report.marks ≡ length (filter is_mark (all_records facts.readings))
   pub torn : report.torn ≡ length (filter (λ log. log.torn) facts.readings)
+  pub holes : report.holes ≡ length (filter (has_hole (record { begin = begin_of facts.chosen; cutoff = facts.cutoff }) facts.readings) facts.readings)
   pub ends : report.ends.items ≡ map end_of facts.readings
   pub last : IsGreatestOf (flat_map times_of facts.readings) report.last
   pub version : IsGreatestOf (0 ∷ all_versions facts.readings facts.chosen) report.version

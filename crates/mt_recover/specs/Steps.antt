@@ -4,3 +4,4 @@ pub mod Assembling
 pub mod Outcomes
 pub mod Scanning
 pub mod Preparing
+pub mod Holes

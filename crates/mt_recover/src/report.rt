@@ -13,6 +13,7 @@ ghost use Rattle.mt_recover.specs.Steps.Preparing.{IsFoundOf, entry_versions};
 ghost use Rattle.mt_recover.specs.Recovery.{entry_updates};
 
 use crate::found::{Found, Start};
+use crate::holes::hole_count;
 use mt_record::{KeptEntries, PartText};
 use mt_scan::{Checkpoint, Choice, LogScan, writer_count};
 use mt_words::Memory;
@@ -32,6 +33,8 @@ pub struct Report {
     pub marks: u128,
     /// The number of log files that end in a torn tail.
     pub torn: usize,
+    /// The number of log files with a hole before them: updates that may be missing after the segment directly before it.
+    pub holes: usize,
     /// For each log file, in their order, where its complete records end: the number of bytes of the header and of these
     /// records, counted up to 2^64 - 1.
     pub ends: Vec<u64>,
@@ -96,6 +99,7 @@ impl Report {
             cutoff: window.cutoff,
             checkpoint: chosen.as_ref().map(|checkpoint| checkpoint.number),
             begin: window.begin,
+            holes: hole_count(&scans, window),
             skipped,
             nameless,
             entries: entry_count(&chosen),

@@ -13,6 +13,7 @@ use Rattle.mt_scan.specs.declared.log_scan.LogScan.{LogScan}
 use Rattle.mt_scan.specs.Scans.{last_in}
 use Rattle.mt_scan.specs.Choice.{CheckpointReading}
 use Rattle.mt_replay.specs.declared.window.Window.{Window}
+use Rattle.mt_recover.specs.Holes.{has_hole}
 use Rattle.mt_recover.specs.Recovery.{entry_updates}
 use Rattle.mt_recover.specs.Report.{all_versions}
 use Rattle.mt_recover.proofs.VersionLemmas.{greatest_is}
@@ -54,5 +55,9 @@ returns-clause-report c =
       begin = ap (λ (w : Window). w.begin) is.start.window;
       skipped = is.start.skipped;
       nameless = is.start.nameless;
+      holes =
+          let holes : c.hole_count.result ≡ length (filter (has_hole found.start.window is.start.basis.facts.readings) is.start.basis.facts.readings) =
+          (rw c.deref-8.ensures.value at c.hole_count.ensures) is.start.basis.facts.readings numbers in
+          holes ∙ ap (λ (w : Window). length (filter (has_hole w is.start.basis.facts.readings) is.start.basis.facts.readings)) is.start.window;
       entries = c.entry_count.ensures ∙ ap (λ (o : Option CheckpointReading). length (entry_updates o)) is.start.chosen;
     }
