@@ -311,23 +311,29 @@ def run_told(work, tells, folder, *words):
 
 
 def told_calls(told, folder):
-    paths, calls = {}, []
-    for line in told.read_text().splitlines():
-        call, *words = line.split(" ")
-        if call in ("open", "create"):
-            paths[words[0]] = words[1]
-        path = Path(paths.get(words[0], words[0]))
-        if call == "create":
-            calls.append((call, Path(words[1]).name))
-        elif call == "write" and path.parent == folder:
-            calls.append(("append", path.name, bytes.fromhex(words[1])))
-        elif call == "sync" and path == folder:
-            calls.append(("sync",))
-        elif call == "sync" and path.parent == folder:
-            calls.append(("sync_file", path.name))
-        elif call in ("rename", "delete"):
-            calls.append((call, *(Path(word).name for word in words)))
-    return calls
+    paths = {}
+    return [call for line in told.read_text().splitlines() if (call := told_call(line, folder, paths))]
+
+
+def told_call(line, folder, paths):
+    """Returns the call of a line as that of a disk, or None if it changed nothing in this folder. Keeps which paths are open."""
+    call, *words = line.split(" ")
+    if call in ("open", "create"):
+        paths[words[0]] = words[1]
+    path = Path(paths.get(words[0], words[0]))
+    if call == "create":
+        return call, Path(words[1]).name
+    if call == "write" and path.parent == folder:
+        return "append", path.name, bytes.fromhex(words[1])
+    if call == "sync" and path == folder:
+        return ("sync",)
+    if call == "sync" and path.parent == folder:
+        return "sync_file", path.name
+    if call == "rename":
+        paths.update({file: words[1] for file, named in paths.items() if named == words[0]})
+    if call in ("rename", "delete"):
+        return call, *(Path(word).name for word in words)
+    return None
 
 
 def end():
