@@ -51,9 +51,11 @@ pub enum Way<'a> {
         number: usize,
         line: &'a str,
     },
-    /// By the run of a command, which must end as these lines say, on the outputs of a line, which may be empty.
+    /// By the run of a command, which must end as these lines say, on this standard input and the outputs of a line,
+    /// which may be empty.
     Run {
         run: &'a Run,
+        input: &'a [u8],
         ends: &'a str,
         outputs: &'a str,
     },
@@ -109,6 +111,10 @@ impl Case {
                 Ok(self.outputs.push(String::from_str(alloc, line)?)?)
             }
             ["run", ..] => self.add_run(alloc, line, words),
+            ["types", line @ ..] => match self.groups.last_mut() {
+                Some(group) if !group.is_whole() => push_line(alloc, line, &mut group.input),
+                _ => Err(Mistake::NO_RUN),
+            },
             ["prints" | "errs" | "status", ..] => match self.groups.last_mut() {
                 Some(group) => group.expect(line),
                 None => Err(Mistake::NO_RUN),
@@ -188,7 +194,13 @@ impl Case {
             for run in &group.runs {
                 for outputs in &self.outputs {
                     let (ends, outputs) = (group.ends.as_str(), outputs.as_str());
-                    ways.push(Way::Run { run, ends, outputs })?;
+                    let input = group.input.as_slice();
+                    ways.push(Way::Run {
+                        run,
+                        input,
+                        ends,
+                        outputs,
+                    })?;
                 }
             }
         }
@@ -248,10 +260,15 @@ impl Case {
             _ => self.size.unwrap_or(LONGEST_BUFFER),
         };
         let answer = match way {
-            Way::Run { run, ends, outputs } => {
+            Way::Run {
+                run,
+                input,
+                ends,
+                outputs,
+            } => {
                 let outputs = outputs_of(rt.alloc(), &words_of(rt.alloc(), outputs)?)?;
                 let found = if self.drafts.is_empty() {
-                    run.end_in(rt, &self.folder, outputs)?
+                    run.end_in(rt, &self.folder, input, outputs)?
                 } else {
                     run.end_on(rt, &self.drafts, size, outputs)?
                 };

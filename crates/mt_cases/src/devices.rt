@@ -1,7 +1,25 @@
-//! The outputs of commands.
+//! The inputs and outputs of commands.
 use crate::mistake::Mistake;
 use std::alloc::Global;
-use std::io::{self, ErrorKind, Write};
+use std::io::{self, ErrorKind, IsTerminal, Read, Write};
+
+/// A standard input, with the bytes that are still to be read.
+#[derive(Drop)]
+pub struct Input<'a> {
+    pub rest: &'a [u8],
+}
+
+impl<'a> Read for Input<'a> {
+    fn read(&mut self, bytes: &mut [u8]) -> io::Result<usize> {
+        self.rest.read(bytes)
+    }
+}
+
+impl<'a> IsTerminal for Input<'a> {
+    fn is_terminal(&self) -> bool {
+        false
+    }
+}
 
 /// An output, and what was written to it.
 #[derive(Drop)]

@@ -1,5 +1,5 @@
 //! The commands of a case, and how they end.
-use crate::devices::Output;
+use crate::devices::{Input, Output};
 use crate::draft::Draft;
 use crate::folder::{self, Entry};
 use crate::mistake::Mistake;
@@ -28,6 +28,8 @@ pub struct Run {
 #[derive(Drop)]
 pub struct Group {
     pub runs: Vec<Run>,
+    /// What each of them reads on standard input.
+    pub input: Vec<u8>,
     /// The lines that say how they must end.
     pub ends: String,
 }
@@ -36,7 +38,8 @@ impl Group {
     /// Creates the group of one command. It must print nothing, and end with status 0.
     pub fn of(alloc: Global, run: Run) -> Result<Group, Mistake> {
         let (runs, ends) = (vec![in alloc; run]?, String::new(alloc));
-        Ok(Group { runs, ends })
+        let input = Vec::new(alloc);
+        Ok(Group { runs, input, ends })
     }
 
     /// Whether a line says how the commands must end.
@@ -78,11 +81,12 @@ impl Run {
         })
     }
 
-    /// Runs the command in the folder of these entries, which is there only meanwhile.
+    /// Runs the command in the folder of these entries, which is there only meanwhile, on this standard input.
     pub fn end_in<R>(
         &self,
         rt: &R,
         entries: &[Entry],
+        input: &[u8],
         outputs: (Output, Output),
     ) -> Result<Ends, Mistake>
     where
@@ -94,7 +98,8 @@ impl Run {
         let status = if self.is_mtdump {
             dump_files(rt, &self.words, &mut out, &mut err)
         } else {
-            run_words(rt, &self.words, &mut out, &mut err)
+            let mut input = Input { rest: input };
+            run_words(rt, &self.words, &mut input, false, &mut out, &mut err)
         };
         folder::remove(rt)?;
         let (out, err) = (out.text, err.text);

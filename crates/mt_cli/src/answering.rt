@@ -1,16 +1,21 @@
 //! Answers a query, from the recovered store or by an audit.
-ghost use Rattle.std.specs.Prelude.{◌≤◌};
+ghost use Rattle.std.specs.Prelude.{◌≡◌, ◌≤◌, None, List, ℕ, OnOk};
+ghost use Rattle.std.specs.Io.KnownBytes.{Appends};
+ghost use Rattle.mt_text.specs.Forms.{IsDump};
+ghost use Rattle.mt_text.specs.Pairs.{dump_text};
+ghost use Rattle.mt_cli.specs.Answers.{IsTextOf, IsAnswer};
+ghost use Rattle.mt_cli.specs.Ranges.{range_of};
 
-use crate::caveat::{Caveat, Losses};
+use crate::caveat::{Caveat, Losses, tell_losses};
 use crate::failure::tell_outcome;
 use crate::file_names::Names;
-use crate::request::{Folder, Query, StoreQuery};
+use crate::request::{Folder, Query, Range, StoreQuery};
 use mt_recover::{
     Clash, Cutting, Failure, Inputs, NoGate, Pieces, Recovered, Refusal, Report, Store, Workers,
     audit, recover, write_dump,
 };
 use mt_scan::Source;
-use mt_text::{Fields, Form, Printer, write_hex};
+use mt_text::{Fields, Form, Lines, Printer, write_hex, write_pair};
 use mt_words::Key;
 use std::fs::Files;
 use std::io::{self, BufWriter, Write};
@@ -31,39 +36,47 @@ pub fn answer<R: AllocGlobal + Files + Threads + Sync, S: Source + Send, O: Writ
 ) -> u8
     ensures status { result ≤ 4 }
 {
-    let outcome = answer_query(rt, folder.workers, query, inputs, out);
+    let outcome = answer_query(rt, folder, query, inputs, out, err);
     tell_outcome(rt, folder, names, outcome, err)
 }
 
 /// Recovers the store or audits the logs, and prints what the query asks for.
-fn answer_query<R: AllocGlobal + Threads + Sync, S: Source + Send, O: Write>(
+fn answer_query<R: AllocGlobal + Threads + Sync, S: Source + Send, O: Write, E: Write>(
     rt: &R,
-    workers: Workers,
+    folder: &Folder<'_>,
     query: &Query,
     inputs: Inputs<S>,
     out: &mut O,
+    err: &mut E,
 ) -> Result<Option<Caveat>, Refusal<'static>> {
     match query {
-        Query::Store(query, pieces) => recover_and_print(rt, inputs, workers, *pieces, query, out),
-        Query::Audit => audit_and_print(rt, inputs, workers, out),
+        Query::Store(query, pieces) => {
+            recover_and_print(rt, inputs, folder, *pieces, query, out, err)
+        }
+        Query::Audit => audit_and_print(rt, inputs, folder.workers, out),
     }
 }
 
-/// Recovers the store, and prints what the query asks for, through a buffer. The store is not freed: the process ends with
-/// its answer, and freeing a large store key by key takes a tenth of the time of its recovery.
-fn recover_and_print<R: AllocGlobal + Threads + Sync, S: Source + Send, O: Write>(
+/// Recovers the store, and prints what the query asks for, through a buffer. Then tells the losses on `err`, if they are
+/// to be told and no caveat does. The store is not freed: the process ends with its answer, and freeing a large store key by
+/// key takes a tenth of the time of its recovery.
+fn recover_and_print<R: AllocGlobal + Threads + Sync, S: Source + Send, O: Write, E: Write>(
     rt: &R,
     inputs: Inputs<S>,
-    workers: Workers,
+    folder: &Folder<'_>,
     pieces: Pieces,
     query: &StoreQuery,
     out: &mut O,
+    err: &mut E,
 ) -> Result<Option<Caveat>, Refusal<'static>> {
     let cutting = Cutting::Sampled(pieces);
-    let recovered = recover(rt, rt.alloc(), inputs, workers, cutting, &NoGate)?;
+    let recovered = recover(rt, rt.alloc(), inputs, folder.workers, cutting, &NoGate)?;
     let mut out = BufWriter::with_capacity(rt.alloc(), PRINTED_AT_ONCE, out)?;
-    let caveat = print(&recovered, query, &mut out)?;
+    let caveat = print_answer(&recovered, query, &mut out)?;
     out.flush()?;
+    if folder.tells_losses && !caveat.as_ref().is_some_and(Caveat::has_losses) {
+        tell_losses(Losses::of(recovered.report()), err);
+    }
     mem::forget(recovered);
     Ok(caveat)
 }
@@ -98,33 +111,47 @@ fn write_clash<O: Write>(clash: &Clash, out: &mut O) -> io::Result<()> {
     out.write_all(b"\n")
 }
 
-/// Prints what the query asks for.
-fn print<O: Write>(
+/// Prints what the query asks for of a recovered store. Does not flush the output.
+pub fn print_answer<O: Write>(
     recovered: &Recovered,
     query: &StoreQuery,
     out: &mut O,
-) -> Result<Option<Caveat>, Refusal<'static>> {
+) -> Result<Option<Caveat>, Refusal<'static>>
+    ensures answered { OnOk result (IsAnswer query.now recovered.now.store (O.contents out.old) (O.contents out.new)) }
+{
     let store = recovered.store();
     match query {
         StoreQuery::Report { is_json, is_strict } => {
             print_report(recovered.report(), *is_json, out)?;
-            if *is_strict {
-                return Ok(Losses::of(recovered.report()).map(Caveat::Losses));
-            }
+            Ok(losses_of(recovered.report(), *is_strict))
         }
-        StoreQuery::Exists(key) if store.get(key.as_bytes()).is_none() => {
-            return Ok(Some(Caveat::No));
+        StoreQuery::Exists(key) => Ok(no_unless(store.get(key.as_bytes()).is_some())),
+        StoreQuery::Get(key, form) => {
+            write_found(store, key, *form, out)?;
+            Ok(None)
         }
-        StoreQuery::Exists(_) => {}
-        StoreQuery::Get(key, form) => write_found(store, key, *form, out)?,
         StoreQuery::Range(range, form) => {
-            let wanted = range.wanted().ok_or(Failure::Words)?;
-            let form = *form;
-            range.visit(store, &Printer { form, wanted }, out)?;
+            print_range(store, range, *form, out)?;
+            Ok(None)
         }
-        StoreQuery::Dump(form) => print_dump(store, *form, out)?,
+        StoreQuery::Dump(form) => {
+            print_dump(store, *form, out)?;
+            Ok(None)
+        }
     }
-    Ok(None)
+}
+
+/// Returns what the report says was lost or passed over, if that is not to be.
+fn losses_of(report: &Report, is_strict: bool) -> Option<Caveat> {
+    if !is_strict {
+        return None;
+    }
+    Losses::of(report).map(Caveat::Losses)
+}
+
+/// Returns that the answer is no, unless it is yes.
+fn no_unless(is_yes: bool) -> Option<Caveat> {
+    if is_yes { None } else { Some(Caveat::No) }
 }
 
 /// Prints the report, as lines or as one JSON object.
@@ -140,15 +167,37 @@ fn print_report<O: Write>(report: &Report, is_json: bool, out: &mut O) -> io::Re
 }
 
 /// Prints the pair of the key, or that it is absent.
-fn write_found<O: Write>(store: &Store, key: &Key, form: Form, out: &mut O) -> io::Result<()> {
-    match store.get(key.as_bytes()) {
-        Some(columns) => form.printer().write(key.as_bytes(), columns, out),
+fn write_found<O: Write>(store: &Store, key: &Key, form: Form, out: &mut O) -> io::Result<()>
+    ensures { IsDump form → OnOk result ((text : List ℕ) × IsTextOf key.now store.now text × Appends (O.contents out.old) (O.contents out.new) text) }
+{
+    let key = key.as_bytes();
+    match store.get(key) {
+        Some(columns) if form.is_dump() => write_pair(key, columns, out),
+        Some(columns) => form.printer().write(key, columns, out),
         None => form.write_absent(out),
     }
 }
 
+/// Prints the pairs of a range.
+fn print_range<O: Write>(
+    store: &Store,
+    range: &Range,
+    form: Form,
+    out: &mut O,
+) -> Result<(), Refusal<'static>>
+    ensures { IsDump form → range.now.columns ≡ None → OnOk result (Appends (O.contents out.old) (O.contents out.new) (dump_text (range_of range.now store.now))) }
+{
+    if form.is_dump() && range.columns.is_none() {
+        return Ok(range.visit(store, &Lines, out)?);
+    }
+    let wanted = range.wanted().ok_or(Failure::Words)?;
+    Ok(range.visit(store, &Printer { form, wanted }, out)?)
+}
+
 /// Prints all pairs.
-fn print_dump<O: Write>(store: &Store, form: Form, out: &mut O) -> io::Result<()> {
+fn print_dump<O: Write>(store: &Store, form: Form, out: &mut O) -> io::Result<()>
+    ensures { IsDump form → OnOk result (Appends (O.contents out.old) (O.contents out.new) (dump_text store.now)) }
+{
     if form.is_dump() {
         return write_dump(store, out);
     }

@@ -19,6 +19,8 @@ pub enum Caveat {
 pub struct Losses {
     /// The number of logs with a torn tail.
     torn: u128,
+    /// The number of holes between segments.
+    holes: u128,
     /// The number of late updates.
     late: u128,
     /// The number of skipped checkpoints.
@@ -34,9 +36,21 @@ impl Caveat {
         ensures { result ≤ 4 }
     {
         if let Caveat::Losses(losses) = self {
-            let _ = writeln!(err, "mtrecover: {losses}");
+            losses.tell(err);
         }
         4
+    }
+
+    /// Returns whether `tell` prints the losses.
+    pub fn has_losses(&self) -> bool {
+        matches!(self, Caveat::Losses(_))
+    }
+}
+
+/// Prints the losses, if there are some. A write error is passed over.
+pub fn tell_losses<E: io::Write>(losses: Option<Losses>, err: &mut E) {
+    if let Some(losses) = losses {
+        losses.tell(err);
     }
 }
 
@@ -45,6 +59,7 @@ impl Losses {
     pub fn of(report: &Report) -> Option<Losses> {
         Losses::new(
             report.torn as u128,
+            report.holes as u128,
             report.late,
             report.skipped.len() as u128,
             report.nameless.len() as u128,
@@ -52,9 +67,16 @@ impl Losses {
     }
 
     /// Returns these losses. None: there are none.
-    pub fn new(torn: u128, late: u128, skipped: u128, nameless: u128) -> Option<Losses> {
+    pub fn new(
+        torn: u128,
+        holes: u128,
+        late: u128,
+        skipped: u128,
+        nameless: u128,
+    ) -> Option<Losses> {
         let losses = Losses {
             torn,
+            holes,
             late,
             skipped,
             nameless,
@@ -65,15 +87,21 @@ impl Losses {
         Some(losses)
     }
 
+    /// Prints the losses. A write error is passed over.
+    pub fn tell<E: io::Write>(&self, err: &mut E) {
+        let _ = writeln!(err, "mtrecover: {self}");
+    }
+
     /// Returns whether there are none.
     fn is_none(&self) -> bool {
         self.counts().iter().all(|(count, _, _)| *count == 0)
     }
 
     /// Returns each number, with what is counted and what became of it.
-    fn counts(&self) -> [(u128, &'static str, &'static str); 4] {
+    fn counts(&self) -> [(u128, &'static str, &'static str); 5] {
         [
             (self.torn, "log", "torn"),
+            (self.holes, "hole", "between segments"),
             (self.late, "update", "late"),
             (self.skipped, "checkpoint", "skipped"),
             (self.nameless, "part", "nameless"),

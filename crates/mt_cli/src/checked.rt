@@ -4,7 +4,7 @@ use crate::ending::Ending;
 use crate::fates::{PartState, numbers_of, write_fate};
 use crate::file_names::Names;
 use mt_record::{LogFront, Rest};
-use mt_recover::{LogCheck, Refusal, Start};
+use mt_recover::{Failure, LogCheck, Refusal, Start};
 use mt_text::Fields;
 use mt_words::Fault;
 use std::alloc::Global;
@@ -12,15 +12,21 @@ use std::io::{self, Write};
 
 /// What a check finds in the files of a folder.
 #[derive(Drop)]
-pub struct Checked {
+pub struct Checked<'a> {
     /// The check of each log, or its fault.
     pub logs: Vec<Result<LogCheck, Fault>>,
     /// What follows the complete records of each log, if something does and its file could be read again.
     pub endings: Vec<Option<Ending>>,
+    /// Where the hole before each log begins, if there is one and recovery names no fault.
+    pub holes: Vec<Option<u64>>,
     /// What is known of each part.
     pub parts: Vec<PartState>,
     /// The sizes of all files.
     pub sizes: Sizes,
+    /// Why files are unread.
+    pub reasons: Reasons,
+    /// The name of the first file that cannot be opened, if there is one.
+    pub unopened: Option<&'a str>,
     /// Where recovery begins, or the fault that it names.
     pub start: Result<Start, Fault>,
 }
@@ -32,7 +38,22 @@ pub struct Sizes {
     pub parts: Vec<Option<u64>>,
 }
 
-impl Checked {
+/// Why each file that is unread is, if the system tells.
+#[derive(Drop)]
+pub struct Reasons {
+    pub logs: Vec<Option<io::Error>>,
+    pub parts: Vec<Option<io::Error>>,
+}
+
+impl<'a> Checked<'a> {
+    /// Refuses if a file cannot be opened, as recovery does before it reads one.
+    pub fn expect_opened(&self) -> Result<(), Refusal<'a>> {
+        match self.unopened {
+            Some(name) => Err(Refusal::from(Failure::Open(name))),
+            None => Ok(()),
+        }
+    }
+
     /// Prints a line for each log, for each part, for each checkpoint, and for the cutoff. Err: write error.
     pub fn write<W: Write>(&self, names: &Names, is_json: bool, out: &mut W) -> io::Result<()> {
         for (log, name) in names.logs.iter().enumerate() {
@@ -107,13 +128,17 @@ impl Checked {
         write_file(name, self.sizes.logs.get(log), &mut line)?;
         let ending = self.endings.get(log).copied().flatten();
         match self.logs.get(log) {
-            Some(Ok(check)) => write_check(check, ending, self.start.is_ok(), &mut line)?,
+            Some(Ok(check)) => {
+                write_check(check, ending, self.start.is_ok(), &mut line)?;
+                write_hole(self.holes.get(log).copied().flatten(), &mut line)?;
+            }
             Some(Err(Fault::Header { .. })) => {
                 line.word("state", "header")?;
                 write_ending(ending, &mut line)?;
             }
             _ => line.word("state", "unread")?,
         }
+        write_reason(self.reasons.logs.get(log), &mut line)?;
         line.end()
     }
 
@@ -130,6 +155,7 @@ impl Checked {
             Some(state) => state.write(&mut line)?,
             None => line.word("state", "unread")?,
         }
+        write_reason(self.reasons.parts.get(part), &mut line)?;
         line.end()
     }
 
@@ -144,9 +170,10 @@ impl Checked {
         let Ok(start) = &self.start else {
             return None;
         };
+        let holes = self.holes.iter().filter(|hole| hole.is_some()).count() as u128;
         let skipped = start.choice.skipped.len() as u128;
         let nameless = start.choice.nameless.len() as u128;
-        Losses::new(torn, late, skipped, nameless)
+        Losses::new(torn, holes, late, skipped, nameless)
     }
 }
 
@@ -178,6 +205,17 @@ pub fn write_file<W: Write>(
     Ok(())
 }
 
+/// Prints why a file is unread, if that is known. It ends the line, since it has blanks.
+fn write_reason<W: Write>(
+    reason: Option<&Option<io::Error>>,
+    line: &mut Fields<'_, W>,
+) -> io::Result<()> {
+    match reason {
+        Some(Some(reason)) => line.word("reason", reason),
+        _ => Ok(()),
+    }
+}
+
 /// Returns the front of a log that has a header.
 fn front_of(check: &Result<LogCheck, Fault>) -> Option<&LogFront> {
     check.as_ref().ok().map(|check| &check.front)
@@ -206,6 +244,14 @@ fn write_check<W: Write>(
     line.number("from", front.from())?;
     line.number("last", front.last())?;
     line.format(&front.head)
+}
+
+/// Prints where the hole before a log begins, if there is one.
+fn write_hole<W: Write>(hole: Option<u64>, line: &mut Fields<'_, W>) -> io::Result<()> {
+    match hole {
+        Some(begin) => line.number("hole", begin),
+        None => Ok(()),
+    }
 }
 
 /// Prints what follows the complete records of a log, if that is known.

@@ -3,20 +3,20 @@ ghost use Rattle.std.specs.Prelude.{◌≤◌, IfErr, IfOk};
 
 use crate::answering::PRINTED_AT_ONCE;
 use crate::caveat::Caveat;
-use crate::checked::{Checked, Sizes};
+use crate::checked::{Checked, Reasons, Sizes};
 use crate::ending::Ending;
 use crate::failure::tell_outcome;
 use crate::fates::PartState;
 use crate::file_names::Names;
-use crate::opening::{open_all, open_rest, rack_of, size_of};
+use crate::opening::{Opened, open_each, open_rest, rack_of, size_of, why_unread};
 use crate::request::Folder;
 use mt_record::Rest;
-use mt_recover::{LogCheck, Refusal, check_logs, check_parts, start_of};
-use mt_scan::Slot;
+use mt_recover::{LogCheck, Refusal, Window, check_logs, check_parts, hole_before, start_of};
+use mt_scan::{LogScan, Slot};
 use mt_words::{Fault, Format, Memory};
 use std::alloc::Global;
 use std::fs::Files;
-use std::io::{BufWriter, Write};
+use std::io::{self, BufWriter, Write};
 use std::thread::Threads;
 
 /// Checks the files of these names, prints what is in each, and returns the exit status: 0 if recovery loses nothing, 1
@@ -56,6 +56,7 @@ where
     checked.write_choice(rt.alloc(), is_json, &mut out)?;
     out.flush()?;
     let losses = checked.losses();
+    checked.expect_opened()?;
     checked.start?;
     Ok(losses.map(Caveat::Losses))
 }
@@ -66,21 +67,26 @@ pub fn check_all<'a, R>(
     rt: &R,
     folder: &Folder<'_>,
     names: &'a Names,
-) -> Result<Checked, Refusal<'a>>
+) -> Result<Checked<'a>, Refusal<'a>>
 where
     R: AllocGlobal + Files + Threads + Sync,
     R::File: Send,
 {
     let mut rack = rack_of(rt, names)?;
-    let mut logs = check_named(rt, folder, names, rack.slots(), u64::MAX)?;
-    let sources = open_all(rt, folder.path, &names.parts, rack.slots())?;
+    let (mut logs, first) = check_named(rt, folder, names, rack.slots(), u64::MAX)?;
+    let Opened { sources, unopened } = open_each(rt, folder.path, &names.parts, rack.slots())?;
+    let mut unopened = first.or(unopened);
     let scans = check_parts(rt, rt.alloc(), sources, folder.workers)?;
-    let parts = scans.iter().map(PartState::of).collect(rt.alloc())?;
+    let parts: Vec<PartState> = scans.iter().map(PartState::of).collect(rt.alloc())?;
     let mut start = start_of(rt.alloc(), Vec::from_slice(rt.alloc(), &logs)?, scans);
+    let mut holes = Vec::new(rt.alloc());
     if let Ok(found) = &start {
-        logs = check_named(rt, folder, names, rack.slots(), found.window.cutoff)?;
-        if let Some(fault) = first_fault(rt.alloc(), &logs) {
-            start = Err(fault);
+        let again = check_named(rt, folder, names, rack.slots(), found.window.cutoff)?;
+        logs = again.0;
+        unopened = unopened.or(again.1);
+        match scans_of(rt.alloc(), &logs)? {
+            Ok(scans) => holes = holes_of(rt.alloc(), &scans, found.window)?,
+            Err(fault) => start = Err(fault),
         }
     }
     let endings = read_endings(rt, folder.path, &names.logs, &logs, rack.slots())?;
@@ -88,44 +94,68 @@ where
         logs: sizes_of(rt, folder.path, &names.logs)?,
         parts: sizes_of(rt, folder.path, &names.parts)?,
     };
+    let unread_logs = logs.iter().map(is_unread).collect(rt.alloc())?;
+    let unread_parts = parts.iter().map(PartState::is_unread).collect(rt.alloc())?;
+    let reasons = Reasons {
+        logs: reasons_of(rt, folder.path, &names.logs, unread_logs)?,
+        parts: reasons_of(rt, folder.path, &names.parts, unread_parts)?,
+    };
     Ok(Checked {
         logs,
         endings,
+        holes,
         parts,
         sizes,
+        reasons,
+        unopened,
         start,
     })
 }
 
-/// Checks the logs of these names. Updates at or past the limit count as late.
+/// Checks the logs of these names, and returns the name of the first one that cannot be opened too. Updates at or past the
+/// limit count as late.
 fn check_named<'a, R>(
     rt: &R,
     folder: &Folder<'_>,
     names: &'a Names,
     slots: &mut [Slot],
     limit: u64,
-) -> Result<Vec<Result<LogCheck, Fault>>, Refusal<'a>>
+) -> Result<(Vec<Result<LogCheck, Fault>>, Option<&'a str>), Refusal<'a>>
 where
     R: AllocGlobal + Files + Threads + Sync,
     R::File: Send,
 {
-    let sources = open_all(rt, folder.path, &names.logs, slots)?;
-    Ok(check_logs(rt, rt.alloc(), sources, folder.workers, limit)?)
+    let Opened { sources, unopened } = open_each(rt, folder.path, &names.logs, slots)?;
+    let checks = check_logs(rt, rt.alloc(), sources, folder.workers, limit)?;
+    Ok((checks, unopened))
 }
 
-/// Returns the fault of the first log that has one.
-fn first_fault(alloc: Global, checks: &[Result<LogCheck, Fault>]) -> Option<Fault> {
+/// Returns the scan of each log, without updates, or the fault of the first log that has one. Err: out of memory.
+fn scans_of(
+    alloc: Global,
+    checks: &[Result<LogCheck, Fault>],
+) -> Result<Result<Vec<LogScan>, Fault>, Memory> {
+    let mut scans = Vec::with_capacity(alloc, checks.len())?;
     for (log, check) in checks.iter().enumerate() {
-        match check {
-            Ok(check) => {
-                if let Err(fault) = check.scan(alloc, log) {
-                    return Some(fault);
-                }
-            }
-            Err(fault) => return Some(*fault),
+        let scan = match check {
+            Ok(check) => check.scan(alloc, log),
+            Err(fault) => Err(*fault),
+        };
+        match scan {
+            Ok(scan) => scans.push(scan)?,
+            Err(fault) => return Ok(Err(fault)),
         }
     }
-    None
+    Ok(Ok(scans))
+}
+
+/// Returns where the hole before each log begins. None: there is none. Err: out of memory.
+fn holes_of(alloc: Global, scans: &[LogScan], window: Window) -> Result<Vec<Option<u64>>, Memory> {
+    let mut holes = Vec::with_capacity(alloc, scans.len())?;
+    for scan in scans {
+        holes.push(hole_before(scans, window, scan))?;
+    }
+    Ok(holes)
 }
 
 /// Reads what follows the header and the complete records of each log. None: nothing does, or the file cannot be read
@@ -175,6 +205,30 @@ fn rest_of(check: &Result<LogCheck, Fault>) -> Option<(u64, Format)> {
         Err(Fault::Header { .. }) => Some((0, WIDEST)),
         Err(_) => None,
     }
+}
+
+/// Returns whether the source of a log failed.
+fn is_unread(check: &Result<LogCheck, Fault>) -> bool {
+    matches!(check, Err(Fault::Source { .. }))
+}
+
+/// Returns why each file of these names that is unread is, if the system tells.
+fn reasons_of<R: AllocGlobal + Files>(
+    rt: &R,
+    folder: &str,
+    names: &[String],
+    are_unread: Vec<bool>,
+) -> Result<Vec<Option<io::Error>>, Memory> {
+    let mut reasons = Vec::with_capacity(rt.alloc(), names.len())?;
+    for (name, is_unread) in names.iter().zip(are_unread) {
+        let reason = if is_unread {
+            why_unread(rt, folder, name.as_str())
+        } else {
+            None
+        };
+        reasons.push(reason)?;
+    }
+    Ok(reasons)
 }
 
 /// Returns the size of each file of these names, if the system tells.

@@ -2,14 +2,14 @@
 ghost use Rattle.std.specs.Prelude.{◌≤◌, ◌<◌, length};
 
 use crate::answering::PRINTED_AT_ONCE;
-use crate::caveat::Caveat;
+use crate::caveat::{Caveat, Losses, tell_losses};
 use crate::file_names::Names;
 use crate::halt::{Halt, tell_written};
 use crate::opening::{open_inputs, rack_of};
 use crate::request::{Folder, NewFolder};
 use crate::saving::{Site, make_folder};
 use mt_checkpoint::{Checkpoint, PlanFault};
-use mt_recover::{Cutting, MOST_FILES, NoGate, Recovered, Refusal, recover};
+use mt_recover::{Cutting, MOST_FILES, NoGate, Pieces, Recovered, Refusal, recover};
 use mt_text::Fields;
 use std::fs::{File, Files, OpenFile};
 use std::io::{self, BufWriter, Write};
@@ -33,23 +33,24 @@ where
     R::File: Send,
     ensures status { result ≤ 4 }
 {
-    let outcome = recover_and_write(rt, folder, new, names, out);
+    let outcome = recover_and_write(rt, folder, new, names, out, err);
     tell_written(rt, folder, names, outcome, err)
 }
 
 /// Recovers the store and writes it into a new folder. As in a query, the store is not freed.
-fn recover_and_write<'a, R, O: Write>(
+fn recover_and_write<'a, R, O: Write, E: Write>(
     rt: &R,
     folder: &Folder<'_>,
     new: &NewFolder<'_>,
     names: &'a Names,
     out: &mut O,
+    err: &mut E,
 ) -> Result<Option<Caveat>, Halt<'a>>
 where
     R: AllocGlobal + Files + Threads + Sync,
     R::File: Send,
 {
-    let recovered = recover_folder(rt, folder, new, names)?;
+    let recovered = recover_folder(rt, folder, new.pieces, names)?;
     let report = recovered.report();
     let tree = recovered.store().tree();
     let checkpoint = Checkpoint::plan(
@@ -67,16 +68,19 @@ where
     line.number("cutoff", report.cutoff)?;
     line.end()?;
     out.flush()?;
+    if folder.tells_losses {
+        tell_losses(Losses::of(report), err);
+    }
     mem::forget(checkpoint);
     mem::forget(recovered);
     Ok(None)
 }
 
-/// Recovers the store of the files of these names.
-fn recover_folder<'a, R>(
+/// Recovers the store of the files of these names. Cuts the keys into at most so many pieces.
+pub fn recover_folder<'a, R>(
     rt: &R,
     folder: &Folder<'_>,
-    new: &NewFolder<'_>,
+    pieces: Pieces,
     names: &'a Names,
 ) -> Result<Recovered, Refusal<'a>>
 where
@@ -85,7 +89,7 @@ where
 {
     let mut rack = rack_of(rt, names)?;
     let inputs = open_inputs(rt, folder.path, names, rack.slots())?;
-    let cutting = Cutting::Sampled(new.pieces);
+    let cutting = Cutting::Sampled(pieces);
     Ok(recover(rt, rt.alloc(), inputs, folder.workers, cutting, &NoGate)?)
 }
 

@@ -2,6 +2,7 @@
 ghost use Rattle.std.specs.Prelude.{◌≤◌, length, IfSome};
 
 use crate::request::Cut;
+use crate::segment_end::SegmentEnd;
 use crate::stop::Stop;
 use mt_record::{Head, LogFront, Stretch, cut_log, encode_head, header_at, salvage_records};
 use mt_recover::{Refusal, read_log};
@@ -10,26 +11,43 @@ use std::alloc::Global;
 use std::fs::Files;
 use std::io::Write;
 
-/// Prints a log of complete records of the log, byte for byte. Without `--skip` returns where they stop before the
-/// bytes do. With it tells each span of bytes that was skipped on `err`.
+/// Prints a log of complete records of the log, byte for byte, and tells on `err` what it leaves out.
 pub fn cut<'a, R: AllocGlobal + Files, O: Write, E: Write>(
     rt: &R,
     path: &'a str,
     how: &Cut,
     out: &mut O,
     err: &mut E,
-) -> Result<Option<Stop>, Refusal<'a>> {
+) -> Result<(), Refusal<'a>> {
     let bytes = read_log(rt, 0, path)?;
     if how.is_skipping {
-        salvage(rt.alloc(), &bytes, how, out, err)?;
-        return Ok(None);
+        return Ok(salvage(rt.alloc(), &bytes, how, out, err)?);
     }
     let (front, log) = cut_out(rt.alloc(), &bytes)?;
     let (head, records) = header_at(log).ok_or(Fault::Header { log: 0 })?;
+    let kept = how.kept(head.format, records);
+    let stop = Stop::of(&front, &bytes);
+    let end = if stop.is_some() || kept.len() < records.len() {
+        SegmentEnd::of(rt.alloc(), head, &[kept])?
+    } else {
+        None
+    };
     out.write_all(&encode_head(rt.alloc(), head)?)?;
-    out.write_all(how.kept(head.format, records))?;
+    out.write_all(kept)?;
     out.flush()?;
-    Ok(Stop::of(&front, &bytes))
+    if let Some(stop) = stop {
+        // A write error is passed over.
+        let _ = writeln!(err, "mtrecover: left out: {stop}");
+    }
+    tell_end(end, err);
+    Ok(())
+}
+
+/// Tells where a cut segment ends, if its end was cut.
+fn tell_end<E: Write>(end: Option<SegmentEnd>, err: &mut E) {
+    if let Some(end) = end {
+        end.tell(err);
+    }
 }
 
 /// Does as `cut_log`, with the bytes as log 0.
@@ -47,13 +65,35 @@ fn salvage<O: Write, E: Write>(
 ) -> Result<(), Refusal<'static>> {
     let (head, records) = head_of(how, bytes).ok_or(Fault::Header { log: 0 })?;
     let stretches = salvage_records(alloc, head.format, 0, records)?;
+    let end = end_of(alloc, head, how, &stretches)?;
     out.write_all(&encode_head(alloc, head)?)?;
     for stretch in &stretches {
         out.write_all(how.kept(head.format, stretch.kept))?;
     }
     out.flush()?;
     tell_skipped(bytes.len() - records.len(), &stretches, err);
+    tell_end(end, err);
     Ok(())
+}
+
+/// Returns where a segment of these stretches ends, if its last bytes are not printed.
+fn end_of(
+    alloc: Global,
+    head: Head,
+    how: &Cut,
+    stretches: &[Stretch<'_>],
+) -> Result<Option<SegmentEnd>, Refusal<'static>> {
+    let mut kept = Vec::with_capacity(alloc, stretches.len())?;
+    let mut is_cut = false;
+    for stretch in stretches {
+        let printed = how.kept(head.format, stretch.kept);
+        is_cut = printed.len() < stretch.kept.len() || !stretch.skipped.is_empty();
+        kept.push(printed)?;
+    }
+    if is_cut {
+        return SegmentEnd::of(alloc, head, &kept);
+    }
+    Ok(None)
 }
 
 /// Returns the header of the log, and the bytes that have its records: all bytes if a header is given, since its own is

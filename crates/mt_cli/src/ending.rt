@@ -73,7 +73,7 @@ impl Ending {
     /// Prints its values. Err: write error.
     pub fn write<W: Write>(self, line: &mut Fields<'_, W>) -> io::Result<()> {
         line.number("left", self.bytes)?;
-        line.word("zeros", if self.is_zero { "yes" } else { "no" })?;
+        line.flag("zeros", self.is_zero)?;
         line.number("after", self.records)
     }
 }

@@ -2,6 +2,7 @@
 use crate::file_names::Names;
 use crate::opening::why_unread;
 use mt_recover::{Failure, Refusal};
+use mt_text::Shown;
 use mt_words::Fault;
 use std::fs::Files;
 use std::io::{self, Write};
@@ -10,7 +11,7 @@ use std::io::{self, Write};
 /// system gave, if it gave one; and what to try. Err: write error.
 pub fn explain<E: Write>(refusal: &Refusal<'_>, names: &Names, err: &mut E) -> io::Result<()> {
     if let Some(name) = file_of(&refusal.failure, names) {
-        write!(err, "file: {name}; ")?;
+        write!(err, "file: {}; ", Shown(name))?;
     }
     if let Some(reason) = &refusal.reason {
         write!(err, "reason: {reason}; ")?;
@@ -18,7 +19,7 @@ pub fn explain<E: Write>(refusal: &Refusal<'_>, names: &Names, err: &mut E) -> i
     writeln!(err, "try: {}", advice(&refusal.failure))
 }
 
-/// Gives a failure of a source the reason that its file shows now.
+/// Gives a failure of a file that has no reason the one that the file shows now.
 pub fn with_reason<'a, R: AllocGlobal + Files>(
     rt: &R,
     folder: &str,
@@ -26,15 +27,21 @@ pub fn with_reason<'a, R: AllocGlobal + Files>(
     refusal: Refusal<'a>,
 ) -> Refusal<'a> {
     let unread = match &refusal.failure {
-        Failure::Recovery(Fault::Source { log }) => names.logs.get(*log),
-        Failure::Recovery(Fault::PartSource { part }) => names.parts.get(*part),
+        Failure::Recovery(Fault::Source { log }) => names.logs.get(*log).map(String::as_str),
+        Failure::Recovery(Fault::PartSource { part }) => {
+            names.parts.get(*part).map(String::as_str)
+        }
+        Failure::Open(name) => Some(*name),
         _ => None,
     };
     let Some(name) = unread else {
         return refusal;
     };
-    let reason = why_unread(rt, folder, name.as_str());
-    let Refusal { failure, .. } = refusal;
+    let Refusal { failure, reason } = refusal;
+    let reason = match reason {
+        Some(reason) => Some(reason),
+        None => why_unread(rt, folder, name),
+    };
     Refusal { failure, reason }
 }
 
@@ -75,14 +82,23 @@ fn advice(failure: &Failure<'_>) -> &'static str {
 fn advice_on(fault: &Fault) -> &'static str {
     match fault {
         Fault::NoLogs => "name the folder that has the .mtl files, whose endings are in lower case",
-        Fault::Header { .. } => "put a good copy back, or move the file away if it is no log",
-        Fault::Record { .. } => "put a good copy back",
+        Fault::Header { .. } => {
+            "put a good copy back; else see by check what is left, and save it by cut --header: if the file goes, its updates go with it, and nothing tells"
+        }
+        Fault::Record { .. } => {
+            "put a good copy back; else see by check and records what follows, and save it into a new file by cut --skip"
+        }
         Fault::Source { .. } | Fault::PartSource { .. } => {
             "make it a file that can be read, of at most 1,073,741,824 bytes"
         }
-        Fault::Doubled { .. } => "keep one file of this segment",
-        Fault::Torn { .. } => "put the whole segment back",
-        Fault::Gap { .. } => "put back what came before it: logs, segments or a checkpoint",
+        Fault::Doubled { .. } =>
+            "see both files by records, and keep the one that has more of this segment",
+        Fault::Torn { .. } => {
+            "put the whole segment back; else cut it: check and report --strict then tell of a hole"
+        }
+        Fault::Gap { .. } => {
+            "put back what came before it: logs, segments or a checkpoint; check tells why one does not count"
+        }
         Fault::Missing { .. } => "run the command again",
         Fault::Memory => "use a machine with more memory",
     }

@@ -51,8 +51,11 @@ pub fn tell_outcome<R: AllocGlobal + Files, E: Write>(
         Ok(None) => 0,
         Ok(Some(caveat)) => caveat.tell(err),
         Err(refusal) => {
+            if !folder.is_verbose {
+                return tell(&refusal, None, err);
+            }
             let refusal = with_reason(rt, folder.path, names, refusal);
-            tell(&refusal, folder.is_verbose.then_some(names), err)
+            tell(&refusal, Some(names), err)
         }
     }
 }

@@ -66,6 +66,11 @@ impl PartState {
         }
     }
 
+    /// Returns whether its source failed.
+    pub fn is_unread(&self) -> bool {
+        matches!(self, PartState::Unread)
+    }
+
     /// Returns whether it is complete.
     pub fn is_whole(self) -> bool {
         matches!(self, PartState::Whole(_))

@@ -28,11 +28,14 @@ pub fn answer_file<R: AllocGlobal + Files, O: Write, E: Write>(
     ensures status { result ≤ 4 }
 {
     let answered = match query {
-        FileQuery::Cut(how) => cut(rt, path, how, out, err),
+        FileQuery::Cut(how) => match cut(rt, path, how, out, err) {
+            Ok(()) => Ok(None),
+            Err(refusal) => Err(refusal),
+        },
         FileQuery::Records(selection, at) => records(rt, path, selection, *at, out),
     };
     match answered {
-        Ok(stop) => tell_stop(stop, query, err),
+        Ok(stop) => tell_stop(stop, err),
         // The file is log 0.
         Err(refusal) => match Names::of_log(rt.alloc(), path) {
             Ok(names) => tell(&refusal, is_verbose.then_some(&names), err),
@@ -42,22 +45,14 @@ pub fn answer_file<R: AllocGlobal + Files, O: Write, E: Write>(
 }
 
 /// Tells where records or entries stop, and returns the exit status. A write error does not change it.
-fn tell_stop<E: Write>(stop: Option<Stop>, query: &FileQuery, err: &mut E) -> u8
+fn tell_stop<E: Write>(stop: Option<Stop>, err: &mut E) -> u8
     ensures status { result ≤ 4 }
 {
     let Some(stop) = stop else {
         return 0;
     };
-    match query {
-        FileQuery::Cut(_) => {
-            let _ = writeln!(err, "mtrecover: left out: {stop}");
-            0
-        }
-        FileQuery::Records(..) => {
-            let _ = writeln!(err, "mtrecover: {stop}");
-            stop.status()
-        }
-    }
+    let _ = writeln!(err, "mtrecover: {stop}");
+    stop.status()
 }
 
 /// Prints the header of a log or a part, and its wanted records or entries from a byte on, or from the first one on,

@@ -11,6 +11,9 @@ pub const STATUSES: &str =
     "Exit status: 0 done, 1 a fault (no store), 2 bad arguments, 3 folder, file or output failed,\n\
      4 done, but the answer is no, or something was torn, late or skipped";
 
+/// What a shell asks for a line with. A blank follows.
+pub const PROMPT: &str = "mtrecover>";
+
 /// A subcommand.
 struct Subcommand {
     name: &'static str,
@@ -90,7 +93,7 @@ const PIECES: Argument = Argument(
 const VERBOSE: Argument = Argument(
     "verbose",
     Kind::Flag,
-    "After a failure, print its file or the system's reason, and what to try",
+    "After a failure, print its file or the system's reason, and what to try; after an answer, what it lost",
 );
 
 const JSON: Argument = Argument("json", Kind::Flag, "Print a JSON object a line");
@@ -104,13 +107,25 @@ const TEXT: Argument = Argument(
 const STRICT: Argument = Argument(
     "strict",
     Kind::Flag,
-    "End with status 4 if anything is torn, late, skipped or nameless",
+    "End with status 4 if anything is torn, late, skipped or nameless, or there is a hole between segments",
+);
+
+const STRICT_SHELL: Argument = Argument(
+    "strict",
+    Kind::Flag,
+    "End with the first status that is not 0, and not with 0",
+);
+
+const STATUS: Argument = Argument(
+    "status",
+    Kind::Flag,
+    "Print a line status=N after each answer",
 );
 
 const STRICT_RESUME: Argument = Argument(
     "strict",
     Kind::Flag,
-    "Change nothing, and end with status 4, if anything is torn, late, skipped or nameless",
+    "Change nothing, and end with status 4, if anything is torn, late, skipped or nameless, or there is a hole between segments",
 );
 
 const DRY_RUN: Argument = Argument(
@@ -191,33 +206,44 @@ const BELOW: Argument = Argument(
     "Print only records with a timestamp below this one, for example the cutoff",
 );
 
-/// The subcommands, in the order of the help.
-const SUBCOMMANDS: &[Subcommand] = &[
+/// The arguments that say which store is recovered, and how.
+const RECOVERY: &[Argument] = &[FOLDER, WORKERS, VERBOSE, PIECES];
+
+/// The questions over a recovered store, with the arguments beside those of `RECOVERY`.
+const QUESTIONS: &[Subcommand] = &[
     Subcommand {
         name: "report",
         about: "Prints what recovery found in the logs and parts, as NAME=VALUE lines",
         example: "Example: mtrecover report examples/store",
-        arguments: &[FOLDER, WORKERS, VERBOSE, PIECES, JSON, STRICT],
+        arguments: &[JSON, STRICT],
     },
     Subcommand {
         name: "get",
         about: "Prints a key with its columns, or `absent`",
         example: "Example: mtrecover get examples/store 666967",
-        arguments: &[FOLDER, WORKERS, VERBOSE, PIECES, JSON, TEXT, KEY, EXISTS],
+        arguments: &[JSON, TEXT, KEY, EXISTS],
     },
     Subcommand {
         name: "range",
         about: "Prints the first keys at or after a key, with their columns",
         example: "Example: mtrecover range examples/store 6b 2",
-        arguments: &[
-            FOLDER, WORKERS, VERBOSE, PIECES, JSON, TEXT, KEY, COUNT, TO, PREFIX, COLUMNS,
-        ],
+        arguments: &[JSON, TEXT, KEY, COUNT, TO, PREFIX, COLUMNS],
     },
     Subcommand {
         name: "dump",
         about: "Prints all keys with their columns",
         example: "Example: mtrecover dump examples/store --workers 8",
-        arguments: &[FOLDER, WORKERS, VERBOSE, PIECES, JSON, TEXT],
+        arguments: &[JSON, TEXT],
+    },
+];
+
+/// The other subcommands, which follow them in the help.
+const OTHERS: &[Subcommand] = &[
+    Subcommand {
+        name: "shell",
+        about: "Recovers once, then answers lines of standard input: report, get, range or dump, without DIR",
+        example: "Example: printf 'get 666967\\ndump --json\\n' | mtrecover shell examples/store",
+        arguments: &[FOLDER, WORKERS, VERBOSE, PIECES, STRICT_SHELL, STATUS],
     },
     Subcommand {
         name: "audit",
@@ -252,9 +278,9 @@ const SUBCOMMANDS: &[Subcommand] = &[
     Subcommand {
         name: "cut",
         about: "Prints a log of the complete records of a log, up to its fault or torn tail, or with --skip beyond it",
-        example: "To go on with a damaged log, once it is copied elsewhere:\n\
-         \x20 mtrecover check DIR\n\
-         \x20 mtrecover cut DIR/w0.mtl > w0.cut && mv w0.cut DIR/w0.mtl\n\
+        example: "To go on with a damaged log (docs/RUNBOOK.md has what that loses):\n\
+         \x20 test -e BACKUP || cp -a DIR BACKUP\n\
+         \x20 mtrecover cut BACKUP/w0.mtl --skip >DIR/w0.mtl\n\
          \x20 mtrecover report DIR --strict",
         arguments: &[LOG, VERBOSE, SKIP, HEADER, BELOW],
     },
@@ -278,19 +304,40 @@ pub fn grammar<'a>(alloc: Global) -> Result<Command<'a>, AllocError> {
         .arg_required_else_help(true)
         .subcommand_required(true)
         .bin_name("mtrecover")?;
-    for subcommand in SUBCOMMANDS {
-        program = program.subcommand(subcommand.command(alloc)?)?;
+    for question in QUESTIONS {
+        program = program.subcommand(
+            question
+                .command(alloc, RECOVERY)?
+                .after_help(question.example),
+        )?;
+    }
+    for subcommand in OTHERS {
+        program = program.subcommand(
+            subcommand
+                .command(alloc, &[])?
+                .after_help(subcommand.example),
+        )?;
     }
     Ok(program)
 }
 
+/// Returns the grammar of a line of a shell: the questions, without the arguments of `RECOVERY`. Err: out of memory.
+pub fn questions<'a>(alloc: Global) -> Result<Command<'a>, AllocError> {
+    let mut line = Command::new(alloc, PROMPT)
+        .no_binary_name(true)
+        .subcommand_required(true)
+        .bin_name(PROMPT)?;
+    for question in QUESTIONS {
+        line = line.subcommand(question.command(alloc, &[])?)?;
+    }
+    Ok(line)
+}
+
 impl Subcommand {
-    /// Returns the grammar of the subcommand. Err: out of memory.
-    fn command<'a>(&self, alloc: Global) -> Result<Command<'a>, AllocError> {
-        let mut command = Command::new(alloc, self.name)
-            .about(self.about)
-            .after_help(self.example);
-        for argument in self.arguments {
+    /// Returns the grammar of the subcommand, with these arguments before its own. Err: out of memory.
+    fn command<'a>(&self, alloc: Global, before: &[Argument]) -> Result<Command<'a>, AllocError> {
+        let mut command = Command::new(alloc, self.name).about(self.about);
+        for argument in before.iter().chain(self.arguments) {
             command = command.arg(argument.grammar(alloc))?;
         }
         Ok(command)

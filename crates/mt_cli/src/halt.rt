@@ -7,6 +7,7 @@ use crate::file_names::Names;
 use crate::request::Folder;
 use mt_checkpoint::PlanFault;
 use mt_recover::{Failure, Refusal};
+use mt_text::Shown;
 use mt_words::{Fault, Memory};
 use std::alloc::{AllocError, Global};
 use std::fs::Files;
@@ -103,7 +104,12 @@ fn write_unplanned<E: Write>(fault: PlanFault, is_verbose: bool, err: &mut E) ->
 
 /// Prints what could not be done and, if wanted, why, and what to try. Err: write error.
 fn write_stuck<E: Write>(stuck: &Stuck, is_verbose: bool, err: &mut E) -> io::Result<()> {
-    writeln!(err, "mtrecover: cannot {} {}", stuck.doing, stuck.name)?;
+    writeln!(
+        err,
+        "mtrecover: cannot {} {}",
+        stuck.doing,
+        Shown(&stuck.name)
+    )?;
     if !is_verbose {
         return Ok(());
     }

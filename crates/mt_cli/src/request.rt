@@ -9,6 +9,8 @@ use mt_words::{Format, Key};
 pub enum Command<'a> {
     /// A query on a folder, whose logs and parts are sources.
     Query(Folder<'a>, Query),
+    /// Questions over the store of a folder, which are lines of the input.
+    Shell(Folder<'a>, Shell),
     /// What is in each file of a folder, as JSON or not, for which files are read twice.
     Check {
         folder: Folder<'a>,
@@ -26,6 +28,19 @@ pub enum Command<'a> {
     },
 }
 
+impl Command<'_> {
+    /// Makes a command that recovers a store tell what was lost or passed over, as `--verbose` does.
+    pub fn tell_losses(&mut self) {
+        match self {
+            Command::Query(folder, _) => folder.tells_losses = true,
+            Command::Shell(folder, _) => folder.tells_losses = true,
+            Command::Resume(folder, _) => folder.tells_losses = true,
+            Command::Checkpoint(folder, _) => folder.tells_losses = true,
+            Command::Check { .. } | Command::File { .. } => {}
+        }
+    }
+}
+
 /// A folder, and how to read it.
 #[derive(Debug, Drop)]
 pub struct Folder<'a> {
@@ -35,6 +50,19 @@ pub struct Folder<'a> {
     pub workers: Workers,
     /// Whether a failure has a second line, which explains it.
     pub is_verbose: bool,
+    /// Whether what was lost or passed over is told after an answer.
+    pub tells_losses: bool,
+}
+
+/// How to answer the lines of the input.
+#[derive(Clone, Copy, Debug)]
+pub struct Shell {
+    /// Recovery cuts the keys into at most this many pieces.
+    pub pieces: Pieces,
+    /// Whether the exit status is the first status that is not 0, and not just 0.
+    pub is_strict: bool,
+    /// Whether a line with the status follows each answer.
+    pub has_status: bool,
 }
 
 /// How to resume the files of a folder.

@@ -2,7 +2,7 @@
 ghost use Rattle.std.specs.Prelude.{◌≤◌};
 
 use crate::answering::PRINTED_AT_ONCE;
-use crate::caveat::Caveat;
+use crate::caveat::{Caveat, tell_losses};
 use crate::checked::{Checked, Sizes, write_file};
 use crate::checking::check_all;
 use crate::fates::{PartState, numbers_of};
@@ -30,17 +30,18 @@ where
     R::File: Send,
     ensures status { result ≤ 4 }
 {
-    let outcome = resume_all(rt, folder, how, names, out);
+    let outcome = resume_all(rt, folder, how, names, out, err);
     tell_written(rt, folder, names, outcome, err)
 }
 
 /// Resumes the files of these names. The cutoff and the checkpoint that recovery chooses are the same after each step.
-fn resume_all<'a, R, O: Write>(
+fn resume_all<'a, R, O: Write, E: Write>(
     rt: &R,
     folder: &Folder<'_>,
     how: Resume,
     names: &'a Names,
     out: &mut O,
+    err: &mut E,
 ) -> Result<Option<Caveat>, Halt<'a>>
 where
     R: AllocGlobal + Files + Threads + Sync,
@@ -49,10 +50,11 @@ where
     let site = Site {
         rt,
         folder: folder.path,
-        advice: "run it again: it goes on, and the store is the same",
+        advice: "run it again: it goes on, and the store is the same; or write the store into a new folder by checkpoint",
     };
     expect_files(&site, &names.logs)?;
     let checked = check_all(rt, folder, names)?;
+    checked.expect_opened()?;
     let losses = checked.losses();
     let Checked {
         mut parts,
@@ -79,6 +81,9 @@ where
     replace_logs(&site, &names.logs, cutoff, how, &mut out)?;
     write_cutoff(cutoff, Fields::new(&mut out, how.is_json))?;
     out.flush()?;
+    if folder.tells_losses {
+        tell_losses(losses, err);
+    }
     Ok(None)
 }
 

@@ -11,22 +11,30 @@ use crate::listing::names;
 use crate::opening::{open_inputs, rack_of};
 use crate::request::{Command, Folder, Query};
 use crate::resuming::resume;
+use crate::shell::shell;
 use crate::words::command;
 use mt_recover::{Failure, Refusal};
 use std::env::{self, Env};
 use std::fs::Files;
-use std::io::{self, Write};
+use std::io::{self, IsTerminal, Read, Write};
 use std::thread::Threads;
 
-/// Does what the arguments of the process ask and returns the exit status.
-pub fn run<R, O: Write, E: Write>(rt: &R, out: &mut O, err: &mut E) -> u8
+/// Does what the arguments of the process ask and returns the exit status. Only `shell` reads the input.
+pub fn run<R, I, O: Write, E: Write + IsTerminal>(
+    rt: &R,
+    input: &mut I,
+    out: &mut O,
+    err: &mut E,
+) -> u8
 where
     R: AllocGlobal + Clone + Drop + Env + Files + Threads + Sync,
     R::File: Send,
+    I: Read + IsTerminal,
     ensures status { result ≤ 4 }
 {
+    let at_terminal = err.is_terminal();
     match words_of_process(rt) {
-        Ok(words) => run_words(rt, &words, out, err),
+        Ok(words) => run_words(rt, &words, input, at_terminal, out, err),
         Err(error) => tell(&Refusal::of(Failure::Words, error), None, err),
     }
 }
@@ -36,36 +44,56 @@ fn words_of_process<R: AllocGlobal + Env>(rt: &R) -> io::Result<Vec<String>> {
     Ok(env::args(rt)?.skip(1).collect(rt.alloc())?)
 }
 
-/// Does what these arguments ask and returns the exit status. The name of the program is not among them.
-pub fn run_words<R, O: Write, E: Write>(rt: &R, words: &[String], out: &mut O, err: &mut E) -> u8
+/// Does what these arguments ask and returns the exit status. The name of the program is not among them. At a terminal an
+/// answer is followed by what was lost or passed over.
+pub fn run_words<R, I, O: Write, E: Write>(
+    rt: &R,
+    words: &[String],
+    input: &mut I,
+    at_terminal: bool,
+    out: &mut O,
+    err: &mut E,
+) -> u8
 where
     R: AllocGlobal + Clone + Drop + Files + Threads + Sync,
     R::File: Send,
+    I: Read + IsTerminal,
     ensures status { result ≤ 4 }
 {
-    match try_words(rt, words, out, err) {
+    match try_words(rt, words, input, at_terminal, out, err) {
         Ok(status) | Err(status) => status,
     }
 }
 
 /// Does what the arguments ask and returns the exit status: as an Err if the program ends before it recovers.
-fn try_words<R, O: Write, E: Write>(
+fn try_words<R, I, O: Write, E: Write>(
     rt: &R,
     words: &[String],
+    input: &mut I,
+    at_terminal: bool,
     out: &mut O,
     err: &mut E,
 ) -> Result<u8, u8>
 where
     R: AllocGlobal + Clone + Drop + Files + Threads + Sync,
     R::File: Send,
+    I: Read + IsTerminal,
     ensures answered { IfOk result (λ status. status ≤ 4) }
     ensures not { IfErr result (λ status. status ≤ 3) }
 {
-    match &command(rt, words, out, err)? {
+    let mut asked = command(rt, words, out, err)?;
+    if at_terminal {
+        asked.tell_losses();
+    }
+    match &asked {
         Command::Query(folder, query) => answer_folder(rt, folder, query, out, err),
         Command::Check { folder, is_json } => {
             let names = names(rt, folder.path, folder.is_verbose, err)?;
             Ok(check(rt, folder, *is_json, &names, out, err))
+        }
+        Command::Shell(folder, how) => {
+            let names = names(rt, folder.path, folder.is_verbose, err)?;
+            Ok(shell(rt, folder, *how, &names, input, out, err))
         }
         Command::Resume(folder, how) => {
             let names = names(rt, folder.path, folder.is_verbose, err)?;

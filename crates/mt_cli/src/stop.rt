@@ -117,7 +117,8 @@ impl Stop {
             records,
             before,
         } = self.ending;
-        write!(f, "; {bytes} bytes left")?;
+        let plural = if bytes == 1 { "" } else { "s" };
+        write!(f, "; {bytes} byte{plural} left")?;
         if is_zero {
             f.write_str(", all zero")?;
         }

@@ -5,7 +5,7 @@ use crate::failure::{or_tell, tell};
 use crate::file_names::Names;
 use crate::grammar::grammar;
 use crate::request::{
-    Command, Cut, FileQuery, Folder, NewFolder, Query, Range, Resume, StoreQuery,
+    Command, Cut, FileQuery, Folder, NewFolder, Query, Range, Resume, Shell, StoreQuery,
 };
 use crate::texts::{Text, tell_text};
 use clap::ArgMatches;
@@ -129,6 +129,7 @@ fn of_folder<'a>(
         path: found(matches.get_str("DIR"))?,
         workers: found(matches.get_one("workers").and_then(Workers::new))?,
         is_verbose: matches.get_flag("verbose"),
+        tells_losses: matches.get_flag("verbose"),
     };
     if name == "check" {
         let is_json = matches.get_flag("json");
@@ -147,6 +148,14 @@ fn of_folder<'a>(
         return Ok(Command::Query(folder, Query::Audit));
     }
     let pieces = found(matches.get_one("pieces").and_then(Pieces::new))?;
+    if name == "shell" {
+        let shell = Shell {
+            pieces,
+            is_strict: matches.get_flag("strict"),
+            has_status: matches.get_flag("status"),
+        };
+        return Ok(Command::Shell(folder, shell));
+    }
     let query = Query::Store(store_query(alloc, name, matches)?, pieces);
     Ok(Command::Query(folder, query))
 }
@@ -240,7 +249,7 @@ fn found<T>(value: Option<T>) -> Result<T, Refusal<'static>> {
 }
 
 /// Returns the query on the store of the subcommand of this name.
-fn store_query(
+pub fn store_query(
     alloc: Global,
     name: &str,
     matches: &ArgMatches<'_>,

@@ -4,7 +4,7 @@ ghost use Rattle.mt_words.specs.declared.fault.Fault.TheVariants as faults;
 ghost use Rattle.mt_recover.specs.declared.failure.Failure.TheVariants.{Recovery, Output};
 ghost use Rattle.mt_recover.specs.Program.{status_of, failure_of};
 
-use mt_text::PrintFault;
+use mt_text::{PrintFault, Shown};
 use mt_words::{Fault, Memory};
 use std::alloc::{AllocError, AllocFailed};
 use std::io::{self, ErrorKind, Write};
@@ -23,13 +23,13 @@ pub enum Failure<'a> {
     #[error("bad key")]
     Key,
     /// The folder of this name cannot be listed, or a name in it is not UTF-8.
-    #[error("cannot list {0}")]
+    #[error("cannot list {}", Shown(.0))]
     List(&'a str),
     /// There are more than `MOST_FILES` files.
     #[error("too many files")]
     TooManyFiles,
     /// The file of this name cannot be opened.
-    #[error("cannot open {0}")]
+    #[error("cannot open {}", Shown(.0))]
     Open(&'a str),
     /// There is no store.
     #[error("{0}")]

@@ -2,6 +2,27 @@
 ghost use Rattle.std.specs.Prelude.{◌≢◌, ◌≤◌, ◌↔◌, IsTrue};
 
 use std::alloc::{AllocError, Global};
+use std::fmt::{self, Display, Formatter, Write};
+
+/// A name in a message: as it is, but each byte of a control character or a `\` as its escape.
+#[derive(Clone, Copy, Debug)]
+pub struct Shown<'a>(pub &'a str);
+
+impl<'a> Display for Shown<'a> {
+    fn fmt<W: Write>(&self, f: &mut Formatter<W>) -> fmt::Result {
+        for letter in self.0.chars() {
+            if !letter.is_control() && letter != '\\' {
+                f.write_char(letter)?;
+                continue;
+            }
+            let mut bytes = [0; 4];
+            for byte in letter.encode_utf8(&mut bytes).as_bytes() {
+                write!(f, "\\x{byte:02x}")?;
+            }
+        }
+        Ok(())
+    }
+}
 
 /// Whether a byte stands for itself in printed text: ASCII from `!` to `~`, but `"`, `:`, `=` and `\`.
 pub fn is_plain(byte: u8) -> bool

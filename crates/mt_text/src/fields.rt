@@ -56,6 +56,18 @@ impl<'a, W: Write> Fields<'a, W> {
         write!(self.out, "{quote}{word}{quote}")
     }
 
+    /// Prints `yes` or `no`, in JSON `true` or `false`. Err: write error.
+    pub fn flag(&mut self, name: &str, is_so: bool) -> io::Result<()> {
+        let word = match (self.is_json, is_so) {
+            (false, true) => "yes",
+            (false, false) => "no",
+            (true, true) => "true",
+            (true, false) => "false",
+        };
+        self.name(name)?;
+        write!(self.out, "{word}")
+    }
+
     /// Prints text, with escapes. Err: write error.
     pub fn text(&mut self, name: &str, text: &str) -> io::Result<()> {
         self.name(name)?;

@@ -28,7 +28,7 @@ mod value;
 mod words;
 
 pub use digits::write_hex;
-pub use escapes::unescape;
+pub use escapes::{Shown, unescape};
 pub use fields::Fields;
 pub use form::{Form, Printer};
 pub use listing::{

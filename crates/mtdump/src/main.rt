@@ -1,10 +1,30 @@
-//! Prints the store of log files. The arguments after the name of the program are the names of the files.
+//! Prints the store of log files. The arguments after the name of the program are the names of the files, unless the first
+//! asks for help or the version.
 #![tactic(auto)]
 
 use mt_recover::{Failure, Refusal, dump_files};
 use std::env;
-use std::io::{self, BufWriter};
+use std::io::{self, BufWriter, Write};
 use std::process::ExitCode;
+
+const HELP: &str = "\
+Prints the store of update logs, without checkpoints
+
+Usage: mtdump <FILE> [FILE ...]
+
+Arguments:
+  <FILE>  An update log (.mtl). Its position, from 0, is its number in faults
+
+Options, as the first argument:
+      --help     Print help
+      --version  Print version
+
+Every other argument is a file name: write ./--help for a file of that name.
+
+Example: mtdump examples/a.mtl examples/b.mtl
+";
+
+const VERSION: &str = "mtdump 1.0 (file formats 1 to 3)\n";
 
 fn main(rt: HostRuntime) -> ExitCode {
     let status = match run(&rt) {
@@ -21,5 +41,17 @@ fn run(rt: &HostRuntime) -> io::Result<u8> {
     let names: Vec<String> = env::args(rt)?.skip(1).collect(alloc)?;
     let mut out = BufWriter::new(alloc, rt.stdout())?;
     let mut err = rt.stderr();
-    Ok(dump_files(rt, names.as_slice(), &mut out, &mut err))
+    Ok(match names.first().map(String::as_str) {
+        Some("--help") => print(HELP, &mut out, &mut err),
+        Some("--version") => print(VERSION, &mut out, &mut err),
+        _ => dump_files(rt, names.as_slice(), &mut out, &mut err),
+    })
+}
+
+/// Prints a text and returns the exit status.
+fn print<O: Write, E: Write>(text: &str, out: &mut O, err: &mut E) -> u8 {
+    if out.write_all(text.as_bytes()).is_err() || out.flush().is_err() {
+        return Refusal::from(Failure::Output).tell("mtdump", err);
+    }
+    0
 }

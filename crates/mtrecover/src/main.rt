@@ -5,5 +5,5 @@ use mt_cli::run;
 use std::process::ExitCode;
 
 fn main(rt: HostRuntime) -> ExitCode {
-    ExitCode::from(run(&rt, &mut rt.stdout(), &mut rt.stderr()))
+    ExitCode::from(run(&rt, &mut rt.stdin(), &mut rt.stdout(), &mut rt.stderr()))
 }

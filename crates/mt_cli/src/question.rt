@@ -1,0 +1,91 @@
+//! Reads the questions of a shell.
+ghost use Rattle.std.specs.Prelude.{◌≤◌, IfErr};
+
+use crate::failure::{or_tell, tell};
+use crate::file_names::Names;
+use crate::grammar::questions;
+use crate::request::StoreQuery;
+use crate::words::store_query;
+use clap::ArgMatches;
+use clap::error::ErrorKind;
+use mt_recover::{Failure, Refusal};
+use mt_words::Fault;
+use std::alloc::Global;
+use std::io::{self, Write};
+
+/// Reads the question that these words ask. An Err is its status; what is to be printed then is printed: help on `out`,
+/// one line on `err` that says what is wrong, and if there are names a second one.
+pub fn question<O: Write, E: Write>(
+    alloc: Global,
+    words: &[&str],
+    names: Option<&Names>,
+    out: &mut O,
+    err: &mut E,
+) -> Result<StoreQuery, u8>
+    ensures status { IfErr result (λ status. status ≤ 3) }
+{
+    match parse(alloc, words) {
+        Ok(matches) => or_tell(read(alloc, &matches), names, err),
+        Err(error) => Err(tell_error(alloc, &error, names, out, err)),
+    }
+}
+
+/// Parses the words by the grammar of a line.
+fn parse<'a>(alloc: Global, words: &'a [&'a str]) -> Result<ArgMatches<'a>, clap::Error> {
+    questions(alloc)?.try_get_matches_from_mut(words)
+}
+
+/// Reads the question from the parsed words.
+fn read(alloc: Global, matches: &ArgMatches<'_>) -> Result<StoreQuery, Refusal<'static>> {
+    let (name, matches) = matches.subcommand().ok_or(Failure::Words)?;
+    store_query(alloc, name, matches)
+}
+
+/// Prints what the parser reports, of an error the first paragraph as one line, and returns the status.
+fn tell_error<O: Write, E: Write>(
+    alloc: Global,
+    error: &clap::Error,
+    names: Option<&Names>,
+    out: &mut O,
+    err: &mut E,
+) -> u8
+    ensures { result ≤ 3 }
+{
+    if error.kind() == ErrorKind::OutOfMemory {
+        return tell(&Refusal::from(Fault::Memory), names, err);
+    }
+    let Ok(text) = format!(in alloc; "{error}") else {
+        return tell(&Refusal::from(Fault::Memory), names, err);
+    };
+    if !error.use_stderr() {
+        return match write_help(text.as_str(), out) {
+            Ok(()) => 0,
+            Err(refusal) => tell(&refusal, names, err),
+        };
+    }
+    // A write error does not change the status.
+    let _ = write_paragraph(text.as_str(), err);
+    2
+}
+
+/// Prints help.
+fn write_help<O: Write>(text: &str, out: &mut O) -> Result<(), Refusal<'static>> {
+    out.write_all(text.as_bytes())?;
+    Ok(out.flush()?)
+}
+
+/// Prints the first paragraph of a text as one line. Err: write error.
+fn write_paragraph<E: Write>(text: &str, err: &mut E) -> io::Result<()> {
+    let mut is_first = true;
+    for line in text.lines() {
+        if line.is_empty() {
+            break;
+        }
+        if !is_first {
+            err.write_all(b" ")?;
+        }
+        err.write_all(line.trim().as_bytes())?;
+        is_first = false;
+    }
+    err.write_all(b"\n")
+}

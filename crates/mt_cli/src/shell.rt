@@ -1,0 +1,235 @@
+//! Answers the subcommand `shell`: recovers the store of a folder once, and answers the lines of the input.
+ghost use Rattle.std.specs.Prelude.{◌≤◌, IfOk, IfSome};
+
+use crate::answering::{PRINTED_AT_ONCE, print_answer};
+use crate::caveat::{Caveat, Losses, tell_losses};
+use crate::checkpointing::recover_folder;
+use crate::failure::tell;
+use crate::file_names::Names;
+use crate::grammar::PROMPT;
+use crate::halt::{Halt, tell_written};
+use crate::line::{LONGEST_LINE, Line, next_line, words_of};
+use crate::question::question;
+use crate::request::{Folder, Shell, StoreQuery};
+use mt_recover::{Failure, Recovered, Refusal};
+use mt_words::Fault;
+use std::alloc::Global;
+use std::fs::Files;
+use std::io::{self, BufReader, BufWriter, IsTerminal, Read, Write};
+use std::thread::Threads;
+use std::{mem, str};
+
+/// Recovers the store of the files of these names, answers the lines of the input, and returns the exit status.
+pub fn shell<R, I, O: Write, E: Write>(
+    rt: &R,
+    folder: &Folder<'_>,
+    how: Shell,
+    names: &Names,
+    input: &mut I,
+    out: &mut O,
+    err: &mut E,
+) -> u8
+where
+    R: AllocGlobal + Files + Threads + Sync,
+    R::File: Send,
+    I: Read + IsTerminal,
+    ensures status { result ≤ 4 }
+{
+    match recover_and_answer(rt, folder, how, names, input, out, err) {
+        Ok(status) => status,
+        Err(halt) => tell_written(rt, folder, names, Err(halt), err),
+    }
+}
+
+/// Recovers the store, tells the losses if they are to be told, and answers the lines through a buffer. As in a query, the
+/// store is not freed.
+fn recover_and_answer<'a, R, I, O: Write, E: Write>(
+    rt: &R,
+    folder: &Folder<'_>,
+    how: Shell,
+    names: &'a Names,
+    input: &mut I,
+    out: &mut O,
+    err: &mut E,
+) -> Result<u8, Halt<'a>>
+where
+    R: AllocGlobal + Files + Threads + Sync,
+    R::File: Send,
+    I: Read + IsTerminal,
+    ensures { IfOk result (λ status. status ≤ 4) }
+{
+    let recovered = recover_folder(rt, folder, how.pieces, names)?;
+    if folder.tells_losses {
+        tell_losses(Losses::of(recovered.report()), err);
+    }
+    let mut out = BufWriter::with_capacity(rt.alloc(), PRINTED_AT_ONCE, out)?;
+    let session = Session {
+        alloc: rt.alloc(),
+        recovered: &recovered,
+        how,
+        is_verbose: folder.is_verbose,
+    };
+    let status = session.answer_lines(input, &mut out, err)?;
+    mem::forget(recovered);
+    Ok(status)
+}
+
+/// Answers lines from one recovered store.
+#[derive(Drop)]
+struct Session<'a> {
+    alloc: Global,
+    recovered: &'a Recovered,
+    how: Shell,
+    /// Whether a failure has a second line, which explains it.
+    is_verbose: bool,
+}
+
+impl<'a> Session<'a> {
+    /// Answers each line of the input, before it reads the next one, and returns the exit status. It ends early, with
+    /// status 3, if the output fails. At a terminal it asks for each line. Err: read error, or out of memory.
+    fn answer_lines<I: Read + IsTerminal, O: Write, E: Write>(
+        &self,
+        input: &mut I,
+        out: &mut O,
+        err: &mut E,
+    ) -> Result<u8, Halt<'static>>
+        ensures { IfOk result (λ status. status ≤ 4) }
+    {
+        let asks = input.is_terminal();
+        let mut first = 0;
+        let mut text = Vec::new(self.alloc);
+        let mut lines = match BufReader::new(self.alloc, input) {
+            Ok(lines) => lines,
+            Err(error) => return Err(self.unread(error)),
+        };
+        for _ in 0..u64::MAX {
+            if asks {
+                ask(err);
+            }
+            let line = match next_line(&mut lines, &mut text) {
+                Ok(Line::End) => break,
+                Ok(line) => line,
+                Err(error) => return Err(self.unread(error)),
+            };
+            let Some(status) = self.answer_line(line, &text, out, err) else {
+                continue;
+            };
+            let status = self.end_answer(status, out, err);
+            if status == 3 {
+                return Ok(3);
+            }
+            if first == 0 && self.how.is_strict {
+                first = status;
+            }
+        }
+        Ok(first)
+    }
+
+    /// Returns that the input cannot be read.
+    fn unread(&self, error: io::Error) -> Halt<'static> {
+        Halt::stuck(
+            self.alloc,
+            "read",
+            "standard input",
+            error,
+            "give lines from a file or a pipe",
+        )
+    }
+
+    /// Answers a line and returns its status: 3 only if the output fails. None: it is blank, so it asks nothing.
+    fn answer_line<O: Write, E: Write>(
+        &self,
+        line: Line,
+        text: &[u8],
+        out: &mut O,
+        err: &mut E,
+    ) -> Option<u8>
+        ensures { IfSome result (λ status. status ≤ 4) }
+    {
+        if matches!(&line, Line::TooLong) {
+            return Some(self.tell_too_long(err));
+        }
+        let Ok(text) = str::from_utf8(text) else {
+            return Some(self.tell(&Refusal::from(Failure::Words), err));
+        };
+        match words_of(self.alloc, text) {
+            Ok(words) if words.is_empty() => None,
+            Ok(words) => Some(self.answer(&words, out, err)),
+            Err(_) => Some(self.tell(&Refusal::from(Fault::Memory), err)),
+        }
+    }
+
+    /// Answers the question of these words and returns its status.
+    fn answer<O: Write, E: Write>(&self, words: &[&str], out: &mut O, err: &mut E) -> u8
+        ensures { result ≤ 4 }
+    {
+        let no_names = Names::new(self.alloc);
+        let explaining = self.is_verbose.then_some(&no_names);
+        let query = match question(self.alloc, words, explaining, out, err) {
+            Ok(query) => query,
+            Err(status) => return status,
+        };
+        match self.print(&query, out) {
+            Ok(None) => 0,
+            Ok(Some(caveat)) => caveat.tell(err),
+            Err(refusal) => self.tell(&refusal, err),
+        }
+    }
+
+    /// Prints the answer to a query, and flushes the output.
+    fn print<O: Write>(
+        &self,
+        query: &StoreQuery,
+        out: &mut O,
+    ) -> Result<Option<Caveat>, Refusal<'static>> {
+        let caveat = print_answer(self.recovered, query, out)?;
+        out.flush()?;
+        Ok(caveat)
+    }
+
+    /// Ends an answer with the line of its status, if that is wanted. Returns the status, or 3 if the output fails.
+    fn end_answer<O: Write, E: Write>(&self, status: u8, out: &mut O, err: &mut E) -> u8
+        requires { status ≤ 4 }
+        ensures { result ≤ 4 }
+    {
+        if !self.how.has_status || status == 3 {
+            return status;
+        }
+        match write_status(status, out) {
+            Ok(()) => status,
+            Err(error) => self.tell(&Refusal::from(error), err),
+        }
+    }
+
+    /// Tells a failure and returns its status.
+    fn tell<E: Write>(&self, refusal: &Refusal<'_>, err: &mut E) -> u8
+        ensures { result ≤ 3 }
+    {
+        let no_names = Names::new(self.alloc);
+        tell(refusal, self.is_verbose.then_some(&no_names), err)
+    }
+
+    /// Tells that a line is too long, and returns its status.
+    fn tell_too_long<E: Write>(&self, err: &mut E) -> u8
+        ensures { result ≤ 3 }
+    {
+        // A write error does not change the status.
+        let _ = writeln!(err, "mtrecover: line too long");
+        if self.is_verbose {
+            let _ = writeln!(err, "try: write at most {LONGEST_LINE} bytes a line");
+        }
+        2
+    }
+}
+
+/// Prints the line of a status. Err: write error.
+fn write_status<O: Write>(status: u8, out: &mut O) -> io::Result<()> {
+    writeln!(out, "status={status}")?;
+    out.flush()
+}
+
+/// Asks for a line. A write error is passed over.
+fn ask<E: Write>(err: &mut E) {
+    let _ = write!(err, "{PROMPT} ");
+    let _ = err.flush();
+}
