@@ -1,19 +1,26 @@
-/* Encodes the two files that docs/FORMATS.md shows, tries what is refused, and fails each allocation in turn. The last
- * line is 'N passed, M failed'. It is linked with -Wl,--wrap=malloc,--wrap=realloc. */
+/* Encodes the two files that docs/FORMATS.md shows, recovers the store of examples, tries what is refused, and fails each
+ * allocation in turn. Its argument is the folder of the examples. The last line is 'N passed, M failed'. It is linked
+ * with -Wl,--wrap=malloc,--wrap=realloc,--wrap=free. */
 #include "mtrecover.h"
 #include <stdio.h>
 #include <string.h>
 
-/* How many allocations still succeed. */
-static size_t left = SIZE_MAX;
+/* How many allocations still succeed, and how many blocks are in use. */
+static size_t left = SIZE_MAX, blocks;
 
 void *__real_malloc(size_t size);
 void *__real_realloc(void *at, size_t size);
+void __real_free(void *at);
 void *__wrap_malloc(size_t size);
 void *__wrap_realloc(void *at, size_t size);
+void __wrap_free(void *at);
 
-void *__wrap_malloc(size_t size) { return left == 0 ? NULL : (left--, __real_malloc(size)); }
+void *__wrap_malloc(size_t size) { return left == 0 ? NULL : (left--, blocks++, __real_malloc(size)); }
 void *__wrap_realloc(void *at, size_t size) { return left == 0 ? NULL : (left--, __real_realloc(at, size)); }
+void __wrap_free(void *at) {
+    blocks -= at != NULL;
+    __real_free(at);
+}
 
 static unsigned passed, failed;
 
@@ -118,12 +125,154 @@ static void test_memory(void) {
     expect("then the put is done", status == MTR_DONE && count == 37);
 }
 
-int main(void) {
+/* The files of the store of the examples: its logs, and then its parts. */
+static struct example {
+    const char *name;
+    uint8_t bytes[256];
+    size_t length;
+} examples[] = {{"store/worker-0.mtl", {0}, 0}, {"store/worker-1.mtl", {0}, 0}, {"store/7-0.mtc", {0}, 0},
+                {"store/7-1.mtc", {0}, 0},      {"store/8-0.mtc", {0}, 0},      {"store/9-0.mtc", {0}, 0},
+                {"gap.mtl", {0}, 0}};
+
+enum { LOGS = 2, FILES = 6, GAP = 6 };
+
+static void read_examples(const char *folder) {
+    char name[4096];
+    size_t i;
+    for (i = 0; i < sizeof examples / sizeof *examples; i++) {
+        FILE *from;
+        snprintf(name, sizeof name, "%s/%s", folder, examples[i].name);
+        from = fopen(name, "rb");
+        if (from != NULL) {
+            examples[i].length = fread(examples[i].bytes, 1, sizeof examples[i].bytes, from);
+            fclose(from);
+        }
+        expect(examples[i].name, examples[i].length > 0);
+    }
+}
+
+static uint32_t begin(mtr_place *feed, int is_part) { return is_part ? mtr_feed_part(feed) : mtr_feed_log(feed); }
+
+/* Feeds the bytes in chunks of this size, and adds them. A fault of the bytes shows in recovery. */
+static uint32_t add_bytes(mtr_place *inputs, int is_part, const uint8_t *bytes, size_t length, size_t chunk) {
+    mtr_place feed = {0};
+    size_t at, size;
+    uint32_t status = begin(&feed, is_part);
+    for (at = 0; status == MTR_DONE && at < length; at += size) {
+        size = length - at < chunk ? length - at : chunk;
+        status = mtr_feed(&feed, bytes + at, size);
+    }
+    if (status == MTR_DONE || status == MTR_FAULT) status = mtr_add(inputs, &feed);
+    mtr_free(&feed);
+    return status;
+}
+
+/* Feeds and recovers the store of the examples. */
+static uint32_t recover_examples(mtr_place *store, size_t chunk, mtr_fault *fault) {
+    uint32_t status = MTR_DONE;
+    size_t i;
+    for (i = 0; status == MTR_DONE && i < FILES; i++)
+        status = add_bytes(store, i >= LOGS, examples[i].bytes, examples[i].length, chunk);
+    return status == MTR_DONE ? mtr_recover(store, fault) : status;
+}
+
+static int has(mtr_place *store, const char *key, uint8_t column, const char *value) {
+    uint8_t out[16];
+    size_t count = 0;
+    return mtr_get(store, text(key), strlen(key), column, out, sizeof out, &count) == MTR_DONE &&
+           count == strlen(value) && memcmp(out, value, count) == 0;
+}
+
+static void test_recovery(void) {
+    static const size_t chunks[] = {1, 7, 4096};
+    uint8_t out[2] = {9, 9};
+    size_t i, count = 0;
+    for (i = 0; i < sizeof chunks / sizeof *chunks; i++) {
+        mtr_place store = {0};
+        mtr_fault fault = {0};
+        expect("the examples are recovered", recover_examples(&store, chunks[i], &fault) == MTR_DONE);
+        expect("fig", has(&store, "fig", 0, "green") && has(&store, "fig", 1, "ripe"));
+        expect("kiwi", has(&store, "kiwi", 1, "soft") && has(&store, "lime", 0, "sour") && has(&store, "pear", 0, "green"));
+        expect("no column", mtr_get(&store, text("kiwi"), 4, 0, out, 2, &count) == MTR_ABSENT);
+        expect("no key", mtr_get(&store, text("plum"), 4, 0, out, 2, &count) == MTR_ABSENT);
+        expect("short", mtr_get(&store, text("fig"), 3, 0, out, 2, &count) == MTR_SHORT && count == 5 && out[0] == 9);
+        mtr_free(&store);
+        expect("it is freed", !store.full && blocks == 0);
+    }
+}
+
+static int is_fault(const mtr_fault *fault, uint32_t kind, uint32_t what, uint64_t index, uint64_t record) {
+    return fault->kind == kind && fault->what == what && fault->index == index && fault->record == record;
+}
+
+/* Recovery of one more log or part beside the first log of the examples: its device fails, or it has these bytes. */
+static uint32_t recover_with(int is_part, const uint8_t *bytes, size_t length, mtr_fault *fault) {
+    mtr_place inputs = {0}, feed = {0};
+    uint32_t status = add_bytes(&inputs, 0, examples[0].bytes, examples[0].length, 64);
+    if (bytes != NULL) {
+        if (status == MTR_DONE) status = add_bytes(&inputs, is_part, bytes, length, 3);
+    } else {
+        if (status == MTR_DONE) status = begin(&feed, is_part);
+        if (status == MTR_DONE) status = mtr_feed_failed(&feed);
+        if (status == MTR_DONE) status = mtr_add(&inputs, &feed);
+    }
+    if (status == MTR_DONE) status = mtr_recover(&inputs, fault);
+    expect("no store is left", !inputs.full || status == MTR_DONE);
+    mtr_free(&inputs);
+    return status;
+}
+
+static void test_faults(void) {
+    static const uint8_t wrong[] = "MTL1\0\0\0\0\0\0\0\0\0\0\0\x09\x63\0\0\0\0\0\0\0\x05\0\0\0\x09";
+    mtr_place place = {0}, other = {0};
+    mtr_fault fault = {0};
+    uint8_t out[4];
+    size_t count = 0;
+    expect("no logs", mtr_recover(&place, &fault) == MTR_FAULT && is_fault(&fault, 1, 0, 0, 0));
+    expect("header", recover_with(0, text("x"), 1, &fault) == MTR_FAULT && is_fault(&fault, 2, 0, 1, 0));
+    expect("record", recover_with(0, wrong, sizeof wrong - 1, &fault) == MTR_FAULT && is_fault(&fault, 3, 3, 1, 0));
+    expect("source", recover_with(0, NULL, 0, &fault) == MTR_FAULT && is_fault(&fault, 4, 0, 1, 0));
+    expect("source of a part", recover_with(1, NULL, 0, &fault) == MTR_FAULT && is_fault(&fault, 5, 0, 0, 0));
+    expect("gap", recover_with(0, examples[GAP].bytes, examples[GAP].length, &fault) == MTR_FAULT && is_fault(&fault, 6, 0, 1, 0));
+    expect("an empty place feeds nothing", mtr_feed(&place, text("x"), 1) == MTR_WRONG);
+    expect("an empty place fails nothing", mtr_feed_failed(&place) == MTR_WRONG);
+    expect("an empty place has no keys", mtr_get(&place, text("x"), 1, 0, out, sizeof out, &count) == MTR_WRONG);
+    expect("an empty place adds nothing", mtr_add(&other, &place) == MTR_WRONG && !other.full);
+    expect("a log", mtr_feed_log(&place) == MTR_DONE && mtr_feed_part(&place) == MTR_WRONG);
+    expect("a log has no keys", mtr_get(&place, text("x"), 1, 0, out, sizeof out, &count) == MTR_WRONG);
+    expect("a log is not recovered", mtr_recover(&place, &fault) == MTR_WRONG && place.full);
+    expect("a log has no inputs", mtr_feed_part(&other) == MTR_DONE && mtr_add(&place, &other) == MTR_WRONG && other.full);
+    mtr_free(&place);
+    mtr_free(&other);
+    expect("all is freed", blocks == 0);
+}
+
+static void test_recovery_memory(void) {
+    mtr_fault fault = {0};
+    uint32_t status = MTR_MEMORY;
+    size_t allowed;
+    for (allowed = 0; status == MTR_MEMORY && allowed < 4096; allowed++) {
+        mtr_place store = {0};
+        left = allowed;
+        status = recover_examples(&store, 7, &fault);
+        left = SIZE_MAX;
+        mtr_free(&store);
+        expect("nothing leaks", blocks == 0);
+    }
+    expect("some allocations of a recovery failed", allowed > 8);
+    expect("then it is done", status == MTR_DONE);
+}
+
+int main(int argc, char **argv) {
     test_log();
     test_part();
     test_others();
     test_refusals();
     test_memory();
+    read_examples(argc > 1 ? argv[1] : ".");
+    test_recovery();
+    test_faults();
+    test_recovery_memory();
     printf("%u passed, %u failed\n", passed, failed);
     return failed != 0;
 }

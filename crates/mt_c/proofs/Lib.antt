@@ -1,1 +1,3 @@
 mod Follows
+pub mod Pointers
+pub mod Stores

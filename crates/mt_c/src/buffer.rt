@@ -1,6 +1,6 @@
 //! Writes to buffers of the caller.
-ghost use Rattle.std.specs.Prelude.{◌≢◌};
-ghost use Rattle.mt_c.specs.declared.status.TheConstants.{WRONG};
+ghost use Rattle.std.specs.Prelude.{◌≡◌, ◌≢◌, ◌⊎◌};
+ghost use Rattle.mt_c.specs.declared.status.TheConstants.{DONE, SHORT, WRONG};
 ghost use Rattle.mt_c.specs.Buffers.{Writes};
 
 use crate::status::{DONE, SHORT};
@@ -9,6 +9,7 @@ use crate::status::{DONE, SHORT};
 pub fn write_bytes(bytes: &[u8], out: &mut [u8], count: &mut usize) -> u32
     ensures written { Writes bytes.now out.old out.new count.new result }
     ensures accepted { result ≢ WRONG }
+    ensures certain { (result ≡ DONE) ⊎ (result ≡ SHORT) }
 {
     *count = bytes.len();
     if bytes.len() > out.len() {

@@ -1,13 +1,25 @@
-//! The library for servers in C and C++: headers, records, entries and footers, written to buffers of the server.
+//! The library for servers in C and C++: recovery from logs and parts of checkpoints that the server reads and feeds, and
+//! headers, records, entries and footers, written to buffers of the server.
 //!
-//! Each function that C calls answers a status (`status.rt`). None keeps state, prints, waits or ends the program.
+//! Each function that C calls, but `mtr_free`, answers a status (`status.rt`). None keeps state, prints, waits or ends the
+//! program. A value that outlives a call is in a `Place` of the server, as a boxed `Held`. Contracts see what a place
+//! holds.
 //!
-//! Begin with `records.rt`, and with `specs/Buffers.antt`, which says what is written to a buffer.
+//! Begin with `recovering.rt`, and with `specs/Holding.antt`, which says what a place holds; for encoders with
+//! `records.rt`, and with `specs/Buffers.antt`, which says what is written to a buffer.
 #![tactic(auto)]
 
+mod bare;
 mod buffer;
 mod columns;
+mod fault;
+mod feeding;
+mod feeds;
 mod headers;
+mod held;
 mod parts;
+mod place;
+mod querying;
 mod records;
+mod recovering;
 mod status;

@@ -6,8 +6,14 @@ pub const DONE: u32 = 0;
 /// Out of memory.
 pub const MEMORY: u32 = 1;
 
-/// An argument is not lawful.
+/// An argument is not lawful, or a place does not hold what the call needs.
 pub const WRONG: u32 = 2;
+
+/// There is no such key or column.
+pub const ABSENT: u32 = 3;
 
 /// The buffer is too short. The count says how many bytes it needs.
 pub const SHORT: u32 = 4;
+
+/// The bytes have a fault.
+pub const FAULT: u32 = 5;

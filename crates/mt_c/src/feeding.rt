@@ -1,0 +1,125 @@
+//! Feeding logs and checkpoint parts, chunk by chunk.
+ghost use Rattle.std.specs.Prelude.{◌≡◌, ◌≢◌, ◌++◌, [], List, ℕ, None, Some};
+ghost use Rattle.mt_record.specs.LogFeeding.{ShowsNoFault};
+ghost use Rattle.mt_record.specs.PartFeeding.{ShowsNoPartFault};
+ghost use Rattle.mt_c.specs.Holding.{HoldsLog, HoldsPart, Holds, IsFeed};
+ghost use Rattle.mt_c.specs.declared.status.TheConstants.{DONE, WRONG};
+
+use crate::feeds::{FedLog, FedPart};
+use crate::held::Held;
+use crate::place::Place;
+use crate::status::{DONE, MEMORY, WRONG};
+use std::alloc::Global;
+
+/// Puts a log of no bytes so far into the empty place. `WRONG`: the place is not empty.
+#[unsafe(no_mangle)]
+pub extern "C" fn mtr_feed_log(alloc: Global, place: &mut Place) -> u32
+    ensures done { result ≡ DONE → HoldsLog (Some []) place.new.handle.value }
+    ensures kept { result ≢ DONE → place.new.handle.value ≡ place.old.handle.value }
+    ensures accepted { place.old.handle.value ≡ None → result ≢ WRONG }
+{
+    begin(alloc, place, Held::Log(FedLog::new(alloc)))
+}
+
+/// Puts a part of no bytes so far into the empty place. `WRONG`: the place is not empty.
+#[unsafe(no_mangle)]
+pub extern "C" fn mtr_feed_part(alloc: Global, place: &mut Place) -> u32
+    ensures done { result ≡ DONE → HoldsPart (Some []) place.new.handle.value }
+    ensures kept { result ≢ DONE → place.new.handle.value ≡ place.old.handle.value }
+    ensures accepted { place.old.handle.value ≡ None → result ≢ WRONG }
+{
+    begin(alloc, place, Held::Part(FedPart::new(alloc)))
+}
+
+/// Feeds the next chunk to the log or part in the place. `FAULT`: the bytes so far have a fault, which more bytes do not
+/// change. `MEMORY`: it has lost bytes, and recovery of it answers `MEMORY`. `WRONG`: nothing there is being fed.
+#[unsafe(no_mangle)]
+pub extern "C" fn mtr_feed(alloc: Global, place: &mut Place, chunk: &[u8]) -> u32
+    ensures log { (bytes : List ℕ) → HoldsLog (Some bytes) place.old.handle.value → HoldsLog (Some (bytes ++ chunk.now)) place.new.handle.value }
+    ensures part { (bytes : List ℕ) → HoldsPart (Some bytes) place.old.handle.value → HoldsPart (Some (bytes ++ chunk.now)) place.new.handle.value }
+    ensures sound_log { (bytes : List ℕ) → HoldsLog (Some bytes) place.old.handle.value → result ≡ DONE → ShowsNoFault (bytes ++ chunk.now) }
+    ensures sound_part { (bytes : List ℕ) → HoldsPart (Some bytes) place.old.handle.value → result ≡ DONE → ShowsNoPartFault (bytes ++ chunk.now) }
+    ensures kept { result ≡ WRONG → place.new.handle.value ≡ place.old.handle.value }
+    ensures accepted { Holds IsFeed place.old.handle.value → result ≢ WRONG }
+{
+    let Some(mut held) = place.take(alloc) else {
+        return WRONG;
+    };
+    let status = feed(&mut held, chunk);
+    place.put(held);
+    status
+}
+
+/// Notes that the device of the log or part in the place failed. Its bytes are freed. `WRONG`: nothing there is being
+/// fed.
+#[unsafe(no_mangle)]
+pub extern "C" fn mtr_feed_failed(alloc: Global, place: &mut Place) -> u32
+    ensures log { (bytes : List ℕ) → HoldsLog (Some bytes) place.old.handle.value → HoldsLog None place.new.handle.value }
+    ensures part { (bytes : List ℕ) → HoldsPart (Some bytes) place.old.handle.value → HoldsPart None place.new.handle.value }
+    ensures kept { result ≢ DONE → place.new.handle.value ≡ place.old.handle.value }
+    ensures accepted { Holds IsFeed place.old.handle.value → result ≡ DONE }
+{
+    let Some(mut held) = place.take(alloc) else {
+        return WRONG;
+    };
+    let status = fail(&mut held);
+    place.put(held);
+    status
+}
+
+/// Frees what the place holds, if it holds anything, and leaves it empty.
+#[unsafe(no_mangle)]
+pub extern "C" fn mtr_free(alloc: Global, place: &mut Place)
+    ensures { place.new.handle.value ≡ None }
+{
+    let _held = place.take(alloc);
+}
+
+/// Puts the value into the empty place. `WRONG`: the place is not empty.
+fn begin(alloc: Global, place: &mut Place, held: Held) -> u32
+    ensures done { result ≡ DONE → place.new.handle.value ≡ Some held }
+    ensures kept { result ≢ DONE → place.new.handle.value ≡ place.old.handle.value }
+    ensures accepted { place.old.handle.value ≡ None → result ≢ WRONG }
+{
+    if place.is_full() {
+        return WRONG;
+    }
+    match Box::new(alloc, held) {
+        Ok(held) => {
+            place.put(held);
+            DONE
+        }
+        Err(_) => MEMORY,
+    }
+}
+
+/// Does what `mtr_feed` does, with what the place holds.
+fn feed(held: &mut Held, chunk: &[u8]) -> u32
+    ensures log { (bytes : List ℕ) → HoldsLog (Some bytes) (Some held.old) → HoldsLog (Some (bytes ++ chunk.now)) (Some held.new) }
+    ensures part { (bytes : List ℕ) → HoldsPart (Some bytes) (Some held.old) → HoldsPart (Some (bytes ++ chunk.now)) (Some held.new) }
+    ensures sound_log { (bytes : List ℕ) → HoldsLog (Some bytes) (Some held.old) → result ≡ DONE → ShowsNoFault (bytes ++ chunk.now) }
+    ensures sound_part { (bytes : List ℕ) → HoldsPart (Some bytes) (Some held.old) → result ≡ DONE → ShowsNoPartFault (bytes ++ chunk.now) }
+    ensures kept { result ≡ WRONG → held.new ≡ held.old }
+    ensures accepted { IsFeed held.old → result ≢ WRONG }
+{
+    match held {
+        Held::Log(log) => log.feed(chunk),
+        Held::Part(part) => part.feed(chunk),
+        _ => WRONG,
+    }
+}
+
+/// Does what `mtr_feed_failed` does, with what the place holds.
+fn fail(held: &mut Held) -> u32
+    ensures log { (bytes : List ℕ) → HoldsLog (Some bytes) (Some held.old) → HoldsLog None (Some held.new) }
+    ensures part { (bytes : List ℕ) → HoldsPart (Some bytes) (Some held.old) → HoldsPart None (Some held.new) }
+    ensures kept { result ≢ DONE → held.new ≡ held.old }
+    ensures accepted { IsFeed held.old → result ≡ DONE }
+{
+    match held {
+        Held::Log(_) => *held = Held::FailedLog,
+        Held::Part(_) => *held = Held::FailedPart,
+        _ => return WRONG,
+    }
+    DONE
+}

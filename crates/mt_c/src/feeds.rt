@@ -1,0 +1,115 @@
+//! Logs and checkpoint parts that are being fed.
+ghost use Rattle.std.specs.Prelude.{◌≡◌, ◌≢◌, ◌++◌, [], ◌∷◌, List, ℕ, Some, OnOk, OnErr};
+ghost use Rattle.mt_record.specs.LogFeeding.{IsLogFed, ShowsNoFault};
+ghost use Rattle.mt_record.specs.PartFeeding.{IsPartFed, ShowsNoPartFault};
+ghost use Rattle.mt_recover.specs.Fed.{AreFed, Input};
+ghost use Rattle.mt_c.specs.declared.status.TheConstants.{DONE, WRONG};
+
+use crate::status::{DONE, FAULT, MEMORY};
+use mt_record::{FeedFault, KeptEntries, KeptRecords, LogFeed, PartFault, PartFeed};
+use mt_recover::Fed;
+use mt_words::Memory;
+use std::alloc::Global;
+use std::marker::Model;
+
+/// A log that is being fed.
+#[derive(Drop)]
+pub struct FedLog {
+    feed: LogFeed<KeptRecords>,
+}
+
+impl Model for FedLog {
+    ghost use Rattle.std.specs.Prelude.{ℕ, List, []};
+    ghost use Rattle.mt_record.specs.LogFeeding.{FedLog as FedView, IsLogFed};
+
+    ghost Value = { FedView };
+
+    ghost view = { λ f. f.feed };
+
+    ghost invariant = { λ f. (bytes : List ℕ) × IsLogFed f.feed bytes [] };
+}
+
+impl FedLog {
+    /// Creates a log of no bytes so far.
+    pub fn new(alloc: Global) -> FedLog
+        ensures { IsLogFed result [] [] }
+    {
+        FedLog {
+            feed: LogFeed::keeping(alloc),
+        }
+    }
+
+    /// Feeds the next chunk. `FAULT`: the bytes so far are no log, whatever bytes follow.
+    pub fn feed(&mut self, chunk: &[u8]) -> u32
+        ensures fed { (bytes : List ℕ) → IsLogFed self.old bytes [] → IsLogFed self.new (bytes ++ chunk.now) [] }
+        ensures sound { (bytes : List ℕ) → IsLogFed self.old bytes [] → result ≡ DONE → ShowsNoFault (bytes ++ chunk.now) }
+        ensures accepted { result ≢ WRONG }
+    {
+        match self.feed.feed(chunk) {
+            Ok(()) => DONE,
+            Err(FeedFault::Memory) => MEMORY,
+            Err(_) => FAULT,
+        }
+    }
+
+    /// Appends the log to these inputs. Err: out of memory; then nothing is appended.
+    pub fn add_to(self, inputs: &mut Fed) -> Result<(), Memory>
+        ensures added { (logs parts : List Input) (bytes : List ℕ) → AreFed logs parts inputs.old → IsLogFed self bytes [] →
+            OnOk result (AreFed (logs ++ Some bytes ∷ []) parts inputs.new) }
+        ensures memory { OnErr result (inputs.new ≡ inputs.old) }
+    {
+        let FedLog { feed } = self;
+        inputs.add_log(feed)
+    }
+}
+
+/// A checkpoint part that is being fed.
+#[derive(Drop)]
+pub struct FedPart {
+    feed: PartFeed<KeptEntries>,
+}
+
+impl Model for FedPart {
+    ghost use Rattle.std.specs.Prelude.{ℕ, List};
+    ghost use Rattle.mt_record.specs.PartFeeding.{FedPart as FedView, IsPartFed};
+
+    ghost Value = { FedView };
+
+    ghost view = { λ f. f.feed };
+
+    ghost invariant = { λ f. (bytes : List ℕ) × IsPartFed f.feed bytes };
+}
+
+impl FedPart {
+    /// Creates a part of no bytes so far.
+    pub fn new(alloc: Global) -> FedPart
+        ensures { IsPartFed result [] }
+    {
+        FedPart {
+            feed: PartFeed::keeping(alloc),
+        }
+    }
+
+    /// Feeds the next chunk. `FAULT`: the bytes so far are no part, whatever bytes follow.
+    pub fn feed(&mut self, chunk: &[u8]) -> u32
+        ensures fed { (bytes : List ℕ) → IsPartFed self.old bytes → IsPartFed self.new (bytes ++ chunk.now) }
+        ensures sound { (bytes : List ℕ) → IsPartFed self.old bytes → result ≡ DONE → ShowsNoPartFault (bytes ++ chunk.now) }
+        ensures accepted { result ≢ WRONG }
+    {
+        match self.feed.feed(chunk) {
+            Ok(()) => DONE,
+            Err(PartFault::Memory) => MEMORY,
+            Err(_) => FAULT,
+        }
+    }
+
+    /// Appends the part to these inputs. Err: out of memory; then nothing is appended.
+    pub fn add_to(self, inputs: &mut Fed) -> Result<(), Memory>
+        ensures added { (logs parts : List Input) (bytes : List ℕ) → AreFed logs parts inputs.old → IsPartFed self bytes →
+            OnOk result (AreFed logs (parts ++ Some bytes ∷ []) inputs.new) }
+        ensures memory { OnErr result (inputs.new ≡ inputs.old) }
+    {
+        let FedPart { feed } = self;
+        inputs.add_part(feed)
+    }
+}
