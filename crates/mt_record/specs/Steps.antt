@@ -2,6 +2,7 @@
 pub mod Bodies
 pub mod Adding
 pub mod ByteStrings
+pub mod Blocks
 pub mod Kept
 pub mod Splits
 pub mod Salvages

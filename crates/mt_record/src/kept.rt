@@ -1,7 +1,9 @@
 //! The collections into which the records of a log and the entries of a part are read.
+mod block;
 pub mod byte_strings;
 pub mod log;
 pub mod part;
+pub mod share;
 pub mod updates;
 
 ghost use Rattle.std.specs.Prelude.{◌≡◌, ◌++◌, [], ◌∷◌, List, length, OnOk, OnErr};

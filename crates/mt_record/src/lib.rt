@@ -48,6 +48,7 @@ pub use in_memory::bodies::body_of_update;
 pub use kept::byte_strings::ByteStrings;
 pub use kept::log::{Dropped, KeptRecords};
 pub use kept::part::KeptEntries;
+pub use kept::share::Share;
 pub use kept::updates::Updates;
 pub use laws::{one_part, one_reading, one_salvage};
 pub use part_front::{entry_at, footer_of};

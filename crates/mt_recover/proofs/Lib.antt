@@ -19,4 +19,5 @@ pub mod VersionLemmas
 pub mod HoleLemmas
 pub mod Preparing
 pub mod Assembles
+pub mod Replays
 pub mod Works

@@ -53,11 +53,3 @@ pub record HasWorked (job : JobView) (pass : PassView) (haul : Haul) : Type 0 wh
   pub done : IsTrue pass.done
   pub is_haul : IsHaulOf job haul
   pub draws : pass.draws ≡ numbers haul
-
--- the passes and hauls of workers that each drew in one call only: each pass found that no piece is left, and the hauls hold each piece as often as
--- the passes drew it
-pub record HaveWorked (job : JobView) (passes : List PassView) (hauls : List Haul) : Type 0 where
-  pub boards : All (λ pass. pass.board ≡ job.board) passes
-  pub are_hauls : All (IsHaulOf job) hauls
-  pub done : All (λ pass. IsTrue pass.done) passes
-  pub held : (number : ℕ) → times_held number hauls ≡ times_drawn number passes

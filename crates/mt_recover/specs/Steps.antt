@@ -4,4 +4,5 @@ pub mod Assembling
 pub mod Outcomes
 pub mod Scanning
 pub mod Preparing
+pub mod Replaying
 pub mod Holes

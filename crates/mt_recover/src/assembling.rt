@@ -95,7 +95,7 @@ fn in_order(alloc: Global, pieces: Vec<Piece>, count: u32) -> Result<Vec<Draft>,
 }
 
 /// Joins the drafts into one, in their order.
-fn join_all(alloc: Global, drafts: Vec<Draft>) -> Result<Draft, Memory>
+pub(crate) fn join_all(alloc: Global, drafts: Vec<Draft>) -> Result<Draft, Memory>
     requires { KeysRise (joined (map layer_walk drafts.items)) }
     ensures { IfOk result (λ whole. layer_walk whole ≡ joined (map layer_walk drafts.items)) }
 {

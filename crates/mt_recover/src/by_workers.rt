@@ -1,6 +1,6 @@
 //! Shares out work among threads.
 ghost use Rattle.std.specs.Prelude.{◌≡◌, ◌⊎◌, ◌<◌, ◌≤◌, ℕ, [], List, map, length, max, All, IfOk, IfErr};
-ghost use Rattle.std.specs.List.{AllZip, flat_map};
+ghost use Rattle.std.specs.List.{AllZip, enumerate_from, flat_map};
 ghost use Rattle.std.specs.Vec.Iter.{into_iter_items};
 ghost use Rattle.mt_words.specs.declared.fault.Memory.{Memory as MemoryValue};
 ghost use Rattle.mt_board.specs.Board.{least_noted, times_drawn, SawNoneBelow, SomeIsDone};
@@ -83,6 +83,13 @@ pub(crate) fn all_done<X: Drop, E: Drop + From<Memory>>(
         done.push(answer?).map_err(|refused| Memory::from(refused))?;
     }
     Ok(done)
+}
+
+/// Numbers these, from 0.
+pub(crate) fn numbered<T: Drop>(alloc: Global, items: Vec<T>) -> Result<Vec<(usize, T)>, Memory>
+    ensures { IfOk result (λ numbered. numbered.items ≡ enumerate_from 0 items.items) }
+{
+    Ok(items.into_iter().enumerate().collect(alloc)?)
 }
 
 /// Puts the lists together, one after the other.

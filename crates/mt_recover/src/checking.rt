@@ -1,12 +1,11 @@
 //! Checks logs and checkpoint parts: what is in each of them, and where recovery would begin. No store is made.
 ghost use Rattle.std.specs.Prelude.{◌≡◌, ℕ, List, map, IfOk, IfErr};
-ghost use Rattle.std.specs.List.{enumerate_from};
 ghost use Rattle.mt_scan.specs.Sources.{Seen};
 ghost use Rattle.mt_recover.specs.Check.{AllFrom, IsLogChecked, IsPartOutcome, IsStartOf};
 ghost use Rattle.mt_recover.specs.Inputs.{OfSources, IsAnsweredBy};
 ghost use Rattle.mt_recover.specs.Steps.Outcomes.{IsLogOutcome};
 
-use crate::by_workers::{by_workers, in_turn};
+use crate::by_workers::{by_workers, in_turn, numbered};
 use crate::found::{Start, find};
 use crate::scans::Outcomes;
 use crate::workers::Workers;
@@ -79,13 +78,6 @@ pub fn start_of(
     }
     let logs = outcomes_of(alloc, checks)?;
     Ok(find(alloc, Outcomes { logs, parts })?.start)
-}
-
-/// Numbers these, from 0.
-fn numbered<T: Drop>(alloc: Global, items: Vec<T>) -> Result<Vec<(usize, T)>, Memory>
-    ensures { IfOk result (λ numbered. numbered.items ≡ enumerate_from 0 items.items) }
-{
-    Ok(items.into_iter().enumerate().collect(alloc)?)
 }
 
 /// Returns the scans of the checked logs, without updates.

@@ -42,18 +42,17 @@ pub(crate) fn divide<R: Threads + Sync>(
     ensures divided { IfOk result (λ division. IsDividedOf window (kept scans.items) (joined entries.items) division) }
     ensures cuts { IfOk result (λ division. AreCutBy cutting division.0.updates division.0.cuts) }
 {
-    let batches = batches_of(alloc, &scans, workers.count())?;
+    let batches = batches_of(alloc, scans, workers.count())?;
     let cuts = cuts_of(rt, alloc, &batches, window, &entries, workers, cutting)?;
     let left = by_workers(
         rt,
         alloc,
         batches,
         workers,
-        &|batch: Batch<'_>| -> Result<Left, Memory>
-            ensures { IfOk result (IsLeftBy window cuts batch.entry.updates) }
-        { left_of(alloc, &batch, window, &cuts) },
+        &|batch: Batch| -> Result<Left, Memory>
+            ensures { IfOk result (IsLeftBy window cuts batch.updates) }
+        { left_of(alloc, batch, window, &cuts) },
     )?;
-    drop(scans);
     put_together(alloc, left, cuts, entries)
 }
 
@@ -70,12 +69,11 @@ pub(crate) fn leave_whole(
     let cuts = Cuts::none(alloc);
     let left = in_turn(
         alloc,
-        batches_of(alloc, &scans, 1)?,
-        &|batch: Batch<'_>| -> Result<Left, Memory>
-            ensures { IfOk result (IsLeftBy window cuts batch.entry.updates) }
-        { left_of(alloc, &batch, window, &cuts) },
+        batches_of(alloc, scans, 1)?,
+        &|batch: Batch| -> Result<Left, Memory>
+            ensures { IfOk result (IsLeftBy window cuts batch.updates) }
+        { left_of(alloc, batch, window, &cuts) },
     )?;
-    drop(scans);
     put_together(alloc, left, cuts, entries)
 }
 
@@ -83,8 +81,8 @@ pub(crate) fn leave_whole(
 type Left = (usize, Dealt);
 
 /// Returns what is left of the batch. Err: out of memory.
-fn left_of(alloc: Global, batch: &Batch<'_>, window: Window, cuts: &Cuts) -> Result<Left, Memory>
-    ensures { IfOk result (IsLeftBy window cuts.now batch.now.updates) }
+fn left_of(alloc: Global, batch: Batch, window: Window, cuts: &Cuts) -> Result<Left, Memory>
+    ensures { IfOk result (IsLeftBy window cuts.now batch.updates) }
 {
     let early = batch.early_count(window.begin);
     Ok((early, Dealt::of_batch(alloc, batch, window, cuts)?))
@@ -112,7 +110,7 @@ fn put_together(
 fn cuts_of<R: Threads + Sync>(
     rt: &R,
     alloc: Global,
-    batches: &[Batch<'_>],
+    batches: &[Batch],
     window: Window,
     entries: &[SortedUpdates],
     workers: Workers,
@@ -132,7 +130,7 @@ fn cuts_of<R: Threads + Sync>(
 
 /// Returns the number of pieces for these batches and entries: no more than `most`.
 fn pieces_for(
-    batches: &[Batch<'_>],
+    batches: &[Batch],
     entries: &[SortedUpdates],
     workers: Workers,
     most: Pieces,

@@ -1,15 +1,12 @@
 //! Recovery as a job, whose pieces are claimed, replayed and assembled into the store.
-ghost use Rattle.std.specs.Prelude.{◌≡◌, ◌+◌, ◌<◌, List, ℕ, length, IfOk, IfErr};
+ghost use Rattle.std.specs.Prelude.{◌≡◌, ◌+◌, ◌<◌, length, IfOk, IfErr};
 ghost use Rattle.mt_board.specs.Board.{fresh_passes};
 ghost use Rattle.mt_recover.specs.Inputs.{IsAnsweredBy, OfSources};
 ghost use Rattle.mt_recover.specs.Job.{AreCutBy, JobView};
 ghost use Rattle.mt_recover.specs.Prepared.{IsPreparedOf};
-ghost use Rattle.mt_recover.specs.Steps.Preparing.{IsFound, IsFoundOf};
 
-use crate::found::{Found, find};
 use crate::prepared::Prepared;
 use crate::recovery::Inputs;
-use crate::scans::scan_all;
 use crate::workers::{Cutting, MOST_WORKERS, Workers};
 use mt_board::{Board, MOST_NUMBERS, MOST_PASSES, Pass};
 use mt_replay::MOST_PIECES;
@@ -54,9 +51,8 @@ pub fn prepare<R: Threads + Sync, S: Source + Send>(
     ensures some { IfOk result (λ opened. 0 < opened.0.board.passes) }
     ensures fault { IfErr result (IsAnsweredBy S.seen inputs.logs.items inputs.parts.items) }
 {
-    let outcomes = scan_all(rt, alloc, inputs, workers)?;
-    let found = find(alloc, outcomes)?;
-    Ok(open(rt, alloc, found, workers, cutting)?)
+    let prepared = Prepared::from_sources(rt, alloc, inputs, workers, cutting)?;
+    Ok(open(alloc, prepared, workers)?)
 }
 
 // The board of a job has a number for each piece and a pass for each worker.
@@ -64,22 +60,13 @@ const _: () = prove!(MOST_PIECES == MOST_NUMBERS);
 
 const _: () = prove!(MOST_WORKERS == MOST_PASSES);
 
-/// Prepares the job of what was found, and its passes.
-fn open<R: Threads + Sync>(
-    rt: &R,
-    alloc: Global,
-    found: Found,
-    workers: Workers,
-    cutting: Cutting,
-) -> Result<(Job, Vec<Pass>), Memory>
-    requires { IsFound found }
-    ensures job { (logs parts : List (List ℕ)) → IsFoundOf logs parts found → IfOk result (λ opened. IsPreparedOf logs parts opened.0.prepared) }
-    ensures cuts { IfOk result (λ opened. AreCutBy cutting opened.0.prepared.updates opened.0.prepared.cuts) }
-    ensures pieces { IfOk result (λ opened. opened.0.board.total ≡ length opened.0.prepared.cuts + 1) }
+/// Opens the board of a job, and returns the job and its passes. Err: out of memory.
+fn open(alloc: Global, prepared: Prepared, workers: Workers) -> Result<(Job, Vec<Pass>), Memory>
+    ensures prepared { IfOk result (λ opened. opened.0.prepared ≡ prepared) }
+    ensures pieces { IfOk result (λ opened. opened.0.board.total ≡ length prepared.cuts + 1) }
     ensures passes { IfOk result (λ opened. (opened.0.board.passes ≡ workers) × (opened.1.items ≡ fresh_passes opened.0.board workers)) }
     ensures some { IfOk result (λ opened. 0 < opened.0.board.passes) }
 {
-    let prepared = Prepared::by_workers(rt, alloc, found, workers, cutting)?;
     let Ok((board, passes)) = Board::open(alloc, prepared.pieces(), workers.count()) else {
         return Err(Memory);
     };

@@ -1,8 +1,8 @@
 //! Recovers a store from update logs and checkpoint parts, and prints it as text.
 //!
 //! `recover_one` recovers from `Inputs` on one thread, `recover` by workers. Both return `Recovered`: a `Store` and its
-//! `Report`. A caller with threads of its own takes the three steps of `recover` itself: `prepare` makes a `Job`,
-//! `work` replays pieces of it into a `Haul`, and `assemble` makes the store of all hauls.
+//! `Report`. A caller with threads of its own takes three steps: `prepare` makes a `Job`, `work` replays pieces of it
+//! into a `Haul`, and `assemble` makes the store of all hauls.
 //!
 //! `Fed` takes logs and parts that the caller reads and feeds itself, and recovers from these as `recover_one` does.
 //!
@@ -35,6 +35,7 @@ mod prepared;
 mod program;
 mod reading;
 mod recovery;
+mod replaying;
 mod report;
 mod report_text;
 mod scans;

@@ -1,12 +1,13 @@
 //! The survivors and the counts that are prepared before replay.
-ghost use Rattle.std.specs.Prelude.{◌≡◌, ◌<◌, ◌+◌, [], List, ℕ, length, IfOk, ◌^◌};
+ghost use Rattle.std.specs.Prelude.{◌≡◌, ◌<◌, ◌+◌, [], List, ℕ, length, IfOk, IfErr, ◌^◌};
 ghost use Rattle.std.specs.Option.{option_map};
-ghost use Rattle.mt_words.specs.Walks.{joined};
+ghost use Rattle.mt_words.specs.Walks.{IsMap, joined};
 ghost use Rattle.mt_scan.specs.Choosing.{checkpoint_in};
 ghost use Rattle.mt_replay.specs.Cuts.{AreCuts};
 ghost use Rattle.mt_replay.specs.Pieces.{IsPiece};
 ghost use Rattle.mt_replay.specs.Walk.{IsWalk};
 ghost use Rattle.mt_tree.specs.Borders.{layer_walk};
+ghost use Rattle.mt_recover.specs.Inputs.{IsAnsweredBy, OfSources};
 ghost use Rattle.mt_recover.specs.Job.{AreCutBy};
 ghost use Rattle.mt_recover.specs.Prepared.{IsMadeOf, IsPreparedOf, PreparedView};
 ghost use Rattle.mt_recover.specs.Steps.Preparing.{IsDivisionOf, IsFound, IsFoundOf};
@@ -14,16 +15,19 @@ ghost use Rattle.mt_recover.specs.Recovery.{entry_updates};
 ghost use Rattle.mt_replay.specs.Cells.{AreApart};
 
 use crate::Workers;
+use crate::assembling::join_all;
 use crate::dividing::{Division, divide, leave_whole};
-use crate::found::Found;
-use crate::recovery::Recovered;
+use crate::found::{Found, find};
+use crate::recovery::{Inputs, Recovered};
+use crate::replaying::replay_all;
 use crate::report::Report;
+use crate::scans::scan_all;
 use crate::store::Store;
-use crate::workers::Cutting;
-use mt_replay::{Divided, SortedUpdates};
-use mt_scan::Checkpoint;
+use crate::workers::{Cutting, Gate};
+use mt_replay::{Divided, SortedUpdates, pieces_make_the_walk};
+use mt_scan::{Checkpoint, Source};
 use mt_tree::Draft;
-use mt_words::Memory;
+use mt_words::{Fault, Memory};
 use std::alloc::Global;
 use std::marker::Model;
 use std::thread::Threads;
@@ -45,6 +49,23 @@ impl Model for Prepared {
 }
 
 impl Prepared {
+    /// Scans the sources, and prepares what was found, with these workers. Err: the same as for `recover`.
+    pub fn from_sources<R: Threads + Sync, S: Source + Send>(
+        rt: &R,
+        alloc: Global,
+        inputs: Inputs<S>,
+        workers: Workers,
+        cutting: Cutting,
+    ) -> Result<Prepared, Fault>
+        ensures prepared { IfOk result (λ prepared. OfSources S.seen inputs.logs.items inputs.parts.items (λ logs parts. IsPreparedOf logs parts prepared)) }
+        ensures cuts { IfOk result (λ prepared. AreCutBy cutting prepared.updates prepared.cuts) }
+        ensures fault { IfErr result (IsAnsweredBy S.seen inputs.logs.items inputs.parts.items) }
+    {
+        let outcomes = scan_all(rt, alloc, inputs, workers)?;
+        let found = find(alloc, outcomes)?;
+        Ok(Prepared::by_workers(rt, alloc, found, workers, cutting)?)
+    }
+
     /// Prepares what was found as one piece, on one thread. Err: out of memory.
     pub fn on_one_thread(alloc: Global, found: Found) -> Result<Prepared, Memory>
         requires { IsFound found }
@@ -118,16 +139,44 @@ impl Prepared {
     {
         let Prepared { divided, report } = self;
         drop(divided);
-        let keys = draft.len();
-        let tree = draft.finish()?;
-        let layers = tree.layers();
-        let report = Report {
-            keys,
-            layers,
-            ..report
-        };
-        Ok(Recovered::of(Store::of(tree), report))
+        complete(report, draft)
     }
+
+    /// Replays all pieces with these workers, and makes the store and the report. Worker w of W replays the pieces
+    /// w, w + W, .. in this order: it enters a piece at the gate, replays it and frees its updates. Err: out of memory.
+    pub fn replay_by_workers<R: Threads + Sync, G: Gate>(
+        self,
+        rt: &R,
+        alloc: Global,
+        workers: Workers,
+        gate: &G,
+    ) -> Result<Recovered, Memory>
+        ensures { IfOk result (IsMadeOf self) }
+    {
+        let Prepared { divided, report } = self;
+        let (cuts, ranges, entries) = divided.into_parts();
+        let drafts = replay_all(rt, alloc, &cuts, ranges, &entries, workers, gate)?;
+        drop(entries);
+        pieces_make_the_walk();
+        complete(report, join_all(alloc, drafts)?)
+    }
+}
+
+/// Makes the store from its draft, and completes the report. Err: out of memory.
+fn complete(report: Report, draft: Draft) -> Result<Recovered, Memory>
+    requires { IsMap (layer_walk draft) }
+    ensures { (prepared : PreparedView) → prepared.report ≡ report → IsWalk prepared.updates (layer_walk draft) →
+        report.survivors ≡ length prepared.updates → report.survivors < 2 ^ 128 → IfOk result (IsMadeOf prepared) }
+{
+    let keys = draft.len();
+    let tree = draft.finish()?;
+    let layers = tree.layers();
+    let report = Report {
+        keys,
+        layers,
+        ..report
+    };
+    Ok(Recovered::of(Store::of(tree), report))
 }
 
 /// Returns the entries of each part of the checkpoint, or nothing without a checkpoint. Err: out of memory.

@@ -1,25 +1,18 @@
 //! Recovery from sources, on one thread or by workers, and from logs in memory.
-ghost use Rattle.std.specs.Prelude.{◌≡◌, [], List, ℕ, map, length, All, IfOk, IfErr, OnOk};
+ghost use Rattle.std.specs.Prelude.{◌≡◌, [], List, ℕ, map, IfOk, IfErr, OnOk};
 ghost use Rattle.mt_scan.specs.Sources.{Seen};
-ghost use Rattle.mt_recover.specs.Hauls.{HasWorked, HaveWorked};
 ghost use Rattle.mt_recover.specs.Inputs.{IsRecoveryFrom};
 ghost use Rattle.mt_recover.specs.Steps.Outcomes.{AreOutcomes, AreAllOk};
 ghost use Rattle.mt_recover.specs.Steps.Preparing.{IsFound, IsFoundOf};
 ghost use Rattle.mt_recover.specs.Report.{IsRecoveredOf, Outcome};
 ghost use Rattle.mt_recover.specs.Verdict.{IsVerdictOrMemory};
 
-use crate::assembling::assemble;
-use crate::by_workers::{all_done, by_workers, unzip};
 use crate::found::{Found, find};
-use crate::haul::Haul;
-use crate::job::{Job, prepare};
 use crate::prepared::Prepared;
 use crate::report::Report;
 use crate::scans::{Outcomes, scan_memory, scan_one};
 use crate::store::Store;
 use crate::workers::{Cutting, Gate, Workers};
-use crate::working::work;
-use mt_board::Pass;
 use mt_replay::Cuts;
 use mt_scan::Source;
 use mt_words::{Fault, Memory};
@@ -112,8 +105,8 @@ pub fn recover_one<S: Source>(alloc: Global, inputs: Inputs<S>) -> Result<Recove
 }
 
 /// Recovers the same store and report as `recover_one`, with these workers and the keys cut into pieces. Neither the
-/// workers nor the cuts change the result. Prepares the job, lets each worker work on it, and assembles the store. The
-/// workers run by fork and join, each in a thread of its own if one can be made.
+/// workers nor the cuts change the result. Worker w of W replays the pieces w, w + W, .. and frees the updates of each.
+/// The workers run by fork and join, each in a thread of its own if one can be made.
 ///
 /// Err: the same as for `recover_one`, whichever worker ends first. All logs and parts are scanned before a fault is
 /// named.
@@ -127,9 +120,8 @@ pub fn recover<R: Threads + Sync, S: Source + Send, G: Gate>(
 ) -> Result<Recovered, Fault>
     ensures { IsRecoveryFrom S.seen inputs.logs.items inputs.parts.items result }
 {
-    let (job, passes) = prepare(rt, alloc, inputs, workers, cutting)?;
-    let (passes, hauls) = work_all(rt, alloc, &job, passes, workers, gate)?;
-    assemble(alloc, job, hauls, passes)
+    let prepared = Prepared::from_sources(rt, alloc, inputs, workers, cutting)?;
+    Ok(prepared.replay_by_workers(rt, alloc, workers, gate)?)
 }
 
 /// Recovers the store of the logs that have these bytes, without a checkpoint, and its report, on one thread. The
@@ -160,46 +152,4 @@ fn replay_whole(alloc: Global, found: Found) -> Result<Recovered, Memory>
     let prepared = Prepared::on_one_thread(alloc, found)?;
     let draft = prepared.replay(alloc, 0)?;
     prepared.finish(draft)
-}
-
-/// Lets each worker work on the job with a pass of its own, by fork and join. Returns their passes and hauls.
-fn work_all<R: Threads + Sync, G: Gate>(
-    rt: &R,
-    alloc: Global,
-    job: &Job,
-    passes: Vec<Pass>,
-    workers: Workers,
-    gate: &G,
-) -> Result<(Vec<Pass>, Vec<Haul>), Memory>
-    requires { All (λ pass. (pass.board ≡ job.now.board) × (pass.draws ≡ [])) passes.items }
-    ensures many { IfOk result (λ worked. length worked.0.items ≡ length passes.items) }
-    ensures worked { IfOk result (λ worked. HaveWorked job.now worked.0.items worked.1.items) }
-{
-    let worked = by_workers(
-        rt,
-        alloc,
-        passes,
-        workers,
-        &|pass: Pass| -> Result<(Pass, Haul), Memory>
-            requires { (pass.board ≡ job.now.board) × (pass.draws ≡ []) }
-            ensures { IfOk result (λ worked. HasWorked job.entry.now worked.0 worked.1) }
-        { work_with(alloc, job, pass, gate) },
-    )?;
-    unzip(alloc, all_done(alloc, worked)?)
-}
-
-/// Works on the job with a pass. Returns the pass and the haul of all pieces that it drew.
-fn work_with<G: Gate>(
-    alloc: Global,
-    job: &Job,
-    mut pass: Pass,
-    gate: &G,
-) -> Result<(Pass, Haul), Memory>
-    requires { (pass.board ≡ job.now.board) × (pass.draws ≡ []) }
-    ensures { IfOk result (λ worked. HasWorked job.now worked.0 worked.1) }
-{
-    match work(alloc, job, &mut pass, gate) {
-        Ok(haul) => Ok((pass, haul)),
-        Err(_) => Err(Memory),
-    }
 }

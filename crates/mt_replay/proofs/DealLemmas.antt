@@ -1,6 +1,6 @@
 -- Each key lies in one piece, and so updates are dealt to pieces.
 use Rattle.std.proofs.Common.{◌≡◌, ◌≢◌, ◌∙◌, inl, inr, ℕ, zero, suc, ◌+◌, ◌<◌, ◌≤◌, Bool, true, false, not, ◌&&◌, List, [], ◌∷◌, ◌++◌, length, map, Option, Some, Ordering, refl, sym, ap, subst, cond, fold, append_assoc, arith}
-use Rattle.std.specs.Prelude.{slice_get, slice_index_or, slice_set, filter, nat_lt, All, IsPermutation}
+use Rattle.std.specs.Prelude.{slice_get, slice_index_or, slice_set, filter, nat_lt, IsPermutation}
 use Rattle.std.specs.List.{range_with_len}
 use Rattle.std.specs.Ordering.{nat_cmp, is_lt, MatchOrdering}
 use Rattle.std.specs.declared.cmp.Ordering.TheVariants.{Less, Equal, Greater}
@@ -10,7 +10,7 @@ use Rattle.std.proofs.lemmas.Cmp.{ranked}
 use Rattle.std.proofs.lemmas.Option.{slice_get_past, slice_get-get_or}
 use Rattle.std.proofs.lemmas.List.{append-nil, same_lists, get_or_default, length-set, get_or-set_same, get_or-set_other}
 use Rattle.std.proofs.lemmas.List.FromFn.{length-map-range_with_len, get_or-map-range_with_len, map-range_with_len_more}
-use Rattle.std.proofs.lemmas.List.Elements.{filter-append, filter_passes}
+use Rattle.std.proofs.lemmas.List.Elements.{filter-append}
 use Rattle.std.proofs.lemmas.List.Sorted.{IsPermutation-filter_both, IsPermutation-append, IsPermutation-trans, IsPermutation-refl}
 use Rattle.mt_words.specs.declared.update.Update.{Update}
 use Rattle.mt_words.specs.Slices.{AreBytes, slice_in}
@@ -106,10 +106,6 @@ dealt_length cuts updates = length-map-range_with_len (λ i. updates_in cuts i u
 -- it has the updates of the piece
 pub dealt_at : (cuts : List (List ℕ)) (updates : List Update) (i : ℕ) (d : List Update) → i < length cuts + 1 → slice_index_or (dealt_by cuts updates) i d ≡ updates_in cuts i updates
 dealt_at cuts updates i d below = get_or-map-range_with_len (λ n. updates_in cuts n updates) 0 (length cuts + 1) i i d below (omega arith)
-
--- and their keys are in the piece
-pub all_in_piece : (cuts : List (List ℕ)) (updates : List Update) (i : ℕ) → All (λ u. in_piece cuts i u.key ≡ true) (updates_in cuts i updates)
-all_in_piece cuts updates i = filter_passes (λ (u : Update). in_piece cuts i u.key) updates
 
 -- one more list, if all are empty
 pub empty_more : (lists more : List (List Update)) (list : List Update) (n : ℕ) → lists ≡ map (λ (i : ℕ). []) (range_with_len 0 n) → list ≡ [] → more ≡ lists ++ list ∷ [] → more ≡ map (λ (i : ℕ). []) (range_with_len 0 (n + 1))

@@ -2,7 +2,7 @@
 use Rattle.std.proofs.Common.{◌≡◌, ◌≢◌, ◌∙◌, inl, inr, ℕ, zero, suc, ◌+◌, ◌<◌, ◌≤◌, true, false, List, [], ◌++◌, length, length-append, map, take, get_or, IsPermutation, refl, sym, ap, subst, arith}
 use Rattle.std.specs.List.{range_with_len}
 use Rattle.std.proofs.lemmas.Bool.{cases_lt}
-use Rattle.std.proofs.lemmas.List.{append-nil}
+use Rattle.std.proofs.lemmas.List.{append-nil, same_lists, get_or_default}
 use Rattle.std.proofs.lemmas.List.FromFn.{map-range_with_len_more}
 use Rattle.std.proofs.lemmas.List.Elements.{All-weaker, filter-append, filter_passes}
 use Rattle.std.proofs.lemmas.List.Sorted.{IsPermutation-trans, IsPermutation-append_left, IsPermutation-append_comm}
@@ -11,7 +11,8 @@ use Rattle.mt_words.specs.declared.update.Update.{Update}
 use Rattle.mt_words.specs.Words.{AreRising}
 use Rattle.mt_words.specs.Walks.{joined}
 use Rattle.mt_replay.specs.Cuts.{AreCuts, in_piece, updates_in}
-use Rattle.mt_replay.specs.Divided.{DividedView, AreRangesOf}
+use Rattle.mt_replay.specs.Divided.{AreRangesOf}
+use Rattle.mt_replay.specs.Ranges.{dealt_by}
 use Rattle.mt_replay.proofs.BatchLemmas.{joined_step}
 use Rattle.mt_replay.proofs.FilterLemmas.{filter_every, filter_none}
 use Rattle.mt_replay.proofs.DealLemmas.{one_piece, dealt_length, dealt_at}
@@ -61,18 +62,28 @@ module _ (cuts : List (List ℕ)) (updates : List Update) (i : ℕ) (rise : AreR
 pub longer : (lists : List (List Update)) (i : ℕ) (next : List Update) → i < length lists → next ≡ get_or lists i next → length (joined (take (i + 1) lists)) ≡ length (joined (take i lists)) + length next
 longer lists i next below is = ap (λ (us : List Update). length us) (joined_step lists i next below is) ∙ length-append (joined (take i lists)) next
 
--- the runs of a piece have its updates, if the texts of its range are among them
-pub of_runs : (cuts : List (List ℕ)) (ranges entries : List (List Update)) (now : DividedView) (i : ℕ) (texts runs : List Update) → record { updates = joined ranges ++ joined entries; cuts = cuts } ≡ now
-    → AreCuts cuts × AreRangesOf cuts ranges → i < length now.cuts + 1 → IsPermutation (get_or ranges i []) texts → runs ≡ updates_in cuts i (joined entries) ++ texts → IsPermutation (updates_in now.cuts i now.updates) runs
-of_runs cuts ranges entries now i texts runs is are below moved all =
+-- the range of a piece has the piece's updates of all ranges
+pub own_range : (cuts : List (List ℕ)) (ranges : List (List Update)) (i : ℕ) (range : List Update) → AreCuts cuts × AreRangesOf cuts ranges → i ≤ length cuts → range ≡ get_or ranges i range → range ≡ updates_in cuts i (joined ranges)
+own_range cuts ranges i range are within is =
     let us : List Update = are.1.updates in
-    let held : List Update = updates_in cuts i (joined entries) in
-    let range : List Update = get_or ranges i [] in
-    let within : i < length cuts + 1 = omega (arith, below, ap (λ (d : DividedView). length d.cuts) is) in
-    let own : range ≡ updates_in cuts i us = ap (λ (ls : List (List Update)). get_or ls i []) are.1.dealt ∙ dealt_at cuts us i [] within in
-    let dealt : updates_in cuts i (joined ranges) ≡ range =
-    ap (λ (ls : List (List Update)). updates_in cuts i (joined ls)) are.1.dealt ∙ all_then cuts us i are.0.0 (omega (arith, within)) (length cuts + 1) within (omega arith) ∙ sym own in
-    let split : updates_in cuts i (joined ranges ++ joined entries) ≡ range ++ held = filter-append (λ (u : Update). in_piece cuts i u.key) (joined ranges) (joined entries) ∙ ap (λ (ws : List Update). ws ++ held) dealt in
-    let both : IsPermutation (range ++ held) (held ++ texts) = IsPermutation-trans (range ++ held) (texts ++ held) (held ++ texts) (IsPermutation-append_left held range texts moved) (IsPermutation-append_comm texts held) in
-    let whole : IsPermutation (updates_in cuts i (joined ranges ++ joined entries)) runs = subst (λ (ws : List Update). IsPermutation ws runs) (sym split) (subst (IsPermutation (range ++ held)) (sym all) both) in
-    subst (λ (d : DividedView). IsPermutation (updates_in d.cuts i d.updates) runs) is whole
+    is
+    ∙ ap (λ (ls : List (List Update)). get_or ls i range) are.1.dealt
+    ∙ dealt_at cuts us i range (omega (arith, within))
+    ∙ sym (ap (λ (ls : List (List Update)). updates_in cuts i (joined ls)) are.1.dealt ∙ all_then cuts us i are.0.0 within (length cuts + 1) (omega (arith, within)) (omega arith))
+
+-- the ranges are those that all their updates make
+pub dealt_anew : (cuts : List (List ℕ)) (ranges : List (List Update)) → AreCuts cuts × AreRangesOf cuts ranges → ranges ≡ dealt_by cuts (joined ranges)
+dealt_anew cuts ranges are =
+    let count : length ranges ≡ length cuts + 1 = ranges_count cuts ranges are.1 in
+    same_lists ranges (dealt_by cuts (joined ranges)) (count ∙ sym (dealt_length cuts (joined ranges))) (λ k d lt.
+    let within : k < length cuts + 1 = omega (arith, lt, count) in
+    own_range cuts ranges k (get_or ranges k d) are (omega (arith, within)) (get_or_default ranges k d (get_or ranges k d) lt) ∙ sym (dealt_at cuts (joined ranges) k d within))
+
+-- the runs of a piece have its updates, if the texts of its range are among them
+pub of_runs : (cuts : List (List ℕ)) (logged held range texts runs : List Update) (i : ℕ) → range ≡ updates_in cuts i logged → IsPermutation range texts → runs ≡ updates_in cuts i held ++ texts
+    → IsPermutation (updates_in cuts i (logged ++ held)) runs
+of_runs cuts logged held range texts runs i is moved all =
+    let kept : List Update = updates_in cuts i held in
+    let split : updates_in cuts i (logged ++ held) ≡ range ++ kept = filter-append (λ (u : Update). in_piece cuts i u.key) logged held ∙ ap (λ (ws : List Update). ws ++ kept) (sym is) in
+    let both : IsPermutation (range ++ kept) (kept ++ texts) = IsPermutation-trans (range ++ kept) (texts ++ kept) (kept ++ texts) (IsPermutation-append_left kept range texts moved) (IsPermutation-append_comm texts kept) in
+    subst (λ (ws : List Update). IsPermutation ws runs) (sym split) (subst (IsPermutation (range ++ kept)) (sym all) both)

@@ -153,7 +153,7 @@ impl Cuts {
     pub fn even_of_batches(
         rt: &(impl Threads + Sync),
         alloc: Global,
-        batches: &[Batch<'_>],
+        batches: &[Batch],
         window: Window,
         entries: &[SortedUpdates],
         pieces: Pieces,
@@ -170,7 +170,7 @@ impl Cuts {
     pub fn sampled(
         rt: &(impl Threads + Sync),
         alloc: Global,
-        batches: &[Batch<'_>],
+        batches: &[Batch],
         entries: &[SortedUpdates],
         pieces: Pieces,
     ) -> Result<Cuts, Memory>

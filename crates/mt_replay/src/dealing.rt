@@ -5,6 +5,7 @@ ghost use Rattle.mt_words.specs.Slices.{AreBytes, slice_in};
 ghost use Rattle.mt_words.specs.Words.{AreRising};
 ghost use Rattle.mt_words.specs.Walks.{joined};
 ghost use Rattle.mt_words.specs.OneLog.{as_list};
+ghost use Rattle.mt_record.specs.Shares.{updates_of_share};
 ghost use Rattle.mt_replay.specs.Cuts.{AreCuts, is_below, in_piece};
 ghost use Rattle.mt_replay.specs.Ranges.{dealt_by};
 ghost use Rattle.mt_replay.specs.Steps.Dealing.{extended};
@@ -13,7 +14,7 @@ ghost use Rattle.mt_replay.specs.Survivors.{in_window};
 use crate::batch::Batch;
 use crate::bodies::{Bodies, Text};
 use crate::{Cuts, Window};
-use mt_record::Lent;
+use mt_record::{Lent, Share};
 use mt_words::{Key, Memory, slice_of};
 use std::alloc::Global;
 use std::marker::Model;
@@ -37,18 +38,20 @@ impl Model for Dealt {
 }
 
 impl Dealt {
-    /// Deals the updates of a batch that are in the window. Err: out of memory.
+    /// Deals the updates of a batch that are in the window, and drops each share once it is dealt. Err: out of memory.
     pub fn of_batch(
         alloc: Global,
-        batch: &Batch<'_>,
+        batch: Batch,
         window: Window,
         cuts: &Cuts,
     ) -> Result<Dealt, Memory>
-        ensures { IfOk result (λ dealt. dealt ≡ dealt_by cuts.now (filter (in_window window) batch.now.updates)) }
+        ensures { IfOk result (λ dealt. dealt ≡ dealt_by cuts.now (filter (in_window window) batch.updates)) }
     {
         let heads = heads_of(alloc, cuts.keys())?;
         let mut lists = no_updates(alloc, cuts, batch.records())?;
-        batch.deal(window, cuts.keys(), &heads, &mut lists)?;
+        for share in batch.into_shares() {
+            deal_share(&share, window, cuts.keys(), &heads, &mut lists)?;
+        }
         Ok(Dealt { lists })
     }
 }
@@ -115,7 +118,7 @@ impl Range {
 }
 
 /// Appends the texts of a list of updates. Err: out of memory.
-fn add_texts<'a>(texts: &mut Vec<Text<'a>>, list: &'a Bodies) -> Result<(), Memory>
+pub(crate) fn add_texts<'a>(texts: &mut Vec<Text<'a>>, list: &'a Bodies) -> Result<(), Memory>
     ensures { OnOk result (texts.new.items ≡ texts.old.items ++ list.now) }
 {
     for at in 0..list.len() {
@@ -179,16 +182,37 @@ fn heads_of(alloc: Global, cuts: &[Key]) -> Result<Vec<u64>, Memory>
     Ok(heads)
 }
 
+/// Deals the updates of a share that are in the window to the lists of their pieces. `heads` has the slice of each cut.
+/// Err: out of memory.
+fn deal_share(
+    share: &Share,
+    window: Window,
+    cuts: &[Key],
+    heads: &[u64],
+    lists: &mut [Bodies],
+) -> Result<(), Memory>
+    requires lawful { AreCuts cuts.now }
+    requires heads { heads.now ≡ map slice_in cuts.now }
+    requires dealt { (dealt : List UpdateValue) × (lists.old ≡ dealt_by cuts.now dealt) }
+    ensures { OnOk result ((dealt : List UpdateValue) → lists.old ≡ dealt_by cuts.now dealt →
+        lists.new ≡ dealt_by cuts.now (dealt ++ filter (in_window window) (updates_of_share share.now))) }
+{
+    for number in 0..share.len() {
+        deal(share.update(number), window, cuts, heads, lists)?;
+    }
+    Ok(())
+}
+
 /// Appends an update to the list of its piece, if there is one and it is in the window. `heads` has the slice of each
 /// cut. Err: out of memory.
-pub(crate) fn deal(
+fn deal(
     update: Option<Lent<'_>>,
     window: Window,
     cuts: &[Key],
     heads: &[u64],
     lists: &mut [Bodies],
 ) -> Result<(), Memory>
-    requires rising { AreRising cuts.now }
+    requires lawful { AreCuts cuts.now }
     requires heads { heads.now ≡ map slice_in cuts.now }
     requires dealt { (dealt : List UpdateValue) × (lists.old ≡ dealt_by cuts.now dealt) }
     ensures { OnOk result ((dealt : List UpdateValue) → lists.old ≡ dealt_by cuts.now dealt →

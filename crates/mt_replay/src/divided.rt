@@ -1,5 +1,5 @@
 //! The surviving updates, divided by their keys into the pieces that are replayed.
-ghost use Rattle.std.specs.Prelude.{◌≡◌, ◌<◌, ◌+◌, ◌++◌, List, [], length, slice_index_or, All, IfOk, IsPermutation};
+ghost use Rattle.std.specs.Prelude.{◌≡◌, ◌<◌, ◌+◌, ◌++◌, List, [], length, All, IfOk, IsPermutation};
 ghost use Rattle.mt_words.specs.declared.update.Update.{Update as UpdateValue};
 ghost use Rattle.mt_words.specs.Walks.{joined};
 ghost use Rattle.mt_replay.specs.Cells.{AreApart};
@@ -7,6 +7,7 @@ ghost use Rattle.mt_replay.specs.Clashes.{AreClashes};
 ghost use Rattle.mt_replay.specs.Cuts.{AreCuts, InKeyOrder, updates_in};
 ghost use Rattle.mt_replay.specs.Divided.{AreRangesOf};
 ghost use Rattle.mt_replay.specs.Pieces.{IsPiece, IsMapIn};
+ghost use Rattle.mt_replay.specs.Ranges.{dealt_by};
 
 use crate::auditing::clashes_of;
 use crate::bodies::Text;
@@ -82,6 +83,21 @@ impl Divided {
         self.cuts.pieces()
     }
 
+    /// Takes them apart: the cuts, the updates of logs for each piece, and the entries.
+    pub fn into_parts(self) -> (Cuts, Vec<Range>, Vec<SortedUpdates>)
+        ensures cuts { result.0 ≡ self.cuts }
+        ensures updates { joined result.1.items ++ joined result.2.items ≡ self.updates }
+        ensures ranges { result.1.items ≡ dealt_by self.cuts (joined result.1.items) }
+        ensures lawful { AreCuts self.cuts }
+    {
+        let Divided {
+            cuts,
+            ranges,
+            entries,
+        } = self;
+        (cuts, ranges, entries)
+    }
+
     /// Replays the updates whose keys lie in this piece, and adds this piece of their walk to a sink, pair by pair. The
     /// sink must be empty.
     /// Err: out of memory.
@@ -92,9 +108,8 @@ impl Divided {
         ensures walk { IfOk result (λ filled. AreApart self.now.updates →
             IsPiece self.now.updates self.now.cuts piece (S.pairs filled)) }
     {
-        let texts = sorted(alloc, &self.ranges, piece as usize)?;
-        let runs = runs_in(alloc, &texts, &self.entries, &self.cuts, piece)?;
-        replay_runs(alloc, runs, sink)
+        let range = &self.ranges[piece as usize];
+        replay_range(alloc, range, &self.entries, &self.cuts, piece, sink)
     }
 
     /// Returns the clashes of the updates whose keys lie in this piece, in order: by key, then by version. Entries of the
@@ -104,19 +119,40 @@ impl Divided {
         requires { piece < length self.now.cuts + 1 }
         ensures { IfOk result (λ clashes. AreClashes (updates_in self.now.cuts piece self.now.updates) clashes.items) }
     {
-        let texts = sorted(alloc, &self.ranges, piece as usize)?;
+        let range = &self.ranges[piece as usize];
+        let texts = sorted(alloc, range)?;
         let runs = runs_in(alloc, &texts, &self.entries, &self.cuts, piece)?;
         clashes_of(alloc, runs)
     }
 }
 
-/// Returns the updates of the range of a piece, sorted by key. Err: out of memory.
-fn sorted(alloc: Global, ranges: &[Range], piece: usize) -> Result<Vec<Text<'_>>, Memory>
-    requires { piece < length ranges.now }
-    ensures same { IfOk result (λ texts. (d : List UpdateValue) → IsPermutation (slice_index_or ranges.now piece d) texts.items) }
+/// Replays the updates whose keys lie in this piece, and adds this piece of their walk to a sink, pair by pair. The updates
+/// are those of logs that lie in the piece, and entries of a checkpoint that may lie anywhere. The sink must be empty.
+/// Err: out of memory.
+pub fn replay_range<S: PairSink>(
+    alloc: Global,
+    range: &Range,
+    entries: &[SortedUpdates],
+    cuts: &Cuts,
+    piece: u32,
+    sink: S,
+) -> Result<S, Memory>
+    requires range { (logged : List UpdateValue) × (range.now ≡ updates_in cuts.now piece logged) }
+    requires empty { S.pairs sink ≡ [] }
+    ensures map { IfOk result (λ filled. IsMapIn cuts.now piece (S.pairs filled)) }
+    ensures walk { IfOk result (λ filled. (logged : List UpdateValue) → range.now ≡ updates_in cuts.now piece logged →
+        AreApart (logged ++ joined entries.now) → IsPiece (logged ++ joined entries.now) cuts.now piece (S.pairs filled)) }
+{
+    let texts = sorted(alloc, range)?;
+    let runs = runs_in(alloc, &texts, entries, cuts, piece)?;
+    replay_runs(alloc, runs, sink)
+}
+
+/// Returns the updates of a range, sorted by key. Err: out of memory.
+fn sorted(alloc: Global, range: &Range) -> Result<Vec<Text<'_>>, Memory>
+    ensures same { IfOk result (λ texts. IsPermutation range.now texts.items) }
     ensures in_order { IfOk result (λ texts. InKeyOrder texts.items) }
 {
-    let range = &ranges[piece];
     let texts = range.texts(alloc)?;
     sorted_texts(alloc, &texts)
 }

@@ -17,15 +17,18 @@ use std::alloc::Global;
 use std::thread::Threads;
 
 /// The approximate number of sampled keys for each piece. It is large enough that no piece gets much more than its
-/// share, and that the sample has keys of each sorted run of a long log.
+/// share.
 const KEYS_OF_PIECE: usize = 16;
+
+/// The greatest distance between sampled keys, so that each full share of a log has one.
+const MOST_DISTANCE: usize = 512;
 
 /// Returns each key that these entries have, or the updates of these batches that are in the window, once, in order.
 /// Err: out of memory.
 pub(crate) fn surviving_keys<'a>(
     rt: &(impl Threads + Sync),
     alloc: Global,
-    batches: &[Batch<'a>],
+    batches: &'a [Batch],
     window: Window,
     entries: &'a [SortedUpdates],
 ) -> Result<Vec<&'a [u8]>, Memory>
@@ -47,7 +50,7 @@ pub(crate) fn surviving_keys<'a>(
 pub(crate) fn sampled_keys<'a>(
     rt: &(impl Threads + Sync),
     alloc: Global,
-    batches: &[Batch<'a>],
+    batches: &'a [Batch],
     entries: &'a [SortedUpdates],
     pieces: u32,
 ) -> Result<Vec<&'a [u8]>, Memory>
@@ -78,9 +81,9 @@ fn keep_each_once(
     Ok(())
 }
 
-/// Returns the distance between sampled keys, in updates, at which at most `most` keys are taken. It is the same for
-/// all, so a long list gives more keys than a short one.
-fn distance_for(batches: &[Batch<'_>], entries: &[SortedUpdates], most: usize) -> usize
+/// Returns the distance between sampled keys, in updates, at which about `most` keys are taken, or more of very many.
+/// It is the same for all, so a long list gives more keys than a short one.
+fn distance_for(batches: &[Batch], entries: &[SortedUpdates], most: usize) -> usize
     requires { 0 < most }
     ensures { 0 < result }
 {
@@ -91,14 +94,14 @@ fn distance_for(batches: &[Batch<'_>], entries: &[SortedUpdates], most: usize) -
     for updates in entries {
         count = count.saturating_add(updates.len());
     }
-    count.div_ceil(most).max(1)
+    count.div_ceil(most).min(MOST_DISTANCE).max(1)
 }
 
 /// Appends the keys of the updates of a batch that are in the window. Err: out of memory.
 fn add_survivors<'a>(
     alloc: Global,
     keys: &mut Vec<&'a [u8]>,
-    batch: &Batch<'a>,
+    batch: &'a Batch,
     window: Window,
 ) -> Result<(), Memory>
     ensures lawful { OnOk result (All (IsKey widest) (map (λ key. key.now) keys.old.items) →

@@ -7,6 +7,7 @@ ghost use Rattle.mt_replay.specs.Survivors.{wholes};
 ghost use Rattle.mt_replay.specs.Cuts.{is_below, InKeyOrder};
 
 use crate::bodies::{Bodies, Text};
+use crate::dealing::add_texts;
 use crate::sorting::sorted_texts;
 use mt_record::{KeptEntries, Lent};
 use mt_words::Memory;
@@ -108,20 +109,10 @@ fn comes_before(first: &[u8], second: &[u8]) -> bool
 pub(crate) fn in_order(alloc: Global, bodies: &Bodies) -> Result<SortedUpdates, Memory>
     ensures { IfOk result (λ sorted. IsPermutation bodies.now sorted) }
 {
-    let texts = all_texts(alloc, bodies)?;
+    let mut texts = Vec::with_capacity(alloc, bodies.len())?;
+    add_texts(&mut texts, bodies)?;
     let sorted = sorted_texts(alloc, &texts)?;
     gather(alloc, &sorted)
-}
-
-/// Returns the texts of all bodies. Err: out of memory.
-fn all_texts(alloc: Global, bodies: &Bodies) -> Result<Vec<Text<'_>>, Memory>
-    ensures { IfOk result (λ texts. texts.items ≡ bodies.now) }
-{
-    let mut texts = Vec::with_capacity(alloc, bodies.len())?;
-    for at in 0..bodies.len() {
-        texts.push(bodies.text(at))?;
-    }
-    Ok(texts)
 }
 
 /// Copies the bodies of these texts, in order. Err: out of memory.

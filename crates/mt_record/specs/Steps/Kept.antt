@@ -1,5 +1,5 @@
 -- The bodies that are kept of a log or a part.
-use Rattle.std.specs.Prelude.{◌≡◌, ◌↔◌, ℕ, Bool, List, map, filter, All, IsTrue}
+use Rattle.std.specs.Prelude.{◌≡◌, ◌↔◌, ◌<◌, ◌+◌, ◌^◌, ℕ, Bool, List, length, map, filter, All, IsTrue}
 use Rattle.mt_words.specs.Words.{AreRising}
 use Rattle.mt_words.specs.Changes.{is_mark}
 use Rattle.mt_record.specs.Logs.{count_of}
@@ -15,3 +15,8 @@ pub record AreKept (bodies : List (List ℕ)) (marks : ℕ) : Type 0 where
 pub record AreKeptEntries (bodies : List (List ℕ)) (rising : Bool) : Type 0 where
   pub lawful : All IsEntryBody bodies
   pub told : IsTrue rising ↔ AreRising (map (λ entry. entry.key) (map change_in bodies))
+
+-- these are the bodies of lawful records, and the numbers of the records, from `from` on, fit a u64
+pub record IsShare (from : ℕ) (bodies : List (List ℕ)) : Type 0 where
+  pub lawful : All IsLawfulBody bodies
+  pub fits : from + length bodies < 2 ^ 64

@@ -1,28 +1,40 @@
-//! A list of byte strings in one buffer.
-ghost use Rattle.std.specs.Prelude.{◌≡◌, ◌<◌, ◌≤◌, ◌++◌, [], ◌∷◌, List, ℕ, OnOk, OnErr, IfOk, length, slice_index_or};
-ghost use Rattle.mt_record.specs.Steps.ByteStrings.{start_at};
+//! A list of byte strings in blocks.
+ghost use Rattle.std.specs.Prelude.{◌≡◌, ◌<◌, ◌^◌, ◌++◌, [], ◌∷◌, List, ℕ, OnOk, OnErr, IfOk, length, slice_index_or};
+ghost use Rattle.mt_words.specs.Walks.{joined};
+ghost use Rattle.mt_record.specs.Steps.Blocks.{AreBlocks};
+ghost use Rattle.mt_record.specs.declared.kept.byte_strings.TheConstants.{TEXTS};
 
-use crate::encode::put::put_bytes;
+use crate::kept::block::Block;
 use mt_words::Memory;
 use std::alloc::Global;
 use std::marker::Model;
+use std::mem;
 
-/// A list of byte strings, here called texts. They lie one after another in one buffer.
+/// The number of texts of a full block. A block of bodies is small enough that the allocator reuses its memory once it
+/// is freed.
+pub(crate) const TEXTS: usize = 512;
+
+/// The most full blocks, so that the number of texts fits a `usize`.
+pub(crate) const MOST_BLOCKS: usize = 1 << 54;
+
+/// A list of byte strings, here called texts. They lie in blocks. Each block has `TEXTS` texts, but the last may have
+/// fewer.
 #[derive(Debug, Drop)]
 pub struct ByteStrings {
-    bytes: Vec<u8>,
-    ends: Vec<usize>,
+    full: Vec<Block>,
+    last: Block,
 }
 
 impl Model for ByteStrings {
-    ghost use Rattle.std.specs.Prelude.{List, ℕ, length};
-    ghost use Rattle.mt_record.specs.Steps.ByteStrings.{texts_from, AreEnds};
+    ghost use Rattle.std.specs.Prelude.{List, ℕ, ◌++◌};
+    ghost use Rattle.mt_words.specs.Walks.{joined};
+    ghost use Rattle.mt_record.specs.Steps.Blocks.{AreBlocks};
 
     ghost Value = { List (List ℕ) };
 
-    ghost view = { λ t. texts_from 0 t.bytes.items t.ends.items };
+    ghost view = { λ t. joined t.full.items ++ t.last };
 
-    ghost invariant = { λ t. AreEnds 0 (length t.bytes.items) t.ends.items };
+    ghost invariant = { λ t. AreBlocks t.full.items t.last };
 }
 
 impl ByteStrings {
@@ -31,18 +43,20 @@ impl ByteStrings {
         ensures { result ≡ [] }
     {
         ByteStrings {
-            bytes: Vec::new(alloc),
-            ends: Vec::new(alloc),
+            full: Vec::new(alloc),
+            last: Block::new(alloc),
         }
     }
 
-    /// Creates an empty list with room for `texts` texts of `bytes` bytes in all. Err: out of memory.
+    /// Creates an empty list. Its first block has room for its part of `texts` texts of `bytes` bytes in all.
+    /// Err: out of memory.
     pub fn with_capacity(alloc: Global, texts: usize, bytes: usize) -> Result<ByteStrings, Memory>
         ensures { IfOk result (λ texts. texts ≡ []) }
     {
+        let blocks = texts / TEXTS + 1;
         Ok(ByteStrings {
-            bytes: Vec::with_capacity(alloc, bytes)?,
-            ends: Vec::with_capacity(alloc, texts)?,
+            full: Vec::new(alloc),
+            last: Block::with_capacity(alloc, texts.min(TEXTS), bytes / blocks)?,
         })
     }
 
@@ -50,15 +64,15 @@ impl ByteStrings {
     pub(crate) fn none(&self) -> ByteStrings
         ensures { result ≡ [] }
     {
-        ByteStrings::new(*self.bytes.allocator())
+        ByteStrings::new(*self.full.allocator())
     }
 
     /// Removes all texts.
     pub(crate) fn clear(&mut self)
         ensures { self.new ≡ [] }
     {
-        self.bytes.clear();
-        self.ends.clear();
+        self.full.clear();
+        self.last.clear();
     }
 
     /// Removes the last text.
@@ -66,18 +80,15 @@ impl ByteStrings {
         requires { 0 < length self.old }
         ensures { (last : List ℕ) × (self.old ≡ self.new ++ last ∷ []) }
     {
-        let Some(_end) = self.ends.pop() else {
-            unreachable!();
-        };
-        let size = start_of(&self.ends, self.ends.len());
-        self.bytes.truncate(size);
+        reopen(&mut self.full, &mut self.last);
+        self.last.drop_last();
     }
 
     /// Returns the number of texts.
     pub fn len(&self) -> usize
         ensures { result ≡ length self.now }
     {
-        self.ends.len()
+        self.full.len() * TEXTS + self.last.len()
     }
 
     /// Returns the text at this place.
@@ -85,9 +96,12 @@ impl ByteStrings {
         requires { at < length self.now }
         ensures { (d : List ℕ) → result.now ≡ slice_index_or self.now at d }
     {
-        let start = start_of(&self.ends, at);
-        let end = self.ends[at];
-        &self.bytes[start..end]
+        let block = at / TEXTS;
+        if block < self.full.len() {
+            self.full[block].get(at % TEXTS)
+        } else {
+            self.last.get(at % TEXTS)
+        }
     }
 
     /// Appends a text. Err: out of memory; nothing is appended.
@@ -98,13 +112,8 @@ impl ByteStrings {
         ensures ok { OnOk result (self.new ≡ self.old ++ text.now ∷ []) }
         ensures err { OnErr result (self.new ≡ self.old) }
     {
-        // A text is appended completely or not at all, so all room is reserved first.
-        self.ends.reserve(1)?;
-        self.bytes.reserve(text.len())?;
-        put_bytes(text, &mut self.bytes);
-        let end = self.bytes.len();
-        self.ends.push_reserved(end);
-        Ok(())
+        make_room(&mut self.full, &mut self.last)?;
+        self.last.push(text)
     }
 
     /// Appends one text that is given as its front and its rest. Err: out of memory; nothing is appended.
@@ -112,23 +121,66 @@ impl ByteStrings {
         ensures ok { OnOk result (self.new ≡ self.old ++ (front.now ++ rest.now) ∷ []) }
         ensures err { OnErr result (self.new ≡ self.old) }
     {
-        self.ends.reserve(1)?;
-        self.bytes.reserve(front.len() + rest.len())?;
-        put_bytes(front, &mut self.bytes);
-        put_bytes(rest, &mut self.bytes);
-        let end = self.bytes.len();
-        self.ends.push_reserved(end);
-        Ok(())
+        make_room(&mut self.full, &mut self.last)?;
+        self.last.push_joined(front, rest)
+    }
+
+    /// Returns the blocks. Err: out of memory.
+    pub(crate) fn into_blocks(self) -> Result<Vec<Block>, Memory>
+        ensures same { IfOk result (λ blocks. joined blocks.items ≡ self) }
+        ensures few { IfOk result (λ blocks. length (joined blocks.items) < 2 ^ 64) }
+    {
+        let ByteStrings { full, last } = self;
+        let mut blocks = full;
+        blocks.push(last)?;
+        Ok(blocks)
     }
 }
 
-/// Returns where the text at this place starts.
-fn start_of(ends: &[usize], at: usize) -> usize
-    requires { at ≤ length ends.now }
-    ensures { result ≡ start_at 0 ends.now at }
+/// Makes room for a text in the last block: begins a block if the last one is full. Err: out of memory.
+#[inline(always)]
+fn make_room(full: &mut Vec<Block>, last: &mut Block) -> Result<(), Memory>
+    requires { AreBlocks full.old.items last.old }
+    ensures same { joined full.new.items ++ last.new ≡ joined full.old.items ++ last.old }
+    ensures blocks { AreBlocks full.new.items last.new }
+    ensures room { OnOk result (length last.new < TEXTS) }
 {
-    if at == 0 {
-        return 0;
+    if last.len() < TEXTS {
+        return Ok(());
     }
-    ends[at - 1]
+    begin_block(full, last)
+}
+
+/// Begins a block after the last one, which is full. Err: out of memory.
+fn begin_block(full: &mut Vec<Block>, last: &mut Block) -> Result<(), Memory>
+    requires blocks { AreBlocks full.old.items last.old }
+    requires full { length last.old ≡ TEXTS }
+    ensures same { joined full.new.items ++ last.new ≡ joined full.old.items ++ last.old }
+    ensures blocks { AreBlocks full.new.items last.new }
+    ensures room { OnOk result (length last.new < TEXTS) }
+{
+    if full.len() >= MOST_BLOCKS {
+        return Err(Memory);
+    }
+    let next = last.next()?;
+    full.reserve(1)?;
+    full.push_reserved(mem::replace(last, next));
+    Ok(())
+}
+
+/// Makes the last full block the last one again if that is empty.
+fn reopen(full: &mut Vec<Block>, last: &mut Block)
+    requires blocks { AreBlocks full.old.items last.old }
+    requires some { 0 < length (joined full.old.items ++ last.old) }
+    ensures same { joined full.new.items ++ last.new ≡ joined full.old.items ++ last.old }
+    ensures blocks { AreBlocks full.new.items last.new }
+    ensures some { 0 < length last.new }
+{
+    if last.len() > 0 {
+        return;
+    }
+    let Some(block) = full.pop() else {
+        unreachable!();
+    };
+    *last = block;
 }

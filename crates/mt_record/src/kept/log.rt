@@ -1,5 +1,5 @@
 //! The records of a log, kept as bodies.
-ghost use Rattle.std.specs.Prelude.{◌≡◌, ◌<◌, ◌++◌, ◌∷◌, [], length, filter, slice_index_or};
+ghost use Rattle.std.specs.Prelude.{◌≡◌, ◌<◌, ◌++◌, ◌∷◌, [], length, map, filter, All, slice_index_or};
 ghost use Rattle.mt_words.specs.Changes.{Logged, is_mark};
 ghost use Rattle.mt_record.specs.Steps.Bodies.{IsLawfulBody};
 ghost use Rattle.mt_record.specs.Decoding.{IsBody, decode};
@@ -56,7 +56,17 @@ impl KeptRecords {
         }
     }
 
-    /// Drops all records, and keeps their memory for others. Returns how many updates and marks they were.
+    /// Returns the bodies of the records.
+    pub(crate) fn into_bodies(self) -> ByteStrings
+        ensures says { map decode result ≡ self }
+        ensures lawful { All IsLawfulBody result }
+    {
+        let KeptRecords { bodies, marks: _ } = self;
+        bodies
+    }
+
+    /// Drops all records, and keeps the memory of the last block for others. Returns how many updates and marks were
+    /// dropped.
     pub(crate) fn clear(&mut self) -> Dropped
         ensures none { self.new ≡ [] }
         ensures gone { IsCountOf self.old result }

@@ -1,14 +1,18 @@
 //! The updates of a log, borrowed from its records.
-ghost use Rattle.std.specs.Prelude.{◌≡◌, ◌<◌, length, slice_index_or};
+ghost use Rattle.std.specs.Prelude.{◌≡◌, ◌<◌, length, slice_index_or, IfOk};
+ghost use Rattle.std.specs.List.{flat_map};
 ghost use Rattle.mt_words.specs.declared.update.Origin.TheVariants as origins;
 ghost use Rattle.mt_words.specs.Changes.{Logged};
 ghost use Rattle.mt_words.specs.Updates.{update_of};
 ghost use Rattle.mt_words.specs.OneLog.{kept_updates, as_list};
+ghost use Rattle.mt_record.specs.Shares.{updates_of_share};
 
 use crate::body::lent::Lent;
 use crate::body::spelled;
 use crate::kept::log::KeptRecords;
-use mt_words::Origin;
+use crate::kept::share::Share;
+use mt_words::{Memory, Origin};
+use std::alloc::Global;
 use std::marker::Model;
 
 /// The updates of a log, kept as its records.
@@ -59,6 +63,22 @@ impl Updates {
             return None;
         }
         Some(Lent::of(self.origin(number), body))
+    }
+
+    /// Divides the records into shares, in order. Err: out of memory.
+    pub fn into_shares(self, alloc: Global) -> Result<Vec<Share>, Memory>
+        ensures { IfOk result (λ shares. flat_map updates_of_share shares.items ≡ kept_updates self) }
+    {
+        let Updates { log, records } = self;
+        let blocks = records.into_bodies().into_blocks()?;
+        let mut shares = Vec::with_capacity(alloc, blocks.len())?;
+        let mut from = 0;
+        for block in blocks {
+            let count = block.len();
+            shares.push(Share::of(log, from, block))?;
+            from += count;
+        }
+        Ok(shares)
     }
 
     /// Returns where the update of the record of this number comes from.

@@ -8,8 +8,9 @@ ghost use Rattle.mt_replay.specs.Pieces.{IsPiece, IsMapIn};
 ghost use Rattle.mt_replay.specs.InMemory.{is_logged_in};
 
 use super::spelling::sorted;
-use crate::auditing::clashes_in;
-use crate::replay::replay_into;
+use crate::auditing::clashes_of;
+use crate::parts::parts;
+use crate::replay::replay_runs;
 use crate::{Clash, Cuts, SortedUpdates, Window};
 use mt_words::{Columns, Kept, Key, Memory, Update};
 use std::alloc::Global;
@@ -27,7 +28,8 @@ pub fn replay_piece(
     ensures walk { IfOk result (λ pairs. AreApart (joined lists.now) →
         IsPiece (joined lists.now) cuts.now piece pairs.items) }
 {
-    replay_into(alloc, lists, cuts, piece, Vec::new(alloc))
+    let runs = parts(alloc, lists, cuts, piece)?;
+    replay_runs(alloc, runs, Vec::new(alloc))
 }
 
 /// Returns the clashes of the log updates in the window, in order: by key, then by version. Each list has updates of
@@ -41,5 +43,6 @@ pub fn clashes(alloc: Global, logs: &[Vec<Update>], window: Window) -> Result<Ve
     for updates in logs {
         lists.push(sorted(alloc, updates, window, false)?)?;
     }
-    clashes_in(alloc, &lists, &Cuts::none(alloc), 0)
+    let runs = parts(alloc, &lists, &Cuts::none(alloc), 0)?;
+    clashes_of(alloc, runs)
 }

@@ -1,8 +1,13 @@
-use Rattle.std.proofs.Common.{◌≡◌, take}
+use Rattle.std.proofs.Common.{◌≡◌, ◌++◌}
+use Rattle.std.specs.List.{flat_map}
+use Rattle.std.specs.Vec.Iter.{into_iter_items}
+use Rattle.mt_record.specs.Shares.{updates_of_share}
 use Rattle.mt_replay.specs.Batches.{batched}
-use Rattle.mt_recover.specs.Steps.LogScans.{kept}
 use Rattle.mt_recover.proofs.batches.batches_of.Given as goal
 
--- the batches of the scans so far
-abbrev pub invariant-loop-scan : goal.invariant-loop-scan
-invariant-loop-scan l = batched l.batches.items ≡ kept (take l.scan-index l.scans)
+-- the batches of the shares so far
+abbrev pub invariant-loop-share : goal.invariant-loop-share
+invariant-loop-share l = record {
+  rest : l.yielded ++ into_iter_items l.share-iterator ≡ into_iter_items l.initial.share-iterator;
+  updates : batched l.batches.items ≡ flat_map updates_of_share l.yielded;
+}

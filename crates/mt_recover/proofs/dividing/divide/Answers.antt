@@ -13,19 +13,19 @@ use Rattle.mt_recover.proofs.Works.{both_ok}
 use Rattle.mt_recover.proofs.dividing.divide.Goals as goal
 
 pub put_together-requires : goal.put_together-requires
-put_together-requires g c = (c.args.window, kept c.args.scans.items, record { batches = c.in_ok-batches.batches.items; all = c.in_ok-batches.ensures ∙ ap kept c.deref.ensures.value; each = c.in_ok-left.ensures })
+put_together-requires g c = (c.args.window, kept c.args.scans.items, record { batches = c.in_ok-batches.batches.items; all = c.in_ok-batches.ensures; each = c.in_ok-left.ensures })
 
 pub returns-clause-divided : goal.returns-clause-divided
-returns-clause-divided g c = c.put_together.ensures.divided c.args.window (kept c.args.scans.items) (record { batches = c.in_ok-batches.batches.items; all = c.in_ok-batches.ensures ∙ ap kept c.deref.ensures.value; each = c.in_ok-left.ensures })
+returns-clause-divided g c = c.put_together.ensures.divided c.args.window (kept c.args.scans.items) (record { batches = c.in_ok-batches.batches.items; all = c.in_ok-batches.ensures; each = c.in_ok-left.ensures })
 
 pub returns-clause-cuts : goal.returns-clause-cuts
 returns-clause-cuts g c =
-    let left : AreBatchesLeft c.args.window c.in_ok-cuts.cuts (kept c.args.scans.items) c.in_ok-left.left.items = record { batches = c.in_ok-batches.batches.items; all = c.in_ok-batches.ensures ∙ ap kept c.deref.ensures.value; each = c.in_ok-left.ensures } in
+    let left : AreBatchesLeft c.args.window c.in_ok-cuts.cuts (kept c.args.scans.items) c.in_ok-left.left.items = record { batches = c.in_ok-batches.batches.items; all = c.in_ok-batches.ensures; each = c.in_ok-left.ensures } in
     let entries = joined c.args.entries.items in
     let survivors : List Update = filter (in_window c.args.window) (kept c.args.scans.items) ++ entries in
     let cuts_are : AreCutBy c.args.cutting survivors c.in_ok-cuts.cuts =
     subst (λ (us : List Update). AreCutBy c.args.cutting us c.in_ok-cuts.cuts)
-    ((λ i. filter (in_window c.args.window) (batched (c.deref-2.ensures.value i)) ++ joined (c.deref-3.ensures.value i)) ∙ ap (λ (us : List Update). filter (in_window c.args.window) us ++ entries) left.all) c.in_ok-cuts.ensures in
+    ((λ i. filter (in_window c.args.window) (batched (c.deref.ensures.value i)) ++ joined (c.deref-2.ensures.value i)) ∙ ap (λ (us : List Update). filter (in_window c.args.window) us ++ entries) left.all) c.in_ok-cuts.ensures in
     IfOk-weaker c.put_together.result _ _
     (λ division both. subst (AreCutBy c.args.cutting division.0.updates) (sym both.1) (cut_moved c.args.cutting survivors division.0.updates c.in_ok-cuts.cuts both.0.updates cuts_are))
     (both_ok c.put_together.result _ _ (c.put_together.ensures.divided c.args.window (kept c.args.scans.items) left) c.put_together.ensures.cuts)

@@ -1,12 +1,12 @@
-use Rattle.std.proofs.Common.{◌∙◌, ap}
+use Rattle.std.proofs.Common.{◌∙◌}
 use Rattle.std.proofs.lemmas.Result.{IfOk-weaker}
 use Rattle.mt_recover.specs.Steps.LogScans.{kept}
 use Rattle.mt_recover.specs.Steps.Preparing.{AreBatchesLeft}
 use Rattle.mt_recover.proofs.dividing.leave_whole.Goals as goal
-use Rattle.mt_recover.proofs.dividing.leave_whole.Goals.{After-drop}
+use Rattle.mt_recover.proofs.dividing.leave_whole.Goals.{In_ok-left}
 
-left : (c : After-drop) → AreBatchesLeft c.args.window c.none-cuts.result (kept c.args.scans.items) c.in_ok-left.left.items
-left c = record { batches = c.in_ok-batches_of.field-0.items; all = c.in_ok-batches_of.ensures ∙ ap kept c.deref.ensures.value; each = c.in_ok-left.ensures }
+left : (c : In_ok-left) → AreBatchesLeft c.args.window c.none-cuts.result (kept c.args.scans.items) c.in_ok-left.left.items
+left c = record { batches = c.in_ok-batches_of.field-0.items; all = c.in_ok-batches_of.ensures; each = c.in_ok-left.ensures }
 
 pub put_together-requires : goal.put_together-requires
 put_together-requires c = (c.args.window, kept c.args.scans.items, left c)

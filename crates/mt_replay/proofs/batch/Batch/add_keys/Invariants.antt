@@ -5,5 +5,5 @@ use Rattle.mt_words.specs.Words.{IsKey}
 use Rattle.mt_replay.proofs.batch.Batch.add_keys.Given as goal
 
 -- the keys so far are lawful, if the given ones are
-abbrev pub invariant-loop-stretch : goal.invariant-loop-stretch
-invariant-loop-stretch l = All (IsKey widest) (map (λ key. key.now) l.fn.keys.items) → All (IsKey widest) (map (λ key. key.now) l.keys.items)
+abbrev pub invariant-loop-share : goal.invariant-loop-share
+invariant-loop-share l = All (IsKey widest) (map (λ key. key.now) l.fn.keys.items) → All (IsKey widest) (map (λ key. key.now) l.keys.items)

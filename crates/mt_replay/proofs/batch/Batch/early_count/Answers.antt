@@ -1,7 +1,6 @@
 use Rattle.std.proofs.Common.{◌≡◌, ◌∙◌, ◌+◌, List, length, take, take_all, sym, ap, arith}
-use Rattle.std.specs.List.{filter}
-use Rattle.mt_words.specs.declared.update.Update.{Update}
-use Rattle.mt_words.specs.Walks.{joined}
+use Rattle.std.specs.List.{filter, flat_map}
+use Rattle.mt_record.specs.Shares.{ShareView, updates_of_share}
 use Rattle.mt_replay.specs.Batches.{BatchView}
 use Rattle.mt_replay.specs.Survivors.{is_early}
 use Rattle.mt_replay.proofs.BatchLemmas.{none_early, early_step, early_few}
@@ -10,22 +9,22 @@ use Rattle.mt_replay.proofs.batch.Batch.early_count.Goals as goal
 pub returns-then-begin-eq0 : goal.returns-then-begin-eq0
 returns-then-begin-eq0 c = sym (none_early c.args.begin c.args.self.now.updates c.if-begin-eq0.true)
 
--- the early updates of one stretch more
-step : (c : goal.After-early_count-count) → length (filter (is_early c.args.begin) (joined (take (c.loop-stretch.stretch-index + 1) c.deref-stretch-items.result.now))) ≡ c.loop-stretch.count + c.early_count-count.result
+-- the early updates of one share more
+step : (c : goal.After-early_in-count) → length (filter (is_early c.args.begin) (flat_map updates_of_share (take (c.loop-share.share-index + 1) c.deref-share-items.result.now))) ≡ c.loop-share.count + c.early_in-count.result
 step c =
-    let counted = early_step c.args.begin c.deref-stretch-items.result.now c.loop-stretch.stretch-index c.stretch-item.result c.loop-stretch-test.true c.stretch-item.is in
-    omega (arith, counted, c.loop-stretch.invariant, c.early_count-count.ensures)
+    let counted = early_step c.args.begin c.deref-share-items.result.now c.loop-share.share-index c.share-item.result c.loop-share-test.true c.share-item.is in
+    omega (arith, counted, c.loop-share.invariant, c.early_in-count.ensures)
 
 pub overflow_add-count : goal.overflow_add-count
 overflow_add-count c =
-    let few = early_few c.args.begin c.deref-stretch-items.result.now (c.loop-stretch.stretch-index + 1) in
-    omega (arith, step c, few, ap (λ (l : List (List Update)). length (joined l)) c.deref-stretch-items.ensures.value, c.self.invariant.0, c.self.invariant.1)
+    let few = early_few c.args.begin c.deref-share-items.result.now (c.loop-share.share-index + 1) in
+    omega (arith, step c, few, ap (λ (l : List ShareView). length (flat_map updates_of_share l)) c.deref-share-items.ensures.value, c.self.invariant.0, c.self.invariant.1)
 
-pub loop-stretch-preserved : goal.loop-stretch-preserved
-loop-stretch-preserved c = sym (step c)
+pub loop-share-preserved : goal.loop-share-preserved
+loop-share-preserved c = sym (step c)
 
 pub returns : goal.returns
 returns c =
-    c.loop-stretch.invariant
-    ∙ ap (λ (l : List (List Update)). length (filter (is_early c.args.begin) (joined l))) (take_all c.loop-stretch.stretch-index c.deref-stretch-items.result.now c.loop-stretch-test.false ∙ c.deref-stretch-items.ensures.value)
+    c.loop-share.invariant
+    ∙ ap (λ (l : List ShareView). length (filter (is_early c.args.begin) (flat_map updates_of_share l))) (take_all c.loop-share.share-index c.deref-share-items.result.now c.loop-share-test.false ∙ c.deref-share-items.ensures.value)
     ∙ ap (λ (b : BatchView). length (filter (is_early c.args.begin) b.updates)) c.self.view_is

@@ -26,4 +26,4 @@ returns c =
     let passes = is_logged_in c.args.window in
     let moved = subst (λ first. IsPermutation (filter passes (flat_map (λ updates. updates.items) first)) (joined lists)) (take_all c.loop-updates.updates-index logs (omega (arith, c.loop-updates-test.false))) c.loop-updates.invariant in
     let all : updates_in c.none.result 0 (joined c.deref-2.result.now) ≡ joined lists = one_piece c.none.result (joined c.deref-2.result.now) c.none.ensures ∙ ap joined c.deref-2.ensures.value in
-    ok_then c.clashes_in-2.result (λ clashes are. moved_clashes (filter passes (flat_map (λ updates. updates.items) logs)) (joined lists) clashes.items moved (subst (λ (us : List Update). AreClashes us clashes.items) all are)) c.clashes_in-2.ensures
+    ok_then c.clashes_of.result (λ clashes are. moved_clashes (filter passes (flat_map (λ updates. updates.items) logs)) (joined lists) clashes.items moved (subst (λ (us : List Update). AreClashes us clashes.items) (c.in_ok-runs.ensures.all ∙ all) are)) c.clashes_of.ensures

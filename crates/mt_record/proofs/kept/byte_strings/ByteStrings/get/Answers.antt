@@ -1,44 +1,18 @@
-use Rattle.std.proofs.Common.{◌≡◌, ◌<◌, ◌≤◌, List, ℕ, length, ◌-◌, take, drop, get_or, sym, ap, subst, ◌∙◌, arith}
-use Rattle.mt_record.specs.Steps.ByteStrings.{start_at, texts_from}
-use Rattle.mt_record.proofs.TextLemmas.{texts_count, text_part}
+use Rattle.std.proofs.Common.{◌/◌, ◌%◌, arith}
+use Rattle.std.proofs.lemmas.Nat.{div-add-mod', mod_below}
+use Rattle.mt_record.proofs.Blocks.{in_full, in_last, past_full}
 use Rattle.mt_record.proofs.kept.byte_strings.ByteStrings.get.Goals as goal
 
--- the number of a text is below the number of ends
-below_ends : (bytes ends : List ℕ) (texts : List (List ℕ)) (at : ℕ) → texts_from 0 bytes ends ≡ texts → at < length texts → at < length ends
-below_ends bytes ends texts at same below =
-    let count = texts_count 0 bytes ends in
-    let lengths : length (texts_from 0 bytes ends) ≡ length texts = ap length same in
-    omega (arith, count, lengths, below)
+pub get-requires-else-block-len : goal.get-requires-else-block-len
+get-requires-else-block-len c =
+    (past_full c.self.inside.full.items c.self.inside.last c.args.self.now c.args.at c.self.view_is c.self.invariant c.requires (omega (arith, c.if-block-len.false, c.len.ensures, c.self.inside.full.ok.0))).1
 
-pub start_of-start-requires : goal.start_of-start-requires
-start_of-start-requires c =
-    let below = below_ends c.self.inside.bytes.items c.self.inside.ends.items c.args.self.now c.args.at c.self.view_is c.requires in
-    omega (arith, below, c.deref.ensures.len, ap length c.deref.ensures.value)
+pub returns-then-block-len : goal.returns-then-block-len
+returns-then-block-len c = λ d.
+    rw (← c.self.view_is) (in_full c.self.inside.full.items c.self.inside.last c.index.result.now (c.args.at / 512) (c.args.at % 512) c.args.at c.get.result.now d c.self.invariant.filled
+    (omega (arith, c.if-block-len.true, c.len.ensures, c.self.inside.full.ok.0)) (mod_below c.args.at 512 (omega arith)) (div-add-mod' c.args.at 512) c.index.ensures c.get.ensures)
 
-pub index-end-requires : goal.index-end-requires
-index-end-requires c =
-    let below = below_ends c.self.inside.bytes.items c.self.inside.ends.items c.args.self.now c.args.at c.self.view_is c.requires in
-    omega (arith, below, c.self.inside.ends.ok.0)
-
-pub slice_bounds-result-count : goal.slice_bounds-result-count
-slice_bounds-result-count c =
-    (text_part c.self.inside.bytes.items c.self.inside.ends.items c.args.self.now c.args.at c.start_of-start.result c.index-end.result.now
-    c.self.view_is c.self.invariant c.requires (c.start_of-start.ensures ∙ ap (λ (es : List ℕ). start_at 0 es c.args.at) c.deref.ensures.value) c.index-end.ensures).0
-
-pub slice_bounds-result-start : goal.slice_bounds-result-start
-slice_bounds-result-start c =
-    (text_part c.self.inside.bytes.items c.self.inside.ends.items c.args.self.now c.args.at c.start_of-start.result c.index-end.result.now
-    c.self.view_is c.self.invariant c.requires (c.start_of-start.ensures ∙ ap (λ (es : List ℕ). start_at 0 es c.args.at) c.deref.ensures.value) c.index-end.ensures).0
-
-pub slice_bounds-result-end : goal.slice_bounds-result-end
-slice_bounds-result-end c =
-    let part = text_part c.self.inside.bytes.items c.self.inside.ends.items c.args.self.now c.args.at c.start_of-start.result c.index-end.result.now
-    c.self.view_is c.self.invariant c.requires (c.start_of-start.ensures ∙ ap (λ (es : List ℕ). start_at 0 es c.args.at) c.deref.ensures.value) c.index-end.ensures in
-    subst (λ (bs : List ℕ). c.index-end.result.now ≤ length bs) (sym c.deref-2.ensures.value) part.1
-
-pub returns : goal.returns
-returns c = λ d.
-    let part = text_part c.self.inside.bytes.items c.self.inside.ends.items c.args.self.now c.args.at c.start_of-start.result c.index-end.result.now
-    c.self.view_is c.self.invariant c.requires (c.start_of-start.ensures ∙ ap (λ (es : List ℕ). start_at 0 es c.args.at) c.deref.ensures.value) c.index-end.ensures in
-    subst (λ (bs : List ℕ). take (c.index-end.result.now - c.start_of-start.result) (drop c.start_of-start.result bs) ≡ get_or c.args.self.now c.args.at d)
-    (sym c.deref-2.ensures.value) (part.2 d)
+pub returns-else-block-len : goal.returns-else-block-len
+returns-else-block-len c = λ d.
+    let past = past_full c.self.inside.full.items c.self.inside.last c.args.self.now c.args.at c.self.view_is c.self.invariant c.requires (omega (arith, c.if-block-len.false, c.len.ensures, c.self.inside.full.ok.0)) in
+    rw (← c.self.view_is) (in_last c.self.inside.full.items c.self.inside.last (c.args.at % 512) c.args.at c.get-else-block-len.result.now d c.self.invariant.filled past.0 c.get-else-block-len.ensures)

@@ -1,0 +1,136 @@
+//! Byte strings in one buffer.
+ghost use Rattle.std.specs.Prelude.{◌≡◌, ◌<◌, ◌≤◌, ◌++◌, [], ◌∷◌, List, ℕ, OnOk, OnErr, IfOk, length, slice_index_or};
+ghost use Rattle.mt_record.specs.Steps.ByteStrings.{start_at};
+
+use crate::encode::put::put_bytes;
+use mt_words::Memory;
+use std::alloc::Global;
+use std::marker::Model;
+
+/// A list of byte strings, here called texts. They lie one after another in one buffer.
+#[derive(Debug, Drop)]
+pub(crate) struct Block {
+    bytes: Vec<u8>,
+    ends: Vec<usize>,
+}
+
+impl Model for Block {
+    ghost use Rattle.std.specs.Prelude.{List, ℕ, length};
+    ghost use Rattle.mt_record.specs.Steps.ByteStrings.{texts_from, AreEnds};
+
+    ghost Value = { List (List ℕ) };
+
+    ghost view = { λ t. texts_from 0 t.bytes.items t.ends.items };
+
+    ghost invariant = { λ t. AreEnds 0 (length t.bytes.items) t.ends.items };
+}
+
+impl Block {
+    /// Creates an empty list.
+    pub(crate) fn new(alloc: Global) -> Block
+        ensures { result ≡ [] }
+    {
+        Block {
+            bytes: Vec::new(alloc),
+            ends: Vec::new(alloc),
+        }
+    }
+
+    /// Creates an empty list with room for `texts` texts of `bytes` bytes in all. Err: out of memory.
+    pub(crate) fn with_capacity(alloc: Global, texts: usize, bytes: usize) -> Result<Block, Memory>
+        ensures { IfOk result (λ texts. texts ≡ []) }
+    {
+        Ok(Block {
+            bytes: Vec::with_capacity(alloc, bytes)?,
+            ends: Vec::with_capacity(alloc, texts)?,
+        })
+    }
+
+    /// Creates an empty list with room for as many texts, and for their bytes and a thirty-second more. Err: out of
+    /// memory.
+    pub(crate) fn next(&self) -> Result<Block, Memory>
+        ensures { IfOk result (λ texts. texts ≡ []) }
+    {
+        let bytes = self.bytes.len();
+        Block::with_capacity(*self.bytes.allocator(), self.len(), bytes + bytes / 32)
+    }
+
+    /// Removes all texts.
+    pub(crate) fn clear(&mut self)
+        ensures { self.new ≡ [] }
+    {
+        self.bytes.clear();
+        self.ends.clear();
+    }
+
+    /// Removes the last text.
+    pub(crate) fn drop_last(&mut self)
+        requires { 0 < length self.old }
+        ensures { (last : List ℕ) × (self.old ≡ self.new ++ last ∷ []) }
+    {
+        let Some(_end) = self.ends.pop() else {
+            unreachable!();
+        };
+        let size = start_of(&self.ends, self.ends.len());
+        self.bytes.truncate(size);
+    }
+
+    /// Returns the number of texts.
+    pub(crate) fn len(&self) -> usize
+        ensures { result ≡ length self.now }
+    {
+        self.ends.len()
+    }
+
+    /// Returns the text at this place.
+    pub(crate) fn get(&self, at: usize) -> &[u8]
+        requires { at < length self.now }
+        ensures { (d : List ℕ) → result.now ≡ slice_index_or self.now at d }
+    {
+        let start = start_of(&self.ends, at);
+        let end = self.ends[at];
+        &self.bytes[start..end]
+    }
+
+    /// Appends a text. Err: out of memory; nothing is appended.
+    // Each record of a log passes through here when it is scanned, and through `push_joined` when it is sorted. Without
+    // inlining, the calls alone are a thirtieth of all instructions.
+    #[inline(always)]
+    pub(crate) fn push(&mut self, text: &[u8]) -> Result<(), Memory>
+        ensures ok { OnOk result (self.new ≡ self.old ++ text.now ∷ []) }
+        ensures err { OnErr result (self.new ≡ self.old) }
+    {
+        // A text is appended completely or not at all, so all room is reserved first.
+        self.ends.reserve(1)?;
+        self.bytes.reserve(text.len())?;
+        put_bytes(text, &mut self.bytes);
+        let end = self.bytes.len();
+        self.ends.push_reserved(end);
+        Ok(())
+    }
+
+    /// Appends one text that is given as its front and its rest. Err: out of memory; nothing is appended.
+    pub(crate) fn push_joined(&mut self, front: &[u8], rest: &[u8]) -> Result<(), Memory>
+        ensures ok { OnOk result (self.new ≡ self.old ++ (front.now ++ rest.now) ∷ []) }
+        ensures err { OnErr result (self.new ≡ self.old) }
+    {
+        self.ends.reserve(1)?;
+        self.bytes.reserve(front.len() + rest.len())?;
+        put_bytes(front, &mut self.bytes);
+        put_bytes(rest, &mut self.bytes);
+        let end = self.bytes.len();
+        self.ends.push_reserved(end);
+        Ok(())
+    }
+}
+
+/// Returns where the text at this place starts.
+fn start_of(ends: &[usize], at: usize) -> usize
+    requires { at ≤ length ends.now }
+    ensures { result ≡ start_at 0 ends.now at }
+{
+    if at == 0 {
+        return 0;
+    }
+    ends[at - 1]
+}
