@@ -1,12 +1,17 @@
-/* Recovery of a store from logs and parts of checkpoints, which a server reads itself and feeds in chunks; and records,
- * parts and their headers, written to buffers of the server. What each function promises is proved, given the duties
- * below.
+/* Recovery of a store from logs and parts of checkpoints, which a server reads itself and feeds in chunks; its report,
+ * its keys, and what replaces the logs; and records, parts and their headers, written to buffers of the server. What
+ * each function promises is proved, given the duties below.
  *
- * Each function but mtr_free answers a status. None of them ends the program, prints, waits, starts a thread, or keeps
- * state. Any thread may call any of them. Memory comes from rattle_alloc, rattle_realloc and rattle_dealloc (malloc.c).
+ * Each function but mtr_free and mtr_version answers a status. None of them ends the program, prints, waits, starts a
+ * thread, or keeps state. Any thread may call any of them. Memory comes from rattle_alloc, rattle_realloc and
+ * rattle_dealloc (malloc.c).
+ *
+ * A function with `out`, `room` and `count` writes bytes to the beginning of `out`, which has room for `room` bytes.
+ * DONE: these bytes stand there, the rest of `out` is as before, and *count is their number. SHORT: *count is that
+ * number. Not DONE: `out` is as before.
  *
  * Duties of the caller:
- * - `out`, `count`, `fault` and places overlap nothing else that the call is given.
+ * - What a call writes to, and places, overlap nothing else that the call is given.
  * - A pointer may be null if its length is 0.
  * - A place is moved and never copied, one call at a time is given it, and mtr_free empties it at the end.
  * - The processor has x86-64-v2. */
@@ -26,7 +31,7 @@ enum mtr_status {
     MTR_DONE = 0,   /* done */
     MTR_MEMORY = 1, /* out of memory */
     MTR_WRONG = 2,  /* an argument is not lawful, or a place does not hold what the call needs; nothing changed */
-    MTR_ABSENT = 3, /* there is no such key or column */
+    MTR_ABSENT = 3, /* there is no such key, column or item */
     MTR_SHORT = 4,  /* the buffer is too short, and *count is the number of bytes that it needs */
     MTR_FAULT = 5   /* the bytes have a fault */
 };
@@ -58,19 +63,104 @@ uint32_t mtr_feed(mtr_place *feed, const uint8_t *chunk, size_t length);
 uint32_t mtr_feed_failed(mtr_place *feed);
 
 /* Appends the log or part in `feed` to those in `inputs`, which may be empty, and empties `feed`. Logs are numbered in
- * this order, and so are parts. MEMORY: nothing is appended, but `feed` is empty. */
+ * this order, and so are parts. Not DONE: both places are as before. */
 uint32_t mtr_add(mtr_place *inputs, mtr_place *feed);
 
 /* Recovers from these logs and parts. DONE: the place holds the store that the rules define for exactly these bytes, with
  * its report. FAULT: *fault is their one fault. Not DONE and not WRONG: the place is empty. */
 uint32_t mtr_recover(mtr_place *inputs, mtr_fault *fault);
 
-/* The value of this column of this key of the store. `out` and `count` are as for the functions below. Never MEMORY. */
+/* The report of a recovery. A number above 2^64 - 1 is told as 2^64 - 1. */
+typedef struct mtr_report {
+    uint64_t cutoff;     /* the timestamp below which updates survive: new ones are given timestamps from it on */
+    uint64_t last;       /* the greatest timestamp in the logs: of their headers and their complete records */
+    uint64_t version;    /* the greatest version of their complete records and of the checkpoint's entries, or 0 */
+    uint64_t checkpoint; /* the number of the chosen checkpoint, or 2^64 - 1 if there is none */
+    uint64_t begin;      /* the timestamp from which updates survive: where that checkpoint begins, or 0 */
+    uint64_t entries;    /* the entries of that checkpoint */
+    uint64_t logs;       /* log files */
+    uint64_t writers;    /* writers' logs: a worker's segments are one, and each other file is one */
+    uint64_t records;    /* complete records, marks included */
+    uint64_t marks;      /* marks among them */
+    uint64_t torn;       /* log files that end in a torn tail */
+    uint64_t holes;      /* log files before which updates may be missing */
+    uint64_t skipped;    /* invalid checkpoints */
+    uint64_t nameless;   /* parts that name no checkpoint */
+    uint64_t early;      /* updates below `begin` */
+    uint64_t late;       /* updates at or after the cutoff */
+    uint64_t survivors;  /* updates and entries that survive */
+    uint64_t keys;       /* keys in the store */
+    uint64_t layers;     /* layers of its tree */
+} mtr_report;
+
+/* The report of the store. WRONG: the place holds no store. Not DONE: *report is as before. Never MEMORY. */
+uint32_t mtr_get_report(mtr_place *store, mtr_report *report);
+
+/* Where the complete records of a log end: the bytes of its header and of these records, of a log of 2^64 bytes or more
+ * 2^64 - 1. ABSENT: there is no log of this number. Not DONE: *end is as before. Never MEMORY. */
+uint32_t mtr_report_end(mtr_place *store, size_t log, uint64_t *end);
+
+/* The number of the invalid checkpoint at position i, and the position of the nameless part at position i, from 0 on;
+ * both rise with i. ABSENT: there are not so many. Not DONE: *number or *part is as before. Never MEMORY. */
+uint32_t mtr_report_skipped(mtr_place *store, size_t i, uint64_t *number);
+uint32_t mtr_report_nameless(mtr_place *store, size_t i, uint64_t *part);
+
+/* What becomes of a log if a server resumes. */
+typedef struct mtr_resumed {
+    uint64_t dropped; /* its updates at or past the cutoff, which go */
+    bool changed;     /* whether the bytes differ from the log's */
+} mtr_resumed;
+
+/* What replaces a log if a server resumes after a recovery with this cutoff: its header, with a `from` of at most the
+ * cutoff; its records below the cutoff; a mark at the cutoff; and the mark that ends the log, if it was ended. A new log
+ * begins with mtr_log_header_1(0, ..) and mtr_mark(cutoff, ..). DONE or SHORT: *resumed is told. Else it is as before.
+ * FAULT: the bytes are no log. Never WRONG. */
+uint32_t mtr_resume_log(const uint8_t *log, size_t length, uint64_t cutoff, mtr_resumed *resumed, uint8_t *out,
+                        size_t room, size_t *count);
+
+/* Whether this key is in the store. ABSENT: it is not. WRONG: the place holds no store. Never MEMORY. */
+uint32_t mtr_exists(mtr_place *store, const uint8_t *key, size_t key_length);
+
+/* The value of this column of this key of the store. WRONG: as for mtr_exists. Never MEMORY. */
 uint32_t mtr_get(mtr_place *store, const uint8_t *key, size_t key_length, uint8_t column, uint8_t *out, size_t room,
                  size_t *count);
 
+/* Copies the first n pairs of the store whose keys are at or after `start`, in order, into the empty place `hits`; fewer
+ * if there are fewer. Keys are compared byte by byte, so no bytes are the start of all keys, and the pairs that follow a
+ * key's begin at the key and one byte 0 more. WRONG: `store` holds no store, or `hits` is not empty. Not DONE: `hits` is
+ * as before. */
+uint32_t mtr_range(mtr_place *store, const uint8_t *start, size_t start_length, size_t n, mtr_place *hits);
+
+/* The key of the pair at position i of the hits, from 0 on, and the number of its columns: each pair has at least one.
+ * ABSENT: there are not so many hits. DONE or SHORT: *columns is told. Else it is as before. WRONG: the place holds no
+ * hits. Never MEMORY. */
+uint32_t mtr_hit(mtr_place *hits, size_t i, size_t *columns, uint8_t *out, size_t room, size_t *count);
+
+/* The number and the value of that pair's column at position `nth`, from 0 on; numbers rise with positions. ABSENT: there
+ * are not so many hits, or columns. DONE or SHORT: *number is told. Else it is as before. WRONG: as for mtr_hit. Never
+ * MEMORY. */
+uint32_t mtr_hit_column(mtr_place *hits, size_t i, size_t nth, uint8_t *number, uint8_t *out, size_t room,
+                        size_t *count);
+
+/* Puts the same store into the empty place `other`, for another thread. Nothing is copied, and the store is freed with
+ * the last of its places. WRONG: `store` holds no store, or `other` is not empty. Not DONE: `other` is as before. */
+uint32_t mtr_share(mtr_place *store, mtr_place *other);
+
 /* Frees what the place holds, if it holds anything, and leaves it empty. */
 void mtr_free(mtr_place *place);
+
+/* The words for a fault, as mtrecover prints them; no zero byte ends them. WRONG: mtr_recover tells no such fault. */
+uint32_t mtr_fault_text(const mtr_fault *fault, uint8_t *out, size_t room, size_t *count);
+
+/* What a library is. */
+typedef struct mtr_versions {
+    uint32_t library;     /* its version: 1 */
+    uint32_t log_format;  /* the greatest format of logs that it knows: 3 */
+    uint32_t part_format; /* the greatest format of parts that it knows: 2 */
+} mtr_versions;
+
+/* Tells these of the library that is linked. */
+void mtr_version(mtr_versions *versions);
 
 /* A column: its number, at most 63, and its value, lent for the call. */
 typedef struct mtr_column {
@@ -81,9 +171,7 @@ typedef struct mtr_column {
     } value;
 } mtr_column;
 
-/* Each function writes to the beginning of `out`, which has `room` bytes.
- * DONE: the encoding stands there, the rest of `out` is as before, and *count is the length of the encoding.
- * SHORT: *count is that length. Not DONE: `out` is as before. */
+/* Each of the following functions writes one encoding. */
 
 /* The header of a log of format 1 or 2. Updates below the timestamp `from` may be missing from the log. Never WRONG. */
 uint32_t mtr_log_header_1(uint64_t from, uint8_t *out, size_t room, size_t *count);

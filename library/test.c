@@ -1,6 +1,6 @@
-/* Encodes the two files that docs/FORMATS.md shows, recovers the store of examples, tries what is refused, and fails each
- * allocation in turn. Its argument is the folder of the examples. The last line is 'N passed, M failed'. It is linked
- * with -Wl,--wrap=malloc,--wrap=realloc,--wrap=free. */
+/* Encodes the two files that docs/FORMATS.md shows, recovers the store of examples, whose report and keys README.md and
+ * docs/COMMANDS.md show, tries what is refused, and fails each allocation in turn. Its argument is the folder of the
+ * examples. The last line is 'N passed, M failed'. It is linked with -Wl,--wrap=malloc,--wrap=realloc,--wrap=free. */
 #include "mtrecover.h"
 #include <stdio.h>
 #include <string.h>
@@ -201,6 +201,124 @@ static void test_recovery(void) {
     }
 }
 
+/* Recovers the store of the examples, in chunks of 64 bytes. */
+static mtr_place example_store(void) {
+    mtr_place store = {0};
+    mtr_fault fault = {0};
+    expect("a store", recover_examples(&store, 64, &fault) == MTR_DONE);
+    return store;
+}
+
+static void test_report(void) {
+    static const mtr_report expected = {40, 42, 8, 7, 10, 4, 2, 2, 9, 2, 1, 0, 1, 1, 1, 1, 9, 4, 1};
+    mtr_place store = example_store(), empty = {0};
+    mtr_report report = {0};
+    uint64_t told = 9;
+    expect("a report", mtr_get_report(&store, &report) == MTR_DONE && memcmp(&report, &expected, sizeof report) == 0);
+    expect("the first end", mtr_report_end(&store, 0, &told) == MTR_DONE && told == 138);
+    expect("the second end", mtr_report_end(&store, 1, &told) == MTR_DONE && told == 177);
+    expect("no third end", mtr_report_end(&store, 2, &told) == MTR_ABSENT && told == 177);
+    expect("a skipped checkpoint", mtr_report_skipped(&store, 0, &told) == MTR_DONE && told == 8);
+    expect("no second one", mtr_report_skipped(&store, 1, &told) == MTR_ABSENT);
+    expect("a nameless part", mtr_report_nameless(&store, 0, &told) == MTR_DONE && told == 3);
+    expect("no second one", mtr_report_nameless(&store, SIZE_MAX, &told) == MTR_ABSENT && told == 3);
+    expect("an empty place has no report", mtr_get_report(&empty, &report) == MTR_WRONG && report.cutoff == 40);
+    expect("an empty place has no ends", mtr_report_end(&empty, 0, &told) == MTR_WRONG && told == 3);
+    mtr_free(&store);
+}
+
+/* Whether hit i has this key, and this column alone. */
+static int is_hit(mtr_place *hits, size_t i, const char *key, uint8_t column, const char *value) {
+    uint8_t out[16], number = 99;
+    size_t count = 0, columns = 0;
+    int is_key = mtr_hit(hits, i, &columns, out, sizeof out, &count) == MTR_DONE && columns == 1 && count == strlen(key) &&
+                 memcmp(out, key, count) == 0;
+    return is_key && mtr_hit_column(hits, i, 0, &number, out, sizeof out, &count) == MTR_DONE && number == column &&
+           count == strlen(value) && memcmp(out, value, count) == 0;
+}
+
+static void test_range(void) {
+    mtr_place store = example_store(), hits = {0}, empty = {0};
+    uint8_t out[8] = {9}, number = 99;
+    size_t count = 0, columns = 99;
+    expect("fig is there", mtr_exists(&store, text("fig"), 3) == MTR_DONE);
+    expect("plum is not", mtr_exists(&store, text("plum"), 4) == MTR_ABSENT);
+    expect("nor is any part of a key", mtr_exists(&store, NULL, 0) == MTR_ABSENT);
+    expect("two from g on", mtr_range(&store, text("g"), 1, 2, &hits) == MTR_DONE);
+    expect("kiwi and lime", is_hit(&hits, 0, "kiwi", 1, "soft") && is_hit(&hits, 1, "lime", 0, "sour"));
+    expect("no third one", mtr_hit(&hits, 2, &columns, out, 8, &count) == MTR_ABSENT && columns == 99);
+    expect("no second column", mtr_hit_column(&hits, 0, 1, &number, out, 8, &count) == MTR_ABSENT && number == 99);
+    expect("no third one's", mtr_hit_column(&hits, 2, 0, &number, out, 8, &count) == MTR_ABSENT);
+    expect("a full place", mtr_range(&store, NULL, 0, 9, &hits) == MTR_WRONG && is_hit(&hits, 0, "kiwi", 1, "soft"));
+    mtr_free(&hits);
+    expect("all", mtr_range(&store, NULL, 0, SIZE_MAX, &hits) == MTR_DONE && is_hit(&hits, 3, "pear", 0, "green"));
+    expect("fig", mtr_hit(&hits, 0, &columns, out, 2, &count) == MTR_SHORT && columns == 2 && count == 3 && out[0] == 9);
+    expect("ripe", mtr_hit_column(&hits, 0, 1, &number, out, 8, &count) == MTR_DONE && memcmp(out, "ripe", 4) == 0);
+    mtr_free(&hits);
+    expect("none", mtr_range(&store, text("pearl"), 5, 9, &hits) == MTR_DONE);
+    expect("no first one", mtr_hit(&hits, 0, &columns, out, 8, &count) == MTR_ABSENT);
+    expect("hits have no keys", mtr_exists(&hits, text("fig"), 3) == MTR_WRONG);
+    expect("nor a range", mtr_range(&hits, NULL, 0, 9, &empty) == MTR_WRONG && !empty.full);
+    expect("a store is no hits", mtr_hit(&store, 0, &columns, out, 8, &count) == MTR_WRONG);
+    mtr_free(&hits);
+    mtr_free(&store);
+    expect("a store and its hits are freed", blocks == 0);
+}
+
+static void test_share(void) {
+    mtr_place store = example_store(), other = {0}, third = {0};
+    expect("one more", mtr_share(&store, &other) == MTR_DONE);
+    expect("a full place", mtr_share(&store, &other) == MTR_WRONG && has(&other, "fig", 0, "green"));
+    mtr_free(&store);
+    expect("an empty place", mtr_share(&store, &third) == MTR_WRONG && !third.full);
+    expect("the other goes on", has(&other, "fig", 0, "green") && mtr_share(&other, &third) == MTR_DONE);
+    mtr_free(&third);
+    mtr_free(&other);
+    expect("the last place frees it", blocks == 0);
+}
+
+static void test_resume(void) {
+    static const uint8_t mark[] = "\0\0\0\x09\x03\0\0\0\0\0\0\0\x28\0\0\0\x09";
+    mtr_resumed resumed = {9, true};
+    uint8_t out[256] = {9};
+    size_t count = 0;
+    expect("a log is as it was", mtr_resume_log(examples[0].bytes, examples[0].length, 40, &resumed, out, 256, &count) ==
+                                     MTR_DONE && count == 138 && resumed.dropped == 0 && !resumed.changed &&
+                                     memcmp(out, examples[0].bytes, count) == 0);
+    expect("a log is replaced", mtr_resume_log(examples[1].bytes, examples[1].length, 40, &resumed, out, 256, &count) ==
+                                    MTR_DONE && count == 139 && resumed.dropped == 1 && resumed.changed &&
+                                    memcmp(out, examples[1].bytes, 122) == 0 && memcmp(out + 122, mark, 17) == 0);
+    out[0] = 9;
+    resumed.dropped = 9;
+    expect("short", mtr_resume_log(examples[1].bytes, examples[1].length, 40, &resumed, out, 138, &count) == MTR_SHORT &&
+                        count == 139 && resumed.dropped == 1 && out[0] == 9);
+    expect("no log", mtr_resume_log(text("x"), 1, 40, &resumed, out, 256, &count) == MTR_FAULT && resumed.dropped == 1);
+}
+
+static int says(uint32_t kind, uint32_t what, uint64_t index, uint64_t record, const char *words) {
+    mtr_fault fault = {kind, what, index, record};
+    uint8_t out[64];
+    size_t count = 0;
+    return mtr_fault_text(&fault, out, sizeof out, &count) == MTR_DONE && count == strlen(words) &&
+           memcmp(out, words, count) == 0;
+}
+
+static void test_words(void) {
+    mtr_fault fault = {7, 0, 0, 0};
+    mtr_versions versions = {0};
+    uint8_t out[64];
+    size_t count = 0;
+    expect("words", says(1, 0, 0, 0, "no logs") && says(3, 3, 0, 3, "log 0: record 3: kind") && says(6, 0, 1, 0, "log 1: gap") &&
+                        says(4, 0, 0, 0, "log 0: source failed") && says(5, 0, 0, 0, "part 0: source failed"));
+    expect("no such fault", mtr_fault_text(&fault, out, sizeof out, &count) == MTR_WRONG);
+    fault.kind = 6;
+    expect("short words", mtr_fault_text(&fault, out, 5, &count) == MTR_SHORT && count == 10);
+    fault.what = 1;
+    expect("no record's", mtr_fault_text(&fault, out, sizeof out, &count) == MTR_WRONG);
+    mtr_version(&versions);
+    expect("versions", versions.library == 1 && versions.log_format == 3 && versions.part_format == 2);
+}
+
 static int is_fault(const mtr_fault *fault, uint32_t kind, uint32_t what, uint64_t index, uint64_t record) {
     return fault->kind == kind && fault->what == what && fault->index == index && fault->record == record;
 }
@@ -247,6 +365,26 @@ static void test_faults(void) {
     expect("all is freed", blocks == 0);
 }
 
+/* Adds a log with each allocation failed, and then with none. */
+static void test_add_memory(void) {
+    mtr_place inputs = {0}, feed = {0};
+    mtr_fault fault = {0};
+    uint32_t status = MTR_MEMORY;
+    size_t allowed;
+    expect("a feed", mtr_feed_log(&feed) == MTR_DONE &&
+                         mtr_feed(&feed, examples[0].bytes, examples[0].length) == MTR_DONE);
+    for (allowed = 0; status == MTR_MEMORY && allowed < 64; allowed++) {
+        left = allowed;
+        status = mtr_add(&inputs, &feed);
+        left = SIZE_MAX;
+        expect("a failed call adds nothing", status == MTR_DONE || (!inputs.full && feed.full));
+    }
+    expect("it fails, and then it is done", allowed > 2 && status == MTR_DONE && !feed.full);
+    expect("the log is whole", mtr_recover(&inputs, &fault) == MTR_DONE && has(&inputs, "fig", 0, "green"));
+    mtr_free(&inputs);
+    expect("it is freed", blocks == 0);
+}
+
 static void test_recovery_memory(void) {
     mtr_fault fault = {0};
     uint32_t status = MTR_MEMORY;
@@ -263,6 +401,45 @@ static void test_recovery_memory(void) {
     expect("then it is done", status == MTR_DONE);
 }
 
+/* A call that allocates, over the store of the examples. */
+static uint32_t allocate(unsigned call, mtr_place *store, mtr_place *other) {
+    mtr_resumed resumed;
+    mtr_fault fault = {6, 0, 1, 0};
+    uint8_t out[256];
+    size_t count;
+    switch (call) {
+    case 0:
+        return mtr_range(store, NULL, 0, 9, other);
+    case 1:
+        return mtr_share(store, other);
+    case 2:
+        return mtr_resume_log(examples[1].bytes, examples[1].length, 40, &resumed, out, sizeof out, &count);
+    default:
+        return mtr_fault_text(&fault, out, sizeof out, &count);
+    }
+}
+
+static void test_calls_memory(void) {
+    mtr_place store = example_store();
+    unsigned call;
+    for (call = 0; call < 4; call++) {
+        size_t allowed, held = blocks;
+        uint32_t status = MTR_MEMORY;
+        for (allowed = 0; status == MTR_MEMORY && allowed < 64; allowed++) {
+            mtr_place other = {0};
+            left = allowed;
+            status = allocate(call, &store, &other);
+            left = SIZE_MAX;
+            expect("a failed call puts nothing", status == MTR_DONE || !other.full);
+            mtr_free(&other);
+            expect("nor does it leak", blocks == held);
+        }
+        expect("it fails, and then it is done", allowed > 1 && status == MTR_DONE);
+    }
+    expect("the store is as before", has(&store, "fig", 0, "green"));
+    mtr_free(&store);
+}
+
 int main(int argc, char **argv) {
     test_log();
     test_part();
@@ -271,8 +448,15 @@ int main(int argc, char **argv) {
     test_memory();
     read_examples(argc > 1 ? argv[1] : ".");
     test_recovery();
+    test_report();
+    test_range();
+    test_share();
+    test_resume();
+    test_words();
     test_faults();
+    test_add_memory();
     test_recovery_memory();
+    test_calls_memory();
     printf("%u passed, %u failed\n", passed, failed);
     return failed != 0;
 }

@@ -1,3 +1,6 @@
+mod Adds
 mod Follows
+mod Lasts
+pub mod Pairs
 pub mod Pointers
 pub mod Stores

@@ -1,5 +1,5 @@
 -- From what was fed to the store of its bytes.
-use Rattle.std.proofs.Common.{◌≡◌, ℕ, List, [], ◌∷◌, ◌∙◌, map, Option, Some, None, refl, ap, sym, subst, true≢false}
+use Rattle.std.proofs.Common.{◌≡◌, ℕ, List, [], ◌∷◌, map, Option, Some, None, refl, sym, true≢false}
 use Rattle.std.specs.Prelude.{IsSome}
 use Rattle.std.specs.List.{All}
 use Rattle.std.proofs.lemmas.List.Elements.{All-head, All-tail}
@@ -7,7 +7,7 @@ use Rattle.mt_recover.specs.Fed.{Input, seen_fed}
 use Rattle.mt_recover.specs.Inputs.{MayHave, OfSources}
 use Rattle.mt_recover.specs.Report.{Outcome, IsRecoveredOf}
 use Rattle.mt_c.specs.declared.held.Held.{Held}
-use Rattle.mt_c.specs.Holding.{HoldsInputs, HoldsOutcome, HoldsStoreOf}
+use Rattle.mt_c.specs.Holding.{HoldsOutcome, HoldsStoreOf}
 
 -- inputs that were fed whole have only their bytes
 bytes_of : (inputs : List Input) (all : List (List ℕ)) → All IsSome inputs → MayHave seen_fed inputs all → inputs ≡ map Some all
@@ -29,14 +29,3 @@ store_held logs parts place outcome of whole held = record {
   held = held;
   recovered = of.holds;
 }
-
--- the inputs that a place held are taken out
-pub some_held : (logs parts : List Input) (place : Option Held) (taken held : Held) → place ≡ Some taken → taken ≡ held → HoldsInputs logs parts place → HoldsInputs logs parts (Some held)
-some_held logs parts place taken held was same inputs = subst (HoldsInputs logs parts) (was ∙ ap Some same) inputs
-
--- an empty place held no log or part
-pub none_held : (logs parts : List Input) (place : Option Held) (made held : Held) → place ≡ None → made ≡ held → HoldsInputs [] [] (Some made) → HoldsInputs logs parts place → HoldsInputs logs parts (Some held)
-none_held logs parts place made held was same none inputs =
-    let empty : (logs ≡ []) × (parts ≡ []) = subst (HoldsInputs logs parts) was inputs in
-    let at = subst (λ (value : Held). HoldsInputs [] [] (Some value)) same none in
-    subst (λ (ls : List Input). HoldsInputs ls parts (Some held)) (sym empty.0) (subst (λ (ps : List Input). HoldsInputs [] ps (Some held)) (sym empty.1) at)

@@ -1,33 +1,33 @@
 -- What a place of C holds.
 use Rattle.std.specs.Prelude.{◌≡◌, ℕ, Option, Some, None, List, [], map}
-use Rattle.mt_record.specs.LogFeeding.{IsLogFed}
-use Rattle.mt_record.specs.PartFeeding.{IsPartFed}
-use Rattle.mt_recover.specs.Fed.{Input, AreFed}
+use Rattle.std.specs.Arc.{arc_value}
+use Rattle.mt_words.specs.Walks.{Pair}
+use Rattle.mt_tree.specs.declared.hit.Hit.{Hit}
+use Rattle.mt_recover.specs.Fed.{Input}
 use Rattle.mt_recover.specs.Report.{Outcome, IsRecoveredOf}
+use Rattle.mt_c.specs.Added.{IsLog, IsPart, AreAdded}
 use Rattle.mt_c.specs.declared.held.Held.{Held}
 use Rattle.mt_c.specs.declared.held.Held.TheVariants as held
 
 -- the place holds a log: of these bytes so far, or one whose device failed
 abbrev pub HoldsLog : Input → Option Held → Type 0
-HoldsLog (Some bytes) (Some (held.Log feed)) = IsLogFed feed bytes []
-HoldsLog None (Some held.FailedLog) = Unit {0}
+HoldsLog log (Some (held.Log fed)) = IsLog log fed
 HoldsLog log place = ⊥
 
 -- the place holds a part: of these bytes so far, or one whose device failed
 abbrev pub HoldsPart : Input → Option Held → Type 0
-HoldsPart (Some bytes) (Some (held.Part feed)) = IsPartFed feed bytes
-HoldsPart None (Some held.FailedPart) = Unit {0}
+HoldsPart part (Some (held.Part fed)) = IsPart part fed
 HoldsPart part place = ⊥
 
 -- the place holds these logs and parts, in this order; an empty place holds none
 abbrev pub HoldsInputs : List Input → List Input → Option Held → Type 0
-HoldsInputs logs parts (Some (held.Inputs fed)) = AreFed logs parts fed
+HoldsInputs logs parts (Some (held.Inputs added)) = AreAdded logs parts added
 HoldsInputs logs parts None = (logs ≡ []) × (parts ≡ [])
 HoldsInputs logs parts place = ⊥
 
 -- the place holds this store and its report
 abbrev pub HoldsOutcome : Outcome → Option Held → Type 0
-HoldsOutcome outcome (Some (held.Store recovered)) = recovered ≡ outcome
+HoldsOutcome outcome (Some (held.Store shared)) = arc_value shared ≡ outcome
 HoldsOutcome outcome place = ⊥
 
 -- the place holds the store of these logs and parts, all of which were fed whole, and its report
@@ -40,24 +40,38 @@ pub record HoldsStoreOf (logs parts : List Input) (place : Option Held) : Type 0
   pub held : HoldsOutcome outcome place
   pub recovered : IsRecoveredOf log_bytes part_bytes outcome
 
+-- the pair that a hit has copied
+abbrev pub pair_of : Hit → Pair
+pair_of hit = (hit.key, hit.columns)
+
+-- the place holds copies of these pairs, in this order
+abbrev pub HoldsPairs : List Pair → Option Held → Type 0
+HoldsPairs pairs (Some (held.Hits hits)) = map pair_of hits.items ≡ pairs
+HoldsPairs pairs place = ⊥
+
 -- ---- kinds
 
 -- a log or part that is being fed
 abbrev pub IsFeed : Held → Type 0
-IsFeed (held.Log feed) = Unit {0}
-IsFeed (held.Part feed) = Unit {0}
+IsFeed (held.Log (Some feed)) = Unit {0}
+IsFeed (held.Part (Some feed)) = Unit {0}
 IsFeed other = ⊥
 
 -- a log or part, fed or failed
 abbrev pub IsInput : Held → Type 0
-IsInput held.FailedLog = Unit {0}
-IsInput held.FailedPart = Unit {0}
-IsInput other = IsFeed other
+IsInput (held.Log fed) = Unit {0}
+IsInput (held.Part fed) = Unit {0}
+IsInput other = ⊥
 
--- logs and parts to recover from
-abbrev pub AreInputs : Held → Type 0
-AreInputs (held.Inputs fed) = Unit {0}
-AreInputs other = ⊥
+-- a store
+abbrev pub IsStore : Held → Type 0
+IsStore (held.Store shared) = Unit {0}
+IsStore other = ⊥
+
+-- copies of pairs
+abbrev pub AreHits : Held → Type 0
+AreHits (held.Hits hits) = Unit {0}
+AreHits other = ⊥
 
 -- the place holds a value for which P is true
 abbrev pub Holds : (Held → Type 0) → Option Held → Type 0

@@ -1,6 +1,10 @@
+pub mod Added
 pub mod Buffers
 pub mod Given
 pub mod Owning
 pub mod Holding
+pub mod Ranges
+pub mod Reports
+pub mod Resumes
 pub mod Told
 pub mod Values

@@ -38,6 +38,12 @@ abbrev pub c_fault : Fault → CFault
 c_fault (faults.Record log nth what) = record { kind = 3; what = what_number what; index = log; nth = nth }
 c_fault fault = record { kind = number_of fault; what = 0; index = index_of fault; nth = 0 }
 
+-- recovery on one thread tells the fault to C
+abbrev pub CanBeTold : Fault → Type 0
+CanBeTold (faults.Missing piece) = ⊥
+CanBeTold faults.Memory = ⊥
+CanBeTold fault = Unit {0}
+
 -- C is told the fault of these logs and parts
 pub record IsTold (logs parts : List Input) (told : CFault) : Type 0 where
   pub fault : Fault

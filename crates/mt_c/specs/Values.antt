@@ -8,6 +8,11 @@ pub record IsValue (pairs : List Pair) (key : List ℕ) (column : ℕ) (bytes : 
   pub has_key : Contains pairs (key, columns)
   pub has_column : Contains columns (column, bytes)
 
+-- a pair has this key
+pub record HasKey (pairs : List Pair) (key : List ℕ) : Type 0 where
+  pub columns : List (ℕ × List ℕ)
+  pub has_key : Contains pairs (key, columns)
+
 -- no pair has this key
 abbrev pub IsNoKey : List Pair → List ℕ → Type 0
 IsNoKey pairs key = (columns : List (ℕ × List ℕ)) → Contains pairs (key, columns) → ⊥

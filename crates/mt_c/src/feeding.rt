@@ -8,7 +8,7 @@ ghost use Rattle.mt_c.specs.declared.status.TheConstants.{DONE, WRONG};
 use crate::feeds::{FedLog, FedPart};
 use crate::held::Held;
 use crate::place::Place;
-use crate::status::{DONE, MEMORY, WRONG};
+use crate::status::{DONE, WRONG};
 use std::alloc::Global;
 
 /// Puts a log of no bytes so far into the empty place. `WRONG`: the place is not empty.
@@ -18,7 +18,7 @@ pub extern "C" fn mtr_feed_log(alloc: Global, place: &mut Place) -> u32
     ensures kept { result ≢ DONE → place.new.handle.value ≡ place.old.handle.value }
     ensures accepted { place.old.handle.value ≡ None → result ≢ WRONG }
 {
-    begin(alloc, place, Held::Log(FedLog::new(alloc)))
+    place.begin(alloc, Held::Log(Some(FedLog::new(alloc))))
 }
 
 /// Puts a part of no bytes so far into the empty place. `WRONG`: the place is not empty.
@@ -28,7 +28,7 @@ pub extern "C" fn mtr_feed_part(alloc: Global, place: &mut Place) -> u32
     ensures kept { result ≢ DONE → place.new.handle.value ≡ place.old.handle.value }
     ensures accepted { place.old.handle.value ≡ None → result ≢ WRONG }
 {
-    begin(alloc, place, Held::Part(FedPart::new(alloc)))
+    place.begin(alloc, Held::Part(Some(FedPart::new(alloc))))
 }
 
 /// Feeds the next chunk to the log or part in the place. `FAULT`: the bytes so far have a fault, which more bytes do not
@@ -75,24 +75,6 @@ pub extern "C" fn mtr_free(alloc: Global, place: &mut Place)
     let _held = place.take(alloc);
 }
 
-/// Puts the value into the empty place. `WRONG`: the place is not empty.
-fn begin(alloc: Global, place: &mut Place, held: Held) -> u32
-    ensures done { result ≡ DONE → place.new.handle.value ≡ Some held }
-    ensures kept { result ≢ DONE → place.new.handle.value ≡ place.old.handle.value }
-    ensures accepted { place.old.handle.value ≡ None → result ≢ WRONG }
-{
-    if place.is_full() {
-        return WRONG;
-    }
-    match Box::new(alloc, held) {
-        Ok(held) => {
-            place.put(held);
-            DONE
-        }
-        Err(_) => MEMORY,
-    }
-}
-
 /// Does what `mtr_feed` does, with what the place holds.
 fn feed(held: &mut Held, chunk: &[u8]) -> u32
     ensures log { (bytes : List ℕ) → HoldsLog (Some bytes) (Some held.old) → HoldsLog (Some (bytes ++ chunk.now)) (Some held.new) }
@@ -103,8 +85,8 @@ fn feed(held: &mut Held, chunk: &[u8]) -> u32
     ensures accepted { IsFeed held.old → result ≢ WRONG }
 {
     match held {
-        Held::Log(log) => log.feed(chunk),
-        Held::Part(part) => part.feed(chunk),
+        Held::Log(Some(log)) => log.feed(chunk),
+        Held::Part(Some(part)) => part.feed(chunk),
         _ => WRONG,
     }
 }
@@ -117,8 +99,8 @@ fn fail(held: &mut Held) -> u32
     ensures accepted { IsFeed held.old → result ≡ DONE }
 {
     match held {
-        Held::Log(_) => *held = Held::FailedLog,
-        Held::Part(_) => *held = Held::FailedPart,
+        Held::Log(Some(_)) => *held = Held::Log(None),
+        Held::Part(Some(_)) => *held = Held::Part(None),
         _ => return WRONG,
     }
     DONE

@@ -1,9 +1,9 @@
-//! The library for servers in C and C++: recovery from logs and parts of checkpoints that the server reads and feeds, and
-//! headers, records, entries and footers, written to buffers of the server.
+//! The library for servers in C and C++: recovery from logs and parts of checkpoints that the server reads and feeds, the
+//! store's report and keys, what replaces a log, and headers, records, entries and footers, written to buffers of the server.
 //!
-//! Each function that C calls, but `mtr_free`, answers a status (`status.rt`). None keeps state, prints, waits or ends the
-//! program. A value that outlives a call is in a `Place` of the server, as a boxed `Held`. Contracts see what a place
-//! holds.
+//! Each function that C calls, but `mtr_free` and `mtr_version`, answers a status (`status.rt`). None keeps state, prints,
+//! waits or ends the program. A value that outlives a call is in a `Place` of the server, as a boxed `Held`. Contracts see
+//! what a place holds.
 //!
 //! Begin with `recovering.rt`, and with `specs/Holding.antt`, which says what a place holds; for encoders with
 //! `records.rt`, and with `specs/Buffers.antt`, which says what is written to a buffer.
@@ -17,9 +17,14 @@ mod feeding;
 mod feeds;
 mod headers;
 mod held;
+mod inputs;
 mod parts;
 mod place;
 mod querying;
+mod ranging;
 mod records;
 mod recovering;
+mod reporting;
+mod resuming;
 mod status;
+mod telling;

@@ -1,11 +1,13 @@
 //! Places, in which C keeps what it holds of this library.
-ghost use Rattle.std.specs.Prelude.{◌≡◌, ◌↔◌, Option, None, Some, IsSome, IsTrue, MatchOption};
+ghost use Rattle.std.specs.Prelude.{◌≡◌, ◌≢◌, ◌↔◌, Option, None, Some, IsSome, IsTrue, MatchOption};
 ghost use Rattle.std.specs.Coded.{coded_option};
 ghost use Rattle.mt_c.specs.declared.held.Held.{Held};
 ghost use Rattle.mt_c.specs.contracts.held.Held.{the_row};
+ghost use Rattle.mt_c.specs.declared.status.TheConstants.{DONE, WRONG};
 
 use crate::bare::Bare;
 use crate::held::Held;
+use crate::status::{DONE, MEMORY, WRONG};
 use std::alloc::Global;
 use std::marker::Model;
 use std::{mem, ptr};
@@ -62,6 +64,12 @@ impl Handle {
     }
 }
 
+/// Any thread may be given a handle, as the box that it has may.
+unsafe impl Send for Handle {}
+
+/// Does nothing: any thread may be given a value of this type.
+fn expect_send<T: Send>(_value: &T) {}
+
 /// A place of C. All zero bytes are an empty place. C moves it and never copies it, and gives it to one call at a time.
 #[repr(C)]
 pub struct Place {
@@ -71,13 +79,6 @@ pub struct Place {
 }
 
 impl Place {
-    /// Returns whether the place holds a value.
-    pub fn is_full(&self) -> bool
-        ensures { IsTrue result ↔ IsSome self.now.handle.value }
-    {
-        self.full
-    }
-
     /// Takes out what the place holds, and leaves it empty.
     pub fn take(&mut self, alloc: Global) -> Option<Box<Held>>
         ensures taken { MatchOption result (self.old.handle.value ≡ None) (λ held. self.old.handle.value ≡ Some held.value) }
@@ -105,7 +106,26 @@ impl Place {
             handle: Handle::of(Bare::of(held)),
             full: true,
         };
+        expect_send(&full);
         let Place { handle, full: _ } = mem::replace(self, full);
         handle.end();
+    }
+
+    /// Boxes the value and puts it into the place. `WRONG`: the place is not empty.
+    pub fn begin(&mut self, alloc: Global, held: Held) -> u32
+        ensures done { result ≡ DONE → self.new.handle.value ≡ Some held }
+        ensures kept { result ≢ DONE → self.new.handle.value ≡ self.old.handle.value }
+        ensures accepted { self.old.handle.value ≡ None → result ≢ WRONG }
+    {
+        if self.full {
+            return WRONG;
+        }
+        match Box::new(alloc, held) {
+            Ok(held) => {
+                self.put(held);
+                DONE
+            }
+            Err(_) => MEMORY,
+        }
     }
 }

@@ -1,17 +1,18 @@
 //! Queries of a store.
-ghost use Rattle.std.specs.Prelude.{◌≡◌, ◌≢◌, List, ℕ, Some, MatchOption};
+ghost use Rattle.std.specs.Prelude.{◌≡◌, ◌≢◌, List, ℕ, None, Some, Err, IfOk, IfErr, MatchOption};
 ghost use Rattle.mt_recover.specs.Report.{Outcome};
 ghost use Rattle.mt_c.specs.Buffers.{Writes};
-ghost use Rattle.mt_c.specs.Holding.{HoldsOutcome};
-ghost use Rattle.mt_c.specs.Values.{IsValue, IsAbsent};
+ghost use Rattle.mt_c.specs.Holding.{HoldsOutcome, Holds, IsStore};
+ghost use Rattle.mt_c.specs.Values.{HasKey, IsNoKey, IsValue, IsAbsent};
 ghost use Rattle.mt_c.specs.declared.status.TheConstants.{DONE, MEMORY, WRONG, ABSENT, SHORT};
 
 use crate::buffer::write_bytes;
 use crate::held::Held;
 use crate::place::Place;
-use crate::status::{ABSENT, WRONG};
+use crate::status::{ABSENT, DONE, MEMORY, WRONG};
 use mt_recover::Store;
 use std::alloc::Global;
+use std::sync::Arc;
 
 /// Writes the value of this column of this key to the beginning of `out`, and its length to `count`. `ABSENT`: there is
 /// none. `WRONG`: the place does not hold a store.
@@ -38,6 +39,75 @@ pub extern "C" fn mtr_get(
     let status = get(&held, key, column, out, count);
     store.put(held);
     status
+}
+
+/// Answers whether the store has this key. `ABSENT`: it has not. `WRONG`: the place does not hold a store.
+#[unsafe(no_mangle)]
+pub extern "C" fn mtr_exists(alloc: Global, store: &mut Place, key: &[u8]) -> u32
+    ensures same { store.new.handle.value ≡ store.old.handle.value }
+    ensures done { (outcome : Outcome) → HoldsOutcome outcome store.old.handle.value → result ≡ DONE → HasKey outcome.store key.now }
+    ensures absent { (outcome : Outcome) → HoldsOutcome outcome store.old.handle.value → result ≢ DONE → IsNoKey outcome.store key.now }
+    ensures certain { (outcome : Outcome) → HoldsOutcome outcome store.old.handle.value → result ≢ DONE → result ≡ ABSENT }
+    ensures refused { (Holds IsStore store.old.handle.value → ⊥) → result ≡ WRONG }
+{
+    let Some(held) = store.take(alloc) else {
+        return WRONG;
+    };
+    let status = exists(&held, key);
+    store.put(held);
+    status
+}
+
+/// Puts the same store into the empty place `other`, for another thread. `WRONG`: `store` does not hold a store, or
+/// `other` is not empty.
+#[unsafe(no_mangle)]
+pub extern "C" fn mtr_share(alloc: Global, store: &mut Place, other: &mut Place) -> u32
+    ensures same { store.new.handle.value ≡ store.old.handle.value }
+    ensures done { (outcome : Outcome) → HoldsOutcome outcome store.old.handle.value → result ≡ DONE → HoldsOutcome outcome other.new.handle.value }
+    ensures refused { (Holds IsStore store.old.handle.value → ⊥) → result ≡ WRONG }
+    ensures kept { result ≢ DONE → other.new.handle.value ≡ other.old.handle.value }
+    ensures accepted { (outcome : Outcome) → HoldsOutcome outcome store.old.handle.value → other.old.handle.value ≡ None → result ≢ WRONG }
+{
+    let Some(held) = store.take(alloc) else {
+        return WRONG;
+    };
+    let shared = share(&held);
+    store.put(held);
+    match shared {
+        Ok(shared) => other.begin(alloc, shared),
+        Err(status) => status,
+    }
+}
+
+/// Does what `mtr_exists` does, with what the place holds.
+fn exists(held: &Held, key: &[u8]) -> u32
+    ensures done { (outcome : Outcome) → HoldsOutcome outcome (Some held.now) → result ≡ DONE → HasKey outcome.store key.now }
+    ensures absent { (outcome : Outcome) → HoldsOutcome outcome (Some held.now) → result ≢ DONE → IsNoKey outcome.store key.now }
+    ensures certain { (outcome : Outcome) → HoldsOutcome outcome (Some held.now) → result ≢ DONE → result ≡ ABSENT }
+    ensures refused { (IsStore held.now → ⊥) → result ≡ WRONG }
+{
+    let Held::Store(shared) = held else {
+        return WRONG;
+    };
+    match shared.store().get(key) {
+        Some(_) => DONE,
+        None => ABSENT,
+    }
+}
+
+/// Returns one more owner of the store. Err: the status `WRONG` if there is no store, or `MEMORY`.
+fn share(held: &Held) -> Result<Held, u32>
+    ensures done { (outcome : Outcome) → HoldsOutcome outcome (Some held.now) → IfOk result (λ shared. HoldsOutcome outcome (Some shared)) }
+    ensures refused { (IsStore held.now → ⊥) → result ≡ Err WRONG }
+    ensures accepted { (outcome : Outcome) → HoldsOutcome outcome (Some held.now) → IfErr result (λ status. status ≡ MEMORY) }
+{
+    let Held::Store(shared) = held else {
+        return Err(WRONG);
+    };
+    match Arc::try_clone(shared) {
+        Ok(shared) => Ok(Held::Store(shared)),
+        Err(_) => Err(MEMORY),
+    }
 }
 
 /// Does what `mtr_get` does, with what the place holds.

@@ -1,54 +1,41 @@
 //! Recovery from logs and checkpoint parts that were fed.
 ghost use Rattle.std.specs.Prelude.{◌≡◌, ◌≢◌, ◌⊎◌, ◌++◌, [], ◌∷◌, List, None, Some, IfOk, IfSome, OnOk, OnErr, IsNone};
 ghost use Rattle.mt_words.specs.declared.fault.Fault.TheVariants as faults;
-ghost use Rattle.mt_recover.specs.Fed.{AreFed, Input};
-ghost use Rattle.mt_c.specs.Holding.{HoldsLog, HoldsPart, HoldsInputs, HoldsStoreOf, Holds, IsInput, AreInputs};
+ghost use Rattle.mt_recover.specs.Fed.{Input};
+ghost use Rattle.mt_c.specs.Holding.{HoldsLog, HoldsPart, HoldsInputs, HoldsOutcome, HoldsStoreOf, Holds, IsInput};
+ghost use Rattle.mt_c.specs.Added.{AreAdded};
 ghost use Rattle.mt_c.specs.Told.{IsTold, c_fault};
 ghost use Rattle.mt_c.specs.declared.status.TheConstants.{DONE, MEMORY, WRONG, FAULT};
 
 use crate::fault::CFault;
 use crate::held::Held;
+use crate::inputs::Inputs;
 use crate::place::Place;
 use crate::status::{DONE, FAULT, MEMORY, WRONG};
-use mt_recover::Fed;
+use mt_recover::Recovered;
 use mt_words::{Fault, Memory};
 use std::alloc::Global;
+use std::sync::Arc;
 
 /// Appends the log or part in `input` to the logs and parts in `inputs`, which may be empty, and leaves `input` empty.
-/// `MEMORY`: nothing is appended, but `input` is empty, and its bytes must be fed again. `WRONG`: both places are as
-/// before.
+/// `WRONG`: one of them does not hold this.
 #[unsafe(no_mangle)]
 pub extern "C" fn mtr_add(alloc: Global, inputs: &mut Place, input: &mut Place) -> u32
     ensures log { (logs parts : List Input) (log : Input) → HoldsInputs logs parts inputs.old.handle.value → HoldsLog log input.old.handle.value → result ≡ DONE →
         HoldsInputs (logs ++ log ∷ []) parts inputs.new.handle.value }
     ensures part { (logs parts : List Input) (part : Input) → HoldsInputs logs parts inputs.old.handle.value → HoldsPart part input.old.handle.value → result ≡ DONE →
         HoldsInputs logs (parts ++ part ∷ []) inputs.new.handle.value }
-    ensures memory { (logs parts : List Input) → HoldsInputs logs parts inputs.old.handle.value → result ≡ MEMORY → HoldsInputs logs parts inputs.new.handle.value }
-    ensures empty { result ≢ WRONG → input.new.handle.value ≡ None }
-    ensures kept { result ≡ WRONG → (inputs.new.handle.value ≡ inputs.old.handle.value) × (input.new.handle.value ≡ input.old.handle.value) }
+    ensures empty { result ≡ DONE → input.new.handle.value ≡ None }
+    ensures kept { result ≢ DONE → (inputs.new.handle.value ≡ inputs.old.handle.value) × (input.new.handle.value ≡ input.old.handle.value) }
     ensures accepted { (logs parts : List Input) → HoldsInputs logs parts inputs.old.handle.value → Holds IsInput input.old.handle.value → result ≢ WRONG }
 {
-    let Some(fed) = input.take(alloc) else {
+    let Some(mut held) = input.take(alloc) else {
         return WRONG;
     };
-    if !fed.is_input() {
-        input.put(fed);
-        return WRONG;
+    let status = add(alloc, inputs, &mut held);
+    if status != DONE {
+        input.put(held);
     }
-    let mut held = match inputs.take(alloc) {
-        Some(held) => held,
-        None => match no_inputs(alloc) {
-            Ok(held) => held,
-            Err(_) => return MEMORY,
-        },
-    };
-    if !held.is_inputs() {
-        inputs.put(held);
-        input.put(fed);
-        return WRONG;
-    }
-    let status = append(&mut held, Box::into_inner(fed));
-    inputs.put(held);
     status
 }
 
@@ -65,11 +52,14 @@ pub extern "C" fn mtr_recover(alloc: Global, inputs: &mut Place, fault: &mut CFa
     ensures kept { result ≡ WRONG → inputs.new.handle.value ≡ inputs.old.handle.value }
     ensures accepted { (logs parts : List Input) → HoldsInputs logs parts inputs.old.handle.value → result ≢ WRONG }
 {
-    let Some(fed) = take_inputs(alloc, inputs) else {
+    let Some(added) = take_inputs(alloc, inputs) else {
         return WRONG;
     };
+    let Ok(fed) = added.finish(alloc) else {
+        return MEMORY;
+    };
     match fed.recover(alloc) {
-        Ok(recovered) => match Box::new(alloc, Held::Store(recovered)) {
+        Ok(recovered) => match store_of(alloc, recovered) {
             Ok(held) => {
                 inputs.put(held);
                 DONE
@@ -78,6 +68,14 @@ pub extern "C" fn mtr_recover(alloc: Global, inputs: &mut Place, fault: &mut CFa
         },
         Err(found) => tell(found, fault),
     }
+}
+
+/// Boxes a store that places can share.
+fn store_of(alloc: Global, recovered: Recovered) -> Result<Box<Held>, Memory>
+    ensures { IfOk result (λ held. HoldsOutcome recovered (Some held.value)) }
+{
+    let shared = Arc::new(alloc, recovered)?;
+    Ok(Box::new(alloc, Held::Store(shared))?)
 }
 
 /// Tells the fault, unless it is out of memory.
@@ -95,66 +93,78 @@ fn tell(found: Fault, fault: &mut CFault) -> u32
     }
 }
 
-/// Boxes inputs without a log or part.
-fn no_inputs(alloc: Global) -> Result<Box<Held>, Memory>
-    ensures { IfOk result (λ held. HoldsInputs [] [] (Some held.value)) }
+/// Appends the log or part to those in the place, and leaves what is of no use. Not `DONE`: both are as before.
+fn add(alloc: Global, inputs: &mut Place, input: &mut Held) -> u32
+    ensures log { (logs parts : List Input) (log : Input) → HoldsInputs logs parts inputs.old.handle.value → HoldsLog log (Some input.old) → result ≡ DONE →
+        HoldsInputs (logs ++ log ∷ []) parts inputs.new.handle.value }
+    ensures part { (logs parts : List Input) (part : Input) → HoldsInputs logs parts inputs.old.handle.value → HoldsPart part (Some input.old) → result ≡ DONE →
+        HoldsInputs logs (parts ++ part ∷ []) inputs.new.handle.value }
+    ensures kept { result ≢ DONE → (inputs.new.handle.value ≡ inputs.old.handle.value) × (input.new ≡ input.old) }
+    ensures accepted { (logs parts : List Input) → HoldsInputs logs parts inputs.old.handle.value → IsInput input.old → result ≢ WRONG }
 {
-    Ok(Box::new(alloc, Held::Inputs(Fed::new(alloc)))?)
+    if let Some(mut held) = inputs.take(alloc) {
+        let status = append(&mut held, input);
+        inputs.put(held);
+        return status;
+    }
+    let Ok(mut held) = Box::new(alloc, Held::Inputs(Inputs::new(alloc))) else {
+        return MEMORY;
+    };
+    let status = append(&mut held, input);
+    if status == DONE {
+        inputs.put(held);
+    }
+    status
 }
 
-/// Appends the log or part to the inputs.
-fn append(held: &mut Held, input: Held) -> u32
-    requires inputs { AreInputs held.old }
-    requires input { IsInput input }
-    ensures log { (logs parts : List Input) (log : Input) → HoldsInputs logs parts (Some held.old) → HoldsLog log (Some input) → result ≡ DONE →
+/// Does what `add` does, with what the place holds.
+fn append(held: &mut Held, input: &mut Held) -> u32
+    ensures log { (logs parts : List Input) (log : Input) → HoldsInputs logs parts (Some held.old) → HoldsLog log (Some input.old) → result ≡ DONE →
         HoldsInputs (logs ++ log ∷ []) parts (Some held.new) }
-    ensures part { (logs parts : List Input) (part : Input) → HoldsInputs logs parts (Some held.old) → HoldsPart part (Some input) → result ≡ DONE →
+    ensures part { (logs parts : List Input) (part : Input) → HoldsInputs logs parts (Some held.old) → HoldsPart part (Some input.old) → result ≡ DONE →
         HoldsInputs logs (parts ++ part ∷ []) (Some held.new) }
-    ensures memory { result ≡ MEMORY → held.new ≡ held.old }
-    ensures accepted { result ≢ WRONG }
+    ensures kept { result ≢ DONE → (held.new ≡ held.old) × (input.new ≡ input.old) }
+    ensures accepted { (logs parts : List Input) → HoldsInputs logs parts (Some held.old) → IsInput input.old → result ≢ WRONG }
 {
     let Held::Inputs(inputs) = held else {
         return WRONG;
     };
-    match add(inputs, input) {
-        Ok(()) => DONE,
-        Err(_) => MEMORY,
-    }
-}
-
-/// Appends the log or part to the inputs. Err: out of memory; then nothing is appended.
-fn add(inputs: &mut Fed, input: Held) -> Result<(), Memory>
-    requires { IsInput input }
-    ensures log { (logs parts : List Input) (log : Input) → AreFed logs parts inputs.old → HoldsLog log (Some input) → OnOk result (AreFed (logs ++ log ∷ []) parts inputs.new) }
-    ensures part { (logs parts : List Input) (part : Input) → AreFed logs parts inputs.old → HoldsPart part (Some input) → OnOk result (AreFed logs (parts ++ part ∷ []) inputs.new) }
-    ensures memory { OnErr result (inputs.new ≡ inputs.old) }
-{
     match input {
-        Held::Log(log) => log.add_to(inputs),
-        Held::FailedLog => inputs.fail_log(),
-        Held::Part(part) => part.add_to(inputs),
-        Held::FailedPart => inputs.fail_part(),
-        Held::Inputs(_) | Held::Store(_) => Err(Memory),
+        Held::Log(log) => match inputs.add_log(log.take()) {
+            Ok(()) => DONE,
+            Err(back) => {
+                *log = back;
+                MEMORY
+            }
+        },
+        Held::Part(part) => match inputs.add_part(part.take()) {
+            Ok(()) => DONE,
+            Err(back) => {
+                *part = back;
+                MEMORY
+            }
+        },
+        _ => WRONG,
     }
 }
 
 /// Takes the inputs out of the place, and leaves it empty; an empty place has no log or part. None: the place holds
 /// something else, and is as before.
-fn take_inputs(alloc: Global, place: &mut Place) -> Option<Fed>
-    ensures taken { (logs parts : List Input) → HoldsInputs logs parts place.old.handle.value → IfSome result (AreFed logs parts) }
-    ensures empty { IfSome result (λ fed. place.new.handle.value ≡ None) }
+fn take_inputs(alloc: Global, place: &mut Place) -> Option<Inputs>
+    ensures taken { (logs parts : List Input) → HoldsInputs logs parts place.old.handle.value → IfSome result (AreAdded logs parts) }
+    ensures empty { IfSome result (λ inputs. place.new.handle.value ≡ None) }
     ensures kept { IsNone result → place.new.handle.value ≡ place.old.handle.value }
     ensures accepted { (logs parts : List Input) → HoldsInputs logs parts place.old.handle.value → IsNone result → ⊥ }
 {
     let Some(held) = place.take(alloc) else {
-        return Some(Fed::new(alloc));
+        return Some(Inputs::new(alloc));
     };
-    if !held.is_inputs() {
+    if !matches!(&*held, Held::Inputs(_)) {
         place.put(held);
         return None;
     }
     match Box::into_inner(held) {
-        Held::Inputs(fed) => Some(fed),
-        _ => None,
+        Held::Inputs(inputs) => Some(inputs),
+        _ => unreachable!(),
     }
 }

@@ -1,0 +1,53 @@
+-- A handle may be given to another thread, as the box that it has may.
+use Rattle.std.proofs.Common.{Option, Some, None}
+use mir.Raw.{raw}
+use base.Shift.{Keyless}
+use denote.Memory.{lone}
+use denote.RawPtr.{Ptr}
+use denote.Param.Send.{IsSend, IsSync, owning_send, struct_send, sendable}
+use denote.Builtin.{RawPtr}
+use denote.Struct.Struct.{exits_of}
+use denote.Struct.Owning.{shape, fields, to}
+use Rattle.std_alloc.proofs.SendSync.{quiet, lies}
+use Rattle.std.proofs.Crossing.{crosses, frees}
+use Rattle.std.specs.contracts.impls.GlobalAllocator.TheImpl.{ghosts}
+use Rattle.mt_c.specs.Owning.{heap, boxed_at}
+use Rattle.mt_record.below.arrayvec.proofs.array_vec.ArrayVec.TheSendSync as array_vec
+use Rattle.mt_tree.proofs.place.Place.TheSendSync as place
+use Rattle.mt_tree.proofs.node.Node.TheLaws.TheKnot as node
+use Rattle.mt_tree.specs.contracts.hit.Hit as hit
+use Rattle.mt_recover.specs.contracts.recovery.Recovered as recovered
+use Rattle.mt_c.specs.contracts.feeds.FedLog as log
+use Rattle.mt_c.specs.contracts.feeds.FedPart as part
+use Rattle.mt_c.specs.contracts.inputs.Inputs as inputs
+use Rattle.mt_c.specs.contracts.held.Held as held
+use Rattle.mt_c.specs.contracts.place.Handle.{the_row, the_type}
+
+log_send : IsSend log.the_row
+log_send = search (sendable, crosses) depth 40 fits 20000
+
+part_send : IsSend part.the_row
+part_send = search (sendable, crosses) depth 40 fits 20000
+
+inputs_send : IsSend inputs.the_row
+inputs_send = search (sendable, crosses, log_send, part_send) depth 20 fits 20000
+
+recovered_send : IsSend recovered.the_row
+recovered_send = search (sendable, crosses, array_vec.the_send, place.the_send, node.send-Node) depth 40 fits 20000
+
+recovered_sync : IsSync recovered.the_row
+recovered_sync = search (sendable, crosses, array_vec.the_sync, place.the_sync, node.sync-Node) depth 40 fits 20000
+
+hit_send : IsSend hit.the_row
+hit_send = search (sendable, crosses) depth 40 fits 20000
+
+held_send : IsSend held.the_row
+held_send = search (sendable, crosses, log_send, part_send, inputs_send, recovered_send, recovered_sync, hit_send) depth 20 fits 20000
+
+boxed : (p : Ptr) (value : Option (held.the_row).Denot) → Keyless (boxed_at (ghosts.dealloc_token heap) held.the_row p value)
+boxed p None = tt
+boxed p (Some x) = (lies held.the_row held_send p x, frees.frees heap (raw (lone (held.the_row).mir)) p)
+
+pub send : IsSend the_row
+send = let O = the_type in let pointer : IsSend RawPtr = search sendable in
+    owning_send O (pointer, tt) (λ h. boxed h.at h.value) (λ k. quiet (to O) (exits_of k (fields O)) ((struct_send (shape O) (pointer, tt)).leaving k))

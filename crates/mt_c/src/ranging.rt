@@ -1,0 +1,168 @@
+//! Ranges of a store.
+ghost use Rattle.std.specs.Prelude.{◌≡◌, ◌≢◌, List, None, Some, Err, IfOk, IfErr, map, slice_get};
+ghost use Rattle.mt_words.specs.Walks.{Pair};
+ghost use Rattle.mt_tree.specs.Range.{range};
+ghost use Rattle.mt_recover.specs.Report.{Outcome};
+ghost use Rattle.mt_c.specs.Holding.{HoldsOutcome, HoldsPairs, pair_of, Holds, IsStore, AreHits};
+ghost use Rattle.mt_c.specs.Ranges.{IsPairAt, IsColumnAt, column_at};
+ghost use Rattle.mt_c.specs.declared.status.TheConstants.{DONE, MEMORY, WRONG, ABSENT, SHORT};
+
+use crate::buffer::write_bytes;
+use crate::held::Held;
+use crate::place::Place;
+use crate::status::{ABSENT, MEMORY, WRONG};
+use mt_recover::{Hit, Store, Wanted};
+use mt_words::Memory;
+use std::alloc::Global;
+
+/// Copies the first `n` pairs of the store whose keys are at or after `start`, in order, into the empty place `hits`.
+/// `WRONG`: `store` does not hold a store, or `hits` is not empty.
+#[unsafe(no_mangle)]
+pub extern "C" fn mtr_range(
+    alloc: Global,
+    store: &mut Place,
+    start: &[u8],
+    n: usize,
+    hits: &mut Place,
+) -> u32
+    ensures same { store.new.handle.value ≡ store.old.handle.value }
+    ensures done { (outcome : Outcome) → HoldsOutcome outcome store.old.handle.value → result ≡ DONE → HoldsPairs (range outcome.store start.now n) hits.new.handle.value }
+    ensures refused { (Holds IsStore store.old.handle.value → ⊥) → result ≡ WRONG }
+    ensures kept { result ≢ DONE → hits.new.handle.value ≡ hits.old.handle.value }
+    ensures accepted { (outcome : Outcome) → HoldsOutcome outcome store.old.handle.value → hits.old.handle.value ≡ None → result ≢ WRONG }
+{
+    let Some(held) = store.take(alloc) else {
+        return WRONG;
+    };
+    let found = hits_in(&held, start, n);
+    store.put(held);
+    match found {
+        Ok(found) => hits.begin(alloc, found),
+        Err(status) => status,
+    }
+}
+
+/// Writes the key of the pair at position `i` of the hits to the beginning of `out`, and its length to `count`, and tells
+/// the number of its columns. `ABSENT`: there are not so many hits. `WRONG`: the place does not hold hits.
+#[unsafe(no_mangle)]
+pub extern "C" fn mtr_hit(
+    alloc: Global,
+    hits: &mut Place,
+    i: usize,
+    columns: &mut usize,
+    out: &mut [u8],
+    count: &mut usize,
+) -> u32
+    ensures same { hits.new.handle.value ≡ hits.old.handle.value }
+    ensures written { (pairs : List Pair) → HoldsPairs pairs hits.old.handle.value → result ≢ ABSENT → IsPairAt (slice_get pairs i) columns.new out.old out.new count.new result }
+    ensures absent { (pairs : List Pair) → HoldsPairs pairs hits.old.handle.value → result ≡ ABSENT → slice_get pairs i ≡ None }
+    ensures refused { (Holds AreHits hits.old.handle.value → ⊥) → result ≡ WRONG }
+    ensures kept { result ≢ DONE → out.new ≡ out.old }
+    ensures untold { result ≢ DONE → result ≢ SHORT → columns.new ≡ columns.old }
+{
+    let Some(held) = hits.take(alloc) else {
+        return WRONG;
+    };
+    let status = write_key(&held, i, columns, out, count);
+    hits.put(held);
+    status
+}
+
+/// Writes the value of the column at position `nth` of the pair at position `i` of the hits to the beginning of `out`, and
+/// its length to `count`, and tells its number. `ABSENT`: there are not so many hits or columns. `WRONG`: the place does
+/// not hold hits.
+#[unsafe(no_mangle)]
+pub extern "C" fn mtr_hit_column(
+    alloc: Global,
+    hits: &mut Place,
+    i: usize,
+    nth: usize,
+    number: &mut u8,
+    out: &mut [u8],
+    count: &mut usize,
+) -> u32
+    ensures same { hits.new.handle.value ≡ hits.old.handle.value }
+    ensures written { (pairs : List Pair) → HoldsPairs pairs hits.old.handle.value → result ≢ ABSENT → IsColumnAt (column_at pairs i nth) number.new out.old out.new count.new result }
+    ensures absent { (pairs : List Pair) → HoldsPairs pairs hits.old.handle.value → result ≡ ABSENT → column_at pairs i nth ≡ None }
+    ensures refused { (Holds AreHits hits.old.handle.value → ⊥) → result ≡ WRONG }
+    ensures kept { result ≢ DONE → out.new ≡ out.old }
+    ensures untold { result ≢ DONE → result ≢ SHORT → number.new ≡ number.old }
+{
+    let Some(held) = hits.take(alloc) else {
+        return WRONG;
+    };
+    let status = write_column(&held, i, nth, number, out, count);
+    hits.put(held);
+    status
+}
+
+/// Copies the first `n` pairs of the store whose keys are at or after `start`. Err: the status `WRONG` if there is no store,
+/// or `MEMORY`.
+fn hits_in(held: &Held, start: &[u8], n: usize) -> Result<Held, u32>
+    ensures done { (outcome : Outcome) → HoldsOutcome outcome (Some held.now) → IfOk result (λ hits. HoldsPairs (range outcome.store start.now n) (Some hits)) }
+    ensures refused { (IsStore held.now → ⊥) → result ≡ Err WRONG }
+    ensures accepted { (outcome : Outcome) → HoldsOutcome outcome (Some held.now) → IfErr result (λ status. status ≡ MEMORY) }
+{
+    let Held::Store(shared) = held else {
+        return Err(WRONG);
+    };
+    match range_in(shared.store(), start, n) {
+        Ok(hits) => Ok(Held::Hits(hits)),
+        Err(_) => Err(MEMORY),
+    }
+}
+
+/// Does what `mtr_hit` does, with what the place holds.
+fn write_key(held: &Held, i: usize, columns: &mut usize, out: &mut [u8], count: &mut usize) -> u32
+    ensures written { (pairs : List Pair) → HoldsPairs pairs (Some held.now) → result ≢ ABSENT → IsPairAt (slice_get pairs i) columns.new out.old out.new count.new result }
+    ensures absent { (pairs : List Pair) → HoldsPairs pairs (Some held.now) → result ≡ ABSENT → slice_get pairs i ≡ None }
+    ensures refused { (AreHits held.now → ⊥) → result ≡ WRONG }
+    ensures kept { result ≢ DONE → out.new ≡ out.old }
+    ensures untold { result ≢ DONE → result ≢ SHORT → columns.new ≡ columns.old }
+{
+    let Held::Hits(hits) = held else {
+        return WRONG;
+    };
+    let Some(hit) = hits.get(i) else {
+        return ABSENT;
+    };
+    *columns = hit.columns.len();
+    write_bytes(hit.key.as_bytes(), out, count)
+}
+
+/// Does what `mtr_hit_column` does, with what the place holds.
+fn write_column(
+    held: &Held,
+    i: usize,
+    nth: usize,
+    number: &mut u8,
+    out: &mut [u8],
+    count: &mut usize,
+) -> u32
+    ensures written { (pairs : List Pair) → HoldsPairs pairs (Some held.now) → result ≢ ABSENT → IsColumnAt (column_at pairs i nth) number.new out.old out.new count.new result }
+    ensures absent { (pairs : List Pair) → HoldsPairs pairs (Some held.now) → result ≡ ABSENT → column_at pairs i nth ≡ None }
+    ensures refused { (AreHits held.now → ⊥) → result ≡ WRONG }
+    ensures kept { result ≢ DONE → out.new ≡ out.old }
+    ensures untold { result ≢ DONE → result ≢ SHORT → number.new ≡ number.old }
+{
+    let Held::Hits(hits) = held else {
+        return WRONG;
+    };
+    let Some(hit) = hits.get(i) else {
+        return ABSENT;
+    };
+    let Some(column) = hit.columns.as_slice().get(nth) else {
+        return ABSENT;
+    };
+    *number = column.number;
+    write_bytes(&column.bytes, out, count)
+}
+
+/// Copies the first `n` pairs of the store whose keys are at or after `start`, with all their columns. Err: out of memory.
+fn range_in(store: &Store, start: &[u8], n: usize) -> Result<Vec<Hit>, Memory>
+    ensures { IfOk result (λ hits. map pair_of hits.items ≡ range store.now start.now n) }
+{
+    // Its contract says that the pairs are lawful.
+    let _ = store.tree();
+    store.getrange(start, n, Wanted::all())
+}

@@ -1,0 +1,67 @@
+//! The words for a fault, and the versions of the library.
+ghost use Rattle.std.specs.Prelude.{◌≡◌, ◌≢◌, List, ℕ};
+ghost use Rattle.mt_words.specs.declared.fault.Fault.{Fault};
+ghost use Rattle.mt_c.specs.Told.{c_fault, CanBeTold};
+ghost use Rattle.mt_c.specs.Buffers.{Writes};
+ghost use Rattle.mt_c.specs.declared.status.TheConstants.{DONE, MEMORY, WRONG};
+
+use crate::buffer::write_bytes;
+use crate::fault::CFault;
+use crate::status::{MEMORY, WRONG};
+use std::alloc::Global;
+
+/// The version of the library.
+const LIBRARY: u32 = 1;
+
+/// The greatest format of logs.
+const LOG_FORMAT: u32 = 3;
+
+/// The greatest format of parts.
+const PART_FORMAT: u32 = 2;
+
+/// The versions of the library as C sees them.
+#[repr(C)]
+#[derive(Clone, Copy)]
+pub struct Versions {
+    /// The version of the library.
+    pub library: u32,
+    /// The greatest format of logs that it knows.
+    pub log_format: u32,
+    /// The greatest format of parts that it knows.
+    pub part_format: u32,
+}
+
+/// Tells the versions of the library.
+#[unsafe(no_mangle)]
+pub extern "C" fn mtr_version(versions: &mut Versions)
+    ensures { versions.new ≡ record { library = 1; log_format = 3; part_format = 2 } }
+{
+    *versions = Versions {
+        library: LIBRARY,
+        log_format: LOG_FORMAT,
+        part_format: PART_FORMAT,
+    };
+}
+
+/// Writes the words for the fault to the beginning of `out`, and their length to `count`. `WRONG`: recovery tells no such
+/// fault.
+#[unsafe(no_mangle)]
+pub extern "C" fn mtr_fault_text(
+    alloc: Global,
+    fault: &CFault,
+    out: &mut [u8],
+    count: &mut usize,
+) -> u32
+    ensures written { result ≢ MEMORY → result ≢ WRONG → (words : List ℕ) × Writes words out.old out.new count.new result }
+    ensures refused { result ≡ WRONG → (found : Fault) → CanBeTold found → fault.now ≢ c_fault found }
+    ensures kept { result ≢ DONE → out.new ≡ out.old }
+    ensures accepted { ((found : Fault) → CanBeTold found → fault.now ≢ c_fault found) → result ≡ WRONG }
+{
+    let Some(found) = fault.found() else {
+        return WRONG;
+    };
+    match format!(in alloc; "{found}") {
+        Ok(words) => write_bytes(words.as_bytes(), out, count),
+        Err(_) => MEMORY,
+    }
+}
