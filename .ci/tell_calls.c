@@ -49,6 +49,9 @@ int open(const char *path, int flags, ...)
     return opened(NEXT(int (*)(const char *, int, ...), "open")(path, flags, mode), path, flags);
 }
 
+/* The name by which programs in Rust call it. */
+int open64(const char *path, int flags, ...) __attribute__((alias("open")));
+
 int openat(int folder, const char *path, int flags, ...)
 {
     va_list args;

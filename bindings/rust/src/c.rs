@@ -1,0 +1,235 @@
+//! `library/mtrecover.h`, as it is.
+
+use core::cell::UnsafeCell;
+use core::ffi::c_void;
+use core::marker::PhantomData;
+use core::ptr;
+
+pub const DONE: u32 = 0;
+pub const MEMORY: u32 = 1;
+pub const WRONG: u32 = 2;
+pub const SHORT: u32 = 4;
+pub const FAULT: u32 = 5;
+
+/// What `mtr_place` is in C.
+#[derive(Debug)]
+#[repr(C)]
+pub struct RawPlace {
+    at: *mut c_void,
+    full: bool,
+}
+
+/// A place, which its owner frees. Calls change it behind a shared reference, one at a time: it is not `Sync`.
+#[derive(Debug)]
+pub struct Place(UnsafeCell<RawPlace>);
+
+impl Place {
+    pub const fn empty() -> Place {
+        Place(UnsafeCell::new(RawPlace { at: ptr::null_mut(), full: false }))
+    }
+
+    pub fn raw(&self) -> *mut RawPlace {
+        self.0.get()
+    }
+}
+
+impl Drop for Place {
+    fn drop(&mut self) {
+        // SAFETY: a place may be freed whatever it holds.
+        unsafe { mtr_free(self.raw()) }
+    }
+}
+
+// SAFETY: any thread may call the library, and a place keeps nothing that belongs to a thread.
+unsafe impl Send for Place {}
+
+#[repr(C)]
+#[derive(Clone, Copy, Default)]
+pub struct RawFault {
+    pub kind: u32,
+    pub what: u32,
+    pub index: u64,
+    pub record: u64,
+}
+
+#[repr(C)]
+#[derive(Clone, Copy, Default)]
+pub struct RawReport {
+    pub cutoff: u64,
+    pub last: u64,
+    pub version: u64,
+    pub checkpoint: u64,
+    pub begin: u64,
+    pub entries: u64,
+    pub logs: u64,
+    pub writers: u64,
+    pub records: u64,
+    pub marks: u64,
+    pub torn: u64,
+    pub holes: u64,
+    pub skipped: u64,
+    pub nameless: u64,
+    pub early: u64,
+    pub late: u64,
+    pub survivors: u64,
+    pub keys: u64,
+    pub layers: u64,
+}
+
+#[repr(C)]
+#[derive(Clone, Copy, Default)]
+pub struct RawResumed {
+    pub dropped: u64,
+    pub changed: bool,
+}
+
+#[repr(C)]
+#[derive(Clone, Copy, Default)]
+pub struct RawVersions {
+    pub library: u32,
+    pub log_format: u32,
+    pub part_format: u32,
+}
+
+/// A column to be written: its number, at most 63, and its value.
+#[repr(C)]
+#[derive(Clone, Copy, Debug)]
+pub struct Column<'a> {
+    number: u8,
+    at: *const u8,
+    length: usize,
+    value: PhantomData<&'a [u8]>,
+}
+
+impl<'a> Column<'a> {
+    /// The column of this number and value.
+    pub fn new(number: u8, value: &'a [u8]) -> Column<'a> {
+        Column { number, at: value.as_ptr(), length: value.len(), value: PhantomData }
+    }
+}
+
+extern "C" {
+    pub fn mtr_feed_log(feed: *mut RawPlace) -> u32;
+    pub fn mtr_feed_part(feed: *mut RawPlace) -> u32;
+    pub fn mtr_feed(feed: *mut RawPlace, chunk: *const u8, length: usize) -> u32;
+    pub fn mtr_feed_failed(feed: *mut RawPlace) -> u32;
+    pub fn mtr_add(inputs: *mut RawPlace, feed: *mut RawPlace) -> u32;
+    pub fn mtr_recover(inputs: *mut RawPlace, fault: *mut RawFault) -> u32;
+    pub fn mtr_get_report(store: *mut RawPlace, report: *mut RawReport) -> u32;
+    pub fn mtr_report_end(store: *mut RawPlace, log: usize, end: *mut u64) -> u32;
+    pub fn mtr_report_skipped(store: *mut RawPlace, i: usize, number: *mut u64) -> u32;
+    pub fn mtr_report_nameless(store: *mut RawPlace, i: usize, part: *mut u64) -> u32;
+    pub fn mtr_resume_log(
+        log: *const u8,
+        length: usize,
+        cutoff: u64,
+        resumed: *mut RawResumed,
+        out: *mut u8,
+        room: usize,
+        count: *mut usize,
+    ) -> u32;
+    pub fn mtr_exists(store: *mut RawPlace, key: *const u8, key_length: usize) -> u32;
+    pub fn mtr_get(
+        store: *mut RawPlace,
+        key: *const u8,
+        key_length: usize,
+        column: u8,
+        out: *mut u8,
+        room: usize,
+        count: *mut usize,
+    ) -> u32;
+    pub fn mtr_range(store: *mut RawPlace, start: *const u8, start_length: usize, n: usize, hits: *mut RawPlace)
+        -> u32;
+    pub fn mtr_hit(
+        hits: *mut RawPlace,
+        i: usize,
+        columns: *mut usize,
+        out: *mut u8,
+        room: usize,
+        count: *mut usize,
+    ) -> u32;
+    pub fn mtr_hit_column(
+        hits: *mut RawPlace,
+        i: usize,
+        nth: usize,
+        number: *mut u8,
+        out: *mut u8,
+        room: usize,
+        count: *mut usize,
+    ) -> u32;
+    pub fn mtr_share(store: *mut RawPlace, other: *mut RawPlace) -> u32;
+    pub fn mtr_free(place: *mut RawPlace);
+    pub fn mtr_fault_text(fault: *const RawFault, out: *mut u8, room: usize, count: *mut usize) -> u32;
+    pub fn mtr_version(versions: *mut RawVersions);
+    pub fn mtr_log_header_1(from: u64, out: *mut u8, room: usize, count: *mut usize) -> u32;
+    pub fn mtr_log_header_2(from: u64, out: *mut u8, room: usize, count: *mut usize) -> u32;
+    pub fn mtr_segment_header(
+        from: u64,
+        worker: u32,
+        segment: u32,
+        out: *mut u8,
+        room: usize,
+        count: *mut usize,
+    ) -> u32;
+    pub fn mtr_mark(time: u64, out: *mut u8, room: usize, count: *mut usize) -> u32;
+    pub fn mtr_put(
+        time: u64,
+        version: u64,
+        key: *const u8,
+        key_length: usize,
+        columns: *const Column,
+        column_count: usize,
+        out: *mut u8,
+        room: usize,
+        count: *mut usize,
+    ) -> u32;
+    pub fn mtr_remove(
+        time: u64,
+        version: u64,
+        key: *const u8,
+        key_length: usize,
+        out: *mut u8,
+        room: usize,
+        count: *mut usize,
+    ) -> u32;
+    pub fn mtr_erase(
+        time: u64,
+        version: u64,
+        key: *const u8,
+        key_length: usize,
+        numbers: *const u8,
+        number_count: usize,
+        out: *mut u8,
+        room: usize,
+        count: *mut usize,
+    ) -> u32;
+    pub fn mtr_part_header_1(
+        number: u32,
+        begin: u64,
+        part: u16,
+        parts: u16,
+        out: *mut u8,
+        room: usize,
+        count: *mut usize,
+    ) -> u32;
+    pub fn mtr_part_header_2(
+        number: u32,
+        begin: u64,
+        part: u16,
+        parts: u16,
+        out: *mut u8,
+        room: usize,
+        count: *mut usize,
+    ) -> u32;
+    pub fn mtr_entry(
+        version: u64,
+        key: *const u8,
+        key_length: usize,
+        columns: *const Column,
+        column_count: usize,
+        out: *mut u8,
+        room: usize,
+        count: *mut usize,
+    ) -> u32;
+    pub fn mtr_part_footer(end: u64, entries: u32, out: *mut u8, room: usize, count: *mut usize) -> u32;
+}

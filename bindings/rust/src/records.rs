@@ -1,0 +1,132 @@
+//! Records, parts of checkpoints and their headers, appended to what a server writes.
+
+use alloc::vec::Vec;
+
+use crate::c::{self, RawResumed};
+use crate::inputs::done;
+use crate::{OutOfMemory, WriteError};
+
+pub use crate::c::Column;
+
+/// A format of logs without segments, and of parts.
+#[derive(Clone, Copy, Debug, PartialEq, Eq)]
+pub enum Format {
+    /// Without erases, and with smaller limits.
+    One,
+    Two,
+}
+
+/// What became of a log.
+#[derive(Clone, Copy, Debug, PartialEq, Eq)]
+pub struct Resumed {
+    /// Its updates at or past the cutoff, which are gone.
+    pub dropped: u64,
+    /// Whether the bytes are others now.
+    pub changed: bool,
+}
+
+/// Appends what a call writes: it is told where, and how many bytes there is room for. Returns its last status.
+pub(crate) fn append(out: &mut Vec<u8>, mut call: impl FnMut(*mut u8, usize, *mut usize) -> u32) -> u32 {
+    let mut count = 0;
+    loop {
+        let rest = out.spare_capacity_mut();
+        let status = call(rest.as_mut_ptr().cast(), rest.len(), &mut count);
+        match status {
+            c::SHORT => out.reserve(count),
+            c::DONE => {
+                // SAFETY: the call wrote these bytes behind the others.
+                unsafe { out.set_len(out.len() + count) };
+                return c::DONE;
+            }
+            _ => return status,
+        }
+    }
+}
+
+/// Appends likewise, and says why not.
+fn write(out: &mut Vec<u8>, call: impl FnMut(*mut u8, usize, *mut usize) -> u32) -> Result<(), WriteError> {
+    match append(out, call) {
+        c::DONE => Ok(()),
+        c::MEMORY => Err(WriteError::OutOfMemory),
+        c::WRONG => Err(WriteError::NotLawful),
+        c::FAULT => Err(WriteError::NoLog),
+        status => unreachable!("status {status}"),
+    }
+}
+
+// After `Err` each of these functions leaves `out` as it was.
+// SAFETY: slices are lent for the call, and `append` says where and how much may be written.
+
+/// Appends a log's header. Updates below the timestamp `from` may be missing from the log.
+pub fn log_header(out: &mut Vec<u8>, format: Format, from: u64) -> Result<(), OutOfMemory> {
+    done(append(out, |at, room, count| match format {
+        Format::One => unsafe { c::mtr_log_header_1(from, at, room, count) },
+        Format::Two => unsafe { c::mtr_log_header_2(from, at, room, count) },
+    }))
+}
+
+/// Appends the header of a segment of a worker's log.
+pub fn segment_header(out: &mut Vec<u8>, from: u64, worker: u32, segment: u32) -> Result<(), OutOfMemory> {
+    done(append(out, |at, room, count| unsafe { c::mtr_segment_header(from, worker, segment, at, room, count) }))
+}
+
+/// Appends a mark.
+pub fn mark(out: &mut Vec<u8>, time: u64) -> Result<(), OutOfMemory> {
+    done(append(out, |at, room, count| unsafe { c::mtr_mark(time, at, room, count) }))
+}
+
+/// Appends a put of these columns, whose numbers rise.
+pub fn put(out: &mut Vec<u8>, time: u64, version: u64, key: &[u8], columns: &[Column]) -> Result<(), WriteError> {
+    write(out, |at, room, count| unsafe {
+        c::mtr_put(time, version, key.as_ptr(), key.len(), columns.as_ptr(), columns.len(), at, room, count)
+    })
+}
+
+/// Appends a remove of the key.
+pub fn remove(out: &mut Vec<u8>, time: u64, version: u64, key: &[u8]) -> Result<(), WriteError> {
+    write(out, |at, room, count| unsafe { c::mtr_remove(time, version, key.as_ptr(), key.len(), at, room, count) })
+}
+
+/// Appends an erase of the columns with these numbers, which rise. Logs of format 1 may not have it.
+pub fn erase(out: &mut Vec<u8>, time: u64, version: u64, key: &[u8], numbers: &[u8]) -> Result<(), WriteError> {
+    write(out, |at, room, count| unsafe {
+        c::mtr_erase(time, version, key.as_ptr(), key.len(), numbers.as_ptr(), numbers.len(), at, room, count)
+    })
+}
+
+/// Appends the header of part `part` of the `parts` parts of checkpoint `number`, which begins at the timestamp `begin`.
+pub fn part_header(
+    out: &mut Vec<u8>,
+    format: Format,
+    number: u32,
+    begin: u64,
+    part: u16,
+    parts: u16,
+) -> Result<(), OutOfMemory> {
+    done(append(out, |at, room, count| match format {
+        Format::One => unsafe { c::mtr_part_header_1(number, begin, part, parts, at, room, count) },
+        Format::Two => unsafe { c::mtr_part_header_2(number, begin, part, parts, at, room, count) },
+    }))
+}
+
+/// Appends the entry of a key with these columns, whose numbers rise.
+pub fn entry(out: &mut Vec<u8>, version: u64, key: &[u8], columns: &[Column]) -> Result<(), WriteError> {
+    write(out, |at, room, count| unsafe {
+        c::mtr_entry(version, key.as_ptr(), key.len(), columns.as_ptr(), columns.len(), at, room, count)
+    })
+}
+
+/// Appends the footer of a part with so many entries, whose checkpoint ends at the timestamp `end`.
+pub fn part_footer(out: &mut Vec<u8>, end: u64, entries: u32) -> Result<(), OutOfMemory> {
+    done(append(out, |at, room, count| unsafe { c::mtr_part_footer(end, entries, at, room, count) }))
+}
+
+/// Appends what replaces this log if a server goes on after a recovery with this cutoff: its records below the cutoff, and
+/// a mark there.
+pub fn resume_log(out: &mut Vec<u8>, log: &[u8], cutoff: u64) -> Result<Resumed, WriteError> {
+    let mut raw = RawResumed::default();
+    write(out, |at, room, count| unsafe {
+        c::mtr_resume_log(log.as_ptr(), log.len(), cutoff, &mut raw, at, room, count)
+    })?;
+    Ok(Resumed { dropped: raw.dropped, changed: raw.changed })
+}

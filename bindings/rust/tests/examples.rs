@@ -1,0 +1,173 @@
+//! Each function of the crate, over examples/ of the repository, whose store README.md and docs/WALKTHROUGH.md show.
+
+use mtrecover::records::{self, Column, Format};
+use mtrecover::{Error, Fault, Feed, Inputs, Pair, Store, What, WriteError};
+use std::fs;
+use std::ops::RangeBounds;
+use std::thread;
+
+fn example(name: &str) -> Vec<u8> {
+    fs::read(format!("{}/../../examples/{name}", env!("CARGO_MANIFEST_DIR"))).unwrap()
+}
+
+fn fed(mut feed: Feed, bytes: &[u8]) -> Feed {
+    for chunk in bytes.chunks(7) {
+        feed.feed(chunk).unwrap();
+    }
+    feed
+}
+
+/// The store of examples/store.
+fn store() -> Store {
+    let mut inputs = Inputs::new();
+    for log in ["worker-0.mtl", "worker-1.mtl"] {
+        inputs.add(fed(Feed::log().unwrap(), &example(&format!("store/{log}")))).unwrap();
+    }
+    for part in ["7-0.mtc", "7-1.mtc", "8-0.mtc", "9-0.mtc"] {
+        inputs.add(fed(Feed::part().unwrap(), &example(&format!("store/{part}")))).unwrap();
+    }
+    inputs.recover().unwrap()
+}
+
+fn keys<'a>(store: &Store, range: impl RangeBounds<&'a [u8]>) -> Vec<String> {
+    store.range(range).map(|pair| String::from_utf8(pair.unwrap().key).unwrap()).collect()
+}
+
+fn fault(logs: &[&[u8]]) -> Fault {
+    match mtrecover::recover(logs, &[]) {
+        Err(Error::Fault(fault)) => fault,
+        other => panic!("{other:?}"),
+    }
+}
+
+#[test]
+fn values_are_found() {
+    let store = store();
+    assert_eq!(store.get(b"fig", 0), Some(b"green".to_vec()));
+    assert_eq!(store.get(b"fig", 1), Some(b"ripe".to_vec()));
+}
+
+#[test]
+fn absent_keys_and_columns_are_not() {
+    let store = store();
+    assert_eq!(store.get(b"fig", 2), None);
+    assert_eq!(store.get(b"plum", 0), None);
+    assert!(store.contains_key(b"fig"));
+    assert!(!store.contains_key(b"plum"));
+}
+
+#[test]
+fn pairs_come_in_order() {
+    assert_eq!(keys(&store(), ..), ["fig", "kiwi", "lime", "pear"]);
+}
+
+#[test]
+fn a_range_keeps_its_bounds() {
+    let (store, kiwi, pear) = (store(), &b"kiwi"[..], &b"pear"[..]);
+    assert_eq!(keys(&store, kiwi..pear), ["kiwi", "lime"]);
+    assert_eq!(keys(&store, kiwi..=pear), ["kiwi", "lime", "pear"]);
+    assert_eq!(keys(&store, pear..), ["pear"]);
+    assert_eq!(keys(&store, ..kiwi), ["fig"]);
+    assert!(keys(&store, &b"q"[..]..).is_empty());
+}
+
+#[test]
+fn a_pair_has_its_columns() {
+    let fig = store().range(..).next().unwrap().unwrap();
+    let columns = vec![(0, b"green".to_vec()), (1, b"ripe".to_vec())];
+    assert_eq!(fig, Pair { key: b"fig".to_vec(), columns });
+}
+
+#[test]
+fn the_report_is_that_of_the_program() {
+    let report = store().report();
+    assert_eq!((report.cutoff, report.checkpoint, report.begin), (40, Some(7), 10));
+    assert_eq!((report.writers, report.records, report.marks, report.torn, report.holes), (2, 9, 2, 1, 0));
+    assert_eq!((report.entries, report.survivors, report.early, report.late), (4, 9, 1, 1));
+    assert_eq!((report.keys, report.layers), (4, 1));
+    assert_eq!((report.skipped, report.nameless), (vec![8], vec![3]));
+    assert_eq!(report.ends.len(), 2);
+}
+
+#[test]
+fn many_pairs_are_walked_in_order() {
+    let mut log = Vec::new();
+    records::log_header(&mut log, Format::One, 0).unwrap();
+    for n in 1..=1000_u64 {
+        records::put(&mut log, n, n, format!("{n:04}").as_bytes(), &[Column::new(0, b"")]).unwrap();
+    }
+    records::mark(&mut log, 1001).unwrap();
+    let store = mtrecover::recover(&[&log], &[]).unwrap();
+    assert!(keys(&store, ..).into_iter().eq((1..=1000).map(|n| format!("{n:04}"))));
+}
+
+#[test]
+fn threads_read_clones() {
+    let store = store();
+    thread::scope(|threads| {
+        for _ in 0..4 {
+            let store = store.clone();
+            threads.spawn(move || {
+                for _ in 0..100 {
+                    assert_eq!(keys(&store, ..), ["fig", "kiwi", "lime", "pear"]);
+                    assert_eq!(store.get(b"lime", 0), Some(b"sour".to_vec()));
+                }
+            });
+        }
+    });
+    assert_eq!(store.get(b"lime", 0), Some(b"sour".to_vec()));
+}
+
+#[test]
+fn faults_have_the_words_of_the_program() {
+    let (a, gap) = (example("a.mtl"), example("gap.mtl"));
+    let mut wrong = a.clone();
+    wrong[16] = 99;
+    assert_eq!(fault(&[]).to_string(), "no logs");
+    assert_eq!(fault(&[&a, b"x"]), Fault::Header { log: 1 });
+    assert_eq!(fault(&[&a, &gap]).to_string(), "log 1: gap");
+    assert_eq!(fault(&[&wrong]), Fault::Record { log: 0, record: 0, what: What::Kind });
+    assert_eq!(fault(&[&wrong]).to_string(), "log 0: record 0: kind");
+}
+
+#[test]
+fn a_feed_says_that_no_more_matters() {
+    let mut log = Feed::log().unwrap();
+    assert_eq!(log.feed(b"MTL"), Ok(true));
+    assert_eq!(log.feed(b"9"), Ok(false));
+}
+
+#[test]
+fn a_device_that_failed_is_a_fault() {
+    let mut inputs = Inputs::new();
+    let mut log = fed(Feed::log().unwrap(), &example("a.mtl"));
+    log.fail();
+    inputs.add(log).unwrap();
+    assert_eq!(inputs.recover().err(), Some(Error::Fault(Fault::Source { log: 0 })));
+}
+
+#[test]
+fn a_torn_log_is_resumed() {
+    let log = example("store/worker-1.mtl");
+    let mut resumed = Vec::new();
+    let told = records::resume_log(&mut resumed, &log, 40).unwrap();
+    assert_eq!((told.dropped, told.changed), (1, true));
+    assert_eq!(mtrecover::recover(&[&resumed], &[]).unwrap().report().cutoff, 40);
+    assert_eq!(records::resume_log(&mut resumed, b"x", 40), Err(WriteError::NoLog));
+}
+
+#[test]
+fn an_unlawful_record_is_not_written() {
+    let mut log = Vec::new();
+    assert_eq!(records::put(&mut log, 1, 0, b"k", &[Column::new(0, b"v")]), Err(WriteError::NotLawful));
+    assert_eq!(records::put(&mut log, 1, 1, b"k", &[]), Err(WriteError::NotLawful));
+    assert_eq!(records::remove(&mut log, 1, 1, &[0; 5000]), Err(WriteError::NotLawful));
+    assert_eq!(records::erase(&mut log, 1, 1, b"k", &[3, 3]), Err(WriteError::NotLawful));
+    assert!(log.is_empty());
+}
+
+#[test]
+fn the_library_tells_its_version() {
+    let version = mtrecover::version();
+    assert_eq!((version.library, version.log_format, version.part_format), (1, 3, 2));
+}
