@@ -5,7 +5,7 @@ use crate::folder::{self, Entry};
 use crate::mistake::Mistake;
 use crate::source::inputs_of;
 use crate::words::{number_of, push_arguments};
-use mt_cli::{Command, Names, answer, command, run_words};
+use mt_cli::{Command, Names, Surroundings, answer, command, run_words};
 use mt_recover::dump_files;
 use mt_scan::{LONGEST_BUFFER, Rack};
 use std::alloc::Global;
@@ -99,7 +99,11 @@ impl Run {
             dump_files(rt, &self.words, &mut out, &mut err)
         } else {
             let mut input = Input { rest: input };
-            run_words(rt, &self.words, &mut input, false, &mut out, &mut err)
+            let around = Surroundings {
+                at_terminal: false,
+                columns: None,
+            };
+            run_words(rt, &self.words, &mut input, around, &mut out, &mut err)
         };
         folder::remove(rt)?;
         let (out, err) = (out.text, err.text);

@@ -1,3 +1,4 @@
 pub mod Answers
+pub mod History
 pub mod Ranges
 pub mod Steps

@@ -6,17 +6,20 @@ ghost use Rattle.mt_text.specs.Pairs.{dump_text};
 ghost use Rattle.mt_cli.specs.Answers.{IsTextOf, IsAnswer};
 ghost use Rattle.mt_cli.specs.Ranges.{range_of};
 
-use crate::caveat::{Caveat, Losses, tell_losses};
+use crate::caveat::{Caveat, Losses};
 use crate::failure::tell_outcome;
 use crate::file_names::Names;
+use crate::opening::total_size;
+use crate::progress::{Meter, count_inputs};
 use crate::request::{Folder, Query, Range, StoreQuery};
+use crate::tracing::trace;
 use mt_recover::{
-    Clash, Cutting, Failure, Inputs, NoGate, Pieces, Recovered, Refusal, Report, Store, Workers,
-    audit, recover, write_dump,
+    Clash, Cutting, Failure, Inputs, Pieces, Recovered, Refusal, Report, Store, audit, recover,
+    write_dump,
 };
 use mt_scan::Source;
 use mt_text::{Fields, Form, Lines, Printer, write_hex, write_pair};
-use mt_words::Key;
+use mt_words::{Fault, Key};
 use std::fs::Files;
 use std::io::{self, BufWriter, Write};
 use std::mem;
@@ -25,7 +28,7 @@ use std::thread::Threads;
 /// Answers the query from the sources, and returns the exit status: 0 if the answer was printed, 4 if it was with a
 /// caveat. On a failure, prints its line on `err` and returns its status. `names` are the files of the folder that the
 /// sources are of, for a second line. The output is buffered.
-pub fn answer<R: AllocGlobal + Files + Threads + Sync, S: Source + Send, O: Write, E: Write>(
+pub fn answer<R: AllocGlobal + Files + Threads + Sync, S: Source + Send, O: Write, E: Write + Send>(
     rt: &R,
     folder: &Folder<'_>,
     query: &Query,
@@ -36,62 +39,106 @@ pub fn answer<R: AllocGlobal + Files + Threads + Sync, S: Source + Send, O: Writ
 ) -> u8
     ensures status { result ≤ 4 }
 {
-    let outcome = answer_query(rt, folder, query, inputs, out, err);
+    let outcome = answer_query(rt, folder, query, names, inputs, out, err);
     tell_outcome(rt, folder, names, outcome, err)
 }
 
-/// Recovers the store or audits the logs, and prints what the query asks for.
-fn answer_query<R: AllocGlobal + Threads + Sync, S: Source + Send, O: Write, E: Write>(
+/// Recovers the store, or scans or audits the logs, and prints what the query asks for.
+fn answer_query<
+    R: AllocGlobal + Files + Threads + Sync,
+    S: Source + Send,
+    O: Write,
+    E: Write + Send,
+>(
     rt: &R,
     folder: &Folder<'_>,
     query: &Query,
+    names: &Names,
     inputs: Inputs<S>,
     out: &mut O,
     err: &mut E,
 ) -> Result<Option<Caveat>, Refusal<'static>> {
     match query {
         Query::Store(query, pieces) => {
-            recover_and_print(rt, inputs, folder, *pieces, query, out, err)
+            recover_and_print(rt, inputs, folder, names, *pieces, query, out, err)
         }
-        Query::Audit => audit_and_print(rt, inputs, folder.workers, out),
+        Query::History(how) => {
+            trace(rt, inputs, folder, how, names, out, err)?;
+            Ok(None)
+        }
+        Query::Audit => audit_and_print(rt, inputs, folder, names, out, err),
     }
 }
 
 /// Recovers the store, and prints what the query asks for, through a buffer. Then tells the losses on `err`, if they are
 /// to be told and no caveat does. The store is not freed: the process ends with its answer, and freeing a large store key by
 /// key takes a tenth of the time of its recovery.
-fn recover_and_print<R: AllocGlobal + Threads + Sync, S: Source + Send, O: Write, E: Write>(
+fn recover_and_print<
+    R: AllocGlobal + Files + Threads + Sync,
+    S: Source + Send,
+    O: Write,
+    E: Write + Send,
+>(
     rt: &R,
     inputs: Inputs<S>,
     folder: &Folder<'_>,
+    names: &Names,
     pieces: Pieces,
     query: &StoreQuery,
     out: &mut O,
     err: &mut E,
 ) -> Result<Option<Caveat>, Refusal<'static>> {
-    let cutting = Cutting::Sampled(pieces);
-    let recovered = recover(rt, rt.alloc(), inputs, folder.workers, cutting, &NoGate)?;
+    let recovered = recover_telling(rt, inputs, folder, names, pieces, err)?;
     let mut out = BufWriter::with_capacity(rt.alloc(), PRINTED_AT_ONCE, out)?;
     let caveat = print_answer(&recovered, query, &mut out)?;
     out.flush()?;
-    if folder.tells_losses && !caveat.as_ref().is_some_and(Caveat::has_losses) {
-        tell_losses(Losses::of(recovered.report()), err);
+    if !caveat.as_ref().is_some_and(Caveat::has_losses) {
+        folder.tell_losses(Losses::of(recovered.report()), err);
     }
     mem::forget(recovered);
     Ok(caveat)
+}
+
+/// Recovers the store, and tells on `err` how far it has come.
+pub fn recover_telling<R: AllocGlobal + Files + Threads + Sync, S: Source + Send, E: Write + Send>(
+    rt: &R,
+    inputs: Inputs<S>,
+    folder: &Folder<'_>,
+    names: &Names,
+    pieces: Pieces,
+    err: &mut E,
+) -> Result<Recovered, Fault> {
+    let bytes = total_size(rt, folder.path, names);
+    let meter = Meter::new(folder.telling, bytes, u64::from(folder.most_pieces), err);
+    let inputs = count_inputs(rt.alloc(), inputs, &meter)?;
+    let cutting = Cutting::Sampled(pieces);
+    let recovered = recover(rt, rt.alloc(), inputs, folder.workers, cutting, &meter);
+    meter.end();
+    recovered
 }
 
 /// The size of the output buffer in bytes.
 pub const PRINTED_AT_ONCE: usize = 65_536;
 
 /// Audits the logs, and prints the line of each clash, through a buffer.
-fn audit_and_print<R: AllocGlobal + Threads + Sync, S: Source + Send, O: Write>(
+fn audit_and_print<
+    R: AllocGlobal + Files + Threads + Sync,
+    S: Source + Send,
+    O: Write,
+    E: Write + Send,
+>(
     rt: &R,
     inputs: Inputs<S>,
-    workers: Workers,
+    folder: &Folder<'_>,
+    names: &Names,
     out: &mut O,
+    err: &mut E,
 ) -> Result<Option<Caveat>, Refusal<'static>> {
-    let clashes = audit(rt, rt.alloc(), inputs, workers)?;
+    let meter = Meter::new(folder.telling, total_size(rt, folder.path, names), 0, err);
+    let inputs = count_inputs(rt.alloc(), inputs, &meter)?;
+    let clashes = audit(rt, rt.alloc(), inputs, folder.workers);
+    meter.end();
+    let clashes = clashes?;
     let mut out = BufWriter::with_capacity(rt.alloc(), PRINTED_AT_ONCE, out)?;
     for clash in &clashes {
         write_clash(clash, &mut out)?;

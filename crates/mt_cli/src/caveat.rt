@@ -1,6 +1,7 @@
 //! Why a command that did its work does not end with status 0.
 ghost use Rattle.std.specs.Prelude.{◌≤◌};
 
+use crate::request::Folder;
 use mt_recover::Report;
 use std::fmt::{self, Display, Formatter};
 use std::io;
@@ -47,10 +48,15 @@ impl Caveat {
     }
 }
 
-/// Prints the losses, if there are some. A write error is passed over.
-pub fn tell_losses<E: io::Write>(losses: Option<Losses>, err: &mut E) {
-    if let Some(losses) = losses {
-        losses.tell(err);
+impl Folder<'_> {
+    /// Prints the losses, if there are some and they are to be told after an answer. A write error is passed over.
+    pub fn tell_losses<E: io::Write>(&self, losses: Option<Losses>, err: &mut E) {
+        if !self.tells_losses {
+            return;
+        }
+        if let Some(losses) = losses {
+            losses.tell(err);
+        }
     }
 }
 

@@ -4,7 +4,7 @@ use crate::ending::Ending;
 use crate::fates::{PartState, numbers_of, write_fate};
 use crate::file_names::Names;
 use mt_record::{LogFront, Rest};
-use mt_recover::{Failure, LogCheck, Refusal, Start};
+use mt_recover::{LogCheck, Refusal, Start};
 use mt_text::Fields;
 use mt_words::Fault;
 use std::alloc::Global;
@@ -25,8 +25,8 @@ pub struct Checked<'a> {
     pub sizes: Sizes,
     /// Why files are unread.
     pub reasons: Reasons,
-    /// The name of the first file that cannot be opened, if there is one.
-    pub unopened: Option<&'a str>,
+    /// Why the first file that cannot be opened cannot, if there is one. Recovery says so before it reads a file.
+    pub unopened: Option<Refusal<'a>>,
     /// Where recovery begins, or the fault that it names.
     pub start: Result<Start, Fault>,
 }
@@ -46,14 +46,6 @@ pub struct Reasons {
 }
 
 impl<'a> Checked<'a> {
-    /// Refuses if a file cannot be opened, as recovery does before it reads one.
-    pub fn expect_opened(&self) -> Result<(), Refusal<'a>> {
-        match self.unopened {
-            Some(name) => Err(Refusal::from(Failure::Open(name))),
-            None => Ok(()),
-        }
-    }
-
     /// Prints a line for each log, for each part, for each checkpoint, and for the cutoff. Err: write error.
     pub fn write<W: Write>(&self, names: &Names, is_json: bool, out: &mut W) -> io::Result<()> {
         for (log, name) in names.logs.iter().enumerate() {
@@ -117,6 +109,16 @@ impl<'a> Checked<'a> {
             .max()
     }
 
+    /// Prints what may have happened to each damaged log. A write error is passed over.
+    pub fn tell_hints<E: Write>(&self, names: &Names, err: &mut E) {
+        for ((name, check), ending) in names.logs.iter().zip(&self.logs).zip(&self.endings) {
+            if let Some(ending) = ending {
+                let is_torn = front_of(check).is_some_and(LogFront::torn);
+                ending.tell_hints(!is_torn, name.as_str(), err);
+            }
+        }
+    }
+
     /// Prints the line of a log.
     fn write_log<W: Write>(
         &self,
@@ -178,6 +180,11 @@ impl<'a> Checked<'a> {
 }
 
 impl Sizes {
+    /// Returns whether all sizes are known: each file can be read again.
+    pub fn are_known(&self) -> bool {
+        self.logs.iter().chain(&self.parts).all(Option::is_some)
+    }
+
     /// Returns about how many bytes of memory recovery takes: three times those of all files. None: the size of one is
     /// not known.
     fn memory(&self) -> Option<u64> {

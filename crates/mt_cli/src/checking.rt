@@ -8,9 +8,13 @@ use crate::ending::Ending;
 use crate::failure::tell_outcome;
 use crate::fates::PartState;
 use crate::file_names::Names;
-use crate::opening::{Opened, open_each, open_rest, rack_of, size_of, why_unread};
-use crate::request::Folder;
-use mt_record::Rest;
+use crate::opening::{Opened, open_each, rack_of, read_again, size_of, total_size, why_unread};
+use crate::picturing::write_picture;
+use crate::progress::{Meter, count_all};
+use crate::request::{Folder, Picture};
+use crate::spans::WIDEST;
+use crate::ways::write_ways;
+use mt_record::{Rest, header_at};
 use mt_recover::{LogCheck, Refusal, Window, check_logs, check_parts, hole_before, start_of};
 use mt_scan::{LogScan, Slot};
 use mt_words::{Fault, Format, Memory};
@@ -21,10 +25,11 @@ use std::thread::Threads;
 
 /// Checks the files of these names, prints what is in each, and returns the exit status: 0 if recovery loses nothing, 1
 /// if it names a fault, 4 if it loses something or passes over it.
-pub fn check<R, O: Write, E: Write>(
+pub fn check<R, O: Write, E: Write + Send>(
     rt: &R,
     folder: &Folder<'_>,
     is_json: bool,
+    picture: Option<Picture>,
     names: &Names,
     out: &mut O,
     err: &mut E,
@@ -34,54 +39,81 @@ where
     R::File: Send,
     ensures status { result ≤ 4 }
 {
-    let outcome = check_and_print(rt, folder, is_json, names, out);
+    let outcome = check_and_print(rt, folder, is_json, picture, names, out, err);
     tell_outcome(rt, folder, names, outcome, err)
 }
 
 /// Checks the files, and prints what is in each. Err: the fault that recovery names, after the lines; or a failure.
-fn check_and_print<'a, R, O: Write>(
+fn check_and_print<'a, R, O: Write, E: Write + Send>(
     rt: &R,
     folder: &Folder<'_>,
     is_json: bool,
+    picture: Option<Picture>,
     names: &'a Names,
     out: &mut O,
+    err: &mut E,
 ) -> Result<Option<Caveat>, Refusal<'a>>
 where
     R: AllocGlobal + Files + Threads + Sync,
     R::File: Send,
 {
-    let checked = check_all(rt, folder, names)?;
+    let checked = check_all(rt, folder, names, err)?;
     let mut out = BufWriter::with_capacity(rt.alloc(), PRINTED_AT_ONCE, out)?;
-    checked.write(names, is_json, &mut out)?;
-    checked.write_choice(rt.alloc(), is_json, &mut out)?;
+    match picture {
+        Some(picture) => write_picture(rt, folder.path, picture, &checked, names, &mut out)?,
+        None => {
+            checked.write(names, is_json, &mut out)?;
+            checked.write_choice(rt.alloc(), is_json, &mut out)?;
+            if checked.start.is_err() && checked.sizes.are_known() {
+                write_ways(rt, folder, names, &checked.logs, is_json, &mut out)?;
+            }
+        }
+    }
     out.flush()?;
+    if folder.is_verbose {
+        checked.tell_hints(names, err);
+    }
     let losses = checked.losses();
-    checked.expect_opened()?;
+    if let Some(refusal) = checked.unopened {
+        return Err(refusal);
+    }
     checked.start?;
     Ok(losses.map(Caveat::Losses))
 }
 
 /// Checks all logs and parts. If there is a cutoff, the logs are read once more, to count what is late. What follows the
 /// complete records of a log is read after that.
-pub fn check_all<'a, R>(
+pub fn check_all<'a, R, E: Write + Send>(
     rt: &R,
     folder: &Folder<'_>,
     names: &'a Names,
+    err: &mut E,
 ) -> Result<Checked<'a>, Refusal<'a>>
 where
     R: AllocGlobal + Files + Threads + Sync,
     R::File: Send,
 {
     let mut rack = rack_of(rt, names)?;
-    let (mut logs, first) = check_named(rt, folder, names, rack.slots(), u64::MAX)?;
-    let Opened { sources, unopened } = open_each(rt, folder.path, &names.parts, rack.slots())?;
+    let bytes = total_size(rt, folder.path, names);
+    let meter = Meter::new(folder.telling, bytes.saturating_mul(2), 0, err);
+    let (mut logs, first) = check_named(rt, folder, names, &[], rack.slots(), u64::MAX, &meter)?;
+    let Opened { sources, unopened } = open_each(rt, folder.path, &names.parts, &[], rack.slots())?;
     let mut unopened = first.or(unopened);
+    let sources = count_all(rt.alloc(), sources, &meter)?;
     let scans = check_parts(rt, rt.alloc(), sources, folder.workers)?;
     let parts: Vec<PartState> = scans.iter().map(PartState::of).collect(rt.alloc())?;
     let mut start = start_of(rt.alloc(), Vec::from_slice(rt.alloc(), &logs)?, scans);
     let mut holes = Vec::new(rt.alloc());
     if let Ok(found) = &start {
-        let again = check_named(rt, folder, names, rack.slots(), found.window.cutoff)?;
+        let again = check_named(
+            rt,
+            folder,
+            names,
+            &[],
+            rack.slots(),
+            found.window.cutoff,
+            &meter,
+        )?;
         logs = again.0;
         unopened = unopened.or(again.1);
         match scans_of(rt.alloc(), &logs)? {
@@ -89,7 +121,8 @@ where
             Err(fault) => start = Err(fault),
         }
     }
-    let endings = read_endings(rt, folder.path, &names.logs, &logs, rack.slots())?;
+    meter.end();
+    let endings = read_endings(rt, folder.path, &names.logs, &logs)?;
     let sizes = Sizes {
         logs: sizes_of(rt, folder.path, &names.logs)?,
         parts: sizes_of(rt, folder.path, &names.parts)?,
@@ -112,20 +145,23 @@ where
     })
 }
 
-/// Checks the logs of these names, and returns the name of the first one that cannot be opened too. Updates at or past the
-/// limit count as late.
-fn check_named<'a, R>(
+/// Checks the logs of these names, and returns why the first one that cannot be opened cannot, too. `replaced` has the bytes
+/// that are read in place of a log, by its number. Updates at or past the limit count as late.
+pub fn check_named<'a, R, E: Write + Send>(
     rt: &R,
     folder: &Folder<'_>,
     names: &'a Names,
+    replaced: &[Option<Vec<u8>>],
     slots: &mut [Slot],
     limit: u64,
-) -> Result<(Vec<Result<LogCheck, Fault>>, Option<&'a str>), Refusal<'a>>
+    meter: &Meter<'_, E>,
+) -> Result<(Vec<Result<LogCheck, Fault>>, Option<Refusal<'a>>), Refusal<'a>>
 where
     R: AllocGlobal + Files + Threads + Sync,
     R::File: Send,
 {
-    let Opened { sources, unopened } = open_each(rt, folder.path, &names.logs, slots)?;
+    let Opened { sources, unopened } = open_each(rt, folder.path, &names.logs, replaced, slots)?;
+    let sources = count_all(rt.alloc(), sources, meter)?;
     let checks = check_logs(rt, rt.alloc(), sources, folder.workers, limit)?;
     Ok((checks, unopened))
 }
@@ -165,11 +201,10 @@ fn read_endings<R: AllocGlobal + Files>(
     folder: &str,
     names: &[String],
     checks: &[Result<LogCheck, Fault>],
-    slots: &mut [Slot],
 ) -> Result<Vec<Option<Ending>>, Memory> {
     let mut endings = Vec::with_capacity(rt.alloc(), names.len())?;
-    for ((name, check), slot) in names.iter().zip(checks).zip(slots) {
-        endings.push(read_ending(rt, folder, name.as_str(), check, slot)?)?;
+    for (name, check) in names.iter().zip(checks) {
+        endings.push(read_ending(rt, folder, name.as_str(), check)?)?;
     }
     Ok(endings)
 }
@@ -180,26 +215,26 @@ fn read_ending<R: AllocGlobal + Files>(
     folder: &str,
     name: &str,
     check: &Result<LogCheck, Fault>,
-    slot: &mut Slot,
 ) -> Result<Option<Ending>, Memory> {
-    let Some((start, format)) = rest_of(check) else {
+    let Some((end, format)) = rest_of(check) else {
         return Ok(None);
     };
-    match open_rest(rt, folder, name, start, slot) {
-        Some(mut source) => Ending::of_source(rt.alloc(), format, &mut source),
-        None => Ok(None),
+    let Some(bytes) = read_again(rt, folder, name)? else {
+        return Ok(None);
+    };
+    if end >= bytes.len() {
+        return Ok(None);
     }
+    let start = header_at(&bytes).map_or(0, |(_, rest)| bytes.len().saturating_sub(rest.len()));
+    Ok(Some(Ending::of_log(rt.alloc(), format, &bytes, start, end)?))
 }
 
-/// The widest format, which has the records of all.
-const WIDEST: Format = Format::Two;
-
 /// Returns where the bytes begin that follow the complete records of a log, and their format. None: there are none.
-fn rest_of(check: &Result<LogCheck, Fault>) -> Option<(u64, Format)> {
+fn rest_of(check: &Result<LogCheck, Fault>) -> Option<(usize, Format)> {
     match check {
         Ok(check) => {
             let front = check.front;
-            (front.rest != Rest::Nothing).then_some((front.bytes, front.head.format))
+            (front.rest != Rest::Nothing).then_some((front.bytes as usize, front.head.format))
         }
         // Without a header all bytes are left.
         Err(Fault::Header { .. }) => Some((0, WIDEST)),

@@ -1,15 +1,15 @@
 //! Answers the subcommand `checkpoint`: writes the store of a folder as a checkpoint and a log into a new folder.
 ghost use Rattle.std.specs.Prelude.{◌≤◌, ◌<◌, length};
 
-use crate::answering::PRINTED_AT_ONCE;
-use crate::caveat::{Caveat, Losses, tell_losses};
+use crate::answering::{PRINTED_AT_ONCE, recover_telling};
+use crate::caveat::{Caveat, Losses};
 use crate::file_names::Names;
 use crate::halt::{Halt, tell_written};
 use crate::opening::{open_inputs, rack_of};
 use crate::request::{Folder, NewFolder};
 use crate::saving::{Site, make_folder};
 use mt_checkpoint::{Checkpoint, PlanFault};
-use mt_recover::{Cutting, MOST_FILES, NoGate, Pieces, Recovered, Refusal, recover};
+use mt_recover::{MOST_FILES, Pieces, Recovered, Refusal};
 use mt_text::Fields;
 use std::fs::{File, Files, OpenFile};
 use std::io::{self, BufWriter, Write};
@@ -20,7 +20,7 @@ use std::thread::Threads;
 const LOG: &str = "log.mtl";
 
 /// Recovers the store of the files of these names, writes it into a new folder, and returns the exit status.
-pub fn checkpoint<R, O: Write, E: Write>(
+pub fn checkpoint<R, O: Write, E: Write + Send>(
     rt: &R,
     folder: &Folder<'_>,
     new: &NewFolder<'_>,
@@ -38,7 +38,7 @@ where
 }
 
 /// Recovers the store and writes it into a new folder. As in a query, the store is not freed.
-fn recover_and_write<'a, R, O: Write, E: Write>(
+fn recover_and_write<'a, R, O: Write, E: Write + Send>(
     rt: &R,
     folder: &Folder<'_>,
     new: &NewFolder<'_>,
@@ -50,7 +50,7 @@ where
     R: AllocGlobal + Files + Threads + Sync,
     R::File: Send,
 {
-    let recovered = recover_folder(rt, folder, new.pieces, names)?;
+    let recovered = recover_folder(rt, folder, new.pieces, names, err)?;
     let report = recovered.report();
     let tree = recovered.store().tree();
     let checkpoint = Checkpoint::plan(
@@ -68,20 +68,19 @@ where
     line.number("cutoff", report.cutoff)?;
     line.end()?;
     out.flush()?;
-    if folder.tells_losses {
-        tell_losses(Losses::of(report), err);
-    }
+    folder.tell_losses(Losses::of(report), err);
     mem::forget(checkpoint);
     mem::forget(recovered);
     Ok(None)
 }
 
 /// Recovers the store of the files of these names. Cuts the keys into at most so many pieces.
-pub fn recover_folder<'a, R>(
+pub fn recover_folder<'a, R, E: Write + Send>(
     rt: &R,
     folder: &Folder<'_>,
     pieces: Pieces,
     names: &'a Names,
+    err: &mut E,
 ) -> Result<Recovered, Refusal<'a>>
 where
     R: AllocGlobal + Files + Threads + Sync,
@@ -89,8 +88,7 @@ where
 {
     let mut rack = rack_of(rt, names)?;
     let inputs = open_inputs(rt, folder.path, names, rack.slots())?;
-    let cutting = Cutting::Sampled(pieces);
-    Ok(recover(rt, rt.alloc(), inputs, folder.workers, cutting, &NoGate)?)
+    Ok(recover_telling(rt, inputs, folder, names, pieces, err)?)
 }
 
 /// Writes the parts of the checkpoint into the new folder, and then the log. Nothing is written if the program could not

@@ -16,6 +16,7 @@ pub fn cut<'a, R: AllocGlobal + Files, O: Write, E: Write>(
     rt: &R,
     path: &'a str,
     how: &Cut,
+    is_verbose: bool,
     out: &mut O,
     err: &mut E,
 ) -> Result<(), Refusal<'a>> {
@@ -26,7 +27,7 @@ pub fn cut<'a, R: AllocGlobal + Files, O: Write, E: Write>(
     let (front, log) = cut_out(rt.alloc(), &bytes)?;
     let (head, records) = header_at(log).ok_or(Fault::Header { log: 0 })?;
     let kept = how.kept(head.format, records);
-    let stop = Stop::of(&front, &bytes);
+    let stop = Stop::of(rt.alloc(), &front, &bytes)?;
     let end = if stop.is_some() || kept.len() < records.len() {
         SegmentEnd::of(rt.alloc(), head, &[kept])?
     } else {
@@ -38,6 +39,9 @@ pub fn cut<'a, R: AllocGlobal + Files, O: Write, E: Write>(
     if let Some(stop) = stop {
         // A write error is passed over.
         let _ = writeln!(err, "mtrecover: left out: {stop}");
+        if is_verbose {
+            stop.tell_hints(path, err);
+        }
     }
     tell_end(end, err);
     Ok(())

@@ -1,111 +1,114 @@
 //! What follows the complete records of a log, or the entries of a part.
-ghost use Rattle.std.specs.Prelude.{◌≡◌, IfOk, IsSome};
-
-use mt_record::records_at_end;
-use mt_scan::Source;
+use crate::hints::Hints;
+use crate::spans::zeros_at_end;
+use mt_record::salvage_records;
 use mt_text::Fields;
 use mt_words::{Format, Memory};
-use std::alloc::{AllocError, Global};
+use std::alloc::Global;
 use std::io::{self, Write};
 
 /// What follows the complete records of a log, or the entries of a part.
 #[derive(Clone, Copy, Debug)]
 pub struct Ending {
     /// The number of bytes.
-    pub bytes: u64,
-    /// Whether there are some, and all of them are 0.
-    pub is_zero: bool,
-    /// The number of complete records that end them, found from their end by the second lengths.
+    pub bytes: usize,
+    /// How many of them, at their end, are 0.
+    pub zeros: usize,
+    /// Where records go on after damage, if they do.
+    pub again: Option<Again>,
+    /// What may have happened to them.
+    pub hints: Hints,
+}
+
+/// Records that go on after damage, as `cut --skip` prints them.
+#[derive(Clone, Copy, Debug)]
+pub struct Again {
+    /// The byte where the first of them begins.
+    pub at: usize,
+    /// The number of all of them.
     pub records: usize,
-    /// How many of the bytes precede these records.
-    pub before: u64,
 }
 
 impl Ending {
-    /// Returns what the rest of a log of this format is: all bytes after its complete records. Without a format they are
-    /// the rest of a part, in which no records are looked for.
-    pub fn of(format: Option<Format>, rest: &[u8]) -> Ending {
-        Ending::new(format, rest.len() as u64, are_zero(rest), rest)
-    }
-
-    /// Returns the ending of so many bytes, of which these are the last ones.
-    fn new(format: Option<Format>, bytes: u64, are_zero: bool, last: &[u8]) -> Ending {
-        let (count, start) = match format {
-            Some(format) => {
-                let run = records_at_end(format, last);
-                (run.count, run.start)
-            }
-            None => (0, last.len()),
-        };
-        Ending {
-            bytes,
-            is_zero: are_zero && bytes > 0,
-            records: count,
-            before: bytes.saturating_sub(last.len().saturating_sub(start) as u64),
-        }
-    }
-
-    /// Does as `of`, but reads the rest from a source, and counts only records that lie in its last `SEARCHED` bytes.
-    /// Needs memory for about twice as many. None: the source failed. Err: out of memory.
-    pub fn of_source<S: Source>(
+    /// Returns what follows in a log of this format, whose complete records lie from the byte `start` to the byte `end`.
+    /// Err: out of memory.
+    pub fn of_log(
         alloc: Global,
         format: Format,
-        source: &mut S,
-    ) -> Result<Option<Ending>, Memory>
-        ensures { IfOk result (λ ending. IsSome ending → (S.seen source.new).failures ≡ (S.seen source.old).failures) }
-    {
-        let mut tail = Tail {
-            last: Vec::new(alloc),
-            bytes: 0,
-            is_zero: true,
-        };
-        for _ in 0..u64::MAX {
-            match source.advance() {
-                Ok(0) => break,
-                Ok(_) => tail.push(source.piece())?,
-                Err(_) => return Ok(None),
-            }
+        bytes: &[u8],
+        start: usize,
+        end: usize,
+    ) -> Result<Ending, Memory> {
+        let again = Again::find(alloc, format, bytes, start, end)?;
+        let rest = bytes.get(end..).unwrap_or(&[]);
+        Ok(Ending {
+            bytes: rest.len(),
+            zeros: zeros_at_end(rest),
+            again,
+            hints: Hints::of(bytes, end, again),
+        })
+    }
+
+    /// Returns what follows in a part, whose complete entries end at this byte.
+    pub fn of_part(rest: &[u8]) -> Ending {
+        Ending {
+            bytes: rest.len(),
+            zeros: zeros_at_end(rest),
+            again: None,
+            hints: Hints::none(),
         }
-        let start = tail.last.len().saturating_sub(SEARCHED);
-        Ok(Some(Ending::new(Some(format), tail.bytes, tail.is_zero, &tail.last[start..])))
+    }
+
+    /// Prints what may have happened to the file of this name, if it is faulty or goes on. A write error is passed over.
+    pub fn tell_hints<E: Write>(&self, is_faulty: bool, name: &str, err: &mut E) {
+        if is_faulty || self.again.is_some() {
+            self.hints.tell(name, err);
+        }
     }
 
     /// Prints its values. Err: write error.
     pub fn write<W: Write>(self, line: &mut Fields<'_, W>) -> io::Result<()> {
         line.number("left", self.bytes)?;
-        line.flag("zeros", self.is_zero)?;
-        line.number("after", self.records)
-    }
-}
-
-/// The number of bytes at the end of a file in which records are looked for.
-const SEARCHED: usize = 1 << 20;
-
-/// The last of some bytes that come chunk by chunk.
-#[derive(Drop)]
-struct Tail {
-    /// The last `SEARCHED` bytes or more, or all bytes.
-    last: Vec<u8>,
-    /// The number of all bytes, counted up to 2^64 - 1.
-    bytes: u64,
-    /// Whether all bytes are 0.
-    is_zero: bool,
-}
-
-impl Tail {
-    /// Appends a chunk, and keeps at most twice `SEARCHED` bytes before it. Err: out of memory.
-    fn push(&mut self, chunk: &[u8]) -> Result<(), AllocError> {
-        self.bytes = self.bytes.saturating_add(chunk.len() as u64);
-        self.is_zero = self.is_zero && are_zero(chunk);
-        if self.last.len() >= 2 * SEARCHED {
-            let surplus = self.last.len() - SEARCHED;
-            self.last.drain(..surplus);
+        line.number("zeros", self.zeros)?;
+        if let Some(again) = self.again {
+            line.number("next", again.at)?;
         }
-        self.last.extend_from_slice(chunk)
+        line.number("after", self.again.map_or(0, |again| again.records))
     }
 }
 
-/// Returns whether all bytes are 0.
-fn are_zero(bytes: &[u8]) -> bool {
-    bytes.iter().all(|byte| *byte == 0)
+impl Again {
+    /// Returns where records go on, by the search of `salvage_records`. None: nowhere. Err: out of memory.
+    fn find(
+        alloc: Global,
+        format: Format,
+        bytes: &[u8],
+        start: usize,
+        end: usize,
+    ) -> Result<Option<Again>, Memory> {
+        let mut again: Option<Again> = None;
+        let mut at = start;
+        let searched = bytes.get(start..).unwrap_or(&[]);
+        for stretch in &salvage_records(alloc, format, 0, searched)? {
+            // The first one has the complete records, if there are some.
+            if stretch.count > 0 && (at > start || start >= end) {
+                again = Some(Again::with(again, at, stretch.count));
+            }
+            at = at
+                .saturating_add(stretch.kept.len())
+                .saturating_add(stretch.skipped.len());
+        }
+        Ok(again)
+    }
+
+    /// Returns these records and so many more, which begin at this byte.
+    fn with(again: Option<Again>, at: usize, records: usize) -> Again {
+        match again {
+            Some(again) => Again {
+                at: again.at,
+                records: again.records.saturating_add(records),
+            },
+            None => Again { at, records },
+        }
+    }
 }

@@ -131,18 +131,38 @@ pub fn numbers_of(alloc: Global, parts: &[PartState]) -> Result<Vec<u32>, AllocE
     Ok(numbers)
 }
 
-/// Prints the line of the checkpoint with this number: what becomes of it, the number of its parts, and where its first
-/// complete part says that it begins and ends. Err: write error.
+/// What becomes of a checkpoint.
+#[derive(Clone, Copy)]
+pub struct Fate {
+    /// What becomes of it, in a word.
+    pub word: &'static str,
+    /// The number of its parts.
+    pub count: usize,
+    /// Its first complete part, which says where it begins and ends.
+    pub first: Option<Part>,
+}
+
+/// Returns what becomes of the checkpoint with this number.
+pub fn fate_of(number: u32, parts: &[PartState], start: &Result<Start, Fault>) -> Fate {
+    let count = count_of(number, parts);
+    let first = parts.iter().find_map(|part| part.of_checkpoint(number));
+    Fate {
+        word: word_of(number, first, count, parts, start),
+        count,
+        first,
+    }
+}
+
+/// Prints the line of the checkpoint with this number. Err: write error.
 pub fn write_fate<W: Write>(
     number: u32,
     parts: &[PartState],
     start: &Result<Start, Fault>,
     mut line: Fields<'_, W>,
 ) -> io::Result<()> {
-    let count = count_of(number, parts);
-    let first = parts.iter().find_map(|part| part.of_checkpoint(number));
+    let Fate { word, count, first } = fate_of(number, parts, start);
     line.number("checkpoint", number)?;
-    line.word("state", word_of(number, first, count, parts, start))?;
+    line.word("state", word)?;
     line.number("parts", count)?;
     if let Some(part) = first {
         line.number("begin", part.begin)?;

@@ -6,6 +6,7 @@ use crate::cutting::{cut, cut_out};
 use crate::failure::tell;
 use crate::file_names::Names;
 use crate::request::FileQuery;
+use crate::spans::WIDEST;
 use crate::stop::Stop;
 use mt_record::{PartFault, PartFeed, PartHead, header_at, part_header_at};
 use mt_recover::{Refusal, read_log};
@@ -28,14 +29,14 @@ pub fn answer_file<R: AllocGlobal + Files, O: Write, E: Write>(
     ensures status { result ≤ 4 }
 {
     let answered = match query {
-        FileQuery::Cut(how) => match cut(rt, path, how, out, err) {
+        FileQuery::Cut(how) => match cut(rt, path, how, is_verbose, out, err) {
             Ok(()) => Ok(None),
             Err(refusal) => Err(refusal),
         },
         FileQuery::Records(selection, at) => records(rt, path, selection, *at, out),
     };
     match answered {
-        Ok(stop) => tell_stop(stop, err),
+        Ok(stop) => tell_stop(stop, is_verbose.then_some(path), err),
         // The file is log 0.
         Err(refusal) => match Names::of_log(rt.alloc(), path) {
             Ok(names) => tell(&refusal, is_verbose.then_some(&names), err),
@@ -44,14 +45,18 @@ pub fn answer_file<R: AllocGlobal + Files, O: Write, E: Write>(
     }
 }
 
-/// Tells where records or entries stop, and returns the exit status. A write error does not change it.
-fn tell_stop<E: Write>(stop: Option<Stop>, err: &mut E) -> u8
+/// Tells where records or entries stop, and returns the exit status. If there is a name, tells what may have happened to the
+/// file. A write error does not change the status.
+fn tell_stop<E: Write>(stop: Option<Stop>, name: Option<&str>, err: &mut E) -> u8
     ensures status { result ≤ 4 }
 {
     let Some(stop) = stop else {
         return 0;
     };
     let _ = writeln!(err, "mtrecover: {stop}");
+    if let Some(name) = name {
+        stop.tell_hints(name, err);
+    }
     stop.status()
 }
 
@@ -75,7 +80,8 @@ fn records<'a, R: AllocGlobal + Files, O: Write>(
     }
 }
 
-/// Prints the header of a log and its wanted records. Returns where they stop before the bytes do.
+/// Prints the header of a log, if it has one, and its wanted records. Without a header they are read from a byte on, by
+/// format 2. Returns where they stop before the bytes do.
 fn of_log<O: Write>(
     alloc: Global,
     bytes: &[u8],
@@ -83,20 +89,26 @@ fn of_log<O: Write>(
     selection: &Selection,
     out: &mut O,
 ) -> Result<Option<Stop>, Refusal<'static>> {
-    let (head, rest) = header_at(bytes).ok_or(Fault::Header { log: 0 })?;
-    let start = start_at(at, bytes.len() - rest.len(), bytes);
-    write_head(&head, selection.notation, out)?;
-    let stopped = write_records(alloc, head.format, bytes, start, selection, out)?;
+    let (format, first) = match header_at(bytes) {
+        Some((head, rest)) => {
+            write_head(&head, selection.notation, out)?;
+            (head.format, bytes.len() - rest.len())
+        }
+        None if at.is_some() => (WIDEST, 0),
+        None => return Err(Refusal::from(Fault::Header { log: 0 })),
+    };
+    let start = start_at(at, first, bytes);
+    let stopped = write_records(alloc, format, bytes, start, selection, out)?;
     out.flush()?;
     let Some(stopped) = stopped else {
         return Ok(None);
     };
     if at.is_some() || stopped.at == bytes.len() {
-        return Ok(Stop::at(head.format, bytes, stopped.at));
+        return Ok(Stop::at(alloc, format, bytes, start, stopped.at)?);
     }
     // What is wrong there tells a second reading.
     let (front, _) = cut_out(alloc, bytes)?;
-    Ok(Stop::of(&front, bytes))
+    Ok(Stop::of(alloc, &front, bytes)?)
 }
 
 /// Prints the header of a part and its wanted entries, the first of which begins at byte `first`. Returns where they

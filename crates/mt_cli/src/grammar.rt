@@ -14,6 +14,11 @@ pub const STATUSES: &str =
 /// What a shell asks for a line with. A blank follows.
 pub const PROMPT: &str = "mtrecover>";
 
+/// The least and the greatest width of a chart, in characters.
+pub const NARROWEST: usize = 40;
+
+pub const WIDEST: usize = 1000;
+
 /// A subcommand.
 struct Subcommand {
     name: &'static str,
@@ -44,6 +49,8 @@ enum Kind {
     NumberOf(&'static str),
     /// An option with a value of this name, which is a number from 1 to this one, and by itself this number.
     UpTo(&'static str, u64, &'static str),
+    /// An option with a value of this name, which is a number from this one to that one.
+    From(&'static str, u64, u64),
     /// An option with a list of numbers from 0 to this one.
     List(u64),
 }
@@ -93,7 +100,13 @@ const PIECES: Argument = Argument(
 const VERBOSE: Argument = Argument(
     "verbose",
     Kind::Flag,
-    "After a failure, print its file or the system's reason, and what to try; after an answer, what it lost",
+    "After a failure, print its file or the system's reason, and what to try; after an answer, what it lost; of a damaged log, what may have happened",
+);
+
+const PROGRESS: Argument = Argument(
+    "progress",
+    Kind::Flag,
+    "Print on standard error how far it has come, a line for each tenth",
 );
 
 const JSON: Argument = Argument("json", Kind::Flag, "Print a JSON object a line");
@@ -132,6 +145,24 @@ const DRY_RUN: Argument = Argument(
     "dry-run",
     Kind::Flag,
     "Change nothing: print what would be done",
+);
+
+const CHART: Argument = Argument(
+    "chart",
+    Kind::Flag,
+    "Print a chart: a row for each log and checkpoint, over its timestamps",
+);
+
+const WIDTH: Argument = Argument(
+    "width",
+    Kind::From("N", NARROWEST as u64, WIDEST as u64),
+    "The width of the chart in characters: 40 to 1000; without it that of the terminal (COLUMNS), or 80",
+);
+
+const SVG: Argument = Argument(
+    "svg",
+    Kind::Flag,
+    "Print the chart as an SVG, for a browser. DIR may be one log: its bytes are drawn then",
 );
 
 const NUMBER: Argument = Argument(
@@ -183,7 +214,7 @@ const RECORD_KEY: Argument = Argument(
 const AT: Argument = Argument(
     "at",
     Kind::NumberOf("BYTE"),
-    "Read on at this byte, for example after a fault; numbers count from there",
+    "Read on at this byte, for example after a fault, also if the header is lost; numbers count from there",
 );
 
 const SKIP: Argument = Argument(
@@ -207,7 +238,7 @@ const BELOW: Argument = Argument(
 );
 
 /// The arguments that say which store is recovered, and how.
-const RECOVERY: &[Argument] = &[FOLDER, WORKERS, VERBOSE, PIECES];
+const RECOVERY: &[Argument] = &[FOLDER, WORKERS, VERBOSE, PROGRESS, PIECES];
 
 /// The questions over a recovered store, with the arguments beside those of `RECOVERY`.
 const QUESTIONS: &[Subcommand] = &[
@@ -222,6 +253,12 @@ const QUESTIONS: &[Subcommand] = &[
         about: "Prints a key with its columns, or `absent`",
         example: "Example: mtrecover get examples/store 666967",
         arguments: &[JSON, TEXT, KEY, EXISTS],
+    },
+    Subcommand {
+        name: "history",
+        about: "Prints each update of a key in the logs and the chosen checkpoint, and what became of it",
+        example: "Example: mtrecover history examples/store 666967",
+        arguments: &[JSON, TEXT, KEY],
     },
     Subcommand {
         name: "range",
@@ -241,33 +278,52 @@ const QUESTIONS: &[Subcommand] = &[
 const OTHERS: &[Subcommand] = &[
     Subcommand {
         name: "shell",
-        about: "Recovers once, then answers lines of standard input: report, get, range or dump, without DIR",
+        about: "Recovers once, then answers lines of standard input: report, get, history, range or dump, without DIR",
         example: "Example: printf 'get 666967\\ndump --json\\n' | mtrecover shell examples/store",
-        arguments: &[FOLDER, WORKERS, VERBOSE, PIECES, STRICT_SHELL, STATUS],
+        arguments: &[
+            FOLDER,
+            WORKERS,
+            VERBOSE,
+            PROGRESS,
+            PIECES,
+            STRICT_SHELL,
+            STATUS,
+        ],
     },
     Subcommand {
         name: "audit",
         about: "Prints each version of a key that two or more surviving log updates share, with their records",
         example: "Example: mtrecover audit examples/store",
-        arguments: &[FOLDER, WORKERS, VERBOSE],
+        arguments: &[FOLDER, WORKERS, VERBOSE, PROGRESS],
     },
     Subcommand {
         name: "check",
         about: "Prints what is in each log, part and checkpoint, all that is wrong, and where recovery begins",
-        example: "Example: mtrecover check examples/store",
-        arguments: &[FOLDER, WORKERS, VERBOSE, JSON],
+        example: "Examples: mtrecover check examples/store\n\
+         \x20         mtrecover check examples/store --svg >store.svg",
+        arguments: &[FOLDER, WORKERS, VERBOSE, PROGRESS, JSON, CHART, WIDTH, SVG],
     },
     Subcommand {
         name: "resume",
         about: "Makes the logs and parts those with which a server goes on after a crash; the store stays the same",
         example: "Example: mtrecover resume DIR --dry-run",
-        arguments: &[FOLDER, WORKERS, VERBOSE, JSON, STRICT_RESUME, DRY_RUN],
+        arguments: &[
+            FOLDER,
+            WORKERS,
+            VERBOSE,
+            PROGRESS,
+            JSON,
+            STRICT_RESUME,
+            DRY_RUN,
+        ],
     },
     Subcommand {
         name: "checkpoint",
         about: "Writes the store as a checkpoint and a log into a new folder",
         example: "Example: mtrecover checkpoint examples/store fresh",
-        arguments: &[FOLDER, WORKERS, VERBOSE, PIECES, OUT, NUMBER, PART_LIMIT],
+        arguments: &[
+            FOLDER, WORKERS, VERBOSE, PROGRESS, PIECES, OUT, NUMBER, PART_LIMIT,
+        ],
     },
     Subcommand {
         name: "records",
@@ -353,6 +409,10 @@ const _: () = prove!(MOST_BYTES == 1_073_741_824);
 
 const _: () = prove!(ENOUGH_RECORDS == 8);
 
+const _: () = prove!(NARROWEST == 40);
+
+const _: () = prove!(WIDEST == 1000);
+
 impl Argument {
     /// Returns the grammar of the argument.
     fn grammar<'a>(self, alloc: Global) -> Arg<'a> {
@@ -373,6 +433,9 @@ impl Argument {
             Kind::UpTo(value, greatest, default) => option(arg, name, value)
                 .value_parser(ValueParser::unsigned(1, greatest))
                 .default_value(default),
+            Kind::From(value, least, greatest) => option(arg, name, value).value_parser(
+                ValueParser::unsigned(least, greatest),
+            ),
             Kind::List(greatest) => option(arg, name, "LIST")
                 .value_delimiter(',')
                 .value_parser(ValueParser::unsigned(0, greatest)),

@@ -17,12 +17,15 @@
 #![tactic(auto)]
 
 mod answering;
+mod bytes_drawing;
 mod caveat;
+mod chart;
 mod checked;
 mod checking;
 mod checkpointing;
 mod completions;
 mod cutting;
+mod drawing;
 mod ending;
 mod explaining;
 mod failure;
@@ -31,10 +34,14 @@ mod file_names;
 mod filing;
 mod grammar;
 mod halt;
+mod hints;
+mod history;
 mod line;
 mod listing;
 mod manual;
 mod opening;
+mod picturing;
+mod progress;
 mod question;
 mod ranges;
 mod request;
@@ -43,15 +50,22 @@ mod running;
 mod saving;
 mod segment_end;
 mod shell;
+mod spans;
 mod stop;
+mod svg;
 mod texts;
+mod timeline;
+mod tracing;
+mod ways;
 mod words;
 
 pub use answering::{answer, print_answer};
 pub use file_names::Names;
+pub use history::{Fate, History, history_of};
 pub use listing::names;
+pub use progress::Telling;
 pub use request::{
-    Command, Cut, FileQuery, Folder, NewFolder, Query, Range, Resume, Shell, StoreQuery,
+    Command, Cut, FileQuery, Folder, NewFolder, Picture, Query, Range, Resume, Shell, StoreQuery,
 };
-pub use running::{run, run_words};
+pub use running::{Surroundings, run, run_words};
 pub use words::command;

@@ -5,7 +5,7 @@ use mt_scan::{LONGEST_BUFFER, Rack, ReaderSource, Slot};
 use mt_words::Memory;
 use std::alloc::Global;
 use std::fs::{self, File, Files, OpenFile};
-use std::io::{self, ErrorKind, Read, Seek, SeekFrom};
+use std::io::{self, ErrorKind, Read};
 use std::path::Path;
 
 /// Creates a rack with a buffer for each file. Err: out of memory.
@@ -14,82 +14,73 @@ pub fn rack_of<R: AllocGlobal>(rt: &R, names: &Names) -> Result<Rack, Refusal<'s
     Ok(Rack::new(rt.alloc(), count, LONGEST_BUFFER)?)
 }
 
-/// Opens the sources of the logs, and then those of the parts.
+/// Opens the sources of the logs, and then those of the parts. Err: a file cannot be opened, or out of memory.
 pub fn open_inputs<'a, 'b, R: AllocGlobal + Files>(
     rt: &R,
     folder: &str,
     names: &'a Names,
     slots: &'b mut [Slot],
-) -> Result<Inputs<ReaderSource<'b, R::File>>, Refusal<'a>> {
+) -> Result<Inputs<ReaderSource<'b, Perhaps<'static, R::File>>>, Refusal<'a>> {
     let log_count = names.logs.len().min(slots.len());
     let (log_slots, part_slots) = slots.split_at_mut(log_count);
-    let logs = open_all(rt, folder, &names.logs, log_slots)?;
-    let parts = open_all(rt, folder, &names.parts, part_slots)?;
+    let logs = open_each(rt, folder, &names.logs, &[], log_slots)?.all()?;
+    let parts = open_each(rt, folder, &names.parts, &[], part_slots)?.all()?;
     Ok(Inputs { logs, parts })
 }
 
-/// Opens the files of these names in the folder as sources, each with the buffer of a slot. Err: a file cannot be
-/// opened, or out of memory.
-fn open_all<'a, 'b, R: AllocGlobal + Files>(
-    rt: &R,
-    folder: &str,
-    names: &'a [String],
-    slots: &'b mut [Slot],
-) -> Result<Vec<ReaderSource<'b, R::File>>, Refusal<'a>> {
-    let mut sources = Vec::with_capacity(rt.alloc(), names.len())?;
-    for (name, slot) in names.iter().zip(slots) {
-        let name = name.as_str();
-        let file = match open(rt, folder, name) {
-            Ok(file) => file,
-            Err(error) => return Err(Refusal::of(Failure::Open(name), error)),
-        };
-        // None only if the slot is empty. No slot of a new rack is empty.
-        let source = ReaderSource::new(file, MOST_BYTES, slot).ok_or(Failure::Open(name))?;
-        sources.push(source)?;
-    }
-    Ok(sources)
-}
-
-/// A file, or none in place of one that cannot be opened: it has no byte that can be read.
+/// A file; bytes that are read in its place; or none if it cannot be opened: it has no byte that can be read.
 #[derive(Drop)]
-pub enum Perhaps<F> {
+pub enum Perhaps<'c, F> {
     Opened(F),
+    Replaced(&'c [u8]),
     Unopened,
 }
 
-impl<F: Read> Read for Perhaps<F> {
+impl<'c, F: Read> Read for Perhaps<'c, F> {
     fn read(&mut self, bytes: &mut [u8]) -> io::Result<usize> {
         match self {
             Perhaps::Opened(file) => file.read(bytes),
+            Perhaps::Replaced(rest) => rest.read(bytes),
             Perhaps::Unopened => Err(io::Error::from(ErrorKind::NotFound)),
         }
     }
 }
 
-/// The sources of some files, and the name of the first one that cannot be opened.
+/// The sources of some files, and why the first one that cannot be opened cannot.
 #[derive(Drop)]
-pub struct Opened<'a, 'b, F: Drop> {
-    pub sources: Vec<ReaderSource<'b, Perhaps<F>>>,
-    pub unopened: Option<&'a str>,
+pub struct Opened<'a, 'b, 'c, F: Drop> {
+    pub sources: Vec<ReaderSource<'b, Perhaps<'c, F>>>,
+    pub unopened: Option<Refusal<'a>>,
+}
+
+impl<'a, 'b, 'c, F: Drop> Opened<'a, 'b, 'c, F> {
+    /// Returns the sources. Err: a file cannot be opened.
+    fn all(self) -> Result<Vec<ReaderSource<'b, Perhaps<'c, F>>>, Refusal<'a>> {
+        match self.unopened {
+            None => Ok(self.sources),
+            Some(refusal) => Err(refusal),
+        }
+    }
 }
 
 /// Opens the files of these names in the folder as sources, each with the buffer of a slot. The source of one that cannot
-/// be opened fails. Err: out of memory.
-pub fn open_each<'a, 'b, R: AllocGlobal + Files>(
+/// be opened fails. `replaced` has the bytes that are read in place of a file, by its number. Err: out of memory.
+pub fn open_each<'a, 'b, 'c, R: AllocGlobal + Files>(
     rt: &R,
     folder: &str,
     names: &'a [String],
+    replaced: &'c [Option<Vec<u8>>],
     slots: &'b mut [Slot],
-) -> Result<Opened<'a, 'b, R::File>, Refusal<'a>> {
+) -> Result<Opened<'a, 'b, 'c, R::File>, Refusal<'a>> {
     let mut sources = Vec::with_capacity(rt.alloc(), names.len())?;
     let mut unopened = None;
-    for (name, slot) in names.iter().zip(slots) {
+    for ((number, name), slot) in names.iter().enumerate().zip(slots) {
         let name = name.as_str();
-        let file = match open(rt, folder, name) {
-            Ok(file) => Perhaps::Opened(file),
+        let file = match open_or_replace(rt, folder, name, replaced.get(number)) {
+            Ok(file) => file,
             Err(error) if error.kind() == ErrorKind::OutOfMemory => return Err(Memory.into()),
-            Err(_) => {
-                unopened = unopened.or(Some(name));
+            Err(error) => {
+                unopened = unopened.or(Some(Refusal::of(Failure::Open(name), error)));
                 Perhaps::Unopened
             }
         };
@@ -100,21 +91,40 @@ pub fn open_each<'a, 'b, R: AllocGlobal + Files>(
     Ok(Opened { sources, unopened })
 }
 
-/// Opens the file of this name in the folder as a source of its bytes from this one on. None: the file has no bytes
-/// there, as a pipe, which has no size, or cannot be opened.
-pub fn open_rest<'a, R: AllocGlobal + Files>(
+/// Opens the file of this name in the folder, unless there are bytes in its place.
+fn open_or_replace<'c, R: AllocGlobal + Files>(
     rt: &R,
     folder: &str,
     name: &str,
-    start: u64,
-    slot: &'a mut Slot,
-) -> Option<ReaderSource<'a, R::File>> {
-    if size_of(rt, folder, name)? <= start {
-        return None;
+    bytes: Option<&'c Option<Vec<u8>>>,
+) -> io::Result<Perhaps<'c, R::File>> {
+    match bytes {
+        Some(Some(bytes)) => Ok(Perhaps::Replaced(bytes)),
+        _ => Ok(Perhaps::Opened(open(rt, folder, name)?)),
     }
-    let mut file = open(rt, folder, name).ok()?;
-    file.seek(SeekFrom::Start(start)).ok()?;
-    ReaderSource::new(file, MOST_BYTES, slot)
+}
+
+/// Reads the file of this name in the folder into memory, once more. None: it is no regular file, as a pipe, or cannot be
+/// read, or has more than `MOST_BYTES` bytes. Err: out of memory.
+pub fn read_again<R: AllocGlobal + Files>(
+    rt: &R,
+    folder: &str,
+    name: &str,
+) -> Result<Option<Vec<u8>>, Memory> {
+    match size_of(rt, folder, name) {
+        Some(size) if size <= MOST_BYTES => {}
+        _ => return Ok(None),
+    }
+    let mut bytes = Vec::new(rt.alloc());
+    let read = match open(rt, folder, name) {
+        Ok(file) => file.take(MOST_BYTES).read_to_end(&mut bytes),
+        Err(error) => Err(error),
+    };
+    match read {
+        Ok(_) => Ok(Some(bytes)),
+        Err(error) if error.kind() == ErrorKind::OutOfMemory => Err(Memory),
+        Err(_) => Ok(None),
+    }
 }
 
 /// Opens the file of this name in the folder.
@@ -129,6 +139,23 @@ pub fn size_of<R: AllocGlobal + Files>(rt: &R, folder: &str, name: &str) -> Opti
     let path = Path::new(folder).join(rt.alloc(), name).ok()?;
     let metadata = fs::metadata(rt, &path).ok()?;
     metadata.is_file().then_some(metadata.len())
+}
+
+/// Returns the number of bytes of all these files. One whose size is not known counts as empty.
+pub fn total_size<R: AllocGlobal + Files>(rt: &R, folder: &str, names: &Names) -> u64 {
+    let mut total: u64 = 0;
+    for name in names.logs.iter().chain(&names.parts) {
+        total = total.saturating_add(size_of(rt, folder, name.as_str()).unwrap_or(0));
+    }
+    total
+}
+
+/// Returns whether there is a regular file of this path.
+pub fn is_file<R: Files>(rt: &R, path: &str) -> bool {
+    match fs::metadata(rt, path) {
+        Ok(metadata) => metadata.is_file(),
+        Err(_) => false,
+    }
 }
 
 /// Returns why the file of this name in the folder cannot be read as a whole: it cannot be opened, is a folder, has more

@@ -4,8 +4,8 @@ ghost use Rattle.std.specs.Prelude.{◌≤◌, IfErr};
 use crate::failure::{or_tell, tell};
 use crate::file_names::Names;
 use crate::grammar::questions;
-use crate::request::StoreQuery;
-use crate::words::store_query;
+use crate::request::Question;
+use crate::words::question_of;
 use clap::ArgMatches;
 use clap::error::ErrorKind;
 use mt_recover::{Failure, Refusal};
@@ -21,7 +21,7 @@ pub fn question<O: Write, E: Write>(
     names: Option<&Names>,
     out: &mut O,
     err: &mut E,
-) -> Result<StoreQuery, u8>
+) -> Result<Question, u8>
     ensures status { IfErr result (λ status. status ≤ 3) }
 {
     match parse(alloc, words) {
@@ -36,9 +36,9 @@ fn parse<'a>(alloc: Global, words: &'a [&'a str]) -> Result<ArgMatches<'a>, clap
 }
 
 /// Reads the question from the parsed words.
-fn read(alloc: Global, matches: &ArgMatches<'_>) -> Result<StoreQuery, Refusal<'static>> {
+fn read(alloc: Global, matches: &ArgMatches<'_>) -> Result<Question, Refusal<'static>> {
     let (name, matches) = matches.subcommand().ok_or(Failure::Words)?;
-    store_query(alloc, name, matches)
+    question_of(alloc, name, matches)
 }
 
 /// Prints what the parser reports, of an error the first paragraph as one line, and returns the status.

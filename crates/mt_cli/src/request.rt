@@ -1,4 +1,5 @@
 //! The request that the arguments make.
+use crate::progress::Telling;
 use mt_record::{Head, records_below};
 use mt_recover::{Pieces, Workers};
 use mt_text::{Form, Selection};
@@ -15,6 +16,8 @@ pub enum Command<'a> {
     Check {
         folder: Folder<'a>,
         is_json: bool,
+        /// The picture to print in place of lines.
+        picture: Option<Picture>,
     },
     /// Makes the files of a folder those with which a server goes on after a crash.
     Resume(Folder<'a>, Resume),
@@ -29,6 +32,29 @@ pub enum Command<'a> {
 }
 
 impl Command<'_> {
+    /// Gives a chart this width, unless the arguments give one.
+    pub fn fit(&mut self, columns: Option<usize>) {
+        if let Command::Check {
+            picture: Some(Picture::Chart(width)),
+            ..
+        } = self
+        {
+            *width = width.or(columns);
+        }
+    }
+
+    /// Makes a command on a folder tell how far it has come, as fits a terminal.
+    pub fn tell_progress(&mut self) {
+        match self {
+            Command::Query(folder, _) => folder.telling = folder.telling.at_terminal(),
+            Command::Shell(folder, _) => folder.telling = folder.telling.at_terminal(),
+            Command::Resume(folder, _) => folder.telling = folder.telling.at_terminal(),
+            Command::Checkpoint(folder, _) => folder.telling = folder.telling.at_terminal(),
+            Command::Check { folder, .. } => folder.telling = folder.telling.at_terminal(),
+            Command::File { .. } => {}
+        }
+    }
+
     /// Makes a command that recovers a store tell what was lost or passed over, as `--verbose` does.
     pub fn tell_losses(&mut self) {
         match self {
@@ -52,6 +78,19 @@ pub struct Folder<'a> {
     pub is_verbose: bool,
     /// Whether what was lost or passed over is told after an answer.
     pub tells_losses: bool,
+    /// How it is told how far the command has come.
+    pub telling: Telling,
+    /// Recovery cuts the keys into at most this many pieces. 0: it replays none.
+    pub most_pieces: u32,
+}
+
+/// A picture of what is in files.
+#[derive(Clone, Copy, Debug)]
+pub enum Picture {
+    /// A chart of characters, in lines of this width, or of the usual one.
+    Chart(Option<usize>),
+    /// An SVG, as browsers show it.
+    Svg,
 }
 
 /// How to answer the lines of the input.
@@ -94,8 +133,27 @@ pub struct NewFolder<'a> {
 pub enum Query {
     /// A query on the recovered store. Recovery cuts the keys into at most this many pieces.
     Store(StoreQuery, Pieces),
+    /// What became of each update of a key.
+    History(Trace),
     /// The clashes of the logs, which take no store.
     Audit,
+}
+
+/// A question of a shell.
+#[derive(Debug, Drop)]
+pub enum Question {
+    /// A query on the recovered store.
+    Store(StoreQuery),
+    /// What became of each update of a key.
+    History(Trace),
+}
+
+/// The history of a key: what to print.
+#[derive(Debug, Drop)]
+pub struct Trace {
+    pub key: Key,
+    /// Whether JSON is printed.
+    pub is_json: bool,
 }
 
 /// A query on one file.

@@ -2,7 +2,7 @@
 ghost use Rattle.std.specs.Prelude.{◌≤◌};
 
 use crate::answering::PRINTED_AT_ONCE;
-use crate::caveat::{Caveat, tell_losses};
+use crate::caveat::Caveat;
 use crate::checked::{Checked, Sizes, write_file};
 use crate::checking::check_all;
 use crate::fates::{PartState, numbers_of};
@@ -17,7 +17,7 @@ use std::io::{self, BufWriter, Write};
 use std::thread::Threads;
 
 /// Resumes the files of these names, prints what became of each, and returns the exit status.
-pub fn resume<R, O: Write, E: Write>(
+pub fn resume<R, O: Write, E: Write + Send>(
     rt: &R,
     folder: &Folder<'_>,
     how: Resume,
@@ -35,7 +35,7 @@ where
 }
 
 /// Resumes the files of these names. The cutoff and the checkpoint that recovery chooses are the same after each step.
-fn resume_all<'a, R, O: Write, E: Write>(
+fn resume_all<'a, R, O: Write, E: Write + Send>(
     rt: &R,
     folder: &Folder<'_>,
     how: Resume,
@@ -53,15 +53,18 @@ where
         advice: "run it again: it goes on, and the store is the same; or write the store into a new folder by checkpoint",
     };
     expect_files(&site, &names.logs)?;
-    let checked = check_all(rt, folder, names)?;
-    checked.expect_opened()?;
+    let checked = check_all(rt, folder, names, err)?;
     let losses = checked.losses();
     let Checked {
         mut parts,
         sizes,
+        unopened,
         start,
         ..
     } = checked;
+    if let Some(refusal) = unopened {
+        return Err(Halt::from(refusal));
+    }
     let start = start?;
     if how.is_strict && losses.is_some() {
         return Ok(losses.map(Caveat::Losses));
@@ -81,9 +84,7 @@ where
     replace_logs(&site, &names.logs, cutoff, how, &mut out)?;
     write_cutoff(cutoff, Fields::new(&mut out, how.is_json))?;
     out.flush()?;
-    if folder.tells_losses {
-        tell_losses(losses, err);
-    }
+    folder.tell_losses(losses, err);
     Ok(None)
 }
 

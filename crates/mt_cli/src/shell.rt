@@ -2,25 +2,26 @@
 ghost use Rattle.std.specs.Prelude.{◌≤◌, IfOk, IfSome};
 
 use crate::answering::{PRINTED_AT_ONCE, print_answer};
-use crate::caveat::{Caveat, Losses, tell_losses};
+use crate::caveat::{Caveat, Losses};
 use crate::checkpointing::recover_folder;
 use crate::failure::tell;
 use crate::file_names::Names;
 use crate::grammar::PROMPT;
 use crate::halt::{Halt, tell_written};
 use crate::line::{LONGEST_LINE, Line, next_line, words_of};
+use crate::opening::{open_inputs, rack_of};
 use crate::question::question;
-use crate::request::{Folder, Shell, StoreQuery};
+use crate::request::{Folder, Question, Shell, Trace};
+use crate::tracing::trace;
 use mt_recover::{Failure, Recovered, Refusal};
 use mt_words::Fault;
-use std::alloc::Global;
 use std::fs::Files;
 use std::io::{self, BufReader, BufWriter, IsTerminal, Read, Write};
 use std::thread::Threads;
 use std::{mem, str};
 
 /// Recovers the store of the files of these names, answers the lines of the input, and returns the exit status.
-pub fn shell<R, I, O: Write, E: Write>(
+pub fn shell<R, I, O: Write, E: Write + Send>(
     rt: &R,
     folder: &Folder<'_>,
     how: Shell,
@@ -43,9 +44,9 @@ where
 
 /// Recovers the store, tells the losses if they are to be told, and answers the lines through a buffer. As in a query, the
 /// store is not freed.
-fn recover_and_answer<'a, R, I, O: Write, E: Write>(
-    rt: &R,
-    folder: &Folder<'_>,
+fn recover_and_answer<'a, R, I, O: Write, E: Write + Send>(
+    rt: &'a R,
+    folder: &'a Folder<'a>,
     how: Shell,
     names: &'a Names,
     input: &mut I,
@@ -58,36 +59,51 @@ where
     I: Read + IsTerminal,
     ensures { IfOk result (λ status. status ≤ 4) }
 {
-    let recovered = recover_folder(rt, folder, how.pieces, names)?;
-    if folder.tells_losses {
-        tell_losses(Losses::of(recovered.report()), err);
-    }
-    let mut out = BufWriter::with_capacity(rt.alloc(), PRINTED_AT_ONCE, out)?;
+    let recovered = recover_folder(rt, folder, how.pieces, names, err)?;
+    folder.tell_losses(Losses::of(recovered.report()), err);
     let session = Session {
-        alloc: rt.alloc(),
+        rt,
+        folder,
+        names,
         recovered: &recovered,
         how,
-        is_verbose: folder.is_verbose,
     };
-    let status = session.answer_lines(input, &mut out, err)?;
+    let status = session.answer_all(input, out, err)?;
     mem::forget(recovered);
     Ok(status)
 }
 
-/// Answers lines from one recovered store.
+/// Answers lines from one recovered store, or from the files of its folder.
 #[derive(Drop)]
-struct Session<'a> {
-    alloc: Global,
-    recovered: &'a Recovered,
+struct Session<'a, 'r, R> {
+    rt: &'a R,
+    folder: &'a Folder<'a>,
+    names: &'a Names,
+    recovered: &'r Recovered,
     how: Shell,
-    /// Whether a failure has a second line, which explains it.
-    is_verbose: bool,
 }
 
-impl<'a> Session<'a> {
+impl<'a, 'r, R> Session<'a, 'r, R>
+where
+    R: AllocGlobal + Files + Threads + Sync,
+    R::File: Send,
+{
+    /// Answers the lines of the input through a buffer, and returns the exit status. Err: read error, or out of memory.
+    fn answer_all<I: Read + IsTerminal, O: Write, E: Write + Send>(
+        &self,
+        input: &mut I,
+        out: &mut O,
+        err: &mut E,
+    ) -> Result<u8, Halt<'static>>
+        ensures { IfOk result (λ status. status ≤ 4) }
+    {
+        let mut out = BufWriter::with_capacity(self.rt.alloc(), PRINTED_AT_ONCE, out)?;
+        self.answer_lines(input, &mut out, err)
+    }
+
     /// Answers each line of the input, before it reads the next one, and returns the exit status. It ends early, with
     /// status 3, if the output fails. At a terminal it asks for each line. Err: read error, or out of memory.
-    fn answer_lines<I: Read + IsTerminal, O: Write, E: Write>(
+    fn answer_lines<I: Read + IsTerminal, O: Write, E: Write + Send>(
         &self,
         input: &mut I,
         out: &mut O,
@@ -97,8 +113,8 @@ impl<'a> Session<'a> {
     {
         let asks = input.is_terminal();
         let mut first = 0;
-        let mut text = Vec::new(self.alloc);
-        let mut lines = match BufReader::new(self.alloc, input) {
+        let mut text = Vec::new(self.rt.alloc());
+        let mut lines = match BufReader::new(self.rt.alloc(), input) {
             Ok(lines) => lines,
             Err(error) => return Err(self.unread(error)),
         };
@@ -128,7 +144,7 @@ impl<'a> Session<'a> {
     /// Returns that the input cannot be read.
     fn unread(&self, error: io::Error) -> Halt<'static> {
         Halt::stuck(
-            self.alloc,
+            self.rt.alloc(),
             "read",
             "standard input",
             error,
@@ -137,7 +153,7 @@ impl<'a> Session<'a> {
     }
 
     /// Answers a line and returns its status: 3 only if the output fails. None: it is blank, so it asks nothing.
-    fn answer_line<O: Write, E: Write>(
+    fn answer_line<O: Write, E: Write + Send>(
         &self,
         line: Line,
         text: &[u8],
@@ -152,7 +168,7 @@ impl<'a> Session<'a> {
         let Ok(text) = str::from_utf8(text) else {
             return Some(self.tell(&Refusal::from(Failure::Words), err));
         };
-        match words_of(self.alloc, text) {
+        match words_of(self.rt.alloc(), text) {
             Ok(words) if words.is_empty() => None,
             Ok(words) => Some(self.answer(&words, out, err)),
             Err(_) => Some(self.tell(&Refusal::from(Fault::Memory), err)),
@@ -160,31 +176,48 @@ impl<'a> Session<'a> {
     }
 
     /// Answers the question of these words and returns its status.
-    fn answer<O: Write, E: Write>(&self, words: &[&str], out: &mut O, err: &mut E) -> u8
+    fn answer<O: Write, E: Write + Send>(&self, words: &[&str], out: &mut O, err: &mut E) -> u8
         ensures { result ≤ 4 }
     {
-        let no_names = Names::new(self.alloc);
-        let explaining = self.is_verbose.then_some(&no_names);
-        let query = match question(self.alloc, words, explaining, out, err) {
-            Ok(query) => query,
+        let question = match question(self.rt.alloc(), words, self.explaining(), out, err) {
+            Ok(question) => question,
             Err(status) => return status,
         };
-        match self.print(&query, out) {
+        match self.print(&question, out, err) {
             Ok(None) => 0,
             Ok(Some(caveat)) => caveat.tell(err),
             Err(refusal) => self.tell(&refusal, err),
         }
     }
 
-    /// Prints the answer to a query, and flushes the output.
-    fn print<O: Write>(
+    /// Prints the answer to a question, and flushes the output.
+    fn print<O: Write, E: Write + Send>(
         &self,
-        query: &StoreQuery,
+        question: &Question,
         out: &mut O,
-    ) -> Result<Option<Caveat>, Refusal<'static>> {
-        let caveat = print_answer(self.recovered, query, out)?;
+        err: &mut E,
+    ) -> Result<Option<Caveat>, Refusal<'a>> {
+        let caveat = match question {
+            Question::Store(query) => print_answer(self.recovered, query, out)?,
+            Question::History(how) => {
+                self.trace(how, out, err)?;
+                None
+            }
+        };
         out.flush()?;
         Ok(caveat)
+    }
+
+    /// Reads the files again, and prints the history of a key.
+    fn trace<O: Write, E: Write + Send>(
+        &self,
+        how: &Trace,
+        out: &mut O,
+        err: &mut E,
+    ) -> Result<(), Refusal<'a>> {
+        let mut rack = rack_of(self.rt, self.names)?;
+        let inputs = open_inputs(self.rt, self.folder.path, self.names, rack.slots())?;
+        trace(self.rt, inputs, self.folder, how, self.names, out, err)
     }
 
     /// Ends an answer with the line of its status, if that is wanted. Returns the status, or 3 if the output fails.
@@ -205,8 +238,12 @@ impl<'a> Session<'a> {
     fn tell<E: Write>(&self, refusal: &Refusal<'_>, err: &mut E) -> u8
         ensures { result ≤ 3 }
     {
-        let no_names = Names::new(self.alloc);
-        tell(refusal, self.is_verbose.then_some(&no_names), err)
+        tell(refusal, self.explaining(), err)
+    }
+
+    /// Returns the names of the files, if a failure has a second line, which explains it.
+    fn explaining(&self) -> Option<&'a Names> {
+        self.folder.is_verbose.then_some(self.names)
     }
 
     /// Tells that a line is too long, and returns its status.
@@ -215,7 +252,7 @@ impl<'a> Session<'a> {
     {
         // A write error does not change the status.
         let _ = writeln!(err, "mtrecover: line too long");
-        if self.is_verbose {
+        if self.folder.is_verbose {
             let _ = writeln!(err, "try: write at most {LONGEST_LINE} bytes a line");
         }
         2

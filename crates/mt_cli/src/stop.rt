@@ -1,11 +1,14 @@
 //! Where the complete records of a log, or the entries of a part, stop before its bytes do.
 ghost use Rattle.std.specs.Prelude.{◌≤◌};
 
-use crate::ending::Ending;
-use mt_record::{FOOTER_BYTES, LogFront, Rest, footer_of};
+use crate::ending::{Again, Ending};
+use crate::spans::MANY_ZEROS;
+use mt_record::{FOOTER_BYTES, LogFront, Rest, footer_of, header_at};
 use mt_text::Stopped;
-use mt_words::{Format, What};
+use mt_words::{Format, Memory, What};
+use std::alloc::Global;
 use std::fmt::{self, Display, Formatter, Write};
+use std::io;
 
 /// Where the complete records of a log, or the entries of a part, stop before its bytes do, and what follows them.
 #[derive(Clone, Copy)]
@@ -32,18 +35,19 @@ enum Wrong {
 }
 
 impl Stop {
-    /// Returns where the records of these bytes stop. None: nothing follows them.
-    pub fn of(front: &LogFront, bytes: &[u8]) -> Option<Stop> {
+    /// Returns where the records of these bytes stop. None: nothing follows them. Err: out of memory.
+    pub fn of(alloc: Global, front: &LogFront, bytes: &[u8]) -> Result<Option<Stop>, Memory> {
         let fault = match front.rest {
-            Rest::Nothing => return None,
+            Rest::Nothing => return Ok(None),
             Rest::Torn => Wrong::Torn,
             Rest::Faulty(what) => Wrong::Record(what),
         };
-        let stop = Stop::at(front.head.format, bytes, front.bytes as usize)?;
-        Some(Stop {
+        let start = header_at(bytes).map_or(0, |(_, rest)| bytes.len().saturating_sub(rest.len()));
+        let stop = Stop::at(alloc, front.head.format, bytes, start, front.bytes as usize)?;
+        Ok(stop.map(|stop| Stop {
             reason: Some((front.count, fault)),
             ..stop
-        })
+        }))
     }
 
     /// Returns where the entries of a broken part stop, all of which were counted.
@@ -52,7 +56,7 @@ impl Stop {
             name: "entry",
             at: stopped.at,
             reason: Some((stopped.count, Wrong::Broken)),
-            ending: Ending::of(None, bytes.get(stopped.at..)?),
+            ending: Ending::of_part(bytes.get(stopped.at..)?),
         })
     }
 
@@ -67,22 +71,34 @@ impl Stop {
             name: "entry",
             at,
             reason: None,
-            ending: Ending::of(None, rest),
+            ending: Ending::of_part(rest),
         })
     }
 
-    /// Returns that records of this format stop at this byte. None: no byte follows.
-    pub fn at(format: Format, bytes: &[u8], at: usize) -> Option<Stop> {
-        let rest = bytes.get(at..)?;
-        if rest.is_empty() {
-            return None;
+    /// Returns that records of this format, from the byte `start` on, stop at this byte. None: no byte follows. Err: out of
+    /// memory.
+    pub fn at(
+        alloc: Global,
+        format: Format,
+        bytes: &[u8],
+        start: usize,
+        at: usize,
+    ) -> Result<Option<Stop>, Memory> {
+        if at >= bytes.len() {
+            return Ok(None);
         }
-        Some(Stop {
+        Ok(Some(Stop {
             name: "record",
             at,
             reason: None,
-            ending: Ending::of(Some(format), rest),
-        })
+            ending: Ending::of_log(alloc, format, bytes, start, at)?,
+        }))
+    }
+
+    /// Prints what may have happened to the file of this name, if it is damaged. A write error is passed over.
+    pub fn tell_hints<E: io::Write>(&self, name: &str, err: &mut E) {
+        let is_torn = matches!(self.reason, Some((_, Wrong::Torn)));
+        self.ending.tell_hints(!is_torn, name, err);
     }
 
     /// Returns the exit status after all was printed: 1 if a fault follows or the part is broken, else 4.
@@ -113,23 +129,24 @@ impl Stop {
     fn write_ending<W: Write>(&self, f: &mut Formatter<W>) -> fmt::Result {
         let Ending {
             bytes,
-            is_zero,
-            records,
-            before,
+            zeros,
+            again,
+            ..
         } = self.ending;
         let plural = if bytes == 1 { "" } else { "s" };
         write!(f, "; {bytes} byte{plural} left")?;
-        if is_zero {
+        if zeros > 0 && zeros == bytes {
             f.write_str(", all zero")?;
+        } else if zeros >= MANY_ZEROS {
+            write!(f, ", the last {zeros} of them zero")?;
         }
-        if records == 0 {
+        let Some(Again { at, records }) = again else {
             return Ok(());
-        }
-        let from = before.saturating_add(self.at as u64);
+        };
         let plural = if records == 1 { "" } else { "s" };
         write!(
             f,
-            ", whole again from byte {from} on ({records} record{plural}), which points to damage"
+            ", whole again from byte {at} on ({records} record{plural}), which points to damage"
         )
     }
 }

@@ -4,8 +4,10 @@ ghost use Rattle.std.specs.Prelude.{◌≤◌, IfErr};
 use crate::failure::{or_tell, tell};
 use crate::file_names::Names;
 use crate::grammar::grammar;
+use crate::progress::Telling;
 use crate::request::{
-    Command, Cut, FileQuery, Folder, NewFolder, Query, Range, Resume, Shell, StoreQuery,
+    Command, Cut, FileQuery, Folder, NewFolder, Picture, Query, Question, Range, Resume, Shell,
+    StoreQuery, Trace,
 };
 use crate::texts::{Text, tell_text};
 use clap::ArgMatches;
@@ -130,10 +132,19 @@ fn of_folder<'a>(
         workers: found(matches.get_one("workers").and_then(Workers::new))?,
         is_verbose: matches.get_flag("verbose"),
         tells_losses: matches.get_flag("verbose"),
+        telling: if matches.get_flag("progress") {
+            Telling::Lines
+        } else {
+            Telling::Never
+        },
+        most_pieces: matches.get_one("pieces").unwrap_or(0),
     };
     if name == "check" {
-        let is_json = matches.get_flag("json");
-        return Ok(Command::Check { folder, is_json });
+        return Ok(Command::Check {
+            folder,
+            is_json: matches.get_flag("json"),
+            picture: picture(matches),
+        });
     }
     if name == "resume" {
         return Ok(Command::Resume(folder, resume(matches)));
@@ -156,8 +167,21 @@ fn of_folder<'a>(
         };
         return Ok(Command::Shell(folder, shell));
     }
-    let query = Query::Store(store_query(alloc, name, matches)?, pieces);
+    let query = match question_of(alloc, name, matches)? {
+        Question::Store(query) => Query::Store(query, pieces),
+        Question::History(how) => Query::History(how),
+    };
     Ok(Command::Query(folder, query))
+}
+
+/// Returns the picture that is to be printed. None: no picture.
+fn picture(matches: &ArgMatches<'_>) -> Option<Picture> {
+    if matches.get_flag("svg") {
+        return Some(Picture::Svg);
+    }
+    let width: Option<u32> = matches.get_one("width");
+    let width = width.map(|width| width as usize);
+    matches.get_flag("chart").then_some(Picture::Chart(width))
 }
 
 /// Returns how to resume the files of a folder.
@@ -248,8 +272,23 @@ fn found<T>(value: Option<T>) -> Result<T, Refusal<'static>> {
     value.ok_or(Refusal::from(Failure::Words))
 }
 
+/// Returns the question of the subcommand of this name.
+pub fn question_of(
+    alloc: Global,
+    name: &str,
+    matches: &ArgMatches<'_>,
+) -> Result<Question, Refusal<'static>> {
+    if name == "history" {
+        return Ok(Question::History(Trace {
+            key: found(key(alloc, matches, "KEY")?)?,
+            is_json: matches.get_flag("json"),
+        }));
+    }
+    Ok(Question::Store(store_query(alloc, name, matches)?))
+}
+
 /// Returns the query on the store of the subcommand of this name.
-pub fn store_query(
+fn store_query(
     alloc: Global,
     name: &str,
     matches: &ArgMatches<'_>,
