@@ -5,7 +5,7 @@ use Rattle.std.proofs.lemmas.List.{length-append, flat_map_more}
 use Rattle.std.specs.List.{flat_map}
 use Rattle.mt_record.specs.Spelling.{framed}
 use Rattle.mt_record.specs.Heads.{NoneBegins}
-use Rattle.mt_record.proofs.Runs.{length_framed}
+use Rattle.mt_record.proofs.Unique.{length_framed}
 use Rattle.mt_laws.proofs.Decided.{Decided, same_bytes, both, some_or_none}
 
 -- the bytes begin with the encoding of a value that satisfies `Is`

@@ -1,6 +1,7 @@
 -- Bytes begin with at most one thing of each kind.
-use Rattle.std.proofs.Common.{◌≡◌, ℕ, ◌^◌, ◌<◌, List, [], ◌∷◌, ◌++◌, length, drop, Option, Some, None, refl, sym, ap, ◌∙◌, append_assoc, arith}
+use Rattle.std.proofs.Common.{◌≡◌, ℕ, ◌+◌, ◌^◌, ◌<◌, List, [], ◌∷◌, ◌++◌, length, drop, Option, Some, None, refl, sym, ap, ◌∙◌, append_assoc, arith}
 use Rattle.std.specs.Prelude.{slice_index, IfSome}
+use Rattle.std.proofs.lemmas.List.{length-append}
 use Rattle.std.specs.List.{flat_map, AllByRecursion}
 use Rattle.byteorder.specs.Endian.{big_bytes, big_from}
 use Rattle.byteorder.specs.Numbers.{big_number-reads_back, length-bytes_high_first}
@@ -128,6 +129,13 @@ same_body r s fits_r fits_s e =
     λ i. record { timestamp = same.0 i; change = same.1 i }
 
 -- ---- frames
+
+-- a frame has eight bytes more than its body
+pub length_framed : (bytes : List ℕ) → length (framed bytes) ≡ length bytes + 8
+length_framed bytes =
+    let number = big_bytes 4 (length bytes) in
+    let four : length number ≡ 4 = length-bytes_high_first 4 (length bytes) in
+    omega (arith, four, length-append number (bytes ++ number), length-append bytes number)
 
 -- a frame is a length, the bytes and the length again
 pub framed_apart : (bytes more : List ℕ) → framed bytes ++ more ≡ big_bytes 4 (length bytes) ++ (bytes ++ (big_bytes 4 (length bytes) ++ more))

@@ -16,7 +16,6 @@
 //! `feed.rt`.
 #![tactic(auto)]
 
-mod at_end;
 mod body;
 mod encode;
 mod feed;
@@ -30,7 +29,6 @@ mod read;
 mod resume;
 mod salvage;
 
-pub use at_end::{RecordsAtEnd, records_at_end};
 pub use body::lent::Lent;
 pub use body::lent_writes::LentWrites;
 pub use encode::parts::{

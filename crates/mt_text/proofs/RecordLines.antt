@@ -16,7 +16,7 @@ use Rattle.mt_record.specs.Fronts.{IsNext, Stops}
 use Rattle.mt_record.specs.Parts.{entry_spelling}
 use Rattle.mt_record.specs.PartFronts.{IsNextEntryOf}
 use Rattle.mt_record.proofs.Records.{records_push, latest_push}
-use Rattle.mt_record.proofs.Runs.{length_framed}
+use Rattle.mt_record.proofs.Unique.{length_framed}
 use Rattle.mt_text.specs.declared.listing.Selection.{Selection}
 use Rattle.mt_text.specs.declared.listing.Stopped.{Stopped}
 use Rattle.mt_text.specs.RecordText.{Item, Placed, placed_at, of_record, of_entry}

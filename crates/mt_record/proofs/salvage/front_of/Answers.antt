@@ -5,7 +5,7 @@ use Rattle.mt_words.specs.Limits.{limits_of}
 use Rattle.mt_record.specs.Spelling.{body, spelling}
 use Rattle.mt_record.specs.Fronts.{Stops}
 use Rattle.mt_record.proofs.Records.{records_push, latest_push}
-use Rattle.mt_record.proofs.Runs.{length_framed}
+use Rattle.mt_record.proofs.Unique.{length_framed}
 use Rattle.mt_record.proofs.Salvages.{all_kept, but_last_kept}
 use Rattle.mt_record.proofs.salvage.front_of.Goals as goal
 
