@@ -15,6 +15,7 @@ use mt_words::Fault;
 use std::alloc::Global;
 use std::fs::Files;
 use std::thread::Threads;
+use std::time::Clock;
 
 /// What the lines of a case say in one pass.
 #[derive(Drop)]
@@ -252,7 +253,7 @@ impl Case {
     /// Tries the case in this way. Returns what comes, as text, which is the expected text if it is what is expected.
     pub fn come<R>(&self, rt: &R, way: Way<'_>) -> Result<Vec<u8>, Mistake>
     where
-        R: AllocGlobal + Clone + Drop + Files + Threads + Sync,
+        R: AllocGlobal + Clock + Clone + Drop + Files + Threads + Sync,
         R::File: Send,
     {
         let size = match way {

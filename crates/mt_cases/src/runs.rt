@@ -12,6 +12,7 @@ use std::alloc::Global;
 use std::fs::Files;
 use std::io::Write;
 use std::thread::Threads;
+use std::time::Clock;
 
 /// A command.
 #[derive(Drop)]
@@ -90,7 +91,7 @@ impl Run {
         outputs: (Output, Output),
     ) -> Result<Ends, Mistake>
     where
-        R: AllocGlobal + Clone + Drop + Files + Threads + Sync,
+        R: AllocGlobal + Clock + Clone + Drop + Files + Threads + Sync,
         R::File: Send,
     {
         let (mut out, mut err) = outputs;
@@ -112,7 +113,7 @@ impl Run {
 
     /// Runs `mtrecover` on these logs and parts in place of a folder, with buffers of this size. Err if the command
     /// opens files itself, or a buffer is not back in its slot afterwards.
-    pub fn end_on<R: AllocGlobal + Files + Threads + Sync>(
+    pub fn end_on<R: AllocGlobal + Clock + Files + Threads + Sync>(
         &self,
         rt: &R,
         drafts: &[Draft],

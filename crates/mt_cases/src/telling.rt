@@ -7,6 +7,7 @@ use std::alloc::Global;
 use std::fs::Files;
 use std::io::{self, Write};
 use std::thread::Threads;
+use std::time::Clock;
 
 /// Counts of the cases so far. A line that is not understood counts as a case that does not hold, and so does a file
 /// that cannot be read.
@@ -55,7 +56,7 @@ impl Teller {
     /// Tries the cases of a file of this name and this text. Those after a line `refused` must not hold.
     pub fn try_text<R>(&mut self, rt: &R, file: &str, text: &str) -> io::Result<()>
     where
-        R: AllocGlobal + Clone + Drop + Files + Threads + Sync,
+        R: AllocGlobal + Clock + Clone + Drop + Files + Threads + Sync,
         R::File: Send,
     {
         let Ok(lines) = lines_of(rt.alloc(), text) else {
@@ -135,7 +136,7 @@ fn trial_of<'a, R>(
     at: &mut Line<'a>,
 ) -> Result<Trial, Mistake>
 where
-    R: AllocGlobal + Clone + Drop + Files + Threads + Sync,
+    R: AllocGlobal + Clock + Clone + Drop + Files + Threads + Sync,
     R::File: Send,
 {
     match (head.first_word(), body.first()) {

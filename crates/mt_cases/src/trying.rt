@@ -9,6 +9,7 @@ use std::alloc::Global;
 use std::fs::Files;
 use std::io::{self, Write};
 use std::thread::Threads;
+use std::time::Clock;
 
 /// Tries a case in each pass and each way of recovery, up to the first difference. Sets `at` to the line that the
 /// result is reported for.
@@ -20,7 +21,7 @@ pub fn try_case<'a, R>(
     at: &mut Line<'a>,
 ) -> Result<Trial, Mistake>
 where
-    R: AllocGlobal + Clone + Drop + Files + Threads + Sync,
+    R: AllocGlobal + Clock + Clone + Drop + Files + Threads + Sync,
     R::File: Send,
 {
     let (passes, lines) = passes_of(rt.alloc(), body, at)?;

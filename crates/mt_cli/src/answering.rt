@@ -24,11 +24,17 @@ use std::fs::Files;
 use std::io::{self, BufWriter, Write};
 use std::mem;
 use std::thread::Threads;
+use std::time::Clock;
 
 /// Answers the query from the sources, and returns the exit status: 0 if the answer was printed, 4 if it was with a
 /// caveat. On a failure, prints its line on `err` and returns its status. `names` are the files of the folder that the
 /// sources are of, for a second line. The output is buffered.
-pub fn answer<R: AllocGlobal + Files + Threads + Sync, S: Source + Send, O: Write, E: Write + Send>(
+pub fn answer<
+    R: AllocGlobal + Clock + Files + Threads + Sync,
+    S: Source + Send,
+    O: Write,
+    E: Write + Send,
+>(
     rt: &R,
     folder: &Folder<'_>,
     query: &Query,
@@ -45,7 +51,7 @@ pub fn answer<R: AllocGlobal + Files + Threads + Sync, S: Source + Send, O: Writ
 
 /// Recovers the store, or scans or audits the logs, and prints what the query asks for.
 fn answer_query<
-    R: AllocGlobal + Files + Threads + Sync,
+    R: AllocGlobal + Clock + Files + Threads + Sync,
     S: Source + Send,
     O: Write,
     E: Write + Send,
@@ -74,7 +80,7 @@ fn answer_query<
 /// to be told and no caveat does. The store is not freed: the process ends with its answer, and freeing a large store key by
 /// key takes a tenth of the time of its recovery.
 fn recover_and_print<
-    R: AllocGlobal + Files + Threads + Sync,
+    R: AllocGlobal + Clock + Files + Threads + Sync,
     S: Source + Send,
     O: Write,
     E: Write + Send,
@@ -100,7 +106,11 @@ fn recover_and_print<
 }
 
 /// Recovers the store, and tells on `err` how far it has come.
-pub fn recover_telling<R: AllocGlobal + Files + Threads + Sync, S: Source + Send, E: Write + Send>(
+pub fn recover_telling<
+    R: AllocGlobal + Clock + Files + Threads + Sync,
+    S: Source + Send,
+    E: Write + Send,
+>(
     rt: &R,
     inputs: Inputs<S>,
     folder: &Folder<'_>,
@@ -109,7 +119,13 @@ pub fn recover_telling<R: AllocGlobal + Files + Threads + Sync, S: Source + Send
     err: &mut E,
 ) -> Result<Recovered, Fault> {
     let bytes = total_size(rt, folder.path, names);
-    let meter = Meter::new(folder.telling, bytes, u64::from(folder.most_pieces), err);
+    let meter = Meter::new(
+        rt,
+        folder.telling,
+        bytes,
+        u64::from(folder.most_pieces),
+        err,
+    );
     let inputs = count_inputs(rt.alloc(), inputs, &meter)?;
     let cutting = Cutting::Sampled(pieces);
     let recovered = recover(rt, rt.alloc(), inputs, folder.workers, cutting, &meter);
@@ -122,7 +138,7 @@ pub const PRINTED_AT_ONCE: usize = 65_536;
 
 /// Audits the logs, and prints the line of each clash, through a buffer.
 fn audit_and_print<
-    R: AllocGlobal + Files + Threads + Sync,
+    R: AllocGlobal + Clock + Files + Threads + Sync,
     S: Source + Send,
     O: Write,
     E: Write + Send,
@@ -134,7 +150,13 @@ fn audit_and_print<
     out: &mut O,
     err: &mut E,
 ) -> Result<Option<Caveat>, Refusal<'static>> {
-    let meter = Meter::new(folder.telling, total_size(rt, folder.path, names), 0, err);
+    let meter = Meter::new(
+        rt,
+        folder.telling,
+        total_size(rt, folder.path, names),
+        0,
+        err,
+    );
     let inputs = count_inputs(rt.alloc(), inputs, &meter)?;
     let clashes = audit(rt, rt.alloc(), inputs, folder.workers);
     meter.end();

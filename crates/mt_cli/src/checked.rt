@@ -109,6 +109,26 @@ impl<'a> Checked<'a> {
             .max()
     }
 
+    /// Returns whether a record of the log is damaged, or the log seems torn though records follow.
+    pub fn is_damaged(&self, log: usize) -> bool {
+        let goes_on = self
+            .endings
+            .get(log)
+            .copied()
+            .flatten()
+            .is_some_and(|ending| ending.again.is_some());
+        match self
+            .logs
+            .get(log)
+            .and_then(front_of)
+            .map(|front| front.rest)
+        {
+            Some(Rest::Faulty(_)) => true,
+            Some(Rest::Torn) => goes_on,
+            Some(Rest::Nothing) | None => false,
+        }
+    }
+
     /// Prints what may have happened to each damaged log. A write error is passed over.
     pub fn tell_hints<E: Write>(&self, names: &Names, err: &mut E) {
         for ((name, check), ending) in names.logs.iter().zip(&self.logs).zip(&self.endings) {

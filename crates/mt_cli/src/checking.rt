@@ -22,6 +22,7 @@ use std::alloc::Global;
 use std::fs::Files;
 use std::io::{self, BufWriter, Write};
 use std::thread::Threads;
+use std::time::Clock;
 
 /// Checks the files of these names, prints what is in each, and returns the exit status: 0 if recovery loses nothing, 1
 /// if it names a fault, 4 if it loses something or passes over it.
@@ -35,7 +36,7 @@ pub fn check<R, O: Write, E: Write + Send>(
     err: &mut E,
 ) -> u8
 where
-    R: AllocGlobal + Files + Threads + Sync,
+    R: AllocGlobal + Clock + Files + Threads + Sync,
     R::File: Send,
     ensures status { result ≤ 4 }
 {
@@ -54,7 +55,7 @@ fn check_and_print<'a, R, O: Write, E: Write + Send>(
     err: &mut E,
 ) -> Result<Option<Caveat>, Refusal<'a>>
 where
-    R: AllocGlobal + Files + Threads + Sync,
+    R: AllocGlobal + Clock + Files + Threads + Sync,
     R::File: Send,
 {
     let checked = check_all(rt, folder, names, err)?;
@@ -64,8 +65,8 @@ where
         None => {
             checked.write(names, is_json, &mut out)?;
             checked.write_choice(rt.alloc(), is_json, &mut out)?;
-            if checked.start.is_err() && checked.sizes.are_known() {
-                write_ways(rt, folder, names, &checked.logs, is_json, &mut out)?;
+            if checked.sizes.are_known() {
+                write_ways(rt, folder, names, &checked, is_json, &mut out)?;
             }
         }
     }
@@ -90,12 +91,12 @@ pub fn check_all<'a, R, E: Write + Send>(
     err: &mut E,
 ) -> Result<Checked<'a>, Refusal<'a>>
 where
-    R: AllocGlobal + Files + Threads + Sync,
+    R: AllocGlobal + Clock + Files + Threads + Sync,
     R::File: Send,
 {
     let mut rack = rack_of(rt, names)?;
     let bytes = total_size(rt, folder.path, names);
-    let meter = Meter::new(folder.telling, bytes.saturating_mul(2), 0, err);
+    let meter = Meter::new(rt, folder.telling, bytes.saturating_mul(2), 0, err);
     let (mut logs, first) = check_named(rt, folder, names, &[], rack.slots(), u64::MAX, &meter)?;
     let Opened { sources, unopened } = open_each(rt, folder.path, &names.parts, &[], rack.slots())?;
     let mut unopened = first.or(unopened);
@@ -154,10 +155,10 @@ pub fn check_named<'a, R, E: Write + Send>(
     replaced: &[Option<Vec<u8>>],
     slots: &mut [Slot],
     limit: u64,
-    meter: &Meter<'_, E>,
+    meter: &Meter<'_, R, E>,
 ) -> Result<(Vec<Result<LogCheck, Fault>>, Option<Refusal<'a>>), Refusal<'a>>
 where
-    R: AllocGlobal + Files + Threads + Sync,
+    R: AllocGlobal + Clock + Files + Threads + Sync,
     R::File: Send,
 {
     let Opened { sources, unopened } = open_each(rt, folder.path, &names.logs, replaced, slots)?;

@@ -15,6 +15,7 @@ use std::fs::{File, Files, OpenFile};
 use std::io::{self, BufWriter, Write};
 use std::mem;
 use std::thread::Threads;
+use std::time::Clock;
 
 /// The name of the log that makes the checkpoint count.
 const LOG: &str = "log.mtl";
@@ -29,7 +30,7 @@ pub fn checkpoint<R, O: Write, E: Write + Send>(
     err: &mut E,
 ) -> u8
 where
-    R: AllocGlobal + Files + Threads + Sync,
+    R: AllocGlobal + Clock + Files + Threads + Sync,
     R::File: Send,
     ensures status { result ≤ 4 }
 {
@@ -47,7 +48,7 @@ fn recover_and_write<'a, R, O: Write, E: Write + Send>(
     err: &mut E,
 ) -> Result<Option<Caveat>, Halt<'a>>
 where
-    R: AllocGlobal + Files + Threads + Sync,
+    R: AllocGlobal + Clock + Files + Threads + Sync,
     R::File: Send,
 {
     let recovered = recover_folder(rt, folder, new.pieces, names, err)?;
@@ -83,7 +84,7 @@ pub fn recover_folder<'a, R, E: Write + Send>(
     err: &mut E,
 ) -> Result<Recovered, Refusal<'a>>
 where
-    R: AllocGlobal + Files + Threads + Sync,
+    R: AllocGlobal + Clock + Files + Threads + Sync,
     R::File: Send,
 {
     let mut rack = rack_of(rt, names)?;

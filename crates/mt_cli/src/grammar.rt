@@ -106,7 +106,7 @@ const VERBOSE: Argument = Argument(
 const PROGRESS: Argument = Argument(
     "progress",
     Kind::Flag,
-    "Print on standard error how far it has come, a line for each tenth",
+    "Print on standard error how far it has come, at most a line a second",
 );
 
 const JSON: Argument = Argument("json", Kind::Flag, "Print a JSON object a line");

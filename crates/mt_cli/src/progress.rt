@@ -1,20 +1,21 @@
-//! Tells how far a command has come: how much it has scanned, and how much it has replayed.
-use mt_recover::{Gate, Inputs, Pieces};
+//! Tells how far a command has come: how much it has scanned, how fast, and how much it has replayed.
+use mt_recover::{Gate, Inputs};
 use mt_scan::{Source, SourceFault};
 use mt_words::Memory;
-use std::alloc::Global;
+use std::alloc::{AllocError, AllocGlobal, Global};
 use std::io::Write;
 use std::sync::Mutex;
 use std::sync::atomic::{AtomicU64, Ordering};
+use std::time::{Clock, Instant};
 
 /// How it is told how far a command has come.
 #[derive(Clone, Copy, Debug, PartialEq, Eq)]
 pub enum Telling {
     /// Not at all.
     Never,
-    /// By a line for each tenth.
+    /// By a line a second at most, and one at the end.
     Lines,
-    /// By one line that is written again for each hundredth, as at a terminal.
+    /// By one line that is written again, as at a terminal.
     OneLine,
 }
 
@@ -26,16 +27,30 @@ impl Telling {
             Telling::Lines | Telling::OneLine => self,
         }
     }
+
+    /// Returns after how many milliseconds it is told again.
+    fn period(self) -> u64 {
+        match self {
+            Telling::Never => u64::MAX,
+            Telling::Lines => SECOND,
+            Telling::OneLine => SECOND / 4,
+        }
+    }
 }
 
-/// At a terminal no fewer bytes than these are told of: they are read in no time.
-const FEWEST_BYTES: u64 = 1 << 25;
+/// A second, in milliseconds.
+const SECOND: u64 = 1_000;
 
 /// Tells how far a command has come, on an output that no one else writes to meanwhile. Any threads may count at once. A line
 /// that another thread is writing is not waited for.
 #[derive(Drop)]
-pub struct Meter<'e, E> {
+pub struct Meter<'e, R, E> {
     telling: Telling,
+    rt: &'e R,
+    /// When it began. None: it is not told, or there is no clock.
+    start: Option<Instant>,
+    /// When it was told last, in milliseconds since it began.
+    told: AtomicU64,
     out: Mutex<&'e mut E>,
     bytes: Count,
     pieces: Count,
@@ -46,127 +61,170 @@ pub struct Meter<'e, E> {
 struct Count {
     done: AtomicU64,
     total: u64,
-    /// At how many it is told next.
-    next: AtomicU64,
-    /// After how many more it is told again.
-    step: u64,
 }
 
 impl Count {
-    /// Creates the count of so many, told for each of so many steps.
-    fn new(total: u64, steps: u64) -> Count {
-        let step = total.checked_div(steps).unwrap_or(0).max(1);
-        let next = if total == 0 {
-            u64::MAX
-        } else {
-            step.min(total)
-        };
+    /// Creates the count of so many.
+    fn new(total: u64) -> Count {
         Count {
             done: AtomicU64::new(0),
             total,
-            next: AtomicU64::new(next),
-            step,
         }
     }
 
-    /// Counts some more, and returns how many there are.
-    fn add(&self, more: u64) -> u64 {
-        self.done
-            .fetch_add(more, Ordering::SeqCst)
-            .wrapping_add(more)
-    }
-
-    /// Returns whether so many are to be told.
-    fn is_due(&self, done: u64) -> bool {
-        done >= self.next.load(Ordering::SeqCst)
-    }
-
-    /// Notes that so many are told.
-    fn note(&self, done: u64) {
-        let next = if done >= self.total {
-            u64::MAX
-        } else {
-            done.saturating_add(self.step).min(self.total)
-        };
-        self.next.store(next, Ordering::SeqCst);
+    /// Counts some more. Returns how many there are, and whether these complete all.
+    fn add(&self, more: u64) -> (u64, bool) {
+        let before = self.done.fetch_add(more, Ordering::SeqCst);
+        let done = before.wrapping_add(more);
+        (done, before < self.total && self.total <= done)
     }
 
     /// Returns how many hundredths of all so many are.
     fn hundredths(&self, done: u64) -> u128 {
         u128::from(done.min(self.total)).saturating_mul(100) / u128::from(self.total).max(1)
     }
+
+    /// Returns how many seconds are left if so many took so many milliseconds.
+    fn seconds_left(&self, done: u64, elapsed: u64) -> u128 {
+        let left = u128::from(self.total.saturating_sub(done));
+        let wanted = left.saturating_mul(u128::from(elapsed)) / u128::from(done).max(1);
+        wanted.div_ceil(u128::from(SECOND))
+    }
 }
 
-impl<'e, E: Write> Meter<'e, E> {
+impl<'e, R: AllocGlobal + Clock, E: Write> Meter<'e, R, E> {
     /// Creates a meter of so many bytes and so many pieces.
-    pub fn new(telling: Telling, bytes: u64, pieces: u64, out: &'e mut E) -> Meter<'e, E> {
-        let (telling, steps) = match telling {
-            Telling::OneLine if bytes >= FEWEST_BYTES => (Telling::OneLine, 100),
-            Telling::OneLine | Telling::Never => (Telling::Never, 1),
-            Telling::Lines => (Telling::Lines, 10),
+    pub fn new(
+        rt: &'e R,
+        telling: Telling,
+        bytes: u64,
+        pieces: u64,
+        out: &'e mut E,
+    ) -> Meter<'e, R, E> {
+        let start = if telling == Telling::Never {
+            None
+        } else {
+            Instant::now(rt).ok()
         };
         Meter {
             telling,
+            rt,
+            start,
+            told: AtomicU64::new(0),
             out: Mutex::new(out),
-            bytes: Count::new(bytes, steps),
-            pieces: Count::new(pieces, steps),
+            bytes: Count::new(bytes),
+            pieces: Count::new(pieces),
         }
     }
 
     /// Counts bytes that were scanned.
     fn scanned(&self, bytes: u64) {
-        if self.telling != Telling::Never {
-            self.count(&self.bytes, bytes, "scanned", "", "bytes");
+        if self.telling == Telling::Never {
+            return;
+        }
+        let (done, is_end) = self.bytes.add(bytes);
+        let now = self.elapsed();
+        if self.is_due(now, is_end) {
+            self.tell(
+                scan_line(self.rt.alloc(), &self.bytes, done, now),
+                now,
+                is_end,
+            );
         }
     }
 
     /// Counts a piece that is replayed.
     fn replayed(&self) {
-        if self.telling != Telling::Never {
-            self.count(&self.pieces, 1, "replayed", "at most ", "pieces");
+        if self.telling == Telling::Never {
+            return;
+        }
+        let (done, is_end) = self.pieces.add(1);
+        let now = self.elapsed();
+        if self.is_due(now, is_end) {
+            self.tell(
+                replay_line(self.rt.alloc(), &self.pieces, done),
+                now,
+                is_end,
+            );
         }
     }
 
-    /// Counts some more, and tells if it is time. A write error is passed over.
-    fn count(&self, count: &Count, more: u64, verb: &str, at_most: &str, things: &str) {
-        let done = count.add(more);
-        if !count.is_due(done) {
-            return;
+    /// Returns how many milliseconds it has taken so far, or 0 if there is no clock.
+    fn elapsed(&self) -> u64 {
+        let Some(start) = &self.start else {
+            return 0;
+        };
+        match start.elapsed(self.rt) {
+            Ok(elapsed) => u64::try_from(elapsed.as_millis()).unwrap_or(u64::MAX),
+            Err(_) => 0,
         }
+    }
+
+    /// Returns whether it is time to tell. By lines the end is told too.
+    fn is_due(&self, now: u64, is_end: bool) -> bool {
+        let since = now.saturating_sub(self.told.load(Ordering::SeqCst));
+        since >= self.telling.period() || (is_end && self.telling == Telling::Lines)
+    }
+
+    /// Writes the line at once. A write error is passed over.
+    fn tell(&self, line: Result<String, AllocError>, now: u64, is_end: bool) {
+        let Ok(line) = line else {
+            return;
+        };
         let Some(mut guard) = self.out.try_lock() else {
             return;
         };
         // Another thread may have told meanwhile.
-        if !count.is_due(done) {
+        if !self.is_due(now, is_end) {
             return;
         }
-        count.note(done);
-        let out: &mut E = &mut **guard;
-        let (hundredths, total) = (count.hundredths(done), count.total);
-        let _ = match self.telling {
-            Telling::OneLine => write!(
-                out,
-                "\r\x1b[Kmtrecover: {verb} {hundredths} % of {at_most}{total} {things}"
-            ),
-            _ => writeln!(
-                out,
-                "mtrecover: {verb} {hundredths} % of {at_most}{total} {things}"
-            ),
+        self.told.store(now, Ordering::SeqCst);
+        let text = match self.telling {
+            Telling::OneLine => format!(in self.rt.alloc(); "\r\x1b[Kmtrecover: {line}"),
+            _ => format!(in self.rt.alloc(); "mtrecover: {line}\n"),
         };
+        let Ok(text) = text else {
+            return;
+        };
+        let out: &mut E = &mut **guard;
+        let _ = out.write_all(text.as_bytes());
         let _ = out.flush();
     }
 
     /// Ends the line that is written again: takes it away. A write error is passed over.
     pub fn end(self) {
-        let Meter { telling, out, .. } = self;
-        if telling == Telling::OneLine {
+        let Meter {
+            telling,
+            told,
+            out,
+            ..
+        } = self;
+        if telling == Telling::OneLine && told.load(Ordering::SeqCst) > 0 {
             let _ = out.into_inner().write_all(b"\r\x1b[K");
         }
     }
 }
 
+/// Returns how much was scanned, and after a second how fast, and how long it will take.
+fn scan_line(alloc: Global, bytes: &Count, done: u64, now: u64) -> Result<String, AllocError> {
+    let (hundredths, total) = (bytes.hundredths(done), bytes.total);
+    let line = format!(in alloc; "scanned {hundredths} % of {total} bytes")?;
+    if now < SECOND {
+        return Ok(line);
+    }
+    // Bytes a millisecond are kilobytes a second.
+    let (rate, left) = (done / now / 1_000, bytes.seconds_left(done, now));
+    format!(in alloc; "{line}, {rate} MB/s, {left} s left")
+}
+
+/// Returns how many pieces were replayed, of which there may be fewer than all.
+fn replay_line(alloc: Global, pieces: &Count, done: u64) -> Result<String, AllocError> {
+    let (hundredths, total) = (pieces.hundredths(done), pieces.total);
+    format!(in alloc; "replayed {hundredths} % of at most {total} pieces")
+}
+
 /// A worker enters a piece to replay it.
-impl<'e, E: Write + Send> Gate for Meter<'e, E> {
+impl<'e, R: AllocGlobal + Clock + Sync, E: Write + Send> Gate for Meter<'e, R, E> {
     fn enter(&self, _worker: u32, _piece: u32) {
         self.replayed();
     }
@@ -174,12 +232,12 @@ impl<'e, E: Write + Send> Gate for Meter<'e, E> {
 
 /// A source whose bytes a meter counts.
 #[derive(Drop)]
-pub struct Counted<'m, 'e, S, E> {
+pub struct Counted<'m, 'e, S, R, E> {
     source: S,
-    meter: &'m Meter<'e, E>,
+    meter: &'m Meter<'e, R, E>,
 }
 
-impl<'m, 'e, S: Source, E: Write> Source for Counted<'m, 'e, S, E> {
+impl<'m, 'e, S: Source, R: AllocGlobal + Clock, E: Write> Source for Counted<'m, 'e, S, R, E> {
     ghost seen = { λ counted. S.seen counted.source };
 
     fn advance(&mut self) -> Result<usize, SourceFault> {
@@ -196,11 +254,11 @@ impl<'m, 'e, S: Source, E: Write> Source for Counted<'m, 'e, S, E> {
 }
 
 /// Lets the meter count the bytes of these sources. Err: out of memory.
-pub fn count_all<'m, 'e, S: Drop, E>(
+pub fn count_all<'m, 'e, S: Drop, R, E>(
     alloc: Global,
     sources: Vec<S>,
-    meter: &'m Meter<'e, E>,
-) -> Result<Vec<Counted<'m, 'e, S, E>>, Memory> {
+    meter: &'m Meter<'e, R, E>,
+) -> Result<Vec<Counted<'m, 'e, S, R, E>>, Memory> {
     let mut counted = Vec::with_capacity(alloc, sources.len())?;
     for source in sources {
         counted.push(Counted { source, meter })?;
@@ -209,11 +267,11 @@ pub fn count_all<'m, 'e, S: Drop, E>(
 }
 
 /// Lets the meter count the bytes of these inputs. Err: out of memory.
-pub fn count_inputs<'m, 'e, S: Drop, E>(
+pub fn count_inputs<'m, 'e, S: Drop, R, E>(
     alloc: Global,
     inputs: Inputs<S>,
-    meter: &'m Meter<'e, E>,
-) -> Result<Inputs<Counted<'m, 'e, S, E>>, Memory> {
+    meter: &'m Meter<'e, R, E>,
+) -> Result<Inputs<Counted<'m, 'e, S, R, E>>, Memory> {
     let Inputs { logs, parts } = inputs;
     Ok(Inputs {
         logs: count_all(alloc, logs, meter)?,

@@ -15,6 +15,7 @@ use mt_text::Fields;
 use std::fs::Files;
 use std::io::{self, BufWriter, Write};
 use std::thread::Threads;
+use std::time::Clock;
 
 /// Resumes the files of these names, prints what became of each, and returns the exit status.
 pub fn resume<R, O: Write, E: Write + Send>(
@@ -26,7 +27,7 @@ pub fn resume<R, O: Write, E: Write + Send>(
     err: &mut E,
 ) -> u8
 where
-    R: AllocGlobal + Files + Threads + Sync,
+    R: AllocGlobal + Clock + Files + Threads + Sync,
     R::File: Send,
     ensures status { result ≤ 4 }
 {
@@ -44,7 +45,7 @@ fn resume_all<'a, R, O: Write, E: Write + Send>(
     err: &mut E,
 ) -> Result<Option<Caveat>, Halt<'a>>
 where
-    R: AllocGlobal + Files + Threads + Sync,
+    R: AllocGlobal + Clock + Files + Threads + Sync,
     R::File: Send,
 {
     let site = Site {

@@ -20,6 +20,7 @@ use std::env::{self, Env};
 use std::fs::Files;
 use std::io::{self, IsTerminal, Read, Write};
 use std::thread::Threads;
+use std::time::Clock;
 
 /// Does what the arguments of the process ask and returns the exit status. Only `shell` reads the input.
 pub fn run<R, I, O: Write, E: Write + IsTerminal + Send>(
@@ -29,7 +30,7 @@ pub fn run<R, I, O: Write, E: Write + IsTerminal + Send>(
     err: &mut E,
 ) -> u8
 where
-    R: AllocGlobal + Clone + Drop + Env + Files + Threads + Sync,
+    R: AllocGlobal + Clock + Clone + Drop + Env + Files + Threads + Sync,
     R::File: Send,
     I: Read + IsTerminal,
     ensures status { result ≤ 4 }
@@ -76,7 +77,7 @@ pub fn run_words<R, I, O: Write, E: Write + Send>(
     err: &mut E,
 ) -> u8
 where
-    R: AllocGlobal + Clone + Drop + Files + Threads + Sync,
+    R: AllocGlobal + Clock + Clone + Drop + Files + Threads + Sync,
     R::File: Send,
     I: Read + IsTerminal,
     ensures status { result ≤ 4 }
@@ -96,7 +97,7 @@ fn try_words<R, I, O: Write, E: Write + Send>(
     err: &mut E,
 ) -> Result<u8, u8>
 where
-    R: AllocGlobal + Clone + Drop + Files + Threads + Sync,
+    R: AllocGlobal + Clock + Clone + Drop + Files + Threads + Sync,
     R::File: Send,
     I: Read + IsTerminal,
     ensures answered { IfOk result (λ status. status ≤ 4) }
@@ -151,7 +152,7 @@ fn answer_folder<R, O: Write, E: Write + Send>(
     err: &mut E,
 ) -> Result<u8, u8>
 where
-    R: AllocGlobal + Clone + Drop + Files + Threads + Sync,
+    R: AllocGlobal + Clock + Clone + Drop + Files + Threads + Sync,
     R::File: Send,
     ensures answered { IfOk result (λ status. status ≤ 4) }
     ensures not { IfErr result (λ status. status ≤ 3) }

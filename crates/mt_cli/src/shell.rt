@@ -1,5 +1,5 @@
 //! Answers the subcommand `shell`: recovers the store of a folder once, and answers the lines of the input.
-ghost use Rattle.std.specs.Prelude.{◌≤◌, IfOk, IfSome};
+ghost use Rattle.std.specs.Prelude.{◌≡◌, ◌≤◌, IfOk};
 
 use crate::answering::{PRINTED_AT_ONCE, print_answer};
 use crate::caveat::{Caveat, Losses};
@@ -18,6 +18,7 @@ use mt_words::Fault;
 use std::fs::Files;
 use std::io::{self, BufReader, BufWriter, IsTerminal, Read, Write};
 use std::thread::Threads;
+use std::time::Clock;
 use std::{mem, str};
 
 /// Recovers the store of the files of these names, answers the lines of the input, and returns the exit status.
@@ -31,7 +32,7 @@ pub fn shell<R, I, O: Write, E: Write + Send>(
     err: &mut E,
 ) -> u8
 where
-    R: AllocGlobal + Files + Threads + Sync,
+    R: AllocGlobal + Clock + Files + Threads + Sync,
     R::File: Send,
     I: Read + IsTerminal,
     ensures status { result ≤ 4 }
@@ -54,7 +55,7 @@ fn recover_and_answer<'a, R, I, O: Write, E: Write + Send>(
     err: &mut E,
 ) -> Result<u8, Halt<'a>>
 where
-    R: AllocGlobal + Files + Threads + Sync,
+    R: AllocGlobal + Clock + Files + Threads + Sync,
     R::File: Send,
     I: Read + IsTerminal,
     ensures { IfOk result (λ status. status ≤ 4) }
@@ -73,6 +74,10 @@ where
     Ok(status)
 }
 
+/// The output failed, which was told and ends the shell with status 3.
+#[derive(Drop)]
+struct OutputFailed;
+
 /// Answers lines from one recovered store, or from the files of its folder.
 #[derive(Drop)]
 struct Session<'a, 'r, R> {
@@ -85,7 +90,7 @@ struct Session<'a, 'r, R> {
 
 impl<'a, 'r, R> Session<'a, 'r, R>
 where
-    R: AllocGlobal + Files + Threads + Sync,
+    R: AllocGlobal + Clock + Files + Threads + Sync,
     R::File: Send,
 {
     /// Answers the lines of the input through a buffer, and returns the exit status. Err: read error, or out of memory.
@@ -127,16 +132,16 @@ where
                 Ok(line) => line,
                 Err(error) => return Err(self.unread(error)),
             };
-            let Some(status) = self.answer_line(line, &text, out, err) else {
-                continue;
-            };
-            let status = self.end_answer(status, out, err);
-            if status == 3 {
+            let Ok(status) = self.answer_line(line, &text, out, err) else {
                 return Ok(3);
-            }
+            };
             if first == 0 && self.how.is_strict {
                 first = status;
             }
+        }
+        if asks {
+            // What prints next begins a line of its own.
+            let _ = writeln!(err);
         }
         Ok(first)
     }
@@ -152,41 +157,56 @@ where
         )
     }
 
-    /// Answers a line and returns its status: 3 only if the output fails. None: it is blank, so it asks nothing.
+    /// Answers a line, ends the answer with the line of its status, if that is wanted, and returns the status. A blank line
+    /// asks nothing: its status is 0.
     fn answer_line<O: Write, E: Write + Send>(
         &self,
         line: Line,
         text: &[u8],
         out: &mut O,
         err: &mut E,
-    ) -> Option<u8>
-        ensures { IfSome result (λ status. status ≤ 4) }
+    ) -> Result<u8, OutputFailed>
+        ensures { IfOk result (λ status. status ≤ 4) }
     {
         if matches!(&line, Line::TooLong) {
-            return Some(self.tell_too_long(err));
+            return self.end_answer(self.tell_too_long(err), out, err);
         }
         let Ok(text) = str::from_utf8(text) else {
-            return Some(self.tell(&Refusal::from(Failure::Words), err));
+            return self.end_answer(self.tell(&Refusal::from(Failure::Words), err), out, err);
         };
-        match words_of(self.rt.alloc(), text) {
-            Ok(words) if words.is_empty() => None,
-            Ok(words) => Some(self.answer(&words, out, err)),
-            Err(_) => Some(self.tell(&Refusal::from(Fault::Memory), err)),
-        }
+        let status = match words_of(self.rt.alloc(), text) {
+            Ok(words) if words.is_empty() => return Ok(0),
+            Ok(words) => self.answer(&words, out, err)?,
+            Err(_) => self.tell(&Refusal::from(Fault::Memory), err),
+        };
+        self.end_answer(status, out, err)
     }
 
     /// Answers the question of these words and returns its status.
-    fn answer<O: Write, E: Write + Send>(&self, words: &[&str], out: &mut O, err: &mut E) -> u8
-        ensures { result ≤ 4 }
+    fn answer<O: Write, E: Write + Send>(
+        &self,
+        words: &[&str],
+        out: &mut O,
+        err: &mut E,
+    ) -> Result<u8, OutputFailed>
+        ensures { IfOk result (λ status. status ≤ 4) }
     {
         let question = match question(self.rt.alloc(), words, self.explaining(), out, err) {
             Ok(question) => question,
-            Err(status) => return status,
+            // The help that the words ask for cannot be printed.
+            Err(3) => return Err(OutputFailed),
+            Err(status) => return Ok(status),
         };
         match self.print(&question, out, err) {
-            Ok(None) => 0,
-            Ok(Some(caveat)) => caveat.tell(err),
-            Err(refusal) => self.tell(&refusal, err),
+            Ok(None) => Ok(0),
+            Ok(Some(caveat)) => Ok(caveat.tell(err)),
+            Err(refusal) => {
+                let status = self.tell(&refusal, err);
+                match refusal.failure {
+                    Failure::Output => Err(OutputFailed),
+                    _ => Ok(status),
+                }
+            }
         }
     }
 
@@ -220,18 +240,22 @@ where
         trace(self.rt, inputs, self.folder, how, self.names, out, err)
     }
 
-    /// Ends an answer with the line of its status, if that is wanted. Returns the status, or 3 if the output fails.
-    fn end_answer<O: Write, E: Write>(&self, status: u8, out: &mut O, err: &mut E) -> u8
-        requires { status ≤ 4 }
-        ensures { result ≤ 4 }
+    /// Ends an answer with the line of its status, if that is wanted, and returns the status.
+    fn end_answer<O: Write, E: Write>(
+        &self,
+        status: u8,
+        out: &mut O,
+        err: &mut E,
+    ) -> Result<u8, OutputFailed>
+        ensures { IfOk result (λ same. same ≡ status) }
     {
-        if !self.how.has_status || status == 3 {
-            return status;
+        if self.how.has_status {
+            if let Err(error) = write_status(status, out) {
+                let _ = self.tell(&Refusal::from(error), err);
+                return Err(OutputFailed);
+            }
         }
-        match write_status(status, out) {
-            Ok(()) => status,
-            Err(error) => self.tell(&Refusal::from(error), err),
-        }
+        Ok(status)
     }
 
     /// Tells a failure and returns its status.

@@ -14,12 +14,13 @@ use std::alloc::{AllocError, Global};
 use std::fs::Files;
 use std::io::{self, BufWriter, Write};
 use std::thread::Threads;
+use std::time::Clock;
 
 /// Scans the logs, one after the other, and the parts, and prints a line for each update of a key, through a buffer. `names`
 /// are the files of the sources.
 pub fn trace<
     'a,
-    R: AllocGlobal + Files + Threads + Sync,
+    R: AllocGlobal + Clock + Files + Threads + Sync,
     S: Source + Send,
     O: Write,
     E: Write + Send,
@@ -32,7 +33,13 @@ pub fn trace<
     out: &mut O,
     err: &mut E,
 ) -> Result<(), Refusal<'a>> {
-    let meter = Meter::new(folder.telling, total_size(rt, folder.path, names), 0, err);
+    let meter = Meter::new(
+        rt,
+        folder.telling,
+        total_size(rt, folder.path, names),
+        0,
+        err,
+    );
     let Inputs { logs, parts } = count_inputs(rt.alloc(), inputs, &meter)?;
     if logs.is_empty() {
         return Err(Refusal::from(Fault::NoLogs));

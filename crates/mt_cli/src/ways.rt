@@ -1,18 +1,19 @@
 //! What recovery would find once damaged logs are cut.
+use crate::checked::Checked;
 use crate::checking::check_named;
 use crate::cutting::cut;
 use crate::file_names::Names;
 use crate::opening::{Opened, open_each, rack_of};
 use crate::progress::{Meter, Telling};
 use crate::request::{Cut, Folder};
-use mt_record::Rest;
-use mt_recover::{Failure, LogCheck, Refusal, Window, check_parts, start_of};
+use mt_recover::{Failure, Refusal, Window, check_parts, start_of};
 use mt_scan::{Checkpoint, Slot};
 use mt_text::{Fields, Value};
 use mt_words::Fault;
 use std::fs::Files;
 use std::io::{self, Write};
 use std::thread::Threads;
+use std::time::Clock;
 
 /// A way to cut damaged logs.
 #[derive(Clone, Copy)]
@@ -41,22 +42,23 @@ struct Outlook {
     survivors: u128,
 }
 
-/// Prints a line for each way to cut all logs in which a record is damaged, with what recovery would find then, or the fault
-/// that it would name. Reads the files again for each. Prints nothing if no record is damaged.
+/// Prints a line for each way to cut all logs in which a record is damaged, or seems torn though records follow it: what
+/// recovery would find then, or the fault that it would name. Reads the files again for each. Prints nothing if there is no
+/// such log.
 pub fn write_ways<R, W: Write>(
     rt: &R,
     folder: &Folder<'_>,
     names: &Names,
-    checks: &[Result<LogCheck, Fault>],
+    checked: &Checked<'_>,
     is_json: bool,
     out: &mut W,
 ) -> Result<(), Refusal<'static>>
 where
-    R: AllocGlobal + Files + Threads + Sync,
+    R: AllocGlobal + Clock + Files + Threads + Sync,
     R::File: Send,
 {
-    let damaged: Vec<usize> = (0..checks.len())
-        .filter(|log| checks.get(*log).is_some_and(is_damaged))
+    let damaged: Vec<usize> = (0..checked.logs.len())
+        .filter(|log| checked.is_damaged(*log))
         .collect(rt.alloc())?;
     if damaged.is_empty() {
         return Ok(());
@@ -69,14 +71,6 @@ where
         write_outlook(outlook, line)?;
     }
     Ok(())
-}
-
-/// Returns whether a record is damaged.
-fn is_damaged(check: &Result<LogCheck, Fault>) -> bool {
-    match check {
-        Ok(check) => matches!(check.front.rest, Rest::Faulty(_)),
-        Err(_) => false,
-    }
 }
 
 /// Prints what recovery would find, or why it would not, which ends the line, since it has blanks. Err: write error, or out
@@ -109,13 +103,13 @@ fn look_ahead<'a, R>(
     way: Way,
 ) -> Result<Outlook, Refusal<'a>>
 where
-    R: AllocGlobal + Files + Threads + Sync,
+    R: AllocGlobal + Clock + Files + Threads + Sync,
     R::File: Send,
 {
     let cuts = cut_all(rt, folder.path, &names.logs, damaged, way)?;
     let mut rack = rack_of(rt, names)?;
     let mut nowhere = io::sink();
-    let meter = Meter::new(Telling::Never, 0, 0, &mut nowhere);
+    let meter = Meter::new(rt, Telling::Never, 0, 0, &mut nowhere);
     let (checks, _) = check_named(rt, folder, names, &cuts, rack.slots(), u64::MAX, &meter)?;
     let Opened {
         sources,
@@ -142,10 +136,10 @@ fn count_from<'a, R, E: Write + Send>(
     cuts: &[Option<Vec<u8>>],
     slots: &mut [Slot],
     timestamp: u64,
-    meter: &Meter<'_, E>,
+    meter: &Meter<'_, R, E>,
 ) -> Result<u128, Refusal<'a>>
 where
-    R: AllocGlobal + Files + Threads + Sync,
+    R: AllocGlobal + Clock + Files + Threads + Sync,
     R::File: Send,
 {
     let (checks, _) = check_named(rt, folder, names, cuts, slots, timestamp, meter)?;
