@@ -1,11 +1,10 @@
 -- What a piece has of updates that were dealt to the pieces.
-use Rattle.std.proofs.Common.{◌≡◌, ◌≢◌, ◌∙◌, inl, inr, ℕ, zero, suc, ◌+◌, ◌<◌, ◌≤◌, true, false, List, [], ◌++◌, length, length-append, map, take, get_or, IsPermutation, refl, sym, ap, subst, arith}
+use Rattle.std.proofs.Common.{◌≡◌, ◌≢◌, ◌∙◌, inl, inr, ℕ, zero, suc, ◌+◌, ◌<◌, ◌≤◌, true, false, List, [], ◌++◌, length, length-append, map, take, get_or, refl, sym, ap, arith}
 use Rattle.std.specs.List.{range_with_len}
 use Rattle.std.proofs.lemmas.Bool.{cases_lt}
 use Rattle.std.proofs.lemmas.List.{append-nil, same_lists, get_or_default}
 use Rattle.std.proofs.lemmas.List.FromFn.{map-range_with_len_more}
 use Rattle.std.proofs.lemmas.List.Elements.{All-weaker, filter-append, filter_passes}
-use Rattle.std.proofs.lemmas.List.Sorted.{IsPermutation-trans, IsPermutation-append_left, IsPermutation-append_comm}
 use Rattle.itertools.proofs.KMergeLemmas.{joined-more}
 use Rattle.mt_words.specs.declared.update.Update.{Update}
 use Rattle.mt_words.specs.Words.{AreRising}
@@ -79,11 +78,6 @@ dealt_anew cuts ranges are =
     let within : k < length cuts + 1 = omega (arith, lt, count) in
     own_range cuts ranges k (get_or ranges k d) are (omega (arith, within)) (get_or_default ranges k d (get_or ranges k d) lt) ∙ sym (dealt_at cuts (joined ranges) k d within))
 
--- the runs of a piece have its updates, if the texts of its range are among them
-pub of_runs : (cuts : List (List ℕ)) (logged held range texts runs : List Update) (i : ℕ) → range ≡ updates_in cuts i logged → IsPermutation range texts → runs ≡ updates_in cuts i held ++ texts
-    → IsPermutation (updates_in cuts i (logged ++ held)) runs
-of_runs cuts logged held range texts runs i is moved all =
-    let kept : List Update = updates_in cuts i held in
-    let split : updates_in cuts i (logged ++ held) ≡ range ++ kept = filter-append (λ (u : Update). in_piece cuts i u.key) logged held ∙ ap (λ (ws : List Update). ws ++ kept) (sym is) in
-    let both : IsPermutation (range ++ kept) (kept ++ texts) = IsPermutation-trans (range ++ kept) (texts ++ kept) (kept ++ texts) (IsPermutation-append_left kept range texts moved) (IsPermutation-append_comm texts kept) in
-    subst (λ (ws : List Update). IsPermutation ws runs) (sym split) (subst (IsPermutation (range ++ kept)) (sym all) both)
+-- the texts of a range, and then the entries of its piece, are the updates of the piece
+pub of_texts : (cuts : List (List ℕ)) (logged held range texts : List Update) (i : ℕ) → range ≡ updates_in cuts i logged → texts ≡ range ++ updates_in cuts i held → texts ≡ updates_in cuts i (logged ++ held)
+of_texts cuts logged held range texts i is all = all ∙ ap (λ (us : List Update). us ++ updates_in cuts i held) is ∙ sym (filter-append (λ (u : Update). in_piece cuts i u.key) logged held)

@@ -1,4 +1,3 @@
 -- What only callers with updates in memory need.
 pub mod Merging
 pub mod OneCell
-pub mod Logs

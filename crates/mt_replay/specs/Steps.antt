@@ -2,8 +2,6 @@
 pub mod Walker
 pub mod Bodies
 pub mod SortedUpdates
-pub mod Runs
-pub mod Fronts
 pub mod Numbers
 pub mod Auditor
 pub mod Dealing

@@ -8,14 +8,29 @@ ghost use Rattle.mt_replay.specs.Cuts.{InKeyOrder};
 ghost use Rattle.mt_replay.specs.Clashes.{Rises, AreClashes};
 ghost use Rattle.mt_replay.specs.Steps.Auditor.{IsLowerSeen, seen_by, clash_at, AddClashes, IsAuditSoFar};
 
+use crate::bodies::Text;
 use crate::clash::{Clash, Place};
-use crate::sliced::{Sliced, is_of_first};
+use crate::sorting::sorted_texts;
+use crate::walker::is_of_first;
+use mt_record::Lent;
 use mt_words::{Key, Memory, Origin, Stamp};
 use std::alloc::Global;
 
+/// Returns the clashes of the updates of texts, which are in any order. Err: out of memory.
+pub(crate) fn clashes_of(alloc: Global, texts: Vec<Text<'_>>) -> Result<Vec<Clash>, Memory>
+    ensures { IfOk result (λ clashes. AreClashes texts.entry.items clashes.items) }
+{
+    let sorted = sorted_texts(alloc, texts)?;
+    let mut auditor = Auditor::new(alloc);
+    for text in &sorted {
+        auditor.see(alloc, text.lent())?;
+    }
+    auditor.into_clashes(alloc)
+}
+
 /// The version and the place of a log update.
 #[derive(Clone, Copy, PartialEq, Eq, PartialOrd, Ord)]
-pub(crate) struct Seen {
+struct Seen {
     version: u64,
     place: Place,
 }
@@ -23,15 +38,15 @@ pub(crate) struct Seen {
 /// The clashes of the updates so far: those of all keys but the last, and the first update of the last key, with what
 /// was seen of that key. One list serves all keys in turn.
 #[derive(Drop)]
-pub(crate) struct Auditor<'a> {
+struct Auditor<'a> {
     clashes: Vec<Clash>,
-    first: Option<Sliced<'a>>,
+    first: Option<Lent<'a>>,
     seen: Vec<Seen>,
 }
 
 impl<'a> Auditor<'a> {
     /// Creates the clashes of no update.
-    pub(crate) fn new(alloc: Global) -> Auditor<'a>
+    fn new(alloc: Global) -> Auditor<'a>
         ensures { IsAuditSoFar [] result.clashes.items result.first result.seen.items }
     {
         Auditor {
@@ -42,20 +57,20 @@ impl<'a> Auditor<'a> {
     }
 
     /// Adds the next update. Err: out of memory.
-    pub(crate) fn see(&mut self, alloc: Global, update: Sliced<'a>) -> Result<(), Memory>
+    fn see(&mut self, alloc: Global, update: Lent<'a>) -> Result<(), Memory>
         ensures { OnOk result ((updates : List UpdateValue) → InKeyOrder (updates ++ update.entry ∷ []) →
             IsAuditSoFar updates self.old.clashes.items self.old.first self.old.seen.items →
             IsAuditSoFar (updates ++ update.entry ∷ []) self.new.clashes.items self.new.first self.new.seen.items) }
     {
         if is_of_first(&self.first, &update) {
-            return note(&mut self.seen, update.update().stamp());
+            return note(&mut self.seen, update.stamp());
         }
         self.close(alloc)?;
         self.begin(update)
     }
 
     /// Returns the clashes of all updates. Err: out of memory.
-    pub(crate) fn into_clashes(self, alloc: Global) -> Result<Vec<Clash>, Memory>
+    fn into_clashes(self, alloc: Global) -> Result<Vec<Clash>, Memory>
         ensures { IfOk result (λ clashes. (updates : List UpdateValue) →
             IsAuditSoFar updates self.entry.clashes.items self.entry.first self.entry.seen.items →
             AreClashes updates clashes.items) }
@@ -67,13 +82,13 @@ impl<'a> Auditor<'a> {
     }
 
     /// Begins a key with its first update. Err: out of memory.
-    fn begin(&mut self, update: Sliced<'a>) -> Result<(), Memory>
+    fn begin(&mut self, update: Lent<'a>) -> Result<(), Memory>
         ensures clashes { self.new.clashes.items ≡ self.old.clashes.items }
         ensures first { OnOk result (self.new.first ≡ Some update.entry) }
         ensures seen { OnOk result (self.new.seen.items ≡ seen_by update.entry.stamp.version update.entry.stamp.origin) }
     {
         self.seen.clear();
-        note(&mut self.seen, update.update().stamp())?;
+        note(&mut self.seen, update.stamp())?;
         self.first = Some(update);
         Ok(())
     }

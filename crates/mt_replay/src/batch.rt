@@ -8,7 +8,6 @@ ghost use Rattle.mt_record.specs.Shares.{updates_of_share};
 ghost use Rattle.mt_replay.specs.Survivors.{in_window, is_early};
 
 use crate::Window;
-use crate::sliced::add_survivor;
 use mt_record::{Lent, Share};
 use mt_words::Memory;
 use std::alloc::Global;
@@ -166,5 +165,23 @@ fn list_survivors<'a>(
     for number in 0..share.len() {
         add_survivor(survivors, share.update(number), window)?;
     }
+    Ok(())
+}
+
+/// Appends an update, if there is one and it is in the window.
+fn add_survivor<'a>(
+    survivors: &mut Vec<Lent<'a>>,
+    update: Option<Lent<'a>>,
+    window: Window,
+) -> Result<(), Memory>
+    ensures { OnOk result (survivors.new.items ≡ survivors.old.items ++ filter (in_window window) (as_list update.entry)) }
+{
+    let Some(update) = update else {
+        return Ok(());
+    };
+    if !window.contains(update.timestamp()) {
+        return Ok(());
+    }
+    survivors.push(update)?;
     Ok(())
 }

@@ -1,5 +1,6 @@
 //! Updates as texts: of each its origin, then its body.
 ghost use Rattle.std.specs.Prelude.{◌≡◌, ◌<◌, ◌++◌, [], ◌∷◌, IfOk, OnOk, OnErr, length, slice_index_or};
+ghost use Rattle.mt_words.specs.declared.update.Origin.TheVariants.{Checkpoint};
 ghost use Rattle.mt_words.specs.declared.update.Update.{Update as UpdateValue};
 ghost use Rattle.mt_words.specs.Limits.{widest};
 ghost use Rattle.mt_words.specs.Words.{IsKey};
@@ -60,14 +61,6 @@ impl Bodies {
         self.texts.len()
     }
 
-    /// Returns the update at this place.
-    pub(crate) fn get(&self, at: usize) -> Lent<'_>
-        requires { at < length self.now }
-        ensures { (d : UpdateValue) → result ≡ slice_index_or self.now at d }
-    {
-        self.text(at).lent()
-    }
-
     /// Returns the text of the update at this place.
     pub(crate) fn text(&self, at: usize) -> Text<'_>
         requires { at < length self.now }
@@ -75,6 +68,7 @@ impl Bodies {
     {
         Text {
             bytes: self.texts.get(at),
+            is_entry: false,
         }
     }
 
@@ -105,35 +99,54 @@ impl Bodies {
     }
 }
 
-/// An update as its text. It takes two words.
+/// An update as its text, or as the body of a checkpoint's entry. It takes three words.
 #[derive(Drop)]
 pub(crate) struct Text<'a> {
     bytes: &'a [u8],
+    /// Whether the bytes are the body of an entry, with no origin before it.
+    is_entry: bool,
 }
 
 impl<'a> Model for Text<'a> {
     ghost use Rattle.mt_words.specs.declared.update.Update.{Update};
-    ghost use Rattle.mt_replay.specs.Steps.Bodies.{update_in_text, IsUpdateText};
+    ghost use Rattle.mt_replay.specs.Steps.Bodies.{update_told, IsTold};
 
     ghost Value = { Update };
 
-    ghost view = { λ t. update_in_text t.bytes.now };
+    ghost view = { λ t. update_told t.is_entry t.bytes.now };
 
-    ghost invariant = { λ t. IsUpdateText t.bytes.now };
+    ghost invariant = { λ t. IsTold t.is_entry t.bytes.now };
 }
 
 impl<'a> Text<'a> {
+    /// Returns the text of an entry.
+    pub(crate) fn of_entry(entry: Lent<'a>) -> Text<'a>
+        requires { entry.stamp.origin ≡ Checkpoint }
+        ensures { result ≡ entry.entry }
+    {
+        Text {
+            bytes: entry.body(),
+            is_entry: true,
+        }
+    }
+
     /// Returns the same text again.
     pub(crate) fn copy(&self) -> Text<'a>
         ensures { result ≡ self.now }
     {
-        Text { bytes: self.bytes }
+        Text {
+            bytes: self.bytes,
+            is_entry: self.is_entry,
+        }
     }
 
     /// Returns the update.
     pub(crate) fn lent(&self) -> Lent<'a>
         ensures { result ≡ self.now }
     {
+        if self.is_entry {
+            return Lent::of(Origin::Checkpoint, self.bytes);
+        }
         lent_in(self.bytes)
     }
 

@@ -77,7 +77,7 @@ impl Model for Range {
 
 impl Range {
     /// Creates a range without updates.
-    fn new(alloc: Global) -> Range
+    pub(crate) fn new(alloc: Global) -> Range
         ensures { result ≡ [] }
     {
         Range {
@@ -105,7 +105,7 @@ impl Range {
     }
 
     /// Appends a list of updates. Err: out of memory. No memory has more updates than a `usize` counts.
-    fn push(&mut self, list: Bodies) -> Result<(), Memory>
+    pub(crate) fn push(&mut self, list: Bodies) -> Result<(), Memory>
         ensures { OnOk result (self.new ≡ self.old ++ list) }
     {
         let Some(updates) = self.updates.checked_add(list.len()) else {

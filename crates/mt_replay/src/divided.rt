@@ -1,22 +1,20 @@
 //! The surviving updates, divided by their keys into the pieces that are replayed.
-ghost use Rattle.std.specs.Prelude.{◌≡◌, ◌<◌, ◌+◌, ◌++◌, List, [], length, All, IfOk, IsPermutation};
+ghost use Rattle.std.specs.Prelude.{◌≡◌, ◌<◌, ◌+◌, ◌++◌, List, [], length, IfOk};
 ghost use Rattle.mt_words.specs.declared.update.Update.{Update as UpdateValue};
 ghost use Rattle.mt_words.specs.Walks.{joined};
 ghost use Rattle.mt_replay.specs.Cells.{AreApart};
 ghost use Rattle.mt_replay.specs.Clashes.{AreClashes};
-ghost use Rattle.mt_replay.specs.Cuts.{AreCuts, InKeyOrder, updates_in};
+ghost use Rattle.mt_replay.specs.Cuts.{AreCuts, updates_in};
 ghost use Rattle.mt_replay.specs.Divided.{AreRangesOf};
 ghost use Rattle.mt_replay.specs.Pieces.{IsPiece, IsMapIn};
 ghost use Rattle.mt_replay.specs.Ranges.{dealt_by};
 
-use crate::auditing::clashes_of;
+use crate::auditor::clashes_of;
 use crate::bodies::Text;
 use crate::clash::Clash;
 use crate::dealing::Range;
-use crate::parts::parts;
-use crate::replay::replay_runs;
-use crate::runs::Run;
-use crate::sorting::sorted_texts;
+use crate::parts::add_parts;
+use crate::walker::replay_texts;
 use crate::{Cuts, SortedUpdates};
 use mt_words::{Memory, PairSink};
 use std::alloc::Global;
@@ -120,9 +118,8 @@ impl Divided {
         ensures { IfOk result (λ clashes. AreClashes (updates_in self.now.cuts piece self.now.updates) clashes.items) }
     {
         let range = &self.ranges[piece as usize];
-        let texts = sorted(alloc, range)?;
-        let runs = runs_in(alloc, &texts, &self.entries, &self.cuts, piece)?;
-        clashes_of(alloc, runs)
+        let texts = texts_in(alloc, range, &self.entries, &self.cuts, piece)?;
+        clashes_of(alloc, texts)
     }
 }
 
@@ -143,33 +140,21 @@ pub fn replay_range<S: PairSink>(
     ensures walk { IfOk result (λ filled. (logged : List UpdateValue) → range.now ≡ updates_in cuts.now piece logged →
         AreApart (logged ++ joined entries.now) → IsPiece (logged ++ joined entries.now) cuts.now piece (S.pairs filled)) }
 {
-    let texts = sorted(alloc, range)?;
-    let runs = runs_in(alloc, &texts, entries, cuts, piece)?;
-    replay_runs(alloc, runs, sink)
+    let texts = texts_in(alloc, range, entries, cuts, piece)?;
+    replay_texts(alloc, texts, sink)
 }
 
-/// Returns the updates of a range, sorted by key. Err: out of memory.
-fn sorted(alloc: Global, range: &Range) -> Result<Vec<Text<'_>>, Memory>
-    ensures same { IfOk result (λ texts. IsPermutation range.now texts.items) }
-    ensures in_order { IfOk result (λ texts. InKeyOrder texts.items) }
-{
-    let texts = range.texts(alloc)?;
-    sorted_texts(alloc, &texts)
-}
-
-/// Returns sorted runs: of each list of entries those that lie in this piece, and then the texts. Err: out of memory.
-fn runs_in<'a>(
+/// Returns the texts of a range, and then of those entries that lie in this piece. Err: out of memory.
+fn texts_in<'a>(
     alloc: Global,
-    texts: &'a [Text<'a>],
+    range: &'a Range,
     entries: &'a [SortedUpdates],
     cuts: &Cuts,
     piece: u32,
-) -> Result<Vec<Run<'a>>, Memory>
-    requires { InKeyOrder texts.now }
-    ensures all { IfOk result (λ runs. joined runs.items ≡ updates_in cuts.now piece (joined entries.now) ++ texts.now) }
-    ensures in_order { IfOk result (λ runs. All InKeyOrder runs.items) }
+) -> Result<Vec<Text<'a>>, Memory>
+    ensures { IfOk result (λ texts. texts.items ≡ range.now ++ updates_in cuts.now piece (joined entries.now)) }
 {
-    let mut runs = parts(alloc, entries, cuts, piece)?;
-    runs.push(Run::of_texts(texts))?;
-    Ok(runs)
+    let mut texts = range.texts(alloc)?;
+    add_parts(&mut texts, entries, cuts, piece)?;
+    Ok(texts)
 }

@@ -71,9 +71,17 @@ impl SortedUpdates {
         requires { at < length self.now }
         ensures { (d : UpdateValue) → result ≡ slice_index_or self.now at d }
     {
+        self.text(at).lent()
+    }
+
+    /// Returns the text of the update at this place.
+    pub(crate) fn text(&self, at: usize) -> Text<'_>
+        requires { at < length self.now }
+        ensures { (d : UpdateValue) → result ≡ slice_index_or self.now at d }
+    {
         match &self.held {
-            Held::Sorted(bodies) => bodies.get(at),
-            Held::Read(entries) => entries.update(at),
+            Held::Sorted(bodies) => bodies.text(at),
+            Held::Read(entries) => Text::of_entry(entries.update(at)),
         }
     }
 
@@ -111,7 +119,7 @@ pub(crate) fn in_order(alloc: Global, bodies: &Bodies) -> Result<SortedUpdates, 
 {
     let mut texts = Vec::with_capacity(alloc, bodies.len())?;
     add_texts(&mut texts, bodies)?;
-    let sorted = sorted_texts(alloc, &texts)?;
+    let sorted = sorted_texts(alloc, texts)?;
     gather(alloc, &sorted)
 }
 

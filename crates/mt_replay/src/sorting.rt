@@ -20,13 +20,13 @@ const ROUNDS: u32 = 8;
 const FEW: usize = 16;
 
 /// Returns texts in the order of their keys. The texts of one key come in any order. Err: out of memory.
-pub(crate) fn sorted_texts<'a>(alloc: Global, texts: &[Text<'a>]) -> Result<Vec<Text<'a>>, Memory>
-    ensures same { IfOk result (λ sorted. IsPermutation texts.now sorted.items) }
+pub(crate) fn sorted_texts<'a>(alloc: Global, texts: Vec<Text<'a>>) -> Result<Vec<Text<'a>>, Memory>
+    ensures same { IfOk result (λ sorted. IsPermutation texts.entry.items sorted.items) }
     ensures in_order { IfOk result (λ sorted. InKeyOrder sorted.items) }
 {
     let bits = bits_for(texts.len());
-    let numbers = sorted_numbers(alloc, texts, bits)?;
-    gather(alloc, texts, &numbers, bits)
+    let numbers = sorted_numbers(alloc, &texts, bits)?;
+    gather(alloc, &texts, &numbers, bits)
 }
 
 /// Returns the number of bits of a place in a list of this length: 16 for all but long lists, so that 48 bits of a key

@@ -1,5 +1,5 @@
 -- Updates as texts: of each its origin, then its body.
-use Rattle.std.specs.Prelude.{ℕ, zero, suc, ◌≤◌, List, [], ◌∷◌, ◌++◌, length, drop}
+use Rattle.std.specs.Prelude.{ℕ, zero, suc, ◌≤◌, Bool, true, false, List, [], ◌∷◌, ◌++◌, length, drop}
 use Rattle.byteorder.specs.Endian.{big_bytes, big_number}
 use Rattle.mt_words.specs.declared.update.Origin.{Origin}
 use Rattle.mt_words.specs.declared.update.Origin.TheVariants.{Log, Checkpoint}
@@ -28,6 +28,16 @@ update_in_text text = update_in (origin_in text) (drop (origin_size text) text)
 pub record IsUpdateText (text : List ℕ) : Type 0 where
   pub origin : origin_size text ≤ length text
   pub body : IsChangeBody (drop (origin_size text) text)
+
+-- the update of an entry's body, or of a text
+abbrev pub update_told : Bool → List ℕ → Update
+update_told true body = update_in Checkpoint body
+update_told false text = update_in_text text
+
+-- the body of a change, or a text
+abbrev pub IsTold : Bool → List ℕ → Type 0
+IsTold true body = IsChangeBody body
+IsTold false text = IsUpdateText text
 
 -- the text of an origin in two and four bytes, and in eight bytes each
 abbrev pub short_text : ℕ → ℕ → List ℕ

@@ -7,11 +7,9 @@ ghost use Rattle.mt_replay.specs.Clashes.{AreClashes};
 ghost use Rattle.mt_replay.specs.Pieces.{IsPiece, IsMapIn};
 ghost use Rattle.mt_replay.specs.InMemory.{is_logged_in};
 
-use super::spelling::sorted;
-use crate::auditing::clashes_of;
-use crate::parts::parts;
-use crate::replay::replay_runs;
-use crate::{Clash, Cuts, SortedUpdates, Window};
+use super::spelling::spell;
+use crate::auditor::clashes_of;
+use crate::{Clash, Cuts, Range, SortedUpdates, Window, replay_range};
 use mt_words::{Columns, Kept, Key, Memory, Update};
 use std::alloc::Global;
 
@@ -28,8 +26,14 @@ pub fn replay_piece(
     ensures walk { IfOk result (λ pairs. AreApart (joined lists.now) →
         IsPiece (joined lists.now) cuts.now piece pairs.items) }
 {
-    let runs = parts(alloc, lists, cuts, piece)?;
-    replay_runs(alloc, runs, Vec::new(alloc))
+    replay_range(
+        alloc,
+        &Range::new(alloc),
+        lists,
+        cuts,
+        piece,
+        Vec::new(alloc),
+    )
 }
 
 /// Returns the clashes of the log updates in the window, in order: by key, then by version. Each list has updates of
@@ -39,10 +43,9 @@ pub fn clashes(alloc: Global, logs: &[Vec<Update>], window: Window) -> Result<Ve
     ensures { IfOk result (λ clashes.
         AreClashes (filter (is_logged_in window) (flat_map (λ updates. updates.items) logs.now)) clashes.items) }
 {
-    let mut lists = Vec::new(alloc);
+    let mut range = Range::new(alloc);
     for updates in logs {
-        lists.push(sorted(alloc, updates, window, false)?)?;
+        range.push(spell(alloc, updates, window, false)?)?;
     }
-    let runs = parts(alloc, &lists, &Cuts::none(alloc), 0)?;
-    clashes_of(alloc, runs)
+    clashes_of(alloc, range.texts(alloc)?)
 }

@@ -15,26 +15,18 @@ impl SortedUpdates {
     pub fn of(alloc: Global, updates: Vec<Update>, window: Window) -> Result<SortedUpdates, Memory>
         ensures { IfOk result (λ sorted. IsPermutation (filter (survives_in window) updates.items) sorted) }
     {
-        sorted(alloc, &updates, window, true)
+        let bodies = spell(alloc, &updates, window, true)?;
+        in_order(alloc, &bodies)
     }
 }
 
-/// Returns the log updates in the window sorted by key, and with `entries` all entries too. It encodes each of them.
-/// Err: out of memory.
-pub(crate) fn sorted(
+/// Returns the log updates in the window encoded as bodies, and with `entries` all entries too. Err: out of memory.
+pub(crate) fn spell(
     alloc: Global,
     updates: &[Update],
     window: Window,
     entries: bool,
-) -> Result<SortedUpdates, Memory>
-    ensures { IfOk result (λ sorted. IsPermutation (filter (survives_with entries window) updates.now) sorted) }
-{
-    let bodies = spell(alloc, updates, window, entries)?;
-    in_order(alloc, &bodies)
-}
-
-/// Returns the log updates in the window encoded as bodies, and with `entries` all entries too. Err: out of memory.
-fn spell(alloc: Global, updates: &[Update], window: Window, entries: bool) -> Result<Bodies, Memory>
+) -> Result<Bodies, Memory>
     ensures { IfOk result (λ bodies. bodies ≡ filter (survives_with entries window) updates.now) }
 {
     let mut bodies = Bodies::with_capacity(alloc, updates.len(), 0)?;

@@ -13,10 +13,9 @@ pub returns-then-is_of_first : goal.returns-then-is_of_first
 returns-then-is_of_first c =
     let update : Update = c.args.update in
     let old : List Seen = c.args.self.now.seen.items in
-    let stamp : c.stamp.result ≡ update.stamp = c.stamp.ensures ∙ ap (λ (u : Update). u.stamp) c.update.ensures in
     on_ok c.note.result
     (λ pushed updates order so_far. seen_same updates update c.args.self.now.clashes.items c.args.self.now.first old c.note.new.seen.items so_far
-    (at_key c.args.self.now.first update.key c.if-is_of_first.ensures) (pushed ∙ ap (λ (s : Stamp). old ++ seen_by s.version s.origin) stamp))
+    (at_key c.args.self.now.first update.key c.if-is_of_first.ensures) (pushed ∙ ap (λ (s : Stamp). old ++ seen_by s.version s.origin) c.stamp.ensures))
     c.note.ensures
 
 pub returns : goal.returns

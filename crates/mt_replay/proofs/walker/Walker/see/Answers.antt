@@ -1,15 +1,13 @@
-use Rattle.std.proofs.Common.{◌≡◌, ◌++◌, [], ◌∷◌, ℕ, List, Option, sym, subst}
+use Rattle.std.proofs.Common.{◌++◌, [], ◌∷◌, List, Option, sym, subst}
 use Rattle.mt_words.specs.declared.update.Update.{Update}
-use Rattle.mt_replay.specs.Groups.{HasLawfulWrites, IsGroupOf}
 use Rattle.mt_replay.specs.Steps.Walker.{IsMade, IsWalkSoFar}
 use Rattle.mt_replay.proofs.WalkerLemmas.{at_key, not_at_key, see_same, see_next}
 use Rattle.mt_replay.proofs.walker.Walker.see.Goals as goal
 
 pub returns-then-is_of_first : goal.returns-then-is_of_first
 returns-then-is_of_first g c = λ updates order so_far.
-    let sees = subst (λ (u : Update). ((us : List Update) (key : List ℕ) → u.key ≡ key → IsGroupOf us key c.args.self.now.group → IsGroupOf (us ++ u ∷ []) key c.see.new.self) × HasLawfulWrites u) c.update.ensures (c.see.ensures.group, c.see.ensures.lawful) in
     see_same updates c.args.update (g.S.PairSink.pairs c.args.self.now.sink) c.args.self.now.first c.args.self.now.group c.see.new.self so_far
-    (at_key c.args.self.now.first c.args.update.key c.if-is_of_first.ensures) sees.0 sees.1
+    (at_key c.args.self.now.first c.args.update.key c.if-is_of_first.ensures) c.see.ensures.group c.see.ensures.lawful
 
 pub returns : goal.returns
 returns g c = λ updates order so_far.
