@@ -14,7 +14,7 @@ use crate::bodies::Text;
 use crate::clash::Clash;
 use crate::dealing::Range;
 use crate::parts::add_parts;
-use crate::walker::replay_texts;
+use crate::replay::replay_texts;
 use crate::{Cuts, SortedUpdates};
 use mt_words::{Memory, PairSink};
 use std::alloc::Global;

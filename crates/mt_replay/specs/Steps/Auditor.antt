@@ -1,13 +1,12 @@
 -- The clashes of updates that come in the order of their keys.
-use Rattle.std.specs.Prelude.{◌≡◌, ℕ, ◌<◌, ◌⊎◌, ◌↔◌, Option, MatchOption, List, [], ◌∷◌, ◌++◌, length, map, Contains}
+use Rattle.std.specs.Prelude.{◌≡◌, ℕ, ◌<◌, ◌⊎◌, ◌↔◌, List, [], ◌∷◌, ◌++◌, length, map, Contains}
 use Rattle.std.specs.List.{flat_map}
 use Rattle.mt_words.specs.declared.update.Origin.{Origin}
 use Rattle.mt_words.specs.declared.update.Origin.TheVariants.{Log, Checkpoint}
 use Rattle.mt_words.specs.declared.update.Update.{Update}
 use Rattle.mt_replay.specs.declared.clash.Place.{Place}
 use Rattle.mt_replay.specs.declared.auditor.Seen.{Seen}
-use Rattle.mt_replay.specs.Clashes.{Clash, Rises, IsLowerPlace, IsLowerClash, AreClashes}
-use Rattle.mt_replay.specs.Steps.Walker.{IsLastKey}
+use Rattle.mt_replay.specs.Clashes.{Clash, Rises, IsLowerPlace, IsLowerClash}
 
 -- whether something of this key and version comes from the record at this place
 abbrev pub Standing : Type 1
@@ -57,11 +56,3 @@ pub record AddLower (key : List ℕ) (seen rest : List Seen) (old new : List Cla
   pub split : seen ≡ lower ++ rest
   pub apart : (a b : Seen) → Contains lower a → Contains rest b → a.version < b.version
   pub adds : AddClashes key lower old new
-
--- the clashes of all keys but the last, and what the updates of the last key show; its first update is `first`
-pub record IsAuditSoFar (updates : List Update) (clashes : List Clash) (first : Option Update) (seen : List Seen) : Type 0 where
-  pub before : List Update
-  pub last : List Update
-  pub split : updates ≡ before ++ last
-  pub done : AreClashes before clashes
-  pub in_hand : MatchOption first ((before ≡ []) × (last ≡ [])) (λ (update : Update). IsLastKey before last update.key × (seen ≡ seen_in last))

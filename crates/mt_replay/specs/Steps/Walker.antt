@@ -1,5 +1,5 @@
--- The walk of updates that come in the order of their keys.
-use Rattle.std.specs.Prelude.{◌≡◌, ℕ, ◌<◌, nat_lt, if◌then◌else◌, Option, Some, None, List, [], ◌∷◌, ◌++◌, length, All, Contains}
+-- The walk of updates in the order of their keys.
+use Rattle.std.specs.Prelude.{◌≡◌, ℕ, ◌<◌, nat_lt, if◌then◌else◌, List, [], ◌∷◌, ◌++◌, length, All, Contains}
 use Rattle.mt_words.specs.declared.update.Update.{Update}
 use Rattle.mt_words.specs.Words.{IsBelow}
 use Rattle.mt_words.specs.Walks.{Pair}
@@ -27,16 +27,3 @@ pub record AreLast (before last : List Update) (key : List ℕ) (group : Group) 
   pub of_key : IsLastKey before last key
   pub grouped : IsGroupOf last key group
   pub lawful : All HasLawfulWrites last
-
--- the updates of the last key with their group, or none if there is no update
-abbrev pub IsInHand : List Update → List Update → Option Update → Group → Type 0
-IsInHand before last None group = (before ≡ []) × (last ≡ [])
-IsInHand before last (Some first) group = AreLast before last first.key group
-
--- the pairs of all keys but the last, and the group of the last key, which is the key of `first`
-pub record IsWalkSoFar (updates : List Update) (pairs : List Pair) (first : Option Update) (group : Group) : Type 0 where
-  pub before : List Update
-  pub last : List Update
-  pub split : updates ≡ before ++ last
-  pub made : IsMade before pairs
-  pub in_hand : IsInHand before last first group

@@ -1,7 +1,15 @@
-use Rattle.std.proofs.Common.{take}
-use Rattle.mt_replay.specs.Steps.Auditor.{IsAuditSoFar}
+use Rattle.std.proofs.Common.{◌-◌, ◌≤◌, length, take}
+use Rattle.mt_replay.specs.Clashes.{AreClashes}
+use Rattle.mt_replay.proofs.WalkerLemmas.{IsStart}
 use Rattle.mt_replay.proofs.auditor.clashes_of.Given as goal
 
--- the clashes of the updates so far
-abbrev pub invariant-loop-text : goal.invariant-loop-text
-invariant-loop-text l = IsAuditSoFar (take l.text-index l.text-items) l.auditor.clashes.items l.auditor.first l.auditor.seen.items
+-- the clashes of the keys so far
+abbrev pub invariant-loop-at : goal.invariant-loop-at
+invariant-loop-at l = record {
+  within : l.at ≤ length l.sorted.items;
+  start : IsStart l.sorted.items l.at;
+  are : AreClashes (take l.at l.sorted.items) l.clashes.items;
+}
+
+abbrev pub decreases-loop-at : goal.decreases-loop-at
+decreases-loop-at l = length l.sorted.items - l.at
