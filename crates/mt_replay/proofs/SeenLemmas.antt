@@ -14,6 +14,7 @@ use Rattle.mt_replay.specs.declared.auditor.Seen.{Seen}
 use Rattle.mt_replay.specs.Clashes.{Clash, Rises, IsLowerPlace, HasUpdateAt}
 use Rattle.mt_replay.specs.Steps.Auditor.{IsClashOf, AreClashesOf, IsLowerSeen, IsSeen, seen_by, seen_in, clash_at, AddClashes, AddLower}
 use Rattle.mt_replay.proofs.Members.{of_each, all_from, of_map, in_map, of_flat_map, in_flat_map}
+use Rattle.mt_replay.proofs.CellLemmas.{some_is}
 use Rattle.mt_replay.proofs.FilterLemmas.{front, back}
 use Rattle.mt_replay.proofs.ClashLemmas.{rises_front, rises_back, place_apart, stands, one_clash_of, no_clashes, same_clashes, clashes_append, Either}
 
@@ -193,9 +194,6 @@ pub up_to_point : (version : ℕ) (seen : List Seen) (i : ℕ) → IsPartitionPo
 up_to_point version seen i at = (λ k d low lt. leb-true (slice_index_or seen k d).version version (at.0 k d low lt), λ k d low lt. leb-false (slice_index_or seen k d).version version (at.1 k d low lt))
 
 -- ---- a step: those at the front that have the first one's version
-
-some_is : (a b : Seen) → Some a ≡ Some b → a ≡ b
-some_is a b e = cc
 
 module _ (rest : List Seen) (first : Seen) (i : ℕ) (rise : Rises IsLowerSeen rest) (first_is : Some first ≡ slice_get rest 0)
     (point : IsPartitionPoint (λ (one : Seen). one.version ≤ first.version) (λ (one : Seen). first.version < one.version) rest i) where

@@ -1,7 +1,8 @@
 -- The cells of two lists of writes, and the groups of two lists of updates, merged.
-use Rattle.std.proofs.Common.{◌≡◌, inl, inr, ◌↔◌, ℕ, ◌<◌, List, ◌++◌, length, Option, Some, None, Contains, sym, ◌∙◌, subst, arith}
+use Rattle.std.proofs.Common.{append_assoc, ◌≡◌, inl, inr, ◌↔◌, ℕ, ◌<◌, List, ◌++◌, length, Option, Some, None, Contains, sym, ◌∙◌, subst, arith}
 use Rattle.std.specs.Prelude.{slice_get, slice_index_or}
 use Rattle.std.proofs.lemmas.List.Elements.{Contains-append_left, Contains-append_right, Contains-append_cases}
+use Rattle.std.proofs.lemmas.List.Sorted.{IsPermutation-append_right, IsPermutation-append_comm, IsPermutation-sym, Contains-permutation}
 use Rattle.mt_words.specs.declared.update.Update.{Update}
 use Rattle.mt_words.specs.Limits.{widest}
 use Rattle.mt_words.specs.Writes.{IsWrite}
@@ -34,28 +35,12 @@ same_cell writes others slots same is = record {
   each = λ number slot at. same_right writes others number slot same (is.each number slot at);
 }
 
--- the last two of three lists may be swapped
-swapped : (a b c : List Written) (w : Written) → Contains ((a ++ b) ++ c) w → Contains (a ++ (c ++ b)) w
-swapped a b c w at = elim (Contains-append_cases (a ++ b) c w at) as (λ _. Contains (a ++ (c ++ b)) w) [
-  | inl first ↦ elim (Contains-append_cases a b w first) as (λ _. Contains (a ++ (c ++ b)) w) [
-    | inl here ↦ Contains-append_left a (c ++ b) w here
-    | inr here ↦ Contains-append_right a (c ++ b) w (Contains-append_right c b w here)
-  ]
-  | inr here ↦ Contains-append_right a (c ++ b) w (Contains-append_left c b w here)
-]
-
-swapped_back : (a b c : List Written) (w : Written) → Contains (a ++ (c ++ b)) w → Contains ((a ++ b) ++ c) w
-swapped_back a b c w at = elim (Contains-append_cases a (c ++ b) w at) as (λ _. Contains ((a ++ b) ++ c) w) [
-  | inl here ↦ Contains-append_left (a ++ b) c w (Contains-append_left a b w here)
-  | inr later ↦ elim (Contains-append_cases c b w later) as (λ _. Contains ((a ++ b) ++ c) w) [
-    | inl here ↦ Contains-append_right (a ++ b) c w here
-    | inr here ↦ Contains-append_left (a ++ b) c w (Contains-append_right a b w here)
-  ]
-]
-
 -- the writes that came last may stand before others
 pub cell_swapped : (a b c : List Written) (slots : Slots) → IsCellOf ((a ++ b) ++ c) slots → IsCellOf (a ++ (c ++ b)) slots
-cell_swapped a b c slots is = same_cell ((a ++ b) ++ c) (a ++ (c ++ b)) slots (λ w. (swapped a b c w, swapped_back a b c w)) is
+cell_swapped a b c slots is =
+    let moved = IsPermutation-append_right a (b ++ c) (c ++ b) (IsPermutation-append_comm b c) in
+    same_cell (a ++ (b ++ c)) (a ++ (c ++ b)) slots (λ w. (Contains-permutation (a ++ (b ++ c)) (a ++ (c ++ b)) w moved, Contains-permutation (a ++ (c ++ b)) (a ++ (b ++ c)) w (IsPermutation-sym (a ++ (b ++ c)) (a ++ (c ++ b)) moved)))
+    (subst (λ (ws : List Written). IsCellOf ws slots) (append_assoc a b c) is)
 
 -- ---- the writes of both
 

@@ -1,7 +1,9 @@
 -- A key has only one cell, in whatever order its updates come.
-use Rattle.std.proofs.Common.{◌≡◌, ◌↔◌, ℕ, zero, suc, List, [], ◌∷◌, length, Option, Some, None, Contains, refl, sym, ap, ◌∙◌, subst, arith}
-use Rattle.std.specs.Prelude.{slice_get}
+use Rattle.std.proofs.Common.{◌≡◌, ◌↔◌, ℕ, ◌<◌, List, length, Option, Some, None, Contains, refl, sym, ap, ◌∙◌, subst, arith}
+use Rattle.std.specs.Prelude.{slice_index_or}
 use Rattle.std.specs.List.{All}
+use Rattle.std.proofs.lemmas.List.{same_lists}
+use Rattle.std.proofs.lemmas.Option.{slice_get-get_or}
 use Rattle.std.proofs.lemmas.List.Elements.{All-contains}
 use Rattle.mt_words.specs.declared.update.Stamp.{Stamp}
 use Rattle.mt_words.specs.declared.update.Update.{Update}
@@ -53,18 +55,10 @@ one_slot writes number (Some a) (Some b) once is other =
 
 -- ---- slots
 
--- two lists that agree at each place are equal
-by_places : {A : Type 0} (xs ys : List A) → length xs ≡ length ys → ((k : ℕ) (x y : A) → slice_get xs k ≡ Some x → slice_get ys k ≡ Some y → x ≡ y) → xs ≡ ys
-by_places [] [] same each = refl
-by_places [] (y ∷ ys) same each = absurd (omega arith)
-by_places (x ∷ xs) [] same each = absurd (omega arith)
-by_places {A} (x ∷ xs) (y ∷ ys) same each =
-    let first : x ≡ y = each zero x y refl refl in
-    let rest : xs ≡ ys = by_places xs ys (omega arith) (λ k. each (suc k)) in
-    λ i. first i ∷ rest i
-
 one_slots : (writes : List Written) (slots others : Slots) → IsOnce writes → IsCellOf writes slots → IsCellOf writes others → slots ≡ others
-one_slots writes slots others once is other = by_places slots others (is.places ∙ sym other.places) (λ k a b at there. one_slot writes k a b once (is.each k a at) (other.each k b there))
+one_slots writes slots others once is other = same_lists slots others (is.places ∙ sym other.places) (λ k d lt.
+    let too : k < length others = omega (arith, lt, is.places, other.places) in
+    one_slot writes k (slice_index_or slots k d) (slice_index_or others k d) once (is.each k (slice_index_or slots k d) (slice_get-get_or slots k d lt)) (other.each k (slice_index_or others k d) (slice_get-get_or others k d too)))
 
 -- two groups of the same updates are equal, if no two of the updates share a stamp
 pub one_group : (updates others : List Update) (key : List ℕ) (group other : Group) → AreApart updates → All HasLawfulWrites updates → ((u : Update) → Contains updates u ↔ Contains others u)

@@ -3,7 +3,7 @@ use Rattle.std.specs.List.{filter}
 use Rattle.mt_words.specs.declared.update.Update.{Update}
 use Rattle.mt_words.specs.OneLog.{as_list}
 use Rattle.mt_replay.specs.Survivors.{is_early}
-use Rattle.mt_replay.proofs.BatchLemmas.{first_of, whole_share, share_step, early_both, early_one, one_if}
+use Rattle.mt_replay.proofs.BatchLemmas.{first_of, share_step, early_both, early_one, one_if}
 use Rattle.mt_replay.proofs.batch.early_in.Goals as goal
 use Rattle.mt_replay.proofs.batch.early_in.Goals.{then-comes_early, else-comes_early}
 
@@ -24,8 +24,3 @@ loop-number-preserved c =
       few = elim c.if-comes_early.branch [ then-comes_early w ↦ omega arith | else-comes_early w ↦ omega arith ];
       counts = omega (arith, added, said, all, one, c.loop-number.invariant.counts);
     }
-
-pub returns : goal.returns
-returns c =
-    c.loop-number.invariant.counts
-    ∙ ap (λ (us : List Update). length (filter (is_early c.args.begin) us)) (whole_share c.args.share.now c.loop-number.number (omega (arith, c.loop-number-test.false, c.len-number-end.ensures)))

@@ -1,10 +1,7 @@
-use Rattle.std.proofs.Common.{◌<◌, ◌++◌, ◌∷◌, [], ◌∙◌, List, take, length, append-nil, append_assoc, sym, ap, arith}
-use Rattle.std.proofs.lemmas.List.{take_all, take_more}
+use Rattle.std.proofs.Common.{◌<◌, ◌++◌, ◌∷◌, [], ◌∙◌, List, take, length, append_assoc, sym, ap, arith}
+use Rattle.std.proofs.lemmas.List.{take_more}
 use Rattle.mt_words.specs.declared.update.Update.{Update}
 use Rattle.mt_replay.proofs.dealing.add_texts.Goals as goal
-
-pub loop-at-init : goal.loop-at-init
-loop-at-init c = sym (append-nil c.args.texts.now.items)
 
 pub loop-at-preserved : goal.loop-at-preserved
 loop-at-preserved c =
@@ -15,6 +12,3 @@ loop-at-preserved c =
     ∙ ap (λ (us : List Update). us ++ c.text.result ∷ []) c.loop-at.invariant
     ∙ append_assoc c.args.texts.now.items (take c.loop-at.at list) (c.text.result ∷ [])
     ∙ ap (λ (us : List Update). c.args.texts.now.items ++ us) (sym more)
-
-pub returns : goal.returns
-returns c = c.loop-at.invariant ∙ ap (λ (us : List Update). c.args.texts.now.items ++ us) (take_all c.loop-at.at c.args.list.now (omega arith))

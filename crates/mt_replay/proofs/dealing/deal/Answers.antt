@@ -11,9 +11,6 @@ pub bounds-lists-piece : goal.bounds-lists-piece
 bounds-lists-piece c =
     omega (arith, c.piece_of-piece.ensures.within, dealt_length c.args.cuts.now c.requires.dealt.0, ap (λ (ls : List (List Update)). length ls) c.requires.dealt.1)
 
-pub offset_bounds-lists-piece : goal.offset_bounds-lists-piece
-offset_bounds-lists-piece c = omega (arith, c.piece_of-piece.ensures.within, c.requires.lawful.1)
-
 pub returns : goal.returns
 returns c = λ dealt are.
     let u : Update = c.in-Some.update in

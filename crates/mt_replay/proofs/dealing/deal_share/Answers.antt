@@ -1,14 +1,11 @@
-use Rattle.std.proofs.Common.{◌++◌, ◌∙◌, List, append-nil, refl, sym, ap, arith}
+use Rattle.std.proofs.Common.{◌++◌, ◌∙◌, List, refl, ap, arith}
 use Rattle.std.specs.List.{filter}
 use Rattle.mt_words.specs.declared.update.Update.{Update}
 use Rattle.mt_words.specs.OneLog.{as_list}
 use Rattle.mt_replay.specs.Ranges.{dealt_by}
 use Rattle.mt_replay.specs.Survivors.{in_window}
-use Rattle.mt_replay.proofs.BatchLemmas.{first_of, whole_share, survivors_step}
+use Rattle.mt_replay.proofs.BatchLemmas.{first_of, survivors_step}
 use Rattle.mt_replay.proofs.dealing.deal_share.Goals as goal
-
-pub loop-number-init : goal.loop-number-init
-loop-number-init c = λ dealt are. are ∙ ap (dealt_by c.args.cuts.now) (sym (append-nil dealt))
 
 pub loop-number-preserved : goal.loop-number-preserved
 loop-number-preserved c = λ dealt are.
@@ -19,8 +16,3 @@ loop-number-preserved c = λ dealt are.
     c.in_ok-deal.ensures before (c.loop-number.invariant dealt are)
     ∙ ap (dealt_by c.args.cuts.now) (survivors_step c.args.window share c.loop-number.number dealt before (before ++ filter keeps more) more
     (omega (arith, c.loop-number-test.true, c.len-number-end.ensures)) c.update.ensures refl refl)
-
-pub returns : goal.returns
-returns c = λ dealt are.
-    c.loop-number.invariant dealt are
-    ∙ ap (λ (us : List Update). dealt_by c.args.cuts.now (dealt ++ filter (in_window c.args.window) us)) (whole_share c.args.share.now c.loop-number.number (omega (arith, c.loop-number-test.false, c.len-number-end.ensures)))

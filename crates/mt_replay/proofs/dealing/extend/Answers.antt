@@ -14,9 +14,6 @@ returns-then-piece-ranges c =
     let long = ap (λ (ls : List (List Update)). length ls) I.more ∙ extended_length lists yielded in
     I.more ∙ sym (extended_past lists yielded (into_iter_items c.loop-list.list-iterator) (omega (arith, long, I.place, c.if-piece-ranges.true))) ∙ ap (extended lists) I.rest
 
-pub bounds-ranges-piece : goal.bounds-ranges-piece
-bounds-ranges-piece c = omega (arith, c.loop-list.invariant.within, c.if-piece-ranges.false)
-
 pub loop-list-preserved : goal.loop-list-preserved
 loop-list-preserved c =
     let I = c.loop-list.invariant in

@@ -1,9 +1,6 @@
 use Rattle.std.proofs.Common.{arith}
-use Rattle.mt_replay.proofs.CellLemmas.{cleared_more, front_free}
+use Rattle.mt_replay.proofs.CellLemmas.{front_free}
 use Rattle.mt_replay.proofs.group.clear_first.Goals as goal
-
-pub loop-write-preserved : goal.loop-write-preserved
-loop-write-preserved g c = cleared_more c.loop-write.write-items c.loop-write.write-index c.loop-write.invariant
 
 pub returns-clause-free : goal.returns-clause-free
 returns-clause-free g c = λ number slot _ is. front_free c.loop-write.write-items c.args.writes.now c.from.result c.loop-write.auto.write-items

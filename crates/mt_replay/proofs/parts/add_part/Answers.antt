@@ -1,22 +1,10 @@
-use Rattle.std.proofs.Common.{◌≡◌, ◌+◌, ◌-◌, ◌<◌, ◌++◌, ◌∷◌, [], ◌∙◌, List, ℕ, true, false, length, get_or, take, drop, append-nil, append_assoc, sym, ap, arith}
+use Rattle.std.proofs.Common.{◌≡◌, ◌+◌, ◌-◌, ◌<◌, ◌++◌, ◌∷◌, [], ◌∙◌, List, ℕ, true, false, length, get_or, take, drop, append_assoc, sym, ap, arith}
 use Rattle.std.specs.List.{filter, slice_get}
 use Rattle.std.proofs.lemmas.List.{take_more, get_or-drop, length-drop}
 use Rattle.mt_words.specs.declared.update.Update.{Update}
 use Rattle.mt_replay.specs.Cuts.{is_after, is_below_cut, lower_cut}
 use Rattle.mt_replay.proofs.FilterLemmas.{of_piece, until_point, point_behind}
 use Rattle.mt_replay.proofs.parts.add_part.Goals as goal
-
-pub loop-at-init : goal.loop-at-init
-loop-at-init c =
-    let none : 0 ≡ c.start_of-start.result - c.start_of-start.result = omega arith in
-    record {
-      behind = omega arith;
-      within = omega arith;
-      told = sym (append-nil c.args.texts.now.items) ∙ ap (λ (n : ℕ). c.args.texts.now.items ++ take n (drop c.start_of-start.result c.args.updates.now)) none;
-    }
-
-pub text-requires : goal.text-requires
-text-requires c = omega (arith, c.loop-at-test.true, c.end_of-end.ensures.within)
 
 pub loop-at-preserved : goal.loop-at-preserved
 loop-at-preserved c =

@@ -1,18 +1,10 @@
-use Rattle.std.proofs.Common.{◌∙◌, ◌++◌, ◌∷◌, [], ℕ, List, refl, subst, sym, ap, append_assoc}
+use Rattle.std.proofs.Common.{◌∙◌, ◌++◌, ◌∷◌, [], ℕ, List, subst, sym, ap, append_assoc}
 use Rattle.std.proofs.lemmas.List.{append-nil, map-append}
 use Rattle.std.specs.Option.{option_map}
 use Rattle.std.specs.Borrow.{Bor}
 use Rattle.mt_words.specs.Changes.{Write}
 use Rattle.mt_replay.specs.Cells.{Written, IsCellOf, written}
 use Rattle.mt_replay.proofs.group.Group+ref+slice+u8.see_writes.Goals as goal
-
-pub loop-number-init : goal.loop-number-init
-loop-number-init c = record {
-  seen = [];
-  were = refl;
-  reset = refl;
-  cell = λ writes is. subst (λ (ws : List Written). IsCellOf ws c.args.self.now.slots) (sym (append-nil writes)) is;
-}
 
 pub loop-number-preserved : goal.loop-number-preserved
 loop-number-preserved c =

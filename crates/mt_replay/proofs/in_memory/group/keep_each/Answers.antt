@@ -1,4 +1,4 @@
-use Rattle.std.proofs.Common.{◌≡◌, ◌∙◌, ℕ, sym, subst, arith}
+use Rattle.std.proofs.Common.{◌≡◌, ℕ, subst, arith}
 use Rattle.mt_words.specs.declared.limits.TheConstants.{MOST_COLUMNS}
 use Rattle.mt_replay.specs.Cells.{Slots}
 use Rattle.mt_replay.proofs.InMemory.Merging.{AreBoth, both_cells}
@@ -13,6 +13,3 @@ returns-clause-cell c =
     let all : c.loop-number.number ≡ MOST_COLUMNS = omega arith in
     let are : AreBoth old add MOST_COLUMNS new left = subst (λ (n : ℕ). AreBoth old add n new left) all c.loop-number.invariant in
     λ seen others was is. both_cells old add new left seen others are was is
-
-pub returns-clause-free : goal.returns-clause-free
-returns-clause-free c = λ free number slot above at. free number slot above (sym (c.loop-number.invariant.stays number (omega (arith, above))) ∙ at)

@@ -1,4 +1,4 @@
-use Rattle.std.proofs.Common.{[], refl}
+use Rattle.std.proofs.Common.{[]}
 use Rattle.mt_replay.proofs.ExactLemmas.{ok_then}
 use Rattle.mt_replay.proofs.in_memory.pieces.replay_piece.Goals as goal
 

@@ -1,4 +1,4 @@
-use Rattle.std.proofs.Common.{sym, subst, arith}
+use Rattle.std.proofs.Common.{sym, subst}
 use Rattle.mt_replay.specs.Cells.{IsCellOf}
 use Rattle.mt_replay.specs.Groups.{Group, IsLatestOf}
 use Rattle.mt_replay.proofs.InMemory.Merging.{both_groups}
@@ -16,9 +16,3 @@ returns c =
     (subst (λ (x : Group). IsCellOf seen x.slots) (sym c.merged.view_is) (subst (IsCellOf seen) (sym c.clear_by.ensures.writes) cell))
     (subst (λ (x : Group). IsCellOf more x.slots) (sym c.other.view_is) added))
     was is
-
-pub invariant_of-merged : goal.invariant_of-merged
-invariant_of-merged c = (
-  omega arith,
-  c.keep_each.ensures.free (λ number slot above is. c.merged.invariant.1 number slot (omega (arith, above, c.merged.invariant.0)) is),
-)
