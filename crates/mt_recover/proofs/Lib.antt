@@ -20,4 +20,5 @@ pub mod HoleLemmas
 pub mod Preparing
 pub mod Assembles
 pub mod Replays
+pub mod TaskLemmas
 pub mod Works

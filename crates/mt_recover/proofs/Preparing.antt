@@ -13,6 +13,7 @@ use Rattle.mt_replay.specs.declared.window.Window.{Window}
 use Rattle.mt_replay.specs.Survivors.{in_window, is_within, log_survivors, is_early}
 use Rattle.mt_replay.specs.Walk.{IsWalk}
 use Rattle.mt_replay.specs.Cells.{AreApart}
+use Rattle.mt_replay.specs.Batches.{BatchView, batched}
 use Rattle.mt_replay.specs.Divided.{DividedView}
 use Rattle.mt_replay.proofs.EvenLemmas.{even_in_any_order}
 use Rattle.mt_replay.proofs.StepLemmas.{same_column}
@@ -25,6 +26,7 @@ use Rattle.mt_recover.specs.declared.workers.Cutting.{Cutting}
 use Rattle.mt_recover.specs.declared.workers.Cutting.TheVariants.{Even, Sampled, At}
 use Rattle.mt_recover.specs.Job.{AreCutBy}
 use Rattle.mt_recover.specs.Steps.Preparing.{IsDividedOf, IsDivisionOf, IsFoundOf}
+use Rattle.mt_recover.specs.Tasks.{DividingView, IsDividingOf}
 use Rattle.mt_recover.specs.Recovery.{Facts, records_of, begin_of, entry_updates}
 use Rattle.mt_recover.specs.Report.{Outcome, IsFoundIn, IsRecoveredOf, IsReportOf, logged_updates}
 use Rattle.mt_recover.proofs.CountLemmas.{begins_below, survivors_in, early_in, walk_few}
@@ -90,6 +92,28 @@ division_is {logs} {parts} {found} {division = division} is in_report scans_are 
   updates = subst (λ (us : List Update). IsPermutation us division.0.updates)
       ((λ i. kept_in_window found.start.window (scans_are i) ++ (entries_are ∙ ap (λ (o : Option Checkpoint). entry_updates (option_map checkpoint_in o)) chosen_is) i) ∙ same_survivors logs parts found is) divided.updates;
   early = divided.early ∙ ap (λ (s : List LogScan). length (filter (is_early found.start.window.begin) (kept s))) scans_are ∙ same_early logs parts found is;
+}
+
+-- what the scans kept, in batches, and the entries of the checkpoint are to be divided
+pub dividing_is : {logs parts : List (List ℕ)} {found : Found} {scans : List LogScan} {chosen : Option Checkpoint} {entries : List Update} {batches : List BatchView} {report : Report} (cuts : List (List ℕ)) (is : IsFoundOf logs parts found) → IsFoundIn is.start.basis.facts report
+    → scans ≡ found.scans.items → chosen ≡ found.start.choice.chosen → entries ≡ entry_updates (option_map checkpoint_in chosen) → batched batches ≡ kept scans
+    → IsDividingOf logs parts (record { report = report; window = found.start.window; cuts = cuts; entries = entries; batches = batches })
+dividing_is {logs} {parts} {found} {batches = batches} cuts is in_report scans_are chosen_is entries_are batches_are =
+    let kept_are : batched batches ≡ kept found.scans.items = batches_are ∙ ap kept scans_are in record {
+      basis = is.start.basis;
+      found = in_report;
+      updates = sym ((λ i. filter (in_window found.start.window) (kept_are i) ++ (entries_are ∙ ap (λ (o : Option Checkpoint). entry_updates (option_map checkpoint_in o)) chosen_is) i) ∙ same_survivors logs parts found is);
+      early = ap (λ (us : List Update). length (filter (is_early found.start.window.begin) us)) kept_are ∙ same_early logs parts found is;
+    }
+
+-- and once it is divided, it is what survives, divided
+pub division_of : {logs parts : List (List ℕ)} {dividing : DividingView} {division : DividedView × ℕ} → IsDividingOf logs parts dividing → IsDividedOf dividing.window (batched dividing.batches) dividing.entries division
+    → IsDivisionOf logs parts dividing.report division
+division_of {division = division} is divided = record {
+  basis = is.basis;
+  found = is.found;
+  updates = subst (λ (us : List Update). IsPermutation us division.0.updates) (sym is.updates) divided.updates;
+  early = divided.early ∙ is.early;
 }
 
 -- cuts of updates are cuts of the updates in another order

@@ -11,4 +11,5 @@ pub mod Fed
 pub mod Job
 pub mod Hauls
 pub mod Prepared
+pub mod Tasks
 pub mod Steps

@@ -1,13 +1,20 @@
 //! Recovery of logs and checkpoint parts that the caller reads and feeds itself.
-ghost use Rattle.std.specs.Prelude.{◌≡◌, ◌++◌, [], ◌∷◌, List, ℕ, Some, None, OnOk, OnErr, All, IsSome};
+ghost use Rattle.std.specs.Prelude.{◌≡◌, ◌++◌, [], ◌∷◌, List, ℕ, Some, None, IfOk, OnOk, OnErr, All, IsSome};
 ghost use Rattle.mt_record.specs.LogFeeding.{IsLogFed};
 ghost use Rattle.mt_record.specs.PartFeeding.{IsPartFed};
 ghost use Rattle.mt_recover.specs.Fed.{Input, AreFed, seen_fed};
-ghost use Rattle.mt_recover.specs.Inputs.{IsRecoveryFrom};
+ghost use Rattle.mt_recover.specs.Inputs.{IsAnswerFrom, IsRecoveryFrom};
+ghost use Rattle.mt_recover.specs.Steps.Outcomes.{AreAllOk, AreOutcomes};
+ghost use Rattle.mt_recover.specs.Tasks.{IsDividingOf, divide_tasks};
+ghost use Rattle.mt_scan.specs.Sources.{Seen};
 
+use crate::dividing::{DivideTask, Dividing};
+use crate::found::find;
 use crate::recovery::{Recovered, recover_scanned};
 use crate::scans::Outcomes;
+use crate::workers::Workers;
 use mt_record::{KeptEntries, KeptRecords, LogFeed, PartFeed};
+use mt_replay::Pieces;
 use mt_scan::{finish_log, finish_part};
 use mt_words::{Fault, Memory};
 use std::alloc::Global;
@@ -102,4 +109,43 @@ impl Fed {
         }
         recover_scanned(alloc, outcomes)
     }
+
+    /// Begins the same recovery for threads of the caller. It has a task for each of at most so many batches of updates
+    /// as there are workers, and cuts the keys into at most `most` pieces. Once all tasks are done, `Dividing::replay`
+    /// makes those of the second step, and then `Replaying::finish` makes the store. Neither the workers nor the
+    /// pieces change the result.
+    ///
+    /// Err: the same as for `recover`.
+    pub fn divide(
+        self,
+        alloc: Global,
+        workers: Workers,
+        most: Pieces,
+    ) -> Result<(Dividing, Vec<DivideTask>), Fault>
+        ensures divided { (logs parts : List Input) → AreFed logs parts self → IsAnswerFrom seen_fed logs parts (λ ls ps made. IsDividingOf ls ps made.0) result }
+        ensures tasks { IfOk result (λ made. made.1.items ≡ divide_tasks made.0) }
+        ensures whole { (logs parts : List Input) → AreFed logs parts self → OnOk result (All IsSome logs × All IsSome parts) }
+    {
+        let Fed { outcomes } = self;
+        if outcomes.logs.is_empty() {
+            return Err(Fault::NoLogs);
+        }
+        divide_scanned(alloc, outcomes, workers, most)
+    }
+}
+
+/// Begins recovery from these answers of the scans, for threads of the caller.
+fn divide_scanned(
+    alloc: Global,
+    outcomes: Outcomes,
+    workers: Workers,
+    most: Pieces,
+) -> Result<(Dividing, Vec<DivideTask>), Fault>
+    requires { (logs parts : List Seen) × AreOutcomes logs parts outcomes }
+    ensures divided { (logs parts : List Seen) → AreOutcomes logs parts outcomes → IsAnswerFrom (λ seen. seen) logs parts (λ ls ps made. IsDividingOf ls ps made.0) result }
+    ensures tasks { IfOk result (λ made. made.1.items ≡ divide_tasks made.0) }
+    ensures whole { OnOk result (AreAllOk outcomes) }
+{
+    let found = find(alloc, outcomes)?;
+    Ok(Dividing::of(alloc, found, workers, most)?)
 }

@@ -4,7 +4,9 @@
 //! `Report`. A caller with threads of its own takes three steps: `prepare` makes a `Job`, `work` replays pieces of it
 //! into a `Haul`, and `assemble` makes the store of all hauls.
 //!
-//! `Fed` takes logs and parts that the caller reads and feeds itself, and recovers from these as `recover_one` does.
+//! `Fed` takes logs and parts that the caller reads and feeds itself, and recovers from these as `recover_one` does. For
+//! threads that the caller starts, `Fed::divide` makes tasks that divide, `Dividing::replay` takes these back, done, and
+//! makes tasks that replay, and `Replaying::finish` takes those back and makes the store.
 //!
 //! `audit` answers from the same `Inputs`, without a store: it finds the versions of a key that several updates share.
 //!
@@ -46,6 +48,7 @@ mod working;
 pub use assembling::assemble;
 pub use auditing::audit;
 pub use checking::{check_logs, check_parts, start_of};
+pub use dividing::{DivideTask, DividedTask, Dividing};
 pub use failure::{Failure, Refusal};
 pub use fed::Fed;
 pub use found::Start;
@@ -60,6 +63,7 @@ pub use mt_tree::{Hit, Visitor, Wanted};
 pub use program::{MOST_FILES, dump_files, write_dump};
 pub use reading::{MOST_BYTES, read_log};
 pub use recovery::{Inputs, Recovered, recover, recover_logs, recover_one};
+pub use replaying::{ReplayTask, ReplayedTask, Replaying};
 pub use report::Report;
 pub use store::Store;
 pub use workers::{Cutting, Gate, MOST_WORKERS, NoGate, Workers};

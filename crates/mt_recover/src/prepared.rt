@@ -1,8 +1,9 @@
 //! The survivors and the counts that are prepared before replay.
-ghost use Rattle.std.specs.Prelude.{◌≡◌, ◌<◌, ◌+◌, [], List, ℕ, length, IfOk, IfErr, ◌^◌};
+ghost use Rattle.std.specs.Prelude.{◌≡◌, ◌<◌, ◌+◌, ◌^◌, [], List, ℕ, length, IfOk, IfErr};
 ghost use Rattle.std.specs.Option.{option_map};
 ghost use Rattle.mt_words.specs.Walks.{IsMap, joined};
 ghost use Rattle.mt_scan.specs.Choosing.{checkpoint_in};
+ghost use Rattle.mt_recover.specs.Recovery.{entry_updates};
 ghost use Rattle.mt_replay.specs.Cuts.{AreCuts};
 ghost use Rattle.mt_replay.specs.Pieces.{IsPiece};
 ghost use Rattle.mt_replay.specs.Walk.{IsWalk};
@@ -11,20 +12,18 @@ ghost use Rattle.mt_recover.specs.Inputs.{IsAnsweredBy, OfSources};
 ghost use Rattle.mt_recover.specs.Job.{AreCutBy};
 ghost use Rattle.mt_recover.specs.Prepared.{IsMadeOf, IsPreparedOf, PreparedView};
 ghost use Rattle.mt_recover.specs.Steps.Preparing.{IsDivisionOf, IsFound, IsFoundOf};
-ghost use Rattle.mt_recover.specs.Recovery.{entry_updates};
-ghost use Rattle.mt_replay.specs.Cells.{AreApart};
 
 use crate::Workers;
-use crate::assembling::join_all;
+use crate::by_workers::{all_done, by_workers};
 use crate::dividing::{Division, divide, leave_whole};
 use crate::found::{Found, find};
 use crate::recovery::{Inputs, Recovered};
-use crate::replaying::replay_all;
+use crate::replaying::{ReplayTask, ReplayedTask, Replaying};
 use crate::report::Report;
 use crate::scans::scan_all;
 use crate::store::Store;
 use crate::workers::{Cutting, Gate};
-use mt_replay::{Divided, SortedUpdates, pieces_make_the_walk};
+use mt_replay::{Divided, SortedUpdates};
 use mt_scan::{Checkpoint, Source};
 use mt_tree::Draft;
 use mt_words::{Fault, Memory};
@@ -35,17 +34,20 @@ use std::thread::Threads;
 /// The surviving updates, divided into pieces, and the report so far.
 #[derive(Drop)]
 pub(crate) struct Prepared {
-    divided: Divided,
+    pub divided: Divided,
     /// The report, without the keys and layers of the store.
-    report: Report,
+    pub report: Report,
 }
 
 impl Model for Prepared {
+    ghost use Rattle.mt_recover.specs.Prepared.{PreparedView};
+    ghost use Rattle.mt_recover.specs.Steps.Preparing.{IsSound};
+
     ghost Value = { PreparedView };
 
     ghost view = { λ p. record { updates = p.divided.updates; cuts = p.divided.cuts; report = p.report } };
 
-    ghost invariant = { λ p. AreApart p.divided.updates × (p.report.survivors ≡ length p.divided.updates) × (p.report.survivors < 2 ^ 128) };
+    ghost invariant = { λ p. IsSound (record { updates = p.divided.updates; cuts = p.divided.cuts; report = p.report }) };
 }
 
 impl Prepared {
@@ -98,7 +100,7 @@ impl Prepared {
     }
 
     /// Completes the report of what was divided.
-    fn of(report: Report, division: Division) -> Prepared
+    pub fn of(report: Report, division: Division) -> Prepared
         requires { (logs : List (List ℕ)) × (parts : List (List ℕ)) × IsDivisionOf logs parts report division }
         ensures prepared { (logs parts : List (List ℕ)) → IsDivisionOf logs parts report division → IsPreparedOf logs parts result }
         ensures divided { (result.updates ≡ division.0.updates) × (result.cuts ≡ division.0.cuts) }
@@ -153,17 +155,22 @@ impl Prepared {
     ) -> Result<Recovered, Memory>
         ensures { IfOk result (IsMadeOf self) }
     {
-        let Prepared { divided, report } = self;
-        let (cuts, ranges, entries) = divided.into_parts();
-        let drafts = replay_all(rt, alloc, &cuts, ranges, &entries, workers, gate)?;
-        drop(entries);
-        pieces_make_the_walk();
-        complete(report, join_all(alloc, drafts)?)
+        let (replaying, tasks) = Replaying::of(alloc, self, workers)?;
+        let done = by_workers(
+            rt,
+            alloc,
+            tasks,
+            workers,
+            &|task: ReplayTask| -> Result<ReplayedTask, Memory>
+                ensures { IfOk result (λ done. done ≡ task) }
+            { task.work_at(alloc, gate) },
+        )?;
+        replaying.finish(alloc, all_done(alloc, done)?)
     }
 }
 
 /// Makes the store from its draft, and completes the report. Err: out of memory.
-fn complete(report: Report, draft: Draft) -> Result<Recovered, Memory>
+pub(crate) fn complete(report: Report, draft: Draft) -> Result<Recovered, Memory>
     requires { IsMap (layer_walk draft) }
     ensures { (prepared : PreparedView) → prepared.report ≡ report → IsWalk prepared.updates (layer_walk draft) →
         report.survivors ≡ length prepared.updates → report.survivors < 2 ^ 128 → IfOk result (IsMadeOf prepared) }
@@ -180,7 +187,10 @@ fn complete(report: Report, draft: Draft) -> Result<Recovered, Memory>
 }
 
 /// Returns the entries of each part of the checkpoint, or nothing without a checkpoint. Err: out of memory.
-fn entries_of(alloc: Global, chosen: Option<Checkpoint>) -> Result<Vec<SortedUpdates>, Memory>
+pub(crate) fn entries_of(
+    alloc: Global,
+    chosen: Option<Checkpoint>,
+) -> Result<Vec<SortedUpdates>, Memory>
     ensures { IfOk result (λ lists. joined lists.items ≡ entry_updates (option_map checkpoint_in chosen)) }
 {
     let Some(checkpoint) = chosen else {

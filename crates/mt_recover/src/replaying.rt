@@ -1,45 +1,218 @@
-//! Replays all pieces with workers, who free the updates of each.
-ghost use Rattle.std.specs.Prelude.{◌≡◌, ◌<◌, ◌^◌, ◌++◌, map, IfOk};
+//! Replays pieces, task by task, and makes the store of all.
+ghost use Rattle.std.specs.Prelude.{◌≡◌, ◌<◌, ◌^◌, List, ℕ, map, All, IfOk};
+ghost use Rattle.std.specs.Arc.{arc_value};
+ghost use Rattle.std.specs.List.{AllZip};
+ghost use Rattle.std.specs.Vec.Iter.{into_iter_items};
 ghost use Rattle.mt_words.specs.Walks.{joined};
-ghost use Rattle.mt_replay.specs.Cells.{AreApart};
-ghost use Rattle.mt_replay.specs.Pieces.{ArePieces};
-ghost use Rattle.mt_replay.specs.Ranges.{dealt_by};
 ghost use Rattle.mt_tree.specs.Borders.{layer_walk};
-ghost use Rattle.mt_recover.specs.Steps.Replaying.{IsRangeIn, IsReplayOf};
+ghost use Rattle.mt_recover.specs.Prepared.{IsMadeOf, IsPreparedOf};
+ghost use Rattle.mt_recover.specs.Report.{IsRecoveredOf};
+ghost use Rattle.mt_recover.specs.Steps.Replaying.{AreReplaysOf, IsPieceIn, IsReplayOf};
+ghost use Rattle.mt_recover.specs.Tasks.{replay_task, replay_tasks};
 
-use crate::by_workers::{all_done, by_workers, numbered};
-use crate::workers::{Gate, Workers};
-use mt_replay::{Cuts, Range, SortedUpdates, replay_range};
+use crate::assembling::join_all;
+use crate::by_workers::{all_done, deal, gather, in_turn, numbered};
+use crate::prepared::{Prepared, complete};
+use crate::recovery::Recovered;
+use crate::report::Report;
+use crate::workers::{Gate, NoGate, Workers};
+use mt_replay::{Cuts, Range, SortedUpdates, pieces_make_the_walk, replay_range};
 use mt_tree::Draft;
 use mt_words::Memory;
 use std::alloc::Global;
-use std::thread::Threads;
+use std::collections::VecDeque;
+use std::marker::Model;
+use std::snapshot::Snapshot;
+use std::sync::Arc;
+use std::vec::IntoIter;
 
-/// Replays the range of each piece into a draft, with these workers. Worker w of W replays the pieces w, w + W, .. in
-/// this order: it enters a piece at the gate, replays it and frees its range. Returns the drafts in the order of the
-/// pieces. Err: out of memory.
-pub(crate) fn replay_all<R: Threads + Sync, G: Gate>(
-    rt: &R,
+/// A piece by its number, and the updates of logs that lie in it.
+type Piece = (usize, Range);
+
+/// What all tasks read: the cuts that make the pieces, and the entries of the checkpoint.
+#[derive(Drop)]
+struct Base {
+    cuts: Cuts,
+    entries: Vec<SortedUpdates>,
+}
+
+/// A task of a recovery: to replay some pieces. Any thread may do it.
+#[derive(Drop)]
+pub struct ReplayTask {
+    pieces: VecDeque<Piece>,
+    base: Arc<Base>,
+    /// The number of workers among whom the pieces were dealt.
+    workers: Workers,
+}
+
+impl Model for ReplayTask {
+    ghost use Rattle.std.specs.Arc.{arc_value};
+    ghost use Rattle.std.specs.Prelude.{All};
+    ghost use Rattle.mt_words.specs.Walks.{joined};
+    ghost use Rattle.mt_recover.specs.Steps.Replaying.{IsPieceIn};
+    ghost use Rattle.mt_recover.specs.Tasks.{ReplayView};
+
+    ghost Value = { ReplayView };
+
+    ghost view = { λ t. record { pieces = t.pieces.items; entries = joined (arc_value t.base).entries.items; cuts = (arc_value t.base).cuts } };
+
+    ghost invariant = { λ t. All (IsPieceIn (arc_value t.base).cuts) t.pieces.items };
+}
+
+impl ReplayTask {
+    /// Does the task, and frees the updates of each piece once it is replayed. Err: out of memory.
+    pub fn work(self, alloc: Global) -> Result<ReplayedTask, Memory>
+        ensures { IfOk result (λ done. done ≡ self) }
+    {
+        self.work_at(alloc, &NoGate)
+    }
+
+    /// Does the same as `work`, but enters each piece at the gate first.
+    pub(crate) fn work_at<G: Gate>(self, alloc: Global, gate: &G) -> Result<ReplayedTask, Memory>
+        ensures { IfOk result (λ done. done ≡ self) }
+    {
+        let of = Snapshot::of(&self);
+        let ReplayTask {
+            pieces,
+            base,
+            workers,
+        } = self;
+        let drafts = replay_each(
+            alloc,
+            Vec::from(pieces),
+            &base.cuts,
+            &base.entries,
+            workers,
+            gate,
+        )?;
+        Ok(ReplayedTask { drafts, of })
+    }
+}
+
+/// A task to replay that is done.
+#[derive(Drop)]
+pub struct ReplayedTask {
+    /// The replayed pieces, in the order of the task.
+    drafts: Vec<Draft>,
+    /// The task that was done. This field takes no bytes.
+    of: Snapshot<ReplayTask>,
+}
+
+impl Model for ReplayedTask {
+    ghost use Rattle.mt_recover.specs.Steps.Replaying.{AreReplaysOf};
+    ghost use Rattle.mt_recover.specs.Tasks.{ReplayView};
+
+    ghost Value = { ReplayView };
+
+    ghost view = { λ d. d.of.value };
+
+    ghost invariant = { λ d. AreReplaysOf d.of.value d.drafts.items };
+}
+
+/// A recovery that waits until its tasks have replayed what was prepared.
+#[derive(Drop)]
+pub struct Replaying {
+    report: Report,
+    /// What was prepared, the entries in it, and the pieces that each task has. These fields take no bytes.
+    prepared: Snapshot<Prepared>,
+    entries: Snapshot<Vec<SortedUpdates>>,
+    shares: Snapshot<Vec<VecDeque<Piece>>>,
+}
+
+impl Model for Replaying {
+    ghost use Rattle.std.specs.Prelude.{◌≡◌, map};
+    ghost use Rattle.mt_words.specs.Walks.{joined};
+    ghost use Rattle.mt_recover.specs.Steps.Preparing.{IsSound};
+    ghost use Rattle.mt_recover.specs.Steps.Replaying.{ArePiecesDealt};
+    ghost use Rattle.mt_recover.specs.Tasks.{ReplayingView};
+
+    ghost Value = { ReplayingView };
+
+    ghost view = { λ r. record { prepared = r.prepared.value; entries = joined r.entries.value.items; shares = map (λ share. share.items) r.shares.value.items } };
+
+    ghost invariant = { λ r. (r.prepared.value.report ≡ r.report) × IsSound r.prepared.value
+        × ArePiecesDealt (record { prepared = r.prepared.value; entries = joined r.entries.value.items; shares = map (λ share. share.items) r.shares.value.items }) };
+}
+
+impl Replaying {
+    /// Deals the pieces to tasks: worker w of W gets the pieces w, w + W, .. in this order. Err: out of memory.
+    pub(crate) fn of(
+        alloc: Global,
+        prepared: Prepared,
+        workers: Workers,
+    ) -> Result<(Replaying, Vec<ReplayTask>), Memory>
+        ensures prepared { IfOk result (λ made. made.0.prepared ≡ prepared) }
+        ensures tasks { IfOk result (λ made. made.1.items ≡ replay_tasks made.0) }
+    {
+        let of = Snapshot::of(&prepared);
+        let Prepared { divided, report } = prepared;
+        let (cuts, ranges, entries) = divided.into_parts();
+        let dealt = deal(alloc, numbered(alloc, ranges)?, workers.count())?;
+        let replaying = Replaying {
+            report,
+            prepared: of,
+            entries: Snapshot::of(&entries),
+            shares: Snapshot::of(&dealt),
+        };
+        let base = Arc::new(alloc, Base { cuts, entries })?;
+        let tasks = tasks_of(alloc, dealt, &base, workers)?;
+        Ok((replaying, tasks))
+    }
+
+    /// Makes the store and its report from what the tasks replayed. Takes all its tasks, done, in their order.
+    /// Err: out of memory.
+    pub fn finish(self, alloc: Global, done: Vec<ReplayedTask>) -> Result<Recovered, Memory>
+        requires { done.items ≡ replay_tasks self }
+        ensures store { IfOk result (IsMadeOf self.prepared) }
+        ensures recovered { (logs parts : List (List ℕ)) → IsPreparedOf logs parts self.prepared → IfOk result (IsRecoveredOf logs parts) }
+    {
+        let Replaying { report, .. } = self;
+        let drafts = gather(alloc, drafts_of(alloc, done)?)?;
+        pieces_make_the_walk();
+        complete(report, join_all(alloc, drafts)?)
+    }
+}
+
+/// Makes a task for each share. Err: out of memory.
+fn tasks_of(
     alloc: Global,
+    shares: Vec<VecDeque<Piece>>,
+    base: &Arc<Base>,
+    workers: Workers,
+) -> Result<Vec<ReplayTask>, Memory>
+    requires { All (λ share. All (IsPieceIn (arc_value base.now).cuts) share.items) shares.items }
+    ensures { IfOk result (λ tasks. tasks.items ≡ map (λ share. replay_task (joined (arc_value base.now).entries.items) (arc_value base.now).cuts share.items) shares.items) }
+{
+    let mut tasks = Vec::with_capacity(alloc, shares.len())?;
+    for pieces in shares {
+        let base = Arc::try_clone(base)?;
+        tasks.push(ReplayTask {
+            pieces,
+            base,
+            workers,
+        })?;
+    }
+    Ok(tasks)
+}
+
+/// Replays the updates of each piece into a draft, and frees them. Returns the drafts in the order of the pieces.
+/// Err: out of memory.
+fn replay_each<G: Gate>(
+    alloc: Global,
+    pieces: Vec<Piece>,
     cuts: &Cuts,
-    ranges: Vec<Range>,
     entries: &[SortedUpdates],
     workers: Workers,
     gate: &G,
 ) -> Result<Vec<Draft>, Memory>
-    requires { ranges.items ≡ dealt_by cuts.now (joined ranges.items) }
-    ensures { AreApart (joined ranges.items ++ joined entries.now) →
-        IfOk result (λ drafts. ArePieces (joined ranges.items ++ joined entries.now) cuts.now (map layer_walk drafts.items)) }
+    requires { All (IsPieceIn cuts.now) pieces.items }
+    ensures { IfOk result (λ drafts. AreReplaysOf (replay_task (joined entries.now) cuts.now pieces.items) drafts.items) }
 {
-    // This call lets the proof see that the number of a piece fits.
-    let _ = cuts.pieces();
-    let drafts = by_workers(
-        rt,
+    let drafts = in_turn(
         alloc,
-        numbered(alloc, ranges)?,
-        workers,
-        &|job: (usize, Range)| -> Result<Draft, Memory>
-            requires { (job.0 < 2 ^ 32) × IsRangeIn cuts.now job.0 job.1 }
+        pieces,
+        &|job: Piece| -> Result<Draft, Memory>
+            requires { IsPieceIn cuts.now job }
             ensures { IfOk result (λ draft. IsReplayOf cuts.entry.now (joined entries.entry.now) job.0 job.1 (layer_walk draft)) }
         {
             let (piece, range) = job;
@@ -49,4 +222,16 @@ pub(crate) fn replay_all<R: Threads + Sync, G: Gate>(
         },
     )?;
     all_done(alloc, drafts)
+}
+
+/// Returns the drafts of each task. Err: out of memory.
+fn drafts_of(alloc: Global, done: Vec<ReplayedTask>) -> Result<Vec<IntoIter<Draft>>, Memory>
+    ensures { IfOk result (λ parts. AllZip AreReplaysOf done.items (map into_iter_items parts.items)) }
+{
+    let mut parts = Vec::with_capacity(alloc, done.len())?;
+    for task in done {
+        let ReplayedTask { drafts, of: _ } = task;
+        parts.push(drafts.into_iter())?;
+    }
+    Ok(parts)
 }

@@ -113,6 +113,14 @@ impl Cuts {
         }
     }
 
+    /// Copies the cuts. Err: out of memory.
+    pub fn try_copy(&self) -> Result<Cuts, Memory>
+        ensures { IfOk result (λ copy. copy ≡ self.now) }
+    {
+        let keys = copies_of(*self.keys.allocator(), &self.keys)?;
+        Ok(Cuts { keys })
+    }
+
     /// Returns the number of pieces that the cuts make.
     pub fn pieces(&self) -> u32
         ensures value { result ≡ length self.now + 1 }
@@ -168,7 +176,6 @@ impl Cuts {
     /// keys of these batches and entries. They are found much sooner than even cuts, which need all keys.
     /// Err: out of memory.
     pub fn sampled(
-        rt: &(impl Threads + Sync),
         alloc: Global,
         batches: &[Batch],
         entries: &[SortedUpdates],
@@ -176,7 +183,7 @@ impl Cuts {
     ) -> Result<Cuts, Memory>
         ensures { IfOk result (λ cuts. length cuts < pieces) }
     {
-        let keys = sampled_keys(rt, alloc, batches, entries, pieces.count)?;
+        let keys = sampled_keys(alloc, batches, entries, pieces.count)?;
         Cuts::even_of(alloc, &keys, pieces)
     }
 
@@ -190,6 +197,17 @@ impl Cuts {
         let keys = even_keys(alloc, keys, asked)?;
         Ok(Cuts { keys })
     }
+}
+
+/// Copies the keys. Err: out of memory.
+fn copies_of(alloc: Global, keys: &[Key]) -> Result<Vec<Key>, Memory>
+    ensures { IfOk result (λ copies. copies.items ≡ keys.now) }
+{
+    let mut copies = Vec::with_capacity(alloc, keys.len())?;
+    for key in keys {
+        copies.push(key.try_copy()?)?;
+    }
+    Ok(copies)
 }
 
 /// Returns the keys at which the pieces after the first begin, for `pieces` even pieces. Err: out of memory.

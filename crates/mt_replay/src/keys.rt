@@ -41,14 +41,13 @@ pub(crate) fn surviving_keys<'a>(
         add_survivors(alloc, &mut keys, batch, window)?;
     }
     add_entries(&mut keys, entries, 1)?;
-    keep_each_once(rt, alloc, &mut keys)?;
+    par_keep_each_once(rt, alloc, &mut keys)?;
     Ok(keys)
 }
 
 /// Returns keys at equal distances in the batches and in the entries, each once, in order: some for each of `pieces`
-/// pieces. Err: out of memory.
+/// pieces. These are so few that one thread sorts them. Err: out of memory.
 pub(crate) fn sampled_keys<'a>(
-    rt: &(impl Threads + Sync),
     alloc: Global,
     batches: &'a [Batch],
     entries: &'a [SortedUpdates],
@@ -64,12 +63,20 @@ pub(crate) fn sampled_keys<'a>(
         batch.add_keys(&mut keys, distance)?;
     }
     add_entries(&mut keys, entries, distance)?;
-    keep_each_once(rt, alloc, &mut keys)?;
+    keep_each_once(&mut keys);
     Ok(keys)
 }
 
-/// Sorts the keys, and keeps each once. The sort merges the runs of keys that are sorted already. Err: out of memory.
-fn keep_each_once(
+/// Sorts the keys, and keeps each once.
+fn keep_each_once(keys: &mut Vec<&[u8]>)
+    ensures { AreDistinctKeys (map (λ key. key.now) keys.old.items) (map (λ key. key.now) keys.new.items) }
+{
+    keys.sort_unstable();
+    keys.dedup();
+}
+
+/// Does the same on several threads. The sort merges the runs of keys that are sorted already. Err: out of memory.
+fn par_keep_each_once(
     rt: &(impl Threads + Sync),
     alloc: Global,
     keys: &mut Vec<&[u8]>,

@@ -66,11 +66,10 @@ fn replay_last(alloc: Global) -> Result<bool, Fault> {
 
 /// Cuts the updates of the log into two pieces by a sample, which has all its keys, and replays the second. Returns its
 /// number of keys.
-fn replay_second<R: AllocGlobal + Threads + Sync>(rt: &R) -> Result<usize, Fault> {
-    let alloc = rt.alloc();
+fn replay_second(alloc: Global) -> Result<usize, Fault> {
     let lists = [SortedUpdates::of(alloc, updates_at(alloc, 0)?, ALL)?];
     let pieces = Pieces::new(2).ok_or(Fault::NoLogs)?;
-    let cuts = Cuts::sampled(rt, alloc, &[], &lists, pieces)?;
+    let cuts = Cuts::sampled(alloc, &[], &lists, pieces)?;
     let piece = cuts.pieces() - 1;
     Ok(replay_piece(alloc, &lists, &cuts, piece)?.len())
 }
@@ -120,7 +119,7 @@ fn a_refused_growth_of_a_step_is_memory(rt: HostRuntime) {
     assert_answer(&rt, scan_both(alloc), &(2, Some(1)));
     assert_answer(&rt, clashes_of_two(alloc), &3);
     assert_answer(&rt, replay_last(alloc), &true);
-    assert_answer(&rt, replay_second(&rt), &2);
+    assert_answer(&rt, replay_second(rt.alloc()), &2);
     assert_answer(&rt, join_two(alloc), &(2, 1));
     assert_answer(&rt, range_of_store(alloc), &2);
 }

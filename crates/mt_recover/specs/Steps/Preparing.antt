@@ -1,16 +1,14 @@
 -- The steps of preparing: what was found, its counts, and what each log left.
-use Rattle.std.specs.Prelude.{◌≡◌, ℕ, List, length, map, filter, ◌++◌, Result, IfOk, IsPermutation}
-use Rattle.std.specs.List.{AllZip}
+use Rattle.std.specs.Prelude.{◌≡◌, ◌<◌, ◌^◌, ℕ, List, length, map, filter, ◌++◌, IsPermutation}
 use Rattle.mt_words.specs.declared.fault.Fault.{Fault}
 use Rattle.mt_words.specs.declared.fault.Fault.TheVariants as faults
-use Rattle.mt_words.specs.declared.fault.Memory.{Memory}
 use Rattle.mt_words.specs.declared.record.Change.{Change}
 use Rattle.mt_words.specs.declared.update.Update.{Update}
 use Rattle.mt_record.specs.Logs.{LogReading}
 use Rattle.mt_replay.specs.declared.window.Window.{Window}
+use Rattle.mt_replay.specs.Cells.{AreApart}
 use Rattle.mt_replay.specs.Divided.{DividedView}
 use Rattle.mt_replay.specs.Ranges.{dealt_by}
-use Rattle.mt_replay.specs.Batches.{BatchView, batched}
 use Rattle.mt_replay.specs.Survivors.{in_window, is_early}
 use Rattle.mt_scan.specs.Segments.{IsDoubled, IsTornAmid, IsFirst}
 use Rattle.mt_recover.specs.Steps.LogScans.{ShowAll}
@@ -19,6 +17,8 @@ use Rattle.mt_recover.specs.declared.found.Found.{Found}
 use Rattle.mt_recover.specs.declared.report.Report.{Report}
 use Rattle.mt_recover.specs.Recovery.{Basis, begin_of, records_of, survivors}
 use Rattle.mt_recover.specs.Report.{IsFoundIn, logged_updates}
+use Rattle.mt_recover.specs.Prepared.{PreparedView}
+use Rattle.mt_recover.specs.Tasks.{DivideView, DividingView, IsDividingOf}
 
 -- the fault is `Doubled` of the first log that is doubled, or, if none is, `Torn` of the first log that is torn amid its worker's log
 abbrev pub IsWritersFault : List LogReading → Fault → Type 0
@@ -39,16 +39,18 @@ entry_versions entries = map (λ entry. entry.version) entries
 abbrev pub IsFound : Found → Type 0
 IsFound found = (logs parts : List (List ℕ)) × IsFoundOf logs parts found
 
+-- this is what some logs and parts left to be divided
+abbrev pub IsDividing : DividingView → Type 0
+IsDividing dividing = (logs parts : List (List ℕ)) × IsDividingOf logs parts dividing
+
 -- what is left of some updates: the number of the early ones, and those in the window, dealt to the pieces that the cuts make
 pub record IsLeftBy (window : Window) (cuts : List (List ℕ)) (updates : List Update) (left : ℕ × List (List Update)) : Type 0 where
   pub early : left.0 ≡ length (filter (is_early window.begin) updates)
   pub dealt : left.1 ≡ dealt_by cuts (filter (in_window window) updates)
 
--- the batches have these updates, and this is left of each, or out of memory instead
-pub record AreBatchesLeft (window : Window) (cuts : List (List ℕ)) (updates : List Update) (left : List (Result (ℕ × List (List Update)) Memory)) : Type 0 where
-  pub batches : List BatchView
-  pub all : batched batches ≡ updates
-  pub each : AllZip (λ batch answer. IfOk answer (IsLeftBy window cuts batch.updates)) batches left
+-- this is left of the task's batch
+abbrev pub IsLeftOf : DivideView → ℕ × List (List Update) → Type 0
+IsLeftOf task left = IsLeftBy task.window task.cuts task.batch.updates left
 
 -- of these updates, those in the window and the entries are divided into pieces, and the early ones are counted
 pub record IsDividedOf (window : Window) (logged entries : List Update) (division : DividedView × ℕ) : Type 0 where
@@ -61,3 +63,9 @@ pub record IsDivisionOf (logs parts : List (List ℕ)) (report : Report) (divisi
   pub found : IsFoundIn basis.facts report
   pub updates : IsPermutation (survivors basis.facts.cutoff basis.facts.chosen (records_of basis.facts.readings)) division.0.updates
   pub early : division.1 ≡ length (filter (is_early (begin_of basis.facts.chosen)) (logged_updates basis.facts.readings))
+
+-- no two updates have the same stamp with different contents, and the report counts them exactly
+pub record IsSound (prepared : PreparedView) : Type 0 where
+  pub apart : AreApart prepared.updates
+  pub survivors : prepared.report.survivors ≡ length prepared.updates
+  pub few : prepared.report.survivors < 2 ^ 128

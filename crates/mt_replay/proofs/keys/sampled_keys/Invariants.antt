@@ -6,4 +6,4 @@ use Rattle.mt_replay.proofs.keys.sampled_keys.Given as goal
 
 -- the keys so far are lawful
 abbrev pub invariant-loop-batch : goal.invariant-loop-batch
-invariant-loop-batch g l = All (IsKey widest) (map (λ key. key.now) l.keys.items)
+invariant-loop-batch l = All (IsKey widest) (map (λ key. key.now) l.keys.items)

@@ -28,7 +28,7 @@ returns-clause-distinct g c =
     let all : map (λ key. key.now) c.add_entries.new.keys.items ≡ keys_in (kept ++ entries) =
     c.in_ok-add_entries.ensures.all refl ∙ ap (λ (ks : List (List ℕ)). ks ++ keys_in entries) first ∙ sym (keys_split kept entries)
     in
-    subst (λ keys. AreDistinctKeys keys (map (λ key. key.now) c.keep_each_once.new.keys.items)) all c.in_ok-keep_each_once.ensures
+    subst (λ keys. AreDistinctKeys keys (map (λ key. key.now) c.par_keep_each_once.new.keys.items)) all c.in_ok-par_keep_each_once.ensures
 
 pub returns-clause-lawful : goal.returns-clause-lawful
-returns-clause-lawful g c = kept_each (IsKey widest) _ _ c.in_ok-keep_each_once.ensures (c.in_ok-add_entries.ensures.lawful c.loop-batch.invariant.lawful)
+returns-clause-lawful g c = kept_each (IsKey widest) _ _ c.in_ok-par_keep_each_once.ensures (c.in_ok-add_entries.ensures.lawful c.loop-batch.invariant.lawful)

@@ -8,4 +8,4 @@ complete-requires c = c.requires.map
 pub returns : goal.returns
 returns c =
     let self = c.args.self in
-    c.complete.ensures self (ap (λ (p : PreparedView). p.report) (sym c.self.view_is)) c.requires (c.self.invariant.1 ∙ ap (λ (p : PreparedView). length p.updates) c.self.view_is) c.self.invariant.2
+    c.complete.ensures self (ap (λ (p : PreparedView). p.report) (sym c.self.view_is)) c.requires (c.self.invariant.survivors ∙ ap (λ (p : PreparedView). length p.updates) c.self.view_is) c.self.invariant.few

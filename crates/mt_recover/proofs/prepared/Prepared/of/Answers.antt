@@ -30,7 +30,11 @@ pub overflow_sub-late-4 : goal.overflow_sub-late-4
 overflow_sub-late-4 c = let a = (adds c.before.before).1 in omega (arith, a.marks, a.entries, a.all)
 
 pub invariant_of-result : goal.invariant_of-result
-invariant_of-result c = (apart_left c.requires.2.basis.facts c.args.division.0.updates c.requires.2.updates, c.len-survivors.ensures, c.len-survivors.type_inv)
+invariant_of-result c = record {
+  apart = apart_left c.requires.2.basis.facts c.args.division.0.updates c.requires.2.updates;
+  survivors = c.len-survivors.ensures;
+  few = c.len-survivors.type_inv;
+}
 
 pub returns-clause-prepared : goal.returns-clause-prepared
 returns-clause-prepared c = λ logs parts is. record {

@@ -7,4 +7,4 @@ use Rattle.mt_recover.proofs.prepared.Prepared.replay.Goals as goal
 
 pub returns : goal.returns
 returns c =
-    IfOk-weaker c.replay_into.result _ _ (λ draft is. subst (λ (p : PreparedView). IsPiece p.updates p.cuts c.args.piece (layer_walk draft)) c.self.view_is (is c.self.invariant.0)) c.replay_into.ensures.walk
+    IfOk-weaker c.replay_into.result _ _ (λ draft is. subst (λ (p : PreparedView). IsPiece p.updates p.cuts c.args.piece (layer_walk draft)) c.self.view_is (is c.self.invariant.apart)) c.replay_into.ensures.walk
