@@ -31,7 +31,7 @@ enum mtr_status {
     MTR_DONE = 0,   /* done */
     MTR_MEMORY = 1, /* out of memory */
     MTR_WRONG = 2,  /* an argument is not lawful, or a place does not hold what the call needs; nothing changed */
-    MTR_ABSENT = 3, /* there is no such key, column or item */
+    MTR_ABSENT = 3, /* there is no such key, column, pair or item */
     MTR_SHORT = 4,  /* the buffer is too short, and *count is the number of bytes that it needs */
     MTR_FAULT = 5   /* the bytes have a fault */
 };
@@ -141,6 +141,17 @@ uint32_t mtr_hit(mtr_place *hits, size_t i, size_t *columns, uint8_t *out, size_
  * MEMORY. */
 uint32_t mtr_hit_column(mtr_place *hits, size_t i, size_t nth, uint8_t *number, uint8_t *out, size_t room,
                         size_t *count);
+
+/* The flat form of the pair of this key of the store: its entry in a part, as docs/FORMATS.md says, of version 0. ABSENT:
+ * there is no such key. WRONG: as for mtr_exists. Never MEMORY. */
+uint32_t mtr_pair(mtr_place *store, const uint8_t *key, size_t key_length, uint8_t *out, size_t room, size_t *count);
+
+/* The flat forms of the first pairs of the store whose keys are at or after `start`, in order, one after the other: as many
+ * whole pairs as have room, at least one. DONE: *pairs is their number. Else it is as before. SHORT: the first has no
+ * room. ABSENT: there is no such pair. WRONG: as for mtr_exists. Never MEMORY. The pairs that follow the last one written
+ * begin at its key and one byte 0 more. */
+uint32_t mtr_dump(mtr_place *store, const uint8_t *start, size_t start_length, uint8_t *out, size_t room, size_t *count,
+                  size_t *pairs);
 
 /* Puts the same store into the empty place `other`, for another thread. Nothing is copied, and the store is freed with
  * the last of its places. WRONG: `store` holds no store, or `other` is not empty. Not DONE: `other` is as before. */

@@ -265,6 +265,105 @@ static void test_range(void) {
     expect("a store and its hits are freed", blocks == 0);
 }
 
+/* Writes the flat form of hit i, of fewer than 256 bytes, and returns its length. */
+static size_t flat(mtr_place *hits, size_t i, uint8_t *out) {
+    size_t columns = 0, count = 0, at = 14, nth;
+    memset(out, 0, at);
+    expect("a hit", mtr_hit(hits, i, &columns, out + at, 64, &count) == MTR_DONE);
+    out[13] = (uint8_t)count;
+    at += count;
+    out[at++] = (uint8_t)columns;
+    for (nth = 0; nth < columns; nth++) {
+        expect("a column", mtr_hit_column(hits, i, nth, out + at, out + at + 3, 64, &count) == MTR_DONE);
+        out[at + 1] = 0;
+        out[at + 2] = (uint8_t)count;
+        at += 3 + count;
+    }
+    out[3] = (uint8_t)(at - 4);
+    memcpy(out + at, out, 4);
+    return at + 4;
+}
+
+enum { PAIRS = 4, WHOLE = 256 };
+
+/* The flat forms of all pairs of the examples, and where each ends. */
+static uint8_t whole[WHOLE];
+static size_t ends[PAIRS];
+
+static void flatten(mtr_place *store) {
+    mtr_place hits = {0};
+    size_t i, at = 0;
+    expect("all", mtr_range(store, NULL, 0, PAIRS, &hits) == MTR_DONE);
+    for (i = 0; i < PAIRS; i++) ends[i] = at += flat(&hits, i, whole + at);
+    mtr_free(&hits);
+}
+
+static void test_pair(void) {
+    static const uint8_t kiwi[] = "\0\0\0\x16\0\0\0\0\0\0\0\0\0\x04kiwi\x01\x01\0\x04soft\0\0\0\x16";
+    mtr_place store = example_store(), empty = {0};
+    uint8_t out[64] = {9};
+    size_t count = 0;
+    flatten(&store);
+    left = 0;
+    expect("kiwi", mtr_pair(&store, text("kiwi"), 4, out, 64, &count) == MTR_DONE && count == sizeof kiwi - 1 &&
+                       memcmp(out, kiwi, count) == 0);
+    out[0] = 9;
+    expect("short", mtr_pair(&store, text("fig"), 3, out, ends[0] - 1, &count) == MTR_SHORT && count == ends[0] &&
+                        out[0] == 9);
+    expect("fig", mtr_pair(&store, text("fig"), 3, out, ends[0], &count) == MTR_DONE && memcmp(out, whole, ends[0]) == 0);
+    expect("no plum", mtr_pair(&store, text("plum"), 4, out, 64, &count) == MTR_ABSENT && count == ends[0]);
+    expect("no store", mtr_pair(&empty, text("fig"), 3, out, 64, &count) == MTR_WRONG);
+    left = SIZE_MAX;
+    mtr_free(&store);
+}
+
+/* As many pairs as have room are written, at each room, without memory. */
+static void test_dump(void) {
+    mtr_place store = example_store(), empty = {0};
+    uint8_t out[WHOLE + 1];
+    size_t room, count, pairs, fitting = 0;
+    flatten(&store);
+    left = 0;
+    for (room = 0; room <= ends[PAIRS - 1] + 1; room++) {
+        uint32_t status;
+        if (fitting < PAIRS && ends[fitting] == room) fitting++;
+        memset(out, 9, sizeof out);
+        count = pairs = 99;
+        status = mtr_dump(&store, NULL, 0, out, room, &count, &pairs);
+        if (fitting == 0)
+            expect("short", status == MTR_SHORT && count == ends[0] && pairs == 99 && out[0] == 9);
+        else
+            expect("pairs", status == MTR_DONE && pairs == fitting && count == ends[fitting - 1] &&
+                                memcmp(out, whole, count) == 0 && out[count] == 9);
+    }
+    expect("from g on", mtr_dump(&store, text("g"), 1, out, WHOLE, &count, &pairs) == MTR_DONE && pairs == 3 &&
+                            count == ends[3] - ends[0] && memcmp(out, whole + ends[0], count) == 0);
+    expect("none", mtr_dump(&store, text("pearl"), 5, out, WHOLE, &count, &pairs) == MTR_ABSENT && pairs == 3);
+    expect("no store", mtr_dump(&empty, NULL, 0, out, WHOLE, &count, &pairs) == MTR_WRONG && pairs == 3);
+    left = SIZE_MAX;
+    mtr_free(&store);
+}
+
+/* The whole store, in a buffer with room for one pair or two: the length behind each pair says where it begins. */
+static void test_dump_on(void) {
+    mtr_place store = example_store();
+    uint8_t out[64], start[16];
+    size_t count = 0, pairs = 0, length = 0, at = 0;
+    uint32_t status;
+    flatten(&store);
+    while ((status = mtr_dump(&store, start, length, out, sizeof out, &count, &pairs)) == MTR_DONE) {
+        const uint8_t *last = out + count - out[count - 1] - 8;
+        expect("the next pairs", memcmp(out, whole + at, count) == 0);
+        at += count;
+        length = last[13];
+        memcpy(start, last + 14, length);
+        start[length++] = 0;
+    }
+    expect("all of them", status == MTR_ABSENT && at == ends[PAIRS - 1]);
+    mtr_free(&store);
+    expect("it is freed", blocks == 0);
+}
+
 static void test_share(void) {
     mtr_place store = example_store(), other = {0}, third = {0};
     expect("one more", mtr_share(&store, &other) == MTR_DONE);
@@ -450,6 +549,9 @@ int main(int argc, char **argv) {
     test_recovery();
     test_report();
     test_range();
+    test_pair();
+    test_dump();
+    test_dump_on();
     test_share();
     test_resume();
     test_words();

@@ -157,6 +157,23 @@ extern "C" {
         room: usize,
         count: *mut usize,
     ) -> u32;
+    pub fn mtr_pair(
+        store: *mut RawPlace,
+        key: *const u8,
+        key_length: usize,
+        out: *mut u8,
+        room: usize,
+        count: *mut usize,
+    ) -> u32;
+    pub fn mtr_dump(
+        store: *mut RawPlace,
+        start: *const u8,
+        start_length: usize,
+        out: *mut u8,
+        room: usize,
+        count: *mut usize,
+        pairs: *mut usize,
+    ) -> u32;
     pub fn mtr_share(store: *mut RawPlace, other: *mut RawPlace) -> u32;
     pub fn mtr_free(place: *mut RawPlace);
     pub fn mtr_fault_text(fault: *const RawFault, out: *mut u8, room: usize, count: *mut usize) -> u32;

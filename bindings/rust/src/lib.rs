@@ -34,11 +34,13 @@ extern crate alloc;
 mod c;
 mod fault;
 mod inputs;
+mod pairs;
 pub mod records;
 mod store;
 
 pub use fault::{Error, Fault, OutOfMemory, What, WriteError};
 pub use inputs::{recover, Feed, Inputs};
+pub use pairs::Walk;
 pub use store::{Pair, Pairs, Report, Store};
 
 /// What the library is that is linked.

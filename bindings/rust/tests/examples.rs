@@ -79,6 +79,21 @@ fn a_pair_has_its_columns() {
 }
 
 #[test]
+fn a_pair_is_found_by_its_key() {
+    let store = store();
+    assert_eq!(store.pair(b"fig"), store.range(..).next().transpose().unwrap());
+    assert_eq!(store.pair(b"plum"), None);
+}
+
+#[test]
+fn pairs_are_those_of_a_range() {
+    let store = store();
+    for start in [&b""[..], b"fig", b"g", b"lime", b"pear", b"pearl"] {
+        assert!(store.pairs(start).eq(store.range(start..).map(Result::unwrap)));
+    }
+}
+
+#[test]
 fn the_report_is_that_of_the_program() {
     let report = store().report();
     assert_eq!((report.cutoff, report.checkpoint, report.begin), (40, Some(7), 10));
@@ -99,6 +114,21 @@ fn many_pairs_are_walked_in_order() {
     records::mark(&mut log, 1001).unwrap();
     let store = mtrecover::recover(&[&log], &[]).unwrap();
     assert!(keys(&store, ..).into_iter().eq((1..=1000).map(|n| format!("{n:04}"))));
+}
+
+#[test]
+fn pairs_longer_than_the_buffer_are_walked() {
+    let value = vec![7; 40_000];
+    let mut log = Vec::new();
+    records::log_header(&mut log, Format::One, 0).unwrap();
+    for n in 1..=20_u64 {
+        let columns = [Column::new(0, &value), Column::new(1, &value[..2000 * n as usize])];
+        records::put(&mut log, n, n, &[n as u8], &columns).unwrap();
+    }
+    records::mark(&mut log, 21).unwrap();
+    let store = mtrecover::recover(&[&log], &[]).unwrap();
+    assert_eq!(store.pairs(b"").count(), 20);
+    assert!(store.pairs(b"").eq(store.range(..).map(Result::unwrap)));
 }
 
 #[test]

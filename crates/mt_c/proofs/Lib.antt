@@ -1,4 +1,5 @@
 mod Adds
+pub mod Dumps
 mod Follows
 mod Lasts
 pub mod Pairs

@@ -1,5 +1,7 @@
 pub mod Added
 pub mod Buffers
+pub mod Filling
+pub mod Flat
 pub mod Given
 pub mod Owning
 pub mod Holding

@@ -12,9 +12,12 @@
 mod bare;
 mod buffer;
 mod columns;
+mod dumping;
 mod fault;
 mod feeding;
 mod feeds;
+mod filling;
+mod flat;
 mod headers;
 mod held;
 mod inputs;
