@@ -14,6 +14,7 @@
  * - What a call writes to, and places, overlap nothing else that the call is given.
  * - A pointer may be null if its length is 0.
  * - A place is moved and never copied, one call at a time is given it, and mtr_free empties it at the end.
+ * - A task goes back to the job that handed it out.
  * - The processor has x86-64-v2. */
 #ifndef MTRECOVER_H
 #define MTRECOVER_H
@@ -69,6 +70,36 @@ uint32_t mtr_add(mtr_place *inputs, mtr_place *feed);
 /* Recovers from these logs and parts. DONE: the place holds the store that the rules define for exactly these bytes, with
  * its report. FAULT: *fault is their one fault. Not DONE and not WRONG: the place is empty. */
 uint32_t mtr_recover(mtr_place *inputs, mtr_fault *fault);
+
+/* Recovery by threads of the server, which no call starts. A job hands out tasks, any thread does a task, and the job
+ * takes it back: first those that divide, and after mtr_replay those that replay. Neither their number nor their order
+ * changes the store.
+ *
+ * Begins recovery from these logs and parts for this number of threads, 1 to 64: a step has about so many tasks, or fewer.
+ * DONE: the place holds the job. FAULT: *fault is their one fault. Not DONE and not WRONG: the place is empty. WRONG: it
+ * holds no logs and parts, or the number is not lawful. */
+uint32_t mtr_prepare(mtr_place *inputs, uint32_t threads, mtr_fault *fault);
+
+/* Hands out the next task, into the empty place `worker`. ABSENT: all are handed out. WRONG: `job` holds no job, or
+ * `worker` is not empty. Not DONE: both places are as before. */
+uint32_t mtr_hire(mtr_place *job, mtr_place *worker);
+
+/* Does the task, unless it is done. MEMORY: it is lost, so free its job too; the place is empty. WRONG: the place holds
+ * no task. */
+uint32_t mtr_work(mtr_place *worker);
+
+/* Takes back a task that is done, and empties `worker`. A task must come back to the job that handed it out: another
+ * job's task is the caller's fault, and is not always found out. WRONG: `job` holds no job that waits for a task of this
+ * number, or `worker` no task that is done. Not DONE: both places are as before. */
+uint32_t mtr_join(mtr_place *job, mtr_place *worker);
+
+/* Begins the second step, once all tasks of the first are back; then hire, do and join its tasks. MEMORY: the place is
+ * empty. WRONG: it holds no such job. */
+uint32_t mtr_replay(mtr_place *job);
+
+/* Puts the store in the place of its job, once all tasks of the second step are back: the one that mtr_recover makes of
+ * the same logs and parts, with its report. MEMORY: the place is empty. WRONG: it holds no such job. */
+uint32_t mtr_assemble(mtr_place *job);
 
 /* The report of a recovery. A number above 2^64 - 1 is told as 2^64 - 1. */
 typedef struct mtr_report {

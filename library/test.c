@@ -167,13 +167,42 @@ static uint32_t add_bytes(mtr_place *inputs, int is_part, const uint8_t *bytes, 
     return status;
 }
 
-/* Feeds and recovers the store of the examples. */
-static uint32_t recover_examples(mtr_place *store, size_t chunk, mtr_fault *fault) {
+/* Feeds the logs and parts of the examples. */
+static uint32_t feed_examples(mtr_place *inputs, size_t chunk) {
     uint32_t status = MTR_DONE;
     size_t i;
     for (i = 0; status == MTR_DONE && i < FILES; i++)
-        status = add_bytes(store, i >= LOGS, examples[i].bytes, examples[i].length, chunk);
+        status = add_bytes(inputs, i >= LOGS, examples[i].bytes, examples[i].length, chunk);
+    return status;
+}
+
+/* Feeds and recovers the store of the examples. */
+static uint32_t recover_examples(mtr_place *store, size_t chunk, mtr_fault *fault) {
+    uint32_t status = feed_examples(store, chunk);
     return status == MTR_DONE ? mtr_recover(store, fault) : status;
+}
+
+/* Does the tasks of a step of the job, one after the other. */
+static uint32_t do_step(mtr_place *job) {
+    uint32_t status = MTR_DONE;
+    while (status == MTR_DONE) {
+        mtr_place worker = {0};
+        status = mtr_hire(job, &worker);
+        if (status == MTR_DONE) status = mtr_work(&worker);
+        if (status == MTR_DONE) status = mtr_join(job, &worker);
+        mtr_free(&worker);
+    }
+    return status == MTR_ABSENT ? MTR_DONE : status;
+}
+
+/* Does the same as recover_examples, by the tasks of a job for so many threads. */
+static uint32_t recover_by_tasks(mtr_place *store, uint32_t workers, mtr_fault *fault) {
+    uint32_t status = feed_examples(store, 64);
+    if (status == MTR_DONE) status = mtr_prepare(store, workers, fault);
+    if (status == MTR_DONE) status = do_step(store);
+    if (status == MTR_DONE) status = mtr_replay(store);
+    if (status == MTR_DONE) status = do_step(store);
+    return status == MTR_DONE ? mtr_assemble(store) : status;
 }
 
 static int has(mtr_place *store, const char *key, uint8_t column, const char *value) {
@@ -235,6 +264,50 @@ static int is_hit(mtr_place *hits, size_t i, const char *key, uint8_t column, co
                  memcmp(out, key, count) == 0;
     return is_key && mtr_hit_column(hits, i, 0, &number, out, sizeof out, &count) == MTR_DONE && number == column &&
            count == strlen(value) && memcmp(out, value, count) == 0;
+}
+
+static void test_tasks(void) {
+    static const uint32_t workers[] = {1, 2, 64};
+    size_t i;
+    for (i = 0; i < sizeof workers / sizeof *workers; i++) {
+        mtr_place store = {0};
+        mtr_fault fault = {0};
+        mtr_report report = {0};
+        expect("the examples are recovered by tasks", recover_by_tasks(&store, workers[i], &fault) == MTR_DONE);
+        expect("they have their keys", has(&store, "fig", 0, "green") && has(&store, "kiwi", 1, "soft"));
+        expect("they have a report", mtr_get_report(&store, &report) == MTR_DONE && report.survivors == 9);
+        mtr_free(&store);
+        expect("a job is freed", blocks == 0);
+    }
+}
+
+static void test_job(void) {
+    mtr_place job = {0}, first = {0}, other = {0};
+    mtr_fault fault = {0};
+    expect("inputs", feed_examples(&job, 64) == MTR_DONE);
+    expect("no threads", mtr_prepare(&job, 0, &fault) == MTR_WRONG && job.full);
+    expect("too many threads", mtr_prepare(&job, 65, &fault) == MTR_WRONG && job.full);
+    expect("inputs have no tasks", mtr_hire(&job, &first) == MTR_WRONG && mtr_work(&job) == MTR_WRONG);
+    expect("a job", mtr_prepare(&job, 1, &fault) == MTR_DONE);
+    expect("not prepared twice", mtr_prepare(&job, 1, &fault) == MTR_WRONG && job.full);
+    expect("a task is wanted", mtr_replay(&job) == MTR_WRONG && mtr_assemble(&job) == MTR_WRONG);
+    expect("a task", mtr_hire(&job, &first) == MTR_DONE && first.full);
+    expect("a full place", mtr_hire(&job, &first) == MTR_WRONG && first.full);
+    expect("no second task", mtr_hire(&job, &other) == MTR_ABSENT && !other.full);
+    expect("it is not done", mtr_join(&job, &first) == MTR_WRONG && first.full);
+    expect("it is done, once or more", mtr_work(&first) == MTR_DONE && mtr_work(&first) == MTR_DONE);
+    expect("it is still wanted", mtr_replay(&job) == MTR_WRONG);
+    expect("no task", mtr_join(&job, &other) == MTR_WRONG && mtr_join(&other, &first) == MTR_WRONG && first.full);
+    expect("it is back", mtr_join(&job, &first) == MTR_DONE && !first.full);
+    expect("it replays first", mtr_assemble(&job) == MTR_WRONG && mtr_replay(&job) == MTR_DONE);
+    expect("it replays once", mtr_replay(&job) == MTR_WRONG);
+    expect("a task to replay", mtr_hire(&job, &first) == MTR_DONE && mtr_work(&first) == MTR_DONE);
+    expect("it is wanted", mtr_assemble(&job) == MTR_WRONG && mtr_join(&job, &first) == MTR_DONE);
+    expect("a store", mtr_assemble(&job) == MTR_DONE && has(&job, "fig", 0, "green"));
+    expect("no job any more", mtr_hire(&job, &first) == MTR_WRONG && mtr_assemble(&job) == MTR_WRONG);
+    mtr_free(&job);
+    expect("a fault", mtr_prepare(&job, 1, &fault) == MTR_FAULT && fault.kind == 1 && !job.full);
+    expect("nothing is left", blocks == 0);
 }
 
 static void test_range(void) {
@@ -500,6 +573,22 @@ static void test_recovery_memory(void) {
     expect("then it is done", status == MTR_DONE);
 }
 
+static void test_tasks_memory(void) {
+    mtr_fault fault = {0};
+    uint32_t status = MTR_MEMORY;
+    size_t allowed;
+    for (allowed = 0; status == MTR_MEMORY && allowed < 4096; allowed++) {
+        mtr_place store = {0};
+        left = allowed;
+        status = recover_by_tasks(&store, 2, &fault);
+        left = SIZE_MAX;
+        mtr_free(&store);
+        expect("no task leaks", blocks == 0);
+    }
+    expect("some allocations of a job failed", allowed > 8);
+    expect("then it is done", status == MTR_DONE);
+}
+
 /* A call that allocates, over the store of the examples. */
 static uint32_t allocate(unsigned call, mtr_place *store, mtr_place *other) {
     mtr_resumed resumed;
@@ -548,6 +637,8 @@ int main(int argc, char **argv) {
     read_examples(argc > 1 ? argv[1] : ".");
     test_recovery();
     test_report();
+    test_tasks();
+    test_job();
     test_range();
     test_pair();
     test_dump();
@@ -558,6 +649,7 @@ int main(int argc, char **argv) {
     test_faults();
     test_add_memory();
     test_recovery_memory();
+    test_tasks_memory();
     test_calls_memory();
     printf("%u passed, %u failed\n", passed, failed);
     return failed != 0;

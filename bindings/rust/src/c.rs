@@ -8,6 +8,7 @@ use core::ptr;
 pub const DONE: u32 = 0;
 pub const MEMORY: u32 = 1;
 pub const WRONG: u32 = 2;
+pub const ABSENT: u32 = 3;
 pub const SHORT: u32 = 4;
 pub const FAULT: u32 = 5;
 
@@ -115,6 +116,12 @@ extern "C" {
     pub fn mtr_feed_failed(feed: *mut RawPlace) -> u32;
     pub fn mtr_add(inputs: *mut RawPlace, feed: *mut RawPlace) -> u32;
     pub fn mtr_recover(inputs: *mut RawPlace, fault: *mut RawFault) -> u32;
+    pub fn mtr_prepare(inputs: *mut RawPlace, threads: u32, fault: *mut RawFault) -> u32;
+    pub fn mtr_hire(job: *mut RawPlace, worker: *mut RawPlace) -> u32;
+    pub fn mtr_work(worker: *mut RawPlace) -> u32;
+    pub fn mtr_join(job: *mut RawPlace, worker: *mut RawPlace) -> u32;
+    pub fn mtr_replay(job: *mut RawPlace) -> u32;
+    pub fn mtr_assemble(job: *mut RawPlace) -> u32;
     pub fn mtr_get_report(store: *mut RawPlace, report: *mut RawReport) -> u32;
     pub fn mtr_report_end(store: *mut RawPlace, log: usize, end: *mut u64) -> u32;
     pub fn mtr_report_skipped(store: *mut RawPlace, i: usize, number: *mut u64) -> u32;

@@ -1,5 +1,8 @@
 //! Logs and parts, from their bytes to the store.
 
+use alloc::vec::Vec;
+use core::marker::PhantomData;
+
 use crate::c::{self, Place, RawFault};
 use crate::{Error, Fault, OutOfMemory, Store};
 
@@ -77,6 +80,97 @@ impl Inputs {
                 Ok(Store(self.0))
             }
         }
+    }
+}
+
+impl Inputs {
+    /// Recovers as [`recover`](Inputs::recover) does, by threads that the caller starts. `run` is called twice, each time
+    /// with about so many tasks or fewer, and lets threads do these. A task that it leaves is done after it. `threads` is
+    /// taken as 1 if it is 0, and as 64 if it is more.
+    ///
+    /// ```
+    /// # let mut log = Vec::new();
+    /// # mtrecover::records::log_header(&mut log, mtrecover::records::Format::One, 0)?;
+    /// # mtrecover::records::mark(&mut log, 5)?;
+    /// # let mut feed = mtrecover::Feed::log()?;
+    /// # feed.feed(&log)?;
+    /// # let mut inputs = mtrecover::Inputs::new();
+    /// # inputs.add(feed)?;
+    /// let store = inputs.recover_by(4, |tasks| {
+    ///     std::thread::scope(|scope| {
+    ///         for task in tasks {
+    ///             scope.spawn(|| task.work());
+    ///         }
+    ///     })
+    /// })?;
+    /// # Ok::<(), Box<dyn std::error::Error>>(())
+    /// ```
+    pub fn recover_by(self, threads: u32, mut run: impl for<'job> FnMut(&mut [Task<'job>])) -> Result<Store, Error> {
+        let Inputs(job) = self;
+        let mut fault = RawFault::default();
+        // SAFETY: the place is empty or holds inputs.
+        match unsafe { c::mtr_prepare(job.raw(), threads.clamp(1, 64), &mut fault) } {
+            c::FAULT => return Err(Fault::from_raw(fault).into()),
+            status => done(status)?,
+        }
+        do_step(&job, &mut run)?;
+        // SAFETY: the place holds a job, and all its tasks are back; the same below.
+        done(unsafe { c::mtr_replay(job.raw()) })?;
+        do_step(&job, &mut run)?;
+        done(unsafe { c::mtr_assemble(job.raw()) })?;
+        Ok(Store(job))
+    }
+}
+
+/// Hands out the tasks of a step, and takes them back when they are done.
+fn do_step(job: &Place, run: &mut impl for<'job> FnMut(&mut [Task<'job>])) -> Result<(), OutOfMemory> {
+    let mut tasks = Vec::new();
+    loop {
+        let place = Place::empty();
+        // SAFETY: one place holds a job, and the other is empty.
+        match unsafe { c::mtr_hire(job.raw(), place.raw()) } {
+            c::ABSENT => break,
+            status => done(status)?,
+        }
+        tasks.push(Task { place, status: None, job: PhantomData });
+    }
+    run(&mut tasks);
+    for mut task in tasks {
+        done(task.status())?;
+        // SAFETY: the task was handed out by this job, and is done.
+        done(unsafe { c::mtr_join(job.raw(), task.place.raw()) })?;
+    }
+    Ok(())
+}
+
+/// A task of a recovery, which any thread can do. It belongs to one recovery, and cannot be swapped for another's:
+///
+/// ```compile_fail,E0521
+/// # let (one, mut other) = (mtrecover::Inputs::new(), Some(mtrecover::Inputs::new()));
+/// let _ = one.recover_by(1, |tasks| {
+///     let other = other.take().unwrap();
+///     let _ = other.recover_by(1, |others| std::mem::swap(&mut tasks[0], &mut others[0]));
+/// });
+/// ```
+#[derive(Debug)]
+pub struct Task<'job> {
+    place: Place,
+    /// What the task answered, if it was done.
+    status: Option<u32>,
+    /// Of which job it is: no other lifetime fits.
+    job: PhantomData<fn(&'job ()) -> &'job ()>,
+}
+
+impl Task<'_> {
+    /// Does the task, once. If it runs out of memory, recovery says so.
+    pub fn work(&mut self) {
+        self.status();
+    }
+
+    /// Does the task, if it is not done, and returns what it answered.
+    fn status(&mut self) -> u32 {
+        // SAFETY: the place holds a task.
+        *self.status.get_or_insert_with(|| unsafe { c::mtr_work(self.place.raw()) })
     }
 }
 

@@ -3,7 +3,8 @@
 //! This is `library/mtrecover.h` as safe types. The C functions below it are proved: the store is the one that the rules
 //! define for exactly these bytes. That this crate calls them as they ask for is tested.
 //!
-//! A [`Feed`] takes the bytes of a log or part, [`Inputs`] takes the feeds, and [`Inputs::recover`] makes the [`Store`].
+//! A [`Feed`] takes the bytes of a log or part, [`Inputs`] takes the feeds, and [`Inputs::recover`] makes the [`Store`], or
+//! [`Inputs::recover_by`] on threads of the caller.
 //! [`recover`] does all of it from memory. [`records`] writes logs and parts.
 //!
 //! ```
@@ -39,7 +40,7 @@ pub mod records;
 mod store;
 
 pub use fault::{Error, Fault, OutOfMemory, What, WriteError};
-pub use inputs::{recover, Feed, Inputs};
+pub use inputs::{recover, Feed, Inputs, Task};
 pub use pairs::Walk;
 pub use store::{Pair, Pairs, Report, Store};
 

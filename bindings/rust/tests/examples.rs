@@ -17,8 +17,8 @@ fn fed(mut feed: Feed, bytes: &[u8]) -> Feed {
     feed
 }
 
-/// The store of examples/store.
-fn store() -> Store {
+/// The logs and parts of examples/store.
+fn inputs() -> Inputs {
     let mut inputs = Inputs::new();
     for log in ["worker-0.mtl", "worker-1.mtl"] {
         inputs.add(fed(Feed::log().unwrap(), &example(&format!("store/{log}")))).unwrap();
@@ -26,7 +26,12 @@ fn store() -> Store {
     for part in ["7-0.mtc", "7-1.mtc", "8-0.mtc", "9-0.mtc"] {
         inputs.add(fed(Feed::part().unwrap(), &example(&format!("store/{part}")))).unwrap();
     }
-    inputs.recover().unwrap()
+    inputs
+}
+
+/// The store of examples/store.
+fn store() -> Store {
+    inputs().recover().unwrap()
 }
 
 fn keys<'a>(store: &Store, range: impl RangeBounds<&'a [u8]>) -> Vec<String> {
@@ -36,6 +41,37 @@ fn keys<'a>(store: &Store, range: impl RangeBounds<&'a [u8]>) -> Vec<String> {
 fn fault(logs: &[&[u8]]) -> Fault {
     match mtrecover::recover(logs, &[]) {
         Err(Error::Fault(fault)) => fault,
+        other => panic!("{other:?}"),
+    }
+}
+
+#[test]
+fn threads_recover_the_same_store() {
+    for threads in [0, 1, 3, 100] {
+        let recovered = inputs()
+            .recover_by(threads, |tasks| {
+                thread::scope(|scope| {
+                    for task in tasks {
+                        scope.spawn(|| task.work());
+                    }
+                })
+            })
+            .unwrap();
+        assert_eq!(recovered.report(), store().report());
+        assert_eq!(keys(&recovered, ..), keys(&store(), ..));
+    }
+}
+
+#[test]
+fn tasks_that_are_left_are_done() {
+    let recovered = inputs().recover_by(2, |_| ()).unwrap();
+    assert_eq!(recovered.get(b"fig", 1), Some(b"ripe".to_vec()));
+}
+
+#[test]
+fn threads_name_the_same_fault() {
+    match Inputs::new().recover_by(2, |_| ()) {
+        Err(Error::Fault(Fault::NoLogs)) => {}
         other => panic!("{other:?}"),
     }
 }

@@ -1,6 +1,7 @@
 mod Adds
 pub mod Dumps
 mod Follows
+mod JobLemmas
 mod Lasts
 pub mod Pairs
 pub mod Pointers

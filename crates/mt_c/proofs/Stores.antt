@@ -6,8 +6,12 @@ use Rattle.std.proofs.lemmas.List.Elements.{All-head, All-tail}
 use Rattle.mt_recover.specs.Fed.{Input, seen_fed}
 use Rattle.mt_recover.specs.Inputs.{MayHave, OfSources}
 use Rattle.mt_recover.specs.Report.{Outcome, IsRecoveredOf}
+use Rattle.mt_recover.specs.Tasks.{DividingView, IsDividingOf}
 use Rattle.mt_c.specs.declared.held.Held.{Held}
-use Rattle.mt_c.specs.Holding.{HoldsOutcome, HoldsStoreOf}
+use Rattle.mt_c.specs.declared.held.Held.TheVariants as held
+use Rattle.mt_c.specs.declared.job.Step.TheVariants as steps
+use Rattle.mt_c.specs.Jobs.{IsStepOf, JobView}
+use Rattle.mt_c.specs.Holding.{HoldsJobOf, HoldsOutcome, HoldsStoreOf}
 
 -- inputs that were fed whole have only their bytes
 bytes_of : (inputs : List Input) (all : List (List ℕ)) → All IsSome inputs → MayHave seen_fed inputs all → inputs ≡ map Some all
@@ -28,4 +32,26 @@ store_held logs parts place outcome of whole held = record {
   outcome = outcome;
   held = held;
   recovered = of.holds;
+}
+
+-- the place holds a job for what was fed
+pub job_held : (logs parts : List Input) (place : Option Held) (dividing : DividingView) (job : JobView) → OfSources seen_fed logs parts (λ ls ps. IsDividingOf ls ps dividing) → All IsSome logs × All IsSome parts → place ≡ Some (held.Job job)
+    → job.step ≡ steps.Dividing dividing → HoldsJobOf logs parts place
+job_held logs parts place dividing job of whole is step = record {
+  log_bytes = of.logs;
+  logs_are = bytes_of logs of.logs whole.0 of.logs_may;
+  part_bytes = of.parts;
+  parts_are = bytes_of parts of.parts whole.1 of.parts_may;
+  held = rw is (rw step of.holds);
+}
+
+-- and after a call that keeps its step, the same
+pub job_kept : (logs parts : List Input) (old new : Option Held) (before after : JobView) → old ≡ Some (held.Job before) → new ≡ Some (held.Job after) → ((ls ps : List (List ℕ)) → IsStepOf ls ps before.step → IsStepOf ls ps after.step)
+    → HoldsJobOf logs parts old → HoldsJobOf logs parts new
+job_kept logs parts old new before after was is step holds = record {
+  log_bytes = holds.log_bytes;
+  logs_are = holds.logs_are;
+  part_bytes = holds.part_bytes;
+  parts_are = holds.parts_are;
+  held = rw is (step holds.log_bytes holds.part_bytes (rw was at holds.held));
 }

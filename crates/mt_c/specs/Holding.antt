@@ -6,8 +6,10 @@ use Rattle.mt_tree.specs.declared.hit.Hit.{Hit}
 use Rattle.mt_recover.specs.Fed.{Input}
 use Rattle.mt_recover.specs.Report.{Outcome, IsRecoveredOf}
 use Rattle.mt_c.specs.Added.{IsLog, IsPart, AreAdded}
+use Rattle.mt_c.specs.Jobs.{Hires, IsStepOf, JobView}
 use Rattle.mt_c.specs.declared.held.Held.{Held}
 use Rattle.mt_c.specs.declared.held.Held.TheVariants as held
+use Rattle.mt_c.specs.declared.task.Worker.{Worker}
 
 -- the place holds a log: of these bytes so far, or one whose device failed
 abbrev pub HoldsLog : Input → Option Held → Type 0
@@ -39,6 +41,32 @@ pub record HoldsStoreOf (logs parts : List Input) (place : Option Held) : Type 0
   pub outcome : Outcome
   pub held : HoldsOutcome outcome place
   pub recovered : IsRecoveredOf log_bytes part_bytes outcome
+
+-- the place holds a job for which P is true
+abbrev pub HoldsJob : (JobView → Type 0) → Option Held → Type 0
+HoldsJob P (Some (held.Job job)) = P job
+HoldsJob P place = ⊥
+
+-- the place holds a worker for which P is true
+abbrev pub HoldsWorker : (Worker → Type 0) → Option Held → Type 0
+HoldsWorker P (Some (held.Worker worker)) = P worker
+HoldsWorker P place = ⊥
+
+-- the place holds a job that recovers from these logs and parts, all of which were fed whole
+pub record HoldsJobOf (logs parts : List Input) (place : Option Held) : Type 0 where
+  pub log_bytes : List (List ℕ)
+  pub logs_are : logs ≡ map Some log_bytes
+  pub part_bytes : List (List ℕ)
+  pub parts_are : parts ≡ map Some part_bytes
+  pub held : HoldsJob (λ job. IsStepOf log_bytes part_bytes job.step) place
+
+-- a job has handed out a task, which the other place holds
+pub record IsHired (before : JobView) (job worker : Option Held) : Type 0 where
+  pub after : JobView
+  pub job_is : HoldsJob (λ held. held ≡ after) job
+  pub hired : Worker
+  pub worker_is : HoldsWorker (λ held. held ≡ hired) worker
+  pub hires : Hires before after hired
 
 -- the pair that a hit has copied
 abbrev pub pair_of : Hit → Pair

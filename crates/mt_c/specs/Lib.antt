@@ -5,8 +5,10 @@ pub mod Flat
 pub mod Given
 pub mod Owning
 pub mod Holding
+pub mod Jobs
 pub mod Ranges
 pub mod Reports
 pub mod Resumes
+pub mod Steps
 pub mod Told
 pub mod Values

@@ -1,6 +1,8 @@
 //! What a place holds.
 use crate::feeds::{FedLog, FedPart};
 use crate::inputs::Inputs;
+use crate::job::Job;
+use crate::task::Worker;
 use mt_recover::{Hit, Recovered};
 use std::sync::Arc;
 
@@ -13,6 +15,10 @@ pub enum Held {
     Part(Option<FedPart>),
     /// Logs and parts to recover from.
     Inputs(Inputs),
+    /// A recovery whose tasks threads of C do.
+    Job(Job),
+    /// A task that a job handed out.
+    Worker(Worker),
     /// A store and its report, which any number of places share.
     Store(Arc<Recovered>),
     /// Pairs of a store.

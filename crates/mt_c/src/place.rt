@@ -3,7 +3,7 @@ ghost use Rattle.std.specs.Prelude.{◌≡◌, ◌≢◌, ◌↔◌, Option, Non
 ghost use Rattle.std.specs.Coded.{coded_option};
 ghost use Rattle.mt_c.specs.declared.held.Held.{Held};
 ghost use Rattle.mt_c.specs.contracts.held.Held.{the_row};
-ghost use Rattle.mt_c.specs.declared.status.TheConstants.{DONE, WRONG};
+ghost use Rattle.mt_c.specs.declared.status.TheConstants.{DONE, WRONG, FAULT};
 
 use crate::bare::Bare;
 use crate::held::Held;
@@ -97,6 +97,13 @@ impl Place {
         }
     }
 
+    /// Returns whether the place is empty.
+    pub fn is_empty(&self) -> bool
+        ensures { IsTrue result ↔ self.now.handle.value ≡ None }
+    {
+        !self.full
+    }
+
     /// Puts the value into the empty place.
     pub fn put(&mut self, held: Box<Held>)
         requires { self.old.handle.value ≡ None }
@@ -116,6 +123,7 @@ impl Place {
         ensures done { result ≡ DONE → self.new.handle.value ≡ Some held }
         ensures kept { result ≢ DONE → self.new.handle.value ≡ self.old.handle.value }
         ensures accepted { self.old.handle.value ≡ None → result ≢ WRONG }
+        ensures sound { result ≢ FAULT }
     {
         if self.full {
             return WRONG;

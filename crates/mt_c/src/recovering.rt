@@ -71,7 +71,7 @@ pub extern "C" fn mtr_recover(alloc: Global, inputs: &mut Place, fault: &mut CFa
 }
 
 /// Boxes a store that places can share.
-fn store_of(alloc: Global, recovered: Recovered) -> Result<Box<Held>, Memory>
+pub(crate) fn store_of(alloc: Global, recovered: Recovered) -> Result<Box<Held>, Memory>
     ensures { IfOk result (λ held. HoldsOutcome recovered (Some held.value)) }
 {
     let shared = Arc::new(alloc, recovered)?;
@@ -79,7 +79,7 @@ fn store_of(alloc: Global, recovered: Recovered) -> Result<Box<Held>, Memory>
 }
 
 /// Tells the fault, unless it is out of memory.
-fn tell(found: Fault, fault: &mut CFault) -> u32
+pub(crate) fn tell(found: Fault, fault: &mut CFault) -> u32
     ensures fault { result ≡ FAULT → (found ≢ faults.Memory) × (fault.new ≡ c_fault found) }
     ensures untold { result ≢ FAULT → fault.new ≡ fault.old }
     ensures certain { (result ≡ FAULT) ⊎ (result ≡ MEMORY) }
@@ -150,7 +150,7 @@ fn append(held: &mut Held, input: &mut Held) -> u32
 
 /// Takes the inputs out of the place, and leaves it empty; an empty place has no log or part. None: the place holds
 /// something else, and is as before.
-fn take_inputs(alloc: Global, place: &mut Place) -> Option<Inputs>
+pub(crate) fn take_inputs(alloc: Global, place: &mut Place) -> Option<Inputs>
     ensures taken { (logs parts : List Input) → HoldsInputs logs parts place.old.handle.value → IfSome result (AreAdded logs parts) }
     ensures empty { IfSome result (λ inputs. place.new.handle.value ≡ None) }
     ensures kept { IsNone result → place.new.handle.value ≡ place.old.handle.value }

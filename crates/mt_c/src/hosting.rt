@@ -1,0 +1,281 @@
+//! Recovery by threads of C: a job hands out tasks, any thread does a task, and the job takes it back.
+ghost use Rattle.std.specs.Prelude.{◌≡◌, ◌≢◌, ◌↔◌, ◌<◌, ◌≤◌, [], List, None, Some, IfSome, IsNone, IsTrue};
+ghost use Rattle.mt_recover.specs.Fed.{Input};
+ghost use Rattle.mt_recover.specs.declared.workers.TheConstants.{MOST_WORKERS};
+ghost use Rattle.mt_c.specs.Holding.{HoldsInputs, HoldsJob, HoldsJobOf, HoldsStoreOf, HoldsWorker, Holds, IsHired};
+ghost use Rattle.mt_c.specs.Jobs.{Awaits, CanFinish, CanReplay, IsFresh, IsOfJob, JobView, done_of, joined};
+ghost use Rattle.mt_c.specs.Told.{IsTold};
+ghost use Rattle.mt_c.specs.declared.status.TheConstants.{DONE, MEMORY, WRONG, ABSENT, FAULT};
+ghost use Rattle.mt_c.specs.declared.task.Worker.{Worker as WorkerValue};
+
+use crate::fault::CFault;
+use crate::held::Held;
+use crate::job::Job;
+use crate::place::Place;
+use crate::recovering::{store_of, take_inputs, tell};
+use crate::status::{ABSENT, DONE, MEMORY, WRONG};
+use crate::task::Worker;
+use mt_recover::{MOST_PIECES, Pieces, Workers};
+use std::alloc::Global;
+
+/// Begins recovery from the logs and parts in `inputs`, and puts the job of this number of threads there in their place.
+/// `FAULT`: `fault` says why there is no store. Without a job the place is empty, except that `WRONG` leaves it as
+/// before: it does not hold logs and parts, or the number of threads is 0 or above `MOST_WORKERS`.
+#[unsafe(no_mangle)]
+pub extern "C" fn mtr_prepare(
+    alloc: Global,
+    inputs: &mut Place,
+    threads: u32,
+    fault: &mut CFault,
+) -> u32
+    ensures done { (logs parts : List Input) → HoldsInputs logs parts inputs.old.handle.value → result ≡ DONE → HoldsJobOf logs parts inputs.new.handle.value }
+    ensures fresh { result ≡ DONE → HoldsJob IsFresh inputs.new.handle.value }
+    ensures fault { (logs parts : List Input) → HoldsInputs logs parts inputs.old.handle.value → result ≡ FAULT → IsTold logs parts fault.new }
+    ensures untold { result ≢ FAULT → fault.new ≡ fault.old }
+    ensures empty { result ≡ FAULT → inputs.new.handle.value ≡ None }
+    ensures memory { result ≡ MEMORY → inputs.new.handle.value ≡ None }
+    ensures kept { result ≡ WRONG → inputs.new.handle.value ≡ inputs.old.handle.value }
+    ensures accepted { (logs parts : List Input) → HoldsInputs logs parts inputs.old.handle.value → 0 < threads → threads ≤ MOST_WORKERS → result ≢ WRONG }
+{
+    let Some(workers) = Workers::new(threads) else {
+        return WRONG;
+    };
+    let Some(added) = take_inputs(alloc, inputs) else {
+        return WRONG;
+    };
+    let Ok(fed) = added.finish(alloc) else {
+        return MEMORY;
+    };
+    let most = Pieces::new(MOST_PIECES).unwrap();
+    match fed.divide(alloc, workers, most) {
+        Ok((dividing, tasks)) => match Job::divide(alloc, dividing, tasks, workers) {
+            Ok(job) => inputs.begin(alloc, Held::Job(job)),
+            Err(_) => MEMORY,
+        },
+        Err(found) => tell(found, fault),
+    }
+}
+
+/// Hands out the next task of the job, into the empty place `worker`. `ABSENT`: all are handed out. `WRONG`: `job` does
+/// not hold a job, or `worker` is not empty.
+#[unsafe(no_mangle)]
+pub extern "C" fn mtr_hire(alloc: Global, job: &mut Place, worker: &mut Place) -> u32
+    ensures done { (before : JobView) → HoldsJob (λ j. j ≡ before) job.old.handle.value → result ≡ DONE → IsHired before job.new.handle.value worker.new.handle.value }
+    ensures absent { result ≡ ABSENT → HoldsJob (λ j. j.todo ≡ []) job.old.handle.value }
+    ensures kept { result ≢ DONE → (job.new.handle.value ≡ job.old.handle.value) × (worker.new.handle.value ≡ worker.old.handle.value) }
+    ensures accepted { (before : JobView) → HoldsJob (λ j. j ≡ before) job.old.handle.value → worker.old.handle.value ≡ None → result ≢ WRONG }
+{
+    let Some(mut held) = job.take(alloc) else {
+        return WRONG;
+    };
+    let status = hire(alloc, &mut held, worker);
+    job.put(held);
+    status
+}
+
+/// Does the task in the place, unless it is done. Any thread may. `MEMORY`: the task is lost, and the place is empty.
+/// `WRONG`: the place does not hold a task.
+#[unsafe(no_mangle)]
+pub extern "C" fn mtr_work(alloc: Global, worker: &mut Place) -> u32
+    ensures done { (before : WorkerValue) → HoldsWorker (λ w. w ≡ before) worker.old.handle.value → result ≡ DONE →
+        HoldsWorker (λ w. w ≡ record before { task = done_of before.task }) worker.new.handle.value }
+    ensures memory { result ≡ MEMORY → worker.new.handle.value ≡ None }
+    ensures kept { result ≡ WRONG → worker.new.handle.value ≡ worker.old.handle.value }
+    ensures accepted { (before : WorkerValue) → HoldsWorker (λ w. w ≡ before) worker.old.handle.value → result ≢ WRONG }
+{
+    let Some(hired) = take_worker(alloc, worker) else {
+        return WRONG;
+    };
+    let Worker { number, task } = hired;
+    let Ok(task) = task.work(alloc) else {
+        return MEMORY;
+    };
+    worker.begin(alloc, Held::Worker(Worker { number, task }))
+}
+
+/// Takes a task that is done back into its job, and empties the place `worker`. Tasks may come back in any order. `WRONG`:
+/// `job` does not hold a job, or `worker` not a task that is done and that the job waits for.
+#[unsafe(no_mangle)]
+pub extern "C" fn mtr_join(alloc: Global, job: &mut Place, worker: &mut Place) -> u32
+    requires { (j : JobView) (w : WorkerValue) → HoldsJob (λ held. held ≡ j) job.old.handle.value → HoldsWorker (λ held. held ≡ w) worker.old.handle.value → IsOfJob j w }
+    ensures done { (j : JobView) (w : WorkerValue) → HoldsJob (λ held. held ≡ j) job.old.handle.value → HoldsWorker (λ held. held ≡ w) worker.old.handle.value → result ≡ DONE →
+        HoldsJob (λ held. held ≡ joined j w) job.new.handle.value }
+    ensures empty { result ≡ DONE → worker.new.handle.value ≡ None }
+    ensures kept { result ≢ DONE → (job.new.handle.value ≡ job.old.handle.value) × (worker.new.handle.value ≡ worker.old.handle.value) }
+    ensures accepted { (j : JobView) (w : WorkerValue) → HoldsJob (λ held. held ≡ j) job.old.handle.value → HoldsWorker (λ held. held ≡ w) worker.old.handle.value → Awaits j w → result ≡ DONE }
+{
+    let Some(mut held) = job.take(alloc) else {
+        return WRONG;
+    };
+    let status = join(alloc, &mut held, worker);
+    job.put(held);
+    status
+}
+
+/// Begins the second step of the job, once all tasks of the first are back. `MEMORY`: the place is empty. `WRONG`: it does
+/// not hold such a job.
+#[unsafe(no_mangle)]
+pub extern "C" fn mtr_replay(alloc: Global, job: &mut Place) -> u32
+    ensures same { (logs parts : List Input) → HoldsJobOf logs parts job.old.handle.value → result ≡ DONE → HoldsJobOf logs parts job.new.handle.value }
+    ensures fresh { result ≡ DONE → HoldsJob IsFresh job.new.handle.value }
+    ensures memory { result ≡ MEMORY → job.new.handle.value ≡ None }
+    ensures kept { result ≡ WRONG → job.new.handle.value ≡ job.old.handle.value }
+    ensures refused { (HoldsJob CanReplay job.old.handle.value → ⊥) → result ≡ WRONG }
+    ensures accepted { HoldsJob CanReplay job.old.handle.value → result ≢ WRONG }
+{
+    let Some(held) = job.take(alloc) else {
+        return WRONG;
+    };
+    if !can_replay(&held) {
+        job.put(held);
+        return WRONG;
+    }
+    match Box::into_inner(held) {
+        Held::Job(ready) => match ready.replay(alloc) {
+            Ok(next) => job.begin(alloc, Held::Job(next)),
+            Err(_) => MEMORY,
+        },
+        _ => unreachable!(),
+    }
+}
+
+/// Puts the store in the place of its job, once all tasks of the second step are back. `MEMORY`: the place is empty.
+/// `WRONG`: it does not hold such a job.
+#[unsafe(no_mangle)]
+pub extern "C" fn mtr_assemble(alloc: Global, job: &mut Place) -> u32
+    ensures done { (logs parts : List Input) → HoldsJobOf logs parts job.old.handle.value → result ≡ DONE → HoldsStoreOf logs parts job.new.handle.value }
+    ensures memory { result ≡ MEMORY → job.new.handle.value ≡ None }
+    ensures kept { result ≡ WRONG → job.new.handle.value ≡ job.old.handle.value }
+    ensures refused { (HoldsJob CanFinish job.old.handle.value → ⊥) → result ≡ WRONG }
+    ensures accepted { HoldsJob CanFinish job.old.handle.value → result ≢ WRONG }
+{
+    let Some(held) = job.take(alloc) else {
+        return WRONG;
+    };
+    if !can_finish(&held) {
+        job.put(held);
+        return WRONG;
+    }
+    match Box::into_inner(held) {
+        Held::Job(ready) => match ready.finish(alloc) {
+            Ok(recovered) => match store_of(alloc, recovered) {
+                Ok(store) => {
+                    job.put(store);
+                    DONE
+                }
+                Err(_) => MEMORY,
+            },
+            Err(_) => MEMORY,
+        },
+        _ => unreachable!(),
+    }
+}
+
+/// Does what `mtr_hire` does, with what the job's place holds.
+fn hire(alloc: Global, held: &mut Held, worker: &mut Place) -> u32
+    ensures done { (before : JobView) → HoldsJob (λ j. j ≡ before) (Some held.old) → result ≡ DONE → IsHired before (Some held.new) worker.new.handle.value }
+    ensures absent { result ≡ ABSENT → HoldsJob (λ j. j.todo ≡ []) (Some held.old) }
+    ensures kept { result ≢ DONE → (held.new ≡ held.old) × (worker.new.handle.value ≡ worker.old.handle.value) }
+    ensures accepted { (before : JobView) → HoldsJob (λ j. j ≡ before) (Some held.old) → worker.old.handle.value ≡ None → result ≢ WRONG }
+{
+    let Held::Job(job) = held else {
+        return WRONG;
+    };
+    if !worker.is_empty() {
+        return WRONG;
+    }
+    let Ok(mut hired) = Box::new(alloc, Held::Hits(Vec::new(alloc))) else {
+        return MEMORY;
+    };
+    let Some(task) = job.hire() else {
+        return ABSENT;
+    };
+    *hired = Held::Worker(task);
+    worker.put(hired);
+    DONE
+}
+
+/// Takes the task out of the place, and leaves it empty. None: the place holds something else, and is as before.
+fn take_worker(alloc: Global, place: &mut Place) -> Option<Worker>
+    ensures taken { IfSome result (λ worker. HoldsWorker (λ w. w ≡ worker) place.old.handle.value) }
+    ensures empty { IfSome result (λ worker. place.new.handle.value ≡ None) }
+    ensures kept { IsNone result → place.new.handle.value ≡ place.old.handle.value }
+    ensures accepted { (before : WorkerValue) → HoldsWorker (λ w. w ≡ before) place.old.handle.value → IsNone result → ⊥ }
+{
+    let held = place.take(alloc)?;
+    if !matches!(&*held, Held::Worker(_)) {
+        place.put(held);
+        return None;
+    }
+    match Box::into_inner(held) {
+        Held::Worker(worker) => Some(worker),
+        _ => unreachable!(),
+    }
+}
+
+/// Does what `mtr_join` does, with what the job's place holds.
+fn join(alloc: Global, held: &mut Held, place: &mut Place) -> u32
+    requires { (j : JobView) (w : WorkerValue) → HoldsJob (λ held. held ≡ j) (Some held.old) → HoldsWorker (λ held. held ≡ w) place.old.handle.value → IsOfJob j w }
+    ensures done { (j : JobView) (w : WorkerValue) → HoldsJob (λ held. held ≡ j) (Some held.old) → HoldsWorker (λ held. held ≡ w) place.old.handle.value → result ≡ DONE →
+        HoldsJob (λ held. held ≡ joined j w) (Some held.new) }
+    ensures empty { result ≡ DONE → place.new.handle.value ≡ None }
+    ensures kept { result ≢ DONE → (held.new ≡ held.old) × (place.new.handle.value ≡ place.old.handle.value) }
+    ensures accepted { (j : JobView) (w : WorkerValue) → HoldsJob (λ held. held ≡ j) (Some held.old) → HoldsWorker (λ held. held ≡ w) place.old.handle.value → Awaits j w → result ≡ DONE }
+{
+    let Held::Job(job) = held else {
+        return WRONG;
+    };
+    let Some(worker) = take_awaited(alloc, job, place) else {
+        return WRONG;
+    };
+    job.join(worker);
+    DONE
+}
+
+/// Takes the task out of the place if the job waits for it, and leaves it empty. None: the place is as before.
+fn take_awaited(alloc: Global, job: &Job, place: &mut Place) -> Option<Worker>
+    ensures taken { IfSome result (λ worker. HoldsWorker (λ w. w ≡ worker) place.old.handle.value × Awaits job.now worker) }
+    ensures empty { IfSome result (λ worker. place.new.handle.value ≡ None) }
+    ensures kept { IsNone result → place.new.handle.value ≡ place.old.handle.value }
+    ensures accepted { (w : WorkerValue) → HoldsWorker (λ held. held ≡ w) place.old.handle.value → Awaits job.now w → IsNone result → ⊥ }
+{
+    let held = place.take(alloc)?;
+    if !is_awaited(job, &held) {
+        place.put(held);
+        return None;
+    }
+    match Box::into_inner(held) {
+        Held::Worker(worker) => Some(worker),
+        _ => unreachable!(),
+    }
+}
+
+/// Returns whether this is a task that the job waits for.
+fn is_awaited(job: &Job, held: &Held) -> bool
+    ensures { IsTrue result ↔ HoldsWorker (Awaits job.now) (Some held.now) }
+{
+    match held {
+        Held::Worker(worker) => job.awaits(worker),
+        _ => false,
+    }
+}
+
+/// Returns whether this is a job whose second step can begin.
+fn can_replay(held: &Held) -> bool
+    ensures { IsTrue result ↔ HoldsJob CanReplay (Some held.now) }
+{
+    match held {
+        Held::Job(job) => job.can_replay(),
+        _ => false,
+    }
+}
+
+/// Returns whether this is a job whose store can be made.
+fn can_finish(held: &Held) -> bool
+    ensures { IsTrue result ↔ HoldsJob CanFinish (Some held.now) }
+{
+    match held {
+        Held::Job(job) => job.can_finish(),
+        _ => false,
+    }
+}
