@@ -2,7 +2,7 @@
 This is a model of its own of docs/RULES.md and docs/FORMATS.md."""
 from typing import NamedTuple
 
-from stores import ERASE, PUT, REMOVE, Update, columns_after, header, mark, part, record, share
+from stores import ERASE, PUT, REMOVE, Update, columns_after, dump_lines, header, mark, part, record, share
 
 # How many updates a store has, those at which its checkpoint begins and ends, and that at which the last worker is added.
 UPDATES = 20_000
@@ -284,8 +284,7 @@ class Found(NamedTuple):
 
     def dump(self, *more):
         """Returns what `dump` prints, if these updates count too."""
-        lines = sorted(store_of([*self.surviving, *more], self.entries).items())
-        return b"".join(b"%s:%s\n" % (key.hex().encode(), columns_text(columns)) for key, columns in lines)
+        return dump_lines(store_of([*self.surviving, *more], self.entries))
 
     def counted(self):
         """Returns the versions of the updates that survive, or that the checkpoint has."""
@@ -293,10 +292,6 @@ class Found(NamedTuple):
 
     def cutoff(self):
         return self.report["cutoff"]
-
-
-def columns_text(columns):
-    return "".join(f" {number}={value.hex()}" for number, value in columns).encode()
 
 
 def stood_for(entries):

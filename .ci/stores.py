@@ -138,14 +138,16 @@ def columns_after(updates):
     return tuple(sorted(columns.items()))
 
 
+def dump_lines(store):
+    """Returns what `dump` prints of a store that has these columns of each key."""
+    values = {key: "".join(f" {number}={value.hex()}" for number, value in columns) for key, columns in store.items() if columns}
+    return "".join(f"{key.hex()}:{values[key]}\n" for key in sorted(values)).encode()
+
+
 def dump_of(updates):
     """Returns what `dump` prints of a store that these updates make."""
-    lines = b""
-    for key in sorted({update.key for update in updates}):
-        columns = columns_after(update for update in updates if update.key == key)
-        if columns:
-            lines += f"{key.hex()}:{''.join(f' {number}={value.hex()}' for number, value in columns)}\n".encode()
-    return lines
+    keys = {update.key for update in updates}
+    return dump_lines({key: columns_after(update for update in updates if update.key == key) for key in keys})
 
 
 # ---- Random updates ----
