@@ -81,9 +81,7 @@ impl Inputs {
             }
         }
     }
-}
 
-impl Inputs {
     /// Recovers as [`recover`](Inputs::recover) does, by threads that the caller starts. `run` is called twice, each time
     /// with about so many tasks or fewer, and lets threads do these. A task that it leaves is done after it. `threads` is
     /// taken as 1 if it is 0, and as 64 if it is more.
