@@ -29,6 +29,7 @@ pub struct ChangeFields<'a> {
 
 /// Returns the fields of a change, whatever its kind carries. Returns None if the bytes are too short for a version and
 /// a key.
+#[inline(always)]
 pub fn fields_at(bytes: &[u8]) -> Option<ChangeFields<'_>>
     ensures found { IfSome result (SpellFields bytes.now) }
     ensures none { IfNone result (HasNoFields bytes.now) }

@@ -14,6 +14,7 @@ use mt_words::{Code, Format, Numbers, Payload, What};
 
 /// Checks the body of a record and returns its timestamp. `latest` is the timestamp of the record before it.
 /// Err: the first fault of the body.
+#[inline(always)]
 pub fn check_body(format: Format, latest: u64, bytes: &[u8]) -> Result<u64, What>
     ensures found { IfOk result (IsBodyAt (limits_of format) latest bytes.now) }
     ensures fault { IfErr result (λ what. BodyFault what (limits_of format) latest bytes.now) }
@@ -26,6 +27,7 @@ pub fn check_body(format: Format, latest: u64, bytes: &[u8]) -> Result<u64, What
 }
 
 /// Checks the body of a record, whatever record comes before it, and returns its timestamp.
+#[inline(always)]
 fn check_record(format: Format, bytes: &[u8]) -> Result<u64, What>
     ensures found { IfOk result (IsBodyAt (limits_of format) 0 bytes.now) }
     ensures fault { IfErr result (λ what. (low : ℕ) → BodyFault what (limits_of format) low bytes.now) }
@@ -59,6 +61,7 @@ pub fn check_entry(format: Format, bytes: &[u8]) -> Result<(), What>
 }
 
 /// Checks that the bytes are a change of this code. Faults are tested in the order of `What`.
+#[inline(always)]
 fn check_change(format: Format, code: Code, bytes: &[u8]) -> Result<(), What>
     requires { byte_of code ≤ (limits_of format).kind }
     ensures found { OnOk result ((change : ChangeValue) × IsChangeOf (limits_of format) (byte_of code) bytes.now change) }
@@ -84,6 +87,7 @@ fn check_change(format: Format, code: Code, bytes: &[u8]) -> Result<(), What>
 
 /// Returns whether the format allows what a change of this code carries. Returns None if the bytes are not exactly what
 /// such a change carries.
+#[inline(always)]
 fn judge_kind(format: Format, code: Code, bytes: &[u8]) -> Option<bool>
     requires { byte_of code ≤ (limits_of format).kind }
     ensures found { IfSome result (IsJudgedKind (limits_of format) (byte_of code) bytes.now) }
@@ -117,21 +121,21 @@ fn are_allowed(format: Format, numbers: &[u8]) -> bool
 
 /// Returns whether the format allows these columns. There must be at least one. Returns None if the bytes are not
 /// exactly `count` columns.
+#[inline(always)]
 fn judge_columns(format: Format, count: u8, bytes: &[u8]) -> Option<bool>
     ensures found { IfSome result (AreJudgedColumns (limits_of format) count bytes.now) }
     ensures none { IfNone result (HasColumns count bytes.now → ⊥) }
 {
-    let greatest = format.limits().column;
+    let greatest = u16::from(format.limits().column);
     let mut allowed = true;
-    let mut least = 0;
+    let mut least: u16 = 0;
     let mut rest = bytes;
     for _ in 0..count {
         let (number, _, after) = column_at(rest)?;
-        if allowed && least <= number && number <= greatest {
-            least = number + 1;
-        } else {
-            allowed = false;
-        }
+        let number = u16::from(number);
+        allowed &= least <= number;
+        allowed &= number <= greatest;
+        least = number + 1;
         rest = after;
     }
     if !rest.is_empty() {

@@ -50,7 +50,10 @@ pub fn column_at(bytes: &[u8]) -> Option<(u8, &[u8], &[u8])>
     ensures none { IfNone result ((column : ℕ × List ℕ) (more : List ℕ) →
         FitsColumn column → bytes.now ≡ column_bytes column ++ more → ⊥) }
 {
-    let (number, rest) = bytes.split_first()?;
-    let (value, rest) = counted_at(rest)?;
+    let [number, high, low, rest @ ..] = bytes else {
+        return None;
+    };
+    let length = u16::from_be_bytes([*high, *low]);
+    let (value, rest) = rest.split_at_checked(usize::from(length))?;
     Some((*number, value, rest))
 }

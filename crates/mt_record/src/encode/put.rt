@@ -7,6 +7,7 @@ ghost use Rattle.mt_record.specs.Steps.Adding.{HasRoom, Adds};
 use mt_words::{Column, Format};
 
 /// Appends the bytes.
+#[inline(always)]
 pub fn put_bytes(bytes: &[u8], out: &mut Vec<u8>)
     requires { HasRoom (length bytes.now) out.old }
     ensures { Adds bytes.now out.old out.new }

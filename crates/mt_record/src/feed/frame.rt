@@ -25,6 +25,7 @@ const SHORTEST_ENTRY: usize = 14;
 /// Returns the timestamp and the body of the record at the front, and the bytes after it. `latest` is the timestamp of
 /// the record before it. Returns None if the bytes are empty or a torn tail.
 /// Err: what is wrong with the record.
+#[inline(always)]
 pub fn next_record(
     format: Format,
     latest: u64,
@@ -85,6 +86,7 @@ fn longest_change(format: Format) -> usize
 /// Returns the body at the front, between two copies of its length, and the bytes after it. Returns None if the bytes
 /// are empty or cut short.
 /// Err: the length is out of range, or its two copies differ.
+#[inline(always)]
 fn next_frame(bytes: &[u8], shortest: usize, longest: usize) -> Result<Option<(&[u8], &[u8])>, What>
     requires { longest < 2 ^ 32 }
     ensures found { IfOk result (λ found. MatchOption found

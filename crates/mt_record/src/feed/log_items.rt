@@ -33,10 +33,10 @@ impl<R: Records> Items for LogItems<R> {
     ghost shows = { λ items. IsLogFaulty (log_so_far R.listed items) };
 
     fn read_next<'a>(&mut self, bytes: &'a [u8]) -> Step<'a, FeedFault> {
-        let Some(front) = self.front else {
+        let Some(front) = &mut self.front else {
             return self.read_header(bytes);
         };
-        self.read_record(front, bytes)
+        read_record(front, &mut self.ready, bytes)
     }
 
     /// Returns the number of bytes of a header until the header is read, and then those that a record asks for.
@@ -72,30 +72,31 @@ impl<R: Records> LogItems<R> {
             Err(NoMagic) => Err(FeedFault::Header),
         }
     }
+}
 
-    /// Reads a record.
-    fn read_record<'a>(&mut self, front: LogFront, bytes: &'a [u8]) -> Step<'a, FeedFault>
-        requires { self.old.front ≡ Some front }
-        ensures { StepsLog R.listed self.old self.new bytes.now result }
-    {
-        match next_record(front.head.format, front.latest, bytes) {
-            Ok(Some((timestamp, body, after))) => {
-                self.ready.put_record(body)?;
-                let length = (bytes.len() - after.len()) as u64;
-                self.front = Some(LogFront {
-                    count: front.count.saturating_add(1),
-                    latest: timestamp,
-                    version: front.version.max(spelled::version(body)),
-                    bytes: front.bytes.saturating_add(length),
-                    ..front
-                });
-                Ok(Some(after))
-            }
-            Ok(None) => Ok(None),
-            Err(what) => Err(FeedFault::Record {
-                nth: front.count,
-                what,
-            }),
+/// Reads a record, and adds it to the front and to the records read.
+#[inline(always)]
+fn read_record<'a, R: Records>(
+    front: &mut LogFront,
+    ready: &mut R,
+    bytes: &'a [u8],
+) -> Step<'a, FeedFault>
+    ensures { StepsLog R.listed (record { front = Some front.old; ready = ready.old }) (record { front = Some front.new; ready = ready.new }) bytes.now result }
+{
+    match next_record(front.head.format, front.latest, bytes) {
+        Ok(Some((timestamp, body, after))) => {
+            ready.put_record(body)?;
+            let length = (bytes.len() - after.len()) as u64;
+            front.count = front.count.saturating_add(1);
+            front.latest = timestamp;
+            front.version = front.version.max(spelled::version(body));
+            front.bytes = front.bytes.saturating_add(length);
+            Ok(Some(after))
         }
+        Ok(None) => Ok(None),
+        Err(what) => Err(FeedFault::Record {
+            nth: front.count,
+            what,
+        }),
     }
 }

@@ -149,6 +149,7 @@ pub struct Dropped {
 impl Records for KeptRecords {
     ghost listed = { λ records. records };
 
+    #[inline(always)]
     fn put_record(&mut self, body: &[u8]) -> Result<(), Memory> {
         self.bodies.push(body)?;
         if spelled::is_mark(body) {
