@@ -1,5 +1,5 @@
 //! Finishing a draft: borders that are still open are sealed, and nodes are stacked on all borders.
-ghost use Rattle.std.specs.Prelude.{◌≡◌, ◌≢◌, MatchBool, ◌<◌, ◌≤◌, ◌+◌, ◌-◌, ◌++◌, ◌∷◌, [], suc, List, length, IfOk};
+ghost use Rattle.std.specs.Prelude.{◌≡◌, ◌≢◌, MatchBool, ◌<◌, ◌≤◌, ◌+◌, ◌-◌, ◌++◌, ◌∷◌, [], suc, List, length, IfOk, OnOk};
 ghost use Rattle.mt_words.specs.Walks.{joined};
 ghost use Rattle.mt_tree.specs.Layer.{PlaceView, IsPlace};
 ghost use Rattle.mt_tree.specs.Steps.Ranks.{IsRanked};
@@ -166,13 +166,42 @@ pub(crate) fn close(
     for place in places {
         let place = finish_place(alloc, place)?;
         below = below.saturating_add(place.below);
-        made.push(place.made)?;
+        append(&mut made, place.made)?;
     }
     Ok(Finished { made, below })
 }
 
+/// Appends a place. Err: out of memory.
+#[inline(always)]
+fn append(places: &mut Vec<Place<Node>>, place: Place<Node>) -> Result<(), Memory>
+    ensures { OnOk result (places.new.items ≡ places.old.items ++ place ∷ []) }
+{
+    match places.push(place) {
+        Ok(()) => Ok(()),
+        Err(refused) => {
+            discard(refused.value);
+            Err(Memory)
+        }
+    }
+}
+
+/// Drops a place. It is written out and inlined for speed: with a call in its stead, `close` is compiled to copy each
+/// place by way of the stack.
+#[inline(always)]
+fn discard(place: Place<Node>) {
+    match place.content {
+        Content::Short(_, columns) => drop(columns),
+        Content::Suffix(suffix, columns) => {
+            drop(suffix);
+            drop(columns);
+        }
+        Content::Link(node) => drop(node),
+    }
+}
+
 /// Finishes a place, with all that lies below it. Err: out of memory.
 #[cycle(finish)]
+#[inline(always)]
 fn finish_place(alloc: Global, place: Place<Layer>) -> Result<Finished<Place<Node>>, Memory>
     requires lawful { IsPlace (view_of layer_walk place) }
     ensures same { IfOk result (λ done. view_of node_walk done.made ≡ view_of layer_walk place) }

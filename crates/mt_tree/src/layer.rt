@@ -87,6 +87,7 @@ impl Border {
 }
 
 /// Creates the place of a lone key. Err: out of memory.
+#[inline(always)]
 fn place_for(alloc: Global, key: &[u8], columns: Columns<Kept>) -> Result<Place<Layer>, Memory>
     ensures lawful { IfOk result (λ p. IsPlace (view_of layer_walk p)) }
     ensures links { IfOk result (λ p. IsLawfulLink p.content) }
@@ -174,6 +175,7 @@ fn split_before(places: &mut Vec<Place<Layer>>, slice: u64) -> Result<Vec<Place<
 }
 
 /// Appends these places as one open border, if there are any. Err: out of memory.
+#[inline(always)]
 fn push_border(borders: &mut Vec<Border>, places: Vec<Place<Layer>>) -> Result<(), Memory>
     requires lawful { IsRanked (views layer_walk places.items) }
     requires few { length places.items ≤ MOST_PLACES }

@@ -105,8 +105,8 @@ place_moved xs ys left next d p all e f g h =
 
 pub close-loop-place-preserved : goal.close-loop-place-preserved
 close-loop-place-preserved t c = record {
-  same = place_moved _ _ _ _ _ _ _ c.loop-place.invariant.same c.in-Some.ensures.steps.0 c.in_ok-place.ensures.same c.in_ok-push.ensures.items;
-  layers = carried (λ (p : Place NodeView). each_borders (below_link trees_under p.content)) (λ (p : Place DraftView). below_link layers_under p.content) _ _ _ _ _ _ _ c.loop-place.invariant.layers c.in-Some.ensures.steps.0 c.in_ok-place.ensures.layers c.in_ok-push.ensures.items;
-  below = below_push _ _ _ c.loop-place.invariant.below c.in_ok-place.ensures.below c.in_ok-push.ensures.items;
-  count = counted_push (λ (p : Place NodeView). below_link trees_under p.content) _ _ _ _ _ _ c.loop-place.invariant.count c.in_ok-place.ensures.count c.saturating_add-below.ensures c.in_ok-push.ensures.items;
+  same = place_moved _ _ _ _ _ _ _ c.loop-place.invariant.same c.in-Some.ensures.steps.0 c.in_ok-place.ensures.same c.in_ok-append.ensures;
+  layers = carried (λ (p : Place NodeView). each_borders (below_link trees_under p.content)) (λ (p : Place DraftView). below_link layers_under p.content) _ _ _ _ _ _ _ c.loop-place.invariant.layers c.in-Some.ensures.steps.0 c.in_ok-place.ensures.layers c.in_ok-append.ensures;
+  below = below_push _ _ _ c.loop-place.invariant.below c.in_ok-place.ensures.below c.in_ok-append.ensures;
+  count = counted_push (λ (p : Place NodeView). below_link trees_under p.content) _ _ _ _ _ _ c.loop-place.invariant.count c.in_ok-place.ensures.count c.saturating_add-below.ensures c.in_ok-append.ensures;
 }
