@@ -1,2 +1,1 @@
-pub mod HistoryLemmas
 pub mod Stretch

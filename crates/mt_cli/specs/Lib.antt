@@ -1,4 +1,3 @@
 pub mod Answers
-pub mod History
 pub mod Ranges
 pub mod Steps

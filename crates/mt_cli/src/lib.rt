@@ -35,7 +35,6 @@ mod filing;
 mod grammar;
 mod halt;
 mod hints;
-mod history;
 mod line;
 mod listing;
 mod manual;
@@ -61,7 +60,6 @@ mod words;
 
 pub use answering::{answer, print_answer};
 pub use file_names::Names;
-pub use history::{Fate, History, history_of};
 pub use listing::names;
 pub use progress::Telling;
 pub use request::{

@@ -1,12 +1,11 @@
 //! Answers `history`: tells what became of each update of a key.
 use crate::answering::PRINTED_AT_ONCE;
 use crate::file_names::Names;
-use crate::history::{Fate, History, history_of};
 use crate::opening::total_size;
 use crate::progress::{Meter, count_inputs};
 use crate::request::{Folder, Trace};
 use mt_record::Lent;
-use mt_recover::{Inputs, LogCheck, Refusal, check_parts, start_of};
+use mt_recover::{Fate, History, Inputs, LogCheck, Refusal, check_parts, history_of, start_of};
 use mt_scan::{Checkpoint, LogScan, Source, scan_log};
 use mt_text::{Fields, Value};
 use mt_words::{Fault, Memory, Origin};

@@ -22,3 +22,4 @@ pub mod Assembles
 pub mod Replays
 pub mod TaskLemmas
 pub mod Works
+pub mod HistoryLemmas

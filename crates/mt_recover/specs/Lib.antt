@@ -1,6 +1,7 @@
 pub mod Recovery
 pub mod Holes
 pub mod Audit
+pub mod History
 pub mod Report
 pub mod Laws
 pub mod Verdict

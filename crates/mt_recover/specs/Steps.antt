@@ -5,4 +5,5 @@ pub mod Outcomes
 pub mod Scanning
 pub mod Preparing
 pub mod Replaying
+pub mod Fates
 pub mod Holes
