@@ -9,7 +9,7 @@ ghost use Rattle.mt_c.specs.Filling.{HaveFilled, none_filled, both_filled};
 use crate::flat::{fill_pair, pair_length};
 use crate::status::{ABSENT, DONE, SHORT};
 use mt_tree::{Tree, Visitor};
-use mt_words::{Columns, Kept};
+use mt_words::PackedColumns;
 use std::convert::Infallible;
 
 /// A buffer that is being filled with pairs.
@@ -36,7 +36,7 @@ impl<'a> Visitor<Filling<'a>> for Filler {
         &self,
         filling: &mut Filling<'a>,
         key: &[u8],
-        columns: &Columns<Kept>,
+        columns: &PackedColumns,
     ) -> Result<(), Infallible> {
         if filling.refused.is_some() {
             return Ok(());

@@ -1,5 +1,5 @@
 //! Ranges of a store.
-ghost use Rattle.std.specs.Prelude.{◌≡◌, ◌≢◌, List, None, Some, Err, IfOk, IfErr, map, slice_get};
+ghost use Rattle.std.specs.Prelude.{◌≡◌, ◌≢◌, List, None, Some, Err, IfOk, IfErr, MatchOption, map, slice_get};
 ghost use Rattle.mt_words.specs.Walks.{Pair};
 ghost use Rattle.mt_tree.specs.Range.{range};
 ghost use Rattle.mt_recover.specs.Report.{Outcome};
@@ -12,7 +12,7 @@ use crate::held::Held;
 use crate::place::Place;
 use crate::status::{ABSENT, MEMORY, WRONG};
 use mt_recover::{Hit, Store, Wanted};
-use mt_words::Memory;
+use mt_words::{Memory, PackedColumns};
 use std::alloc::Global;
 
 /// Copies the first `n` pairs of the store whose keys are at or after `start`, in order, into the empty place `hits`.
@@ -151,11 +151,24 @@ fn write_column(
     let Some(hit) = hits.get(i) else {
         return ABSENT;
     };
-    let Some(column) = hit.columns.as_slice().get(nth) else {
+    let Some((found, bytes)) = nth_column(&hit.columns, nth) else {
         return ABSENT;
     };
-    *number = column.number;
-    write_bytes(&column.bytes, out, count)
+    *number = found;
+    write_bytes(bytes, out, count)
+}
+
+/// Returns the number and the bytes of the column at position `nth`. Returns None if there are not so many columns.
+fn nth_column(columns: &PackedColumns, nth: usize) -> Option<(u8, &[u8])>
+    ensures { MatchOption result
+        (slice_get columns.now nth ≡ None)
+        (λ column. slice_get columns.now nth ≡ Some (column.0, column.1.now)) }
+{
+    let mut rest = columns.lent();
+    for _ in 0..nth {
+        rest.next()?;
+    }
+    rest.next()
 }
 
 /// Copies the first `n` pairs of the store whose keys are at or after `start`, with all their columns. Err: out of memory.

@@ -1,18 +1,16 @@
 //! Writes the header, the entries and the footer of a part to a writer.
-ghost use Rattle.std.specs.Prelude.{◌≡◌, ◌<◌, ◌^◌, ◌∷◌, ℕ, length, OnOk};
-ghost use Rattle.std.specs.List.{flat_map};
+ghost use Rattle.std.specs.Prelude.{◌≡◌, ◌<◌, ◌^◌, ℕ, length, OnOk};
 ghost use Rattle.std.specs.Io.KnownBytes.{Appends};
 ghost use Rattle.mt_words.specs.declared.limits.Format.TheVariants.{Two};
-ghost use Rattle.mt_words.specs.declared.update.Kind.TheVariants.{Whole};
 ghost use Rattle.mt_words.specs.Limits.{widest};
-ghost use Rattle.mt_words.specs.Words.{IsKey, AreColumns};
+ghost use Rattle.mt_words.specs.Words.{IsKey};
 ghost use Rattle.mt_words.specs.Built.{entry_of};
 ghost use Rattle.mt_record.specs.Parts.{part_head, part_head_bytes, entry_spelling, footer_bytes};
-ghost use Rattle.mt_record.specs.Spelling.{with_length, column_bytes, change_bytes, kind_bytes, FitsColumn};
+ghost use Rattle.mt_record.specs.Spelling.{change_bytes};
 
 use byteorder::{BigEndian, WriteBytesExt};
-use mt_record::{PART, columns_length};
-use mt_words::{Column, Columns, Format, Kept};
+use mt_record::PART;
+use mt_words::{Format, PackedColumns};
 use std::io::{self, Write};
 
 /// Writes the header of a part: part `part` of the `parts` parts of checkpoint `number`, which begins at `begin`. Err:
@@ -45,19 +43,19 @@ pub fn write_footer<W: Write>(end: u64, count: u32, out: &mut W) -> io::Result<(
 }
 
 /// Returns the number of bytes of the fields of this pair's entry, whatever its version. Its frame has eight more.
-pub fn entry_length(key: &[u8], columns: &Columns<Kept>) -> usize
+pub fn entry_length(key: &[u8], columns: &PackedColumns) -> usize
     requires { IsKey widest key.now }
     ensures value { (version : ℕ) → result ≡ length (change_bytes (entry_of version key.now columns.now)) }
     ensures short { result < 2 ^ 26 }
 {
-    10 + key.len() + columns_length(columns.as_slice())
+    10 + key.len() + columns.as_bytes().len()
 }
 
 /// Writes the entry of a pair, of this version. Err: write error.
 pub fn write_entry<W: Write>(
     version: u64,
     key: &[u8],
-    columns: &Columns<Kept>,
+    columns: &PackedColumns,
     out: &mut W,
 ) -> io::Result<()>
     requires { IsKey widest key.now }
@@ -74,7 +72,7 @@ pub fn write_entry<W: Write>(
 fn write_fields<W: Write>(
     version: u64,
     key: &[u8],
-    columns: &Columns<Kept>,
+    columns: &PackedColumns,
     out: &mut W,
 ) -> io::Result<()>
     requires { IsKey widest key.now }
@@ -82,44 +80,7 @@ fn write_fields<W: Write>(
         (Appends (W.contents out.old) (W.contents out.new) (change_bytes (entry_of version key.now columns.now))) }
 {
     out.write_u64::<BigEndian>(version)?;
-    write_counted(key, out)?;
-    write_columns(columns.as_slice(), out)
-}
-
-/// Writes the length of the bytes, then the bytes.
-fn write_counted<W: Write>(bytes: &[u8], out: &mut W) -> io::Result<()>
-    requires { length bytes.now < 2 ^ 16 }
-    ensures { OnOk result (Appends (W.contents out.old) (W.contents out.new) (with_length bytes.now)) }
-{
-    out.write_u16::<BigEndian>(bytes.len() as u16)?;
-    out.write_all(bytes)
-}
-
-/// Writes the count of the columns, then the columns.
-fn write_columns<W: Write>(columns: &[Column], out: &mut W) -> io::Result<()>
-    requires { AreColumns widest columns.now }
-    ensures { OnOk result (Appends (W.contents out.old) (W.contents out.new) (kind_bytes (Whole columns.now))) }
-{
-    out.write_u8(columns.len() as u8)?;
-    write_each_column(columns, out)
-}
-
-/// Writes the columns.
-fn write_each_column<W: Write>(columns: &[Column], out: &mut W) -> io::Result<()>
-    requires { AreColumns widest columns.now }
-    ensures { OnOk result (Appends (W.contents out.old) (W.contents out.new) (flat_map column_bytes columns.now)) }
-{
-    for column in columns {
-        write_column(column, out)?;
-    }
-    Ok(())
-}
-
-/// Writes a column: its number, then its bytes with their length.
-fn write_column<W: Write>(column: &Column, out: &mut W) -> io::Result<()>
-    requires { FitsColumn column.now }
-    ensures { OnOk result (Appends (W.contents out.old) (W.contents out.new) (column_bytes column.now)) }
-{
-    out.write_u8(column.number)?;
-    write_counted(&column.bytes, out)
+    out.write_u16::<BigEndian>(key.len() as u16)?;
+    out.write_all(key)?;
+    out.write_all(columns.as_bytes())
 }

@@ -9,7 +9,7 @@ ghost use Rattle.mt_checkpoint.specs.Steps.Writing.{HaveWritten, none_written, b
 use crate::encode::write_entry;
 use crate::planning::Stretch;
 use mt_tree::{Tree, Visitor};
-use mt_words::{Columns, Kept};
+use mt_words::PackedColumns;
 use std::io::{self, Write};
 
 /// Writes the entries of this stretch of the tree, of this version. Returns their number. Err: write error.
@@ -50,7 +50,7 @@ impl<'a, W: Write> Visitor<Rest<'a, W>> for Entries {
 
     ghost shown = { HaveWritten W.contents };
 
-    fn visit(&self, rest: &mut Rest<'a, W>, key: &[u8], columns: &Columns<Kept>) -> io::Result<()> {
+    fn visit(&self, rest: &mut Rest<'a, W>, key: &[u8], columns: &PackedColumns) -> io::Result<()> {
         if rest.left == 0 {
             return Ok(());
         }

@@ -11,7 +11,7 @@ use crate::encode::entry_length;
 use crate::plan_fault::PlanFault;
 use mt_record::{FOOTER_BYTES, PART_HEADER_BYTES};
 use mt_tree::{Tree, Visitor};
-use mt_words::{Columns, Kept, Key};
+use mt_words::{Key, PackedColumns};
 use std::alloc::Global;
 use std::mem;
 
@@ -94,7 +94,7 @@ impl Visitor<Planning> for Planner {
         &self,
         plan: &mut Planning,
         key: &[u8],
-        columns: &Columns<Kept>,
+        columns: &PackedColumns,
     ) -> Result<(), PlanFault> {
         let length = 8 + entry_length(key, columns);
         if plan.takes(length) {

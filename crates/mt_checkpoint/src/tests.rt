@@ -5,14 +5,14 @@ ghost use Rattle.mt_tree.specs.Trees.{tree_walk};
 
 use crate::Checkpoint;
 use mt_tree::{Draft, Tree};
-use mt_words::{Columns, Kept, Memory};
+use mt_words::{Memory, PackedColumns};
 use std::alloc::Global;
 use std::process::Abort;
 
 /// Returns one column of one byte.
-fn column(alloc: Global) -> Result<Columns<Kept>, Memory> {
-    let mut columns = Columns::with_capacity(alloc, 1)?;
-    columns.add(alloc, 0, b"z")?;
+fn column(alloc: Global) -> Result<PackedColumns, Memory> {
+    let mut columns = PackedColumns::new(alloc);
+    columns.add(0, b"z")?;
     Ok(columns)
 }
 

@@ -6,7 +6,7 @@ ghost use Rattle.mt_cli.specs.Steps.Showing.{HaveShown, none_shown, both_shown};
 
 use crate::request::Range;
 use mt_recover::{Store, Visitor, Wanted};
-use mt_words::{Columns, Kept, Key};
+use mt_words::{Key, PackedColumns};
 
 impl Range {
     /// Shows the pairs of the range to the visitor, in order. Allocates no memory. The walk of the store ends after the
@@ -79,7 +79,7 @@ impl<'a, 'b, T, V: Visitor<T>> Visitor<Rest<'a, T>> for Within<'b, V> {
         &self,
         rest: &mut Rest<'a, T>,
         key: &[u8],
-        columns: &Columns<Kept>,
+        columns: &PackedColumns,
     ) -> Result<(), V::Error> {
         if rest.left == 0 || !rest.range.has(key) {
             rest.left = 0;

@@ -1,5 +1,6 @@
 -- The fields of a change, and what its kind carries.
 use Rattle.std.proofs.Common.{◌≡◌, Bool, ◌≤◌, ◌↔◌, IsTrue, ℕ, suc, ◌<◌, ◌^◌, List, [], ◌∷◌, ◌++◌, length, refl, sym, ap, subst, ◌∙◌, arith}
+use Rattle.mt_words.proofs.ColumnBytes.{same_number, same_counted}
 use Rattle.mt_record.proofs.Numbers.{AreBytes}
 use Rattle.std.specs.Prelude.{slice_index}
 use Rattle.std.specs.List.{AllByRecursion}
@@ -16,7 +17,6 @@ use Rattle.mt_words.specs.Words.{AreNumbers}
 use Rattle.mt_record.specs.declared.body.ChangeFields.{ChangeFields}
 use Rattle.mt_record.specs.Spelling.{with_length, kind_bytes, change_bytes, FitsChange}
 use Rattle.mt_record.specs.Steps.Bodies.{IsNoChange, IsChangeWith, IsKindOf, HasKind, IsJudgedKind, SpellFields, AreSpelled, AreJudgedColumns}
-use Rattle.mt_record.proofs.Unique.{same_number, same_counted}
 
 -- ---- kinds
 

@@ -1,12 +1,10 @@
 -- Reading columns from the front of bytes.
-use Rattle.std.proofs.Common.{◌≡◌, ℕ, suc, ◌+◌, ◌-◌, ◌<◌, ◌≤◌, List, [], ◌∷◌, ◌++◌, sym, ap, ◌∙◌, subst, append_assoc, arith}
-use Rattle.std.specs.List.{flat_map, AllByRecursion}
-use Rattle.mt_words.specs.declared.limits.Limits.{Limits}
-use Rattle.mt_words.specs.Words.{IsColumn, AreColumns, NumbersRise}
-use Rattle.mt_words.specs.Columns.{CanFollow, NumbersBelow}
+use Rattle.std.proofs.Common.{◌≡◌, ℕ, suc, ◌+◌, ◌-◌, ◌<◌, List, [], ◌∷◌, ◌++◌, sym, ap, ◌∙◌, subst, append_assoc, arith}
+use Rattle.std.specs.List.{flat_map}
+use Rattle.mt_words.proofs.ColumnBytes.{same_column}
+pub use Rattle.mt_words.proofs.ColumnBytes.{may_follow}
 use Rattle.mt_record.specs.Spelling.{column_bytes, FitsColumn}
 use Rattle.mt_record.specs.Steps.Bodies.{AreSpelled, HasColumns}
-use Rattle.mt_record.proofs.Unique.{same_column}
 
 -- ---- encoded columns
 
@@ -23,33 +21,6 @@ spelled_tail n bytes after c [] fits e s = absurd (omega (arith, s.number))
 spelled_tail n bytes after c (d ∷ ds) fits e s =
     let same = same_column c d after (flat_map column_bytes ds) fits s.fits.0 (sym e ∙ s.spelled) in
     (ds, record { number = omega (arith, s.number); spelled = same.1; fits = s.fits.1 })
-
--- bytes that do not begin with a column are not n columns, for n above 0
-pub no_columns : (n : ℕ) (bytes : List ℕ) → ((c : ℕ × List ℕ) (more : List ℕ) → FitsColumn c → bytes ≡ column_bytes c ++ more → ⊥) → 0 < n
-    → HasColumns n bytes → ⊥
-no_columns n bytes none some ([], s) = absurd (omega (arith, s.number))
-no_columns n bytes none some (c ∷ cs, s) = none c (flat_map column_bytes cs) s.fits.0 s.spelled
-
--- ---- a column among columns
-
--- in columns with rising numbers from `low` on, each number is at least `low`
-rise_from : (low : ℕ) (xs ds : List (ℕ × List ℕ)) (c : ℕ × List ℕ) → NumbersRise low (xs ++ c ∷ ds) → low ≤ c.0
-rise_from low [] ds c rise = rise.0
-rise_from low (x ∷ xs) ds c rise = omega (arith, rise_from (suc x.0) xs ds c rise.1)
-
--- in columns with rising numbers, each number is above those before it
-rise_below : (low : ℕ) (xs ds : List (ℕ × List ℕ)) (c : ℕ × List ℕ) → NumbersRise low (xs ++ c ∷ ds) → NumbersBelow xs c.0
-rise_below low [] ds c rise = tt
-rise_below low (x ∷ xs) ds c rise = (rise_from (suc x.0) xs ds c rise.1, rise_below (suc x.0) xs ds c rise.1)
-
--- if all columns are lawful, so is one in the middle
-pub all_at : (limits : Limits) (xs ds : List (ℕ × List ℕ)) (c : ℕ × List ℕ) → AllByRecursion (IsColumn limits) (xs ++ c ∷ ds) → IsColumn limits c
-all_at limits [] ds c all = all.0
-all_at limits (x ∷ xs) ds c all = all_at limits xs ds c all.1
-
--- in lawful columns, each column may follow those before it
-pub may_follow : (limits : Limits) (xs ds : List (ℕ × List ℕ)) (c : ℕ × List ℕ) → AreColumns limits (xs ++ c ∷ ds) → CanFollow limits xs c
-may_follow limits xs ds c are = (all_at limits xs ds c are.0, rise_below 0 xs ds c are.1)
 
 -- ---- one column after the other
 

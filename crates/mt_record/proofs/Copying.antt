@@ -12,12 +12,12 @@ use Rattle.mt_words.specs.Words.{IsKey, IsColumn, AreColumns}
 use Rattle.mt_words.specs.Columns.{CanFollow}
 use Rattle.mt_words.specs.Changes.{AllowsKind, IsLawful, IsLoggedChange}
 use Rattle.mt_words.proofs.Formats.{change_within}
+use Rattle.mt_words.proofs.ColumnBytes.{all_at, may_follow, same_column}
 use Rattle.mt_record.specs.Spelling.{column_bytes, kind_bytes, change_bytes, FitsColumn, FitsChange}
 use Rattle.mt_record.specs.declared.body.ChangeFields.{ChangeFields}
 use Rattle.mt_record.specs.Steps.Bodies.{IsLawfulBody, AreFieldsOf, AreFieldsIn}
 use Rattle.mt_record.specs.Decoding.{kind_from, change_unless, is_mark_in, code_in, carried_in, kind_in, change_in, IsBody, IsChangeBody, IsCarried}
-use Rattle.mt_record.proofs.Columns.{all_at, may_follow}
-use Rattle.mt_record.proofs.Unique.{same_column, same_change}
+use Rattle.mt_record.proofs.Unique.{same_change}
 use Rattle.mt_record.proofs.Decodes.{body_says, carried_is, carried_spelled}
 use Rattle.mt_record.proofs.EntryTexts.{entry_fits, whole_code}
 use Rattle.mt_record.proofs.KeptBodies.{fields_say}

@@ -1,10 +1,9 @@
 -- Decoding a body gives the record that it encodes.
-use Rattle.std.proofs.Common.{◌≡◌, ℕ, zero, suc, eqb, ◌^◌, ◌<◌, ◌≤◌, ◌-◌, List, [], ◌∷◌, ◌++◌, length, take, drop, map, Option, Some, None, Bool, true, false, ◌↔◌, refl, sym, ap, subst, ◌∙◌, append_assoc, arith}
-use Rattle.std.proofs.Math.Seq.{take-append_seam, drop-append_seam}
-use Rattle.std.proofs.lemmas.List.{append-nil, take_all}
+use Rattle.std.proofs.Common.{◌≡◌, ℕ, zero, suc, eqb, ◌^◌, ◌<◌, ◌≤◌, ◌-◌, List, [], ◌∷◌, ◌++◌, length, drop, map, Option, Some, None, Bool, true, false, ◌↔◌, refl, sym, ap, subst, ◌∙◌, arith}
+use Rattle.std.proofs.lemmas.List.{take_all}
 use Rattle.std.specs.Prelude.{IfSome, slice_index}
-use Rattle.std.specs.List.{flat_map, AllByRecursion}
-use Rattle.byteorder.specs.Endian.{big_bytes, big_from}
+use Rattle.std.specs.List.{AllByRecursion}
+use Rattle.byteorder.specs.Endian.{big_bytes}
 use Rattle.byteorder.specs.Numbers.{big_number-reads_back}
 use Rattle.mt_words.specs.declared.code.Code.{Code}
 use Rattle.mt_words.specs.declared.code.Code.TheVariants as codes
@@ -16,41 +15,16 @@ use Rattle.mt_words.specs.declared.update.Kind.TheVariants.{Put, Remove, Whole, 
 use Rattle.mt_words.specs.declared.update.Update.{Update}
 use Rattle.mt_words.specs.Limits.{widest, widest_format}
 use Rattle.mt_words.specs.Codes.{code_of, byte_of, payload_of, Clears}
-use Rattle.mt_words.specs.Words.{IsColumn, AreNumbers}
+use Rattle.mt_words.specs.Words.{AreNumbers}
 use Rattle.mt_words.specs.Changes.{Logged, changed, IsLawful, IsLawfulChange, IsLoggedChange, AllowsKind, IsReset, set, writes_of}
 use Rattle.mt_words.specs.Writes.{AreWrites}
 use Rattle.mt_words.proofs.WriteLemmas.{set_writes, set_columns, erase_writes, erase_numbers}
 use Rattle.mt_words.specs.Updates.{update_at}
+use Rattle.mt_words.specs.Packed.{ArePacked}
+use Rattle.mt_words.proofs.ColumnBytes.{counted_front, take_front, drop_front, some_back, next_column, lent_columns}
 use Rattle.mt_record.specs.Spelling.{with_length, column_bytes, kind_byte, kind_bytes, change_bytes, body_of, body, FitsColumn, FitsKind, FitsChange}
 use Rattle.mt_record.proofs.Lawful.{key_room, put_fits, erase_fits}
-use Rattle.mt_record.specs.Steps.Bodies.{AreSpelled}
-use Rattle.mt_record.proofs.Columns.{no_columns}
-use Rattle.mt_record.proofs.Unique.{same_column}
-use Rattle.mt_record.specs.Decoding.{columns_from, columns_counted, numbers_counted, writes_from, writes_carried, kind_from, change_unless, is_mark_in, code_from, code_in, time_in, version_in, key_length_in, key_in, carried_in, kind_in, change_in, update_in, change_unless, decode, IsSoundChange, IsBody, IsChangeBody, IsEntryBody, IsCarried, AreLentColumns, AreLent, AreCounted}
-
--- ---- fields
-
--- the length before some bytes is read back
-counted_front : (front more : List ℕ) → length front < 2 ^ 16 → big_from 0 2 (with_length front ++ more) ≡ length front
-counted_front front more below = big_number-reads_back 2 (length front) (front ++ more) below
-
-take_front : (n : ℕ) (front more : List ℕ) → n ≡ length front → take n (front ++ more) ≡ front
-take_front n front more same = subst (λ m. take m (front ++ more) ≡ front) (sym same) (take-append_seam front more)
-
-drop_front : (n : ℕ) (front more : List ℕ) → n ≡ length front → drop n (front ++ more) ≡ more
-drop_front n front more same = subst (λ m. drop m (front ++ more) ≡ more) (sym same) (drop-append_seam front more)
-
--- encoded columns decode to the same columns
-pub columns_back : (cs : List (ℕ × List ℕ)) (more : List ℕ) → AllByRecursion FitsColumn cs → columns_from (length cs) (flat_map column_bytes cs ++ more) ≡ cs
-columns_back [] more all = refl
-columns_back (c ∷ cs) more all =
-    let after = flat_map column_bytes cs ++ more in
-    let regrouped : flat_map column_bytes (c ∷ cs) ++ more ≡ column_bytes c ++ after = append_assoc (column_bytes c) (flat_map column_bytes cs) more in
-    let n = counted_front c.1 after all.0.1 in
-    let front = take_front (big_from 0 2 (with_length c.1 ++ after)) c.1 after n in
-    let rest = drop_front (big_from 0 2 (with_length c.1 ++ after)) c.1 after n in
-    let tail = columns_back cs more all.1 in
-    subst (λ bytes. columns_from (suc (length cs)) bytes ≡ c ∷ cs) (sym regrouped) (λ i. (c.0, front i) ∷ (ap (columns_from (length cs)) rest ∙ tail) i)
+use Rattle.mt_record.specs.Decoding.{columns_counted, numbers_counted, writes_from, writes_carried, kind_from, change_unless, is_mark_in, code_from, code_in, time_in, version_in, key_length_in, key_in, carried_in, kind_in, change_in, update_in, change_unless, decode, IsSoundChange, IsBody, IsChangeBody, IsEntryBody, IsCarried, AreLent, AreCounted}
 
 -- ---- the fields of a body
 
@@ -79,10 +53,6 @@ unfolding carried_in
 carried_back code t v key carried below = drop_front (key_length_in (change_body code t key v carried)) key carried (key_length_back code t v key carried below)
 
 -- ---- the kind
-
--- encoded columns with nothing after them decode to the same columns
-some_back : (cs : List (ℕ × List ℕ)) → AllByRecursion FitsColumn cs → columns_from (length cs) (flat_map column_bytes cs) ≡ cs
-some_back cs all = subst (λ bytes. columns_from (length cs) bytes ≡ cs) (append-nil (flat_map column_bytes cs)) (columns_back cs [] all)
 
 pub mark_back : (t : ℕ) → t < 2 ^ 64 → decode (body_of t None) ≡ record { timestamp = t; change = None }
 unfolding is_mark_in
@@ -203,18 +173,10 @@ carried_spelled bytes is =
 -- the bytes carried are nothing, or a count and that many lawful writes
 pub carried_is : (bytes : List ℕ) → IsChangeBody bytes → IsCarried (payload_of (code_in bytes)) (carried_in bytes)
 carried_is bytes is =
-    let spelled = carried_spelled bytes is in
-    by_code (code_in bytes) spelled.0 spelled.1 (change_sound bytes is).writes
+    by_code (code_in bytes) (carried_spelled bytes is).0 (change_sound bytes is).writes
   where
-    counted_are : (carried : List ℕ) → carried ≡ length (columns_counted carried) ∷ flat_map column_bytes (columns_counted carried)
-        → AllByRecursion FitsColumn (columns_counted carried) → AllByRecursion (IsColumn widest) (columns_counted carried) → AreCounted payloads.Columns carried
-    counted_are carried same fits lawful = record {
-      some = omega (arith, ap length same);
-      writes = record {
-        spelled = record { number = ap (λ (xs : List ℕ). slice_index xs 0) (sym same); spelled = ap (drop 1) same; fits = fits };
-        lawful = lawful;
-      };
-    }
+    counted_are : (carried : List ℕ) → ArePacked carried → AreCounted payloads.Columns carried
+    counted_are carried are = record { some = omega (arith, ap length are.spelled); writes = lent_columns carried are }
 
     numbers_are : (carried : List ℕ) → carried ≡ length (numbers_counted carried) ∷ numbers_counted carried → AreNumbers widest (numbers_counted carried) → AreCounted payloads.Numbers carried
     numbers_are carried same are =
@@ -227,12 +189,25 @@ carried_is bytes is =
           };
         }
 
-    by_code : (code : Code) → carried_in bytes ≡ kind_bytes (kind_from code (carried_in bytes)) → FitsKind (kind_from code (carried_in bytes))
+    by_code : (code : Code) → carried_in bytes ≡ kind_bytes (kind_from code (carried_in bytes))
         → AreWrites widest (writes_of (kind_from code (carried_in bytes))) → IsCarried (payload_of code) (carried_in bytes)
-    by_code codes.Whole same fits are = counted_are (carried_in bytes) same fits.1 (set_columns widest (columns_counted (carried_in bytes)) are).0
-    by_code codes.Put same fits are = counted_are (carried_in bytes) same fits.1 (set_columns widest (columns_counted (carried_in bytes)) are).0
-    by_code codes.Remove same fits are = same
-    by_code codes.Erase same fits are = numbers_are (carried_in bytes) same (erase_numbers widest (numbers_counted (carried_in bytes)) are)
+    by_code codes.Whole same are = counted_are (carried_in bytes) (record { spelled = same; lawful = set_columns widest (columns_counted (carried_in bytes)) are })
+    by_code codes.Put same are = counted_are (carried_in bytes) (record { spelled = same; lawful = set_columns widest (columns_counted (carried_in bytes)) are })
+    by_code codes.Remove same are = same
+    by_code codes.Erase same are = numbers_are (carried_in bytes) same (erase_numbers widest (numbers_counted (carried_in bytes)) are)
+
+-- what a put or an entry carries is the block of the columns that it sets
+pub carried_packed : (bytes : List ℕ) → IsChangeBody bytes → payload_of (code_in bytes) ≡ payloads.Columns
+    → ArePacked (carried_in bytes) × (writes_of (kind_in bytes) ≡ map set (columns_counted (carried_in bytes)))
+carried_packed bytes is = by_code (code_in bytes) (carried_spelled bytes is).0 (change_sound bytes is).writes
+  where
+    by_code : (code : Code) → carried_in bytes ≡ kind_bytes (kind_from code (carried_in bytes)) → AreWrites widest (writes_of (kind_from code (carried_in bytes)))
+        → payload_of code ≡ payloads.Columns
+        → ArePacked (carried_in bytes) × (writes_of (kind_from code (carried_in bytes)) ≡ map set (columns_counted (carried_in bytes)))
+    by_code codes.Whole same are columns = (record { spelled = same; lawful = set_columns widest (columns_counted (carried_in bytes)) are }, refl)
+    by_code codes.Put same are columns = (record { spelled = same; lawful = set_columns widest (columns_counted (carried_in bytes)) are }, refl)
+    by_code codes.Remove same are columns = absurd cc
+    by_code codes.Erase same are columns = absurd cc
 
 -- the writes decoded from the bytes carried are those of the kind
 pub carried_writes : (code : Code) (bytes : List ℕ) → writes_carried (payload_of code) bytes ≡ writes_of (kind_from code bytes)
@@ -270,30 +245,6 @@ code_first bytes is = ap byte_of (sym (same_code (code_in bytes) (carried_in byt
 
 -- ---- columns, one after the other
 
--- decoding gives the column at the front, then the others
-next_column : (n left : ℕ) (bytes after : List ℕ) (c : ℕ × List ℕ) → left ≡ suc n → FitsColumn c → bytes ≡ column_bytes c ++ after
-    → AreLentColumns left bytes
-    → (columns_from left bytes ≡ c ∷ columns_from n after) × IsColumn widest c × AreLentColumns n after
-next_column n left bytes after c more fit same are =
-    let length_is = counted_front c.1 after fit.1 in
-    let front = take_front (big_from 0 2 (with_length c.1 ++ after)) c.1 after length_is in
-    let rest = drop_front (big_from 0 2 (with_length c.1 ++ after)) c.1 after length_is in
-    let here : columns_from (suc n) (column_bytes c ++ after) ≡ c ∷ columns_from n after = λ i. (c.0, front i) ∷ columns_from n (rest i) in
-    let is : columns_from left bytes ≡ c ∷ columns_from n after = (λ i. columns_from (more i) (same i)) ∙ here in
-    let all : AreSpelled left bytes (c ∷ columns_from n after) = subst (AreSpelled left bytes) is are.spelled in
-    let lawful : AllByRecursion (IsColumn widest) (c ∷ columns_from n after) = subst (AllByRecursion (IsColumn widest)) is are.lawful in (
-      is,
-      lawful.0,
-      record {
-        spelled = record {
-          number = omega (arith, all.number, more);
-          spelled = (same_column c c after (flat_map column_bytes (columns_from n after)) fit all.fits.0 (sym same ∙ all.spelled)).1;
-          fits = all.fits.1;
-        };
-        lawful = lawful.1;
-      },
-    )
-
 -- the first write sets the column at the front, and the other writes set the others
 pub next_set : (payload : Payload) (left : ℕ) (bytes after : List ℕ) (c : ℕ × List ℕ) → payload ≡ payloads.Columns → AreLent payload left bytes → FitsColumn c → bytes ≡ column_bytes c ++ after
     → (writes_from payload left bytes ≡ set c ∷ writes_from payload (left - 1) after) × AreLent payload (left - 1) after
@@ -304,8 +255,3 @@ next_set payloads.Columns (suc n) bytes after c is are fit same =
     let next = next_column n (suc n) bytes after c refl fit same are in
     let one : suc n - 1 ≡ n = omega arith in
     rw one (ap (map set) next.0, next.2)
-
--- if the bytes begin with no column, no column is left
-pub no_column : (left : ℕ) (bytes : List ℕ) → AreLentColumns left bytes → ((c : ℕ × List ℕ) (more : List ℕ) → FitsColumn c → bytes ≡ column_bytes c ++ more → ⊥) → columns_from left bytes ≡ []
-no_column zero bytes are none = refl
-no_column (suc n) bytes are none = absurd (no_columns (suc n) bytes none (omega arith) (columns_from (suc n) bytes, are.spelled))

@@ -11,9 +11,10 @@ use Rattle.mt_words.specs.Limits.{widest, widest_format}
 use Rattle.mt_words.specs.Words.{AreColumns, AreNumbers}
 use Rattle.mt_words.specs.declared.record.Change.{Change}
 use Rattle.mt_words.specs.Changes.{Logged, IsLawful}
+use Rattle.mt_words.proofs.ColumnBytes.{columns_length}
 use Rattle.mt_record.specs.Spelling.{column_bytes, change_bytes, body_of, framed, IsRecordLength}
 use Rattle.mt_record.specs.Steps.Adding.{HasRoom, Adds}
-use Rattle.mt_record.proofs.Lawful.{put_fits, erase_fits, columns_length, lawful_length}
+use Rattle.mt_record.proofs.Lawful.{put_fits, erase_fits, lawful_length}
 
 -- ---- columns
 

@@ -10,12 +10,13 @@ use Rattle.mt_words.specs.declared.update.Kind.{Kind as AnyKind}
 use Rattle.mt_words.specs.declared.update.Kind.TheVariants.{Put, Remove, Whole, Erase}
 use Rattle.mt_words.specs.Limits.{limits_of}
 use Rattle.mt_words.specs.Changes.{IsWhole, IsEntry}
+use Rattle.mt_words.proofs.ColumnBytes.{same_split, same_number}
 use Rattle.mt_record.specs.Spelling.{kind_byte, change_bytes, framed, FitsChange}
 use Rattle.mt_record.specs.LogFaults.{HasTrailerFault}
 use Rattle.mt_record.specs.PartTexts.{IsEntryLength}
 use Rattle.mt_record.specs.PartFeeding.{HasWrongEntry, ShowsNoEntry}
 use Rattle.mt_record.specs.Steps.Bodies.{AreNoFields, IsChangeWith, IsChangeFault, IsFrame, IsFrameFault}
-use Rattle.mt_record.proofs.Unique.{same_split, same_number, same_change}
+use Rattle.mt_record.proofs.Unique.{same_change}
 use Rattle.mt_record.proofs.Frames.{body_frame}
 use Rattle.mt_record.proofs.Entries.{entry_length, short_entry}
 use Rattle.mt_record.proofs.Lawful.{key_room, kind_fits}

@@ -5,11 +5,12 @@ use Rattle.byteorder.specs.Endian.{big_bytes}
 use Rattle.mt_words.specs.declared.fault.What.{What}
 use Rattle.mt_words.specs.declared.fault.What.TheVariants.{Length, Trailer}
 use Rattle.mt_words.specs.declared.limits.Limits.{Limits}
+use Rattle.mt_words.proofs.ColumnBytes.{same_number}
 use Rattle.mt_record.specs.Spelling.{framed, IsRecordLength}
 use Rattle.mt_record.specs.Steps.Bodies.{IsFrameFault}
 use Rattle.mt_record.specs.Logs.{IsUnfinished}
 use Rattle.mt_record.specs.LogFaults.{HasLengthFault, HasFrame, HasTrailerFault, RestFault}
-use Rattle.mt_record.proofs.Unique.{same_number, framed_apart}
+use Rattle.mt_record.proofs.Unique.{framed_apart}
 use Rattle.mt_record.proofs.Feeds.{behind_on}
 
 -- a list is its first n elements and the others

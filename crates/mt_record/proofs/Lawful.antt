@@ -9,11 +9,12 @@ use Rattle.mt_words.specs.declared.update.Kind.{Kind}
 use Rattle.mt_words.specs.declared.update.Kind.TheVariants.{Put, Remove, Whole, Erase}
 use Rattle.mt_words.specs.declared.limits.Limits.{Limits}
 use Rattle.mt_words.specs.Limits.{limits_of}
-use Rattle.mt_words.specs.Words.{IsColumn, AreColumns, AreNumbers}
+use Rattle.mt_words.specs.Words.{AreColumns, AreNumbers}
 use Rattle.mt_words.specs.Changes.{Logged, IsLawful, IsLoggedChange, AllowsKind}
 use Rattle.mt_words.proofs.Formats.{within}
-use Rattle.mt_words.proofs.Rising.{numbers_room, columns_below, columns_room}
-use Rattle.mt_record.specs.Spelling.{column_bytes, kind_bytes, body_of, body, IsRecordLength, FitsColumn, FitsKind, FitsLogged, Fits}
+use Rattle.mt_words.proofs.Rising.{numbers_room}
+use Rattle.mt_words.proofs.ColumnBytes.{column_room, few_columns, columns_fit, columns_length}
+use Rattle.mt_record.specs.Spelling.{column_bytes, kind_bytes, body_of, body, IsRecordLength, FitsKind, FitsLogged, Fits}
 
 -- ---- the limits of the formats
 
@@ -21,35 +22,11 @@ use Rattle.mt_record.specs.Spelling.{column_bytes, kind_bytes, body_of, body, Is
 pub key_room : (format : Format) → (limits_of format).key < 2 ^ 16
 key_room format = omega (arith, (within format).key)
 
--- column numbers fit in a byte, and so does the count of columns
-column_room : (format : Format) → suc (limits_of format).column < 2 ^ 8
-column_room format = omega (arith, (within format).column)
-
 -- the length of a body fits in four bytes
 pub length_fits : (format : Format) (n : ℕ) → IsRecordLength (limits_of format) n → n < 2 ^ 32
 length_fits format n is =
     let room = within format in
     omega (arith, is.1, room.key, room.column)
-
--- ---- columns
-
--- lawful columns are at most as many as there are column numbers
-few_columns : (limits : Limits) (cs : List (ℕ × List ℕ)) → AreColumns limits cs → length cs ≤ suc limits.column
-few_columns limits cs are = columns_room cs (suc limits.column) are.1 (columns_below limits cs are.0)
-
--- lawful columns fit their fields
-columns_fit : (format : Format) (cs : List (ℕ × List ℕ)) → AllByRecursion (IsColumn (limits_of format)) cs → AllByRecursion FitsColumn cs
-columns_fit format [] all = tt
-columns_fit format (c ∷ cs) all =
-    let room = column_room format in
-    ((omega (arith, all.0.0), omega (arith, all.0.1)), columns_fit format cs all.1)
-
--- lawful columns take at most 65538 bytes each
-pub columns_length : (limits : Limits) (cs : List (ℕ × List ℕ)) → AllByRecursion (IsColumn limits) cs → length (flat_map column_bytes cs) ≤ 65538 * length cs
-columns_length limits [] all = omega arith
-columns_length limits (c ∷ cs) all =
-    let rest = columns_length limits cs all.1 in
-    omega (arith, rest, all.0.1, length-append c.1 (flat_map column_bytes cs))
 
 -- ---- records
 

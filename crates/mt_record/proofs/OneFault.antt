@@ -12,11 +12,12 @@ use Rattle.mt_words.specs.declared.limits.Limits.{Limits}
 use Rattle.mt_words.specs.Limits.{limits_of}
 use Rattle.mt_words.specs.Words.{IsKey}
 use Rattle.mt_words.specs.Changes.{Logged, changed, AllowsKind, IsLawful, IsLogged, IsLoggedChange}
+use Rattle.mt_words.proofs.ColumnBytes.{same_split, same_number}
 use Rattle.mt_record.specs.Spelling.{kind_byte, body_of, body, framed, Fits, IsRecordLength}
 use Rattle.mt_record.specs.Logs.{IsTorn}
 use Rattle.mt_record.specs.Fronts.{Stops}
 use Rattle.mt_record.specs.LogFaults.{IsKindByte, HasLengthFault, HasFrame, BodyFault, RestFault}
-use Rattle.mt_record.proofs.Unique.{same_split, same_number, same_body}
+use Rattle.mt_record.proofs.Unique.{same_body}
 use Rattle.mt_words.proofs.Formats.{within}
 use Rattle.mt_record.proofs.Frames.{body_frame, Begins, frame_begins, wrong_begins, none_begins}
 use Rattle.mt_record.proofs.Lawful.{length_fits, lawful_fits, lawful_length}

@@ -7,13 +7,14 @@ use Rattle.mt_words.specs.declared.limits.Format.{Format}
 use Rattle.mt_words.specs.Limits.{limits_of}
 use Rattle.mt_words.proofs.Formats.{same_format}
 use Rattle.mt_words.specs.Changes.{Logged}
+use Rattle.mt_words.proofs.ColumnBytes.{same_number}
 use Rattle.mt_record.specs.Spelling.{body, spelling}
 use Rattle.mt_record.specs.declared.feed.head.Head.{Head}
 use Rattle.mt_record.specs.declared.feed.head.Segment.{Segment}
 use Rattle.mt_record.specs.Heads.{IsHead, log_magic, segment_bytes, head_bytes}
 use Rattle.mt_record.specs.Logs.{AreRecords, latest}
 use Rattle.mt_record.proofs.Beginnings.{no_digit}
-use Rattle.mt_record.proofs.Unique.{same_number, same_body, same_framed}
+use Rattle.mt_record.proofs.Unique.{same_body, same_framed}
 use Rattle.mt_record.proofs.Lawful.{length_fits, lawful_fits, lawful_length}
 use Rattle.mt_record.specs.Fronts.{Stops}
 

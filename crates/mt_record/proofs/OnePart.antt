@@ -9,12 +9,13 @@ use Rattle.mt_words.specs.declared.record.Change.{Change}
 use Rattle.mt_words.specs.Limits.{limits_of}
 use Rattle.mt_words.proofs.Formats.{same_format}
 use Rattle.mt_words.specs.Changes.{IsEntry}
+use Rattle.mt_words.proofs.ColumnBytes.{same_split, same_number}
 use Rattle.mt_record.specs.Spelling.{change_bytes}
 use Rattle.mt_record.specs.declared.part_text.PartHead.{PartHead}
 use Rattle.mt_record.specs.Parts.{part_head_bytes, IsPartHead, entry_spelling, footer_bytes, IsPart}
 use Rattle.mt_record.specs.PartTexts.{IsEntryLength}
 use Rattle.mt_record.specs.PartFaults.{HasNoEntry, BeginsPart}
-use Rattle.mt_record.proofs.Unique.{same_split, same_number, same_change, same_framed, framed_apart}
+use Rattle.mt_record.proofs.Unique.{same_change, same_framed, framed_apart}
 use Rattle.mt_record.proofs.Entries.{entry_length, short_entry}
 use Rattle.mt_record.proofs.EntryTexts.{entry_fits, whole_code}
 

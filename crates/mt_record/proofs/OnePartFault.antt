@@ -8,6 +8,7 @@ use Rattle.mt_words.specs.declared.record.Change.{Change}
 use Rattle.mt_words.specs.declared.limits.Limits.{Limits}
 use Rattle.mt_words.specs.Limits.{limits_of}
 use Rattle.mt_words.specs.Changes.{IsEntry}
+use Rattle.mt_words.proofs.ColumnBytes.{same_split, same_number}
 use Rattle.mt_record.specs.declared.part_text.PartHead.{PartHead}
 use Rattle.mt_record.specs.declared.part_text.PartFault.{PartFault}
 use Rattle.mt_record.specs.declared.part_text.PartFault.TheVariants as faults
@@ -19,7 +20,7 @@ use Rattle.mt_record.specs.PartFaults.{HasNoPartHeader, HasNoEntry, BeginsPart, 
 use Rattle.mt_record.specs.Fronts.{ShowsNone, IsUnfinishedFront}
 use Rattle.mt_record.specs.Feeding.{HasRead, HoldsAll, HasShown}
 use Rattle.mt_record.specs.PartFeeding.{HasWrongLength, HasWrongEntry, ShowsNoPart, ShowsPartFault, IsPartShown, ShowsNoPartFault, IsCutItem, PartSoFar, end_bytes, HoldsPart, IsPartLeft, IsPartFaulty}
-use Rattle.mt_record.proofs.Unique.{same_split, same_number, framed_apart}
+use Rattle.mt_record.proofs.Unique.{framed_apart}
 use Rattle.mt_record.proofs.Entries.{entry_length, short_entry}
 use Rattle.mt_record.proofs.OnePart.{length_no_entry, footer_no_entry, same_beginning, part_begins}
 use Rattle.mt_record.proofs.Beginnings.{cut_none}

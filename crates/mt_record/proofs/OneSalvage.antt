@@ -1,5 +1,5 @@
 -- Bytes have one list of stretches, which keep the records of a log.
-use Rattle.std.proofs.Common.{◌≡◌, ◌⊎◌, inl, inr, ℕ, ◌+◌, ◌<◌, List, [], ◌∷◌, ◌++◌, length, refl, sym, ap, ◌∙◌, subst, append_assoc, arith}
+use Rattle.std.proofs.Common.{◌≡◌, ◌⊎◌, inl, inr, ℕ, ◌<◌, List, [], ◌∷◌, ◌++◌, length, refl, sym, ap, ◌∙◌, subst, append_assoc, arith}
 use Rattle.std.proofs.lemmas.Bool.{cases_lt}
 use Rattle.std.proofs.lemmas.List.{length-append, append-nil}
 use Rattle.std.proofs.lemmas.Grind.{flat_map-append}
@@ -8,13 +8,13 @@ use Rattle.mt_words.specs.declared.limits.Format.{Format}
 use Rattle.mt_words.specs.declared.limits.Limits.{Limits}
 use Rattle.mt_words.specs.Limits.{limits_of}
 use Rattle.mt_words.specs.Changes.{Logged}
+use Rattle.mt_words.proofs.ColumnBytes.{same_split}
 use Rattle.mt_record.specs.Spelling.{spelling}
 use Rattle.mt_record.specs.Logs.{AreRecords, latest, IsLog}
 use Rattle.mt_record.specs.declared.feed.head.Head.{Head}
 use Rattle.mt_record.specs.Heads.{IsHead, head_bytes}
 use Rattle.mt_record.specs.declared.salvage.Stretch.{Stretch}
 use Rattle.mt_record.specs.Salvage.{GoOn, GoOnNowhere, AreKept, EndsKept, IsStretch, AreStretches, kept_bytes, spans, records_in}
-use Rattle.mt_record.proofs.Unique.{same_split}
 use Rattle.mt_record.proofs.Salvages.{same_next, kept_lawful}
 
 -- ---- one list

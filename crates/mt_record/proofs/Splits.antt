@@ -9,6 +9,7 @@ use Rattle.std.proofs.Math.Seq.{take-append_seam}
 use Rattle.mt_words.specs.declared.limits.Limits.{Limits}
 use Rattle.mt_words.specs.Limits.{limits_of}
 use Rattle.mt_words.specs.Changes.{Logged}
+use Rattle.mt_words.proofs.ColumnBytes.{same_split}
 use Rattle.mt_record.specs.Spelling.{spelling}
 use Rattle.mt_record.specs.declared.feed.head.Head.{Head}
 use Rattle.mt_record.specs.declared.resume.Split.{Split}
@@ -16,7 +17,6 @@ use Rattle.mt_record.specs.Heads.{IsHead, head_bytes}
 use Rattle.mt_record.specs.Logs.{AreRecords, LogReading, IsReading}
 use Rattle.mt_record.specs.Resuming.{below, marks_of, IsResumed}
 use Rattle.mt_record.specs.Steps.Splits.{IsSplitIn}
-use Rattle.mt_record.proofs.Unique.{same_split}
 use Rattle.mt_record.proofs.OneLog.{same_head}
 use Rattle.mt_record.proofs.Records.{tells_torn}
 

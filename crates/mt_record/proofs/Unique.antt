@@ -3,49 +3,17 @@ use Rattle.std.proofs.Common.{◌≡◌, ℕ, ◌+◌, ◌^◌, ◌<◌, List, [
 use Rattle.std.specs.Prelude.{slice_index, IfSome}
 use Rattle.std.proofs.lemmas.List.{length-append}
 use Rattle.std.specs.List.{flat_map, AllByRecursion}
-use Rattle.byteorder.specs.Endian.{big_bytes, big_from}
-use Rattle.byteorder.specs.Numbers.{big_number-reads_back, length-bytes_high_first}
+use Rattle.byteorder.specs.Endian.{big_bytes}
+use Rattle.byteorder.specs.Numbers.{length-bytes_high_first}
 use Rattle.mt_words.specs.declared.record.Change.{Change}
 use Rattle.mt_words.specs.declared.update.Kind.{Kind}
 use Rattle.mt_words.specs.declared.update.Kind.TheVariants.{Put, Remove, Whole, Erase}
 use Rattle.mt_words.specs.Changes.{Logged}
+use Rattle.mt_words.proofs.ColumnBytes.{same_number, same_counted, same_column}
+pub use Rattle.mt_words.proofs.ColumnBytes.{same_split}
 use Rattle.mt_record.specs.Spelling.{with_length, column_bytes, kind_byte, kind_bytes, change_bytes, body_of, body, framed, FitsColumn, FitsKind, FitsChange, FitsLogged, Fits}
 
--- ---- fields
-
--- prefixes of the same length are equal, and so is what follows them
-pub same_split : {A : Type 0} (a b x y : List A) → length a ≡ length b → a ++ x ≡ b ++ y → (a ≡ b) × (x ≡ y)
-same_split [] [] x y same e = (refl, e)
-same_split [] (q ∷ b) x y same e = absurd (omega arith)
-same_split (p ∷ a) [] x y same e = absurd (omega arith)
-same_split (p ∷ a) (q ∷ b) x y same e =
-    let tails : a ++ x ≡ b ++ y = cc in
-    let rest = same_split a b x y (omega arith) tails in
-    let fronts : a ≡ b = rest.0 in
-    (cc, rest.1)
-
--- bytes begin with only one number
-pub same_number : (n a b : ℕ) (x y : List ℕ) → a < 256 ^ n → b < 256 ^ n → big_bytes n a ++ x ≡ big_bytes n b ++ y → (a ≡ b) × (x ≡ y)
-same_number n a b x y fits_a fits_b e = (
-  sym (big_number-reads_back n a x fits_a) ∙ ap (big_from 0 n) e ∙ big_number-reads_back n b y fits_b,
-  (same_split (big_bytes n a) (big_bytes n b) x y (length-bytes_high_first n a ∙ sym (length-bytes_high_first n b)) e).1,
-)
-
--- bytes begin with only one list of with_length bytes
-pub same_counted : (a b x y : List ℕ) → length a < 2 ^ 16 → length b < 2 ^ 16 → with_length a ++ x ≡ with_length b ++ y → (a ≡ b) × (x ≡ y)
-same_counted a b x y fits_a fits_b e =
-    let apart : big_bytes 2 (length a) ++ (a ++ x) ≡ big_bytes 2 (length b) ++ (b ++ y) =
-    sym (append_assoc (big_bytes 2 (length a)) a x) ∙ e ∙ append_assoc (big_bytes 2 (length b)) b y in
-    let number = same_number 2 (length a) (length b) (a ++ x) (b ++ y) fits_a fits_b apart in
-    same_split a b x y number.0 number.1
-
--- bytes begin with only one column
-pub same_column : (c d : ℕ × List ℕ) (x y : List ℕ) → FitsColumn c → FitsColumn d → column_bytes c ++ x ≡ column_bytes d ++ y → (c ≡ d) × (x ≡ y)
-same_column c d x y fits_c fits_d e =
-    let first : c.0 ≡ d.0 = cc in
-    let rest : with_length c.1 ++ x ≡ with_length d.1 ++ y = cc in
-    let bytes = same_counted c.1 d.1 x y fits_c.1 fits_d.1 rest in
-    (λ i. (first i, bytes.0 i), bytes.1)
+-- ---- columns
 
 -- bytes are a given number of columns in only one way
 same_columns : (cs ds : List (ℕ × List ℕ)) → AllByRecursion FitsColumn cs → AllByRecursion FitsColumn ds → length cs ≡ length ds

@@ -1,5 +1,5 @@
 -- Decoding: what record the bytes of a body encode.
-use Rattle.std.specs.Prelude.{◌≡◌, ◌≤◌, ◌<◌, ◌^◌, ℕ, zero, suc, Bool, true, false, eqb, List, [], ◌∷◌, length, map, take, drop, slice_index, Option, Some, None, IfSome}
+use Rattle.std.specs.Prelude.{◌≡◌, ◌≤◌, ◌<◌, ◌^◌, ℕ, Bool, true, false, eqb, List, [], length, map, take, drop, slice_index, Option, Some, None, IfSome}
 use Rattle.std.specs.List.{AllByRecursion}
 use Rattle.byteorder.specs.Endian.{big_from}
 use Rattle.mt_words.specs.declared.code.Code.{Code}
@@ -13,24 +13,14 @@ use Rattle.mt_words.specs.declared.update.Kind.TheVariants.{Put, Remove, Whole, 
 use Rattle.mt_words.specs.declared.update.Update.{Update}
 use Rattle.mt_words.specs.Limits.{widest}
 use Rattle.mt_words.specs.Codes.{byte_of}
-use Rattle.mt_words.specs.Words.{IsKey, IsColumn}
+use Rattle.mt_words.specs.Words.{IsKey}
 use Rattle.mt_words.specs.Changes.{Logged, Write, set, erased, writes_of}
 use Rattle.mt_words.specs.Writes.{AreWrites}
 use Rattle.mt_words.specs.Updates.{update_at}
+pub use Rattle.mt_words.specs.Packed.{columns_from, columns_counted, AreLentColumns}
 use Rattle.mt_record.specs.Spelling.{body}
-use Rattle.mt_record.specs.Steps.Bodies.{AreSpelled}
 
 -- ---- fields at the front of bytes
-
--- decodes this many columns from the front
-abbrev pub columns_from : ℕ → List ℕ → List (ℕ × List ℕ)
-columns_from zero bytes = []
-columns_from (suc n) bytes =
-    (slice_index bytes 0, take (big_from 0 2 (drop 1 bytes)) (drop 3 bytes)) ∷ columns_from n (drop (big_from 0 2 (drop 1 bytes)) (drop 3 bytes))
-
--- decodes a count, then that many columns
-abbrev pub columns_counted : List ℕ → List (ℕ × List ℕ)
-columns_counted bytes = columns_from (slice_index bytes 0) (drop 1 bytes)
 
 -- decodes a count, then that many column numbers
 abbrev pub numbers_counted : List ℕ → List ℕ
@@ -135,11 +125,6 @@ pub record IsEntryBody (bytes : List ℕ) : Type 0 where
   pub no_time : time_in bytes ≡ 0
 
 -- ---- borrowed writes
-
--- the bytes are the encodings of `count` columns, each lawful in the widest format
-pub record AreLentColumns (count : ℕ) (bytes : List ℕ) : Type 0 where
-  pub spelled : AreSpelled count bytes (columns_from count bytes)
-  pub lawful : AllByRecursion (IsColumn widest) (columns_from count bytes)
 
 -- the bytes are `count` column numbers, each lawful in the widest format
 pub record AreLentNumbers (count : ℕ) (bytes : List ℕ) : Type 0 where

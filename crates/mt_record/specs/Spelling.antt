@@ -1,6 +1,6 @@
 -- How records are encoded.
 use Rattle.std.specs.Prelude.{ℕ, suc, ◌+◌, ◌*◌, ◌≤◌, ◌<◌, ◌^◌, List, [], ◌∷◌, ◌++◌, length, Option, Some, None, IfSome}
-use Rattle.std.specs.List.{flat_map, AllByRecursion}
+use Rattle.std.specs.List.{AllByRecursion}
 use Rattle.byteorder.specs.Endian.{big_bytes}
 use Rattle.mt_words.specs.declared.limits.TheConstants.{LONGEST_VALUE}
 use Rattle.mt_words.specs.declared.record.Change.{Change}
@@ -9,14 +9,8 @@ use Rattle.mt_words.specs.declared.update.Kind.TheVariants.{Put, Remove, Whole, 
 use Rattle.mt_words.specs.declared.limits.Limits.{Limits}
 use Rattle.mt_words.specs.Codes.{code_of, byte_of}
 use Rattle.mt_words.specs.Changes.{Logged, IsLogged}
-
--- bytes after their two-byte length
-abbrev pub with_length : List ℕ → List ℕ
-with_length bytes = big_bytes 2 (length bytes) ++ bytes
-
--- the encoding of a column: its number, and its with_length value
-abbrev pub column_bytes : ℕ × List ℕ → List ℕ
-column_bytes column = column.0 ∷ with_length column.1
+use Rattle.mt_words.specs.Packed.{packed}
+pub use Rattle.mt_words.specs.Packed.{with_length, column_bytes, FitsColumn}
 
 -- the byte of a kind
 abbrev pub kind_byte : Kind → ℕ
@@ -24,9 +18,9 @@ kind_byte kind = byte_of (code_of kind)
 
 -- what a kind carries: for a put or a `Whole` a count and the columns, for an erase a count and the column numbers, for a remove nothing
 abbrev pub kind_bytes : Kind → List ℕ
-kind_bytes (Put columns) = length columns ∷ flat_map column_bytes columns
+kind_bytes (Put columns) = packed columns
 kind_bytes Remove = []
-kind_bytes (Whole columns) = length columns ∷ flat_map column_bytes columns
+kind_bytes (Whole columns) = packed columns
 kind_bytes (Erase numbers) = length numbers ∷ numbers
 
 -- the fields of a change: its version, its with_length key, and what its kind carries
@@ -62,9 +56,6 @@ abbrev pub IsRecordLength : Limits → ℕ → Type 0
 IsRecordLength limits n = (9 ≤ n) × (n ≤ longest_record limits)
 
 -- ---- what the fields of a change and of a record can hold, lawful or not
-
-abbrev pub FitsColumn : ℕ × List ℕ → Type 0
-FitsColumn column = (column.0 < 2 ^ 8) × (length column.1 < 2 ^ 16)
 
 abbrev pub FitsKind : Kind → Type 0
 FitsKind (Put columns) = (length columns < 2 ^ 8) × AllByRecursion FitsColumn columns

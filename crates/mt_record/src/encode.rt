@@ -111,7 +111,7 @@ pub fn kind_length(kind: &Kind) -> usize
 }
 
 /// Returns the number of bytes of the columns and of their count.
-pub fn columns_length(columns: &[Column]) -> usize
+fn columns_length(columns: &[Column]) -> usize
     requires { AreColumns widest columns.now }
     ensures value { result ≡ length (kind_bytes (Put columns.now)) }
     ensures few { result < 2 ^ 25 }

@@ -34,9 +34,7 @@ pub use body::lent_writes::LentWrites;
 pub use encode::parts::{
     encode_entry, encode_part, encode_part_2, encode_part_footer, encode_part_header,
 };
-pub use encode::{
-    columns_length, encode_log_header, encode_log_header_2, encode_log_header_3, encode_record,
-};
+pub use encode::{encode_log_header, encode_log_header_2, encode_log_header_3, encode_record};
 pub use feed::head::{Head, Segment, header_at};
 pub use feed::log_feed::LogFeed;
 pub use feed::part_feed::PartFeed;

@@ -5,7 +5,7 @@ ghost use Rattle.mt_tree.specs.Range.{from, hits};
 ghost use Rattle.mt_tree.specs.Trees.{tree_walk, IsCount};
 
 use mt_tree::{Hit, Tree, Visitor, Wanted};
-use mt_words::{Columns, Kept, Memory};
+use mt_words::{Memory, PackedColumns};
 use std::marker::Model;
 
 /// A store: keys in order, each with its columns, in a layered tree. Contracts see it as the list of its pairs.
@@ -39,7 +39,7 @@ impl Store {
 
     /// Returns the columns of this key, or None if it is absent. The key may have any length: no key of a store is
     /// longer than `LONGEST_KEY` bytes, so a longer one is absent.
-    pub fn get(&self, key: &[u8]) -> Option<&Columns<Kept>>
+    pub fn get(&self, key: &[u8]) -> Option<&PackedColumns>
         ensures { MatchOption result
             ((columns : List (ℕ × List ℕ)) → Contains self.now (key.now, columns) → ⊥)
             (λ found. Contains self.now (key.now, found.now)) }

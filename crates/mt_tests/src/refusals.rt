@@ -13,7 +13,7 @@ use mt_recover::{Haul, Job, assemble, recover_logs, work};
 use mt_replay::{Cell, Cuts, Pieces, SortedUpdates, Window, clashes, replay_piece};
 use mt_scan::{MemSource, Rack, choose, scan_bytes, scan_log, scan_part};
 use mt_tree::{Draft, Wanted, above};
-use mt_words::{Columns, Fault, Key, Memory, Update};
+use mt_words::{Fault, Key, Memory, PackedColumns, Update};
 use std::alloc::Global;
 use std::fmt::Debug;
 use std::process::Abort;
@@ -78,7 +78,7 @@ fn replay_second(alloc: Global) -> Result<usize, Fault> {
 fn draft_of(alloc: Global, key: &[u8]) -> Result<Draft, Memory> {
     let mut pairs = Vec::new(alloc);
     if let Some(key) = Key::new(Vec::from_slice(alloc, key)?) {
-        pairs.push((key, Columns::new(alloc).keep(alloc)?))?;
+        pairs.push((key, PackedColumns::new(alloc)))?;
     }
     Draft::build(alloc, pairs)
 }

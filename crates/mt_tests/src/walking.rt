@@ -3,7 +3,7 @@ use crate::asserting::assert_same;
 use crate::logs::LOG_OF_THREE;
 use mt_recover::recover_logs;
 use mt_tree::Visitor;
-use mt_words::{Columns, Kept};
+use mt_words::PackedColumns;
 
 /// A visitor that counts the pairs it is shown. It refuses one of them, and is full after some.
 #[derive(Clone, Copy)]
@@ -17,7 +17,7 @@ impl Visitor<u64> for Counting {
 
     ghost shown = { λ _ _ _. Unit {0} };
 
-    fn visit(&self, shown: &mut u64, _key: &[u8], _columns: &Columns<Kept>) -> Result<(), ()> {
+    fn visit(&self, shown: &mut u64, _key: &[u8], _columns: &PackedColumns) -> Result<(), ()> {
         *shown = shown.saturating_add(1);
         if *shown == self.refused {
             Err(())

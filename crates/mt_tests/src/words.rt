@@ -1,14 +1,14 @@
 //! Copies of keys and columns, and the one text of a fault that no program prints.
 use crate::asserting::assert_bytes;
-use mt_words::{Columns, Fault, Key};
+use mt_words::{Columns, Fault, Key, PackedColumns};
 
 #[test]
-fn copies_keys_and_columns_in_place_and_kept(rt: HostRuntime) {
+fn copies_keys_and_columns_loose_and_packed(rt: HostRuntime) {
     let key = Key::new(Vec::new(rt.alloc())).expect(&rt, "a key");
     assert!(rt; key.try_copy().is_ok());
     let copy = Columns::new(rt.alloc()).try_copy().expect(&rt, "memory");
-    let kept = copy.keep(rt.alloc()).expect(&rt, "memory");
-    assert!(rt; kept.try_copy().is_ok());
+    let packed = PackedColumns::of(rt.alloc(), &copy).expect(&rt, "memory");
+    assert!(rt; packed.try_copy().is_ok());
 }
 
 #[test]

@@ -1,9 +1,9 @@
 -- Hex text, and the line of a pair.
-use Rattle.std.proofs.Common.{◌≡◌, ◌≤◌, ℕ, Option, List, [], ◌∷◌, ◌++◌, length, take, drop, refl, sym, ap, subst, ◌∙◌, append_assoc, take_all}
+use Rattle.std.proofs.Common.{◌≡◌, ℕ, Option, List, [], ◌∷◌, ◌++◌, take, drop, refl, sym, ap, subst, ◌∙◌, append_assoc}
 use Rattle.std.specs.Prelude.{codes}
 use Rattle.std.specs.Io.KnownBytes.{Appends}
 use Rattle.std.proofs.KnownBytes.{Appends-trans}
-use Rattle.std.proofs.lemmas.List.{take-append-drop}
+use Rattle.std.proofs.lemmas.List.{append-nil, take-append-drop}
 use Rattle.std.proofs.lemmas.List.Concat.{flat_map-append}
 use Rattle.std.specs.List.{flat_map}
 use Rattle.hex.specs.Hex.{encode_lower, encode_with}
@@ -26,12 +26,14 @@ pub in_two : (n : ℕ) (xs front back : List ℕ) → front ≡ take n xs → ba
 in_two n xs front back f b = sym (take-append-drop n xs) ∙ (λ i. sym f i ++ sym b i)
 
 -- the line of a pair ends after its columns
-pub line_ended : (a b c : Option (List ℕ)) (key : List ℕ) (items columns : List (ℕ × List ℕ)) (i : ℕ) → items ≡ columns → length items ≤ i
-    → Appends a b ((encode_lower key ++ codes ":") ++ flat_map column_text (take i items)) → Appends b c (codes "\n") → Appends a c (pair_text (key, columns))
-line_ended a b c key items columns i same all first second =
-    let whole : take i items ≡ columns = take_all i items all ∙ same in
-    let text : ((encode_lower key ++ codes ":") ++ flat_map column_text (take i items)) ++ codes "\n" ≡ pair_text (key, columns) =
-    ap (λ (xs : List (ℕ × List ℕ)). ((encode_lower key ++ codes ":") ++ flat_map column_text xs) ++ codes "\n") whole
+pub line_ended : (a b c : Option (List ℕ)) (key text : List ℕ) (rest columns : List (ℕ × List ℕ)) → rest ≡ []
+    → text ++ flat_map column_text rest ≡ (encode_lower key ++ codes ":") ++ flat_map column_text columns
+    → Appends a b text → Appends b c (codes "\n") → Appends a c (pair_text (key, columns))
+line_ended a b c key text rest columns none whole first second =
+    let all : text ≡ (encode_lower key ++ codes ":") ++ flat_map column_text columns =
+    sym (append-nil text) ∙ ap (λ (left : List (ℕ × List ℕ)). text ++ flat_map column_text left) (sym none) ∙ whole in
+    let line : text ++ codes "\n" ≡ pair_text (key, columns) =
+    ap (λ (front : List ℕ). front ++ codes "\n") all
     ∙ append_assoc (encode_lower key ++ codes ":") (flat_map column_text columns) (codes "\n")
     ∙ append_assoc (encode_lower key) (codes ":") (flat_map column_text columns ++ codes "\n") in
-    subst (Appends a c) text (Appends-trans a b c ((encode_lower key ++ codes ":") ++ flat_map column_text (take i items)) (codes "\n") first second)
+    subst (Appends a c) line (Appends-trans a b c text (codes "\n") first second)

@@ -7,7 +7,7 @@ use crate::digits::write_hex;
 use crate::escapes::is_plain;
 use crate::json::write_name;
 use mt_tree::{Visitor, Wanted};
-use mt_words::{Columns, Kept};
+use mt_words::PackedColumns;
 use std::io::{self, Write};
 
 /// The form in which pairs are printed.
@@ -103,7 +103,7 @@ impl Printer {
     pub fn write<W: Write>(
         &self,
         key: &[u8],
-        columns: &Columns<Kept>,
+        columns: &PackedColumns,
         out: &mut W,
     ) -> io::Result<()> {
         if self.form.is_json {
@@ -111,10 +111,11 @@ impl Printer {
         }
         self.form.write_key(key, out)?;
         out.write_all(b":")?;
-        for column in columns.as_slice() {
-            if self.wanted.has(column.number) {
-                write!(out, " {}=", column.number)?;
-                self.form.write_bytes(&column.bytes, out)?;
+        let mut rest = columns.lent();
+        while let Some((number, bytes)) = rest.next() {
+            if self.wanted.has(number) {
+                write!(out, " {number}=")?;
+                self.form.write_bytes(bytes, out)?;
             }
         }
         out.write_all(b"\n")
@@ -124,7 +125,7 @@ impl Printer {
     fn write_object<W: Write>(
         &self,
         key: &[u8],
-        columns: &Columns<Kept>,
+        columns: &PackedColumns,
         out: &mut W,
     ) -> io::Result<()> {
         write_name(b"{", b"key", out)?;
@@ -132,10 +133,11 @@ impl Printer {
         write_name(b",", b"columns", out)?;
         out.write_all(b"{")?;
         let mut sign = "";
-        for column in columns.as_slice() {
-            if self.wanted.has(column.number) {
-                write!(out, "{sign}\"{}\":", column.number)?;
-                self.form.write_bytes(&column.bytes, out)?;
+        let mut rest = columns.lent();
+        while let Some((number, bytes)) = rest.next() {
+            if self.wanted.has(number) {
+                write!(out, "{sign}\"{number}\":")?;
+                self.form.write_bytes(bytes, out)?;
                 sign = ",";
             }
         }
@@ -148,7 +150,7 @@ impl<W: Write> Visitor<W> for Printer {
 
     ghost shown = { λ _ _ _. Unit {0} };
 
-    fn visit(&self, out: &mut W, key: &[u8], columns: &Columns<Kept>) -> io::Result<()> {
+    fn visit(&self, out: &mut W, key: &[u8], columns: &PackedColumns) -> io::Result<()> {
         self.write(key, columns, out)
     }
 

@@ -6,7 +6,7 @@ ghost use Rattle.std.proofs.KnownBytes.{Appends-nil};
 
 use crate::digits::{write_decimal, write_hex};
 use mt_tree::Visitor;
-use mt_words::{Column, Columns, Kept};
+use mt_words::PackedColumns;
 use std::io::{self, Write};
 
 /// The visitor that prints the line of each pair, as `write_pair` does.
@@ -18,7 +18,7 @@ impl<W: Write> Visitor<W> for Lines {
 
     ghost shown = { λ old new pairs. Appends (W.contents old) (W.contents new) (dump_text pairs) };
 
-    fn visit(&self, out: &mut W, key: &[u8], columns: &Columns<Kept>) -> io::Result<()> {
+    fn visit(&self, out: &mut W, key: &[u8], columns: &PackedColumns) -> io::Result<()> {
         write_pair(key, columns, out)
     }
 
@@ -29,23 +29,24 @@ impl<W: Write> Visitor<W> for Lines {
 
 /// Prints the line of a pair: the key in lowercase hexadecimal, a colon, and for each column a space, its number, `=`
 /// and its bytes in lowercase hexadecimal. Err: write error.
-pub fn write_pair<W: Write>(key: &[u8], columns: &Columns<Kept>, out: &mut W) -> io::Result<()>
+pub fn write_pair<W: Write>(key: &[u8], columns: &PackedColumns, out: &mut W) -> io::Result<()>
     ensures { OnOk result (Appends (W.contents out.old) (W.contents out.new) (pair_text (key.now, columns.now))) }
 {
     write_hex(key, out)?;
     out.write_all(b":")?;
-    for column in columns.as_slice() {
-        write_column(column, out)?;
+    let mut rest = columns.lent();
+    while let Some((number, bytes)) = rest.next() {
+        write_column(number, bytes, out)?;
     }
     out.write_all(b"\n")
 }
 
 /// Prints a column of a key.
-fn write_column<W: Write>(column: &Column, out: &mut W) -> io::Result<()>
-    ensures { OnOk result (Appends (W.contents out.old) (W.contents out.new) (column_text column.now)) }
+fn write_column<W: Write>(number: u8, bytes: &[u8], out: &mut W) -> io::Result<()>
+    ensures { OnOk result (Appends (W.contents out.old) (W.contents out.new) (column_text (number, bytes.now))) }
 {
     out.write_all(b" ")?;
-    write_decimal(u64::from(column.number), out)?;
+    write_decimal(u64::from(number), out)?;
     out.write_all(b"=")?;
-    write_hex(&column.bytes, out)
+    write_hex(bytes, out)
 }

@@ -3,7 +3,7 @@ ghost use Rattle.std.specs.Prelude.{◌≡◌, IfOk};
 ghost use Rattle.mt_tree.specs.Range.{wanted_of};
 
 use crate::wanted::Wanted;
-use mt_words::{Columns, Kept, Key, Memory};
+use mt_words::{Key, Memory, PackedColumns};
 use std::alloc::Global;
 
 /// A pair of a range, with only its wanted columns. It may have none of them.
@@ -12,21 +12,22 @@ pub struct Hit {
     /// The key.
     pub key: Key,
     /// Its wanted columns.
-    pub columns: Columns<Kept>,
+    pub columns: PackedColumns,
 }
 
 /// Copies the wanted columns. Err: out of memory.
 pub(crate) fn copy_wanted(
     alloc: Global,
-    columns: &Columns<Kept>,
+    columns: &PackedColumns,
     wanted: Wanted,
-) -> Result<Columns<Kept>, Memory>
+) -> Result<PackedColumns, Memory>
     ensures { IfOk result (λ copies. copies ≡ wanted_of wanted columns.now) }
 {
-    let mut copies = Columns::with_capacity(alloc, columns.len())?;
-    for column in columns.as_slice() {
-        if wanted.has(column.number) {
-            copies.add(alloc, column.number, &column.bytes)?;
+    let mut copies = PackedColumns::with_capacity(alloc, columns.as_bytes().len())?;
+    let mut rest = columns.lent();
+    while let Some((number, bytes)) = rest.next() {
+        if wanted.has(number) {
+            copies.add(number, bytes)?;
         }
     }
     Ok(copies)

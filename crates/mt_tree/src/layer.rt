@@ -16,7 +16,7 @@ ghost use Rattle.mt_words.specs.Slices.{slice_bytes};
 use crate::finish::{Finished, close};
 use crate::node::{MOST_PLACES, Node};
 use crate::place::{Content, Linked, Place, Suffix};
-use mt_words::{Columns, Kept, Memory, slice_of};
+use mt_words::{Memory, PackedColumns, slice_of};
 use std::alloc::Global;
 use std::marker::Model;
 
@@ -88,7 +88,7 @@ impl Border {
 
 /// Creates the place of a lone key. Err: out of memory.
 #[inline(always)]
-fn place_for(alloc: Global, key: &[u8], columns: Columns<Kept>) -> Result<Place<Layer>, Memory>
+fn place_for(alloc: Global, key: &[u8], columns: PackedColumns) -> Result<Place<Layer>, Memory>
     ensures lawful { IfOk result (λ p. IsPlace (view_of layer_walk p)) }
     ensures links { IfOk result (λ p. IsLawfulLink p.content) }
     ensures pairs { IfOk result (λ p. pairs_at (view_of layer_walk p) ≡ (key.now, columns) ∷ []) }
@@ -115,7 +115,7 @@ fn follow(
     alloc: Global,
     places: Vec<Place<Layer>>,
     key: &[u8],
-    columns: Columns<Kept>,
+    columns: PackedColumns,
 ) -> Result<Vec<Place<Layer>>, Memory>
     requires lawful { IsRanked (views layer_walk places.items) }
     requires some { 1 ≤ length places.items }
@@ -350,7 +350,7 @@ impl Layer {
     }
 
     /// Creates the layer of one key, to which another is soon added. Err: out of memory.
-    fn single(alloc: Global, key: &[u8], columns: Columns<Kept>) -> Result<Layer, Memory>
+    fn single(alloc: Global, key: &[u8], columns: PackedColumns) -> Result<Layer, Memory>
         ensures pairs { IfOk result (λ l. layer_walk l ≡ (key.now, columns) ∷ []) }
         ensures lawful { IfOk result AreBorders }
     {
@@ -408,7 +408,7 @@ impl Layer {
         alloc: Global,
         layer: Layer,
         key: &[u8],
-        columns: Columns<Kept>,
+        columns: PackedColumns,
     ) -> Result<Layer, Memory>
         requires { AllKeysBelow (layer_walk layer) ((key.now, columns) ∷ []) }
         ensures pairs { IfOk result (λ l. layer_walk l ≡ layer_walk layer ++ (key.now, columns) ∷ []) }

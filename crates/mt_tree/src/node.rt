@@ -11,7 +11,7 @@ ghost use Rattle.mt_tree.specs.Steps.Places.{views};
 
 use crate::place::{Content, Linked, Place};
 use arrayvec::ArrayVec;
-use mt_words::{Columns, Kept, slice_of};
+use mt_words::{PackedColumns, slice_of};
 use std::marker::Model;
 
 /// The most places of a border.
@@ -95,7 +95,7 @@ fn find_place(places: &[Place<Node>], slice: u64, len: usize) -> Option<usize>
 
 impl Node {
     /// Returns the columns of a key, or None if it is absent.
-    pub(crate) fn get(&self, key: &[u8]) -> Option<&Columns<Kept>>
+    pub(crate) fn get(&self, key: &[u8]) -> Option<&PackedColumns>
         ensures { option_copied result ≡ find_key key.now (node_walk self.now) }
     {
         let slice = slice_of(key);

@@ -7,12 +7,12 @@ ghost use Rattle.mt_tree.specs.Steps.Edges.{PlaceEdge, LastEdge, FirstEdge, side
 
 use crate::layer::Layer;
 use crate::place::{Content, Place};
-use mt_words::{Columns, Kept, slice_of};
+use mt_words::{PackedColumns, slice_of};
 
 /// One side of a comparison: one pair, or the pairs of a layer.
 #[derive(Clone, Copy)]
 pub(crate) enum Side<'a> {
-    Lone(&'a [u8], &'a Columns<Kept>),
+    Lone(&'a [u8], &'a PackedColumns),
     Whole(&'a Layer),
 }
 
@@ -26,7 +26,7 @@ pub(crate) struct Edge<'a> {
 }
 
 /// Returns the edge of a single pair, which is both its first and its last place.
-fn edge_of_pair<'a>(key: &'a [u8], columns: &'a Columns<Kept>) -> Edge<'a>
+fn edge_of_pair<'a>(key: &'a [u8], columns: &'a PackedColumns) -> Edge<'a>
     ensures last { LastEdge ((key.now, columns.now) ∷ []) result.slice result.length (side_walk result.below) }
     ensures first { FirstEdge ((key.now, columns.now) ∷ []) result.slice result.length (side_walk result.below) }
 {

@@ -5,7 +5,7 @@ ghost use Rattle.mt_tree.specs.Layer.{length_at, IsPlace};
 ghost use Rattle.mt_tree.specs.Steps.Seams.{Meet};
 ghost use Rattle.mt_tree.specs.Steps.Places.{view_of};
 
-use mt_words::{Columns, Kept};
+use mt_words::PackedColumns;
 use smallvec::SmallVec;
 
 /// The most bytes of a suffix that are stored in its place.
@@ -26,9 +26,9 @@ pub(crate) struct Place<L> {
 #[derive(Drop)]
 pub(crate) enum Content<L> {
     /// A key of at most 8 bytes in this layer: its length and its columns.
-    Short(u8, Columns<Kept>),
+    Short(u8, PackedColumns),
     /// One longer key: its bytes after the slice, and its columns.
-    Suffix(Suffix, Columns<Kept>),
+    Suffix(Suffix, PackedColumns),
     /// Two or more longer keys: what has their bytes after the slice.
     Link(L),
 }

@@ -5,7 +5,7 @@ ghost use Rattle.mt_tree.specs.Steps.Ranging.{HaveCollected, none_collected, bot
 use crate::hit::{Hit, copy_wanted};
 use crate::visit::Visitor;
 use crate::wanted::Wanted;
-use mt_words::{Columns, Kept, Key, Memory};
+use mt_words::{Key, Memory, PackedColumns};
 
 /// The hits of a range query so far.
 #[derive(Drop)]
@@ -39,7 +39,7 @@ impl Visitor<Collecting> for Collector {
         &self,
         target: &mut Collecting,
         key: &[u8],
-        columns: &Columns<Kept>,
+        columns: &PackedColumns,
     ) -> Result<(), Memory> {
         if target.is_full() {
             return Ok(());

@@ -19,7 +19,7 @@ use crate::range::{Collecting, Collector};
 use crate::visit::Visitor;
 use crate::wanted::Wanted;
 use arrayvec::ArrayVec;
-use mt_words::{Columns, Kept, Key, Memory, PairSink};
+use mt_words::{Key, Memory, PackedColumns, PairSink};
 use std::alloc::Global;
 use std::marker::Model;
 use std::mem;
@@ -56,7 +56,7 @@ pub struct Tree {
     layers: u64,
 }
 
-/// Written out, not derived, for the same reason as the drop of `Columns`.
+/// Written out, not derived, for the same reason as the drop of `PackedColumns`.
 impl Drop for Tree {
     fn drop(self) {
         let Tree {
@@ -103,7 +103,7 @@ impl Draft {
     }
 
     /// Appends a pair. Its key must be above all keys of the draft. Err: out of memory; the draft is then empty.
-    pub fn push(&mut self, key: &[u8], columns: Columns<Kept>) -> Result<(), Memory>
+    pub fn push(&mut self, key: &[u8], columns: PackedColumns) -> Result<(), Memory>
         requires lawful { IsKey widest key.now }
         requires rises { KeysRise (layer_walk self.old ++ (key.now, columns) ∷ []) }
         ensures pairs { OnOk result (layer_walk self.new ≡ layer_walk self.old ++ (key.now, columns) ∷ []) }
@@ -119,7 +119,7 @@ impl Draft {
     }
 
     /// Bulk loads a draft from pairs whose keys strictly rise. Err: out of memory.
-    pub fn build(alloc: Global, pairs: Vec<(Key, Columns<Kept>)>) -> Result<Draft, Memory>
+    pub fn build(alloc: Global, pairs: Vec<(Key, PackedColumns)>) -> Result<Draft, Memory>
         requires { KeysRise pairs.items }
         ensures pairs { IfOk result (λ d. layer_walk d ≡ pairs.items) }
         ensures lawful { IfOk result AreBorders }
@@ -172,7 +172,7 @@ impl Draft {
 impl PairSink for Draft {
     ghost pairs = { λ d. layer_walk d };
 
-    fn push_pair(&mut self, key: &[u8], columns: Columns<Kept>) -> Result<(), Memory> {
+    fn push_pair(&mut self, key: &[u8], columns: PackedColumns) -> Result<(), Memory> {
         self.push(key, columns)
     }
 }
@@ -187,7 +187,7 @@ pub fn above(left: &Draft, right: &Draft) -> bool
 impl Tree {
     /// Returns the columns of this key, or None if it is absent. The key may have any length. No key of a tree is
     /// longer than `LONGEST_KEY` bytes, so a longer one is absent.
-    pub fn get(&self, key: &[u8]) -> Option<&Columns<Kept>>
+    pub fn get(&self, key: &[u8]) -> Option<&PackedColumns>
         ensures { MatchOption result
             ((columns : List (ℕ × List ℕ)) → Contains (tree_walk self.now) (key.now, columns) → ⊥)
             (λ found. Contains (tree_walk self.now) (key.now, found.now)) }

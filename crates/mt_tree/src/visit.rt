@@ -16,7 +16,7 @@ ghost use Rattle.mt_tree.specs.Range.{from};
 use crate::node::{Node, NodeKind, child_at};
 use crate::place::{Content, Place};
 use arrayvec::ArrayVec;
-use mt_words::{Columns, Kept, LONGEST_KEY, slice_bytes, slice_of};
+use mt_words::{LONGEST_KEY, PackedColumns, slice_bytes, slice_of};
 
 /// The action on each pair of a walk. By `is_full` it ends the walk early.
 pub trait Visitor<T> {
@@ -27,7 +27,7 @@ pub trait Visitor<T> {
     ghost shown: { T → T → List Pair → Type 0 };
 
     /// Takes one pair of the walk. Err: the visitor did not take the pair.
-    fn visit(&self, target: &mut T, key: &[u8], columns: &Columns<Kept>) -> Result<(), Self::Error>
+    fn visit(&self, target: &mut T, key: &[u8], columns: &PackedColumns) -> Result<(), Self::Error>
         requires { IsKey widest key.now }
         ensures { OnOk result (shown target.old target.new ((key.now, columns.now) ∷ [])) };
 
@@ -60,7 +60,7 @@ fn extend(prefix: &mut Bytes, bytes: &[u8])
 fn show<T, V: Visitor<T>>(
     prefix: &mut Bytes,
     tail: &[u8],
-    columns: &Columns<Kept>,
+    columns: &PackedColumns,
     visitor: &V,
     target: &mut T,
 ) -> Result<(), V::Error>

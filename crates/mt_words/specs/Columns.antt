@@ -1,9 +1,7 @@
 -- Columns and their numbers in memory, and what may be appended to them.
-use Rattle.std.specs.Prelude.{ℕ, ◌<◌, List, [], ◌∷◌}
+use Rattle.std.specs.Prelude.{ℕ, ◌<◌, List}
 use Rattle.std.specs.List.{AllByRecursion}
 use Rattle.mt_words.specs.declared.limits.Limits.{Limits}
-use Rattle.mt_words.specs.declared.storage.Kept.{Kept}
-use Rattle.mt_words.specs.declared.storage.Kept.TheVariants.{Empty, One, Many}
 use Rattle.mt_words.specs.Words.{IsColumn}
 
 -- each number is below the limit
@@ -17,9 +15,3 @@ NumbersBelow columns number = AllByRecursion (λ column. column.0 < number) colu
 -- a lawful column that may be appended to these: its number is above theirs
 abbrev pub CanFollow : Limits → List (ℕ × List ℕ) → ℕ × List ℕ → Type 0
 CanFollow limits columns column = IsColumn limits column × NumbersBelow columns column.0
-
--- kept columns as contracts see them: a list
-abbrev pub columns_of : Kept → List (ℕ × List ℕ)
-columns_of Empty = []
-columns_of (One column) = column ∷ []
-columns_of (Many columns) = columns.items

@@ -1,6 +1,7 @@
 pub mod Limits
 pub mod Words
 pub mod Columns
+pub mod Packed
 pub mod Codes
 pub mod Changes
 pub mod Writes

@@ -7,8 +7,7 @@ ghost use Rattle.mt_words.specs.Words.{AreColumns, NumbersRise};
 ghost use Rattle.mt_words.specs.Columns.{CanFollow, NumbersBelow};
 
 use crate::fault::Memory;
-use crate::limits::{GREATEST_COLUMN, LONGEST_VALUE};
-use crate::storage::{Inline, Kept, Storage};
+use crate::limits::{GREATEST_COLUMN, LONGEST_VALUE, MOST_COLUMNS};
 use arrayvec::ArrayVec;
 use smallvec::SmallVec;
 use std::alloc::Global;
@@ -65,85 +64,31 @@ impl MadeWith<Global> for Column {
     }
 }
 
-/// The columns of one key, in strictly rising order of their numbers. They are built inline, where adding a column
-/// takes no memory. Columns that are to stay become `Columns<Kept>`, which takes no more room than they need.
+/// The columns of one key, in strictly rising order of their numbers. They stand in an array, so adding a column takes no
+/// memory. The columns of a stored key are `PackedColumns`, which take no more room than they need.
 #[derive(Debug)]
-pub struct Columns<S: Storage = Inline> {
-    storage: S,
+pub struct Columns {
+    columns: ArrayVec<Column, MOST_COLUMNS, Global>,
 }
 
 /// Written out, not derived: a proof of a drop of columns in another crate cites this call, and need not prove again,
 /// element by element, how an array of columns is dropped.
-impl<S: Storage> Drop for Columns<S> {
+impl Drop for Columns {
     fn drop(self) {
-        let Columns { storage: _ } = self;
+        let Columns { columns: _ } = self;
     }
 }
 
-impl<S: Storage> Model for Columns<S> {
+impl Model for Columns {
     ghost use Rattle.std.specs.Prelude.{List, ℕ};
     ghost use Rattle.mt_words.specs.Limits.{widest};
     ghost use Rattle.mt_words.specs.Words.{AreColumns};
 
     ghost Value = { List (ℕ × List ℕ) };
 
-    ghost view = { λ c. S.held c.storage };
+    ghost view = { λ c. c.columns.items };
 
-    ghost invariant = { λ c. AreColumns widest (S.held c.storage) };
-}
-
-impl<S: Storage> Columns<S> {
-    /// Returns the number of columns.
-    pub fn len(&self) -> usize
-        ensures value { result ≡ length self.now }
-        ensures lawful { AreColumns widest self.now }
-    {
-        self.storage.as_slice().len()
-    }
-
-    /// Returns whether there is no column.
-    pub fn is_empty(&self) -> bool
-        ensures { IsTrue result ↔ (self.now ≡ []) }
-    {
-        self.storage.as_slice().is_empty()
-    }
-
-    /// Returns the bytes of the column with this number, or None if there is no such column.
-    pub fn get(&self, number: u8) -> Option<&[u8]>
-        ensures { MatchOption result
-            ((bytes : List ℕ) → Contains self.now (number, bytes) → ⊥)
-            (λ bytes. Contains self.now (number, bytes.now)) }
-    {
-        value_of(self.storage.as_slice(), number)
-    }
-
-    /// Returns the columns as a slice.
-    pub fn as_slice(&self) -> &[Column]
-        ensures value { result.now ≡ self.now }
-        ensures lawful { AreColumns widest self.now }
-    {
-        self.storage.as_slice()
-    }
-
-    /// Returns whether there is a column and no column number is above `greatest`.
-    pub fn are_some_up_to(&self, greatest: u8) -> bool
-        ensures { (limits : Limits) → limits.column ≡ greatest →
-            IsTrue result ↔ (AreColumns limits self.now × (0 < length self.now)) }
-    {
-        match self.storage.as_slice().last() {
-            None => false,
-            Some(last) => last.number <= greatest,
-        }
-    }
-
-    /// Returns a copy of the columns. Err: out of memory.
-    pub fn try_copy(&self) -> Result<Columns<S>, Memory>
-        ensures { IfOk result (λ columns. columns ≡ self.now) }
-    {
-        Ok(Columns {
-            storage: self.storage.try_copy()?,
-        })
-    }
+    ghost invariant = { λ c. AreColumns widest c.columns.items };
 }
 
 impl Columns {
@@ -152,10 +97,62 @@ impl Columns {
         ensures { result ≡ [] }
     {
         Columns {
-            storage: Inline {
-                columns: ArrayVec::new_in(alloc),
-            },
+            columns: ArrayVec::new_in(alloc),
         }
+    }
+
+    /// Returns the number of columns.
+    pub fn len(&self) -> usize
+        ensures value { result ≡ length self.now }
+        ensures lawful { AreColumns widest self.now }
+    {
+        self.columns.len()
+    }
+
+    /// Returns whether there is no column.
+    pub fn is_empty(&self) -> bool
+        ensures { IsTrue result ↔ (self.now ≡ []) }
+    {
+        self.columns.is_empty()
+    }
+
+    /// Returns the bytes of the column with this number, or None if there is no such column.
+    pub fn get(&self, number: u8) -> Option<&[u8]>
+        ensures { MatchOption result
+            ((bytes : List ℕ) → Contains self.now (number, bytes) → ⊥)
+            (λ bytes. Contains self.now (number, bytes.now)) }
+    {
+        value_of(self.columns.as_slice(), number)
+    }
+
+    /// Returns the columns as a slice.
+    pub fn as_slice(&self) -> &[Column]
+        ensures value { result.now ≡ self.now }
+        ensures lawful { AreColumns widest self.now }
+    {
+        self.columns.as_slice()
+    }
+
+    /// Returns whether there is a column and no column number is above `greatest`.
+    pub fn are_some_up_to(&self, greatest: u8) -> bool
+        ensures { (limits : Limits) → limits.column ≡ greatest →
+            IsTrue result ↔ (AreColumns limits self.now × (0 < length self.now)) }
+    {
+        match self.columns.as_slice().last() {
+            None => false,
+            Some(last) => last.number <= greatest,
+        }
+    }
+
+    /// Returns a copy of the columns. Err: out of memory.
+    pub fn try_copy(&self) -> Result<Columns, Memory>
+        ensures { IfOk result (λ columns. columns ≡ self.now) }
+    {
+        let mut columns = ArrayVec::new_in(*self.columns.allocator());
+        for column in self.columns.as_slice() {
+            columns.push(column.try_copy()?);
+        }
+        Ok(Columns { columns })
     }
 
     /// Appends a column. Err: the number is above `GREATEST_COLUMN`, or not above the last one, or there are more than
@@ -166,7 +163,7 @@ impl Columns {
         ensures err { OnErr result (self.new ≡ self.old) }
         ensures handed_back { IfErr result (λ back. back ≡ bytes) }
     {
-        if !may_follow(self.storage.columns.as_slice(), number) || bytes.len() > LONGEST_VALUE {
+        if !may_follow(self.columns.as_slice(), number) || bytes.len() > LONGEST_VALUE {
             return Err(bytes);
         }
         let bytes = Value::from_vec(bytes);
@@ -179,7 +176,7 @@ impl Columns {
         requires { CanFollow widest self.old column }
         ensures { self.new ≡ self.old ++ column ∷ [] }
     {
-        self.storage.columns.push(column);
+        self.columns.push(column);
     }
 
     /// Removes the last column and returns it. Returns None if there is none.
@@ -188,38 +185,7 @@ impl Columns {
         ensures none { IfNone result ((self.old ≡ []) × (self.new ≡ [])) }
         ensures lawful { AreColumns widest self.old }
     {
-        self.storage.columns.pop()
-    }
-
-    /// Moves the columns to `Kept` storage. Err: out of memory.
-    pub fn keep(self, alloc: Global) -> Result<Columns<Kept>, Memory>
-        ensures { IfOk result (λ kept. kept ≡ self) }
-    {
-        let Columns { storage } = self;
-        Ok(Columns {
-            storage: storage.keep(alloc)?,
-        })
-    }
-}
-
-impl Columns<Kept> {
-    /// Creates an empty list of columns with room for `count`: adding that many takes no memory except for long values.
-    /// Err: out of memory.
-    pub fn with_capacity(alloc: Global, count: usize) -> Result<Columns<Kept>, Memory>
-        ensures { IfOk result (λ columns. columns ≡ []) }
-    {
-        Ok(Columns {
-            storage: Kept::with_capacity(alloc, count)?,
-        })
-    }
-
-    /// Appends a column with a copy of these bytes. Err: out of memory; then nothing has changed.
-    pub fn add(&mut self, alloc: Global, number: u8, bytes: &[u8]) -> Result<(), Memory>
-        requires { CanFollow widest self.old (number, bytes.now) }
-        ensures ok { OnOk result (self.new ≡ self.old ++ (number, bytes.now) ∷ []) }
-        ensures err { OnErr result (self.new ≡ self.old) }
-    {
-        self.storage.push(Column::copy_of(alloc, number, bytes)?)
+        self.columns.pop()
     }
 }
 

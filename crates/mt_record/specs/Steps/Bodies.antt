@@ -1,6 +1,5 @@
 -- What the steps of reading a record or an entry return.
 use Rattle.std.specs.Prelude.{◌≡◌, ◌≢◌, ◌↔◌, IsTrue, Bool, ℕ, ◌≤◌, ◌<◌, ◌^◌, List, ◌++◌, length}
-use Rattle.std.specs.List.{flat_map, AllByRecursion}
 use Rattle.byteorder.specs.Endian.{big_bytes}
 use Rattle.mt_words.specs.declared.fault.What.{What}
 use Rattle.mt_words.specs.declared.fault.What.TheVariants.{Length, Trailer, Frame, Version, Key, Columns}
@@ -10,8 +9,9 @@ use Rattle.mt_words.specs.declared.limits.Limits.{Limits}
 use Rattle.mt_words.specs.Limits.{widest}
 use Rattle.mt_words.specs.Words.{AreColumns}
 use Rattle.mt_words.specs.Changes.{Logged, IsLawful, IsLawfulChange, AllowsKind, IsEntry}
+pub use Rattle.mt_words.specs.Packed.{AreSpelled}
 use Rattle.mt_record.specs.declared.body.ChangeFields.{ChangeFields}
-use Rattle.mt_record.specs.Spelling.{with_length, column_bytes, kind_byte, kind_bytes, change_bytes, body, framed, FitsColumn, FitsKind, FitsChange}
+use Rattle.mt_record.specs.Spelling.{with_length, kind_byte, kind_bytes, change_bytes, body, framed, FitsKind, FitsChange}
 use Rattle.mt_record.specs.Fronts.{IsNext}
 use Rattle.mt_record.specs.LogFaults.{HasLengthFault, HasTrailerFault, HasVersionFault, HasKeyFault, HasColumnsFault}
 
@@ -141,12 +141,6 @@ abbrev pub HasNoFields : List ℕ → Type 0
 HasNoFields bytes = (version : ℕ) (key carried : List ℕ) → version < 2 ^ 64 → length key < 2 ^ 16 → bytes ≢ big_bytes 8 version ++ (with_length key ++ carried)
 
 -- ---- columns
-
--- the bytes are the encodings of these columns, and there are `count` of them
-pub record AreSpelled (count : ℕ) (bytes : List ℕ) (columns : List (ℕ × List ℕ)) : Type 0 where
-  pub number : length columns ≡ count
-  pub spelled : bytes ≡ flat_map column_bytes columns
-  pub fits : AllByRecursion FitsColumn columns
 
 abbrev pub HasColumns : ℕ → List ℕ → Type 0
 HasColumns count bytes = (columns : List (ℕ × List ℕ)) × AreSpelled count bytes columns

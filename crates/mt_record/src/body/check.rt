@@ -8,9 +8,9 @@ ghost use Rattle.mt_words.specs.declared.record.Change.{Change as ChangeValue};
 ghost use Rattle.mt_record.specs.LogFaults.{BodyFault};
 ghost use Rattle.mt_record.specs.Steps.Bodies.{IsBodyAt, AreFieldsOf, AreNoFields, IsChangeOf, IsChangeFault, HasKind, IsJudgedKind, HasColumns, AreJudgedColumns};
 
-use crate::body::fields::{column_at, u64_at};
+use crate::body::fields::u64_at;
 use crate::body::fields_at;
-use mt_words::{Code, Format, Numbers, Payload, What};
+use mt_words::{Code, Format, Numbers, Payload, What, column_at};
 
 /// Checks the body of a record and returns its timestamp. `latest` is the timestamp of the record before it.
 /// Err: the first fault of the body.

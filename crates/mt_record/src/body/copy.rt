@@ -8,9 +8,10 @@ ghost use Rattle.mt_words.specs.declared.code.Payload.TheVariants as payloads;
 ghost use Rattle.mt_record.specs.Steps.Bodies.{IsLawfulBody, AreFields, AreFieldsOf};
 ghost use Rattle.mt_record.specs.Decoding.{decode, kind_from, IsCarried, columns_counted, numbers_counted};
 
-use crate::body::fields::column_at;
 use crate::body::{ChangeFields, fields_of, spelled};
-use mt_words::{Change, Code, Column, Columns, Entry, Key, Kind, Memory, Numbers, Record};
+use mt_words::{
+    Change, Code, Column, Columns, Entry, Key, Kind, Memory, Numbers, Record, column_at,
+};
 use std::alloc::Global;
 
 /// Returns the record with this body, with copies of its key and its values. Err: out of memory.

@@ -1,7 +1,7 @@
 //! Reads fields from the front of bytes. Each function also returns the bytes after the field. Nothing is copied.
 ghost use Rattle.std.specs.Prelude.{◌≡◌, ◌<◌, ◌^◌, ◌++◌, List, ℕ, length, IfSome, IfNone};
 ghost use Rattle.byteorder.specs.Endian.{big_bytes};
-ghost use Rattle.mt_record.specs.Spelling.{with_length, column_bytes, FitsColumn};
+ghost use Rattle.mt_record.specs.Spelling.{with_length};
 
 use byteorder::{BigEndian, ByteOrder};
 
@@ -41,19 +41,4 @@ pub fn counted_at(bytes: &[u8]) -> Option<(&[u8], &[u8])>
 {
     let (length, rest) = u16_at(bytes)?;
     rest.split_at_checked(length as usize)
-}
-
-/// Reads a column: its number and its bytes. Returns None if the bytes end before the column does.
-pub fn column_at(bytes: &[u8]) -> Option<(u8, &[u8], &[u8])>
-    ensures found { IfSome result (λ x.
-        FitsColumn (x.0, x.1.now) × (bytes.now ≡ column_bytes (x.0, x.1.now) ++ x.2.now)) }
-    ensures none { IfNone result ((column : ℕ × List ℕ) (more : List ℕ) →
-        FitsColumn column → bytes.now ≡ column_bytes column ++ more → ⊥) }
-{
-    let [number, high, low, rest @ ..] = bytes else {
-        return None;
-    };
-    let length = u16::from_be_bytes([*high, *low]);
-    let (value, rest) = rest.split_at_checked(usize::from(length))?;
-    Some((*number, value, rest))
 }

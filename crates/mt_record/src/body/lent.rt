@@ -1,8 +1,11 @@
 //! An update that is borrowed from its body.
-ghost use Rattle.std.specs.Prelude.{◌≡◌, ◌↔◌, IsTrue};
+ghost use Rattle.std.specs.Prelude.{◌≡◌, ◌≢◌, ◌↔◌, IsTrue, IfSome, IfNone, map};
+ghost use Rattle.mt_words.specs.declared.code.Payload.TheVariants as payloads;
 ghost use Rattle.mt_words.specs.Limits.{widest};
 ghost use Rattle.mt_words.specs.Words.{IsKey};
-ghost use Rattle.mt_words.specs.Changes.{IsReset, writes_of};
+ghost use Rattle.mt_words.specs.Codes.{code_of, payload_of};
+ghost use Rattle.mt_words.specs.Changes.{IsReset, set, writes_of};
+ghost use Rattle.mt_words.specs.Packed.{ArePacked, columns_counted};
 ghost use Rattle.mt_words.specs.Writes.{AreWrites};
 ghost use Rattle.mt_record.specs.Decoding.{IsChangeBody, update_in};
 
@@ -91,5 +94,14 @@ impl<'a> Lent<'a> {
         ensures lawful { AreWrites widest (writes_of self.now.kind) }
     {
         spelled::writes(self.body)
+    }
+
+    /// Returns the block of the columns that it sets, which `PackedColumns::of_bytes` takes, if it is a put or an entry.
+    pub fn columns(&self) -> Option<&'a [u8]>
+        ensures some { IfSome result (λ block.
+            ArePacked block.now × (writes_of self.now.kind ≡ map set (columns_counted block.now))) }
+        ensures none { IfNone result (payload_of (code_of self.now.kind) ≢ payloads.Columns) }
+    {
+        spelled::columns(self.body)
     }
 }

@@ -5,8 +5,7 @@ ghost use Rattle.mt_words.specs.Limits.{widest};
 ghost use Rattle.mt_words.specs.Writes.{IsWrite};
 ghost use Rattle.mt_record.specs.Decoding.{IsCarried, writes_carried};
 
-use crate::body::fields::column_at;
-use mt_words::Payload;
+use mt_words::{Payload, column_at};
 use std::marker::Model;
 
 /// The writes of an update that are left to take.

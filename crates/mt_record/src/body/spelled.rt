@@ -1,13 +1,16 @@
 //! Reads the fields of a validated body, without copying.
-ghost use Rattle.std.specs.Prelude.{◌≡◌, ◌↔◌, IsTrue};
-ghost use Rattle.mt_words.specs.Changes.{IsReset, writes_of};
+ghost use Rattle.std.specs.Prelude.{◌≡◌, ◌≢◌, ◌↔◌, IsTrue, IfSome, IfNone, map};
+ghost use Rattle.mt_words.specs.declared.code.Payload.TheVariants as payloads;
+ghost use Rattle.mt_words.specs.Codes.{payload_of};
+ghost use Rattle.mt_words.specs.Changes.{IsReset, set, writes_of};
+ghost use Rattle.mt_words.specs.Packed.{ArePacked, columns_counted};
 ghost use Rattle.mt_record.specs.LogTexts.{version_of};
 ghost use Rattle.mt_record.specs.Decoding.{decode, IsBody, IsChangeBody, is_mark_in, code_in, time_in, version_in, key_in, carried_in, kind_in};
 
 use crate::body::lent_writes::LentWrites;
 use crate::body::{ChangeFields, MARK, fields_of};
 use byteorder::{BigEndian, ByteOrder};
-use mt_words::Code;
+use mt_words::{Code, Payload};
 
 /// Returns whether the body is that of a mark.
 pub fn is_mark(body: &[u8]) -> bool
@@ -70,4 +73,17 @@ pub fn writes(body: &[u8]) -> LentWrites<'_>
     ensures { result ≡ writes_of (kind_in body.now) }
 {
     LentWrites::of_carried(code(body).payload(), change(body).carried)
+}
+
+/// Returns the block of the columns that a put or an entry carries. Returns None for another change.
+pub fn columns(body: &[u8]) -> Option<&[u8]>
+    requires { IsChangeBody body.now }
+    ensures some { IfSome result (λ block.
+        ArePacked block.now × (writes_of (kind_in body.now) ≡ map set (columns_counted block.now))) }
+    ensures none { IfNone result (payload_of (code_in body.now) ≢ payloads.Columns) }
+{
+    match code(body).payload() {
+        Payload::Columns => Some(change(body).carried),
+        Payload::Nothing | Payload::Numbers => None,
+    }
 }

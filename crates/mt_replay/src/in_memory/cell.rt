@@ -7,7 +7,7 @@ ghost use Rattle.mt_replay.specs.Cells.{AreApart};
 ghost use Rattle.mt_replay.specs.Groups.{Group as GroupValue, IsGroupOf, HasLawfulWrites, AreColumnsOf};
 
 use crate::group::Group;
-use mt_words::{Columns, Kept, Memory, Update, Value};
+use mt_words::{Memory, PackedColumns, Update, Value};
 use std::alloc::Global;
 use std::marker::Model;
 
@@ -61,7 +61,7 @@ impl Cell {
 
     /// Returns copies of the columns that the key has after the updates, in no more memory than they need.
     /// Err: out of memory.
-    pub fn columns(&self) -> Result<Columns<Kept>, Memory>
+    pub fn columns(&self) -> Result<PackedColumns, Memory>
         ensures lawful { IfOk result (AreColumns widest) }
         ensures exact { IfOk result (λ columns. (updates : List UpdateValue) (key : List ℕ) →
             IsGroupOf updates key self.now → AreApart updates → All HasLawfulWrites updates →

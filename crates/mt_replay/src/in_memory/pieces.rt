@@ -10,7 +10,7 @@ ghost use Rattle.mt_replay.specs.InMemory.{is_logged_in};
 use super::spelling::spell;
 use crate::auditor::clashes_of;
 use crate::{Clash, Cuts, Range, SortedUpdates, Window, replay_range};
-use mt_words::{Columns, Kept, Key, Memory, Update};
+use mt_words::{Key, Memory, PackedColumns, Update};
 use std::alloc::Global;
 
 /// Replays the updates whose keys lie in this piece, and returns this piece of their walk as a list.
@@ -20,7 +20,7 @@ pub fn replay_piece(
     lists: &[SortedUpdates],
     cuts: &Cuts,
     piece: u32,
-) -> Result<Vec<(Key, Columns<Kept>)>, Memory>
+) -> Result<Vec<(Key, PackedColumns)>, Memory>
     requires { piece < length cuts.now + 1 }
     ensures map { IfOk result (λ pairs. IsMapIn cuts.now piece pairs.items) }
     ensures walk { IfOk result (λ pairs. AreApart (joined lists.now) →

@@ -15,8 +15,7 @@ use Rattle.mt_c.specs.Owning.{heap, boxed_at}
 use Rattle.std.proofs.alloc.Global.TheSendSync as global
 use Rattle.mt_record.below.smallvec.proofs.small_vec.SmallVec.TheSendSync as small_vec
 use Rattle.mt_record.below.arrayvec.proofs.array_vec.ArrayVec.TheSendSync as array_vec
-use Rattle.mt_words.proofs.columns.Columns.TheSendSync as columns
-use Rattle.mt_words.proofs.storage.Kept.TheSendSync as kept
+use Rattle.mt_words.proofs.packed.PackedColumns.TheSendSync as columns
 use Rattle.mt_tree.proofs.finish.Finished.TheSendSync as finished
 use Rattle.mt_tree.proofs.place.Place.TheSendSync as place
 use Rattle.mt_tree.proofs.place.Content.TheSendSync as content
@@ -77,7 +76,7 @@ replay_send : IsSend replay.the_row
 replay_send = search (sendable, crosses, common_send, common_sync) depth 40 fits 20000
 
 draft_send : IsSend draft.the_row
-draft_send = search (sendable, crosses, global.the_send, small_vec.the_send, array_vec.the_send, columns.the_send, kept.the_send, finished.the_send, place.the_send, content.the_send, node.send-NodeKind, node.send-Node, layer.send-Layer) depth 40
+draft_send = search (sendable, crosses, global.the_send, small_vec.the_send, array_vec.the_send, columns.the_send, finished.the_send, place.the_send, content.the_send, node.send-NodeKind, node.send-Node, layer.send-Layer) depth 40
 
 replayed_send : IsSend replayed.the_row
 replayed_send = search (sendable, crosses, draft_send) depth 20 fits 20000

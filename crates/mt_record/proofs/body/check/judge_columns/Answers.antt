@@ -4,15 +4,16 @@ use Rattle.std.proofs.lemmas.Bool.{false≢true, eqb-true}
 use Rattle.std.proofs.lemmas.Bool.Decides.{nat_tests}
 use Rattle.mt_words.specs.declared.limits.Limits.{Limits}
 use Rattle.mt_words.specs.Limits.{limits_of}
+use Rattle.mt_words.proofs.ColumnBytes.{no_columns}
 use Rattle.mt_record.specs.Steps.Bodies.{HasColumns}
 use Rattle.mt_record.proofs.Checked.{AreSoFar, one_more, judged_all}
-use Rattle.mt_record.proofs.Columns.{no_columns, step_left, step_joins}
+use Rattle.mt_record.proofs.Columns.{step_left, step_joins}
 use Rattle.mt_record.proofs.body.check.judge_columns.Goals as goal
 
 pub returns-in_err-number-clause-none : goal.returns-in_err-number-clause-none
 returns-in_err-number-clause-none c =
     let none : HasColumns c.args.count c.args.bytes.now → ⊥ =
-    λ h. no_columns (c.args.count - c.loop.counter) c.loop.rest.now c.in_err-number.ensures.none (omega arith) (c.loop.invariant.left h) in
+    λ h. let left = c.loop.invariant.left h in no_columns (c.args.count - c.loop.counter) c.loop.rest.now left.0 c.in_err-number.ensures.none (omega arith) left.1 in
     search (rules, none)
 
 pub loop-preserved : goal.loop-preserved

@@ -6,10 +6,10 @@ use Rattle.mt_words.proofs.Rising.{above_last_column, below_at_column, columns_u
 use Rattle.mt_words.proofs.columns.Columns.are_some_up_to.Goals as goal
 
 pub returns-in-Some : goal.returns-in-Some
-returns-in-Some g c = λ limits most.
+returns-in-Some c = λ limits most.
     let columns = c.as_slice.result.now in
-    let same : columns ≡ c.args.self.now = c.as_slice.ensures ∙ c.self.view_is in
-    let are : AreColumns widest columns = subst (AreColumns widest) (sym c.as_slice.ensures) c.self.invariant in
+    let same : columns ≡ c.args.self.now = c.as_slice.ensures.value ∙ c.self.view_is in
+    let are : AreColumns widest columns = subst (AreColumns widest) (sym c.as_slice.ensures.value) c.self.invariant in
     let d = c.in-Some.last.now in
     let last = c.in-Some.ensures.item in
     let at : c.last-in-Some.inside.number ≡ (get_or columns (length columns - 1) d).0 = ap (λ (p : ℕ × List ℕ). p.0) (c.last-in-Some.view_is ∙ last.3.1 d) in

@@ -1,8 +1,9 @@
 use Rattle.std.proofs.Common.{◌≡◌, [], rules, map, ap, sym, subst, ◌∙◌}
 use Rattle.mt_words.specs.declared.code.Payload.{Payload}
 use Rattle.mt_words.specs.Changes.{set}
+use Rattle.mt_words.proofs.ColumnBytes.{no_column}
 use Rattle.mt_record.specs.Decoding.{writes_from, AreLent, AreLentColumns}
-use Rattle.mt_record.proofs.Decodes.{next_set, no_column}
+use Rattle.mt_record.proofs.Decodes.{next_set}
 use Rattle.mt_record.proofs.body.lent_writes.LentWrites.next.Goals as goal
 
 pub returns-in_err-number-in-Columns-clause-none : goal.returns-in_err-number-in-Columns-clause-none

@@ -1,5 +1,5 @@
 use Rattle.std.proofs.Common.{◌≡◌, take}
-use Rattle.mt_words.proofs.storage.InlineStorage.try_copy.Given as goal
+use Rattle.mt_words.proofs.columns.Columns.try_copy.Given as goal
 
 -- the columns so far are copied
 abbrev pub invariant-loop-column : goal.invariant-loop-column
