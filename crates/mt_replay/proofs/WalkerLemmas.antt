@@ -1,6 +1,6 @@
 -- Updates in the order of their keys, key by key, and their walk.
-use Rattle.std.proofs.Common.{◌≡◌, ℕ, ◌+◌, ◌-◌, ◌<◌, ◌≤◌, List, [], ◌∷◌, ◌++◌, length, take, drop, get_or, Contains, true, sym, ap, subst, ◌∙◌, arith}
-use Rattle.std.specs.Prelude.{All, if◌then◌else◌, nat_lt}
+use Rattle.std.proofs.Common.{◌≡◌, ℕ, ◌+◌, ◌-◌, ◌<◌, ◌≤◌, List, [], ◌∷◌, ◌++◌, length, take, drop, get_or, Contains, true, refl, sym, ap, subst, ◌∙◌, arith}
+use Rattle.std.specs.Prelude.{if◌then◌else◌}
 use Rattle.std.proofs.lemmas.Bool.{lt-ltb}
 use Rattle.std.proofs.lemmas.List.{take-take, drop-take, take-append-drop, get_or-take, get_or-drop, get_or_default, length-take-le, length-drop}
 use Rattle.std.proofs.lemmas.List.Elements.{Contains-append_left, Contains-append_right}
@@ -9,13 +9,12 @@ use Rattle.mt_words.specs.declared.update.Update.{Update}
 use Rattle.mt_words.specs.Limits.{widest}
 use Rattle.mt_words.specs.Words.{IsKey, IsBelow, AreColumns}
 use Rattle.mt_words.specs.Walks.{Pair}
-use Rattle.mt_replay.specs.Cells.{AreApart, Written, IsCellOf, IsColumnsOf}
+use Rattle.mt_replay.specs.Cells.{AreApart}
 use Rattle.mt_replay.specs.Cuts.{is_below, key_below, InKeyOrder}
-use Rattle.mt_replay.specs.Groups.{Group, HasLawfulWrites, IsGroupOf}
+use Rattle.mt_replay.specs.Groups.{AreColumnsOf}
 use Rattle.mt_replay.specs.Steps.Walker.{with_pair, IsMade, IsLastKey, AreLast}
 use Rattle.mt_replay.proofs.KeyOrder.{key_order}
 use Rattle.mt_replay.proofs.Searches.{all_under}
-use Rattle.mt_replay.proofs.ExactLemmas.{group_columns}
 use Rattle.mt_replay.proofs.StepLemmas.{AddsPair, map_more, walk_more, strictly}
 
 -- ---- the updates of one key
@@ -56,27 +55,21 @@ module _ (updates : List Update) (at end : ℕ) (lt : at < end) (fits : end ≤ 
             subst (λ (v : Update). IsBelow v.key key) item (all_under updates key (at - 1) order (omega (arith, low, lt, fits)) up there.0 u (omega (arith, low)));
       }
 
-  -- and this is their group
-  pub last_group : InKeyOrder updates → IsStart updates at → (first : Update) → first ≡ get_or updates at first → (key : List ℕ) → key ≡ first.key → (group : Group)
-      → ((k : List ℕ) → ((u : Update) → Contains (take (end - at) (drop at updates)) u → u.key ≡ k) → IsGroupOf (take (end - at) (drop at updates)) k group) → All HasLawfulWrites (take (end - at) (drop at updates))
-      → AreLast (take at updates) (take (end - at) (drop at updates)) key group
-  last_group order start first is key of_first group groups lawful =
+  -- and these are the columns that they leave
+  pub last_columns : InKeyOrder updates → IsStart updates at → (first : Update) → first ≡ get_or updates at first → (key : List ℕ) → key ≡ first.key → (columns : List (ℕ × List ℕ)) → AreColumns widest columns
+      → ((k : List ℕ) → ((u : Update) → Contains (take (end - at) (drop at updates)) u → u.key ≡ k) → AreApart (take (end - at) (drop at updates)) → AreColumnsOf (take (end - at) (drop at updates)) k columns)
+      → AreLast (take at updates) (take (end - at) (drop at updates)) key columns
+  last_columns order start first is key of_first columns lawful exact =
       let of_key = subst (IsLastKey (take at updates) (take (end - at) (drop at updates))) (sym (of_first ∙ ap (λ (u : Update). u.key) is)) (last_key order start first) in
-      record { of_key = of_key; grouped = groups key of_key.same_keys; lawful = lawful }
+      record { of_key = of_key; lawful = lawful; exact = exact key of_key.same_keys }
 
 -- ---- the pair of the last key
 
 -- the pair of the last key is added, if it has any column
-pub close_some : (before last : List Update) (key : List ℕ) (group : Group) (columns : List (ℕ × List ℕ)) (old new : List Pair) → IsMade before old → AreLast before last key group → IsKey widest key → AreColumns widest columns
-    → ((writes : List Written) → IsCellOf writes group.slots → IsColumnsOf group.reset writes columns) → new ≡ with_pair old key columns → IsMade (before ++ last) new
-close_some before last key group columns old new made are key_lawful columns_lawful kept added =
-    let adds : AddsPair last key old new = record {
-      columns = columns;
-      lawful = columns_lawful;
-      are = λ apart. group_columns last key group columns are.grouped kept apart are.lawful;
-      is_key = key_lawful;
-      added = added;
-    } in
+pub close_some : (before last : List Update) (key : List ℕ) (columns : List (ℕ × List ℕ)) (old new : List Pair) → IsMade before old → AreLast before last key columns → IsKey widest key → new ≡ with_pair old key columns
+    → IsMade (before ++ last) new
+close_some before last key columns old new made are is_key added =
+    let adds : AddsPair last key old new = record { columns = columns; lawful = are.lawful; are = are.exact; is_key = is_key; added = added } in
     record {
       map = map_more before last key old new are.of_key.some are.of_key.below are.of_key.same_keys made.map adds;
       walk = λ apart.
@@ -86,8 +79,9 @@ close_some before last key group columns old new made are key_lawful columns_law
     }
 
 -- the pair of a key with columns is added, that of one without is not
-pub some_added : (pairs : List Pair) (key : List ℕ) (columns : List (ℕ × List ℕ)) → 0 < length columns → pairs ++ (key, columns) ∷ [] ≡ with_pair pairs key columns
-some_added pairs key columns some = ap (λ b. if b then pairs ++ (key, columns) ∷ [] else pairs) (sym (lt-ltb 0 (length columns) some))
+pub some_added : (pairs : List Pair) (key : List ℕ) (columns : List (ℕ × List ℕ)) → (columns ≡ [] → ⊥) → pairs ++ (key, columns) ∷ [] ≡ with_pair pairs key columns
+some_added pairs key [] some = absurd (some refl)
+some_added pairs key (c ∷ cs) some = ap (λ b. if b then pairs ++ (key, c ∷ cs) ∷ [] else pairs) (sym (lt-ltb 0 (length (c ∷ cs)) (omega arith)))
 
-pub none_added : (pairs : List Pair) (key : List ℕ) (columns : List (ℕ × List ℕ)) → length columns ≡ 0 → pairs ≡ with_pair pairs key columns
-none_added pairs key columns none = ap (λ n. if nat_lt 0 n then pairs ++ (key, columns) ∷ [] else pairs) (sym none)
+pub none_added : (pairs : List Pair) (key : List ℕ) (columns : List (ℕ × List ℕ)) → columns ≡ [] → pairs ≡ with_pair pairs key columns
+none_added pairs key columns none = ap (with_pair pairs key) (sym none)

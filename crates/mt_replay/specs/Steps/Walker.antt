@@ -1,11 +1,12 @@
 -- The walk of updates in the order of their keys.
-use Rattle.std.specs.Prelude.{◌≡◌, ℕ, ◌<◌, nat_lt, if◌then◌else◌, List, [], ◌∷◌, ◌++◌, length, All, Contains}
+use Rattle.std.specs.Prelude.{◌≡◌, ℕ, ◌<◌, nat_lt, if◌then◌else◌, List, [], ◌∷◌, ◌++◌, length, Contains}
 use Rattle.mt_words.specs.declared.update.Update.{Update}
-use Rattle.mt_words.specs.Words.{IsBelow}
+use Rattle.mt_words.specs.Limits.{widest}
+use Rattle.mt_words.specs.Words.{IsBelow, AreColumns}
 use Rattle.mt_words.specs.Walks.{Pair}
 use Rattle.mt_replay.specs.Walk.{IsWalk}
 use Rattle.mt_replay.specs.Cells.{AreApart}
-use Rattle.mt_replay.specs.Groups.{Group, HasLawfulWrites, IsGroupOf, IsMapOf}
+use Rattle.mt_replay.specs.Groups.{AreColumnsOf, IsMapOf}
 
 -- the pairs, and then this one, unless it has no column
 abbrev pub with_pair : List Pair → List ℕ → List (ℕ × List ℕ) → List Pair
@@ -22,8 +23,8 @@ pub record IsLastKey (before last : List Update) (key : List ℕ) : Type 0 where
   pub same_keys : (u : Update) → Contains last u → u.key ≡ key
   pub below : (u : Update) → Contains before u → IsBelow u.key key
 
--- the updates of the last key, with lawful writes and with their group
-pub record AreLast (before last : List Update) (key : List ℕ) (group : Group) : Type 0 where
+-- the updates of the last key, and the columns that they leave if they are apart
+pub record AreLast (before last : List Update) (key : List ℕ) (columns : List (ℕ × List ℕ)) : Type 0 where
   pub of_key : IsLastKey before last key
-  pub grouped : IsGroupOf last key group
-  pub lawful : All HasLawfulWrites last
+  pub lawful : AreColumns widest columns
+  pub exact : AreApart last → AreColumnsOf last key columns

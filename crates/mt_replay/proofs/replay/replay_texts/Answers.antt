@@ -2,7 +2,7 @@ use Rattle.std.proofs.Common.{◌-◌, List, take, take_all, drop, subst, arith}
 use Rattle.mt_words.specs.declared.update.Update.{Update}
 use Rattle.mt_replay.specs.Steps.Walker.{IsMade}
 use Rattle.mt_replay.proofs.MergeLemmas.{moved_made}
-use Rattle.mt_replay.proofs.WalkerLemmas.{key_taken, next_start, last_group}
+use Rattle.mt_replay.proofs.WalkerLemmas.{key_taken, next_start, last_columns}
 use Rattle.mt_replay.proofs.replay.replay_texts.Goals as goal
 
 pub add_pair-requires-clause-last : goal.add_pair-requires-clause-last
@@ -11,8 +11,8 @@ add_pair-requires-clause-last g c =
     let at = c.loop-at.at in
     let end = c.end_of_key-end.result in
     let ends = rw c.deref.ensures.value at c.end_of_key-end.ensures in
-    let groups = rw c.deref-in-loop-at.ensures.value at c.group_all.ensures in
-    let last = last_group sorted at end ends.within.0 ends.within.1 ends.alike c.in_ok-sorted.ensures.in_order c.loop-at.invariant.start c.index.result.now c.index.ensures c.key.result.now c.key.ensures.value c.group_all.new.group groups.group groups.lawful in
+    let left = rw c.deref-in-loop-at.ensures.value at c.in_ok-columns.ensures in
+    let last = last_columns sorted at end ends.within.0 ends.within.1 ends.alike c.in_ok-sorted.ensures.in_order c.loop-at.invariant.start c.index.result.now c.index.ensures c.key.result.now c.key.ensures.value c.in_ok-columns.columns left.lawful left.exact in
     (take at sorted, take (end - at) (drop at sorted), c.loop-at.invariant.made, last)
 
 pub loop-at-preserved : goal.loop-at-preserved
@@ -21,8 +21,8 @@ loop-at-preserved g c =
     let at = c.loop-at.at in
     let end = c.end_of_key-end.result in
     let ends = rw c.deref.ensures.value at c.end_of_key-end.ensures in
-    let groups = rw c.deref-in-loop-at.ensures.value at c.group_all.ensures in
-    let last = last_group sorted at end ends.within.0 ends.within.1 ends.alike c.in_ok-sorted.ensures.in_order c.loop-at.invariant.start c.index.result.now c.index.ensures c.key.result.now c.key.ensures.value c.group_all.new.group groups.group groups.lawful in
+    let left = rw c.deref-in-loop-at.ensures.value at c.in_ok-columns.ensures in
+    let last = last_columns sorted at end ends.within.0 ends.within.1 ends.alike c.in_ok-sorted.ensures.in_order c.loop-at.invariant.start c.index.result.now c.index.ensures c.key.result.now c.key.ensures.value c.in_ok-columns.columns left.lawful left.exact in
     record {
       within = ends.within.1;
       start = next_start sorted at end ends.within.0 ends.within.1 ends.alike ends.ends;
