@@ -1,8 +1,7 @@
 -- Lemmas for callers that draw until no number is left.
-use Rattle.std.proofs.Common.{◌≡◌, ℕ, zero, suc, ◌+◌, ◌-◌, ◌<◌, ◌≤◌, List, [], ◌∷◌, ◌++◌, refl, arith}
+use Rattle.std.proofs.Common.{◌≡◌, ℕ, suc, ◌+◌, ◌-◌, ◌<◌, ◌≤◌, List, [], ◌∷◌, ◌++◌, arith}
 use Rattle.std.specs.List.{All}
-use Rattle.std.proofs.lemmas.List.Elements.{All-push, All-nil}
-use Rattle.mt_board.specs.Board.{BoardId, PassView, fresh_pass, fresh_passes, above}
+use Rattle.mt_board.specs.Board.{above}
 
 above_le : (xs : List ℕ) (n : ℕ) → All (λ x. x < n) xs → above xs ≤ n
 above_le [] n h = omega arith
@@ -15,8 +14,3 @@ above_push (x ∷ xs) n = omega (arith, above_push xs n)
 -- each draw lowers the count of numbers that a pass can still draw
 pub left_falls : (xs : List ℕ) (n total : ℕ) → n < total → All (λ x. x < n) xs → total - above (xs ++ n ∷ []) < total - above xs
 left_falls xs n total lt h = omega (arith, above_le xs n h, above_push xs n)
-
--- each pass of a new board belongs to it and has drawn nothing
-pub all_fresh : (b : BoardId) (n : ℕ) → All (λ (p : PassView). (p.board ≡ b) × (p.draws ≡ [])) (fresh_passes b n)
-all_fresh b zero = All-nil (λ (p : PassView). (p.board ≡ b) × (p.draws ≡ []))
-all_fresh b (suc n) = All-push (λ (p : PassView). (p.board ≡ b) × (p.draws ≡ [])) (fresh_passes b n) (fresh_pass b n) (all_fresh b n) (refl, refl)

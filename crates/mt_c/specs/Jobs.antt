@@ -1,8 +1,7 @@
 -- Jobs: recoveries whose tasks threads of C do.
 use Rattle.std.specs.Prelude.{◌≡◌, ◌-◌, ◌<◌, ℕ, Option, Some, None, IfSome, IsSome, List, ◌∷◌, ◌++◌, length, map, All, slice_get, slice_set}
-use Rattle.std.specs.List.{AllZip}
 use Rattle.mt_recover.specs.Prepared.{IsPreparedOf}
-use Rattle.mt_recover.specs.Tasks.{DivideView, ReplayView, IsDividingOf, divide_tasks, replay_tasks}
+use Rattle.mt_recover.specs.Tasks.{IsDividingOf, divide_tasks, replay_tasks}
 use Rattle.mt_c.specs.declared.job.Step.{Step}
 use Rattle.mt_c.specs.declared.job.Step.TheVariants as steps
 use Rattle.mt_c.specs.declared.task.Task.{Task}

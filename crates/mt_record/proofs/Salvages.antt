@@ -144,20 +144,6 @@ go_on_fault format low n bytes what fault few h = by h.records h.after h.spelled
 
 -- ---- places
 
--- one more place at which they do not go on
-pub nowhere_more : (limits : Limits) (low : ℕ) (bytes : List ℕ) (n : ℕ) → GoOnNowhere limits low bytes n → (GoOn limits low (drop n bytes) → ⊥) → GoOnNowhere limits low bytes (n + 1)
-nowhere_more limits low bytes n none here front back e below h = elim (cases_lt (length front) n) as (λ _. ⊥) [
-  | inl lt ↦ none front back e lt h
-  | inr le ↦
-      let at : length front ≡ n = omega (arith, below, le) in
-      let rest : drop n bytes ≡ back = (λ i. drop (sym at i) (e i)) ∙ drop-append_seam front back in
-      here (subst (GoOn limits low) (sym rest) h)
-]
-
--- empty bytes begin with nothing
-pub nowhere_at_first : (limits : Limits) (low : ℕ) (bytes : List ℕ) → GoOnNowhere limits low bytes 0
-nowhere_at_first limits low bytes front back e below h = omega (arith, below)
-
 -- ---- what is kept
 
 -- a record that stands out has no record after it that it may precede

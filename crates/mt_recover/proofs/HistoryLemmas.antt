@@ -185,14 +185,6 @@ entries_step entries i d u below is =
 abbrev pub entered_in : List KeptPart → List Update
 entered_in parts = flat_map (λ (part : KeptPart). wholes part.entries) parts
 
--- one part more
-pub parts_step : (parts : List KeptPart) (i : ℕ) (part : KeptPart) → i < length parts → part ≡ get_or parts i part → entered_in (take i parts) ++ wholes part.entries ≡ entered_in (take (i + 1) parts)
-parts_step parts i part below is =
-    let f = λ (p : KeptPart). wholes p.entries in
-    ap (λ (p : KeptPart). entered_in (take i parts) ++ f p) is
-    ∙ flat_map_more f [] (take i parts) (get_or parts i part)
-    ∙ ap entered_in (sym (take_more parts i part below))
-
 -- all parts have the entries of the checkpoint
 pub all_entered : (parts : List KeptPart) → entered_in parts ≡ wholes (flat_map (λ text. text.entries) (shown_by_all parts))
 all_entered [] = refl

@@ -1,7 +1,5 @@
 -- The clashes of updates that come in the order of their keys.
-use Rattle.std.proofs.Common.{◌≡◌, ◌↔◌, inl, inr, ℕ, List, [], ◌∷◌, ◌++◌, IsPermutation, sym, ap, ◌∙◌, subst}
-use Rattle.std.proofs.lemmas.List.{append-nil}
-use Rattle.std.proofs.lemmas.List.Concat.{flat_map-append}
+use Rattle.std.proofs.Common.{◌≡◌, ◌↔◌, inl, inr, ℕ, List, [], ◌∷◌, ◌++◌, IsPermutation, sym, ◌∙◌, subst}
 use Rattle.std.proofs.lemmas.List.Elements.{Contains-append_cases, Contains-append_left, Contains-append_right}
 use Rattle.std.proofs.lemmas.List.Sorted.{IsPermutation-sym, Contains-permutation}
 use Rattle.mt_words.specs.declared.update.Update.{Update}
@@ -11,7 +9,7 @@ use Rattle.mt_replay.specs.declared.clash.Place.{Place}
 use Rattle.mt_replay.specs.declared.auditor.Seen.{Seen}
 use Rattle.mt_replay.specs.Clashes.{Clash, HasUpdateAt, AreClashes}
 use Rattle.mt_replay.specs.Steps.Walker.{IsLastKey}
-use Rattle.mt_replay.specs.Steps.Auditor.{AreClashesOf, IsSeen, seen_by, seen_in, AddClashes}
+use Rattle.mt_replay.specs.Steps.Auditor.{AreClashesOf, IsSeen, seen_in, AddClashes}
 use Rattle.mt_replay.proofs.ClashLemmas.{stands, has_in, no_clashes, same_clashes, clashes_append, clashes_of_updates, updates_of_clashes, same_updates, Either}
 use Rattle.mt_replay.proofs.SeenLemmas.{seen_stands}
 
@@ -37,10 +35,6 @@ close_some before last key seen old new done are shown adds =
         | inr at ↦ inr (has_in (before ++ last) last k v p has at)
       ],
     )) both))
-
--- what updates and one more show
-pub shown_push : (updates : List Update) (update : Update) → seen_in (updates ++ update ∷ []) ≡ seen_in updates ++ seen_by update.stamp.version update.stamp.origin
-shown_push updates update = flat_map-append (λ (u : Update). seen_by u.stamp.version u.stamp.origin) updates (update ∷ []) ∙ ap (λ (ss : List Seen). seen_in updates ++ ss) (append-nil (seen_by update.stamp.version update.stamp.origin))
 
 -- other lists of the same updates have the same clashes
 pub moved_clashes : (updates others : List Update) (clashes : List Clash) → IsPermutation updates others → AreClashes others clashes → AreClashes updates clashes

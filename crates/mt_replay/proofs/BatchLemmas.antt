@@ -3,7 +3,7 @@ use Rattle.std.proofs.Common.{◌≡◌, ℕ, ◌+◌, ◌<◌, ◌≤◌, Bool,
 use Rattle.std.specs.Prelude.{filter, nat_lt}
 use Rattle.std.specs.List.{flat_map, list_any}
 use Rattle.std.proofs.lemmas.Bool.Decides.{nat_tests}
-use Rattle.std.proofs.lemmas.List.{length-take-le, length-append, take_more, take_all, take-append-drop, flat_map_more}
+use Rattle.std.proofs.lemmas.List.{length-take-le, length-append, take_more, take-append-drop, flat_map_more}
 use Rattle.std.proofs.lemmas.List.Concat.{flat_map-append}
 use Rattle.std.proofs.lemmas.List.Filters.{length-filter_both}
 use Rattle.std.proofs.lemmas.List.Elements.{filter-append}
@@ -24,10 +24,6 @@ use Rattle.mt_replay.proofs.FilterLemmas.{filter_none}
 -- the updates of the first records of a share
 abbrev pub first_of : ShareView → ℕ → List Update
 first_of share n = updates_from share.log share.from (take n share.records)
-
--- the updates of all its records
-pub whole_share : (share : ShareView) (n : ℕ) → length share.records ≤ n → first_of share n ≡ updates_of_share share
-whole_share share n all = ap (updates_from share.log share.from) (take_all n share.records all)
 
 -- one record more
 pub share_step : (share : ShareView) (i : ℕ) (more : List Update) → i < length share.records → ((d : Logged) → more ≡ update_of share.log (share.from + i) (get_or share.records i d))

@@ -196,11 +196,6 @@ dealt_in_turn cuts before (share ∷ shares) =
     ∙ dealt_in_turn cuts (before ++ share) shares
     ∙ ap (dealt_by cuts) (append_assoc before share (joined shares))
 
--- one share more
-pub fold_push : (start : List (List Update)) (shares : List (List (List Update))) (share : List (List Update)) → fold extended start (shares ++ share ∷ []) ≡ extended (fold extended start shares) share
-fold_push start [] share = refl
-fold_push start (s ∷ shares) share = fold_push (extended start s) shares share
-
 -- where there is no list left, nothing more is appended
 pub extended_past : (lists others more : List (List Update)) → length lists ≤ length others → extended lists (others ++ more) ≡ extended lists others
 extended_past [] [] [] past = refl

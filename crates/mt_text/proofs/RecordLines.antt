@@ -1,9 +1,9 @@
 -- The lines of the records of a log, and of the entries of a part.
-use Rattle.std.proofs.Common.{◌≡◌, ℕ, suc, ◌+◌, ◌-◌, ◌≤◌, ◌<◌, Bool, true, false, List, [], ◌∷◌, ◌++◌, length, drop, filter, Option, Some, None, refl, sym, ap, ◌∙◌, subst, arith}
-use Rattle.std.proofs.lemmas.List.{length-append, append_assoc, flat_map_more, length-drop}
+use Rattle.std.proofs.Common.{◌≡◌, ℕ, suc, ◌+◌, ◌-◌, ◌≤◌, ◌<◌, Bool, true, false, List, [], ◌∷◌, ◌++◌, length, drop, filter, Option, refl, sym, ap, ◌∙◌, subst, arith}
+use Rattle.std.proofs.lemmas.List.{length-append, append_assoc, flat_map_more}
 use Rattle.std.proofs.lemmas.List.Elements.{filter-append}
 use Rattle.std.proofs.lemmas.Grind.{flat_map-append}
-use Rattle.std.proofs.KnownBytes.{Appends-nil, Appends-trans}
+use Rattle.std.proofs.KnownBytes.{Appends-trans}
 use Rattle.std.specs.List.{flat_map, AllByRecursion}
 use Rattle.std.specs.Io.KnownBytes.{Appends}
 use Rattle.mt_words.specs.declared.limits.Limits.{Limits}
@@ -12,15 +12,14 @@ use Rattle.mt_words.specs.Changes.{Logged, IsEntry}
 use Rattle.mt_words.proofs.Rising.{all_push}
 use Rattle.mt_record.specs.Spelling.{body, spelling, change_bytes}
 use Rattle.mt_record.specs.Logs.{AreRecords, latest}
-use Rattle.mt_record.specs.Fronts.{IsNext, Stops}
+use Rattle.mt_record.specs.Fronts.{IsNext}
 use Rattle.mt_record.specs.Parts.{entry_spelling}
 use Rattle.mt_record.specs.PartFronts.{IsNextEntryOf}
 use Rattle.mt_record.proofs.Records.{records_push, latest_push}
 use Rattle.mt_record.proofs.Unique.{length_framed}
 use Rattle.mt_text.specs.declared.listing.Selection.{Selection}
-use Rattle.mt_text.specs.declared.listing.Stopped.{Stopped}
-use Rattle.mt_text.specs.RecordText.{Item, Placed, placed_at, of_record, of_entry}
-use Rattle.mt_text.specs.Listing.{line, placed, is_wanted, wanted_in, AreListed}
+use Rattle.mt_text.specs.RecordText.{Item, Placed, placed_at}
+use Rattle.mt_text.specs.Listing.{line, placed, is_wanted, wanted_in}
 
 -- ---- values with encodings
 

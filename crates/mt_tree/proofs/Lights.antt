@@ -1,7 +1,7 @@
 -- What lies below weighs less.
 use Rattle.std.proofs.Common.{◌≡◌, ℕ, zero, suc, ◌+◌, ◌<◌, ◌≤◌, List, [], ◌∷◌, ◌++◌, length, take, get_or, sym, ap, ◌∙◌, subst, arith, append_assoc}
 use Rattle.std.specs.List.{AllByRecursion}
-use Rattle.std.proofs.lemmas.List.{append-nil, take_more, map_more}
+use Rattle.std.proofs.lemmas.List.{append-nil, take_more}
 use Rattle.mt_words.specs.Walks.{joined}
 use Rattle.mt_tree.specs.Layer.{PlaceView, link, pairs_at, walk, IsPlace}
 use Rattle.mt_tree.specs.Steps.Pairs.{weight}
@@ -51,6 +51,3 @@ kids-push (m ∷ ks) k =
 pub kids_more : (ks : List NodeView) (i : ℕ) (k : NodeView) → i < length ks → k ≡ get_or ks i k → joined (borders_of (take (i + 1) ks)) ≡ joined (borders_of (take i ks)) ++ places k
 kids_more ks i k l e =
     ap (λ (z : List NodeView). joined (borders_of z)) (take_more ks i k l ∙ ap (λ (z : NodeView). take i ks ++ z ∷ []) (sym e)) ∙ kids-push (take i ks) k
-
-pub views_more : (xs : List (Place NodeView)) (i : ℕ) (x : Place NodeView) → i < length xs → x ≡ get_or xs i x → views node_walk (take (i + 1) xs) ≡ views node_walk (take i xs) ++ view_of node_walk x ∷ []
-views_more xs i x l e = map_more (view_of node_walk) xs i x l ∙ ap (λ (z : Place NodeView). views node_walk (take i xs) ++ view_of node_walk z ∷ []) (sym e)

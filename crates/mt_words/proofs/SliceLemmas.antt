@@ -97,12 +97,6 @@ pub by_slices : (x y : List ℕ) → AreBytes x → AreBytes y → slice_in x �
 unfolding slice_in
 by_slices x y p q apart = by_numbers 8 x y p q apart
 
--- after equal slices, second slices that differ decide the order
-pub by_second : (x y : List ℕ) → AreBytes x → AreBytes y → slice_in x ≡ slice_in y → slice_in (drop 8 x) ≢ slice_in (drop 8 y) → slice_cmp nat_cmp x y ≡ nat_cmp (slice_in (drop 8 x)) (slice_in (drop 8 y))
-by_second x y p q same apart =
-    by_numbers 16 x y p q (λ e. apart (omega (arith, e, same, sixteen x, sixteen y)))
-    ∙ sym (shifted (slice_in x * 2 ^ 64) (slice_in (drop 8 x)) (slice_in (drop 8 y)) (big_number 16 x) (big_number 16 y) (sixteen x) (omega (arith, same, sixteen y)))
-
 -- after two equal slices, the lengths decide the order if no key has more than sixteen bytes
 pub by_length : (x y : List ℕ) → AreBytes x → AreBytes y → slice_in x ≡ slice_in y → slice_in (drop 8 x) ≡ slice_in (drop 8 y) → length x ≤ 16 → length y ≤ 16 → slice_cmp nat_cmp x y ≡ nat_cmp (length x) (length y)
 by_length x y p q same second u v = by_lengths 16 x y p q (omega (arith, same, second, sixteen x, sixteen y)) u v

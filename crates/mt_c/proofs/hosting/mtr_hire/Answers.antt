@@ -1,4 +1,4 @@
-use Rattle.std.proofs.Common.{◌≡◌, None, Some, sym, subst}
+use Rattle.std.proofs.Common.{◌≡◌, Some, sym, subst}
 use Rattle.mt_c.specs.Holding.{HoldsJob, IsHired}
 use Rattle.mt_c.proofs.hosting.mtr_hire.Goals as goal
 

@@ -1,6 +1,6 @@
-use Rattle.std.proofs.Common.{◌∙◌, ◌≡◌, List, ap, map, sym, subst}
+use Rattle.std.proofs.Common.{◌∙◌, ◌≡◌, ap, sym, subst}
 use Rattle.std.proofs.lemmas.Result.{IfOk-weaker}
-use Rattle.mt_recover.specs.Tasks.{DividingView, IsDividingOf, divide_tasks}
+use Rattle.mt_recover.specs.Tasks.{IsDividingOf, divide_tasks}
 use Rattle.mt_recover.proofs.Preparing.{division_of}
 use Rattle.mt_recover.proofs.dividing.Dividing.replay.Goals as goal
 

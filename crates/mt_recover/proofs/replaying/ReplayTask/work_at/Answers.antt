@@ -1,6 +1,5 @@
 use Rattle.std.proofs.Common.{◌≡◌, ◌∙◌, ℕ, List, sym, subst}
 use Rattle.std.specs.List.{All}
-use Rattle.std.specs.Arc.{arc_value}
 use Rattle.mt_words.specs.declared.update.Update.{Update}
 use Rattle.mt_words.specs.Walks.{joined}
 use Rattle.mt_recover.specs.Steps.Replaying.{AreReplaysOf, IsPieceIn}
