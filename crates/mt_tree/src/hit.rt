@@ -15,7 +15,7 @@ pub struct Hit {
     pub columns: PackedColumns,
 }
 
-/// Copies the wanted columns. Err: out of memory.
+/// Copies the wanted columns, in no more memory than they need. Err: out of memory.
 pub(crate) fn copy_wanted(
     alloc: Global,
     columns: &PackedColumns,
@@ -23,7 +23,7 @@ pub(crate) fn copy_wanted(
 ) -> Result<PackedColumns, Memory>
     ensures { IfOk result (λ copies. copies ≡ wanted_of wanted columns.now) }
 {
-    let mut copies = PackedColumns::with_capacity(alloc, columns.as_bytes().len())?;
+    let mut copies = PackedColumns::with_capacity(alloc, wanted_size(columns, wanted))?;
     let mut rest = columns.lent();
     while let Some((number, bytes)) = rest.next() {
         if wanted.has(number) {
@@ -31,4 +31,16 @@ pub(crate) fn copy_wanted(
         }
     }
     Ok(copies)
+}
+
+/// Returns the size of the block of the wanted columns.
+fn wanted_size(columns: &PackedColumns, wanted: Wanted) -> usize {
+    let mut size: usize = 1;
+    let mut rest = columns.lent();
+    while let Some((number, bytes)) = rest.next() {
+        if wanted.has(number) {
+            size = size.saturating_add(3 + bytes.len());
+        }
+    }
+    size
 }
