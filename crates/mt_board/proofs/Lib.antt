@@ -2,3 +2,4 @@ pub mod Sums
 pub mod Keeps
 pub mod Closes
 pub mod Drawing
+pub mod Queues

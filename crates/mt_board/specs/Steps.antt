@@ -1,2 +1,3 @@
 -- What private contracts, models of types and proofs say. No public contract names these definitions.
 pub mod Rule
+pub mod QueueRule

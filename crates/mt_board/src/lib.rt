@@ -19,15 +19,22 @@
 //! }
 //! ```
 //!
+//! A `Queue` owns jobs: the holder of one of its `Consumer`s may `take` the next one that is left.
+//!
 //! Begin with `board.rt` and `specs/Board.antt`, which state what a board does. `view.rt` and `specs/Steps/Rule.antt` have
 //! the rule that each step keeps.
 #![tactic(auto)]
 
 mod board;
+mod consumer;
+mod known;
 mod pass;
+mod queue;
 #[cfg(test)]
 mod tests;
 mod view;
 
 pub use board::{Board, BoardFault, Closed, MOST_NUMBERS, MOST_PASSES};
+pub use consumer::Consumer;
 pub use pass::Pass;
+pub use queue::Queue;
