@@ -1,14 +1,17 @@
 -- Jobs that are dealt to shares, and their answers.
-use Rattle.std.proofs.Common.{◌≡◌, ◌∙◌, ◌<◌, ℕ, suc, Some, List, [], ◌∷◌, ◌++◌, length, map, refl, sym, ap, subst, append-nil, arith}
+use Rattle.std.proofs.Common.{◌≡◌, ◌∙◌, ◌<◌, ◌+◌, ℕ, suc, Option, Some, None, List, [], ◌∷◌, ◌++◌, length, map, get_or, slice_get, IsPermutation, refl, sym, ap, subst, append-nil, arith}
 use Rattle.std.specs.Prelude.{slice_index_or, slice_set, take, drop, Result, Ok, IfOk}
 use Rattle.std.specs.Fn.{Shared}
 use Rattle.std.specs.Fork.{GivesJobs}
-use Rattle.std.specs.List.{All, AllByRecursion, AllZip, FoldsTo}
+use Rattle.std.specs.List.{All, AllByRecursion, AllZip, FoldsTo, enumerate_from, flat_map}
 use Rattle.std.proofs.Math.Seq.{take-append_seam}
 use Rattle.std.proofs.lemmas.List.{map-append, nil_from_length}
-use Rattle.std.proofs.lemmas.List.Elements.{All-cons, All-head, All-nil, All-pop, All-tail}
+use Rattle.std.proofs.lemmas.List.FromFn.{get_or-enumerate_from, length-enumerate_from}
+use Rattle.std.proofs.lemmas.List.Sorted.{All-permutation}
+use Rattle.std.proofs.lemmas.List.Concat.{flat_map-cons}
+use Rattle.std.proofs.lemmas.List.Elements.{All-append, All-cons, All-head, All-nil, All-pop, All-tail}
 use Rattle.std.proofs.lemmas.Slice.Zip.{all_zipped_more}
-use Rattle.mt_recover.specs.Steps.Scanning.{AreDealt}
+use Rattle.mt_recover.specs.Steps.Scanning.{AreAnswers, AreDealt}
 
 -- ---- dealing
 
@@ -103,20 +106,6 @@ zip_of_jobs {A} {B} R g f xs ys long gives each = zip_by_index R xs ys long (λ 
     zip_by_index R (x ∷ xs) (y ∷ ys) long each =
         (each 0 x y (omega arith) refl refl, zip_by_index R xs ys (omega (arith, long)) (λ i a b lt p q. each (suc i) a b (omega (arith, lt)) p q))
 
--- if all shares are done, their answers fit their jobs
-pub shares_done : {S Y J X E : Type 0} (R : J → X → Type 0) (f : S → List J) (h : Y → List X) (shares : List S) (parts : List (Result Y E)) (done : List Y) → AllZip (λ share part. IfOk part (λ answers. AllZip R (f share) (h answers))) shares parts
-    → parts ≡ map Ok done → AllZip (AllZip R) (map f shares) (map h done)
-shares_done {S} {Y} {J} {X} {E} R f h shares parts done zip are = by shares done (subst (AllZip Q shares) are zip)
-  where
-    Q : S → Result Y E → Type 0
-    Q share part = IfOk part (λ answers. AllZip R (f share) (h answers))
-
-    by : (shares : List S) (done : List Y) → AllZip Q shares (map Ok done) → AllZip (AllZip R) (map f shares) (map h done)
-    by [] [] zip = tt
-    by [] (d ∷ ds) zip = absurd zip
-    by (s ∷ ss) [] zip = absurd zip
-    by (s ∷ ss) (d ∷ ds) zip = (zip.0, by ss ds zip.1)
-
 -- ---- answers
 
 -- if Q implies R, answers for which Q holds are answers for which R holds
@@ -125,3 +114,53 @@ zip_says R Q [] [] says zip = tt
 zip_says R Q [] (x ∷ xs) says zip = absurd zip
 zip_says R Q (j ∷ js) [] says zip = absurd zip
 zip_says R Q (j ∷ js) (x ∷ xs) says zip = (says j x zip.0, zip_says R Q js xs says zip.1)
+
+-- ---- jobs that are taken one by one
+
+-- one more answer gets the next number
+pub next_number : {X : Type 0} (n : ℕ) (xs : List X) (x : X) → enumerate_from n (xs ++ x ∷ []) ≡ enumerate_from n xs ++ (n + length xs, x) ∷ []
+next_number n [] x = let e : n ≡ n + 0 = omega arith in ap (λ k. (k, x) ∷ []) e
+next_number n (y ∷ ys) x =
+    let e : n + 1 + length ys ≡ n + suc (length ys) = omega arith in
+    ap (λ l. (n, y) ∷ l) (next_number (n + 1) ys x ∙ ap (λ k. enumerate_from (n + 1) ys ++ (k, x) ∷ []) e)
+
+abbrev some_or : {J : Type 0} → J → Option J → J
+some_or j None = j
+some_or j (Some k) = k
+
+-- if the answer at each place is that of the job there, the answers are those of the jobs in order
+by_place : {J X : Type 0} (R : J → X → Type 0) (jobs : List J) (answers : List X) → length answers ≡ length jobs
+    → ((k : ℕ) (d : X) → k < length answers → (job : J) × (slice_get jobs k ≡ Some job) × R job (get_or answers k d)) → AllZip R jobs answers
+by_place R [] [] long each = tt
+by_place R [] (x ∷ xs) long each = absurd (omega (arith, long))
+by_place R (j ∷ js) [] long each = absurd (omega (arith, long))
+by_place R (j ∷ js) (x ∷ xs) long each =
+    let first = each 0 x (omega arith) in
+    (subst (λ job. R job x) (sym (ap (some_or j) first.1)) first.2, by_place R js xs (omega (arith, long)) (λ k d lt. each (suc k) d (omega (arith, lt))))
+
+-- answers with the numbers of their jobs, put in the order of these numbers, are those of the jobs in order
+pub all_in_order : {J X : Type 0} (R : J → X → Type 0) (jobs : List J) (done : List (ℕ × X)) (answers : List X) → AreAnswers R jobs done → IsPermutation done (enumerate_from 0 answers) → length answers ≡ length jobs
+    → AllZip R jobs answers
+all_in_order {J} {X} R jobs done answers are same long = by_place R jobs answers long each
+  where
+    numbered : All (λ (one : ℕ × X). (job : J) × (slice_get jobs one.0 ≡ Some job) × R job one.1) (enumerate_from 0 answers)
+    numbered = All-permutation (λ (one : ℕ × X). (job : J) × (slice_get jobs one.0 ≡ Some job) × R job one.1) done (enumerate_from 0 answers) same are
+
+    each : (k : ℕ) (d : X) → k < length answers → (job : J) × (slice_get jobs k ≡ Some job) × R job (get_or answers k d)
+    each k d lt =
+        let same_number : 0 + k ≡ k = omega arith in
+        subst (λ (one : ℕ × X). (job : J) × (slice_get jobs one.0 ≡ Some job) × R job one.1) (get_or-enumerate_from 0 answers k (0, d) lt ∙ ap (λ n. (n, get_or answers k d)) same_number) (numbered k (0, d) (omega (arith, lt, length-enumerate_from 0 answers)))
+
+-- what all consumers did are answers of the jobs
+pub all_taken : {C Y J X E : Type 0} (R : J → X → Type 0) (jobs : List J) (items : Y → List (ℕ × X)) (consumers : List C) (parts : List (Result Y E)) (done : List Y)
+    → AllZip (λ consumer part. IfOk part (λ y. AreAnswers R jobs (items y))) consumers parts → parts ≡ map Ok done → AreAnswers R jobs (flat_map items done)
+all_taken {C} {Y} {J} {X} {E} R jobs items consumers parts done zip are = by consumers done (subst (AllZip Q consumers) are zip)
+  where
+    Q : C → Result Y E → Type 0
+    Q consumer part = IfOk part (λ y. AreAnswers R jobs (items y))
+
+    by : (consumers : List C) (done : List Y) → AllZip Q consumers (map Ok done) → AreAnswers R jobs (flat_map items done)
+    by [] [] zip = All-nil (λ (one : ℕ × X). (job : J) × (slice_get jobs one.0 ≡ Some job) × R job one.1)
+    by [] (d ∷ ds) zip = absurd zip
+    by (c ∷ cs) [] zip = absurd zip
+    by (c ∷ cs) (d ∷ ds) zip = rw (flat_map-cons items d ds) (All-append (λ (one : ℕ × X). (job : J) × (slice_get jobs one.0 ≡ Some job) × R job one.1) (items d) (flat_map items ds) zip.0 (by cs ds zip.1))

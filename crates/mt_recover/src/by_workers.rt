@@ -1,13 +1,13 @@
 //! Shares out work among threads.
-ghost use Rattle.std.specs.Prelude.{◌≡◌, ◌⊎◌, ◌<◌, ◌≤◌, ℕ, [], List, map, length, max, All, IfOk, IfErr};
+ghost use Rattle.std.specs.Prelude.{◌≡◌, ◌⊎◌, ◌<◌, ◌≤◌, ℕ, [], List, map, length, max, All, IfOk, IfErr, IsPermutation};
 ghost use Rattle.std.specs.List.{AllZip, enumerate_from, flat_map};
 ghost use Rattle.std.specs.Vec.Iter.{into_iter_items};
 ghost use Rattle.mt_words.specs.declared.fault.Memory.{Memory as MemoryValue};
 ghost use Rattle.mt_board.specs.Board.{least_noted, times_drawn, SawNoneBelow, SomeIsDone};
-ghost use Rattle.mt_recover.specs.Steps.Scanning.{AreDealt, IsFirstErr};
+ghost use Rattle.mt_recover.specs.Steps.Scanning.{AreAnswers, AreDealt, IsFirstErr};
 
 use crate::Workers;
-use mt_board::{Board, Pass};
+use mt_board::{Board, Consumer, Pass, Queue};
 use mt_words::Memory;
 use std::alloc::Global;
 use std::collections::VecDeque;
@@ -15,8 +15,8 @@ use std::thread;
 use std::thread::Threads;
 use std::vec::IntoIter;
 
-/// Does each job, on at most `workers` threads: worker w of W does the jobs w, w + W, .. in this order. Returns the
-/// answers in the order of the jobs.
+/// Does each job, on at most `workers` threads, each of which takes the next job that is left. Returns the answers in the
+/// order of the jobs.
 pub(crate) fn by_workers<R: Threads + Sync, J: Send + Drop, X: Send + Drop, F: Fn(J) -> X + Sync>(
     rt: &R,
     alloc: Global,
@@ -27,17 +27,83 @@ pub(crate) fn by_workers<R: Threads + Sync, J: Send + Drop, X: Send + Drop, F: F
     requires { All (λ job. F.pre work.now job) jobs.items }
     ensures { IfOk result (λ answers. AllZip (λ job answer. F.post work.now job answer) jobs.items answers.items) }
 {
-    let shares = deal(alloc, jobs, workers.count())?;
+    by_each_worker(
+        rt,
+        alloc,
+        jobs,
+        workers,
+        &|_worker: u32, job: J| -> X
+            requires { F.pre work.now job }
+            ensures { F.post work.entry.now job result }
+        { work(job) },
+    )
+}
+
+/// Does the same, and tells `work` the number of the worker.
+pub(crate) fn by_each_worker<
+    R: Threads + Sync,
+    J: Send + Drop,
+    X: Send + Drop,
+    F: Fn(u32, J) -> X + Sync,
+>(rt: &R, alloc: Global, jobs: Vec<J>, workers: Workers, work: &F) -> Result<Vec<X>, Memory>
+    requires { (worker : ℕ) → All (λ job. F.pre work.now worker job) jobs.items }
+    ensures { IfOk result (λ answers. AllZip (λ job answer. (worker : ℕ) × F.post work.now worker job answer) jobs.items answers.items) }
+{
+    let count = jobs.len();
+    let most = (workers.count() as usize).min(count) as u32;
+    let (queue, consumers) = Queue::open(alloc, jobs, most)?;
     let parts = on_threads(
         rt,
-        shares,
+        consumers,
         workers,
-        &|share: VecDeque<J>| -> Result<IntoIter<X>, Memory>
-            requires { All (λ job. F.pre work.now job) share.items }
-            ensures { IfOk result (λ answers. AllZip (λ job answer. F.post work.entry.now job answer) share.items (into_iter_items answers)) }
-        { Ok(in_turn(alloc, Vec::from(share), work)?.into_iter()) },
+        &|consumer: Consumer<J>| -> Result<Vec<(usize, X)>, Memory>
+            requires { (consumer ≡ queue) × ((worker : ℕ) → All (λ job. F.pre work.now worker job) queue.jobs) }
+            ensures { IfOk result (λ done. AreAnswers (λ job answer. (worker : ℕ) × F.post work.entry.now worker job answer) queue.jobs done.items) }
+        { work_off(alloc, &queue, consumer, work) },
     )?;
-    gather(alloc, all_done(alloc, parts)?)
+    in_order(alloc, concat(alloc, all_done(alloc, parts)?)?, count)
+}
+
+/// Takes jobs from the queue until none is left, and does each. Returns the answers with the numbers of their jobs.
+fn work_off<J: Drop, X: Drop, F: Fn(u32, J) -> X>(
+    alloc: Global,
+    queue: &Queue<J>,
+    consumer: Consumer<J>,
+    work: &F,
+) -> Result<Vec<(usize, X)>, Memory>
+    requires same { consumer ≡ queue.now }
+    requires each { (worker : ℕ) → All (λ job. F.pre work.now worker job) queue.now.jobs }
+    ensures { IfOk result (λ done. AreAnswers (λ job answer. (worker : ℕ) × F.post work.now worker job answer) queue.now.jobs done.items) }
+{
+    let worker = consumer.number();
+    let mut consumer = consumer;
+    let mut done = Vec::new(alloc);
+    for _ in 0..queue.len() {
+        let Some((number, job)) = queue.take(&mut consumer) else {
+            break;
+        };
+        done.push((number, work(worker, job)))?;
+    }
+    Ok(done)
+}
+
+/// Returns the answers in the order of their numbers. Err: out of memory, or an answer is missing, which cannot be.
+fn in_order<X: Drop>(alloc: Global, done: Vec<(usize, X)>, count: usize) -> Result<Vec<X>, Memory>
+    ensures { IfOk result (λ answers. (length answers.items ≡ count) × IsPermutation done.items (enumerate_from 0 answers.items)) }
+{
+    let mut done = done;
+    done.sort_unstable_by_key(|one| one.0);
+    let mut answers = Vec::with_capacity(alloc, count)?;
+    for (number, answer) in done {
+        if number != answers.len() {
+            return Err(Memory);
+        }
+        answers.push(answer)?;
+    }
+    if answers.len() != count {
+        return Err(Memory);
+    }
+    Ok(answers)
 }
 
 /// Does each job on a thread of its own. Returns the answers in the order of the jobs.

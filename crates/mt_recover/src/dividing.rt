@@ -161,7 +161,7 @@ impl Dividing {
             ..
         } = self;
         let division = put_together(alloc, done, cuts, entries)?;
-        Replaying::of(alloc, Prepared::of(report, division), workers)
+        Replaying::of(alloc, Prepared::of(report, division), workers.count())
     }
 }
 

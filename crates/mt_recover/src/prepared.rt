@@ -14,11 +14,11 @@ ghost use Rattle.mt_recover.specs.Prepared.{IsMadeOf, IsPreparedOf, PreparedView
 ghost use Rattle.mt_recover.specs.Steps.Preparing.{IsDivisionOf, IsFound, IsFoundOf};
 
 use crate::Workers;
-use crate::by_workers::{all_done, by_workers};
+use crate::by_workers::{all_done, by_each_worker};
 use crate::dividing::{Division, divide, leave_whole};
 use crate::found::{Found, find};
 use crate::recovery::{Inputs, Recovered};
-use crate::replaying::{ReplayTask, ReplayedTask, Replaying};
+use crate::replaying::{ReplayTask, ReplayedTask, Replaying, TASKS_OF_WORKER};
 use crate::report::Report;
 use crate::scans::scan_all;
 use crate::store::Store;
@@ -144,8 +144,8 @@ impl Prepared {
         complete(report, draft)
     }
 
-    /// Replays all pieces with these workers, and makes the store and the report. Worker w of W replays the pieces
-    /// w, w + W, .. in this order: it enters a piece at the gate, replays it and frees its updates. Err: out of memory.
+    /// Replays all pieces with these workers, and makes the store and the report. A worker enters each piece of a task at the
+    /// gate, replays it and frees its updates. Err: out of memory.
     pub fn replay_by_workers<R: Threads + Sync, G: Gate>(
         self,
         rt: &R,
@@ -155,15 +155,15 @@ impl Prepared {
     ) -> Result<Recovered, Memory>
         ensures { IfOk result (IsMadeOf self) }
     {
-        let (replaying, tasks) = Replaying::of(alloc, self, workers)?;
-        let done = by_workers(
+        let (replaying, tasks) = Replaying::of(alloc, self, workers.count() * TASKS_OF_WORKER)?;
+        let done = by_each_worker(
             rt,
             alloc,
             tasks,
             workers,
-            &|task: ReplayTask| -> Result<ReplayedTask, Memory>
+            &|worker: u32, task: ReplayTask| -> Result<ReplayedTask, Memory>
                 ensures { IfOk result (λ done. done ≡ task) }
-            { task.work_at(alloc, gate) },
+            { task.work_at(alloc, worker, gate) },
         )?;
         replaying.finish(alloc, all_done(alloc, done)?)
     }

@@ -15,7 +15,7 @@ use crate::by_workers::{all_done, deal, gather, in_turn, numbered};
 use crate::prepared::{Prepared, complete};
 use crate::recovery::Recovered;
 use crate::report::Report;
-use crate::workers::{Gate, NoGate, Workers};
+use crate::workers::{Gate, NoGate};
 use mt_replay::{Cuts, Range, SortedUpdates, pieces_make_the_walk, replay_range};
 use mt_tree::Draft;
 use mt_words::Memory;
@@ -25,6 +25,9 @@ use std::marker::Model;
 use std::snapshot::Snapshot;
 use std::sync::Arc;
 use std::vec::IntoIter;
+
+/// The number of tasks for each worker, so that a fast worker does more of them than a slow one.
+pub(crate) const TASKS_OF_WORKER: u32 = 16;
 
 /// A piece by its number, and the updates of logs that lie in it.
 type Piece = (usize, Range);
@@ -41,8 +44,6 @@ struct Base {
 pub struct ReplayTask {
     pieces: VecDeque<Piece>,
     base: Arc<Base>,
-    /// The number of workers among whom the pieces were dealt.
-    workers: Workers,
 }
 
 impl Model for ReplayTask {
@@ -64,25 +65,26 @@ impl ReplayTask {
     pub fn work(self, alloc: Global) -> Result<ReplayedTask, Memory>
         ensures { IfOk result (λ done. done ≡ self) }
     {
-        self.work_at(alloc, &NoGate)
+        self.work_at(alloc, 0, &NoGate)
     }
 
-    /// Does the same as `work`, but enters each piece at the gate first.
-    pub(crate) fn work_at<G: Gate>(self, alloc: Global, gate: &G) -> Result<ReplayedTask, Memory>
+    /// Does the same as `work`, but the worker of this number enters each piece at the gate first.
+    pub(crate) fn work_at<G: Gate>(
+        self,
+        alloc: Global,
+        worker: u32,
+        gate: &G,
+    ) -> Result<ReplayedTask, Memory>
         ensures { IfOk result (λ done. done ≡ self) }
     {
         let of = Snapshot::of(&self);
-        let ReplayTask {
-            pieces,
-            base,
-            workers,
-        } = self;
+        let ReplayTask { pieces, base } = self;
         let drafts = replay_each(
             alloc,
             Vec::from(pieces),
             &base.cuts,
             &base.entries,
-            workers,
+            worker,
             gate,
         )?;
         Ok(ReplayedTask { drafts, of })
@@ -135,11 +137,11 @@ impl Model for Replaying {
 }
 
 impl Replaying {
-    /// Deals the pieces to tasks: worker w of W gets the pieces w, w + W, .. in this order. Err: out of memory.
+    /// Deals the pieces to at most `most` tasks: task t of T gets the pieces t, t + T, .. in this order. Err: out of memory.
     pub(crate) fn of(
         alloc: Global,
         prepared: Prepared,
-        workers: Workers,
+        most: u32,
     ) -> Result<(Replaying, Vec<ReplayTask>), Memory>
         ensures prepared { IfOk result (λ made. made.0.prepared ≡ prepared) }
         ensures tasks { IfOk result (λ made. made.1.items ≡ replay_tasks made.0) }
@@ -147,7 +149,7 @@ impl Replaying {
         let of = Snapshot::of(&prepared);
         let Prepared { divided, report } = prepared;
         let (cuts, ranges, entries) = divided.into_parts();
-        let dealt = deal(alloc, numbered(alloc, ranges)?, workers.count())?;
+        let dealt = deal(alloc, numbered(alloc, ranges)?, most)?;
         let replaying = Replaying {
             report,
             prepared: of,
@@ -155,7 +157,7 @@ impl Replaying {
             shares: Snapshot::of(&dealt),
         };
         let base = Arc::new(alloc, Base { cuts, entries })?;
-        let tasks = tasks_of(alloc, dealt, &base, workers)?;
+        let tasks = tasks_of(alloc, dealt, &base)?;
         Ok((replaying, tasks))
     }
 
@@ -178,7 +180,6 @@ fn tasks_of(
     alloc: Global,
     shares: Vec<VecDeque<Piece>>,
     base: &Arc<Base>,
-    workers: Workers,
 ) -> Result<Vec<ReplayTask>, Memory>
     requires { All (λ share. All (IsPieceIn (arc_value base.now).cuts) share.items) shares.items }
     ensures { IfOk result (λ tasks. tasks.items ≡ map (λ share. replay_task (joined (arc_value base.now).entries.items) (arc_value base.now).cuts share.items) shares.items) }
@@ -186,11 +187,7 @@ fn tasks_of(
     let mut tasks = Vec::with_capacity(alloc, shares.len())?;
     for pieces in shares {
         let base = Arc::try_clone(base)?;
-        tasks.push(ReplayTask {
-            pieces,
-            base,
-            workers,
-        })?;
+        tasks.push(ReplayTask { pieces, base })?;
     }
     Ok(tasks)
 }
@@ -202,7 +199,7 @@ fn replay_each<G: Gate>(
     pieces: Vec<Piece>,
     cuts: &Cuts,
     entries: &[SortedUpdates],
-    workers: Workers,
+    worker: u32,
     gate: &G,
 ) -> Result<Vec<Draft>, Memory>
     requires { All (IsPieceIn cuts.now) pieces.items }
@@ -217,7 +214,7 @@ fn replay_each<G: Gate>(
         {
             let (piece, range) = job;
             let piece = piece as u32;
-            gate.enter(piece % workers.count(), piece);
+            gate.enter(worker, piece);
             replay_range(alloc, &range, entries, cuts, piece, Draft::new(alloc))
         },
     )?;

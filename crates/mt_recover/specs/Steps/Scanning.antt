@@ -1,5 +1,5 @@
 -- How jobs are shared out among workers, and how sources are scanned by workers, each with a pass to the board that the scans share.
-use Rattle.std.specs.Prelude.{◌≡◌, ℕ, ◌≤◌, min, Option, Some, None, List, [], ◌∷◌, ◌++◌, length, map, Result, Ok, Err}
+use Rattle.std.specs.Prelude.{◌≡◌, ℕ, ◌≤◌, min, Option, Some, None, List, [], ◌∷◌, ◌++◌, length, map, All, slice_get, Result, Ok, Err}
 use Rattle.std.specs.List.{AllByRecursion, AllZip, enumerate_from, filter_map}
 use Rattle.mt_words.specs.declared.fault.Fault.{Fault}
 use Rattle.mt_scan.specs.declared.log_scan.LogScan.{LogScan}
@@ -22,6 +22,10 @@ AreDealt [] shares = AllByRecursion (λ share. share ≡ []) shares
 AreDealt (job ∷ jobs) [] = ⊥
 AreDealt (job ∷ jobs) ([] ∷ shares) = ⊥
 AreDealt (job ∷ jobs) ((first ∷ rest) ∷ shares) = (first ≡ job) × AreDealt jobs (shares ++ rest ∷ [])
+
+-- answers of some of the jobs, each with the number of its job; R relates a job to its answer
+abbrev pub AreAnswers : {J X : Type 0} → (J → X → Type 0) → List J → List (ℕ × X) → Type 0
+AreAnswers {J} R jobs done = All (λ one. (job : J) × (slice_get jobs one.0 ≡ Some job) × R job one.1) done
 
 -- the first error among answers
 pub record IsFirstErr {X E : Type 0} (answers : List (Result X E)) (err : E) : Type 0 where
