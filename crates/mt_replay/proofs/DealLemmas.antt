@@ -1,5 +1,5 @@
 -- Each key lies in one piece, and so updates are dealt to pieces.
-use Rattle.std.proofs.Common.{◌≡◌, ◌≢◌, ◌∙◌, inl, inr, ℕ, zero, suc, ◌+◌, ◌<◌, ◌≤◌, Bool, true, false, not, ◌&&◌, List, [], ◌∷◌, ◌++◌, length, map, Option, Some, Ordering, refl, sym, ap, subst, cond, fold, append_assoc, arith}
+use Rattle.std.proofs.Common.{◌≡◌, ◌≢◌, ◌∙◌, inl, inr, ℕ, zero, suc, ◌+◌, ◌<◌, ◌≤◌, true, false, not, List, [], ◌∷◌, ◌++◌, length, map, Option, Some, Ordering, refl, sym, ap, subst, cond, fold, append_assoc, arith}
 use Rattle.std.specs.Prelude.{slice_get, slice_index_or, slice_set, filter, nat_lt, IsPermutation}
 use Rattle.std.specs.List.{range_with_len}
 use Rattle.std.specs.Ordering.{nat_cmp, is_lt, MatchOrdering}
@@ -11,7 +11,7 @@ use Rattle.std.proofs.lemmas.Option.{slice_get_past, slice_get-get_or}
 use Rattle.std.proofs.lemmas.List.{append-nil, same_lists, get_or_default, length-set, get_or-set_same, get_or-set_other}
 use Rattle.std.proofs.lemmas.List.FromFn.{length-map-range_with_len, get_or-map-range_with_len, map-range_with_len_more}
 use Rattle.std.proofs.lemmas.List.Elements.{filter-append}
-use Rattle.std.proofs.lemmas.List.Sorted.{IsPermutation-filter_both, IsPermutation-append, IsPermutation-trans, IsPermutation-refl}
+use Rattle.std.proofs.lemmas.List.Sorted.{IsPermutation-append, IsPermutation-trans, IsPermutation-refl}
 use Rattle.mt_words.specs.declared.update.Update.{Update}
 use Rattle.mt_words.specs.Slices.{AreBytes, slice_in}
 use Rattle.mt_words.specs.Words.{AreRising}
@@ -25,8 +25,7 @@ use Rattle.mt_replay.specs.Ranges.{dealt_by}
 use Rattle.mt_replay.specs.Steps.Dealing.{extended}
 use Rattle.mt_replay.proofs.KeyOrder.{above_by, below_trans}
 use Rattle.mt_replay.proofs.Rising.{below_later}
-use Rattle.mt_replay.proofs.FilterLemmas.{filter_both, filter_every}
-use Rattle.mt_replay.proofs.PieceLemmas.{all_pieces}
+use Rattle.mt_replay.proofs.PieceLemmas.{by_pieces}
 
 -- ---- a key and a cut
 
@@ -206,39 +205,9 @@ extended_past (list ∷ lists) (o ∷ others) more past = ap (λ (ls : List (Lis
 
 -- ---- all pieces together
 
--- exactly the updates whose keys pass the test
-abbrev AreThose : List Update → (List ℕ → Bool) → List Update → Type 0
-AreThose updates passes those = IsPermutation (filter (λ u. passes u.key) updates) those
-
-same_those : (updates : List Update) (p q : List ℕ → Bool) (those : List Update) → ((key : List ℕ) → p key ≡ q key) → AreThose updates p those → AreThose updates q those
-same_those updates p q those agree are = subst (λ (us : List Update). IsPermutation us those) (λ j. filter (λ u. agree u.key j) updates) are
-
-implied : (a b : Bool) → (b ≡ false → a ≡ true) → (a && not b) ≡ not b
-implied a true follows = either_false a
-  where
-    either_false : (c : Bool) → (c && false) ≡ false
-    either_false true = refl
-    either_false false = refl
-implied a false follows = ap (λ c. c && true) (follows refl)
-
-join_those : (updates : List Update) (lower : Option (List ℕ)) (cut : List ℕ) (those others : List Update) → ((key : List ℕ) → is_below key cut ≡ false → is_after lower key ≡ true)
-    → AreThose updates (λ key. is_after lower key && is_below key cut) those → AreThose updates (λ key. not (is_below key cut)) others → AreThose updates (is_after lower) (those ++ others)
-join_those updates lower cut those others above are too =
-    let after : Update → Bool = λ u. is_after lower u.key in
-    let low : Update → Bool = λ u. is_below u.key cut in
-    let high : Update → Bool = λ u. not (is_below u.key cut) in
-    let us : List Update = filter after updates in
-    let first : filter low us ≡ filter (λ u. after u && low u) updates = filter_both after low updates in
-    let second : filter high us ≡ filter high updates = filter_both after high updates ∙ (λ j. filter (λ u. implied (is_after lower u.key) (is_below u.key cut) (above u.key) j) updates) in
-    IsPermutation-trans us (filter low us ++ filter high us) (those ++ others) (IsPermutation-filter_both low high (λ u. refl) us)
-    (IsPermutation-append (filter low us) those (filter high us) others
-    (subst (λ (ws : List Update). IsPermutation ws those) (sym first) are)
-    (subst (λ (ws : List Update). IsPermutation ws others) (sym second) too))
-
 -- the pieces together have each update once
 pub dealt_all : (cuts : List (List ℕ)) (updates : List Update) → AreCuts cuts → IsPermutation updates (joined (dealt_by cuts updates))
 dealt_all cuts updates are =
     let count = dealt_length cuts updates in
-    let whole = all_pieces (AreThose updates) (record { same = same_those updates; join = join_those updates }) cuts (dealt_by cuts updates) are count
-    (λ i d lt. subst (IsPermutation (updates_in cuts i updates)) (sym (dealt_at cuts updates i d (omega (arith, lt, count)))) (IsPermutation-refl (updates_in cuts i updates))) in
-    subst (λ (us : List Update). IsPermutation us (joined (dealt_by cuts updates))) (filter_every (λ (u : Update). true) updates (λ k d lt. refl)) whole
+    by_pieces IsPermutation (record { moved = IsPermutation-trans; both = λ us ws items more below own too. IsPermutation-append us items ws more own too }) updates cuts (dealt_by cuts updates) are count
+    (λ i d lt. subst (IsPermutation (updates_in cuts i updates)) (sym (dealt_at cuts updates i d (omega (arith, lt, count)))) (IsPermutation-refl (updates_in cuts i updates)))

@@ -1,21 +1,17 @@
--- Updates in the order of their keys, key by key, and their walk.
-use Rattle.std.proofs.Common.{◌≡◌, ℕ, ◌+◌, ◌-◌, ◌<◌, ◌≤◌, List, [], ◌∷◌, ◌++◌, length, take, drop, get_or, Contains, true, refl, sym, ap, subst, ◌∙◌, arith}
-use Rattle.std.specs.Prelude.{if◌then◌else◌}
-use Rattle.std.proofs.lemmas.Bool.{lt-ltb}
+-- Updates in the order of their keys, key by key.
+use Rattle.std.proofs.Common.{◌≡◌, ℕ, ◌+◌, ◌-◌, ◌<◌, ◌≤◌, List, ◌++◌, length, take, drop, get_or, Contains, true, sym, ap, subst, ◌∙◌, arith}
 use Rattle.std.proofs.lemmas.List.{take-take, drop-take, take-append-drop, get_or-take, get_or-drop, get_or_default, length-take-le, length-drop}
-use Rattle.std.proofs.lemmas.List.Elements.{Contains-append_left, Contains-append_right}
 use Rattle.std.proofs.lemmas.List.Sorted.{sorted_far}
 use Rattle.mt_words.specs.declared.update.Update.{Update}
 use Rattle.mt_words.specs.Limits.{widest}
-use Rattle.mt_words.specs.Words.{IsKey, IsBelow, AreColumns}
-use Rattle.mt_words.specs.Walks.{Pair}
+use Rattle.mt_words.specs.Words.{IsBelow, AreColumns}
 use Rattle.mt_replay.specs.Cells.{AreApart}
 use Rattle.mt_replay.specs.Cuts.{is_below, key_below, InKeyOrder}
 use Rattle.mt_replay.specs.Groups.{AreColumnsOf}
-use Rattle.mt_replay.specs.Steps.Walker.{with_pair, IsMade, IsLastKey, AreLast}
+use Rattle.mt_replay.specs.Steps.Walker.{IsLastKey, AreLast}
 use Rattle.mt_replay.proofs.KeyOrder.{key_order}
 use Rattle.mt_replay.proofs.Searches.{all_under}
-use Rattle.mt_replay.proofs.StepLemmas.{AddsPair, map_more, walk_more, strictly}
+use Rattle.mt_replay.proofs.StepLemmas.{strictly}
 
 -- ---- the updates of one key
 
@@ -62,26 +58,3 @@ module _ (updates : List Update) (at end : ℕ) (lt : at < end) (fits : end ≤ 
   last_columns order start first is key of_first columns lawful exact =
       let of_key = subst (IsLastKey (take at updates) (take (end - at) (drop at updates))) (sym (of_first ∙ ap (λ (u : Update). u.key) is)) (last_key order start first) in
       record { of_key = of_key; lawful = lawful; exact = exact key of_key.same_keys }
-
--- ---- the pair of the last key
-
--- the pair of the last key is added, if it has any column
-pub close_some : (before last : List Update) (key : List ℕ) (columns : List (ℕ × List ℕ)) (old new : List Pair) → IsMade before old → AreLast before last key columns → IsKey widest key → new ≡ with_pair old key columns
-    → IsMade (before ++ last) new
-close_some before last key columns old new made are is_key added =
-    let adds : AddsPair last key old new = record { columns = columns; lawful = are.lawful; are = are.exact; is_key = is_key; added = added } in
-    record {
-      map = map_more before last key old new are.of_key.some are.of_key.below are.of_key.same_keys made.map adds;
-      walk = λ apart.
-          let apart_before : AreApart before = λ a b c d. apart a b (Contains-append_left before last a c) (Contains-append_left before last b d) in
-          let apart_last : AreApart last = λ a b c d. apart a b (Contains-append_right before last a c) (Contains-append_right before last b d) in
-          walk_more before last key old new are.of_key.below are.of_key.same_keys (made.walk apart_before) adds apart_last;
-    }
-
--- the pair of a key with columns is added, that of one without is not
-pub some_added : (pairs : List Pair) (key : List ℕ) (columns : List (ℕ × List ℕ)) → (columns ≡ [] → ⊥) → pairs ++ (key, columns) ∷ [] ≡ with_pair pairs key columns
-some_added pairs key [] some = absurd (some refl)
-some_added pairs key (c ∷ cs) some = ap (λ b. if b then pairs ++ (key, c ∷ cs) ∷ [] else pairs) (sym (lt-ltb 0 (length (c ∷ cs)) (omega arith)))
-
-pub none_added : (pairs : List Pair) (key : List ℕ) (columns : List (ℕ × List ℕ)) → columns ≡ [] → pairs ≡ with_pair pairs key columns
-none_added pairs key columns none = ap (with_pair pairs key) (sym none)

@@ -1,5 +1,5 @@
 -- The walk of updates in the order of their keys.
-use Rattle.std.specs.Prelude.{◌≡◌, ℕ, ◌<◌, nat_lt, if◌then◌else◌, List, [], ◌∷◌, ◌++◌, length, Contains}
+use Rattle.std.specs.Prelude.{◌≡◌, ℕ, ◌<◌, List, [], ◌∷◌, length, Contains}
 use Rattle.mt_words.specs.declared.update.Update.{Update}
 use Rattle.mt_words.specs.Limits.{widest}
 use Rattle.mt_words.specs.Words.{IsBelow, AreColumns}
@@ -8,9 +8,10 @@ use Rattle.mt_replay.specs.Walk.{IsWalk}
 use Rattle.mt_replay.specs.Cells.{AreApart}
 use Rattle.mt_replay.specs.Groups.{AreColumnsOf, IsMapOf}
 
--- the pairs, and then this one, unless it has no column
-abbrev pub with_pair : List Pair → List ℕ → List (ℕ × List ℕ) → List Pair
-with_pair pairs key columns = if nat_lt 0 (length columns) then pairs ++ (key, columns) ∷ [] else pairs
+-- the pair of a key, if it has any column
+abbrev pub pair_of : List ℕ → List (ℕ × List ℕ) → List Pair
+pair_of key [] = []
+pair_of key (column ∷ columns) = (key, column ∷ columns) ∷ []
 
 -- a map of these updates, which is their walk if they are apart
 pub record IsMade (updates : List Update) (pairs : List Pair) : Type 0 where

@@ -1,4 +1,4 @@
-use Rattle.mt_replay.proofs.AuditPieces.{pieces_are_audit}
+use Rattle.mt_replay.proofs.AuditorLemmas.{pieces_are_audit}
 use Rattle.mt_replay.proofs.laws.pieces_make_the_audit.Goals as goal
 
 pub returns : goal.returns
