@@ -1,11 +1,10 @@
--- For callers that have updates in memory: which of them survive, and what two cells keep together.
-use Rattle.std.specs.Prelude.{◌≡◌, ◌&&◌, ◌||◌, Bool, true, false, not, Option, Some, None}
+-- For callers that have updates in memory: which of them survive.
+use Rattle.std.specs.Prelude.{◌&&◌, ◌||◌, Bool, true, false, not}
 use Rattle.mt_words.specs.declared.update.Kind.{Kind}
 use Rattle.mt_words.specs.declared.update.Kind.TheVariants.{Put, Remove, Whole, Erase}
 use Rattle.mt_words.specs.declared.update.Update.{Update}
 use Rattle.mt_replay.specs.declared.window.Window.{Window}
 use Rattle.mt_replay.specs.Survivors.{in_window}
-use Rattle.mt_replay.specs.Cells.{Written, IsNewer}
 
 -- whether this is the entry of a checkpoint
 abbrev pub is_whole : Kind → Bool
@@ -26,8 +25,3 @@ is_logged_in window update = not (is_whole update.kind) && in_window window upda
 abbrev pub survives_with : Bool → Window → Update → Bool
 survives_with true window update = survives window update
 survives_with false window update = is_logged_in window update
-
--- the greater of two writes of a column, each of which may be absent; the first, if neither is greater
-abbrev pub IsNewestOf : Option Written → Option Written → Option Written → Type 0
-IsNewestOf old None new = new ≡ old
-IsNewestOf old (Some write) new = (IsNewer old write → new ≡ Some write) × ((IsNewer old write → ⊥) → new ≡ old)

@@ -6,9 +6,8 @@ ghost use Rattle.mt_words.specs.Limits.{widest};
 ghost use Rattle.mt_words.specs.Words.{AreColumns, AreNumbers};
 ghost use Rattle.mt_words.specs.Changes.{set, erased, writes_of, IsReset};
 ghost use Rattle.mt_words.specs.Writes.{AreWrites};
-ghost use Rattle.mt_replay.specs.Cells.{Written, IsCellOf, written};
+ghost use Rattle.mt_replay.specs.Cells.{Written, IsNewestOf, IsCellOf, written};
 ghost use Rattle.mt_replay.specs.Groups.{IsGroupOf, HasLawfulWrites, AreFreeFrom};
-ghost use Rattle.mt_replay.specs.InMemory.{IsNewestOf};
 
 use crate::group::{Bytes, Group, Write, is_newer};
 use mt_words::{Column, Columns, Kind, MOST_COLUMNS, Stamp, Update, Value};
