@@ -9,8 +9,7 @@ use Rattle.mt_replay.specs.Cells.{AreApart}
 use Rattle.mt_replay.specs.Cuts.{is_below, key_below, InKeyOrder}
 use Rattle.mt_replay.specs.Groups.{AreColumnsOf}
 use Rattle.mt_replay.specs.Steps.Walker.{IsLastKey, AreLast}
-use Rattle.mt_replay.proofs.KeyOrder.{key_order}
-use Rattle.mt_replay.proofs.Searches.{all_under}
+use Rattle.mt_replay.proofs.KeyOrder.{key_order, all_under}
 use Rattle.mt_replay.proofs.StepLemmas.{strictly}
 
 -- ---- the updates of one key

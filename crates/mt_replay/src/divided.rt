@@ -106,8 +106,7 @@ impl Divided {
         ensures walk { IfOk result (λ filled. AreApart self.now.updates →
             IsPiece self.now.updates self.now.cuts piece (S.pairs filled)) }
     {
-        let range = &self.ranges[piece as usize];
-        replay_range(alloc, range, &self.entries, &self.cuts, piece, sink)
+        replay_texts(alloc, self.texts(alloc, piece)?, sink)
     }
 
     /// Returns the clashes of the updates whose keys lie in this piece, in order: by key, then by version. Entries of the
@@ -117,9 +116,16 @@ impl Divided {
         requires { piece < length self.now.cuts + 1 }
         ensures { IfOk result (λ clashes. AreClashes (updates_in self.now.cuts piece self.now.updates) clashes.items) }
     {
+        clashes_of(alloc, self.texts(alloc, piece)?)
+    }
+
+    /// Returns the texts of the updates whose keys lie in this piece. Err: out of memory.
+    fn texts(&self, alloc: Global, piece: u32) -> Result<Vec<Text<'_>>, Memory>
+        requires { piece < length self.now.cuts + 1 }
+        ensures { IfOk result (λ texts. texts.items ≡ updates_in self.now.cuts piece self.now.updates) }
+    {
         let range = &self.ranges[piece as usize];
-        let texts = texts_in(alloc, range, &self.entries, &self.cuts, piece)?;
-        clashes_of(alloc, texts)
+        texts_in(alloc, range, &self.entries, &self.cuts, piece)
     }
 }
 

@@ -9,7 +9,7 @@ use Rattle.mt_replay.proofs.CellLemmas.{IsRight, cell_both}
 use Rattle.mt_replay.proofs.ColumnsLemmas.{IsLeft}
 use Rattle.std.proofs.lemmas.Option.{slice_get-get_or}
 use Rattle.mt_words.specs.declared.limits.TheConstants.{MOST_COLUMNS}
-use Rattle.mt_replay.proofs.BothLemmas.{both_resets, group_with}
+use Rattle.mt_replay.proofs.GroupLemmas.{both_resets, group_with}
 
 -- ---- the same writes in another order
 

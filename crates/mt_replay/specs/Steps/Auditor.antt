@@ -49,10 +49,3 @@ pub record AddClashes (key : List ℕ) (seen : List Seen) (old new : List Clash)
   pub added : List Clash
   pub appended : new ≡ old ++ added
   pub are : AreClashesOf (IsSeen key seen) added
-
--- the clashes of what was seen of a key at the lower versions, after others, and what is left at the higher versions
-pub record AddLower (key : List ℕ) (seen rest : List Seen) (old new : List Clash) : Type 0 where
-  pub lower : List Seen
-  pub split : seen ≡ lower ++ rest
-  pub apart : (a b : Seen) → Contains lower a → Contains rest b → a.version < b.version
-  pub adds : AddClashes key lower old new

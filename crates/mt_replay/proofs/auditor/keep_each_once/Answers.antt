@@ -1,5 +1,5 @@
 use Rattle.std.proofs.lemmas.List.Filters.{dedup_is}
-use Rattle.mt_replay.proofs.SeenOrder.{are_same, kept_rise, kept_same}
+use Rattle.mt_replay.proofs.SeenLemmas.{are_same, kept_rise, kept_same}
 use Rattle.mt_replay.proofs.auditor.keep_each_once.Goals as goal
 
 pub returns-clause-rise : goal.returns-clause-rise

@@ -1,7 +1,7 @@
 use Rattle.std.proofs.Common.{◌-◌, List, take, take_all, drop, subst, arith}
 use Rattle.mt_words.specs.declared.update.Update.{Update}
 use Rattle.mt_replay.specs.Steps.Walker.{IsMade}
-use Rattle.mt_replay.proofs.MergeLemmas.{moved_made}
+use Rattle.mt_replay.proofs.PieceLemmas.{moved_made}
 use Rattle.mt_replay.proofs.WalkerLemmas.{key_taken, next_start, last_columns}
 use Rattle.mt_replay.proofs.replay.replay_texts.Goals as goal
 

@@ -7,8 +7,7 @@ use Rattle.std.proofs.lemmas.Slice.{take-put_mid, drop-put_mid}
 use borrow.Rule.Slice.PartMut.{mid_of, put_mid, same_len_mid}
 use Rattle.mt_words.specs.Slices.{AreBytes}
 use Rattle.mt_replay.specs.Steps.Numbers.{places, rest_of, rests, head_of, AreInOrder, BeginsWith, AreSorted}
-use Rattle.mt_replay.proofs.NumberLemmas.{rests_moved, rests_further, places_moved}
-use Rattle.mt_replay.proofs.RestLemmas.{from_deeper, alike_in_order}
+use Rattle.mt_replay.proofs.NumberLemmas.{rests_moved, rests_further, places_moved, from_deeper, alike_in_order}
 use Rattle.mt_replay.proofs.RunOrder.{run_sorted}
 use Rattle.mt_replay.proofs.sorting.+rounds.Goals as goal
 

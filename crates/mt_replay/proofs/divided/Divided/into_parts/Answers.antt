@@ -3,7 +3,7 @@ use Rattle.mt_words.specs.Walks.{joined}
 use Rattle.mt_replay.specs.Cuts.{AreCuts}
 use Rattle.mt_replay.specs.Divided.{DividedView}
 use Rattle.mt_replay.specs.Ranges.{dealt_by}
-use Rattle.mt_replay.proofs.DividedLemmas.{dealt_anew}
+use Rattle.mt_replay.proofs.DealLemmas.{dealt_anew}
 use Rattle.mt_replay.proofs.divided.Divided.into_parts.Goals as goal
 
 pub returns : goal.returns

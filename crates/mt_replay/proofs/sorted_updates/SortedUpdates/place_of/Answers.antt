@@ -1,7 +1,7 @@
 use Rattle.std.proofs.Common.{ℕ, ◌+◌, ◌-◌, ◌/◌, ◌<◌, List, sym, ap, ◌∙◌, arith}
 use Rattle.mt_words.specs.declared.update.Update.{Update}
 use Rattle.mt_replay.specs.Cuts.{is_below}
-use Rattle.mt_replay.proofs.Searches.{all_under, none_under}
+use Rattle.mt_replay.proofs.KeyOrder.{all_under, none_under}
 use Rattle.mt_replay.proofs.sorted_updates.SortedUpdates.place_of.Goals as goal
 
 pub loop-low-preserved-then-comes_before : goal.loop-low-preserved-then-comes_before
