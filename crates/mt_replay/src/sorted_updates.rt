@@ -46,6 +46,7 @@ impl Model for SortedUpdates {
 impl SortedUpdates {
     /// Returns the entries of a checkpoint part. All of them survive, and they stay where they are. Their keys must
     /// strictly rise. No call tests that: only the parts of a valid checkpoint promise it.
+    #[tactic(auto, using(crate::proofs::Rising::entries_in_order))]
     pub fn of_rising(entries: KeptEntries) -> SortedUpdates
         requires { AreRising (map (λ entry. entry.key) entries) }
         ensures { result ≡ wholes entries }

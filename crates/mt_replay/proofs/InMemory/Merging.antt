@@ -1,5 +1,5 @@
 -- The cells of two lists of writes, and the groups of two lists of updates, merged.
-use Rattle.std.proofs.Common.{append_assoc, ◌≡◌, inl, inr, ◌↔◌, ℕ, ◌<◌, List, ◌++◌, length, Option, Some, None, Contains, sym, ◌∙◌, subst, arith}
+use Rattle.std.proofs.Common.{append_assoc, ◌≡◌, ◌↔◌, ℕ, ◌<◌, List, ◌++◌, length, Option, Some, None, Contains, subst, arith}
 use Rattle.std.specs.Prelude.{slice_get, slice_index_or}
 use Rattle.std.proofs.lemmas.List.Sorted.{IsPermutation-append_right, IsPermutation-append_comm, IsPermutation-sym, Contains-permutation}
 use Rattle.mt_words.specs.declared.update.Update.{Update}

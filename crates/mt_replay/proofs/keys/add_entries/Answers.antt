@@ -1,6 +1,5 @@
-use Rattle.std.proofs.Common.{◌++◌, List, ℕ, map, take_all, ap, ◌∙◌}
+use Rattle.std.proofs.Common.{List, map}
 use Rattle.mt_words.specs.declared.update.Update.{Update}
-use Rattle.mt_words.specs.Walks.{joined}
 use Rattle.mt_replay.specs.Cuts.{keys_in}
 use Rattle.mt_replay.proofs.DistinctLemmas.{keys_of_more, keys_split}
 use Rattle.mt_replay.proofs.keys.add_entries.Goals as goal
@@ -12,8 +11,3 @@ loop-updates-preserved c = record {
       keys_of_more (λ (us : List Update). us) keys_in (map (λ key. key.now) c.args.keys.now.items) (map (λ key. key.now) c.loop-updates.keys.items) (map (λ key. key.now) c.add_some.new.keys.items)
       c.args.entries.now c.loop-updates.updates-index c.updates-item.result keys_split c.loop-updates-test.true c.updates-item.is (c.in_ok-add_some.ensures.all one) (c.loop-updates.invariant.all one);
 }
-
-pub returns-clause-all : goal.returns-clause-all
-returns-clause-all c = λ one.
-    let old : List (List ℕ) = map (λ key. key.now) c.args.keys.now.items in
-    c.loop-updates.invariant.all one ∙ ap (λ (lists : List (List Update)). old ++ keys_in (joined lists)) (take_all c.loop-updates.updates-index c.args.entries.now c.loop-updates-test.false)

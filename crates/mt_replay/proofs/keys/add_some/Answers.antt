@@ -1,9 +1,7 @@
-use Rattle.std.proofs.Common.{◌≡◌, ◌<◌, ◌++◌, List, ℕ, length, map, take, sym, ap, ◌∙◌, subst, arith}
+use Rattle.std.proofs.Common.{◌≡◌, ◌<◌, length, sym, ap, ◌∙◌, subst, arith}
 use Rattle.std.specs.Prelude.{slice_index_or}
-use Rattle.std.proofs.Math.Seq.{take-length}
 use Rattle.mt_words.specs.Limits.{widest}
 use Rattle.mt_words.specs.Words.{IsKey}
-use Rattle.mt_replay.specs.Cuts.{keys_in}
 use Rattle.mt_replay.proofs.DistinctLemmas.{keys_more, each_more, every_place, every_count}
 use Rattle.mt_replay.proofs.keys.add_some.Goals as goal
 
@@ -19,10 +17,3 @@ loop-number-preserved c =
           let is : c.get.result ≡ slice_index_or updates number c.get.result = c.get.ensures c.get.result ∙ ap (λ n. slice_index_or updates n c.get.result) (every_place number distance one) in
           keys_more (λ key. key.now) c.args.keys.now.items c.loop-number.keys.items c.push.new.self.items updates number c.key.result c.get.result below is c.key.ensures.value c.in_ok-push.ensures.items (c.loop-number.invariant.all one);
     }
-
-pub returns-clause-all : goal.returns-clause-all
-returns-clause-all c = λ one.
-    let updates = c.args.updates.now in
-    let old : List (List ℕ) = map (λ key. key.now) c.args.keys.now.items in
-    let all : c.loop-number.number ≡ length updates = omega (arith, every_count c.len.result c.args.distance one, c.len.ensures.value) in
-    c.loop-number.invariant.all one ∙ ap (λ n. old ++ keys_in (take n updates)) all ∙ ap (λ us. old ++ keys_in us) (take-length updates)

@@ -3,8 +3,5 @@ use Rattle.mt_words.specs.Words.{IsKey}
 use Rattle.mt_replay.proofs.DistinctLemmas.{kept_each}
 use Rattle.mt_replay.proofs.keys.sampled_keys.Goals as goal
 
-pub returns-clause-rising : goal.returns-clause-rising
-returns-clause-rising c = c.keep_each_once.ensures.rise
-
 pub returns-clause-lawful : goal.returns-clause-lawful
 returns-clause-lawful c = kept_each (IsKey widest) _ _ c.keep_each_once.ensures (c.in_ok-add_entries.ensures.lawful c.loop-batch.invariant)

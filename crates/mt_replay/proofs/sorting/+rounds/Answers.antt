@@ -1,6 +1,6 @@
 use Rattle.std.proofs.Common.{◌≡◌, ◌+◌, ◌-◌, ◌/◌, ◌%◌, ◌^◌, ◌<◌, ℕ, List, length, get_or, drop, take, sym, ap, ◌∙◌, subst, arith}
 use Rattle.std.specs.Prelude.{All, IsPermutation}
-use Rattle.std.proofs.lemmas.List.{length-map, length-drop, length-take-le, drop-drop, take_all, get_or-drop}
+use Rattle.std.proofs.lemmas.List.{length-map, length-drop, length-take-le, drop-drop, get_or-drop}
 use Rattle.std.proofs.lemmas.List.Elements.{All-nil}
 use Rattle.std.proofs.lemmas.List.Sorted.{All-permutation, IsNonDecreasingBy-from_sort, IsPermutation-map, IsPermutation-trans, length_permutation}
 use Rattle.std.proofs.lemmas.Slice.{take-put_mid, drop-put_mid}
@@ -58,11 +58,6 @@ sort_from-loop-at-preserved t c =
       same = IsPermutation-trans (places bits c.args.numbers.now) (places bits xs) _ before.same (places_moved bits at n xs run c.sort_run.ensures.same);
       sorted = subst (λ (ns : List ℕ). AreSorted bits c.args.texts.now c.args.depth ns (drop end (put_mid at n xs run))) (sym done) (subst (AreSorted bits c.args.texts.now c.args.depth _) (sym after) sorted);
     }
-
-pub sort_from-returns-clause-in_order : goal.sort_from-returns-clause-in_order
-sort_from-returns-clause-in_order t c =
-    let whole = take_all c.loop-at.at c.loop-at.numbers (omega (arith, c.loop-at-test.false)) in
-    subst (λ (ns : List ℕ). AreInOrder (rests c.args.bits c.args.texts.now c.args.depth ns)) whole c.loop-at.invariant.sorted.in_order
 
 pub sort_run-returns-then-are_alike-clause-in_order : goal.sort_run-returns-then-are_alike-clause-in_order
 sort_run-returns-then-are_alike-clause-in_order t c =

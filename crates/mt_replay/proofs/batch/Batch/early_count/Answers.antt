@@ -20,9 +20,6 @@ overflow_add-count c =
     let few = early_few c.args.begin c.deref-share-items.result.now (c.loop-share.share-index + 1) in
     omega (arith, step c, few, ap (λ (l : List ShareView). length (flat_map updates_of_share l)) c.deref-share-items.ensures.value, c.self.invariant.0, c.self.invariant.1)
 
-pub loop-share-preserved : goal.loop-share-preserved
-loop-share-preserved c = sym (step c)
-
 pub returns : goal.returns
 returns c =
     c.loop-share.invariant

@@ -2,7 +2,6 @@ use Rattle.std.proofs.Common.{◌≡◌, ◌<◌, ◌+◌, ◌^◌, ◌++◌, �
 use Rattle.std.specs.List.{flat_map}
 use Rattle.std.proofs.lemmas.List.{length-append, flat_map_more}
 use Rattle.mt_record.specs.Shares.{updates_of_share}
-use Rattle.mt_replay.specs.Batches.{BatchView}
 use Rattle.mt_replay.proofs.BatchLemmas.{share_few}
 use Rattle.mt_replay.proofs.batch.Batch.push.Goals as goal
 
@@ -16,6 +15,3 @@ invariant_of-self-2 c =
     let records : c.in-Some.records ≡ c.self.inside.records + length c.args.share.records = search rules in
     let fits : c.in-Some.records < 2 ^ 64 = search rules in
     (omega (arith, all, share_few c.args.share, c.self.invariant.0, records), fits)
-
-pub returns-clause-updates : goal.returns-clause-updates
-returns-clause-updates c = longer c ∙ ap (λ (b : BatchView). b.updates ++ updates_of_share c.args.share) c.self.view_is

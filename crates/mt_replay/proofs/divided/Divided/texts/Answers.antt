@@ -1,4 +1,4 @@
-use Rattle.std.proofs.Common.{◌≡◌, ◌∙◌, ◌++◌, List, length, ap, arith}
+use Rattle.std.proofs.Common.{◌∙◌, ◌++◌, List, length, ap, arith}
 use Rattle.mt_words.specs.declared.update.Update.{Update}
 use Rattle.mt_words.specs.Walks.{joined}
 use Rattle.mt_replay.specs.Cuts.{updates_in}

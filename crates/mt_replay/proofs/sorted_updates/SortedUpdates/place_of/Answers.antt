@@ -25,6 +25,3 @@ loop-low-preserved c =
       before = c.loop-low.invariant.before;
       after = none_under c.args.self.now c.args.key.now (c.loop-low.low + (c.loop-low.high - c.loop-low.low) / 2) c.len-high.ensures.in_order here;
     }
-
-pub returns-clause-point : goal.returns-clause-point
-returns-clause-point c = (λ k d least below. c.loop-low.invariant.before k d below, λ k d least below. c.loop-low.invariant.after k d (omega (arith, least, c.loop-low-test.false)) below)
