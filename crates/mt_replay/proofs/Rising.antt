@@ -45,11 +45,6 @@ rise_push (k ∷ l ∷ ks) key rise below =
     let rest : AreRising (l ∷ ks ++ key ∷ []) = rise_push (l ∷ ks) key rise.1 (λ d some. subst (λ n. IsBelow (slice_index_or (k ∷ l ∷ ks) n d) key) place (below d (omega arith))) in
     ((rise.0.0, all_from (IsBelow k) (ks ++ key ∷ []) (λ x at. below_trans k l x rise.0.0 (of_each (IsBelow l) (ks ++ key ∷ []) x rest.0 at))), rest)
 
--- one key rises
-pub one_rises : (keys : List (List ℕ)) → AreRising (take 1 keys)
-one_rises [] = tt
-one_rises (k ∷ ks) = (tt, tt)
-
 -- the order of borrowed keys
 abbrev pub order_of : {B : Type 0} → (B → List ℕ) → B → B → Ordering
 order_of now a b = slice_cmp nat_cmp (now a) (now b)

@@ -85,9 +85,9 @@ impl Batch {
         keys: &mut Vec<&'a [u8]>,
         distance: usize,
     ) -> Result<(), Memory>
-        requires { 0 < distance }
-        ensures { OnOk result (All (IsKey widest) (map (λ key. key.now) keys.old.items) →
-            All (IsKey widest) (map (λ key. key.now) keys.new.items)) }
+        requires some { 0 < distance }
+        requires lawful { All (IsKey widest) (map (λ key. key.now) keys.old.items) }
+        ensures { OnOk result (All (IsKey widest) (map (λ key. key.now) keys.new.items)) }
     {
         for share in &self.shares {
             add_keys_of(share, keys, distance)?;
@@ -142,9 +142,9 @@ fn add_keys_of<'a>(
     keys: &mut Vec<&'a [u8]>,
     distance: usize,
 ) -> Result<(), Memory>
-    requires { 0 < distance }
-    ensures { OnOk result (All (IsKey widest) (map (λ key. key.now) keys.old.items) →
-        All (IsKey widest) (map (λ key. key.now) keys.new.items)) }
+    requires some { 0 < distance }
+    requires lawful { All (IsKey widest) (map (λ key. key.now) keys.old.items) }
+    ensures { OnOk result (All (IsKey widest) (map (λ key. key.now) keys.new.items)) }
 {
     for number in 0..share.len() / distance {
         if let Some(update) = share.update(number * distance + distance / 2) {

@@ -111,8 +111,8 @@ fn add_survivors<'a>(
     batch: &'a Batch,
     window: Window,
 ) -> Result<(), Memory>
-    ensures lawful { OnOk result (All (IsKey widest) (map (λ key. key.now) keys.old.items) →
-        All (IsKey widest) (map (λ key. key.now) keys.new.items)) }
+    requires { All (IsKey widest) (map (λ key. key.now) keys.old.items) }
+    ensures lawful { OnOk result (All (IsKey widest) (map (λ key. key.now) keys.new.items)) }
     ensures all { OnOk result (map (λ key. key.now) keys.new.items ≡
         map (λ key. key.now) keys.old.items ++ keys_in (filter (in_window window) batch.now.updates)) }
 {
@@ -130,9 +130,9 @@ fn add_entries<'a>(
     entries: &'a [SortedUpdates],
     distance: usize,
 ) -> Result<(), Memory>
-    requires { 0 < distance }
-    ensures lawful { OnOk result (All (IsKey widest) (map (λ key. key.now) keys.old.items) →
-        All (IsKey widest) (map (λ key. key.now) keys.new.items)) }
+    requires some { 0 < distance }
+    requires lawful { All (IsKey widest) (map (λ key. key.now) keys.old.items) }
+    ensures lawful { OnOk result (All (IsKey widest) (map (λ key. key.now) keys.new.items)) }
     ensures all { OnOk result (distance ≡ 1 →
         map (λ key. key.now) keys.new.items ≡ map (λ key. key.now) keys.old.items ++ keys_in (joined entries.now)) }
 {
@@ -148,9 +148,9 @@ fn add_some<'a>(
     updates: &'a SortedUpdates,
     distance: usize,
 ) -> Result<(), Memory>
-    requires { 0 < distance }
-    ensures lawful { OnOk result (All (IsKey widest) (map (λ key. key.now) keys.old.items) →
-        All (IsKey widest) (map (λ key. key.now) keys.new.items)) }
+    requires some { 0 < distance }
+    requires lawful { All (IsKey widest) (map (λ key. key.now) keys.old.items) }
+    ensures lawful { OnOk result (All (IsKey widest) (map (λ key. key.now) keys.new.items)) }
     ensures all { OnOk result (distance ≡ 1 →
         map (λ key. key.now) keys.new.items ≡ map (λ key. key.now) keys.old.items ++ keys_in updates.now) }
 {

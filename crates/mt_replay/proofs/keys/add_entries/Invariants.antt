@@ -9,6 +9,6 @@ use Rattle.mt_replay.proofs.keys.add_entries.Given as goal
 -- keys of the first lists are added
 abbrev pub invariant-loop-updates : goal.invariant-loop-updates
 invariant-loop-updates l = record {
-  lawful : All (IsKey widest) (map (λ key. key.now) l.fn.keys.items) → All (IsKey widest) (map (λ key. key.now) l.keys.items);
+  lawful : All (IsKey widest) (map (λ key. key.now) l.keys.items);
   all : l.fn.distance ≡ 1 → map (λ key. key.now) l.keys.items ≡ map (λ key. key.now) l.fn.keys.items ++ keys_in (joined (take l.updates-index l.entries));
 }

@@ -4,4 +4,4 @@ use Rattle.mt_replay.proofs.DistinctLemmas.{kept_each}
 use Rattle.mt_replay.proofs.keys.sampled_keys.Goals as goal
 
 pub returns-clause-lawful : goal.returns-clause-lawful
-returns-clause-lawful c = kept_each (IsKey widest) _ _ c.keep_each_once.ensures (c.in_ok-add_entries.ensures.lawful c.loop-batch.invariant)
+returns-clause-lawful c = kept_each (IsKey widest) _ _ c.keep_each_once.ensures c.in_ok-add_entries.ensures.lawful

@@ -4,6 +4,6 @@ use Rattle.mt_words.specs.Limits.{widest}
 use Rattle.mt_words.specs.Words.{IsKey}
 use Rattle.mt_replay.proofs.batch.Batch.add_keys.Given as goal
 
--- the keys so far are lawful, if the given ones are
+-- the keys so far are lawful
 abbrev pub invariant-loop-share : goal.invariant-loop-share
-invariant-loop-share l = All (IsKey widest) (map (λ key. key.now) l.fn.keys.items) → All (IsKey widest) (map (λ key. key.now) l.keys.items)
+invariant-loop-share l = All (IsKey widest) (map (λ key. key.now) l.keys.items)
