@@ -1,12 +1,12 @@
 -- The updates of a batch, share by share and record by record.
-use Rattle.std.proofs.Common.{◌≡◌, ℕ, ◌+◌, ◌<◌, ◌≤◌, Bool, true, false, not, ◌||◌, Option, Some, None, List, [], ◌∷◌, ◌++◌, length, take, drop, get_or, append_assoc, refl, sym, ap, cond, ◌∙◌, arith}
+use Rattle.std.proofs.Common.{◌≡◌, ℕ, ◌+◌, ◌<◌, ◌≤◌, Bool, true, false, not, ◌||◌, Option, Some, None, List, [], ◌∷◌, ◌++◌, length, take, drop, get_or, refl, sym, ap, cond, ◌∙◌, arith}
 use Rattle.std.specs.Prelude.{filter, nat_lt}
 use Rattle.std.specs.List.{flat_map, list_any}
 use Rattle.std.proofs.lemmas.Bool.Decides.{nat_tests}
-use Rattle.std.proofs.lemmas.List.{length-take-le, length-append, take_more, take-append-drop, flat_map_more}
+use Rattle.std.proofs.lemmas.List.{length-take-le, length-append, take-append-drop}
 use Rattle.std.proofs.lemmas.List.Concat.{flat_map-append}
 use Rattle.std.proofs.lemmas.List.Filters.{length-filter_both}
-use Rattle.std.proofs.lemmas.List.Elements.{filter-append}
+use Rattle.std.proofs.lemmas.Grind.{common_steps}
 use Rattle.mt_words.specs.declared.update.Update.{Update}
 use Rattle.mt_words.specs.Changes.{Logged}
 use Rattle.mt_words.specs.Built.{mark_of}
@@ -29,21 +29,16 @@ first_of share n = updates_from share.log share.from (take n share.records)
 pub share_step : (share : ShareView) (i : ℕ) (more : List Update) → i < length share.records → ((d : Logged) → more ≡ update_of share.log (share.from + i) (get_or share.records i d))
     → first_of share (i + 1) ≡ first_of share i ++ more
 share_step share i more below is =
-    let r : Logged = get_or share.records i (mark_of 0) in
-    ap (updates_from share.log share.from) (take_more share.records i (mark_of 0) below)
-    ∙ updates_push share.log share.from (share.from + i) (take i share.records) r (omega (arith, length-take-le i share.records (omega (arith, below))))
-    ∙ ap (λ (us : List Update). first_of share i ++ us) (sym (is (mark_of 0)))
+    let few = length-take-le i share.records (omega (arith, below)) in
+    let next = is (mark_of 0) in
+    let pushed = updates_push share.log share.from (share.from + i) (take i share.records) (get_or share.records i (mark_of 0)) (omega (arith, few)) in
+    grind (arith, common_steps)
 
 -- and its survivors
 pub survivors_step : (window : Window) (share : ShareView) (i : ℕ) (start old new more : List Update) → i < length share.records → ((d : Logged) → more ≡ update_of share.log (share.from + i) (get_or share.records i d))
     → old ≡ start ++ filter (in_window window) (first_of share i) → new ≡ old ++ filter (in_window window) more
     → new ≡ start ++ filter (in_window window) (first_of share (i + 1))
-survivors_step window share i start old new more below is so_far added =
-    let before = filter (in_window window) (first_of share i) in
-    added
-    ∙ ap (λ (us : List Update). us ++ filter (in_window window) more) so_far
-    ∙ append_assoc start before (filter (in_window window) more)
-    ∙ ap (λ (us : List Update). start ++ us) (sym (filter-append (in_window window) (first_of share i) more) ∙ ap (filter (in_window window)) (sym (share_step share i more below is)))
+survivors_step window share i start old new more below is so_far added = let one = share_step share i more below is in grind (arith, common_steps)
 
 -- a share has at most as many updates as records
 pub share_few : (share : ShareView) → length (updates_of_share share) ≤ length share.records
@@ -53,10 +48,7 @@ share_few share = omega (arith, marks_and_updates share.log share.from share.rec
 
 -- the updates of one more
 pub flat_step : {X : Type 0} (f : X → List Update) (xs : List X) (i : ℕ) (next : X) → i < length xs → next ≡ get_or xs i next → flat_map f (take (i + 1) xs) ≡ flat_map f (take i xs) ++ f next
-flat_step f xs i next below is =
-    ap (flat_map f) (take_more xs i next below)
-    ∙ sym (flat_map_more f [] (take i xs) (get_or xs i next))
-    ∙ ap (λ x. flat_map f (take i xs) ++ f x) (sym is)
+flat_step f xs i next below is = grind (arith, common_steps)
 
 -- the updates of one list more
 pub joined_step : (lists : List (List Update)) (i : ℕ) (next : List Update) → i < length lists → next ≡ get_or lists i next → joined (take (i + 1) lists) ≡ joined (take i lists) ++ next
@@ -81,11 +73,11 @@ counted u false = refl
 
 pub early_one : (begin : ℕ) (update : Option Update) → length (filter (is_early begin) (as_list update)) ≡ one_if (list_any (is_early begin) (as_list update))
 early_one begin None = refl
-early_one begin (Some u) = counted u (is_early begin u)
+early_one begin (Some u) = grind (arith, common_steps)
 
 -- the early updates of some updates and then of others are those of all
 pub early_both : (begin : ℕ) (us ws : List Update) → length (filter (is_early begin) (us ++ ws)) ≡ length (filter (is_early begin) us) + length (filter (is_early begin) ws)
-early_both begin us ws = ap length (filter-append (is_early begin) us ws) ∙ length-append (filter (is_early begin) us) (filter (is_early begin) ws)
+early_both begin us ws = grind (arith, common_steps)
 
 -- no timestamp is below 0
 not_below : (time begin : ℕ) → begin ≡ 0 → nat_lt time begin ≡ false
@@ -97,8 +89,7 @@ none_early begin updates zero = ap length (filter_none (is_early begin) updates 
 -- the early updates of one share more
 pub early_step : (begin : ℕ) (shares : List ShareView) (i : ℕ) (next : ShareView) → i < length shares → next ≡ get_or shares i next
     → length (filter (is_early begin) (flat_map updates_of_share (take (i + 1) shares))) ≡ length (filter (is_early begin) (flat_map updates_of_share (take i shares))) + length (filter (is_early begin) (updates_of_share next))
-early_step begin shares i next below is =
-    ap (λ (us : List Update). length (filter (is_early begin) us)) (flat_step updates_of_share shares i next below is) ∙ early_both begin (flat_map updates_of_share (take i shares)) (updates_of_share next)
+early_step begin shares i next below is = let one = flat_step updates_of_share shares i next below is in grind (arith, common_steps)
 
 -- the early updates of the first shares are no more than the updates of all
 pub early_few : (begin : ℕ) (shares : List ShareView) (i : ℕ) → length (filter (is_early begin) (flat_map updates_of_share (take i shares))) ≤ length (flat_map updates_of_share shares)

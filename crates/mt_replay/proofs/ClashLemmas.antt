@@ -67,10 +67,7 @@ key_apart : (a b : List ℕ) → IsBelow a b → IsBelow b a → ⊥
 key_apart a b lt gt = true≢false (sym gt ∙ below_order.one_way a b lt)
 
 clash_apart : (a b : Clash) → IsLowerClash a b → IsLowerClash b a → ⊥
-clash_apart a b (inl p) (inl q) = key_apart a.key b.key p q
-clash_apart a b (inl p) (inr q) = let itself : IsBelow a.key a.key = subst (IsBelow a.key) q.0 p in key_apart a.key a.key itself itself
-clash_apart a b (inr p) (inl q) = let itself : IsBelow b.key b.key = subst (IsBelow b.key) p.0 q in key_apart b.key b.key itself itself
-clash_apart a b (inr p) (inr q) = omega (arith, p.1, q.1)
+clash_apart a b p q = let never = key_apart a.key b.key in let itself = key_apart a.key a.key in grind arith
 
 -- ---- what stands
 
@@ -120,8 +117,7 @@ abbrev pub IsLower : List ℕ → ℕ → List ℕ → ℕ → Type 0
 IsLower key version other later = IsBelow key other ⊎ ((key ≡ other) × (version < later))
 
 not_itself : (key : List ℕ) (version : ℕ) → IsLower key version key version → ⊥
-not_itself key version (inl lt) = key_apart key key lt lt
-not_itself key version (inr lt) = omega (arith, lt.1)
+not_itself key version lt = let itself = key_apart key key in grind arith
 
 -- either stands
 abbrev pub Either : Standing → Standing → Standing

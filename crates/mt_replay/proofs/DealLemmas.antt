@@ -2,9 +2,8 @@
 use Rattle.std.proofs.Common.{◌≡◌, ◌≢◌, ◌∙◌, inl, inr, ℕ, zero, suc, ◌+◌, ◌<◌, ◌≤◌, true, false, not, List, [], ◌∷◌, ◌++◌, length, map, Option, Some, Ordering, refl, sym, ap, subst, cond, fold, append_assoc, arith, length-append, take, get_or}
 use Rattle.std.specs.Prelude.{slice_get, slice_index_or, slice_set, filter, nat_lt, IsPermutation}
 use Rattle.std.specs.List.{range_with_len}
-use Rattle.std.specs.Ordering.{nat_cmp, is_lt, MatchOrdering}
-use Rattle.std.specs.declared.cmp.Ordering.TheVariants.{Less, Equal, Greater}
-use Rattle.std.proofs.lemmas.Bool.{cases_lt, cases_order, and_parts, and_from, not-true, not_from_false, both_ways, false_from_ne_true}
+use Rattle.std.specs.Ordering.{nat_cmp, is_lt}
+use Rattle.std.proofs.lemmas.Bool.{cases_lt, cases_order, and_parts, and_from, not-true, both_ways}
 use Rattle.std.proofs.lemmas.Bool.Decides.{nat_tests}
 use Rattle.std.proofs.lemmas.Cmp.{ranked}
 use Rattle.std.proofs.lemmas.Option.{slice_get_past, slice_get-get_or}
@@ -12,6 +11,7 @@ use Rattle.std.proofs.lemmas.List.{append-nil, same_lists, get_or_default, lengt
 use Rattle.std.proofs.lemmas.List.FromFn.{length-map-range_with_len, get_or-map-range_with_len, map-range_with_len_more}
 use Rattle.std.proofs.lemmas.List.Elements.{filter-append, All-weaker, filter_passes}
 use Rattle.std.proofs.lemmas.List.Sorted.{IsPermutation-append, IsPermutation-trans, IsPermutation-refl}
+use Rattle.std.proofs.lemmas.Grind.{common_steps}
 use Rattle.mt_words.specs.declared.update.Update.{Update}
 use Rattle.mt_words.specs.Slices.{AreBytes, slice_in}
 use Rattle.mt_words.specs.Words.{AreRising}
@@ -34,12 +34,7 @@ use Rattle.mt_replay.proofs.FilterLemmas.{filter_every, filter_none}
 -- ---- a key and a cut
 
 opposite : (a b : ℕ) → a ≢ b → nat_lt b a ≡ not (is_lt (nat_cmp a b))
-opposite a b apart = by (nat_cmp a b) (ranked a b _ refl)
-  where
-    by : (o : Ordering) → MatchOrdering o (a < b) (a ≡ b) (b < a) → nat_lt b a ≡ not (is_lt o)
-    by Less h = let low : a < b = h in grind (arith, nat_tests)
-    by Equal h = absurd (apart h)
-    by Greater h = let high : b < a = h in grind (arith, nat_tests)
+opposite a b apart = let order = ranked a b (nat_cmp a b) refl in grind (arith, nat_tests)
 
 -- slices that differ tell whether a key is at or after a cut
 pub slices_tell : (key cut : List ℕ) → AreBytes key → AreBytes cut → slice_in key ≢ slice_in cut → nat_lt (slice_in cut) (slice_in key) ≡ not (is_below key cut)
@@ -49,31 +44,29 @@ slices_tell key cut p q apart =
 -- a key that is not below a cut is not below those before it
 pub none_above : (cuts : List (List ℕ)) (key : List ℕ) (m : ℕ) → AreRising cuts → m < length cuts → ((d : List ℕ) → is_below key (slice_index_or cuts m d) ≡ false)
     → (k : ℕ) (d : List ℕ) → k < m + 1 → is_below key (slice_index_or cuts k d) ≡ false
-none_above cuts key m rise within here k d before = elim (cases_lt k m) as (λ _. is_below key (slice_index_or cuts k d) ≡ false) [
-  | inl lt ↦ above_by (slice_index_or cuts k d) (slice_index_or cuts m d) key (below_later cuts rise k m d lt within) (here d)
-  | inr ge ↦ let same : m ≡ k = omega arith in subst (λ n. is_below key (slice_index_or cuts n d) ≡ false) same (here d)
-]
+none_above cuts key m rise within here k d before =
+    let far = below_later cuts rise k m d in
+    let up = above_by (slice_index_or cuts k d) (slice_index_or cuts m d) key in
+    let last = here d in
+    grind arith
 
 -- a key that is below a cut is below those after it
 pub all_above : (cuts : List (List ℕ)) (key : List ℕ) (m : ℕ) → AreRising cuts → ((d : List ℕ) → is_below key (slice_index_or cuts m d) ≡ true)
     → (k : ℕ) (d : List ℕ) → m ≤ k → k < length cuts → is_below key (slice_index_or cuts k d) ≡ true
-all_above cuts key m rise here k d behind within = elim (cases_lt m k) as (λ _. is_below key (slice_index_or cuts k d) ≡ true) [
-  | inl lt ↦ below_trans key (slice_index_or cuts m d) (slice_index_or cuts k d) (here d) (below_later cuts rise m k d lt within)
-  | inr ge ↦ let same : m ≡ k = omega arith in subst (λ n. is_below key (slice_index_or cuts n d) ≡ true) same (here d)
-]
+all_above cuts key m rise here k d behind within =
+    let far = below_later cuts rise m k d in
+    let up = below_trans key (slice_index_or cuts m d) (slice_index_or cuts k d) in
+    let first = here d in
+    grind arith
 
 -- ---- the piece of a key
 
 after_lower : (cuts : List (List ℕ)) (p : ℕ) (key : List ℕ) → p ≤ length cuts → ((k : ℕ) (d : List ℕ) → k < p → is_below key (slice_index_or cuts k d) ≡ false) → is_after (lower_cut cuts p) key ≡ true
 after_lower cuts zero key within before = refl
-after_lower cuts (suc p) key within before =
-    ap (λ (cut : Option (List ℕ)). is_after cut key) (slice_get-get_or cuts p [] (omega arith)) ∙ not_from_false (is_below key (slice_index_or cuts p [])) (before p [] (omega arith))
+after_lower cuts (suc p) key within before = let at = before p [] in let cut = slice_get-get_or cuts p [] in grind (arith, common_steps)
 
 below_upper : (cuts : List (List ℕ)) (p : ℕ) (key : List ℕ) → ((k : ℕ) (d : List ℕ) → p ≤ k → k < length cuts → is_below key (slice_index_or cuts k d) ≡ true) → is_below_cut (slice_get cuts p) key ≡ true
-below_upper cuts p key after = elim (cases_lt p (length cuts)) as (λ _. is_below_cut (slice_get cuts p) key ≡ true) [
-  | inl lt ↦ ap (λ (cut : Option (List ℕ)). is_below_cut cut key) (slice_get-get_or cuts p [] lt) ∙ after p [] (omega arith) lt
-  | inr ge ↦ ap (λ (cut : Option (List ℕ)). is_below_cut cut key) (slice_get_past cuts p ge)
-]
+below_upper cuts p key after = let at = after p [] in let cut = slice_get-get_or cuts p [] in let past = slice_get_past cuts p in grind (arith, common_steps)
 
 -- a key is in the piece whose number is that of the cuts that are not above it
 pub piece_at : (cuts : List (List ℕ)) (p : ℕ) (key : List ℕ) → p ≤ length cuts → ((k : ℕ) (d : List ℕ) → k < p → is_below key (slice_index_or cuts k d) ≡ false)
@@ -92,13 +85,7 @@ not_later cuts p (suc q) key rise lt within first second =
 
 -- a key is in one piece alone
 pub one_piece : (cuts : List (List ℕ)) (p q : ℕ) (key : List ℕ) → AreRising cuts → p ≤ length cuts → q ≤ length cuts → in_piece cuts p key ≡ true → q ≢ p → in_piece cuts q key ≡ false
-one_piece cuts p q key rise within too here apart = false_from_ne_true (in_piece cuts q key) (λ there. elim (cases_order q p) as (λ _. ⊥) [
-  | inl same ↦ apart same
-  | inr either ↦ elim either as (λ _. ⊥) [
-    | inl lt ↦ not_later cuts q p key rise lt within there here
-    | inr gt ↦ not_later cuts p q key rise gt too here there
-  ]
-])
+one_piece cuts p q key rise within too here apart = let later = not_later cuts p q key rise in let before = not_later cuts q p key rise in grind arith
 
 -- ---- updates that are dealt
 
@@ -117,12 +104,10 @@ empty_more lists more list n empty none is =
 
 -- one update more belongs to the list of its piece
 own_more : (cuts : List (List ℕ)) (i : ℕ) (before : List Update) (u : Update) → in_piece cuts i u.key ≡ true → updates_in cuts i (before ++ u ∷ []) ≡ updates_in cuts i before ++ u ∷ []
-own_more cuts i before u here =
-    filter-append (λ (w : Update). in_piece cuts i w.key) before (u ∷ []) ∙ ap (λ b. updates_in cuts i before ++ cond b (u ∷ []) []) here
+own_more cuts i before u here = grind (arith, common_steps)
 
 other_same : (cuts : List (List ℕ)) (i : ℕ) (before : List Update) (u : Update) → in_piece cuts i u.key ≡ false → updates_in cuts i (before ++ u ∷ []) ≡ updates_in cuts i before
-other_same cuts i before u apart =
-    filter-append (λ (w : Update). in_piece cuts i w.key) before (u ∷ []) ∙ ap (λ b. updates_in cuts i before ++ cond b (u ∷ []) []) apart ∙ append-nil (updates_in cuts i before)
+other_same cuts i before u apart = grind (arith, common_steps)
 
 pub dealt_more : (cuts : List (List ℕ)) (before : List Update) (u : Update) (p : ℕ) (old more : List Update) → AreRising cuts → p ≤ length cuts → in_piece cuts p u.key ≡ true
     → old ≡ slice_index_or (dealt_by cuts before) p old → more ≡ old ++ u ∷ [] → slice_set (dealt_by cuts before) p more ≡ dealt_by cuts (before ++ u ∷ [])
@@ -186,10 +171,7 @@ extended_more (list ∷ lists) (o ∷ others) other old within is = ap (λ (ls :
 
 pub range_more : (lists ranges others : List (List Update)) (other old more : List Update) (p : ℕ) → ranges ≡ extended lists others → p ≡ length others → p < length ranges → old ≡ slice_index_or ranges p old → more ≡ old ++ other
     → slice_set ranges p more ≡ extended lists (others ++ other ∷ [])
-range_more lists ranges others other old more p so_far place below is longer =
-    let long = ap length so_far ∙ extended_length lists others in
-    (λ i. slice_set (so_far i) (place i) (longer i))
-    ∙ extended_more lists others other old (omega (arith, long, place, below)) (is ∙ (λ i. slice_index_or (so_far i) (place i) old))
+range_more lists ranges others other old more p so_far place below is longer = let long = extended_length lists others in let next = extended_more lists others other old in grind (arith, common_steps)
 
 -- what several lists of dealt updates have for each piece is what all their updates have
 pub dealt_in_turn : (cuts : List (List ℕ)) (before : List Update) (shares : List (List Update)) → fold extended (dealt_by cuts before) (map (dealt_by cuts) shares) ≡ dealt_by cuts (before ++ joined shares)
@@ -228,7 +210,7 @@ module _ (cuts : List (List ℕ)) (updates : List Update) (i : ℕ) (rise : AreR
   before n = map (λ (k : ℕ). updates_in cuts k updates) (range_with_len 0 n)
 
   own : updates_in cuts i (updates_in cuts i updates) ≡ updates_in cuts i updates
-  own = filter_every (λ (u : Update). in_piece cuts i u.key) (updates_in cuts i updates) (filter_passes (λ (u : Update). in_piece cuts i u.key) updates)
+  own = let every = filter_passes (λ (u : Update). in_piece cuts i u.key) updates in filter_every (λ (u : Update). in_piece cuts i u.key) (updates_in cuts i updates) every
 
   other : (k : ℕ) → k ≤ length cuts → i ≢ k → updates_in cuts i (updates_in cuts k updates) ≡ []
   other k too apart = filter_none (λ (u : Update). in_piece cuts i u.key) (updates_in cuts k updates)
@@ -282,4 +264,4 @@ dealt_anew cuts ranges are =
 
 -- the texts of a range, and then the entries of its piece, are the updates of the piece
 pub of_texts : (cuts : List (List ℕ)) (logged held range texts : List Update) (i : ℕ) → range ≡ updates_in cuts i logged → texts ≡ range ++ updates_in cuts i held → texts ≡ updates_in cuts i (logged ++ held)
-of_texts cuts logged held range texts i is all = all ∙ ap (λ (us : List Update). us ++ updates_in cuts i held) is ∙ sym (filter-append (λ (u : Update). in_piece cuts i u.key) logged held)
+of_texts cuts logged held range texts i is all = grind (arith, common_steps)

@@ -4,13 +4,14 @@ use Rattle.std.specs.Prelude.{All, IsPermutation, Option, Some, None, slice_get}
 use Rattle.std.specs.List.{range_with_len}
 use Rattle.std.specs.List.Sorted.{IsSortedBy}
 use Rattle.std.specs.Int.Bits.{bit_or}
-use Rattle.std.proofs.lemmas.List.{map-append, take-map, drop-map, drop-drop, get_or-map, length-map, map-id, take_more, take_all, drop_all, take-append-drop}
+use Rattle.std.proofs.lemmas.List.{map-append, take-map, drop-map, drop-drop, get_or-map, length-map, map-id, take_all, drop_all, take-append-drop}
 use Rattle.std.proofs.lemmas.List.FromFn.{length-range_with_len, get_or-range_with_len, map-range_with_len_more}
 use Rattle.std.proofs.lemmas.List.Sorted.{All-permutation, IsPermutation-map, IsPermutation-put_mid}
 use Rattle.std.proofs.lemmas.Nat.{or_shifted}
 use Rattle.std.proofs.Math.Nat.{div-mul-le_self, mod-eq_of_lt}
 use Rattle.itertools.proofs.KMergeLemmas.{All-of-map}
 use borrow.Rule.Slice.PartMut.{mid_of, put_mid}
+use Rattle.std.proofs.lemmas.Grind.{common_steps}
 use Rattle.mt_words.specs.declared.update.Update.{Update}
 use Rattle.mt_replay.specs.Cuts.{is_below, InKeyOrder}
 use Rattle.mt_replay.specs.Steps.Numbers.{places, in_turn, rest_at, rest_in, rest_of, rests, AreInOrder}
@@ -104,10 +105,9 @@ in_turn_first : (updates : List Update) (d : Update) (n : ℕ) → n ≤ length 
 in_turn_first updates d zero within = refl
 in_turn_first updates d (suc n) within =
     let next : n + 1 ≡ suc n = omega arith in
-    let turn : ℕ → Update = λ place. get_or updates place d in
-    subst (λ (m : ℕ). in_turn updates d (range_with_len 0 m) ≡ take m updates) next
-    (ap (map turn) (range_more n) ∙ map-append turn (range_with_len 0 n) (n ∷ []) ∙ (λ i. in_turn_first updates d n (omega (arith, within)) i ++ turn n ∷ [])
-    ∙ sym (take_more updates n d (omega (arith, within))))
+    let so_far = in_turn_first updates d n (omega (arith, within)) in
+    let more = range_more n in
+    grind (arith, common_steps)
 
 -- the updates at all places, in another order
 pub in_turn_moved : (bits : ℕ) (updates : List Update) (d : Update) (numbers : List ℕ) → IsPermutation (range_with_len 0 (length updates)) (places bits numbers) → IsPermutation updates (in_turn updates d (places bits numbers))

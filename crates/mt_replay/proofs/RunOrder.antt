@@ -1,10 +1,9 @@
 -- Numbers that are in order are sorted run by run: a run is of one head.
-use Rattle.std.proofs.Common.{◌≡◌, ℕ, ◌+◌, ◌-◌, ◌<◌, ◌≤◌, ◌/◌, ◌^◌, List, ◌++◌, length, get_or, take, drop, inl, inr, false, refl, sym, ap, ◌∙◌, subst, arith}
+use Rattle.std.proofs.Common.{◌≡◌, ℕ, ◌+◌, ◌-◌, ◌<◌, ◌≤◌, ◌/◌, ◌^◌, List, ◌++◌, length, get_or, take, drop, false, sym, ap, ◌∙◌, subst, arith}
 use Rattle.std.specs.Prelude.{All, IsPermutation}
 use Rattle.std.specs.declared.cmp.Ordering.TheVariants.{Greater}
 use Rattle.std.specs.Cmp.{nat_cmp_is}
 use Rattle.std.specs.Ordering.{is_lt}
-use Rattle.std.proofs.lemmas.Bool.{cases_lt}
 use Rattle.std.proofs.lemmas.List.{map-append, get_or-take, get_or-drop, get_or_default, get_or_append_left, get_or-append_right, length-append, length-take-le, length-drop}
 use Rattle.std.proofs.lemmas.List.Elements.{All-append, All-take, All-drop, All-map}
 use Rattle.std.proofs.lemmas.List.Sorted.{All-permutation, IsNonDecreasingBy-drop}
@@ -20,11 +19,8 @@ use Rattle.mt_replay.proofs.NumberLemmas.{rests_moved}
 -- a lower head is of a lower rest
 head_orders : (bits : ℕ) (x y : List ℕ) → AreBytes x → AreBytes y → head_of bits x < head_of bits y → is_below y x ≡ false
 head_orders bits x y p q low =
-    let above : slice_in x < slice_in y =
-    elim (cases_lt (slice_in x) (slice_in y)) [
-      | inl below ↦ below
-      | inr past ↦ (let back = div-le-div (slice_in y) (slice_in x) (2 ^ bits) (pow_pos bits) past in absurd (omega (arith, low, back)))
-    ] in
+    let back = div-le-div (slice_in y) (slice_in x) (2 ^ bits) (pow_pos bits) in
+    let above : slice_in x < slice_in y = grind arith in
     ap is_lt (by_slices y x q p (λ same. omega (arith, above, same)) ∙ sym (nat_cmp_is (slice_in y) (slice_in x) Greater above))
 
 -- two lists in order, the second not below the first
@@ -32,17 +28,12 @@ joined_in_order : (xs ys : List (List ℕ)) → AreInOrder xs → AreInOrder ys 
 joined_in_order xs ys first second apart = λ k d low high.
     let n = length xs in
     let all = length-append xs ys in
-    elim (cases_lt (k + 1) n) [
-      | inl both ↦ (λ i. is_below (get_or_append_left xs ys d (k + 1) both i) (get_or_append_left xs ys d k (omega (arith, both)) i)) ∙ first k d low both
-      | inr past ↦
-          (let next = get_or-append_right xs ys n (k + 1) d refl past in
-          elim (cases_lt k n) [
-            | inl edge ↦ (λ i. is_below (next i) (get_or_append_left xs ys d k edge i)) ∙ apart k (k + 1 - n) d edge (omega (arith, high, all, past))
-            | inr after ↦
-                (let is : k + 1 - n ≡ k - n + 1 = omega (arith, after) in
-                (λ i. is_below ((next ∙ ap (λ (m : ℕ). get_or ys m d) is) i) (get_or-append_right xs ys n k d refl after i)) ∙ second (k - n) d (omega arith) (omega (arith, high, all, after)))
-          ])
-    ]
+    let one = first k d low in
+    let two = second (k - n) d (omega arith) in
+    let edge = apart k (k + 1 - n) d in
+    let left = get_or_append_left xs ys d in
+    let right = get_or-append_right xs ys n in
+    grind arith
 
 -- the first run of the numbers that are left was sorted
 pub run_sorted : (bits : ℕ) (updates : List Update) (depth n : ℕ) (done left run : List ℕ) → 0 < n → n ≤ length left → AreSorted bits updates depth done left
@@ -67,10 +58,7 @@ run_sorted bits updates depth n done left run some fits was alike ends same sort
     let item : get_or (drop n left) k d ≡ get_or left (n + k) 0 = get_or-drop n left k d ∙ get_or_default left (n + k) d 0 long in
     let first = div-le-div (get_or left 0 0) (get_or left n 0) w (pow_pos bits) (was.rising 0 n 0 (omega arith) (omega (arith, long))) in
     let next = div-le-div (get_or left n 0) (get_or left (n + k) 0) w (pow_pos bits) (was.rising n (n + k) 0 (omega arith) long) in
-    let apart : q < get_or left n 0 / w = elim (cases_lt q (get_or left n 0 / w)) [
-      | inl below ↦ below
-      | inr above ↦ absurd (ends (omega (arith, long)) (omega (arith, first, above)))
-    ] in
+    let apart : q < get_or left n 0 / w = let other = ends (omega (arith, long)) in grind arith in
     subst (λ (m : ℕ). q < m / w) (sym item) (omega (arith, apart, next))) in
     let both = map-append rest done run in
     let Below : List ℕ → Type 0 = λ r. All (λ number. head_of bits r < number / w) (drop n left) in

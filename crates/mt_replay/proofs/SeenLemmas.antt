@@ -141,14 +141,7 @@ versions_added key same later old mid new apart lower higher = record {
 
 -- the first of what is left has the least version
 pub least_first : (first : Seen) (rest : List Seen) (one : Seen) → Rises IsLowerSeen (first ∷ rest) → Contains (first ∷ rest) one → first.version ≤ one.version
-least_first first rest one rise at = elim (head_or_tail first one rest at) as (λ _. first.version ≤ one.version) [
-  | inl e ↦ omega (arith, ap (λ (s : Seen). s.version) e)
-  | inr later ↦ up (of_each (IsLowerSeen first) rest one rise.0 later)
-]
-  where
-    up : IsLowerSeen first one → first.version ≤ one.version
-    up (inl lt) = omega (arith, lt)
-    up (inr both) = omega (arith, both.0)
+least_first first rest one rise at = let either = head_or_tail first one rest at in let later = of_each (IsLowerSeen first) rest one rise.0 in grind arith
 
 -- what was seen, in another order and each once, has the same clashes
 pub of_kept : (key : List ℕ) (seen kept : List Seen) (old new : List Clash) → ((one : Seen) → Contains kept one ↔ Contains seen one) → AddClashes key kept old new → AddClashes key seen old new

@@ -1,7 +1,6 @@
-use Rattle.std.proofs.Common.{◌≡◌, ◌∙◌, ◌+◌, List, length, take, take_all, sym, ap, arith}
+use Rattle.std.proofs.Common.{◌≡◌, ◌+◌, List, length, take, sym, ap, arith}
 use Rattle.std.specs.List.{filter, flat_map}
 use Rattle.mt_record.specs.Shares.{ShareView, updates_of_share}
-use Rattle.mt_replay.specs.Batches.{BatchView}
 use Rattle.mt_replay.specs.Survivors.{is_early}
 use Rattle.mt_replay.proofs.BatchLemmas.{none_early, early_step, early_few}
 use Rattle.mt_replay.proofs.batch.Batch.early_count.Goals as goal
@@ -19,9 +18,3 @@ pub overflow_add-count : goal.overflow_add-count
 overflow_add-count c =
     let few = early_few c.args.begin c.deref-share-items.result.now (c.loop-share.share-index + 1) in
     omega (arith, step c, few, ap (λ (l : List ShareView). length (flat_map updates_of_share l)) c.deref-share-items.ensures.value, c.self.invariant.0, c.self.invariant.1)
-
-pub returns : goal.returns
-returns c =
-    c.loop-share.invariant
-    ∙ ap (λ (l : List ShareView). length (filter (is_early c.args.begin) (flat_map updates_of_share l))) (take_all c.loop-share.share-index c.deref-share-items.result.now c.loop-share-test.false ∙ c.deref-share-items.ensures.value)
-    ∙ ap (λ (b : BatchView). length (filter (is_early c.args.begin) b.updates)) c.self.view_is
