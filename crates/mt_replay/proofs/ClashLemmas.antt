@@ -42,21 +42,13 @@ one_list {A} R never (x ∷ xs) (y ∷ ys) rise too same =
     λ i. first i ∷ rest i
   where
     heads : (y ≡ x) ⊎ Contains ys x → (x ≡ y) ⊎ Contains xs y → x ≡ y
-    heads (inl e) other = sym e
-    heads (inr at) (inl e) = e
-    heads (inr at) (inr here) = absurd (never x y (of_each (R x) xs y rise.0 here) (of_each (R y) ys x too.0 at))
+    heads one other = let up = of_each (R x) xs y rise.0 in let down = of_each (R y) ys x too.0 in let apart = never x y in grind arith
 
     left : x ≡ y → (z : A) → Contains xs z → Contains ys z
-    left e z at = elim (head_or_tail y z ys ((same z).0 (tail_in x z xs at))) as (λ _. Contains ys z) [
-      | inl f ↦ let up : R x z = of_each (R x) xs z rise.0 at in let itself : R z z = subst (λ (w : A). R w z) (e ∙ f) up in absurd (never z z itself itself)
-      | inr later ↦ later
-    ]
+    left e z at = let either = head_or_tail y z ys ((same z).0 (tail_in x z xs at)) in let up = of_each (R x) xs z rise.0 at in let itself = never z z in grind arith
 
     right : x ≡ y → (z : A) → Contains ys z → Contains xs z
-    right e z at = elim (head_or_tail x z xs ((same z).1 (tail_in y z ys at))) as (λ _. Contains xs z) [
-      | inl f ↦ let up : R y z = of_each (R y) ys z too.0 at in let itself : R z z = subst (λ (w : A). R w z) (sym e ∙ f) up in absurd (never z z itself itself)
-      | inr later ↦ later
-    ]
+    right e z at = let either = head_or_tail x z xs ((same z).1 (tail_in y z ys at)) in let up = of_each (R y) ys z too.0 at in let itself = never z z in grind arith
 
 -- ---- the orders
 

@@ -78,10 +78,11 @@ piece_at cuts p key within before after =
 not_later : (cuts : List (List ℕ)) (p q : ℕ) (key : List ℕ) → AreRising cuts → p < q → q ≤ length cuts → in_piece cuts p key ≡ true → in_piece cuts q key ≡ true → ⊥
 not_later cuts p zero key rise lt within first second = absurd (omega arith)
 not_later cuts p (suc q) key rise lt within first second =
-    let low : is_below key (slice_index_or cuts p []) ≡ true = sym (ap (λ (cut : Option (List ℕ)). is_below_cut cut key) (slice_get-get_or cuts p [] (omega arith))) ∙ (and_parts (is_after (lower_cut cuts p) key) (is_below_cut (slice_get cuts p) key) first).1 in
-    let high : not (is_below key (slice_index_or cuts q [])) ≡ true = sym (ap (λ (cut : Option (List ℕ)). is_after cut key) (slice_get-get_or cuts q [] (omega arith))) ∙ (and_parts (is_after (slice_get cuts q) key) (is_below_cut (slice_get cuts (suc q)) key) second).0 in
-    let up = all_above cuts key p rise (λ d. let same : slice_index_or cuts p d ≡ slice_index_or cuts p [] = get_or_default cuts p d [] (omega arith) in ap (is_below key) same ∙ low) q [] (omega arith) (omega arith) in
-    both_ways (is_below key (slice_index_or cuts q [])) (not-true (is_below key (slice_index_or cuts q [])) high) up
+    let low = slice_get-get_or cuts p [] (omega arith) in
+    let high = slice_get-get_or cuts q [] (omega arith) in
+    let up = above_by (slice_index_or cuts p []) (slice_index_or cuts q []) key in
+    let far = below_later cuts rise p q [] in
+    grind arith
 
 -- a key is in one piece alone
 pub one_piece : (cuts : List (List ℕ)) (p q : ℕ) (key : List ℕ) → AreRising cuts → p ≤ length cuts → q ≤ length cuts → in_piece cuts p key ≡ true → q ≢ p → in_piece cuts q key ≡ false
@@ -120,19 +121,16 @@ dealt_more cuts before u p old more rise within here is longer =
     let right = dealt_at cuts (before ++ u ∷ []) k d below in
     elim (cases_order k p) as (λ _. slice_index_or (slice_set lists p more) k d ≡ slice_index_or (dealt_by cuts (before ++ u ∷ [])) k d) [
       | inl same ↦
-          let own : old ≡ updates_in cuts p before = is ∙ dealt_at cuts before p old (omega (arith, within)) in
-          ap (λ n. slice_index_or (slice_set lists p more) n d) same
-          ∙ get_or-set_same lists p more d (omega (arith, within, count))
-          ∙ longer ∙ ap (λ (us : List Update). us ++ u ∷ []) own
-          ∙ sym (own_more cuts p before u here)
-          ∙ ap (λ n. updates_in cuts n (before ++ u ∷ [])) (sym same)
-          ∙ sym right
+          let own = dealt_at cuts before p old (omega (arith, within)) in
+          let more_is = own_more cuts p before u here in
+          let put = get_or-set_same lists p more d (omega (arith, within, count)) in
+          grind arith
       | inr either ↦
-          let apart : k ≢ p = λ e. elim either as (λ _. ⊥) [ inl low ↦ absurd (omega (arith, low, e)) | inr high ↦ absurd (omega (arith, high, e)) ] in
-          get_or-set_other lists p k more d apart
-          ∙ dealt_at cuts before k d below
-          ∙ sym (other_same cuts k before u (one_piece cuts p k u.key rise within (omega (arith, below)) here apart))
-          ∙ sym right
+          let apart : k ≢ p = grind arith in
+          let own = dealt_at cuts before k d below in
+          let stays = other_same cuts k before u (one_piece cuts p k u.key rise within (omega (arith, below)) here apart) in
+          let kept = get_or-set_other lists p k more d apart in
+          cc
     ])
 
 -- one update more, if it survives
@@ -234,12 +232,12 @@ module _ (cuts : List (List ℕ)) (updates : List Update) (i : ℕ) (rise : AreR
   all_then zero behind all = absurd (omega (arith, behind))
   all_then (suc n) behind all =
       let one : suc n ≡ n + 1 = omega arith in
-      ap (λ (m : ℕ). updates_in cuts i (joined (before m))) one ∙ one_more n ∙ (elim (cases_lt i n) as (λ _. updates_in cuts i (joined (before n)) ++ updates_in cuts i (updates_in cuts n updates) ≡ updates_in cuts i updates) [
-        | inl lt ↦ (λ j. all_then n lt (omega (arith, all)) j ++ other n (omega (arith, all)) (λ e. absurd (omega (arith, lt, e))) j) ∙ append-nil (updates_in cuts i updates)
-        | inr ge ↦
-            let same : n ≡ i = omega (arith, ge, behind) in
-            (λ j. none_yet n (omega (arith, same)) j ++ updates_in cuts i (updates_in cuts (same j) updates)) ∙ own
-      ])
+      let more = one_more n in
+      let so_far = all_then n in
+      let others = other n (omega (arith, all)) in
+      let none = none_yet n in
+      let ours = own in
+      grind (arith, common_steps)
 
 -- one list more
 pub longer : (lists : List (List Update)) (i : ℕ) (next : List Update) → i < length lists → next ≡ get_or lists i next → length (joined (take (i + 1) lists)) ≡ length (joined (take i lists)) + length next

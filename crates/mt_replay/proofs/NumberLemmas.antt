@@ -119,7 +119,7 @@ in_turn_moved bits updates d numbers moved =
 pub places_within : (bits n : ℕ) (numbers : List ℕ) → IsPermutation (range_with_len 0 n) (places bits numbers) → All (λ number. number % 2 ^ bits < n) numbers
 places_within bits n numbers moved =
     let P : ℕ → Type 0 = λ place. place < n in
-    let all : All P (range_with_len 0 n) = λ k d low. omega (arith, get_or-range_with_len 0 n k d (omega (arith, low, length-range_with_len 0 n)), low, length-range_with_len 0 n) in
+    let all : All P (range_with_len 0 n) = λ k d low. let at = get_or-range_with_len 0 n k d in let long = length-range_with_len 0 n in grind arith in
     All-of-map P (λ (number : ℕ). number % 2 ^ bits) numbers (All-permutation P (range_with_len 0 n) (places bits numbers) moved all)
 
 whole_rest : (updates : List Update) (place : ℕ) (d : Update) → place < length updates → rest_in updates 0 place ≡ (get_or updates place d).key

@@ -63,13 +63,13 @@ places_rise version [] rise same = tt
 places_rise version (s ∷ ss) rise same = (
   all_from (IsLowerPlace s.place) (map (λ (one : Seen). one.place) ss) (λ place at.
       let one = of_map (λ (one : Seen). one.place) ss place at in
-      subst (IsLowerPlace s.place) one.2 (lower one.0 one.1 (of_each (IsLowerSeen s) ss one.0 rise.0 one.1))),
+      let lower = of_each (IsLowerSeen s) ss one.0 rise.0 one.1 in
+      let here = same s (head_in s ss) in
+      let there = same one.0 (tail_in s one.0 ss one.1) in
+      let low : IsLowerPlace s.place one.0.place = grind arith in
+      subst (IsLowerPlace s.place) one.2 low),
   places_rise version ss rise.1 (λ one at. same one (tail_in s one ss at)),
 )
-  where
-    lower : (one : Seen) → Contains ss one → IsLowerSeen s one → IsLowerPlace s.place one.place
-    lower one at (inl lt) = absurd (omega (arith, lt, same s (head_in s ss), same one (tail_in s one ss at)))
-    lower one at (inr both) = both.1
 
 -- what was seen of a key at one version more than once is its clash
 pub one_version : (key : List ℕ) (version : ℕ) (seen : List Seen) → Rises IsLowerSeen seen → ((one : Seen) → Contains seen one → one.version ≡ version) → 1 < length seen → AreClashesOf (IsSeen key seen) (clash_at key version seen ∷ [])
@@ -224,26 +224,18 @@ seen_tied : Tied are_same seen_cmp
 seen_tied = then_tied (on_tied (λ (s : Seen). s.version) (tie nat_cmp unsigned_ties)) (then_tied (on_tied (λ (s : Seen). s.place.log) (tie nat_cmp unsigned_ties)) (on_tied (λ (s : Seen). s.place.nth) (tie nat_cmp unsigned_ties)))
 
 lower_by : (a b : Seen) (v l n : Ordering) → v ≡ nat_cmp a.version b.version → l ≡ nat_cmp a.place.log b.place.log → n ≡ nat_cmp a.place.nth b.place.nth → ordering_then v (ordering_then l n) ≡ Less → IsLowerSeen a b
-lower_by a b Less l n e f g is = inl (ranked a.version b.version Less e)
-lower_by a b Equal Less n e f g is = inr (ranked a.version b.version Equal e, inl (ranked a.place.log b.place.log Less f))
-lower_by a b Equal Equal Less e f g is = inr (ranked a.version b.version Equal e, inr (ranked a.place.log b.place.log Equal f, ranked a.place.nth b.place.nth Less g))
-lower_by a b Equal Equal Equal e f g is = absurd cc
-lower_by a b Equal Equal Greater e f g is = absurd cc
-lower_by a b Equal Greater n e f g is = absurd cc
-lower_by a b Greater l n e f g is = absurd cc
+lower_by a b v l n e f g is =
+    let version = ranked a.version b.version v e in
+    let log = ranked a.place.log b.place.log l f in
+    let nth = ranked a.place.nth b.place.nth n g in
+    grind arith
 
 same_by : (a b : Seen) (v l n : Ordering) → v ≡ nat_cmp a.version b.version → l ≡ nat_cmp a.place.log b.place.log → n ≡ nat_cmp a.place.nth b.place.nth → is_eq (ordering_then v (ordering_then l n)) ≡ true → a ≡ b
-same_by a b Less l n e f g is = absurd (false≢true is)
-same_by a b Equal Less n e f g is = absurd (false≢true is)
-same_by a b Equal Equal Less e f g is = absurd (false≢true is)
-same_by a b Equal Equal Equal e f g is =
-    let version = ranked a.version b.version Equal e in
-    let log = ranked a.place.log b.place.log Equal f in
-    let nth = ranked a.place.nth b.place.nth Equal g in
-    λ i. record { version = version i; place = record { log = log i; nth = nth i } }
-same_by a b Equal Equal Greater e f g is = absurd (false≢true is)
-same_by a b Equal Greater n e f g is = absurd (false≢true is)
-same_by a b Greater l n e f g is = absurd (false≢true is)
+same_by a b v l n e f g is =
+    let version = ranked a.version b.version v e in
+    let log = ranked a.place.log b.place.log l f in
+    let nth = ranked a.place.nth b.place.nth n g in
+    grind arith
 
 strictly_rises : (seen : List Seen) → IsStrictlySortedBy seen_cmp seen → Rises IsLowerSeen seen
 unfolding IsStrictlySortedBy
