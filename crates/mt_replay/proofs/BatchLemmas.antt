@@ -66,11 +66,6 @@ shares_few shares i =
 abbrev pub one_if : Bool → ℕ
 one_if test = cond test 1 0
 
--- one update counts 1 if the test holds, and else 0
-counted : (u : Update) (b : Bool) → length (cond b (u ∷ []) []) ≡ one_if (b || false)
-counted u true = refl
-counted u false = refl
-
 pub early_one : (begin : ℕ) (update : Option Update) → length (filter (is_early begin) (as_list update)) ≡ one_if (list_any (is_early begin) (as_list update))
 early_one begin None = refl
 early_one begin (Some u) = grind (arith, common_steps)

@@ -61,18 +61,21 @@ all_above cuts key m rise here k d behind within =
 
 -- ---- the piece of a key
 
-after_lower : (cuts : List (List ℕ)) (p : ℕ) (key : List ℕ) → p ≤ length cuts → ((k : ℕ) (d : List ℕ) → k < p → is_below key (slice_index_or cuts k d) ≡ false) → is_after (lower_cut cuts p) key ≡ true
-after_lower cuts zero key within before = refl
-after_lower cuts (suc p) key within before = let at = before p [] in let cut = slice_get-get_or cuts p [] in grind (arith, common_steps)
-
-below_upper : (cuts : List (List ℕ)) (p : ℕ) (key : List ℕ) → ((k : ℕ) (d : List ℕ) → p ≤ k → k < length cuts → is_below key (slice_index_or cuts k d) ≡ true) → is_below_cut (slice_get cuts p) key ≡ true
-below_upper cuts p key after = let at = after p [] in let cut = slice_get-get_or cuts p [] in let past = slice_get_past cuts p in grind (arith, common_steps)
-
 -- a key is in the piece whose number is that of the cuts that are not above it
 pub piece_at : (cuts : List (List ℕ)) (p : ℕ) (key : List ℕ) → p ≤ length cuts → ((k : ℕ) (d : List ℕ) → k < p → is_below key (slice_index_or cuts k d) ≡ false)
     → ((k : ℕ) (d : List ℕ) → p ≤ k → k < length cuts → is_below key (slice_index_or cuts k d) ≡ true) → in_piece cuts p key ≡ true
-piece_at cuts p key within before after =
-    and_from (is_after (lower_cut cuts p) key) (is_below_cut (slice_get cuts p) key) (after_lower cuts p key within before) (below_upper cuts p key after)
+piece_at cuts zero key within before after =
+    let next = after zero [] in
+    let cut = slice_get-get_or cuts zero [] in
+    let past = slice_get_past cuts zero in
+    grind (arith, common_steps)
+piece_at cuts (suc p) key within before after =
+    let last = before p [] in
+    let next = after (suc p) [] in
+    let low = slice_get-get_or cuts p [] in
+    let high = slice_get-get_or cuts (suc p) [] in
+    let past = slice_get_past cuts (suc p) in
+    grind (arith, common_steps)
 
 -- a key of a piece is not in a later one
 not_later : (cuts : List (List ℕ)) (p q : ℕ) (key : List ℕ) → AreRising cuts → p < q → q ≤ length cuts → in_piece cuts p key ≡ true → in_piece cuts q key ≡ true → ⊥

@@ -10,6 +10,7 @@ use Rattle.std.specs.declared.cmp.Ordering.TheVariants.{Less}
 use Rattle.std.proofs.lemmas.Bool.{false≢true}
 use Rattle.std.proofs.lemmas.List.{get_or-map, get_or-take, get_or_read, length-map, length-take-le, take_more}
 use Rattle.std.proofs.lemmas.List.Elements.{All-from_recursion}
+use Rattle.std.proofs.lemmas.Grind.{common_steps}
 use Rattle.mt_words.specs.declared.record.Change.{Change}
 use Rattle.mt_words.specs.declared.update.Kind.TheVariants.{Remove}
 use Rattle.mt_words.specs.declared.update.Origin.TheVariants as origins
@@ -66,18 +67,15 @@ module _ (keys : List (List ℕ)) (at : ℕ) (low high : List ℕ) (some : 0 < a
       let long = length-take-le at keys (omega arith) in
       let front : List (List ℕ) = take at keys in
       subst AreRising (sym (take_more keys at high lt ∙ ap (λ (key : List ℕ). front ++ key ∷ []) (sym high_at))) (rise_push front high rise (λ d first.
-      let place : length front - 1 ≡ at - 1 = omega (arith, long) in
-      let last : slice_index_or front (length front - 1) d ≡ low =
-      ap (λ n. slice_index_or front n d) place ∙ get_or-take at keys (at - 1) d (omega arith) ∙ sym (get_or_read keys (at - 1) low (omega arith) low_at d) in
-      (λ i. is_below (last i) high) ∙ up))
+      let read = get_or_read keys (at - 1) low (omega arith) low_at d in
+      grind (arith, common_steps)))
 
   -- the keys do not rise up to this one, if it is not above the one before it
   pub falls_at : is_below low high ≡ false → ¬ (AreRising (take (at + 1) keys))
   falls_at not rise =
       let long = length-take-le (at + 1) keys (omega arith) in
-      let here : slice_index_or (take (at + 1) keys) (at - 1) low ≡ low = get_or-take (at + 1) keys (at - 1) low (omega arith) ∙ sym low_at in
-      let there : slice_index_or (take (at + 1) keys) at low ≡ high = get_or-take (at + 1) keys at low (omega arith) ∙ sym (get_or_read keys at high lt high_at low) in
-      false≢true (sym not ∙ sym (λ i. is_below (here i) (there i)) ∙ below_later (take (at + 1) keys) rise (at - 1) at low (omega arith) (omega (arith, long)))
+      let up = below_later (take (at + 1) keys) rise (at - 1) at low (omega arith) (omega (arith, long)) in
+      grind (arith, common_steps)
 
 -- entries whose keys rise are in the order of their keys
 pub entries_in_order : (entries : List Change) → AreRising (map (λ (entry : Change). entry.key) entries) → InKeyOrder (wholes entries)

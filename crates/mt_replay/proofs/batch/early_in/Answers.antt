@@ -12,15 +12,9 @@ loop-number-preserved c =
     let share = c.args.share.now in
     let more = as_list c.update.result in
     let step = share_step share c.loop-number.number more (omega (arith, c.loop-number-test.true, c.len-number-end.ensures)) c.update.ensures in
-    let all = ap (λ (us : List Update). length (filter (is_early c.args.begin) us)) step ∙ early_both c.args.begin (first_of share c.loop-number.number) more in
+    let all = early_both c.args.begin (first_of share c.loop-number.number) more in
     let one = early_one c.args.begin c.update.result in
-    let said = ap one_if c.comes_early.ensures in
-    let added : c.if-comes_early.count ≡ c.loop-number.count + one_if c.comes_early.result =
-    elim c.if-comes_early.branch [
-      | then-comes_early w ↦ omega (arith, w.count-is, ap one_if w.if-comes_early.true)
-      | else-comes_early w ↦ omega (arith, w.count-is, ap one_if w.if-comes_early.false)
-    ] in
     record {
       few = elim c.if-comes_early.branch [ then-comes_early w ↦ omega arith | else-comes_early w ↦ omega arith ];
-      counts = omega (arith, added, said, all, one, c.loop-number.invariant.counts);
+      counts = elim c.if-comes_early.branch [ then-comes_early w ↦ grind arith | else-comes_early w ↦ grind arith ];
     }

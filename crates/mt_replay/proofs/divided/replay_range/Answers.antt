@@ -3,7 +3,7 @@ use Rattle.mt_words.specs.declared.update.Update.{Update}
 use Rattle.mt_words.specs.Walks.{joined}
 use Rattle.mt_replay.specs.Cuts.{updates_in}
 use Rattle.mt_replay.proofs.DealLemmas.{of_texts}
-use Rattle.mt_replay.proofs.ExactLemmas.{ok_then}
+use Rattle.std.proofs.lemmas.Result.{IfOk-weaker}
 use Rattle.mt_replay.proofs.PieceLemmas.{map_made, piece_made}
 use Rattle.mt_replay.proofs.divided.replay_range.Goals as goal
 
@@ -15,6 +15,6 @@ returns g c =
     let texts : List Update = c.in_ok-texts.texts.items in
     let own : (logged : List Update) → c.args.range.now ≡ updates_in cuts i logged → texts ≡ updates_in cuts i (logged ++ held) = λ logged is. of_texts cuts logged held c.args.range.now texts i is c.in_ok-texts.ensures in
     record {
-      map = ok_then c.replay_texts.result (λ filled. map_made cuts i _ texts (g.S.PairSink.pairs filled) (own c.requires.range.0 c.requires.range.1)) c.replay_texts.ensures;
-      walk = ok_then c.replay_texts.result (λ filled made logged is. piece_made cuts i _ texts (g.S.PairSink.pairs filled) (own logged is) made) c.replay_texts.ensures;
+      map = IfOk-weaker c.replay_texts.result _ _ (λ filled. map_made cuts i _ texts (g.S.PairSink.pairs filled) (own c.requires.range.0 c.requires.range.1)) c.replay_texts.ensures;
+      walk = IfOk-weaker c.replay_texts.result _ _ (λ filled made logged is. piece_made cuts i _ texts (g.S.PairSink.pairs filled) (own logged is) made) c.replay_texts.ensures;
     }

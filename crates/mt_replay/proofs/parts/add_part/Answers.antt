@@ -1,6 +1,7 @@
 use Rattle.std.proofs.Common.{◌≡◌, ◌+◌, ◌-◌, ◌<◌, ◌++◌, ◌∷◌, [], ◌∙◌, List, ℕ, true, false, length, get_or, take, drop, append_assoc, sym, ap, arith}
 use Rattle.std.specs.List.{filter, slice_get}
 use Rattle.std.proofs.lemmas.List.{take_more, get_or-drop, length-drop}
+use Rattle.std.proofs.lemmas.Grind.{common_steps}
 use Rattle.mt_words.specs.declared.update.Update.{Update}
 use Rattle.mt_replay.specs.Cuts.{is_after, is_below_cut, lower_cut}
 use Rattle.mt_replay.proofs.FilterLemmas.{of_piece, until_point, point_behind}
@@ -23,8 +24,7 @@ loop-at-preserved c =
     record {
       behind = omega (arith, I.behind);
       within = omega (arith, I.behind, c.loop-at-test.true);
-      told = c.in_ok-push.ensures.items ∙ ap (λ (us : List Update). us ++ next ∷ []) I.told ∙ append_assoc old (take k after) (next ∷ [])
-          ∙ ap (λ (us : List Update). old ++ us) (ap (λ (u : Update). take k after ++ u ∷ []) is ∙ sym (take_more after k next below) ∙ ap (λ (n : ℕ). take n after) one);
+      told = grind (arith, common_steps);
     }
 
 pub returns : goal.returns

@@ -1,17 +1,16 @@
-use Rattle.std.proofs.Common.{◌≡◌, ◌+◌, ◌++◌, ◌∷◌, [], ◌∙◌, ℕ, List, take, take_all, Contains, sym, ap, subst}
+use Rattle.std.proofs.Common.{◌≡◌, ◌+◌, ◌++◌, ◌∷◌, [], ◌∙◌, ℕ, List, take, take_all, Contains, sym, ap, subst, arith}
 use Rattle.std.specs.Prelude.{All}
 use Rattle.std.proofs.lemmas.List.Elements.{All-push, Contains-append_left, Contains-push}
+use Rattle.std.proofs.lemmas.Grind.{common_steps}
 use Rattle.mt_words.specs.declared.update.Update.{Update}
 use Rattle.mt_replay.specs.Groups.{HasLawfulWrites, IsGroupOf}
-use Rattle.mt_replay.proofs.KeyOrder.{take_next}
 use Rattle.mt_replay.proofs.replay.group_all.Goals as goal
 
 pub loop-text-preserved : goal.loop-text-preserved
 loop-text-preserved c =
     let done : List Update = take c.loop-text.text-index c.args.texts.now in
     let next : Update = c.lent.result in
-    let more : take (c.loop-text.text-index + 1) c.args.texts.now ≡ done ++ next ∷ [] =
-    take_next c.args.texts.now c.loop-text.text-index c.text-item.result c.loop-text-test.true c.text-item.is ∙ ap (λ (u : Update). done ++ u ∷ []) (sym c.lent.ensures) in
+    let more : take (c.loop-text.text-index + 1) c.args.texts.now ≡ done ++ next ∷ [] = let is = c.text-item.is in let lent = c.lent.ensures in grind (arith, common_steps) in
     record {
       group = λ key same.
           let each : (u : Update) → Contains (done ++ next ∷ []) u → u.key ≡ key = subst (λ (us : List Update). (u : Update) → Contains us u → u.key ≡ key) more same in

@@ -4,12 +4,9 @@ use Rattle.std.specs.Cmp.Lexicographic.{same_text}
 use Rattle.std.proofs.lemmas.Bool.{true≢false}
 use Rattle.std.proofs.lemmas.List.{take_all, get_or-map, length-map}
 use Rattle.std.proofs.lemmas.List.Elements.{All-more, All-same}
+use Rattle.std.proofs.lemmas.Bool.{not-false}
 use Rattle.mt_replay.specs.Steps.Numbers.{rest_of, rests}
 use Rattle.mt_replay.proofs.sorting.are_alike.Goals as goal
-
-not_other : (b : Bool) → not b ≡ false → true ≡ b
-not_other true h = refl
-not_other false h = absurd (true≢false h)
 
 pub loop-number-preserved : goal.loop-number-preserved
 loop-number-preserved c =
@@ -18,7 +15,7 @@ loop-number-preserved c =
     let first : List ℕ = c.rest-first.result.now in
     let i = c.loop-number.number-index in
     let P : List ℕ → Type 0 = λ rest. rest ≡ first in
-    let alike : first ≡ c.rest.result.now = same_text first c.rest.result.now (not_other _ (sym c.ne.ensures ∙ c.if-ne.false)) in
+    let alike : first ≡ c.rest.result.now = same_text first c.rest.result.now (sym (not-false _ (sym c.ne.ensures ∙ c.if-ne.false))) in
     let there = get_or-map (rest_of c.args.bits c.args.texts.now c.args.depth) xs i 0 [] c.loop-number-test.true in
     All-more P rs i [] (omega (arith, c.loop-number-test.true, length-map xs (rest_of c.args.bits c.args.texts.now c.args.depth))) c.loop-number.invariant (there ∙ sym c.rest.ensures.value ∙ sym alike)
 

@@ -4,7 +4,7 @@ use Rattle.mt_words.specs.declared.update.Update.{Update}
 use Rattle.mt_replay.specs.Cuts.{InKeyOrder}
 use Rattle.mt_replay.specs.Steps.Bodies.{update_in_text}
 use Rattle.mt_replay.specs.Steps.Numbers.{places, in_turn}
-use Rattle.mt_replay.proofs.ExactLemmas.{ok_then}
+use Rattle.std.proofs.lemmas.Result.{IfOk-weaker}
 use Rattle.mt_replay.proofs.NumberLemmas.{places_within, in_turn_moved, in_turn_in_order}
 use Rattle.mt_replay.proofs.sorting.sorted_texts.Goals as goal
 
@@ -27,7 +27,7 @@ returns-clause-same c =
     let bits = c.bits_for-bits.result in
     let numbers : List ℕ = c.in_ok-numbers.numbers.items in
     let turned : in_turn c.deref-2.result.now some (places bits c.deref-3.result.now) ≡ in_turn us some (places bits numbers) = λ i. in_turn (c.deref-2.ensures.value i) some (places bits (c.deref-3.ensures.value i)) in
-    ok_then c.gather.result (λ sorted are. subst (IsPermutation us) (sym (are some ∙ turned)) (in_turn_moved bits us some numbers (rw c.deref.ensures.value at c.in_ok-numbers.ensures.same))) c.gather.ensures
+    IfOk-weaker c.gather.result _ _ (λ sorted are. subst (IsPermutation us) (sym (are some ∙ turned)) (in_turn_moved bits us some numbers (rw c.deref.ensures.value at c.in_ok-numbers.ensures.same))) c.gather.ensures
 
 pub returns-clause-in_order : goal.returns-clause-in_order
 returns-clause-in_order c =
@@ -37,4 +37,4 @@ returns-clause-in_order c =
     let turned : in_turn c.deref-2.result.now some (places bits c.deref-3.result.now) ≡ in_turn us some (places bits numbers) = λ i. in_turn (c.deref-2.ensures.value i) some (places bits (c.deref-3.ensures.value i)) in
     let within = places_within bits (length us) numbers (rw c.deref.ensures.value at c.in_ok-numbers.ensures.same) in
     let order = rw c.deref.ensures.value at c.in_ok-numbers.ensures.in_order in
-    ok_then c.gather.result (λ sorted are. subst InKeyOrder (sym (are some ∙ turned)) (in_turn_in_order bits us some numbers within order)) c.gather.ensures
+    IfOk-weaker c.gather.result _ _ (λ sorted are. subst InKeyOrder (sym (are some ∙ turned)) (in_turn_in_order bits us some numbers within order)) c.gather.ensures

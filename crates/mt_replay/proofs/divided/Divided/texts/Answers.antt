@@ -4,7 +4,7 @@ use Rattle.mt_words.specs.Walks.{joined}
 use Rattle.mt_replay.specs.Cuts.{updates_in}
 use Rattle.mt_replay.specs.Divided.{DividedView}
 use Rattle.mt_replay.proofs.DealLemmas.{ranges_count, own_range, of_texts}
-use Rattle.mt_replay.proofs.ExactLemmas.{ok_then}
+use Rattle.std.proofs.lemmas.Result.{IfOk-weaker}
 use Rattle.mt_replay.proofs.divided.Divided.texts.Goals as goal
 
 pub index-range-requires : goal.index-range-requires
@@ -19,5 +19,5 @@ returns c =
     let held : List Update = joined c.self.inside.entries.items in
     let range : List Update = c.index-range.result.now in
     let own = own_range cuts ranges i range c.self.invariant (omega (arith, c.requires, ap (λ (d : DividedView). length d.cuts) c.self.view_is)) c.index-range.ensures in
-    ok_then c.texts_in.result (λ texts are.
+    IfOk-weaker c.texts_in.result _ _ (λ texts are.
     of_texts cuts (joined ranges) held range texts.items i own (are ∙ ap (λ (ls : List (List Update)). range ++ updates_in cuts i (joined ls)) c.deref.ensures.value) ∙ ap (λ (d : DividedView). updates_in d.cuts i d.updates) c.self.view_is) c.texts_in.ensures

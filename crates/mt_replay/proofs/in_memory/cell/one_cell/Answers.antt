@@ -1,4 +1,4 @@
-use Rattle.mt_replay.proofs.InMemory.OneCell.{one_group}
+use Rattle.mt_replay.proofs.InMemory.{one_group}
 use Rattle.mt_replay.proofs.in_memory.cell.one_cell.Goals as goal
 
 pub returns : goal.returns

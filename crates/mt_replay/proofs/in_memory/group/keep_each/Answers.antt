@@ -1,7 +1,7 @@
 use Rattle.std.proofs.Common.{◌≡◌, ℕ, subst, arith}
 use Rattle.mt_words.specs.declared.limits.TheConstants.{MOST_COLUMNS}
 use Rattle.mt_replay.specs.Cells.{Slots}
-use Rattle.mt_replay.proofs.InMemory.Merging.{AreBoth, both_cells}
+use Rattle.mt_replay.proofs.InMemory.{AreBoth, both_cells}
 use Rattle.mt_replay.proofs.in_memory.group.keep_each.Goals as goal
 
 pub returns-clause-cell : goal.returns-clause-cell

@@ -1,4 +1,4 @@
-use Rattle.mt_replay.proofs.InMemory.Merging.{AreBoth}
+use Rattle.mt_replay.proofs.InMemory.{AreBoth}
 use Rattle.mt_replay.proofs.in_memory.group.keep_each.Given as goal
 
 -- the slots so far are taken in

@@ -1,7 +1,7 @@
 use Rattle.std.proofs.Common.{◌≡◌, ◌∙◌, ◌++◌, ◌∷◌, [], ℕ, List, map, subst, sym, ap, append_assoc}
 use Rattle.mt_words.specs.Changes.{set}
 use Rattle.mt_replay.specs.Cells.{IsCellOf, written}
-use Rattle.mt_replay.proofs.InMemory.Merging.{cell_swapped}
+use Rattle.mt_replay.proofs.InMemory.{cell_swapped}
 use Rattle.mt_replay.proofs.in_memory.group.Group+Value.apply_columns.Goals as goal
 
 pub loop-column-preserved : goal.loop-column-preserved

@@ -1,6 +1,7 @@
 use Rattle.std.proofs.Common.{◌≡◌, ◌+◌, ◌++◌, ◌∷◌, [], ℕ, suc, List, map, take, get_or, sym, ap, ◌∙◌, subst, append_assoc, arith}
 use Rattle.std.proofs.Math.Seq.{take-suc}
 use Rattle.std.proofs.lemmas.List.{take_all, map-append}
+use Rattle.std.proofs.lemmas.Grind.{common_steps}
 use Rattle.mt_words.specs.Changes.{Write, erased}
 use Rattle.mt_replay.specs.Cells.{Written, IsCellOf, written}
 use Rattle.mt_replay.proofs.in_memory.group.Group+Value.apply_numbers.Goals as goal
@@ -11,16 +12,12 @@ loop-number-preserved c =
     let i = c.loop-number.number-index in
     let stamp = c.args.stamp in
     let n : ℕ = get_or numbers i 0 in
-    let next : i + 1 ≡ suc i = omega arith in
-    let more : take (i + 1) numbers ≡ take i numbers ++ n ∷ [] = ap (λ (k : ℕ). take k numbers) next ∙ take-suc numbers i 0 c.loop-number-test.true in
     record {
       reset = c.keep.ensures.reset ∙ c.loop-number.invariant.reset;
       cell = λ writes is.
           let kept = c.keep.ensures.writes (writes ++ written stamp (map erased (take i numbers))) (c.loop-number.invariant.cell writes is) in
-          let one : map erased (take (i + 1) numbers) ≡ map erased (take i numbers) ++ erased n ∷ [] = ap (map erased) more ∙ map-append erased (take i numbers) (n ∷ []) in
-          let two : written stamp (map erased (take (i + 1) numbers)) ≡ written stamp (map erased (take i numbers)) ++ (stamp, erased n) ∷ [] = ap (written stamp) one ∙ map-append (λ (x : Write). (stamp, x)) (map erased (take i numbers)) (erased n ∷ []) in
-          let three = append_assoc writes (written stamp (map erased (take i numbers))) ((stamp, erased n) ∷ []) ∙ ap (λ (ws : List Written). writes ++ ws) (sym two) in
-          subst (λ (ws : List Written). IsCellOf ws c.keep.new.self.slots) three kept;
+          let more : (writes ++ written stamp (map erased (take i numbers))) ++ (stamp, erased n) ∷ [] ≡ writes ++ written stamp (map erased (take (i + 1) numbers)) = grind (arith, common_steps) in
+          subst (λ (ws : List Written). IsCellOf ws c.keep.new.self.slots) more kept;
     }
 
 pub returns-clause-writes : goal.returns-clause-writes

@@ -1,7 +1,7 @@
 use Rattle.std.proofs.Common.{sym, subst}
 use Rattle.mt_replay.specs.Cells.{IsCellOf}
 use Rattle.mt_replay.specs.Groups.{Group, IsLatestOf}
-use Rattle.mt_replay.proofs.InMemory.Merging.{both_groups}
+use Rattle.mt_replay.proofs.InMemory.{both_groups}
 use Rattle.mt_replay.proofs.in_memory.group.Group+Value.merge.Goals as goal
 
 pub returns : goal.returns
