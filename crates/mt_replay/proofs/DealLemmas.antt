@@ -1,9 +1,9 @@
 -- Each key lies in one piece, and so updates are dealt to pieces.
 use Rattle.std.proofs.Common.{◌≡◌, ◌≢◌, ◌∙◌, inl, inr, ℕ, zero, suc, ◌+◌, ◌<◌, ◌≤◌, true, false, not, List, [], ◌∷◌, ◌++◌, length, map, Option, Some, Ordering, refl, sym, ap, subst, cond, fold, append_assoc, arith, length-append, take, get_or}
-use Rattle.std.specs.Prelude.{slice_get, slice_index_or, slice_set, filter, nat_lt, IsPermutation}
+use Rattle.std.specs.Prelude.{slice_index_or, slice_set, filter, nat_lt, IsPermutation}
 use Rattle.std.specs.List.{range_with_len}
 use Rattle.std.specs.Ordering.{nat_cmp, is_lt}
-use Rattle.std.proofs.lemmas.Bool.{cases_lt, cases_order, and_parts, and_from, not-true, both_ways}
+use Rattle.std.proofs.lemmas.Bool.{cases_order}
 use Rattle.std.proofs.lemmas.Bool.Decides.{nat_tests}
 use Rattle.std.proofs.lemmas.Cmp.{ranked}
 use Rattle.std.proofs.lemmas.Option.{slice_get_past, slice_get-get_or}
@@ -20,7 +20,7 @@ use Rattle.mt_words.proofs.SliceLemmas.{by_slices}
 use Rattle.mt_words.specs.OneLog.{as_list}
 use Rattle.mt_replay.specs.declared.window.Window.{Window}
 use Rattle.mt_replay.specs.Survivors.{in_window}
-use Rattle.mt_replay.specs.Cuts.{AreCuts, is_below, is_after, is_below_cut, lower_cut, in_piece, updates_in}
+use Rattle.mt_replay.specs.Cuts.{AreCuts, is_below, in_piece, updates_in}
 use Rattle.mt_replay.specs.Ranges.{dealt_by}
 use Rattle.mt_replay.specs.Steps.Dealing.{extended}
 use Rattle.mt_replay.proofs.KeyOrder.{above_by, below_trans}

@@ -57,9 +57,12 @@ pub record AreBoth (old add : Slots) (n : ℕ) (new left : Slots) : Type 0 where
 pub both_cells : (old add : Slots) (new left : Slots) (writes others : List Written) → AreBoth old add MOST_COLUMNS new left → IsCellOf writes old → IsCellOf others add → IsCellOf (writes ++ others) new
 both_cells old add new left writes others are was is = cell_both writes others old new is.within are.places (λ number lt.
     let b = slice_index_or add number None in
-    let there : slice_get add number ≡ Some b = slice_get-get_or add number None (omega (arith, lt, was.places, is.places)) in
-    (b, is.each number b there, are.newest number (slice_index_or old number None) b (slice_index_or new number None) (omega (arith, lt, was.places))
-        (slice_get-get_or old number None lt) there (slice_get-get_or new number None (omega (arith, lt, are.places))))) was
+    let there : slice_get add number ≡ Some b = slice_get-get_or add number None (omega (arith, lt, was.places, is.places)) in (
+      b,
+      is.each number b there,
+      are.newest number (slice_index_or old number None) b (slice_index_or new number None) (omega (arith, lt, was.places))
+          (slice_get-get_or old number None lt) there (slice_get-get_or new number None (omega (arith, lt, are.places))),
+    )) was
 
 -- the group of the updates of two groups
 pub both_groups : (updates others : List Update) (key : List ℕ) (old add new : Group) → IsLatestOf old.reset add.reset new.reset

@@ -1,9 +1,6 @@
-use Rattle.std.proofs.Common.{◌≡◌, ◌+◌, ◌∙◌, List, length, ap, arith}
-use Rattle.std.specs.List.{filter}
-use Rattle.mt_words.specs.declared.update.Update.{Update}
+use Rattle.std.proofs.Common.{arith}
 use Rattle.mt_words.specs.OneLog.{as_list}
-use Rattle.mt_replay.specs.Survivors.{is_early}
-use Rattle.mt_replay.proofs.BatchLemmas.{first_of, share_step, early_both, early_one, one_if}
+use Rattle.mt_replay.proofs.BatchLemmas.{first_of, share_step, early_both, early_one}
 use Rattle.mt_replay.proofs.batch.early_in.Goals as goal
 use Rattle.mt_replay.proofs.batch.early_in.Goals.{then-comes_early, else-comes_early}
 

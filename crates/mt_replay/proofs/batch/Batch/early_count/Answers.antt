@@ -1,7 +1,6 @@
-use Rattle.std.proofs.Common.{◌≡◌, ◌+◌, List, length, take, sym, ap, arith}
-use Rattle.std.specs.List.{filter, flat_map}
+use Rattle.std.proofs.Common.{◌+◌, List, length, sym, ap, arith}
+use Rattle.std.specs.List.{flat_map}
 use Rattle.mt_record.specs.Shares.{ShareView, updates_of_share}
-use Rattle.mt_replay.specs.Survivors.{is_early}
 use Rattle.mt_replay.proofs.BatchLemmas.{none_early, early_step, early_few}
 use Rattle.mt_replay.proofs.batch.Batch.early_count.Goals as goal
 
