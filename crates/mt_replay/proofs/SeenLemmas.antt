@@ -14,7 +14,6 @@ use Rattle.mt_replay.specs.declared.auditor.Seen.{Seen}
 use Rattle.mt_replay.specs.Clashes.{Clash, Rises, IsLowerPlace, HasUpdateAt}
 use Rattle.mt_replay.specs.Steps.Auditor.{IsClashOf, AreClashesOf, IsLowerSeen, IsSeen, seen_by, seen_in, clash_at, AddClashes}
 use Rattle.mt_replay.proofs.Members.{only, of_each, all_from, of_map, in_map, of_flat_map, in_flat_map}
-use Rattle.mt_replay.proofs.CellLemmas.{some_is}
 use Rattle.mt_replay.proofs.FilterLemmas.{front, back}
 use Rattle.mt_replay.proofs.ClashLemmas.{rises_front, rises_back, place_apart, stands, one_clash_of, no_clashes, same_clashes, clashes_append, Either}
 use Rattle.std.specs.Cmp.{IsTotalOrder, unsigned_ties}
@@ -180,7 +179,7 @@ module _ (rest same later : List Seen) (first : Seen) (i : ℕ) (front_is : same
 
   least : (xs : List Seen) → Rises IsLowerSeen xs → Some first ≡ slice_get xs 0 → (one : Seen) → Contains xs one → first.version ≤ one.version
   least [] up is one at = absurd (no_element one at)
-  least (x ∷ xs) up is one at = omega (arith, least_first x xs one up at, ap (λ (s : Seen). s.version) (some_is first x is))
+  least (x ∷ xs) up is one at = let low = least_first x xs one up at in let first_is : first ≡ x = cc in grind arith
 
   module _ (first_is : Some first ≡ slice_get rest 0) (point : IsPartitionPoint (λ (one : Seen). one.version ≤ first.version) (λ (one : Seen). first.version < one.version) rest i) where
     at_version : (one : Seen) → Contains same one → one.version ≡ first.version
