@@ -1,6 +1,6 @@
 -- The updates of a batch, share by share and record by record.
-use Rattle.std.proofs.Common.{◌≡◌, ℕ, ◌+◌, ◌<◌, ◌≤◌, Bool, false, not, Option, Some, None, List, ◌++◌, length, take, drop, get_or, refl, sym, ap, cond, ◌∙◌, arith}
-use Rattle.std.specs.Prelude.{filter, nat_lt}
+use Rattle.std.proofs.Common.{◌≡◌, ℕ, ◌+◌, ◌<◌, ◌≤◌, Bool, not, Option, Some, None, List, ◌++◌, length, take, drop, get_or, refl, sym, ap, cond, ◌∙◌, arith}
+use Rattle.std.specs.Prelude.{filter}
 use Rattle.std.specs.List.{flat_map, list_any}
 use Rattle.std.proofs.lemmas.Bool.Decides.{nat_tests}
 use Rattle.std.proofs.lemmas.List.{length-take-le, length-append, take-append-drop}
@@ -75,11 +75,8 @@ pub early_both : (begin : ℕ) (us ws : List Update) → length (filter (is_earl
 early_both begin us ws = grind (arith, common_steps)
 
 -- no timestamp is below 0
-not_below : (time begin : ℕ) → begin ≡ 0 → nat_lt time begin ≡ false
-not_below time begin zero = grind (arith, nat_tests)
-
 pub none_early : (begin : ℕ) (updates : List Update) → begin ≡ 0 → length (filter (is_early begin) updates) ≡ 0
-none_early begin updates zero = ap length (filter_none (is_early begin) updates (λ k d lt. not_below (get_or updates k d).timestamp begin zero))
+none_early begin updates zero = ap length (filter_none (is_early begin) updates (λ k d lt. grind (arith, nat_tests)))
 
 -- the early updates of one share more
 pub early_step : (begin : ℕ) (shares : List ShareView) (i : ℕ) (next : ShareView) → i < length shares → next ≡ get_or shares i next
