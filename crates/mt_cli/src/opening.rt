@@ -8,10 +8,17 @@ use std::fs::{self, File, Files, OpenFile};
 use std::io::{self, ErrorKind, Read};
 use std::path::Path;
 
+/// The bytes that the buffers of a rack have together, unless that makes them too long or too short.
+const RACK_BYTES: usize = 4_194_304;
+
+/// The length of a buffer, in bytes, if there are many.
+const SHORT_BUFFER: usize = 8_192;
+
 /// Creates a rack with a buffer for each file. Err: out of memory.
 pub fn rack_of<R: AllocGlobal>(rt: &R, names: &Names) -> Result<Rack, Refusal<'static>> {
     let count = names.logs.len().saturating_add(names.parts.len());
-    Ok(Rack::new(rt.alloc(), count, LONGEST_BUFFER)?)
+    let size = (RACK_BYTES / count.max(1)).clamp(SHORT_BUFFER, LONGEST_BUFFER);
+    Ok(Rack::new(rt.alloc(), count, size)?)
 }
 
 /// Opens the sources of the logs, and then those of the parts. Err: a file cannot be opened, or out of memory.
