@@ -1,4 +1,8 @@
 //! Updates as texts: of each its origin, then its body.
+//!
+//!     entry                                  0 | body
+//!     record 5 of log 3, as most             1 | 0003 | 00000005 | body
+//!     one whose log or number is greater     2 | log, 8 bytes | record, 8 bytes | body
 ghost use Rattle.std.specs.Prelude.{◌≡◌, ◌<◌, ◌++◌, [], ◌∷◌, IfOk, OnOk, OnErr, length, slice_index_or};
 ghost use Rattle.mt_words.specs.declared.update.Origin.TheVariants.{Checkpoint};
 ghost use Rattle.mt_words.specs.declared.update.Update.{Update as UpdateValue};

@@ -1,5 +1,10 @@
 //! Sorts texts of updates by their keys, as numbers: each has the beginning of a key, and in its lowest bits the place
 //! of a text in its list. If keys share a beginning, the numbers have what follows it.
+//!
+//!     bits 63 to 16                                bits 15 to 0
+//!     6 bytes of the key, after those all share    place of the text
+//!
+//! A list of more than 65,536 texts takes 32 bits for a place.
 ghost use Rattle.std.specs.Prelude.{◌≡◌, ◌≤◌, ◌<◌, ◌+◌, ◌-◌, ◌/◌, ◌%◌, ◌^◌, ℕ, IfOk, IsTrue, List, IsPermutation, slice_index_or, length, take, drop, All};
 ghost use Rattle.std.specs.List.{range_with_len};
 ghost use Rattle.std.specs.Ordering.{nat_cmp};

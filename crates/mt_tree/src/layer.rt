@@ -1,4 +1,11 @@
 //! A layer under construction: a list of borders, each a list of places.
+//!
+//!     layer     open border | closed border | .. | open border
+//!     border    1 to 15 places, in rising order
+//!     place     slice, 8 bytes of a key | a key of up to 8 bytes, or one longer key, or a link to the layer of all longer ones
+//!
+//! Pairs come in key order, so a push changes the last border alone, and a join only the two that meet. A closed border is
+//! finished: its links lead to nodes.
 ghost use Rattle.std.specs.Prelude.{◌≡◌, ◌≤◌, ◌+◌, ◌<◌, ◌++◌, ◌∷◌, ◌↔◌, [], length, take, drop};
 ghost use Rattle.std.specs.Prelude.{MatchBool, IfOk, OnOk, IsTrue};
 ghost use Rattle.mt_tree.specs.Layer.{walk, pairs_at, put_before, length_at};

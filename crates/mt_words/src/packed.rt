@@ -1,4 +1,7 @@
-//! The columns of a stored key, as one block of bytes.
+//! The columns of a stored key, as one block of bytes: as a log has them behind the key of a put.
+//!
+//!     block    count, 1 byte | column | column | ..
+//!     column   number, 1 byte | length, 2 bytes | value
 ghost use Rattle.std.specs.Prelude.{◌≡◌, ◌<◌, ◌≤◌, ◌^◌, ◌↔◌, [], ◌∷◌, ◌++◌, List, ℕ, length, OnOk, OnErr, IfOk, IfSome, IfNone, IsTrue, MatchOption, Contains};
 ghost use Rattle.mt_words.specs.declared.limits.TheConstants.{LONGEST_VALUE};
 ghost use Rattle.mt_words.specs.Limits.{widest};

@@ -1,4 +1,11 @@
 //! Reads the record or entry at the front of bytes. It is framed: its length stands before and after its body.
+//!
+//!     frame    length, 4 bytes | body, as many bytes | length again, 4 bytes
+//!     record   body = kind, 1 byte | timestamp, 8 bytes | change, but for a mark
+//!     entry    body = change
+//!     change   version, 8 bytes | length of the key, 2 bytes | key | columns, or their numbers
+//!
+//! The bytes may end anywhere in a frame: there the log is torn, or the next chunk goes on.
 ghost use Rattle.std.specs.Prelude.{◌≡◌, ◌<◌, ◌^◌, ◌⊎◌, ◌+◌, ◌*◌, suc, [], length, IfOk, IfErr, OnErr, MatchOption};
 ghost use Rattle.mt_words.specs.declared.limits.TheConstants.{LONGEST_VALUE};
 ghost use Rattle.mt_words.specs.Limits.{limits_of};
@@ -98,15 +105,18 @@ fn next_frame(bytes: &[u8], shortest: usize, longest: usize) -> Result<Option<(&
         return Ok(None);
     };
     let length = length as usize;
+    // No body is so short or so long, so the length itself is damaged: no byte that follows can mend it.
     if length < shortest || length > longest {
         return Err(What::Length);
     }
+    // A crash cut the body off, or the length is damaged: from these bytes nobody can tell.
     let Some((body, rest)) = rest.split_at_checked(length) else {
         return Ok(None);
     };
     let Some((trailer, rest)) = u32_at(rest) else {
         return Ok(None);
     };
+    // A crash leaves a beginning of what was written, and changes no byte of it: this is damage.
     if trailer as usize != length {
         return Err(What::Trailer);
     }

@@ -1,4 +1,10 @@
 //! The items of a part, in order: its header, its entries and its footer.
+//!
+//!     header   "MTC1" or "MTC2" | number, 4 bytes | begin, 8 | part, 2 | parts, 2
+//!     entry    length, 4 bytes | change, as many bytes | length again, 4
+//!     footer   0, 4 bytes | end, 8 | number of entries, 4
+//!
+//! No entry has the length 0, so the first 4 bytes of an item tell which it is. Nothing follows the footer.
 ghost use Rattle.std.specs.Prelude.{◌≡◌, ◌≢◌, ◌++◌, List, ℕ, None, Some, length};
 ghost use Rattle.byteorder.specs.Endian.{big_bytes};
 ghost use Rattle.mt_record.specs.declared.part_text.PartFault.TheVariants.{Broken};
