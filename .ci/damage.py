@@ -2,7 +2,8 @@
 This is a model of its own of docs/RULES.md and docs/FORMATS.md."""
 from typing import NamedTuple
 
-from stores import ERASE, PUT, REMOVE, Update, columns_after, dump_lines, header, mark, part, record, share
+from formats import ERASE, PUT, REMOVE, Update, header, mark, part, record
+from stores import columns_after, dump_lines, share
 
 # How many updates a store has, those at which its checkpoint begins and ends, and that at which the last worker is added.
 UPDATES = 20_000

@@ -9,13 +9,13 @@ from functools import lru_cache
 from pathlib import Path
 from typing import NamedTuple
 
+from formats import ERASE, GREATEST, MARK, PUT, REMOVE, Update
+
 TOP = Path(__file__).resolve().parent.parent
 TIMES = int(sys.argv[1]) if len(sys.argv) > 1 else 300
 MTRECOVER = sys.argv[2] if len(sys.argv) > 2 else TOP / "crates/mtrecover/out/mtrecover"
 # Folders that are tried lie in memory if they can, where a sync takes no time.
 MEMORY = "/dev/shm" if Path("/dev/shm").is_dir() else None
-PUT, REMOVE, MARK, ERASE = 1, 2, 3, 4
-GREATEST = 2**64 - 1
 KEYS = [b"", b"a", b"b", b"aaaaaaaa", b"aaaaaaaab", b"aaaaaaaaaaaaaaaac"]
 
 counts = {True: 0, False: 0}
@@ -27,48 +27,7 @@ def count(told, holds):
         print(f"{told}: FAILED", flush=True)
 
 
-# ---- Bytes ----
-
-
-class Update(NamedTuple):
-    timestamp: int
-    version: int
-    kind: int
-    key: bytes
-    columns: tuple  # of a number and a value; of a number, in an erase
-
-
-def framed(body):
-    length = struct.pack(">I", len(body))
-    return length + body + length
-
-
-def columns_bytes(columns):
-    return bytes([len(columns)]) + b"".join(struct.pack(">BH", number, len(value)) + value for number, value in columns)
-
-
-def record(update):
-    body = struct.pack(">BQQH", update.kind, update.timestamp, update.version, len(update.key)) + update.key
-    if update.kind == PUT:
-        body += columns_bytes(update.columns)
-    elif update.kind == ERASE:
-        body += bytes([len(update.columns), *update.columns])
-    return framed(body)
-
-
-def mark(timestamp):
-    return framed(struct.pack(">BQ", MARK, timestamp))
-
-
-def header(form, start, worker=0, segment=0):
-    return b"MTL%d" % form + struct.pack(">Q", start) + (struct.pack(">II", worker, segment) if form == 3 else b"")
-
-
-def part(form, number, begin, place, parts, entries, end):
-    """Returns a part's bytes. Its entries are versions, keys and columns."""
-    head = b"MTC%d" % form + struct.pack(">IQHH", number, begin, place, parts)
-    bodies = [struct.pack(">QH", version, len(key)) + key + columns_bytes(columns) for version, key, columns in entries]
-    return head + b"".join(map(framed, bodies)) + struct.pack(">IQI", 0, end, len(entries))
+# ---- Logs ----
 
 
 def end_of(part):
