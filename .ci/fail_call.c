@@ -1,7 +1,8 @@
 /* Loaded into a program, fails one of its calls, and says so on standard error. FAIL is the kind of call: growth (malloc,
    realloc), thread, open, list, stat, read, write, sync, rename, delete, make (mkdir), mode (fchmod) or owner (chown). AT is
-   its number among the program's calls of that kind, from 1. WITH is the errno, or 0 for a read or write of one byte. The
-   kind change fails no read: before it, the file TO gets the bytes of the file FROM in place. */
+   its number among the program's calls of that kind, from 1. With OF, only reads or writes of the file OF count, and those after
+   it fail too. WITH is the errno, or 0 for a read or write of one byte. The kind change fails no read: before it, the file TO
+   gets the bytes of the file FROM in place. */
 #define _GNU_SOURCE
 #include <dlfcn.h>
 #include <errno.h>
@@ -21,16 +22,27 @@ static atomic_long calls;
 /* The function of this name that the program would call without this file. */
 #define NEXT(type, name) ((type)dlsym(RTLD_NEXT, name))
 
-/* Whether this call is the one. Then errno is set. */
+/* Whether this call is the one, or with OF after it. Then errno is set. */
 static int fails(const char *kind)
 {
     const char *wanted = getenv("FAIL");
-    if (!wanted || strcmp(wanted, kind) || atomic_fetch_add(&calls, 1) + 1 != atol(getenv("AT")))
+    if (!wanted || strcmp(wanted, kind))
+        return 0;
+    long call = atomic_fetch_add(&calls, 1) + 1, at = atol(getenv("AT"));
+    if (call < at || (call > at && !getenv("OF")))
         return 0;
     static const char text[] = "call failed\n";
     syscall(SYS_write, 2, text, sizeof text - 1);
     errno = atoi(getenv("WITH"));
     return 1;
+}
+
+/* Whether a file is OF, if that is given. */
+static int is_of(int file)
+{
+    const char *of = getenv("OF");
+    struct stat wanted, found;
+    return !of || (!stat(of, &wanted) && !fstat(file, &found) && found.st_dev == wanted.st_dev && found.st_ino == wanted.st_ino);
 }
 
 void *malloc(size_t size)
@@ -93,7 +105,7 @@ ssize_t read(int file, void *bytes, size_t size)
 {
     if (fails("change"))
         change();
-    if (fails("read")) {
+    if (is_of(file) && fails("read")) {
         if (errno)
             return -1;
         size = size < 1 ? size : 1;
@@ -103,7 +115,7 @@ ssize_t read(int file, void *bytes, size_t size)
 
 ssize_t write(int file, const void *bytes, size_t size)
 {
-    if (fails("write")) {
+    if (is_of(file) && fails("write")) {
         if (errno)
             return -1;
         size = size < 1 ? size : 1;

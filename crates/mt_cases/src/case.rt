@@ -1,21 +1,16 @@
-//! A case in one pass: what is recovered or run, and what is expected.
+//! A case in one pass: what is recovered, and what is expected.
 use crate::answer::{cuts_of, recover_from_memory, write_answer};
 use crate::blocks::words_of;
-use crate::devices::outputs_of;
 use crate::draft::{Draft, Named};
-use crate::folder::{Entry, Kind};
 use crate::mistake::Mistake;
 use crate::passes::Pass;
-use crate::runs::{Group, Run};
 use crate::source::inputs_of;
 use crate::words::{number_of, push_line};
 use mt_recover::{Cutting, NoGate, Pieces, Recovered, Workers, recover, recover_one};
 use mt_scan::{LONGEST_BUFFER, Rack};
 use mt_words::Fault;
 use std::alloc::Global;
-use std::fs::Files;
 use std::thread::Threads;
-use std::time::Clock;
 
 /// What the lines of a case say in one pass.
 #[derive(Drop)]
@@ -25,13 +20,8 @@ pub struct Case {
     size: Option<usize>,
     /// The lines `cuts`.
     cuts: Vec<String>,
-    /// The expected text of recovery.
-    expected: Vec<u8>,
-    /// What commands find in the folder F.
-    folder: Vec<Entry>,
-    groups: Vec<Group>,
-    /// The lines `output` and `outputs`. Commands run once on each of these outputs.
-    outputs: Vec<String>,
+    /// The expected text.
+    pub expected: Vec<u8>,
 }
 
 /// How a case is tried.
@@ -52,14 +42,6 @@ pub enum Way<'a> {
         number: usize,
         line: &'a str,
     },
-    /// By the run of a command, which must end as these lines say, on this standard input and the outputs of a line,
-    /// which may be empty.
-    Run {
-        run: &'a Run,
-        input: &'a [u8],
-        ends: &'a str,
-        outputs: &'a str,
-    },
 }
 
 /// The sizes of buffers, if a case names none.
@@ -79,9 +61,6 @@ impl Case {
             size: None,
             cuts: Vec::new(alloc),
             expected: Vec::new(alloc),
-            folder: Vec::new(alloc),
-            groups: Vec::new(alloc),
-            outputs: Vec::new(alloc),
         }
     }
 
@@ -95,10 +74,6 @@ impl Case {
     ) -> Result<(), Mistake> {
         match words {
             ["log" | "part", ..] => Ok(self.drafts.push(Draft::begin(alloc, names, words)?)?),
-            ["file" | "folder" | "dead", ..] => {
-                let entry = Entry::of_line(alloc, names, &self.folder, words)?;
-                Ok(self.folder.push(entry)?)
-            }
             // Lines `each` stand right after `case`, one for each letter.
             ["each", ..] => Err(Mistake::LINE),
             ["buffers", size] => self.use_buffers(size),
@@ -107,19 +82,6 @@ impl Case {
                 cuts_of(alloc, line)?;
                 Ok(self.cuts.push(String::from_str(alloc, line)?)?)
             }
-            ["output" | "outputs", _] => {
-                outputs_of(alloc, words)?;
-                Ok(self.outputs.push(String::from_str(alloc, line)?)?)
-            }
-            ["run", ..] => self.add_run(alloc, line, words),
-            ["types", line @ ..] => match self.groups.last_mut() {
-                Some(group) if !group.is_whole() => push_line(alloc, line, &mut group.input),
-                _ => Err(Mistake::NO_RUN),
-            },
-            ["prints" | "errs" | "status", ..] => match self.groups.last_mut() {
-                Some(group) => group.expect(line),
-                None => Err(Mistake::NO_RUN),
-            },
             _ if is_expected(words) => push_line(alloc, words, &mut self.expected),
             _ => self.go_on(alloc, words),
         }
@@ -135,26 +97,8 @@ impl Case {
         Ok(())
     }
 
-    /// Adds the command of a line `run ..`. Those that follow one another have the same expectation.
-    fn add_run(&mut self, alloc: Global, line: &str, words: &[&str]) -> Result<(), Mistake> {
-        let run = Run::of_line(alloc, line, words)?;
-        match self.groups.last_mut() {
-            Some(group) if !group.is_whole() => Ok(group.runs.push(run)?),
-            _ => Ok(self.groups.push(Group::of(alloc, run)?)?),
-        }
-    }
-
-    /// Adds a line to the last log, part or file. Err if there is none.
+    /// Adds a line to the last log or part. Err if there is none.
     fn go_on(&mut self, alloc: Global, words: &[&str]) -> Result<(), Mistake> {
-        if let Some(
-            Entry {
-                kind: Kind::File(file),
-                ..
-            },
-        ) = self.folder.last_mut()
-        {
-            return file.add(alloc, words);
-        }
         let Some(draft) = self.drafts.last_mut() else {
             return Err(Mistake::NO_DRAFT);
         };
@@ -164,56 +108,21 @@ impl Case {
         }
     }
 
-    /// Encodes the parts that are still drafts. Err: the case expects nothing, a part cannot be encoded, or there are
-    /// logs or parts beside what takes files.
-    pub fn finish(&mut self, alloc: Global) -> Result<(), Mistake> {
-        if self.expected.is_empty() && !self.groups.last().is_some_and(Group::is_whole) {
+    /// Encodes the parts that are still drafts. Err: the case expects nothing, or a part cannot be encoded.
+    pub fn finish(&mut self) -> Result<(), Mistake> {
+        if self.expected.is_empty() {
             return Err(Mistake::NOTHING);
-        }
-        let takes_files = !self.folder.is_empty() || self.groups.iter().any(Group::has_mtdump);
-        if takes_files && !self.drafts.is_empty() {
-            return Err(Mistake::MIXED);
-        }
-        if self.outputs.is_empty() {
-            self.outputs.push(String::new(alloc))?;
         }
         for draft in &mut self.drafts {
             draft.spell_part()?;
         }
-        for entry in &mut self.folder {
-            if let Kind::File(draft) = &mut entry.kind {
-                draft.spell_part()?;
-            }
-        }
         Ok(())
     }
 
-    /// Returns the ways in which the case is tried in this pass.
+    /// Returns the ways in which the case is tried in this pass: from memory only if there are no parts, no source
+    /// fails and no size is named.
     pub fn ways(&self, alloc: Global, pass: Pass) -> Result<Vec<Way<'_>>, Mistake> {
-        let mut ways = self.recoveries(alloc, pass)?;
-        for group in &self.groups {
-            for run in &group.runs {
-                for outputs in &self.outputs {
-                    let (ends, outputs) = (group.ends.as_str(), outputs.as_str());
-                    let input = group.input.as_slice();
-                    ways.push(Way::Run {
-                        run,
-                        input,
-                        ends,
-                        outputs,
-                    })?;
-                }
-            }
-        }
-        Ok(ways)
-    }
-
-    /// Returns the ways of recovery: from memory only if there are no parts, no source fails and no size is named.
-    fn recoveries(&self, alloc: Global, pass: Pass) -> Result<Vec<Way<'_>>, Mistake> {
         let mut ways = Vec::new(alloc);
-        if self.expected.is_empty() {
-            return Ok(ways);
-        }
         if let Some(size) = self.size {
             ways.push(Way::Buffers(size))?;
         } else {
@@ -242,39 +151,17 @@ impl Case {
         Ok(ways)
     }
 
-    /// Returns the text that is expected in this way.
-    pub fn expected_in<'a>(&'a self, way: Way<'a>) -> &'a [u8] {
-        match way {
-            Way::Run { ends, .. } => ends.as_bytes(),
-            _ => &self.expected,
-        }
-    }
-
-    /// Tries the case in this way. Returns what comes, as text, which is the expected text if it is what is expected.
-    pub fn come<R>(&self, rt: &R, way: Way<'_>) -> Result<Vec<u8>, Mistake>
-    where
-        R: AllocGlobal + Clock + Clone + Drop + Files + Threads + Sync,
-        R::File: Send,
-    {
+    /// Tries the case in this way. Returns what comes, as text.
+    pub fn come<R: AllocGlobal + Threads + Sync>(
+        &self,
+        rt: &R,
+        way: Way<'_>,
+    ) -> Result<Vec<u8>, Mistake> {
         let size = match way {
             Way::Buffers(size) => size,
             _ => self.size.unwrap_or(LONGEST_BUFFER),
         };
         let answer = match way {
-            Way::Run {
-                run,
-                input,
-                ends,
-                outputs,
-            } => {
-                let outputs = outputs_of(rt.alloc(), &words_of(rt.alloc(), outputs)?)?;
-                let found = if self.drafts.is_empty() {
-                    run.end_in(rt, &self.folder, input, outputs)?
-                } else {
-                    run.end_on(rt, &self.drafts, size, outputs)?
-                };
-                return found.beside(rt.alloc(), ends);
-            }
             Way::Memory => recover_from_memory(rt.alloc(), &self.drafts)?,
             _ => self.recover_from_sources(rt, size, way)?,
         };
@@ -307,7 +194,7 @@ impl Case {
 /// Returns the workers of this way and how the keys are cut, or None for a way on one thread.
 fn cutting_in(alloc: Global, way: Way<'_>) -> Result<Option<(Workers, Cutting)>, Mistake> {
     let (workers, cutting) = match way {
-        Way::Memory | Way::Buffers(_) | Way::Run { .. } => return Ok(None),
+        Way::Memory | Way::Buffers(_) => return Ok(None),
         Way::Even { workers, pieces } => {
             let Some(pieces) = Pieces::new(pieces) else {
                 return Err(Mistake::NUMBER);

@@ -5,13 +5,10 @@
 mod answer;
 mod blocks;
 mod case;
-mod devices;
 mod draft;
-mod folder;
 mod mistake;
 mod passes;
 mod records;
-mod runs;
 mod source;
 mod telling;
 mod trying;

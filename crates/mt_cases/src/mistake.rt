@@ -42,19 +42,9 @@ impl Mistake {
         "an entry in a log or behind bytes, or a record in a part",
     );
 
-    pub const FILE_NAME: Mistake = Mistake("a slash in the name of a file");
-
-    pub const NO_RUN: Mistake = Mistake("no command before it");
-
-    pub const MIXED: Mistake = Mistake(
-        "the case has logs or parts, and mtdump, check, records, cut or a line of F",
-    );
-
     pub const NOTHING: Mistake = Mistake("the case expects nothing");
 
     pub const SLOT: Mistake = Mistake("a slot has no buffer");
-
-    pub const FOLDER: Mistake = Mistake("the folder F cannot be made or removed");
 
     pub const MEMORY: Mistake = Mistake("no memory");
 }

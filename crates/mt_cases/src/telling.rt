@@ -4,10 +4,8 @@ use crate::draft::{Named, read_name};
 use crate::mistake::Mistake;
 use crate::trying::try_case;
 use std::alloc::Global;
-use std::fs::Files;
 use std::io::{self, Write};
 use std::thread::Threads;
-use std::time::Clock;
 
 /// Counts of the cases so far. A line that is not understood counts as a case that does not hold, and so does a file
 /// that cannot be read.
@@ -54,11 +52,12 @@ impl Teller {
     }
 
     /// Tries the cases of a file of this name and this text. Those after a line `refused` must not hold.
-    pub fn try_text<R>(&mut self, rt: &R, file: &str, text: &str) -> io::Result<()>
-    where
-        R: AllocGlobal + Clock + Clone + Drop + Files + Threads + Sync,
-        R::File: Send,
-    {
+    pub fn try_text<R: AllocGlobal + Threads + Sync>(
+        &mut self,
+        rt: &R,
+        file: &str,
+        text: &str,
+    ) -> io::Result<()> {
         let Ok(lines) = lines_of(rt.alloc(), text) else {
             return self.tell_unread(file);
         };
@@ -128,17 +127,13 @@ impl Teller {
 }
 
 /// Adds the name that a block gives, or tries its case. Sets `at` to the line that the result is reported for.
-fn trial_of<'a, R>(
+fn trial_of<'a, R: AllocGlobal + Threads + Sync>(
     rt: &R,
     names: &mut Vec<Named<'a>>,
     head: &Line<'a>,
     body: &[Line<'a>],
     at: &mut Line<'a>,
-) -> Result<Trial, Mistake>
-where
-    R: AllocGlobal + Clock + Clone + Drop + Files + Threads + Sync,
-    R::File: Send,
-{
+) -> Result<Trial, Mistake> {
     match (head.first_word(), body.first()) {
         ("refused", None) => Ok(Trial::NoCase),
         ("refused", Some(line)) => {

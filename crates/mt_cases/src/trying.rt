@@ -6,33 +6,28 @@ use crate::mistake::Mistake;
 use crate::passes::{Pass, passes_of};
 use crate::telling::Trial;
 use std::alloc::Global;
-use std::fs::Files;
 use std::io::{self, Write};
 use std::thread::Threads;
-use std::time::Clock;
 
 /// Tries a case in each pass and each way of recovery, up to the first difference. Sets `at` to the line that the
 /// result is reported for.
-pub fn try_case<'a, R>(
+pub fn try_case<'a, R: AllocGlobal + Threads + Sync>(
     rt: &R,
     names: &[Named<'_>],
     head: &Line<'a>,
     body: &[Line<'a>],
     at: &mut Line<'a>,
-) -> Result<Trial, Mistake>
-where
-    R: AllocGlobal + Clock + Clone + Drop + Files + Threads + Sync,
-    R::File: Send,
-{
+) -> Result<Trial, Mistake> {
     let (passes, lines) = passes_of(rt.alloc(), body, at)?;
     for pass in passes {
         let mut case = case_of(rt.alloc(), names, lines, pass, at)?;
         *at = *head;
-        case.finish(rt.alloc())?;
+        case.finish()?;
         for way in case.ways(rt.alloc(), pass)? {
-            let (came, expected) = (case.come(rt, way)?, case.expected_in(way));
-            if came.as_slice() != expected {
-                return Ok(Trial::Differs(difference(rt.alloc(), way, pass, expected, &came)?));
+            let came = case.come(rt, way)?;
+            if came != case.expected {
+                let text = difference(rt.alloc(), way, pass, &case.expected, &came)?;
+                return Ok(Trial::Differs(text));
             }
         }
     }
@@ -92,10 +87,6 @@ fn write_way(way: Way<'_>, text: &mut Vec<u8>) -> io::Result<()> {
                 text,
                 "came, with {workers} workers and line {number} of cuts"
             )
-        }
-        Way::Run { run, outputs, .. } => {
-            let with = if outputs.is_empty() { "" } else { " with " };
-            write!(text, "came, from {}{with}{outputs}", run.line)
         }
     }
 }

@@ -17,10 +17,10 @@ where
     }
 }
 
-/// Splits a word such as `k*1024` at its mark into the text and the number of its repetitions, which is 1 without the
-/// mark. Err: no number, or one above `MOST_TIMES`.
-fn repeated<'a>(word: &'a str, mark: &str) -> Result<(&'a str, u64), Mistake> {
-    let Some((once, times)) = word.split_once(mark) else {
+/// Splits a word such as `k*1024` into the text and the number of its repetitions, which is 1 without the `*`. Err: no
+/// number, or one above `MOST_TIMES`.
+fn repeated(word: &str) -> Result<(&str, u64), Mistake> {
+    let Some((once, times)) = word.split_once('*') else {
         return Ok((word, 1));
     };
     let times = number_of::<u64>(times)?;
@@ -32,7 +32,7 @@ fn repeated<'a>(word: &'a str, mark: &str) -> Result<(&'a str, u64), Mistake> {
 
 /// Appends the bytes of a piece: hexadecimal digits or text, which may be repeated.
 fn push_piece(alloc: Global, piece: &str, is_hex: bool, out: &mut Vec<u8>) -> Result<(), Mistake> {
-    let (once, times) = repeated(piece, "*")?;
+    let (once, times) = repeated(piece)?;
     let mut bytes = Vec::from_slice(alloc, once.as_bytes())?;
     if is_hex {
         bytes = hex::decode(alloc, once.as_bytes()).map_err(|_| Mistake::DIGITS)?;
@@ -88,15 +88,4 @@ pub fn byte_of(alloc: Global, word: &str) -> Result<u8, Mistake> {
         [byte] => Ok(*byte),
         _ => Err(Mistake::DIGITS),
     }
-}
-
-/// Appends the arguments that a word stands for: `''` is an empty one, `none**3` three times `none`.
-pub fn push_arguments(alloc: Global, word: &str, out: &mut Vec<String>) -> Result<(), Mistake> {
-    let (once, times) = repeated(word, "**")?;
-    let once = if once == "''" { "" } else { once };
-    for _time in 0..times {
-        let argument = String::from_utf8(bytes_of(alloc, once)?);
-        out.push(argument.map_err(|_| Mistake::DIGITS)?)?;
-    }
-    Ok(())
 }
