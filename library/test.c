@@ -450,14 +450,14 @@ static void test_share(void) {
 }
 
 static void test_resume(void) {
-    static const uint8_t mark[] = "\0\0\0\x09\x03\0\0\0\0\0\0\0\x28\0\0\0\x09";
+    static const uint8_t mark[] = "\0\0\0\x09\x03\0\0\0\0\0\0\0\x29\0\0\0\x09";
     mtr_resumed resumed = {9, true};
     uint8_t out[256] = {9};
     size_t count = 0;
     expect("a log is as it was", mtr_resume_log(examples[0].bytes, examples[0].length, 40, &resumed, out, 256, &count) ==
                                      MTR_DONE && count == 138 && resumed.dropped == 0 && !resumed.changed &&
                                      memcmp(out, examples[0].bytes, count) == 0);
-    expect("a log is replaced", mtr_resume_log(examples[1].bytes, examples[1].length, 40, &resumed, out, 256, &count) ==
+    expect("a log is replaced", mtr_resume_log(examples[1].bytes, examples[1].length, 41, &resumed, out, 256, &count) ==
                                     MTR_DONE && count == 139 && resumed.dropped == 1 && resumed.changed &&
                                     memcmp(out, examples[1].bytes, 122) == 0 && memcmp(out + 122, mark, 17) == 0);
     out[0] = 9;

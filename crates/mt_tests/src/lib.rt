@@ -21,8 +21,6 @@ mod meeting;
 #[cfg(test)]
 mod refusals;
 #[cfg(test)]
-mod resuming;
-#[cfg(test)]
 mod scanning;
 #[cfg(test)]
 mod sharing;
