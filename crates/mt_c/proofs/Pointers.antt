@@ -1,5 +1,6 @@
 -- Structs of one pointer, as the machine has them. Assumes `Logic`.
-use Rattle.std.proofs.Common.{List, [], ◌∷◌, refl, lit<}
+use Rattle.std.proofs.Common.{◌≡◌, List, [], ◌∷◌, Option, Some, None, refl, sym, true≢false, lit<}
+use Rattle.std.specs.Prelude.{IsSome}
 use seplogic.Ra.Ura.{Ura}
 use mir.Syntax.{ty_ptr, ty_struct, tnil, tcons}
 use mir.Val.{Val, vstruct, vcons, vnil}
@@ -37,3 +38,7 @@ field_made 𝓛 p =
     qed 𝓛 [] ∵ nothing ! $ feq_i ! (List Val) (ptr_val p ∷ []) (ptr_val p ∷ []) refl $ fjoin ! $
     feq_i ! (List Val) (word p ∷ []) (word p ∷ []) refl $ fjoin ! $
     fpack ! (Valss (RawPtr ∷ [])) (within (shape handle.the_type) (p, tt) (word p ∷ [])) (ptr_val p ∷ [], tt) $ done !
+
+pub value_in : {X : Type 0} (value : Option X) → IsSome value → (x : X) × (value ≡ Some x)
+value_in (Some x) some = (x, refl)
+value_in None some = absurd (true≢false (sym some))

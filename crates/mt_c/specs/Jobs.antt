@@ -1,5 +1,5 @@
 -- Jobs: recoveries whose tasks threads of C do.
-use Rattle.std.specs.Prelude.{◌≡◌, ◌-◌, ◌<◌, ℕ, Option, Some, None, IfSome, IsSome, List, ◌∷◌, ◌++◌, length, map, All, slice_get, slice_set}
+use Rattle.std.specs.Prelude.{◌≡◌, ◌-◌, ◌<◌, ℕ, Option, Some, None, IfSome, IsSome, List, ◌∷◌, length, map, All, slice_get, slice_set}
 use Rattle.mt_recover.specs.Prepared.{IsPreparedOf}
 use Rattle.mt_recover.specs.Tasks.{IsDividingOf, divide_tasks, replay_tasks}
 use Rattle.mt_c.specs.declared.job.Step.{Step}

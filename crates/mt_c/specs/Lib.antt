@@ -6,6 +6,7 @@ pub mod Given
 pub mod Owning
 pub mod Holding
 pub mod Jobs
+pub mod Lends
 pub mod Ranges
 pub mod Reports
 pub mod Resumes

@@ -1,9 +1,7 @@
 -- The report of a recovery, as C sees it.
-use Rattle.std.specs.Prelude.{◌≡◌, ◌⊎◌, ℕ, ◌-◌, ◌^◌, min, Option, None, Some, List, length}
+use Rattle.std.specs.Prelude.{◌≡◌, ◌⊎◌, ℕ, ◌-◌, ◌^◌, min, Option, None, Some, length}
 use Rattle.mt_recover.specs.declared.report.Report.{Report}
 use Rattle.mt_c.specs.declared.reporting.CReport.{CReport}
-use Rattle.mt_c.specs.declared.reporting.Listed.{Listed}
-use Rattle.mt_c.specs.declared.reporting.Listed.TheVariants as lists
 use Rattle.mt_c.specs.declared.status.TheConstants.{DONE, ABSENT}
 
 -- the number, or 2^64 - 1 if it is above that
@@ -38,12 +36,6 @@ c_report report = record {
   keys = capped report.keys;
   layers = report.layers;
 }
-
--- a list of the report
-abbrev pub list_in : Listed → Report → List ℕ
-list_in lists.Ends report = report.ends.items
-list_in lists.Skipped report = report.skipped.items
-list_in lists.Nameless report = report.nameless.items
 
 -- what a function with this status did that tells an item: it told the item, or there is none
 pub record Tells (item : Option ℕ) (told status : ℕ) : Type 0 where

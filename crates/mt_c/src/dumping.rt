@@ -12,19 +12,11 @@ use crate::flat::write_pair;
 use crate::held::Held;
 use crate::place::Place;
 use crate::status::{ABSENT, WRONG};
-use mt_recover::Store;
-use std::alloc::Global;
 
 /// Writes the pair of this key to the beginning of `out`, and its length to `count`. `ABSENT`: the store has no such key.
 /// `WRONG`: the place does not hold a store.
 #[unsafe(no_mangle)]
-pub extern "C" fn mtr_pair(
-    alloc: Global,
-    store: &mut Place,
-    key: &[u8],
-    out: &mut [u8],
-    count: &mut usize,
-) -> u32
+pub extern "C" fn mtr_pair(store: &mut Place, key: &[u8], out: &mut [u8], count: &mut usize) -> u32
     ensures same { store.new.handle.value ≡ store.old.handle.value }
     ensures written { (outcome : Outcome) → HoldsOutcome outcome store.old.handle.value → result ≢ ABSENT → WritesPair outcome.store key.now out.old out.new count.new result }
     ensures absent { (outcome : Outcome) → HoldsOutcome outcome store.old.handle.value → result ≡ ABSENT → IsNoKey outcome.store key.now }
@@ -32,12 +24,16 @@ pub extern "C" fn mtr_pair(
     ensures certain { (outcome : Outcome) → HoldsOutcome outcome store.old.handle.value → (result ≡ DONE) ⊎ ((result ≡ SHORT) ⊎ (result ≡ ABSENT)) }
     ensures refused { (Holds IsStore store.old.handle.value → ⊥) → result ≡ WRONG }
 {
-    let Some(held) = store.take(alloc) else {
+    let Some(Held::Store(recovered)) = store.held() else {
         return WRONG;
     };
-    let status = pair(&held, key, out, count);
-    store.put(held);
-    status
+    let store = recovered.store();
+    // Its contract says that the pairs are lawful.
+    let _ = store.tree();
+    match store.get(key) {
+        None => ABSENT,
+        Some(columns) => write_pair(key, columns, out, count),
+    }
 }
 
 /// Writes the first pairs of the store whose keys are at or after `start` to the beginning of `out`, one after the other:
@@ -45,7 +41,6 @@ pub extern "C" fn mtr_pair(
 /// `SHORT`: not even the first has room. `ABSENT`: there is no such pair. `WRONG`: the place does not hold a store.
 #[unsafe(no_mangle)]
 pub extern "C" fn mtr_dump(
-    alloc: Global,
     store: &mut Place,
     start: &[u8],
     out: &mut [u8],
@@ -59,53 +54,8 @@ pub extern "C" fn mtr_dump(
     ensures certain { (outcome : Outcome) → HoldsOutcome outcome store.old.handle.value → (result ≡ DONE) ⊎ ((result ≡ SHORT) ⊎ (result ≡ ABSENT)) }
     ensures refused { (Holds IsStore store.old.handle.value → ⊥) → result ≡ WRONG }
 {
-    let Some(held) = store.take(alloc) else {
+    let Some(Held::Store(recovered)) = store.held() else {
         return WRONG;
     };
-    let status = dump(&held, start, out, count, pairs);
-    store.put(held);
-    status
-}
-
-/// Does what `mtr_pair` does, with what the place holds.
-fn pair(held: &Held, key: &[u8], out: &mut [u8], count: &mut usize) -> u32
-    ensures written { (outcome : Outcome) → HoldsOutcome outcome (Some held.now) → result ≢ ABSENT → WritesPair outcome.store key.now out.old out.new count.new result }
-    ensures absent { (outcome : Outcome) → HoldsOutcome outcome (Some held.now) → result ≡ ABSENT → IsNoKey outcome.store key.now }
-    ensures kept { result ≢ DONE → out.new ≡ out.old }
-    ensures certain { (outcome : Outcome) → HoldsOutcome outcome (Some held.now) → (result ≡ DONE) ⊎ ((result ≡ SHORT) ⊎ (result ≡ ABSENT)) }
-    ensures refused { (IsStore held.now → ⊥) → result ≡ WRONG }
-{
-    let Held::Store(shared) = held else {
-        return WRONG;
-    };
-    pair_in(shared.store(), key, out, count)
-}
-
-/// Writes the pair of this key to the beginning of `out`, and its length to `count`.
-fn pair_in(store: &Store, key: &[u8], out: &mut [u8], count: &mut usize) -> u32
-    ensures written { result ≢ ABSENT → WritesPair store.now key.now out.old out.new count.new result }
-    ensures absent { result ≡ ABSENT → IsNoKey store.now key.now }
-    ensures kept { result ≢ DONE → out.new ≡ out.old }
-    ensures certain { (result ≡ DONE) ⊎ ((result ≡ SHORT) ⊎ (result ≡ ABSENT)) }
-{
-    // Its contract says that the pairs are lawful.
-    let _ = store.tree();
-    match store.get(key) {
-        None => ABSENT,
-        Some(columns) => write_pair(key, columns, out, count),
-    }
-}
-
-/// Does what `mtr_dump` does, with what the place holds.
-fn dump(held: &Held, start: &[u8], out: &mut [u8], count: &mut usize, pairs: &mut usize) -> u32
-    ensures dumped { (outcome : Outcome) → HoldsOutcome outcome (Some held.now) → Dumps (from start.now outcome.store) out.old out.new count.new pairs.new result }
-    ensures kept { result ≢ DONE → out.new ≡ out.old }
-    ensures untold { result ≢ DONE → pairs.new ≡ pairs.old }
-    ensures certain { (outcome : Outcome) → HoldsOutcome outcome (Some held.now) → (result ≡ DONE) ⊎ ((result ≡ SHORT) ⊎ (result ≡ ABSENT)) }
-    ensures refused { (IsStore held.now → ⊥) → result ≡ WRONG }
-{
-    let Held::Store(shared) = held else {
-        return WRONG;
-    };
-    fill(shared.store().tree(), start, out, count, pairs)
+    fill(recovered.store().tree(), start, out, count, pairs)
 }

@@ -34,7 +34,7 @@ pub extern "C" fn mtr_feed_part(alloc: Global, place: &mut Place) -> u32
 /// Feeds the next chunk to the log or part in the place. `FAULT`: the bytes so far have a fault, which more bytes do not
 /// change. `MEMORY`: it has lost bytes, and recovery of it answers `MEMORY`. `WRONG`: nothing there is being fed.
 #[unsafe(no_mangle)]
-pub extern "C" fn mtr_feed(alloc: Global, place: &mut Place, chunk: &[u8]) -> u32
+pub extern "C" fn mtr_feed(place: &mut Place, chunk: &[u8]) -> u32
     ensures log { (bytes : List ℕ) → HoldsLog (Some bytes) place.old.handle.value → HoldsLog (Some (bytes ++ chunk.now)) place.new.handle.value }
     ensures part { (bytes : List ℕ) → HoldsPart (Some bytes) place.old.handle.value → HoldsPart (Some (bytes ++ chunk.now)) place.new.handle.value }
     ensures sound_log { (bytes : List ℕ) → HoldsLog (Some bytes) place.old.handle.value → result ≡ DONE → ShowsNoFault (bytes ++ chunk.now) }
@@ -42,29 +42,34 @@ pub extern "C" fn mtr_feed(alloc: Global, place: &mut Place, chunk: &[u8]) -> u3
     ensures kept { result ≡ WRONG → place.new.handle.value ≡ place.old.handle.value }
     ensures accepted { Holds IsFeed place.old.handle.value → result ≢ WRONG }
 {
-    let Some(mut held) = place.take(alloc) else {
+    let Some(held) = place.held_mut() else {
         return WRONG;
     };
-    let status = feed(&mut held, chunk);
-    place.put(held);
-    status
+    match held {
+        Held::Log(Some(log)) => log.feed(chunk),
+        Held::Part(Some(part)) => part.feed(chunk),
+        _ => WRONG,
+    }
 }
 
 /// Notes that the device of the log or part in the place failed. Its bytes are freed. `WRONG`: nothing there is being
 /// fed.
 #[unsafe(no_mangle)]
-pub extern "C" fn mtr_feed_failed(alloc: Global, place: &mut Place) -> u32
+pub extern "C" fn mtr_feed_failed(place: &mut Place) -> u32
     ensures log { (bytes : List ℕ) → HoldsLog (Some bytes) place.old.handle.value → HoldsLog None place.new.handle.value }
     ensures part { (bytes : List ℕ) → HoldsPart (Some bytes) place.old.handle.value → HoldsPart None place.new.handle.value }
     ensures kept { result ≢ DONE → place.new.handle.value ≡ place.old.handle.value }
     ensures accepted { Holds IsFeed place.old.handle.value → result ≡ DONE }
 {
-    let Some(mut held) = place.take(alloc) else {
+    let Some(held) = place.held_mut() else {
         return WRONG;
     };
-    let status = fail(&mut held);
-    place.put(held);
-    status
+    match held {
+        Held::Log(Some(_)) => *held = Held::Log(None),
+        Held::Part(Some(_)) => *held = Held::Part(None),
+        _ => return WRONG,
+    }
+    DONE
 }
 
 /// Frees what the place holds, if it holds anything, and leaves it empty.
@@ -73,35 +78,4 @@ pub extern "C" fn mtr_free(alloc: Global, place: &mut Place)
     ensures { place.new.handle.value ≡ None }
 {
     let _held = place.take(alloc);
-}
-
-/// Does what `mtr_feed` does, with what the place holds.
-fn feed(held: &mut Held, chunk: &[u8]) -> u32
-    ensures log { (bytes : List ℕ) → HoldsLog (Some bytes) (Some held.old) → HoldsLog (Some (bytes ++ chunk.now)) (Some held.new) }
-    ensures part { (bytes : List ℕ) → HoldsPart (Some bytes) (Some held.old) → HoldsPart (Some (bytes ++ chunk.now)) (Some held.new) }
-    ensures sound_log { (bytes : List ℕ) → HoldsLog (Some bytes) (Some held.old) → result ≡ DONE → ShowsNoFault (bytes ++ chunk.now) }
-    ensures sound_part { (bytes : List ℕ) → HoldsPart (Some bytes) (Some held.old) → result ≡ DONE → ShowsNoPartFault (bytes ++ chunk.now) }
-    ensures kept { result ≡ WRONG → held.new ≡ held.old }
-    ensures accepted { IsFeed held.old → result ≢ WRONG }
-{
-    match held {
-        Held::Log(Some(log)) => log.feed(chunk),
-        Held::Part(Some(part)) => part.feed(chunk),
-        _ => WRONG,
-    }
-}
-
-/// Does what `mtr_feed_failed` does, with what the place holds.
-fn fail(held: &mut Held) -> u32
-    ensures log { (bytes : List ℕ) → HoldsLog (Some bytes) (Some held.old) → HoldsLog None (Some held.new) }
-    ensures part { (bytes : List ℕ) → HoldsPart (Some bytes) (Some held.old) → HoldsPart None (Some held.new) }
-    ensures kept { result ≢ DONE → held.new ≡ held.old }
-    ensures accepted { IsFeed held.old → result ≡ DONE }
-{
-    match held {
-        Held::Log(Some(_)) => *held = Held::Log(None),
-        Held::Part(Some(_)) => *held = Held::Part(None),
-        _ => return WRONG,
-    }
-    DONE
 }

@@ -1,21 +1,18 @@
 //! Logs and checkpoint parts that are being fed.
-ghost use Rattle.std.specs.Prelude.{◌≡◌, ◌≢◌, ◌++◌, [], ◌∷◌, List, ℕ, Some, OnOk, OnErr};
+ghost use Rattle.std.specs.Prelude.{◌≡◌, ◌≢◌, ◌++◌, [], List, ℕ};
 ghost use Rattle.mt_record.specs.LogFeeding.{IsLogFed, ShowsNoFault};
 ghost use Rattle.mt_record.specs.PartFeeding.{IsPartFed, ShowsNoPartFault};
-ghost use Rattle.mt_recover.specs.Fed.{AreFed, Input};
 ghost use Rattle.mt_c.specs.declared.status.TheConstants.{DONE, WRONG};
 
 use crate::status::{DONE, FAULT, MEMORY};
 use mt_record::{FeedFault, KeptEntries, KeptRecords, LogFeed, PartFault, PartFeed};
-use mt_recover::Fed;
-use mt_words::Memory;
 use std::alloc::Global;
 use std::marker::Model;
 
 /// A log that is being fed.
 #[derive(Drop)]
 pub struct FedLog {
-    feed: LogFeed<KeptRecords>,
+    pub feed: LogFeed<KeptRecords>,
 }
 
 impl Model for FedLog {
@@ -51,22 +48,12 @@ impl FedLog {
             Err(_) => FAULT,
         }
     }
-
-    /// Appends the log to these inputs. Err: out of memory; then nothing is appended.
-    pub fn add_to(self, inputs: &mut Fed) -> Result<(), Memory>
-        ensures added { (logs parts : List Input) (bytes : List ℕ) → AreFed logs parts inputs.old → IsLogFed self bytes [] →
-            OnOk result (AreFed (logs ++ Some bytes ∷ []) parts inputs.new) }
-        ensures memory { OnErr result (inputs.new ≡ inputs.old) }
-    {
-        let FedLog { feed } = self;
-        inputs.add_log(feed)
-    }
 }
 
 /// A checkpoint part that is being fed.
 #[derive(Drop)]
 pub struct FedPart {
-    feed: PartFeed<KeptEntries>,
+    pub feed: PartFeed<KeptEntries>,
 }
 
 impl Model for FedPart {
@@ -101,15 +88,5 @@ impl FedPart {
             Err(PartFault::Memory) => MEMORY,
             Err(_) => FAULT,
         }
-    }
-
-    /// Appends the part to these inputs. Err: out of memory; then nothing is appended.
-    pub fn add_to(self, inputs: &mut Fed) -> Result<(), Memory>
-        ensures added { (logs parts : List Input) (bytes : List ℕ) → AreFed logs parts inputs.old → IsPartFed self bytes →
-            OnOk result (AreFed logs (parts ++ Some bytes ∷ []) inputs.new) }
-        ensures memory { OnErr result (inputs.new ≡ inputs.old) }
-    {
-        let FedPart { feed } = self;
-        inputs.add_part(feed)
     }
 }

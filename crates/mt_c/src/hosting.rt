@@ -12,7 +12,7 @@ use crate::fault::CFault;
 use crate::held::Held;
 use crate::job::Job;
 use crate::place::Place;
-use crate::recovering::{store_of, take_inputs, tell};
+use crate::recovering::{begin_store, take_inputs, tell};
 use crate::status::{ABSENT, DONE, MEMORY, WRONG};
 use crate::task::Worker;
 use mt_recover::{MOST_PIECES, Pieces, Workers};
@@ -65,12 +65,24 @@ pub extern "C" fn mtr_hire(alloc: Global, job: &mut Place, worker: &mut Place) -
     ensures kept { result ≢ DONE → (job.new.handle.value ≡ job.old.handle.value) × (worker.new.handle.value ≡ worker.old.handle.value) }
     ensures accepted { (before : JobView) → HoldsJob (λ j. j ≡ before) job.old.handle.value → worker.old.handle.value ≡ None → result ≢ WRONG }
 {
-    let Some(mut held) = job.take(alloc) else {
+    let Some(held) = job.held_mut() else {
         return WRONG;
     };
-    let status = hire(alloc, &mut held, worker);
-    job.put(held);
-    status
+    let Held::Job(hiring) = held else {
+        return WRONG;
+    };
+    if !worker.is_empty() {
+        return WRONG;
+    }
+    let Ok(mut hired) = Box::new(alloc, Held::Hits(Vec::new(alloc))) else {
+        return MEMORY;
+    };
+    let Some(task) = hiring.hire() else {
+        return ABSENT;
+    };
+    *hired = Held::Worker(task);
+    worker.put(hired);
+    DONE
 }
 
 /// Does the task in the place, unless it is done. Any thread may. `MEMORY`: the task is lost, and the place is empty.
@@ -83,7 +95,8 @@ pub extern "C" fn mtr_work(alloc: Global, worker: &mut Place) -> u32
     ensures kept { result ≡ WRONG → worker.new.handle.value ≡ worker.old.handle.value }
     ensures accepted { (before : WorkerValue) → HoldsWorker (λ w. w ≡ before) worker.old.handle.value → result ≢ WRONG }
 {
-    let Some(hired) = take_worker(alloc, worker) else {
+    let Some(Held::Worker(hired)) = worker.take_if(alloc, |held| matches!(held, Held::Worker(_)))
+    else {
         return WRONG;
     };
     let Worker { number, task } = hired;
@@ -104,12 +117,20 @@ pub extern "C" fn mtr_join(alloc: Global, job: &mut Place, worker: &mut Place) -
     ensures kept { result ≢ DONE → (job.new.handle.value ≡ job.old.handle.value) × (worker.new.handle.value ≡ worker.old.handle.value) }
     ensures accepted { (j : JobView) (w : WorkerValue) → HoldsJob (λ held. held ≡ j) job.old.handle.value → HoldsWorker (λ held. held ≡ w) worker.old.handle.value → Awaits j w → result ≡ DONE }
 {
-    let Some(mut held) = job.take(alloc) else {
+    let Some(held) = job.held_mut() else {
         return WRONG;
     };
-    let status = join(alloc, &mut held, worker);
-    job.put(held);
-    status
+    let Held::Job(joining) = held else {
+        return WRONG;
+    };
+    let Some(Held::Worker(hired)) = worker.take_if(
+        alloc,
+        |held| matches!(held, Held::Worker(done) if joining.awaits(done)),
+    ) else {
+        return WRONG;
+    };
+    joining.join(hired);
+    DONE
 }
 
 /// Begins the second step of the job, once all tasks of the first are back. `MEMORY`: the place is empty. `WRONG`: it does
@@ -123,19 +144,15 @@ pub extern "C" fn mtr_replay(alloc: Global, job: &mut Place) -> u32
     ensures refused { (HoldsJob CanReplay job.old.handle.value → ⊥) → result ≡ WRONG }
     ensures accepted { HoldsJob CanReplay job.old.handle.value → result ≢ WRONG }
 {
-    let Some(held) = job.take(alloc) else {
+    let Some(Held::Job(ready)) = job.take_if(
+        alloc,
+        |held| matches!(held, Held::Job(ready) if ready.can_replay()),
+    ) else {
         return WRONG;
     };
-    if !can_replay(&held) {
-        job.put(held);
-        return WRONG;
-    }
-    match Box::into_inner(held) {
-        Held::Job(ready) => match ready.replay(alloc) {
-            Ok(next) => job.begin(alloc, Held::Job(next)),
-            Err(_) => MEMORY,
-        },
-        _ => unreachable!(),
+    match ready.replay(alloc) {
+        Ok(next) => job.begin(alloc, Held::Job(next)),
+        Err(_) => MEMORY,
     }
 }
 
@@ -149,133 +166,14 @@ pub extern "C" fn mtr_assemble(alloc: Global, job: &mut Place) -> u32
     ensures refused { (HoldsJob CanFinish job.old.handle.value → ⊥) → result ≡ WRONG }
     ensures accepted { HoldsJob CanFinish job.old.handle.value → result ≢ WRONG }
 {
-    let Some(held) = job.take(alloc) else {
+    let Some(Held::Job(ready)) = job.take_if(
+        alloc,
+        |held| matches!(held, Held::Job(ready) if ready.can_finish()),
+    ) else {
         return WRONG;
     };
-    if !can_finish(&held) {
-        job.put(held);
-        return WRONG;
-    }
-    match Box::into_inner(held) {
-        Held::Job(ready) => match ready.finish(alloc) {
-            Ok(recovered) => match store_of(alloc, recovered) {
-                Ok(store) => {
-                    job.put(store);
-                    DONE
-                }
-                Err(_) => MEMORY,
-            },
-            Err(_) => MEMORY,
-        },
-        _ => unreachable!(),
-    }
-}
-
-/// Does what `mtr_hire` does, with what the job's place holds.
-fn hire(alloc: Global, held: &mut Held, worker: &mut Place) -> u32
-    ensures done { (before : JobView) → HoldsJob (λ j. j ≡ before) (Some held.old) → result ≡ DONE → IsHired before (Some held.new) worker.new.handle.value }
-    ensures absent { result ≡ ABSENT → HoldsJob (λ j. j.todo ≡ []) (Some held.old) }
-    ensures kept { result ≢ DONE → (held.new ≡ held.old) × (worker.new.handle.value ≡ worker.old.handle.value) }
-    ensures accepted { (before : JobView) → HoldsJob (λ j. j ≡ before) (Some held.old) → worker.old.handle.value ≡ None → result ≢ WRONG }
-{
-    let Held::Job(job) = held else {
-        return WRONG;
-    };
-    if !worker.is_empty() {
-        return WRONG;
-    }
-    let Ok(mut hired) = Box::new(alloc, Held::Hits(Vec::new(alloc))) else {
+    let Ok(recovered) = ready.finish(alloc) else {
         return MEMORY;
     };
-    let Some(task) = job.hire() else {
-        return ABSENT;
-    };
-    *hired = Held::Worker(task);
-    worker.put(hired);
-    DONE
-}
-
-/// Takes the task out of the place, and leaves it empty. None: the place holds something else, and is as before.
-fn take_worker(alloc: Global, place: &mut Place) -> Option<Worker>
-    ensures taken { IfSome result (λ worker. HoldsWorker (λ w. w ≡ worker) place.old.handle.value) }
-    ensures empty { IfSome result (λ worker. place.new.handle.value ≡ None) }
-    ensures kept { IsNone result → place.new.handle.value ≡ place.old.handle.value }
-    ensures accepted { (before : WorkerValue) → HoldsWorker (λ w. w ≡ before) place.old.handle.value → IsNone result → ⊥ }
-{
-    let held = place.take(alloc)?;
-    if !matches!(&*held, Held::Worker(_)) {
-        place.put(held);
-        return None;
-    }
-    match Box::into_inner(held) {
-        Held::Worker(worker) => Some(worker),
-        _ => unreachable!(),
-    }
-}
-
-/// Does what `mtr_join` does, with what the job's place holds.
-fn join(alloc: Global, held: &mut Held, place: &mut Place) -> u32
-    requires { (j : JobView) (w : WorkerValue) → HoldsJob (λ held. held ≡ j) (Some held.old) → HoldsWorker (λ held. held ≡ w) place.old.handle.value → IsOfJob j w }
-    ensures done { (j : JobView) (w : WorkerValue) → HoldsJob (λ held. held ≡ j) (Some held.old) → HoldsWorker (λ held. held ≡ w) place.old.handle.value → result ≡ DONE →
-        HoldsJob (λ held. held ≡ joined j w) (Some held.new) }
-    ensures empty { result ≡ DONE → place.new.handle.value ≡ None }
-    ensures kept { result ≢ DONE → (held.new ≡ held.old) × (place.new.handle.value ≡ place.old.handle.value) }
-    ensures accepted { (j : JobView) (w : WorkerValue) → HoldsJob (λ held. held ≡ j) (Some held.old) → HoldsWorker (λ held. held ≡ w) place.old.handle.value → Awaits j w → result ≡ DONE }
-{
-    let Held::Job(job) = held else {
-        return WRONG;
-    };
-    let Some(worker) = take_awaited(alloc, job, place) else {
-        return WRONG;
-    };
-    job.join(worker);
-    DONE
-}
-
-/// Takes the task out of the place if the job waits for it, and leaves it empty. None: the place is as before.
-fn take_awaited(alloc: Global, job: &Job, place: &mut Place) -> Option<Worker>
-    ensures taken { IfSome result (λ worker. HoldsWorker (λ w. w ≡ worker) place.old.handle.value × Awaits job.now worker) }
-    ensures empty { IfSome result (λ worker. place.new.handle.value ≡ None) }
-    ensures kept { IsNone result → place.new.handle.value ≡ place.old.handle.value }
-    ensures accepted { (w : WorkerValue) → HoldsWorker (λ held. held ≡ w) place.old.handle.value → Awaits job.now w → IsNone result → ⊥ }
-{
-    let held = place.take(alloc)?;
-    if !is_awaited(job, &held) {
-        place.put(held);
-        return None;
-    }
-    match Box::into_inner(held) {
-        Held::Worker(worker) => Some(worker),
-        _ => unreachable!(),
-    }
-}
-
-/// Returns whether this is a task that the job waits for.
-fn is_awaited(job: &Job, held: &Held) -> bool
-    ensures { IsTrue result ↔ HoldsWorker (Awaits job.now) (Some held.now) }
-{
-    match held {
-        Held::Worker(worker) => job.awaits(worker),
-        _ => false,
-    }
-}
-
-/// Returns whether this is a job whose second step can begin.
-fn can_replay(held: &Held) -> bool
-    ensures { IsTrue result ↔ HoldsJob CanReplay (Some held.now) }
-{
-    match held {
-        Held::Job(job) => job.can_replay(),
-        _ => false,
-    }
-}
-
-/// Returns whether this is a job whose store can be made.
-fn can_finish(held: &Held) -> bool
-    ensures { IsTrue result ↔ HoldsJob CanFinish (Some held.now) }
-{
-    match held {
-        Held::Job(job) => job.can_finish(),
-        _ => false,
-    }
+    begin_store(alloc, job, recovered)
 }

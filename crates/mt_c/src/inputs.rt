@@ -1,10 +1,17 @@
 //! Logs and checkpoint parts to recover from.
-ghost use Rattle.std.specs.Prelude.{◌≡◌, ◌++◌, ◌∷◌, [], List, OnOk, IfOk, IfErr};
+ghost use Rattle.std.specs.Prelude.{◌≡◌, ◌≢◌, ◌++◌, ◌∷◌, [], List, Option, OnOk, IfOk};
 ghost use Rattle.std.specs.List.{AllZip};
+ghost use Rattle.mt_record.specs.LogFeeding.{FedLog as FedLogValue};
+ghost use Rattle.mt_record.specs.PartFeeding.{FedPart as FedPartValue};
 ghost use Rattle.mt_recover.specs.Fed.{Input, AreFed};
 ghost use Rattle.mt_c.specs.Added.{none_added, with_log, with_part, IsLog, IsPart, AreAdded};
+ghost use Rattle.mt_c.specs.Holding.{IsInput};
+ghost use Rattle.mt_c.specs.declared.held.Held.TheVariants as held;
+ghost use Rattle.mt_c.specs.declared.status.TheConstants.{DONE, WRONG};
 
 use crate::feeds::{FedLog, FedPart};
+use crate::held::Held;
+use crate::status::{DONE, MEMORY, WRONG};
 use mt_recover::Fed;
 use mt_words::Memory;
 use std::alloc::Global;
@@ -36,25 +43,29 @@ impl Inputs {
         }
     }
 
-    /// Appends the log. Err: out of memory; then the log comes back.
-    pub fn add_log(&mut self, log: Option<FedLog>) -> Result<(), Option<FedLog>>
-        ensures added { OnOk result (self.new ≡ with_log log self.old) }
-        ensures back { IfErr result (λ back. (back ≡ log) × (self.new ≡ self.old)) }
+    /// Appends the log or part in `input`. `WRONG`: it is neither. Not `DONE`: both are as before.
+    pub fn add(&mut self, input: &mut Held) -> u32
+        ensures log { (fed : Option FedLogValue) → input.old ≡ held.Log fed → result ≡ DONE → self.new ≡ with_log fed self.old }
+        ensures part { (fed : Option FedPartValue) → input.old ≡ held.Part fed → result ≡ DONE → self.new ≡ with_part fed self.old }
+        ensures kept { result ≢ DONE → (self.new ≡ self.old) × (input.new ≡ input.old) }
+        ensures accepted { IsInput input.old → result ≢ WRONG }
     {
-        match self.logs.push(log) {
-            Ok(()) => Ok(()),
-            Err(refused) => Err(refused.value),
-        }
-    }
-
-    /// Appends the part. Err: out of memory; then the part comes back.
-    pub fn add_part(&mut self, part: Option<FedPart>) -> Result<(), Option<FedPart>>
-        ensures added { OnOk result (self.new ≡ with_part part self.old) }
-        ensures back { IfErr result (λ back. (back ≡ part) × (self.new ≡ self.old)) }
-    {
-        match self.parts.push(part) {
-            Ok(()) => Ok(()),
-            Err(refused) => Err(refused.value),
+        match input {
+            Held::Log(log) => match self.logs.push(log.take()) {
+                Ok(()) => DONE,
+                Err(refused) => {
+                    *log = refused.value;
+                    MEMORY
+                }
+            },
+            Held::Part(part) => match self.parts.push(part.take()) {
+                Ok(()) => DONE,
+                Err(refused) => {
+                    *part = refused.value;
+                    MEMORY
+                }
+            },
+            _ => WRONG,
         }
     }
 
@@ -85,7 +96,7 @@ fn finish_log(log: Option<FedLog>, fed: &mut Fed) -> Result<(), Memory>
     ensures { (before parts : List Input) (input : Input) → AreFed before parts fed.old → IsLog input log → OnOk result (AreFed (before ++ input ∷ []) parts fed.new) }
 {
     match log {
-        Some(log) => log.add_to(fed),
+        Some(FedLog { feed }) => fed.add_log(feed),
         None => fed.fail_log(),
     }
 }
@@ -105,7 +116,7 @@ fn finish_part(part: Option<FedPart>, fed: &mut Fed) -> Result<(), Memory>
     ensures { (logs before : List Input) (input : Input) → AreFed logs before fed.old → IsPart input part → OnOk result (AreFed logs (before ++ input ∷ []) fed.new) }
 {
     match part {
-        Some(part) => part.add_to(fed),
+        Some(FedPart { feed }) => fed.add_part(feed),
         None => fed.fail_part(),
     }
 }

@@ -60,7 +60,10 @@ impl Job {
         ensures step { IfOk result (λ job. job.step ≡ steps.Dividing dividing) }
         ensures fresh { IfOk result IsFresh }
     {
-        let todo = to_divide(alloc, tasks)?;
+        let todo = tasks
+            .into_iter()
+            .map(|task| Task::Divide(task))
+            .collect(alloc)?;
         Job::of(alloc, Step::Dividing(dividing), todo, workers)
     }
 
@@ -151,8 +154,12 @@ impl Job {
         let Step::Dividing(dividing) = step else {
             unreachable!()
         };
-        let (replaying, tasks) = dividing.replay(alloc, divided_in(alloc, back)?, workers)?;
-        let todo = to_replay(alloc, tasks)?;
+        let done = back.into_iter().filter_map(divided_of).collect(alloc)?;
+        let (replaying, tasks) = dividing.replay(alloc, done, workers)?;
+        let todo = tasks
+            .into_iter()
+            .map(|task| Task::Replay(task))
+            .collect(alloc)?;
         Job::of(alloc, Step::Replaying(replaying), todo, workers)
     }
 
@@ -172,7 +179,8 @@ impl Job {
         let Step::Replaying(replaying) = step else {
             unreachable!()
         };
-        replaying.finish(alloc, replayed_in(alloc, back)?)
+        let done = back.into_iter().filter_map(replayed_of).collect(alloc)?;
+        replaying.finish(alloc, done)
     }
 }
 
@@ -187,41 +195,6 @@ fn no_tasks(alloc: Global, count: usize) -> Result<Vec<Option<Task>>, Memory>
     Ok(places)
 }
 
-/// Lists tasks to divide. Err: out of memory.
-fn to_divide(alloc: Global, tasks: Vec<DivideTask>) -> Result<VecDeque<Task>, Memory>
-    ensures { IfOk result (λ todo. todo.items ≡ map kinds.Divide tasks.items) }
-{
-    let mut todo = VecDeque::new(alloc);
-    for task in tasks {
-        todo.push_back(Task::Divide(task))?;
-    }
-    Ok(todo)
-}
-
-/// Lists tasks to replay. Err: out of memory.
-fn to_replay(alloc: Global, tasks: Vec<ReplayTask>) -> Result<VecDeque<Task>, Memory>
-    ensures { IfOk result (λ todo. todo.items ≡ map kinds.Replay tasks.items) }
-{
-    let mut todo = VecDeque::new(alloc);
-    for task in tasks {
-        todo.push_back(Task::Replay(task))?;
-    }
-    Ok(todo)
-}
-
-/// Returns the tasks among these that have divided. Err: out of memory.
-fn divided_in(alloc: Global, back: Vec<Option<Task>>) -> Result<Vec<DividedTask>, Memory>
-    ensures { IfOk result (λ done. done.items ≡ filter_map divided back.items) }
-{
-    let mut done = Vec::new(alloc);
-    for place in back {
-        if let Some(task) = divided_of(place) {
-            done.push(task)?;
-        }
-    }
-    Ok(done)
-}
-
 /// Returns the task if it has divided.
 fn divided_of(place: Option<Task>) -> Option<DividedTask>
     ensures { result ≡ divided place }
@@ -230,19 +203,6 @@ fn divided_of(place: Option<Task>) -> Option<DividedTask>
         Task::Divided(task) => Some(task),
         _ => None,
     }
-}
-
-/// Returns the tasks among these that have replayed. Err: out of memory.
-fn replayed_in(alloc: Global, back: Vec<Option<Task>>) -> Result<Vec<ReplayedTask>, Memory>
-    ensures { IfOk result (λ done. done.items ≡ filter_map replayed back.items) }
-{
-    let mut done = Vec::new(alloc);
-    for place in back {
-        if let Some(task) = replayed_of(place) {
-            done.push(task)?;
-        }
-    }
-    Ok(done)
 }
 
 /// Returns the task if it has replayed.

@@ -1,5 +1,5 @@
 //! Parts of checkpoints: headers, entries and footers.
-ghost use Rattle.std.specs.Prelude.{◌≡◌, ◌≢◌, map, IfOk, IfSome, IfNone};
+ghost use Rattle.std.specs.Prelude.{◌≡◌, ◌≢◌, map};
 ghost use Rattle.mt_words.specs.declared.limits.Format.TheVariants.{One, Two};
 ghost use Rattle.mt_words.specs.Limits.{widest};
 ghost use Rattle.mt_words.specs.Changes.{IsEntry};
@@ -13,7 +13,7 @@ use crate::buffer::write_bytes;
 use crate::columns::{Given, columns_of};
 use crate::status::{MEMORY, WRONG};
 use mt_record::{PartHead, encode_entry, encode_part_footer, encode_part_header};
-use mt_words::{Entry, Format, Key, Memory};
+use mt_words::{Entry, Format, Key};
 use std::alloc::Global;
 
 /// Writes the header of a part of format 1 to the beginning of `out`, and its length to `count`. It is part `part` of
@@ -80,10 +80,20 @@ pub extern "C" fn mtr_entry(
     ensures refused { result ≡ WRONG → IsEntry widest (entry_of version key.now (map column_of columns.now)) → ⊥ }
     ensures lawful { result ≡ DONE → IsEntry widest (entry_of version key.now (map column_of columns.now)) }
 {
-    match new_entry(alloc, version, key, columns) {
-        Ok(Some(entry)) => write_entry(alloc, &entry, out, count),
-        Ok(None) => WRONG,
-        Err(_) => MEMORY,
+    let Ok(key) = Vec::from_slice(alloc, key) else {
+        return MEMORY;
+    };
+    let Some(key) = Key::new(key) else {
+        return WRONG;
+    };
+    let columns = match columns_of(alloc, columns) {
+        Ok(Some(columns)) => columns,
+        Ok(None) => return WRONG,
+        Err(_) => return MEMORY,
+    };
+    match Entry::new(version, key, columns) {
+        Some(entry) => write_entry(alloc, &entry, out, count),
+        None => WRONG,
     }
 }
 
@@ -117,25 +127,6 @@ fn write_part_header(alloc: Global, head: PartHead, out: &mut [u8], count: &mut 
         Ok(()) => write_bytes(&bytes, out, count),
         Err(_) => MEMORY,
     }
-}
-
-/// Creates an entry. None: it is not lawful.
-fn new_entry(
-    alloc: Global,
-    version: u64,
-    key: &[u8],
-    columns: &[Given<'_>],
-) -> Result<Option<Entry>, Memory>
-    ensures value { IfOk result (λ made. IfSome made (λ entry. entry ≡ entry_of version key.now (map column_of columns.now))) }
-    ensures refused { IfOk result (λ made. IfNone made (IsEntry widest (entry_of version key.now (map column_of columns.now)) → ⊥)) }
-{
-    let Some(key) = Key::new(Vec::from_slice(alloc, key)?) else {
-        return Ok(None);
-    };
-    let Some(columns) = columns_of(alloc, columns)? else {
-        return Ok(None);
-    };
-    Ok(Entry::new(version, key, columns))
 }
 
 /// Writes the entry to the beginning of `out`, and its length to `count`.

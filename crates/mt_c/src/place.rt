@@ -5,6 +5,8 @@ ghost use Rattle.mt_c.specs.declared.held.Held.{Held};
 ghost use Rattle.mt_c.specs.contracts.held.Held.{the_row};
 ghost use Rattle.mt_c.specs.declared.status.TheConstants.{DONE, WRONG, FAULT};
 
+mod lending;
+
 use crate::bare::Bare;
 use crate::held::Held;
 use crate::status::{DONE, MEMORY, WRONG};

@@ -18,7 +18,6 @@ use std::sync::Arc;
 /// none. `WRONG`: the place does not hold a store.
 #[unsafe(no_mangle)]
 pub extern "C" fn mtr_get(
-    alloc: Global,
     store: &mut Place,
     key: &[u8],
     column: u8,
@@ -33,29 +32,31 @@ pub extern "C" fn mtr_get(
     ensures accepted { (outcome : Outcome) → HoldsOutcome outcome store.old.handle.value → result ≢ WRONG }
     ensures memory { result ≢ MEMORY }
 {
-    let Some(held) = store.take(alloc) else {
+    let Some(Held::Store(recovered)) = store.held() else {
         return WRONG;
     };
-    let status = get(&held, key, column, out, count);
-    store.put(held);
-    status
+    match value_of(recovered.store(), key, column) {
+        None => ABSENT,
+        Some(bytes) => write_bytes(bytes, out, count),
+    }
 }
 
 /// Answers whether the store has this key. `ABSENT`: it has not. `WRONG`: the place does not hold a store.
 #[unsafe(no_mangle)]
-pub extern "C" fn mtr_exists(alloc: Global, store: &mut Place, key: &[u8]) -> u32
+pub extern "C" fn mtr_exists(store: &mut Place, key: &[u8]) -> u32
     ensures same { store.new.handle.value ≡ store.old.handle.value }
     ensures done { (outcome : Outcome) → HoldsOutcome outcome store.old.handle.value → result ≡ DONE → HasKey outcome.store key.now }
     ensures absent { (outcome : Outcome) → HoldsOutcome outcome store.old.handle.value → result ≢ DONE → IsNoKey outcome.store key.now }
     ensures certain { (outcome : Outcome) → HoldsOutcome outcome store.old.handle.value → result ≢ DONE → result ≡ ABSENT }
     ensures refused { (Holds IsStore store.old.handle.value → ⊥) → result ≡ WRONG }
 {
-    let Some(held) = store.take(alloc) else {
+    let Some(Held::Store(recovered)) = store.held() else {
         return WRONG;
     };
-    let status = exists(&held, key);
-    store.put(held);
-    status
+    match recovered.store().get(key) {
+        Some(_) => DONE,
+        None => ABSENT,
+    }
 }
 
 /// Puts the same store into the empty place `other`, for another thread. `WRONG`: `store` does not hold a store, or
@@ -68,63 +69,12 @@ pub extern "C" fn mtr_share(alloc: Global, store: &mut Place, other: &mut Place)
     ensures kept { result ≢ DONE → other.new.handle.value ≡ other.old.handle.value }
     ensures accepted { (outcome : Outcome) → HoldsOutcome outcome store.old.handle.value → other.old.handle.value ≡ None → result ≢ WRONG }
 {
-    let Some(held) = store.take(alloc) else {
+    let Some(Held::Store(recovered)) = store.held() else {
         return WRONG;
     };
-    let shared = share(&held);
-    store.put(held);
-    match shared {
-        Ok(shared) => other.begin(alloc, shared),
-        Err(status) => status,
-    }
-}
-
-/// Does what `mtr_exists` does, with what the place holds.
-fn exists(held: &Held, key: &[u8]) -> u32
-    ensures done { (outcome : Outcome) → HoldsOutcome outcome (Some held.now) → result ≡ DONE → HasKey outcome.store key.now }
-    ensures absent { (outcome : Outcome) → HoldsOutcome outcome (Some held.now) → result ≢ DONE → IsNoKey outcome.store key.now }
-    ensures certain { (outcome : Outcome) → HoldsOutcome outcome (Some held.now) → result ≢ DONE → result ≡ ABSENT }
-    ensures refused { (IsStore held.now → ⊥) → result ≡ WRONG }
-{
-    let Held::Store(shared) = held else {
-        return WRONG;
-    };
-    match shared.store().get(key) {
-        Some(_) => DONE,
-        None => ABSENT,
-    }
-}
-
-/// Returns one more owner of the store. Err: the status `WRONG` if there is no store, or `MEMORY`.
-fn share(held: &Held) -> Result<Held, u32>
-    ensures done { (outcome : Outcome) → HoldsOutcome outcome (Some held.now) → IfOk result (λ shared. HoldsOutcome outcome (Some shared)) }
-    ensures refused { (IsStore held.now → ⊥) → result ≡ Err WRONG }
-    ensures accepted { (outcome : Outcome) → HoldsOutcome outcome (Some held.now) → IfErr result (λ status. status ≡ MEMORY) }
-{
-    let Held::Store(shared) = held else {
-        return Err(WRONG);
-    };
-    match Arc::try_clone(shared) {
-        Ok(shared) => Ok(Held::Store(shared)),
-        Err(_) => Err(MEMORY),
-    }
-}
-
-/// Does what `mtr_get` does, with what the place holds.
-fn get(held: &Held, key: &[u8], column: u8, out: &mut [u8], count: &mut usize) -> u32
-    ensures done { (outcome : Outcome) → HoldsOutcome outcome (Some held.now) → result ≢ ABSENT →
-        (bytes : List ℕ) × IsValue outcome.store key.now column bytes × Writes bytes out.old out.new count.new result }
-    ensures absent { (outcome : Outcome) → HoldsOutcome outcome (Some held.now) → result ≡ ABSENT → IsAbsent outcome.store key.now column }
-    ensures kept { result ≢ DONE → out.new ≡ out.old }
-    ensures accepted { (outcome : Outcome) → HoldsOutcome outcome (Some held.now) → result ≢ WRONG }
-    ensures memory { result ≢ MEMORY }
-{
-    let Held::Store(recovered) = held else {
-        return WRONG;
-    };
-    match value_of(recovered.store(), key, column) {
-        None => ABSENT,
-        Some(bytes) => write_bytes(bytes, out, count),
+    match Arc::try_clone(recovered) {
+        Ok(shared) => other.begin(alloc, Held::Store(shared)),
+        Err(_) => MEMORY,
     }
 }
 

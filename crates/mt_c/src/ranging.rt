@@ -31,14 +31,12 @@ pub extern "C" fn mtr_range(
     ensures kept { result ≢ DONE → hits.new.handle.value ≡ hits.old.handle.value }
     ensures accepted { (outcome : Outcome) → HoldsOutcome outcome store.old.handle.value → hits.old.handle.value ≡ None → result ≢ WRONG }
 {
-    let Some(held) = store.take(alloc) else {
+    let Some(Held::Store(recovered)) = store.held() else {
         return WRONG;
     };
-    let found = hits_in(&held, start, n);
-    store.put(held);
-    match found {
-        Ok(found) => hits.begin(alloc, found),
-        Err(status) => status,
+    match range_in(recovered.store(), start, n) {
+        Ok(found) => hits.begin(alloc, Held::Hits(found)),
+        Err(_) => MEMORY,
     }
 }
 
@@ -46,7 +44,6 @@ pub extern "C" fn mtr_range(
 /// the number of its columns. `ABSENT`: there are not so many hits. `WRONG`: the place does not hold hits.
 #[unsafe(no_mangle)]
 pub extern "C" fn mtr_hit(
-    alloc: Global,
     hits: &mut Place,
     i: usize,
     columns: &mut usize,
@@ -60,12 +57,14 @@ pub extern "C" fn mtr_hit(
     ensures kept { result ≢ DONE → out.new ≡ out.old }
     ensures untold { result ≢ DONE → result ≢ SHORT → columns.new ≡ columns.old }
 {
-    let Some(held) = hits.take(alloc) else {
+    let Some(Held::Hits(pairs)) = hits.held() else {
         return WRONG;
     };
-    let status = write_key(&held, i, columns, out, count);
-    hits.put(held);
-    status
+    let Some(hit) = pairs.get(i) else {
+        return ABSENT;
+    };
+    *columns = hit.columns.len();
+    write_bytes(hit.key.as_bytes(), out, count)
 }
 
 /// Writes the value of the column at position `nth` of the pair at position `i` of the hits to the beginning of `out`, and
@@ -73,7 +72,6 @@ pub extern "C" fn mtr_hit(
 /// not hold hits.
 #[unsafe(no_mangle)]
 pub extern "C" fn mtr_hit_column(
-    alloc: Global,
     hits: &mut Place,
     i: usize,
     nth: usize,
@@ -88,67 +86,10 @@ pub extern "C" fn mtr_hit_column(
     ensures kept { result ≢ DONE → out.new ≡ out.old }
     ensures untold { result ≢ DONE → result ≢ SHORT → number.new ≡ number.old }
 {
-    let Some(held) = hits.take(alloc) else {
+    let Some(Held::Hits(pairs)) = hits.held() else {
         return WRONG;
     };
-    let status = write_column(&held, i, nth, number, out, count);
-    hits.put(held);
-    status
-}
-
-/// Copies the first `n` pairs of the store whose keys are at or after `start`. Err: the status `WRONG` if there is no store,
-/// or `MEMORY`.
-fn hits_in(held: &Held, start: &[u8], n: usize) -> Result<Held, u32>
-    ensures done { (outcome : Outcome) → HoldsOutcome outcome (Some held.now) → IfOk result (λ hits. HoldsPairs (range outcome.store start.now n) (Some hits)) }
-    ensures refused { (IsStore held.now → ⊥) → result ≡ Err WRONG }
-    ensures accepted { (outcome : Outcome) → HoldsOutcome outcome (Some held.now) → IfErr result (λ status. status ≡ MEMORY) }
-{
-    let Held::Store(shared) = held else {
-        return Err(WRONG);
-    };
-    match range_in(shared.store(), start, n) {
-        Ok(hits) => Ok(Held::Hits(hits)),
-        Err(_) => Err(MEMORY),
-    }
-}
-
-/// Does what `mtr_hit` does, with what the place holds.
-fn write_key(held: &Held, i: usize, columns: &mut usize, out: &mut [u8], count: &mut usize) -> u32
-    ensures written { (pairs : List Pair) → HoldsPairs pairs (Some held.now) → result ≢ ABSENT → IsPairAt (slice_get pairs i) columns.new out.old out.new count.new result }
-    ensures absent { (pairs : List Pair) → HoldsPairs pairs (Some held.now) → result ≡ ABSENT → slice_get pairs i ≡ None }
-    ensures refused { (AreHits held.now → ⊥) → result ≡ WRONG }
-    ensures kept { result ≢ DONE → out.new ≡ out.old }
-    ensures untold { result ≢ DONE → result ≢ SHORT → columns.new ≡ columns.old }
-{
-    let Held::Hits(hits) = held else {
-        return WRONG;
-    };
-    let Some(hit) = hits.get(i) else {
-        return ABSENT;
-    };
-    *columns = hit.columns.len();
-    write_bytes(hit.key.as_bytes(), out, count)
-}
-
-/// Does what `mtr_hit_column` does, with what the place holds.
-fn write_column(
-    held: &Held,
-    i: usize,
-    nth: usize,
-    number: &mut u8,
-    out: &mut [u8],
-    count: &mut usize,
-) -> u32
-    ensures written { (pairs : List Pair) → HoldsPairs pairs (Some held.now) → result ≢ ABSENT → IsColumnAt (column_at pairs i nth) number.new out.old out.new count.new result }
-    ensures absent { (pairs : List Pair) → HoldsPairs pairs (Some held.now) → result ≡ ABSENT → column_at pairs i nth ≡ None }
-    ensures refused { (AreHits held.now → ⊥) → result ≡ WRONG }
-    ensures kept { result ≢ DONE → out.new ≡ out.old }
-    ensures untold { result ≢ DONE → result ≢ SHORT → number.new ≡ number.old }
-{
-    let Held::Hits(hits) = held else {
-        return WRONG;
-    };
-    let Some(hit) = hits.get(i) else {
+    let Some(hit) = pairs.get(i) else {
         return ABSENT;
     };
     let Some((found, bytes)) = nth_column(&hit.columns, nth) else {

@@ -1,7 +1,6 @@
 //! Records of logs.
-ghost use Rattle.std.specs.Prelude.{◌≡◌, ◌≢◌, map, IfOk, IfSome, IfNone};
+ghost use Rattle.std.specs.Prelude.{◌≡◌, ◌≢◌, map};
 ghost use Rattle.mt_words.specs.Limits.{widest};
-ghost use Rattle.mt_words.specs.Words.{IsKey};
 ghost use Rattle.mt_words.specs.Changes.{IsLawful};
 ghost use Rattle.mt_words.specs.Built.{mark_of, put_of, remove_of, erase_of};
 ghost use Rattle.mt_record.specs.Spelling.{spelling};
@@ -13,7 +12,7 @@ use crate::buffer::write_bytes;
 use crate::columns::{Given, columns_of};
 use crate::status::{MEMORY, WRONG};
 use mt_record::encode_record;
-use mt_words::{Key, Memory, Numbers, Record};
+use mt_words::{Key, Numbers, Record};
 use std::alloc::Global;
 
 /// Writes a mark to the beginning of `out`, and its length to `count`.
@@ -41,10 +40,20 @@ pub extern "C" fn mtr_put(
     ensures refused { result ≡ WRONG → IsLawful widest (put_of time version key.now (map column_of columns.now)) → ⊥ }
     ensures lawful { result ≡ DONE → IsLawful widest (put_of time version key.now (map column_of columns.now)) }
 {
-    match new_put(alloc, time, version, key, columns) {
-        Ok(Some(put)) => write_record(alloc, &put, out, count),
-        Ok(None) => WRONG,
-        Err(_) => MEMORY,
+    let Ok(key) = Vec::from_slice(alloc, key) else {
+        return MEMORY;
+    };
+    let Some(key) = Key::new(key) else {
+        return WRONG;
+    };
+    let columns = match columns_of(alloc, columns) {
+        Ok(Some(columns)) => columns,
+        Ok(None) => return WRONG,
+        Err(_) => return MEMORY,
+    };
+    match Record::put(time, version, key, columns) {
+        Some(put) => write_record(alloc, &put, out, count),
+        None => WRONG,
     }
 }
 
@@ -62,10 +71,15 @@ pub extern "C" fn mtr_remove(
     ensures refused { result ≡ WRONG → IsLawful widest (remove_of time version key.now) → ⊥ }
     ensures lawful { result ≡ DONE → IsLawful widest (remove_of time version key.now) }
 {
-    match new_remove(alloc, time, version, key) {
-        Ok(Some(remove)) => write_record(alloc, &remove, out, count),
-        Ok(None) => WRONG,
-        Err(_) => MEMORY,
+    let Ok(key) = Vec::from_slice(alloc, key) else {
+        return MEMORY;
+    };
+    let Some(key) = Key::new(key) else {
+        return WRONG;
+    };
+    match Record::remove(time, version, key) {
+        Some(remove) => write_record(alloc, &remove, out, count),
+        None => WRONG,
     }
 }
 
@@ -85,62 +99,19 @@ pub extern "C" fn mtr_erase(
     ensures refused { result ≡ WRONG → IsLawful widest (erase_of time version key.now numbers.now) → ⊥ }
     ensures lawful { result ≡ DONE → IsLawful widest (erase_of time version key.now numbers.now) }
 {
-    match new_erase(alloc, time, version, key, numbers) {
-        Ok(Some(erase)) => write_record(alloc, &erase, out, count),
-        Ok(None) => WRONG,
-        Err(_) => MEMORY,
-    }
-}
-
-/// Creates a put. None: it is not lawful.
-fn new_put(
-    alloc: Global,
-    time: u64,
-    version: u64,
-    key: &[u8],
-    columns: &[Given<'_>],
-) -> Result<Option<Record>, Memory>
-    ensures value { IfOk result (λ made. IfSome made (λ put. put ≡ put_of time version key.now (map column_of columns.now))) }
-    ensures refused { IfOk result (λ made. IfNone made (IsLawful widest (put_of time version key.now (map column_of columns.now)) → ⊥)) }
-{
-    let Some(key) = Key::new(Vec::from_slice(alloc, key)?) else {
-        return Ok(None);
+    let Ok(key) = Vec::from_slice(alloc, key) else {
+        return MEMORY;
     };
-    let Some(columns) = columns_of(alloc, columns)? else {
-        return Ok(None);
-    };
-    Ok(Record::put(time, version, key, columns))
-}
-
-/// Creates a remove. None: it is not lawful.
-fn new_remove(alloc: Global, time: u64, version: u64, key: &[u8]) -> Result<Option<Record>, Memory>
-    ensures value { IfOk result (λ made. IfSome made (λ remove. remove ≡ remove_of time version key.now)) }
-    ensures refused { IfOk result (λ made. IfNone made (IsLawful widest (remove_of time version key.now) → ⊥)) }
-{
-    let Some(key) = Key::new(Vec::from_slice(alloc, key)?) else {
-        return Ok(None);
-    };
-    Ok(Record::remove(time, version, key))
-}
-
-/// Creates an erase. None: it is not lawful.
-fn new_erase(
-    alloc: Global,
-    time: u64,
-    version: u64,
-    key: &[u8],
-    numbers: &[u8],
-) -> Result<Option<Record>, Memory>
-    ensures value { IfOk result (λ made. IfSome made (λ erase. erase ≡ erase_of time version key.now numbers.now)) }
-    ensures refused { IfOk result (λ made. IfNone made (IsLawful widest (erase_of time version key.now numbers.now) → ⊥)) }
-{
-    let Some(key) = Key::new(Vec::from_slice(alloc, key)?) else {
-        return Ok(None);
+    let Some(key) = Key::new(key) else {
+        return WRONG;
     };
     let Some(numbers) = Numbers::new(numbers) else {
-        return Ok(None);
+        return WRONG;
     };
-    Ok(Record::erase(time, version, key, numbers))
+    match Record::erase(time, version, key, numbers) {
+        Some(erase) => write_record(alloc, &erase, out, count),
+        None => WRONG,
+    }
 }
 
 /// Writes the record to the beginning of `out`, and its length to `count`.

@@ -29,12 +29,28 @@ pub extern "C" fn mtr_add(alloc: Global, inputs: &mut Place, input: &mut Place) 
     ensures kept { result ≢ DONE → (inputs.new.handle.value ≡ inputs.old.handle.value) × (input.new.handle.value ≡ input.old.handle.value) }
     ensures accepted { (logs parts : List Input) → HoldsInputs logs parts inputs.old.handle.value → Holds IsInput input.old.handle.value → result ≢ WRONG }
 {
-    let Some(mut held) = input.take(alloc) else {
+    let Some(feed) = input.held_mut() else {
         return WRONG;
     };
-    let status = add(alloc, inputs, &mut held);
-    if status != DONE {
-        input.put(held);
+    if let Some(held) = inputs.held_mut() {
+        let Held::Inputs(added) = held else {
+            return WRONG;
+        };
+        let status = added.add(feed);
+        if status == DONE {
+            drop(input.take(alloc));
+        }
+        return status;
+    }
+    let Ok(mut held) = Box::new(alloc, Held::Hits(Vec::new(alloc))) else {
+        return MEMORY;
+    };
+    let mut added = Inputs::new(alloc);
+    let status = added.add(feed);
+    if status == DONE {
+        *held = Held::Inputs(added);
+        inputs.put(held);
+        drop(input.take(alloc));
     }
     status
 }
@@ -59,23 +75,23 @@ pub extern "C" fn mtr_recover(alloc: Global, inputs: &mut Place, fault: &mut CFa
         return MEMORY;
     };
     match fed.recover(alloc) {
-        Ok(recovered) => match store_of(alloc, recovered) {
-            Ok(held) => {
-                inputs.put(held);
-                DONE
-            }
-            Err(_) => MEMORY,
-        },
+        Ok(recovered) => begin_store(alloc, inputs, recovered),
         Err(found) => tell(found, fault),
     }
 }
 
-/// Boxes a store that places can share.
-pub(crate) fn store_of(alloc: Global, recovered: Recovered) -> Result<Box<Held>, Memory>
-    ensures { IfOk result (λ held. HoldsOutcome recovered (Some held.value)) }
+/// Puts the store into the empty place, in a form that places can share.
+pub(crate) fn begin_store(alloc: Global, place: &mut Place, recovered: Recovered) -> u32
+    requires { place.old.handle.value ≡ None }
+    ensures done { result ≡ DONE → HoldsOutcome recovered place.new.handle.value }
+    ensures kept { result ≢ DONE → place.new.handle.value ≡ None }
+    ensures accepted { result ≢ WRONG }
+    ensures sound { result ≢ FAULT }
 {
-    let shared = Arc::new(alloc, recovered)?;
-    Ok(Box::new(alloc, Held::Store(shared))?)
+    match Arc::new(alloc, recovered) {
+        Ok(shared) => place.begin(alloc, Held::Store(shared)),
+        Err(_) => MEMORY,
+    }
 }
 
 /// Tells the fault, unless it is out of memory.
@@ -93,61 +109,6 @@ pub(crate) fn tell(found: Fault, fault: &mut CFault) -> u32
     }
 }
 
-/// Appends the log or part to those in the place, and leaves what is of no use. Not `DONE`: both are as before.
-fn add(alloc: Global, inputs: &mut Place, input: &mut Held) -> u32
-    ensures log { (logs parts : List Input) (log : Input) → HoldsInputs logs parts inputs.old.handle.value → HoldsLog log (Some input.old) → result ≡ DONE →
-        HoldsInputs (logs ++ log ∷ []) parts inputs.new.handle.value }
-    ensures part { (logs parts : List Input) (part : Input) → HoldsInputs logs parts inputs.old.handle.value → HoldsPart part (Some input.old) → result ≡ DONE →
-        HoldsInputs logs (parts ++ part ∷ []) inputs.new.handle.value }
-    ensures kept { result ≢ DONE → (inputs.new.handle.value ≡ inputs.old.handle.value) × (input.new ≡ input.old) }
-    ensures accepted { (logs parts : List Input) → HoldsInputs logs parts inputs.old.handle.value → IsInput input.old → result ≢ WRONG }
-{
-    if let Some(mut held) = inputs.take(alloc) {
-        let status = append(&mut held, input);
-        inputs.put(held);
-        return status;
-    }
-    let Ok(mut held) = Box::new(alloc, Held::Inputs(Inputs::new(alloc))) else {
-        return MEMORY;
-    };
-    let status = append(&mut held, input);
-    if status == DONE {
-        inputs.put(held);
-    }
-    status
-}
-
-/// Does what `add` does, with what the place holds.
-fn append(held: &mut Held, input: &mut Held) -> u32
-    ensures log { (logs parts : List Input) (log : Input) → HoldsInputs logs parts (Some held.old) → HoldsLog log (Some input.old) → result ≡ DONE →
-        HoldsInputs (logs ++ log ∷ []) parts (Some held.new) }
-    ensures part { (logs parts : List Input) (part : Input) → HoldsInputs logs parts (Some held.old) → HoldsPart part (Some input.old) → result ≡ DONE →
-        HoldsInputs logs (parts ++ part ∷ []) (Some held.new) }
-    ensures kept { result ≢ DONE → (held.new ≡ held.old) × (input.new ≡ input.old) }
-    ensures accepted { (logs parts : List Input) → HoldsInputs logs parts (Some held.old) → IsInput input.old → result ≢ WRONG }
-{
-    let Held::Inputs(inputs) = held else {
-        return WRONG;
-    };
-    match input {
-        Held::Log(log) => match inputs.add_log(log.take()) {
-            Ok(()) => DONE,
-            Err(back) => {
-                *log = back;
-                MEMORY
-            }
-        },
-        Held::Part(part) => match inputs.add_part(part.take()) {
-            Ok(()) => DONE,
-            Err(back) => {
-                *part = back;
-                MEMORY
-            }
-        },
-        _ => WRONG,
-    }
-}
-
 /// Takes the inputs out of the place, and leaves it empty; an empty place has no log or part. None: the place holds
 /// something else, and is as before.
 pub(crate) fn take_inputs(alloc: Global, place: &mut Place) -> Option<Inputs>
@@ -156,15 +117,11 @@ pub(crate) fn take_inputs(alloc: Global, place: &mut Place) -> Option<Inputs>
     ensures kept { IsNone result → place.new.handle.value ≡ place.old.handle.value }
     ensures accepted { (logs parts : List Input) → HoldsInputs logs parts place.old.handle.value → IsNone result → ⊥ }
 {
-    let Some(held) = place.take(alloc) else {
+    if place.is_empty() {
         return Some(Inputs::new(alloc));
-    };
-    if !matches!(&*held, Held::Inputs(_)) {
-        place.put(held);
-        return None;
     }
-    match Box::into_inner(held) {
-        Held::Inputs(inputs) => Some(inputs),
-        _ => unreachable!(),
+    match place.take_if(alloc, |held| matches!(held, Held::Inputs(_))) {
+        Some(Held::Inputs(inputs)) => Some(inputs),
+        _ => None,
     }
 }

@@ -2,14 +2,13 @@
 ghost use Rattle.std.specs.Prelude.{◌≡◌, ◌≢◌, ◌-◌, ◌^◌, Some, min, slice_get};
 ghost use Rattle.mt_recover.specs.Report.{Outcome};
 ghost use Rattle.mt_c.specs.Holding.{HoldsOutcome, Holds, IsStore};
-ghost use Rattle.mt_c.specs.Reports.{number_or_most, list_in, c_report, Tells};
+ghost use Rattle.mt_c.specs.Reports.{number_or_most, c_report, Tells};
 ghost use Rattle.mt_c.specs.declared.status.TheConstants.{DONE, WRONG};
 
 use crate::held::Held;
 use crate::place::Place;
 use crate::status::{ABSENT, DONE, WRONG};
 use mt_recover::Report;
-use std::alloc::Global;
 
 /// The report of a recovery as C sees it. A number above 2^64 - 1 is told as 2^64 - 1.
 #[repr(C)]
@@ -104,135 +103,74 @@ fn capped(number: u128) -> u64
     number as u64
 }
 
-/// A list of a report.
-#[derive(Clone, Copy)]
-pub enum Listed {
-    /// Where the complete records of each log end.
-    Ends,
-    /// The numbers of the invalid checkpoints.
-    Skipped,
-    /// The positions of the nameless parts.
-    Nameless,
-}
-
-impl Listed {
-    /// Returns the item of the list at position `i`, or None if there are not so many.
-    fn item(self, report: &Report, i: usize) -> Option<u64>
-        ensures { result ≡ slice_get (list_in self report.now) i }
-    {
-        match self {
-            Listed::Ends => report.ends.get(i).copied(),
-            Listed::Skipped => Some(u64::from(*report.skipped.get(i)?)),
-            Listed::Nameless => Some(*report.nameless.get(i)? as u64),
-        }
-    }
-}
-
 /// Tells the report of the store. `WRONG`: the place does not hold a store.
 #[unsafe(no_mangle)]
-pub extern "C" fn mtr_get_report(alloc: Global, store: &mut Place, report: &mut CReport) -> u32
+pub extern "C" fn mtr_get_report(store: &mut Place, report: &mut CReport) -> u32
     ensures same { store.new.handle.value ≡ store.old.handle.value }
     ensures done { (outcome : Outcome) → HoldsOutcome outcome store.old.handle.value → (result ≡ DONE) × (report.new ≡ c_report outcome.report) }
     ensures refused { (Holds IsStore store.old.handle.value → ⊥) → result ≡ WRONG }
     ensures kept { result ≢ DONE → report.new ≡ report.old }
 {
-    let Some(held) = store.take(alloc) else {
+    let Some(Held::Store(recovered)) = store.held() else {
         return WRONG;
     };
-    let status = tell_report(&held, report);
-    store.put(held);
-    status
+    *report = CReport::of(recovered.report());
+    DONE
 }
 
 /// Tells where the complete records of a log end: the number of bytes of its header and of these records, or 2^64 - 1 if
 /// there are more. `ABSENT`: there is no log of this number. `WRONG`: the place does not hold a store.
 #[unsafe(no_mangle)]
-pub extern "C" fn mtr_report_end(alloc: Global, store: &mut Place, log: usize, end: &mut u64) -> u32
+pub extern "C" fn mtr_report_end(store: &mut Place, log: usize, end: &mut u64) -> u32
     ensures same { store.new.handle.value ≡ store.old.handle.value }
     ensures told { (outcome : Outcome) → HoldsOutcome outcome store.old.handle.value → Tells (slice_get outcome.report.ends.items log) end.new result }
     ensures refused { (Holds IsStore store.old.handle.value → ⊥) → result ≡ WRONG }
     ensures kept { result ≢ DONE → end.new ≡ end.old }
 {
-    tell_listed(alloc, store, Listed::Ends, log, end)
+    let Some(Held::Store(recovered)) = store.held() else {
+        return WRONG;
+    };
+    let Some(bytes) = recovered.report().ends.get(log) else {
+        return ABSENT;
+    };
+    *end = *bytes;
+    DONE
 }
 
 /// Tells the number of the invalid checkpoint at position `i`; they rise. `ABSENT`: there are not so many. `WRONG`: the
 /// place does not hold a store.
 #[unsafe(no_mangle)]
-pub extern "C" fn mtr_report_skipped(
-    alloc: Global,
-    store: &mut Place,
-    i: usize,
-    number: &mut u64,
-) -> u32
+pub extern "C" fn mtr_report_skipped(store: &mut Place, i: usize, number: &mut u64) -> u32
     ensures same { store.new.handle.value ≡ store.old.handle.value }
     ensures told { (outcome : Outcome) → HoldsOutcome outcome store.old.handle.value → Tells (slice_get outcome.report.skipped.items i) number.new result }
     ensures refused { (Holds IsStore store.old.handle.value → ⊥) → result ≡ WRONG }
     ensures kept { result ≢ DONE → number.new ≡ number.old }
 {
-    tell_listed(alloc, store, Listed::Skipped, i, number)
+    let Some(Held::Store(recovered)) = store.held() else {
+        return WRONG;
+    };
+    let Some(checkpoint) = recovered.report().skipped.get(i) else {
+        return ABSENT;
+    };
+    *number = u64::from(*checkpoint);
+    DONE
 }
 
 /// Tells the position of the nameless part at position `i`; they rise. `ABSENT`: there are not so many. `WRONG`: the
 /// place does not hold a store.
 #[unsafe(no_mangle)]
-pub extern "C" fn mtr_report_nameless(
-    alloc: Global,
-    store: &mut Place,
-    i: usize,
-    part: &mut u64,
-) -> u32
+pub extern "C" fn mtr_report_nameless(store: &mut Place, i: usize, part: &mut u64) -> u32
     ensures same { store.new.handle.value ≡ store.old.handle.value }
     ensures told { (outcome : Outcome) → HoldsOutcome outcome store.old.handle.value → Tells (slice_get outcome.report.nameless.items i) part.new result }
     ensures refused { (Holds IsStore store.old.handle.value → ⊥) → result ≡ WRONG }
     ensures kept { result ≢ DONE → part.new ≡ part.old }
 {
-    tell_listed(alloc, store, Listed::Nameless, i, part)
-}
-
-/// Does what `mtr_get_report` does, with what the place holds.
-fn tell_report(held: &Held, report: &mut CReport) -> u32
-    ensures done { (outcome : Outcome) → HoldsOutcome outcome (Some held.now) → (result ≡ DONE) × (report.new ≡ c_report outcome.report) }
-    ensures refused { (IsStore held.now → ⊥) → result ≡ WRONG }
-    ensures kept { result ≢ DONE → report.new ≡ report.old }
-{
-    let Held::Store(shared) = held else {
+    let Some(Held::Store(recovered)) = store.held() else {
         return WRONG;
     };
-    *report = CReport::of(shared.report());
+    let Some(position) = recovered.report().nameless.get(i) else {
+        return ABSENT;
+    };
+    *part = *position as u64;
     DONE
-}
-
-/// Tells the item at position `i` of this list of the report. `ABSENT`: there are not so many. `WRONG`: the place does
-/// not hold a store.
-fn tell_listed(alloc: Global, store: &mut Place, listed: Listed, i: usize, told: &mut u64) -> u32
-    ensures same { store.new.handle.value ≡ store.old.handle.value }
-    ensures told { (outcome : Outcome) → HoldsOutcome outcome store.old.handle.value → Tells (slice_get (list_in listed outcome.report) i) told.new result }
-    ensures refused { (Holds IsStore store.old.handle.value → ⊥) → result ≡ WRONG }
-    ensures kept { result ≢ DONE → told.new ≡ told.old }
-{
-    let Some(held) = store.take(alloc) else {
-        return WRONG;
-    };
-    let status = tell_item(&held, listed, i, told);
-    store.put(held);
-    status
-}
-
-/// Does what `tell_listed` does, with what the place holds.
-fn tell_item(held: &Held, listed: Listed, i: usize, told: &mut u64) -> u32
-    ensures told { (outcome : Outcome) → HoldsOutcome outcome (Some held.now) → Tells (slice_get (list_in listed outcome.report) i) told.new result }
-    ensures refused { (IsStore held.now → ⊥) → result ≡ WRONG }
-    ensures kept { result ≢ DONE → told.new ≡ told.old }
-{
-    let Held::Store(shared) = held else {
-        return WRONG;
-    };
-    match listed.item(shared.report(), i) {
-        Some(item) => {
-            *told = item;
-            DONE
-        }
-        None => ABSENT,
-    }
 }

@@ -5,8 +5,7 @@ use Rattle.mt_c.proofs.hosting.mtr_replay.Goals as goal
 
 pub returns-in-Ok-clause-same : goal.returns-in-Ok-clause-same
 returns-in-Ok-clause-same c = λ logs parts holds done.
-    let taken = c.in-Some.ensures.taken in
-    let inner = c.into_inner.ensures in
-    let kind = c.in-Job.is in
-    let was : c.args.job.now.handle.value ≡ Some (held.Job c.in-Job.ready) = cc in
-    job_kept logs parts c.args.job.now.handle.value c.begin.new.self.handle.value c.in-Job.ready c.in-Ok.next was (c.begin.ensures.done done) c.in-Ok.ensures.step holds
+    let taken = c.in-Some-Job.ensures.taken.0 in
+    let kind = c.in-Some-Job.field-0-is in
+    let was : c.args.job.now.handle.value ≡ Some (held.Job c.in-Some-Job.ready) = cc in
+    job_kept logs parts c.args.job.now.handle.value c.begin.new.self.handle.value c.in-Some-Job.ready c.in-Ok.next was (c.begin.ensures.done done) c.in-Ok.ensures.step holds

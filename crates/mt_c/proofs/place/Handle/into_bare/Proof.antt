@@ -1,5 +1,5 @@
 -- The pointer of a box owns what a handle with a value owns. Assumes `Logic`.
-use Rattle.std.proofs.Common.{◌≡◌, List, [], ◌∷◌, Option, Some, None, refl, sym, true≢false}
+use Rattle.std.proofs.Common.{◌≡◌, List, [], ◌∷◌, Option, Some, refl}
 use Rattle.std.specs.Prelude.{IsSome}
 use mir.Val.{Val}
 use base.Logic.{id⊢, emp}
@@ -16,7 +16,7 @@ use denote.Triple.Entry.{alive}
 use denote.Triple.Walked.{Stays, stay_dropped}
 use Rattle.core.proofs.alloc.Calls.{Goes-blank}
 use Rattle.std.proofs.raw_atomic.Walks.{proved, leaves}
-use Rattle.mt_c.proofs.Pointers.{word, word_good, pointer_good}
+use Rattle.mt_c.proofs.Pointers.{word, word_good, pointer_good, value_in}
 use Rattle.mt_c.specs.contracts.bare.Bare as bare
 use Rattle.mt_c.specs.contracts.held.Held as held
 use Rattle.mt_c.specs.contracts.place.Handle as handle
@@ -33,10 +33,6 @@ B = bare.the_row held.the_row
 
 abbrev stayed : Stays f.ended.signature.params f.ended.kept
 stayed = (stay_dropped (plain (λ _. H)) yes, tt)
-
-value_in : {X : Type 0} (value : Option X) → IsSome value → (x : X) × (value ≡ Some x)
-value_in (Some x) some = (x, refl)
-value_in None some = absurd (true≢false (sym some))
 
 pub into_bare_spec : {M : Type 1} → statement M
 into_bare_spec 𝓤 𝓛 𝓜 𝓡 wired =
