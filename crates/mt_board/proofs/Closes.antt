@@ -26,13 +26,13 @@ pub record Gathers (b : BoardId) (rest all : List PassView) (v : SeatView) : Typ
   pub looks : (m : ℕ) → All (λ x. m ≤ x) v.looks → SawNoneBelow m rest → SawNoneBelow m all
 
 module _ {X : Type 0} (P : X → Type 0) where
-  all_left : (xs ys : List X) → All P (xs ++ ys) → All P xs
+  pub all_left : (xs ys : List X) → All P (xs ++ ys) → All P xs
   all_left xs ys h k d lt = subst P (get_or_append_left xs ys d k lt) (h k d (omega (arith, length-append xs ys)))
 
   all_right : (xs ys : List X) → All P (xs ++ ys) → All P ys
   all_right xs ys h k d lt = subst P (get_or-append-add xs ys k d) (h (length xs + k) d (omega (arith, length-append xs ys)))
 
-  all_last : (xs : List X) (y : X) → All P (xs ++ y ∷ []) → P y
+  pub all_last : (xs : List X) (y : X) → All P (xs ++ y ∷ []) → P y
   all_last xs y h = all_right xs (y ∷ []) h 0 y (omega arith)
 
 -- the last pass belongs to the board
@@ -89,7 +89,7 @@ module _ (b : BoardId) (rest all : List PassView) (p : PassView) (t : TableId) (
         (subst (SawNoneBelow m) (sym e) (All-push (λ (q : PassView). All (λ x. m ≤ x) q.looks) rest p others (subst (All (λ x. m ≤ x)) same_looks (all_right (λ x. m ≤ x) v.looks w.looks mine))));
   }
 
-abbrev Idles : List SeatView → Type 0
+abbrev pub Idles : List SeatView → Type 0
 Idles l = (i : ℕ) (u : SeatView) → get_elem? l i ≡ some u → u.parts ≡ 0 → IsIdle u
 
 module _ (f : SeatView → ℕ) (idles_at : (u : SeatView) → IsIdle u → f u ≡ 0) where
@@ -100,7 +100,7 @@ module _ (f : SeatView → ℕ) (idles_at : (u : SeatView) → IsIdle u → f u 
       omega (arith, sum_by-cons f x xs, idles_at x (h 0 x refl (omega arith)), sum_none xs (λ i u at. h (suc i) u at) (omega arith))
 
   -- the sum over all seats is the value of a seat that represents all passes
-  sum_alone : (l : List SeatView) (id : ℕ) (v : SeatView) → get_elem? l id ≡ some v → Idles l → parts_in l ≤ v.parts → sum_by f l ≡ f v
+  pub sum_alone : (l : List SeatView) (id : ℕ) (v : SeatView) → get_elem? l id ≡ some v → Idles l → parts_in l ≤ v.parts → sum_by f l ≡ f v
   sum_alone [] id v e h le = absurd (some-ne-none v (sym e))
   sum_alone (x ∷ xs) zero v e h le =
       let c : parts_in (x ∷ xs) ≡ x.parts + parts_in xs = sum_by-cons parts_of x xs in

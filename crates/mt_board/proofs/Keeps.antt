@@ -38,14 +38,14 @@ each_set : (k : Counts) (m : ℕ) (l : List SeatView) (id : ℕ) (w : SeatView) 
 each_set k m l id w mine all i v e = ⊎_elim (λ (h : (i ≡ id) × (w ≡ v)). subst (λ u. IsSeatOf k m u) h.1 mine) (λ (h : (i ≢ id) × (get_elem? l i ≡ some v)). all i v h.1) (at_set l id i w v e)
 
 module _ (k : Counts) (n m : ℕ) (l : List SeatView) (r : IsBoardState k n m l) where
-  next_small : n ≤ MOST_NUMBERS + MOST_PASSES
-  next_small = let done = done_le l (λ i v e. (r.each i v e).done) in let b = r.bound in let p = r.parts in let s = r.small in omega arith
+  pub next_small : n + 1 < 2 ^ 64
+  next_small = omega (arith, done_le l (λ i v e. (r.each i v e).done), r.bound, r.parts, r.small)
 
   module _ (id : ℕ) (v : SeatView) (at : get_elem? l id ≡ some v) (one : v.parts ≡ 1) where
     fits : IsSeatOf k m v
     fits = r.each id v at
 
-    knows : v.counts ≡ k
+    pub knows : v.counts ≡ k
     knows = fits.counts (omega arith)
 
     draws_more : n < k.total → IsBoardState k (n + 1) m (set l id (record v { draws = v.draws ++ n ∷ [] }))
@@ -70,12 +70,12 @@ module _ (k : Counts) (n m : ℕ) (l : List SeatView) (r : IsBoardState k n m l)
       each = each_set k m l id w (record { counts = fits.counts; done = omega arith; idles = λ none. absurd (omega arith); looks = fits.looks }) r.each;
     }
 
-    rises : All (λ x. x < n) v.draws
-    rises i d short =
-        let x : ℕ = get_or v.draws i d in
-        let some_draw : 0 < times x v.draws = times_at v.draws i d short in
-        let all_draws : times x v.draws ≤ once_below x (min n k.total) = omega (arith, sum_at (drawn_of x) l id v at, r.draws x) in
-        below_once x n k.total (omega arith)
+    -- what the seat drew is below the next number
+    pub drawn_below : (x : ℕ) → 0 < times x v.draws → x < n
+    drawn_below x some_draw = below_once x n k.total (omega (arith, some_draw, sum_at (drawn_of x) l id v at, r.draws x))
+
+    pub rises : All (λ x. x < n) v.draws
+    rises i d short = drawn_below (get_or v.draws i d) (times_at v.draws i d short)
 
     notes_state : (x : ℕ) → IsBoardState k n (min m x) (set l id (record v { noted = min v.noted x }))
     notes_state x = let w : SeatView = record v { noted = min v.noted x } in record {
@@ -109,10 +109,10 @@ first_word k ws n l two r = (length-set ws 0 n ∙ two, subst (λ (z : ℕ × �
 second_word : (k : Counts) (ws : List ℕ) (m : ℕ) (l : List SeatView) → length ws ≡ 2 → IsBoardState k (get_or ws 0 0) m l → (length (set ws 1 m) ≡ 2) × IsBoardState k (get_or (set ws 1 m) 0 0) (get_or (set ws 1 m) 1 0) l
 second_word k ws m l two r = (length-set ws 1 m ∙ two, subst (λ (z : ℕ × ℕ). IsBoardState k z.0 z.1 l) (λ i. (sym (get_or-set_other ws 1 0 m 0 (omega arith)) i, sym (get_or-set_same ws 1 m 0 (omega arith)) i)) r)
 
-below : (n total : ℕ) → ltb n total ≡ true → n < total
+pub below : (n total : ℕ) → ltb n total ≡ true → n < total
 below n total is = grind (arith, nat_tests)
 
-not_below : (n total : ℕ) → ltb n total ≡ false → total ≤ n
+pub not_below : (n total : ℕ) → ltb n total ≡ false → total ≤ n
 not_below n total is = grind (arith, nat_tests)
 
 module _ (k : Counts) (n m : ℕ) (l : List SeatView) (r : IsBoardState k n m l) (id : ℕ) (v : SeatView) (at : get_elem? l id ≡ some v) (one : v.parts ≡ 1) (new : v.done ≡ 0) where
@@ -120,7 +120,7 @@ module _ (k : Counts) (n m : ℕ) (l : List SeatView) (r : IsBoardState k n m l)
   draw_by true is = let lt = below n v.counts.total is in let same : v.counts.total ≡ k.total = ap (λ (z : Counts). z.total) (knows k n m l r id v at one) in draws_more k n m l r id v at one (omega arith)
   draw_by false is = let le = not_below n v.counts.total is in let same : v.counts.total ≡ k.total = ap (λ (z : Counts). z.total) (knows k n m l r id v at one) in draws_none k n m l r id v at one new (omega arith)
 
-  draw_state : IsBoardState k (n + 1) m (set l id (drew n v))
+  pub draw_state : IsBoardState k (n + 1) m (set l id (drew n v))
   draw_state = draw_by (ltb n v.counts.total) refl
 
 module _ (k : Counts) (slots id : ℕ) (me : Sitter) (one : me.0.parts ≡ 1) where
@@ -128,8 +128,7 @@ module _ (k : Counts) (slots id : ℕ) (me : Sitter) (one : me.0.parts ≡ 1) wh
   draws new s kept _ at _ =
       let n : ℕ = get_or s.words 0 0 in
       let m : ℕ = get_or s.words 1 0 in
-      let small : n ≤ MOST_NUMBERS + MOST_PASSES = next_small k n m s.views kept.1 in
-      let next : n + 1 ≡ (n + 1) % 2 ^ 64 = omega arith in (
+      let next : n + 1 ≡ (n + 1) % 2 ^ 64 = omega (arith, next_small k n m s.views kept.1) in (
         drew n me.0,
         keeps,
         tt,
@@ -158,7 +157,7 @@ module _ (k : Counts) (slots id : ℕ) (me : Sitter) (one : me.0.parts ≡ 1) wh
 
 module _ (k : Counts) (n m : ℕ) (l : List SeatView) (r : IsBoardState k n m l) (id : ℕ) (v : SeatView) (at : get_elem? l id ≡ some v) (some_part : 0 < v.parts) where
   -- the rule holds after the seat of one pass is split off a seat that has done nothing
-  split_state : IsIdle v → IsBoardState k n m (set l id (without_one v) ++ one_part v ∷ [])
+  pub split_state : IsIdle v → IsBoardState k n m (set l id (without_one v) ++ one_part v ∷ [])
   split_state blank = let a : SeatView = without_one v in let b : SeatView = one_part v in let l' : List SeatView = set l id a in let f : IsSeatOf k m v = r.each id v at in record {
     small = r.small;
     parts = omega (arith, sum_by_push parts_of l' b, sum_set parts_of l id v a at, r.parts);
@@ -173,7 +172,7 @@ module _ (k : Counts) (n m : ℕ) (l : List SeatView) (r : IsBoardState k n m l)
   }
 
   -- the rule holds after two seats are joined
-  join_state : (other : ℕ) (w : SeatView) → other ≢ id → get_elem? (set l id (both_views v w)) other ≡ some w → IsBoardState k n m (set (set l id (both_views v w)) other spent_view)
+  pub join_state : (other : ℕ) (w : SeatView) → other ≢ id → get_elem? (set l id (both_views v w)) other ≡ some w → IsBoardState k n m (set (set l id (both_views v w)) other spent_view)
   join_state other w apart there = let both : SeatView = both_views v w in let f : IsSeatOf k m v = r.each id v at in let h : IsSeatOf k m w = r.each other w (sym (set_else l id other both apart) ∙ there) in record {
     small = r.small;
     parts = sum_join parts_of l id other v w both spent_view at there refl refl ∙ r.parts;
@@ -191,18 +190,18 @@ splits k id v some_part blank s kept at = (kept.0, split_state k (get_or s.words
 pub joins : (k : Counts) (id : ℕ) (v : SeatView) (other : ℕ) (w : SeatView) → 0 < v.parts → Joins (IsBoard k) id v other w (both_views v w) spent_view
 joins k id v other w some_part s kept at apart there = (kept.0, join_state k (get_or s.words 0 0) (get_or s.words 1 0) s.views kept.1 id v at some_part other w apart there)
 
-first_each : (k : Counts) (id : ℕ) (v : SeatView) → get_elem? (first_view k ∷ []) id ≡ some v → IsSeatOf k nothing_noted v
+pub first_each : (k : Counts) (id : ℕ) (v : SeatView) → get_elem? (first_view k ∷ []) id ≡ some v → IsSeatOf k nothing_noted v
 first_each k zero v e = subst (λ z. IsSeatOf k nothing_noted z) (some-injective (first_view k) v e) (record { counts = λ _. refl; done = omega arith; idles = λ _. record { draws = refl; done = refl; noted = refl; looks = refl }; looks = All-nil (λ x. nothing_noted ≤ x) })
 first_each k (suc id) v e = absurd (some-ne-none v (sym e))
 
-none_below : (x total : ℕ) → 0 ≡ once_below x (min 0 total)
+pub none_below : (x total : ℕ) → 0 ≡ once_below x (min 0 total)
 none_below x total = grind (arith, nat_tests)
 
 pub opens : (k : Counts) → k.total ≤ MOST_NUMBERS → k.passes ≤ MOST_PASSES → IsBoard k (opening (0 ∷ nothing_noted ∷ []) [] (first_view k))
 opens k few small = (
   refl,
   record {
-    small = (few, small);
+    small = omega (arith, few, small);
     parts = omega arith;
     draws = λ x. none_below x k.total;
     done = λ no. absurd (omega arith);

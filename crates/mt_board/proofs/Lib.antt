@@ -3,3 +3,4 @@ pub mod Keeps
 pub mod Closes
 pub mod Drawing
 pub mod Queues
+pub mod QueueCloses

@@ -71,7 +71,7 @@ module _ {X : Type 0} (f : X → ℕ) where
 pub times_push : (x : ℕ) (xs : List ℕ) (n : ℕ) → times x (xs ++ n ∷ []) ≡ times x xs + cond (eqb n x) 1 0
 times_push x xs n = sum_by_push (λ y. cond (eqb y x) 1 0) xs n
 
-itself : (x : ℕ) → 1 ≤ cond (eqb x x) 1 0
+pub itself : (x : ℕ) → 1 ≤ cond (eqb x x) 1 0
 itself x = grind (arith, nat_tests)
 
 -- an element occurs in its list

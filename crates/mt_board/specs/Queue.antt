@@ -1,8 +1,40 @@
--- The values that the contracts of a queue and its consumers speak of.
-use Rattle.std.specs.Prelude.{List}
+-- The values and facts that the contracts of a queue and its consumers speak of.
+use Rattle.std.specs.Prelude.{◌≡◌, ℕ, ◌<◌, Bool, false, List, [], length, sum_by, All, IsTrue}
 use Rattle.atomic_table.specs.Seated.{TableId}
+use Rattle.mt_board.specs.Board.{once_below, times}
 
--- a queue, or a consumer of it: which queue it is, and all its jobs, also those that were taken
+-- a queue: which one it is, all its jobs, also those that were taken, and how many consumers it has
 pub record QueueView (J : Type 0) : Type 0 where
   pub table : TableId
   pub jobs : List J
+  pub consumers : ℕ
+
+-- a consumer: its queue, and what it did
+pub record ConsumerView (J : Type 0) : Type 0 where
+  pub queue : QueueView J
+  -- the numbers of the jobs that it took, in order
+  pub taken : List ℕ
+  -- whether it found that no job is left
+  pub done : Bool
+
+-- a consumer that has taken nothing
+abbrev pub fresh_consumer : {J : Type 0} → QueueView J → ConsumerView J
+fresh_consumer queue = record { queue = queue; taken = []; done = false }
+
+-- how often the consumers took job x
+abbrev pub times_taken : {J : Type 0} → ℕ → List (ConsumerView J) → ℕ
+times_taken {J} x consumers = sum_by (λ (c : ConsumerView J). times x c.taken) consumers
+
+-- the consumer is one of this queue, and found that no job is left
+abbrev pub HasEnded : {J : Type 0} → QueueView J → ConsumerView J → Type 0
+HasEnded queue consumer = (consumer.queue ≡ queue) × IsTrue consumer.done
+
+-- these are all consumers of the queue, at least one, and each has ended
+pub record HaveEnded {J : Type 0} (queue : QueueView J) (consumers : List (ConsumerView J)) : Type 0 where
+  pub each : All (HasEnded queue) consumers
+  pub all : length consumers ≡ queue.consumers
+  pub some : 0 < queue.consumers
+
+-- together the consumers took each job once
+abbrev pub TookEach : {J : Type 0} → QueueView J → List (ConsumerView J) → Type 0
+TookEach queue consumers = (x : ℕ) → times_taken x consumers ≡ once_below x (length queue.jobs)

@@ -1,23 +1,21 @@
 //! A queue of jobs that threads take, each once.
-ghost use Rattle.std.specs.Prelude.{◌≡◌, length, slice_get, All, IfOk, IfSome, Some};
+ghost use Rattle.std.specs.Prelude.{◌≡◌, ◌<◌, ◌++◌, [], ◌∷◌, true, length, slice_get, All, IfOk, IfSome, IsTrue, MatchOption, None, Some};
+ghost use Rattle.mt_board.specs.Queue.{HaveEnded, TookEach, fresh_consumer};
 
 use crate::consumer::Consumer;
-use crate::known::{Known, QueueRule, Split, Take};
+use crate::known::{Known, Opening, QueueRule, ShareJobs, Take, Tell};
 use atomic_table::Table;
 use std::alloc::{AllocError, Global};
 use std::marker::Model;
 use std::snapshot::Snapshot;
 
-/// The value of the word of a job that is still there.
-const WAITS: u64 = 0;
-
-/// The value of the word of a job that was taken.
-const TAKEN: u64 = 1;
+/// The index of the table's word that has the number of the next job.
+const NEXT: usize = 0;
 
 /// Jobs in their order, each of which one thread takes.
 #[derive(Drop)]
 pub struct Queue<J: Drop> {
-    table: Table<Option<J>, Known<J>, Snapshot<Vec<J>>, QueueRule, Global>,
+    table: Table<Option<J>, Known<J>, Opening<J>, QueueRule, Global>,
     /// The number of jobs.
     count: usize,
 }
@@ -27,11 +25,11 @@ impl<J: Drop> Model for Queue<J> {
 
     ghost Value = { QueueView J };
 
-    ghost use Rattle.std.specs.Prelude.{◌≡◌, ◌≤◌, ◌<◌, length};
+    ghost use Rattle.std.specs.Prelude.{◌≡◌, length};
 
-    ghost view = { λ q. record { table = q.table.shared.table_id; jobs = q.table.shared.key.value.items } };
+    ghost view = { λ q. record { table = q.table.shared.table_id; jobs = q.table.shared.key.jobs.value.items; consumers = q.table.shared.key.consumers } };
 
-    ghost invariant = { λ q. (q.count ≡ length q.table.shared.key.value.items) × (q.count ≤ q.table.shared.table_id.words) };
+    ghost invariant = { λ q. (q.count ≡ length q.table.shared.key.jobs.value.items) × (q.table.shared.table_id.words ≡ 1) };
 }
 
 impl<J: Drop> Queue<J> {
@@ -42,24 +40,26 @@ impl<J: Drop> Queue<J> {
         consumers: u32,
     ) -> Result<(Queue<J>, Vec<Consumer<J>>), AllocError>
         ensures jobs { IfOk result (λ opened. opened.0.jobs ≡ jobs.items) }
-        ensures consumers { IfOk result (λ opened. All (λ consumer. consumer ≡ opened.0) opened.1.items) }
+        ensures many { IfOk result (λ opened. opened.0.consumers ≡ consumers) }
+        ensures consumers { IfOk result (λ opened. All (λ consumer. consumer ≡ fresh_consumer opened.0) opened.1.items) }
         ensures count { IfOk result (λ opened. length opened.1.items ≡ consumers) }
     {
-        let all = Snapshot::of(&jobs);
+        let opening = Opening {
+            jobs: Snapshot::of(&jobs),
+            consumers,
+        };
         let count = jobs.len();
-        // A table has a word, even if there is no job.
-        let words = vec![in alloc; WAITS; count + 1]?;
         let slots = jobs.into_iter().map(|job| Some(job)).collect(alloc)?;
-        let Ok((table, mut seat)) = Table::new(alloc, &words, slots, &all) else {
+        let Ok((table, mut seat)) = Table::new(alloc, &[0], slots, &opening) else {
             return Err(AllocError);
         };
         let mut dealt = Vec::with_capacity(alloc, consumers as usize)?;
         for number in 0..consumers {
-            let seat = table.shared.split_seat::<Split>(&mut seat);
+            let seat = table.shared.split_seat::<ShareJobs>(&mut seat);
             dealt.push_reserved(Consumer {
                 seat,
                 number,
-                next: 0,
+                done: false,
             });
         }
         Ok((Queue { table, count }, dealt))
@@ -72,26 +72,49 @@ impl<J: Drop> Queue<J> {
         self.count
     }
 
-    /// Takes the first job that this consumer has not come to and no other has taken, and returns it with its number.
-    /// Each job is tried in one atomic step. Returns None if no such job is left.
+    /// Takes the next job in one atomic step, and returns it with its number. No other consumer takes it, and the numbers
+    /// that one consumer takes rise.
+    ///
+    /// Returns None once no job is left. After that, the consumer takes no further step.
     pub fn take(&self, consumer: &mut Consumer<J>) -> Option<(usize, J)>
-        requires { consumer.old ≡ self.now }
-        ensures same { consumer.new ≡ consumer.old }
+        requires { consumer.old.queue ≡ self.now }
         ensures job { IfSome result (λ taken. slice_get self.now.jobs taken.0 ≡ Some taken.1) }
+        ensures rises { IfSome result (λ taken. All (λ earlier. earlier < taken.0) consumer.old.taken) }
+        ensures consumer { MatchOption result (consumer.new ≡ record consumer.old { done = true }) (λ taken. consumer.new ≡ record consumer.old { taken = consumer.old.taken ++ taken.0 ∷ [] }) }
+        ensures stays { IsTrue consumer.old.done → result ≡ None }
     {
-        for number in consumer.next..self.count {
-            consumer.next = number + 1;
-            if self
-                .table
-                .shared
-                .swap::<Take>(&mut consumer.seat, number, TAKEN)
-                == WAITS
-            {
-                if let Some(job) = consumer.seat.slot_mut(&self.table.shared, number).take() {
-                    return Some((number, job));
-                }
-            }
+        if consumer.done {
+            return None;
         }
-        None
+        let next = self
+            .table
+            .shared
+            .fetch_add::<Take>(&mut consumer.seat, NEXT, 1);
+        if next >= self.count as u64 {
+            consumer.done = true;
+            return None;
+        }
+        let number = next as usize;
+        let job = self
+            .table
+            .shared
+            .exchange(&mut consumer.seat, number, None)?;
+        Some((number, job))
+    }
+
+    /// Takes all consumers back, once each of them found that no job is left: together they took each job once.
+    pub fn close(&self, mut consumers: Vec<Consumer<J>>)
+        requires { HaveEnded self.now consumers.items }
+        ensures { TookEach self.now consumers.items }
+    {
+        let Some(last) = consumers.pop() else {
+            unreachable!()
+        };
+        let Consumer { mut seat, .. } = last;
+        while let Some(consumer) = consumers.pop() {
+            let Consumer { seat: other, .. } = consumer;
+            self.table.shared.join_seat::<ShareJobs>(&mut seat, other);
+        }
+        self.table.shared.load::<Tell>(&mut seat, NEXT);
     }
 }

@@ -23,3 +23,5 @@ pub mod Replays
 pub mod TaskLemmas
 pub mod Works
 pub mod HistoryLemmas
+pub mod Turns
+pub mod Sending

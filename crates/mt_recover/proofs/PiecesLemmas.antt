@@ -1,27 +1,10 @@
 -- Pieces that make a walk.
-use Rattle.std.proofs.Common.{◌≡◌, ◌∙◌, ◌++◌, ap, append_assoc, ℕ, List, [], ◌∷◌, map, refl, sym, subst}
+use Rattle.std.proofs.Common.{◌≡◌, ◌∙◌, ◌++◌, ap, append_assoc, List, [], ◌∷◌, map, refl, sym, subst}
 use Rattle.std.proofs.lemmas.List.{append-nil}
-use Rattle.mt_words.specs.declared.update.Update.{Update}
 use Rattle.mt_words.specs.Walks.{Pair, KeysRise, joined}
 use Rattle.mt_words.specs.Words.{IsBelow}
 use Rattle.mt_tree.specs.Layer.{AllKeysBelow}
 use Rattle.mt_tree.proofs.Joins.{all_front, all_back}
-use Rattle.mt_replay.specs.Walk.{IsWalk}
-use Rattle.mt_replay.specs.Pieces.{IsPiece}
-
--- ---- pieces
-
--- without cuts the one piece is the walk
-only_piece : (updates : List Update) (pairs : List Pair) → IsPiece updates [] 0 pairs → IsWalk updates pairs
-only_piece updates pairs is = record {
-  map = is.map;
-  exact = λ key number bytes. (λ holds. ((is.exact key number bytes).0 holds).1, λ has. (is.exact key number bytes).1 (refl, has));
-}
-
-pub uncut_piece : (updates : List Update) (cuts : List (List ℕ)) (pairs : List Pair) → cuts ≡ [] → IsPiece updates cuts 0 pairs → IsWalk updates pairs
-uncut_piece updates cuts pairs none is = only_piece updates pairs (subst (λ (ks : List (List ℕ)). IsPiece updates ks 0 pairs) none is)
-
--- ---- drafts in order
 
 -- if keys rise through two lists, those of the first list are below those of the second
 front_below : (v w : List Pair) → KeysRise (v ++ w) → AllKeysBelow v w

@@ -1,7 +1,7 @@
 -- Pieces that were each replayed from a range.
 use Rattle.std.proofs.Common.{◌≡◌, ◌∙◌, ℕ, zero, suc, ◌+◌, ◌<◌, List, [], ◌∷◌, ◌++◌, length, map, sym, ap, subst, arith}
-use Rattle.std.specs.Prelude.{slice_index_or}
-use Rattle.std.specs.List.{All, AllZip, enumerate_from}
+use Rattle.std.specs.Prelude.{slice_get, slice_index_or, Some}
+use Rattle.std.specs.List.{AllZip, enumerate_from}
 use Rattle.std.proofs.lemmas.List.{length-map, get_or-map}
 use Rattle.std.proofs.lemmas.List.FromFn.{length-enumerate_from, get_or-enumerate_from}
 use Rattle.std.proofs.lemmas.Option.{slice_get_within, get_or_from_slice_get}
@@ -35,11 +35,11 @@ module _ (cuts : List (List ℕ)) (ranges : List (List Update)) (dealt : ranges 
   job_at : (k : ℕ) (d : ℕ × List Update) → k < length ranges → slice_index_or (enumerate_from 0 ranges) k d ≡ (k, slice_index_or ranges k d.1)
   job_at k d lt = get_or-enumerate_from 0 ranges k d lt ∙ ap (λ (n : ℕ). (n, slice_index_or ranges k d.1)) (omega arith)
 
-  -- what holds for the range of each piece holds for all jobs
-  pub all_jobs : (P : ℕ × List Update → Type 0) → ((piece : ℕ) (range : List Update) → piece < length cuts + 1 → IsRangeIn cuts piece range → P (piece, range)) → All P (enumerate_from 0 ranges)
-  all_jobs P each k d lt =
-      let within : k < length ranges = omega (arith, lt, length-enumerate_from 0 ranges) in
-      subst P (sym (job_at k d within)) (each k (slice_index_or ranges k d.1) (omega (arith, within, range_count)) (joined ranges, range_at k d.1 within))
+  -- the range of a piece has the updates that lie in it
+  pub piece_is : (piece : ℕ) (range : List Update) → slice_get ranges piece ≡ Some range → (piece < length cuts + 1) × IsRangeIn cuts piece range
+  piece_is piece range here =
+      let within : piece < length ranges = slice_get_within ranges piece range here in
+      (omega (arith, within, range_count), (joined ranges, sym (get_or_from_slice_get ranges piece range range here) ∙ range_at piece range within))
 
   -- the drafts of all ranges, in order, are the pieces
   pub all_replayed : (entries : List Update) (drafts : List DraftView) → AllZip (λ job draft. IsReplayOf cuts entries job.0 job.1 (layer_walk draft)) (enumerate_from 0 ranges) drafts

@@ -9,7 +9,7 @@ use Rattle.std.proofs.lemmas.List.{map-append, nil_from_length}
 use Rattle.std.proofs.lemmas.List.FromFn.{get_or-enumerate_from, length-enumerate_from}
 use Rattle.std.proofs.lemmas.List.Sorted.{All-permutation}
 use Rattle.std.proofs.lemmas.List.Concat.{flat_map-cons}
-use Rattle.std.proofs.lemmas.List.Elements.{All-append, All-cons, All-head, All-nil, All-pop, All-tail}
+use Rattle.std.proofs.lemmas.List.Elements.{All-append, All-cons, All-head, All-nil, All-tail}
 use Rattle.std.proofs.lemmas.Slice.Zip.{all_zipped_more}
 use Rattle.mt_recover.specs.Steps.Scanning.{AreAnswers, AreDealt}
 
@@ -29,16 +29,6 @@ dealt_more f job last front (b ∷ c ∷ cs) shares turned old new are one turn 
 dealt_more f job last front (b ∷ []) shares turned old new are one turn at is dealt =
     let own : f new ≡ job ∷ f b = is ∙ ap (λ x. job ∷ f x) (at ∙ ap (λ l. slice_index_or l 0 old) turn) in
     rw (turn, own) (refl, subst (AreDealt last) (ap (map f) are ∙ map-append f front (b ∷ [])) dealt)
-
--- what holds for all jobs holds for the jobs of each share
-pub dealt_each : {J : Type 0} (P : J → Type 0) (jobs : List J) (shares : List (List J)) → AreDealt jobs shares → All P jobs → All (All P) shares
-dealt_each P [] [] dealt all = All-nil (All P)
-dealt_each P [] (s ∷ ss) dealt all = All-cons (All P) s ss (subst (All P) (sym dealt.0) (All-nil P)) (dealt_each P [] ss dealt.1 all)
-dealt_each P (j ∷ js) [] dealt all = absurd dealt
-dealt_each P (j ∷ js) ([] ∷ ss) dealt all = absurd dealt
-dealt_each P (j ∷ js) ((first ∷ rest) ∷ ss) dealt all =
-    let later = All-pop (All P) (ss ++ rest ∷ []) ss (Some rest) refl (dealt_each P js (ss ++ rest ∷ []) dealt.1 (All-tail P j js all)) in
-    All-cons (All P) (first ∷ rest) ss (All-cons P first rest (subst P (sym dealt.0) (All-head P j js all)) later.1) later.0
 
 -- the answers of the shares are dealt as the jobs are
 pub dealt_answers : {J X : Type 0} (R : J → X → Type 0) (jobs : List J) (shares : List (List J)) (parts : List (List X)) → AreDealt jobs shares → AllZip (AllZip R) shares parts
@@ -117,50 +107,61 @@ zip_says R Q (j ∷ js) (x ∷ xs) says zip = (says j x zip.0, zip_says R Q js x
 
 -- ---- jobs that are taken one by one
 
--- one more answer gets the next number
-pub next_number : {X : Type 0} (n : ℕ) (xs : List X) (x : X) → enumerate_from n (xs ++ x ∷ []) ≡ enumerate_from n xs ++ (n + length xs, x) ∷ []
-next_number n [] x = let e : n ≡ n + 0 = omega arith in ap (λ k. (k, x) ∷ []) e
-next_number n (y ∷ ys) x =
-    let e : n + 1 + length ys ≡ n + suc (length ys) = omega arith in
-    ap (λ l. (n, y) ∷ l) (next_number (n + 1) ys x ∙ ap (λ k. enumerate_from (n + 1) ys ++ (k, x) ∷ []) e)
-
+-- the first of a list with an element
 abbrev some_or : {J : Type 0} → J → Option J → J
 some_or j None = j
 some_or j (Some k) = k
 
 -- if the answer at each place is that of the job there, the answers are those of the jobs in order
-by_place : {J X : Type 0} (R : J → X → Type 0) (jobs : List J) (answers : List X) → length answers ≡ length jobs
-    → ((k : ℕ) (d : X) → k < length answers → (job : J) × (slice_get jobs k ≡ Some job) × R job (get_or answers k d)) → AllZip R jobs answers
-by_place R [] [] long each = tt
-by_place R [] (x ∷ xs) long each = absurd (omega (arith, long))
-by_place R (j ∷ js) [] long each = absurd (omega (arith, long))
-by_place R (j ∷ js) (x ∷ xs) long each =
+by_place : {J X : Type 0} (R : ℕ → J → X → Type 0) (n : ℕ) (jobs : List J) (answers : List X) → length answers ≡ length jobs
+    → ((k : ℕ) (d : X) → k < length answers → (job : J) × (slice_get jobs k ≡ Some job) × R (n + k) job (get_or answers k d)) → AllZip (λ job x. R job.0 job.1 x) (enumerate_from n jobs) answers
+by_place R n [] [] long each = tt
+by_place R n [] (x ∷ xs) long each = absurd (omega (arith, long))
+by_place R n (j ∷ js) [] long each = absurd (omega (arith, long))
+by_place {J} R n (j ∷ js) (x ∷ xs) long each =
     let first = each 0 x (omega arith) in
-    (subst (λ job. R job x) (sym (ap (some_or j) first.1)) first.2, by_place R js xs (omega (arith, long)) (λ k d lt. each (suc k) d (omega (arith, lt))))
+    let none : n + 0 ≡ n = omega arith in (
+      subst (λ (job : J). R n job x) (sym (ap (some_or j) first.1)) (subst (λ (k : ℕ). R k first.0 x) none first.2),
+      by_place R (n + 1) js xs (omega (arith, long)) (λ k d lt.
+          let one = each (suc k) d (omega (arith, lt)) in
+          let next : n + suc k ≡ n + 1 + k = omega arith in
+          (one.0, one.1, subst (λ (m : ℕ). R m one.0 (get_or xs k d)) next one.2)),
+    )
 
 -- answers with the numbers of their jobs, put in the order of these numbers, are those of the jobs in order
-pub all_in_order : {J X : Type 0} (R : J → X → Type 0) (jobs : List J) (done : List (ℕ × X)) (answers : List X) → AreAnswers R jobs done → IsPermutation done (enumerate_from 0 answers) → length answers ≡ length jobs
-    → AllZip R jobs answers
-all_in_order {J} {X} R jobs done answers are same long = by_place R jobs answers long each
+pub all_in_order : {J X : Type 0} (R : ℕ → J → X → Type 0) (jobs : List J) (done : List (ℕ × X)) (answers : List X) → AreAnswers R jobs done → IsPermutation done (enumerate_from 0 answers) → length answers ≡ length jobs
+    → AllZip (λ job x. R job.0 job.1 x) (enumerate_from 0 jobs) answers
+all_in_order {J} {X} R jobs done answers are same long = by_place R 0 jobs answers long each
   where
-    numbered : All (λ (one : ℕ × X). (job : J) × (slice_get jobs one.0 ≡ Some job) × R job one.1) (enumerate_from 0 answers)
-    numbered = All-permutation (λ (one : ℕ × X). (job : J) × (slice_get jobs one.0 ≡ Some job) × R job one.1) done (enumerate_from 0 answers) same are
+    numbered : All (λ (one : ℕ × X). (job : J) × (slice_get jobs one.0 ≡ Some job) × R one.0 job one.1) (enumerate_from 0 answers)
+    numbered = All-permutation (λ (one : ℕ × X). (job : J) × (slice_get jobs one.0 ≡ Some job) × R one.0 job one.1) done (enumerate_from 0 answers) same are
 
-    each : (k : ℕ) (d : X) → k < length answers → (job : J) × (slice_get jobs k ≡ Some job) × R job (get_or answers k d)
+    each : (k : ℕ) (d : X) → k < length answers → (job : J) × (slice_get jobs k ≡ Some job) × R (0 + k) job (get_or answers k d)
     each k d lt =
         let same_number : 0 + k ≡ k = omega arith in
-        subst (λ (one : ℕ × X). (job : J) × (slice_get jobs one.0 ≡ Some job) × R job one.1) (get_or-enumerate_from 0 answers k (0, d) lt ∙ ap (λ n. (n, get_or answers k d)) same_number) (numbered k (0, d) (omega (arith, lt, length-enumerate_from 0 answers)))
+        subst (λ (m : ℕ). (job : J) × (slice_get jobs m ≡ Some job) × R (0 + k) job (get_or answers k d)) same_number
+        (subst (λ (one : ℕ × X). (job : J) × (slice_get jobs one.0 ≡ Some job) × R one.0 job one.1) (get_or-enumerate_from 0 answers k (0, d) lt) (numbered k (0, d) (omega (arith, lt, length-enumerate_from 0 answers))))
 
--- what all consumers did are answers of the jobs
-pub all_taken : {C Y J X E : Type 0} (R : J → X → Type 0) (jobs : List J) (items : Y → List (ℕ × X)) (consumers : List C) (parts : List (Result Y E)) (done : List Y)
-    → AllZip (λ consumer part. IfOk part (λ y. AreAnswers R jobs (items y))) consumers parts → parts ≡ map Ok done → AreAnswers R jobs (flat_map items done)
-all_taken {C} {Y} {J} {X} {E} R jobs items consumers parts done zip are = by consumers done (subst (AllZip Q consumers) are zip)
+-- what holds for numbered jobs and their answers holds for the jobs
+pub without_numbers : {J X : Type 0} (R : J → X → Type 0) (n : ℕ) (jobs : List J) (answers : List X) → AllZip (λ job x. R job.1 x) (enumerate_from n jobs) answers → AllZip R jobs answers
+without_numbers R n [] [] zip = tt
+without_numbers R n [] (x ∷ xs) zip = absurd zip
+without_numbers R n (j ∷ js) [] zip = absurd zip
+without_numbers R n (j ∷ js) (x ∷ xs) zip = (zip.0, without_numbers R (n + 1) js xs zip.1)
+
+-- the answers of all turns are answers of the jobs
+pub all_answers : {Y J X : Type 0} (R : ℕ → J → X → Type 0) (jobs : List J) (items : Y → List (ℕ × X)) (turns : List Y) → All (λ turn. AreAnswers R jobs (items turn)) turns → AreAnswers R jobs (flat_map items turns)
+all_answers {Y} {J} {X} R jobs items [] all = All-nil (λ (one : ℕ × X). (job : J) × (slice_get jobs one.0 ≡ Some job) × R one.0 job one.1)
+all_answers {Y} {J} {X} R jobs items (t ∷ ts) all =
+    rw (flat_map-cons items t ts) (All-append (λ (one : ℕ × X). (job : J) × (slice_get jobs one.0 ≡ Some job) × R one.0 job one.1) (items t) (flat_map items ts)
+    (All-head (λ turn. AreAnswers R jobs (items turn)) t ts all) (all_answers R jobs items ts (All-tail (λ turn. AreAnswers R jobs (items turn)) t ts all)))
+
+-- what holds for each job and its answer, if no answer is an error, holds for each answer
+pub all_of_zip : {A Y E : Type 0} (P : Y → Type 0) (jobs : List A) (parts : List (Result Y E)) (done : List Y) → AllZip (λ job part. IfOk part P) jobs parts → parts ≡ map Ok done → All P done × (length done ≡ length jobs)
+all_of_zip {A} {Y} {E} P jobs parts done zip are = by jobs done (subst (AllZip (λ job part. IfOk part P) jobs) are zip)
   where
-    Q : C → Result Y E → Type 0
-    Q consumer part = IfOk part (λ y. AreAnswers R jobs (items y))
-
-    by : (consumers : List C) (done : List Y) → AllZip Q consumers (map Ok done) → AreAnswers R jobs (flat_map items done)
-    by [] [] zip = All-nil (λ (one : ℕ × X). (job : J) × (slice_get jobs one.0 ≡ Some job) × R job one.1)
+    by : (jobs : List A) (done : List Y) → AllZip (λ job (part : Result Y E). IfOk part P) jobs (map Ok done) → All P done × (length done ≡ length jobs)
+    by [] [] zip = (All-nil P, refl)
     by [] (d ∷ ds) zip = absurd zip
-    by (c ∷ cs) [] zip = absurd zip
-    by (c ∷ cs) (d ∷ ds) zip = rw (flat_map-cons items d ds) (All-append (λ (one : ℕ × X). (job : J) × (slice_get jobs one.0 ≡ Some job) × R job one.1) (items d) (flat_map items ds) zip.0 (by cs ds zip.1))
+    by (j ∷ js) [] zip = absurd zip
+    by (j ∷ js) (d ∷ ds) zip = let more = by js ds zip.1 in (All-cons P d ds zip.0 more.0, omega (arith, more.1))

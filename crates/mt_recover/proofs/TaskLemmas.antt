@@ -1,25 +1,26 @@
 -- Tasks that are done, and what they make together.
-use Rattle.std.proofs.Common.{◌≡◌, ◌<◌, ◌^◌, ℕ, List, [], ◌∷◌, ◌++◌, map, refl, sym, subst, arith}
-use Rattle.std.specs.Prelude.{Result, Ok, IfOk}
-use Rattle.std.specs.List.{All, AllZip, enumerate_from}
-use Rattle.std.proofs.lemmas.List.{get_or-map, length-map}
+use Rattle.std.proofs.Common.{◌≡◌, ℕ, zero, suc, List, [], ◌∷◌, length, map, IsPermutation, refl, sym, ap, subst, arith}
+use Rattle.std.specs.Prelude.{Result, Ok, IfOk, replicate}
+use Rattle.std.specs.List.{All, AllZip, enumerate_from, flat_map}
+use Rattle.std.proofs.lemmas.List.Elements.{All-cons, All-nil, All-weaker}
+use Rattle.mt_board.specs.Queue.{ConsumerView}
 use Rattle.mt_words.specs.declared.fault.Memory.{Memory}
 use Rattle.mt_words.specs.declared.update.Update.{Update}
-use Rattle.mt_words.specs.Walks.{joined}
 use Rattle.mt_replay.specs.declared.window.Window.{Window}
 use Rattle.mt_replay.specs.Batches.{BatchView}
+use Rattle.mt_words.specs.Walks.{Pair, joined}
 use Rattle.mt_replay.specs.Cells.{AreApart}
 use Rattle.mt_replay.specs.Cuts.{AreCuts}
+use Rattle.mt_replay.specs.Walk.{IsWalk}
 use Rattle.mt_replay.specs.Pieces.{ArePieces}
-use Rattle.mt_replay.specs.Ranges.{dealt_by}
 use Rattle.mt_tree.specs.Borders.{DraftView, layer_walk}
 use Rattle.mt_recover.specs.Steps.Preparing.{IsLeftBy, IsLeftOf}
-use Rattle.mt_recover.specs.Steps.Replaying.{ArePiecesDealt, AreReplaysOf, IsPieceIn, IsReplayOf}
-use Rattle.mt_recover.specs.Steps.Scanning.{AreDealt}
-use Rattle.mt_recover.specs.Tasks.{DivideView, ReplayView, ReplayingView, divide_task, replay_task, replay_tasks}
+use Rattle.mt_recover.specs.Steps.Replaying.{AreQueued, AreReplaysOf, IsReplayOf}
+use Rattle.mt_recover.specs.Steps.Scanning.{AreAnswers}
+use Rattle.mt_recover.specs.Tasks.{DivideView, ReplayingView, divide_task, replay_task, replay_tasks}
 use Rattle.mt_recover.proofs.ReplayLemmas.{all_answered}
-use Rattle.mt_recover.proofs.Replays.{all_jobs, all_replayed}
-use Rattle.mt_recover.proofs.SharingLemmas.{dealt_answers, dealt_each}
+use Rattle.mt_recover.proofs.Replays.{all_replayed}
+use Rattle.mt_recover.proofs.SharingLemmas.{all_answers, all_in_order}
 
 -- if each task that is done is the task that it was, these are the tasks
 pub tasks_done : {T : Type 0} (tasks : List T) (answers : List (Result T Memory)) (done : List T) → AllZip (λ task answer. IfOk answer (λ one. one ≡ task)) tasks answers → answers ≡ map Ok done → done ≡ tasks
@@ -43,28 +44,34 @@ pub left_of_tasks : (window : Window) (cuts : List (List ℕ)) (batches : List B
     → AllZip (λ batch. IsLeftBy window cuts batch.updates) batches left
 left_of_tasks window cuts batches done left are each = zip_of_map (divide_task window cuts) IsLeftOf batches left (subst (λ (tasks : List DivideView). AllZip IsLeftOf tasks left) are each)
 
--- the drafts of all tasks, gathered, are the pieces
-pub pieces_of_tasks : (replaying : ReplayingView) (done : List ReplayView) (parts : List (List DraftView)) (drafts : List DraftView) → ArePiecesDealt replaying → done ≡ replay_tasks replaying → AllZip AreReplaysOf done parts
-    → ((answers : List DraftView) → AreDealt answers parts → drafts ≡ answers) → AreApart replaying.prepared.updates → ArePieces replaying.prepared.updates replaying.prepared.cuts (map layer_walk drafts)
-pieces_of_tasks replaying done parts drafts dealt are each gathered apart =
+-- what holds for equal tasks and what they did holds for each that was done
+pub all_alike : {A B : Type 0} (R : A → B → Type 0) (a : A) (n : ℕ) (ys : List B) → AllZip R (replicate n a) ys → All (R a) ys × (length ys ≡ n)
+all_alike R a zero [] zip = (All-nil (R a), refl)
+all_alike R a zero (y ∷ ys) zip = absurd zip
+all_alike R a (suc n) [] zip = absurd zip
+all_alike R a (suc n) (y ∷ ys) zip = let more = all_alike R a n ys zip.1 in (All-cons (R a) y ys zip.0 more.0, omega (arith, more.1))
+
+-- a task for each of these
+pub same_tasks : {A B : Type 0} (a : A) (xs : List B) → map (λ _. a) xs ≡ replicate (length xs) a
+same_tasks a [] = refl
+same_tasks a (x ∷ xs) = ap (λ l. a ∷ l) (same_tasks a xs)
+
+-- the drafts of all tasks, in order, are the pieces
+pub pieces_of_tasks : {Y : Type 0} (items : Y → List (ℕ × DraftView)) (consumer : Y → ConsumerView (List Update)) (replaying : ReplayingView) (turns : List Y) (drafts : List DraftView) → AreQueued replaying
+    → All (λ turn. AreReplaysOf (replay_task replaying) (items turn) (consumer turn)) turns → (length drafts ≡ length replaying.pieces.jobs) × IsPermutation (flat_map items turns) (enumerate_from 0 drafts)
+    → AreApart replaying.prepared.updates → ArePieces replaying.prepared.updates replaying.prepared.cuts (map layer_walk drafts)
+pieces_of_tasks items consumer replaying turns drafts queued each ordered apart =
     let cuts = replaying.prepared.cuts in
-    let R : ℕ × List Update → DraftView → Type 0 = λ piece draft. IsReplayOf cuts replaying.entries piece.0 piece.1 (layer_walk draft) in
-    let shares : AllZip (AllZip R) replaying.shares parts =
-    zip_of_map (replay_task replaying.entries cuts) AreReplaysOf replaying.shares parts (subst (λ (tasks : List ReplayView). AllZip AreReplaysOf tasks parts) are each) in
-    let answered = dealt_answers R (enumerate_from 0 dealt.ranges) replaying.shares parts dealt.dealt shares in
-    let all : AllZip R (enumerate_from 0 dealt.ranges) drafts = subst (AllZip R (enumerate_from 0 dealt.ranges)) (sym (gathered answered.0 answered.2)) answered.1 in
-    subst (λ (us : List Update). ArePieces us cuts (map layer_walk drafts)) dealt.updates
-    (all_replayed cuts dealt.ranges dealt.are replaying.entries drafts all (subst AreApart (sym dealt.updates) apart))
+    let ranges = replaying.pieces.jobs in
+    let R : ℕ → List Update → DraftView → Type 0 = λ piece range draft. IsReplayOf cuts replaying.entries piece range (layer_walk draft) in
+    let answers = all_answers R ranges items turns (All-weaker (λ turn. AreReplaysOf (replay_task replaying) (items turn) (consumer turn)) (λ turn. AreAnswers R ranges (items turn)) (λ turn is. is.answers) turns each) in
+    subst (λ (us : List Update). ArePieces us cuts (map layer_walk drafts)) queued.updates
+    (all_replayed cuts ranges queued.ranges.are replaying.entries drafts (all_in_order R ranges (flat_map items turns) drafts answers ordered.1 ordered.0) (subst AreApart (sym queued.updates) apart))
 
--- the shares of all pieces have pieces
-pub shares_have_pieces : {X : Type 0} (f : X → List (ℕ × List Update)) (cuts : List (List ℕ)) (ranges : List (List Update)) (jobs : List (ℕ × List Update)) (shares : List X) → ranges ≡ dealt_by cuts (joined ranges) → AreCuts cuts → jobs ≡ enumerate_from 0 ranges
-    → AreDealt jobs (map f shares) → All (λ share. All (IsPieceIn cuts) (f share)) shares
-shares_have_pieces f cuts ranges jobs shares are lawful jobs_are dealt = λ i share within.
-    let each : All (IsPieceIn cuts) jobs = subst (All (IsPieceIn cuts)) (sym jobs_are) (all_jobs cuts ranges are (IsPieceIn cuts) (λ piece range below is. (omega (arith, below, lawful.1), is))) in
-    let all = dealt_each (IsPieceIn cuts) jobs (map f shares) dealt each in
-    subst (All (IsPieceIn cuts)) (get_or-map f shares i share (f share) within) (all i (f share) (omega (arith, within, length-map shares f)))
-
--- the tasks of shares that are lists inside
-pub tasks_of_shares : {X : Type 0} (f : X → List (ℕ × List Update)) (entries : List Update) (cuts : List (List ℕ)) (shares : List X) → map (replay_task entries cuts) (map f shares) ≡ map (λ share. replay_task entries cuts (f share)) shares
-tasks_of_shares f entries cuts [] = refl
-tasks_of_shares f entries cuts (s ∷ ss) = λ i. replay_task entries cuts (f s) ∷ tasks_of_shares f entries cuts ss i
+-- joined, they are the walk of what was prepared
+pub walk_of_tasks : {Y : Type 0} (items : Y → List (ℕ × DraftView)) (consumer : Y → ConsumerView (List Update)) (replaying : ReplayingView) (turns : List Y) (drafts : List DraftView) → AreQueued replaying
+    → AllZip (λ task turn. AreReplaysOf task (items turn) (consumer turn)) (replay_tasks replaying) turns → (length drafts ≡ length replaying.pieces.jobs) × IsPermutation (flat_map items turns) (enumerate_from 0 drafts) → AreApart replaying.prepared.updates
+    → ((updates : List Update) (cuts : List (List ℕ)) (pieces : List (List Pair)) → AreCuts cuts → ArePieces updates cuts pieces → IsWalk updates (joined pieces)) → IsWalk replaying.prepared.updates (joined (map layer_walk drafts))
+walk_of_tasks items consumer replaying turns drafts queued each ordered apart make =
+    let all = all_alike (λ task turn. AreReplaysOf task (items turn) (consumer turn)) (replay_task replaying) replaying.pieces.consumers turns each in
+    make replaying.prepared.updates replaying.prepared.cuts (map layer_walk drafts) queued.ranges.cuts_are (pieces_of_tasks items consumer replaying turns drafts queued all.0 ordered apart)

@@ -1,6 +1,7 @@
 -- Tasks, which any threads do: some divide what was found by its keys into pieces, and others replay these pieces.
-use Rattle.std.specs.Prelude.{◌≡◌, ℕ, List, ◌++◌, length, map, filter}
+use Rattle.std.specs.Prelude.{◌≡◌, ℕ, List, ◌++◌, length, map, filter, replicate}
 use Rattle.mt_words.specs.declared.update.Update.{Update}
+use Rattle.mt_board.specs.Queue.{QueueView}
 use Rattle.mt_replay.specs.declared.window.Window.{Window}
 use Rattle.mt_replay.specs.Batches.{BatchView, batched}
 use Rattle.mt_replay.specs.Survivors.{in_window, is_early}
@@ -42,22 +43,22 @@ pub record IsDividingOf (logs parts : List (List ℕ)) (dividing : DividingView)
 
 -- ---- replaying
 
--- a task that replays: some pieces that the cuts make, each by its number and the updates of logs that lie in it, over the entries
+-- a task that replays: pieces from a queue, each with the updates of logs that lie in it, over the entries, until no piece is left
 pub record ReplayView : Type 0 where
-  pub pieces : List (ℕ × List Update)
+  pub pieces : QueueView (List Update)
   pub entries : List Update
   pub cuts : List (List ℕ)
 
--- what tasks replay: what was prepared, the entries in it, and the pieces, in shares
+-- what tasks replay: what was prepared, the queue of its pieces, and the entries in it
 pub record ReplayingView : Type 0 where
   pub prepared : PreparedView
+  pub pieces : QueueView (List Update)
   pub entries : List Update
-  pub shares : List (List (ℕ × List Update))
 
--- the task for a share
-abbrev pub replay_task : List Update → List (List ℕ) → List (ℕ × List Update) → ReplayView
-replay_task entries cuts share = record { pieces = share; entries = entries; cuts = cuts }
+-- the task for a consumer
+abbrev pub replay_task : ReplayingView → ReplayView
+replay_task replaying = record { pieces = replaying.pieces; entries = replaying.entries; cuts = replaying.prepared.cuts }
 
--- its tasks: one for each share
+-- its tasks: one for each consumer of the queue
 abbrev pub replay_tasks : ReplayingView → List ReplayView
-replay_tasks replaying = map (replay_task replaying.entries replaying.prepared.cuts) replaying.shares
+replay_tasks replaying = replicate replaying.pieces.consumers (replay_task replaying)

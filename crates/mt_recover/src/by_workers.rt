@@ -4,7 +4,8 @@ ghost use Rattle.std.specs.List.{AllZip, enumerate_from, flat_map};
 ghost use Rattle.std.specs.Vec.Iter.{into_iter_items};
 ghost use Rattle.mt_words.specs.declared.fault.Memory.{Memory as MemoryValue};
 ghost use Rattle.mt_board.specs.Board.{least_noted, times_drawn, SawNoneBelow, SomeIsDone};
-ghost use Rattle.mt_recover.specs.Steps.Scanning.{AreAnswers, AreDealt, IsFirstErr};
+ghost use Rattle.mt_board.specs.Queue.{fresh_consumer};
+ghost use Rattle.mt_recover.specs.Steps.Scanning.{AreAnswers, AreDealt, AreNumbered, IsFirstErr, IsTurnOf};
 
 use crate::Workers;
 use mt_board::{Board, Consumer, Pass, Queue};
@@ -27,83 +28,69 @@ pub(crate) fn by_workers<R: Threads + Sync, J: Send + Drop, X: Send + Drop, F: F
     requires { All (λ job. F.pre work.now job) jobs.items }
     ensures { IfOk result (λ answers. AllZip (λ job answer. F.post work.now job answer) jobs.items answers.items) }
 {
-    by_each_worker(
-        rt,
-        alloc,
-        jobs,
-        workers,
-        &|_worker: u32, job: J| -> X
-            requires { F.pre work.now job }
-            ensures { F.post work.entry.now job result }
-        { work(job) },
-    )
-}
-
-/// Does the same, and tells `work` the number of the worker.
-pub(crate) fn by_each_worker<
-    R: Threads + Sync,
-    J: Send + Drop,
-    X: Send + Drop,
-    F: Fn(u32, J) -> X + Sync,
->(rt: &R, alloc: Global, jobs: Vec<J>, workers: Workers, work: &F) -> Result<Vec<X>, Memory>
-    requires { (worker : ℕ) → All (λ job. F.pre work.now worker job) jobs.items }
-    ensures { IfOk result (λ answers. AllZip (λ job answer. (worker : ℕ) × F.post work.now worker job answer) jobs.items answers.items) }
-{
-    let count = jobs.len();
-    let most = (workers.count() as usize).min(count) as u32;
+    let most = (workers.count() as usize).min(jobs.len()).max(1) as u32;
     let (queue, consumers) = Queue::open(alloc, jobs, most)?;
-    let parts = on_threads(
+    let turns = on_threads(
         rt,
         consumers,
         workers,
-        &|consumer: Consumer<J>| -> Result<Vec<(usize, X)>, Memory>
-            requires { (consumer ≡ queue) × ((worker : ℕ) → All (λ job. F.pre work.now worker job) queue.jobs) }
-            ensures { IfOk result (λ done. AreAnswers (λ job answer. (worker : ℕ) × F.post work.entry.now worker job answer) queue.jobs done.items) }
+        &|consumer: Consumer<J>| -> Result<Turn<J, X>, Memory>
+            requires { (consumer ≡ fresh_consumer queue) × All (λ job. F.pre work.now job) queue.jobs }
+            ensures { IfOk result (λ turn. IsTurnOf queue turn.0.items turn.1 × AreAnswers (λ _ job answer. F.post work.entry.now job answer) queue.jobs turn.0.items) }
         { work_off(alloc, &queue, consumer, work) },
     )?;
-    in_order(alloc, concat(alloc, all_done(alloc, parts)?)?, count)
+    answers_of(alloc, &queue, all_done(alloc, turns)?)
 }
 
-/// Takes jobs from the queue until none is left, and does each. Returns the answers with the numbers of their jobs.
-fn work_off<J: Drop, X: Drop, F: Fn(u32, J) -> X>(
+/// What a consumer of a queue did: an answer for each job that it took, with the number of the job, and the consumer.
+pub(crate) type Turn<J, X> = (Vec<(usize, X)>, Consumer<J>);
+
+/// Takes jobs from the queue until none is left, and does each.
+fn work_off<J: Drop, X: Drop, F: Fn(J) -> X>(
     alloc: Global,
     queue: &Queue<J>,
     consumer: Consumer<J>,
     work: &F,
-) -> Result<Vec<(usize, X)>, Memory>
-    requires same { consumer ≡ queue.now }
-    requires each { (worker : ℕ) → All (λ job. F.pre work.now worker job) queue.now.jobs }
-    ensures { IfOk result (λ done. AreAnswers (λ job answer. (worker : ℕ) × F.post work.now worker job answer) queue.now.jobs done.items) }
+) -> Result<Turn<J, X>, Memory>
+    requires fresh { consumer ≡ fresh_consumer queue.now }
+    requires each { All (λ job. F.pre work.now job) queue.now.jobs }
+    ensures turn { IfOk result (λ turn. IsTurnOf queue.now turn.0.items turn.1) }
+    ensures answers { IfOk result (λ turn. AreAnswers (λ _ job answer. F.post work.now job answer) queue.now.jobs turn.0.items) }
 {
-    let worker = consumer.number();
     let mut consumer = consumer;
-    let mut done = Vec::new(alloc);
-    for _ in 0..queue.len() {
-        let Some((number, job)) = queue.take(&mut consumer) else {
-            break;
-        };
-        done.push((number, work(worker, job)))?;
+    let mut answers = Vec::new(alloc);
+    while let Some((number, job)) = queue.take(&mut consumer) {
+        answers.push((number, work(job)))?;
     }
-    Ok(done)
+    Ok((answers, consumer))
 }
 
-/// Returns the answers in the order of their numbers. Err: out of memory, or an answer is missing, which cannot be.
-fn in_order<X: Drop>(alloc: Global, done: Vec<(usize, X)>, count: usize) -> Result<Vec<X>, Memory>
-    ensures { IfOk result (λ answers. (length answers.items ≡ count) × IsPermutation done.items (enumerate_from 0 answers.items)) }
+/// Takes all consumers of the queue back, and returns the answers in the order of the jobs.
+pub(crate) fn answers_of<J: Drop, X: Drop>(
+    alloc: Global,
+    queue: &Queue<J>,
+    turns: Vec<Turn<J, X>>,
+) -> Result<Vec<X>, Memory>
+    requires turns { All (λ turn. IsTurnOf queue.now turn.0.items turn.1) turns.items }
+    requires all { length turns.items ≡ queue.now.consumers }
+    requires some { 0 < queue.now.consumers }
+    ensures { IfOk result (λ answers. (length answers.items ≡ length queue.now.jobs) × IsPermutation (flat_map (λ turn. turn.0.items) turns.items) (enumerate_from 0 answers.items)) }
 {
-    let mut done = done;
-    done.sort_unstable_by_key(|one| one.0);
-    let mut answers = Vec::with_capacity(alloc, count)?;
-    for (number, answer) in done {
-        if number != answers.len() {
-            return Err(Memory);
-        }
-        answers.push(answer)?;
-    }
-    if answers.len() != count {
-        return Err(Memory);
-    }
-    Ok(answers)
+    let (answers, consumers) = unzip(alloc, turns)?;
+    queue.close(consumers);
+    in_order(alloc, concat(alloc, answers)?)
+}
+
+/// Returns the answers in the order of their numbers, which are those below some count, each once.
+fn in_order<X: Drop>(alloc: Global, answers: Vec<(usize, X)>) -> Result<Vec<X>, Memory>
+    requires { (count : ℕ) × AreNumbered count answers.items }
+    ensures same { IfOk result (λ sorted. IsPermutation answers.items (enumerate_from 0 sorted.items)) }
+    ensures long { (count : ℕ) → AreNumbered count answers.items → IfOk result (λ sorted. length sorted.items ≡ count) }
+{
+    let mut answers = answers;
+    answers.sort_unstable_by_key(|answer| answer.0);
+    let (_, sorted) = unzip(alloc, answers)?;
+    Ok(sorted)
 }
 
 /// Does each job on a thread of its own. Returns the answers in the order of the jobs.

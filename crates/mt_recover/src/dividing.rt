@@ -1,5 +1,5 @@
 //! Divides what was found by its keys into the pieces that are replayed, task by task.
-ghost use Rattle.std.specs.Prelude.{◌≡◌, ◌≤◌, ◌<◌, ◌++◌, [], List, ℕ, length, map, filter, IfOk};
+ghost use Rattle.std.specs.Prelude.{◌≡◌, ◌≤◌, ◌<◌, ◌++◌, List, ℕ, length, map, filter, IfOk};
 ghost use Rattle.std.specs.List.{AllZip};
 ghost use Rattle.mt_words.specs.Walks.{joined};
 ghost use Rattle.mt_replay.specs.declared.window.Window.{Window as WindowValue};
@@ -13,7 +13,7 @@ ghost use Rattle.mt_recover.specs.Tasks.{IsDividingOf, divide_task, divide_tasks
 
 use crate::Workers;
 use crate::batches::batches_of;
-use crate::by_workers::{all_done, by_workers, in_turn, unzip};
+use crate::by_workers::{all_done, by_workers, unzip};
 use crate::found::Found;
 use crate::prepared::{Prepared, entries_of};
 use crate::replaying::{ReplayTask, Replaying};
@@ -142,7 +142,7 @@ impl Dividing {
         Ok((dividing, tasks))
     }
 
-    /// Deals the pieces to tasks that replay them: one for each worker, but no more than there are pieces. Takes all
+    /// Queues the pieces for tasks that replay them: one for each worker, but no more than there are pieces. Takes all
     /// tasks that divide, done, in their order. Err: out of memory.
     pub fn replay(
         self,
@@ -161,7 +161,7 @@ impl Dividing {
             ..
         } = self;
         let division = put_together(alloc, done, cuts, entries)?;
-        Replaying::of(alloc, Prepared::of(report, division), workers.count())
+        Replaying::of(alloc, Prepared::of(report, division), workers)
     }
 }
 
@@ -188,28 +188,6 @@ pub(crate) fn divide<R: Threads + Sync>(
         alloc,
         tasks_of(alloc, batches, window, &cuts)?,
         workers,
-        &|task: DivideTask| -> Result<DividedTask, Memory>
-            ensures { IfOk result (λ done. done ≡ task) }
-        { task.work(alloc) },
-    )?;
-    put_together(alloc, all_done(alloc, done)?, cuts, entries)
-}
-
-/// Makes one piece of the updates that the scans kept, and of the entries, on one thread. Err: out of memory.
-pub(crate) fn leave_whole(
-    alloc: Global,
-    scans: Vec<LogScan>,
-    window: Window,
-    entries: Vec<SortedUpdates>,
-) -> Result<Division, Memory>
-    ensures divided { IfOk result (λ division. IsDividedOf window (kept scans.items) (joined entries.items) division) }
-    ensures cuts { IfOk result (λ division. division.0.cuts ≡ []) }
-{
-    let batches = batches_of(alloc, scans, 1)?;
-    let cuts = Cuts::none(alloc);
-    let done = in_turn(
-        alloc,
-        tasks_of(alloc, batches, window, &cuts)?,
         &|task: DivideTask| -> Result<DividedTask, Memory>
             ensures { IfOk result (λ done. done ≡ task) }
         { task.work(alloc) },

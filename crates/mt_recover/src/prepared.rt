@@ -1,5 +1,5 @@
 //! The survivors and the counts that are prepared before replay.
-ghost use Rattle.std.specs.Prelude.{◌≡◌, ◌<◌, ◌+◌, ◌^◌, [], List, ℕ, length, IfOk, IfErr};
+ghost use Rattle.std.specs.Prelude.{◌≡◌, ◌<◌, ◌+◌, ◌^◌, List, ℕ, length, IfOk, IfErr};
 ghost use Rattle.std.specs.Option.{option_map};
 ghost use Rattle.mt_words.specs.Walks.{IsMap, joined};
 ghost use Rattle.mt_scan.specs.Choosing.{checkpoint_in};
@@ -14,11 +14,11 @@ ghost use Rattle.mt_recover.specs.Prepared.{IsMadeOf, IsPreparedOf, PreparedView
 ghost use Rattle.mt_recover.specs.Steps.Preparing.{IsDivisionOf, IsFound, IsFoundOf};
 
 use crate::Workers;
-use crate::by_workers::{all_done, by_each_worker};
-use crate::dividing::{Division, divide, leave_whole};
+use crate::by_workers::{all_done, on_threads};
+use crate::dividing::{Division, divide};
 use crate::found::{Found, find};
 use crate::recovery::{Inputs, Recovered};
-use crate::replaying::{ReplayTask, ReplayedTask, Replaying, TASKS_OF_WORKER};
+use crate::replaying::{ReplayTask, ReplayedTask, Replaying};
 use crate::report::Report;
 use crate::scans::scan_all;
 use crate::store::Store;
@@ -68,19 +68,7 @@ impl Prepared {
         Ok(Prepared::by_workers(rt, alloc, found, workers, cutting)?)
     }
 
-    /// Prepares what was found as one piece, on one thread. Err: out of memory.
-    pub fn on_one_thread(alloc: Global, found: Found) -> Result<Prepared, Memory>
-        requires { IsFound found }
-        ensures prepared { (logs parts : List (List ℕ)) → IsFoundOf logs parts found → IfOk result (IsPreparedOf logs parts) }
-        ensures cuts { IfOk result (λ prepared. prepared.cuts ≡ []) }
-    {
-        let window = found.start.window;
-        let (report, scans, chosen) = Report::of(alloc, found)?;
-        let division = leave_whole(alloc, scans, window, entries_of(alloc, chosen)?)?;
-        Ok(Prepared::of(report, division))
-    }
-
-    /// Does the same as `on_one_thread`, but with these workers. Err: out of memory.
+    /// Prepares what was found, with these workers. Err: out of memory.
     pub fn by_workers<R: Threads + Sync>(
         rt: &R,
         alloc: Global,
@@ -144,8 +132,8 @@ impl Prepared {
         complete(report, draft)
     }
 
-    /// Replays all pieces with these workers, and makes the store and the report. A worker enters each piece of a task at the
-    /// gate, replays it and frees its updates. Err: out of memory.
+    /// Replays all pieces with these workers, and makes the store and the report. A worker takes the next piece that is left,
+    /// enters it at the gate, replays it and frees its updates. Err: out of memory.
     pub fn replay_by_workers<R: Threads + Sync, G: Gate>(
         self,
         rt: &R,
@@ -155,15 +143,14 @@ impl Prepared {
     ) -> Result<Recovered, Memory>
         ensures { IfOk result (IsMadeOf self) }
     {
-        let (replaying, tasks) = Replaying::of(alloc, self, workers.count() * TASKS_OF_WORKER)?;
-        let done = by_each_worker(
+        let (replaying, tasks) = Replaying::of(alloc, self, workers)?;
+        let done = on_threads(
             rt,
-            alloc,
             tasks,
             workers,
-            &|worker: u32, task: ReplayTask| -> Result<ReplayedTask, Memory>
+            &|task: ReplayTask| -> Result<ReplayedTask, Memory>
                 ensures { IfOk result (λ done. done ≡ task) }
-            { task.work_at(alloc, worker, gate) },
+            { task.work_at(alloc, gate) },
         )?;
         replaying.finish(alloc, all_done(alloc, done)?)
     }

@@ -7,13 +7,16 @@ ghost use Rattle.mt_recover.specs.Steps.Preparing.{IsFound, IsFoundOf};
 ghost use Rattle.mt_recover.specs.Report.{IsRecoveredOf, Outcome};
 ghost use Rattle.mt_recover.specs.Verdict.{IsVerdictOrMemory};
 
+use crate::by_workers::{all_done, in_turn};
+use crate::dividing::{DivideTask, DividedTask, Dividing};
 use crate::found::{Found, find};
 use crate::prepared::Prepared;
+use crate::replaying::{ReplayTask, ReplayedTask};
 use crate::report::Report;
 use crate::scans::{Outcomes, scan_memory, scan_one};
 use crate::store::Store;
 use crate::workers::{Cutting, Gate, Workers};
-use mt_replay::Cuts;
+use mt_replay::{MOST_PIECES, Pieces};
 use mt_scan::Source;
 use mt_words::{Fault, Memory};
 use std::alloc::Global;
@@ -105,7 +108,7 @@ pub fn recover_one<S: Source>(alloc: Global, inputs: Inputs<S>) -> Result<Recove
 }
 
 /// Recovers the same store and report as `recover_one`, with these workers and the keys cut into pieces. Neither the
-/// workers nor the cuts change the result. Worker w of W replays the pieces w, w + W, .. and frees the updates of each.
+/// workers nor the cuts change the result. A worker takes the next piece that is left, replays it, and frees its updates.
 /// The workers run by fork and join, each in a thread of its own if one can be made.
 ///
 /// Err: the same as for `recover_one`, whichever worker ends first. All logs and parts are scanned before a fault is
@@ -134,22 +137,39 @@ pub fn recover_logs(alloc: Global, logs: &[&[u8]]) -> Result<Recovered, Fault>
     recover_scanned(alloc, outcomes)
 }
 
-/// Recovers from these answers of the scans, on one thread and in one piece.
+/// Recovers from these answers of the scans, on one thread.
 pub(crate) fn recover_scanned(alloc: Global, outcomes: Outcomes) -> Result<Recovered, Fault>
     requires { (logs parts : List Seen) × AreOutcomes logs parts outcomes }
     ensures recovery { (logs parts : List Seen) → AreOutcomes logs parts outcomes → IsRecoveryFrom (λ seen. seen) logs parts result }
     ensures whole { OnOk result (AreAllOk outcomes) }
 {
     let found = find(alloc, outcomes)?;
-    Ok(replay_whole(alloc, found)?)
+    Ok(recover_found(alloc, found)?)
 }
 
-/// Recovers the store and the report from what was found, in one piece.
-fn replay_whole(alloc: Global, found: Found) -> Result<Recovered, Memory>
+/// Recovers the store and the report from what was found, on one thread, which does all tasks in turn.
+fn recover_found(alloc: Global, found: Found) -> Result<Recovered, Memory>
     requires { IsFound found }
     ensures { (logs parts : List (List ℕ)) → IsFoundOf logs parts found → IfOk result (IsRecoveredOf logs parts) }
 {
-    let prepared = Prepared::on_one_thread(alloc, found)?;
-    let draft = prepared.replay(alloc, 0)?;
-    prepared.finish(draft)
+    let one = Workers::new(1).unwrap();
+    let most = Pieces::new(MOST_PIECES).unwrap();
+    let (dividing, tasks) = Dividing::of(alloc, found, one, most)?;
+    let divided = in_turn(
+        alloc,
+        tasks,
+        &|task: DivideTask| -> Result<DividedTask, Memory>
+            ensures { IfOk result (λ done. done ≡ task) }
+        { task.work(alloc) },
+    )?;
+    let (replaying, tasks) = dividing.replay(alloc, all_done(alloc, divided)?, one)?;
+    let replayed = in_turn(
+        alloc,
+        tasks,
+        &|task: ReplayTask| -> Result<ReplayedTask, Memory>
+            ensures { IfOk result (λ done. done ≡ task) }
+        { task.work(alloc) },
+    )?;
+    let done = all_done(alloc, replayed)?;
+    replaying.finish(alloc, done)
 }

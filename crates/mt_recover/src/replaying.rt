@@ -1,63 +1,57 @@
-//! Replays pieces, task by task, and makes the store of all.
-ghost use Rattle.std.specs.Prelude.{◌≡◌, ◌<◌, ◌^◌, List, ℕ, map, All, IfOk};
+//! Replays pieces, and makes the store of all.
+ghost use Rattle.std.specs.Prelude.{◌≡◌, ◌≤◌, List, ℕ, length, map, All, IfOk};
 ghost use Rattle.std.specs.Arc.{arc_value};
 ghost use Rattle.std.specs.List.{AllZip};
-ghost use Rattle.std.specs.Vec.Iter.{into_iter_items};
-ghost use Rattle.mt_words.specs.Walks.{joined};
-ghost use Rattle.mt_tree.specs.Borders.{layer_walk};
+ghost use Rattle.mt_board.specs.Queue.{fresh_consumer};
 ghost use Rattle.mt_recover.specs.Prepared.{IsMadeOf, IsPreparedOf};
 ghost use Rattle.mt_recover.specs.Report.{IsRecoveredOf};
-ghost use Rattle.mt_recover.specs.Steps.Replaying.{AreReplaysOf, IsPieceIn, IsReplayOf};
-ghost use Rattle.mt_recover.specs.Tasks.{replay_task, replay_tasks};
+ghost use Rattle.mt_recover.specs.Steps.Replaying.{AreRanges, AreReplaysOf, task_of};
+ghost use Rattle.mt_recover.specs.Tasks.{replay_tasks};
 
 use crate::assembling::join_all;
-use crate::by_workers::{all_done, deal, gather, in_turn, numbered};
+use crate::by_workers::{Turn, answers_of};
 use crate::prepared::{Prepared, complete};
 use crate::recovery::Recovered;
 use crate::report::Report;
-use crate::workers::{Gate, NoGate};
+use crate::workers::{Gate, NoGate, Workers};
+use mt_board::{Consumer, Queue};
 use mt_replay::{Cuts, Range, SortedUpdates, pieces_make_the_walk, replay_range};
 use mt_tree::Draft;
 use mt_words::Memory;
 use std::alloc::Global;
-use std::collections::VecDeque;
 use std::marker::Model;
 use std::snapshot::Snapshot;
 use std::sync::Arc;
-use std::vec::IntoIter;
 
-/// The number of tasks for each worker, so that a fast worker does more of them than a slow one.
-pub(crate) const TASKS_OF_WORKER: u32 = 16;
-
-/// A piece by its number, and the updates of logs that lie in it.
-type Piece = (usize, Range);
-
-/// What all tasks read: the cuts that make the pieces, and the entries of the checkpoint.
+/// What all tasks share: the pieces, each with the updates of logs that lie in it, the cuts that make them, and the entries
+/// of the checkpoint.
 #[derive(Drop)]
-struct Base {
-    cuts: Cuts,
-    entries: Vec<SortedUpdates>,
+pub(crate) struct Base {
+    pub pieces: Queue<Range>,
+    pub cuts: Cuts,
+    pub entries: Vec<SortedUpdates>,
 }
 
-/// A task of a recovery: to replay some pieces. Any thread may do it.
+/// A task of a recovery: to replay pieces, one after the other, until none is left. The tasks of a recovery take their
+/// pieces from one queue, so a fast thread replays more of them than a slow one. Any thread may do a task.
 #[derive(Drop)]
 pub struct ReplayTask {
-    pieces: VecDeque<Piece>,
+    consumer: Consumer<Range>,
     base: Arc<Base>,
 }
 
 impl Model for ReplayTask {
     ghost use Rattle.std.specs.Arc.{arc_value};
-    ghost use Rattle.std.specs.Prelude.{All};
-    ghost use Rattle.mt_words.specs.Walks.{joined};
-    ghost use Rattle.mt_recover.specs.Steps.Replaying.{IsPieceIn};
+    ghost use Rattle.std.specs.Prelude.{◌≡◌};
+    ghost use Rattle.mt_board.specs.Queue.{fresh_consumer};
+    ghost use Rattle.mt_recover.specs.Steps.Replaying.{AreRanges, task_of};
     ghost use Rattle.mt_recover.specs.Tasks.{ReplayView};
 
     ghost Value = { ReplayView };
 
-    ghost view = { λ t. record { pieces = t.pieces.items; entries = joined (arc_value t.base).entries.items; cuts = (arc_value t.base).cuts } };
+    ghost view = { λ t. task_of (arc_value t.base) };
 
-    ghost invariant = { λ t. All (IsPieceIn (arc_value t.base).cuts) t.pieces.items };
+    ghost invariant = { λ t. (t.consumer ≡ fresh_consumer (arc_value t.base).pieces) × AreRanges (arc_value t.base).cuts (arc_value t.base).pieces.jobs };
 }
 
 impl ReplayTask {
@@ -65,37 +59,24 @@ impl ReplayTask {
     pub fn work(self, alloc: Global) -> Result<ReplayedTask, Memory>
         ensures { IfOk result (λ done. done ≡ self) }
     {
-        self.work_at(alloc, 0, &NoGate)
+        self.work_at(alloc, &NoGate)
     }
 
-    /// Does the same as `work`, but the worker of this number enters each piece at the gate first.
-    pub(crate) fn work_at<G: Gate>(
-        self,
-        alloc: Global,
-        worker: u32,
-        gate: &G,
-    ) -> Result<ReplayedTask, Memory>
+    /// Does the same as `work`, but enters each piece at the gate first.
+    pub(crate) fn work_at<G: Gate>(self, alloc: Global, gate: &G) -> Result<ReplayedTask, Memory>
         ensures { IfOk result (λ done. done ≡ self) }
     {
         let of = Snapshot::of(&self);
-        let ReplayTask { pieces, base } = self;
-        let drafts = replay_each(
-            alloc,
-            Vec::from(pieces),
-            &base.cuts,
-            &base.entries,
-            worker,
-            gate,
-        )?;
-        Ok(ReplayedTask { drafts, of })
+        let ReplayTask { consumer, base } = self;
+        let turn = replay_pieces(alloc, &base, consumer, gate)?;
+        Ok(ReplayedTask { turn, of })
     }
 }
 
 /// A task to replay that is done.
 #[derive(Drop)]
 pub struct ReplayedTask {
-    /// The replayed pieces, in the order of the task.
-    drafts: Vec<Draft>,
+    turn: Turn<Range, Draft>,
     /// The task that was done. This field takes no bytes.
     of: Snapshot<ReplayTask>,
 }
@@ -108,56 +89,63 @@ impl Model for ReplayedTask {
 
     ghost view = { λ d. d.of.value };
 
-    ghost invariant = { λ d. AreReplaysOf d.of.value d.drafts.items };
+    ghost invariant = { λ d. AreReplaysOf d.of.value d.turn.0.items d.turn.1 };
 }
 
 /// A recovery that waits until its tasks have replayed what was prepared.
 #[derive(Drop)]
 pub struct Replaying {
     report: Report,
-    /// What was prepared, the entries in it, and the pieces that each task has. These fields take no bytes.
+    base: Arc<Base>,
+    /// What was prepared. This field takes no bytes.
     prepared: Snapshot<Prepared>,
-    entries: Snapshot<Vec<SortedUpdates>>,
-    shares: Snapshot<Vec<VecDeque<Piece>>>,
 }
 
 impl Model for Replaying {
-    ghost use Rattle.std.specs.Prelude.{◌≡◌, map};
+    ghost use Rattle.std.specs.Arc.{arc_value};
+    ghost use Rattle.std.specs.Prelude.{◌≡◌};
     ghost use Rattle.mt_words.specs.Walks.{joined};
     ghost use Rattle.mt_recover.specs.Steps.Preparing.{IsSound};
-    ghost use Rattle.mt_recover.specs.Steps.Replaying.{ArePiecesDealt};
+    ghost use Rattle.mt_recover.specs.Steps.Replaying.{AreQueued};
     ghost use Rattle.mt_recover.specs.Tasks.{ReplayingView};
 
     ghost Value = { ReplayingView };
 
-    ghost view = { λ r. record { prepared = r.prepared.value; entries = joined r.entries.value.items; shares = map (λ share. share.items) r.shares.value.items } };
+    ghost view = { λ r. record { prepared = r.prepared.value; pieces = (arc_value r.base).pieces; entries = joined (arc_value r.base).entries.items } };
 
     ghost invariant = { λ r. (r.prepared.value.report ≡ r.report) × IsSound r.prepared.value
-        × ArePiecesDealt (record { prepared = r.prepared.value; entries = joined r.entries.value.items; shares = map (λ share. share.items) r.shares.value.items }) };
+        × AreQueued (record { prepared = r.prepared.value; pieces = (arc_value r.base).pieces; entries = joined (arc_value r.base).entries.items }) };
 }
 
 impl Replaying {
-    /// Deals the pieces to at most `most` tasks: task t of T gets the pieces t, t + T, .. in this order. Err: out of memory.
+    /// Queues the pieces for tasks that replay them: one for each worker, but no more than there are pieces. Err: out of
+    /// memory.
     pub(crate) fn of(
         alloc: Global,
         prepared: Prepared,
-        most: u32,
+        workers: Workers,
     ) -> Result<(Replaying, Vec<ReplayTask>), Memory>
         ensures prepared { IfOk result (λ made. made.0.prepared ≡ prepared) }
         ensures tasks { IfOk result (λ made. made.1.items ≡ replay_tasks made.0) }
+        ensures few { IfOk result (λ made. length made.1.items ≤ workers) }
     {
         let of = Snapshot::of(&prepared);
         let Prepared { divided, report } = prepared;
         let (cuts, ranges, entries) = divided.into_parts();
-        let dealt = deal(alloc, numbered(alloc, ranges)?, most)?;
+        let most = workers.count().min(cuts.pieces());
+        let (pieces, consumers) = Queue::open(alloc, ranges, most)?;
+        let base = Base {
+            pieces,
+            cuts,
+            entries,
+        };
+        let base = Arc::new(alloc, base)?;
+        let tasks = tasks_of(alloc, consumers, &base)?;
         let replaying = Replaying {
             report,
+            base,
             prepared: of,
-            entries: Snapshot::of(&entries),
-            shares: Snapshot::of(&dealt),
         };
-        let base = Arc::new(alloc, Base { cuts, entries })?;
-        let tasks = tasks_of(alloc, dealt, &base)?;
         Ok((replaying, tasks))
     }
 
@@ -168,67 +156,70 @@ impl Replaying {
         ensures store { IfOk result (IsMadeOf self.prepared) }
         ensures recovered { (logs parts : List (List ℕ)) → IsPreparedOf logs parts self.prepared → IfOk result (IsRecoveredOf logs parts) }
     {
-        let Replaying { report, .. } = self;
-        let drafts = gather(alloc, drafts_of(alloc, done)?)?;
+        let Replaying { report, base, .. } = self;
+        let drafts = answers_of(alloc, &base.pieces, turns_of(alloc, done)?)?;
         pieces_make_the_walk();
         complete(report, join_all(alloc, drafts)?)
     }
 }
 
-/// Makes a task for each share. Err: out of memory.
+/// Makes a task for each consumer of the pieces. Err: out of memory.
 fn tasks_of(
     alloc: Global,
-    shares: Vec<VecDeque<Piece>>,
+    consumers: Vec<Consumer<Range>>,
     base: &Arc<Base>,
 ) -> Result<Vec<ReplayTask>, Memory>
-    requires { All (λ share. All (IsPieceIn (arc_value base.now).cuts) share.items) shares.items }
-    ensures { IfOk result (λ tasks. tasks.items ≡ map (λ share. replay_task (joined (arc_value base.now).entries.items) (arc_value base.now).cuts share.items) shares.items) }
+    requires fresh { All (λ consumer. consumer ≡ fresh_consumer (arc_value base.now).pieces) consumers.items }
+    requires ranges { AreRanges (arc_value base.now).cuts (arc_value base.now).pieces.jobs }
+    ensures { IfOk result (λ tasks. tasks.items ≡ map (λ _. task_of (arc_value base.now)) consumers.items) }
 {
-    let mut tasks = Vec::with_capacity(alloc, shares.len())?;
-    for pieces in shares {
+    let mut tasks = Vec::with_capacity(alloc, consumers.len())?;
+    for consumer in consumers {
         let base = Arc::try_clone(base)?;
-        tasks.push(ReplayTask { pieces, base })?;
+        tasks.push(ReplayTask { consumer, base })?;
     }
     Ok(tasks)
 }
 
-/// Replays the updates of each piece into a draft, and frees them. Returns the drafts in the order of the pieces.
+/// Replays pieces into drafts until none is left. Enters each at the gate first, and frees its updates then.
 /// Err: out of memory.
-fn replay_each<G: Gate>(
+fn replay_pieces<G: Gate>(
     alloc: Global,
-    pieces: Vec<Piece>,
-    cuts: &Cuts,
-    entries: &[SortedUpdates],
-    worker: u32,
+    base: &Base,
+    consumer: Consumer<Range>,
     gate: &G,
-) -> Result<Vec<Draft>, Memory>
-    requires { All (IsPieceIn cuts.now) pieces.items }
-    ensures { IfOk result (λ drafts. AreReplaysOf (replay_task (joined entries.now) cuts.now pieces.items) drafts.items) }
+) -> Result<Turn<Range, Draft>, Memory>
+    requires fresh { consumer ≡ fresh_consumer base.now.pieces }
+    requires ranges { AreRanges base.now.cuts base.now.pieces.jobs }
+    ensures { IfOk result (λ turn. AreReplaysOf (task_of base.now) turn.0.items turn.1) }
 {
-    let drafts = in_turn(
-        alloc,
-        pieces,
-        &|job: Piece| -> Result<Draft, Memory>
-            requires { IsPieceIn cuts.now job }
-            ensures { IfOk result (λ draft. IsReplayOf cuts.entry.now (joined entries.entry.now) job.0 job.1 (layer_walk draft)) }
-        {
-            let (piece, range) = job;
-            let piece = piece as u32;
-            gate.enter(worker, piece);
-            replay_range(alloc, &range, entries, cuts, piece, Draft::new(alloc))
-        },
-    )?;
-    all_done(alloc, drafts)
+    let worker = consumer.number();
+    let mut consumer = consumer;
+    let mut drafts = Vec::new(alloc);
+    while let Some((number, range)) = base.pieces.take(&mut consumer) {
+        let piece = number as u32;
+        gate.enter(worker, piece);
+        let draft = replay_range(
+            alloc,
+            &range,
+            &base.entries,
+            &base.cuts,
+            piece,
+            Draft::new(alloc),
+        )?;
+        drafts.push((number, draft))?;
+    }
+    Ok((drafts, consumer))
 }
 
-/// Returns the drafts of each task. Err: out of memory.
-fn drafts_of(alloc: Global, done: Vec<ReplayedTask>) -> Result<Vec<IntoIter<Draft>>, Memory>
-    ensures { IfOk result (λ parts. AllZip AreReplaysOf done.items (map into_iter_items parts.items)) }
+/// Returns what each task did. Err: out of memory.
+fn turns_of(alloc: Global, done: Vec<ReplayedTask>) -> Result<Vec<Turn<Range, Draft>>, Memory>
+    ensures { IfOk result (λ turns. AllZip (λ task turn. AreReplaysOf task turn.0.items turn.1) done.items turns.items) }
 {
-    let mut parts = Vec::with_capacity(alloc, done.len())?;
+    let mut turns = Vec::with_capacity(alloc, done.len())?;
     for task in done {
-        let ReplayedTask { drafts, of: _ } = task;
-        parts.push(drafts.into_iter())?;
+        let ReplayedTask { turn, of: _ } = task;
+        turns.push(turn)?;
     }
-    Ok(parts)
+    Ok(turns)
 }

@@ -1,13 +1,12 @@
 -- The rule that every step at a board's table keeps, and what each step guarantees its caller.
-use Rattle.std.specs.Prelude.{◌≡◌, ℕ, ◌+◌, ◌-◌, ◌<◌, ◌≤◌, Bool, List, [], ◌∷◌, ◌++◌, map, length, min, sum_by, slice_index, All, if◌then◌else◌, nat_lt}
+use Rattle.std.specs.Prelude.{◌≡◌, ℕ, ◌+◌, ◌-◌, ◌^◌, ◌<◌, ◌≤◌, Bool, List, [], ◌∷◌, ◌++◌, map, length, min, sum_by, slice_index, All, if◌then◌else◌, nat_lt}
 use mathlib.Core.Option.{some}
 use lib.ListN.{get_elem?}
 use Rattle.atomic_table.specs.Seated.{TableId}
 use Rattle.atomic_table.specs.Table.{State, Me, Step}
 use Rattle.mt_board.specs.declared.view.Counts.{Counts}
 use Rattle.mt_board.specs.declared.view.SeatView.{SeatView}
-use Rattle.mt_board.specs.Board.{PassView, IsTotal, times, once_below, least_of, nothing_noted}
-use Rattle.mt_board.specs.declared.board.TheConstants.{MOST_PASSES}
+use Rattle.mt_board.specs.Board.{PassView, times, once_below, least_of, nothing_noted}
 
 -- the table between two steps: its words, and the views of all its seats
 abbrev pub BoardTable : Type 0
@@ -67,7 +66,7 @@ pub record IsSeatOf (k : Counts) (least : ℕ) (v : SeatView) : Type 0 where
 -- the rule for the two words and the views of all seats
 pub record IsBoardState (k : Counts) (next least : ℕ) (views : List SeatView) : Type 0 where
   -- the counts are so small that the next number never wraps around
-  pub small : IsTotal k.total × (k.passes ≤ MOST_PASSES)
+  pub small : k.total + k.passes + 1 < 2 ^ 64
   pub parts : parts_in views ≡ k.passes
   -- the numbers below both the next one and the total were drawn, each once, and no other
   pub draws : (x : ℕ) → drawn_in x views ≡ once_below x (min next k.total)

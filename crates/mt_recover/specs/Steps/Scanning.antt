@@ -5,7 +5,8 @@ use Rattle.mt_words.specs.declared.fault.Fault.{Fault}
 use Rattle.mt_scan.specs.declared.log_scan.LogScan.{LogScan}
 use Rattle.mt_scan.specs.declared.part_scan.PartScan.{PartScan}
 use Rattle.mt_scan.specs.Sources.{Seen}
-use Rattle.mt_board.specs.Board.{BoardId, PassView, fresh_pass, least_of, least_noted, SawNoneBelow}
+use Rattle.mt_board.specs.Board.{BoardId, PassView, fresh_pass, least_of, least_noted, once_below, SawNoneBelow, times}
+use Rattle.mt_board.specs.Queue.{ConsumerView, HasEnded, QueueView}
 use Rattle.mt_recover.specs.declared.scans.Outcomes.{Outcomes}
 use Rattle.mt_recover.specs.declared.scans.ScanJob.{ScanJob}
 use Rattle.mt_recover.specs.declared.scans.ScanJob.TheVariants as jobs
@@ -23,9 +24,18 @@ AreDealt (job ∷ jobs) [] = ⊥
 AreDealt (job ∷ jobs) ([] ∷ shares) = ⊥
 AreDealt (job ∷ jobs) ((first ∷ rest) ∷ shares) = (first ≡ job) × AreDealt jobs (shares ++ rest ∷ [])
 
--- answers of some of the jobs, each with the number of its job; R relates a job to its answer
-abbrev pub AreAnswers : {J X : Type 0} → (J → X → Type 0) → List J → List (ℕ × X) → Type 0
-AreAnswers {J} R jobs done = All (λ one. (job : J) × (slice_get jobs one.0 ≡ Some job) × R job one.1) done
+-- answers of some of the jobs, each with the number of its job; R relates the number and the job to the answer
+abbrev pub AreAnswers : {J X : Type 0} → (ℕ → J → X → Type 0) → List J → List (ℕ × X) → Type 0
+AreAnswers {J} R jobs done = All (λ one. (job : J) × (slice_get jobs one.0 ≡ Some job) × R one.0 job one.1) done
+
+-- the consumer has ended, and there is an answer for each job that it took
+pub record IsTurnOf {J X : Type 0} (queue : QueueView J) (answers : List (ℕ × X)) (consumer : ConsumerView J) : Type 0 where
+  pub taken : map (λ one. one.0) answers ≡ consumer.taken
+  pub ended : HasEnded queue consumer
+
+-- the numbers of the answers are those below the count, each once
+abbrev pub AreNumbered : {X : Type 0} → ℕ → List (ℕ × X) → Type 0
+AreNumbered count answers = (x : ℕ) → times x (map (λ one. one.0) answers) ≡ once_below x count
 
 -- the first error among answers
 pub record IsFirstErr {X E : Type 0} (answers : List (Result X E)) (err : E) : Type 0 where

@@ -1,10 +1,15 @@
-use Rattle.std.proofs.Common.{◌≡◌, ℕ}
+use Rattle.std.proofs.Common.{◌≡◌, ◌-◌, length, map, false}
+use Rattle.mt_board.specs.Board.{above}
 use Rattle.mt_recover.specs.Steps.Scanning.{AreAnswers}
 use Rattle.mt_recover.proofs.by_workers.work_off.Given as goal
 
--- the consumer is the queue's, and the jobs that it took are done
-abbrev pub invariant-loop : goal.invariant-loop
-invariant-loop g l = record {
-  same : l.consumer ≡ l.queue;
-  done : AreAnswers (λ job answer. (worker : ℕ) × goal.F-post g l.work worker job answer) l.queue.jobs l.done.items;
+-- the jobs that the consumer took are done
+abbrev pub invariant-loop-number : goal.invariant-loop-number
+invariant-loop-number g l = record {
+  consumer : l.consumer ≡ record { queue = l.queue; taken = map (λ one. one.0) l.answers.items; done = false };
+  answers : AreAnswers (λ _ job answer. goal.F-post g l.work job answer) l.queue.jobs l.answers.items;
 }
+
+-- how many jobs the queue has left for the consumer
+abbrev pub decreases-loop-number : goal.decreases-loop-number
+decreases-loop-number g l = length l.queue.jobs - above l.consumer.taken

@@ -12,16 +12,11 @@ use Rattle.std_alloc.proofs.SendSync.{quiet, lies}
 use Rattle.std.proofs.Crossing.{crosses, frees}
 use Rattle.std.specs.contracts.impls.GlobalAllocator.TheImpl.{ghosts}
 use Rattle.mt_c.specs.Owning.{heap, boxed_at}
-use Rattle.std.proofs.alloc.Global.TheSendSync as global
-use Rattle.mt_record.below.smallvec.proofs.small_vec.SmallVec.TheSendSync as small_vec
 use Rattle.mt_record.below.arrayvec.proofs.array_vec.ArrayVec.TheSendSync as array_vec
-use Rattle.mt_words.proofs.packed.PackedColumns.TheSendSync as columns
-use Rattle.mt_tree.proofs.finish.Finished.TheSendSync as finished
+use Rattle.mt_recover.below.mt_board.proofs.queue.Queue.TheSendSync as queue
+use Rattle.mt_recover.below.mt_board.proofs.consumer.Consumer.TheSendSync as consumer
 use Rattle.mt_tree.proofs.place.Place.TheSendSync as place
-use Rattle.mt_tree.proofs.place.Content.TheSendSync as content
 use Rattle.mt_tree.proofs.node.Node.TheLaws.TheKnot as node
-use Rattle.mt_tree.proofs.layer.Layer.TheLaws.TheKnot as layer
-use Rattle.mt_tree.specs.contracts.tree.Draft as draft
 use Rattle.mt_tree.specs.contracts.hit.Hit as hit
 use Rattle.mt_recover.specs.contracts.recovery.Recovered as recovered
 use Rattle.mt_recover.specs.contracts.dividing.DivideTask as divide
@@ -29,8 +24,8 @@ use Rattle.mt_recover.specs.contracts.dividing.DividedTask as divided
 use Rattle.mt_recover.specs.contracts.dividing.Dividing as dividing
 use Rattle.mt_recover.specs.contracts.replaying.Base as common
 use Rattle.mt_recover.specs.contracts.replaying.ReplayTask as replay
-use Rattle.mt_recover.specs.contracts.replaying.ReplayedTask as replayed
 use Rattle.mt_recover.specs.contracts.replaying.Replaying as replaying
+use Rattle.mt_recover.proofs.Sending.{replayed_send}
 use Rattle.mt_c.specs.contracts.feeds.FedLog as log
 use Rattle.mt_c.specs.contracts.feeds.FedPart as part
 use Rattle.mt_c.specs.contracts.inputs.Inputs as inputs
@@ -67,22 +62,16 @@ dividing_send : IsSend dividing.the_row
 dividing_send = search (sendable, crosses) depth 40 fits 20000
 
 common_send : IsSend common.the_row
-common_send = search (sendable, crosses) depth 40 fits 20000
+common_send = search (sendable, crosses, queue.the_send) depth 40 fits 20000
 
 common_sync : IsSync common.the_row
-common_sync = search (sendable, crosses) depth 40 fits 20000
+common_sync = search (sendable, crosses, queue.the_sync) depth 40 fits 20000
 
 replay_send : IsSend replay.the_row
-replay_send = search (sendable, crosses, common_send, common_sync) depth 40 fits 20000
-
-draft_send : IsSend draft.the_row
-draft_send = search (sendable, crosses, global.the_send, small_vec.the_send, array_vec.the_send, columns.the_send, finished.the_send, place.the_send, content.the_send, node.send-NodeKind, node.send-Node, layer.send-Layer) depth 40
-
-replayed_send : IsSend replayed.the_row
-replayed_send = search (sendable, crosses, draft_send) depth 20 fits 20000
+replay_send = search (sendable, crosses, common_send, common_sync, consumer.the_send) depth 40 fits 20000
 
 replaying_send : IsSend replaying.the_row
-replaying_send = search (sendable, crosses) depth 40 fits 20000
+replaying_send = search (sendable, crosses, common_send, common_sync) depth 40 fits 20000
 
 task_send : IsSend task.the_row
 task_send = search (sendable, crosses, divide_send, divided_send, replay_send, replayed_send) depth 20 fits 20000

@@ -1,4 +1,4 @@
-use Rattle.std.proofs.Common.{◌∙◌, ◌≡◌, ap, sym, subst}
+use Rattle.std.proofs.Common.{◌∙◌, ap, sym, subst}
 use Rattle.std.proofs.lemmas.Result.{IfOk-weaker}
 use Rattle.mt_recover.specs.Tasks.{IsDividingOf, divide_tasks}
 use Rattle.mt_recover.proofs.Preparing.{division_of}
