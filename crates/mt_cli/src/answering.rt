@@ -1,5 +1,5 @@
 //! Answers a query, from the recovered store or by an audit.
-ghost use Rattle.std.specs.Prelude.{◌≡◌, ◌≤◌, None, List, ℕ, OnOk};
+ghost use Rattle.std.specs.Prelude.{◌≡◌, None, List, ℕ, OnOk};
 ghost use Rattle.std.specs.Io.KnownBytes.{Appends};
 ghost use Rattle.mt_text.specs.Forms.{IsDump};
 ghost use Rattle.mt_text.specs.Pairs.{dump_text};
@@ -7,166 +7,89 @@ ghost use Rattle.mt_cli.specs.Answers.{IsTextOf, IsAnswer};
 ghost use Rattle.mt_cli.specs.Ranges.{range_of};
 
 use crate::caveat::{Caveat, Losses};
-use crate::failure::tell_outcome;
-use crate::file_names::Names;
-use crate::opening::total_size;
-use crate::progress::{Meter, count_inputs};
-use crate::request::{Folder, Query, Range, StoreQuery};
-use crate::tracing::trace;
+use crate::halt::Halt;
+use crate::host::{Host, Run};
+use crate::progress::count_inputs;
+use crate::request::{Question, Range, StoreQuery};
 use mt_recover::{
-    Clash, Cutting, Failure, Inputs, Pieces, Recovered, Refusal, Report, Store, audit, recover,
-    write_dump,
+    Clash, Cutting, Failure, Recovered, Refusal, Report, Store, audit, recover, write_dump,
 };
-use mt_scan::Source;
 use mt_text::{Fields, Form, Lines, Printer, write_hex, write_pair};
-use mt_words::{Fault, Key};
-use std::fs::Files;
+use mt_words::Key;
 use std::io::{self, BufWriter, Write};
 use std::mem;
-use std::thread::Threads;
-use std::time::Clock;
-
-/// Answers the query from the sources, and returns the exit status: 0 if the answer was printed, 4 if it was with a
-/// caveat. On a failure, prints its line on `err` and returns its status. `names` are the files of the folder that the
-/// sources are of, for a second line. The output is buffered.
-pub fn answer<
-    R: AllocGlobal + Clock + Files + Threads + Sync,
-    S: Source + Send,
-    O: Write,
-    E: Write + Send,
->(
-    rt: &R,
-    folder: &Folder<'_>,
-    query: &Query,
-    names: &Names,
-    inputs: Inputs<S>,
-    out: &mut O,
-    err: &mut E,
-) -> u8
-    ensures status { result ≤ 4 }
-{
-    let outcome = answer_query(rt, folder, query, names, inputs, out, err);
-    tell_outcome(rt, folder, names, outcome, err)
-}
-
-/// Recovers the store, or scans or audits the logs, and prints what the query asks for.
-fn answer_query<
-    R: AllocGlobal + Clock + Files + Threads + Sync,
-    S: Source + Send,
-    O: Write,
-    E: Write + Send,
->(
-    rt: &R,
-    folder: &Folder<'_>,
-    query: &Query,
-    names: &Names,
-    inputs: Inputs<S>,
-    out: &mut O,
-    err: &mut E,
-) -> Result<Option<Caveat>, Refusal<'static>> {
-    match query {
-        Query::Store(query, pieces) => {
-            recover_and_print(rt, inputs, folder, names, *pieces, query, out, err)
-        }
-        Query::History(how) => {
-            trace(rt, inputs, folder, how, names, out, err)?;
-            Ok(None)
-        }
-        Query::Audit => audit_and_print(rt, inputs, folder, names, out, err),
-    }
-}
-
-/// Recovers the store, and prints what the query asks for, through a buffer. Then tells the losses on `err`, if they are
-/// to be told and no caveat does. The store is not freed: the process ends with its answer, and freeing a large store key by
-/// key takes a tenth of the time of its recovery.
-fn recover_and_print<
-    R: AllocGlobal + Clock + Files + Threads + Sync,
-    S: Source + Send,
-    O: Write,
-    E: Write + Send,
->(
-    rt: &R,
-    inputs: Inputs<S>,
-    folder: &Folder<'_>,
-    names: &Names,
-    pieces: Pieces,
-    query: &StoreQuery,
-    out: &mut O,
-    err: &mut E,
-) -> Result<Option<Caveat>, Refusal<'static>> {
-    let recovered = recover_telling(rt, inputs, folder, names, pieces, err)?;
-    let mut out = BufWriter::with_capacity(rt.alloc(), PRINTED_AT_ONCE, out)?;
-    let caveat = print_answer(&recovered, query, &mut out)?;
-    out.flush()?;
-    if !caveat.as_ref().is_some_and(Caveat::has_losses) {
-        folder.tell_losses(Losses::of(recovered.report()), err);
-    }
-    mem::forget(recovered);
-    Ok(caveat)
-}
-
-/// Recovers the store, and tells on `err` how far it has come.
-pub fn recover_telling<
-    R: AllocGlobal + Clock + Files + Threads + Sync,
-    S: Source + Send,
-    E: Write + Send,
->(
-    rt: &R,
-    inputs: Inputs<S>,
-    folder: &Folder<'_>,
-    names: &Names,
-    pieces: Pieces,
-    err: &mut E,
-) -> Result<Recovered, Fault> {
-    let bytes = total_size(rt, folder.path, names);
-    let meter = Meter::new(
-        rt,
-        folder.telling,
-        bytes,
-        u64::from(folder.most_pieces),
-        err,
-    );
-    let inputs = count_inputs(rt.alloc(), inputs, &meter)?;
-    let cutting = Cutting::Sampled(pieces);
-    let recovered = recover(rt, rt.alloc(), inputs, folder.workers, cutting, &meter);
-    meter.end();
-    recovered
-}
 
 /// The size of the output buffer in bytes.
 pub const PRINTED_AT_ONCE: usize = 65_536;
 
-/// Audits the logs, and prints the line of each clash, through a buffer.
-fn audit_and_print<
-    R: AllocGlobal + Clock + Files + Threads + Sync,
-    S: Source + Send,
-    O: Write,
-    E: Write + Send,
->(
-    rt: &R,
-    inputs: Inputs<S>,
-    folder: &Folder<'_>,
-    names: &Names,
-    out: &mut O,
-    err: &mut E,
-) -> Result<Option<Caveat>, Refusal<'static>> {
-    let meter = Meter::new(
-        rt,
-        folder.telling,
-        total_size(rt, folder.path, names),
-        0,
-        err,
-    );
-    let inputs = count_inputs(rt.alloc(), inputs, &meter)?;
-    let clashes = audit(rt, rt.alloc(), inputs, folder.workers);
-    meter.end();
-    let clashes = clashes?;
-    let mut out = BufWriter::with_capacity(rt.alloc(), PRINTED_AT_ONCE, out)?;
-    for clash in &clashes {
-        write_clash(clash, &mut out)?;
+impl<'a, R: Host> Run<'a, R> {
+    /// Prints the answer to a question, through a buffer.
+    pub fn answer<O: Write, E: Write + Send>(
+        &self,
+        question: &Question,
+        out: &mut O,
+        err: &mut E,
+    ) -> Result<Option<Caveat>, Halt<'a>> {
+        match question {
+            Question::Store(query) => self.recover_and_print(query, out, err),
+            Question::History(how) => Ok(self.trace(how, out, err)?),
+        }
     }
-    out.flush()?;
-    Ok(None)
+
+    /// Recovers the store, and prints what the query asks for, through a buffer. Then tells the losses on `err`, if they are
+    /// to be told and no caveat does. The store is not freed: the process ends with its answer, and freeing a large store
+    /// key by key takes a tenth of the time of its recovery.
+    fn recover_and_print<O: Write, E: Write + Send>(
+        &self,
+        query: &StoreQuery,
+        out: &mut O,
+        err: &mut E,
+    ) -> Result<Option<Caveat>, Halt<'a>> {
+        let recovered = self.recover(err)?;
+        let mut out = BufWriter::with_capacity(self.rt.alloc(), PRINTED_AT_ONCE, out)?;
+        let caveat = print_answer(&recovered, query, &mut out)?;
+        out.flush()?;
+        if !matches!(&caveat, Some(Caveat::Losses(_))) {
+            self.folder.tell_losses(Losses::of(recovered.report()), err);
+        }
+        mem::forget(recovered);
+        Ok(caveat)
+    }
+
+    /// Recovers the store, and tells on `err` how far it has come.
+    pub fn recover<E: Write + Send>(&self, err: &mut E) -> Result<Recovered, Refusal<'a>> {
+        let pieces = self.folder.pieces.ok_or(Failure::Words)?;
+        let mut rack = self.rack()?;
+        let inputs = self.open_inputs(rack.slots())?;
+        let meter = self.meter(1, pieces.count(), err);
+        let alloc = self.rt.alloc();
+        let inputs = count_inputs(alloc, inputs, &meter)?;
+        let cutting = Cutting::Sampled(pieces);
+        let recovered = recover(self.rt, alloc, inputs, self.folder.workers, cutting, &meter);
+        meter.end();
+        Ok(recovered?)
+    }
+
+    /// Audits the logs, and prints the line of each clash, through a buffer.
+    pub fn audit<O: Write, E: Write + Send>(
+        &self,
+        out: &mut O,
+        err: &mut E,
+    ) -> Result<Option<Caveat>, Halt<'a>> {
+        let mut rack = self.rack()?;
+        let inputs = self.open_inputs(rack.slots())?;
+        let meter = self.meter(1, 0, err);
+        let inputs = count_inputs(self.rt.alloc(), inputs, &meter)?;
+        let clashes = audit(self.rt, self.rt.alloc(), inputs, self.folder.workers);
+        meter.end();
+        let clashes = clashes?;
+        let mut out = BufWriter::with_capacity(self.rt.alloc(), PRINTED_AT_ONCE, out)?;
+        for clash in &clashes {
+            write_clash(clash, &mut out)?;
+        }
+        out.flush()?;
+        Ok(None)
+    }
 }
 
 /// Prints the line of a clash: the key in lowercase hexadecimal, a space, the version, a colon, and for each record a
@@ -192,9 +115,15 @@ pub fn print_answer<O: Write>(
     match query {
         StoreQuery::Report { is_json, is_strict } => {
             print_report(recovered.report(), *is_json, out)?;
-            Ok(losses_of(recovered.report(), *is_strict))
+            if !*is_strict {
+                return Ok(None);
+            }
+            Ok(Losses::of(recovered.report()).map(Caveat::Losses))
         }
-        StoreQuery::Exists(key) => Ok(no_unless(store.get(key.as_bytes()).is_some())),
+        StoreQuery::Exists(key) => {
+            let is_there = store.get(key.as_bytes()).is_some();
+            Ok(if is_there { None } else { Some(Caveat::No) })
+        }
         StoreQuery::Get(key, form) => {
             write_found(store, key, *form, out)?;
             Ok(None)
@@ -208,19 +137,6 @@ pub fn print_answer<O: Write>(
             Ok(None)
         }
     }
-}
-
-/// Returns what the report says was lost or passed over, if that is not to be.
-fn losses_of(report: &Report, is_strict: bool) -> Option<Caveat> {
-    if !is_strict {
-        return None;
-    }
-    Losses::of(report).map(Caveat::Losses)
-}
-
-/// Returns that the answer is no, unless it is yes.
-fn no_unless(is_yes: bool) -> Option<Caveat> {
-    if is_yes { None } else { Some(Caveat::No) }
 }
 
 /// Prints the report, as lines or as one JSON object.

@@ -7,27 +7,12 @@ use std::fmt::{self, Display, Formatter};
 use std::io;
 
 /// Why a command that did its work does not end with status 0.
-#[derive(Debug, Drop)]
+#[derive(Drop)]
 pub enum Caveat {
     /// The answer is no.
     No,
     /// Something was lost or passed over, and was not to be.
     Losses(Losses),
-}
-
-/// How much a report says was lost or passed over.
-#[derive(Debug, Drop)]
-pub struct Losses {
-    /// The number of logs with a torn tail.
-    torn: u128,
-    /// The number of holes between segments.
-    holes: u128,
-    /// The number of late updates.
-    late: u128,
-    /// The number of skipped checkpoints.
-    skipped: u128,
-    /// The number of nameless parts.
-    nameless: u128,
 }
 
 impl Caveat {
@@ -41,77 +26,54 @@ impl Caveat {
         }
         4
     }
+}
 
-    /// Returns whether `tell` prints the losses.
-    pub fn has_losses(&self) -> bool {
-        matches!(self, Caveat::Losses(_))
+/// How much was lost or passed over, in the order of `named`.
+#[derive(Drop)]
+pub struct Losses([u128; 5]);
+
+impl Losses {
+    /// Returns what the report says was lost or passed over. None: nothing.
+    pub fn of(report: &Report) -> Option<Losses> {
+        Losses::new([
+            report.torn as u128,
+            report.holes as u128,
+            report.late,
+            report.skipped.len() as u128,
+            report.nameless.len() as u128,
+        ])
+    }
+
+    /// Returns these losses. None: all are 0.
+    pub fn new(counts: [u128; 5]) -> Option<Losses> {
+        (counts != [0; 5]).then_some(Losses(counts))
+    }
+
+    /// Returns each number, with what is counted and what became of it.
+    fn named(&self) -> [(u128, &'static str, &'static str); 5] {
+        let [torn, holes, late, skipped, nameless] = self.0;
+        [
+            (torn, "log", "torn"),
+            (holes, "hole", "between segments"),
+            (late, "update", "late"),
+            (skipped, "checkpoint", "skipped"),
+            (nameless, "part", "nameless"),
+        ]
+    }
+
+    /// Prints the losses. A write error is passed over.
+    fn tell<E: io::Write>(&self, err: &mut E) {
+        let _ = writeln!(err, "mtrecover: {self}");
     }
 }
 
 impl Folder<'_> {
     /// Prints the losses, if there are some and they are to be told after an answer. A write error is passed over.
     pub fn tell_losses<E: io::Write>(&self, losses: Option<Losses>, err: &mut E) {
-        if !self.tells_losses {
-            return;
+        match losses {
+            Some(losses) if self.tells_losses => losses.tell(err),
+            _ => {}
         }
-        if let Some(losses) = losses {
-            losses.tell(err);
-        }
-    }
-}
-
-impl Losses {
-    /// Returns what the report says was lost or passed over. None: nothing.
-    pub fn of(report: &Report) -> Option<Losses> {
-        Losses::new(
-            report.torn as u128,
-            report.holes as u128,
-            report.late,
-            report.skipped.len() as u128,
-            report.nameless.len() as u128,
-        )
-    }
-
-    /// Returns these losses. None: there are none.
-    pub fn new(
-        torn: u128,
-        holes: u128,
-        late: u128,
-        skipped: u128,
-        nameless: u128,
-    ) -> Option<Losses> {
-        let losses = Losses {
-            torn,
-            holes,
-            late,
-            skipped,
-            nameless,
-        };
-        if losses.is_none() {
-            return None;
-        }
-        Some(losses)
-    }
-
-    /// Prints the losses. A write error is passed over.
-    pub fn tell<E: io::Write>(&self, err: &mut E) {
-        let _ = writeln!(err, "mtrecover: {self}");
-    }
-
-    /// Returns whether there are none.
-    fn is_none(&self) -> bool {
-        self.counts().iter().all(|(count, _, _)| *count == 0)
-    }
-
-    /// Returns each number, with what is counted and what became of it.
-    fn counts(&self) -> [(u128, &'static str, &'static str); 5] {
-        [
-            (self.torn, "log", "torn"),
-            (self.holes, "hole", "between segments"),
-            (self.late, "update", "late"),
-            (self.skipped, "checkpoint", "skipped"),
-            (self.nameless, "part", "nameless"),
-        ]
     }
 }
 
@@ -119,13 +81,17 @@ impl Losses {
 impl Display for Losses {
     fn fmt<W: fmt::Write>(&self, f: &mut Formatter<W>) -> fmt::Result {
         let mut sign = "";
-        for (count, thing, fate) in &self.counts() {
+        for (count, thing, fate) in &self.named() {
             if *count > 0 {
-                let plural = if *count == 1 { "" } else { "s" };
-                write!(f, "{sign}{count} {thing}{plural} {fate}")?;
+                write!(f, "{sign}{count} {thing}{} {fate}", plural(*count))?;
                 sign = ", ";
             }
         }
         Ok(())
     }
+}
+
+/// Returns the ending of a word for so many.
+pub fn plural(count: u128) -> &'static str {
+    if count == 1 { "" } else { "s" }
 }

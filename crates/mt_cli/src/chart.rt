@@ -1,38 +1,264 @@
-//! A timeline as text.
-use crate::timeline::{Axis, Bar, LogBar, Row, Tail, Timeline};
+//! A chart of the logs and checkpoints of a folder over one axis of timestamps.
+ghost use Rattle.std.specs.Prelude.{◌<◌};
+
+use crate::checked::{Checked, CheckedLog};
+use crate::fates::{Fate, numbers_of};
+use mt_record::Rest;
+use mt_text::Shown;
+use mt_words::{Fault, Memory};
+use std::alloc::{AllocError, Global};
 use std::io::{self, Write};
 
 /// The width of a line without another, in characters.
-pub const USUAL_WIDTH: usize = 80;
+pub const USUAL_WIDTH: u64 = 80;
 
 /// The fewest cells of an axis. A line gets wider if it must.
 const FEWEST_CELLS: usize = 10;
 
-/// Prints a timeline in lines of this width: the ends of the axis, a line for each row, and what the marks mean. Err:
-/// write error.
-pub fn write_chart<W: Write>(timeline: &Timeline, width: usize, out: &mut W) -> io::Result<()> {
-    let (labels, notes) = widths_of(&timeline.rows);
-    let cells = width
-        .saturating_sub(labels)
-        .saturating_sub(notes)
-        .saturating_sub(2)
-        .max(FEWEST_CELLS);
-    write_ends(timeline.axis, labels, cells, out)?;
-    for row in &timeline.rows {
-        write_row(row, timeline.axis, timeline.cutoff, labels, cells, out)?;
-    }
-    write_legend(timeline.cutoff, out)
+/// A chart of the logs and checkpoints of a folder over one axis of timestamps.
+#[derive(Drop)]
+pub struct Chart {
+    /// The logs, and then the checkpoints.
+    rows: Vec<Row>,
+    axis: Axis,
+    /// The cutoff. None: recovery names a fault.
+    cutoff: Option<u64>,
 }
 
-/// Returns the number of characters of the longest label and of the longest note.
-pub fn widths_of(rows: &[Row]) -> (usize, usize) {
-    let mut labels = 0;
-    let mut notes = 0;
-    for row in rows {
-        labels = width_of(row.label.as_str()).max(labels);
-        notes = width_of(row.note.as_str()).max(notes);
+/// A log or a checkpoint.
+#[derive(Drop)]
+struct Row {
+    /// Its name.
+    label: String,
+    /// Where its timestamps lie. A span hides those before it.
+    spans: Vec<Span>,
+    /// What becomes of it.
+    note: String,
+}
+
+/// Timestamps of a row, the cells of which have this mark.
+#[derive(Clone, Copy)]
+struct Span {
+    from: u64,
+    to: u64,
+    mark: u8,
+}
+
+impl Span {
+    /// Creates a span.
+    fn new(from: u64, to: u64, mark: u8) -> Span {
+        Span { from, to, mark }
     }
-    (labels, notes)
+}
+
+/// The timestamps from the least to the greatest.
+#[derive(Clone, Copy)]
+struct Axis {
+    least: u64,
+    greatest: u64,
+}
+
+impl Axis {
+    /// Returns the axis that has all spans. Without one it has just 0.
+    fn of(rows: &[Row]) -> Axis {
+        let mut axis = Axis {
+            least: u64::MAX,
+            greatest: 0,
+        };
+        for row in rows {
+            for span in &row.spans {
+                axis.least = axis.least.min(span.from);
+                axis.greatest = axis.greatest.max(span.to);
+            }
+        }
+        axis.least = axis.least.min(axis.greatest);
+        axis
+    }
+
+    /// Returns the cell of a timestamp: the least one has the first of these cells, the greatest one the last.
+    fn cell(self, timestamp: u64, cells: usize) -> usize
+        ensures { 0 < cells → result < cells }
+    {
+        let last = cells.saturating_sub(1);
+        let span = u128::from(self.greatest.saturating_sub(self.least)).max(1);
+        let before = u128::from(timestamp.saturating_sub(self.least));
+        let cell = before.saturating_mul(last as u128) / span;
+        usize::try_from(cell).unwrap_or(last).min(last)
+    }
+}
+
+impl Chart {
+    /// Returns the chart of what was checked. `firsts` are the timestamps of the first record of each log, if it has one.
+    /// Err: out of memory.
+    pub fn of(
+        alloc: Global,
+        checked: &Checked<'_>,
+        firsts: &[Option<u64>],
+    ) -> Result<Chart, Memory> {
+        let cutoff = match &checked.start {
+            Ok(start) => Some(start.window.cutoff),
+            Err(_) => None,
+        };
+        let mut rows = Vec::new(alloc);
+        for (log, first) in checked.logs.iter().zip(firsts) {
+            rows.push(Row {
+                label: format!(in alloc; "{}", Shown(log.file.name))?,
+                spans: spans_of_log(alloc, log, *first, cutoff)?,
+                note: note_of_log(alloc, log, cutoff.is_some())?,
+            })?;
+        }
+        for number in &numbers_of(alloc, &checked.parts)? {
+            let fate = Fate::of(*number, &checked.parts, &checked.start);
+            rows.push(Row {
+                label: format!(in alloc; "checkpoint {number}")?,
+                spans: spans_of_checkpoint(alloc, &fate, cutoff)?,
+                note: String::from_str(alloc, fate.word)?,
+            })?;
+        }
+        Ok(Chart {
+            axis: Axis::of(&rows),
+            rows,
+            cutoff,
+        })
+    }
+
+    /// Prints the chart in lines of this width: the ends of the axis, a line for each row, and what the marks mean. Err:
+    /// write error.
+    pub fn write<W: Write>(&self, width: usize, out: &mut W) -> io::Result<()> {
+        let mut labels = 0;
+        let mut notes = 0;
+        for row in &self.rows {
+            labels = width_of(row.label.as_str()).max(labels);
+            notes = width_of(row.note.as_str()).max(notes);
+        }
+        let cells = width
+            .saturating_sub(labels)
+            .saturating_sub(notes)
+            .saturating_sub(2)
+            .max(FEWEST_CELLS);
+        self.write_ends(labels, cells, out)?;
+        for row in &self.rows {
+            out.write_all(row.label.as_str().as_bytes())?;
+            let blanks = labels.saturating_sub(width_of(row.label.as_str()));
+            write_blanks(blanks.saturating_add(1), out)?;
+            for cell in 0..cells {
+                out.write_all(&[self.mark_at(row, cell, cells)])?;
+            }
+            writeln!(out, " {}", row.note)?;
+        }
+        out.write_all(b"= complete, ")?;
+        if let Some(cutoff) = self.cutoff {
+            write!(out, "| cutoff {cutoff}, x late, ")?;
+        }
+        out.write_all(b"! torn, # damaged, . hole, [-] checkpoint\n")
+    }
+
+    /// Prints the line of the least and the greatest timestamp, above the ends of the axis.
+    fn write_ends<W: Write>(&self, labels: usize, cells: usize, out: &mut W) -> io::Result<()> {
+        let Axis { least, greatest } = self.axis;
+        write_blanks(labels.saturating_add(1), out)?;
+        write!(out, "{least}")?;
+        let between = cells
+            .saturating_sub(digits_of(least))
+            .saturating_sub(digits_of(greatest));
+        write_blanks(between.max(1), out)?;
+        writeln!(out, "{greatest}")
+    }
+
+    /// Returns the mark of a cell of a row: that of the last span that has it.
+    fn mark_at(&self, row: &Row, cell: usize, cells: usize) -> u8 {
+        let mut mark = b' ';
+        for span in &row.spans {
+            let from = self.axis.cell(span.from, cells);
+            if cell >= from && cell <= self.axis.cell(span.to, cells) {
+                mark = span.mark;
+            }
+        }
+        mark
+    }
+}
+
+/// Returns the spans of a log: the hole before it, its records, the late ones among them, the cutoff, and how it ends, which
+/// hides the cutoff. Err: out of memory.
+fn spans_of_log(
+    alloc: Global,
+    log: &CheckedLog<'_>,
+    first: Option<u64>,
+    cutoff: Option<u64>,
+) -> Result<Vec<Span>, AllocError> {
+    let mut spans = Vec::new(alloc);
+    let Some(front) = log.front() else {
+        push_cutoff(cutoff, &mut spans)?;
+        return Ok(spans);
+    };
+    let to = front.last();
+    let from = first.unwrap_or(front.from()).min(to);
+    if let Some(hole) = log.hole {
+        spans.push(Span::new(hole, from, b'.'))?;
+    }
+    spans.push(Span::new(from, to, b'='))?;
+    match cutoff {
+        Some(cutoff) if cutoff <= to => spans.push(Span::new(from.max(cutoff), to, b'x'))?,
+        _ => {}
+    }
+    push_cutoff(cutoff, &mut spans)?;
+    let mark = match front.rest {
+        Rest::Nothing => return Ok(spans),
+        Rest::Torn => b'!',
+        Rest::Faulty(_) => b'#',
+    };
+    spans.push(Span::new(to, to, mark))?;
+    Ok(spans)
+}
+
+/// Returns the spans of a checkpoint, whose ends hide the cutoff. Err: out of memory.
+fn spans_of_checkpoint(
+    alloc: Global,
+    fate: &Fate,
+    cutoff: Option<u64>,
+) -> Result<Vec<Span>, AllocError> {
+    let mut spans = Vec::new(alloc);
+    let Some(part) = fate.first else {
+        push_cutoff(cutoff, &mut spans)?;
+        return Ok(spans);
+    };
+    let to = part.end;
+    let from = part.begin.min(to);
+    spans.push(Span::new(from, to, b'-'))?;
+    push_cutoff(cutoff, &mut spans)?;
+    spans.push(Span::new(from, from, b'['))?;
+    spans.push(Span::new(to, to, b']'))?;
+    Ok(spans)
+}
+
+/// Appends the span of the cutoff, if there is one. Err: out of memory.
+fn push_cutoff(cutoff: Option<u64>, spans: &mut Vec<Span>) -> Result<(), AllocError> {
+    if let Some(cutoff) = cutoff {
+        spans.push(Span::new(cutoff, cutoff, b'|'))?;
+    }
+    Ok(())
+}
+
+/// Returns what becomes of a log: how it ends, and how many of its updates are late. Err: out of memory.
+fn note_of_log(
+    alloc: Global,
+    log: &CheckedLog<'_>,
+    has_cutoff: bool,
+) -> Result<String, AllocError> {
+    let check = match &log.check {
+        Ok(check) => check,
+        Err(Fault::Header { .. }) => return String::from_str(alloc, "header"),
+        Err(_) => return String::from_str(alloc, "unread"),
+    };
+    let state = match check.front.rest {
+        Rest::Nothing => String::from_str(alloc, "whole")?,
+        Rest::Torn => String::from_str(alloc, "torn")?,
+        Rest::Faulty(what) => format!(in alloc; "{what}")?,
+    };
+    if has_cutoff && check.late > 0 {
+        return format!(in alloc; "{state}, {} late", check.late);
+    }
+    Ok(state)
 }
 
 /// Returns the number of characters of a text.
@@ -40,138 +266,18 @@ fn width_of(text: &str) -> usize {
     text.chars().count()
 }
 
-/// Prints the line of the least and the greatest timestamp, above the ends of the axis.
-fn write_ends<W: Write>(axis: Axis, labels: usize, cells: usize, out: &mut W) -> io::Result<()> {
-    write_blanks(labels.saturating_add(1), out)?;
-    write!(out, "{}", axis.least)?;
-    let between = cells
-        .saturating_sub(digits_of(axis.least))
-        .saturating_sub(digits_of(axis.greatest));
-    write_blanks(between.max(1), out)?;
-    writeln!(out, "{}", axis.greatest)
-}
-
 /// Returns the number of digits of a number.
 fn digits_of(number: u64) -> usize {
-    number.checked_ilog10().map_or(1, |log| log as usize + 1)
-}
-
-/// Prints the line of a row: its label, its cells and its note.
-fn write_row<W: Write>(
-    row: &Row,
-    axis: Axis,
-    cutoff: Option<u64>,
-    labels: usize,
-    cells: usize,
-    out: &mut W,
-) -> io::Result<()> {
-    out.write_all(row.label.as_str().as_bytes())?;
-    let blanks = labels.saturating_sub(width_of(row.label.as_str()));
-    write_blanks(blanks.saturating_add(1), out)?;
-    let marks = Marks {
-        bar: row.bar,
-        axis,
-        cutoff: cutoff.map(|cutoff| axis.cell(cutoff, cells)),
-        cells,
-    };
-    for cell in 0..cells {
-        out.write_all(&[marks.at(cell)])?;
+    match number.checked_ilog10() {
+        Some(log) => log as usize + 1,
+        None => 1,
     }
-    writeln!(out, " {}", row.note)
 }
 
-/// Prints so many blanks.
+/// Prints so many blanks. Err: write error.
 fn write_blanks<W: Write>(count: usize, out: &mut W) -> io::Result<()> {
     for _ in 0..count {
         out.write_all(b" ")?;
     }
     Ok(())
-}
-
-/// Prints what the marks mean.
-fn write_legend<W: Write>(cutoff: Option<u64>, out: &mut W) -> io::Result<()> {
-    out.write_all(b"= complete, ")?;
-    if let Some(cutoff) = cutoff {
-        write!(out, "| cutoff {cutoff}, x late, ")?;
-    }
-    out.write_all(b"! torn, # damaged, . hole, [-] checkpoint\n")
-}
-
-/// The cells of a row.
-#[derive(Clone, Copy)]
-struct Marks {
-    bar: Option<Bar>,
-    axis: Axis,
-    /// The cell of the cutoff.
-    cutoff: Option<usize>,
-    /// The number of cells.
-    cells: usize,
-}
-
-impl Marks {
-    /// Returns the mark of a cell.
-    fn at(self, cell: usize) -> u8 {
-        match self.bar {
-            Some(Bar::Log(log)) => self.of_log(log, cell),
-            Some(Bar::Checkpoint { begin, end, .. }) => self.of_checkpoint(begin, end, cell),
-            None => self.of_nothing(cell),
-        }
-    }
-
-    /// Returns the mark of a cell of a log. How the log ends hides the cutoff.
-    fn of_log(self, log: LogBar, cell: usize) -> u8 {
-        let first = self.cell(log.first);
-        let last = self.cell(log.last);
-        if cell == last && log.tail == Tail::Torn {
-            return b'!';
-        }
-        if cell == last && log.tail == Tail::Damaged {
-            return b'#';
-        }
-        if self.cutoff == Some(cell) {
-            return b'|';
-        }
-        if cell >= first && cell <= last {
-            let is_late = self.cutoff.is_some_and(|cutoff| cell > cutoff);
-            return if is_late { b'x' } else { b'=' };
-        }
-        let is_in_hole = log
-            .hole
-            .is_some_and(|hole| cell >= self.cell(hole) && cell < first);
-        if is_in_hole { b'.' } else { b' ' }
-    }
-
-    /// Returns the mark of a cell of a checkpoint. Its ends hide the cutoff.
-    fn of_checkpoint(self, begin: u64, end: u64, cell: usize) -> u8 {
-        let begin = self.cell(begin);
-        let end = self.cell(end);
-        if cell == end {
-            return b']';
-        }
-        if cell == begin {
-            return b'[';
-        }
-        if self.cutoff == Some(cell) {
-            return b'|';
-        }
-        if cell > begin && cell < end {
-            b'-'
-        } else {
-            b' '
-        }
-    }
-
-    /// Returns the mark of a cell of a row without timestamps.
-    fn of_nothing(self, cell: usize) -> u8 {
-        if self.cutoff == Some(cell) {
-            b'|'
-        } else {
-            b' '
-        }
-    }
-
-    /// Returns the cell of a timestamp.
-    fn cell(self, timestamp: u64) -> usize {
-        self.axis.cell(timestamp, self.cells)
-    }
 }

@@ -1,100 +1,58 @@
 //! Answers the subcommand `checkpoint`: writes the store of a folder as a checkpoint and a log into a new folder.
-ghost use Rattle.std.specs.Prelude.{◌≤◌, ◌<◌, length};
+ghost use Rattle.std.specs.Prelude.{◌<◌, length};
 
-use crate::answering::{PRINTED_AT_ONCE, recover_telling};
+use crate::answering::PRINTED_AT_ONCE;
 use crate::caveat::{Caveat, Losses};
-use crate::file_names::Names;
-use crate::halt::{Halt, tell_written};
-use crate::opening::{open_inputs, rack_of};
-use crate::request::{Folder, NewFolder};
+use crate::halt::Halt;
+use crate::host::{Host, Run};
+use crate::request::NewFolder;
+use crate::row::{Cell, write_row};
 use crate::saving::{Site, make_folder};
 use mt_checkpoint::{Checkpoint, PlanFault};
-use mt_recover::{MOST_FILES, Pieces, Recovered, Refusal};
-use mt_text::Fields;
-use std::fs::{File, Files, OpenFile};
+use mt_recover::MOST_FILES;
+use std::fs::{File, OpenFile};
 use std::io::{self, BufWriter, Write};
 use std::mem;
-use std::thread::Threads;
-use std::time::Clock;
 
 /// The name of the log that makes the checkpoint count.
 const LOG: &str = "log.mtl";
 
-/// Recovers the store of the files of these names, writes it into a new folder, and returns the exit status.
-pub fn checkpoint<R, O: Write, E: Write + Send>(
-    rt: &R,
-    folder: &Folder<'_>,
-    new: &NewFolder<'_>,
-    names: &Names,
-    out: &mut O,
-    err: &mut E,
-) -> u8
-where
-    R: AllocGlobal + Clock + Files + Threads + Sync,
-    R::File: Send,
-    ensures status { result ≤ 4 }
-{
-    let outcome = recover_and_write(rt, folder, new, names, out, err);
-    tell_written(rt, folder, names, outcome, err)
-}
-
-/// Recovers the store and writes it into a new folder. As in a query, the store is not freed.
-fn recover_and_write<'a, R, O: Write, E: Write + Send>(
-    rt: &R,
-    folder: &Folder<'_>,
-    new: &NewFolder<'_>,
-    names: &'a Names,
-    out: &mut O,
-    err: &mut E,
-) -> Result<Option<Caveat>, Halt<'a>>
-where
-    R: AllocGlobal + Clock + Files + Threads + Sync,
-    R::File: Send,
-{
-    let recovered = recover_folder(rt, folder, new.pieces, names, err)?;
-    let report = recovered.report();
-    let tree = recovered.store().tree();
-    let checkpoint = Checkpoint::plan(
-        rt.alloc(),
-        tree,
-        new.number,
-        report.cutoff,
-        report.version,
-        new.limit,
-    )?;
-    write_all(rt, new, &checkpoint)?;
-    let mut line = Fields::new(out, false);
-    line.number("checkpoint", new.number)?;
-    line.number("parts", checkpoint.parts())?;
-    line.number("cutoff", report.cutoff)?;
-    line.end()?;
-    out.flush()?;
-    folder.tell_losses(Losses::of(report), err);
-    mem::forget(checkpoint);
-    mem::forget(recovered);
-    Ok(None)
-}
-
-/// Recovers the store of the files of these names. Cuts the keys into at most so many pieces.
-pub fn recover_folder<'a, R, E: Write + Send>(
-    rt: &R,
-    folder: &Folder<'_>,
-    pieces: Pieces,
-    names: &'a Names,
-    err: &mut E,
-) -> Result<Recovered, Refusal<'a>>
-where
-    R: AllocGlobal + Clock + Files + Threads + Sync,
-    R::File: Send,
-{
-    let mut rack = rack_of(rt, names)?;
-    let inputs = open_inputs(rt, folder.path, names, rack.slots())?;
-    Ok(recover_telling(rt, inputs, folder, names, pieces, err)?)
+impl<'a, R: Host> Run<'a, R> {
+    /// Recovers the store and writes it into a new folder. As in a query, the store is not freed.
+    pub fn checkpoint<O: Write, E: Write + Send>(
+        &self,
+        new: &NewFolder<'_>,
+        out: &mut O,
+        err: &mut E,
+    ) -> Result<Option<Caveat>, Halt<'a>> {
+        let recovered = self.recover(err)?;
+        let report = recovered.report();
+        let checkpoint = Checkpoint::plan(
+            self.rt.alloc(),
+            recovered.store().tree(),
+            new.number,
+            report.cutoff,
+            report.version,
+            new.limit,
+        )?;
+        write_all(self.rt, new, &checkpoint)?;
+        let row = [
+            ("checkpoint", Cell::Number(Some(u64::from(new.number)))),
+            ("parts", Cell::Number(Some(u64::from(checkpoint.parts())))),
+            ("cutoff", Cell::Number(Some(report.cutoff))),
+        ];
+        write_row(&row, false, out)?;
+        out.flush()?;
+        self.folder.tell_losses(Losses::of(report), err);
+        mem::forget(checkpoint);
+        mem::forget(recovered);
+        Ok(None)
+    }
 }
 
 /// Writes the parts of the checkpoint into the new folder, and then the log. Nothing is written if the program could not
 /// read so many files.
-fn write_all<R: AllocGlobal + Files>(
+fn write_all<R: Host>(
     rt: &R,
     new: &NewFolder<'_>,
     checkpoint: &Checkpoint<'_>,
@@ -122,7 +80,7 @@ fn write_all<R: AllocGlobal + Files>(
 }
 
 /// Writes a part into a new file of this name, and syncs it.
-fn write_part<R: AllocGlobal + Files>(
+fn write_part<R: Host>(
     site: &Site<'_, R>,
     checkpoint: &Checkpoint<'_>,
     part: u16,

@@ -1,6 +1,7 @@
 //! Answers the subcommand `cut`.
 ghost use Rattle.std.specs.Prelude.{◌≤◌, length, IfSome};
 
+use crate::host::Host;
 use crate::request::Cut;
 use crate::segment_end::SegmentEnd;
 use crate::stop::Stop;
@@ -8,11 +9,10 @@ use mt_record::{Head, LogFront, Stretch, cut_log, encode_head, header_at, salvag
 use mt_recover::{Refusal, read_log};
 use mt_words::Fault;
 use std::alloc::Global;
-use std::fs::Files;
 use std::io::Write;
 
 /// Prints a log of complete records of the log, byte for byte, and tells on `err` what it leaves out.
-pub fn cut<'a, R: AllocGlobal + Files, O: Write, E: Write>(
+pub fn cut<'a, R: Host, O: Write, E: Write>(
     rt: &R,
     path: &'a str,
     how: &Cut,
@@ -56,7 +56,10 @@ fn tell_end<E: Write>(end: Option<SegmentEnd>, err: &mut E) {
 
 /// Does as `cut_log`, with the bytes as log 0.
 pub fn cut_out(alloc: Global, bytes: &[u8]) -> Result<(LogFront, &[u8]), Refusal<'static>> {
-    cut_log(alloc, bytes).map_err(|fault| Refusal::from(fault.of_log(0)))
+    match cut_log(alloc, bytes) {
+        Ok(cut) => Ok(cut),
+        Err(fault) => Err(Refusal::from(fault.of_log(0))),
+    }
 }
 
 /// Prints the header and the records of all stretches of the log, and tells on `err` what was skipped.

@@ -1,14 +1,16 @@
 //! What follows the complete records of a log, or the entries of a part.
 use crate::hints::Hints;
-use crate::spans::zeros_at_end;
-use mt_record::salvage_records;
-use mt_text::Fields;
+use crate::zeros::zeros_at_end;
+use mt_record::{header_at, salvage_records};
 use mt_words::{Format, Memory};
 use std::alloc::Global;
-use std::io::{self, Write};
+use std::io::Write;
+
+/// The widest format, by which bytes without a header are read.
+pub const WIDEST: Format = Format::Two;
 
 /// What follows the complete records of a log, or the entries of a part.
-#[derive(Clone, Copy, Debug)]
+#[derive(Clone, Copy)]
 pub struct Ending {
     /// The number of bytes.
     pub bytes: usize,
@@ -17,11 +19,11 @@ pub struct Ending {
     /// Where records go on after damage, if they do.
     pub again: Option<Again>,
     /// What may have happened to them.
-    pub hints: Hints,
+    pub hints: Option<Hints>,
 }
 
 /// Records that go on after damage, as `cut --skip` prints them.
-#[derive(Clone, Copy, Debug)]
+#[derive(Clone, Copy)]
 pub struct Again {
     /// The byte where the first of them begins.
     pub at: usize,
@@ -45,7 +47,7 @@ impl Ending {
             bytes: rest.len(),
             zeros: zeros_at_end(rest),
             again,
-            hints: Hints::of(bytes, end, again),
+            hints: Some(Hints::of(bytes, end, again)),
         })
     }
 
@@ -55,25 +57,38 @@ impl Ending {
             bytes: rest.len(),
             zeros: zeros_at_end(rest),
             again: None,
-            hints: Hints::none(),
+            hints: None,
         }
     }
 
     /// Prints what may have happened to the file of this name, if it is faulty or goes on. A write error is passed over.
     pub fn tell_hints<E: Write>(&self, is_faulty: bool, name: &str, err: &mut E) {
-        if is_faulty || self.again.is_some() {
-            self.hints.tell(name, err);
+        match &self.hints {
+            Some(hints) if is_faulty || self.again.is_some() => hints.tell(name, err),
+            _ => {}
         }
     }
 
-    /// Prints its values. Err: write error.
-    pub fn write<W: Write>(self, line: &mut Fields<'_, W>) -> io::Result<()> {
-        line.number("left", self.bytes)?;
-        line.number("zeros", self.zeros)?;
-        if let Some(again) = self.again {
-            line.number("next", again.at)?;
-        }
-        line.number("after", self.again.map_or(0, |again| again.records))
+    /// Returns the number of its bytes and of the zeros that end them, and where records go on, and how many.
+    pub fn numbers(&self) -> [Option<u64>; 4] {
+        let (next, after) = match self.again {
+            Some(again) => (Some(again.at as u64), again.records),
+            None => (None, 0),
+        };
+        [
+            Some(self.bytes as u64),
+            Some(self.zeros as u64),
+            next,
+            Some(after as u64),
+        ]
+    }
+}
+
+/// Returns the number of bytes of the header of a log: 0 without one.
+pub fn header_bytes(bytes: &[u8]) -> usize {
+    match header_at(bytes) {
+        Some((_, rest)) => bytes.len().saturating_sub(rest.len()),
+        None => 0,
     }
 }
 
@@ -92,23 +107,16 @@ impl Again {
         for stretch in &salvage_records(alloc, format, 0, searched)? {
             // The first one has the complete records, if there are some.
             if stretch.count > 0 && (at > start || start >= end) {
-                again = Some(Again::with(again, at, stretch.count));
+                let found = again.unwrap_or(Again { at, records: 0 });
+                again = Some(Again {
+                    at: found.at,
+                    records: found.records.saturating_add(stretch.count),
+                });
             }
             at = at
                 .saturating_add(stretch.kept.len())
                 .saturating_add(stretch.skipped.len());
         }
         Ok(again)
-    }
-
-    /// Returns these records and so many more, which begin at this byte.
-    fn with(again: Option<Again>, at: usize, records: usize) -> Again {
-        match again {
-            Some(again) => Again {
-                at: again.at,
-                records: again.records.saturating_add(records),
-            },
-            None => Again { at, records },
-        }
     }
 }

@@ -1,10 +1,9 @@
 //! The second line of a failure: which file it names, what the system says, and what to try.
 use crate::file_names::Names;
-use crate::opening::why_unread;
+use crate::host::{Host, Run};
 use mt_recover::{Failure, Refusal};
 use mt_text::Shown;
 use mt_words::Fault;
-use std::fs::Files;
 use std::io::{self, Write};
 
 /// Prints the second line of a failure: the name of the file with the fault, if these names have it; the reason that the
@@ -19,30 +18,28 @@ pub fn explain<E: Write>(refusal: &Refusal<'_>, names: &Names, err: &mut E) -> i
     writeln!(err, "try: {}", advice(&refusal.failure))
 }
 
-/// Gives a failure of a file that has no reason the one that the file shows now.
-pub fn with_reason<'a, R: AllocGlobal + Files>(
-    rt: &R,
-    folder: &str,
-    names: &Names,
-    refusal: Refusal<'a>,
-) -> Refusal<'a> {
-    let unread = match &refusal.failure {
-        Failure::Recovery(Fault::Source { log }) => names.logs.get(*log).map(String::as_str),
-        Failure::Recovery(Fault::PartSource { part }) => {
-            names.parts.get(*part).map(String::as_str)
+impl<'a, R: Host> Run<'a, R> {
+    /// Gives a failure of a file that has no reason the one that the file shows now.
+    pub fn with_reason<'b>(&self, refusal: Refusal<'b>) -> Refusal<'b> {
+        if refusal.reason.is_some() {
+            return refusal;
         }
-        Failure::Open(name) => Some(*name),
-        _ => None,
-    };
-    let Some(name) = unread else {
-        return refusal;
-    };
-    let Refusal { failure, reason } = refusal;
-    let reason = match reason {
-        Some(reason) => Some(reason),
-        None => why_unread(rt, folder, name),
-    };
-    Refusal { failure, reason }
+        let unread = match &refusal.failure {
+            Failure::Recovery(Fault::Source { .. } | Fault::PartSource { .. }) => {
+                file_of(&refusal.failure, self.names)
+            }
+            Failure::Open(name) => Some(*name),
+            _ => None,
+        };
+        let reason = match unread {
+            Some(name) => self.why_unread(name),
+            None => None,
+        };
+        Refusal {
+            failure: refusal.failure,
+            reason,
+        }
+    }
 }
 
 /// Returns the name of the file that has the fault.

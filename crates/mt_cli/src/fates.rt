@@ -1,9 +1,9 @@
 //! What becomes of parts and checkpoints, and why.
+use crate::checked::CheckedPart;
+use crate::row::{Cell, Field};
 use mt_recover::{PartScan, Start};
-use mt_text::Fields;
 use mt_words::Fault;
 use std::alloc::{AllocError, Global};
-use std::io::{self, Write};
 
 /// What is known of a part.
 #[derive(Clone, Copy)]
@@ -58,22 +58,9 @@ impl PartState {
     fn checkpoint(self) -> Option<u32> {
         match self {
             PartState::Whole(part) => Some(part.checkpoint),
-            PartState::Broken {
-                checkpoint,
-                entries: _,
-            } => Some(checkpoint),
+            PartState::Broken { checkpoint, .. } => Some(checkpoint),
             PartState::Nameless | PartState::Unread => None,
         }
-    }
-
-    /// Returns whether its source failed.
-    pub fn is_unread(&self) -> bool {
-        matches!(self, PartState::Unread)
-    }
-
-    /// Returns whether it is complete.
-    pub fn is_whole(self) -> bool {
-        matches!(self, PartState::Whole(_))
     }
 
     /// Returns whether it goes when a server resumes: it is of another checkpoint than the chosen one, or of none.
@@ -92,37 +79,22 @@ impl PartState {
         }
     }
 
-    /// Prints its values. Err: write error.
-    pub fn write<W: Write>(self, line: &mut Fields<'_, W>) -> io::Result<()> {
+    /// Returns what it is, in a word.
+    pub fn word(self) -> &'static str {
         match self {
-            PartState::Whole(part) => {
-                line.word("state", "whole")?;
-                line.number("checkpoint", part.checkpoint)?;
-                line.number("place", part.place)?;
-                line.number("parts", part.parts)?;
-                line.number("begin", part.begin)?;
-                line.number("end", part.end)?;
-                line.number("entries", part.entries)
-            }
-            PartState::Broken {
-                checkpoint,
-                entries,
-            } => {
-                line.word("state", "broken")?;
-                line.number("checkpoint", checkpoint)?;
-                line.number("entries", entries)
-            }
-            PartState::Nameless => line.word("state", "nameless"),
-            PartState::Unread => line.word("state", "unread"),
+            PartState::Whole(_) => "whole",
+            PartState::Broken { .. } => "broken",
+            PartState::Nameless => "nameless",
+            PartState::Unread => "unread",
         }
     }
 }
 
 /// Returns the numbers of the checkpoints that have parts, rising. Err: out of memory.
-pub fn numbers_of(alloc: Global, parts: &[PartState]) -> Result<Vec<u32>, AllocError> {
+pub fn numbers_of(alloc: Global, parts: &[CheckedPart<'_>]) -> Result<Vec<u32>, AllocError> {
     let mut numbers = Vec::with_capacity(alloc, parts.len())?;
     for part in parts {
-        if let Some(number) = part.checkpoint() {
+        if let Some(number) = part.state.checkpoint() {
             numbers.push(number)?;
         }
     }
@@ -134,116 +106,102 @@ pub fn numbers_of(alloc: Global, parts: &[PartState]) -> Result<Vec<u32>, AllocE
 /// What becomes of a checkpoint.
 #[derive(Clone, Copy)]
 pub struct Fate {
+    number: u32,
     /// What becomes of it, in a word.
     pub word: &'static str,
     /// The number of its parts.
-    pub count: usize,
+    count: usize,
     /// Its first complete part, which says where it begins and ends.
     pub first: Option<Part>,
 }
 
-/// Returns what becomes of the checkpoint with this number.
-pub fn fate_of(number: u32, parts: &[PartState], start: &Result<Start, Fault>) -> Fate {
-    let count = count_of(number, parts);
-    let first = parts.iter().find_map(|part| part.of_checkpoint(number));
-    Fate {
-        word: word_of(number, first, count, parts, start),
-        count,
-        first,
+impl Fate {
+    /// Returns what becomes of the checkpoint with this number.
+    pub fn of(number: u32, parts: &[CheckedPart<'_>], start: &Result<Start, Fault>) -> Fate {
+        let mut count: usize = 0;
+        let mut wholes: usize = 0;
+        let mut first: Option<Part> = None;
+        for part in parts {
+            if part.state.checkpoint() == Some(number) {
+                count = count.saturating_add(1);
+            }
+            if let Some(whole) = part.state.of_checkpoint(number) {
+                wholes = wholes.saturating_add(1);
+                first = first.or(Some(whole));
+            }
+        }
+        let word = match first {
+            Some(first) if wholes == count => word_of(first, count, parts, start),
+            _ => "broken",
+        };
+        Fate {
+            number,
+            word,
+            count,
+            first,
+        }
+    }
+
+    /// Returns its line.
+    pub fn fields(&self) -> [Field<'static>; 5] {
+        let (begin, end) = match self.first {
+            Some(part) => (Some(part.begin), Some(part.end)),
+            None => (None, None),
+        };
+        [
+            ("checkpoint", Cell::Number(Some(u64::from(self.number)))),
+            ("state", Cell::Word(self.word)),
+            ("parts", Cell::Number(Some(self.count as u64))),
+            ("begin", Cell::Number(begin)),
+            ("end", Cell::Number(end)),
+        ]
     }
 }
 
-/// Prints the line of the checkpoint with this number. Err: write error.
-pub fn write_fate<W: Write>(
-    number: u32,
-    parts: &[PartState],
-    start: &Result<Start, Fault>,
-    mut line: Fields<'_, W>,
-) -> io::Result<()> {
-    let Fate { word, count, first } = fate_of(number, parts, start);
-    line.number("checkpoint", number)?;
-    line.word("state", word)?;
-    line.number("parts", count)?;
-    if let Some(part) = first {
-        line.number("begin", part.begin)?;
-        line.number("end", part.end)?;
-    }
-    line.end()
-}
-
-/// Returns what becomes of the checkpoint, of `count` parts, in a word.
+/// Returns what becomes of a checkpoint of so many parts, all of which are complete, in a word.
 fn word_of(
-    number: u32,
-    first: Option<Part>,
+    first: Part,
     count: usize,
-    parts: &[PartState],
+    parts: &[CheckedPart<'_>],
     start: &Result<Start, Fault>,
 ) -> &'static str {
-    let wholes = parts
-        .iter()
-        .filter(|part| part.of_checkpoint(number).is_some())
-        .count();
-    let Some(first) = first else {
-        return "broken";
-    };
-    if wholes < count {
-        return "broken";
-    }
-    if !are_all(number, first, wholes, parts) {
+    if usize::from(first.parts) != count || first.begin > first.end {
         return "incomplete";
     }
+    for place in 0..first.parts {
+        if count_at(place, first, parts) != 1 {
+            return "incomplete";
+        }
+    }
     match start {
-        Ok(start) => word_from(number, first, start),
+        Ok(start) => word_from(first, start),
         Err(_) => "unjudged",
     }
 }
 
 /// Returns what becomes of a checkpoint whose parts are complete and go together, in a word.
-fn word_from(number: u32, first: Part, start: &Start) -> &'static str {
-    let chosen = start.choice.chosen.as_ref();
-    if chosen.is_some_and(|checkpoint| checkpoint.number == number) {
-        return "chosen";
+fn word_from(first: Part, start: &Start) -> &'static str {
+    let number = first.checkpoint;
+    match &start.choice.chosen {
+        Some(chosen) if chosen.number == number => "chosen",
+        _ if start.choice.skipped.contains(&number) => "unordered",
+        _ if first.end >= start.window.cutoff => "late",
+        _ => "older",
     }
-    if start.choice.skipped.contains(&number) {
-        return "unordered";
-    }
-    if first.end >= start.window.cutoff {
-        return "late";
-    }
-    "older"
 }
 
-/// Returns whether the complete parts of the checkpoint, of which there are `count`, go together: each place is there
-/// once, and they agree with the first one.
-fn are_all(number: u32, first: Part, count: usize, parts: &[PartState]) -> bool {
-    if usize::from(first.parts) != count || first.begin > first.end {
-        return false;
+/// Returns how many parts are at this place of the checkpoint of this part, and agree with it.
+fn count_at(place: u16, first: Part, parts: &[CheckedPart<'_>]) -> usize {
+    let mut count: usize = 0;
+    for part in parts {
+        match part.state.of_checkpoint(first.checkpoint) {
+            Some(part)
+                if part.place == place
+                    && part.parts == first.parts
+                    && part.begin == first.begin
+                    && part.end == first.end => count = count.saturating_add(1),
+            _ => {}
+        }
     }
-    (0..first.parts).all(|place| count_at(number, first, place, parts) == 1)
-}
-
-/// Returns how many parts of the checkpoint are at this place, and agree with the first one.
-fn count_at(number: u32, first: Part, place: u16, parts: &[PartState]) -> usize {
-    parts
-        .iter()
-        .filter(|part| goes_with(part.of_checkpoint(number), first, place))
-        .count()
-}
-
-/// Returns whether there is a part, it is at this place, and it agrees with the first one.
-fn goes_with(part: Option<Part>, first: Part, place: u16) -> bool {
-    part.is_some_and(|part| {
-        part.place == place
-            && part.parts == first.parts
-            && part.begin == first.begin
-            && part.end == first.end
-    })
-}
-
-/// Returns how many parts the checkpoint has.
-fn count_of(number: u32, parts: &[PartState]) -> usize {
-    parts
-        .iter()
-        .filter(|part| part.checkpoint() == Some(number))
-        .count()
+    count
 }

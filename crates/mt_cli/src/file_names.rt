@@ -2,7 +2,7 @@
 use std::alloc::{AllocError, Global};
 
 /// The names of the logs and parts of a folder, each kind in byte order.
-#[derive(Debug, Drop)]
+#[derive(Drop)]
 pub struct Names {
     /// The names of the logs. They end in `.mtl`.
     pub logs: Vec<String>,

@@ -3,31 +3,34 @@ ghost use Rattle.std.specs.Prelude.{◌≤◌, length};
 
 use crate::answering::PRINTED_AT_ONCE;
 use crate::cutting::{cut, cut_out};
+use crate::ending::WIDEST;
 use crate::failure::tell;
 use crate::file_names::Names;
-use crate::request::FileQuery;
-use crate::spans::WIDEST;
+use crate::host::Host;
+use crate::request::{FileCommand, FileQuery};
 use crate::stop::Stop;
 use mt_record::{PartFault, PartFeed, PartHead, header_at, part_header_at};
 use mt_recover::{Refusal, read_log};
 use mt_text::{Selection, write_entries, write_head, write_part_head, write_records};
 use mt_words::Fault;
 use std::alloc::Global;
-use std::fs::Files;
 use std::io::{BufWriter, Write};
 
-/// Answers a query on the file of this path, and returns the exit status: 0 if all was printed, or what `Stop::status`
-/// says. What follows the complete records or entries is told on `err`.
-pub fn answer_file<R: AllocGlobal + Files, O: Write, E: Write>(
+/// Answers a query on a file, and returns the exit status: 0 if all was printed, or what `Stop::status` says. What follows the
+/// complete records or entries is told on `err`.
+pub fn answer_file<R: Host, O: Write, E: Write>(
     rt: &R,
-    path: &str,
-    is_verbose: bool,
-    query: &FileQuery,
+    file: &FileCommand<'_>,
     out: &mut O,
     err: &mut E,
 ) -> u8
     ensures status { result ≤ 4 }
 {
+    let FileCommand {
+        path,
+        is_verbose,
+        ref query,
+    } = *file;
     let answered = match query {
         FileQuery::Cut(how) => match cut(rt, path, how, is_verbose, out, err) {
             Ok(()) => Ok(None),
@@ -62,7 +65,7 @@ fn tell_stop<E: Write>(stop: Option<Stop>, name: Option<&str>, err: &mut E) -> u
 
 /// Prints the header of a log or a part, and its wanted records or entries from a byte on, or from the first one on,
 /// each on a line.
-fn records<'a, R: AllocGlobal + Files, O: Write>(
+fn records<'a, R: Host, O: Write>(
     rt: &R,
     path: &'a str,
     selection: &Selection,
@@ -155,5 +158,8 @@ fn end_of(alloc: Global, bytes: &[u8]) -> Result<Option<u64>, Refusal<'static>> 
 fn start_at(at: Option<u64>, first: usize, bytes: &[u8]) -> usize
     ensures { result ≤ length bytes.now }
 {
-    at.map_or(first, |at| at as usize).min(bytes.len())
+    match at {
+        Some(at) => (at as usize).min(bytes.len()),
+        None => first.min(bytes.len()),
+    }
 }

@@ -15,9 +15,9 @@ pub const STATUSES: &str =
 pub const PROMPT: &str = "mtrecover>";
 
 /// The least and the greatest width of a chart, in characters.
-pub const NARROWEST: usize = 40;
+pub const LEAST_WIDTH: u64 = 40;
 
-pub const WIDEST: usize = 1000;
+pub const GREATEST_WIDTH: u64 = 1000;
 
 /// A subcommand.
 struct Subcommand {
@@ -28,9 +28,13 @@ struct Subcommand {
     arguments: &'static [Argument],
 }
 
-/// An argument of a subcommand: its name, what it takes, and its help.
+/// An argument of a subcommand.
 #[derive(Clone, Copy)]
-struct Argument(&'static str, Kind, &'static str);
+pub struct Argument {
+    pub name: &'static str,
+    kind: Kind,
+    help: &'static str,
+}
 
 /// What an argument takes.
 #[derive(Clone, Copy)]
@@ -45,8 +49,6 @@ enum Kind {
     Flag,
     /// An option with a value of this name.
     Value(&'static str),
-    /// An option with a value of this name, which is a number.
-    NumberOf(&'static str),
     /// An option with a value of this name, which is a number from 1 to this one, and by itself this number.
     UpTo(&'static str, u64, &'static str),
     /// An option with a value of this name, which is a number from this one to that one.
@@ -55,187 +57,205 @@ enum Kind {
     List(u64),
 }
 
-const FOLDER: Argument = Argument(
-    "DIR",
-    Kind::Word,
-    "The folder with the logs (.mtl) and checkpoint parts (.mtc)",
-);
+pub const FOLDER: Argument = Argument {
+    name: "DIR",
+    kind: Kind::Word,
+    help: "The folder with the logs (.mtl) and checkpoint parts (.mtc)",
+};
 
-const OUT: Argument = Argument(
-    "OUT",
-    Kind::Word,
-    "The folder to make for the checkpoint; it must not be there",
-);
+pub const OUT: Argument = Argument {
+    name: "OUT",
+    kind: Kind::Word,
+    help: "The folder to make for the checkpoint; it must not be there",
+};
 
-const LOG: Argument = Argument("FILE", Kind::Word, "The log (.mtl)");
+pub const LOG: Argument = Argument {
+    name: "FILE",
+    kind: Kind::Word,
+    help: "The log (.mtl)",
+};
 
-const LOG_OR_PART: Argument = Argument("FILE", Kind::Word, "The log (.mtl) or the part (.mtc)");
+pub const LOG_OR_PART: Argument = Argument {
+    name: "FILE",
+    kind: Kind::Word,
+    help: "The log (.mtl) or the part (.mtc)",
+};
 
-const KEY: Argument = Argument(
-    "KEY",
-    Kind::Word,
-    "The key in hexadecimal, or with --text as text; '' is the empty key",
-);
+pub const KEY: Argument = Argument {
+    name: "KEY",
+    kind: Kind::Word,
+    help: "The key in hexadecimal, or with --text as text; '' is the empty key",
+};
 
-const COUNT: Argument = Argument(
-    "COUNT",
-    Kind::Number(4_294_967_295),
-    "Print at most this many keys",
-);
+pub const COUNT: Argument = Argument {
+    name: "COUNT",
+    kind: Kind::Number(4_294_967_295),
+    help: "Print at most this many keys",
+};
 
-const SHELL: Argument = Argument("SHELL", Kind::OneOf(&["bash"]), "The shell");
+pub const SHELL: Argument = Argument {
+    name: "SHELL",
+    kind: Kind::OneOf(&["bash"]),
+    help: "The shell",
+};
 
-const WORKERS: Argument = Argument(
-    "workers",
-    Kind::UpTo("N", MOST_WORKERS as u64, "4"),
-    "Number of threads: 1 to 64",
-);
+pub const WORKERS: Argument = Argument {
+    name: "workers",
+    kind: Kind::UpTo("N", MOST_WORKERS as u64, "4"),
+    help: "Number of threads: 1 to 64",
+};
 
-const PIECES: Argument = Argument(
-    "pieces",
-    Kind::UpTo("P", MOST_PIECES as u64, "512"),
-    "Cut the keys into at most this many ranges, which threads replay: 1 to 4096",
-);
+pub const PIECES: Argument = Argument {
+    name: "pieces",
+    kind: Kind::UpTo("P", MOST_PIECES as u64, "512"),
+    help: "Cut the keys into at most this many ranges, which threads replay: 1 to 4096",
+};
 
-const VERBOSE: Argument = Argument(
-    "verbose",
-    Kind::Flag,
-    "After a failure, print its file or the system's reason, and what to try; after an answer, what it lost; of a damaged log, what may have happened",
-);
+pub const VERBOSE: Argument = Argument {
+    name: "verbose",
+    kind: Kind::Flag,
+    help: "After a failure, print its file or the system's reason, and what to try; after an answer, what it lost; of a damaged log, what may have happened",
+};
 
-const PROGRESS: Argument = Argument(
-    "progress",
-    Kind::Flag,
-    "Print on standard error how far it has come, at most a line a second",
-);
+pub const PROGRESS: Argument = Argument {
+    name: "progress",
+    kind: Kind::Flag,
+    help: "Print on standard error how far it has come, at most a line a second",
+};
 
-const JSON: Argument = Argument("json", Kind::Flag, "Print a JSON object a line");
+pub const JSON: Argument = Argument {
+    name: "json",
+    kind: Kind::Flag,
+    help: "Print a JSON object a line",
+};
 
-const TEXT: Argument = Argument(
-    "text",
-    Kind::Flag,
-    "Keys and values are text with escapes, as \\n and \\x00, and not hexadecimal",
-);
+pub const TEXT: Argument = Argument {
+    name: "text",
+    kind: Kind::Flag,
+    help: "Keys and values are text with escapes, as \\n and \\x00, and not hexadecimal",
+};
 
-const STRICT: Argument = Argument(
-    "strict",
-    Kind::Flag,
-    "End with status 4 if anything is torn, late, skipped or nameless, or there is a hole between segments",
-);
+pub const STRICT: Argument = Argument {
+    name: "strict",
+    kind: Kind::Flag,
+    help: "End with status 4 if anything is torn, late, skipped or nameless, or there is a hole between segments",
+};
 
-const STRICT_SHELL: Argument = Argument(
-    "strict",
-    Kind::Flag,
-    "End with the first status that is not 0, and not with 0",
-);
+pub const STRICT_SHELL: Argument = Argument {
+    name: "strict",
+    kind: Kind::Flag,
+    help: "End with the first status that is not 0, and not with 0",
+};
 
-const STATUS: Argument = Argument(
-    "status",
-    Kind::Flag,
-    "Print a line status=N after each answer",
-);
+pub const STATUS: Argument = Argument {
+    name: "status",
+    kind: Kind::Flag,
+    help: "Print a line status=N after each answer",
+};
 
-const STRICT_RESUME: Argument = Argument(
-    "strict",
-    Kind::Flag,
-    "Change nothing, and end with status 4, if anything is torn, late, skipped or nameless, or there is a hole between segments",
-);
+pub const STRICT_RESUME: Argument = Argument {
+    name: "strict",
+    kind: Kind::Flag,
+    help: "Change nothing, and end with status 4, if anything is torn, late, skipped or nameless, or there is a hole between segments",
+};
 
-const DRY_RUN: Argument = Argument(
-    "dry-run",
-    Kind::Flag,
-    "Change nothing: print what would be done",
-);
+pub const DRY_RUN: Argument = Argument {
+    name: "dry-run",
+    kind: Kind::Flag,
+    help: "Change nothing: print what would be done",
+};
 
-const CHART: Argument = Argument(
-    "chart",
-    Kind::Flag,
-    "Print a chart: a row for each log and checkpoint, over its timestamps",
-);
+pub const CHART: Argument = Argument {
+    name: "chart",
+    kind: Kind::Flag,
+    help: "Print a chart: a row for each log and checkpoint, over its timestamps",
+};
 
-const WIDTH: Argument = Argument(
-    "width",
-    Kind::From("N", NARROWEST as u64, WIDEST as u64),
-    "The width of the chart in characters: 40 to 1000; without it that of the terminal (COLUMNS), or 80",
-);
+pub const WIDTH: Argument = Argument {
+    name: "width",
+    kind: Kind::From("N", LEAST_WIDTH, GREATEST_WIDTH),
+    help: "The width of the chart in characters: 40 to 1000; without it that of the terminal (COLUMNS), or 80",
+};
 
-const SVG: Argument = Argument(
-    "svg",
-    Kind::Flag,
-    "Print the chart as an SVG, for a browser. DIR may be one log: its bytes are drawn then",
-);
+pub const NUMBER: Argument = Argument {
+    name: "number",
+    kind: Kind::UpTo("N", 4_294_967_295, "1"),
+    help: "The checkpoint's number: 1 to 4294967295",
+};
 
-const NUMBER: Argument = Argument(
-    "number",
-    Kind::UpTo("N", 4_294_967_295, "1"),
-    "The checkpoint's number: 1 to 4294967295",
-);
+pub const PART_LIMIT: Argument = Argument {
+    name: "limit",
+    kind: Kind::UpTo("BYTES", MOST_BYTES, "1073741824"),
+    help: "Begin another part rather than write more bytes: 1 to 1073741824",
+};
 
-const PART_LIMIT: Argument = Argument(
-    "limit",
-    Kind::UpTo("BYTES", MOST_BYTES, "1073741824"),
-    "Begin another part rather than write more bytes: 1 to 1073741824",
-);
+pub const EXISTS: Argument = Argument {
+    name: "exists",
+    kind: Kind::Flag,
+    help: "Print nothing: the status is 0 if the key is there, 4 if not",
+};
 
-const EXISTS: Argument = Argument(
-    "exists",
-    Kind::Flag,
-    "Print nothing: the status is 0 if the key is there, 4 if not",
-);
+pub const TO: Argument = Argument {
+    name: "to",
+    kind: Kind::Value("KEY"),
+    help: "Print only keys below this one",
+};
 
-const TO: Argument = Argument("to", Kind::Value("KEY"), "Print only keys below this one");
+pub const PREFIX: Argument = Argument {
+    name: "prefix",
+    kind: Kind::Value("KEY"),
+    help: "Print only keys that begin with this one",
+};
 
-const PREFIX: Argument = Argument(
-    "prefix",
-    Kind::Value("KEY"),
-    "Print only keys that begin with this one",
-);
+pub const COLUMNS: Argument = Argument {
+    name: "columns",
+    kind: Kind::List(GREATEST_COLUMN as u64),
+    help: "Print only columns of these numbers, as 0,3. A key without any is printed too",
+};
 
-const COLUMNS: Argument = Argument(
-    "columns",
-    Kind::List(GREATEST_COLUMN as u64),
-    "Print only columns of these numbers, as 0,3. A key without any is printed too",
-);
+pub const FROM: Argument = Argument {
+    name: "from",
+    kind: Kind::From("N", 0, u64::MAX),
+    help: "Print from this number on, counted from 0",
+};
 
-const FROM: Argument = Argument(
-    "from",
-    Kind::NumberOf("N"),
-    "Print from this number on, counted from 0",
-);
+pub const LIMIT: Argument = Argument {
+    name: "limit",
+    kind: Kind::From("N", 0, u64::MAX),
+    help: "Print at most this many",
+};
 
-const LIMIT: Argument = Argument("limit", Kind::NumberOf("N"), "Print at most this many");
+pub const RECORD_KEY: Argument = Argument {
+    name: "key",
+    kind: Kind::Value("KEY"),
+    help: "Print only those of this key, in hexadecimal",
+};
 
-const RECORD_KEY: Argument = Argument(
-    "key",
-    Kind::Value("KEY"),
-    "Print only those of this key, in hexadecimal",
-);
+pub const AT: Argument = Argument {
+    name: "at",
+    kind: Kind::From("BYTE", 0, u64::MAX),
+    help: "Read on at this byte, for example after a fault, also if the header is lost; numbers count from there",
+};
 
-const AT: Argument = Argument(
-    "at",
-    Kind::NumberOf("BYTE"),
-    "Read on at this byte, for example after a fault, also if the header is lost; numbers count from there",
-);
-
-const SKIP: Argument = Argument(
-    "skip",
-    Kind::Flag,
-    "Go on after damage, where 8 records in a row begin, or fewer that end the log. \
+pub const SKIP: Argument = Argument {
+    name: "skip",
+    kind: Kind::Flag,
+    help: "Go on after damage, where 8 records in a row begin, or fewer that end the log. \
      A record with a timestamp above the next one's is damaged, if that is not below the one before. \
      Complete records within the value of a damaged one are printed",
-);
+};
 
-const HEADER: Argument = Argument(
-    "header",
-    Kind::Value("HEADER"),
-    "Print this header in place of a lost one, and go on as with --skip: FORMAT:FROM, as 1:0, or of a segment 3:FROM:WORKER:SEGMENT",
-);
+pub const HEADER: Argument = Argument {
+    name: "header",
+    kind: Kind::Value("HEADER"),
+    help: "Print this header in place of a lost one, and go on as with --skip: FORMAT:FROM, as 1:0, or of a segment 3:FROM:WORKER:SEGMENT",
+};
 
-const BELOW: Argument = Argument(
-    "below",
-    Kind::NumberOf("TIMESTAMP"),
-    "Print only records with a timestamp below this one, for example the cutoff",
-);
+pub const BELOW: Argument = Argument {
+    name: "below",
+    kind: Kind::From("TIMESTAMP", 0, u64::MAX),
+    help: "Print only records with a timestamp below this one, for example the cutoff",
+};
 
 /// The arguments that say which store is recovered, and how.
 const RECOVERY: &[Argument] = &[FOLDER, WORKERS, VERBOSE, PROGRESS, PIECES];
@@ -299,9 +319,8 @@ const OTHERS: &[Subcommand] = &[
     Subcommand {
         name: "check",
         about: "Prints what is in each log, part and checkpoint, all that is wrong, and where recovery begins",
-        example: "Examples: mtrecover check examples/store\n\
-         \x20         mtrecover check examples/store --svg >store.svg",
-        arguments: &[FOLDER, WORKERS, VERBOSE, PROGRESS, JSON, CHART, WIDTH, SVG],
+        example: "Example: mtrecover check examples/store",
+        arguments: &[FOLDER, WORKERS, VERBOSE, PROGRESS, JSON, CHART, WIDTH],
     },
     Subcommand {
         name: "resume",
@@ -401,22 +420,14 @@ impl Subcommand {
 }
 
 // The help of some options names these limits.
-const _: () = prove!(MOST_WORKERS == 64);
+const _: () = prove!(MOST_WORKERS == 64 && MOST_PIECES == 4096 && MOST_BYTES == 1_073_741_824);
 
-const _: () = prove!(MOST_PIECES == 4096);
-
-const _: () = prove!(MOST_BYTES == 1_073_741_824);
-
-const _: () = prove!(ENOUGH_RECORDS == 8);
-
-const _: () = prove!(NARROWEST == 40);
-
-const _: () = prove!(WIDEST == 1000);
+const _: () = prove!(ENOUGH_RECORDS == 8 && LEAST_WIDTH == 40 && GREATEST_WIDTH == 1000);
 
 impl Argument {
     /// Returns the grammar of the argument.
     fn grammar<'a>(self, alloc: Global) -> Arg<'a> {
-        let Argument(name, kind, help) = self;
+        let Argument { name, kind, help } = self;
         let arg = Arg::new(alloc, name).help(help);
         match kind {
             Kind::Word => word(arg, name),
@@ -426,10 +437,6 @@ impl Argument {
             )),
             Kind::Flag => arg.long(name).action(ArgAction::SetTrue),
             Kind::Value(value) => option(arg, name, value),
-            Kind::NumberOf(value) => option(arg, name, value).value_parser(ValueParser::unsigned(
-                0,
-                u64::MAX,
-            )),
             Kind::UpTo(value, greatest, default) => option(arg, name, value)
                 .value_parser(ValueParser::unsigned(1, greatest))
                 .default_value(default),

@@ -1,40 +1,34 @@
-//! Why a command that writes files stopped.
+//! Why a command stopped.
 ghost use Rattle.std.specs.Prelude.{◌≤◌};
 
 use crate::caveat::Caveat;
-use crate::failure::tell_outcome;
-use crate::file_names::Names;
-use crate::request::Folder;
+use crate::failure::tell;
+use crate::host::{Host, Run};
 use mt_checkpoint::PlanFault;
-use mt_recover::{Failure, Refusal};
+use mt_recover::Refusal;
 use mt_text::Shown;
 use mt_words::{Fault, Memory};
 use std::alloc::{AllocError, Global};
-use std::fs::Files;
 use std::io::{self, ErrorKind, Write};
 
-/// Why a command that writes files stopped.
-#[derive(Debug, Drop)]
+/// Why a command stopped.
+#[derive(Drop)]
 pub enum Halt<'a> {
     /// The files could not be read or have a fault, or the output failed.
     Refused(Refusal<'a>),
     /// The store can have no such checkpoint.
     Unplanned(PlanFault),
     /// Something could not be done with a file or a folder.
-    Stuck(Stuck),
-}
-
-/// What could not be done with a file or a folder.
-#[derive(Debug, Drop)]
-pub struct Stuck {
-    /// What, as `replace`.
-    pub doing: &'static str,
-    /// The name of the file, or the path of the folder.
-    pub name: String,
-    /// The reason that the system gave.
-    pub reason: io::Error,
-    /// What to try.
-    pub advice: &'static str,
+    Stuck {
+        /// What, as `replace`.
+        doing: &'static str,
+        /// The name of the file, or the path of the folder.
+        name: String,
+        /// The reason that the system gave.
+        reason: io::Error,
+        /// What to try.
+        advice: &'static str,
+    },
 }
 
 impl<'a> Halt<'a> {
@@ -47,84 +41,71 @@ impl<'a> Halt<'a> {
         advice: &'static str,
     ) -> Halt<'a> {
         if reason.kind() == ErrorKind::OutOfMemory {
-            return Halt::from(Memory);
+            return Halt::from(Fault::Memory);
         }
         match String::from_str(alloc, name) {
-            Ok(name) => Halt::Stuck(Stuck {
+            Ok(name) => Halt::Stuck {
                 doing,
                 name,
                 reason,
                 advice,
-            }),
-            Err(_) => Halt::from(Memory),
+            },
+            Err(refused) => Halt::from(refused),
         }
     }
 }
 
-/// Returns the exit status of a command that writes files: what `tell_outcome` says, or 3 if it stopped. Says on `err` why,
-/// with a second line if that is wanted. A write error does not change the status.
-pub fn tell_written<R: AllocGlobal + Files, E: Write>(
-    rt: &R,
-    folder: &Folder<'_>,
-    names: &Names,
-    outcome: Result<Option<Caveat>, Halt<'_>>,
-    err: &mut E,
-) -> u8
-    ensures { result ≤ 4 }
-{
-    let outcome = match outcome {
-        Ok(caveat) => Ok(caveat),
-        Err(Halt::Refused(refusal)) => Err(refusal),
-        Err(Halt::Unplanned(fault)) => {
-            let _ = write_unplanned(fault, folder.is_verbose, err);
-            return 3;
+impl<'a, R: Host> Run<'a, R> {
+    /// Returns the exit status of a command: 0, 4 with a caveat, or that of the failure. Tells the caveat or the failure on
+    /// `err`, with a second line if that is wanted. A write error does not change the status.
+    pub fn end<E: Write>(&self, outcome: Result<Option<Caveat>, Halt<'_>>, err: &mut E) -> u8
+        ensures { result ≤ 4 }
+    {
+        match outcome {
+            Ok(None) => 0,
+            Ok(Some(caveat)) => caveat.tell(err),
+            Err(Halt::Refused(refusal)) if self.folder.is_verbose => {
+                tell(&self.with_reason(refusal), Some(self.names), err)
+            }
+            Err(Halt::Refused(refusal)) => tell(&refusal, None, err),
+            Err(Halt::Unplanned(fault)) => {
+                let _ = writeln!(err, "mtrecover: no checkpoint: {fault}");
+                if self.folder.is_verbose {
+                    let _ = writeln!(err, "try: {}", advice_on(fault));
+                }
+                3
+            }
+            Err(
+                Halt::Stuck {
+                    doing,
+                    name,
+                    reason,
+                    advice,
+                },
+            ) => {
+                let _ = writeln!(err, "mtrecover: cannot {doing} {}", Shown(&name));
+                if self.folder.is_verbose {
+                    let _ = writeln!(err, "reason: {reason}; try: {advice}");
+                }
+                3
+            }
         }
-        Err(Halt::Stuck(stuck)) => {
-            let _ = write_stuck(&stuck, folder.is_verbose, err);
-            return 3;
-        }
-    };
-    tell_outcome(rt, folder, names, outcome, err)
+    }
 }
 
-/// Prints why there is no checkpoint and, if wanted, what to try. Err: write error.
-fn write_unplanned<E: Write>(fault: PlanFault, is_verbose: bool, err: &mut E) -> io::Result<()> {
-    writeln!(err, "mtrecover: no checkpoint: {fault}")?;
-    if !is_verbose {
-        return Ok(());
-    }
-    let advice = match fault {
+/// Returns what to try if there can be no such checkpoint.
+fn advice_on(fault: PlanFault) -> &'static str {
+    match fault {
         PlanFault::Timestamp => "begin another log: all logs have ended",
         PlanFault::Version => "none: no update can be newer",
         PlanFault::Parts => "give a greater --limit",
         PlanFault::Memory => "use a machine with more memory",
-    };
-    writeln!(err, "try: {advice}")
-}
-
-/// Prints what could not be done and, if wanted, why, and what to try. Err: write error.
-fn write_stuck<E: Write>(stuck: &Stuck, is_verbose: bool, err: &mut E) -> io::Result<()> {
-    writeln!(
-        err,
-        "mtrecover: cannot {} {}",
-        stuck.doing,
-        Shown(&stuck.name)
-    )?;
-    if !is_verbose {
-        return Ok(());
     }
-    writeln!(err, "reason: {}; try: {}", stuck.reason, stuck.advice)
 }
 
 impl<'a> From<Refusal<'a>> for Halt<'a> {
     fn from(refusal: Refusal<'a>) -> Halt<'a> {
         Halt::Refused(refusal)
-    }
-}
-
-impl<'a> From<Failure<'a>> for Halt<'a> {
-    fn from(failure: Failure<'a>) -> Halt<'a> {
-        Halt::Refused(Refusal::from(failure))
     }
 }
 
@@ -156,7 +137,7 @@ impl<'a> From<io::Error> for Halt<'a> {
 impl<'a> From<PlanFault> for Halt<'a> {
     fn from(fault: PlanFault) -> Halt<'a> {
         match fault {
-            PlanFault::Memory => Halt::from(Memory),
+            PlanFault::Memory => Halt::from(Fault::Memory),
             _ => Halt::Unplanned(fault),
         }
     }

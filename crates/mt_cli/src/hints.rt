@@ -1,11 +1,11 @@
 //! What may have happened to a damaged log.
 use crate::ending::Again;
-use crate::spans::{Zeros, zeros_in};
+use crate::zeros::{Zeros, zeros_in};
 use mt_text::Shown;
 use std::io::Write;
 
 /// What may have happened to a damaged log, as its bytes show it.
-#[derive(Clone, Copy, Debug)]
+#[derive(Clone, Copy)]
 pub struct Hints {
     /// The number of line feeds, if there are some, and each follows a carriage return.
     feeds: Option<usize>,
@@ -16,25 +16,16 @@ pub struct Hints {
 }
 
 impl Hints {
-    /// Returns no hints.
-    pub fn none() -> Hints {
-        Hints {
-            feeds: None,
-            zeros: None,
-            length: None,
-        }
-    }
-
     /// Returns the hints of a log, whose complete records end at the byte `end`, and go on after it or do not.
     pub fn of(bytes: &[u8], end: usize, again: Option<Again>) -> Hints {
-        let next = again.map_or(bytes.len(), |again| again.at);
+        let next = match again {
+            Some(again) => again.at,
+            None => bytes.len(),
+        };
         let damaged = bytes.get(end..next).unwrap_or(&[]);
         Hints {
             feeds: feeds_of(bytes),
-            zeros: zeros_in(damaged).map(|zeros| Zeros {
-                from: zeros.from.saturating_add(end),
-                count: zeros.count,
-            }),
+            zeros: zeros_in(damaged, end),
             length: (again.is_some() && is_too_long(bytes, end)).then_some(end),
         }
     }

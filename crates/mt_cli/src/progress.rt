@@ -9,7 +9,7 @@ use std::sync::atomic::{AtomicU64, Ordering};
 use std::time::{Clock, Instant};
 
 /// How it is told how far a command has come.
-#[derive(Clone, Copy, Debug, PartialEq, Eq)]
+#[derive(Clone, Copy, PartialEq, Eq)]
 pub enum Telling {
     /// Not at all.
     Never,
@@ -117,35 +117,21 @@ impl<'e, R: AllocGlobal + Clock, E: Write> Meter<'e, R, E> {
         }
     }
 
-    /// Counts bytes that were scanned.
-    fn scanned(&self, bytes: u64) {
+    /// Counts bytes that were scanned, or pieces that are replayed.
+    fn count(&self, more: u64, are_bytes: bool) {
         if self.telling == Telling::Never {
             return;
         }
-        let (done, is_end) = self.bytes.add(bytes);
+        let count = if are_bytes { &self.bytes } else { &self.pieces };
+        let (done, is_end) = count.add(more);
         let now = self.elapsed();
         if self.is_due(now, is_end) {
-            self.tell(
-                scan_line(self.rt.alloc(), &self.bytes, done, now),
-                now,
-                is_end,
-            );
-        }
-    }
-
-    /// Counts a piece that is replayed.
-    fn replayed(&self) {
-        if self.telling == Telling::Never {
-            return;
-        }
-        let (done, is_end) = self.pieces.add(1);
-        let now = self.elapsed();
-        if self.is_due(now, is_end) {
-            self.tell(
-                replay_line(self.rt.alloc(), &self.pieces, done),
-                now,
-                is_end,
-            );
+            let line = if are_bytes {
+                scan_line(self.rt.alloc(), count, done, now)
+            } else {
+                replay_line(self.rt.alloc(), count, done)
+            };
+            self.tell(line, now, is_end);
         }
     }
 
@@ -226,7 +212,7 @@ fn replay_line(alloc: Global, pieces: &Count, done: u64) -> Result<String, Alloc
 /// A worker enters a piece to replay it.
 impl<'e, R: AllocGlobal + Clock + Sync, E: Write + Send> Gate for Meter<'e, R, E> {
     fn enter(&self, _worker: u32, _piece: u32) {
-        self.replayed();
+        self.count(1, false);
     }
 }
 
@@ -243,7 +229,7 @@ impl<'m, 'e, S: Source, R: AllocGlobal + Clock, E: Write> Source for Counted<'m,
     fn advance(&mut self) -> Result<usize, SourceFault> {
         let advanced = self.source.advance();
         if let Ok(count) = advanced {
-            self.meter.scanned(count as u64);
+            self.meter.count(count as u64, true);
         }
         advanced
     }

@@ -58,20 +58,18 @@ fn tell_error<O: Write, E: Write>(
         return tell(&Refusal::from(Fault::Memory), names, err);
     };
     if !error.use_stderr() {
-        return match write_help(text.as_str(), out) {
+        let printed = match out.write_all(text.as_bytes()) {
+            Ok(()) => out.flush(),
+            Err(error) => Err(error),
+        };
+        return match printed {
             Ok(()) => 0,
-            Err(refusal) => tell(&refusal, names, err),
+            Err(error) => tell(&Refusal::from(error), names, err),
         };
     }
     // A write error does not change the status.
     let _ = write_paragraph(text.as_str(), err);
     2
-}
-
-/// Prints help.
-fn write_help<O: Write>(text: &str, out: &mut O) -> Result<(), Refusal<'static>> {
-    out.write_all(text.as_bytes())?;
-    Ok(out.flush()?)
 }
 
 /// Prints the first paragraph of a text as one line. Err: write error.

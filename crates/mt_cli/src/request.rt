@@ -6,69 +6,57 @@ use mt_text::{Form, Selection};
 use mt_words::{Format, Key};
 
 /// The request that the arguments make. If it is verbose, a failure has a second line, which explains it.
-#[derive(Debug, Drop)]
+#[derive(Drop)]
 pub enum Command<'a> {
-    /// A query on a folder, whose logs and parts are sources.
-    Query(Folder<'a>, Query),
-    /// Questions over the store of a folder, which are lines of the input.
-    Shell(Folder<'a>, Shell),
-    /// What is in each file of a folder, as JSON or not, for which files are read twice.
-    Check {
-        folder: Folder<'a>,
-        is_json: bool,
-        /// The picture to print in place of lines.
-        picture: Option<Picture>,
-    },
-    /// Makes the files of a folder those with which a server goes on after a crash.
-    Resume(Folder<'a>, Resume),
-    /// Writes the store of a folder as a checkpoint into a new folder.
-    Checkpoint(Folder<'a>, NewFolder<'a>),
-    /// A query on the file of this path.
-    File {
-        path: &'a str,
-        is_verbose: bool,
-        query: FileQuery,
-    },
+    OnFolder(Folder<'a>, FolderCommand<'a>),
+    OnFile(FileCommand<'a>),
+}
+
+/// What to do with a folder of logs and parts.
+#[derive(Drop)]
+pub enum FolderCommand<'a> {
+    /// Answers a question.
+    Question(Question),
+    /// Prints the clashes of the logs, which take no store.
+    Audit,
+    /// Answers questions over the store, which are lines of the input.
+    Shell(Shell),
+    /// Prints what is in each file, for which files are read twice.
+    Check(CheckForm),
+    /// Makes the files those with which a server goes on after a crash.
+    Resume(Resume),
+    /// Writes the store as a checkpoint into a new folder.
+    Checkpoint(NewFolder<'a>),
+}
+
+/// A query on a file.
+#[derive(Drop)]
+pub struct FileCommand<'a> {
+    pub path: &'a str,
+    /// Whether a failure has a second line, which explains it.
+    pub is_verbose: bool,
+    pub query: FileQuery,
 }
 
 impl Command<'_> {
+    /// Makes a command on a folder tell how far it has come, and what its store lost or passed over, as fits a terminal.
+    pub fn tell_at_terminal(&mut self) {
+        if let Command::OnFolder(folder, _) = self {
+            folder.telling = folder.telling.at_terminal();
+            folder.tells_losses = true;
+        }
+    }
+
     /// Gives a chart this width, unless the arguments give one.
-    pub fn fit(&mut self, columns: Option<usize>) {
-        if let Command::Check {
-            picture: Some(Picture::Chart(width)),
-            ..
-        } = self
-        {
+    pub fn fit(&mut self, columns: Option<u64>) {
+        if let Command::OnFolder(_, FolderCommand::Check(CheckForm::Chart(width))) = self {
             *width = width.or(columns);
-        }
-    }
-
-    /// Makes a command on a folder tell how far it has come, as fits a terminal.
-    pub fn tell_progress(&mut self) {
-        match self {
-            Command::Query(folder, _) => folder.telling = folder.telling.at_terminal(),
-            Command::Shell(folder, _) => folder.telling = folder.telling.at_terminal(),
-            Command::Resume(folder, _) => folder.telling = folder.telling.at_terminal(),
-            Command::Checkpoint(folder, _) => folder.telling = folder.telling.at_terminal(),
-            Command::Check { folder, .. } => folder.telling = folder.telling.at_terminal(),
-            Command::File { .. } => {}
-        }
-    }
-
-    /// Makes a command that recovers a store tell what was lost or passed over, as `--verbose` does.
-    pub fn tell_losses(&mut self) {
-        match self {
-            Command::Query(folder, _) => folder.tells_losses = true,
-            Command::Shell(folder, _) => folder.tells_losses = true,
-            Command::Resume(folder, _) => folder.tells_losses = true,
-            Command::Checkpoint(folder, _) => folder.tells_losses = true,
-            Command::Check { .. } | Command::File { .. } => {}
         }
     }
 }
 
 /// A folder, and how to read it.
-#[derive(Debug, Drop)]
+#[derive(Drop)]
 pub struct Folder<'a> {
     /// The path of the folder of the logs and parts.
     pub path: &'a str,
@@ -80,24 +68,24 @@ pub struct Folder<'a> {
     pub tells_losses: bool,
     /// How it is told how far the command has come.
     pub telling: Telling,
-    /// Recovery cuts the keys into at most this many pieces. 0: it replays none.
-    pub most_pieces: u32,
+    /// Recovery cuts the keys into at most this many pieces. None: the command takes no store.
+    pub pieces: Option<Pieces>,
 }
 
-/// A picture of what is in files.
-#[derive(Clone, Copy, Debug)]
-pub enum Picture {
-    /// A chart of characters, in lines of this width, or of the usual one.
-    Chart(Option<usize>),
-    /// An SVG, as browsers show it.
-    Svg,
+/// How to print what is in the files of a folder.
+#[derive(Clone, Copy, PartialEq, Eq)]
+pub enum CheckForm {
+    /// As a line of each file.
+    Lines,
+    /// As a JSON object of each file.
+    Json,
+    /// As a chart, in lines of this width, or of the usual one.
+    Chart(Option<u64>),
 }
 
 /// How to answer the lines of the input.
-#[derive(Clone, Copy, Debug)]
+#[derive(Clone, Copy)]
 pub struct Shell {
-    /// Recovery cuts the keys into at most this many pieces.
-    pub pieces: Pieces,
     /// Whether the exit status is the first status that is not 0, and not just 0.
     pub is_strict: bool,
     /// Whether a line with the status follows each answer.
@@ -105,7 +93,7 @@ pub struct Shell {
 }
 
 /// How to resume the files of a folder.
-#[derive(Clone, Copy, Debug)]
+#[derive(Clone, Copy)]
 pub struct Resume {
     /// Whether nothing is changed: what would be is printed.
     pub is_dry: bool,
@@ -116,7 +104,7 @@ pub struct Resume {
 }
 
 /// A new folder for a checkpoint of a store, and what the checkpoint is to be.
-#[derive(Debug, Drop)]
+#[derive(Drop)]
 pub struct NewFolder<'a> {
     /// The path of the folder.
     pub path: &'a str,
@@ -124,23 +112,10 @@ pub struct NewFolder<'a> {
     pub number: u32,
     /// The most bytes of a part that has several entries.
     pub limit: usize,
-    /// Recovery cuts the keys into at most this many pieces.
-    pub pieces: Pieces,
 }
 
-/// A query on the logs and parts of a folder: what to print.
-#[derive(Debug, Drop)]
-pub enum Query {
-    /// A query on the recovered store. Recovery cuts the keys into at most this many pieces.
-    Store(StoreQuery, Pieces),
-    /// What became of each update of a key.
-    History(Trace),
-    /// The clashes of the logs, which take no store.
-    Audit,
-}
-
-/// A question of a shell.
-#[derive(Debug, Drop)]
+/// A question over a folder: what to print.
+#[derive(Drop)]
 pub enum Question {
     /// A query on the recovered store.
     Store(StoreQuery),
@@ -149,15 +124,15 @@ pub enum Question {
 }
 
 /// The history of a key: what to print.
-#[derive(Debug, Drop)]
+#[derive(Drop)]
 pub struct Trace {
     pub key: Key,
     /// Whether JSON is printed.
     pub is_json: bool,
 }
 
-/// A query on one file.
-#[derive(Debug, Drop)]
+/// What to print of one file.
+#[derive(Drop)]
 pub enum FileQuery {
     /// The wanted records of a log, or entries of a part, from this byte on, or from the first one on.
     Records(Selection, Option<u64>),
@@ -166,7 +141,7 @@ pub enum FileQuery {
 }
 
 /// How to cut a log.
-#[derive(Clone, Copy, Debug)]
+#[derive(Clone, Copy)]
 pub struct Cut {
     /// Whether records go on after damage. If not, they end at it.
     pub is_skipping: bool,
@@ -187,7 +162,7 @@ impl Cut {
 }
 
 /// A query on the recovered store.
-#[derive(Debug, Drop)]
+#[derive(Drop)]
 pub enum StoreQuery {
     /// The report of recovery. If it is strict, what was lost or passed over decides the status.
     Report { is_json: bool, is_strict: bool },
@@ -202,7 +177,7 @@ pub enum StoreQuery {
 }
 
 /// The pairs of a range: the first ones, up to a number.
-#[derive(Debug, Drop)]
+#[derive(Drop)]
 pub struct Range {
     /// The key at or after which the range begins.
     pub from: Key,

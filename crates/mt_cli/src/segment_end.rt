@@ -6,7 +6,7 @@ use std::alloc::Global;
 use std::io::Write;
 
 /// Where a segment of a worker's log ends once it is cut.
-#[derive(Clone, Copy, Debug)]
+#[derive(Clone, Copy)]
 pub struct SegmentEnd {
     segment: Segment,
     /// Its last timestamp.

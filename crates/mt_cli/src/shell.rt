@@ -3,75 +3,43 @@ ghost use Rattle.std.specs.Prelude.{◌≡◌, ◌≤◌, IfOk};
 
 use crate::answering::{PRINTED_AT_ONCE, print_answer};
 use crate::caveat::{Caveat, Losses};
-use crate::checkpointing::recover_folder;
 use crate::failure::tell;
 use crate::file_names::Names;
 use crate::grammar::PROMPT;
-use crate::halt::{Halt, tell_written};
+use crate::halt::Halt;
+use crate::host::{Host, Run};
 use crate::line::{LONGEST_LINE, Line, next_line, words_of};
-use crate::opening::{open_inputs, rack_of};
 use crate::question::question;
-use crate::request::{Folder, Question, Shell, Trace};
-use crate::tracing::trace;
+use crate::request::{Question, Shell};
 use mt_recover::{Failure, Recovered, Refusal};
 use mt_words::Fault;
-use std::fs::Files;
 use std::io::{self, BufReader, BufWriter, IsTerminal, Read, Write};
-use std::thread::Threads;
-use std::time::Clock;
 use std::{mem, str};
 
-/// Recovers the store of the files of these names, answers the lines of the input, and returns the exit status.
-pub fn shell<R, I, O: Write, E: Write + Send>(
-    rt: &R,
-    folder: &Folder<'_>,
-    how: Shell,
-    names: &Names,
-    input: &mut I,
-    out: &mut O,
-    err: &mut E,
-) -> u8
-where
-    R: AllocGlobal + Clock + Files + Threads + Sync,
-    R::File: Send,
-    I: Read + IsTerminal,
-    ensures status { result ≤ 4 }
-{
-    match recover_and_answer(rt, folder, how, names, input, out, err) {
-        Ok(status) => status,
-        Err(halt) => tell_written(rt, folder, names, Err(halt), err),
+impl<'a, R: Host> Run<'a, R> {
+    /// Recovers the store, tells the losses if they are to be told, answers the lines of the input through a buffer, and
+    /// returns the exit status. As in a query, the store is not freed.
+    pub fn shell<I: Read + IsTerminal, O: Write, E: Write + Send>(
+        &self,
+        how: Shell,
+        input: &mut I,
+        out: &mut O,
+        err: &mut E,
+    ) -> Result<u8, Halt<'a>>
+        ensures status { IfOk result (λ status. status ≤ 4) }
+    {
+        let recovered = self.recover(err)?;
+        self.folder.tell_losses(Losses::of(recovered.report()), err);
+        let session = Session {
+            run: self,
+            recovered: &recovered,
+            how,
+        };
+        let mut out = BufWriter::with_capacity(self.rt.alloc(), PRINTED_AT_ONCE, out)?;
+        let status = session.answer_lines(input, &mut out, err)?;
+        mem::forget(recovered);
+        Ok(status)
     }
-}
-
-/// Recovers the store, tells the losses if they are to be told, and answers the lines through a buffer. As in a query, the
-/// store is not freed.
-fn recover_and_answer<'a, R, I, O: Write, E: Write + Send>(
-    rt: &'a R,
-    folder: &'a Folder<'a>,
-    how: Shell,
-    names: &'a Names,
-    input: &mut I,
-    out: &mut O,
-    err: &mut E,
-) -> Result<u8, Halt<'a>>
-where
-    R: AllocGlobal + Clock + Files + Threads + Sync,
-    R::File: Send,
-    I: Read + IsTerminal,
-    ensures { IfOk result (λ status. status ≤ 4) }
-{
-    let recovered = recover_folder(rt, folder, how.pieces, names, err)?;
-    folder.tell_losses(Losses::of(recovered.report()), err);
-    let session = Session {
-        rt,
-        folder,
-        names,
-        recovered: &recovered,
-        how,
-    };
-    let status = session.answer_all(input, out, err)?;
-    mem::forget(recovered);
-    Ok(status)
 }
 
 /// The output failed, which was told and ends the shell with status 3.
@@ -81,31 +49,12 @@ struct OutputFailed;
 /// Answers lines from one recovered store, or from the files of its folder.
 #[derive(Drop)]
 struct Session<'a, 'r, R> {
-    rt: &'a R,
-    folder: &'a Folder<'a>,
-    names: &'a Names,
+    run: &'r Run<'a, R>,
     recovered: &'r Recovered,
     how: Shell,
 }
 
-impl<'a, 'r, R> Session<'a, 'r, R>
-where
-    R: AllocGlobal + Clock + Files + Threads + Sync,
-    R::File: Send,
-{
-    /// Answers the lines of the input through a buffer, and returns the exit status. Err: read error, or out of memory.
-    fn answer_all<I: Read + IsTerminal, O: Write, E: Write + Send>(
-        &self,
-        input: &mut I,
-        out: &mut O,
-        err: &mut E,
-    ) -> Result<u8, Halt<'static>>
-        ensures { IfOk result (λ status. status ≤ 4) }
-    {
-        let mut out = BufWriter::with_capacity(self.rt.alloc(), PRINTED_AT_ONCE, out)?;
-        self.answer_lines(input, &mut out, err)
-    }
-
+impl<'a, 'r, R: Host> Session<'a, 'r, R> {
     /// Answers each line of the input, before it reads the next one, and returns the exit status. It ends early, with
     /// status 3, if the output fails. At a terminal it asks for each line. Err: read error, or out of memory.
     fn answer_lines<I: Read + IsTerminal, O: Write, E: Write + Send>(
@@ -118,14 +67,16 @@ where
     {
         let asks = input.is_terminal();
         let mut first = 0;
-        let mut text = Vec::new(self.rt.alloc());
-        let mut lines = match BufReader::new(self.rt.alloc(), input) {
+        let mut text = Vec::new(self.run.rt.alloc());
+        let mut lines = match BufReader::new(self.run.rt.alloc(), input) {
             Ok(lines) => lines,
             Err(error) => return Err(self.unread(error)),
         };
         for _ in 0..u64::MAX {
             if asks {
-                ask(err);
+                // A write error is passed over.
+                let _ = write!(err, "{PROMPT} ");
+                let _ = err.flush();
             }
             let line = match next_line(&mut lines, &mut text) {
                 Ok(Line::End) => break,
@@ -149,7 +100,7 @@ where
     /// Returns that the input cannot be read.
     fn unread(&self, error: io::Error) -> Halt<'static> {
         Halt::stuck(
-            self.rt.alloc(),
+            self.run.rt.alloc(),
             "read",
             "standard input",
             error,
@@ -174,7 +125,7 @@ where
         let Ok(text) = str::from_utf8(text) else {
             return self.end_answer(self.tell(&Refusal::from(Failure::Words), err), out, err);
         };
-        let status = match words_of(self.rt.alloc(), text) {
+        let status = match words_of(self.run.rt.alloc(), text) {
             Ok(words) if words.is_empty() => return Ok(0),
             Ok(words) => self.answer(&words, out, err)?,
             Err(_) => self.tell(&Refusal::from(Fault::Memory), err),
@@ -191,7 +142,7 @@ where
     ) -> Result<u8, OutputFailed>
         ensures { IfOk result (λ status. status ≤ 4) }
     {
-        let question = match question(self.rt.alloc(), words, self.explaining(), out, err) {
+        let question = match question(self.run.rt.alloc(), words, self.explaining(), out, err) {
             Ok(question) => question,
             // The help that the words ask for cannot be printed.
             Err(3) => return Err(OutputFailed),
@@ -219,25 +170,11 @@ where
     ) -> Result<Option<Caveat>, Refusal<'a>> {
         let caveat = match question {
             Question::Store(query) => print_answer(self.recovered, query, out)?,
-            Question::History(how) => {
-                self.trace(how, out, err)?;
-                None
-            }
+            // The files are read again.
+            Question::History(how) => self.run.trace(how, out, err)?,
         };
         out.flush()?;
         Ok(caveat)
-    }
-
-    /// Reads the files again, and prints the history of a key.
-    fn trace<O: Write, E: Write + Send>(
-        &self,
-        how: &Trace,
-        out: &mut O,
-        err: &mut E,
-    ) -> Result<(), Refusal<'a>> {
-        let mut rack = rack_of(self.rt, self.names)?;
-        let inputs = open_inputs(self.rt, self.folder.path, self.names, rack.slots())?;
-        trace(self.rt, inputs, self.folder, how, self.names, out, err)
     }
 
     /// Ends an answer with the line of its status, if that is wanted, and returns the status.
@@ -249,13 +186,20 @@ where
     ) -> Result<u8, OutputFailed>
         ensures { IfOk result (λ same. same ≡ status) }
     {
-        if self.how.has_status {
-            if let Err(error) = write_status(status, out) {
+        if !self.how.has_status {
+            return Ok(status);
+        }
+        let written = match writeln!(out, "status={status}") {
+            Ok(()) => out.flush(),
+            Err(error) => Err(error),
+        };
+        match written {
+            Ok(()) => Ok(status),
+            Err(error) => {
                 let _ = self.tell(&Refusal::from(error), err);
-                return Err(OutputFailed);
+                Err(OutputFailed)
             }
         }
-        Ok(status)
     }
 
     /// Tells a failure and returns its status.
@@ -267,7 +211,7 @@ where
 
     /// Returns the names of the files, if a failure has a second line, which explains it.
     fn explaining(&self) -> Option<&'a Names> {
-        self.folder.is_verbose.then_some(self.names)
+        self.run.folder.is_verbose.then_some(self.run.names)
     }
 
     /// Tells that a line is too long, and returns its status.
@@ -276,21 +220,9 @@ where
     {
         // A write error does not change the status.
         let _ = writeln!(err, "mtrecover: line too long");
-        if self.folder.is_verbose {
+        if self.run.folder.is_verbose {
             let _ = writeln!(err, "try: write at most {LONGEST_LINE} bytes a line");
         }
         2
     }
-}
-
-/// Prints the line of a status. Err: write error.
-fn write_status<O: Write>(status: u8, out: &mut O) -> io::Result<()> {
-    writeln!(out, "status={status}")?;
-    out.flush()
-}
-
-/// Asks for a line. A write error is passed over.
-fn ask<E: Write>(err: &mut E) {
-    let _ = write!(err, "{PROMPT} ");
-    let _ = err.flush();
 }

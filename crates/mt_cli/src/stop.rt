@@ -1,9 +1,10 @@
 //! Where the complete records of a log, or the entries of a part, stop before its bytes do.
 ghost use Rattle.std.specs.Prelude.{◌≤◌};
 
-use crate::ending::{Again, Ending};
-use crate::spans::MANY_ZEROS;
-use mt_record::{FOOTER_BYTES, LogFront, Rest, footer_of, header_at};
+use crate::caveat::plural;
+use crate::ending::{Again, Ending, header_bytes};
+use crate::zeros::MANY_ZEROS;
+use mt_record::{FOOTER_BYTES, LogFront, Rest, footer_of};
 use mt_text::Stopped;
 use mt_words::{Format, Memory, What};
 use std::alloc::Global;
@@ -42,12 +43,20 @@ impl Stop {
             Rest::Torn => Wrong::Torn,
             Rest::Faulty(what) => Wrong::Record(what),
         };
-        let start = header_at(bytes).map_or(0, |(_, rest)| bytes.len().saturating_sub(rest.len()));
-        let stop = Stop::at(alloc, front.head.format, bytes, start, front.bytes as usize)?;
-        Ok(stop.map(|stop| Stop {
-            reason: Some((front.count, fault)),
-            ..stop
-        }))
+        let format = front.head.format;
+        match Stop::at(
+            alloc,
+            format,
+            bytes,
+            header_bytes(bytes),
+            front.bytes as usize,
+        )? {
+            Some(stop) => Ok(Some(Stop {
+                reason: Some((front.count, fault)),
+                ..stop
+            })),
+            None => Ok(None),
+        }
     }
 
     /// Returns where the entries of a broken part stop, all of which were counted.
@@ -133,8 +142,7 @@ impl Stop {
             again,
             ..
         } = self.ending;
-        let plural = if bytes == 1 { "" } else { "s" };
-        write!(f, "; {bytes} byte{plural} left")?;
+        write!(f, "; {bytes} byte{} left", plural(bytes as u128))?;
         if zeros > 0 && zeros == bytes {
             f.write_str(", all zero")?;
         } else if zeros >= MANY_ZEROS {
@@ -143,10 +151,10 @@ impl Stop {
         let Some(Again { at, records }) = again else {
             return Ok(());
         };
-        let plural = if records == 1 { "" } else { "s" };
+        let s = plural(records as u128);
         write!(
             f,
-            ", whole again from byte {at} on ({records} record{plural}), which points to damage"
+            ", whole again from byte {at} on ({records} record{s}), which points to damage"
         )
     }
 }

@@ -10,32 +10,29 @@ use mt_recover::Refusal;
 use std::alloc::Global;
 use std::io::{BufWriter, Write};
 
-/// A text that is made from the grammar.
-#[derive(Clone, Copy)]
-pub enum Text {
-    /// The manual page.
-    Manual,
-    /// The completions for bash.
-    Completions,
-}
-
-/// Prints a text and returns the exit status. On a failure, prints its line on `err`.
-pub fn tell_text<O: Write, E: Write>(alloc: Global, text: Text, out: &mut O, err: &mut E) -> u8
+/// Prints the manual page, or else the completions for bash, and returns the exit status. On a failure, prints its line on
+/// `err`.
+pub fn tell_text<O: Write, E: Write>(alloc: Global, is_manual: bool, out: &mut O, err: &mut E) -> u8
     ensures { result ≤ 3 }
 {
-    match write_text(alloc, text, out) {
+    match write_text(alloc, is_manual, out) {
         Ok(()) => 0,
         Err(refusal) => tell(&refusal, None, err),
     }
 }
 
 /// Prints a text, through a buffer.
-fn write_text<O: Write>(alloc: Global, text: Text, out: &mut O) -> Result<(), Refusal<'static>> {
+fn write_text<O: Write>(
+    alloc: Global,
+    is_manual: bool,
+    out: &mut O,
+) -> Result<(), Refusal<'static>> {
     let program = grammar(alloc)?;
     let mut out = BufWriter::with_capacity(alloc, PRINTED_AT_ONCE, out)?;
-    match text {
-        Text::Manual => write_manual(alloc, &program, STATUSES, &mut out)?,
-        Text::Completions => write_completions(&program, &mut out)?,
+    if is_manual {
+        write_manual(alloc, &program, STATUSES, &mut out)?;
+    } else {
+        write_completions(&program, &mut out)?;
     }
     Ok(out.flush()?)
 }

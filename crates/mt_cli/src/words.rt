@@ -3,13 +3,17 @@ ghost use Rattle.std.specs.Prelude.{◌≤◌, IfErr};
 
 use crate::failure::{or_tell, tell};
 use crate::file_names::Names;
-use crate::grammar::grammar;
+use crate::grammar::{
+    AT, BELOW, CHART, COLUMNS, COUNT, DRY_RUN, EXISTS, FOLDER, FROM, HEADER, JSON, KEY, LIMIT, LOG,
+    NUMBER, OUT, PART_LIMIT, PIECES, PREFIX, PROGRESS, RECORD_KEY, SKIP, STATUS, STRICT,
+    STRICT_RESUME, STRICT_SHELL, TEXT, TO, VERBOSE, WIDTH, WORKERS, grammar,
+};
 use crate::progress::Telling;
 use crate::request::{
-    Command, Cut, FileQuery, Folder, NewFolder, Picture, Query, Question, Range, Resume, Shell,
-    StoreQuery, Trace,
+    CheckForm, Command, Cut, FileCommand, FileQuery, Folder, FolderCommand, NewFolder, Question,
+    Range, Resume, Shell, StoreQuery, Trace,
 };
-use crate::texts::{Text, tell_text};
+use crate::texts::tell_text;
 use clap::ArgMatches;
 use clap::error::ErrorKind;
 use hex::FromHexError;
@@ -30,12 +34,16 @@ pub fn command<'a, R: AllocGlobal, O: Write, E: Write>(
 ) -> Result<Command<'a>, u8>
     ensures status { IfErr result (λ status. status ≤ 3) }
 {
-    if asks_for_manual(words) {
-        return Err(tell_text(rt.alloc(), Text::Manual, out, err));
+    // The parser has no options for `help`.
+    match words {
+        [help, man] if help.as_str() == "help" && man.as_str() == "--man" => {
+            return Err(tell_text(rt.alloc(), true, out, err));
+        }
+        _ => {}
     }
     match parse(rt.alloc(), words) {
         Ok(matches) if matches.subcommand_name() == Some("completions") => {
-            Err(tell_text(rt.alloc(), Text::Completions, out, err))
+            Err(tell_text(rt.alloc(), false, out, err))
         }
         Ok(matches) => read_or_tell(rt.alloc(), &matches, err),
         Err(error) => Err(tell_error(&error, out, err)),
@@ -51,18 +59,11 @@ fn read_or_tell<'a, E: Write>(
     ensures { IfErr result (λ status. status ≤ 3) }
 {
     let no_names = Names::new(alloc);
-    let is_verbose = matches
-        .subcommand()
-        .is_some_and(|(_, matches)| matches.get_flag("verbose"));
+    let is_verbose = match matches.subcommand() {
+        Some((_, matches)) => matches.get_flag(VERBOSE.name),
+        None => false,
+    };
     or_tell(read(alloc, matches), is_verbose.then_some(&no_names), err)
-}
-
-/// Returns whether the arguments are `help --man`. The parser has no options for `help`.
-fn asks_for_manual(words: &[String]) -> bool {
-    match words {
-        [command, option] => command.as_str() == "help" && option.as_str() == "--man",
-        _ => false,
-    }
 }
 
 /// Parses the arguments by the grammar, which takes any word as the header of a log.
@@ -81,9 +82,10 @@ const BAD_HEADER: &str = "a header is FORMAT:FROM, or of a segment 3:FROM:WORKER
 /// Returns whether there is a word for the header of a log, but it is none.
 fn has_bad_header(matches: &ArgMatches<'_>) -> bool {
     match matches.subcommand() {
-        Some(("cut", matches)) => matches
-            .get_str("header")
-            .is_some_and(|word| header(word).is_none()),
+        Some(("cut", matches)) => match matches.get_str(HEADER.name) {
+            Some(word) => header(word).is_none(),
+            None => false,
+        },
         _ => false,
     }
 }
@@ -110,15 +112,15 @@ fn tell_error<O: Write, E: Write>(error: &clap::Error, out: &mut O, err: &mut E)
 fn read<'a>(alloc: Global, matches: &ArgMatches<'a>) -> Result<Command<'a>, Refusal<'static>> {
     let (name, matches) = matches.subcommand().ok_or(Failure::Words)?;
     let query = match name {
-        "records" => FileQuery::Records(selection(alloc, matches)?, matches.get_one("at")),
+        "records" => FileQuery::Records(selection(alloc, matches)?, matches.get_one(AT.name)),
         "cut" => FileQuery::Cut(cut(matches)),
         _ => return of_folder(alloc, name, matches),
     };
-    Ok(Command::File {
-        path: found(matches.get_str("FILE"))?,
-        is_verbose: matches.get_flag("verbose"),
+    Ok(Command::OnFile(FileCommand {
+        path: found(matches.get_str(LOG.name))?,
+        is_verbose: matches.get_flag(VERBOSE.name),
         query,
-    })
+    }))
 }
 
 /// Returns the request of the subcommand of this name, which takes a folder.
@@ -128,93 +130,61 @@ fn of_folder<'a>(
     matches: &ArgMatches<'a>,
 ) -> Result<Command<'a>, Refusal<'static>> {
     let folder = Folder {
-        path: found(matches.get_str("DIR"))?,
-        workers: found(matches.get_one("workers").and_then(Workers::new))?,
-        is_verbose: matches.get_flag("verbose"),
-        tells_losses: matches.get_flag("verbose"),
-        telling: if matches.get_flag("progress") {
+        path: found(matches.get_str(FOLDER.name))?,
+        workers: found(matches.get_one(WORKERS.name).and_then(Workers::new))?,
+        is_verbose: matches.get_flag(VERBOSE.name),
+        tells_losses: matches.get_flag(VERBOSE.name),
+        telling: if matches.get_flag(PROGRESS.name) {
             Telling::Lines
         } else {
             Telling::Never
         },
-        most_pieces: matches.get_one("pieces").unwrap_or(0),
+        pieces: matches.get_one(PIECES.name).and_then(Pieces::new),
     };
-    if name == "check" {
-        return Ok(Command::Check {
-            folder,
-            is_json: matches.get_flag("json"),
-            picture: picture(matches),
-        });
-    }
-    if name == "resume" {
-        return Ok(Command::Resume(folder, resume(matches)));
-    }
-    if name == "checkpoint" {
-        return match new_folder(matches) {
-            Ok(new) => Ok(Command::Checkpoint(folder, new)),
-            Err(refusal) => Err(refusal),
-        };
-    }
-    if name == "audit" {
-        return Ok(Command::Query(folder, Query::Audit));
-    }
-    let pieces = found(matches.get_one("pieces").and_then(Pieces::new))?;
-    if name == "shell" {
-        let shell = Shell {
-            pieces,
-            is_strict: matches.get_flag("strict"),
-            has_status: matches.get_flag("status"),
-        };
-        return Ok(Command::Shell(folder, shell));
-    }
-    let query = match question_of(alloc, name, matches)? {
-        Question::Store(query) => Query::Store(query, pieces),
-        Question::History(how) => Query::History(how),
+    let command = match name {
+        "check" => FolderCommand::Check(check_form(matches)),
+        "resume" => FolderCommand::Resume(Resume {
+            is_dry: matches.get_flag(DRY_RUN.name),
+            is_strict: matches.get_flag(STRICT_RESUME.name),
+            is_json: matches.get_flag(JSON.name),
+        }),
+        "checkpoint" => {
+            let limit: u64 = found(matches.get_one(PART_LIMIT.name))?;
+            FolderCommand::Checkpoint(NewFolder {
+                path: found(matches.get_str(OUT.name))?,
+                number: found(matches.get_one(NUMBER.name))?,
+                limit: limit as usize,
+            })
+        }
+        "audit" => FolderCommand::Audit,
+        "shell" => FolderCommand::Shell(Shell {
+            is_strict: matches.get_flag(STRICT_SHELL.name),
+            has_status: matches.get_flag(STATUS.name),
+        }),
+        _ => FolderCommand::Question(question_of(alloc, name, matches)?),
     };
-    Ok(Command::Query(folder, query))
+    Ok(Command::OnFolder(folder, command))
 }
 
-/// Returns the picture that is to be printed. None: no picture.
-fn picture(matches: &ArgMatches<'_>) -> Option<Picture> {
-    if matches.get_flag("svg") {
-        return Some(Picture::Svg);
+/// Returns how to print what is in the files of a folder.
+fn check_form(matches: &ArgMatches<'_>) -> CheckForm {
+    if matches.get_flag(CHART.name) {
+        return CheckForm::Chart(matches.get_one(WIDTH.name));
     }
-    let width: Option<u32> = matches.get_one("width");
-    let width = width.map(|width| width as usize);
-    matches.get_flag("chart").then_some(Picture::Chart(width))
-}
-
-/// Returns how to resume the files of a folder.
-fn resume(matches: &ArgMatches<'_>) -> Resume {
-    Resume {
-        is_dry: matches.get_flag("dry-run"),
-        is_strict: matches.get_flag("strict"),
-        is_json: matches.get_flag("json"),
+    if matches.get_flag(JSON.name) {
+        CheckForm::Json
+    } else {
+        CheckForm::Lines
     }
-}
-
-/// Returns the new folder for a checkpoint.
-fn new_folder<'a>(matches: &ArgMatches<'a>) -> Result<NewFolder<'a>, Refusal<'static>> {
-    let limit: u64 = found(matches.get_one("limit"))?;
-    Ok(NewFolder {
-        path: found(matches.get_str("OUT"))?,
-        number: found(matches.get_one("number"))?,
-        limit: limit as usize,
-        pieces: found(matches.get_one("pieces").and_then(Pieces::new))?,
-    })
 }
 
 /// Returns which records or entries to print, and how.
 fn selection(alloc: Global, matches: &ArgMatches<'_>) -> Result<Selection, Refusal<'static>> {
-    let key = match matches.get_str("key") {
-        Some(word) => Some(key_of(alloc, word, false)?),
-        None => None,
-    };
     Ok(Selection {
-        from: matches.get_one("from").unwrap_or(0),
-        limit: matches.get_one("limit").unwrap_or(u64::MAX),
-        key,
-        notation: if matches.get_flag("json") {
+        from: matches.get_one(FROM.name).unwrap_or(0),
+        limit: matches.get_one(LIMIT.name).unwrap_or(u64::MAX),
+        key: key(alloc, matches, RECORD_KEY.name)?,
+        notation: if matches.get_flag(JSON.name) {
             Notation::Json
         } else {
             Notation::Words
@@ -224,46 +194,42 @@ fn selection(alloc: Global, matches: &ArgMatches<'_>) -> Result<Selection, Refus
 
 /// Returns how to cut a log. After a header that is lost, records go on as after any damage.
 fn cut(matches: &ArgMatches<'_>) -> Cut {
-    let header = matches.get_str("header").and_then(header);
+    let header = matches.get_str(HEADER.name).and_then(header);
     Cut {
-        is_skipping: matches.get_flag("skip") || header.is_some(),
+        is_skipping: matches.get_flag(SKIP.name) || header.is_some(),
         header,
-        below: matches.get_one("below"),
+        below: matches.get_one(BELOW.name),
     }
 }
 
 /// Reads the header of a log: `FORMAT:FROM`, or `3:FROM:WORKER:SEGMENT` of a segment. None: the word is no header.
 fn header(word: &str) -> Option<Head> {
     let (format, fields) = word.split_once(':')?;
-    match format {
-        "1" => plain_header(Format::One, fields),
-        "2" => plain_header(Format::Two, fields),
-        "3" => segment_header(fields),
-        _ => None,
-    }
-}
-
-/// Reads `FROM`, of a log of this format that is no segment.
-fn plain_header(format: Format, from: &str) -> Option<Head> {
+    let (from, segment) = match format {
+        "1" | "2" => (fields, None),
+        "3" => {
+            let (from, segment) = fields.split_once(':')?;
+            (from, Some(segment_of(segment)?))
+        }
+        _ => return None,
+    };
     Some(Head {
-        format,
+        format: if format == "1" {
+            Format::One
+        } else {
+            Format::Two
+        },
         from: from.parse::<u64>().ok()?,
-        segment: None,
+        segment,
     })
 }
 
-/// Reads `FROM:WORKER:SEGMENT`.
-fn segment_header(fields: &str) -> Option<Head> {
-    let (from, segment) = fields.split_once(':')?;
-    let (worker, number) = segment.split_once(':')?;
-    let segment = Segment {
+/// Reads `WORKER:SEGMENT`.
+fn segment_of(fields: &str) -> Option<Segment> {
+    let (worker, number) = fields.split_once(':')?;
+    Some(Segment {
         worker: worker.parse::<u32>().ok()?,
         number: number.parse::<u32>().ok()?,
-    };
-    Some(Head {
-        format: Format::Two,
-        from: from.parse::<u64>().ok()?,
-        segment: Some(segment),
     })
 }
 
@@ -278,56 +244,44 @@ pub fn question_of(
     name: &str,
     matches: &ArgMatches<'_>,
 ) -> Result<Question, Refusal<'static>> {
-    if name == "history" {
-        return Ok(Question::History(Trace {
-            key: found(key(alloc, matches, "KEY")?)?,
-            is_json: matches.get_flag("json"),
-        }));
-    }
-    Ok(Question::Store(store_query(alloc, name, matches)?))
-}
-
-/// Returns the query on the store of the subcommand of this name.
-fn store_query(
-    alloc: Global,
-    name: &str,
-    matches: &ArgMatches<'_>,
-) -> Result<StoreQuery, Refusal<'static>> {
-    match name {
-        "report" => Ok(StoreQuery::Report {
-            is_json: matches.get_flag("json"),
-            is_strict: matches.get_flag("strict"),
-        }),
-        "get" => {
-            let key = found(key(alloc, matches, "KEY")?)?;
-            Ok(if matches.get_flag("exists") {
-                StoreQuery::Exists(key)
-            } else {
-                StoreQuery::Get(key, form(matches))
-            })
+    let query = match name {
+        "report" => StoreQuery::Report {
+            is_json: matches.get_flag(JSON.name),
+            is_strict: matches.get_flag(STRICT.name),
+        },
+        "get" if matches.get_flag(EXISTS.name) => {
+            StoreQuery::Exists(found(key(alloc, matches, KEY.name)?)?)
         }
-        "range" => Ok(StoreQuery::Range(range(alloc, matches)?, form(matches))),
-        "dump" => Ok(StoreQuery::Dump(form(matches))),
-        _ => Err(Refusal::from(Failure::Words)),
-    }
+        "get" => StoreQuery::Get(found(key(alloc, matches, KEY.name)?)?, form(matches)),
+        "range" => StoreQuery::Range(range(alloc, matches)?, form(matches)),
+        "dump" => StoreQuery::Dump(form(matches)),
+        "history" => {
+            return Ok(Question::History(Trace {
+                key: found(key(alloc, matches, KEY.name)?)?,
+                is_json: matches.get_flag(JSON.name),
+            }));
+        }
+        _ => return Err(Refusal::from(Failure::Words)),
+    };
+    Ok(Question::Store(query))
 }
 
 /// Returns the form in which pairs are printed.
 fn form(matches: &ArgMatches<'_>) -> Form {
     Form {
-        is_json: matches.get_flag("json"),
-        is_text: matches.get_flag("text"),
+        is_json: matches.get_flag(JSON.name),
+        is_text: matches.get_flag(TEXT.name),
     }
 }
 
 /// Returns the range of the subcommand `range`.
 fn range(alloc: Global, matches: &ArgMatches<'_>) -> Result<Range, Refusal<'static>> {
-    let from = found(key(alloc, matches, "KEY")?)?;
-    let to = key(alloc, matches, "to")?;
-    let prefix = key(alloc, matches, "prefix")?;
+    let from = found(key(alloc, matches, KEY.name)?)?;
+    let to = key(alloc, matches, TO.name)?;
+    let prefix = key(alloc, matches, PREFIX.name)?;
     Ok(Range {
         from,
-        count: found(matches.get_one("COUNT"))?,
+        count: found(matches.get_one(COUNT.name))?,
         to,
         prefix,
         columns: columns(alloc, matches)?,
@@ -336,7 +290,7 @@ fn range(alloc: Global, matches: &ArgMatches<'_>) -> Result<Range, Refusal<'stat
 
 /// Returns the numbers of the columns. None: the arguments name none.
 fn columns(alloc: Global, matches: &ArgMatches<'_>) -> Result<Option<Vec<u8>>, Refusal<'static>> {
-    let Some(words) = matches.get_strs("columns") else {
+    let Some(words) = matches.get_strs(COLUMNS.name) else {
         return Ok(None);
     };
     let mut numbers = Vec::new(alloc);
@@ -353,7 +307,7 @@ fn key(
     argument: &str,
 ) -> Result<Option<Key>, Refusal<'static>> {
     match matches.get_str(argument) {
-        Some(word) => Ok(Some(key_of(alloc, word, matches.get_flag("text"))?)),
+        Some(word) => Ok(Some(key_of(alloc, word, matches.get_flag(TEXT.name))?)),
         None => Ok(None),
     }
 }
