@@ -9,22 +9,12 @@ from functools import lru_cache
 from pathlib import Path
 from typing import NamedTuple
 
+from counting import TOP
 from formats import ERASE, GREATEST, MARK, PUT, REMOVE, Update
 
-TOP = Path(__file__).resolve().parent.parent
 TIMES = int(sys.argv[1]) if len(sys.argv) > 1 else 300
 MTRECOVER = sys.argv[2] if len(sys.argv) > 2 else TOP / "crates/mtrecover/out/mtrecover"
-# Folders that are tried lie in memory if they can, where a sync takes no time.
-MEMORY = "/dev/shm" if Path("/dev/shm").is_dir() else None
 KEYS = [b"", b"a", b"b", b"aaaaaaaa", b"aaaaaaaab", b"aaaaaaaaaaaaaaaac"]
-
-counts = {True: 0, False: 0}
-
-
-def count(told, holds):
-    counts[bool(holds)] += 1
-    if not holds:
-        print(f"{told}: FAILED", flush=True)
 
 
 # ---- Logs ----
@@ -295,8 +285,3 @@ def told_call(line, folder, paths):
     if call in ("rename", "delete"):
         return call, *(Path(word).name for word in words)
     return None
-
-
-def end():
-    print(f"{counts[True]} passed, {counts[False]} failed")
-    sys.exit(counts[False] != 0)
