@@ -1,17 +1,26 @@
 -- What the last seat of a queue knows once the seats of all consumers are joined.
 use Rattle.std.proofs.Common.{◌≡◌, ◌∙◌, ℕ, ◌+◌, ◌<◌, Bool, List, [], ◌∷◌, ◌++◌, length, ap, subst, arith, cond}
-use Rattle.std.specs.List.{All}
+use Rattle.std.specs.List.{All, count_by}
 use Rattle.std.proofs.lemmas.List.{length_push}
 use Rattle.std.proofs.lemmas.List.Sums.{sum_by_push}
 use Rattle.atomic_table.specs.Seated.{TableId}
 use Rattle.mt_board.specs.declared.known.Known.{Known}
 use Rattle.mt_board.specs.Board.{times, once_below}
-use Rattle.mt_board.specs.Queue.{ConsumerView, HasEnded, QueueView, TookEach, times_taken}
+use Rattle.mt_board.specs.Queue.{AreBack, ConsumerView, QueueView, TookEach, times_taken}
 use Rattle.mt_board.specs.Steps.QueueRule.{both_known, consumer_view}
 use Rattle.mt_board.proofs.Closes.{all_last, all_left}
 use Rattle.mt_board.proofs.Sums.{times_append}
 
 module _ {J : Type 0} (q : QueueView J) where
+  abbrev IsOwn : ConsumerView J → Type 0
+  IsOwn c = c.queue ≡ q
+
+  abbrev has_ended : ConsumerView J → ℕ
+  has_ended c = cond c.done 1 0
+
+  abbrev ended_in : List (ConsumerView J) → ℕ
+  ended_in consumers = count_by (λ (c : ConsumerView J). c.done) consumers
+
   -- the seat represents all consumers but those of `rest`
   pub record GathersJobs (rest all : List (ConsumerView J)) (known : Known J) : Type 0 where
     pub some : 0 < known.numbers.parts
@@ -19,13 +28,13 @@ module _ {J : Type 0} (q : QueueView J) where
     pub consumers : known.numbers.counts.passes ≡ q.consumers
     pub total : known.numbers.counts.total ≡ length q.jobs
     pub parts : known.numbers.parts + length rest ≡ length all
-    pub ended : All (HasEnded q) rest
-    pub done : 0 < known.numbers.done
+    pub own : All IsOwn rest
+    pub done : known.numbers.done + ended_in rest ≡ ended_in all
     pub taken : (x : ℕ) → times x known.numbers.draws + times_taken x rest ≡ times_taken x all
 
-  -- the last consumer has ended
-  pub last_ended : (all rest : List (ConsumerView J)) (c : ConsumerView J) → All (HasEnded q) all → all ≡ rest ++ c ∷ [] → HasEnded q c
-  last_ended all rest c ended e = all_last (HasEnded q) rest c (subst (All (HasEnded q)) e ended)
+  -- the last consumer is one of the queue
+  pub last_own : (all rest : List (ConsumerView J)) (c : ConsumerView J) → All IsOwn all → all ≡ rest ++ c ∷ [] → c.queue ≡ q
+  last_own all rest c own e = all_last IsOwn rest c (subst (All IsOwn) e own)
 
   abbrev took_of : ℕ → ConsumerView J → ℕ
   took_of x c = times x c.taken
@@ -34,21 +43,20 @@ module _ {J : Type 0} (q : QueueView J) where
     same_taken : (x : ℕ) → times x w.numbers.draws ≡ times x c.taken
     same_taken x = ap (took_of x) is
 
-    pub is_done : HasEnded q c → w.numbers.done ≡ 1
-    is_done has = done_is ∙ ap (λ (b : Bool). cond b 1 0) (ap (λ (v : ConsumerView J). v.done) is ∙ has.1)
+    same_done : w.numbers.done ≡ has_ended c
+    same_done = done_is ∙ ap has_ended is
 
-    pub gathers_first : w.numbers.counts.total ≡ length w.jobs → All (HasEnded q) all → all ≡ rest ++ c ∷ [] → GathersJobs rest all w
-    gathers_first total ended e =
-        let own = last_ended all rest c ended e in
-        let queue : (consumer_view t done w).queue ≡ q = ap (λ (v : ConsumerView J). v.queue) is ∙ own.0 in
+    pub gathers_first : w.numbers.counts.total ≡ length w.jobs → All IsOwn all → all ≡ rest ++ c ∷ [] → GathersJobs rest all w
+    gathers_first total own e =
+        let queue : (consumer_view t done w).queue ≡ q = ap (λ (v : ConsumerView J). v.queue) is ∙ last_own all rest c own e in
         let jobs : w.jobs ≡ q.jobs = ap (λ (v : QueueView J). v.jobs) queue in record {
           some = omega (arith, one);
           jobs = jobs;
           consumers = ap (λ (v : QueueView J). v.consumers) queue;
           total = total ∙ ap length jobs;
           parts = omega (arith, one, ap length e, length_push rest c);
-          ended = all_left (HasEnded q) rest (c ∷ []) (subst (All (HasEnded q)) e ended);
-          done = omega (arith, is_done own);
+          own = all_left IsOwn rest (c ∷ []) (subst (All IsOwn) e own);
+          done = omega (arith, same_done, ap ended_in e, sum_by_push has_ended rest c);
           taken = λ x. omega (arith, same_taken x, ap (times_taken x) e, sum_by_push (took_of x) rest c);
         }
 
@@ -59,14 +67,14 @@ module _ {J : Type 0} (q : QueueView J) where
       consumers = g.consumers;
       total = g.total;
       parts = omega (arith, one, g.parts, ap length e, length_push rest c);
-      ended = all_left (HasEnded q) rest (c ∷ []) (subst (All (HasEnded q)) e g.ended);
-      done = omega (arith, g.done);
+      own = all_left IsOwn rest (c ∷ []) (subst (All IsOwn) e g.own);
+      done = omega (arith, same_done, g.done, ap ended_in e, sum_by_push has_ended rest c);
       taken = λ x. omega (arith, same_taken x, times_append x v.numbers.draws w.numbers.draws, g.taken x, ap (times_taken x) e, sum_by_push (took_of x) rest c);
     }
 
   -- what the seat of all consumers took, they took together
-  pub took_each : (all : List (ConsumerView J)) (known : Known J) → GathersJobs [] all known → length all ≡ q.consumers
+  pub took_each : (all : List (ConsumerView J)) (known : Known J) → GathersJobs [] all known → AreBack q all
       → (known.numbers.parts ≡ known.numbers.counts.passes → 0 < known.numbers.done → (x : ℕ) → times x known.numbers.draws ≡ once_below x known.numbers.counts.total) → TookEach q all
-  took_each all known g many tells x =
-      let each = tells (omega (arith, g.parts, g.consumers, many)) g.done x in
+  took_each all known g back tells x =
+      let each = tells (omega (arith, g.parts, g.consumers, back.all)) (omega (arith, g.done, back.ended)) x in
       omega (arith, g.taken x, each, ap (once_below x) g.total)

@@ -15,7 +15,7 @@ use Rattle.mt_board.specs.Board.{times, once_below, nothing_noted}
 use Rattle.mt_board.specs.Queue.{QueueView}
 use Rattle.mt_board.specs.Steps.Rule.{IsBoardState, IsIdle, both_views, drew, one_part, parts_in, spent_view, without_one}
 use Rattle.atomic_table.specs.Seated.{TableId}
-use Rattle.mt_board.specs.Steps.QueueRule.{IsConsumer, IsQueue, Takes, Tells, both_known, consumer_view, counts_of, first_known, nothing_known, numbers_of, one_consumer, without_one_consumer}
+use Rattle.mt_board.specs.Steps.QueueRule.{IsConsumer, IsQueue, Rests, Takes, Tells, both_known, consumer_view, counts_of, first_known, nothing_known, numbers_of, one_consumer, without_one_consumer}
 use Rattle.mt_board.proofs.Keeps.{below, draw_state, drawn_below, drawn_of, first_each, join_state, knows, next_small, none_below, not_below, rises, split_state}
 use Rattle.mt_board.proofs.Sums.{itself, once_full, sum_at, times_push}
 use Rattle.mt_board.proofs.Closes.{Idles, sum_alone}
@@ -197,6 +197,27 @@ module _ {J : Type 0} where
     same_word [] one = absurd (omega (arith, one))
     same_word (w ∷ ws) one = refl
 
+    -- a look that puts back a slot keeps the rule
+    pub resting : (consumers slots id : ℕ) (me : Me (Option J) (Known J)) → me.0.numbers.parts ≡ 1 → length me.1 ≤ 1 → All (λ held. 0 < times held.0 me.0.numbers.draws) me.1
+        → Allows (IsQueue jobs consumers) slots id me 0 (λ n. n) (Rests (step slots 0 0 0 none) me)
+    resting consumers slots id me one few own s kept _ at _ =
+        let k = counts_of jobs consumers in
+        let n : ℕ = get_or s.words 0 0 in
+        let words : set s.words 0 n ≡ s.words = same_word s.words kept.words in
+        let views : set s.views id me.0 ≡ s.views = set_again s.views id me.0 at in
+        let below : All (λ held. held.0 < n) me.1 = λ i d lt. drawn_below k n nothing_noted (map numbers_of s.views) kept.numbers id me.0.numbers (at_map numbers_of s.views id me.0 at) one (get_or me.1 i d).0 (own i d lt) in (
+          me.0,
+          gives,
+          tt,
+          rw (words, views) (record {
+            words = kept.words;
+            numbers = kept.numbers;
+            there = λ i short past. let has = kept.there i short past in (has.0, has.1, put_back_else s.homes me.1 n i below past ∙ has.2);
+            known = kept.known;
+          }),
+          (λ i. (me.0, rest_none me.1 few i)),
+        )
+
     -- a look keeps the rule, and tells the seat of all consumers what they took
     pub telling : (consumers slots id : ℕ) (me : Me (Option J) (Known J)) → 0 < me.0.numbers.parts → Allows (IsQueue jobs consumers) slots id me 0 (λ n. n) (Tells (step slots 0 0 0 none) me)
     telling consumers slots id me some_part s kept _ at _ =
@@ -237,14 +258,15 @@ drew_past found v le =
     let is : ltb found v.counts.total ≡ false = grind (arith, nat_tests) in
     ap (λ (b : Bool). cond b (record v { draws = v.draws ++ found ∷ [] }) (record v { done = v.done + 1 })) is
 
-module _ {J : Type 0} (me me' : Me (Option J) (Known J)) (found : ℕ) (is : IsConsumer false me) (view : me'.0 ≡ record me.0 { numbers = drew found me.0.numbers }) where
+module _ {J : Type 0} (me me' : Me (Option J) (Known J)) (found number : ℕ) (is : IsConsumer number false me) (view : me'.0 ≡ record me.0 { numbers = drew found me.0.numbers }) where
   module _ (lt : found < me.0.numbers.counts.total) where
     took_known : me'.0 ≡ record me.0 { numbers = record me.0.numbers { draws = me.0.numbers.draws ++ found ∷ [] } }
     took_known = view ∙ (λ i. record me.0 { numbers = drew_below found me.0.numbers lt i })
 
     -- a consumer that took a job is one
-    pub took : (x : Option J) → me'.1 ≡ (found, x) ∷ [] → IsConsumer false me'
-    took x holds = subst (IsConsumer false) (λ i. (sym took_known i, sym holds i)) (record {
+    pub took : (x : Option J) → me'.1 ≡ (found, x) ∷ [] → IsConsumer number false me'
+    took x holds = subst (IsConsumer number false) (λ i. (sym took_known i, sym holds i)) (record {
+      numbered = is.numbered;
       one = is.one;
       done_is = is.done_is;
       total = is.total;
@@ -265,8 +287,9 @@ module _ {J : Type 0} (me me' : Me (Option J) (Known J)) (found : ℕ) (is : IsC
     ended_known = view ∙ (λ i. record me.0 { numbers = drew_past found me.0.numbers le i })
 
     -- a consumer that found no job left has ended
-    pub ended : me'.1 ≡ [] → IsConsumer true me'
-    ended holds = subst (IsConsumer true) (λ i. (sym ended_known i, sym holds i)) (record {
+    pub ended : me'.1 ≡ [] → IsConsumer number true me'
+    ended holds = subst (IsConsumer number true) (λ i. (sym ended_known i, sym holds i)) (record {
+      numbered = is.numbered;
       one = is.one;
       done_is = omega (arith, is.done_is);
       total = is.total;
@@ -289,11 +312,6 @@ first_of d (x ∷ xs) = x.1
 -- it has one value
 pub same_held : {A : Type 0} (l m k : List (ℕ × A)) (n : ℕ) (x y : A) → l ≡ (n, x) ∷ m → l ≡ (n, y) ∷ k → x ≡ y
 same_held l m k n x y e f = ap (first_of x) (sym e ∙ f)
-
--- a consumer that has ended holds no slot
-pub no_slots : {A : Type 0} (l : List A) (done : ℕ) → length l + done ≤ 1 → done ≡ 1 → l ≡ []
-no_slots [] done few is = refl
-no_slots (x ∷ xs) done few is = absurd (omega (arith, few, is))
 
 -- a number that is one of the queue's jobs is one of the consumer's
 pub below_total : {J : Type 0} (mine queue : QueueView J) (total count found : ℕ) → mine ≡ queue → total ≡ length mine.jobs → count ≡ length queue.jobs → found < count → found < total

@@ -1,5 +1,5 @@
 -- The values and facts that the contracts of a queue and its consumers speak of.
-use Rattle.std.specs.Prelude.{◌≡◌, ℕ, ◌<◌, Bool, false, List, [], length, sum_by, All, IsTrue}
+use Rattle.std.specs.Prelude.{◌≡◌, ℕ, ◌<◌, Bool, false, List, [], length, sum_by, count_by, All, IsTrue}
 use Rattle.atomic_table.specs.Seated.{TableId}
 use Rattle.mt_board.specs.Board.{once_below, times}
 
@@ -29,11 +29,11 @@ times_taken {J} x consumers = sum_by (λ (c : ConsumerView J). times x c.taken) 
 abbrev pub HasEnded : {J : Type 0} → QueueView J → ConsumerView J → Type 0
 HasEnded queue consumer = (consumer.queue ≡ queue) × IsTrue consumer.done
 
--- these are all consumers of the queue, at least one, and each has ended
-pub record HaveEnded {J : Type 0} (queue : QueueView J) (consumers : List (ConsumerView J)) : Type 0 where
-  pub each : All (HasEnded queue) consumers
+-- these are all consumers of the queue, and at least one of them found that no job is left
+pub record AreBack {J : Type 0} (queue : QueueView J) (consumers : List (ConsumerView J)) : Type 0 where
+  pub each : All (λ (c : ConsumerView J). c.queue ≡ queue) consumers
   pub all : length consumers ≡ queue.consumers
-  pub some : 0 < queue.consumers
+  pub ended : 0 < count_by (λ (c : ConsumerView J). c.done) consumers
 
 -- together the consumers took each job once
 abbrev pub TookEach : {J : Type 0} → QueueView J → List (ConsumerView J) → Type 0

@@ -1,4 +1,6 @@
 //! Consumers: the right to take jobs from a queue.
+ghost use Rattle.std.specs.Prelude.{◌<◌};
+
 use crate::known::Known;
 use atomic_table::Seat;
 use std::marker::Model;
@@ -24,12 +26,14 @@ impl<J: Drop> Model for Consumer<J> {
 
     ghost view = { λ c. consumer_view c.seat.table_id c.done c.seat.me.0 };
 
-    ghost invariant = { λ c. IsConsumer c.done c.seat.me };
+    ghost invariant = { λ c. IsConsumer c.number c.done c.seat.me };
 }
 
 impl<J: Drop> Consumer<J> {
     /// Returns its number among the consumers of its queue, counted from 0.
-    pub fn number(&self) -> u32 {
+    pub fn number(&self) -> u32
+        ensures { result < self.now.queue.consumers }
+    {
         self.number
     }
 }

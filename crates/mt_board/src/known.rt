@@ -50,6 +50,15 @@ impl<J> Play<Option<J>, Known<J>> for Tell {
     ghost then = { Tells };
 }
 
+/// The step that puts back the slot that a seat holds.
+pub(crate) struct Rest;
+
+impl<J> Play<Option<J>, Known<J>> for Rest {
+    ghost use Rattle.mt_board.specs.Steps.QueueRule.{Rests};
+
+    ghost then = { Rests };
+}
+
 /// Splits off a seat for one consumer, and joins two seats.
 pub(crate) struct ShareJobs;
 

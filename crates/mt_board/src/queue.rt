@@ -1,9 +1,9 @@
 //! A queue of jobs that threads take, each once.
 ghost use Rattle.std.specs.Prelude.{◌≡◌, ◌<◌, ◌++◌, [], ◌∷◌, true, length, slice_get, All, IfOk, IfSome, IsTrue, MatchOption, None, Some};
-ghost use Rattle.mt_board.specs.Queue.{HaveEnded, TookEach, fresh_consumer};
+ghost use Rattle.mt_board.specs.Queue.{AreBack, TookEach, fresh_consumer};
 
 use crate::consumer::Consumer;
-use crate::known::{Known, Opening, QueueRule, ShareJobs, Take, Tell};
+use crate::known::{Known, Opening, QueueRule, Rest, ShareJobs, Take, Tell};
 use atomic_table::Table;
 use std::alloc::{AllocError, Global};
 use std::marker::Model;
@@ -75,7 +75,8 @@ impl<J: Drop> Queue<J> {
     /// Takes the next job in one atomic step, and returns it with its number. No other consumer takes it, and the numbers
     /// that one consumer takes rise.
     ///
-    /// Returns None once no job is left. After that, the consumer takes no further step.
+    /// Returns None only once each job is taken: `close` asks for one such consumer, and tells so. After that, the consumer
+    /// takes no further step.
     pub fn take(&self, consumer: &mut Consumer<J>) -> Option<(usize, J)>
         requires { consumer.old.queue ≡ self.now }
         ensures job { IfSome result (λ taken. slice_get self.now.jobs taken.0 ≡ Some taken.1) }
@@ -102,9 +103,9 @@ impl<J: Drop> Queue<J> {
         Some((number, job))
     }
 
-    /// Takes all consumers back, once each of them found that no job is left: together they took each job once.
+    /// Takes all consumers back, once one of them found that no job is left: together they took each job once.
     pub fn close(&self, mut consumers: Vec<Consumer<J>>)
-        requires { HaveEnded self.now consumers.items }
+        requires { AreBack self.now consumers.items }
         ensures { TookEach self.now consumers.items }
     {
         let Some(last) = consumers.pop() else {
@@ -112,7 +113,11 @@ impl<J: Drop> Queue<J> {
         };
         let Consumer { mut seat, .. } = last;
         while let Some(consumer) = consumers.pop() {
-            let Consumer { seat: other, .. } = consumer;
+            let Consumer {
+                seat: mut other,
+                ..
+            } = consumer;
+            self.table.shared.load::<Rest>(&mut other, NEXT);
             self.table.shared.join_seat::<ShareJobs>(&mut seat, other);
         }
         self.table.shared.load::<Tell>(&mut seat, NEXT);

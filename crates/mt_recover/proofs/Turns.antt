@@ -1,7 +1,7 @@
 -- The answers of all turns at a queue, in the order of their numbers.
 use Rattle.std.proofs.Common.{◌≡◌, ◌∙◌, ◌+◌, ◌-◌, ◌<◌, ◌≤◌, ℕ, zero, suc, List, [], ◌∷◌, ◌++◌, length, map, cond, Bool, true, false, IsPermutation, refl, sym, ap, arith}
 use Rattle.std.specs.Prelude.{nat_eq, slice_index_or}
-use Rattle.std.specs.List.{All, enumerate_from, flat_map}
+use Rattle.std.specs.List.{All, count_by, enumerate_from, flat_map}
 use Rattle.std.specs.List.Sorted.{IsNonDecreasingBy}
 use Rattle.std.proofs.lemmas.Bool.Decides.{nat_tests}
 use Rattle.std.proofs.lemmas.List.{length-map, map-append}
@@ -10,7 +10,7 @@ use Rattle.std.proofs.lemmas.List.Elements.{All-head, All-map, All-tail, All-wea
 use Rattle.std.proofs.lemmas.List.Sorted.{IsPermutation-map, sum_by-IsPermutation}
 use Rattle.std.proofs.lemmas.List.Sums.{sum_by-append, sum_by-cons}
 use Rattle.mt_board.specs.Board.{once_below, times}
-use Rattle.mt_board.specs.Queue.{ConsumerView, HasEnded, HaveEnded, QueueView, TookEach, times_taken}
+use Rattle.mt_board.specs.Queue.{AreBack, ConsumerView, QueueView, TookEach, times_taken}
 use Rattle.mt_recover.specs.Steps.Scanning.{AreNumbered, IsTurnOf}
 
 -- ---- numbers
@@ -40,19 +40,29 @@ pub flat_of_map : {Y A B : Type 0} (f : A → List B) (g : Y → A) (ys : List Y
 flat_of_map f g [] = refl
 flat_of_map f g (y ∷ ys) = flat_map-cons f (g y) (map g ys) ∙ ap (λ l. f (g y) ++ l) (flat_of_map f g ys) ∙ sym (flat_map-cons (λ z. f (g z)) y ys)
 
--- all consumers that have ended together took each job once, so the answers have each number once
+-- all consumers, of which one has ended, together took each job once, so the answers have each number once
 pub numbered_all : {Y J X : Type 0} (queue : QueueView J) (items : Y → List (ℕ × X)) (consumer : Y → ConsumerView J) (turns : List Y) → All (λ turn. IsTurnOf queue (items turn) (consumer turn)) turns
     → TookEach queue (map consumer turns) → AreNumbered (length queue.jobs) (flat_map items turns)
 numbered_all queue items consumer turns all each x =
     times_of_all items consumer turns (All-weaker (λ turn. IsTurnOf queue (items turn) (consumer turn)) (λ turn. numbers (items turn) ≡ (consumer turn).taken) (λ turn is. is.taken) turns all) x ∙ each x
 
+-- one of them has ended
+one_ended : {Y J X : Type 0} (queue : QueueView J) (items : Y → List (ℕ × X)) (consumer : Y → ConsumerView J) (turns : List Y) → All (λ turn. IsTurnOf queue (items turn) (consumer turn)) turns
+    → 0 < length turns → 0 < count_by (λ (c : ConsumerView J). c.done) (map consumer turns)
+one_ended queue items consumer [] all some = absurd (omega (arith, some))
+one_ended {Y} {J} queue items consumer (t ∷ ts) all some = omega (
+  arith,
+  sum_by-cons (λ (c : ConsumerView J). cond {A = ℕ} c.done 1 0) (consumer t) (map consumer ts),
+  ap (λ (b : Bool). cond {A = ℕ} b 1 0) (All-head (λ turn. IsTurnOf queue (items turn) (consumer turn)) t ts all).ended.1,
+)
+
 -- and they are back
 pub all_back : {Y J X : Type 0} (queue : QueueView J) (items : Y → List (ℕ × X)) (consumer : Y → ConsumerView J) (turns : List Y) → All (λ turn. IsTurnOf queue (items turn) (consumer turn)) turns
-    → length turns ≡ queue.consumers → 0 < queue.consumers → HaveEnded queue (map consumer turns)
-all_back queue items consumer turns all many some = record {
-  each = All-map (HasEnded queue) consumer turns (All-weaker (λ turn. IsTurnOf queue (items turn) (consumer turn)) (λ turn. HasEnded queue (consumer turn)) (λ turn is. is.ended) turns all);
+    → length turns ≡ queue.consumers → 0 < queue.consumers → AreBack queue (map consumer turns)
+all_back {Y} {J} queue items consumer turns all many some = record {
+  each = All-map (λ (c : ConsumerView J). c.queue ≡ queue) consumer turns (All-weaker (λ turn. IsTurnOf queue (items turn) (consumer turn)) (λ turn. (consumer turn).queue ≡ queue) (λ turn is. is.ended.0) turns all);
   all = length-map turns consumer ∙ many;
-  some = some;
+  ended = one_ended queue items consumer turns all (omega (arith, many, some));
 }
 
 -- one more job, after those of this turn

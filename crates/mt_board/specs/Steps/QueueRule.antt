@@ -46,6 +46,10 @@ pub record Tells {J : Type 0} (step : Step (Option J)) (me : Me (Option J) (Know
   pub same : me' ≡ me
   pub each : me.0.numbers.parts ≡ me.0.numbers.counts.passes → 0 < me.0.numbers.done → (x : ℕ) → times x me.0.numbers.draws ≡ once_below x me.0.numbers.counts.total
 
+-- a seat puts back the slot that it holds
+abbrev pub Rests : {J : Type 0} → Step (Option J) → Me (Option J) (Known J) → ℕ → Me (Option J) (Known J) → Type 0
+Rests step me found me' = me' ≡ (me.0, [])
+
 -- what a seat knows after the seat of one consumer was split off, and what that new seat knows
 abbrev pub without_one_consumer : {J : Type 0} → Known J → Known J
 without_one_consumer known = record known { numbers = without_one known.numbers }
@@ -69,7 +73,8 @@ consumer_view t done known = record {
 }
 
 -- the slots that a seat holds are those of jobs that it took: at most one, and none once it found that no job is left
-pub record IsConsumer {J : Type 0} (done : Bool) (me : Me (Option J) (Known J)) : Type 0 where
+pub record IsConsumer {J : Type 0} (number : ℕ) (done : Bool) (me : Me (Option J) (Known J)) : Type 0 where
+  pub numbered : number < me.0.numbers.counts.passes
   pub one : me.0.numbers.parts ≡ 1
   pub done_is : me.0.numbers.done ≡ (if done then 1 else 0)
   pub total : me.0.numbers.counts.total ≡ length me.0.jobs
