@@ -1,21 +1,19 @@
 -- The parts that a resume leaves are those of the chosen checkpoint, which no other part is among.
 use Rattle.std.proofs.Common.{◌≡◌, inl, inr, ℕ, ◌≤◌, true, Option, Some, None, List, [], ◌∷◌, length, map, Contains, refl, sym, ap, ◌∙◌, subst, arith}
-use Rattle.std.specs.List.{AllZip}
 use Rattle.std.proofs.lemmas.Bool.{cases_Bool, cases_eq, eqb-true, false≢true}
-use Rattle.std.proofs.lemmas.List.{append-nil, length-map}
+use Rattle.std.proofs.lemmas.List.{length-map}
 use Rattle.std.proofs.lemmas.List.Sorted.{Contains-permutation, length_permutation}
-use Rattle.mt_words.proofs.Elements.{no_element, head_in, tail_in}
-use Rattle.mt_record.specs.Parts.{PartReading, IsPartReading}
-use Rattle.mt_scan.specs.PartScans.{KnownPart, whole, broken, nameless, IsKnown}
+use Rattle.mt_words.proofs.Elements.{no_element, head_in}
+use Rattle.mt_record.specs.Parts.{PartReading}
+use Rattle.mt_scan.specs.PartScans.{KnownPart, whole, broken, nameless}
 use Rattle.mt_scan.specs.Choice.{CheckpointReading, belongs_to, parts_of, IsValid, IsChosenOf}
 use Rattle.mt_scan.proofs.OneChoice.{one_valid}
-use Rattle.mt_replay.proofs.Members.{of_map, in_map, of_filter}
+use Rattle.mt_replay.proofs.Members.{of_map, of_filter}
 use Rattle.mt_recover.specs.Recovery.{Facts}
 use Rattle.mt_laws.specs.Lives.{only}
-use Rattle.mt_laws.specs.PartFiles.{PartFile, BeginsAPart, AreFilesOf, AreChosenFiles}
+use Rattle.mt_laws.specs.PartFiles.{PartFile, AreFilesOf, AreChosenFiles}
 use Rattle.mt_laws.proofs.Deleted.{count_given, not_made_of_none}
-use Rattle.mt_laws.proofs.Paired.{partner}
-use Rattle.mt_laws.proofs.NewParts.{bytes_in, no_parts, same_valid}
+use Rattle.mt_laws.proofs.NewParts.{no_parts, same_valid}
 
 -- the parts of a number among the parts of that number
 parts_twice : (number : ℕ) (parts : List KnownPart) → parts_of number (parts_of number parts) ≡ parts_of number parts
@@ -34,17 +32,9 @@ part_is known chosen part valid at =
     let long = length_permutation (parts_of chosen.number known) (map whole valid.texts) valid.are_whole in
     (text.0, text.2, sym long ∙ length-map valid.texts whole ∙ sym (count_given chosen valid.texts text.0 valid.make_up text.1))
 
-all_synced : (number : ℕ) (files : List PartFile) (known : List KnownPart) → AllZip IsKnown (bytes_in files) known → ((file : PartFile) → Contains files file → file.synced ≡ true)
-    → AllZip (λ (file : PartFile) part. belongs_to number part ≡ true → file.synced ≡ true) files known
-all_synced number [] [] are synced = tt
-all_synced number [] (k ∷ ks) are synced = absurd are
-all_synced number (f ∷ fs) [] are synced = absurd are
-all_synced number (f ∷ fs) (k ∷ ks) are synced = (λ is. synced f (head_in f fs), all_synced number fs ks are.1 (λ file at. synced file (tail_in f file fs at)))
-
 of_chosen : (known : List KnownPart) (chosen : CheckpointReading) (files : List PartFile) → IsValid known chosen → AreChosenFiles (Some chosen) known files
     → AreFilesOf (only (Some chosen)) files
 of_chosen known chosen files valid are = record {
-  each = begins;
   known = kept;
   are_known = are.are_known;
   no_more = λ part at.
@@ -60,7 +50,7 @@ of_chosen known chosen files valid are = record {
         let none : parts_of other.number kept ≡ [] = no_parts other.number kept (λ part at is. apart (one_number part other.number is (of_filter (belongs_to chosen.number) known part at).1)) in
         absurd (not_made_of_none (parts_of other.number kept) other_valid.texts other none other_valid.are_whole other_valid.make_up)
   ];
-  base_is = record { valid = kept_valid; synced = all_synced chosen.number files kept are.are_known are.synced };
+  base_is = record { valid = kept_valid; synced = λ file at is_part. are.synced file at };
 }
   where
     kept : List KnownPart
@@ -74,17 +64,9 @@ of_chosen known chosen files valid are = record {
     one_number (broken other entries) number is too = sym (eqb-true other number is) ∙ eqb-true other chosen.number too
     one_number nameless number is too = absurd (false≢true is)
 
-    begins : (file : PartFile) → Contains files file → BeginsAPart file.bytes
-    begins file at =
-        let part = partner IsKnown (bytes_in files) kept file.bytes are.are_known (in_map (λ (f : PartFile). f.bytes) files file at) in
-        let is = part_is known chosen part.0 valid part.1 in
-        let known_as : IsPartReading file.bytes is.0 = subst (IsKnown file.bytes) (sym is.1) part.2 in
-        record { more = []; part = is.0; is_part = subst (λ (l : List ℕ). IsPartReading l is.0) (sym (append-nil file.bytes)) known_as }
-
 -- where no checkpoint is chosen, no part is left
 of_none : (known : List KnownPart) (files : List PartFile) → AreChosenFiles None known files → AreFilesOf (only None) files
 of_none known [] are = record {
-  each = λ file at. absurd (no_element file at);
   known = [];
   are_known = tt;
   no_more = λ part at. absurd (no_element (whole part) at);

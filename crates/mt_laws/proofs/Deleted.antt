@@ -21,7 +21,7 @@ count_given checkpoint texts text make_up at =
     sym (ap (λ (t : PartReading). t.parts) at.2) ∙ (at_place checkpoint (length texts) 0 texts at.0 text make_up.in_place at.1).parts
 
 -- if there was no part too many, some of these parts make up a checkpoint only if none is gone
-pub none_is_gone : (before after gone : List KnownPart) (texts : List PartReading) (checkpoint : CheckpointReading)
+none_is_gone : (before after gone : List KnownPart) (texts : List PartReading) (checkpoint : CheckpointReading)
     → ((part : PartReading) → Contains before (whole part) → length before ≤ part.parts) → IsPermutation before (after ++ gone)
     → IsPermutation after (map whole texts) → AreItsParts texts checkpoint → gone ≡ []
 none_is_gone before after gone [] checkpoint enough split made make_up = absurd (omega (arith, make_up.some))
@@ -52,7 +52,7 @@ valid_before before after checkpoint same valid = record {
   make_up = valid.make_up;
 }
 
-was_valid : (before after : List KnownPart) (checkpoint : CheckpointReading) → IsDeleting checkpoint.number before after → IsValid after checkpoint
+pub was_valid : (before after : List KnownPart) (checkpoint : CheckpointReading) → IsDeleting checkpoint.number before after → IsValid after checkpoint
     → IsValid before checkpoint
 was_valid before after checkpoint (none_gone same) valid = valid_before before after checkpoint same valid
 was_valid before after checkpoint (some_gone gone enough split) valid =

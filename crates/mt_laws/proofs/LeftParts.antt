@@ -1,240 +1,176 @@
--- What a crash leaves of the files of parts: no checkpoint becomes valid that was not, and a synced one stays valid.
-use Rattle.std.proofs.Common.{◌≡◌, inl, inr, ℕ, ◌≤◌, true, false, Option, Some, None, List, [], ◌∷◌, ◌++◌, length, map, Contains, refl, sym, ap, ◌∙◌, subst, append_assoc, arith}
+-- The files of parts that are left: no checkpoint becomes valid that was not, and the one that the server stands on stays valid and synced.
+use Rattle.std.proofs.Common.{◌≡◌, ◌⊎◌, inl, inr, ℕ, ◌≤◌, true, false, Option, Some, None, List, [], ◌∷◌, ◌++◌, length, Contains, refl, sym, ap, subst, arith}
 use Rattle.std.specs.Prelude.{IfSome}
-use Rattle.std.specs.List.{AllZip, flat_map}
 use Rattle.std.specs.List.Sorted.{IsPermutation}
-use Rattle.std.proofs.lemmas.Bool.{cases_Bool, eq-eqb, eqb-true, false≢true, both_ways}
-use Rattle.std.proofs.lemmas.List.{append-nil, length-append, nil_from_length}
-use Rattle.std.proofs.lemmas.List.Sorted.{Contains-permutation, IsPermutation-cons, IsPermutation-middle, IsPermutation-refl, IsPermutation-sym, IsPermutation-trans}
-use Rattle.mt_words.proofs.Elements.{head_in, tail_in}
-use Rattle.mt_record.specs.declared.part_text.PartHead.{PartHead}
-use Rattle.mt_record.specs.Parts.{part_head, part_head_bytes, IsPartHead, footer_bytes, entry_spelling, PartReading, IsPartReading}
-use Rattle.mt_record.specs.PartFaults.{BeginsPart}
-use Rattle.mt_record.proofs.OnePart.{footer_no_entry, same_head, same_beginning, part_begins}
-use Rattle.mt_record.proofs.Unique.{same_split}
-use Rattle.mt_scan.specs.PartScans.{KnownPart, whole, broken, nameless, IsKnown}
+use Rattle.std.proofs.lemmas.Bool.{cases_Bool, eqb-true, both_ways}
+use Rattle.std.proofs.lemmas.List.{length-append}
+use Rattle.std.proofs.lemmas.List.Sorted.{IsPermutation-cons, IsPermutation-middle, IsPermutation-refl, IsPermutation-sym, IsPermutation-trans, length_permutation}
+use Rattle.mt_words.proofs.Elements.{no_element, head_or_tail, head_in, tail_in}
+use Rattle.mt_record.specs.Parts.{PartReading}
+use Rattle.mt_scan.specs.PartScans.{KnownPart, whole, IsKnown}
 use Rattle.mt_scan.specs.Choice.{CheckpointReading, belongs_to, parts_of, IsValid}
-use Rattle.mt_scan.proofs.OneKnown.{one_known}
-use Rattle.mt_replay.proofs.Members.{of_map, of_filter, in_filter}
+use Rattle.mt_replay.proofs.Members.{of_filter}
 use Rattle.mt_recover.specs.Recovery.{AreKnown}
+use Rattle.mt_laws.specs.Resuming.{some_gone}
 use Rattle.mt_laws.specs.Lives.{Checkpoints, AreLeftOf}
-use Rattle.mt_laws.specs.PartFiles.{PartFile, BeginsAPart, IsSyncedIn, AreFilesOf, AreCutParts, none, lost, cut}
-use Rattle.mt_laws.proofs.Deleted.{none_is_gone}
-use Rattle.mt_laws.proofs.SomeVerdict.{all_known}
-
--- ---- the bytes of a part
-
--- a beginning of a part is complete only if it is all of it
-no_more_behind : (left more : List ℕ) (part less : PartReading) → IsPartReading (left ++ more) part → IsPartReading left less → more ≡ []
-no_more_behind left more part less is is_less =
-    let footer = footer_bytes part.end (length part.entries) in
-    let first = footer_bytes less.end (length less.entries) in
-    let all = part_begins (left ++ more) _ part.entries part.end is.1 in
-    let front = part_begins left _ less.entries less.end is_less.1 in
-    let head = part_head is_less.0 less.number less.begin less.part less.parts in
-    let body = flat_map entry_spelling less.entries in
-    let longer : BeginsPart (left ++ more) head less.entries (first ++ more) = record {
-      spelled = ap (λ (l : List ℕ). l ++ more) front.spelled ∙ append_assoc (part_head_bytes head) (body ++ first) more ∙ ap (λ (l : List ℕ). part_head_bytes head ++ l) (append_assoc body first more);
-      is_head = front.is_head;
-      lawful = front.lawful;
-    } in
-    let same = same_beginning (left ++ more) _ _ part.entries less.entries footer (first ++ more) all longer
-    (footer_no_entry is.0 footer [] part.end (length part.entries) (sym (append-nil footer)))
-    (footer_no_entry is_less.0 (first ++ more) more less.end (length less.entries) refl) in
-    sym (same_split footer first [] more refl (append-nil footer ∙ same.2)).1
-
--- what is left of a file of a part is complete only if it is all of it
-cut_complete : (bytes left more : List ℕ) (less : PartReading) → BeginsAPart bytes → bytes ≡ left ++ more → IsPartReading left less → more ≡ []
-cut_complete bytes left more less begins e is =
-    let apart : bytes ++ begins.more ≡ left ++ (more ++ begins.more) = ap (λ (l : List ℕ). l ++ begins.more) e ∙ append_assoc left more begins.more in
-    let none_behind = no_more_behind left (more ++ begins.more) begins.part less (subst (λ (l : List ℕ). IsPartReading l begins.part) apart begins.is_part) is in
-    nil_from_length more (omega (arith, ap length none_behind, length-append more begins.more))
-
--- bytes that begin with the header of a part of this number
-record Names (number : ℕ) (bytes : List ℕ) : Type 0 where
-  head : PartHead
-  is_head : IsPartHead head
-  rest : List ℕ
-  spelled : bytes ≡ part_head_bytes head ++ rest
-  named : head.number ≡ number
-
-names : (number : ℕ) (bytes : List ℕ) (part : KnownPart) → IsKnown bytes part → belongs_to number part ≡ true → Names number bytes
-names number bytes (whole part) is belongs =
-    let begins = part_begins bytes _ part.entries part.end is.1 in
-    record { head = part_head is.0 part.number part.begin part.part part.parts; is_head = begins.is_head; rest = _; spelled = begins.spelled; named = eqb-true part.number number belongs }
-names number bytes (broken other entries) is belongs = record {
-  head = is.front.head;
-  is_head = is.front.begins.is_head;
-  rest = _;
-  spelled = is.front.begins.spelled;
-  named = sym is.front.named ∙ eqb-true other number belongs;
-}
-names number bytes nameless is belongs = absurd (false≢true belongs)
-
-belongs_by : (number : ℕ) (bytes : List ℕ) (part : KnownPart) → IsKnown bytes part → Names number bytes → belongs_to number part ≡ true
-belongs_by number bytes (whole part) is named =
-    let begins = part_begins bytes _ part.entries part.end is.1 in
-    let same = same_head (part_head is.0 part.number part.begin part.part part.parts) named.head _ named.rest begins.is_head named.is_head (sym begins.spelled ∙ named.spelled) in
-    eq-eqb part.number number (ap (λ (head : PartHead). head.number) same.0 ∙ named.named)
-belongs_by number bytes (broken other entries) is named =
-    let begins = is.front.begins in
-    let same = same_head is.front.head named.head _ named.rest begins.is_head named.is_head (sym begins.spelled ∙ named.spelled) in
-    eq-eqb other number (is.front.named ∙ ap (λ (head : PartHead). head.number) same.0 ∙ named.named)
-belongs_by number bytes nameless is named = absurd (is named.head named.rest named.is_head named.spelled)
-
--- the number of what is left is that of the file
-belonged : (number : ℕ) (bytes left more : List ℕ) (part less : KnownPart) → bytes ≡ left ++ more → IsKnown bytes part → IsKnown left less
-    → belongs_to number less ≡ true → belongs_to number part ≡ true
-belonged number bytes left more part less e is is_less belongs =
-    let named = names number left less is_less belongs in
-    belongs_by number bytes part is (record {
-      head = named.head;
-      is_head = named.is_head;
-      rest = named.rest ++ more;
-      spelled = e ∙ ap (λ (l : List ℕ). l ++ more) named.spelled ∙ append_assoc (part_head_bytes named.head) named.rest more;
-      named = named.named;
-    })
-
--- a file of which nothing is missing is known as before
-same_known : (bytes left more : List ℕ) (part less : KnownPart) → bytes ≡ left ++ more → more ≡ [] → IsKnown bytes part → IsKnown left less → part ≡ less
-same_known bytes left more part less e whole_left is is_less =
-    let same : bytes ≡ left = e ∙ ap (λ (l : List ℕ). left ++ l) whole_left ∙ append-nil left in
-    one_known left part less (subst (λ (l : List ℕ). IsKnown l part) same is) is_less
+use Rattle.mt_laws.specs.PartFiles.{PartFile, bytes_of, IsPartOf, IsNoPartOf, AreKept, none, gone, kept, IsSyncedIn, AreFilesOf}
+use Rattle.mt_laws.proofs.Deleted.{was_valid}
+use Rattle.mt_laws.proofs.NewParts.{same_valid}
 
 -- ---- the parts of one number
 
--- the parts of the number are those that are left, and some that are gone
-record IsSplit (number : ℕ) (known left : List KnownPart) : Type 0 where
-  gone : List KnownPart
-  split : IsPermutation (parts_of number known) (parts_of number left ++ gone)
+-- the parts of the number are those that are left, and some that are lost
+record IsSplit (number : ℕ) (known rest : List KnownPart) : Type 0 where
+  lost : List KnownPart
+  split : IsPermutation (parts_of number known) (parts_of number rest ++ lost)
 
-with_gone : (number : ℕ) (part : KnownPart) (known left : List KnownPart) → IsSplit number known left → IsSplit number (part ∷ known) left
-with_gone number part known left is = elim (cases_Bool (belongs_to number part)) as (λ _. IsSplit number (part ∷ known) left) [
+with_lost : (number : ℕ) (part : KnownPart) (known rest : List KnownPart) → IsSplit number known rest → IsSplit number (part ∷ known) rest
+with_lost number part known rest is = elim (cases_Bool (belongs_to number part)) as (λ _. IsSplit number (part ∷ known) rest) [
   | inl belongs ↦ record {
-    gone = part ∷ is.gone;
-    split = rw belongs (IsPermutation-trans (part ∷ parts_of number known) (part ∷ (parts_of number left ++ is.gone)) (parts_of number left ++ part ∷ is.gone)
-        (IsPermutation-cons part (parts_of number known) (parts_of number left ++ is.gone) is.split)
-        (IsPermutation-sym (parts_of number left ++ part ∷ is.gone) (part ∷ (parts_of number left ++ is.gone)) (IsPermutation-middle (parts_of number left) part is.gone)));
+    lost = part ∷ is.lost;
+    split = rw belongs (IsPermutation-trans (part ∷ parts_of number known) (part ∷ (parts_of number rest ++ is.lost)) (parts_of number rest ++ part ∷ is.lost)
+        (IsPermutation-cons part (parts_of number known) (parts_of number rest ++ is.lost) is.split)
+        (IsPermutation-sym (parts_of number rest ++ part ∷ is.lost) (part ∷ (parts_of number rest ++ is.lost)) (IsPermutation-middle (parts_of number rest) part is.lost)));
   }
-  | inr other ↦ record { gone = is.gone; split = rw other is.split }
+  | inr other ↦ record { lost = is.lost; split = rw other is.split }
 ]
 
-with_other : (number : ℕ) (part : KnownPart) (known left : List KnownPart) → belongs_to number part ≡ false → IsSplit number known left
-    → IsSplit number known (part ∷ left)
-with_other number part known left other is = record { gone = is.gone; split = rw other is.split }
-
-with_same : (number : ℕ) (part : KnownPart) (known left : List KnownPart) → belongs_to number part ≡ true → IsSplit number known left
-    → IsSplit number (part ∷ known) (part ∷ left)
-with_same number part known left belongs is =
-    record { gone = is.gone; split = rw belongs (IsPermutation-cons part (parts_of number known) (parts_of number left ++ is.gone) is.split) }
-
--- each part of the number is complete
-abbrev AreComplete : ℕ → List KnownPart → Type 0
-AreComplete number known = (part : KnownPart) → Contains known part → belongs_to number part ≡ true → (text : PartReading) × (part ≡ whole text)
-
-split_one : (number : ℕ) (bytes left more : List ℕ) (part less : KnownPart) (known lefts : List KnownPart) → BeginsAPart bytes → bytes ≡ left ++ more → IsKnown bytes part
-    → IsKnown left less → (belongs_to number less ≡ true → (text : PartReading) × (less ≡ whole text)) → IsSplit number known lefts
-    → IsSplit number (part ∷ known) (less ∷ lefts)
-split_one number bytes left more part less known lefts begins e is is_less complete rest = elim (cases_Bool (belongs_to number less)) as (λ _. IsSplit number (part ∷ known) (less ∷ lefts)) [
-  | inl belongs ↦
-      let text = complete belongs in
-      let all = cut_complete bytes left more text.0 begins e (subst (IsKnown left) text.1 is_less) in
-      let same = same_known bytes left more part less e all is is_less in
-      subst (λ (p : KnownPart). IsSplit number (p ∷ known) (less ∷ lefts)) (sym same) (with_same number less known lefts belongs rest)
-  | inr other ↦ with_other number less (part ∷ known) lefts other (with_gone number part known lefts rest)
+with_left : (number : ℕ) (part : KnownPart) (known rest : List KnownPart) → IsSplit number known rest → IsSplit number (part ∷ known) (part ∷ rest)
+with_left number part known rest is = elim (cases_Bool (belongs_to number part)) as (λ _. IsSplit number (part ∷ known) (part ∷ rest)) [
+  | inl belongs ↦ record { lost = is.lost; split = rw belongs (IsPermutation-cons part (parts_of number known) (parts_of number rest ++ is.lost) is.split) }
+  | inr other ↦ record { lost = is.lost; split = rw other is.split }
 ]
 
-abbrev bytes_of : List PartFile → List (List ℕ)
-bytes_of files = map (λ (file : PartFile). file.bytes) files
+-- ---- the parts that are left
 
-split_parts : (number : ℕ) (files : List PartFile) (left : List (List ℕ)) (known lefts : List KnownPart) → AreCutParts files left
-    → ((file : PartFile) → Contains files file → BeginsAPart file.bytes) → AreKnown (bytes_of files) known → AreKnown left lefts → AreComplete number lefts
-    → IsSplit number known lefts
-split_parts number [] [] [] [] none begins are are_left complete = record { gone = []; split = IsPermutation-refl [] }
-split_parts number [] [] [] (l ∷ ls) none begins are are_left complete = absurd are_left
-split_parts number [] [] (k ∷ ks) lefts none begins are are_left complete = absurd are
-split_parts number [] (b ∷ bs) known lefts cuts begins are are_left complete = elim cuts [ ]
-split_parts number (f ∷ fs) left [] lefts (lost file files rest unsynced cuts) begins are are_left complete = absurd are
-split_parts number (f ∷ fs) left (k ∷ ks) lefts (lost file files rest unsynced cuts) begins are are_left complete =
-    with_gone number k ks lefts (split_parts number fs left ks lefts cuts (λ x at. begins x (tail_in f x fs at)) are.1 are_left complete)
-split_parts number (f ∷ fs) (b ∷ bs) [] lefts (cut file files bytes more rest e whole_if cuts) begins are are_left complete = absurd are
-split_parts number (f ∷ fs) (b ∷ bs) (k ∷ ks) [] (cut file files bytes more rest e whole_if cuts) begins are are_left complete = absurd are_left
-split_parts number (f ∷ fs) (b ∷ bs) (k ∷ ks) (l ∷ ls) (cut file files bytes more rest e whole_if cuts) begins are are_left complete =
-    split_one number f.bytes b more k l ks ls (begins f (head_in f fs)) e are.0 are_left.0 (complete l (head_in l ls))
-    (split_parts number fs bs ks ls cuts (λ x at. begins x (tail_in f x fs at)) are.1 are_left.1 (λ part at. complete part (tail_in l part ls at)))
+-- no file that may go is a part of the checkpoint with this number
+abbrev Stays : (PartFile → Type 0) → ℕ → Type 0
+Stays MayGo number = (file : PartFile) → MayGo file → IsPartOf number file → ⊥
 
-was_valid : (files : List PartFile) (left : List (List ℕ)) (known lefts : List KnownPart) (checkpoint : CheckpointReading) → AreCutParts files left
-    → ((file : PartFile) → Contains files file → BeginsAPart file.bytes) → AreKnown (bytes_of files) known → AreKnown left lefts
-    → ((part : PartReading) → Contains known (whole part) → length (parts_of part.number known) ≤ part.parts) → IsValid lefts checkpoint → IsValid known checkpoint
-was_valid files left known lefts checkpoint cuts begins are are_left no_more valid =
-    let number = checkpoint.number in
-    let complete : AreComplete number lefts = λ part at belongs.
-    let among = Contains-permutation (parts_of number lefts) (map whole valid.texts) part valid.are_whole (in_filter (belongs_to number) lefts part belongs at) in
-    let text = of_map whole valid.texts part among in
-    (text.0, sym text.2) in
-    let split = split_parts number files left known lefts cuts begins are are_left complete in
-    let enough : (part : PartReading) → Contains (parts_of number known) (whole part) → length (parts_of number known) ≤ part.parts = λ part at.
-    let found = of_filter (belongs_to number) known (whole part) at in
-    subst (λ (n : ℕ). length (parts_of n known) ≤ part.parts) (eqb-true part.number number found.1) (no_more part found.0) in
-    let none_gone = none_is_gone (parts_of number known) (parts_of number lefts) split.gone valid.texts checkpoint enough split.split valid.are_whole valid.make_up in
-    let same = subst (IsPermutation (parts_of number known)) (ap (λ (l : List KnownPart). parts_of number lefts ++ l) none_gone ∙ append-nil (parts_of number lefts)) split.split in record {
-      texts = valid.texts;
-      are_whole = IsPermutation-trans (parts_of number known) (parts_of number lefts) (map whole valid.texts) same valid.are_whole;
-      make_up = valid.make_up;
+-- what is known of the files that are left
+record AreRest (MayGo : PartFile → Type 0) (left : List PartFile) (known : List KnownPart) : Type 0 where
+  rest : List KnownPart
+  are_known : AreKnown (bytes_of left) rest
+  among : (part : KnownPart) → Contains rest part → Contains known part
+  split : (number : ℕ) → IsSplit number known rest
+  all : (number : ℕ) → Stays MayGo number → parts_of number known ≡ parts_of number rest
+
+rest_of : (MayGo : PartFile → Type 0) (files left : List PartFile) (known : List KnownPart) → AreKept MayGo files left → AreKnown (bytes_of files) known
+    → AreRest MayGo left known
+rest_of MayGo [] [] [] none are =
+    record { rest = []; are_known = tt; among = λ part at. at; split = λ number. record { lost = []; split = IsPermutation-refl [] }; all = λ number stays. refl }
+rest_of MayGo [] [] (k ∷ ks) none are = absurd are
+rest_of MayGo [] (n ∷ ns) known keeps are = elim keeps [ ]
+rest_of MayGo (f ∷ fs) left [] (gone file files later may keeps) are = absurd are
+rest_of MayGo (f ∷ fs) left (k ∷ ks) (gone file files later may keeps) are =
+    let is = rest_of MayGo fs left ks keeps are.1 in record {
+      rest = is.rest;
+      are_known = is.are_known;
+      among = λ part at. tail_in k part ks (is.among part at);
+      split = λ number. with_lost number k ks is.rest (is.split number);
+      all = λ number stays. elim (cases_Bool (belongs_to number k)) as (λ _. parts_of number (k ∷ ks) ≡ parts_of number is.rest) [
+        | inl belongs ↦ absurd (stays f may (record { part = k; is_known = are.0; belongs = belongs }))
+        | inr other ↦ rw other (is.all number stays)
+      ];
+    }
+rest_of MayGo (f ∷ fs) (n ∷ ns) [] (kept file now files later same stays keeps) are = absurd are
+rest_of MayGo (f ∷ fs) (n ∷ ns) (k ∷ ks) (kept file now files later same stays keeps) are =
+    let is = rest_of MayGo fs ns ks keeps are.1 in record {
+      rest = k ∷ is.rest;
+      are_known = (subst (λ (bytes : List ℕ). IsKnown bytes k) (sym same) are.0, is.are_known);
+      among = λ part at. elim (head_or_tail k part is.rest at) as (λ _. Contains (k ∷ ks) part) [
+        | inl e ↦ subst (Contains (k ∷ ks)) e (head_in k ks)
+        | inr later ↦ tail_in k part ks (is.among part later)
+      ];
+      split = λ number. with_left number k ks is.rest (is.split number);
+      all = λ number stays. elim (cases_Bool (belongs_to number k)) as (λ _. parts_of number (k ∷ ks) ≡ parts_of number (k ∷ is.rest)) [
+        | inl belongs ↦ rw belongs (ap (λ (l : List KnownPart). k ∷ l) (is.all number stays))
+        | inr other ↦ rw other (is.all number stays)
+      ];
     }
 
--- ---- a synced checkpoint
+-- ---- the files that are left
 
-abbrev IsSyncedOf : ℕ → PartFile → KnownPart → Type 0
-IsSyncedOf number file part = belongs_to number part ≡ true → file.synced ≡ true
+-- the file that was there with the same bytes
+record WasThere (MayGo : PartFile → Type 0) (files : List PartFile) (now : PartFile) : Type 0 where
+  file : PartFile
+  stands : Contains files file
+  same : now.bytes ≡ file.bytes
+  stays : MayGo file ⊎ (file.synced ≡ true → now.synced ≡ true)
 
-same_one : (number : ℕ) (bytes left more : List ℕ) (part less : KnownPart) (known lefts : List KnownPart) → bytes ≡ left ++ more → IsKnown bytes part → IsKnown left less
-    → (belongs_to number part ≡ true → more ≡ []) → parts_of number lefts ≡ parts_of number known → parts_of number (less ∷ lefts) ≡ parts_of number (part ∷ known)
-same_one number bytes left more part less known lefts e is is_less all rest = elim (cases_Bool (belongs_to number part)) as (λ _. parts_of number (less ∷ lefts) ≡ parts_of number (part ∷ known)) [
-  | inl belongs ↦
-      let same = same_known bytes left more part less e (all belongs) is is_less in
-      subst (λ (p : KnownPart). parts_of number (p ∷ lefts) ≡ parts_of number (part ∷ known)) same (rw belongs (ap (λ (l : List KnownPart). part ∷ l) rest))
-  | inr other ↦ elim (cases_Bool (belongs_to number less)) as (λ _. parts_of number (less ∷ lefts) ≡ parts_of number (part ∷ known)) [
-    | inl belongs ↦ absurd (both_ways (belongs_to number part) other (belonged number bytes left more part less e is is_less belongs))
-    | inr too ↦ rw (other, too) rest
-  ]
+was_there : (MayGo : PartFile → Type 0) (files left : List PartFile) (now : PartFile) → AreKept MayGo files left → Contains left now → WasThere MayGo files now
+was_there MayGo [] [] now none at = absurd (no_element now at)
+was_there MayGo [] (n ∷ ns) now keeps at = elim keeps [ ]
+was_there MayGo (f ∷ fs) left now (gone file files later may keeps) at =
+    let was = was_there MayGo fs left now keeps at in record { file = was.file; stands = tail_in f was.file fs was.stands; same = was.same; stays = was.stays }
+was_there MayGo (f ∷ fs) (n ∷ ns) now (kept file new files later same stays keeps) at = elim (head_or_tail n now ns at) as (λ _. WasThere MayGo (f ∷ fs) now) [
+  | inl e ↦ subst (WasThere MayGo (f ∷ fs)) e (record { file = f; stands = head_in f fs; same = same; stays = stays })
+  | inr later ↦ let was = was_there MayGo fs ns now keeps later in record { file = was.file; stands = tail_in f was.file fs was.stands; same = was.same; stays = was.stays }
 ]
 
-same_parts : (number : ℕ) (files : List PartFile) (left : List (List ℕ)) (known lefts : List KnownPart) → AreCutParts files left → AreKnown (bytes_of files) known
-    → AreKnown left lefts → AllZip (IsSyncedOf number) files known → parts_of number lefts ≡ parts_of number known
-same_parts number [] [] [] [] none are are_left synced = refl
-same_parts number [] [] [] (l ∷ ls) none are are_left synced = absurd are_left
-same_parts number [] [] (k ∷ ks) lefts none are are_left synced = absurd are
-same_parts number [] (b ∷ bs) known lefts cuts are are_left synced = elim cuts [ ]
-same_parts number (f ∷ fs) left [] lefts (lost file files rest unsynced cuts) are are_left synced = absurd are
-same_parts number (f ∷ fs) left (k ∷ ks) lefts (lost file files rest unsynced cuts) are are_left synced =
-    let later = same_parts number fs left ks lefts cuts are.1 are_left synced.1 in
-    elim (cases_Bool (belongs_to number k)) as (λ _. parts_of number lefts ≡ parts_of number (k ∷ ks)) [
-      | inl belongs ↦ absurd (both_ways f.synced unsynced (synced.0 belongs))
-      | inr other ↦ rw other later
-    ]
-same_parts number (f ∷ fs) (b ∷ bs) [] lefts (cut file files bytes more rest e whole_if cuts) are are_left synced = absurd are
-same_parts number (f ∷ fs) (b ∷ bs) (k ∷ ks) [] (cut file files bytes more rest e whole_if cuts) are are_left synced = absurd are_left
-same_parts number (f ∷ fs) (b ∷ bs) (k ∷ ks) (l ∷ ls) (cut file files bytes more rest e whole_if cuts) are are_left synced =
-    same_one number f.bytes b more k l ks ls e are.0 are_left.0 (λ belongs. whole_if (synced.0 belongs)) (same_parts number fs bs ks ls cuts are.1 are_left.1 synced.1)
+still_synced : (MayGo : PartFile → Type 0) (number : ℕ) (files left : List PartFile) (now : PartFile) → AreKept MayGo files left → Stays MayGo number
+    → ((file : PartFile) → Contains files file → IsPartOf number file → file.synced ≡ true) → Contains left now → IsPartOf number now → now.synced ≡ true
+still_synced MayGo number files left now keeps stays synced at is =
+    let was = was_there MayGo files left now keeps at in
+    let is_part : IsPartOf number was.file = record { part = is.part; is_known = subst (λ (bytes : List ℕ). IsKnown bytes is.part) was.same is.is_known; belongs = is.belongs } in
+    elim was.stays as (λ _. now.synced ≡ true) [ inl may ↦ absurd (stays was.file may is_part) | inr still ↦ still (synced was.file was.stands is_part) ]
 
-synced_valid : (files : List PartFile) (left : List (List ℕ)) (known lefts : List KnownPart) (base : Option CheckpointReading) → AreCutParts files left
-    → AreKnown (bytes_of files) known → AreKnown left lefts → IfSome base (IsSyncedIn files known) → IfSome base (IsValid lefts)
-synced_valid files left known lefts None cuts are are_left is = tt
-synced_valid files left known lefts (Some base) cuts are are_left is = record {
-  texts = is.valid.texts;
-  are_whole = subst (λ (l : List KnownPart). IsPermutation l (map whole is.valid.texts)) (sym (same_parts base.number files left known lefts cuts are are_left is.synced)) is.valid.are_whole;
-  make_up = is.valid.make_up;
-}
-
--- ---- the law
-
-pub crash_of_parts : (checkpoints : Checkpoints) (files : List PartFile) (left : List (List ℕ)) → AreFilesOf checkpoints files → AreCutParts files left
-    → AreLeftOf checkpoints left
-crash_of_parts checkpoints files left are cuts =
-    let lefts = all_known left in record {
-      known = lefts.0;
-      are_known = lefts.1;
-      no_other = λ checkpoint valid. are.written checkpoint (was_valid files left are.known lefts.0 checkpoint cuts are.each are.are_known lefts.1 are.no_more valid);
-      base_is = synced_valid files left are.known lefts.0 checkpoints.base cuts are.are_known lefts.1 are.base_is;
+still_base : (base : Option CheckpointReading) (files left : List PartFile) (known : List KnownPart) (are : AreRest (IsNoPartOf base) left known)
+    → AreKept (IsNoPartOf base) files left → IfSome base (IsSyncedIn files known) → IfSome base (IsSyncedIn left are.rest)
+still_base None files left known are keeps is = tt
+still_base (Some base) files left known are keeps is =
+    let stays : Stays (IsNoPartOf (Some base)) base.number = λ file no_part is_part. no_part is_part in record {
+      valid = same_valid known are.rest base (are.all base.number stays) is.valid;
+      synced = λ file at. still_synced (IsNoPartOf (Some base)) base.number files left file keeps stays is.synced at;
     }
+
+-- ---- the laws
+
+pub without_others : (checkpoints : Checkpoints) (files left : List PartFile) → AreFilesOf checkpoints files → AreKept (IsNoPartOf checkpoints.base) files left
+    → AreFilesOf checkpoints left
+without_others checkpoints files left are keeps =
+    let rest = rest_of (IsNoPartOf checkpoints.base) files left are.known keeps are.are_known in record {
+      known = rest.rest;
+      are_known = rest.are_known;
+      no_more = λ part at.
+          let before = parts_of part.number are.known in
+          let after = parts_of part.number rest.rest in
+          let is = rest.split part.number in
+          let most : length before ≤ part.parts = are.no_more part (rest.among (whole part) at) in
+          omega (arith, most, length_permutation before (after ++ is.lost) is.split, length-append after is.lost);
+      written = λ checkpoint valid.
+          let number = checkpoint.number in
+          let is = rest.split number in
+          let enough : (part : PartReading) → Contains (parts_of number are.known) (whole part) → length (parts_of number are.known) ≤ part.parts = λ part at.
+          let found = of_filter (belongs_to number) are.known (whole part) at in
+          subst (λ (n : ℕ). length (parts_of n are.known) ≤ part.parts) (eqb-true part.number number found.1) (are.no_more part found.0) in
+          are.written checkpoint (was_valid are.known rest.rest checkpoint (some_gone is.lost enough is.split) valid);
+      base_is = still_base checkpoints.base files left are.known rest keeps are.base_is;
+    }
+
+may_go : (P Q : PartFile → Type 0) (files left : List PartFile) → ((file : PartFile) → Contains files file → P file → Q file) → AreKept P files left → AreKept Q files left
+may_go P Q [] [] follows none = none
+may_go P Q [] (n ∷ ns) follows keeps = elim keeps [ ]
+may_go P Q (f ∷ fs) left follows (gone file files later may keeps) =
+    gone f fs left (follows f (head_in f fs) may) (may_go P Q fs left (λ x at. follows x (tail_in f x fs at)) keeps)
+may_go P Q (f ∷ fs) (n ∷ ns) follows (kept file now files later same stays keeps) =
+    kept f n fs ns same (elim stays as (λ _. Q f ⊎ (f.synced ≡ true → n.synced ≡ true)) [ inl may ↦ inl (follows f (head_in f fs) may) | inr still ↦ inr still ])
+    (may_go P Q fs ns (λ x at. follows x (tail_in f x fs at)) keeps)
+
+-- no file that a crash may take away is a part of the checkpoint that the server stands on
+not_of_base : (base : Option CheckpointReading) (files : List PartFile) (known : List KnownPart) (file : PartFile) → IfSome base (IsSyncedIn files known)
+    → Contains files file → file.synced ≡ false → IsNoPartOf base file
+not_of_base None files known file is at unsynced = tt
+not_of_base (Some base) files known file is at unsynced = λ is_part. both_ways file.synced unsynced (is.synced file at is_part)
+
+base_valid : (base : Option CheckpointReading) (files : List PartFile) (known : List KnownPart) → IfSome base (IsSyncedIn files known) → IfSome base (IsValid known)
+base_valid None files known is = tt
+base_valid (Some base) files known is = is.valid
+
+pub crash_of_parts : (checkpoints : Checkpoints) (files left : List PartFile) → AreFilesOf checkpoints files → AreKept (λ file. file.synced ≡ false) files left
+    → AreLeftOf checkpoints (bytes_of left)
+crash_of_parts checkpoints files left are keeps =
+    let base = checkpoints.base in
+    let still = without_others checkpoints files left are
+    (may_go (λ file. file.synced ≡ false) (IsNoPartOf base) files left (λ file at. not_of_base base files are.known file are.base_is at) keeps) in
+    record { known = still.known; are_known = still.are_known; no_other = still.written; base_is = base_valid base left still.known still.base_is }

@@ -11,10 +11,13 @@ use Rattle.mt_words.proofs.Elements.{head_in, tail_in}
 use Rattle.mt_record.specs.Parts.{PartReading}
 use Rattle.mt_scan.specs.PartScans.{KnownPart, whole, IsKnown}
 use Rattle.mt_scan.specs.Choice.{CheckpointReading, belongs_to, parts_of, IsValid}
+use Rattle.mt_scan.proofs.OneKnown.{one_known}
+use Rattle.mt_replay.proofs.Members.{in_map}
 use Rattle.mt_recover.specs.Recovery.{AreKnown}
 use Rattle.mt_laws.specs.Lives.{Checkpoints}
-use Rattle.mt_laws.specs.PartFiles.{PartFile, BeginsAPart, IsSyncedIn, AreFilesOf, AreNewFiles}
+use Rattle.mt_laws.specs.PartFiles.{PartFile, bytes_of, IsPartOf, IsSyncedIn, AreFilesOf, AreNewFiles}
 use Rattle.mt_laws.proofs.Deleted.{not_made_of_none}
+use Rattle.mt_laws.proofs.Paired.{partner}
 
 -- ---- parts of a number
 
@@ -63,16 +66,12 @@ zip_joined R [] others (y ∷ ys) news are too = absurd are
 zip_joined R (x ∷ xs) others [] news are too = absurd are
 zip_joined R (x ∷ xs) others (y ∷ ys) news are too = (are.0, zip_joined R xs others ys news are.1 too)
 
-abbrev pub bytes_in : List PartFile → List (List ℕ)
-bytes_in files = map (λ (file : PartFile). file.bytes) files
-
--- files of parts of which none has the number
-none_owed : (number : ℕ) (files : List PartFile) (known : List KnownPart) → AllZip (λ (bytes : List ℕ) (part : KnownPart). IsKnown bytes part) (bytes_in files) known → NoneOf number known
-    → AllZip (λ (file : PartFile) part. belongs_to number part ≡ true → file.synced ≡ true) files known
-none_owed number [] [] are none = tt
-none_owed number [] (k ∷ ks) are none = absurd are
-none_owed number (f ∷ fs) [] are none = absurd are
-none_owed number (f ∷ fs) (k ∷ ks) are none = (λ is. absurd (none k (head_in k ks) is), none_owed number fs ks are.1 (λ part at. none part (tail_in k part ks at)))
+-- what is known of a file that is a part of the checkpoint
+known_of : (number : ℕ) (files : List PartFile) (known : List KnownPart) (file : PartFile) → AreKnown (bytes_of files) known → Contains files file → IsPartOf number file
+    → (part : KnownPart) × Contains known part × (belongs_to number part ≡ true)
+known_of number files known file are at is =
+    let found = partner IsKnown (bytes_of files) known file.bytes are (in_map (λ (f : PartFile). f.bytes) files file at) in
+    (found.0, found.1, subst (λ (part : KnownPart). belongs_to number part ≡ true) (one_known file.bytes is.part found.0 is.is_known found.2) is.belongs)
 
 -- ---- the law
 
@@ -80,9 +79,8 @@ pub with_new_parts : (checkpoints : Checkpoints) (written : List CheckpointReadi
     → (new : AreNewFiles are.known number news) → ((c : CheckpointReading) → Contains checkpoints.written c → Contains written c)
     → ((c : CheckpointReading) → IsValid new.known c → Contains written c) → AreFilesOf (record checkpoints { written = written }) (files ++ news)
 with_new_parts checkpoints written number files news are new more valid_new = record {
-  each = λ file at. elim (Contains-append_cases files news file at) as (λ _. BeginsAPart file.bytes) [ inl here ↦ are.each file here | inr later ↦ new.each file later ];
   known = all;
-  are_known = subst (λ (bytes : List (List ℕ)). AreKnown bytes all) (sym (map-append (λ (file : PartFile). file.bytes) files news)) (zip_joined IsKnown (bytes_in files) (bytes_in news) are.known new.known are.are_known new.are_known);
+  are_known = subst (λ (bytes : List (List ℕ)). AreKnown bytes all) (sym (map-append (λ (file : PartFile). file.bytes) files news)) (zip_joined IsKnown (bytes_of files) (bytes_of news) are.known new.known are.are_known new.are_known);
   no_more = few;
   written = still_written;
   base_is = base_stays checkpoints.base are.base_is;
@@ -111,7 +109,7 @@ with_new_parts checkpoints written number files news are new more valid_new = re
           subst (λ (l : List KnownPart). length l ≤ part.parts) (sym (as_before part.number (λ e. omega (arith, less, e)))) (are.no_more part here)
       | inr later ↦
           let same : part.number ≡ number = new.numbered (whole part) part.number later (eq-eqb part.number part.number refl) in
-          let long : length new.known ≡ length (bytes_in news) = AllZip-long IsKnown (bytes_in news) new.known new.are_known in
+          let long : length new.known ≡ length (bytes_of news) = AllZip-long IsKnown (bytes_of news) new.known new.are_known in
           subst (λ (n : ℕ). length (parts_of n all) ≤ part.parts) (sym same) (subst (λ (l : List KnownPart). length l ≤ part.parts) (sym as_new)
           (omega (arith, few_parts number new.known, long, length-map news (λ (file : PartFile). file.bytes), new.no_more part later)))
     ]
@@ -130,6 +128,9 @@ with_new_parts checkpoints written number files news are new more valid_new = re
           absurd (not_made_of_none (parts_of base.number are.known) is.valid.texts base none is.valid.are_whole is.valid.make_up)
       | inr apart ↦ record {
         valid = same_valid are.known all base (sym (as_before base.number apart)) is.valid;
-        synced = zip_joined (λ (file : PartFile) part. belongs_to base.number part ≡ true → file.synced ≡ true) files news are.known new.known is.synced (none_owed base.number news new.known new.are_known (none_new base.number apart));
+        synced = λ file at is_part. elim (Contains-append_cases files news file at) as (λ _. file.synced ≡ true) [
+          | inl here ↦ is.synced file here is_part
+          | inr later ↦ let found = known_of base.number news new.known file new.are_known later is_part in absurd (none_new base.number apart found.0 found.1 found.2)
+        ];
       }
     ]

@@ -71,7 +71,7 @@ read_or_fault (l ∷ ls) each = elim (each l (head_in l ls)) as (λ _. HasReadin
 ]
 
 -- what is known of parts
-pub all_known : (parts : List (List ℕ)) → (known : List KnownPart) × AreKnown parts known
+all_known : (parts : List (List ℕ)) → (known : List KnownPart) × AreKnown parts known
 all_known [] = ([], tt)
 all_known (p ∷ ps) =
     let own = known_of p in

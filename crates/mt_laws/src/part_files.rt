@@ -1,15 +1,15 @@
 //! Laws of the files of parts: while checkpoints are written, after a crash, and after a resume.
-ghost use Rattle.std.specs.Prelude.{ℕ, List, ◌++◌, Contains};
+ghost use Rattle.std.specs.Prelude.{◌≡◌, false, ℕ, List, ◌++◌, Contains};
 ghost use Rattle.mt_scan.specs.Choice.{CheckpointReading, IsValid};
 ghost use Rattle.mt_recover.specs.Recovery.{Facts};
 ghost use Rattle.mt_laws.specs.Lives.{Checkpoints, AreLeftOf, only};
-ghost use Rattle.mt_laws.specs.PartFiles.{PartFile, AreFilesOf, AreCutParts, AreNewFiles, AreChosenFiles};
+ghost use Rattle.mt_laws.specs.PartFiles.{PartFile, bytes_of, AreKept, AreFilesOf, AreNewFiles, AreChosenFiles};
 
 /// States that what a crash leaves of the files of parts is as `a_life_of_crashes` asks: no checkpoint becomes valid that
-/// was not, and one whose parts were synced stays valid. This is a law: it has nothing to run.
+/// was not, and the one that the server stands on stays valid. This is a law: it has nothing to run.
 pub fn a_crash_makes_no_checkpoint_valid()
-    ensures { (checkpoints : Checkpoints) (files : List PartFile) (left : List (List ℕ)) →
-        AreFilesOf checkpoints files → AreCutParts files left → AreLeftOf checkpoints left }
+    ensures { (checkpoints : Checkpoints) (files left : List PartFile) →
+        AreFilesOf checkpoints files → AreKept (λ file. file.synced ≡ false) files left → AreLeftOf checkpoints (bytes_of left) }
 {}
 
 /// States that the files of parts stay as `a_crash_makes_no_checkpoint_valid` asks while the parts of a further checkpoint
