@@ -1,19 +1,23 @@
--- The parts that a resume leaves are those of the chosen checkpoint, which no other part is among.
-use Rattle.std.proofs.Common.{◌≡◌, inl, inr, ℕ, ◌≤◌, true, Option, Some, None, List, [], ◌∷◌, length, map, Contains, refl, sym, ap, ◌∙◌, subst, arith}
+-- The parts that a resume leaves are those of the chosen checkpoint, which no other part is among. Those of a fresh start are too.
+use Rattle.std.proofs.Common.{◌≡◌, inl, inr, ℕ, ◌+◌, ◌≤◌, true, Option, Some, None, List, [], ◌∷◌, length, map, Contains, refl, sym, ap, ◌∙◌, subst, arith}
 use Rattle.std.proofs.lemmas.Bool.{cases_Bool, cases_eq, eqb-true, false≢true}
 use Rattle.std.proofs.lemmas.List.{length-map}
 use Rattle.std.proofs.lemmas.List.Sorted.{Contains-permutation, length_permutation}
+use Rattle.mt_words.specs.Walks.{Pair, IsMap}
 use Rattle.mt_words.proofs.Elements.{no_element, head_in}
 use Rattle.mt_record.specs.Parts.{PartReading}
+use Rattle.mt_checkpoint.specs.Checkpoints.{Checkpoint, HasPairs}
 use Rattle.mt_scan.specs.PartScans.{KnownPart, whole, broken, nameless}
 use Rattle.mt_scan.specs.Choice.{CheckpointReading, belongs_to, parts_of, IsValid, IsChosenOf}
 use Rattle.mt_scan.proofs.OneChoice.{one_valid}
 use Rattle.mt_replay.proofs.Members.{of_map, of_filter}
-use Rattle.mt_recover.specs.Recovery.{Facts}
+use Rattle.mt_recover.specs.Recovery.{AreKnown, Facts}
 use Rattle.mt_laws.specs.Lives.{only}
-use Rattle.mt_laws.specs.PartFiles.{PartFile, AreFilesOf, AreChosenFiles}
+use Rattle.mt_laws.specs.Fresh.{AreAllParts, reading_with}
+use Rattle.mt_laws.specs.PartFiles.{PartFile, bytes_of, AllSynced, AreFilesOf, AreChosenFiles}
 use Rattle.mt_laws.proofs.Deleted.{count_given, not_made_of_none}
 use Rattle.mt_laws.proofs.NewParts.{no_parts, same_valid}
+use Rattle.mt_laws.proofs.FreshParts.{known_as}
 
 -- the parts of a number among the parts of that number
 parts_twice : (number : ℕ) (parts : List KnownPart) → parts_of number (parts_of number parts) ≡ parts_of number parts
@@ -65,7 +69,7 @@ of_chosen known chosen files valid are = record {
     one_number nameless number is too = absurd (false≢true is)
 
 -- where no checkpoint is chosen, no part is left
-of_none : (known : List KnownPart) (files : List PartFile) → AreChosenFiles None known files → AreFilesOf (only None) files
+pub of_none : (known : List KnownPart) (files : List PartFile) → AreChosenFiles None known files → AreFilesOf (only None) files
 of_none known [] are = record {
   known = [];
   are_known = tt;
@@ -83,3 +87,12 @@ by_choice (Some chosen) known cutoff files is are = of_chosen known chosen files
 pub chosen_left : (left parts : List (List ℕ)) (facts : Facts left parts) (files : List PartFile) → AreChosenFiles facts.chosen facts.known files
     → AreFilesOf (only facts.chosen) files
 chosen_left left parts facts files are = by_choice facts.chosen facts.known facts.cutoff files facts.is_chosen are
+
+-- ---- a fresh start
+
+pub fresh_parts : (pairs : List Pair) (checkpoint : Checkpoint) (files : List PartFile) → IsMap pairs → HasPairs pairs checkpoint
+    → AreAllParts checkpoint (bytes_of files) → AllSynced files → AreFilesOf (only (Some (reading_with checkpoint pairs))) files
+fresh_parts pairs checkpoint files is_map is all synced =
+    let found = known_as pairs checkpoint (bytes_of files) is_map is all in
+    of_chosen found.known (reading_with checkpoint pairs) files (found.chosen (checkpoint.cutoff + 1) (omega arith)).0.valid
+    (record { are_known = subst (AreKnown (bytes_of files)) (sym found.belong) found.are_known; synced = synced })

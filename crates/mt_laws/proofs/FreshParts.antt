@@ -150,10 +150,11 @@ only_number checkpoint order other valid =
 
 -- ---- it is chosen
 
--- what is known of the parts, and that the checkpoint is chosen among them below each cutoff that is above its own
+-- what is known of the parts: all belong to the checkpoint, which is chosen among them below each cutoff that is above its own
 pub record AreKnownAs (pairs : List Pair) (checkpoint : Checkpoint) (parts : List (List ℕ)) : Type 0 where
   pub known : List KnownPart
   pub are_known : AreKnown parts known
+  pub belong : parts_of checkpoint.number known ≡ known
   pub chosen : (cutoff : ℕ) → checkpoint.cutoff < cutoff → IsChosenOf known cutoff (Some (reading_with checkpoint pairs))
 
 pub known_as : (pairs : List Pair) (checkpoint : Checkpoint) (parts : List (List ℕ)) → IsMap pairs → HasPairs pairs checkpoint → AreAllParts checkpoint parts
@@ -169,6 +170,7 @@ known_as pairs checkpoint parts is_map is all =
     let valid = valid_in_order pairs checkpoint order is_map is found.1 in record {
       known = known;
       are_known = subst (λ (l : List (List ℕ)). AreKnown l known) found.2 (all_known pairs checkpoint order is_map is below);
+      belong = all_belong checkpoint order;
       chosen = λ cutoff above. (
         record { valid = valid; ends_below = above },
         λ other may.

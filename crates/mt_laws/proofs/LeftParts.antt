@@ -174,3 +174,8 @@ crash_of_parts checkpoints files left are keeps =
     let still = without_others checkpoints files left are
     (may_go (λ file. file.synced ≡ false) (IsNoPartOf base) files left (λ file at. not_of_base base files are.known file are.base_is at) keeps) in
     record { known = still.known; are_known = still.are_known; no_other = still.written; base_is = base_valid base left still.known still.base_is }
+
+pub stands_on : (checkpoints : Checkpoints) (files : List PartFile) (new : CheckpointReading) (are : AreFilesOf checkpoints files) → IsSyncedIn files are.known new
+    → Contains checkpoints.written new × AreFilesOf (record checkpoints { base = Some new }) files
+stands_on checkpoints files new are is =
+    (are.written new is.valid, record { known = are.known; are_known = are.are_known; no_more = are.no_more; written = are.written; base_is = is })

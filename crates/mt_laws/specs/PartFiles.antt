@@ -16,7 +16,11 @@ pub record PartFile : Type 0 where
 abbrev pub bytes_of : List PartFile → List (List ℕ)
 bytes_of files = map (λ file. file.bytes) files
 
--- the file is a part of the checkpoint with this number
+-- each name is synced
+abbrev pub AllSynced : List PartFile → Type 0
+AllSynced files = (file : PartFile) → Contains files file → file.synced ≡ true
+
+-- the file is a part of the checkpoint with this number, complete or broken
 pub record IsPartOf (number : ℕ) (file : PartFile) : Type 0 where
   pub part : KnownPart
   pub is_known : IsKnown file.bytes part
@@ -64,4 +68,4 @@ chosen_parts (Some chosen) known = parts_of chosen.number known
 -- the files of the parts that a resume leaves: those of the chosen checkpoint, all synced
 pub record AreChosenFiles (chosen : Option CheckpointReading) (known : List KnownPart) (files : List PartFile) : Type 0 where
   pub are_known : AreKnown (bytes_of files) (chosen_parts chosen known)
-  pub synced : (file : PartFile) → Contains files file → file.synced ≡ true
+  pub synced : AllSynced files

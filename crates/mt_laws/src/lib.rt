@@ -26,7 +26,8 @@ pub use fresh::a_fresh_start_is_the_same_store;
 pub use lives::a_life_of_crashes;
 pub use part_files::{
     a_checkpoint_written_while_running, a_crash_makes_no_checkpoint_valid,
-    a_resume_leaves_the_chosen_parts,
+    a_resume_leaves_the_chosen_parts, dropping_old_parts, standing_on_a_checkpoint,
+    the_parts_of_a_fresh_start,
 };
 pub use readings::{some_part, some_reading};
 pub use resuming::{
