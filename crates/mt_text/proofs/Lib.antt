@@ -1,2 +1,3 @@
 pub mod PairLemmas
 pub mod RecordLines
+pub mod Reading

@@ -3,3 +3,4 @@ pub mod RecordJson
 pub mod Forms
 pub mod Listing
 pub mod Pairs
+pub mod Escapes

@@ -1,5 +1,6 @@
 //! Bytes as text with escapes.
-ghost use Rattle.std.specs.Prelude.{◌≢◌, ◌≤◌, ◌↔◌, IsTrue};
+ghost use Rattle.std.specs.Prelude.{◌≡◌, ◌≢◌, ◌≤◌, ◌<◌, ◌↔◌, IfOk, IsTrue, MatchOption, None, Some, length};
+ghost use Rattle.mt_text.specs.Escapes.{StandsFor, StandsForNone, front, hex_byte, named_byte};
 
 use std::alloc::{AllocError, Global};
 use std::fmt::{self, Display, Formatter, Write};
@@ -31,53 +32,45 @@ pub fn is_plain(byte: u8) -> bool
     byte >= b'!' && byte <= b'~' && byte != b'"' && byte != b':' && byte != b'=' && byte != b'\\'
 }
 
-/// How far an escape was read.
-#[derive(Clone, Copy)]
-enum State {
-    /// No escape has begun.
-    Outside,
-    /// After `\`.
-    Begun,
-    /// After `\x`.
-    Hex,
-    /// After `\x` and this digit.
-    Digit(u8),
-}
-
 /// Returns the bytes of a text with the escapes `\n`, `\r`, `\t`, `\0`, `\\`, `\"`, `\'`, and `\x00` to `\xff`. None: it has
 /// another escape. Err: out of memory.
-pub fn unescape(alloc: Global, text: &str) -> Result<Option<Vec<u8>>, AllocError> {
+pub fn unescape(alloc: Global, text: &str) -> Result<Option<Vec<u8>>, AllocError>
+    ensures { IfOk result (λ bytes. MatchOption bytes (StandsForNone text.now) (λ bytes. StandsFor text.now bytes.items)) }
+{
     let mut bytes = Vec::new(alloc);
-    let mut state = State::Outside;
-    for byte in text.as_bytes() {
-        state = match step(state, *byte, &mut bytes)? {
-            Some(state) => state,
-            None => return Ok(None),
+    let mut rest = text.as_bytes();
+    while !rest.is_empty() {
+        let Some((byte, after)) = first_of(rest) else {
+            return Ok(None);
         };
+        bytes.push(byte)?;
+        rest = after;
     }
-    Ok(matches!(state, State::Outside).then_some(bytes))
+    Ok(Some(bytes))
 }
 
-/// Reads the next byte of a text, and appends the byte that ends with it, if one does. None: it is no escape. Err: out of
-/// memory.
-fn step(state: State, byte: u8, bytes: &mut Vec<u8>) -> Result<Option<State>, AllocError> {
-    let ended = match state {
-        State::Outside if byte == b'\\' => return Ok(Some(State::Begun)),
-        State::Outside => Some(byte),
-        State::Begun if byte == b'x' => return Ok(Some(State::Hex)),
-        State::Begun => named(byte),
-        State::Hex => return Ok(Some(State::Digit(byte))),
-        State::Digit(first) => byte_of(first, byte),
-    };
-    let Some(ended) = ended else {
-        return Ok(None);
-    };
-    bytes.push(ended)?;
-    Ok(Some(State::Outside))
+/// Returns the byte that a text begins with, and the rest of the text. None: the text is empty, or begins with `\` but with
+/// no escape.
+fn first_of(text: &[u8]) -> Option<(u8, &[u8])>
+    ensures { MatchOption result (front text.now ≡ None) (λ found. (front text.now ≡ Some (found.0, found.1.now)) × (length found.1.now < length text.now)) }
+{
+    let (byte, rest) = text.split_first()?;
+    if *byte != b'\\' {
+        return Some((*byte, rest));
+    }
+    let (letter, rest) = rest.split_first()?;
+    if *letter != b'x' {
+        return Some((named(*letter)?, rest));
+    }
+    let (first, rest) = rest.split_first()?;
+    let (second, rest) = rest.split_first()?;
+    Some((byte_of(*first, *second)?, rest))
 }
 
 /// Returns the byte that this letter stands for after `\`. None: no byte.
-fn named(letter: u8) -> Option<u8> {
+fn named(letter: u8) -> Option<u8>
+    ensures { result ≡ named_byte letter }
+{
     match letter {
         b'n' => Some(b'\n'),
         b'r' => Some(b'\r'),
@@ -89,7 +82,9 @@ fn named(letter: u8) -> Option<u8> {
 }
 
 /// Returns the byte of two hexadecimal digits. None: one is no such digit.
-fn byte_of(first: u8, second: u8) -> Option<u8> {
+fn byte_of(first: u8, second: u8) -> Option<u8>
+    ensures { result ≡ hex_byte first second }
+{
     let mut byte = [0];
     match hex::decode_to_slice([first, second].as_slice(), &mut byte) {
         Ok(()) => Some(byte[0]),
