@@ -4,3 +4,4 @@ pub mod Forms
 pub mod Listing
 pub mod Pairs
 pub mod Escapes
+pub mod Lines

@@ -1,4 +1,8 @@
 //! Lines of named values.
+ghost use Rattle.std.specs.Prelude.{◌≡◌, ◌++◌, IfSome, OnOk, false, true};
+ghost use Rattle.std.specs.Io.KnownBytes.{Appends};
+ghost use Rattle.mt_text.specs.Lines.{end_text, flag_text, name_text, word_text};
+
 use crate::form::Form;
 use crate::json::{format_number, write_name};
 use crate::value::Value;
@@ -16,7 +20,10 @@ pub struct Fields<'a, W> {
 
 impl<'a, W: Write> Fields<'a, W> {
     /// Begins a line.
-    pub fn new(out: &'a mut W, is_json: bool) -> Fields<'a, W> {
+    pub fn new(out: &'a mut W, is_json: bool) -> Fields<'a, W>
+        ensures same { (result.out.ghost_name ≡ out.entry.ghost_name) × (result.out.now ≡ out.old) }
+        ensures form { (result.is_json ≡ is_json) × (result.is_first ≡ true) }
+    {
         Fields {
             out,
             is_json,
@@ -25,7 +32,10 @@ impl<'a, W: Write> Fields<'a, W> {
     }
 
     /// Prints a number. Err: write error.
-    pub fn number<N: Display + Drop>(&mut self, name: &str, number: N) -> io::Result<()> {
+    pub fn number<N: Display + Drop>(&mut self, name: &str, number: N) -> io::Result<()>
+        ensures line { (self.new.out.ghost_name ≡ self.old.out.ghost_name) × (self.new.is_json ≡ self.old.is_json) × (self.new.is_first ≡ false) }
+        ensures number { OnOk result (IfSome (N.output number) (λ text. (Appends (W.contents self.old.out.now) (W.contents self.new.out.now) (name_text self.old.is_json self.old.is_first name.now ++ text)))) }
+    {
         self.name(name)?;
         write!(self.out, "{number}")
     }
@@ -50,22 +60,32 @@ impl<'a, W: Write> Fields<'a, W> {
     }
 
     /// Prints a word, which needs no escapes. Err: write error.
-    pub fn word<T: Display + Drop>(&mut self, name: &str, word: T) -> io::Result<()> {
+    pub fn word<T: Display + Drop>(&mut self, name: &str, word: T) -> io::Result<()>
+        ensures line { (self.new.out.ghost_name ≡ self.old.out.ghost_name) × (self.new.is_json ≡ self.old.is_json) × (self.new.is_first ≡ false) }
+        ensures word { OnOk result (IfSome (T.output word) (λ text. (Appends (W.contents self.old.out.now) (W.contents self.new.out.now) (name_text self.old.is_json self.old.is_first name.now ++ word_text self.old.is_json text)))) }
+    {
         self.name(name)?;
-        let quote = if self.is_json { "\"" } else { "" };
-        write!(self.out, "{quote}{word}{quote}")
+        if !self.is_json {
+            return write!(self.out, "{word}");
+        }
+        self.out.write_all(b"\"")?;
+        write!(self.out, "{word}")?;
+        self.out.write_all(b"\"")
     }
 
     /// Prints `yes` or `no`, in JSON `true` or `false`. Err: write error.
-    pub fn flag(&mut self, name: &str, is_so: bool) -> io::Result<()> {
-        let word = match (self.is_json, is_so) {
-            (false, true) => "yes",
-            (false, false) => "no",
-            (true, true) => "true",
-            (true, false) => "false",
-        };
+    pub fn flag(&mut self, name: &str, is_so: bool) -> io::Result<()>
+        ensures line { (self.new.out.ghost_name ≡ self.old.out.ghost_name) × (self.new.is_json ≡ self.old.is_json) × (self.new.is_first ≡ false) }
+        ensures flag { OnOk result (Appends (W.contents self.old.out.now) (W.contents self.new.out.now) (name_text self.old.is_json self.old.is_first name.now ++ flag_text self.old.is_json is_so)) }
+    {
         self.name(name)?;
-        write!(self.out, "{word}")
+        let word: &[u8] = match (self.is_json, is_so) {
+            (false, true) => b"yes",
+            (false, false) => b"no",
+            (true, true) => b"true",
+            (true, false) => b"false",
+        };
+        self.out.write_all(word)
     }
 
     /// Prints text, with escapes. Err: write error.
@@ -79,20 +99,28 @@ impl<'a, W: Write> Fields<'a, W> {
     }
 
     /// Ends the line. Err: write error.
-    pub fn end(self) -> io::Result<()> {
+    pub fn end(self) -> io::Result<()>
+        ensures { OnOk result (Appends (W.contents self.entry.out.now) (W.contents self.exit.0.now) (end_text self.entry.is_json)) }
+    {
         let end: &[u8] = if self.is_json { b"}\n" } else { b"\n" };
         self.out.write_all(end)
     }
 
     /// Prints the name of a value, and what stands before and after it.
-    fn name(&mut self, name: &str) -> io::Result<()> {
+    fn name(&mut self, name: &str) -> io::Result<()>
+        ensures line { (self.new.out.ghost_name ≡ self.old.out.ghost_name) × (self.new.is_json ≡ self.old.is_json) × (self.new.is_first ≡ false) }
+        ensures name { OnOk result (Appends (W.contents self.old.out.now) (W.contents self.new.out.now) (name_text self.old.is_json self.old.is_first name.now)) }
+    {
         let is_first = self.is_first;
         self.is_first = false;
-        match (self.is_json, is_first) {
-            (true, true) => write_name(b"{", name.as_bytes(), self.out),
-            (true, false) => write_name(b",", name.as_bytes(), self.out),
-            (false, true) => write!(self.out, "{name}="),
-            (false, false) => write!(self.out, " {name}="),
+        if self.is_json {
+            let sign: &[u8] = if is_first { b"{" } else { b"," };
+            return write_name(sign, name.as_bytes(), self.out);
         }
+        if !is_first {
+            self.out.write_all(b" ")?;
+        }
+        self.out.write_all(name.as_bytes())?;
+        self.out.write_all(b"=")
     }
 }
