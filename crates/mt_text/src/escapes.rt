@@ -1,5 +1,6 @@
 //! Bytes as text with escapes.
-ghost use Rattle.std.specs.Prelude.{◌≡◌, ◌≢◌, ◌≤◌, ◌<◌, ◌↔◌, IfOk, IsTrue, MatchOption, None, Some, length};
+ghost use Rattle.std.specs.Prelude.{◌≡◌, ◌<◌, IfOk, MatchOption, None, Some, length};
+ghost use Rattle.mt_text.specs.Forms.{is_plain};
 ghost use Rattle.mt_text.specs.Escapes.{StandsFor, StandsForNone, front, hex_byte, named_byte};
 
 use std::alloc::{AllocError, Global};
@@ -27,7 +28,7 @@ impl<'a> Display for Shown<'a> {
 
 /// Whether a byte stands for itself in printed text: ASCII from `!` to `~`, but `"`, `:`, `=` and `\`.
 pub fn is_plain(byte: u8) -> bool
-    ensures { IsTrue result ↔ (33 ≤ byte) × (byte ≤ 126) × (byte ≢ 34) × (byte ≢ 58) × (byte ≢ 61) × (byte ≢ 92) }
+    ensures { result ≡ is_plain byte }
 {
     byte >= b'!' && byte <= b'~' && byte != b'"' && byte != b':' && byte != b'=' && byte != b'\\'
 }

@@ -1,7 +1,7 @@
 //! Lines of named values.
 ghost use Rattle.std.specs.Prelude.{◌≡◌, ◌++◌, IfSome, OnOk, false, true};
 ghost use Rattle.std.specs.Io.KnownBytes.{Appends};
-ghost use Rattle.mt_text.specs.Lines.{end_text, flag_text, name_text, word_text};
+ghost use Rattle.mt_text.specs.Lines.{end_text, flag_text, format_text, name_text, shown_text, word_text};
 
 use crate::form::Form;
 use crate::json::{format_number, write_name};
@@ -50,7 +50,10 @@ impl<'a, W: Write> Fields<'a, W> {
     }
 
     /// Prints the format of a log, and which segment it is. Err: write error.
-    pub fn format(&mut self, head: &Head) -> io::Result<()> {
+    pub fn format(&mut self, head: &Head) -> io::Result<()>
+        ensures line { (self.new.out.ghost_name ≡ self.old.out.ghost_name) × (self.new.is_json ≡ self.old.is_json) × (self.new.is_first ≡ false) }
+        ensures format { OnOk result (Appends (W.contents self.old.out.now) (W.contents self.new.out.now) (format_text self.old.is_json self.old.is_first head.now)) }
+    {
         self.number("format", format_number(head.format, head.segment))?;
         if let Some(Segment { worker, number }) = head.segment {
             self.number("worker", worker)?;
@@ -89,7 +92,10 @@ impl<'a, W: Write> Fields<'a, W> {
     }
 
     /// Prints text, with escapes. Err: write error.
-    pub fn text(&mut self, name: &str, text: &str) -> io::Result<()> {
+    pub fn text(&mut self, name: &str, text: &str) -> io::Result<()>
+        ensures line { (self.new.out.ghost_name ≡ self.old.out.ghost_name) × (self.new.is_json ≡ self.old.is_json) × (self.new.is_first ≡ false) }
+        ensures text { OnOk result (Appends (W.contents self.old.out.now) (W.contents self.new.out.now) (name_text self.old.is_json self.old.is_first name.now ++ shown_text self.old.is_json text.now)) }
+    {
         self.name(name)?;
         let form = Form {
             is_json: self.is_json,

@@ -1,7 +1,8 @@
 //! The forms in which pairs are printed.
 ghost use Rattle.std.specs.Prelude.{◌≡◌, ◌↔◌, IsTrue, OnOk, false};
 ghost use Rattle.std.specs.Io.KnownBytes.{Appends};
-ghost use Rattle.mt_text.specs.Forms.{IsDump, absent_text};
+ghost use Rattle.std.specs.List.{flat_map};
+ghost use Rattle.mt_text.specs.Forms.{IsDump, absent_text, bytes_text, escape_text, letter_text, quote};
 
 use crate::digits::write_hex;
 use crate::escapes::is_plain;
@@ -43,7 +44,9 @@ impl Form {
     }
 
     /// Prints bytes, in JSON as a string. Err: write error.
-    pub(crate) fn write_bytes<W: Write>(self, bytes: &[u8], out: &mut W) -> io::Result<()> {
+    pub(crate) fn write_bytes<W: Write>(self, bytes: &[u8], out: &mut W) -> io::Result<()>
+        ensures { OnOk result (Appends (W.contents out.old) (W.contents out.new) (bytes_text self bytes.now)) }
+    {
         self.write_quote(out)?;
         if self.is_text {
             self.write_text(bytes, out)?;
@@ -68,24 +71,36 @@ impl Form {
     }
 
     /// Prints what stands before and after a string in JSON.
-    fn write_quote<W: Write>(self, out: &mut W) -> io::Result<()> {
+    fn write_quote<W: Write>(self, out: &mut W) -> io::Result<()>
+        ensures { OnOk result (Appends (W.contents out.old) (W.contents out.new) (quote self.is_json)) }
+    {
         out.write_all(if self.is_json { b"\"" } else { b"" })
     }
 
     /// Prints bytes as text.
-    fn write_text<W: Write>(self, bytes: &[u8], out: &mut W) -> io::Result<()> {
+    fn write_text<W: Write>(self, bytes: &[u8], out: &mut W) -> io::Result<()>
+        ensures { OnOk result (Appends (W.contents out.old) (W.contents out.new) (flat_map (letter_text self.is_json) bytes.now)) }
+    {
         for byte in bytes {
-            if is_plain(*byte) {
-                out.write_all(&[*byte])?;
-            } else {
-                self.write_escape(*byte, out)?;
-            }
+            self.write_letter(*byte, out)?;
         }
         Ok(())
     }
 
+    /// Prints a byte as it is, or its escape.
+    fn write_letter<W: Write>(self, byte: u8, out: &mut W) -> io::Result<()>
+        ensures { OnOk result (Appends (W.contents out.old) (W.contents out.new) (letter_text self.is_json byte)) }
+    {
+        if is_plain(byte) {
+            return out.write_all(&[byte]);
+        }
+        self.write_escape(byte, out)
+    }
+
     /// Prints the escape of a byte. In a JSON string two backslashes stand for one.
-    fn write_escape<W: Write>(self, byte: u8, out: &mut W) -> io::Result<()> {
+    fn write_escape<W: Write>(self, byte: u8, out: &mut W) -> io::Result<()>
+        ensures { OnOk result (Appends (W.contents out.old) (W.contents out.new) (escape_text self.is_json byte)) }
+    {
         out.write_all(if self.is_json { b"\\\\x" } else { b"\\x" })?;
         write_hex(&[byte], out)
     }
