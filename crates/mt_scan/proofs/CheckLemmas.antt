@@ -10,7 +10,6 @@ use Rattle.mt_words.specs.declared.fault.What.{What}
 use Rattle.mt_words.specs.declared.limits.Limits.{Limits}
 use Rattle.mt_words.specs.Limits.{limits_of}
 use Rattle.mt_words.specs.Changes.{Logged, is_mark}
-use Rattle.mt_words.specs.Updates.{updates_from}
 use Rattle.mt_record.specs.Heads.{head_bytes}
 use Rattle.mt_record.specs.Spelling.{spelling}
 use Rattle.mt_record.specs.Logs.{latest, LogReading, IsReading, IsTorn}
@@ -28,8 +27,7 @@ use Rattle.mt_record.specs.LogFeeding.{LogSoFar, IsLogFed, FedLog, HoldsLog}
 use Rattle.mt_scan.specs.declared.checking.CheckingFeed.{CheckingFeed}
 use Rattle.mt_scan.specs.declared.checking.LogCheck.{LogCheck}
 use Rattle.mt_scan.specs.Checks.{is_late_record, IsCheckOf}
-use Rattle.mt_scan.specs.Scans.{last_in}
-use Rattle.mt_scan.specs.Dropping.{HasAllBelow}
+use Rattle.mt_scan.specs.Scans.{last_in, IsSoundFront}
 use Rattle.mt_scan.specs.Steps.Checking.{HasCounted}
 use Rattle.mt_scan.proofs.Rises.{Rise, read_rise, rise_front, rise_behind, cut_below}
 use Rattle.mt_record.proofs.RecordLemmas.{marks_and_updates}
@@ -136,10 +134,7 @@ counts_more old new fed before bytes late others h small same feeds drops droppe
       late = rw same (omega (arith, number, small, most_late limit (h.records ++ ready), lates, h.late, late_in, none, all, late_both limit h.records ready, late_both limit kept cut.late, cut.counted.marks, cut.counted.count));
     }
 
--- ---- the scan of a check
-
-nothing_lost : (log nth : ℕ) (rs : List Logged) → All (λ u. 0 ≤ u.timestamp) (updates_from log nth rs)
-nothing_lost log nth rs k d lt = omega arith
+-- ---- the front of a check
 
 -- the tail after the records is empty or torn, as the scan says
 has_end : (limits : Limits) (low : ℕ) (tail : List ℕ) (rest : Rest) (torn : Bool) → IsRest limits low tail rest → ((rest ≡ Nothing) × (torn ≡ false)) ⊎ ((rest ≡ Torn) × (torn ≡ true))
@@ -151,11 +146,10 @@ has_end limits low tail rest torn is (inr (cut, is_torn)) =
     let torn_is : IsTorn limits tail = rw cut at is in
     (inr torn_is, (λ yes. torn_is, λ other. is_torn))
 
--- a scan without updates, of a log whose records are followed by nothing or a torn tail
-scan_with : (log limit : ℕ) (bytes : List ℕ) (check : LogCheck) (torn : Bool) (dropped : ℕ) → IsCheckOf limit bytes check
-    → ((check.front.rest ≡ Nothing) × (torn ≡ false)) ⊎ ((check.front.rest ≡ Torn) × (torn ≡ true)) → check.front.rest ≡ tail_rest torn → dropped ≡ check.front.count - check.marks
-    → HasAllBelow 0 log bytes (record { front = check.front; marks = check.marks; updates = record { log = log; records = [] }; dropped = dropped })
-scan_with log limit bytes check torn dropped is ends rest dropped_is =
+-- the front of a log whose records are followed by nothing or a torn tail
+front_with : (limit : ℕ) (bytes : List ℕ) (check : LogCheck) (torn : Bool) → IsCheckOf limit bytes check
+    → ((check.front.rest ≡ Nothing) × (torn ≡ false)) ⊎ ((check.front.rest ≡ Torn) × (torn ≡ true)) → check.front.rest ≡ tail_rest torn → IsSoundFront bytes check.front
+front_with limit bytes check torn is ends rest =
     let front = is.front in
     let head = check.front.head in
     let limits = limits_of head.format in
@@ -167,28 +161,12 @@ scan_with log limit bytes check torn dropped is ends rest dropped_is =
       torn = end.1;
     } in
     let same = front.numbers ∙ ap (front_of head is.records) rest in
-    record {
-      log = reading;
-      is_reading = is_reading;
-      shows = record {
-        numbers = record {
-          front = same;
-          last = front_last bytes reading check.front (last_in check.front) refl is_reading same;
-          count = is.count;
-          marks = is.marks;
-        };
-        lost = updates_from log 0 is.records;
-        updates = refl;
-        past = nothing_lost log 0 is.records;
-        dropped = omega (arith, dropped_is, is.count, is.marks, marks_and_updates log 0 is.records);
-      };
-    }
+    record { log = reading; is_reading = is_reading; shows = record { is = same; last = front_last bytes reading check.front (last_in check.front) refl is_reading same; count = is.count } }
 
-pub scan_of_check : (log limit : ℕ) (bytes : List ℕ) (check : LogCheck) (dropped : ℕ) → IsCheckOf limit bytes check → ((what : What) → check.front.rest ≡ Faulty what → ⊥) → dropped ≡ check.front.count - check.marks
-    → HasAllBelow 0 log bytes (record { front = check.front; marks = check.marks; updates = record { log = log; records = [] }; dropped = dropped })
-scan_of_check log limit bytes check dropped is sound dropped_is = by check.front.rest refl
+pub front_of_check : (limit : ℕ) (bytes : List ℕ) (check : LogCheck) → IsCheckOf limit bytes check → ((what : What) → check.front.rest ≡ Faulty what → ⊥) → IsSoundFront bytes check.front
+front_of_check limit bytes check is sound = by check.front.rest refl
   where
-    by : (rest : Rest) → check.front.rest ≡ rest → HasAllBelow 0 log bytes (record { front = check.front; marks = check.marks; updates = record { log = log; records = [] }; dropped = dropped })
-    by Nothing e = scan_with log limit bytes check false dropped is (inl (e, refl)) e dropped_is
-    by Torn e = scan_with log limit bytes check true dropped is (inr (e, refl)) e dropped_is
+    by : (rest : Rest) → check.front.rest ≡ rest → IsSoundFront bytes check.front
+    by Nothing e = front_with limit bytes check false is (inl (e, refl)) e
+    by Torn e = front_with limit bytes check true is (inr (e, refl)) e
     by (Faulty what) e = absurd (sound what e)

@@ -1,12 +1,12 @@
 -- What is wrong with segments can be decided of each file.
-use Rattle.std.proofs.Common.{◌≡◌, ◌⊎◌, inl, inr, ℕ, zero, suc, ◌+◌, ◌<◌, ◌≤◌, Bool, IsTrue, Option, Some, None, IsSomeAnd, List, [], ◌∷◌, length, take, Contains, refl, sym, subst, arith}
+use Rattle.std.proofs.Common.{◌≡◌, ◌⊎◌, inl, inr, ℕ, zero, suc, ◌<◌, ◌≤◌, Bool, IsTrue, Option, Some, None, IsSomeAnd, List, [], ◌∷◌, length, take, Contains, refl, sym, subst, arith}
 use Rattle.std.specs.Prelude.{slice_get}
 use Rattle.std.proofs.lemmas.Option.{slice_get_read}
 use Rattle.std.proofs.lemmas.Bool.{cases_Bool, cases_lt, cases_eq, both_ways}
 use Rattle.mt_words.proofs.Elements.{head_or_tail}
 use Rattle.mt_record.specs.declared.feed.head.Segment.{Segment}
 use Rattle.mt_record.specs.Logs.{LogReading}
-use Rattle.mt_scan.specs.Segments.{IsEarlier, IsJustBefore, IsSame, HasFile, HasGap, IsDoubled, IsTornAmid, IsGap}
+use Rattle.mt_scan.specs.Segments.{IsEarlier, IsJustBefore, is_just_before, IsSame, HasFile, HasGap, IsDoubled, IsTornAmid, IsGap}
 
 -- P holds or fails
 abbrev pub IsDecided : Type 0 → Type 0
@@ -28,11 +28,6 @@ earlier (Some a) (Some b) = both (cases_eq a.worker b.worker) (below a.number b.
 earlier (Some a) None = inr (λ none. none)
 earlier None b = inr (λ none. none)
 
-just_before : (a b : Option Segment) → IsDecided (IsJustBefore a b)
-just_before (Some a) (Some b) = both (cases_eq a.worker b.worker) (cases_eq (a.number + 1) b.number)
-just_before (Some a) None = inr (λ none. none)
-just_before None b = inr (λ none. none)
-
 same : (a b : Option Segment) → IsDecided (IsSame a b)
 same (Some a) (Some b) = both (cases_eq a.worker b.worker) (cases_eq a.number b.number)
 same (Some a) None = inr (λ none. none)
@@ -53,7 +48,7 @@ some_file P decides (file ∷ files) = elim (decides file.head.segment) as (λ _
 
 has_gap : (begin : ℕ) (files : List LogReading) (file : LogReading) → IsDecided (HasGap begin files file)
 has_gap begin files file =
-    let before = some_file (λ other. IsJustBefore other file.head.segment) (λ other. just_before other file.head.segment) files in
+    let before = some_file (λ other. IsJustBefore other file.head.segment) (λ other. passes (is_just_before other file.head.segment)) files in
     elim (some_file (λ other. IsEarlier other file.head.segment) (λ other. earlier other file.head.segment) files) as (λ _. IsDecided (HasGap begin files file)) [
       | inl has ↦ elim before as (λ _. IsDecided (HasGap begin files file)) [
         | inl there ↦ inr (λ gap. elim gap as (λ _. ⊥) [ inl lacks ↦ lacks.1 there | inr late ↦ late.0 has ])

@@ -1,15 +1,15 @@
--- What holds for scans by their numbers holds for the files that they show.
+-- What holds for fronts by their numbers holds for the files that they show.
 use Rattle.std.proofs.Common.{◌≡◌, ℕ, zero, suc, ◌<◌, Bool, not, IsTrue, Option, Some, None, IsSomeAnd, MatchOption, List, [], ◌∷◌, filter, length, get_or, take, refl, sym, subst, inl, inr, arith}
 use Rattle.std.specs.Prelude.{◌↔◌, slice_get}
 use Rattle.std.specs.List.{Any, AllZip, AllWithin, HoldsAt, list_any, slice_index_or}
 use Rattle.std.proofs.lemmas.Option.{slice_get_read, slice_get_cases}
-use Rattle.mt_scan.specs.declared.log_scan.LogScan.{LogScan}
+use Rattle.mt_record.specs.declared.front.LogFront.{LogFront}
 use Rattle.mt_record.specs.declared.feed.head.Segment.{Segment}
 use Rattle.mt_record.specs.Logs.{LogReading}
-use Rattle.mt_scan.specs.Scans.{HasNumbersOf, HaveNumbersOf}
+use Rattle.mt_scan.specs.Scans.{ShowsFront, ShowFronts}
 use Rattle.mt_scan.specs.Segments.{HasFile, IsEarlier, IsJustBefore, IsSame, IsDoubled, HasGap, IsGap, IsTornAmid, is_earlier, is_first_file}
 use Rattle.mt_scan.specs.Firsts.{IsFirstOrNone}
-use Rattle.mt_scan.specs.Steps.Segments.{HasScan, IsScanDoubled, IsScanTornAmid, HasScanGap}
+use Rattle.mt_scan.specs.Steps.Segments.{HasFront, IsFrontDoubled, IsFrontTornAmid, HasFrontGap}
 use Rattle.mt_scan.proofs.Numbers.{from_shown, segment_shown, torn_shown}
 
 -- ---- elements of lists
@@ -65,74 +65,78 @@ first_alike : (P Q : ℕ → Type 0) (r : Option ℕ) → ((i : ℕ) → P i ↔
 first_alike P Q None alike none = λ i is. none i ((alike i).1 is)
 first_alike P Q (Some i) alike found = ((alike i).0 found.0, λ j lt is. found.1 j lt ((alike j).1 is))
 
--- ---- scans and files
+-- ---- fronts and files
 
--- a statement on segments holds for one of the scans if and only if it does for one of the files
-has_alike : (P : Option Segment → Type 0) (scans : List LogScan) (logs : List LogReading) → HaveNumbersOf scans logs → HasScan scans P ↔ HasFile logs P
-has_alike P scans logs show = any_alike HasNumbersOf (λ scan. P scan.front.head.segment) (λ log. P log.head.segment) scans logs show (λ scan log shows. (subst P (segment_shown scan log shows), subst P (sym (segment_shown scan log shows))))
+-- a statement on segments holds for one of the fronts if and only if it does for one of the files
+has_alike : (P : Option Segment → Type 0) (fronts : List LogFront) (logs : List LogReading) → ShowFronts fronts logs → HasFront fronts P ↔ HasFile logs P
+has_alike P fronts logs show = any_alike ShowsFront (λ front. P front.head.segment) (λ log. P log.head.segment) fronts logs show (λ front log shows. (subst P (segment_shown front log shows), subst P (sym (segment_shown front log shows))))
 
-torn_alike : (scans : List LogScan) (logs : List LogReading) → HaveNumbersOf scans logs → (scan : LogScan) (log : LogReading) → HasNumbersOf scan log → IsScanTornAmid scans scan ↔ IsTrue log.torn × HasFile logs (IsEarlier log.head.segment)
-torn_alike scans logs show scan log shows =
-    let later = has_alike (IsEarlier log.head.segment) scans logs show in
-    let torn = torn_shown scan log shows in
-    rw (segment_shown scan log shows) (λ is. (torn.0 is.0, later.0 is.1), λ is. (torn.1 is.0, later.1 is.1))
+torn_alike : (fronts : List LogFront) (logs : List LogReading) → ShowFronts fronts logs → (front : LogFront) (log : LogReading) → ShowsFront front log → IsFrontTornAmid fronts front ↔ IsTrue log.torn × HasFile logs (IsEarlier log.head.segment)
+torn_alike fronts logs show front log shows =
+    let later = has_alike (IsEarlier log.head.segment) fronts logs show in
+    let torn = torn_shown front log shows in
+    rw (segment_shown front log shows) (λ is. (torn.0 is.0, later.0 is.1), λ is. (torn.1 is.0, later.1 is.1))
 
-gap_alike : (begin : ℕ) (scans : List LogScan) (logs : List LogReading) → HaveNumbersOf scans logs → (scan : LogScan) (log : LogReading) → HasNumbersOf scan log → HasScanGap begin scans scan ↔ HasGap begin logs log
-gap_alike begin scans logs show scan log shows =
-    let earlier = has_alike (λ other. IsEarlier other log.head.segment) scans logs show in
-    let before = has_alike (λ other. IsJustBefore other log.head.segment) scans logs show in
-    rw (from_shown scan log shows, segment_shown scan log shows) (
+gap_alike : (begin : ℕ) (fronts : List LogFront) (logs : List LogReading) → ShowFronts fronts logs → (front : LogFront) (log : LogReading) → ShowsFront front log → HasFrontGap begin fronts front ↔ HasGap begin logs log
+gap_alike begin fronts logs show front log shows =
+    let earlier = has_alike (λ other. IsEarlier other log.head.segment) fronts logs show in
+    let before = has_alike (λ other. IsJustBefore other log.head.segment) fronts logs show in
+    rw (from_shown front log shows, segment_shown front log shows) (
       λ gap. elim gap [ inl lacks ↦ inl (earlier.0 lacks.0, λ has. lacks.1 (before.1 has)) | inr late ↦ inr (λ has. late.0 (earlier.1 has), late.1) ],
       λ gap. elim gap [ inl lacks ↦ inl (earlier.1 lacks.0, λ has. lacks.1 (before.0 has)) | inr late ↦ inr (λ has. late.0 (earlier.0 has), late.1) ],
     )
 
-doubled_alike : (scans : List LogScan) (logs : List LogReading) → HaveNumbersOf scans logs → (i : ℕ) → IsScanDoubled scans i ↔ IsDoubled logs i
-doubled_alike scans logs show i =
-    at_alike HasNumbersOf (λ scan. HasScan (take i scans) (IsSame scan.front.head.segment)) (λ log. HasFile (take i logs) (IsSame log.head.segment)) scans logs i show
-    (λ scan log shows. rw (segment_shown scan log shows) (has_alike (IsSame log.head.segment) (take i scans) (take i logs) (zip_take HasNumbersOf scans logs i show)))
+doubled_alike : (fronts : List LogFront) (logs : List LogReading) → ShowFronts fronts logs → (i : ℕ) → IsFrontDoubled fronts i ↔ IsDoubled logs i
+doubled_alike fronts logs show i =
+    at_alike ShowsFront (λ front. HasFront (take i fronts) (IsSame front.head.segment)) (λ log. HasFile (take i logs) (IsSame log.head.segment)) fronts logs i show
+    (λ front log shows. rw (segment_shown front log shows) (has_alike (IsSame log.head.segment) (take i fronts) (take i logs) (zip_take ShowsFront fronts logs i show)))
 
 -- ---- the first
 
-pub first_torn : (scans : List LogScan) (logs : List LogReading) (r : Option ℕ) → IsSearch (IsScanTornAmid scans) scans r → HaveNumbersOf scans logs → IsFirstOrNone (IsTornAmid logs) r
-first_torn scans logs r is show =
-    first_alike _ (IsTornAmid logs) r (λ i. at_alike HasNumbersOf (IsScanTornAmid scans) (λ log. IsTrue log.torn × HasFile logs (IsEarlier log.head.segment)) scans logs i show (torn_alike scans logs show))
-    (first_found (IsScanTornAmid scans) scans r is)
+pub first_torn : (fronts : List LogFront) (logs : List LogReading) (r : Option ℕ) → IsSearch (IsFrontTornAmid fronts) fronts r → ShowFronts fronts logs → IsFirstOrNone (IsTornAmid logs) r
+first_torn fronts logs r is show =
+    first_alike _ (IsTornAmid logs) r (λ i. at_alike ShowsFront (IsFrontTornAmid fronts) (λ log. IsTrue log.torn × HasFile logs (IsEarlier log.head.segment)) fronts logs i show (torn_alike fronts logs show))
+    (first_found (IsFrontTornAmid fronts) fronts r is)
 
-pub first_gap : (begin : ℕ) (scans : List LogScan) (logs : List LogReading) (r : Option ℕ) → IsSearch (HasScanGap begin scans) scans r → HaveNumbersOf scans logs → IsFirstOrNone (IsGap begin logs) r
-first_gap begin scans logs r is show =
-    first_alike _ (IsGap begin logs) r (λ i. at_alike HasNumbersOf (HasScanGap begin scans) (HasGap begin logs) scans logs i show (gap_alike begin scans logs show))
-    (first_found (HasScanGap begin scans) scans r is)
+pub first_gap : (begin : ℕ) (fronts : List LogFront) (logs : List LogReading) (r : Option ℕ) → IsSearch (HasFrontGap begin fronts) fronts r → ShowFronts fronts logs → IsFirstOrNone (IsGap begin logs) r
+first_gap begin fronts logs r is show =
+    first_alike _ (IsGap begin logs) r (λ i. at_alike ShowsFront (HasFrontGap begin fronts) (HasGap begin logs) fronts logs i show (gap_alike begin fronts logs show))
+    (first_found (HasFrontGap begin fronts) fronts r is)
 
-pub first_doubled : (scans : List LogScan) (logs : List LogReading) (r : Option ℕ) → IsFirstOrNone (IsScanDoubled scans) r → HaveNumbersOf scans logs → IsFirstOrNone (IsDoubled logs) r
-first_doubled scans logs r is show = first_alike (IsScanDoubled scans) (IsDoubled logs) r (doubled_alike scans logs show) is
+pub first_doubled : (fronts : List LogFront) (logs : List LogReading) (r : Option ℕ) → IsFirstOrNone (IsFrontDoubled fronts) r → ShowFronts fronts logs → IsFirstOrNone (IsDoubled logs) r
+first_doubled fronts logs r is show = first_alike (IsFrontDoubled fronts) (IsDoubled logs) r (doubled_alike fronts logs show) is
+
+at_any : {X : Type 0} (xs : List X) (i : ℕ) (d e : X) → i < length xs → get_or xs i d ≡ get_or xs i e
+at_any [] i d e lt = absurd (omega (arith, lt))
+at_any (x ∷ xs) zero d e lt = refl
+at_any (x ∷ xs) (suc i) d e lt = at_any xs i d e (omega (arith, lt))
 
 -- a segment is doubled if and only if the same one is found before it
-pub doubled_at : (scans : List LogScan) (i : ℕ) (scan : LogScan) (found : Bool) → i < length scans → scan ≡ get_or scans i scan → IsTrue found ↔ HasScan (take i scans) (IsSame scan.front.head.segment)
-    → IsScanDoubled scans i ↔ IsTrue found
-doubled_at scans i scan found lt same is = rw (slice_get_read scans (length scans) i scan refl lt same) (is.1, is.0)
+pub doubled_at : (fronts : List LogFront) (i : ℕ) (d : LogFront) (found : Bool) → i < length fronts → IsTrue found ↔ HasFront (take i fronts) (IsSame (get_or fronts i d).head.segment) → IsFrontDoubled fronts i ↔ IsTrue found
+doubled_at fronts i d found lt is = rw (slice_get_read fronts (length fronts) i (get_or fronts i d) refl lt (at_any fronts i d (get_or fronts i d) lt)) (is.1, is.0)
 
-pub doubled_within : (scans : List LogScan) (i : ℕ) → IsScanDoubled scans i → i < length scans
-doubled_within scans i is = (at_place (λ scan. HasScan (take i scans) (IsSame scan.front.head.segment)) scans i is).1
+pub doubled_within : (fronts : List LogFront) (i : ℕ) → IsFrontDoubled fronts i → i < length fronts
+doubled_within fronts i is = (at_place (λ front. HasFront (take i fronts) (IsSame front.head.segment)) fronts i is).1
 
 -- ---- the number of logs
 
-any_same : (test : Option Segment → Bool) (scans : List LogScan) (logs : List LogReading) → HaveNumbersOf scans logs → list_any (λ scan. test scan.front.head.segment) scans ≡ list_any (λ log. test log.head.segment) logs
+any_same : (test : Option Segment → Bool) (fronts : List LogFront) (logs : List LogReading) → ShowFronts fronts logs → list_any (λ front. test front.head.segment) fronts ≡ list_any (λ log. test log.head.segment) logs
 any_same test [] [] show = refl
 any_same test [] (l ∷ ls) show = absurd show
 any_same test (s ∷ ss) [] show = absurd show
 any_same test (s ∷ ss) (l ∷ ls) show = rw (segment_shown s l show.0, any_same test ss ls show.1) refl
 
--- as many scans pass as files
-count_passing : (p : LogScan → Bool) (q : LogReading → Bool) (scans : List LogScan) (logs : List LogReading) → HaveNumbersOf scans logs → ((scan : LogScan) (log : LogReading) → HasNumbersOf scan log → p scan ≡ q log) → length (filter p scans) ≡ length (filter q logs)
+-- as many fronts pass as files
+count_passing : (p : LogFront → Bool) (q : LogReading → Bool) (fronts : List LogFront) (logs : List LogReading) → ShowFronts fronts logs → ((front : LogFront) (log : LogReading) → ShowsFront front log → p front ≡ q log) → length (filter p fronts) ≡ length (filter q logs)
 count_passing p q [] [] show alike = refl
 count_passing p q [] (l ∷ ls) show alike = absurd show
 count_passing p q (s ∷ ss) [] show alike = absurd show
 count_passing p q (s ∷ ss) (l ∷ ls) show alike = grind (arith, alike s l show.0, count_passing p q ss ls show.1 alike)
 
 -- no earlier segment is found
-abbrev pub is_first_scan : List LogScan → LogScan → Bool
-is_first_scan scans scan = not (list_any (λ other. is_earlier other.front.head.segment scan.front.head.segment) scans)
+abbrev pub is_first_front : List LogFront → LogFront → Bool
+is_first_front fronts front = not (list_any (λ other. is_earlier other.head.segment front.head.segment) fronts)
 
-pub writer_count : (scans : List LogScan) (logs : List LogReading) → HaveNumbersOf scans logs → length (filter (is_first_scan scans) scans) ≡ length (filter (is_first_file logs) logs)
-writer_count scans logs show =
-    count_passing (is_first_scan scans) (is_first_file logs) scans logs show (λ scan log shows. rw (segment_shown scan log shows, any_same (λ other. is_earlier other log.head.segment) scans logs show) refl)
+pub writer_count : (fronts : List LogFront) (logs : List LogReading) → ShowFronts fronts logs → length (filter (is_first_front fronts) fronts) ≡ length (filter (is_first_file logs) logs)
+writer_count fronts logs show =
+    count_passing (is_first_front fronts) (is_first_file logs) fronts logs show (λ front log shows. rw (segment_shown front log shows, any_same (λ other. is_earlier other log.head.segment) fronts logs show) refl)

@@ -67,9 +67,7 @@ below limit (Some kept) ready text keeps same = keeps.1
 -- the numbers of a scan are those of its log, if the marks are counted exactly and the records are few
 pub has_numbers : (bytes : List ℕ) (log : LogReading) (scan : LogScan) → IsReading bytes log → scan.front ≡ front_in log → length log.records < 2 ^ 64 → scan.marks ≡ length (filter is_mark log.records) → HasNumbersOf scan log
 has_numbers bytes log scan is front few marks = record {
-  front = front;
-  last = front_last bytes log scan.front (last_in scan.front) refl is front;
-  count = omega (arith, few, ap (λ (f : LogFront). f.count) front);
+  front = record { is = front; last = front_last bytes log scan.front (last_in scan.front) refl is front; count = omega (arith, few, ap (λ (f : LogFront). f.count) front) };
   marks = marks;
 }
 

@@ -20,11 +20,25 @@ use Rattle.mt_scan.specs.Sources.{Agrees}
 abbrev pub last_in : LogFront → ℕ
 last_in front = max front.head.from front.latest
 
--- the scan has the front of the log, and its numbers are those of the log: the last timestamp, and how many records and marks it has
+-- the front is that of the log, and its numbers are those of the log: the last timestamp, and how many records it has
+pub record ShowsFront (front : LogFront) (log : LogReading) : Type 0 where
+  pub is : front ≡ front_in log
+  pub last : IsLast log (last_in front)
+  pub count : front.count ≡ length log.records
+
+-- each front is that of its log, in the same order
+abbrev pub ShowFronts : List LogFront → List LogReading → Type 0
+ShowFronts fronts logs = AllZip ShowsFront fronts logs
+
+-- the front of the log that is encoded by these bytes
+pub record IsSoundFront (bytes : List ℕ) (front : LogFront) : Type 0 where
+  pub log : LogReading
+  pub is_reading : IsReading bytes log
+  pub shows : ShowsFront front log
+
+-- the scan has the front of the log, and its number of marks
 pub record HasNumbersOf (scan : LogScan) (log : LogReading) : Type 0 where
-  pub front : scan.front ≡ front_in log
-  pub last : IsLast log (last_in scan.front)
-  pub count : scan.front.count ≡ length log.records
+  pub front : ShowsFront scan.front log
   pub marks : scan.marks ≡ length (filter is_mark log.records)
 
 -- each scan has the numbers of its log, in the same order

@@ -9,10 +9,13 @@ abbrev pub IsEarlier : Option Segment → Option Segment → Type 0
 IsEarlier (Some a) (Some b) = (a.worker ≡ b.worker) × (a.number < b.number)
 IsEarlier a b = ⊥
 
--- both are segments of one worker's log, and the first comes directly before the second
+-- whether both are segments of one worker's log, and the first comes directly before the second
+abbrev pub is_just_before : Option Segment → Option Segment → Bool
+is_just_before (Some a) (Some b) = (a.worker == b.worker) && (a.number + 1 == b.number)
+is_just_before a b = false
+
 abbrev pub IsJustBefore : Option Segment → Option Segment → Type 0
-IsJustBefore (Some a) (Some b) = (a.worker ≡ b.worker) × (a.number + 1 ≡ b.number)
-IsJustBefore a b = ⊥
+IsJustBefore a b = IsTrue (is_just_before a b)
 
 -- both are the same segment
 abbrev pub IsSame : Option Segment → Option Segment → Type 0

@@ -1,16 +1,13 @@
 //! Checks of logs. A check reads a log as a scan does and counts its records, but keeps none, so it needs no more
 //! memory than a chunk.
-ghost use Rattle.std.specs.Prelude.{◌≡◌, ◌+◌, ◌^◌, ◌-◌, [], List, ℕ, min, IfOk, IfErr, IsTrue};
-ghost use Rattle.mt_words.specs.OneLog.{kept_updates};
-ghost use Rattle.mt_scan.specs.Scans.{IsLogVerdict, IsScanFault, OfTold, failures_of};
+ghost use Rattle.std.specs.Prelude.{◌≡◌, ◌+◌, [], List, ℕ, IfOk, IfErr, IsTrue};
+ghost use Rattle.mt_scan.specs.Scans.{IsLogVerdict, IsScanFault, IsSoundFront, OfTold, failures_of};
 ghost use Rattle.mt_scan.specs.Checks.{IsCheckOf, IsOfARecord};
-ghost use Rattle.mt_scan.specs.Dropping.{HasAllBelow};
 ghost use Rattle.mt_scan.specs.Steps.Checking.{HasCounted, Counts};
 
 use crate::feeding::{Fed, feed_all};
-use crate::log_scan::LogScan;
 use crate::source::Source;
-use mt_record::{KeptRecords, LogFeed, LogFront, Rest, Updates};
+use mt_record::{KeptRecords, LogFeed, LogFront, Rest};
 use mt_words::Fault;
 use std::alloc::Global;
 
@@ -26,12 +23,11 @@ pub struct LogCheck {
 }
 
 impl LogCheck {
-    /// Returns the scan of the log with this number, without its updates: as if all had been dropped. Allocates nothing.
-    /// Err: the fault of the record after its complete records.
-    pub fn scan(&self, alloc: Global, log: usize) -> Result<LogScan, Fault>
-        ensures scan { (limit : ℕ) (bytes : List ℕ) → IsCheckOf limit bytes self.now → IfOk result (HasAllBelow 0 log bytes) }
+    /// Returns the front of the log with this number. Err: the fault of the record after its complete records.
+    pub fn sound_front(&self, log: usize) -> Result<LogFront, Fault>
+        ensures front { (limit : ℕ) (bytes : List ℕ) → IsCheckOf limit bytes self.now → IfOk result (IsSoundFront bytes) }
         ensures fault { (limit : ℕ) (bytes : List ℕ) → IsCheckOf limit bytes self.now → IfErr result (IsScanFault log bytes) }
-        ensures none { IfOk result (λ scan. kept_updates scan.updates ≡ []) }
+        ensures is { IfOk result (λ front. front ≡ self.now.front) }
         ensures record { IfErr result (IsOfARecord log) }
         ensures no_source { failures_of result ≡ 0 }
     {
@@ -39,12 +35,7 @@ impl LogCheck {
             let nth = self.front.count;
             return Err(Fault::Record { log, nth, what });
         }
-        Ok(LogScan {
-            front: self.front,
-            marks: self.marks,
-            updates: Updates::of(log, KeptRecords::new(alloc)),
-            dropped: self.front.count.saturating_sub(self.marks),
-        })
+        Ok(self.front)
     }
 }
 

@@ -1,49 +1,48 @@
 //! The cutoff of logs, some of which come in several files.
 ghost use Rattle.std.specs.Prelude.{◌≡◌, [], List, IfSome, IfNone};
 ghost use Rattle.mt_record.specs.Logs.{LogReading};
-ghost use Rattle.mt_scan.specs.Scans.{HaveNumbersOf};
+ghost use Rattle.mt_scan.specs.Scans.{ShowFronts};
 ghost use Rattle.mt_scan.specs.Cutoff.{IsCutoff, is_segment_of};
 ghost use Rattle.mt_scan.specs.Steps.Lasts.{last_of, last_of_segments};
 
-use crate::log_scan::LogScan;
-use mt_record::Segment;
+use mt_record::{LogFront, Segment};
 
-/// Returns the cutoff of the logs of these scans: the least of their last timestamps. The last timestamp of a worker's
+/// Returns the cutoff of the logs of these fronts: the least of their last timestamps. The last timestamp of a worker's
 /// log is the greatest of those of its segments. Returns None if there is no log. Allocates nothing. With n segments it
 /// looks n^2 times at a segment.
-pub fn cutoff(scans: &[LogScan]) -> Option<u64>
-    ensures found { (logs : List LogReading) → HaveNumbersOf scans.now logs → IfSome result (IsCutoff logs) }
-    ensures none { IfNone result (scans.now ≡ []) }
+pub fn cutoff(fronts: &[LogFront]) -> Option<u64>
+    ensures found { (logs : List LogReading) → ShowFronts fronts.now logs → IfSome result (IsCutoff logs) }
+    ensures none { IfNone result (fronts.now ≡ []) }
 {
-    scans
+    fronts
         .iter()
         .map(
-            |scan: &LogScan| -> u64
-                ensures { result ≡ last_of scans.entry.now scan.now }
-            { last_of_log(scan, scans) },
+            |front: &LogFront| -> u64
+                ensures { result ≡ last_of fronts.entry.now front.now }
+            { last_of_log(front, fronts) },
         )
         .min()
 }
 
 /// Returns the last timestamp of the log that this file belongs to.
 #[tactic(auto, unfolding(crate::specs::Steps::Lasts::last_of))]
-fn last_of_log(scan: &LogScan, scans: &[LogScan]) -> u64
-    ensures { result ≡ last_of scans.now scan.now }
+fn last_of_log(front: &LogFront, fronts: &[LogFront]) -> u64
+    ensures { result ≡ last_of fronts.now front.now }
 {
-    match scan.front.head.segment {
-        None => scan.front.last(),
-        Some(segment) => last_of_worker(scans, segment.worker),
+    match front.head.segment {
+        None => front.last(),
+        Some(segment) => last_of_worker(fronts, segment.worker),
     }
 }
 
 /// Returns the greatest last timestamp of this worker's segments, or 0 if there is none.
-fn last_of_worker(scans: &[LogScan], worker: u32) -> u64
-    ensures { result ≡ last_of_segments worker scans.now }
+fn last_of_worker(fronts: &[LogFront], worker: u32) -> u64
+    ensures { result ≡ last_of_segments worker fronts.now }
 {
     let mut last = 0;
-    for scan in scans {
-        if is_of(scan.front.head.segment, worker) {
-            last = scan.front.last().max(last);
+    for front in fronts {
+        if is_of(front.head.segment, worker) {
+            last = front.last().max(last);
         }
     }
     last

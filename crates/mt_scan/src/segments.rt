@@ -3,20 +3,19 @@
 ghost use Rattle.std.specs.Prelude.{◌≡◌, ◌↔◌, List, length, filter, not, IsTrue};
 ghost use Rattle.std.specs.List.{list_any};
 ghost use Rattle.mt_record.specs.Logs.{LogReading};
-ghost use Rattle.mt_scan.specs.Scans.{HaveNumbersOf};
-ghost use Rattle.mt_scan.specs.Segments.{IsEarlier, IsJustBefore, IsSame, IsDoubled, IsTornAmid, IsGap, is_first_file, is_earlier as is_earlier_in};
+ghost use Rattle.mt_scan.specs.Scans.{ShowFronts};
+ghost use Rattle.mt_scan.specs.Segments.{IsEarlier, IsJustBefore, IsSame, IsDoubled, IsTornAmid, IsGap, is_first_file, is_earlier as is_earlier_in, is_just_before as is_just_before_in};
 ghost use Rattle.mt_scan.specs.Firsts.{IsFirstOrNone};
-ghost use Rattle.mt_scan.specs.Steps.Segments.{HasScan, IsScanTornAmid, HasScanGap};
+ghost use Rattle.mt_scan.specs.Steps.Segments.{HasFront, IsFrontTornAmid, HasFrontGap};
 
-use crate::log_scan::LogScan;
-use mt_record::Segment;
+use mt_record::{LogFront, Segment};
 
 /// Returns the first log that is the same segment of a worker's log as one before it, or None if there is none.
-pub fn first_doubled(scans: &[LogScan]) -> Option<usize>
-    ensures { (logs : List LogReading) → HaveNumbersOf scans.now logs → IsFirstOrNone (IsDoubled logs) result }
+pub fn first_doubled(fronts: &[LogFront]) -> Option<usize>
+    ensures { (logs : List LogReading) → ShowFronts fronts.now logs → IsFirstOrNone (IsDoubled logs) result }
 {
-    for (i, scan) in scans.iter().enumerate() {
-        if has_same(&scans[..i], scan.front.head.segment) {
+    for (i, front) in fronts.iter().enumerate() {
+        if has_same(&fronts[..i], front.head.segment) {
             return Some(i);
         }
     }
@@ -24,76 +23,78 @@ pub fn first_doubled(scans: &[LogScan]) -> Option<usize>
 }
 
 /// Returns the first log that is torn although a later segment of its worker's log is there, or None if there is none.
-pub fn first_torn(scans: &[LogScan]) -> Option<usize>
-    ensures { (logs : List LogReading) → HaveNumbersOf scans.now logs → IsFirstOrNone (IsTornAmid logs) result }
+pub fn first_torn(fronts: &[LogFront]) -> Option<usize>
+    ensures { (logs : List LogReading) → ShowFronts fronts.now logs → IsFirstOrNone (IsTornAmid logs) result }
 {
-    scans.iter().position(|scan| scan.front.torn() && has_later(scans, scan.front.head.segment))
+    fronts.iter().position(|front| front.torn() && has_later(fronts, front.head.segment))
 }
 
 /// Returns the first log before which updates at or after `begin` may be missing, or None if there is none.
-pub fn first_gap(scans: &[LogScan], begin: u64) -> Option<usize>
-    ensures { (logs : List LogReading) → HaveNumbersOf scans.now logs → IsFirstOrNone (IsGap begin logs) result }
+pub fn first_gap(fronts: &[LogFront], begin: u64) -> Option<usize>
+    ensures { (logs : List LogReading) → ShowFronts fronts.now logs → IsFirstOrNone (IsGap begin logs) result }
 {
-    scans.iter().position(|scan| has_gap(scans, begin, scan))
+    fronts
+        .iter()
+        .position(|front| has_gap(fronts, begin, front))
 }
 
 /// Returns the number of writers' logs, if no segment is there twice: all segments of a worker are one log, and each
 /// other file is a log by itself.
-pub fn writer_count(scans: &[LogScan]) -> usize
-    ensures { (logs : List LogReading) → HaveNumbersOf scans.now logs → result ≡ length (filter (is_first_file logs) logs) }
+pub fn writer_count(fronts: &[LogFront]) -> usize
+    ensures { (logs : List LogReading) → ShowFronts fronts.now logs → result ≡ length (filter (is_first_file logs) logs) }
 {
-    scans
+    fronts
         .iter()
-        .filter(|scan| !has_earlier(scans, scan.front.head.segment))
+        .filter(|front| !has_earlier(fronts, front.head.segment))
         .count()
 }
 
-/// Returns whether updates at or after `begin` may be missing before the file of this scan.
-fn has_gap(scans: &[LogScan], begin: u64, scan: &LogScan) -> bool
-    ensures { IsTrue result ↔ HasScanGap begin scans.now scan.now }
+/// Returns whether updates at or after `begin` may be missing before the file of this front.
+fn has_gap(fronts: &[LogFront], begin: u64, front: &LogFront) -> bool
+    ensures { IsTrue result ↔ HasFrontGap begin fronts.now front.now }
 {
-    if has_earlier(scans, scan.front.head.segment) {
-        !has_one_before(scans, scan.front.head.segment)
+    if has_earlier(fronts, front.head.segment) {
+        !has_one_before(fronts, front.head.segment)
     } else {
-        begin < scan.front.from()
+        begin < front.from()
     }
 }
 
 /// Returns whether an earlier segment of the same log is there.
-fn has_earlier(scans: &[LogScan], segment: Option<Segment>) -> bool
-    ensures test { result ≡ list_any (λ other. is_earlier_in other.front.head.segment segment) scans.now }
-    ensures is { IsTrue result ↔ HasScan scans.now (λ other. IsEarlier other segment) }
+fn has_earlier(fronts: &[LogFront], segment: Option<Segment>) -> bool
+    ensures test { result ≡ list_any (λ other. is_earlier_in other.head.segment segment) fronts.now }
+    ensures is { IsTrue result ↔ HasFront fronts.now (λ other. IsEarlier other segment) }
 {
-    scans
+    fronts
         .iter()
-        .any(|other| is_earlier(other.front.head.segment, segment))
+        .any(|other| is_earlier(other.head.segment, segment))
 }
 
 /// Returns whether a later segment of the same log is there.
-fn has_later(scans: &[LogScan], segment: Option<Segment>) -> bool
-    ensures { IsTrue result ↔ HasScan scans.now (IsEarlier segment) }
+fn has_later(fronts: &[LogFront], segment: Option<Segment>) -> bool
+    ensures { IsTrue result ↔ HasFront fronts.now (IsEarlier segment) }
 {
-    scans
+    fronts
         .iter()
-        .any(|other| is_earlier(segment, other.front.head.segment))
+        .any(|other| is_earlier(segment, other.head.segment))
 }
 
 /// Returns whether the segment directly before this one is there.
-fn has_one_before(scans: &[LogScan], segment: Option<Segment>) -> bool
-    ensures { IsTrue result ↔ HasScan scans.now (λ other. IsJustBefore other segment) }
+fn has_one_before(fronts: &[LogFront], segment: Option<Segment>) -> bool
+    ensures { IsTrue result ↔ HasFront fronts.now (λ other. IsJustBefore other segment) }
 {
-    scans
+    fronts
         .iter()
-        .any(|other| is_just_before(other.front.head.segment, segment))
+        .any(|other| is_just_before(other.head.segment, segment))
 }
 
 /// Returns whether the same segment is there.
-fn has_same(scans: &[LogScan], segment: Option<Segment>) -> bool
-    ensures { IsTrue result ↔ HasScan scans.now (IsSame segment) }
+fn has_same(fronts: &[LogFront], segment: Option<Segment>) -> bool
+    ensures { IsTrue result ↔ HasFront fronts.now (IsSame segment) }
 {
-    scans
+    fronts
         .iter()
-        .any(|other| is_same(segment, other.front.head.segment))
+        .any(|other| is_same(segment, other.head.segment))
 }
 
 /// Returns whether both are segments of one worker's log, and the first has the lower number.
@@ -108,8 +109,9 @@ fn is_earlier(a: Option<Segment>, b: Option<Segment>) -> bool
 }
 
 /// Returns whether both are segments of one worker's log, and the first comes directly before the second.
-fn is_just_before(a: Option<Segment>, b: Option<Segment>) -> bool
-    ensures { IsTrue result ↔ IsJustBefore a b }
+pub fn is_just_before(a: Option<Segment>, b: Option<Segment>) -> bool
+    ensures test { result ≡ is_just_before_in a b }
+    ensures is { IsTrue result ↔ IsJustBefore a b }
 {
     match (a, b) {
         (Some(a), Some(b)) => a.worker == b.worker && a.number.checked_add(1) == Some(b.number),

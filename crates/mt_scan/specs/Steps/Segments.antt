@@ -3,22 +3,22 @@ use Rattle.std.specs.Prelude.{◌≡◌, ◌<◌, ◌⊎◌, ℕ, Option, IsSome
 use Rattle.std.specs.List.{Any}
 use Rattle.mt_record.specs.declared.feed.head.Segment.{Segment}
 use Rattle.mt_record.specs.declared.front.Rest.TheVariants.{Torn}
-use Rattle.mt_scan.specs.declared.log_scan.LogScan.{LogScan}
+use Rattle.mt_record.specs.declared.front.LogFront.{LogFront}
 use Rattle.mt_scan.specs.Segments.{IsEarlier, IsJustBefore, IsSame}
 
 -- `P` holds for the segment of one of the scanned files
-abbrev pub HasScan : List LogScan → (Option Segment → Type 0) → Type 0
-HasScan scans P = Any (λ scan. P scan.front.head.segment) scans
+abbrev pub HasFront : List LogFront → (Option Segment → Type 0) → Type 0
+HasFront fronts P = Any (λ front. P front.head.segment) fronts
 
 -- scanned file i is the same segment as one before it
-abbrev pub IsScanDoubled : List LogScan → ℕ → Type 0
-IsScanDoubled scans i = IsSomeAnd (slice_get scans i) (λ scan. HasScan (take i scans) (IsSame scan.front.head.segment))
+abbrev pub IsFrontDoubled : List LogFront → ℕ → Type 0
+IsFrontDoubled fronts i = IsSomeAnd (slice_get fronts i) (λ front. HasFront (take i fronts) (IsSame front.head.segment))
 
 -- the scanned file is torn, but a later segment of its worker's log is there
-abbrev pub IsScanTornAmid : List LogScan → LogScan → Type 0
-IsScanTornAmid scans scan = (scan.front.rest ≡ Torn) × HasScan scans (IsEarlier scan.front.head.segment)
+abbrev pub IsFrontTornAmid : List LogFront → LogFront → Type 0
+IsFrontTornAmid fronts front = (front.rest ≡ Torn) × HasFront fronts (IsEarlier front.head.segment)
 
 -- updates at or after `begin` may be missing before the scanned file
-abbrev pub HasScanGap : ℕ → List LogScan → LogScan → Type 0
-HasScanGap begin scans scan =
-    (HasScan scans (λ other. IsEarlier other scan.front.head.segment) × (HasScan scans (λ other. IsJustBefore other scan.front.head.segment) → ⊥)) ⊎ ((HasScan scans (λ other. IsEarlier other scan.front.head.segment) → ⊥) × (begin < scan.front.head.from))
+abbrev pub HasFrontGap : ℕ → List LogFront → LogFront → Type 0
+HasFrontGap begin fronts front =
+    (HasFront fronts (λ other. IsEarlier other front.head.segment) × (HasFront fronts (λ other. IsJustBefore other front.head.segment) → ⊥)) ⊎ ((HasFront fronts (λ other. IsEarlier other front.head.segment) → ⊥) × (begin < front.head.from))

@@ -8,7 +8,7 @@ use Rattle.mt_scan.proofs.lasts.cutoff.Goals as goal
 
 pub returns-clause-found : goal.returns-clause-found
 returns-clause-found c = λ logs show.
-    let scans = c.args.scans.now in
+    let fronts = c.args.fronts.now in
     let least = min_from_yields_List {v = λ n. n} c.map.result c.min.result c.min.ensures.ran
-    (YieldsList-from_map _ (last_of scans) (YieldsList-from_slice scans cc) c.map.ensures.closure (λ x r q k. search (rules, tests))) in
-    cutoff_of scans logs c.min.result show (sym (option_map_id c.min.result) ∙ least)
+    (YieldsList-from_map _ (last_of fronts) (YieldsList-from_slice fronts cc) c.map.ensures.closure (λ x r q k. search (rules, tests))) in
+    cutoff_of fronts logs c.min.result show (sym (option_map_id c.min.result) ∙ least)
