@@ -134,14 +134,14 @@ among_first (z ∷ zs) i zero x y lt at other = absurd (omega arith)
 among_first (z ∷ zs) zero (suc j) x y lt at other = subst (Contains (z ∷ take j zs)) at (head_in z (take j zs))
 among_first (z ∷ zs) (suc i) (suc j) x y lt at other = tail_in z x (take j zs) (among_first zs i j x y (omega (arith, lt)) at other)
 
-place_of : {X : Type 0} (xs : List X) (x : X) → Contains xs x → (i : ℕ) × IsSomeAnd (slice_get xs i) (λ z. z ≡ x)
+pub place_of : {X : Type 0} (xs : List X) (x : X) → Contains xs x → (i : ℕ) × IsSomeAnd (slice_get xs i) (λ z. z ≡ x)
 place_of [] x at = absurd (no_element x at)
 place_of (y ∷ ys) x at = elim (head_or_tail y x ys at) as (λ _. (i : ℕ) × IsSomeAnd (slice_get (y ∷ ys) i) (λ z. z ≡ x)) [
   | inl e ↦ (zero, e)
   | inr later ↦ let rest = place_of ys x later in (suc rest.0, rest.1)
 ]
 
-some_at : {X : Type 0} (P Q : X → Type 0) (o : Option X) → ((x : X) → P x → Q x) → IsSomeAnd o P → IsSomeAnd o Q
+pub some_at : {X : Type 0} (P Q : X → Type 0) (o : Option X) → ((x : X) → P x → Q x) → IsSomeAnd o P → IsSomeAnd o Q
 some_at P Q None follows is = absurd is
 some_at P Q (Some x) follows is = follows x is
 
@@ -154,7 +154,7 @@ same_back (Some a) (Some b) is = (sym is.0, sym is.1)
 same_back (Some a) None is = absurd is
 same_back None b is = absurd is
 
-doubled_by : (files : List LogReading) (i j : ℕ) (x y : LogReading) → i < j → IsSomeAnd (slice_get files i) (λ z. z ≡ x) → IsSomeAnd (slice_get files j) (λ z. z ≡ y)
+pub doubled_by : (files : List LogReading) (i j : ℕ) (x y : LogReading) → i < j → IsSomeAnd (slice_get files i) (λ z. z ≡ x) → IsSomeAnd (slice_get files j) (λ z. z ≡ y)
     → IsSame y.head.segment x.head.segment → IsDoubled files j
 doubled_by files i j x y lt at other same =
     let among = among_first files i j x y lt at other in

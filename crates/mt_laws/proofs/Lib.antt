@@ -39,3 +39,5 @@ pub mod LeftParts
 pub mod NewParts
 pub mod ChosenParts
 pub mod Restart
+pub mod Doubled
+pub mod LostNames

@@ -50,7 +50,7 @@ use Rattle.mt_laws.proofs.ResumedStores.{Became, replaces, cutoff_fits, found_no
 use Rattle.mt_laws.proofs.Continued.{of_record, no_late_record, begins_below}
 use Rattle.mt_laws.proofs.Afresh.{AreCovered, key_most, AreStored, fresh_sound}
 use Rattle.mt_laws.proofs.LeftFiles.{SaysLeft, all_left, says_less, zip_claims, writers_left, all_left_agree, last_above, ends_left}
-use Rattle.mt_laws.proofs.KeptLogs.{stay_in, zip_there, still_weaker, still_opens, there_written, there_append, there_of_all, AllOld, old_rises, old_of_all, old_append, old_stays, old_resumed, there_or_old, same_since, HasMore, all_stay, stay_with_more, HasSame, same_history, history_with_deleted, was_there, old_with_deleted, history_agrees, updates_old, all_positive}
+use Rattle.mt_laws.proofs.KeptLogs.{stay_in, zip_there, still_weaker, still_opens, there_written, there_append, there_of_all, AllOld, old_rises, old_of_all, old_append, old_stays, old_resumed, there_or_old, same_since, HasMore, all_stay, stay_with_more, HasSame, same_history, history_with_deleted, old_with_deleted, history_agrees, updates_old, all_positive}
 
 -- ---- what holds in each state
 
@@ -301,20 +301,6 @@ stood acked logs checkpoints new may is = record {
   safe = is.safe;
 }
 
--- what is synced above a timestamp in each log is so in those that are left, if none is deleted before the earlier segments of its log
-above_left : (time begin : ℕ) (before after : List (LogOf OpenFile)) → AreDeleted begin before after → AllSyncedAbove time (those_there before)
-    → AllSyncedAbove time (those_there after)
-above_left time begin before after are above file at =
-    let is = above file (was_there begin before after file are.each at) in record {
-      last = is.last;
-      stands = elim is.of_log as (λ _. Contains (those_there after) is.last) [
-        | inl e ↦ subst (Contains (those_there after)) e at
-        | inr behind ↦ are.lowest_first file is.last at is.stands behind
-      ];
-      of_log = is.of_log;
-      above = is.above;
-    }
-
 were_deleted : (acked : List Update) (before after : List (LogOf OpenFile)) (checkpoints : Checkpoints) → AreDeleted (begin_of checkpoints.base) before after
     → IsRunning acked before checkpoints → IsRunning acked after checkpoints
 were_deleted acked before after checkpoints are is =
@@ -325,10 +311,10 @@ were_deleted acked before after checkpoints are is =
       old = old_with_deleted begin before after are.each (λ file at. (limits_of file.head.format, (is.opens.each file at).is_reading.is_log.lawful)) is.old;
       sound = λ c at. subst (λ (h : List (List Logged)). IsSound (log_updates h) c) same (is.sound c at);
       rise = is.rise;
-      base_is = base_stays before after checkpoints.base checkpoints.written (λ time. above_left time begin before after are) is.base_is;
+      base_is = base_stays before after checkpoints.base checkpoints.written are.reach is.base_is;
       safe = λ u among.
           let safe = is.safe u among in
-          (subst (λ (h : List (List Logged)). Contains (log_updates h) u) same safe.0, above_left u.timestamp begin before after are safe.1);
+          (subst (λ (h : List (List Logged)). Contains (log_updates h) u) same safe.0, are.reach u.timestamp safe.1);
     }
 
 -- ---- a crash

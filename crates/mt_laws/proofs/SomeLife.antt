@@ -30,7 +30,7 @@ use Rattle.mt_replay.specs.KeyColumns.{HasColumn}
 use Rattle.mt_replay.specs.Survivors.{log_updates}
 use Rattle.mt_replay.specs.Walk.{IsWalk}
 use Rattle.mt_replay.proofs.Members.{of_map}
-use Rattle.mt_laws.specs.Lives.{OpenFile, file_bytes, file_reading, HasSynced, IsOpenFile, IsBehind, AreOpen, AllSyncedAbove, LogOf, there, deleted, Checkpoints, AreLeftOf, only, IsAdded, AreDeleted, running, down, acknowledge, add_file, write_checkpoint, stand, delete, crash, Life, begun, then}
+use Rattle.mt_laws.specs.Lives.{OpenFile, file_bytes, file_reading, HasSynced, IsOpenFile, IsBehind, AreOpen, IsSyncedAbove, AllSyncedAbove, LogOf, there, deleted, Checkpoints, AreLeftOf, only, IsAdded, AreDeleted, running, down, acknowledge, add_file, write_checkpoint, stand, delete, crash, Life, begun, then}
 use Rattle.mt_laws.proofs.Deleted.{not_made_of_none}
 use Rattle.mt_laws.proofs.LeftFiles.{none_at}
 use Rattle.mt_laws.proofs.Afresh.{AreStored, fresh_sound}
@@ -287,11 +287,16 @@ are_deleted : AreDeleted 2 both last
 are_deleted = record {
   each = ((refl, old), (refl, tt));
   some = omega arith;
-  lowest_first = λ a b at_a at_b behind.
-      let none : IsEarlier None b.head.segment = subst (λ (file : OpenFile). IsBehind file b) (sym (only_one new_file a at_a)) behind in absurd none;
+  reach = λ time above file at. subst (IsSyncedAbove time (new_file ∷ [])) (only_one new_file file at) (new_reach time (above new_file (tail_in old_file new_file (new_file ∷ []) (head_in new_file []))));
   opens = new_opens;
 }
   where
+    new_reach : (time : ℕ) → IsSyncedAbove time (old_file ∷ new_file ∷ []) new_file → IsSyncedAbove time (new_file ∷ []) new_file
+    new_reach time is = elim is.of_log as (λ _. IsSyncedAbove time (new_file ∷ []) new_file) [
+      | inl e ↦ record { last = new_file; stands = head_in new_file []; of_log = inl refl; above = subst (HasSynced (λ r. time < r.timestamp)) (sym e) is.above }
+      | inr behind ↦ absurd behind
+    ]
+
     old : (r : Logged) → Contains old_records r → is_mark r ≡ false → r.timestamp < 2
     old r at change = elim (head_or_tail (put_of 1 1 [] ((0, []) ∷ [])) r (mark_of 3 ∷ []) at) as (λ _. r.timestamp < 2) [
       | inl e ↦ subst (λ (x : Logged). x.timestamp < 2) e (omega arith)

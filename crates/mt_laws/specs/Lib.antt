@@ -1,5 +1,6 @@
 pub mod Crashes
 pub mod Resuming
 pub mod Lives
+pub mod Names
 pub mod Fresh
 pub mod PartFiles

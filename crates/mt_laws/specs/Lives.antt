@@ -1,6 +1,6 @@
 -- Lives of a server: it writes, syncs, acknowledges, adds logs and segments, writes checkpoints, deletes old logs, crashes, recovers, and resumes or starts
--- afresh, as often as it may. A file is added from when a crash may leave it, and deleted from when no crash may leave it: when the folder is synced. So if a
--- crash finds a creation or a deletion unsynced, the step was made before the crash, or not at all.
+-- afresh, as often as it may. A file is added when it is renamed: from then on acknowledgements wait for it. It is deleted when the folder is synced. If a crash
+-- loses a new name or a deleted file before that, the life goes on (`a_crash_of_names`).
 use Rattle.std.specs.Prelude.{◌≡◌, ℕ, ◌≤◌, ◌<◌, ◌⊎◌, true, false, Option, Some, None, IfSome, List, [], ◌∷◌, ◌++◌, length, map, Contains}
 use Rattle.std.specs.List.{AllZip}
 use Rattle.mt_words.specs.declared.record.Change.{Change}
@@ -207,11 +207,12 @@ IsStillOrDeleted begin (there before) (deleted records) = (records ≡ before.re
 IsStillOrDeleted begin (deleted before) (there after) = ⊥
 IsStillOrDeleted begin (deleted before) (deleted after) = after ≡ before
 
--- Logs without updates from `begin` on were deleted, but not all logs, and no segment before the earlier ones of its log. The files that are left are open.
+-- Logs without updates from `begin` on were deleted, but not all logs. In each log that is left a record above a timestamp is synced if one was. The files that
+-- are left are open.
 pub record AreDeleted (begin : ℕ) (before after : List (LogOf OpenFile)) : Type 0 where
   pub each : AllZip (IsStillOrDeleted begin) before after
   pub some : 0 < length (those_there after)
-  pub lowest_first : (a b : OpenFile) → Contains (those_there after) a → Contains (those_there before) b → IsBehind a b → Contains (those_there after) b
+  pub reach : (time : ℕ) → AllSyncedAbove time (those_there before) → AllSyncedAbove time (those_there after)
   pub opens : AreOpen begin (those_there after)
 
 -- what a fresh start leaves behind of a log: its records below the cutoff, in the history alone

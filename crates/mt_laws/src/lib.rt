@@ -3,8 +3,9 @@
 //! how a server goes on, crash after crash.
 //!
 //! Each law is a function with an empty body, whose contract is the law. For a crash begin with `specs/Crashes.antt`,
-//! for going on with `specs/Resuming.antt`, `specs/Lives.antt`, `specs/PartFiles.antt` and `specs/Fresh.antt`, which have
-//! the definitions, and with docs/DURABILITY.md, which says what a server must do for the laws to hold.
+//! for going on with `specs/Resuming.antt`, `specs/Lives.antt`, `specs/Names.antt`, `specs/PartFiles.antt` and
+//! `specs/Fresh.antt`, which have the definitions, and with docs/DURABILITY.md, which says what a server must do for the
+//! laws to hold.
 #![tactic(auto)]
 
 mod checkpoints;
@@ -23,7 +24,7 @@ pub use crashes::{
     a_crash_loses_nothing_below_the_cutoff, a_cut_log_is_a_log, acknowledged_is_safe,
 };
 pub use fresh::a_fresh_start_is_the_same_store;
-pub use lives::a_life_of_crashes;
+pub use lives::{a_crash_of_names, a_life_of_crashes};
 pub use part_files::{
     a_checkpoint_written_while_running, a_crash_makes_no_checkpoint_valid,
     a_resume_leaves_the_chosen_parts, dropping_old_parts, standing_on_a_checkpoint,

@@ -1,13 +1,15 @@
-//! The law of a server that crashes, resumes and goes on, again and again.
-ghost use Rattle.std.specs.Prelude.{ℕ, ◌-◌, ◌^◌, ◌<◌, None, Some, List, [], ◌∷◌, ◌++◌, map, Contains};
+//! Laws of a server that crashes, resumes and goes on, again and again.
+ghost use Rattle.std.specs.Prelude.{◌≡◌, ℕ, ◌-◌, ◌^◌, ◌<◌, None, Some, List, [], ◌∷◌, ◌++◌, map, Contains};
+ghost use Rattle.std.specs.List.{AllZip};
 ghost use Rattle.mt_words.specs.declared.update.Update.{Update};
 ghost use Rattle.mt_words.specs.Changes.{Logged};
 ghost use Rattle.mt_words.specs.Walks.{Pair};
 ghost use Rattle.mt_scan.specs.Choice.{CheckpointReading};
 ghost use Rattle.mt_replay.specs.Survivors.{log_updates};
 ghost use Rattle.mt_replay.specs.Walk.{IsWalk};
-ghost use Rattle.mt_recover.specs.Recovery.{survivors, IsStoreOf};
-ghost use Rattle.mt_laws.specs.Lives.{OpenFile, LogOf, there, deleted, history_of, Checkpoints, left_behind, only, running, down, Life};
+ghost use Rattle.mt_recover.specs.Recovery.{begin_of, survivors, IsStoreOf};
+ghost use Rattle.mt_laws.specs.Lives.{OpenFile, LogOf, there, deleted, those_there, as_written, history_of, Checkpoints, AreLeftOf, only, IsLeftOf, left_behind, running, down, Life};
+ghost use Rattle.mt_laws.specs.Names.{AreNamesLeft};
 
 /// States that in each life of a server over logs and checkpoints, after each crash, there is a store and no fault. It is
 /// that of all updates below the cutoff that were written and that no resume dropped, those of deleted logs included, and
@@ -32,4 +34,19 @@ pub fn a_life_of_crashes()
         Life (running acked (map (left_behind store.basis.facts.cutoff) logs ++ there file ∷ []) (only (Some new))) }
     ensures some { (u : Update) × (old : List Logged) × Contains (log_updates (old ∷ [])) u × (logs : List (LogOf (List Logged))) × (left parts : List (List ℕ)) ×
         Life (down (u ∷ []) (deleted old ∷ logs) left parts) }
+{}
+
+/// States that a life goes on over any names that a crash loses of those that were made, and any files that it loses of
+/// those that were deleted, since the folder was synced. What is left is of a life with the same acknowledged updates and
+/// the same history; so also once the folder is synced and these files are deleted. This is a law: it has nothing to run.
+pub fn a_crash_of_names()
+    ensures crash { (acked : List Update) (before after : List (LogOf OpenFile)) (checkpoints : Checkpoints) (left parts : List (List ℕ)) →
+        Life (running acked before checkpoints) → AreNamesLeft (begin_of checkpoints.base) before after →
+        AllZip IsLeftOf (those_there after) left → AreLeftOf checkpoints parts →
+        Life (down acked (map as_written after) left parts) }
+    ensures deleted { (acked : List Update) (before after : List (LogOf OpenFile)) (checkpoints : Checkpoints) →
+        Life (running acked before checkpoints) → AreNamesLeft (begin_of checkpoints.base) before after →
+        Life (running acked after checkpoints) }
+    ensures history { (begin : ℕ) (before after : List (LogOf OpenFile)) → AreNamesLeft begin before after →
+        history_of (map as_written after) ≡ history_of (map as_written before) }
 {}
