@@ -41,3 +41,4 @@ pub mod ChosenParts
 pub mod Restart
 pub mod Doubled
 pub mod LostNames
+pub mod Timestamps

@@ -137,6 +137,18 @@ abbrev pub AddNew : Checkpoints → List Update → List Update → Type 0
 AddNew checkpoints before after = (u : Update) → Contains after u →
     Contains before u ⊎ ((checkpoint : CheckpointReading) → Contains checkpoints.written checkpoint → IsNewOver before checkpoint u)
 
+-- an update that is later than those before it, and than the end of each checkpoint
+pub record IsLater (updates : List Update) (checkpoints : Checkpoints) (u : Update) : Type 0 where
+  pub after_updates : (before : Update) → Contains updates before → before.timestamp < u.timestamp
+  pub after_ends : (checkpoint : CheckpointReading) → Contains checkpoints.written checkpoint → checkpoint.end < u.timestamp
+
+-- The version of each update is its timestamp, and that of an entry is at most the end of its checkpoint.
+pub record HaveTimestamps (updates : List Update) (checkpoints : Checkpoints) : Type 0 where
+  pub versions : (u : Update) → Contains updates u → u.stamp.version ≡ u.timestamp
+  pub ends : (checkpoint : CheckpointReading) → Contains checkpoints.written checkpoint → checkpoint.begin ≤ checkpoint.end
+  pub entries : (checkpoint : CheckpointReading) (entry : Change) → Contains checkpoints.written checkpoint → Contains checkpoint.entries entry
+      → entry.version ≤ checkpoint.end
+
 -- What a crash leaves of the parts: a checkpoint that is valid was written, and the one that the server stands on is valid.
 pub record AreLeftOf (checkpoints : Checkpoints) (parts : List (List ℕ)) : Type 0 where
   pub known : List KnownPart

@@ -24,7 +24,7 @@ pub use crashes::{
     a_crash_loses_nothing_below_the_cutoff, a_cut_log_is_a_log, acknowledged_is_safe,
 };
 pub use fresh::a_fresh_start_is_the_same_store;
-pub use lives::{a_crash_of_names, a_life_of_crashes};
+pub use lives::{a_crash_of_names, a_life_of_crashes, versions_may_be_timestamps};
 pub use part_files::{
     a_checkpoint_written_while_running, a_crash_makes_no_checkpoint_valid,
     a_resume_leaves_the_chosen_parts, dropping_old_parts, standing_on_a_checkpoint,

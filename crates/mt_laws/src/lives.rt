@@ -1,5 +1,5 @@
 //! Laws of a server that crashes, resumes and goes on, again and again.
-ghost use Rattle.std.specs.Prelude.{◌≡◌, ℕ, ◌-◌, ◌^◌, ◌<◌, None, Some, List, [], ◌∷◌, ◌++◌, map, Contains};
+ghost use Rattle.std.specs.Prelude.{◌≡◌, ◌⊎◌, ℕ, ◌-◌, ◌^◌, ◌<◌, None, Some, List, [], ◌∷◌, ◌++◌, map, Contains};
 ghost use Rattle.std.specs.List.{AllZip};
 ghost use Rattle.mt_words.specs.declared.update.Update.{Update};
 ghost use Rattle.mt_words.specs.Changes.{Logged};
@@ -8,7 +8,7 @@ ghost use Rattle.mt_scan.specs.Choice.{CheckpointReading};
 ghost use Rattle.mt_replay.specs.Survivors.{log_updates};
 ghost use Rattle.mt_replay.specs.Walk.{IsWalk};
 ghost use Rattle.mt_recover.specs.Recovery.{begin_of, survivors, IsStoreOf};
-ghost use Rattle.mt_laws.specs.Lives.{OpenFile, LogOf, there, deleted, those_there, as_written, history_of, Checkpoints, AreLeftOf, only, IsLeftOf, left_behind, running, down, Life};
+ghost use Rattle.mt_laws.specs.Lives.{OpenFile, LogOf, there, deleted, those_there, as_written, history_of, Checkpoints, IsNewOver, AddNew, IsLater, HaveTimestamps, AreLeftOf, only, IsLeftOf, left_behind, running, down, Life};
 ghost use Rattle.mt_laws.specs.Names.{AreNamesLeft};
 
 /// States that in each life of a server over logs and checkpoints, after each crash, there is a store and no fault. It is
@@ -49,4 +49,16 @@ pub fn a_crash_of_names()
         Life (running acked after checkpoints) }
     ensures history { (begin : ℕ) (before after : List (LogOf OpenFile)) → AreNamesLeft begin before after →
         history_of (map as_written after) ≡ history_of (map as_written before) }
+{}
+
+/// States that a server whose versions are timestamps need not know the versions that it gave: an update that is later
+/// than all before it, and than the end of each checkpoint, is new over each checkpoint. This is a law: it has nothing to
+/// run.
+pub fn versions_may_be_timestamps()
+    ensures new { (updates : List Update) (checkpoints : Checkpoints) (u : Update) → HaveTimestamps (u ∷ updates) checkpoints →
+        IsLater updates checkpoints u → (checkpoint : CheckpointReading) → Contains checkpoints.written checkpoint →
+        IsNewOver updates checkpoint u }
+    ensures all { (before after : List Update) (checkpoints : Checkpoints) → HaveTimestamps (before ++ after) checkpoints →
+        ((u : Update) → Contains after u → Contains before u ⊎ IsLater before checkpoints u) →
+        AddNew checkpoints before after }
 {}
