@@ -197,7 +197,7 @@ reached time P log left at_least says has =
     omega (arith, low, high)
 
 -- no file behind which this one is
-abbrev IsLastFile : List LogReading → LogReading → Type 0
+abbrev pub IsLastFile : List LogReading → LogReading → Type 0
 IsLastFile files file = (x : LogReading) → Contains files x → IsEarlier file.head.segment x.head.segment → ⊥
 
 -- the last file of a log reaches as far as the log
@@ -263,7 +263,7 @@ reaches_last logs files log file last open_logs are writers at_log at says is_la
 
 -- ---- agreement
 
-earlier_or_not : (a b : Option Segment) → IsEarlier a b ⊎ (IsEarlier a b → ⊥)
+pub earlier_or_not : (a b : Option Segment) → IsEarlier a b ⊎ (IsEarlier a b → ⊥)
 earlier_or_not (Some a) (Some b) = elim (cases_eq a.worker b.worker) as (λ _. IsEarlier (Some a) (Some b) ⊎ (IsEarlier (Some a) (Some b) → ⊥)) [
   | inl same ↦ elim (cases_lt a.number b.number) as (λ _. IsEarlier (Some a) (Some b) ⊎ (IsEarlier (Some a) (Some b) → ⊥)) [
     | inl lt ↦ inl (same, lt)
@@ -275,7 +275,7 @@ earlier_or_not (Some a) None = inr (λ none. none)
 earlier_or_not None b = inr (λ none. none)
 
 -- a later segment of the file's log is there, or the file is the last of its log
-later_or_last : (files : List LogReading) (file : LogReading)
+pub later_or_last : (files : List LogReading) (file : LogReading)
     → ((x : LogReading) × Contains files x × IsEarlier file.head.segment x.head.segment) ⊎ IsLastFile files file
 later_or_last [] file = inr (λ x at earlier. no_element x at)
 later_or_last (f ∷ fs) file = by (earlier_or_not file.head.segment f.head.segment) (later_or_last fs file)

@@ -40,5 +40,6 @@ pub mod NewParts
 pub mod ChosenParts
 pub mod Restart
 pub mod Doubled
+pub mod Acknowledging
 pub mod LostNames
 pub mod Timestamps

@@ -221,7 +221,7 @@ acknowledged acked logs checkpoints u at above is = record {
 }
 
 -- what is synced of the old files, and of the new one
-above_added : (time : ℕ) (files : List OpenFile) (file : OpenFile) → AllSyncedAbove time files → HasSynced (λ r. time < r.timestamp) file
+pub above_added : (time : ℕ) (files : List OpenFile) (file : OpenFile) → AllSyncedAbove time files → HasSynced (λ r. time < r.timestamp) file
     → AllSyncedAbove time (files ++ file ∷ [])
 above_added time files file above new x at = elim (Contains-push_cases files file x at) as (λ _. IsSyncedAbove time (files ++ file ∷ []) x) [
   | inl old ↦ let is = above x old in record { last = is.last; stands = Contains-append_left files (file ∷ []) is.last is.stands; of_log = is.of_log; above = is.above }
@@ -623,6 +623,42 @@ same_below cutoff us vs are u = (
     window : Window
     window = record { begin = 0; cutoff = cutoff }
 
+-- what replaces the logs that were left
+zip_resumed : (left parts : List (List ℕ)) (after : List (LogOf OpenFile)) (facts : Facts left parts) → AllZip (IsResumedAs facts.cutoff) left (those_there after)
+    → AllZip (IsAfresh facts.cutoff) facts.readings (those_there after)
+zip_resumed left parts after facts are =
+    let files = those_there after in
+    let fits = cutoff_fits left facts.readings facts.cutoff facts.read facts.is_cutoff in
+    zip_weaker (λ reading log. (bytes : List ℕ) × IsReading bytes reading × IsResumedAs facts.cutoff bytes log) (IsAfresh facts.cutoff) facts.readings files
+    (λ reading log both. afresh facts.cutoff both.0 reading log fits both.1 both.2)
+    (zip_back IsReading (IsResumedAs facts.cutoff) left facts.readings files facts.read are)
+
+-- the updates of the history after a resume are those from below the cutoff
+resumed_updates : (acked : List Update) (before : List (LogOf (List Logged))) (left parts : List (List ℕ)) (after : List (LogOf OpenFile)) (facts : Facts left parts)
+    → AllZip (IsStill (λ records file. Unit {0})) before after → AllZip (IsAfresh facts.cutoff) facts.readings (those_there after) → IsFoundBy acked before facts
+    → (u : Update) → Contains (updates_in after) u ↔ Contains (log_updates (history_of before)) u × (u.timestamp < facts.cutoff)
+resumed_updates acked before left parts after facts places fresh found =
+    let files = those_there after in
+    let begin = begin_of facts.chosen in
+    let begins = begins_below facts.known facts.cutoff facts.chosen facts.is_chosen in
+    let agree_now : AllZip (AgreeBelow facts.cutoff) (records_of facts.readings) (map (λ (log : OpenFile). log.records) files) = zip_map (AgreeBelow facts.cutoff) (λ (log : LogReading). log.records) (λ (log : OpenFile). log.records) facts.readings files
+    (zip_weaker (IsAfresh facts.cutoff) (λ reading log. AgreeBelow facts.cutoff reading.records log.records) facts.readings files (λ reading log f. f.agrees) fresh) in
+    let agree = zip_agree facts.cutoff (records_of facts.readings) (those_there before) (those_there (map as_written after)) found.agree
+    (subst (AllZip (AgreeBelow facts.cutoff) (records_of facts.readings)) (sym (there_written after)) agree_now) in
+    let window : Window = record { begin = 0; cutoff = facts.cutoff } in
+    let old = old_resumed begin before after places found.old in
+    same_below facts.cutoff (log_updates (history_of before)) (updates_in after) (record {
+      same = agreeing_survive window 0 (history_of before) (history_of (map as_written after)) (history_agrees facts.cutoff begin before after places found.old agree);
+      early = λ u at. updates_old facts.cutoff 0 (history_of (map as_written after)) u (λ rs among.
+          elim (there_or_old begin (map as_written after) rs old among) as (λ _. AreOld facts.cutoff rs) [
+            | inl there_is ↦
+                let file = of_map (λ (f : OpenFile). f.records) files rs (subst (λ (l : List (List Logged)). Contains l rs) (there_written after) there_is) in
+                let x = partner_of (IsAfresh facts.cutoff) facts.readings files file.0 fresh file.1 in
+                subst (AreOld facts.cutoff) file.2 (afresh_old facts.cutoff x.0 file.0 x.2)
+            | inr is ↦ λ r at_r change. let less : r.timestamp < begin = is.1 r at_r change in omega (arith, less, begins)
+          ]) at;
+    })
+
 started : (acked : List Update) (before : List (LogOf (List Logged))) (left parts : List (List ℕ)) (after : List (LogOf OpenFile)) (facts : Facts left parts)
     → AllZip (IsStill (λ records file. Unit {0})) before after → AllZip (IsResumedAs facts.cutoff) left (those_there after) → IsDown acked before left parts
     → IsRunning acked after (only facts.chosen)
@@ -630,30 +666,9 @@ started acked before left parts after facts places are was =
     let found = found_by acked before left parts was facts in
     let files = those_there after in
     let begin = begin_of facts.chosen in
-    let fits = cutoff_fits left facts.readings facts.cutoff facts.read facts.is_cutoff in
-    let begins = begins_below facts.known facts.cutoff facts.chosen facts.is_chosen in
-    let fresh = zip_weaker (λ reading log. (bytes : List ℕ) × IsReading bytes reading × IsResumedAs facts.cutoff bytes log) (IsAfresh facts.cutoff) facts.readings files
-    (λ reading log both. afresh facts.cutoff both.0 reading log fits both.1 both.2)
-    (zip_back IsReading (IsResumedAs facts.cutoff) left facts.readings files facts.read are) in
+    let fresh = zip_resumed left parts after facts are in
     let of = λ (log : OpenFile) (at : Contains files log). partner_of (IsAfresh facts.cutoff) facts.readings files log fresh at in
-    let agree_now : AllZip (AgreeBelow facts.cutoff) (records_of facts.readings) (map (λ (log : OpenFile). log.records) files) = zip_map (AgreeBelow facts.cutoff) (λ (log : LogReading). log.records) (λ (log : OpenFile). log.records) facts.readings files
-    (zip_weaker (IsAfresh facts.cutoff) (λ reading log. AgreeBelow facts.cutoff reading.records log.records) facts.readings files (λ reading log f. f.agrees) fresh) in
-    let agree = zip_agree facts.cutoff (records_of facts.readings) (those_there before) (those_there (map as_written after)) found.agree
-    (subst (AllZip (AgreeBelow facts.cutoff) (records_of facts.readings)) (sym (there_written after)) agree_now) in
-    let window : Window = record { begin = 0; cutoff = facts.cutoff } in
-    let old = old_resumed begin before after places found.old in
-    let resumed_updates : AreResumed facts.cutoff (log_updates (history_of before)) (updates_in after) = record {
-      same = agreeing_survive window 0 (history_of before) (history_of (map as_written after)) (history_agrees facts.cutoff begin before after places found.old agree);
-      early = λ u at. updates_old facts.cutoff 0 (history_of (map as_written after)) u (λ rs among.
-          elim (there_or_old begin (map as_written after) rs old among) as (λ _. AreOld facts.cutoff rs) [
-            | inl there_is ↦
-                let file = of_map (λ (f : OpenFile). f.records) files rs (subst (λ (l : List (List Logged)). Contains l rs) (there_written after) there_is) in
-                let x = of file.0 file.1 in
-                subst (AreOld facts.cutoff) file.2 (afresh_old facts.cutoff x.0 file.0 x.2)
-            | inr is ↦ λ r at_r change. let less : r.timestamp < begin = is.1 r at_r change in omega (arith, less, begins)
-          ]) at;
-    } in
-    let same = same_below facts.cutoff (log_updates (history_of before)) (updates_in after) resumed_updates in
+    let same = resumed_updates acked before left parts after facts places fresh found in
     let above = λ (time : ℕ) (less : time < facts.cutoff) (log : OpenFile) (among : Contains files log).
     let x = of log among in
     let synced : IsSyncedAbove time files log = record { last = log; stands = among; of_log = inl refl; above = cutoff_synced (λ r. time < r.timestamp) facts.cutoff x.0 log x.2 less } in
@@ -670,7 +685,7 @@ started acked before left parts after facts places are was =
             let earlier = subst (λ (s : Option Segment × Option Segment). IsEarlier s.0 s.1) (λ i. (ap (λ (l : LogReading). l.head.segment) x.2.same i, ap (λ (l : LogReading). l.head.segment) y.2.same i)) behind in
             beyond_afresh facts.cutoff x.0 y.0 a b time x.2 y.2 (found.ends x.0 y.0 x.1 y.1 earlier) at;
       };
-      old = old;
+      old = old_resumed begin before after places found.old;
       sound = listed_sound facts.chosen (log_updates (history_of before)) (updates_in after) facts.known facts.cutoff facts.is_chosen same found.sound;
       rise = listed_rise facts.chosen;
       base_is = listed_base after facts.chosen facts.known facts.cutoff facts.is_chosen above;
@@ -876,10 +891,19 @@ all_after R cutoff (there ts ∷ logs) (l ∷ ls) (r ∷ rs) read agree =
       resumed = (record { reading = r; is_reading = read.0; replaces = refl; synced = refl }, rest.resumed);
     }
 
-pub life_goes_on : (acked : List Update) (logs : List (LogOf (List Logged))) (left parts : List (List ℕ)) → Life (down acked logs left parts)
-    → (after : List (LogOf OpenFile)) × (checkpoints : Checkpoints) × Life (running acked after checkpoints)
-life_goes_on acked logs left parts life =
+pub life_goes_on : (acked : List Update) (logs : List (LogOf (List Logged))) (left parts : List (List ℕ)) (pairs : List Pair) → Life (down acked logs left parts)
+    → (store : IsStoreOf left parts pairs) → (after : List (LogOf OpenFile)) × Life (running acked after (only store.basis.facts.chosen))
+    × ((u : Update) → Contains (updates_in after) u ↔ Contains (survivors store.basis.facts.cutoff None (history_of logs)) u)
+life_goes_on acked logs left parts pairs life store =
     let is : IsDown acked logs left parts = life_holds (down acked logs left parts) life in
-    let facts = is.facts in
-    let all = all_after (AgreeBelow facts.cutoff) facts.cutoff logs left facts.readings facts.read is.found.agree in
-    (all.after, only facts.chosen, then (down acked logs left parts) (running acked all.after (only facts.chosen)) life (resume acked logs left parts all.after facts all.places all.resumed))
+    let facts = store.basis.facts in
+    let found = found_by acked logs left parts is facts in
+    let all = all_after (AgreeBelow facts.cutoff) facts.cutoff logs left facts.readings facts.read found.agree in
+    let updates = resumed_updates acked logs left parts all.after facts all.places (zip_resumed left parts all.after facts all.resumed) found in (
+      all.after,
+      then (down acked logs left parts) (running acked all.after (only facts.chosen)) life (resume acked logs left parts all.after facts all.places all.resumed),
+      λ u. (
+        λ at. let both = (updates u).0 at in in_history facts.cutoff (history_of logs) u both.0 both.1,
+        λ at. (updates u).1 (of_history facts.cutoff (history_of logs) u at),
+      ),
+    )

@@ -4,12 +4,15 @@
 use Rattle.std.specs.Prelude.{◌≡◌, ℕ, ◌≤◌, ◌<◌, ◌⊎◌, true, false, Option, Some, None, IfSome, List, [], ◌∷◌, ◌++◌, length, map, Contains}
 use Rattle.std.specs.List.{AllZip}
 use Rattle.mt_words.specs.declared.record.Change.{Change}
+use Rattle.mt_words.specs.declared.update.Origin.{Origin}
 use Rattle.mt_words.specs.declared.update.Update.{Update}
-use Rattle.mt_words.specs.Changes.{Logged, is_mark}
+use Rattle.mt_words.specs.Changes.{Logged, is_mark, IsLoggedChange}
+use Rattle.mt_words.specs.Limits.{widest}
+use Rattle.mt_words.specs.Updates.{update_at}
 use Rattle.mt_words.specs.Walks.{Pair}
 use Rattle.mt_record.specs.declared.feed.head.Head.{Head}
 use Rattle.mt_record.specs.Logs.{log_bytes, LogReading, IsReading, times_of}
-use Rattle.mt_record.specs.Resuming.{below, resumed}
+use Rattle.mt_record.specs.Resuming.{greatest_timestamp, below, resumed}
 use Rattle.mt_checkpoint.specs.Checkpoints.{entries_with}
 use Rattle.mt_scan.specs.PartScans.{KnownPart}
 use Rattle.mt_scan.specs.Choice.{CheckpointReading, IsValid, IsNoBetter}
@@ -148,6 +151,16 @@ pub record HaveTimestamps (updates : List Update) (checkpoints : Checkpoints) : 
   pub ends : (checkpoint : CheckpointReading) → Contains checkpoints.written checkpoint → checkpoint.begin ≤ checkpoint.end
   pub entries : (checkpoint : CheckpointReading) (entry : Change) → Contains checkpoints.written checkpoint → Contains checkpoint.entries entry
       → entry.version ≤ checkpoint.end
+
+-- The update of this timestamp and change may come next: it is new over each checkpoint. Neither an acknowledged update is later, nor the end of the checkpoint
+-- that the server stands on. A timestamp is left for a mark above it.
+pub record MayComeNext (acked updates : List Update) (checkpoints : Checkpoints) (time : ℕ) (change : Change) : Type 0 where
+  pub lawful : IsLoggedChange widest change
+  pub new : (origin : Origin) (checkpoint : CheckpointReading) → Contains checkpoints.written checkpoint
+      → IsNewOver updates checkpoint (update_at origin time change)
+  pub later : (u : Update) → Contains acked u → u.timestamp ≤ time
+  pub base : IfSome checkpoints.base (λ base. base.end ≤ time)
+  pub time_left : time < greatest_timestamp
 
 -- What a crash leaves of the parts: a checkpoint that is valid was written, and the one that the server stands on is valid.
 pub record AreLeftOf (checkpoints : Checkpoints) (parts : List (List ℕ)) : Type 0 where

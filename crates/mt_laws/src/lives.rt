@@ -1,21 +1,25 @@
 //! Laws of a server that crashes, resumes and goes on, again and again.
-ghost use Rattle.std.specs.Prelude.{◌≡◌, ◌⊎◌, ℕ, ◌-◌, ◌^◌, ◌<◌, None, Some, List, [], ◌∷◌, ◌++◌, map, Contains};
+ghost use Rattle.std.specs.Prelude.{◌≡◌, ◌⊎◌, ◌↔◌, ℕ, ◌-◌, ◌^◌, ◌<◌, None, Some, List, [], ◌∷◌, ◌++◌, map, Contains};
 ghost use Rattle.std.specs.List.{AllZip};
+ghost use Rattle.mt_words.specs.declared.record.Change.{Change};
+ghost use Rattle.mt_words.specs.declared.update.Origin.{Origin};
 ghost use Rattle.mt_words.specs.declared.update.Update.{Update};
 ghost use Rattle.mt_words.specs.Changes.{Logged};
+ghost use Rattle.mt_words.specs.Updates.{update_at};
 ghost use Rattle.mt_words.specs.Walks.{Pair};
 ghost use Rattle.mt_scan.specs.Choice.{CheckpointReading};
 ghost use Rattle.mt_replay.specs.Survivors.{log_updates};
 ghost use Rattle.mt_replay.specs.Walk.{IsWalk};
 ghost use Rattle.mt_recover.specs.Recovery.{begin_of, survivors, IsStoreOf};
-ghost use Rattle.mt_laws.specs.Lives.{OpenFile, LogOf, there, deleted, those_there, as_written, history_of, Checkpoints, IsNewOver, AddNew, IsLater, HaveTimestamps, AreLeftOf, only, IsLeftOf, left_behind, running, down, Life};
+ghost use Rattle.mt_laws.specs.Lives.{OpenFile, LogOf, there, deleted, those_there, as_written, history_of, updates_in, Checkpoints, IsNewOver, AddNew, IsLater, HaveTimestamps, MayComeNext, AreLeftOf, only, IsLeftOf, left_behind, running, down, Life};
 ghost use Rattle.mt_laws.specs.Names.{AreNamesLeft};
 
 /// States that in each life of a server over logs and checkpoints, after each crash, there is a store and no fault. It is
 /// that of all updates below the cutoff that were written and that no resume dropped, those of deleted logs included, and
-/// each update that was ever acknowledged is among them. The server can resume and go on, or start afresh in a
-/// new folder if the cutoff is not the greatest timestamp. And there is such a life, in
-/// which a log with an acknowledged update is deleted before a crash. This is a law: it has nothing to run.
+/// each update that was ever acknowledged is among them. The server can resume with these updates, or start afresh in a
+/// new folder if the cutoff is not the greatest timestamp. Then, as in each state in which it runs, a new update can be
+/// acknowledged. And there is such a life, in which a log with an acknowledged update is deleted before a crash. This is a
+/// law: it has nothing to run.
 pub fn a_life_of_crashes()
     ensures no_fault { (acked : List Update) (logs : List (LogOf (List Logged))) (left parts : List (List ℕ)) →
         Life (down acked logs left parts) → (pairs : List Pair) × IsStoreOf left parts pairs }
@@ -25,9 +29,13 @@ pub fn a_life_of_crashes()
     ensures acknowledged { (acked : List Update) (logs : List (LogOf (List Logged))) (left parts : List (List ℕ)) (pairs : List Pair) →
         Life (down acked logs left parts) → (store : IsStoreOf left parts pairs) →
         (u : Update) → Contains acked u → Contains (survivors store.basis.facts.cutoff None (history_of logs)) u }
-    ensures goes_on { (acked : List Update) (logs : List (LogOf (List Logged))) (left parts : List (List ℕ)) →
-        Life (down acked logs left parts) →
-        (after : List (LogOf OpenFile)) × (checkpoints : Checkpoints) × Life (running acked after checkpoints) }
+    ensures goes_on { (acked : List Update) (logs : List (LogOf (List Logged))) (left parts : List (List ℕ)) (pairs : List Pair) →
+        Life (down acked logs left parts) → (store : IsStoreOf left parts pairs) →
+        (after : List (LogOf OpenFile)) × Life (running acked after (only store.basis.facts.chosen)) ×
+        ((u : Update) → Contains (updates_in after) u ↔ Contains (survivors store.basis.facts.cutoff None (history_of logs)) u) }
+    ensures acknowledges { (acked : List Update) (logs : List (LogOf OpenFile)) (checkpoints : Checkpoints) (time : ℕ) (change : Change) →
+        Life (running acked logs checkpoints) → MayComeNext acked (updates_in logs) checkpoints time change →
+        (origin : Origin) × (after : List (LogOf OpenFile)) × Life (running (update_at origin time change ∷ acked) after checkpoints) }
     ensures afresh { (acked : List Update) (logs : List (LogOf (List Logged))) (left parts : List (List ℕ)) (pairs : List Pair) →
         Life (down acked logs left parts) → (store : IsStoreOf left parts pairs) → store.basis.facts.cutoff < 2 ^ 64 - 1 →
         (file : OpenFile) × (new : CheckpointReading) ×
