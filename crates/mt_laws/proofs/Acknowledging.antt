@@ -138,7 +138,7 @@ all_stay_open begin files now are opens = record {
     claims = zip_map ClaimsNoMore file_reading file_reading files now (zip_weaker (StaysOpen files) (λ a b. ClaimsNoMore (file_reading a) (file_reading b)) files now claim are)
 
 -- the bytes of lawful records are a log
-reads : (file : OpenFile) → IsHead file.head → AreRecords (limits_of file.head.format) 0 file.records → IsReading (file_bytes file) (file_reading file)
+pub reads : (file : OpenFile) → IsHead file.head → AreRecords (limits_of file.head.format) 0 file.records → IsReading (file_bytes file) (file_reading file)
 reads file is_head lawful = record {
   tail = [];
   is_log = record {

@@ -41,5 +41,6 @@ pub mod ChosenParts
 pub mod Restart
 pub mod Doubled
 pub mod Acknowledging
+pub mod SomeSegments
 pub mod LostNames
 pub mod Timestamps

@@ -164,7 +164,7 @@ old_above time less file at = record {
 -- ---- the checkpoint
 
 -- the update of the put
-abbrev update : Update
+abbrev pub update : Update
 update = update_at (origins.Log 0 0) 1 (record { version = 1; key = []; kind = Put ((0, []) ∷ []) })
 
 abbrev pairs : List Pair

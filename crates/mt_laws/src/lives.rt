@@ -11,15 +11,15 @@ ghost use Rattle.mt_scan.specs.Choice.{CheckpointReading};
 ghost use Rattle.mt_replay.specs.Survivors.{log_updates};
 ghost use Rattle.mt_replay.specs.Walk.{IsWalk};
 ghost use Rattle.mt_recover.specs.Recovery.{begin_of, survivors, IsStoreOf};
-ghost use Rattle.mt_laws.specs.Lives.{OpenFile, LogOf, there, deleted, those_there, as_written, history_of, updates_in, Checkpoints, IsNewOver, AddNew, IsLater, HaveTimestamps, MayComeNext, AreLeftOf, only, IsLeftOf, left_behind, running, down, Life};
+ghost use Rattle.mt_laws.specs.Lives.{OpenFile, IsBehind, LogOf, there, deleted, those_there, as_written, history_of, updates_in, Checkpoints, IsNewOver, AddNew, IsLater, HaveTimestamps, MayComeNext, AreLeftOf, only, IsLeftOf, left_behind, running, down, Life};
 ghost use Rattle.mt_laws.specs.Names.{AreNamesLeft};
 
 /// States that in each life of a server over logs and checkpoints, after each crash, there is a store and no fault. It is
 /// that of all updates below the cutoff that were written and that no resume dropped, those of deleted logs included, and
 /// each update that was ever acknowledged is among them. The server can resume with these updates, or start afresh in a
 /// new folder if the cutoff is not the greatest timestamp. Then, as in each state in which it runs, a new update can be
-/// acknowledged. And there is such a life, in which a log with an acknowledged update is deleted before a crash. This is a
-/// law: it has nothing to run.
+/// acknowledged. And there are such lives: one in which a log with an acknowledged update is deleted before a crash, and
+/// one with two segments. This is a law: it has nothing to run.
 pub fn a_life_of_crashes()
     ensures no_fault { (acked : List Update) (logs : List (LogOf (List Logged))) (left parts : List (List ℕ)) →
         Life (down acked logs left parts) → (pairs : List Pair) × IsStoreOf left parts pairs }
@@ -42,6 +42,8 @@ pub fn a_life_of_crashes()
         Life (running acked (map (left_behind store.basis.facts.cutoff) logs ++ there file ∷ []) (only (Some new))) }
     ensures some { (u : Update) × (old : List Logged) × Contains (log_updates (old ∷ [])) u × (logs : List (LogOf (List Logged))) × (left parts : List (List ℕ)) ×
         Life (down (u ∷ []) (deleted old ∷ logs) left parts) }
+    ensures some_segments { (u : Update) × (first next : OpenFile) × IsBehind first next ×
+        Life (running (u ∷ []) (there first ∷ there next ∷ []) (only None)) }
 {}
 
 /// States that a life goes on over any names that a crash loses of those that were made, and any files that it loses of

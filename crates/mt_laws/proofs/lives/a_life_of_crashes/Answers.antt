@@ -2,6 +2,7 @@ use Rattle.mt_laws.proofs.Living.{life_has_store, life_store, life_keeps, life_g
 use Rattle.mt_laws.proofs.Acknowledging.{life_acknowledges}
 use Rattle.mt_laws.proofs.Restart.{life_starts_afresh}
 use Rattle.mt_laws.proofs.SomeLife.{some_life}
+use Rattle.mt_laws.proofs.SomeSegments.{some_segments}
 use Rattle.mt_laws.proofs.lives.a_life_of_crashes.Goals as goal
 
 pub returns-clause-no_fault : goal.returns-clause-no_fault
@@ -24,3 +25,6 @@ returns-clause-afresh c = λ acked logs left parts pairs life store fits. life_s
 
 pub returns-clause-some : goal.returns-clause-some
 returns-clause-some c = some_life
+
+pub returns-clause-some_segments : goal.returns-clause-some_segments
+returns-clause-some_segments c = some_segments
