@@ -6,7 +6,7 @@ use Rattle.mt_tree.specs.declared.hit.Hit.{Hit}
 use Rattle.mt_recover.specs.Fed.{Input}
 use Rattle.mt_recover.specs.Report.{Outcome, IsRecoveredOf}
 use Rattle.mt_c.specs.Added.{IsLog, IsPart, AreAdded}
-use Rattle.mt_c.specs.Jobs.{Hires, IsStepOf, JobView}
+use Rattle.mt_c.specs.Jobs.{Awaits, Hires, IsStepOf, JobView}
 use Rattle.mt_c.specs.declared.held.Held.{Held}
 use Rattle.mt_c.specs.declared.held.Held.TheVariants as held
 use Rattle.mt_c.specs.declared.task.Worker.{Worker}
@@ -91,6 +91,15 @@ IsInput (held.Log fed) = Unit {0}
 IsInput (held.Part fed) = Unit {0}
 IsInput other = ⊥
 
+-- a job, and a task that was handed out
+abbrev pub IsAnyJob : Held → Type 0
+IsAnyJob (held.Job job) = Unit {0}
+IsAnyJob other = ⊥
+
+abbrev pub IsAnyWorker : Held → Type 0
+IsAnyWorker (held.Worker worker) = Unit {0}
+IsAnyWorker other = ⊥
+
 -- a store
 abbrev pub IsStore : Held → Type 0
 IsStore (held.Store shared) = Unit {0}
@@ -105,3 +114,13 @@ AreHits other = ⊥
 abbrev pub Holds : (Held → Type 0) → Option Held → Type 0
 Holds P None = ⊥
 Holds P (Some held) = P held
+
+-- the place holds logs and parts to recover from, or is empty
+abbrev pub HoldsSomeInputs : Option Held → Type 0
+HoldsSomeInputs None = Unit {0}
+HoldsSomeInputs (Some (held.Inputs added)) = Unit {0}
+HoldsSomeInputs (Some other) = ⊥
+
+-- the first place holds a job that waits for the task in the second
+abbrev pub HoldsAwaited : Option Held → Option Held → Type 0
+HoldsAwaited job worker = HoldsJob (λ j. HoldsWorker (Awaits j) worker) job

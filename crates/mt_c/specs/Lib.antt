@@ -10,6 +10,7 @@ pub mod Lends
 pub mod Ranges
 pub mod Reports
 pub mod Resumes
+pub mod Statuses
 pub mod Steps
 pub mod Told
 pub mod Values

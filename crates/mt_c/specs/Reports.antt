@@ -1,5 +1,5 @@
 -- The report of a recovery, as C sees it.
-use Rattle.std.specs.Prelude.{◌≡◌, ◌⊎◌, ℕ, ◌-◌, ◌^◌, min, Option, None, Some, length}
+use Rattle.std.specs.Prelude.{◌≡◌, ℕ, ◌-◌, ◌^◌, min, Option, None, Some, length}
 use Rattle.mt_recover.specs.declared.report.Report.{Report}
 use Rattle.mt_c.specs.declared.reporting.CReport.{CReport}
 use Rattle.mt_c.specs.declared.status.TheConstants.{DONE, ABSENT}
@@ -41,4 +41,3 @@ c_report report = record {
 pub record Tells (item : Option ℕ) (told status : ℕ) : Type 0 where
   pub done : status ≡ DONE → item ≡ Some told
   pub absent : status ≡ ABSENT → item ≡ None
-  pub certain : (status ≡ DONE) ⊎ (status ≡ ABSENT)

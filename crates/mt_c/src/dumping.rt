@@ -1,9 +1,10 @@
 //! Whole pairs of a store, in their flat form.
-ghost use Rattle.std.specs.Prelude.{◌≡◌, ◌≢◌, ◌⊎◌, Some};
+ghost use Rattle.std.specs.Prelude.{◌≡◌, ◌≢◌, ◌∷◌, []};
 ghost use Rattle.mt_tree.specs.Range.{from};
 ghost use Rattle.mt_recover.specs.Report.{Outcome};
 ghost use Rattle.mt_c.specs.Flat.{WritesPair, Dumps};
 ghost use Rattle.mt_c.specs.Holding.{HoldsOutcome, Holds, IsStore};
+ghost use Rattle.mt_c.specs.Statuses.{IsOneOf, IsRefusedUnless};
 ghost use Rattle.mt_c.specs.Values.{IsNoKey};
 ghost use Rattle.mt_c.specs.declared.status.TheConstants.{DONE, WRONG, ABSENT, SHORT};
 
@@ -21,8 +22,8 @@ pub extern "C" fn mtr_pair(store: &mut Place, key: &[u8], out: &mut [u8], count:
     ensures written { (outcome : Outcome) → HoldsOutcome outcome store.old.handle.value → result ≢ ABSENT → WritesPair outcome.store key.now out.old out.new count.new result }
     ensures absent { (outcome : Outcome) → HoldsOutcome outcome store.old.handle.value → result ≡ ABSENT → IsNoKey outcome.store key.now }
     ensures kept { result ≢ DONE → out.new ≡ out.old }
-    ensures certain { (outcome : Outcome) → HoldsOutcome outcome store.old.handle.value → (result ≡ DONE) ⊎ ((result ≡ SHORT) ⊎ (result ≡ ABSENT)) }
-    ensures refused { (Holds IsStore store.old.handle.value → ⊥) → result ≡ WRONG }
+    ensures certain { IsOneOf (DONE ∷ WRONG ∷ ABSENT ∷ SHORT ∷ []) result }
+    ensures refused { IsRefusedUnless (Holds IsStore store.old.handle.value) result }
 {
     let Some(Held::Store(recovered)) = store.held() else {
         return WRONG;
@@ -51,8 +52,8 @@ pub extern "C" fn mtr_dump(
     ensures dumped { (outcome : Outcome) → HoldsOutcome outcome store.old.handle.value → Dumps (from start.now outcome.store) out.old out.new count.new pairs.new result }
     ensures kept { result ≢ DONE → out.new ≡ out.old }
     ensures untold { result ≢ DONE → pairs.new ≡ pairs.old }
-    ensures certain { (outcome : Outcome) → HoldsOutcome outcome store.old.handle.value → (result ≡ DONE) ⊎ ((result ≡ SHORT) ⊎ (result ≡ ABSENT)) }
-    ensures refused { (Holds IsStore store.old.handle.value → ⊥) → result ≡ WRONG }
+    ensures certain { IsOneOf (DONE ∷ WRONG ∷ ABSENT ∷ SHORT ∷ []) result }
+    ensures refused { IsRefusedUnless (Holds IsStore store.old.handle.value) result }
 {
     let Some(Held::Store(recovered)) = store.held() else {
         return WRONG;

@@ -1,9 +1,10 @@
 //! Feeding logs and checkpoint parts, chunk by chunk.
-ghost use Rattle.std.specs.Prelude.{◌≡◌, ◌≢◌, ◌++◌, [], List, ℕ, None, Some};
-ghost use Rattle.mt_record.specs.LogFeeding.{ShowsNoFault};
-ghost use Rattle.mt_record.specs.PartFeeding.{ShowsNoPartFault};
+ghost use Rattle.std.specs.Prelude.{◌≡◌, ◌≢◌, ◌++◌, ◌∷◌, [], List, ℕ, None, Some};
+ghost use Rattle.mt_record.specs.LogFeeding.{ShowsFault};
+ghost use Rattle.mt_record.specs.PartFeeding.{ShowsPartFault};
 ghost use Rattle.mt_c.specs.Holding.{HoldsLog, HoldsPart, Holds, IsFeed};
-ghost use Rattle.mt_c.specs.declared.status.TheConstants.{DONE, WRONG};
+ghost use Rattle.mt_c.specs.Statuses.{IsJudged, IsOneOf, IsRefusedUnless};
+ghost use Rattle.mt_c.specs.declared.status.TheConstants.{DONE, MEMORY, WRONG, FAULT};
 
 use crate::feeds::{FedLog, FedPart};
 use crate::held::Held;
@@ -16,7 +17,8 @@ use std::alloc::Global;
 pub extern "C" fn mtr_feed_log(alloc: Global, place: &mut Place) -> u32
     ensures done { result ≡ DONE → HoldsLog (Some []) place.new.handle.value }
     ensures kept { result ≢ DONE → place.new.handle.value ≡ place.old.handle.value }
-    ensures accepted { place.old.handle.value ≡ None → result ≢ WRONG }
+    ensures certain { IsOneOf (DONE ∷ MEMORY ∷ WRONG ∷ []) result }
+    ensures refused { IsRefusedUnless (place.old.handle.value ≡ None) result }
 {
     place.begin(alloc, Held::Log(Some(FedLog::new(alloc))))
 }
@@ -26,7 +28,8 @@ pub extern "C" fn mtr_feed_log(alloc: Global, place: &mut Place) -> u32
 pub extern "C" fn mtr_feed_part(alloc: Global, place: &mut Place) -> u32
     ensures done { result ≡ DONE → HoldsPart (Some []) place.new.handle.value }
     ensures kept { result ≢ DONE → place.new.handle.value ≡ place.old.handle.value }
-    ensures accepted { place.old.handle.value ≡ None → result ≢ WRONG }
+    ensures certain { IsOneOf (DONE ∷ MEMORY ∷ WRONG ∷ []) result }
+    ensures refused { IsRefusedUnless (place.old.handle.value ≡ None) result }
 {
     place.begin(alloc, Held::Part(Some(FedPart::new(alloc))))
 }
@@ -37,10 +40,11 @@ pub extern "C" fn mtr_feed_part(alloc: Global, place: &mut Place) -> u32
 pub extern "C" fn mtr_feed(place: &mut Place, chunk: &[u8]) -> u32
     ensures log { (bytes : List ℕ) → HoldsLog (Some bytes) place.old.handle.value → HoldsLog (Some (bytes ++ chunk.now)) place.new.handle.value }
     ensures part { (bytes : List ℕ) → HoldsPart (Some bytes) place.old.handle.value → HoldsPart (Some (bytes ++ chunk.now)) place.new.handle.value }
-    ensures sound_log { (bytes : List ℕ) → HoldsLog (Some bytes) place.old.handle.value → result ≡ DONE → ShowsNoFault (bytes ++ chunk.now) }
-    ensures sound_part { (bytes : List ℕ) → HoldsPart (Some bytes) place.old.handle.value → result ≡ DONE → ShowsNoPartFault (bytes ++ chunk.now) }
+    ensures judged_log { (bytes : List ℕ) → HoldsLog (Some bytes) place.old.handle.value → IsJudged (ShowsFault (bytes ++ chunk.now)) result }
+    ensures judged_part { (bytes : List ℕ) → HoldsPart (Some bytes) place.old.handle.value → IsJudged (ShowsPartFault (bytes ++ chunk.now)) result }
     ensures kept { result ≡ WRONG → place.new.handle.value ≡ place.old.handle.value }
-    ensures accepted { Holds IsFeed place.old.handle.value → result ≢ WRONG }
+    ensures certain { IsOneOf (DONE ∷ MEMORY ∷ WRONG ∷ FAULT ∷ []) result }
+    ensures refused { IsRefusedUnless (Holds IsFeed place.old.handle.value) result }
 {
     let Some(held) = place.held_mut() else {
         return WRONG;
@@ -59,7 +63,8 @@ pub extern "C" fn mtr_feed_failed(place: &mut Place) -> u32
     ensures log { (bytes : List ℕ) → HoldsLog (Some bytes) place.old.handle.value → HoldsLog None place.new.handle.value }
     ensures part { (bytes : List ℕ) → HoldsPart (Some bytes) place.old.handle.value → HoldsPart None place.new.handle.value }
     ensures kept { result ≢ DONE → place.new.handle.value ≡ place.old.handle.value }
-    ensures accepted { Holds IsFeed place.old.handle.value → result ≡ DONE }
+    ensures certain { IsOneOf (DONE ∷ WRONG ∷ []) result }
+    ensures refused { IsRefusedUnless (Holds IsFeed place.old.handle.value) result }
 {
     let Some(held) = place.held_mut() else {
         return WRONG;

@@ -1,8 +1,9 @@
 //! Logs and checkpoint parts that are being fed.
-ghost use Rattle.std.specs.Prelude.{◌≡◌, ◌≢◌, ◌++◌, [], List, ℕ};
-ghost use Rattle.mt_record.specs.LogFeeding.{IsLogFed, ShowsNoFault};
-ghost use Rattle.mt_record.specs.PartFeeding.{IsPartFed, ShowsNoPartFault};
-ghost use Rattle.mt_c.specs.declared.status.TheConstants.{DONE, WRONG};
+ghost use Rattle.std.specs.Prelude.{◌++◌, ◌∷◌, [], List, ℕ};
+ghost use Rattle.mt_record.specs.LogFeeding.{IsLogFed, ShowsFault};
+ghost use Rattle.mt_record.specs.PartFeeding.{IsPartFed, ShowsPartFault};
+ghost use Rattle.mt_c.specs.Statuses.{IsJudged, IsOneOf};
+ghost use Rattle.mt_c.specs.declared.status.TheConstants.{DONE, MEMORY, FAULT};
 
 use crate::status::{DONE, FAULT, MEMORY};
 use mt_record::{FeedFault, KeptEntries, KeptRecords, LogFeed, PartFault, PartFeed};
@@ -39,13 +40,14 @@ impl FedLog {
     /// Feeds the next chunk. `FAULT`: the bytes so far are no log, whatever bytes follow.
     pub fn feed(&mut self, chunk: &[u8]) -> u32
         ensures fed { (bytes : List ℕ) → IsLogFed self.old bytes [] → IsLogFed self.new (bytes ++ chunk.now) [] }
-        ensures sound { (bytes : List ℕ) → IsLogFed self.old bytes [] → result ≡ DONE → ShowsNoFault (bytes ++ chunk.now) }
-        ensures accepted { result ≢ WRONG }
+        ensures judged { (bytes : List ℕ) → IsLogFed self.old bytes [] → IsJudged (ShowsFault (bytes ++ chunk.now)) result }
+        ensures certain { IsOneOf (DONE ∷ MEMORY ∷ FAULT ∷ []) result }
     {
         match self.feed.feed(chunk) {
             Ok(()) => DONE,
             Err(FeedFault::Memory) => MEMORY,
-            Err(_) => FAULT,
+            Err(FeedFault::Header) => FAULT,
+            Err(FeedFault::Record { .. }) => FAULT,
         }
     }
 }
@@ -80,13 +82,14 @@ impl FedPart {
     /// Feeds the next chunk. `FAULT`: the bytes so far are no part, whatever bytes follow.
     pub fn feed(&mut self, chunk: &[u8]) -> u32
         ensures fed { (bytes : List ℕ) → IsPartFed self.old bytes → IsPartFed self.new (bytes ++ chunk.now) }
-        ensures sound { (bytes : List ℕ) → IsPartFed self.old bytes → result ≡ DONE → ShowsNoPartFault (bytes ++ chunk.now) }
-        ensures accepted { result ≢ WRONG }
+        ensures judged { (bytes : List ℕ) → IsPartFed self.old bytes → IsJudged (ShowsPartFault (bytes ++ chunk.now)) result }
+        ensures certain { IsOneOf (DONE ∷ MEMORY ∷ FAULT ∷ []) result }
     {
         match self.feed.feed(chunk) {
             Ok(()) => DONE,
             Err(PartFault::Memory) => MEMORY,
-            Err(_) => FAULT,
+            Err(PartFault::Header) => FAULT,
+            Err(PartFault::Broken { .. }) => FAULT,
         }
     }
 }

@@ -1,9 +1,10 @@
 //! Recovery by threads of C: a job hands out tasks, any thread does a task, and the job takes it back.
-ghost use Rattle.std.specs.Prelude.{◌≡◌, ◌≢◌, ◌↔◌, ◌<◌, ◌≤◌, [], List, None, Some, IfSome, IsNone, IsTrue};
+ghost use Rattle.std.specs.Prelude.{◌≡◌, ◌≢◌, ◌<◌, ◌≤◌, ◌∷◌, [], List, None};
 ghost use Rattle.mt_recover.specs.Fed.{Input};
 ghost use Rattle.mt_recover.specs.declared.workers.TheConstants.{MOST_WORKERS};
-ghost use Rattle.mt_c.specs.Holding.{HoldsInputs, HoldsJob, HoldsJobOf, HoldsStoreOf, HoldsWorker, Holds, IsHired};
-ghost use Rattle.mt_c.specs.Jobs.{Awaits, CanFinish, CanReplay, IsFresh, IsOfJob, JobView, done_of, joined};
+ghost use Rattle.mt_c.specs.Holding.{HoldsAwaited, HoldsInputs, HoldsJob, HoldsJobOf, HoldsSomeInputs, HoldsStoreOf, HoldsWorker, Holds, IsAnyJob, IsAnyWorker, IsHired};
+ghost use Rattle.mt_c.specs.Jobs.{CanFinish, CanReplay, IsFresh, IsOfJob, JobView, done_of, joined};
+ghost use Rattle.mt_c.specs.Statuses.{IsOneOf, IsRefusedUnless};
 ghost use Rattle.mt_c.specs.Told.{IsTold};
 ghost use Rattle.mt_c.specs.declared.status.TheConstants.{DONE, MEMORY, WRONG, ABSENT, FAULT};
 ghost use Rattle.mt_c.specs.declared.task.Worker.{Worker as WorkerValue};
@@ -32,10 +33,10 @@ pub extern "C" fn mtr_prepare(
     ensures fresh { result ≡ DONE → HoldsJob IsFresh inputs.new.handle.value }
     ensures fault { (logs parts : List Input) → HoldsInputs logs parts inputs.old.handle.value → result ≡ FAULT → IsTold logs parts fault.new }
     ensures untold { result ≢ FAULT → fault.new ≡ fault.old }
-    ensures empty { result ≡ FAULT → inputs.new.handle.value ≡ None }
-    ensures memory { result ≡ MEMORY → inputs.new.handle.value ≡ None }
+    ensures empty { IsOneOf (MEMORY ∷ FAULT ∷ []) result → inputs.new.handle.value ≡ None }
     ensures kept { result ≡ WRONG → inputs.new.handle.value ≡ inputs.old.handle.value }
-    ensures accepted { (logs parts : List Input) → HoldsInputs logs parts inputs.old.handle.value → 0 < threads → threads ≤ MOST_WORKERS → result ≢ WRONG }
+    ensures certain { IsOneOf (DONE ∷ MEMORY ∷ WRONG ∷ FAULT ∷ []) result }
+    ensures refused { IsRefusedUnless (HoldsSomeInputs inputs.old.handle.value × (0 < threads) × (threads ≤ MOST_WORKERS)) result }
 {
     let Some(workers) = Workers::new(threads) else {
         return WRONG;
@@ -63,7 +64,8 @@ pub extern "C" fn mtr_hire(alloc: Global, job: &mut Place, worker: &mut Place) -
     ensures done { (before : JobView) → HoldsJob (λ j. j ≡ before) job.old.handle.value → result ≡ DONE → IsHired before job.new.handle.value worker.new.handle.value }
     ensures absent { result ≡ ABSENT → HoldsJob (λ j. j.todo ≡ []) job.old.handle.value }
     ensures kept { result ≢ DONE → (job.new.handle.value ≡ job.old.handle.value) × (worker.new.handle.value ≡ worker.old.handle.value) }
-    ensures accepted { (before : JobView) → HoldsJob (λ j. j ≡ before) job.old.handle.value → worker.old.handle.value ≡ None → result ≢ WRONG }
+    ensures certain { IsOneOf (DONE ∷ MEMORY ∷ WRONG ∷ ABSENT ∷ []) result }
+    ensures refused { IsRefusedUnless (Holds IsAnyJob job.old.handle.value × (worker.old.handle.value ≡ None)) result }
 {
     let Some(held) = job.held_mut() else {
         return WRONG;
@@ -93,7 +95,8 @@ pub extern "C" fn mtr_work(alloc: Global, worker: &mut Place) -> u32
         HoldsWorker (λ w. w ≡ record before { task = done_of before.task }) worker.new.handle.value }
     ensures memory { result ≡ MEMORY → worker.new.handle.value ≡ None }
     ensures kept { result ≡ WRONG → worker.new.handle.value ≡ worker.old.handle.value }
-    ensures accepted { (before : WorkerValue) → HoldsWorker (λ w. w ≡ before) worker.old.handle.value → result ≢ WRONG }
+    ensures certain { IsOneOf (DONE ∷ MEMORY ∷ WRONG ∷ []) result }
+    ensures refused { IsRefusedUnless (Holds IsAnyWorker worker.old.handle.value) result }
 {
     let Some(Held::Worker(hired)) = worker.take_if(alloc, |held| matches!(held, Held::Worker(_)))
     else {
@@ -115,7 +118,8 @@ pub extern "C" fn mtr_join(alloc: Global, job: &mut Place, worker: &mut Place) -
         HoldsJob (λ held. held ≡ joined j w) job.new.handle.value }
     ensures empty { result ≡ DONE → worker.new.handle.value ≡ None }
     ensures kept { result ≢ DONE → (job.new.handle.value ≡ job.old.handle.value) × (worker.new.handle.value ≡ worker.old.handle.value) }
-    ensures accepted { (j : JobView) (w : WorkerValue) → HoldsJob (λ held. held ≡ j) job.old.handle.value → HoldsWorker (λ held. held ≡ w) worker.old.handle.value → Awaits j w → result ≡ DONE }
+    ensures certain { IsOneOf (DONE ∷ WRONG ∷ []) result }
+    ensures refused { IsRefusedUnless (HoldsAwaited job.old.handle.value worker.old.handle.value) result }
 {
     let Some(held) = job.held_mut() else {
         return WRONG;
@@ -141,8 +145,8 @@ pub extern "C" fn mtr_replay(alloc: Global, job: &mut Place) -> u32
     ensures fresh { result ≡ DONE → HoldsJob IsFresh job.new.handle.value }
     ensures memory { result ≡ MEMORY → job.new.handle.value ≡ None }
     ensures kept { result ≡ WRONG → job.new.handle.value ≡ job.old.handle.value }
-    ensures refused { (HoldsJob CanReplay job.old.handle.value → ⊥) → result ≡ WRONG }
-    ensures accepted { HoldsJob CanReplay job.old.handle.value → result ≢ WRONG }
+    ensures certain { IsOneOf (DONE ∷ MEMORY ∷ WRONG ∷ []) result }
+    ensures refused { IsRefusedUnless (HoldsJob CanReplay job.old.handle.value) result }
 {
     let Some(Held::Job(ready)) = job.take_if(
         alloc,
@@ -163,8 +167,8 @@ pub extern "C" fn mtr_assemble(alloc: Global, job: &mut Place) -> u32
     ensures done { (logs parts : List Input) → HoldsJobOf logs parts job.old.handle.value → result ≡ DONE → HoldsStoreOf logs parts job.new.handle.value }
     ensures memory { result ≡ MEMORY → job.new.handle.value ≡ None }
     ensures kept { result ≡ WRONG → job.new.handle.value ≡ job.old.handle.value }
-    ensures refused { (HoldsJob CanFinish job.old.handle.value → ⊥) → result ≡ WRONG }
-    ensures accepted { HoldsJob CanFinish job.old.handle.value → result ≢ WRONG }
+    ensures certain { IsOneOf (DONE ∷ MEMORY ∷ WRONG ∷ []) result }
+    ensures refused { IsRefusedUnless (HoldsJob CanFinish job.old.handle.value) result }
 {
     let Some(Held::Job(ready)) = job.take_if(
         alloc,

@@ -6,8 +6,9 @@ ghost use Rattle.mt_record.specs.PartFeeding.{FedPart as FedPartValue};
 ghost use Rattle.mt_recover.specs.Fed.{Input, AreFed};
 ghost use Rattle.mt_c.specs.Added.{none_added, with_log, with_part, IsLog, IsPart, AreAdded};
 ghost use Rattle.mt_c.specs.Holding.{IsInput};
+ghost use Rattle.mt_c.specs.Statuses.{IsOneOf, IsRefusedUnless};
 ghost use Rattle.mt_c.specs.declared.held.Held.TheVariants as held;
-ghost use Rattle.mt_c.specs.declared.status.TheConstants.{DONE, WRONG};
+ghost use Rattle.mt_c.specs.declared.status.TheConstants.{DONE, MEMORY, WRONG};
 
 use crate::feeds::{FedLog, FedPart};
 use crate::held::Held;
@@ -48,7 +49,8 @@ impl Inputs {
         ensures log { (fed : Option FedLogValue) → input.old ≡ held.Log fed → result ≡ DONE → self.new ≡ with_log fed self.old }
         ensures part { (fed : Option FedPartValue) → input.old ≡ held.Part fed → result ≡ DONE → self.new ≡ with_part fed self.old }
         ensures kept { result ≢ DONE → (self.new ≡ self.old) × (input.new ≡ input.old) }
-        ensures accepted { IsInput input.old → result ≢ WRONG }
+        ensures certain { IsOneOf (DONE ∷ MEMORY ∷ WRONG ∷ []) result }
+        ensures refused { IsRefusedUnless (IsInput input.old) result }
     {
         match input {
             Held::Log(log) => match self.logs.push(log.take()) {

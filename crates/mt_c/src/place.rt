@@ -1,9 +1,10 @@
 //! Places, in which C keeps what it holds of this library.
-ghost use Rattle.std.specs.Prelude.{◌≡◌, ◌≢◌, ◌↔◌, Option, None, Some, IsSome, IsTrue, MatchOption};
+ghost use Rattle.std.specs.Prelude.{◌≡◌, ◌≢◌, ◌↔◌, ◌∷◌, [], Option, None, Some, IsSome, IsTrue, MatchOption};
 ghost use Rattle.std.specs.Coded.{coded_option};
 ghost use Rattle.mt_c.specs.declared.held.Held.{Held};
 ghost use Rattle.mt_c.specs.contracts.held.Held.{the_row};
-ghost use Rattle.mt_c.specs.declared.status.TheConstants.{DONE, WRONG, FAULT};
+ghost use Rattle.mt_c.specs.Statuses.{IsOneOf, IsRefusedUnless};
+ghost use Rattle.mt_c.specs.declared.status.TheConstants.{DONE, MEMORY, WRONG};
 
 mod lending;
 
@@ -124,8 +125,8 @@ impl Place {
     pub fn begin(&mut self, alloc: Global, held: Held) -> u32
         ensures done { result ≡ DONE → self.new.handle.value ≡ Some held }
         ensures kept { result ≢ DONE → self.new.handle.value ≡ self.old.handle.value }
-        ensures accepted { self.old.handle.value ≡ None → result ≢ WRONG }
-        ensures sound { result ≢ FAULT }
+        ensures certain { IsOneOf (DONE ∷ MEMORY ∷ WRONG ∷ []) result }
+        ensures refused { IsRefusedUnless (self.old.handle.value ≡ None) result }
     {
         if self.full {
             return WRONG;

@@ -1,8 +1,9 @@
 //! Queries of a store.
-ghost use Rattle.std.specs.Prelude.{◌≡◌, ◌≢◌, List, ℕ, None, Some, Err, IfOk, IfErr, MatchOption};
+ghost use Rattle.std.specs.Prelude.{◌≡◌, ◌≢◌, ◌∷◌, [], List, ℕ, None, MatchOption};
 ghost use Rattle.mt_recover.specs.Report.{Outcome};
 ghost use Rattle.mt_c.specs.Buffers.{Writes};
 ghost use Rattle.mt_c.specs.Holding.{HoldsOutcome, Holds, IsStore};
+ghost use Rattle.mt_c.specs.Statuses.{IsOneOf, IsRefusedUnless};
 ghost use Rattle.mt_c.specs.Values.{HasKey, IsNoKey, IsValue, IsAbsent};
 ghost use Rattle.mt_c.specs.declared.status.TheConstants.{DONE, MEMORY, WRONG, ABSENT, SHORT};
 
@@ -29,8 +30,8 @@ pub extern "C" fn mtr_get(
         (bytes : List ℕ) × IsValue outcome.store key.now column bytes × Writes bytes out.old out.new count.new result }
     ensures absent { (outcome : Outcome) → HoldsOutcome outcome store.old.handle.value → result ≡ ABSENT → IsAbsent outcome.store key.now column }
     ensures kept { result ≢ DONE → out.new ≡ out.old }
-    ensures accepted { (outcome : Outcome) → HoldsOutcome outcome store.old.handle.value → result ≢ WRONG }
-    ensures memory { result ≢ MEMORY }
+    ensures certain { IsOneOf (DONE ∷ WRONG ∷ ABSENT ∷ SHORT ∷ []) result }
+    ensures refused { IsRefusedUnless (Holds IsStore store.old.handle.value) result }
 {
     let Some(Held::Store(recovered)) = store.held() else {
         return WRONG;
@@ -46,9 +47,9 @@ pub extern "C" fn mtr_get(
 pub extern "C" fn mtr_exists(store: &mut Place, key: &[u8]) -> u32
     ensures same { store.new.handle.value ≡ store.old.handle.value }
     ensures done { (outcome : Outcome) → HoldsOutcome outcome store.old.handle.value → result ≡ DONE → HasKey outcome.store key.now }
-    ensures absent { (outcome : Outcome) → HoldsOutcome outcome store.old.handle.value → result ≢ DONE → IsNoKey outcome.store key.now }
-    ensures certain { (outcome : Outcome) → HoldsOutcome outcome store.old.handle.value → result ≢ DONE → result ≡ ABSENT }
-    ensures refused { (Holds IsStore store.old.handle.value → ⊥) → result ≡ WRONG }
+    ensures absent { (outcome : Outcome) → HoldsOutcome outcome store.old.handle.value → result ≡ ABSENT → IsNoKey outcome.store key.now }
+    ensures certain { IsOneOf (DONE ∷ WRONG ∷ ABSENT ∷ []) result }
+    ensures refused { IsRefusedUnless (Holds IsStore store.old.handle.value) result }
 {
     let Some(Held::Store(recovered)) = store.held() else {
         return WRONG;
@@ -65,13 +66,16 @@ pub extern "C" fn mtr_exists(store: &mut Place, key: &[u8]) -> u32
 pub extern "C" fn mtr_share(alloc: Global, store: &mut Place, other: &mut Place) -> u32
     ensures same { store.new.handle.value ≡ store.old.handle.value }
     ensures done { (outcome : Outcome) → HoldsOutcome outcome store.old.handle.value → result ≡ DONE → HoldsOutcome outcome other.new.handle.value }
-    ensures refused { (Holds IsStore store.old.handle.value → ⊥) → result ≡ WRONG }
     ensures kept { result ≢ DONE → other.new.handle.value ≡ other.old.handle.value }
-    ensures accepted { (outcome : Outcome) → HoldsOutcome outcome store.old.handle.value → other.old.handle.value ≡ None → result ≢ WRONG }
+    ensures certain { IsOneOf (DONE ∷ MEMORY ∷ WRONG ∷ []) result }
+    ensures refused { IsRefusedUnless (Holds IsStore store.old.handle.value × (other.old.handle.value ≡ None)) result }
 {
     let Some(Held::Store(recovered)) = store.held() else {
         return WRONG;
     };
+    if !other.is_empty() {
+        return WRONG;
+    }
     match Arc::try_clone(recovered) {
         Ok(shared) => other.begin(alloc, Held::Store(shared)),
         Err(_) => MEMORY,

@@ -1,10 +1,11 @@
 //! Ranges of a store.
-ghost use Rattle.std.specs.Prelude.{◌≡◌, ◌≢◌, List, None, Some, Err, IfOk, IfErr, MatchOption, map, slice_get};
+ghost use Rattle.std.specs.Prelude.{◌≡◌, ◌≢◌, ◌∷◌, [], List, None, Some, IfOk, MatchOption, map, slice_get};
 ghost use Rattle.mt_words.specs.Walks.{Pair};
 ghost use Rattle.mt_tree.specs.Range.{range};
 ghost use Rattle.mt_recover.specs.Report.{Outcome};
 ghost use Rattle.mt_c.specs.Holding.{HoldsOutcome, HoldsPairs, pair_of, Holds, IsStore, AreHits};
 ghost use Rattle.mt_c.specs.Ranges.{IsPairAt, IsColumnAt, column_at};
+ghost use Rattle.mt_c.specs.Statuses.{IsOneOf, IsRefusedUnless};
 ghost use Rattle.mt_c.specs.declared.status.TheConstants.{DONE, MEMORY, WRONG, ABSENT, SHORT};
 
 use crate::buffer::write_bytes;
@@ -27,13 +28,16 @@ pub extern "C" fn mtr_range(
 ) -> u32
     ensures same { store.new.handle.value ≡ store.old.handle.value }
     ensures done { (outcome : Outcome) → HoldsOutcome outcome store.old.handle.value → result ≡ DONE → HoldsPairs (range outcome.store start.now n) hits.new.handle.value }
-    ensures refused { (Holds IsStore store.old.handle.value → ⊥) → result ≡ WRONG }
     ensures kept { result ≢ DONE → hits.new.handle.value ≡ hits.old.handle.value }
-    ensures accepted { (outcome : Outcome) → HoldsOutcome outcome store.old.handle.value → hits.old.handle.value ≡ None → result ≢ WRONG }
+    ensures certain { IsOneOf (DONE ∷ MEMORY ∷ WRONG ∷ []) result }
+    ensures refused { IsRefusedUnless (Holds IsStore store.old.handle.value × (hits.old.handle.value ≡ None)) result }
 {
     let Some(Held::Store(recovered)) = store.held() else {
         return WRONG;
     };
+    if !hits.is_empty() {
+        return WRONG;
+    }
     match range_in(recovered.store(), start, n) {
         Ok(found) => hits.begin(alloc, Held::Hits(found)),
         Err(_) => MEMORY,
@@ -53,9 +57,10 @@ pub extern "C" fn mtr_hit(
     ensures same { hits.new.handle.value ≡ hits.old.handle.value }
     ensures written { (pairs : List Pair) → HoldsPairs pairs hits.old.handle.value → result ≢ ABSENT → IsPairAt (slice_get pairs i) columns.new out.old out.new count.new result }
     ensures absent { (pairs : List Pair) → HoldsPairs pairs hits.old.handle.value → result ≡ ABSENT → slice_get pairs i ≡ None }
-    ensures refused { (Holds AreHits hits.old.handle.value → ⊥) → result ≡ WRONG }
     ensures kept { result ≢ DONE → out.new ≡ out.old }
     ensures untold { result ≢ DONE → result ≢ SHORT → columns.new ≡ columns.old }
+    ensures certain { IsOneOf (DONE ∷ WRONG ∷ ABSENT ∷ SHORT ∷ []) result }
+    ensures refused { IsRefusedUnless (Holds AreHits hits.old.handle.value) result }
 {
     let Some(Held::Hits(pairs)) = hits.held() else {
         return WRONG;
@@ -82,9 +87,10 @@ pub extern "C" fn mtr_hit_column(
     ensures same { hits.new.handle.value ≡ hits.old.handle.value }
     ensures written { (pairs : List Pair) → HoldsPairs pairs hits.old.handle.value → result ≢ ABSENT → IsColumnAt (column_at pairs i nth) number.new out.old out.new count.new result }
     ensures absent { (pairs : List Pair) → HoldsPairs pairs hits.old.handle.value → result ≡ ABSENT → column_at pairs i nth ≡ None }
-    ensures refused { (Holds AreHits hits.old.handle.value → ⊥) → result ≡ WRONG }
     ensures kept { result ≢ DONE → out.new ≡ out.old }
     ensures untold { result ≢ DONE → result ≢ SHORT → number.new ≡ number.old }
+    ensures certain { IsOneOf (DONE ∷ WRONG ∷ ABSENT ∷ SHORT ∷ []) result }
+    ensures refused { IsRefusedUnless (Holds AreHits hits.old.handle.value) result }
 {
     let Some(Held::Hits(pairs)) = hits.held() else {
         return WRONG;

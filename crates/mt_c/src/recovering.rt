@@ -1,9 +1,10 @@
 //! Recovery from logs and checkpoint parts that were fed.
-ghost use Rattle.std.specs.Prelude.{◌≡◌, ◌≢◌, ◌⊎◌, ◌++◌, [], ◌∷◌, List, None, Some, IfOk, IfSome, OnOk, OnErr, IsNone};
+ghost use Rattle.std.specs.Prelude.{◌≡◌, ◌≢◌, ◌++◌, [], ◌∷◌, List, None, IfSome, IsNone};
 ghost use Rattle.mt_words.specs.declared.fault.Fault.TheVariants as faults;
 ghost use Rattle.mt_recover.specs.Fed.{Input};
-ghost use Rattle.mt_c.specs.Holding.{HoldsLog, HoldsPart, HoldsInputs, HoldsOutcome, HoldsStoreOf, Holds, IsInput};
+ghost use Rattle.mt_c.specs.Holding.{HoldsLog, HoldsPart, HoldsInputs, HoldsOutcome, HoldsSomeInputs, HoldsStoreOf, Holds, IsInput};
 ghost use Rattle.mt_c.specs.Added.{AreAdded};
+ghost use Rattle.mt_c.specs.Statuses.{IsOneOf, IsRefusedUnless};
 ghost use Rattle.mt_c.specs.Told.{IsTold, c_fault};
 ghost use Rattle.mt_c.specs.declared.status.TheConstants.{DONE, MEMORY, WRONG, FAULT};
 
@@ -27,11 +28,15 @@ pub extern "C" fn mtr_add(alloc: Global, inputs: &mut Place, input: &mut Place) 
         HoldsInputs logs (parts ++ part ∷ []) inputs.new.handle.value }
     ensures empty { result ≡ DONE → input.new.handle.value ≡ None }
     ensures kept { result ≢ DONE → (inputs.new.handle.value ≡ inputs.old.handle.value) × (input.new.handle.value ≡ input.old.handle.value) }
-    ensures accepted { (logs parts : List Input) → HoldsInputs logs parts inputs.old.handle.value → Holds IsInput input.old.handle.value → result ≢ WRONG }
+    ensures certain { IsOneOf (DONE ∷ MEMORY ∷ WRONG ∷ []) result }
+    ensures refused { IsRefusedUnless (HoldsSomeInputs inputs.old.handle.value × Holds IsInput input.old.handle.value) result }
 {
     let Some(feed) = input.held_mut() else {
         return WRONG;
     };
+    if !matches!(feed, Held::Log(_) | Held::Part(_)) {
+        return WRONG;
+    }
     if let Some(held) = inputs.held_mut() {
         let Held::Inputs(added) = held else {
             return WRONG;
@@ -63,10 +68,10 @@ pub extern "C" fn mtr_recover(alloc: Global, inputs: &mut Place, fault: &mut CFa
     ensures done { (logs parts : List Input) → HoldsInputs logs parts inputs.old.handle.value → result ≡ DONE → HoldsStoreOf logs parts inputs.new.handle.value }
     ensures fault { (logs parts : List Input) → HoldsInputs logs parts inputs.old.handle.value → result ≡ FAULT → IsTold logs parts fault.new }
     ensures untold { result ≢ FAULT → fault.new ≡ fault.old }
-    ensures empty { result ≡ FAULT → inputs.new.handle.value ≡ None }
-    ensures memory { result ≡ MEMORY → inputs.new.handle.value ≡ None }
+    ensures empty { IsOneOf (MEMORY ∷ FAULT ∷ []) result → inputs.new.handle.value ≡ None }
     ensures kept { result ≡ WRONG → inputs.new.handle.value ≡ inputs.old.handle.value }
-    ensures accepted { (logs parts : List Input) → HoldsInputs logs parts inputs.old.handle.value → result ≢ WRONG }
+    ensures certain { IsOneOf (DONE ∷ MEMORY ∷ WRONG ∷ FAULT ∷ []) result }
+    ensures refused { IsRefusedUnless (HoldsSomeInputs inputs.old.handle.value) result }
 {
     let Some(added) = take_inputs(alloc, inputs) else {
         return WRONG;
@@ -85,8 +90,7 @@ pub(crate) fn begin_store(alloc: Global, place: &mut Place, recovered: Recovered
     requires { place.old.handle.value ≡ None }
     ensures done { result ≡ DONE → HoldsOutcome recovered place.new.handle.value }
     ensures kept { result ≢ DONE → place.new.handle.value ≡ None }
-    ensures accepted { result ≢ WRONG }
-    ensures sound { result ≢ FAULT }
+    ensures certain { IsOneOf (DONE ∷ MEMORY ∷ []) result }
 {
     match Arc::new(alloc, recovered) {
         Ok(shared) => place.begin(alloc, Held::Store(shared)),
@@ -98,7 +102,7 @@ pub(crate) fn begin_store(alloc: Global, place: &mut Place, recovered: Recovered
 pub(crate) fn tell(found: Fault, fault: &mut CFault) -> u32
     ensures fault { result ≡ FAULT → (found ≢ faults.Memory) × (fault.new ≡ c_fault found) }
     ensures untold { result ≢ FAULT → fault.new ≡ fault.old }
-    ensures certain { (result ≡ FAULT) ⊎ (result ≡ MEMORY) }
+    ensures certain { IsOneOf (MEMORY ∷ FAULT ∷ []) result }
 {
     match found {
         Fault::Memory => MEMORY,
@@ -115,7 +119,8 @@ pub(crate) fn take_inputs(alloc: Global, place: &mut Place) -> Option<Inputs>
     ensures taken { (logs parts : List Input) → HoldsInputs logs parts place.old.handle.value → IfSome result (AreAdded logs parts) }
     ensures empty { IfSome result (λ inputs. place.new.handle.value ≡ None) }
     ensures kept { IsNone result → place.new.handle.value ≡ place.old.handle.value }
-    ensures accepted { (logs parts : List Input) → HoldsInputs logs parts place.old.handle.value → IsNone result → ⊥ }
+    ensures accepted { IfSome result (λ inputs. HoldsSomeInputs place.old.handle.value) }
+    ensures refused { IsNone result → HoldsSomeInputs place.old.handle.value → ⊥ }
 {
     if place.is_empty() {
         return Some(Inputs::new(alloc));

@@ -1,9 +1,10 @@
 //! The report of a recovery, as C sees it.
-ghost use Rattle.std.specs.Prelude.{◌≡◌, ◌≢◌, ◌-◌, ◌^◌, Some, min, slice_get};
+ghost use Rattle.std.specs.Prelude.{◌≡◌, ◌≢◌, ◌-◌, ◌^◌, ◌∷◌, [], min, slice_get};
 ghost use Rattle.mt_recover.specs.Report.{Outcome};
 ghost use Rattle.mt_c.specs.Holding.{HoldsOutcome, Holds, IsStore};
 ghost use Rattle.mt_c.specs.Reports.{number_or_most, c_report, Tells};
-ghost use Rattle.mt_c.specs.declared.status.TheConstants.{DONE, WRONG};
+ghost use Rattle.mt_c.specs.Statuses.{IsOneOf, IsRefusedUnless};
+ghost use Rattle.mt_c.specs.declared.status.TheConstants.{DONE, WRONG, ABSENT};
 
 use crate::held::Held;
 use crate::place::Place;
@@ -108,8 +109,9 @@ fn capped(number: u128) -> u64
 pub extern "C" fn mtr_get_report(store: &mut Place, report: &mut CReport) -> u32
     ensures same { store.new.handle.value ≡ store.old.handle.value }
     ensures done { (outcome : Outcome) → HoldsOutcome outcome store.old.handle.value → (result ≡ DONE) × (report.new ≡ c_report outcome.report) }
-    ensures refused { (Holds IsStore store.old.handle.value → ⊥) → result ≡ WRONG }
     ensures kept { result ≢ DONE → report.new ≡ report.old }
+    ensures certain { IsOneOf (DONE ∷ WRONG ∷ []) result }
+    ensures refused { IsRefusedUnless (Holds IsStore store.old.handle.value) result }
 {
     let Some(Held::Store(recovered)) = store.held() else {
         return WRONG;
@@ -124,8 +126,9 @@ pub extern "C" fn mtr_get_report(store: &mut Place, report: &mut CReport) -> u32
 pub extern "C" fn mtr_report_end(store: &mut Place, log: usize, end: &mut u64) -> u32
     ensures same { store.new.handle.value ≡ store.old.handle.value }
     ensures told { (outcome : Outcome) → HoldsOutcome outcome store.old.handle.value → Tells (slice_get outcome.report.ends.items log) end.new result }
-    ensures refused { (Holds IsStore store.old.handle.value → ⊥) → result ≡ WRONG }
     ensures kept { result ≢ DONE → end.new ≡ end.old }
+    ensures certain { IsOneOf (DONE ∷ WRONG ∷ ABSENT ∷ []) result }
+    ensures refused { IsRefusedUnless (Holds IsStore store.old.handle.value) result }
 {
     let Some(Held::Store(recovered)) = store.held() else {
         return WRONG;
@@ -143,8 +146,9 @@ pub extern "C" fn mtr_report_end(store: &mut Place, log: usize, end: &mut u64) -
 pub extern "C" fn mtr_report_skipped(store: &mut Place, i: usize, number: &mut u64) -> u32
     ensures same { store.new.handle.value ≡ store.old.handle.value }
     ensures told { (outcome : Outcome) → HoldsOutcome outcome store.old.handle.value → Tells (slice_get outcome.report.skipped.items i) number.new result }
-    ensures refused { (Holds IsStore store.old.handle.value → ⊥) → result ≡ WRONG }
     ensures kept { result ≢ DONE → number.new ≡ number.old }
+    ensures certain { IsOneOf (DONE ∷ WRONG ∷ ABSENT ∷ []) result }
+    ensures refused { IsRefusedUnless (Holds IsStore store.old.handle.value) result }
 {
     let Some(Held::Store(recovered)) = store.held() else {
         return WRONG;
@@ -162,8 +166,9 @@ pub extern "C" fn mtr_report_skipped(store: &mut Place, i: usize, number: &mut u
 pub extern "C" fn mtr_report_nameless(store: &mut Place, i: usize, part: &mut u64) -> u32
     ensures same { store.new.handle.value ≡ store.old.handle.value }
     ensures told { (outcome : Outcome) → HoldsOutcome outcome store.old.handle.value → Tells (slice_get outcome.report.nameless.items i) part.new result }
-    ensures refused { (Holds IsStore store.old.handle.value → ⊥) → result ≡ WRONG }
     ensures kept { result ≢ DONE → part.new ≡ part.old }
+    ensures certain { IsOneOf (DONE ∷ WRONG ∷ ABSENT ∷ []) result }
+    ensures refused { IsRefusedUnless (Holds IsStore store.old.handle.value) result }
 {
     let Some(Held::Store(recovered)) = store.held() else {
         return WRONG;

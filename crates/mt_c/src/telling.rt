@@ -1,9 +1,10 @@
 //! The words for a fault, and the versions of the library.
-ghost use Rattle.std.specs.Prelude.{◌≡◌, ◌≢◌, List, ℕ};
+ghost use Rattle.std.specs.Prelude.{◌≡◌, ◌≢◌, ◌∷◌, [], List, ℕ};
 ghost use Rattle.mt_words.specs.declared.fault.Fault.{Fault};
 ghost use Rattle.mt_c.specs.Told.{c_fault, CanBeTold};
 ghost use Rattle.mt_c.specs.Buffers.{Writes};
-ghost use Rattle.mt_c.specs.declared.status.TheConstants.{DONE, MEMORY, WRONG};
+ghost use Rattle.mt_c.specs.Statuses.{IsOneOf, IsRefusedUnless};
+ghost use Rattle.mt_c.specs.declared.status.TheConstants.{DONE, MEMORY, WRONG, SHORT};
 
 use crate::buffer::write_bytes;
 use crate::fault::CFault;
@@ -53,9 +54,9 @@ pub extern "C" fn mtr_fault_text(
     count: &mut usize,
 ) -> u32
     ensures written { result ≢ MEMORY → result ≢ WRONG → (words : List ℕ) × Writes words out.old out.new count.new result }
-    ensures refused { result ≡ WRONG → (found : Fault) → CanBeTold found → fault.now ≢ c_fault found }
     ensures kept { result ≢ DONE → out.new ≡ out.old }
-    ensures accepted { ((found : Fault) → CanBeTold found → fault.now ≢ c_fault found) → result ≡ WRONG }
+    ensures certain { IsOneOf (DONE ∷ MEMORY ∷ WRONG ∷ SHORT ∷ []) result }
+    ensures refused { IsRefusedUnless ((found : Fault) × CanBeTold found × (fault.now ≡ c_fault found)) result }
 {
     let Some(found) = fault.found() else {
         return WRONG;

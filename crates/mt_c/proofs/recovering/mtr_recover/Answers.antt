@@ -1,9 +1,5 @@
-use Rattle.std.proofs.Common.{refl}
 use Rattle.mt_c.proofs.Stores.{store_held}
 use Rattle.mt_c.proofs.recovering.mtr_recover.Goals as goal
-
-pub returns-in_default-clause-accepted : goal.returns-in_default-clause-accepted
-returns-in_default-clause-accepted c = λ logs parts inputs wrong. c.in_default.ensures.accepted logs parts inputs refl
 
 pub returns-in-Ok-recover-clause-done : goal.returns-in-Ok-recover-clause-done
 returns-in-Ok-recover-clause-done c = λ logs parts inputs done.
