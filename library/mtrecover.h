@@ -2,9 +2,10 @@
  * its keys, and what replaces the logs; and records, parts and their headers, written to buffers of the server. What
  * each function promises is proved, given the duties below.
  *
- * Each function but mtr_free and mtr_version answers a status. None of them ends the program, prints, waits, starts a
- * thread, or keeps state. Any thread may call any of them. Memory comes from rattle_alloc, rattle_realloc and
- * rattle_dealloc (malloc.c).
+ * Each function but mtr_free and mtr_version answers a status: DONE, MEMORY, SHORT if it has `room`, or one that its
+ * comment names. WRONG comes exactly for the reasons named there, and then nothing changed. None of them ends the
+ * program, prints, waits, starts a thread, or keeps state. Any thread may call any of them. Memory comes from
+ * rattle_alloc, rattle_realloc and rattle_dealloc (malloc.c).
  *
  * A function with `out`, `room` and `count` writes bytes to the beginning of `out`, which has room for `room` bytes.
  * DONE: these bytes stand there, the rest of `out` is as before, and *count is their number. SHORT: *count is that
@@ -56,19 +57,22 @@ uint32_t mtr_feed_log(mtr_place *feed);
 uint32_t mtr_feed_part(mtr_place *feed);
 
 /* Feeds the next chunk, of any size. FAULT: the bytes so far are no log, or no part, and more bytes do not change that:
- * add it. MEMORY: bytes are lost, and recovery of it answers MEMORY: free it. WRONG: the place holds no log or part that
- * is being fed. */
+ * add it. DONE: they show no fault. MEMORY: bytes are lost, and recovery of it answers MEMORY: free it. WRONG: the place
+ * holds no log or part that is being fed. */
 uint32_t mtr_feed(mtr_place *feed, const uint8_t *chunk, size_t length);
 
-/* Notes that the device of this log or part failed, and frees its bytes. WRONG: as for mtr_feed. */
+/* Notes that the device of this log or part failed, and frees its bytes. WRONG: as for mtr_feed. Never
+ * MEMORY. */
 uint32_t mtr_feed_failed(mtr_place *feed);
 
 /* Appends the log or part in `feed` to those in `inputs`, which may be empty, and empties `feed`. Logs are numbered in
- * this order, and so are parts. Not DONE: both places are as before. */
+ * this order, and so are parts. WRONG: `inputs` holds something else, or `feed` no log or part. Not DONE: both places are
+ * as before. */
 uint32_t mtr_add(mtr_place *inputs, mtr_place *feed);
 
 /* Recovers from these logs and parts. DONE: the place holds the store that the rules define for exactly these bytes, with
- * its report. FAULT: *fault is their one fault. Not DONE and not WRONG: the place is empty. */
+ * its report. FAULT: *fault is their one fault. Not DONE and not WRONG: the place is empty. WRONG: it holds something
+ * else, as a store. */
 uint32_t mtr_recover(mtr_place *inputs, mtr_fault *fault);
 
 /* Recovery by threads of the server, which no call starts. A job hands out tasks, any thread does a task, and the job
@@ -77,7 +81,7 @@ uint32_t mtr_recover(mtr_place *inputs, mtr_fault *fault);
  *
  * Begins recovery from these logs and parts for this number of threads, 1 to 64: a step has about so many tasks, or fewer.
  * DONE: the place holds the job. FAULT: *fault is their one fault. Not DONE and not WRONG: the place is empty. WRONG: it
- * holds no logs and parts, or the number is not lawful. */
+ * holds something else, or the number is not lawful. */
 uint32_t mtr_prepare(mtr_place *inputs, uint32_t threads, mtr_fault *fault);
 
 /* Hands out the next task, into the empty place `worker`. ABSENT: all are handed out. WRONG: `job` holds no job, or
@@ -90,7 +94,7 @@ uint32_t mtr_work(mtr_place *worker);
 
 /* Takes back a task that is done, and empties `worker`. A task must come back to the job that handed it out: another
  * job's task is the caller's fault, and is not always found out. WRONG: `job` holds no job that waits for a task of this
- * number, or `worker` no task that is done. Not DONE: both places are as before. */
+ * number, or `worker` no task that is done. Not DONE: both places are as before. Never MEMORY. */
 uint32_t mtr_join(mtr_place *job, mtr_place *worker);
 
 /* Begins the second step, once all tasks of the first are back; then hire, do and join its tasks. MEMORY: the place is
@@ -152,7 +156,7 @@ uint32_t mtr_resume_log(const uint8_t *log, size_t length, uint64_t cutoff, mtr_
 /* Whether this key is in the store. ABSENT: it is not. WRONG: the place holds no store. Never MEMORY. */
 uint32_t mtr_exists(mtr_place *store, const uint8_t *key, size_t key_length);
 
-/* The value of this column of this key of the store. WRONG: as for mtr_exists. Never MEMORY. */
+/* The value of this column of this key of the store. ABSENT: there is none. WRONG: as for mtr_exists. Never MEMORY. */
 uint32_t mtr_get(mtr_place *store, const uint8_t *key, size_t key_length, uint8_t column, uint8_t *out, size_t room,
                  size_t *count);
 
